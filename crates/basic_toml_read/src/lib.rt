@@ -1,0 +1,2 @@
+//! From the tokens of a text to its sections, and from sections to the tree of the document.
+#![tactic(auto)]

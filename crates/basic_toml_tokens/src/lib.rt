@@ -1,0 +1,2 @@
+//! The tokens of a TOML text.
+#![tactic(auto)]

@@ -1,0 +1,2 @@
+//! The values that a TOML text holds: floats, values, tables, and the texts of numbers.
+#![tactic(auto)]

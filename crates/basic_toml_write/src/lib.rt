@@ -1,0 +1,2 @@
+//! From the calls that a value makes to TOML text.
+#![tactic(auto)]
