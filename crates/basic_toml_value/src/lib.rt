@@ -1,2 +1,11 @@
 //! The values that a TOML text holds: floats, values, tables, and the texts of numbers.
 #![tactic(auto)]
+
+mod float;
+mod keys;
+mod pairs;
+mod value;
+
+pub use float::Float;
+pub use pairs::{Iter, Pairs, PushRefusal};
+pub use value::{Table, Value};

@@ -1,0 +1,3 @@
+pub mod KeysLemmas
+pub mod NumbersLemmas
+pub mod PairsLemmas

@@ -1,0 +1,20 @@
+-- A table as contracts see it: the list of its pairs, each a key in bytes with its value, in order.
+use Rattle.std.specs.Prelude.{ℕ, List, [], ◌∷◌, Bool, Option, Some, None, cond, map}
+use Rattle.std.specs.Str.{bytes_eq}
+use Rattle.std.specs.Coded.{Coded, coded×, coded_ℕ, coded_list}
+use Rattle.basic_toml_value.specs.Keys.{is_among}
+
+abbrev pub pairs_code : {V : Type 0} → Coded V → Coded (List (List ℕ × V))
+pairs_code c = coded_list (coded× (coded_list coded_ℕ) c)
+
+abbrev pub keys_of : {V : Type 0} → List (List ℕ × V) → List (List ℕ)
+keys_of pairs = map (λ p. p.0) pairs
+
+-- whether a pair has the key
+abbrev pub has_key : {V : Type 0} → List (List ℕ × V) → List ℕ → Bool
+has_key pairs key = is_among (keys_of pairs) key
+
+-- the value at a key
+abbrev pub value_at : {V : Type 0} → List (List ℕ × V) → List ℕ → Option V
+value_at [] key = None
+value_at (p ∷ ps) key = cond (bytes_eq key p.0) (Some p.1) (value_at ps key)
