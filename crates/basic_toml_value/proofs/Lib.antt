@@ -1,3 +1,4 @@
+pub mod Digits
 pub mod KeysLemmas
 pub mod NumbersLemmas
 pub mod PairsLemmas

@@ -4,7 +4,7 @@
 -- One underscore may stand between two digits. A float is its text (own): without plus signs and underscores,
 -- with `E` for `e`.
 use Rattle.std.specs.Prelude.{ℕ, zero, suc, ◌^◌, Bool, true, false, not, ◌&&◌, ◌||◌, ◌==◌, nat_lt, if◌then◌else◌, ℤ, pos, negsuc, List, [], ◌∷◌, map, filter, codes, Option, Some, None}
-use Rattle.std.specs.Char.{is_digit, is_ascii_digit}
+use Rattle.std.specs.Char.{is_digit}
 use Rattle.std.specs.Str.{bytes_eq}
 use Rattle.std.specs.Str.Parse.{digits_value}
 
@@ -28,20 +28,19 @@ is_sign c = c == plus || c == minus
 abbrev pub is_mark : ℕ → Bool
 is_mark c = c == 101 || c == 69
 
--- (_?[p])*, behind an underscore that a digit has to follow, or not
-abbrev pub goes_on : (ℕ → Bool) → Bool → List ℕ → Bool
-goes_on p pending [] = not pending
-goes_on p pending (c ∷ cs) = if p c then goes_on p false cs else (c == underscore && not pending) && goes_on p true cs
+-- [p](_?[p])* of the digits p of a radix; where no digit has to follow, (_?[p])*
+abbrev pub goes_on : ℕ → Bool → List ℕ → Bool
+goes_on radix must_follow [] = not must_follow
+goes_on radix must_follow (c ∷ cs) =
+    if is_digit c radix then goes_on radix false cs else (c == underscore && not must_follow) && goes_on radix true cs
 
--- [p](_?[p])*
-abbrev pub is_digits : (ℕ → Bool) → List ℕ → Bool
-is_digits p [] = false
-is_digits p (c ∷ cs) = p c && goes_on p false cs
+abbrev pub is_digits : ℕ → List ℕ → Bool
+is_digits radix cs = goes_on radix true cs
 
 -- 0|[1-9](_?[0-9])*
 abbrev pub is_whole : List ℕ → Bool
 is_whole [] = false
-is_whole (c ∷ cs) = if c == 48 then bytes_eq cs [] else is_digits is_ascii_digit (c ∷ cs)
+is_whole (c ∷ cs) = if c == 48 then bytes_eq cs [] else is_digits 10 (c ∷ cs)
 
 -- the number that digits write, underscores left out
 abbrev pub value_in : ℕ → List ℕ → ℕ
@@ -57,7 +56,7 @@ abbrev pub decimal : Bool → List ℕ → Option ℤ
 decimal negative cs = if is_whole cs then signed negative (value_in 10 cs) else None
 
 abbrev pub in_radix : ℕ → List ℕ → Option ℤ
-in_radix radix cs = if is_digits (λ c. is_digit c radix) cs then signed false (value_in radix cs) else None
+in_radix radix cs = if is_digits radix cs then signed false (value_in radix cs) else None
 
 -- behind a leading `0`: the end, or `x`, `o` or `b` and digits
 abbrev pub after_zero : List ℕ → Option ℤ
@@ -77,7 +76,7 @@ without_sign (c ∷ cs) = if is_sign c then cs else c ∷ cs
 
 -- a digit or an underscore
 abbrev pub is_part : ℕ → Bool
-is_part c = is_ascii_digit c || c == underscore
+is_part c = is_digit c 10 || c == underscore
 
 -- the digits and underscores that a text begins with, and what stands behind them
 abbrev pub part_of : List ℕ → List ℕ
@@ -91,13 +90,13 @@ after_part (c ∷ cs) = if is_part c then after_part cs else c ∷ cs
 -- [eE][+-]?[0-9](_?[0-9])*
 abbrev pub is_exponent : List ℕ → Bool
 is_exponent [] = false
-is_exponent (c ∷ cs) = is_mark c && is_digits is_ascii_digit (without_sign cs)
+is_exponent (c ∷ cs) = is_mark c && is_digits 10 (without_sign cs)
 
 -- \.[0-9](_?[0-9])*, then an exponent or nothing; or an exponent
 abbrev pub is_tail : List ℕ → Bool
 is_tail [] = false
 is_tail (c ∷ cs) =
-    if c == period then is_digits is_ascii_digit (part_of cs) && (bytes_eq (after_part cs) [] || is_exponent (after_part cs))
+    if c == period then is_digits 10 (part_of cs) && (bytes_eq (after_part cs) [] || is_exponent (after_part cs))
     else is_exponent (c ∷ cs)
 
 -- inf|nan

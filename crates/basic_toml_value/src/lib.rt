@@ -3,9 +3,11 @@
 
 mod float;
 mod keys;
+mod numbers;
 mod pairs;
 mod value;
 
 pub use float::Float;
+pub use numbers::integer_of;
 pub use pairs::{Iter, Pairs, PushRefusal};
 pub use value::{Table, Value};
