@@ -1,0 +1,13 @@
+//! A TOML reader and writer: text or bytes in, a [`Table`] out, and back.
+#![tactic(auto)]
+
+mod de;
+mod error;
+mod node;
+mod place;
+mod plain;
+mod repeat;
+
+pub use de::{Deserialize, from_slice, from_str};
+pub use error::Error;
+pub use node::Node;
