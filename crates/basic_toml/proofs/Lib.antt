@@ -5,3 +5,4 @@ pub mod WrittenIntegers
 pub mod ReadBack
 pub mod Repeats
 pub mod ReadingLaws
+pub mod Written

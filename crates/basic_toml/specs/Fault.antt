@@ -22,3 +22,7 @@ want_of_memory = record { kind = out_of_memory; line_column = None }
 -- bytes that are not UTF-8
 abbrev pub not_text : Fault
 not_text = record { kind = not_utf8; line_column = None }
+
+-- a value that no text stands for
+abbrev pub not_written : Fault
+not_written = record { kind = unsupported_type; line_column = None }

@@ -5,6 +5,7 @@ use Rattle.std.specs.Fmt.{signed_decimal}
 use Rattle.std.specs.List.{list_all}
 use Rattle.basic_toml_value.specs.Data.{Data, integer, boolean, string, table, Members, no_members, member}
 use Rattle.basic_toml_value.specs.Keys.{are_distinct}
+use Rattle.basic_toml.specs.Document.{IsDocument}
 use Rattle.basic_toml.specs.PlainRows.{is_bare_key, is_printable}
 
 abbrev pub value_text : Data → List ℕ
@@ -52,3 +53,8 @@ member_keys (member key value members) = key ∷ member_keys members
 abbrev pub is_writable : Data → Bool
 is_writable (table members) = are_distinct (member_keys members) && are_plain_pairs members
 is_writable _ = false
+
+-- the text means the table that was written
+abbrev pub IsReadBack : Data → List ℕ → Type 0
+IsReadBack (table members) text = IsDocument text members
+IsReadBack _ text = ⊥

@@ -2,6 +2,7 @@
 ghost use Rattle.std.specs.Prelude.{◌≡◌, ◌≤◌, Some, None, IsTrue, ◌↔◌, ◌⊎◌, length};
 ghost use Rattle.basic_toml.specs.LineColumn.{line_at, column_at};
 
+use crate::WriteError;
 use crate::place::{column_at, line_at};
 use std::alloc::{AllocError, Global};
 use std::fmt;
@@ -121,6 +122,23 @@ impl From<AllocError> for Error {
     fn from(_e: AllocError) -> Error {
         Error {
             kind: Kind::OutOfMemory,
+            line_column: None,
+        }
+    }
+}
+
+impl From<WriteError> for Error {
+    ghost use Rattle.basic_toml.specs.ErrorView.{write_fault};
+
+    ghost from_gives = { λ refusal e. e ≡ write_fault refusal };
+
+    fn from(refusal: WriteError) -> Error {
+        let kind = match refusal {
+            WriteError::UnsupportedType => Kind::UnsupportedType,
+            WriteError::OutOfMemory => Kind::OutOfMemory,
+        };
+        Error {
+            kind,
             line_column: None,
         }
     }

@@ -7,7 +7,9 @@ mod node;
 mod place;
 mod plain;
 mod repeat;
+mod ser;
 
 pub use de::{Deserialize, from_slice, from_str};
 pub use error::Error;
 pub use node::Node;
+pub use ser::{Serialize, Serializer, WriteError, to_string};

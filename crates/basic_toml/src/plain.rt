@@ -3,7 +3,7 @@ ghost use Rattle.std.specs.Prelude.{◌≡◌, ◌+◌, ◌<◌, ◌≤◌, ◌^
 ghost use Rattle.std.specs.List.{list_all, prefix_len};
 ghost use Rattle.basic_toml_value.specs.Data.{Data};
 ghost use Rattle.basic_toml.specs.PlainRows.{PlainRow};
-ghost use Rattle.basic_toml.specs.PlainReading.{after_run, after_sign, quoted_at, number_at, word_at, value_at, is_blank_line, row_at, row_of, rows_of};
+ghost use Rattle.basic_toml.specs.PlainReading.{after_run, after_sign, quoted_at, number_at, word_at, value_at, row_at, row_of, rows_of};
 ghost use Rattle.basic_toml.specs.PlainView.{passes, seen, row_view, rows_view, value_view, and_rest};
 
 use basic_toml_value::integer_of;
@@ -11,7 +11,7 @@ use std::alloc::{AllocError, Global};
 
 /// A class of characters, all of them ASCII.
 #[derive(Clone, Copy)]
-enum Class {
+pub(crate) enum Class {
     Blank,
     Bare,
     Decimal,
@@ -121,10 +121,11 @@ fn value(text: &str) -> Option<(Scalar<'_>, &str)>
     }
 }
 
-fn is_blank_line(line: &str) -> bool
-    ensures { result ≡ is_blank_line line.now }
+/// Whether a text holds nothing but characters of a class.
+pub(crate) fn is_all(text: &str, class: Class) -> bool
+    ensures { result ≡ list_all (passes class) text.now }
 {
-    line.as_bytes().iter().all(|c| Class::Blank.contains(*c))
+    text.as_bytes().iter().all(|c| class.contains(*c))
 }
 
 #[tactic(auto, unfolding(crate::specs::PlainReading::row_at))]
@@ -139,7 +140,7 @@ fn row_at(place: usize, text: &str) -> Option<Row<'_>>
     let rest = strip_sign(rest, '=')?;
     let (_, rest) = split_run(rest, Class::Blank);
     let (value, rest) = value(rest)?;
-    if !is_blank_line(rest) {
+    if !is_all(rest, Class::Blank) {
         return None;
     }
     Some(Row { place, key, value })
@@ -162,7 +163,7 @@ pub(crate) fn rows_of(alloc: Global, text: &str) -> Result<Option<Vec<Row<'_>>>,
     let mut rows = Vec::new(alloc);
     let mut at = 0;
     for line in text.split('\n') {
-        if !is_blank_line(line) {
+        if !is_all(line, Class::Blank) {
             match row_of(at, line) {
                 Some(row) => rows.push(row)?,
                 None => return Ok(None),
