@@ -9,6 +9,7 @@ mod plain;
 mod repeat;
 mod ser;
 
+pub use basic_toml_value::{Float, PushRefusal, Table, Value};
 pub use de::{Deserialize, from_slice, from_str};
 pub use error::Error;
 pub use node::Node;

@@ -1,0 +1,29 @@
+-- What the program answers to the bytes that it reads, and how a run ends. (own)
+use Rattle.std.specs.Prelude.{◌≡◌, ℕ, IsTrue, IsUtf8, false, List, ◌++◌, take, codes, Option}
+use Rattle.std.specs.Io.KnownBytes.{Appends, Keeps}
+use Rattle.basic_toml.specs.Data.{Members, table}
+use Rattle.basic_toml.specs.Document.{IsDocument, IsTextFault}
+use Rattle.basic_toml.specs.Fault.{Fault, not_text, not_written}
+use Rattle.basic_toml.specs.FaultText.{fault_text}
+use Rattle.basic_toml.specs.Layout.{layout, is_writable}
+
+abbrev pub line : Fault → List ℕ
+line fault = fault_text fault ++ codes "\n"
+
+-- the status, and the text to write
+pub data IsDue (input : List ℕ) : ℕ → List ℕ → Type 0 where
+  tidied : {members : Members} → IsUtf8 input → IsDocument input members → IsTrue (is_writable (table members)) → IsDue input 0 (layout (table members))
+  refused : {fault : Fault} → IsUtf8 input → IsTextFault input fault → IsDue input 1 (line fault)
+  not_utf8 : (IsUtf8 input → ⊥) → IsDue input 1 (line not_text)
+  unwritable : {members : Members} → IsUtf8 input → IsDocument input members → is_writable (table members) ≡ false → IsDue input 2 (line not_written)
+
+-- a front of the text was written
+abbrev pub AppendsFront : Option (List ℕ) → Option (List ℕ) → List ℕ → Type 0
+AppendsFront old new text = (n : ℕ) × Appends old new (take n text)
+
+-- how a run ends that reads these bytes, with its status
+pub data Ends (input : List ℕ) (old new : Option (List ℕ)) : ℕ → Type 0 where
+  done : {status : ℕ} {text : List ℕ} → IsDue input status text → Appends old new text → Ends input old new status
+  -- reading or memory failed
+  not_answered : Keeps old new → Ends input old new 3
+  not_written_all : {status : ℕ} {text : List ℕ} → IsDue input status text → AppendsFront old new text → Ends input old new 3
