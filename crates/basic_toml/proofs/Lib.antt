@@ -6,3 +6,4 @@ pub mod ReadBack
 pub mod Repeats
 pub mod ReadingLaws
 pub mod Written
+pub mod FaultTexts

@@ -1,9 +1,9 @@
 -- What a text means: the table of its rows, in order, where no two of them have one key. (TOML v0.5.0: Key/Value Pair,
 -- Keys: "Defining a key multiple times is invalid")
-use Rattle.std.specs.Prelude.{◌≡◌, ℕ, Bool, IsTrue, List, ◌∷◌, ◌++◌, map, codes, Some, None}
+use Rattle.std.specs.Prelude.{◌≡◌, ℕ, Bool, IsTrue, List, [], ◌∷◌, ◌++◌, map, codes, Some}
 use Rattle.basic_toml_value.specs.Data.{Data, Members, members_of}
 use Rattle.basic_toml_value.specs.Keys.{are_distinct, is_among}
-use Rattle.basic_toml.specs.Fault.{Fault, duplicate_key, custom}
+use Rattle.basic_toml.specs.Fault.{Fault, duplicate_key, custom, placeless}
 use Rattle.basic_toml.specs.LineColumn.{line_at, column_at}
 use Rattle.basic_toml.specs.PlainRows.{PlainRow, ArePlainRows}
 
@@ -33,10 +33,10 @@ pub record IsFirstRepeat (rows : List PlainRow) (row : PlainRow) : Type 0 where
 
 -- the row's key, where it stands
 abbrev pub duplicate_at : List ℕ → PlainRow → Fault
-duplicate_at text row = record { kind = duplicate_key row.key; line_column = Some (line_at text row.place, column_at text row.place) }
+duplicate_at text row = record { kind = duplicate_key row.key; key_path = []; line_column = Some (line_at text row.place, column_at text row.place) }
 
 abbrev pub not_read_yet : Fault
-not_read_yet = record { kind = custom (codes "not read yet"); line_column = None }
+not_read_yet = placeless (custom (codes "not read yet"))
 
 -- the fault of a text that means no table: a key stands twice, or the text is none of plain rows
 pub data IsTextFault (text : List ℕ) : Fault → Type 0 where

@@ -1,5 +1,5 @@
 -- What contracts see of an `Error`.
-use Rattle.std.specs.Prelude.{ℕ, ◌<◌, ◌^◌, ◌+◌, string_bytes}
+use Rattle.std.specs.Prelude.{ℕ, [], ◌<◌, ◌^◌, ◌+◌, string_bytes}
 use Rattle.std.specs.Option.{ForSome}
 use Rattle.basic_toml.specs.Fault as fault
 use Rattle.basic_toml.specs.declared.error.Kind.{Kind}
@@ -16,7 +16,7 @@ kind_of UnsupportedType = fault.unsupported_type
 kind_of OutOfMemory = fault.out_of_memory
 
 abbrev pub fault_of : Inside → fault.Fault
-fault_of e = record { kind = kind_of e.kind; line_column = e.line_column }
+fault_of e = record { kind = kind_of e.kind; key_path = []; line_column = e.line_column }
 
 -- line and column leave room for counting from 1
 abbrev pub HasSmallNumbers : Inside → Type 0

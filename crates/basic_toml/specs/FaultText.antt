@@ -1,17 +1,61 @@
--- The text of a fault: its message, and then its line and column, counted from 1. (own)
-use Rattle.std.specs.Prelude.{ℕ, ◌+◌, List, [], ◌∷◌, ◌++◌, codes, decimal, Option, Some, None}
-use Rattle.basic_toml.specs.Fault.{Fault, Kind, duplicate_key, custom, not_utf8, unsupported_type, out_of_memory}
+-- The text of a fault: its message; then its key path, where it has one, with periods between the keys; then its line
+-- and column, counted from 1, where it has a place. (own)
+use Rattle.std.specs.Prelude.{ℕ, ◌+◌, ◌&&◌, ◌||◌, ◌==◌, nat_le, if◌then◌else◌, false, List, [], ◌∷◌, ◌++◌, codes, decimal, Option, Some, None}
+use Rattle.std.specs.Fmt.{digits}
+use Rattle.basic_toml.specs.Fault as fault
 
-abbrev pub message : Kind → List ℕ
-message (duplicate_key key) = codes "duplicate key: `" ++ (key ++ codes "`")
-message (custom text) = text
-message not_utf8 = codes "input is not valid UTF-8"
-message unsupported_type = codes "unsupported Rust type"
-message out_of_memory = codes "out of memory"
+-- A character as a fault shows it: behind a backslash, or as its number between braces, where it does not print.
+abbrev pub escaped : ℕ → List ℕ
+escaped c =
+    if c == 9 then codes "\\t" else if c == 13 then codes "\\r" else if c == 10 then codes "\\n"
+    else if c == 39 || (c == 34 || c == 92) then 92 ∷ c ∷ []
+    else if nat_le 32 c && nat_le c 126 then c ∷ []
+    else codes "\\u{" ++ (digits 16 false c ++ codes "}")
+
+-- a text between two `
+abbrev pub quoted : List ℕ → List ℕ
+quoted text = 96 ∷ text ++ 96 ∷ []
+
+abbrev pub message : fault.Kind → List ℕ
+message (fault.invalid_char_in_string c) = codes "invalid character in string: " ++ quoted (escaped c)
+message (fault.invalid_escape c) = codes "invalid escape character in string: " ++ quoted (escaped c)
+message (fault.invalid_hex_escape c) = codes "invalid hex escape character in string: " ++ quoted (escaped c)
+message (fault.invalid_escape_value n) = codes "invalid escape value: " ++ quoted (decimal n)
+message fault.newline_in_string = codes "newline in string found"
+message (fault.unexpected c) = codes "unexpected character found: " ++ quoted (escaped c)
+message fault.unterminated_string = codes "unterminated string"
+message fault.newline_in_table_key = codes "found newline in table key"
+message fault.multiline_string_key = codes "multiline strings are not allowed for key"
+message (fault.wanted expected found) = codes "expected " ++ (expected ++ (codes ", found " ++ found))
+message fault.unexpected_eof = codes "unexpected eof encountered"
+message fault.number_invalid = codes "invalid number"
+message fault.unquoted_string = codes "invalid TOML value, did you mean to use a quoted string?"
+message fault.not_utf8 = codes "input is not valid UTF-8"
+message fault.dotted_key_invalid_type = codes "dotted key attempted to extend non-table type"
+message (fault.duplicate_key key) = codes "duplicate key: " ++ quoted key
+message (fault.duplicate_table name) = codes "redefinition of table " ++ quoted name
+message fault.redefine_as_array = codes "table redefined as array"
+message fault.unsupported_type = codes "unsupported Rust type"
+message fault.key_not_string = codes "map key was not a string"
+message fault.value_after_table = codes "values must be emitted before tables"
+message fault.unsupported_none = codes "unsupported None value"
+message fault.call_order = codes "serializer calls out of order"
+message (fault.custom text) = text
+message fault.nested_too_deeply = codes "nested too deeply"
+message fault.out_of_memory = codes "out of memory"
+
+abbrev pub joined : List (List ℕ) → List ℕ
+joined [] = []
+joined (key ∷ []) = key
+joined (key ∷ other ∷ keys) = key ++ (46 ∷ joined (other ∷ keys))
+
+abbrev pub key_text : List (List ℕ) → List ℕ
+key_text [] = []
+key_text (key ∷ keys) = codes " for key " ++ quoted (joined (key ∷ keys))
 
 abbrev pub place_text : Option (ℕ × ℕ) → List ℕ
 place_text None = []
 place_text (Some p) = codes " at line " ++ (decimal (p.0 + 1) ++ (codes " column " ++ decimal (p.1 + 1)))
 
-abbrev pub fault_text : Fault → List ℕ
-fault_text f = message f.kind ++ place_text f.line_column
+abbrev pub fault_text : fault.Fault → List ℕ
+fault_text f = message f.kind ++ (key_text f.key_path ++ place_text f.line_column)

@@ -1,5 +1,5 @@
 //! What can go wrong.
-ghost use Rattle.std.specs.Prelude.{◌≡◌, ◌≤◌, Some, None, IsTrue, ◌↔◌, ◌⊎◌, length};
+ghost use Rattle.std.specs.Prelude.{◌≡◌, ◌≤◌, Some, None, IsTrue, ◌↔◌, ◌⊎◌, [], length};
 ghost use Rattle.basic_toml.specs.LineColumn.{line_at, column_at};
 
 use crate::WriteError;
@@ -62,7 +62,7 @@ impl fmt::Display for Error {
 }
 
 impl Error {
-    ghost use Rattle.basic_toml.specs.Fault.{duplicate_key, custom, not_text, unsupported_type, out_of_memory, want_of_memory};
+    ghost use Rattle.basic_toml.specs.Fault.{duplicate_key, custom, not_text, out_of_memory, placeless, want_of_memory};
 
     /// The line and the column where the fault stands, both from 0, if it has a place; a column counts bytes.
     pub fn line_col(&self) -> Option<(usize, usize)>
@@ -81,7 +81,7 @@ impl Error {
     /// The later of two equal keys stands at a byte offset of the text.
     pub(crate) fn duplicate_key(alloc: Global, text: &str, place: usize, key: &str) -> Error
         requires { place ≤ length text.now }
-        ensures { (result ≡ want_of_memory) ⊎ (result ≡ record { kind = duplicate_key key.now; line_column = Some (line_at text.now place, column_at text.now place) }) }
+        ensures { (result ≡ want_of_memory) ⊎ (result ≡ record { kind = duplicate_key key.now; key_path = []; line_column = Some (line_at text.now place, column_at text.now place) }) }
     {
         match String::from_str(alloc, key) {
             Ok(key) => Error {
@@ -93,7 +93,7 @@ impl Error {
     }
 
     pub(crate) fn custom(alloc: Global, message: &str) -> Error
-        ensures { (result ≡ want_of_memory) ⊎ (result ≡ record { kind = custom message.now; line_column = None }) }
+        ensures { (result ≡ want_of_memory) ⊎ (result ≡ placeless (custom message.now)) }
     {
         match String::from_str(alloc, message) {
             Ok(message) => Error {
