@@ -7,3 +7,4 @@ pub mod Repeats
 pub mod ReadingLaws
 pub mod Written
 pub mod FaultTexts
+pub mod TypeReadLaws

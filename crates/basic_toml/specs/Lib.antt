@@ -12,3 +12,4 @@ pub mod Reading
 
 pub use Rattle.basic_toml_value.specs.Data
 pub use Rattle.basic_toml_value.specs.View
+pub mod TypeReads
