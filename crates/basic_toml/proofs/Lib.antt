@@ -8,3 +8,4 @@ pub mod ReadingLaws
 pub mod Written
 pub mod FaultTexts
 pub mod TypeReadLaws
+pub mod OneMeaning

@@ -10,6 +10,7 @@ use Rattle.basic_toml.specs.PlainReading.{rows_of}
 use Rattle.basic_toml.specs.PlainView.{row_view, rows_view}
 use Rattle.basic_toml.specs.declared.plain.Row.{Row}
 use Rattle.basic_toml.specs.Reading.{Answers}
+use Rattle.basic_toml.proofs.OneMeaning.{same_rows}
 use Rattle.basic_toml.proofs.PlainLaws.{plain_rows_read, plain_rows_again}
 use Rattle.basic_toml.proofs.PlainLines.{size_of, size-lines_of}
 use Rattle.basic_toml.proofs.Repeats.{front_differs}
@@ -30,10 +31,6 @@ row_below (row_line r others) (x ∷ front) row behind e = omega (arith, row_bel
 pub row-in_text : (text : List ℕ) (rows : List PlainRow) (row : PlainRow) → rows_of text ≡ Some rows → IsFirstRepeat rows row → row.place ≤ length text
 row-in_text text rows row read repeat = omega (arith, row_below (plain_rows_read text rows read) repeat.front row repeat.behind repeat.splits, size-lines_of text)
 
--- a text has one list of rows
-same_rows : (text : List ℕ) (rows others : List PlainRow) → rows_of text ≡ Some rows → ArePlainRows text others → rows ≡ others
-same_rows text rows others read holds = let both : Some rows ≡ Some others = sym read ∙ plain_rows_again text others holds in cc
-
 repeat_not_distinct : (rows : List PlainRow) (row : PlainRow) → IsFirstRepeat rows row → IsTrue (are_distinct (keys_of rows)) → ⊥
 repeat_not_distinct rows row r distinct =
     let keys : keys_of rows ≡ keys_of r.front ++ row.key ∷ keys_of r.behind = ap keys_of r.splits ∙ map-append (λ (x : PlainRow). x.key) r.front (row ∷ r.behind) in
@@ -44,7 +41,7 @@ repeat_not_distinct rows row r distinct =
 pub no_document : (text : List ℕ) (fault : Fault) (members : Members) → IsTextFault text fault → IsDocument text members → ⊥
 no_document text fault _ (is_not_read unread) d = unread d.rows d.holds
 no_document text fault _ (repeats_key {rows = rows} {row = row} holds r) d =
-    repeat_not_distinct rows row r (subst (λ (rs : List PlainRow). IsTrue (are_distinct (keys_of rs))) (sym (same_rows text rows d.rows (plain_rows_again text rows holds) d.holds)) d.distinct)
+    repeat_not_distinct rows row r (subst (λ (rs : List PlainRow). IsTrue (are_distinct (keys_of rs))) (sym (same_rows text rows d.rows holds d.holds)) d.distinct)
 
 -- the faults of a text
 pub unread : (text : List ℕ) (fault : Fault) → rows_of text ≡ None → (fault ≡ want_of_memory) ⊎ (fault ≡ not_read_yet) → (fault ≡ want_of_memory) ⊎ IsTextFault text fault
@@ -73,7 +70,7 @@ module _ {T : Type 0} (reads : Data → T → Type 0) (is_readable : Data → Bo
   given rows (Err fault) read distinct ok err = record {
     found = tt;
     only = λ members d.
-        let same : members_from rows ≡ members = ap members_from (same_rows text rows d.rows read d.holds) ∙ sym d.gives in
+        let same : members_from rows ≡ members = ap members_from (same_rows text rows d.rows (plain_rows_read text rows read) d.holds) ∙ sym d.gives in
         subst (λ (ms : Members). (fault.kind ≡ out_of_memory) ⊎ (is_readable (table ms) ≡ false)) same err;
     fault = λ none. absurd (none (members_from rows) (record { rows = rows; holds = plain_rows_read text rows read; distinct = distinct; gives = refl }));
   }

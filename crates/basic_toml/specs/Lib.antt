@@ -9,7 +9,6 @@ pub mod Document
 pub mod Layout
 pub mod Nodes
 pub mod Reading
-
 pub use Rattle.basic_toml_value.specs.Data
 pub use Rattle.basic_toml_value.specs.View
 pub mod TypeReads

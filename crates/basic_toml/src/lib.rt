@@ -3,6 +3,7 @@
 
 mod de;
 mod error;
+pub mod laws;
 mod node;
 mod place;
 mod plain;
