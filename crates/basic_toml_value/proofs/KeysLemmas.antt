@@ -1,7 +1,7 @@
 -- Keys that differ, and one more of them.
-use Rattle.std.proofs.Common.{◌≡◌, ℕ, suc, zero, ◌+◌, ◌<◌, true, false, ◌||◌, List, [], ◌∷◌, ◌++◌, length, drop, get_or, refl, ap, ◌∙◌, IsTrue, arith, Some, option_map, String, string_bytes}
+use Rattle.std.proofs.Common.{◌≡◌, ℕ, suc, zero, ◌+◌, ◌<◌, true, false, ◌||◌, List, [], ◌∷◌, ◌++◌, length, take, drop, get_or, refl, ap, ◌∙◌, IsTrue, arith, Some, option_map, String, string_bytes}
 use Rattle.std.specs.declared.alloc.Global.{Global}
-use Rattle.std.proofs.lemmas.List.{at_drop_more}
+use Rattle.std.proofs.lemmas.List.{at_drop_more, take-map}
 use Rattle.std.proofs.lemmas.Option.{slice_get-map, slice_get_read}
 use Rattle.std.specs.List.{slice_get}
 use Rattle.std.specs.Str.{bytes_eq}
@@ -39,3 +39,13 @@ is_among-drop texts i text key within read differs =
 pub texts_of-at : (texts : List (String Global)) (i : ℕ) (text : String Global) → i < length texts → text ≡ get_or texts i text → slice_get (texts_of texts) i ≡ Some (string_bytes text)
 texts_of-at texts i text within read =
     slice_get-map string_bytes texts i ∙ ap (λ o. option_map string_bytes o) (slice_get_read texts (length texts) i text refl within read)
+
+among_before : (keys : List (List ℕ)) (i : ℕ) (key : List ℕ) → IsTrue (are_distinct keys) → slice_get keys i ≡ Some key → is_among (take i keys) key ≡ false
+among_before [] i key distinct at = absurd (cc)
+among_before (k ∷ ks) zero key distinct at = refl
+among_before (k ∷ ks) (suc i) key distinct at = grind (arith, among_before ks i key, first_differs k ks i key distinct at, distinct, at)
+
+-- a text is none of those before it
+pub is_among-before : (texts : List (String Global)) (i : ℕ) (text : String Global) → i < length texts → text ≡ get_or texts i text → IsTrue (are_distinct (texts_of texts)) → is_among (texts_of (take i texts)) (string_bytes text) ≡ false
+is_among-before texts i text within read distinct =
+    rw (← take-map string_bytes i texts) (among_before (texts_of texts) i (string_bytes text) distinct (texts_of-at texts i text within read))

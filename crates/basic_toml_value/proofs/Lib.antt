@@ -1,4 +1,11 @@
+pub mod Canonical
 pub mod Digits
+pub mod IndexLemmas
 pub mod KeysLemmas
+pub mod Located
+pub mod NumberRows
 pub mod NumbersLemmas
+pub mod Order
 pub mod PairsLemmas
+pub mod SameLemmas
+pub mod Sizes

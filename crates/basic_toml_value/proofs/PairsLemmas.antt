@@ -4,7 +4,7 @@ use Rattle.std.specs.List.{zip, slice_get}
 use Rattle.std.proofs.lemmas.List.{drop_all}
 use Rattle.std.proofs.lemmas.Option.{slice_get_within, slice_get_read}
 use Rattle.basic_toml_value.specs.Keys.{is_among, are_distinct}
-use Rattle.basic_toml_value.specs.Pairs.{keys_of, has_key, value_at}
+use Rattle.basic_toml_value.specs.Pairs.{keys_of, values_of, has_key, value_at}
 use Rattle.basic_toml_value.proofs.KeysLemmas.{bytes_eq-same, first_differs}
 
 pub length_zip_same : {A B : Type 0} (xs : List A) (ys : List B) → length ys ≡ length xs → length (zip xs ys) ≡ length ys
@@ -71,3 +71,9 @@ drop-zip keys values i key value same at read =
 
 pub drop-zip-all : {V : Type 0} (keys : List (List ℕ)) (values : List V) (i : ℕ) → length values ≡ length keys → length values ≤ i → drop i (zip keys values) ≡ []
 drop-zip-all keys values i same past = drop_all i (zip keys values) (omega (arith, length_zip_same keys values same))
+
+pub values_of-zip : {V : Type 0} (keys : List (List ℕ)) (values : List V) → length values ≡ length keys → values_of (zip keys values) ≡ values
+values_of-zip [] [] same = refl
+values_of-zip [] (v ∷ vs) same = absurd (omega arith)
+values_of-zip (k ∷ ks) [] same = absurd (omega arith)
+values_of-zip (k ∷ ks) (v ∷ vs) same = ap (λ l. v ∷ l) (values_of-zip ks vs (omega arith))

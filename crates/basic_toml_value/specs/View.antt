@@ -1,6 +1,6 @@
 -- The data that a `Value` and a `Table` stand for: what contracts see of them.
 use Rattle.std.specs.Prelude.{ℕ, List, map, string_bytes}
-use Rattle.basic_toml_value.specs.Data.{Data, integer, float, boolean, string, array, table, Members, items_of, members_of}
+use Rattle.basic_toml_value.specs.Data.{Data, integer, float, boolean, string, array, table, Items, Members, items_of, members_of}
 use Rattle.basic_toml_value.specs.declared.value.Value.{Value, fold-Value}
 use Rattle.basic_toml_value.specs.declared.value.Value.TheOpen.{Value-F}
 
@@ -19,3 +19,6 @@ view = fold-Value Data view_step
 -- a `Table` is the list of its pairs
 abbrev pub entries : List (List ℕ × Value) → Members
 entries pairs = members_of (map (λ p. (p.0, view p.1)) pairs)
+
+abbrev pub items_view : List Value → Items
+items_view values = items_of (map view values)

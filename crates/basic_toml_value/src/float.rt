@@ -1,10 +1,13 @@
 // A float, held as its canonical text.
-ghost use Rattle.std.specs.Prelude.{◌≡◌, IfOk, Some, nat_eq};
+ghost use Rattle.std.specs.Prelude.{◌≡◌, IfOk, Some, nat_eq, string_bytes};
 ghost use Rattle.std.specs.Cmp.Rules.{comparing};
 ghost use Rattle.std.specs.Cmp.Lexicographic.{pointwise};
 ghost use Rattle.std.proofs.Common.{rules};
+ghost use Rattle.std.specs.Str.{IsAscii};
+ghost use Rattle.basic_toml_value.specs.Numbers as spec;
 ghost use Rattle.basic_toml_value.specs.Numbers.{float_of};
 
+use crate::numbers::is_float;
 use std::alloc::{AllocError, Global};
 use std::marker::Model;
 
@@ -28,6 +31,20 @@ impl Model for Float {
 }
 
 impl Float {
+    /// The float that a text writes, with a sign or not: a decimal whole part, then a fraction, an exponent, or both;
+    /// or `inf` or `nan` (TOML v0.5.0, "Float"). `None` exactly where the text is no float.
+    ///
+    /// The only error is that memory for the text was refused.
+    pub fn parse(alloc: Global, text: &str) -> Result<Option<Float>, AllocError>
+        ensures { IfOk result (λ found. found ≡ float_of text.now) }
+    {
+        if !is_float(text.as_bytes()) {
+            return Ok(None);
+        }
+        let text = canonical(alloc, text)?;
+        Ok(Some(Float { text }))
+    }
+
     /// The canonical text, which read again gives this float.
     pub fn as_str(&self) -> &str
         ensures text { result.now ≡ self.now }
@@ -46,13 +63,34 @@ impl Float {
     }
 }
 
+/// The same as `Float::parse`.
+pub fn float_of(alloc: Global, text: &str) -> Result<Option<Float>, AllocError>
+    ensures { IfOk result (λ found. found ≡ float_of text.now) }
+{
+    Float::parse(alloc, text)
+}
+
+// The text without plus signs and underscores, with `E` for `e`.
+fn canonical(alloc: Global, text: &str) -> Result<String, AllocError>
+    requires { IsAscii text.now }
+    ensures { IfOk result (λ kept. string_bytes kept ≡ spec.canonical text.now) }
+{
+    let mut kept = String::with_capacity(alloc, text.len())?;
+    for byte in text.as_bytes() {
+        if *byte != b'+' && *byte != b'_' {
+            kept.push(if *byte == b'e' { 'E' } else { *byte as char })?;
+        }
+    }
+    Ok(kept)
+}
+
 impl PartialEq for Float {
     ghost eq = { pointwise nat_eq };
 
     ghost laws = { Prim.search (comparing, rules) };
 
     fn eq(&self, other: &Float) -> bool {
-        self.text.as_str() == other.text.as_str()
+        self.as_str() == other.as_str()
     }
 }
 

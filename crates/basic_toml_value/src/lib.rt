@@ -2,12 +2,16 @@
 #![tactic(auto)]
 
 mod float;
+mod index;
 mod keys;
 mod numbers;
 mod pairs;
 mod value;
 
-pub use float::Float;
+pub use float::{Float, float_of};
 pub use numbers::integer_of;
 pub use pairs::{Iter, Pairs, PushRefusal};
 pub use value::{Table, Value};
+
+#[cfg(test)]
+mod tests;

@@ -1,11 +1,11 @@
 // Keys and values side by side, seen as one list of pairs.
 ghost use Rattle.std.specs.Prelude.{◌≡◌, ◌==◌, ℕ, List, [], ◌∷◌, ◌++◌, length, drop, IfOk, OnOk, OnErr, IfErr, IsTrue, ◌↔◌, string_bytes, false};
 ghost use Rattle.std.specs.Option.{option_copied};
-ghost use Rattle.basic_toml_value.specs.Keys.{are_distinct};
-ghost use Rattle.basic_toml_value.specs.Pairs.{keys_of, has_key, value_at};
+ghost use Rattle.basic_toml_value.specs.Keys.{are_distinct, same_keys};
+ghost use Rattle.basic_toml_value.specs.Pairs.{keys_of, values_of, has_key, value_at};
 
 use crate::keys::Keys;
-use std::alloc::Global;
+use std::alloc::{AllocError, Global};
 use std::marker::Model;
 
 /// Why a pair was not put into a table.
@@ -109,13 +109,44 @@ impl<V> Pairs<V> {
         if self.values.try_reserve(1).is_err() {
             return Err((key, value));
         }
-        if let Err(refused) = self.keys.push(key) {
-            return Err((refused.value, value));
+        if let Err(key) = self.keys.push(key) {
+            return Err((key, value));
         }
         match self.values.push(value) {
             Ok(()) => Ok(()),
             Err(_) => unreachable!(),
         }
+    }
+
+    // The values in order.
+    pub fn values(&self) -> &[V]
+        ensures { result.now ≡ values_of self.now }
+    {
+        self.values.as_slice()
+    }
+
+    // The allocator that the table keeps.
+    pub fn allocator(&self) -> Global {
+        *self.values.allocator()
+    }
+
+    // The same keys with other values.
+    pub fn with_values(&self, values: Vec<V>) -> Result<Pairs<V>, AllocError>
+    where
+        V: Drop,
+        requires { length values.items ≡ length self.now }
+        ensures keys { IfOk result (λ pairs. keys_of pairs ≡ keys_of self.now) }
+        ensures values { IfOk result (λ pairs. values_of pairs ≡ values.items) }
+    {
+        let keys = self.keys.clone()?;
+        Ok(Pairs { keys, values })
+    }
+
+    // Whether another table has the same keys in the same order.
+    pub fn has_same_keys(&self, other: &Pairs<V>) -> bool
+        ensures { result ≡ same_keys (keys_of self.now) (keys_of other.now) }
+    {
+        self.keys.is_same(&other.keys)
     }
 
     /// The pairs in order, each once.

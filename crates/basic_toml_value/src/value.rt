@@ -1,6 +1,12 @@
 // Values, and tables of them.
+ghost use Rattle.std.specs.Prelude.{◌≡◌, IfOk, map};
+ghost use Rattle.std.specs.Ordering.{on};
+ghost use Rattle.basic_toml_value.specs.Equal.{data_eq, items_eq, members_eq};
+ghost use Rattle.basic_toml_value.specs.View.{view, entries, items_view};
+
 use crate::float::Float;
 use crate::pairs::Pairs;
+use std::alloc::{AllocError, Global};
 
 /// A table: keys with their values, in order, each key once.
 pub type Table = Pairs<Value>;
@@ -20,4 +26,128 @@ pub enum Value {
     Array(Vec<Value>),
     /// A table.
     Table(Table),
+}
+
+impl Value {
+    /// A copy.
+    #[cycle(copies)]
+    pub fn clone(&self) -> Result<Value, AllocError>
+        ensures { IfOk result (λ copy. view copy ≡ view self.now) }
+    {
+        match self {
+            Value::Integer(number) => Ok(Value::Integer(*number)),
+            Value::Float(float) => Ok(Value::Float(float.clone()?)),
+            Value::Boolean(truth) => Ok(Value::Boolean(*truth)),
+            Value::String(text) => Ok(Value::String(text.clone()?)),
+            Value::Array(values) => {
+                let copies = clone_elements(*values.allocator(), values.as_slice())?;
+                Ok(Value::Array(copies))
+            }
+            Value::Table(table) => Ok(Value::Table(table.clone()?)),
+        }
+    }
+}
+
+impl Table {
+    /// A copy.
+    #[cycle(copies)]
+    pub fn clone(&self) -> Result<Table, AllocError>
+        ensures { IfOk result (λ copy. entries copy ≡ entries self.now) }
+    {
+        let values = clone_elements(self.allocator(), self.values())?;
+        self.with_values(values)
+    }
+}
+
+#[cycle(copies)]
+fn clone_elements(alloc: Global, values: &[Value]) -> Result<Vec<Value>, AllocError>
+    ensures { IfOk result (λ copies. map view copies.items ≡ map view values.now) }
+{
+    let mut copies = Vec::with_capacity(alloc, values.len())?;
+    for value in values {
+        copies.push(value.clone()?)?;
+    }
+    Ok(copies)
+}
+
+impl PartialEq for Value {
+    ghost use Rattle.std.proofs.lemmas.Cmp.{on_equiv};
+    ghost use Rattle.std.specs.Cmp.{partial_equiv_from_equiv};
+    ghost use Rattle.basic_toml_value.specs.EqualLaws.{data_eq_equivalence};
+
+    ghost eq = { on view data_eq };
+
+    ghost laws = { partial_equiv_from_equiv (on_equiv view data_eq_equivalence) };
+
+    fn eq(&self, other: &Value) -> bool {
+        same_values(self, other)
+    }
+}
+
+impl Eq for Value {
+    ghost use Rattle.std.proofs.lemmas.Cmp.{on_equiv};
+    ghost use Rattle.basic_toml_value.specs.EqualLaws.{data_eq_equivalence};
+
+    ghost laws = { on_equiv view data_eq_equivalence };
+}
+
+impl PartialEq for Table {
+    ghost use Rattle.std.proofs.lemmas.Cmp.{on_equiv};
+    ghost use Rattle.std.specs.Cmp.{partial_equiv_from_equiv};
+    ghost use Rattle.basic_toml_value.specs.EqualLaws.{members_eq_equivalence};
+
+    ghost eq = { on entries members_eq };
+
+    ghost laws = { partial_equiv_from_equiv (on_equiv entries members_eq_equivalence) };
+
+    fn eq(&self, other: &Table) -> bool {
+        same_tables(self, other)
+    }
+}
+
+impl Eq for Table {
+    ghost use Rattle.std.proofs.lemmas.Cmp.{on_equiv};
+    ghost use Rattle.basic_toml_value.specs.EqualLaws.{members_eq_equivalence};
+
+    ghost laws = { on_equiv entries members_eq_equivalence };
+}
+
+#[cycle(same)]
+fn same_values(left: &Value, right: &Value) -> bool
+    ensures { result ≡ data_eq (view left.now) (view right.now) }
+{
+    match (left, right) {
+        (Value::Integer(left), Value::Integer(right)) => left == right,
+        (Value::Float(left), Value::Float(right)) => left == right,
+        (Value::Boolean(left), Value::Boolean(right)) => left == right,
+        (Value::String(left), Value::String(right)) => left.as_str() == right.as_str(),
+        (Value::Array(left), Value::Array(right)) => same_elements(
+            left.as_slice(),
+            right.as_slice(),
+        ),
+        (Value::Table(left), Value::Table(right)) => same_tables(left, right),
+        _ => false,
+    }
+}
+
+#[cycle(same)]
+fn same_elements(left: &[Value], right: &[Value]) -> bool
+    ensures { result ≡ items_eq (items_view left.now) (items_view right.now) }
+{
+    if left.len() != right.len() {
+        return false;
+    }
+    for i in 0..left.len() {
+        if !same_values(&left[i], &right[i]) {
+            return false;
+        }
+    }
+    true
+}
+
+#[cycle(same)]
+fn same_tables(left: &Table, right: &Table) -> bool
+    ensures { result ≡ members_eq (entries left.now) (entries right.now) }
+{
+    left.has_same_keys(right) && same_elements(left.values(), right.values())
 }

@@ -1,7 +1,6 @@
-use Rattle.std.proofs.Common.{◌≡◌, ◌∙◌, ℕ, ◌&&◌, not, ◌==◌, true, false, min, get_or, sym, refl, arith}
+use Rattle.std.proofs.Common.{◌≡◌, ◌∙◌, ◌&&◌, not, ◌==◌, true, false, get_or, sym, arith}
 use Rattle.std.specs.Char.{is_digit}
 use Rattle.std.proofs.lemmas.Grind.{common_steps}
-use Rattle.std.proofs.lemmas.Bool.Decides.{nat_tests}
 use Rattle.basic_toml_value.specs.Numbers.{underscore}
 use Rattle.basic_toml_value.proofs.Digits.{no_run, read_from-is, read_from-stops, read_from-ends}
 use Rattle.basic_toml_value.proofs.numbers.value_of.Goals as goal
