@@ -1,0 +1,8 @@
+use Rattle.std.proofs.Common.{◌≡◌, ◌∷◌, ◌++◌, map, string_bytes}
+use Rattle.std.specs.Map.Iter.{deref_pair}
+use Rattle.basic_toml_write.specs.Items.{open_table, field}
+use Rattle.basic_toml_write.proofs.Parts.{Sent}
+use Rattle.basic_toml_write.proofs.impls.BTreeMapStringSerialize.serialize.Given as goal
+
+abbrev pub invariant-loop-key : goal.invariant-loop-key
+invariant-loop-key g l = record { sent : Sent (λ p. field (string_bytes p.0) ∷ g.V.Serialize.calls p.1) (λ p. g.V.Serialize.gives_up p.1) open_table (map deref_pair l.yielded) l.fn.ser l.ser; left : map deref_pair l.yielded ++ l.key-iterator ≡ l.self.entries }

@@ -1,0 +1,48 @@
+-- What stands open in a serializer after the calls so far (own): arrays and tables, the innermost first.
+-- An open table has no key, awaits the text of a key (key place), or has a key set. It knows whether a table or a non-empty array of
+-- tables was written in it, which keys have a present entry, and the last of these. An open array knows what its elements are so far.
+use Rattle.std.specs.Prelude.{ℕ, Bool, true, false, cond, bytes_eq, List, [], Option, None}
+
+-- the header of a table: written or not to be written at all, or to be written where it proves due, behind a blank line or not
+pub data Header : Type 0 where
+  settled : Header
+  due : Bool → Header
+
+pub data Stage : Type 0 where
+  no_key : Stage
+  key_place : Stage
+  key_set : List ℕ → Stage
+
+-- what the elements of an array are so far
+pub data Kind : Type 0 where
+  unknown tables others : Kind
+
+-- whether a key has a present entry
+abbrev pub Keys : Type 0
+Keys = List ℕ → Bool
+
+abbrev pub no_keys : Keys
+no_keys k = false
+
+abbrev pub with_key : List ℕ → Keys → Keys
+with_key l keys k = cond (bytes_eq l k) true (keys k)
+
+-- an array also knows whether its entry stands behind a present one of the same table
+pub data Frame : Type 0 where
+  a_table : Header → Stage → Bool → Keys → Option (List ℕ) → Frame
+  an_array : Kind → Bool → Frame
+
+abbrev pub new_table : Header → Frame
+new_table h = a_table h no_key false no_keys None
+
+-- the text so far, what is open, and whether the value is whole
+pub record State : Type 0 where
+  pub text : List ℕ
+  pub open_frames : List Frame
+  pub is_done : Bool
+
+abbrev pub state : List ℕ → List Frame → Bool → State
+state t fs d = record { text = t; open_frames = fs; is_done = d }
+
+abbrev pub fresh : State
+fresh = state [] [] false

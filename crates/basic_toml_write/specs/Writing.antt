@@ -1,0 +1,35 @@
+-- What the text of a value is, by the items that it spells (own).
+use Rattle.std.specs.Prelude.{◌≡◌, List, Result, Ok, MatchResult, ◌⊎◌, ⊤, false, string_bytes, String}
+use Rattle.std.specs.declared.alloc.Global.{Global}
+use Rattle.basic_toml_write.specs.Written.{Written}
+use Rattle.basic_toml_write.specs.Items.{Item}
+use Rattle.basic_toml_write.specs.Spelling.{Spells}
+use Rattle.basic_toml_write.specs.Layout.{layout}
+use Rattle.basic_toml_write.specs.Depth.{nesting_limit}
+use Rattle.basic_toml_write.specs.Shapes.{is_unsupported}
+use Rattle.basic_toml_write.specs.Refusals.{Refusal, key_not_string, call_order}
+use Rattle.basic_toml_write.specs.Calls.{outcome}
+use Rattle.basic_toml_write.specs.Faults.{Refuses}
+use Rattle.basic_toml_write.specs.declared.error.WriteError.{WriteError}
+use Rattle.basic_toml_write.specs.declared.error.WriteError.TheVariants.{OutOfMemory}
+
+-- the text that the items come to, or the refusal, or the type gave up
+abbrev pub WritesOut : List Item → Type 0 → Result (String Global) WriteError → Type 0
+WritesOut is gives_up r = MatchResult r (λ t. outcome nesting_limit is ≡ Ok (string_bytes t)) (λ e. gives_up ⊎ Refuses e (outcome nesting_limit is))
+
+-- a text is the layout of a written value that the items spell, which has no unsupported shape
+abbrev pub IsLayout : List Item → Result (String Global) WriteError → Type 0
+IsLayout is r = MatchResult r (λ t. (w : Written) × (Spells is w) × (is_unsupported nesting_limit w ≡ false) × (string_bytes t ≡ layout w)) (λ e. ⊤)
+
+-- where the items spell a written value without an unsupported shape, only memory or the type's own rule stands in the way of its layout
+abbrev pub Succeeds : List Item → Type 0 → Result (String Global) WriteError → Type 0
+Succeeds is gives_up r = (w : Written) → Spells is w → is_unsupported nesting_limit w ≡ false → MatchResult r (λ t. string_bytes t ≡ layout w) (λ e. gives_up ⊎ (e ≡ OutOfMemory))
+
+-- a refusal that a well-formed list may meet: none for the order of the calls, and none for a key that is no text
+abbrev pub IsFair : Refusal → Type 0
+IsFair key_not_string = ⊥
+IsFair call_order = ⊥
+IsFair _ = ⊤
+
+abbrev pub ComesInOrder : List Item → Type 0
+ComesInOrder is = MatchResult (outcome nesting_limit is) (λ _. ⊤) IsFair

@@ -1,0 +1,219 @@
+ghost use Rattle.std.specs.Prelude.{◌≡◌, ℕ, List, [], ◌∷◌, ◌++◌, pos, string_bytes, Any, encode_utf8};
+ghost use Rattle.basic_toml_write.specs.Written as w;
+ghost use Rattle.basic_toml_write.specs.Recorded.{Sends};
+ghost use Rattle.basic_toml_write.specs.Values.{data_calls, leaf_calls, option_calls, OptionGivesUp, array_calls, table_calls, map_calls};
+ghost use Rattle.basic_toml_value.specs.View.{view};
+
+use crate::{Serialize, Serializer, WriteError};
+use basic_toml_value::{Float, Pairs, Value};
+use std::alloc::Global;
+use std::collections::BTreeMap;
+
+impl Serialize for bool {
+    ghost calls = { λ b. leaf_calls (w.boolean b) };
+
+    fn serialize(&self, alloc: Global, ser: &mut Serializer) -> Result<(), WriteError> {
+        let _ = alloc;
+        ser.serialize_bool(*self)
+    }
+}
+
+impl Serialize for i8 {
+    ghost calls = { λ n. leaf_calls (w.integer n) };
+
+    fn serialize(&self, alloc: Global, ser: &mut Serializer) -> Result<(), WriteError> {
+        let _ = alloc;
+        ser.serialize_i8(*self)
+    }
+}
+
+impl Serialize for i16 {
+    ghost calls = { λ n. leaf_calls (w.integer n) };
+
+    fn serialize(&self, alloc: Global, ser: &mut Serializer) -> Result<(), WriteError> {
+        let _ = alloc;
+        ser.serialize_i16(*self)
+    }
+}
+
+impl Serialize for i32 {
+    ghost calls = { λ n. leaf_calls (w.integer n) };
+
+    fn serialize(&self, alloc: Global, ser: &mut Serializer) -> Result<(), WriteError> {
+        let _ = alloc;
+        ser.serialize_i32(*self)
+    }
+}
+
+impl Serialize for i64 {
+    ghost calls = { λ n. leaf_calls (w.integer n) };
+
+    fn serialize(&self, alloc: Global, ser: &mut Serializer) -> Result<(), WriteError> {
+        let _ = alloc;
+        ser.serialize_i64(*self)
+    }
+}
+
+impl Serialize for u8 {
+    ghost calls = { λ n. leaf_calls (w.integer (pos n)) };
+
+    fn serialize(&self, alloc: Global, ser: &mut Serializer) -> Result<(), WriteError> {
+        let _ = alloc;
+        ser.serialize_u8(*self)
+    }
+}
+
+impl Serialize for u16 {
+    ghost calls = { λ n. leaf_calls (w.integer (pos n)) };
+
+    fn serialize(&self, alloc: Global, ser: &mut Serializer) -> Result<(), WriteError> {
+        let _ = alloc;
+        ser.serialize_u16(*self)
+    }
+}
+
+impl Serialize for u32 {
+    ghost calls = { λ n. leaf_calls (w.integer (pos n)) };
+
+    fn serialize(&self, alloc: Global, ser: &mut Serializer) -> Result<(), WriteError> {
+        let _ = alloc;
+        ser.serialize_u32(*self)
+    }
+}
+
+impl Serialize for u64 {
+    ghost calls = { λ n. leaf_calls (w.integer (pos n)) };
+
+    fn serialize(&self, alloc: Global, ser: &mut Serializer) -> Result<(), WriteError> {
+        let _ = alloc;
+        ser.serialize_u64(*self)
+    }
+}
+
+impl Serialize for char {
+    ghost calls = { λ c. leaf_calls (w.other_text (encode_utf8 c)) };
+
+    fn serialize(&self, alloc: Global, ser: &mut Serializer) -> Result<(), WriteError> {
+        let _ = alloc;
+        ser.serialize_char(*self)
+    }
+}
+
+impl Serialize for &str {
+    ghost calls = { λ s. leaf_calls (w.text s.now) };
+
+    fn serialize(&self, alloc: Global, ser: &mut Serializer) -> Result<(), WriteError> {
+        let _ = alloc;
+        ser.serialize_str(*self)
+    }
+}
+
+impl Serialize for String {
+    ghost calls = { λ s. leaf_calls (w.text (string_bytes s)) };
+
+    fn serialize(&self, alloc: Global, ser: &mut Serializer) -> Result<(), WriteError> {
+        let _ = alloc;
+        ser.serialize_str(self.as_str())
+    }
+}
+
+impl Serialize for Float {
+    ghost calls = { λ f. leaf_calls (w.float f) };
+
+    fn serialize(&self, alloc: Global, ser: &mut Serializer) -> Result<(), WriteError> {
+        let _ = alloc;
+        ser.serialize_float(self)
+    }
+}
+
+impl<T: Serialize> Serialize for Option<T> {
+    ghost calls = { option_calls T.calls };
+
+    ghost gives_up = { OptionGivesUp T.gives_up };
+
+    fn serialize(&self, alloc: Global, ser: &mut Serializer) -> Result<(), WriteError> {
+        let _ = alloc;
+        match self {
+            None => ser.serialize_none(),
+            Some(value) => ser.serialize_some(value),
+        }
+    }
+}
+
+// The calls of an array.
+fn serialize_elements<T: Serialize>(elements: &[T], ser: &mut Serializer) -> Result<(), WriteError>
+    ensures { Sends (array_calls T.calls elements.now) (Any T.gives_up elements.now) ser.old ser.new result }
+{
+    ser.serialize_seq(Some(elements.len()))?;
+    for element in elements {
+        ser.serialize_element(element)?;
+    }
+    ser.end()
+}
+
+impl<T: Serialize> Serialize for &[T] {
+    ghost calls = { λ xs. array_calls T.calls xs.now };
+
+    ghost gives_up = { λ xs. Any T.gives_up xs.now };
+
+    fn serialize(&self, alloc: Global, ser: &mut Serializer) -> Result<(), WriteError> {
+        let _ = alloc;
+        serialize_elements(*self, ser)
+    }
+}
+
+impl<T: Serialize> Serialize for Vec<T> {
+    ghost calls = { λ xs. array_calls T.calls xs.items };
+
+    ghost gives_up = { λ xs. Any T.gives_up xs.items };
+
+    fn serialize(&self, alloc: Global, ser: &mut Serializer) -> Result<(), WriteError> {
+        let _ = alloc;
+        serialize_elements(self.as_slice(), ser)
+    }
+}
+
+impl<V: Serialize> Serialize for Pairs<V> {
+    ghost calls = { table_calls V.calls };
+
+    ghost gives_up = { Any (λ p. V.gives_up p.1) };
+
+    fn serialize(&self, alloc: Global, ser: &mut Serializer) -> Result<(), WriteError> {
+        let _ = alloc;
+        ser.serialize_map(Some(self.len()))?;
+        for (key, value) in self.iter() {
+            ser.serialize_field(key, value)?;
+        }
+        ser.end()
+    }
+}
+
+impl<V: Serialize> Serialize for BTreeMap<String, V> {
+    ghost calls = { λ m. map_calls V.calls m.entries };
+
+    ghost gives_up = { λ m. Any (λ p. V.gives_up p.1) m.entries };
+
+    fn serialize(&self, alloc: Global, ser: &mut Serializer) -> Result<(), WriteError> {
+        let _ = alloc;
+        ser.serialize_map(Some(self.len()))?;
+        for (key, value) in self.iter() {
+            ser.serialize_field(key.as_str(), value)?;
+        }
+        ser.end()
+    }
+}
+
+impl Serialize for Value {
+    ghost calls = { λ v. data_calls (view v) };
+
+    fn serialize(&self, alloc: Global, ser: &mut Serializer) -> Result<(), WriteError> {
+        match self {
+            Value::Integer(n) => ser.serialize_i64(*n),
+            Value::Float(float) => ser.serialize_float(float),
+            Value::Boolean(b) => ser.serialize_bool(*b),
+            Value::String(text) => ser.serialize_str(text.as_str()),
+            Value::Array(values) => values.serialize(alloc, ser),
+            Value::Table(table) => table.serialize(alloc, ser),
+        }
+    }
+}

@@ -1,0 +1,415 @@
+ghost use Rattle.std.specs.Prelude.{◌≡◌, ℕ, List, [], ◌∷◌, ◌++◌, pos, OnOk, IfErr, MatchOption, None, Err, is_some, ⊤, encode_utf8};
+ghost use Rattle.basic_toml_write.specs.Items.{Item, a_leaf, nothing, open_array, open_table, close, key, field, some_mark, value_mark, element_mark};
+ghost use Rattle.basic_toml_write.specs.Written as w;
+ghost use Rattle.basic_toml_write.specs.Leaves.{item_of};
+
+use crate::WriteError;
+use crate::call::Call;
+use crate::emitter::Emitter;
+use crate::leaf::Leaf;
+use basic_toml_value::Float;
+use std::alloc::Global;
+
+/// Turns calls into TOML text.
+///
+/// The calls open and close arrays and tables, set keys and write values; a key comes before its value. After a refusal every later call
+/// but [`has_refused`](Serializer::has_refused) answers that refusal, and no text is handed out.
+#[derive(Drop)]
+pub struct Serializer {
+    emitter: Emitter,
+    refusal: Option<WriteError>,
+}
+
+impl Serializer {
+    ghost use Rattle.basic_toml_write.specs.States.{Steps};
+    ghost use Rattle.basic_toml_write.specs.Recorded.{HasRecorded, Takes, Passes, Answers, Finishes, refusal_of};
+
+    /// A serializer without any calls yet. Takes no memory.
+    #[tactic(auto, unfolding(crate::specs::Recorded::HasRecorded))]
+    pub fn new(alloc: Global) -> Serializer
+        ensures { HasRecorded result [] }
+    {
+        Serializer {
+            emitter: Emitter::new(alloc),
+            refusal: None,
+        }
+    }
+
+    /// Whether a call was refused. Takes no memory and changes nothing.
+    pub fn has_refused(&self) -> bool
+        ensures { result ≡ is_some (refusal_of self.now) }
+    {
+        self.refusal.is_some()
+    }
+
+    // The refusal that stands, if one does.
+    #[tactic(auto, using(crate::proofs::Sending::takes_refused))]
+    fn ready(&self) -> Result<(), WriteError>
+        ensures none { OnOk result (self.now.refusal ≡ None) }
+        ensures refused { IfErr result (λ e. (is : List Item) → Takes is self.now self.now (Err e)) }
+    {
+        match &self.refusal {
+            Some(refusal) => Err(refusal.again(self.emitter.alloc)),
+            None => Ok(()),
+        }
+    }
+
+    // Keeps a refusal, and answers it.
+    #[tactic(auto, using(crate::proofs::Sending::takes_ok, crate::proofs::Sending::takes_err))]
+    fn keep(&mut self, answer: Result<(), WriteError>) -> Result<(), WriteError>
+        ensures { (i : Item) (before : Serializer) → before.refusal ≡ None → self.old.refusal ≡ None → Steps i before.emitter self.old.emitter answer → Takes (i ∷ []) before self.new result }
+    {
+        match answer {
+            Ok(()) => Ok(()),
+            Err(refusal) => {
+                let again = refusal.again(self.emitter.alloc);
+                self.refusal = Some(refusal);
+                Err(again)
+            }
+        }
+    }
+
+    // One item: it is taken, or the refusal that is due is kept and answered.
+    fn take(&mut self, call: Call<'_>) -> Result<(), WriteError>
+        ensures { Takes (item_of call.entry ∷ []) self.old self.new result }
+    {
+        self.ready()?;
+        let answer = self.emitter.step(call);
+        self.keep(answer)
+    }
+
+    /// Writes a boolean.
+    pub fn serialize_bool(&mut self, v: bool) -> Result<(), WriteError>
+        ensures { Takes (a_leaf (w.boolean v) ∷ []) self.old self.new result }
+    {
+        self.take(Call::Leaf(Leaf::Boolean(v)))
+    }
+
+    /// Writes an integer.
+    pub fn serialize_i8(&mut self, v: i8) -> Result<(), WriteError>
+        ensures { Takes (a_leaf (w.integer v) ∷ []) self.old self.new result }
+    {
+        self.serialize_i16(i16::from(v))
+    }
+
+    /// Writes an integer.
+    pub fn serialize_i16(&mut self, v: i16) -> Result<(), WriteError>
+        ensures { Takes (a_leaf (w.integer v) ∷ []) self.old self.new result }
+    {
+        self.serialize_i32(i32::from(v))
+    }
+
+    /// Writes an integer.
+    pub fn serialize_i32(&mut self, v: i32) -> Result<(), WriteError>
+        ensures { Takes (a_leaf (w.integer v) ∷ []) self.old self.new result }
+    {
+        self.serialize_i64(i64::from(v))
+    }
+
+    /// Writes an integer.
+    pub fn serialize_i64(&mut self, v: i64) -> Result<(), WriteError>
+        ensures { Takes (a_leaf (w.integer v) ∷ []) self.old self.new result }
+    {
+        self.take(Call::Leaf(Leaf::Signed(v)))
+    }
+
+    /// Writes an integer.
+    pub fn serialize_u8(&mut self, v: u8) -> Result<(), WriteError>
+        ensures { Takes (a_leaf (w.integer (pos v)) ∷ []) self.old self.new result }
+    {
+        self.serialize_u16(u16::from(v))
+    }
+
+    /// Writes an integer.
+    pub fn serialize_u16(&mut self, v: u16) -> Result<(), WriteError>
+        ensures { Takes (a_leaf (w.integer (pos v)) ∷ []) self.old self.new result }
+    {
+        self.serialize_u32(u32::from(v))
+    }
+
+    /// Writes an integer.
+    pub fn serialize_u32(&mut self, v: u32) -> Result<(), WriteError>
+        ensures { Takes (a_leaf (w.integer (pos v)) ∷ []) self.old self.new result }
+    {
+        self.serialize_u64(u64::from(v))
+    }
+
+    /// Writes an integer. `UnsupportedType` where it is above 9223372036854775807.
+    pub fn serialize_u64(&mut self, v: u64) -> Result<(), WriteError>
+        ensures { Takes (a_leaf (w.integer (pos v)) ∷ []) self.old self.new result }
+    {
+        self.take(Call::Leaf(Leaf::Unsigned(v)))
+    }
+
+    /// Writes a float by its canonical text.
+    pub fn serialize_float(&mut self, v: &Float) -> Result<(), WriteError>
+        ensures { Takes (a_leaf (w.float v.now) ∷ []) self.old self.new result }
+    {
+        self.take(Call::Leaf(Leaf::Float(v.as_str())))
+    }
+
+    /// Writes a string of one character, which may not be a key.
+    pub fn serialize_char(&mut self, v: char) -> Result<(), WriteError>
+        ensures { Takes (a_leaf (w.other_text (encode_utf8 v)) ∷ []) self.old self.new result }
+    {
+        let mut bytes = [0; 4];
+        self.take(Call::Leaf(Leaf::OtherText(v.encode_utf8(&mut bytes))))
+    }
+
+    /// Writes a string; at a key, sets the key.
+    pub fn serialize_str(&mut self, v: &str) -> Result<(), WriteError>
+        ensures { Takes (a_leaf (w.text v.now) ∷ []) self.old self.new result }
+    {
+        self.take(Call::Leaf(Leaf::Text(v)))
+    }
+
+    /// Writes an array of integers.
+    pub fn serialize_bytes(&mut self, v: &[u8]) -> Result<(), WriteError>
+        ensures { Takes (a_leaf (w.bytes v.now) ∷ []) self.old self.new result }
+    {
+        self.take(Call::Leaf(Leaf::Bytes(v)))
+    }
+
+    /// Writes the name of a variant as a string, which may not be a key.
+    pub fn serialize_unit_variant(
+        &mut self,
+        name: &str,
+        index: u32,
+        variant: &str,
+    ) -> Result<(), WriteError>
+        ensures { Takes (a_leaf (w.other_text variant.now) ∷ []) self.old self.new result }
+    {
+        let _ = name;
+        let _ = index;
+        self.take(Call::Leaf(Leaf::OtherText(variant)))
+    }
+
+    /// Refuses a unit: `UnsupportedType`.
+    pub fn serialize_unit(&mut self) -> Result<(), WriteError>
+        ensures { Takes (a_leaf w.refused ∷ []) self.old self.new result }
+    {
+        self.take(Call::Leaf(Leaf::Refused))
+    }
+
+    /// Refuses a unit: `UnsupportedType`.
+    pub fn serialize_unit_struct(&mut self, name: &str) -> Result<(), WriteError>
+        ensures { Takes (a_leaf w.refused ∷ []) self.old self.new result }
+    {
+        let _ = name;
+        self.serialize_unit()
+    }
+
+    /// Refuses a variant that holds a value: `UnsupportedType`. The value is not looked at.
+    pub fn serialize_newtype_variant<T: Serialize>(
+        &mut self,
+        name: &str,
+        index: u32,
+        variant: &str,
+        value: &T,
+    ) -> Result<(), WriteError>
+        ensures { Takes (a_leaf w.refused ∷ []) self.old self.new result }
+    {
+        let _ = index;
+        let _ = variant;
+        let _ = value;
+        self.serialize_unit_struct(name)
+    }
+
+    /// Refuses a variant that holds values: `UnsupportedType`.
+    pub fn serialize_tuple_variant(
+        &mut self,
+        name: &str,
+        index: u32,
+        variant: &str,
+        len: usize,
+    ) -> Result<(), WriteError>
+        ensures { Takes (a_leaf w.refused ∷ []) self.old self.new result }
+    {
+        let _ = index;
+        let _ = variant;
+        let _ = len;
+        self.serialize_unit_struct(name)
+    }
+
+    /// Refuses a variant that holds values: `UnsupportedType`.
+    pub fn serialize_struct_variant(
+        &mut self,
+        name: &str,
+        index: u32,
+        variant: &str,
+        len: usize,
+    ) -> Result<(), WriteError>
+        ensures { Takes (a_leaf w.refused ∷ []) self.old self.new result }
+    {
+        self.serialize_tuple_variant(name, index, variant, len)
+    }
+
+    /// An absent option: an entry with it is left out. `UnsupportedNone` elsewhere.
+    pub fn serialize_none(&mut self) -> Result<(), WriteError>
+        ensures { Takes (nothing ∷ []) self.old self.new result }
+    {
+        self.take(Call::Nothing)
+    }
+
+    /// Opens an array; its length is not looked at.
+    pub fn serialize_seq(&mut self, len: Option<usize>) -> Result<(), WriteError>
+        ensures { Takes (open_array ∷ []) self.old self.new result }
+    {
+        let _ = len;
+        self.take(Call::OpenArray)
+    }
+
+    /// Opens an array; its length is not looked at.
+    pub fn serialize_tuple(&mut self, len: usize) -> Result<(), WriteError>
+        ensures { Takes (open_array ∷ []) self.old self.new result }
+    {
+        self.serialize_seq(Some(len))
+    }
+
+    /// Opens an array; its length is not looked at.
+    pub fn serialize_tuple_struct(&mut self, name: &str, len: usize) -> Result<(), WriteError>
+        ensures { Takes (open_array ∷ []) self.old self.new result }
+    {
+        let _ = name;
+        self.serialize_tuple(len)
+    }
+
+    /// Opens a table; its length is not looked at.
+    pub fn serialize_map(&mut self, len: Option<usize>) -> Result<(), WriteError>
+        ensures { Takes (open_table ∷ []) self.old self.new result }
+    {
+        let _ = len;
+        self.take(Call::OpenTable)
+    }
+
+    /// Opens a table; its length is not looked at.
+    pub fn serialize_struct(&mut self, name: &str, len: usize) -> Result<(), WriteError>
+        ensures { Takes (open_table ∷ []) self.old self.new result }
+    {
+        let _ = name;
+        self.serialize_map(Some(len))
+    }
+
+    /// Closes the innermost array or table.
+    pub fn end(&mut self) -> Result<(), WriteError>
+        ensures { Takes (close ∷ []) self.old self.new result }
+    {
+        self.take(Call::Close)
+    }
+
+    // The answer of a part, or the refusal that was met in it.
+    fn answer(&self, answer: Result<(), WriteError>) -> Result<(), WriteError>
+        ensures part { MatchOption (refusal_of self.now) (result ≡ answer) (λ e. ⊤) }
+        ensures answers { Answers self.now result }
+    {
+        match &self.refusal {
+            Some(refusal) => Err(refusal.again(self.emitter.alloc)),
+            None => answer,
+        }
+    }
+
+    // The calls of a part. A refusal that was met in it is answered even where the part answered Ok; else the part's own fault is.
+    #[tactic(auto, using(crate::proofs::Sending::passes_answer))]
+    fn part<T: Serialize>(&mut self, value: &T) -> Result<(), WriteError>
+        ensures { Passes (T.calls value.now) (T.gives_up value.now) self.old self.new result }
+    {
+        let answer = value.serialize(self.emitter.alloc, self);
+        self.answer(answer)
+    }
+
+    // What a call records before its part, and the calls of the part.
+    #[tactic(auto, using(crate::proofs::Sending::passes_then, crate::proofs::Sending::passes_cut))]
+    fn behind<T: Serialize>(&mut self, call: Call<'_>, value: &T) -> Result<(), WriteError>
+        ensures { Passes (item_of call.entry ∷ T.calls value.now) (T.gives_up value.now) self.old self.new result }
+    {
+        self.take(call)?;
+        let answer = self.part(value);
+        answer
+    }
+
+    /// Writes an option that is there.
+    pub fn serialize_some<T: Serialize>(&mut self, value: &T) -> Result<(), WriteError>
+        ensures { Passes (some_mark ∷ T.calls value.now) (T.gives_up value.now) self.old self.new result }
+    {
+        self.behind(Call::SomeMark, value)
+    }
+
+    /// Writes the value that a newtype holds.
+    pub fn serialize_newtype_struct<T: Serialize>(
+        &mut self,
+        name: &str,
+        value: &T,
+    ) -> Result<(), WriteError>
+        ensures { Passes (T.calls value.now) (T.gives_up value.now) self.old self.new result }
+    {
+        let _ = name;
+        self.part(value)
+    }
+
+    /// Sets the key of the next entry to a text that is given by its own calls. `KeyNotString` where they make no text.
+    pub fn serialize_key<T: Serialize>(&mut self, value: &T) -> Result<(), WriteError>
+        ensures { Passes (key ∷ T.calls value.now) (T.gives_up value.now) self.old self.new result }
+    {
+        self.behind(Call::Key, value)
+    }
+
+    /// Writes the value of the entry whose key is set.
+    pub fn serialize_value<T: Serialize>(&mut self, value: &T) -> Result<(), WriteError>
+        ensures { Passes (value_mark ∷ T.calls value.now) (T.gives_up value.now) self.old self.new result }
+    {
+        self.behind(Call::ValueMark, value)
+    }
+
+    /// Sets the key of the next entry, and writes its value.
+    pub fn serialize_field<T: Serialize>(&mut self, name: &str, value: &T) -> Result<(), WriteError>
+        ensures { Passes (field name.now ∷ T.calls value.now) (T.gives_up value.now) self.old self.new result }
+    {
+        self.behind(Call::Field(name), value)
+    }
+
+    /// Writes an element of the innermost array.
+    pub fn serialize_element<T: Serialize>(&mut self, value: &T) -> Result<(), WriteError>
+        ensures { Passes (element_mark ∷ T.calls value.now) (T.gives_up value.now) self.old self.new result }
+    {
+        self.behind(Call::ElementMark, value)
+    }
+
+    /// The text, where the calls spelled a whole table; else the refusal that was answered before, or `CallOrder`.
+    pub fn finish(self) -> Result<String, WriteError>
+        ensures { Finishes self result }
+    {
+        let Serializer { emitter, refusal } = self;
+        match refusal {
+            Some(refusal) => Err(refusal),
+            None => {
+                let Emitter {
+                    text,
+                    frames,
+                    is_done,
+                    alloc: _,
+                } = emitter;
+                if is_done && frames.is_empty() {
+                    Ok(text)
+                } else {
+                    Err(WriteError::CallOrder)
+                }
+            }
+        }
+    }
+}
+
+/// A value that tells itself to a [`Serializer`].
+pub trait Serialize {
+    ghost use Rattle.basic_toml_write.specs.Items.{Item};
+    ghost use Rattle.basic_toml_write.specs.Recorded.{Sends};
+
+    // The items that a value spells.
+    ghost calls: { Self → List Item };
+
+    // Holds of a value whose own rule may fail.
+    ghost gives_up: { Self → Type 0 } = { λ _. ⊥ };
+
+    /// Makes the calls of the value on `ser`. A fault of the type's own is made by [`WriteError::custom`].
+    fn serialize(&self, alloc: Global, ser: &mut Serializer) -> Result<(), WriteError>
+        ensures { Sends (calls self.now) (gives_up self.now) ser.old ser.new result };
+}
