@@ -1,7 +1,7 @@
 -- The texts of faults, on rows.
-use Rattle.std.proofs.Common.{◌≡◌, List, [], ◌∷◌, ◌++◌, codes, refl, Some, None}
+use Rattle.std.proofs.Common.{◌≡◌, [], ◌∷◌, codes, refl, Some}
 use Rattle.std.specs.Fmt.{digits}
-use Rattle.basic_toml.specs.Fault.{Fault, unexpected, invalid_char_in_string, invalid_escape, duplicate_table, duplicate_key, wanted, number_invalid, not_text}
+use Rattle.basic_toml.specs.Fault.{unexpected, duplicate_table, duplicate_key, wanted, not_text}
 use Rattle.basic_toml.specs.FaultText.{escaped, fault_text}
 
 tab : escaped 9 ≡ 92 ∷ 116 ∷ []

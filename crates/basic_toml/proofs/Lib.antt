@@ -2,6 +2,7 @@ pub mod Runs
 pub mod PlainLines
 pub mod PlainLaws
 pub mod WrittenIntegers
+pub mod PlainTexts
 pub mod ReadBack
 pub mod Repeats
 pub mod ReadingLaws
@@ -9,3 +10,5 @@ pub mod Written
 pub mod FaultTexts
 pub mod TypeReadLaws
 pub mod OneMeaning
+pub mod DataSpelled
+pub mod TextOf

@@ -1,6 +1,5 @@
 -- What is read is spelled so, and what is spelled so is read.
-use Rattle.std.proofs.Common.{◌≡◌, ◌≢◌, ℕ, zero, suc, ◌+◌, ◌<◌, ◌≤◌, Bool, true, false, cond, not, ◌&&◌, ◌||◌, ◌==◌, if◌then◌else◌, IsTrue, List, [], ◌∷◌, ◌++◌, length, take, drop, codes, refl, ap, sym, ◌∙◌, subst, arith, ℤ, Option, Some, None, ◌⊎◌, inl, inr, append_assoc, eq-eqb, eqb-true}
-use Rattle.std.specs.Option.{option_and_then}
+use Rattle.std.proofs.Common.{◌≡◌, ℕ, ◌+◌, Bool, true, false, cond, ◌==◌, IsTrue, List, [], ◌∷◌, ◌++◌, length, codes, refl, ap, sym, ◌∙◌, subst, arith, ℤ, Option, Some, None, ◌⊎◌, inl, inr, append_assoc, eq-eqb, eqb-true}
 use Rattle.std.specs.List.{list_all, prefix_len, take_while}
 use Rattle.std.specs.Str.{bytes_eq}
 use Rattle.std.proofs.lemmas.List.{take-append-drop, take_at, drop_at}
@@ -12,7 +11,7 @@ use Rattle.std.proofs.lemmas.Option.{option_and_then_some, cond_some}
 use Rattle.std.proofs.lemmas.Slice.Eq.{bytes_eq-Decides}
 use Rattle.basic_toml_value.specs.Data.{Data, integer, float, boolean, string, array, table}
 use Rattle.basic_toml_value.specs.Numbers.{integer_of}
-use Rattle.basic_toml.specs.PlainRows.{is_blank, is_bare, is_decimal, is_printable, AreBlanks, is_bare_key, IsValue, PlainRow, IsRow, AreRows, no_line, blank_line, row_line, lines_of, ArePlainRows}
+use Rattle.basic_toml.specs.PlainRows.{is_blank, is_bare, is_decimal, is_printable, is_bare_key, IsValue, PlainRow, IsRow, AreRows, no_line, blank_line, row_line, lines_of, ArePlainRows}
 use Rattle.basic_toml.specs.PlainReading.{after_run, after_sign, quoted_at, number_at, word_at, value_at, is_blank_line, row_at, row_of, with_row, rows_from, rows_of}
 
 -- classes apart

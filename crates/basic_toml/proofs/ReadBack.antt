@@ -1,17 +1,18 @@
 -- What is written is read back.
-use Rattle.std.proofs.Common.{◌≡◌, ℕ, zero, suc, ◌+◌, ◌<◌, Bool, true, false, cond, not, ◌&&◌, ◌==◌, nat_lt, IsTrue, List, [], ◌∷◌, ◌++◌, length, map, codes, refl, ap, sym, ◌∙◌, subst, arith, ℤ, pos, negsuc, inr, append_assoc}
+use Rattle.std.proofs.Common.{◌≡◌, ℕ, suc, ◌+◌, Bool, true, false, cond, not, ◌==◌, List, [], ◌∷◌, ◌++◌, length, codes, refl, ap, sym, ◌∙◌, subst, arith, ℤ, pos, negsuc, inr, append_assoc}
 use Rattle.std.specs.Char.{is_digit}
 use Rattle.std.specs.Fmt.{decimal, signed_decimal}
-use Rattle.std.specs.List.{list_all, slice_split, onto_first}
+use Rattle.std.specs.List.{list_all, onto_first}
 use Rattle.std.proofs.lemmas.Bool.{and_parts}
 use Rattle.std.proofs.lemmas.Bool.Decides.{nat_tests}
 use Rattle.std.proofs.lemmas.List.{append-nil}
 use Rattle.std.proofs.lemmas.List.Folds.{list_all-append}
 use Rattle.basic_toml_value.specs.Data.{Data, integer, float, boolean, string, array, table, Members, no_members, member}
 use Rattle.basic_toml_value.specs.Keys.{are_distinct}
-use Rattle.basic_toml.specs.PlainRows.{is_blank, is_bare, is_decimal, is_printable, is_bare_key, IsValue, PlainRow, IsRow, AreRows, no_line, blank_line, row_line, lines_of}
+use Rattle.basic_toml.specs.PlainRows.{is_bare, is_decimal, is_printable, is_bare_key, IsValue, PlainRow, IsRow, AreRows, no_line, blank_line, row_line, lines_of}
 use Rattle.basic_toml.specs.Document.{keys_of, members_from, IsDocument}
-use Rattle.basic_toml.specs.Layout.{value_text, row_text, rows_text, fits, is_plain_value, is_plain_pair, are_plain_pairs, member_keys}
+use Rattle.basic_toml.specs.PlainTables.{fits, is_plain_value, is_plain_pair, are_plain_pairs}
+use Rattle.basic_toml.proofs.PlainTexts.{value_text, row_text, rows_text, member_keys}
 use Rattle.basic_toml.proofs.PlainLaws.{bare_key_passes}
 use Rattle.basic_toml.proofs.WrittenIntegers.{integer_of-signed_decimal, decimal_digits, below_63}
 

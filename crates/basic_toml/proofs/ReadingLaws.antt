@@ -1,11 +1,11 @@
 -- How reading ends.
-use Rattle.std.proofs.Common.{◌≡◌, ℕ, ◌+◌, ◌<◌, ◌≤◌, Bool, false, true, ◌⊎◌, inl, inr, IsTrue, List, [], ◌∷◌, ◌++◌, length, map, refl, ap, sym, ◌∙◌, subst, arith, Option, Some, None, Result, Ok, Err, IfOk, IfErr, Vec, Global}
+use Rattle.std.proofs.Common.{◌≡◌, ℕ, ◌+◌, ◌<◌, ◌≤◌, Bool, false, true, ◌⊎◌, inl, inr, IsTrue, List, [], ◌∷◌, ◌++◌, length, map, refl, ap, sym, ◌∙◌, subst, arith, Some, None, Result, Ok, Err, IfOk, IfErr, Vec, Global}
 use Rattle.std.proofs.lemmas.List.{length-append, map-append}
 use Rattle.basic_toml_value.specs.Data.{Data, table, Members}
 use Rattle.basic_toml_value.specs.Keys.{are_distinct, is_among}
 use Rattle.basic_toml.specs.Document.{keys_of, members_from, IsDocument, IsFirstRepeat, IsTextFault, not_read_yet, duplicate_at, repeats_key, is_not_read}
 use Rattle.basic_toml.specs.Fault.{Fault, out_of_memory, want_of_memory}
-use Rattle.basic_toml.specs.PlainRows.{PlainRow, IsRow, AreRows, no_line, blank_line, row_line, lines_of, ArePlainRows}
+use Rattle.basic_toml.specs.PlainRows.{PlainRow, IsRow, AreRows, no_line, blank_line, row_line}
 use Rattle.basic_toml.specs.PlainReading.{rows_of}
 use Rattle.basic_toml.specs.PlainView.{row_view, rows_view}
 use Rattle.basic_toml.specs.declared.plain.Row.{Row}

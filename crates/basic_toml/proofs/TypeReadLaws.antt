@@ -1,5 +1,5 @@
 -- Where a value is read, the data is readable.
-use Rattle.std.proofs.Common.{◌≡◌, ◌<◌, ◌^◌, ℕ, ℤ, pos, Bool, true, false, ◌&&◌, nat_lt, List, [], ◌∷◌, refl, ap, sym, ◌∙◌, arith, Option, Some, None}
+use Rattle.std.proofs.Common.{◌≡◌, ℕ, ℤ, Bool, true, List, [], ◌∷◌, refl, ap, ◌∙◌, arith}
 use Rattle.std.proofs.lemmas.Bool.Decides.{nat_tests}
 use Rattle.basic_toml_value.specs.Data.{Data, integer, float, boolean, string, array, table, Items, no_items, item}
 use Rattle.basic_toml.specs.TypeReads.{unsigned_reads, unsigned_is_readable, signed_reads, signed_is_readable, bool_reads, bool_is_readable, items_read, items_are_readable, array_reads, array_is_readable}

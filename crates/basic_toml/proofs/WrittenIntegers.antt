@@ -1,5 +1,5 @@
 -- An integer in decimal is read as itself.
-use Rattle.std.proofs.Common.{◌≡◌, ◌≢◌, ℕ, zero, suc, ◌+◌, ◌<◌, ◌≤◌, ◌^◌, Bool, true, false, cond, not, ◌&&◌, ◌==◌, nat_lt, List, [], ◌∷◌, ◌++◌, length, filter, get_or, refl, ap, sym, ◌∙◌, subst, arith, rules, ℤ, pos, negsuc, Option, Some, None}
+use Rattle.std.proofs.Common.{◌≡◌, ℕ, zero, suc, ◌+◌, ◌<◌, ◌^◌, Bool, true, false, not, ◌==◌, nat_lt, List, [], ◌∷◌, length, filter, get_or, refl, ap, ◌∙◌, arith, rules, ℤ, pos, negsuc, Some}
 use Rattle.std.specs.Char.{is_digit}
 use Rattle.std.specs.Fmt.{decimal, signed_decimal}
 use Rattle.std.specs.List.{list_all}
@@ -9,7 +9,7 @@ use Rattle.std.proofs.lemmas.Bool.Decides.{nat_tests}
 use Rattle.std.proofs.lemmas.Fmt.{decimal_digit, digits_decimal, digits_value-decimal, decimal_nonempty, first_decimal}
 use Rattle.std.proofs.lemmas.Str.Parse.{IsNumeralModel, numerals_by_value}
 use Rattle.basic_toml_value.specs.Numbers as numbers
-use Rattle.basic_toml.specs.Layout.{fits}
+use Rattle.basic_toml.specs.PlainTables.{fits}
 
 abbrev pub is_decimal_digit : ℕ → Bool
 is_decimal_digit c = is_digit c 10

@@ -1,6 +1,6 @@
 -- What a text means: the table of its rows, in order, where no two of them have one key. (TOML v0.5.0: Key/Value Pair,
 -- Keys: "Defining a key multiple times is invalid")
-use Rattle.std.specs.Prelude.{◌≡◌, ℕ, Bool, IsTrue, List, [], ◌∷◌, ◌++◌, map, codes, Some}
+use Rattle.std.specs.Prelude.{◌≡◌, ℕ, IsTrue, List, [], ◌∷◌, ◌++◌, map, codes, Some}
 use Rattle.basic_toml_value.specs.Data.{Data, Members, members_of}
 use Rattle.basic_toml_value.specs.Keys.{are_distinct, is_among}
 use Rattle.basic_toml.specs.Fault.{Fault, duplicate_key, custom, placeless}

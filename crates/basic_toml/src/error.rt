@@ -2,8 +2,8 @@
 ghost use Rattle.std.specs.Prelude.{◌≡◌, ◌≤◌, Some, None, IsTrue, ◌↔◌, ◌⊎◌, [], length};
 ghost use Rattle.basic_toml.specs.LineColumn.{line_at, column_at};
 
-use crate::WriteError;
 use crate::place::{column_at, line_at};
+use basic_toml_write::WriteError;
 use std::alloc::{AllocError, Global};
 use std::fmt;
 use std::marker::Model;
@@ -14,7 +14,35 @@ enum Kind {
     Custom(String),
     NotUtf8,
     UnsupportedType,
+    KeyNotString,
+    ValueAfterTable,
+    UnsupportedNone,
+    CallOrder,
+    NestedTooDeeply,
     OutOfMemory,
+}
+
+impl fmt::Display for Kind {
+    ghost use Rattle.std.specs.Prelude.{Some};
+    ghost use Rattle.basic_toml.specs.FaultText.{message};
+    ghost use Rattle.basic_toml.specs.KindView.{kind_of};
+
+    ghost output = { λ kind. Some (message (kind_of kind)) };
+
+    fn fmt<W: fmt::Write>(&self, f: &mut fmt::Formatter<W>) -> fmt::Result {
+        match self {
+            Kind::DuplicateKey(key) => write!(f, "duplicate key: `{key}`"),
+            Kind::Custom(message) => write!(f, "{message}"),
+            Kind::NotUtf8 => write!(f, "input is not valid UTF-8"),
+            Kind::UnsupportedType => write!(f, "unsupported Rust type"),
+            Kind::KeyNotString => write!(f, "map key was not a string"),
+            Kind::ValueAfterTable => write!(f, "values must be emitted before tables"),
+            Kind::UnsupportedNone => write!(f, "unsupported None value"),
+            Kind::CallOrder => write!(f, "serializer calls out of order"),
+            Kind::NestedTooDeeply => write!(f, "nested too deeply"),
+            Kind::OutOfMemory => write!(f, "out of memory"),
+        }
+    }
 }
 
 /// Why a text was not read, or a value not written.
@@ -47,13 +75,8 @@ impl fmt::Display for Error {
     ghost output = { λ e. Some (fault_text e) };
 
     fn fmt<W: fmt::Write>(&self, f: &mut fmt::Formatter<W>) -> fmt::Result {
-        match &self.kind {
-            Kind::DuplicateKey(key) => write!(f, "duplicate key: `{key}`")?,
-            Kind::Custom(message) => write!(f, "{message}")?,
-            Kind::NotUtf8 => write!(f, "input is not valid UTF-8")?,
-            Kind::UnsupportedType => write!(f, "unsupported Rust type")?,
-            Kind::OutOfMemory => write!(f, "out of memory")?,
-        }
+        let kind = &self.kind;
+        write!(f, "{kind}")?;
         if let Some((line, column)) = self.line_column {
             write!(f, " at line {} column {}", line + 1, column + 1)?;
         }
@@ -128,13 +151,21 @@ impl From<AllocError> for Error {
 }
 
 impl From<WriteError> for Error {
-    ghost use Rattle.basic_toml.specs.ErrorView.{write_fault};
+    ghost use Rattle.basic_toml.specs.Fault.{placeless};
+    ghost use Rattle.basic_toml.specs.WriteFaults.{write_kind};
 
-    ghost from_gives = { λ refusal e. e ≡ write_fault refusal };
+    ghost from_gives = { λ fault e. e ≡ placeless (write_kind fault) };
 
-    fn from(refusal: WriteError) -> Error {
-        let kind = match refusal {
+    fn from(fault: WriteError) -> Error {
+        let kind = match fault {
             WriteError::UnsupportedType => Kind::UnsupportedType,
+            WriteError::KeyNotString => Kind::KeyNotString,
+            WriteError::ValueAfterTable => Kind::ValueAfterTable,
+            WriteError::UnsupportedNone => Kind::UnsupportedNone,
+            WriteError::Custom(message) => Kind::Custom(message),
+            WriteError::DuplicateKey(key) => Kind::DuplicateKey(key),
+            WriteError::CallOrder => Kind::CallOrder,
+            WriteError::NestedTooDeeply => Kind::NestedTooDeeply,
             WriteError::OutOfMemory => Kind::OutOfMemory,
         };
         Error {

@@ -11,7 +11,8 @@ mod repeat;
 mod ser;
 
 pub use basic_toml_value::{Float, PushRefusal, Table, Value};
+pub use basic_toml_write::{Serialize, Serializer, WriteError};
 pub use de::{Deserialize, from_slice, from_str};
 pub use error::Error;
 pub use node::Node;
-pub use ser::{Serialize, Serializer, WriteError, to_string};
+pub use ser::to_string;

@@ -1,155 +1,50 @@
 //! Writing values.
-ghost use Rattle.std.specs.Prelude.{◌≡◌, ◌++◌, ◌⊎◌, false, IsTrue, OnOk, IfOk, IfErr, List, string_bytes};
-ghost use Rattle.basic_toml_value.specs.Data.{Data, table};
-ghost use Rattle.basic_toml_value.specs.View.{view, entries};
-ghost use Rattle.basic_toml.specs.Fault.{want_of_memory, not_written};
-ghost use Rattle.basic_toml.specs.Layout.{row_text, layout, is_plain_pair, is_writable, IsReadBack};
-ghost use Rattle.basic_toml.specs.PlainRows.{is_bare_key};
+ghost use Rattle.std.specs.Prelude.{◌≡◌, ◌⊎◌, false, true, IfOk, IfErr, MatchResult, string_bytes};
+ghost use Rattle.basic_toml_value.specs.Data.{Data};
+ghost use Rattle.basic_toml_write.specs.Written.{Written};
+ghost use Rattle.basic_toml_write.specs.Spelling.{Spells};
+ghost use Rattle.basic_toml_write.specs.Layout.{layout};
+ghost use Rattle.basic_toml_write.specs.Depth.{depth, nesting_limit};
+ghost use Rattle.basic_toml_write.specs.Kept.{kept};
+ghost use Rattle.basic_toml_write.specs.Shapes.{is_unsupported};
+ghost use Rattle.basic_toml_write.specs.Values.{data_calls};
+ghost use Rattle.basic_toml_write.specs.Writing.{ComesInOrder};
+ghost use Rattle.basic_toml.specs.Fault.{want_of_memory};
+ghost use Rattle.basic_toml.specs.PlainTables.{is_plain, IsReadBack};
+ghost use Rattle.basic_toml.specs.Writing.{IsTextOf, IsDataText, IsRefusal, kept_data};
 
 use crate::Error;
-use crate::plain::{Class, is_all};
-use basic_toml_value::{Table, Value};
-use std::alloc::{AllocError, Global};
-use std::fmt::Write;
-use std::marker::Model;
+use basic_toml_write::{Serialize, written};
+use std::alloc::Global;
 
-/// Why a value was not written.
-#[derive(Clone, Copy, Debug, PartialEq, Eq)]
-pub enum WriteError {
-    /// No text stands for the value.
-    UnsupportedType,
-    /// A growth was refused.
-    OutOfMemory,
-}
-
-impl From<AllocError> for WriteError {
-    ghost use Rattle.basic_toml.specs.declared.ser.WriteError.TheVariants.{OutOfMemory};
-
-    ghost from_gives = { λ _ e. e ≡ OutOfMemory };
-
-    fn from(_e: AllocError) -> WriteError {
-        WriteError::OutOfMemory
-    }
-}
-
-/// The text that values are written to.
-#[derive(Drop)]
-pub struct Serializer {
-    text: String,
-}
-
-impl Model for Serializer {
-    ghost use Rattle.std.specs.Prelude.{ℕ, List, string_bytes};
-
-    ghost Value = { List ℕ };
-
-    ghost view = { λ ser. string_bytes ser.text };
-}
-
-/// A type whose values can be written.
-pub trait Serialize {
-    ghost use Rattle.basic_toml_value.specs.Data.{Data};
-
-    // The data that a value stands for.
-    ghost shows: { Self → Data };
-
-    /// Writes a value.
-    fn serialize(&self, alloc: Global, ser: &mut Serializer) -> Result<(), WriteError>
-        ensures written { OnOk result (ser.new ≡ ser.old ++ layout (shows self.now)) }
-        ensures writable { OnOk result (IsTrue (is_writable (shows self.now))) }
-        ensures unsupported { IfErr result (λ e. (e ≡ WriteError.OutOfMemory) ⊎ (is_writable (shows self.now) ≡ false)) };
-}
-
-#[tactic(auto, using(crate::proofs::Written::bare_key_filled))]
-fn is_bare_key(key: &str) -> bool
-    ensures { result ≡ is_bare_key key.now }
-{
-    !key.is_empty() && is_all(key, Class::Bare)
-}
-
-impl Serializer {
-    ghost use Rattle.basic_toml_value.specs.Data.{integer, boolean, string};
-    ghost use Rattle.basic_toml.specs.Layout.{fits};
-
-    #[tactic(auto, using(crate::proofs::Written::fits_from))]
-    fn integer_row(&mut self, key: &str, n: i64) -> Result<(), WriteError>
-        ensures written { OnOk result (self.new ≡ self.old ++ row_text key.now (integer n)) }
-        ensures fits { IsTrue (fits n) }
-        ensures memory { IfErr result (λ e. e ≡ WriteError.OutOfMemory) }
-    {
-        writeln!(self.text, "{key} = {n}")?;
-        Ok(())
-    }
-
-    fn boolean_row(&mut self, key: &str, b: bool) -> Result<(), WriteError>
-        ensures written { OnOk result (self.new ≡ self.old ++ row_text key.now (boolean b)) }
-        ensures memory { IfErr result (λ e. e ≡ WriteError.OutOfMemory) }
-    {
-        writeln!(self.text, "{key} = {b}")?;
-        Ok(())
-    }
-
-    fn string_row(&mut self, key: &str, text: &str) -> Result<(), WriteError>
-        ensures written { OnOk result (self.new ≡ self.old ++ row_text key.now (string text.now)) }
-        ensures memory { IfErr result (λ e. e ≡ WriteError.OutOfMemory) }
-    {
-        writeln!(self.text, "{key} = \"{text}\"")?;
-        Ok(())
-    }
-
-    fn row(&mut self, key: &str, value: &Value) -> Result<(), WriteError>
-        ensures written { OnOk result (self.new ≡ self.old ++ row_text key.now (view value.now)) }
-        ensures plain { OnOk result (IsTrue (is_plain_pair key.now (view value.now))) }
-        ensures unsupported { IfErr result (λ e. (e ≡ WriteError.OutOfMemory) ⊎ (is_plain_pair key.now (view value.now) ≡ false)) }
-    {
-        if !is_bare_key(key) {
-            return Err(WriteError::UnsupportedType);
-        }
-        match value {
-            Value::Integer(n) => self.integer_row(key, *n),
-            Value::Boolean(b) => self.boolean_row(key, *b),
-            Value::String(s) if is_all(s.as_str(), Class::Printable) => self.string_row(
-                key,
-                s.as_str(),
-            ),
-            _ => Err(WriteError::UnsupportedType),
-        }
-    }
-}
-
-impl Serialize for Table {
-    ghost shows = { λ t. table (entries t) };
-
-    fn serialize(&self, alloc: Global, ser: &mut Serializer) -> Result<(), WriteError> {
-        let _ = alloc;
-        for (key, value) in self.iter() {
-            ser.row(key, value)?;
-        }
-        Ok(())
-    }
-}
-
-/// The text of a value: a row for each pair of a table, in order.
+/// The TOML text of a value.
 ///
-/// Today a table is written where its keys are bare and its values are integers, booleans or strings of printable
-/// ASCII characters other than `'`, `"` and the backslash. What is written, [`crate::from_str`] reads back as the
-/// same table.
+/// A scalar entry of a table, and an array that holds no table, is a row `key = value`; a table is a section with its
+/// header, and an array of tables one section for each element. (TOML v0.5.0, "Table" and "Array of Tables")
 ///
 /// # Errors
 ///
-/// `unsupported Rust type` for any other table, and `out of memory` where a growth was refused.
-#[tactic(auto, using(crate::proofs::Written::means_table))]
+/// The first refusal that the value's calls meet, as [`Serializer`](crate::Serializer) says of each, even where the
+/// type passes over it; else the type's own fault; and `out of memory` where a growth was refused.
 pub fn to_string<T: Serialize>(alloc: Global, value: &T) -> Result<String, Error>
-    ensures text { IfOk result (λ s. string_bytes s ≡ layout (T.shows value.now)) }
-    ensures writable { OnOk result (IsTrue (is_writable (T.shows value.now))) }
-    ensures unsupported { IfErr result (λ e. (e ≡ want_of_memory) ⊎ ((e ≡ not_written) × (is_writable (T.shows value.now) ≡ false))) }
+    ensures text { IfOk result (λ s. IsTextOf (T.calls value.now) (string_bytes s)) }
+    ensures succeeds { (w : Written) → Spells (T.calls value.now) w → is_unsupported nesting_limit w ≡ false
+        → MatchResult result (λ s. string_bytes s ≡ layout w) (λ fault. T.gives_up value.now ⊎ (fault ≡ want_of_memory)) }
+    ensures refused { IfErr result (λ fault. (fault ≡ want_of_memory) ⊎ (T.gives_up value.now ⊎ IsRefusal (T.calls value.now) fault)) }
 
-    // Read again, the text gives what was written.
-    ensures read_back { IfOk result (λ s. IsReadBack (T.shows value.now) (string_bytes s)) }
+    // The calls spell at most one value, and calls that spell one meet no refusal for their order or for a key.
+    ensures unique { (v w : Written) → Spells (T.calls value.now) v → Spells (T.calls value.now) w → v ≡ w }
+    ensures in_order { (w : Written) → Spells (T.calls value.now) w → ComesInOrder (T.calls value.now) }
+
+    // What is kept of a value has its text and its depth.
+    ensures same_text { (w : Written) → layout (kept w) ≡ layout w }
+    ensures same_depth { (w : Written) → depth (kept w) ≡ depth w }
+
+    // Where the calls are those of data, the text is the layout of that data.
+    ensures of_data { (d : Data) → T.calls value.now ≡ data_calls d → IfOk result (λ s. IsDataText d (string_bytes s)) }
+
+    // Where what is kept of the value is a table of plain rows, the text means that table.
+    ensures read_back { (w : Written) → Spells (T.calls value.now) w → is_plain (kept_data w) ≡ true → IfOk result (λ s. IsReadBack (kept_data w) (string_bytes s)) }
 {
-    let mut ser = Serializer {
-        text: String::new(alloc),
-    };
-    value.serialize(alloc, &mut ser)?;
-    Ok(ser.text)
+    Ok(written(alloc, value)?)
 }

@@ -1,15 +1,20 @@
 -- What is due, from what reading and writing answered.
-use Rattle.std.proofs.Common.{◌≡◌, ◌≢◌, ◌⊎◌, inl, inr, ℕ, Bool, true, false, List, ◌++◌, IsTrue, IsUtf8, codes, refl, ap, sym, ◌∙◌, subst, Result, Ok, Err, Option, Some, None, IfSome}
+use Rattle.std.proofs.Common.{◌≡◌, ◌≢◌, ◌⊎◌, inl, inr, ℕ, Bool, true, false, List, [], ◌∷◌, ◌++◌, map, flat_map, IsUtf8, codes, refl, ap, sym, ◌∙◌, subst, Result, Ok, Err, Option, Some, None, IfSome}
+use Rattle.std.specs.List.{Any}
 use Rattle.std.specs.Str.{is_utf8}
 use Rattle.std.proofs.lemmas.Str.{IsUtf8-from_is_utf8, is_utf8-from_IsUtf8}
-use Rattle.std.specs.Io.KnownBytes.{Appends, Keeps}
+use Rattle.std.specs.Io.KnownBytes.{Appends}
 use Rattle.std.proofs.KnownBytes.{Keeps-refl}
-use Rattle.basic_toml.specs.Data.{Data, Members, table}
+use Rattle.basic_toml.specs.Data.{Data, Members, members_of, table}
 use Rattle.basic_toml.specs.Document.{IsDocument}
-use Rattle.basic_toml.specs.Fault.{Fault, out_of_memory, want_of_memory, not_text, not_written}
+use Rattle.basic_toml.specs.Calls.{outcome}
+use Rattle.basic_toml.specs.Depth.{nesting_limit}
+use Rattle.basic_toml.specs.Fault.{Fault, out_of_memory, want_of_memory, not_text}
 use Rattle.basic_toml.specs.FaultText.{fault_text}
-use Rattle.basic_toml.specs.Layout.{layout, is_writable}
+use Rattle.basic_toml.specs.Items.{Item, field}
 use Rattle.basic_toml.specs.Reading.{Answers}
+use Rattle.basic_toml.specs.Values.{data_calls, members_calls}
+use Rattle.basic_toml.specs.Writing.{IsDataText, IsRefusal}
 use Rattle.toml_tidy.specs.Run.{IsDue, tidied, refused, not_utf8, unwritable, AppendsFront, Ends, done, not_answered, not_written_all}
 
 -- bytes are UTF-8, or are not
@@ -23,6 +28,14 @@ utf8_or_not bytes = go (is_utf8 bytes) refl
 abbrev pub always : Data → Bool
 always _ = true
 
+-- the calls of pairs are those of their data
+pub pairs_calls : {V : Type 0} (view : V → Data) (pairs : List (List ℕ × V)) → flat_map (λ p. field p.0 ∷ data_calls (view p.1)) pairs ≡ members_calls (members_of (map (λ p. (p.0, view p.1)) pairs))
+pairs_calls view [] = refl
+pairs_calls view (p ∷ pairs) = ap (λ (is : List Item). field p.0 ∷ (data_calls (view p.1) ++ is)) (pairs_calls view pairs)
+
+pub none_of : {X : Type 0} (P : X → Type 0) → ((x : X) → P x → ⊥) → (xs : List X) → Any P xs → ⊥
+none_of P never xs any = let (k, x, within, at, holds) = any in never x holds
+
 -- a type T that is read from tables, and shows its members
 module _ {T : Type 0} (entries : T → Members) where
   abbrev reads_table : Data → T → Type 0
@@ -35,16 +48,18 @@ module _ {T : Type 0} (entries : T → Members) where
   ]
 
   pub tidied_due : (input text : List ℕ) (t : T) → (IsUtf8 input → Answers reads_table always input (Ok t)) → ((IsUtf8 input → ⊥) → Ok t ≡ Err not_text)
-      → IsTrue (is_writable (table (entries t))) → text ≡ layout (table (entries t)) → IsDue input 0 text
-  tidied_due input text t answers other writable e =
-      let (utf8, document) = read_as input t answers other in subst (IsDue input 0) (sym e) (tidied utf8 document writable)
+      → IsDataText (table (entries t)) text → IsDue input 0 text
+  tidied_due input text t answers other is =
+      let (utf8, document) = read_as input t answers other in subst (IsDue input 0) (sym is.laid_out) (tidied utf8 document is.supported)
 
-  pub unwritable_due : (input text : List ℕ) (t : T) (fault : Fault) → (IsUtf8 input → Answers reads_table always input (Ok t)) → ((IsUtf8 input → ⊥) → Ok t ≡ Err not_text)
-      → (fault ≡ want_of_memory) ⊎ ((fault ≡ not_written) × (is_writable (table (entries t)) ≡ false)) → fault.kind ≢ out_of_memory → text ≡ fault_text fault ++ codes "\n" → IsDue input 2 text
-  unwritable_due input text t fault answers other (inl memory) kind e = absurd (kind (ap (λ (f : Fault). f.kind) memory))
-  unwritable_due input text t fault answers other (inr (is, not)) kind e =
+  pub unwritable_due : (input text : List ℕ) (t : T) (fault : Fault) (calls : List Item) (gives_up : Type 0) → (IsUtf8 input → Answers reads_table always input (Ok t)) → ((IsUtf8 input → ⊥) → Ok t ≡ Err not_text)
+      → calls ≡ data_calls (table (entries t)) → (gives_up → ⊥) → (fault ≡ want_of_memory) ⊎ (gives_up ⊎ IsRefusal calls fault) → fault.kind ≢ out_of_memory → text ≡ fault_text fault ++ codes "\n" → IsDue input 2 text
+  unwritable_due input text t fault calls gives_up answers other made never (inl memory) kind e = absurd (kind (ap (λ (f : Fault). f.kind) memory))
+  unwritable_due input text t fault calls gives_up answers other made never (inr (inl up)) kind e = absurd (never up)
+  unwritable_due input text t fault calls gives_up answers other made never (inr (inr r)) kind e =
       let (utf8, document) = read_as input t answers other in
-      subst (IsDue input 2) (sym (subst (λ (f : Fault). text ≡ fault_text f ++ codes "\n") is e)) (unwritable utf8 document not)
+      subst (IsDue input 2) (sym (subst (λ (f : Fault). text ≡ fault_text f ++ codes "\n") r.named e))
+      (unwritable utf8 document (subst (λ (is : List Item). outcome nesting_limit is ≡ Err r.refusal) made r.met))
 
   pub refused_due : (input text : List ℕ) (fault : Fault) → (IsUtf8 input → Answers reads_table always input (Err fault)) → ((IsUtf8 input → ⊥) → ◌≡◌ {A = Result T Fault} (Err fault) (Err not_text))
       → fault.kind ≢ out_of_memory → text ≡ fault_text fault ++ codes "\n" → IsDue input 1 text

@@ -1,21 +1,30 @@
 -- What the program answers to the bytes that it reads, and how a run ends. (own)
-use Rattle.std.specs.Prelude.{◌≡◌, ℕ, IsTrue, IsUtf8, false, List, ◌++◌, take, codes, Option}
+use Rattle.std.specs.Prelude.{◌≡◌, ℕ, IsUtf8, false, List, ◌++◌, take, codes, Option, Err}
 use Rattle.std.specs.Io.KnownBytes.{Appends, Keeps}
+use Rattle.basic_toml.specs.Calls.{outcome}
 use Rattle.basic_toml.specs.Data.{Members, table}
+use Rattle.basic_toml.specs.Depth.{nesting_limit}
 use Rattle.basic_toml.specs.Document.{IsDocument, IsTextFault}
-use Rattle.basic_toml.specs.Fault.{Fault, not_text, not_written}
+use Rattle.basic_toml.specs.Fault.{Fault, placeless, not_text}
 use Rattle.basic_toml.specs.FaultText.{fault_text}
-use Rattle.basic_toml.specs.Layout.{layout, is_writable}
+use Rattle.basic_toml.specs.Layout.{layout}
+use Rattle.basic_toml.specs.Refusals.{Refusal}
+use Rattle.basic_toml.specs.Shapes.{is_unsupported}
+use Rattle.basic_toml.specs.Values.{data_calls}
+use Rattle.basic_toml.specs.Writing.{written_data, refusal_kind}
 
 abbrev pub line : Fault → List ℕ
 line fault = fault_text fault ++ codes "\n"
 
 -- the status, and the text to write
 pub data IsDue (input : List ℕ) : ℕ → List ℕ → Type 0 where
-  tidied : {members : Members} → IsUtf8 input → IsDocument input members → IsTrue (is_writable (table members)) → IsDue input 0 (layout (table members))
+  tidied : {members : Members} → IsUtf8 input → IsDocument input members → is_unsupported nesting_limit (written_data (table members)) ≡ false
+      → IsDue input 0 (layout (written_data (table members)))
   refused : {fault : Fault} → IsUtf8 input → IsTextFault input fault → IsDue input 1 (line fault)
   not_utf8 : (IsUtf8 input → ⊥) → IsDue input 1 (line not_text)
-  unwritable : {members : Members} → IsUtf8 input → IsDocument input members → is_writable (table members) ≡ false → IsDue input 2 (line not_written)
+  -- the first refusal that the calls of the table meet
+  unwritable : {members : Members} {refusal : Refusal} → IsUtf8 input → IsDocument input members → outcome nesting_limit (data_calls (table members)) ≡ Err refusal
+      → IsDue input 2 (line (placeless (refusal_kind refusal)))
 
 -- a front of the text was written
 abbrev pub AppendsFront : Option (List ℕ) → Option (List ℕ) → List ℕ → Type 0

@@ -1,8 +1,7 @@
-use Rattle.std.proofs.Common.{◌≡◌, map, refl, ap, sym, ◌∙◌, subst, List, Option, Some, None, IsTrue, MatchOption, option_map}
+use Rattle.std.proofs.Common.{◌≡◌, map, ap, sym, ◌∙◌, subst, List, Option, Some, IsTrue, MatchOption, option_map}
 use Rattle.basic_toml_value.specs.Keys.{are_distinct}
 use Rattle.basic_toml.specs.Document.{keys_of, IsFirstRepeat}
 use Rattle.basic_toml.specs.PlainReading.{rows_of}
-use Rattle.basic_toml.specs.PlainRows.{PlainRow}
 use Rattle.basic_toml.specs.PlainView.{row_view, rows_view}
 use Rattle.basic_toml.specs.declared.plain.Row.{Row}
 use Rattle.basic_toml.proofs.ReadingLaws.{unread, repeated, row-in_text, refused, given_from}

@@ -1,10 +1,9 @@
-use Rattle.std.proofs.Common.{◌≡◌, ℕ, ◌+◌, List, [], ◌∷◌, ◌++◌, map, length, drop, refl, ap, sym, ◌∙◌, arith, lit<, Option, Some, None, subst}
+use Rattle.std.proofs.Common.{◌≡◌, ◌+◌, [], ◌∷◌, ◌++◌, map, length, drop, ap, sym, ◌∙◌, arith, lit<}
 use Rattle.std.proofs.lemmas.Iterator.Consumers.{YieldsList-turn, YieldsList-end, YieldsList-at}
 use Rattle.std.proofs.lemmas.Iterator.Splits.{YieldsList-from_str_split}
 use Rattle.std.proofs.lemmas.List.{at_drop_all, length_push, map-append}
-use Rattle.std.specs.Option.{option_map}
-use Rattle.basic_toml.specs.PlainRows.{PlainRow, lines_of}
-use Rattle.basic_toml.specs.PlainReading.{rows_from, rows_of}
+use Rattle.basic_toml.specs.PlainRows.{lines_of}
+use Rattle.basic_toml.specs.PlainReading.{rows_from}
 use Rattle.basic_toml.specs.PlainView.{rows_view, row_view}
 use Rattle.basic_toml.proofs.PlainLines.{onto, size_of, onto_none, onto_end, onto_blank, onto_row, onto_other, size-lines_of, line_here}
 use Rattle.basic_toml.proofs.plain.rows_of.Goals as goal

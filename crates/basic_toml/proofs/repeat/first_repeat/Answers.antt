@@ -1,6 +1,6 @@
-use Rattle.std.proofs.Common.{◌+◌, map, take, drop, get_or, refl, ap, sym, ◌∙◌, arith, true, cond}
+use Rattle.std.proofs.Common.{◌+◌, map, take, drop, get_or, ap, sym, ◌∙◌, arith, true, cond}
 use Rattle.std.proofs.lemmas.Map.Text.{is_eq-slice_cmp}
-use Rattle.basic_toml_value.specs.Keys.{are_distinct, is_among}
+use Rattle.basic_toml_value.specs.Keys.{is_among}
 use Rattle.basic_toml.specs.Document.{keys_of}
 use Rattle.basic_toml.specs.PlainView.{row_view}
 use Rattle.basic_toml.proofs.Repeats.{is_among-push, are_distinct-push, keys-more, rows-split, no_row, not-false, not-true}

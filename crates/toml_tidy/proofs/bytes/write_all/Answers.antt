@@ -1,5 +1,4 @@
-use Rattle.std.proofs.Common.{rules, drop, take, length, ◌-◌, arith}
-use Rattle.std.proofs.lemmas.Grind.{common_steps}
+use Rattle.std.proofs.Common.{rules}
 use Rattle.toml_tidy.proofs.Fronts.{front_more, rest_whole}
 use Rattle.toml_tidy.proofs.bytes.write_all.Goals as goal
 

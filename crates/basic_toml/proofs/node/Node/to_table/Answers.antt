@@ -1,7 +1,4 @@
-use Rattle.std.proofs.Common.{get_or, map, take, arith}
-use Rattle.basic_toml_value.specs.Keys.{is_among}
-use Rattle.basic_toml.specs.Document.{keys_of}
-use Rattle.basic_toml.specs.PlainView.{row_view}
+use Rattle.std.proofs.Common.{arith}
 use Rattle.basic_toml.proofs.Repeats.{row-absent}
 use Rattle.basic_toml.proofs.node.Node.to_table.Goals as goal
 
