@@ -10,5 +10,4 @@ pub mod Written
 pub mod FaultTexts
 pub mod TypeReadLaws
 pub mod OneMeaning
-pub mod DataSpelled
 pub mod TextOf

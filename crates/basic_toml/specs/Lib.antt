@@ -11,14 +11,15 @@ pub mod Document
 pub mod PlainTables
 pub mod Nodes
 pub mod Reading
-pub use Rattle.basic_toml_value.specs.Data
-pub use Rattle.basic_toml_value.specs.View
 pub mod TypeReads
 pub mod Writing
+pub use Rattle.basic_toml_value.specs.Data
+pub use Rattle.basic_toml_value.specs.View
 pub use Rattle.basic_toml_write.specs.Calls
 pub use Rattle.basic_toml_write.specs.Depth
 pub use Rattle.basic_toml_write.specs.Items
 pub use Rattle.basic_toml_write.specs.Layout
 pub use Rattle.basic_toml_write.specs.Refusals
 pub use Rattle.basic_toml_write.specs.Shapes
+pub use Rattle.basic_toml_write.specs.Trees
 pub use Rattle.basic_toml_write.specs.Values

@@ -9,6 +9,8 @@ mod place;
 mod plain;
 mod repeat;
 mod ser;
+#[cfg(test)]
+mod tests;
 
 pub use basic_toml_value::{Float, PushRefusal, Table, Value};
 pub use basic_toml_write::{Serialize, Serializer, WriteError};

@@ -6,12 +6,13 @@ ghost use Rattle.basic_toml_write.specs.Spelling.{Spells};
 ghost use Rattle.basic_toml_write.specs.Layout.{layout};
 ghost use Rattle.basic_toml_write.specs.Depth.{depth, nesting_limit};
 ghost use Rattle.basic_toml_write.specs.Kept.{kept};
+ghost use Rattle.basic_toml_write.specs.Trees.{tree_of, written_of};
 ghost use Rattle.basic_toml_write.specs.Shapes.{is_unsupported};
 ghost use Rattle.basic_toml_write.specs.Values.{data_calls};
 ghost use Rattle.basic_toml_write.specs.Writing.{ComesInOrder};
 ghost use Rattle.basic_toml.specs.Fault.{want_of_memory};
 ghost use Rattle.basic_toml.specs.PlainTables.{is_plain, IsReadBack};
-ghost use Rattle.basic_toml.specs.Writing.{IsTextOf, IsDataText, IsRefusal, kept_data};
+ghost use Rattle.basic_toml.specs.Writing.{IsTextOf, IsDataText, IsRefusal};
 
 use crate::Error;
 use basic_toml_write::{Serialize, written};
@@ -36,6 +37,10 @@ pub fn to_string<T: Serialize>(alloc: Global, value: &T) -> Result<String, Error
     ensures unique { (v w : Written) → Spells (T.calls value.now) v → Spells (T.calls value.now) w → v ≡ w }
     ensures in_order { (w : Written) → Spells (T.calls value.now) w → ComesInOrder (T.calls value.now) }
 
+    // A tree of data is what its written value keeps; what is kept of a value is the written value of its tree.
+    ensures tree { (d : Data) → tree_of (written_of d) ≡ d }
+    ensures same_tree { (w : Written) → is_unsupported nesting_limit w ≡ false → written_of (tree_of w) ≡ kept w }
+
     // What is kept of a value has its text and its depth.
     ensures same_text { (w : Written) → layout (kept w) ≡ layout w }
     ensures same_depth { (w : Written) → depth (kept w) ≡ depth w }
@@ -44,7 +49,7 @@ pub fn to_string<T: Serialize>(alloc: Global, value: &T) -> Result<String, Error
     ensures of_data { (d : Data) → T.calls value.now ≡ data_calls d → IfOk result (λ s. IsDataText d (string_bytes s)) }
 
     // Where what is kept of the value is a table of plain rows, the text means that table.
-    ensures read_back { (w : Written) → Spells (T.calls value.now) w → is_plain (kept_data w) ≡ true → IfOk result (λ s. IsReadBack (kept_data w) (string_bytes s)) }
+    ensures read_back { (w : Written) → Spells (T.calls value.now) w → is_plain (tree_of w) ≡ true → IfOk result (λ s. IsReadBack (tree_of w) (string_bytes s)) }
 {
     Ok(written(alloc, value)?)
 }

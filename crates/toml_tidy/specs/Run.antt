@@ -10,16 +10,17 @@ use Rattle.basic_toml.specs.FaultText.{fault_text}
 use Rattle.basic_toml.specs.Layout.{layout}
 use Rattle.basic_toml.specs.Refusals.{Refusal}
 use Rattle.basic_toml.specs.Shapes.{is_unsupported}
+use Rattle.basic_toml.specs.Trees.{written_of}
 use Rattle.basic_toml.specs.Values.{data_calls}
-use Rattle.basic_toml.specs.Writing.{written_data, refusal_kind}
+use Rattle.basic_toml.specs.Writing.{refusal_kind}
 
 abbrev pub line : Fault → List ℕ
 line fault = fault_text fault ++ codes "\n"
 
 -- the status, and the text to write
 pub data IsDue (input : List ℕ) : ℕ → List ℕ → Type 0 where
-  tidied : {members : Members} → IsUtf8 input → IsDocument input members → is_unsupported nesting_limit (written_data (table members)) ≡ false
-      → IsDue input 0 (layout (written_data (table members)))
+  tidied : {members : Members} → IsUtf8 input → IsDocument input members → is_unsupported nesting_limit (written_of (table members)) ≡ false
+      → IsDue input 0 (layout (written_of (table members)))
   refused : {fault : Fault} → IsUtf8 input → IsTextFault input fault → IsDue input 1 (line fault)
   not_utf8 : (IsUtf8 input → ⊥) → IsDue input 1 (line not_text)
   -- the first refusal that the calls of the table meet

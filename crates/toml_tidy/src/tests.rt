@@ -1,0 +1,100 @@
+use super::run;
+use std::io::{self, Read, Write};
+use std::test::Fail;
+
+/// Gives its bytes in small parts, and fails once, after some calls.
+#[derive(Drop)]
+struct Source {
+    left: &'static [u8],
+    calls_before_fault: usize,
+}
+
+impl Read for Source {
+    fn read(&mut self, buf: &mut [u8]) -> io::Result<usize> {
+        if self.calls_before_fault == 0 {
+            self.calls_before_fault = usize::MAX;
+            return Err(io::Error::from(io::ErrorKind::Interrupted));
+        }
+        self.calls_before_fault -= 1;
+        let n = self.left.len().min(buf.len()).min(5);
+        buf[..n].copy_from_slice(&self.left[..n]);
+        self.left = &self.left[n..];
+        Ok(n)
+    }
+}
+
+/// Takes bytes in small parts, and fails once, after some calls.
+#[derive(Drop)]
+struct Sink {
+    bytes: Vec<u8>,
+    calls_before_fault: usize,
+}
+
+impl Write for Sink {
+    fn write(&mut self, buf: &[u8]) -> io::Result<usize> {
+        if self.calls_before_fault == 0 {
+            self.calls_before_fault = usize::MAX;
+            return Err(io::Error::from(io::ErrorKind::Interrupted));
+        }
+        self.calls_before_fault -= 1;
+        let n = buf.len().min(5);
+        self.bytes.extend_from_slice(&buf[..n])?;
+        Ok(n)
+    }
+
+    fn flush(&mut self) -> io::Result<()> {
+        Ok(())
+    }
+}
+
+#[test]
+fn runs(rt: HostRuntime) -> Result<(), Fail> {
+    for (input, status, text) in [
+        (b"".as_slice(), 0, ""),
+        (
+            b"a = 7\nb = true\nc = 'x'\n".as_slice(),
+            0,
+            "a = 7\nb = true\nc = \"x\"\n",
+        ),
+        (b"a = +1_0\n".as_slice(), 0, "a = 10\n"),
+        (
+            b"a = 1\na = 2\n".as_slice(),
+            1,
+            "duplicate key: `a` at line 2 column 1\n",
+        ),
+        (b"a = [1]\n".as_slice(), 1, "not read yet\n"),
+        (b"a\xff".as_slice(), 1, "input is not valid UTF-8\n"),
+    ] {
+        let mut reader = input;
+        let mut writer = Vec::new(rt.alloc());
+        let ended = run(rt.alloc(), &mut reader, &mut writer);
+        assert_eq!(rt; ended, status, "at {text}");
+        assert_eq!(rt; writer.as_slice(), text.as_bytes());
+    }
+    Ok(())
+}
+
+// Six calls read the 23 bytes and their end, and five write them.
+#[test]
+fn fails_at_each_call(rt: HostRuntime) -> Result<(), Fail> {
+    let text = b"a = 7\nb = true\nc = \"x\"\n".as_slice();
+    for reads in 0..7usize {
+        for writes in 0..6usize {
+            let mut reader = Source {
+                left: text,
+                calls_before_fault: reads,
+            };
+            let mut writer = Sink {
+                bytes: Vec::new(rt.alloc()),
+                calls_before_fault: writes,
+            };
+            let ended = run(rt.alloc(), &mut reader, &mut writer);
+            let taken = if reads < 6 { 0 } else { 5 * writes };
+            let status = if taken < text.len() { 3 } else { 0 };
+            assert_eq!(rt; ended, status, "at read {reads} and write {writes}");
+            assert_eq!(rt; writer.bytes.len(), taken.min(text.len()));
+            assert!(rt; text.starts_with(writer.bytes.as_slice()));
+        }
+    }
+    Ok(())
+}

@@ -1,0 +1,95 @@
+use super::*;
+use std::alloc::{AllocError, Global};
+use std::test::Fail;
+
+/// A value of any kind.
+#[derive(Drop)]
+struct Any {
+    value: Value,
+}
+
+impl<'de> Deserialize<'de> for Any {
+    ghost use Rattle.std.specs.Prelude.{◌≡◌, true};
+    ghost use Rattle.basic_toml_value.specs.View.{view};
+
+    ghost reads = { λ d any. view any.value ≡ d };
+
+    ghost is_readable = { λ _. true };
+
+    fn deserialize(alloc: Global, node: Node<'_, 'de>) -> Result<Any, Error> {
+        Ok(Any {
+            value: node.to_value(alloc)?,
+        })
+    }
+}
+
+#[test]
+fn reads_and_writes(rt: HostRuntime) -> Result<(), Fail> {
+    for (text, written) in [
+        ("", ""),
+        ("a = 7\nb = true\nc = 'x'\n", "a = 7\nb = true\nc = \"x\"\n"),
+        ("a = +1_0\n", "a = 10\n"),
+    ] {
+        let table: Table = from_str(rt.alloc(), text)?;
+        assert_eq!(rt; to_string(rt.alloc(), &table)?.as_str(), written);
+        let again: Any = from_slice(rt.alloc(), written.as_bytes())?;
+        let Value::Table(same) = again.value else {
+            return Err(Fail::new("no table"));
+        };
+        assert_eq!(rt; to_string(rt.alloc(), &same)?.as_str(), written);
+    }
+    Ok(())
+}
+
+#[test]
+fn faults(rt: HostRuntime) -> Result<(), Fail> {
+    let mut table = Table::new(rt.alloc());
+    let empty_key = String::from_str(rt.alloc(), "")?;
+    assert!(rt; table.push(empty_key, Value::Integer(1)).is_ok());
+    for (fault, text, line_col, is_out_of_memory) in [
+        (
+            from_str::<Table>(rt.alloc(), "a = 1\na = 2\n").err(),
+            "duplicate key: `a` at line 2 column 1",
+            Some((1, 0)),
+            false,
+        ),
+        (
+            from_str::<Table>(rt.alloc(), "a = [1]\n").err(),
+            "not read yet",
+            None,
+            false,
+        ),
+        (
+            from_slice::<Table>(rt.alloc(), b"a\xff").err(),
+            "input is not valid UTF-8",
+            None,
+            false,
+        ),
+        (
+            to_string(rt.alloc(), &table).err(),
+            "unsupported Rust type",
+            None,
+            false,
+        ),
+        (
+            Some(Error::from(WriteError::UnsupportedType)),
+            "unsupported Rust type",
+            None,
+            false,
+        ),
+        (
+            Some(Error::from(WriteError::OutOfMemory)),
+            "out of memory",
+            None,
+            true,
+        ),
+        (Some(Error::from(AllocError)), "out of memory", None, true),
+    ] {
+        let fault = fault.ok_or(text)?;
+        assert_eq!(rt; fault.line_col(), line_col, "at {text}");
+        assert_eq!(rt; fault.is_out_of_memory(), is_out_of_memory, "at {text}");
+        let shown = format!(in rt.alloc(); "{fault}")?;
+        assert_eq!(rt; shown.as_str(), text);
+    }
+    Ok(())
+}
