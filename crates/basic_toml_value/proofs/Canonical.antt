@@ -7,6 +7,7 @@ use Rattle.std.proofs.lemmas.Bool.Decides.{nat_tests}
 use Rattle.std.proofs.Math.Bool.{or-true}
 use Rattle.std.proofs.lemmas.Slice.Eq.{bytes_eq-Decides}
 use Rattle.basic_toml_value.specs.Numbers.{plus, minus, period, underscore, is_sign, is_mark, goes_on, is_digits, is_whole, without_sign, is_part, part_of, after_part, is_exponent, is_tail, is_special, is_unsigned_float, canonical, is_canonical}
+use Rattle.basic_toml_value.proofs.Booleans.{and_cases, or_cases}
 
 digit_range : (c : ℕ) → is_digit c 10 ≡ true → (48 ≤ c) × (c ≤ 57)
 digit_range c is = grind (arith, nat_tests)
@@ -125,11 +126,6 @@ parts-canonical (c ∷ cs) stops =
 is_mark_cases : (c : ℕ) → is_mark c ≡ true → (c ≡ 101) ⊎ (c ≡ 69)
 is_mark_cases c is = elim (cases_Bool (c == 101)) [ inl small ↦ inl (eqb-true c 101 small) | inr other ↦ inr (grind (arith, nat_tests)) ]
 
-and_cases : (a b : Bool) → (a && b) ≡ true → (a ≡ true) × (b ≡ true)
-and_cases true true is = (refl, refl)
-and_cases true false is = absurd (cc)
-and_cases false b is = absurd (cc)
-
 power-canonical : (cs : List ℕ) → is_digits 10 (without_sign cs) ≡ true → is_digits 10 (without_sign (canonical cs)) ≡ true
 power-canonical [] is = is
 power-canonical (c ∷ cs) is =
@@ -168,10 +164,6 @@ exponent_is_tail (c ∷ cs) is =
     elim (is_mark_cases c parts.0) [ inl small ↦ rw small (rw small at is) | inr large ↦ rw large (rw large at is) ]
 
 -- a fraction, an exponent, or both
-
-or_cases : (a b : Bool) → (a || b) ≡ true → (a ≡ true) ⊎ (b ≡ true)
-or_cases true b is = inl refl
-or_cases false b is = inr is
 
 abbrev is_end : List ℕ → Bool
 is_end cs = bytes_eq cs [] || is_exponent cs

@@ -13,7 +13,8 @@ use Rattle.std.proofs.lemmas.List.Folds.{list_all-append, list_any-append}
 use Rattle.std.proofs.lemmas.Option.{slice_get-get_or}
 use Rattle.basic_toml_value.specs.Keys.{is_among}
 use Rattle.basic_toml_value.specs.Index.{is_below, leaves_of, leaf_at, key_at, keys_at, leaf_keys, first_key, joined, row_of, is_filled, IsIndex}
-use Rattle.basic_toml_value.proofs.Order.{all_below, all_above, and_cases, rising-insert, is_among-insert, none_below, none_above, above_from}
+use Rattle.basic_toml_value.proofs.Booleans.{and_cases}
+use Rattle.basic_toml_value.proofs.Order.{all_below, all_above, rising-insert, is_among-insert, none_below, none_above, above_from}
 use Rattle.basic_toml_value.proofs.KeysLemmas.{is_among_at}
 use Rattle.basic_toml_value.proofs.Located.{part_at, before, behind, are_filled, located, before_below, behind_above}
 

@@ -1,3 +1,4 @@
+pub mod Booleans
 pub mod Canonical
 pub mod Digits
 pub mod IndexLemmas

@@ -5,7 +5,8 @@ use Rattle.std.proofs.lemmas.Bool.{cases_lt, ltb-true}
 use Rattle.std.proofs.lemmas.List.{take_more, take-append-drop, drop_all}
 use Rattle.std.proofs.lemmas.List.Folds.{list_all-append}
 use Rattle.basic_toml_value.specs.Index.{is_below, are_rising, joined}
-use Rattle.basic_toml_value.proofs.Order.{all_below, all_above, rising-left, rising-right, all_below-through, all_above-through, below_asymmetric, and_true, and_cases}
+use Rattle.basic_toml_value.proofs.Booleans.{and_true, and_cases}
+use Rattle.basic_toml_value.proofs.Order.{all_below, all_above, rising-left, rising-right, all_below-through, all_above-through, below_asymmetric}
 
 abbrev Key : Type 0
 Key = List ℕ

@@ -13,6 +13,7 @@ use Rattle.std.proofs.lemmas.Cmp.{nat_list_cmp_total}
 use Rattle.std.proofs.lemmas.Slice.Eq.{bytes_eq-Decides}
 use Rattle.basic_toml_value.specs.Index.{is_below, are_rising}
 use Rattle.basic_toml_value.specs.Keys.{is_among}
+use Rattle.basic_toml_value.proofs.Booleans.{and_cases}
 
 -- one key is below the other, or they are the same
 order_from : (a b : List ℕ) (order : Ordering) → slice_cmp nat_cmp a b ≡ order → (is_below a b ≡ true) ⊎ ((a ≡ b) ⊎ (is_below b a ≡ true))
@@ -77,11 +78,6 @@ above_from a key not_less differs = elim (order_cases a key) [
 
 -- lists of keys
 
-pub and_cases : (a b : Bool) → (a && b) ≡ true → (a ≡ true) × (b ≡ true)
-and_cases true true is = (refl, refl)
-and_cases true false is = absurd (cc)
-and_cases false b is = absurd (cc)
-
 abbrev pub all_below : List (List ℕ) → List ℕ → Bool
 all_below keys key = list_all (λ k. is_below k key) keys
 
@@ -138,6 +134,3 @@ none_above (x ∷ xs) key above =
 
 pub below_asymmetric : (a b : List ℕ) → is_below a b ≡ true → is_below b a ≡ false
 below_asymmetric a b ab = elim (cases_Bool (is_below b a)) [ inl ba ↦ absurd (cc (below_trans a b a ab ba, below_irreflexive a)) | inr no_less ↦ no_less ]
-
-pub and_true : (a b : Bool) → a ≡ true → b ≡ true → (a && b) ≡ true
-and_true a b p q = rw p q

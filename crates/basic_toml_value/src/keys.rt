@@ -7,7 +7,7 @@ use std::alloc::{AllocError, Global};
 use std::marker::Model;
 
 // Texts in order, each once, and an index of them where there are more than a few.
-#[derive(Debug, Drop)]
+#[derive(Drop)]
 pub struct Keys {
     texts: Vec<String>,
     leaves: Vec<Vec<usize>>,

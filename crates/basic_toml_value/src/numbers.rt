@@ -87,7 +87,7 @@ fn value_of(radix: u32, digits: &[u8]) -> Option<u64>
 }
 
 // Whether the text is a whole part: `0`, or digits that begin with another digit.
-pub fn is_whole(digits: &[u8]) -> bool
+fn is_whole(digits: &[u8]) -> bool
     ensures { result ≡ spec.is_whole digits.now }
 {
     match digits {

@@ -6,6 +6,7 @@ ghost use Rattle.basic_toml_value.specs.Pairs.{keys_of, values_of, has_key, valu
 
 use crate::keys::Keys;
 use std::alloc::{AllocError, Global};
+use std::fmt;
 use std::marker::Model;
 
 /// Why a pair was not put into a table.
@@ -18,7 +19,7 @@ pub enum PushRefusal {
 }
 
 /// Keys with their values, in order, each key once.
-#[derive(Debug, Drop)]
+#[derive(Drop)]
 pub struct Pairs<V> {
     keys: Keys,
     values: Vec<V>,
@@ -119,19 +120,19 @@ impl<V> Pairs<V> {
     }
 
     // The values in order.
-    pub fn values(&self) -> &[V]
+    pub(crate) fn values(&self) -> &[V]
         ensures { result.now ≡ values_of self.now }
     {
         self.values.as_slice()
     }
 
     // The allocator that the table keeps.
-    pub fn allocator(&self) -> Global {
+    pub(crate) fn allocator(&self) -> Global {
         *self.values.allocator()
     }
 
     // The same keys with other values.
-    pub fn with_values(&self, values: Vec<V>) -> Result<Pairs<V>, AllocError>
+    pub(crate) fn with_values(&self, values: Vec<V>) -> Result<Pairs<V>, AllocError>
     where
         V: Drop,
         requires { length values.items ≡ length self.now }
@@ -143,7 +144,7 @@ impl<V> Pairs<V> {
     }
 
     // Whether another table has the same keys in the same order.
-    pub fn has_same_keys(&self, other: &Pairs<V>) -> bool
+    pub(crate) fn has_same_keys(&self, other: &Pairs<V>) -> bool
         ensures { result ≡ same_keys (keys_of self.now) (keys_of other.now) }
     {
         self.keys.is_same(&other.keys)
@@ -156,6 +157,16 @@ impl<V> Pairs<V> {
     {
         let _ = &self.keys;
         Iter { pairs: self, at: 0 }
+    }
+}
+
+impl<V: fmt::Debug> fmt::Debug for Pairs<V> {
+    fn fmt<W: fmt::Write>(&self, f: &mut fmt::Formatter<W>) -> fmt::Result {
+        let mut out = f.debug_map();
+        for (key, value) in self.iter() {
+            out.entry(&key, value);
+        }
+        out.finish()
     }
 }
 
