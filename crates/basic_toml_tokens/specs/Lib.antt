@@ -1,0 +1,15 @@
+pub mod Text
+pub mod Strings
+pub mod TokenAt
+pub mod Faults
+pub mod Scan
+pub mod Reading
+pub mod Copies
+pub mod Classes
+pub mod Ahead
+pub mod Quoted
+pub mod Tokens
+pub mod Next
+pub mod Calls
+pub mod Descriptions
+pub mod Lines

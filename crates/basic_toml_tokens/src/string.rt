@@ -1,0 +1,156 @@
+//! Strings.
+ghost use Rattle.std.specs.Prelude.{◌≡◌, ◌<◌, ◌≤◌, ◌++◌, true, false, length, slice_index, is_some, IsOk, IfOk, MatchResult, string_bytes, encode_utf8_all};
+ghost use Rattle.std.specs.Str.{IsCharBoundary};
+ghost use Rattle.std.specs.Cow.{cow_str_bytes};
+ghost use Rattle.basic_toml_tokens.specs.Strings.{is_quote, is_plain};
+ghost use Rattle.basic_toml_tokens.specs.Classes.{passes};
+ghost use Rattle.basic_toml_tokens.specs.Ahead.{chars_of};
+ghost use Rattle.basic_toml_tokens.specs.Quoted.{IsOpen, copied_of, is_owned, IsQuoted, IsRefused};
+
+use crate::Error;
+use crate::class::{Class, end_of_run};
+use crate::quote::{Piece, Quote, behind_feed, delimiters, piece_at};
+use std::alloc::{AllocError, Global};
+use std::borrow::CowStr;
+
+/// A string.
+#[derive(Drop)]
+pub(crate) struct Quoted<'a> {
+    /// Its bytes in the text.
+    pub(crate) src: &'a str,
+    /// What it stands for.
+    pub(crate) val: CowStr<'a>,
+    /// Whether it stands between three delimiters.
+    pub(crate) multiline: bool,
+    /// Where it ends.
+    pub(crate) end: usize,
+}
+
+/// Why nothing was taken, and where the text goes on.
+#[derive(Drop)]
+pub(crate) struct Refusal {
+    pub(crate) error: Error,
+    pub(crate) at: usize,
+}
+
+/// What the string at a place stands between, and where its body begins.
+fn open(text: &str, start: usize) -> (Quote, usize)
+    requires boundary { IsCharBoundary text.now start }
+    requires within { start < length text.now }
+    requires quote { is_quote (slice_index text.now start) ≡ true }
+    ensures { IsOpen text.now start result.0 result.1 }
+{
+    let delimiter = text.as_bytes()[start];
+    if delimiters(text, start, delimiter) < 3 {
+        let quote = Quote {
+            delimiter,
+            multiline: false,
+        };
+        return (quote, start + 1);
+    }
+    let quote = Quote {
+        delimiter,
+        multiline: true,
+    };
+    match behind_feed(text, start + 3) {
+        Some(body) => (quote, body),
+        None => (quote, start + 3),
+    }
+}
+
+/// A copy with some bytes and a character more.
+fn extended(
+    alloc: Global,
+    copy: Option<String>,
+    plain: &str,
+    c: Option<char>,
+) -> Result<String, AllocError>
+    ensures { IfOk result (λ longer. string_bytes longer
+        ≡ (copied_of copy ++ plain.now) ++ encode_utf8_all (chars_of c)) }
+{
+    let mut longer = match copy {
+        Some(copy) => copy,
+        None => String::new(alloc),
+    };
+    longer.push_str(plain)?;
+    if let Some(c) = c {
+        longer.push(c)?;
+    }
+    Ok(longer)
+}
+
+/// The value of a string whose copy lacks some last bytes. It borrows them where there is no copy.
+fn finished<'a>(copy: Option<String>, plain: &'a str) -> Result<CowStr<'a>, AllocError>
+    ensures bytes { IfOk result (λ val. cow_str_bytes val ≡ copied_of copy ++ plain.now) }
+    ensures copied { IfOk result (λ val. is_owned val ≡ is_some copy) }
+    ensures memory { is_some copy ≡ false → IsOk result }
+{
+    match copy {
+        None => Ok(CowStr::Borrowed(plain)),
+        Some(mut copy) => {
+            copy.push_str(plain)?;
+            Ok(CowStr::Owned(copy))
+        }
+    }
+}
+
+/// The class of characters that stand for themselves.
+fn plain_class(quote: Quote) -> Class
+    requires { is_quote quote.delimiter ≡ true }
+    ensures { passes result ≡ is_plain quote.delimiter }
+{
+    if quote.delimiter == b'"' {
+        Class::Basic
+    } else {
+        Class::Literal
+    }
+}
+
+/// The string at a place.
+pub(crate) fn string<'a>(alloc: Global, text: &'a str, start: usize) -> Result<Quoted<'a>, Refusal>
+    requires boundary { IsCharBoundary text.now start }
+    requires within { start < length text.now }
+    requires quote { is_quote (slice_index text.now start) ≡ true }
+    ensures { MatchResult result (λ quoted. IsQuoted text.now start quoted)
+        (λ refusal. IsRefused text.now start refusal) }
+{
+    let (quote, body) = open(text, start);
+    let class = plain_class(quote);
+    let mut copy = None;
+    let mut kept = body;
+    let mut at = body;
+    loop {
+        at = end_of_run(text, at, class);
+        match piece_at(text, at, quote, start) {
+            Piece::Verbatim(next) => at = next,
+            Piece::Replaced(c, next) => {
+                match extended(alloc, copy, &text[kept..at], c) {
+                    Ok(longer) => copy = Some(longer),
+                    Err(_) => {
+                        return Err(Refusal {
+                            error: Error::OutOfMemory,
+                            at: start,
+                        });
+                    }
+                }
+                kept = next;
+                at = next;
+            }
+            Piece::Closed(last, end) => {
+                return match finished(copy, &text[kept..last]) {
+                    Ok(val) => Ok(Quoted {
+                        src: &text[start..end],
+                        val,
+                        multiline: quote.multiline,
+                        end,
+                    }),
+                    Err(_) => Err(Refusal {
+                        error: Error::OutOfMemory,
+                        at: start,
+                    }),
+                };
+            }
+            Piece::Broken(error, next) => return Err(Refusal { error, at: next }),
+        }
+    }
+}
