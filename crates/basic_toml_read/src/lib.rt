@@ -1,2 +1,4 @@
 //! From the tokens of a text to its sections, and from sections to the tree of the document.
 #![tactic(auto)]
+
+pub mod laws;
