@@ -65,3 +65,8 @@ module _ (is : List Item) (G : Type 0) (s : Serializer) (a : Result (Unit {0}) W
       own : G ⊎ (e ≡ OutOfMemory) → WritesOut is G (Err e)
       own (inl h) = inl h
       own (inr h) = inr (subst (λ x. Refuses x (outcome nesting_limit is)) (sym h) tt)
+
+-- a list that was recorded comes to what is handed out
+pub recorded_out : (is : List Item) (s : Serializer) (r : Result (String Global) WriteError) → HasRecorded s is → Finishes s r → WritesOut is ⊥ r
+unfolding HasRecorded
+recorded_out is s r h f = finished_out is ⊥ s (Ok tt) r (subst (FinishesAt s r) h.0 f is h)

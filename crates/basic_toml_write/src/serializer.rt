@@ -10,10 +10,20 @@ use crate::leaf::Leaf;
 use basic_toml_value::Float;
 use std::alloc::Global;
 
-/// Turns calls into TOML text.
+/// Turns calls into TOML text (TOML v0.5.0).
 ///
-/// The calls open and close arrays and tables, set keys and write values; a key comes before its value. After a refusal every later call
-/// but [`has_refused`](Serializer::has_refused) answers that refusal, and no text is handed out.
+/// The calls open and close arrays and tables, set keys and write values; a key comes before its value. Scalars, arrays of values and
+/// empty arrays are rows; tables and arrays of tables are sections, which come after the rows of their table. After a refusal every later
+/// call but [`has_refused`](Serializer::has_refused) answers that refusal, or `OutOfMemory` where its key finds no memory, and no text is
+/// handed out.
+///
+/// ```text
+/// let mut ser = Serializer::new(alloc);
+/// ser.serialize_map(None)?;
+/// ser.serialize_field("answer", &42u8)?;
+/// ser.end()?;
+/// let text = ser.finish()?; // answer = 42
+/// ```
 #[derive(Drop)]
 pub struct Serializer {
     emitter: Emitter,
@@ -23,6 +33,7 @@ pub struct Serializer {
 impl Serializer {
     ghost use Rattle.basic_toml_write.specs.States.{Steps};
     ghost use Rattle.basic_toml_write.specs.Recorded.{HasRecorded, Takes, Passes, Answers, Finishes, refusal_of};
+    ghost use Rattle.basic_toml_write.specs.Writing.{IsLayout, Succeeds};
 
     /// A serializer without any calls yet. Takes no memory.
     #[tactic(auto, unfolding(crate::specs::Recorded::HasRecorded))]
@@ -376,6 +387,14 @@ impl Serializer {
 
     /// The text, where the calls spelled a whole table; else the refusal that was answered before, or `CallOrder`.
     pub fn finish(self) -> Result<String, WriteError>
+        ensures answer { Finishes self result }
+        ensures text { (is : List Item) → HasRecorded self is → IsLayout is result }
+        ensures succeeds { (is : List Item) → HasRecorded self is → Succeeds is ⊥ result }
+    {
+        self.hand_out()
+    }
+
+    fn hand_out(self) -> Result<String, WriteError>
         ensures { Finishes self result }
     {
         let Serializer { emitter, refusal } = self;
@@ -399,6 +418,19 @@ impl Serializer {
 }
 
 /// A value that tells itself to a [`Serializer`].
+///
+/// ```text
+/// impl Serialize for Server {
+///     ghost calls = { λ s. open_table ∷ (field (codes "port") ∷ a_leaf (integer (pos s.port)) ∷ close ∷ []) };
+///
+///     fn serialize(&self, alloc: Global, ser: &mut Serializer) -> Result<(), WriteError> {
+///         let _ = alloc;
+///         ser.serialize_struct("Server", 1)?;
+///         ser.serialize_field("port", &self.port)?;
+///         ser.end()
+///     }
+/// }
+/// ```
 pub trait Serialize {
     ghost use Rattle.basic_toml_write.specs.Items.{Item};
     ghost use Rattle.basic_toml_write.specs.Recorded.{Sends};
