@@ -44,8 +44,11 @@ fn reads_and_writes(rt: HostRuntime) -> Result<(), Fail> {
 #[test]
 fn faults(rt: HostRuntime) -> Result<(), Fail> {
     let mut table = Table::new(rt.alloc());
-    let empty_key = String::from_str(rt.alloc(), "")?;
-    assert!(rt; table.push(empty_key, Value::Integer(1)).is_ok());
+    let mut mixed = Vec::new(rt.alloc());
+    mixed.push(Value::Table(Table::new(rt.alloc())))?;
+    mixed.push(Value::Integer(1))?;
+    let key = String::from_str(rt.alloc(), "a")?;
+    assert!(rt; table.push(key, Value::Array(mixed)).is_ok());
     for (fault, text, line_col, is_out_of_memory) in [
         (
             from_str::<Table>(rt.alloc(), "a = 1\na = 2\n").err(),
@@ -91,5 +94,25 @@ fn faults(rt: HostRuntime) -> Result<(), Fail> {
         let shown = format!(in rt.alloc(); "{fault}")?;
         assert_eq!(rt; shown.as_str(), text);
     }
+    Ok(())
+}
+
+fn port_of(settings: &Table) -> Option<i64> {
+    match settings.get("port") {
+        Some(Value::Integer(port)) => Some(*port),
+        _ => None,
+    }
+}
+
+fn tidied(alloc: Global, text: &str) -> Result<String, Error> {
+    let settings: Table = from_str(alloc, text)?;
+    to_string(alloc, &settings)
+}
+
+#[test]
+fn settings(rt: HostRuntime) -> Result<(), Fail> {
+    let text = "name = 'x'\n  port = +80_80";
+    assert_eq!(rt; port_of(&from_str(rt.alloc(), text)?), Some(8080));
+    assert_eq!(rt; tidied(rt.alloc(), text)?.as_str(), "name = \"x\"\nport = 8080\n");
     Ok(())
 }
