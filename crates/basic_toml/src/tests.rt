@@ -113,6 +113,9 @@ fn tidied(alloc: Global, text: &str) -> Result<String, Error> {
 fn settings(rt: HostRuntime) -> Result<(), Fail> {
     let text = "name = 'x'\n  port = +80_80";
     assert_eq!(rt; port_of(&from_str(rt.alloc(), text)?), Some(8080));
-    assert_eq!(rt; tidied(rt.alloc(), text)?.as_str(), "name = \"x\"\nport = 8080\n");
+    assert_eq!(rt;
+        tidied(rt.alloc(), text)?.as_str(),
+        "name = \"x\"\nport = 8080\n"
+    );
     Ok(())
 }
