@@ -1,5 +1,5 @@
 -- Texts of numbers, and what they write: the definitions compute.
-use Rattle.std.proofs.Common.{◌≡◌, ℕ, ℤ, pos, negsuc, List, [], Option, Some, None, codes, refl}
+use Rattle.std.proofs.Common.{◌≡◌, pos, negsuc, [], Some, None, codes, refl}
 use Rattle.basic_toml_value.specs.Numbers.{integer_of, float_of}
 
 hexadecimal : integer_of (codes "0x00fF") ≡ Some (pos 255)
