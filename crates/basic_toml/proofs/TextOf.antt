@@ -1,14 +1,14 @@
 -- What the text of calls is, and what it means.
 use Rattle.std.proofs.Common.{◌≡◌, ℕ, List, true, false, sym, ◌∙◌, ap, subst}
 use Rattle.basic_toml_value.specs.Data.{Data}
-use Rattle.basic_toml_write.specs.Items.{Item}
-use Rattle.basic_toml_write.specs.Depth.{nesting_limit}
-use Rattle.basic_toml_write.specs.Layout.{layout}
+use Rattle.basic_toml_emit.specs.Items.{Item}
+use Rattle.basic_toml_emit.specs.Depth.{nesting_limit}
+use Rattle.basic_toml_emit.specs.Layout.{layout}
 use Rattle.basic_toml_write.specs.Shapes.{is_unsupported}
 use Rattle.basic_toml_write.specs.Spelling.{Spells}
 use Rattle.basic_toml_write.specs.Trees.{written_of, tree_of}
 use Rattle.basic_toml_write.specs.Values.{data_calls}
-use Rattle.basic_toml_write.specs.Written.{Written}
+use Rattle.basic_toml_emit.specs.Written.{Written}
 use Rattle.basic_toml.specs.PlainTables.{is_plain, IsReadBack}
 use Rattle.basic_toml.specs.Writing.{IsTextOf, IsDataText}
 use Rattle.basic_toml.proofs.Written.{means_table}

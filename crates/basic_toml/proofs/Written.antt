@@ -5,11 +5,11 @@ use Rattle.std.specs.Str.{bytes_eq}
 use Rattle.std.proofs.lemmas.Bool.{and_parts}
 use Rattle.std.proofs.lemmas.Bool.Decides.{nat_tests}
 use Rattle.basic_toml_value.specs.Keys.{are_distinct, is_among}
-use Rattle.basic_toml_write.specs.Written as w
-use Rattle.basic_toml_write.specs.Texts as texts
+use Rattle.basic_toml_emit.specs.Written as w
+use Rattle.basic_toml_emit.specs.Texts as texts
 use Rattle.basic_toml_write.specs.Trees.{tree_of, entry_trees, leaf_tree}
-use Rattle.basic_toml_write.specs.Layout.{layout, entries_text, row_start}
-use Rattle.basic_toml_write.specs.Depth.{depth, nesting_limit}
+use Rattle.basic_toml_emit.specs.Layout.{layout, entries_text, row_start}
+use Rattle.basic_toml_emit.specs.Depth.{depth, nesting_limit}
 use Rattle.basic_toml_write.specs.Shapes.{has_key, repeats_key, has_late_row, is_bad_table, entry_has_bad, has_bad, is_unsupported}
 use Rattle.basic_toml.specs.PlainRows.{is_bare, is_bare_key, is_printable}
 use Rattle.basic_toml.specs.PlainTables.{is_plain_value, is_plain_pair, are_plain_pairs, is_plain, IsReadBack}

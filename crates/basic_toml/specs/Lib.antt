@@ -15,11 +15,11 @@ pub mod TypeReads
 pub mod Writing
 pub use Rattle.basic_toml_value.specs.Data
 pub use Rattle.basic_toml_value.specs.View
-pub use Rattle.basic_toml_write.specs.Calls
-pub use Rattle.basic_toml_write.specs.Depth
-pub use Rattle.basic_toml_write.specs.Items
-pub use Rattle.basic_toml_write.specs.Layout
-pub use Rattle.basic_toml_write.specs.Refusals
+pub use Rattle.basic_toml_emit.specs.Calls
+pub use Rattle.basic_toml_emit.specs.Depth
+pub use Rattle.basic_toml_emit.specs.Items
+pub use Rattle.basic_toml_emit.specs.Layout
+pub use Rattle.basic_toml_emit.specs.Refusals
 pub use Rattle.basic_toml_write.specs.Shapes
 pub use Rattle.basic_toml_write.specs.Trees
 pub use Rattle.basic_toml_write.specs.Values

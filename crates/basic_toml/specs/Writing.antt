@@ -1,15 +1,15 @@
 -- How writing a value ends, and what its text means. (own)
 use Rattle.std.specs.Prelude.{◌≡◌, ℕ, List, Err, false}
 use Rattle.basic_toml_value.specs.Data.{Data}
-use Rattle.basic_toml_write.specs.Written.{Written}
+use Rattle.basic_toml_emit.specs.Written.{Written}
 use Rattle.basic_toml_write.specs.Trees.{written_of}
-use Rattle.basic_toml_write.specs.Items.{Item}
+use Rattle.basic_toml_emit.specs.Items.{Item}
 use Rattle.basic_toml_write.specs.Spelling.{Spells}
-use Rattle.basic_toml_write.specs.Layout.{layout}
-use Rattle.basic_toml_write.specs.Depth.{nesting_limit}
+use Rattle.basic_toml_emit.specs.Layout.{layout}
+use Rattle.basic_toml_emit.specs.Depth.{nesting_limit}
 use Rattle.basic_toml_write.specs.Shapes.{is_unsupported}
-use Rattle.basic_toml_write.specs.Refusals as refusals
-use Rattle.basic_toml_write.specs.Calls.{outcome}
+use Rattle.basic_toml_emit.specs.Refusals as refusals
+use Rattle.basic_toml_emit.specs.Calls.{outcome}
 use Rattle.basic_toml.specs.Fault as fault
 use Rattle.basic_toml.specs.Fault.{Fault, Kind, placeless, want_of_memory}
 

@@ -1,10 +1,10 @@
 //! Writing values.
 ghost use Rattle.std.specs.Prelude.{◌≡◌, ◌⊎◌, false, true, IfOk, IfErr, MatchResult, string_bytes};
 ghost use Rattle.basic_toml_value.specs.Data.{Data};
-ghost use Rattle.basic_toml_write.specs.Written.{Written};
+ghost use Rattle.basic_toml_emit.specs.Written.{Written};
 ghost use Rattle.basic_toml_write.specs.Spelling.{Spells};
-ghost use Rattle.basic_toml_write.specs.Layout.{layout};
-ghost use Rattle.basic_toml_write.specs.Depth.{depth, nesting_limit};
+ghost use Rattle.basic_toml_emit.specs.Layout.{layout};
+ghost use Rattle.basic_toml_emit.specs.Depth.{depth, nesting_limit};
 ghost use Rattle.basic_toml_write.specs.Kept.{kept};
 ghost use Rattle.basic_toml_write.specs.Trees.{tree_of, written_of};
 ghost use Rattle.basic_toml_write.specs.Shapes.{is_unsupported};

@@ -1,13 +1,13 @@
 -- A list that is taken whole spells a written value that fits.
 use Rattle.std.proofs.Common.{◌≡◌, zero, suc, List, [], ◌∷◌, refl, sym, ◌∙◌, subst, Bool, true, false, ℕ, Option, Some, None, Result, Ok, Err, length, ◌≤◌, arith}
 use Rattle.std.specs.Prelude.{⊤, is_some}
-use Rattle.basic_toml_write.specs.Written.{integer, boolean, text, Written, leaf, absent, array, table, Elements, no_elements, element, Entries, no_entries, entry, is_refused}
-use Rattle.basic_toml_write.specs.Items.{Item, a_leaf, nothing, open_array, open_table, close, key, field, some_mark, value_mark, element_mark}
+use Rattle.basic_toml_emit.specs.Written.{integer, boolean, text, Written, leaf, absent, array, table, Elements, no_elements, element, Entries, no_entries, entry, is_refused}
+use Rattle.basic_toml_emit.specs.Items.{Item, a_leaf, nothing, open_array, open_table, close, key, field, some_mark, value_mark, element_mark}
 use Rattle.basic_toml_write.specs.Spelling.{one_leaf, none, an_array, a_table, AreElements, array_end, a_some, an_element, member, AreEntries, table_end, by_key, by_field, IsMarked, bare, with_some, with_value, Spells, root, root_some}
-use Rattle.basic_toml_write.specs.Open as o
-use Rattle.basic_toml_write.specs.Open.{State, state, Frame, Header, settled, due, no_key, key_set, unknown, tables, others, Keys, no_keys, with_key, fresh}
-use Rattle.basic_toml_write.specs.Refusals.{Refusal, unsupported_type, refuse_if}
-use Rattle.basic_toml_write.specs.Calls.{run, on_ok}
+use Rattle.basic_toml_emit.specs.Open as o
+use Rattle.basic_toml_emit.specs.Open.{State, state, Frame, Header, settled, due, no_key, key_set, unknown, tables, others, Keys, no_keys, with_key, fresh}
+use Rattle.basic_toml_emit.specs.Refusals.{Refusal, unsupported_type, refuse_if}
+use Rattle.basic_toml_emit.specs.Calls.{run, on_ok}
 use Rattle.basic_toml_write.proofs.Fits.{FitsOthers, FitsTables, FitsArray, FitsEntry, FitsEntries, Fits}
 use Rattle.basic_toml_write.proofs.Forward as f
 use Rattle.basic_toml_write.proofs.Forward.{behind}

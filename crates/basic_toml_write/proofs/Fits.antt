@@ -1,8 +1,8 @@
 -- A written value in which every item finds its place, by the same recursion as the calls: the positive form of 'no unsupported shape'.
 use Rattle.std.specs.Prelude.{ℕ, suc, ◌≡◌, Bool, false, ◌&&◌, nat_le, List, ⊤}
-use Rattle.basic_toml_write.specs.Written.{Leaf, Written, leaf, absent, array, table, Elements, no_elements, element, Entries, no_entries, entry, is_refused, is_bytes}
-use Rattle.basic_toml_write.specs.Layout.{form}
-use Rattle.basic_toml_write.specs.Open.{Keys, no_keys, with_key}
+use Rattle.basic_toml_emit.specs.Written.{Leaf, Written, leaf, absent, array, table, Elements, no_elements, element, Entries, no_entries, entry, is_refused, is_bytes}
+use Rattle.basic_toml_emit.specs.Layout.{form}
+use Rattle.basic_toml_emit.specs.Open.{Keys, no_keys, with_key}
 use Rattle.basic_toml_write.specs.Shapes.{then_behind}
 
 -- bytes open an array where n are open

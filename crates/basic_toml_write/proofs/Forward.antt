@@ -2,17 +2,17 @@
 use Rattle.std.proofs.Common.{◌≡◌, suc, List, [], ◌∷◌, ◌++◌, refl, sym, ◌∙◌, ap, subst, Bool, true, false, cond, ℕ, Ok, Option, Some, None, length}
 use Rattle.std.specs.Prelude.{nat_le, is_some}
 use Rattle.std.proofs.lemmas.List.{append_assoc, append-nil}
-use Rattle.basic_toml_write.specs.Written.{Leaf, Written, leaf, absent, array, table, Elements, no_elements, element, Entries, entry}
-use Rattle.basic_toml_write.specs.Items.{Item, a_leaf, open_array, open_table, close}
+use Rattle.basic_toml_emit.specs.Written.{Leaf, Written, leaf, absent, array, table, Elements, no_elements, element, Entries, entry}
+use Rattle.basic_toml_emit.specs.Items.{Item, a_leaf, open_array, open_table, close}
 use Rattle.basic_toml_write.specs.Spelling.{IsValue, one_leaf, none, an_array, a_table, AreElements, array_end, a_some, an_element, member, AreEntries, table_end, by_key, by_field, IsMarked, bare, with_some, with_value, Spells, root, root_some}
-use Rattle.basic_toml_write.specs.Texts.{written_leaf, comma}
-use Rattle.basic_toml_write.specs.Layout.{written, written_elements, more_elements, element_header, entry_text, array_text, sections_text, entries_text, is_header_due, form, Form, row, layout}
+use Rattle.basic_toml_emit.specs.Texts.{written_leaf, comma}
+use Rattle.basic_toml_emit.specs.Layout.{written, written_elements, more_elements, element_header, entry_text, array_text, sections_text, entries_text, is_header_due, form, Form, row, layout}
 use Rattle.basic_toml_write.specs.Shapes.{then_behind}
-use Rattle.basic_toml_write.specs.Open as o
-use Rattle.basic_toml_write.specs.Open.{State, state, Frame, Header, settled, due, Stage, no_key, key_place, key_set, Kind, unknown, tables, others, Keys, no_keys, with_key, new_table, fresh}
-use Rattle.basic_toml_write.specs.Refusals.{holds_section}
-use Rattle.basic_toml_write.specs.Calls as m
-use Rattle.basic_toml_write.specs.Calls.{run, on_ok, after, path, header_text, array_start, with_row, with_sections, is_nothing_open}
+use Rattle.basic_toml_emit.specs.Open as o
+use Rattle.basic_toml_emit.specs.Open.{State, state, Frame, Header, settled, due, Stage, no_key, key_place, key_set, Kind, unknown, tables, others, Keys, no_keys, with_key, new_table, fresh}
+use Rattle.basic_toml_emit.specs.Refusals.{holds_section}
+use Rattle.basic_toml_emit.specs.Calls as m
+use Rattle.basic_toml_emit.specs.Calls.{run, on_ok, after, path, header_text, array_start, with_row, with_sections, is_nothing_open}
 use Rattle.basic_toml_write.proofs.Fits.{FitsValue, FitsOthers, FitsTables, FitsArray, FitsEntry, FitsEntries, Fits}
 
 with_row-length : (fs : List Frame) → length (with_row fs) ≡ length fs

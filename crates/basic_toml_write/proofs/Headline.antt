@@ -1,15 +1,15 @@
 -- What the text of a value is, by what its items come to.
 use Rattle.std.proofs.Common.{◌≡◌, ℕ, List, sym, ◌∙◌, subst, Result, Ok, Err, inl, inr, string_bytes, String, refl}
 use Rattle.std.specs.declared.alloc.Global.{Global}
-use Rattle.basic_toml_write.specs.Items.{Item}
-use Rattle.basic_toml_write.specs.Layout.{layout}
-use Rattle.basic_toml_write.specs.Depth.{nesting_limit}
-use Rattle.basic_toml_write.specs.Refusals.{Refusal}
-use Rattle.basic_toml_write.specs.Faults.{Refuses}
+use Rattle.basic_toml_emit.specs.Items.{Item}
+use Rattle.basic_toml_emit.specs.Layout.{layout}
+use Rattle.basic_toml_emit.specs.Depth.{nesting_limit}
+use Rattle.basic_toml_emit.specs.Refusals.{Refusal}
+use Rattle.basic_toml_emit.specs.Faults.{Refuses}
 use Rattle.basic_toml_write.specs.Writing.{WritesOut, IsLayout, Succeeds}
 use Rattle.basic_toml_write.proofs.Main.{outcome-layout, layout-outcome}
-use Rattle.basic_toml_write.specs.declared.error.WriteError.{WriteError}
-use Rattle.basic_toml_write.specs.declared.error.WriteError.TheVariants.{UnsupportedType, KeyNotString, ValueAfterTable, UnsupportedNone, Custom, DuplicateKey, CallOrder, NestedTooDeeply, OutOfMemory}
+use Rattle.basic_toml_emit.specs.declared.error.WriteError.{WriteError}
+use Rattle.basic_toml_emit.specs.declared.error.WriteError.TheVariants.{UnsupportedType, KeyNotString, ValueAfterTable, UnsupportedNone, Custom, DuplicateKey, CallOrder, NestedTooDeeply, OutOfMemory}
 
 pub is_layout : (is : List Item) (G : Type 0) (r : Result (String Global) WriteError) → WritesOut is G r → IsLayout is r
 is_layout is G (Ok t) h = layout-outcome nesting_limit is (string_bytes t) h

@@ -2,10 +2,10 @@
 use Rattle.std.proofs.Common.{◌≡◌, ℕ, suc, List, [], ◌∷◌, ◌++◌, refl, sym, ◌∙◌, ap, cond, Bool, true, false, max, arith}
 use Rattle.std.proofs.lemmas.List.{append_assoc}
 use Rattle.std.specs.Prelude.{decimal}
-use Rattle.basic_toml_write.specs.Written.{integer, boolean, float, text, other_text, bytes, refused, Written, leaf, absent, array, table, Elements, no_elements, element, Entries, no_entries, entry}
-use Rattle.basic_toml_write.specs.Texts.{written_leaf, written_numbers, more_numbers, comma}
-use Rattle.basic_toml_write.specs.Layout.{layout, written, written_elements, more_elements, entry_text, array_text, sections_text, entries_text, is_header_due, element_header, table_header, row_start}
-use Rattle.basic_toml_write.specs.Depth.{depth, elements_depth, entries_depth}
+use Rattle.basic_toml_emit.specs.Written.{integer, boolean, float, text, other_text, bytes, refused, Written, leaf, absent, array, table, Elements, no_elements, element, Entries, no_entries, entry}
+use Rattle.basic_toml_emit.specs.Texts.{written_leaf, written_numbers, more_numbers, comma}
+use Rattle.basic_toml_emit.specs.Layout.{layout, written, written_elements, more_elements, entry_text, array_text, sections_text, entries_text, is_header_due, element_header, table_header, row_start}
+use Rattle.basic_toml_emit.specs.Depth.{depth, elements_depth, entries_depth}
 use Rattle.basic_toml_write.specs.Kept.{kept, kept_elements, kept_entries, number_elements}
 
 ap2 : {A B C : Type 0} (f : A → B → C) {a a' : A} {b b' : B} → a ≡ a' → b ≡ b' → f a b ≡ f a' b'

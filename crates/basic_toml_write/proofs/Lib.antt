@@ -5,9 +5,6 @@ pub mod Shaped
 pub mod Unique
 pub mod Kept
 pub mod Main
-pub mod KeySets
-pub mod Quoting
-pub mod Stacks
 pub mod Sending
 pub mod Finishing
 pub mod Parts

@@ -1,13 +1,13 @@
 -- A list of items comes to a text exactly where it spells a written value without an unsupported shape, and the text is its layout.
 use Rattle.std.proofs.Common.{◌≡◌, ℕ, List, [], ◌∷◌, sym, ◌∙◌, ap, Bool, true, false, Result, Ok, Err}
-use Rattle.basic_toml_write.specs.Written.{Written}
-use Rattle.basic_toml_write.specs.Items.{Item}
+use Rattle.basic_toml_emit.specs.Written.{Written}
+use Rattle.basic_toml_emit.specs.Items.{Item}
 use Rattle.basic_toml_write.specs.Spelling.{Spells}
-use Rattle.basic_toml_write.specs.Layout.{layout}
+use Rattle.basic_toml_emit.specs.Layout.{layout}
 use Rattle.basic_toml_write.specs.Shapes.{is_unsupported}
-use Rattle.basic_toml_write.specs.Open.{State, state, Frame, fresh}
-use Rattle.basic_toml_write.specs.Refusals.{Refusal}
-use Rattle.basic_toml_write.specs.Calls.{run, on_ok, finished, hand_out, outcome}
+use Rattle.basic_toml_emit.specs.Open.{State, state, Frame, fresh}
+use Rattle.basic_toml_emit.specs.Refusals.{Refusal}
+use Rattle.basic_toml_emit.specs.Calls.{run, on_ok, finished, hand_out, outcome}
 use Rattle.basic_toml_write.proofs.Forward.{spelled}
 use Rattle.basic_toml_write.proofs.Backward.{taken}
 use Rattle.basic_toml_write.proofs.Shaped.{fits, shaped}

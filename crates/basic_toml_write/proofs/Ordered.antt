@@ -1,15 +1,15 @@
 -- From a list that spells a written value, want of order and a key that is no text do not come.
 use Rattle.std.proofs.Common.{◌≡◌, ℕ, List, [], ◌∷◌, ◌++◌, refl, sym, ◌∙◌, ap, subst, Bool, true, false, Option, Some, None, Result, Ok, Err, inl, inr, ◌⊎◌, MatchResult}
 use Rattle.std.specs.Prelude.{⊤, is_some}
-use Rattle.basic_toml_write.specs.Written.{Leaf, Written, Elements, Entries, is_refused}
-use Rattle.basic_toml_write.specs.Items.{Item, a_leaf, open_array, open_table, close}
+use Rattle.basic_toml_emit.specs.Written.{Leaf, Written, Elements, Entries, is_refused}
+use Rattle.basic_toml_emit.specs.Items.{Item, a_leaf, open_array, open_table, close}
 use Rattle.basic_toml_write.specs.Spelling.{IsValue, one_leaf, none, an_array, a_table, AreElements, array_end, a_some, an_element, member, AreEntries, table_end, by_key, by_field, IsMarked, bare, with_some, with_value, Spells, root, root_some}
-use Rattle.basic_toml_write.specs.Open as o
-use Rattle.basic_toml_write.specs.Open.{State, state, Frame, Header, settled, due, Kind, unknown, tables, others, no_key, key_set, Keys, no_keys, with_key, new_table, fresh}
-use Rattle.basic_toml_write.specs.Refusals.{Refusal, unsupported_type, value_after_table, unsupported_none, nested_too_deeply, duplicate_key, refuse_if, first_refusal, Rule, Place, place_of, may_stand, is_no_text_at_key, is_refused_kind, is_absent_outside, is_misfit, is_repeated, key_of, is_late_row, is_too_deep}
+use Rattle.basic_toml_emit.specs.Open as o
+use Rattle.basic_toml_emit.specs.Open.{State, state, Frame, Header, settled, due, Kind, unknown, tables, others, no_key, key_set, Keys, no_keys, with_key, new_table, fresh}
+use Rattle.basic_toml_emit.specs.Refusals.{Refusal, unsupported_type, value_after_table, unsupported_none, nested_too_deeply, duplicate_key, refuse_if, first_refusal, Rule, Place, place_of, may_stand, is_no_text_at_key, is_refused_kind, is_absent_outside, is_misfit, is_repeated, key_of, is_late_row, is_too_deep}
 use Rattle.basic_toml_write.specs.Writing.{IsFair}
-use Rattle.basic_toml_write.specs.Calls as c
-use Rattle.basic_toml_write.specs.Calls.{run, on_ok, step, taken, array_start, with_row, with_sections, is_nothing_open, outcome, finished}
+use Rattle.basic_toml_emit.specs.Calls as c
+use Rattle.basic_toml_emit.specs.Calls.{run, on_ok, step, taken, array_start, with_row, with_sections, is_nothing_open, outcome, finished}
 
 -- what an array may change of the frame that it stands on
 abbrev Below : List Frame → Type 0

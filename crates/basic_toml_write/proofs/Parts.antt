@@ -6,10 +6,10 @@ use Rattle.std.specs.Map.Iter.{TakesFirst}
 use Rattle.std.proofs.lemmas.List.{map-append}
 use Rattle.std.proofs.lemmas.List.Concat.{flat_map-append}
 use Rattle.std.proofs.lemmas.Map.Iter.{rest_more, rest_all}
-use Rattle.basic_toml_write.specs.Items.{Item, close}
+use Rattle.basic_toml_emit.specs.Items.{Item, close}
 use Rattle.basic_toml_write.specs.Recorded.{Sends, Takes, Passes}
 use Rattle.basic_toml_write.proofs.Sending.{sends_then, sends_cut, sends_widen}
-use Rattle.basic_toml_write.specs.declared.error.WriteError.{WriteError}
+use Rattle.basic_toml_emit.specs.declared.error.WriteError.{WriteError}
 use Rattle.basic_toml_write.specs.declared.serializer.Serializer.{Serializer}
 
 pub take_all : {A : Type 0} (xs : List A) (n : ℕ) → length xs ≤ n → take n xs ≡ xs

@@ -2,14 +2,14 @@
 use Rattle.std.proofs.Common.{◌≡◌, ℕ, suc, zero, List, [], ◌∷◌, ◌++◌, refl, true, false, Ok, Err}
 use Rattle.std.specs.Prelude.{codes, pos, negsuc}
 use Rattle.std.specs.Fmt.{digits}
-use Rattle.basic_toml_write.specs.Written.{integer, text, other_text, bytes, refused, Written, leaf, absent, array, table, Elements, no_elements, element, Entries, no_entries, entry}
-use Rattle.basic_toml_write.specs.Items.{Item, a_leaf, nothing, open_array, open_table, close, key, field, some_mark, value_mark, element_mark}
-use Rattle.basic_toml_write.specs.Layout.{layout}
-use Rattle.basic_toml_write.specs.Depth.{nesting_limit}
+use Rattle.basic_toml_emit.specs.Written.{integer, text, other_text, bytes, refused, Written, leaf, absent, array, table, Elements, no_elements, element, Entries, no_entries, entry}
+use Rattle.basic_toml_emit.specs.Items.{Item, a_leaf, nothing, open_array, open_table, close, key, field, some_mark, value_mark, element_mark}
+use Rattle.basic_toml_emit.specs.Layout.{layout}
+use Rattle.basic_toml_emit.specs.Depth.{nesting_limit}
 use Rattle.basic_toml_write.specs.Kept.{kept}
 use Rattle.basic_toml_write.specs.Shapes.{is_unsupported}
-use Rattle.basic_toml_write.specs.Refusals.{Refusal, unsupported_type, key_not_string, value_after_table, unsupported_none, call_order, nested_too_deeply, duplicate_key}
-use Rattle.basic_toml_write.specs.Calls.{outcome}
+use Rattle.basic_toml_emit.specs.Refusals.{Refusal, unsupported_type, key_not_string, value_after_table, unsupported_none, call_order, nested_too_deeply, duplicate_key}
+use Rattle.basic_toml_emit.specs.Calls.{outcome}
 
 -- one list of items that spells a written value
 abbrev mutual

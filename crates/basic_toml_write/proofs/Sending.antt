@@ -1,16 +1,17 @@
 -- Items that are sent one after another.
 use Rattle.std.proofs.Common.{◌≡◌, ℕ, List, [], ◌∷◌, ◌++◌, Option, Some, None, IsSome, Result, Ok, Err, sym, ◌∙◌, ap, subst, refl, inl, inr, MatchOption, MatchResult, ◌⊎◌, OnErr, append_assoc, append-nil}
 use Rattle.std.specs.Prelude.{⊤}
-use Rattle.basic_toml_write.specs.Items.{Item}
-use Rattle.basic_toml_write.specs.Depth.{nesting_limit}
-use Rattle.basic_toml_write.specs.Open.{State, fresh}
-use Rattle.basic_toml_write.specs.Refusals.{Refusal}
-use Rattle.basic_toml_write.specs.Calls.{run, on_ok, after}
-use Rattle.basic_toml_write.specs.Faults.{Refuses, IsAgain}
-use Rattle.basic_toml_write.specs.States.{state_of}
+use Rattle.basic_toml_emit.specs.Items.{Item}
+use Rattle.basic_toml_emit.specs.Depth.{nesting_limit}
+use Rattle.basic_toml_emit.specs.Open.{State, fresh}
+use Rattle.basic_toml_emit.specs.Refusals.{Refusal}
+use Rattle.basic_toml_emit.specs.Calls.{run, on_ok, after}
+use Rattle.basic_toml_emit.specs.Faults.{Refuses}
+use Rattle.basic_toml_write.specs.Again.{IsAgain}
+use Rattle.basic_toml_emit.specs.States.{state_of}
 use Rattle.basic_toml_write.specs.Recorded.{ran, HasRecorded, refusal_of, Goes, Sends, Answers, Takes, Passes}
-use Rattle.basic_toml_write.specs.declared.error.WriteError.{WriteError}
-use Rattle.basic_toml_write.specs.declared.error.WriteError.TheVariants.{UnsupportedType, KeyNotString, ValueAfterTable, UnsupportedNone, Custom, DuplicateKey, CallOrder, NestedTooDeeply, OutOfMemory}
+use Rattle.basic_toml_emit.specs.declared.error.WriteError.{WriteError}
+use Rattle.basic_toml_emit.specs.declared.error.WriteError.TheVariants.{UnsupportedType, KeyNotString, ValueAfterTable, UnsupportedNone, Custom, DuplicateKey, CallOrder, NestedTooDeeply, OutOfMemory}
 use Rattle.basic_toml_write.specs.declared.serializer.Serializer.{Serializer}
 
 -- what a call answers

@@ -6,7 +6,7 @@ use Rattle.basic_toml_value.specs.Data.{array, table, items_of}
 use Rattle.basic_toml_value.specs.View.{view, entries}
 use Rattle.basic_toml_value.specs.declared.value.Value.{Value, the_lemmas}
 use Rattle.basic_toml_value.specs.declared.value.Value.TheVariants.{Array, Table}
-use Rattle.basic_toml_write.specs.Items.{element_mark, field, open_array, open_table, close}
+use Rattle.basic_toml_emit.specs.Items.{element_mark, field, open_array, open_table, close}
 use Rattle.basic_toml_write.specs.Values.{data_calls, items_calls, members_calls, array_calls, table_calls}
 
 items_sent : (vs : List Value) → flat_map (λ v. element_mark ∷ data_calls (view v)) vs ≡ items_calls (items_of (map view vs))

@@ -2,10 +2,10 @@
 use Rattle.std.proofs.Common.{◌≡◌, ℕ, suc, ◌+◌, ◌≤◌, ◌<◌, List, refl, sym, ◌∙◌, Bool, true, false, cond, arith}
 use Rattle.std.specs.Prelude.{◌||◌, ◌&&◌, bytes_eq}
 use Rattle.std.proofs.lemmas.Bool.{or_parts, or_from, leb-false, lt-leb, ltb-false, le-ltb, true≢false, and_left}
-use Rattle.basic_toml_write.specs.Written.{Leaf, integer, boolean, float, text, other_text, bytes, refused, Written, leaf, absent, array, table, Elements, no_elements, element, Entries, no_entries, entry, is_absent, is_table}
-use Rattle.basic_toml_write.specs.Layout.{form}
-use Rattle.basic_toml_write.specs.Open.{Keys, no_keys, with_key}
-use Rattle.basic_toml_write.specs.Depth.{leaf_depth, depth, elements_depth, entries_depth}
+use Rattle.basic_toml_emit.specs.Written.{Leaf, integer, boolean, float, text, other_text, bytes, refused, Written, leaf, absent, array, table, Elements, no_elements, element, Entries, no_entries, entry, is_absent, is_table}
+use Rattle.basic_toml_emit.specs.Layout.{form}
+use Rattle.basic_toml_emit.specs.Open.{Keys, no_keys, with_key}
+use Rattle.basic_toml_emit.specs.Depth.{leaf_depth, depth, elements_depth, entries_depth}
 use Rattle.basic_toml_write.specs.Shapes.{holds_table, holds_other, holds_absent, is_array_with_table, holds_array_with_table, is_late, then_behind, has_late_row, has_key, repeats_key, is_bad_array, has_bad, element_has_bad, entry_has_bad, is_unsupported}
 use Rattle.basic_toml_write.proofs.Fits.{leaf_too_deep, FitsValue, FitsOthers, FitsTables, FitsArray, FitsEntries, Fits}
 

@@ -3,8 +3,8 @@ use Rattle.std.proofs.Common.{◌≡◌, ℕ, List, [], ◌∷◌, ◌++◌, ref
 use Rattle.std.specs.Prelude.{pos}
 use Rattle.std.proofs.lemmas.Bool.{or_parts, true≢false}
 use Rattle.basic_toml_value.specs.Data as d
-use Rattle.basic_toml_write.specs.Written.{integer, boolean, float, text, other_text, bytes, refused, Written, leaf, absent, array, table, Elements, no_elements, element, Entries, no_entries, entry, is_absent}
-use Rattle.basic_toml_write.specs.Items.{Item, close}
+use Rattle.basic_toml_emit.specs.Written.{integer, boolean, float, text, other_text, bytes, refused, Written, leaf, absent, array, table, Elements, no_elements, element, Entries, no_entries, entry, is_absent}
+use Rattle.basic_toml_emit.specs.Items.{Item, close}
 use Rattle.basic_toml_write.specs.Spelling.{IsValue, one_leaf, an_array, a_table, AreElements, array_end, an_element, member, AreEntries, table_end, by_field, bare, Spells, root}
 use Rattle.basic_toml_write.specs.Values.{data_calls, items_calls, members_calls}
 use Rattle.basic_toml_write.specs.Kept.{kept, kept_elements, kept_entries, number_elements}

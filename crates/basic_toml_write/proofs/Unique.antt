@@ -1,7 +1,7 @@
 -- A list of items spells at most one written value.
 use Rattle.std.proofs.Common.{◌≡◌, List, refl, sym, ap, subst}
-use Rattle.basic_toml_write.specs.Written.{Written, array, table, Elements, element, Entries, entry}
-use Rattle.basic_toml_write.specs.Items.{Item}
+use Rattle.basic_toml_emit.specs.Written.{Written, array, table, Elements, element, Entries, entry}
+use Rattle.basic_toml_emit.specs.Items.{Item}
 use Rattle.basic_toml_write.specs.Spelling.{IsValue, one_leaf, none, an_array, a_table, AreElements, array_end, a_some, an_element, member, AreEntries, table_end, by_key, by_field, IsMarked, bare, with_some, with_value, Spells, root, root_some}
 
 ap2 : {A B C : Type 0} (f : A → B → C) {a a' : A} {b b' : B} → a ≡ a' → b ≡ b' → f a b ≡ f a' b'

@@ -1,15 +1,15 @@
 -- A serializer that was sent the items of a value, from the start.
 use Rattle.std.proofs.Common.{◌≡◌, List, sym, ap, subst, refl, true, false, Option, Some, None, is_some, MatchOption, Result, Ok, Err, MatchResult, ◌⊎◌, inl, inr, string_bytes, String}
 use Rattle.std.specs.declared.alloc.Global.{Global}
-use Rattle.basic_toml_write.specs.Items.{Item}
-use Rattle.basic_toml_write.specs.Depth.{nesting_limit}
-use Rattle.basic_toml_write.specs.Refusals.{call_order}
-use Rattle.basic_toml_write.specs.Calls.{on_ok, finished, outcome}
-use Rattle.basic_toml_write.specs.Faults.{Refuses}
+use Rattle.basic_toml_emit.specs.Items.{Item}
+use Rattle.basic_toml_emit.specs.Depth.{nesting_limit}
+use Rattle.basic_toml_emit.specs.Refusals.{call_order}
+use Rattle.basic_toml_emit.specs.Calls.{on_ok, finished, outcome}
+use Rattle.basic_toml_emit.specs.Faults.{Refuses}
 use Rattle.basic_toml_write.specs.Recorded.{ran, HasRecorded, refusal_of, Goes, Finishes}
 use Rattle.basic_toml_write.specs.Writing.{WritesOut}
-use Rattle.basic_toml_write.specs.declared.error.WriteError.{WriteError}
-use Rattle.basic_toml_write.specs.declared.error.WriteError.TheVariants.{UnsupportedType, KeyNotString, ValueAfterTable, UnsupportedNone, Custom, DuplicateKey, CallOrder, NestedTooDeeply, OutOfMemory}
+use Rattle.basic_toml_emit.specs.declared.error.WriteError.{WriteError}
+use Rattle.basic_toml_emit.specs.declared.error.WriteError.TheVariants.{UnsupportedType, KeyNotString, ValueAfterTable, UnsupportedNone, Custom, DuplicateKey, CallOrder, NestedTooDeeply, OutOfMemory}
 use Rattle.basic_toml_write.specs.declared.serializer.Serializer.{Serializer}
 
 -- a refusal of a list is that of its outcome

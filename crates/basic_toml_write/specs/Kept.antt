@@ -1,7 +1,7 @@
 -- What is kept of a written value (own): the absent entries of its tables are left out, at every depth; texts of either kind count
 -- as strings, and bytes as an array of integers.
 use Rattle.std.specs.Prelude.{ℕ, pos, List, [], ◌∷◌}
-use Rattle.basic_toml_write.specs.Written.{Leaf, integer, text, other_text, bytes, Written, leaf, absent, array, table, Elements, no_elements, element, Entries, no_entries, entry}
+use Rattle.basic_toml_emit.specs.Written.{Leaf, integer, text, other_text, bytes, Written, leaf, absent, array, table, Elements, no_elements, element, Entries, no_entries, entry}
 
 abbrev pub number_elements : List ℕ → Elements
 number_elements [] = no_elements

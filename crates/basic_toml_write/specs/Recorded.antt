@@ -3,15 +3,16 @@
 -- the first that is due after such a list. After a refusal every call answers that refusal, and nothing is handed out.
 use Rattle.std.specs.Prelude.{◌≡◌, List, ◌++◌, Option, Some, None, IsSome, Result, Ok, Err, MatchOption, MatchResult, OnErr, ◌⊎◌, ⊤, string_bytes, String}
 use Rattle.std.specs.declared.alloc.Global.{Global}
-use Rattle.basic_toml_write.specs.Items.{Item}
-use Rattle.basic_toml_write.specs.Depth.{nesting_limit}
-use Rattle.basic_toml_write.specs.Open.{State, fresh}
-use Rattle.basic_toml_write.specs.Refusals.{Refusal, call_order}
-use Rattle.basic_toml_write.specs.Calls.{run, outcome}
-use Rattle.basic_toml_write.specs.Faults.{Refuses, IsAgain}
-use Rattle.basic_toml_write.specs.States.{state_of}
-use Rattle.basic_toml_write.specs.declared.error.WriteError.{WriteError}
-use Rattle.basic_toml_write.specs.declared.error.WriteError.TheVariants.{CallOrder, OutOfMemory}
+use Rattle.basic_toml_emit.specs.Items.{Item}
+use Rattle.basic_toml_emit.specs.Depth.{nesting_limit}
+use Rattle.basic_toml_emit.specs.Open.{State, fresh}
+use Rattle.basic_toml_emit.specs.Refusals.{Refusal, call_order}
+use Rattle.basic_toml_emit.specs.Calls.{run, outcome}
+use Rattle.basic_toml_emit.specs.Faults.{Refuses}
+use Rattle.basic_toml_write.specs.Again.{IsAgain}
+use Rattle.basic_toml_emit.specs.States.{state_of}
+use Rattle.basic_toml_emit.specs.declared.error.WriteError.{WriteError}
+use Rattle.basic_toml_emit.specs.declared.error.WriteError.TheVariants.{CallOrder, OutOfMemory}
 use Rattle.basic_toml_write.specs.declared.serializer.Serializer.{Serializer}
 
 -- what a list of items comes to, from the start

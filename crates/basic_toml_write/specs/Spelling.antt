@@ -6,8 +6,8 @@
 -- an entry is key and a text, or field; then some-marks and value-marks in any order; then a value.
 -- A list is well-formed where it spells a written value.
 use Rattle.std.specs.Prelude.{ℕ, List, [], ◌∷◌}
-use Rattle.basic_toml_write.specs.Written.{Leaf, text, Written, leaf, absent, array, table, Elements, no_elements, element, Entries, no_entries, entry}
-use Rattle.basic_toml_write.specs.Items.{Item, a_leaf, nothing, open_array, open_table, close, key, field, some_mark, value_mark, element_mark}
+use Rattle.basic_toml_emit.specs.Written.{Leaf, text, Written, leaf, absent, array, table, Elements, no_elements, element, Entries, no_entries, entry}
+use Rattle.basic_toml_emit.specs.Items.{Item, a_leaf, nothing, open_array, open_table, close, key, field, some_mark, value_mark, element_mark}
 
 -- In each, the first list is the items of what is spelled, with the last list behind them.
 mutual

@@ -3,7 +3,7 @@
 -- refused leaf or an absent option outside a table, counts as an empty table: an unsupported shape excludes it.
 use Rattle.std.specs.Prelude.{ℕ, pos, List, [], ◌∷◌}
 use Rattle.basic_toml_value.specs.Data as d
-use Rattle.basic_toml_write.specs.Written.{Leaf, integer, boolean, float, text, other_text, bytes, refused, Written, leaf, absent, array, table, Elements, no_elements, element, Entries, no_entries, entry}
+use Rattle.basic_toml_emit.specs.Written.{Leaf, integer, boolean, float, text, other_text, bytes, refused, Written, leaf, absent, array, table, Elements, no_elements, element, Entries, no_entries, entry}
 
 abbrev pub number_items : List ℕ → d.Items
 number_items [] = d.no_items

@@ -3,8 +3,8 @@ use Rattle.std.specs.Prelude.{ℕ, List, [], ◌∷◌, ◌++◌, Option, Some, 
 use Rattle.std.specs.List.{flat_map}
 use Rattle.std.specs.declared.alloc.Global.{Global}
 use Rattle.basic_toml_value.specs.Data as d
-use Rattle.basic_toml_write.specs.Written as w
-use Rattle.basic_toml_write.specs.Items.{Item, a_leaf, nothing, open_array, open_table, close, field, some_mark, element_mark}
+use Rattle.basic_toml_emit.specs.Written as w
+use Rattle.basic_toml_emit.specs.Items.{Item, a_leaf, nothing, open_array, open_table, close, field, some_mark, element_mark}
 
 abbrev pub leaf_calls : w.Leaf → List Item
 leaf_calls l = a_leaf l ∷ []

@@ -1,17 +1,17 @@
 -- What the text of a value is, by the items that it spells (own).
 use Rattle.std.specs.Prelude.{◌≡◌, List, Result, Ok, MatchResult, ◌⊎◌, ⊤, false, string_bytes, String}
 use Rattle.std.specs.declared.alloc.Global.{Global}
-use Rattle.basic_toml_write.specs.Written.{Written}
-use Rattle.basic_toml_write.specs.Items.{Item}
+use Rattle.basic_toml_emit.specs.Written.{Written}
+use Rattle.basic_toml_emit.specs.Items.{Item}
 use Rattle.basic_toml_write.specs.Spelling.{Spells}
-use Rattle.basic_toml_write.specs.Layout.{layout}
-use Rattle.basic_toml_write.specs.Depth.{nesting_limit}
+use Rattle.basic_toml_emit.specs.Layout.{layout}
+use Rattle.basic_toml_emit.specs.Depth.{nesting_limit}
 use Rattle.basic_toml_write.specs.Shapes.{is_unsupported}
-use Rattle.basic_toml_write.specs.Refusals.{Refusal, key_not_string, call_order}
-use Rattle.basic_toml_write.specs.Calls.{outcome}
-use Rattle.basic_toml_write.specs.Faults.{Refuses}
-use Rattle.basic_toml_write.specs.declared.error.WriteError.{WriteError}
-use Rattle.basic_toml_write.specs.declared.error.WriteError.TheVariants.{OutOfMemory}
+use Rattle.basic_toml_emit.specs.Refusals.{Refusal, key_not_string, call_order}
+use Rattle.basic_toml_emit.specs.Calls.{outcome}
+use Rattle.basic_toml_emit.specs.Faults.{Refuses}
+use Rattle.basic_toml_emit.specs.declared.error.WriteError.{WriteError}
+use Rattle.basic_toml_emit.specs.declared.error.WriteError.TheVariants.{OutOfMemory}
 
 -- the text that the items come to, or the refusal, or the type gave up
 abbrev pub WritesOut : List Item → Type 0 → Result (String Global) WriteError → Type 0

@@ -1,5 +1,5 @@
 ghost use Rattle.std.specs.Prelude.{◌≡◌, ℕ, List, [], ◌∷◌, ◌++◌, pos, string_bytes, Any, encode_utf8};
-ghost use Rattle.basic_toml_write.specs.Written as w;
+ghost use Rattle.basic_toml_emit.specs.Written as w;
 ghost use Rattle.basic_toml_write.specs.Recorded.{Sends};
 ghost use Rattle.basic_toml_write.specs.Values.{data_calls, leaf_calls, option_calls, OptionGivesUp, array_calls, table_calls, map_calls};
 ghost use Rattle.basic_toml_value.specs.View.{view};

@@ -4,19 +4,13 @@
 //! come, and hands the text out where they spell a whole table.
 #![tactic(auto)]
 
-mod call;
-mod emitter;
-mod error;
-mod frames;
+mod again;
 mod impls;
-mod keys;
-mod leaf;
 mod serializer;
 #[cfg(test)]
 mod tests;
-mod text;
 mod write;
 
-pub use error::WriteError;
+pub use basic_toml_emit::WriteError;
 pub use serializer::{Serialize, Serializer};
 pub use write::written;

@@ -1,12 +1,10 @@
 ghost use Rattle.std.specs.Prelude.{◌≡◌, ℕ, List, [], ◌∷◌, ◌++◌, pos, OnOk, IfErr, MatchOption, None, Err, is_some, ⊤, encode_utf8};
-ghost use Rattle.basic_toml_write.specs.Items.{Item, a_leaf, nothing, open_array, open_table, close, key, field, some_mark, value_mark, element_mark};
-ghost use Rattle.basic_toml_write.specs.Written as w;
-ghost use Rattle.basic_toml_write.specs.Leaves.{item_of};
+ghost use Rattle.basic_toml_emit.specs.Items.{Item, a_leaf, nothing, open_array, open_table, close, key, field, some_mark, value_mark, element_mark};
+ghost use Rattle.basic_toml_emit.specs.Written as w;
+ghost use Rattle.basic_toml_emit.specs.Leaves.{item_of};
 
-use crate::WriteError;
-use crate::call::Call;
-use crate::emitter::Emitter;
-use crate::leaf::Leaf;
+use crate::again::again;
+use basic_toml_emit::{Call, Emitter, Leaf, WriteError};
 use basic_toml_value::Float;
 use std::alloc::Global;
 
@@ -28,10 +26,11 @@ use std::alloc::Global;
 pub struct Serializer {
     emitter: Emitter,
     refusal: Option<WriteError>,
+    alloc: Global,
 }
 
 impl Serializer {
-    ghost use Rattle.basic_toml_write.specs.States.{Steps};
+    ghost use Rattle.basic_toml_emit.specs.States.{Steps};
     ghost use Rattle.basic_toml_write.specs.Recorded.{HasRecorded, Takes, Passes, Answers, Finishes, refusal_of};
     ghost use Rattle.basic_toml_write.specs.Writing.{IsLayout, Succeeds};
 
@@ -43,6 +42,7 @@ impl Serializer {
         Serializer {
             emitter: Emitter::new(alloc),
             refusal: None,
+            alloc,
         }
     }
 
@@ -60,7 +60,7 @@ impl Serializer {
         ensures refused { IfErr result (λ e. (is : List Item) → Takes is self.now self.now (Err e)) }
     {
         match &self.refusal {
-            Some(refusal) => Err(refusal.again(self.emitter.alloc)),
+            Some(refusal) => Err(again(refusal, self.alloc)),
             None => Ok(()),
         }
     }
@@ -73,9 +73,9 @@ impl Serializer {
         match answer {
             Ok(()) => Ok(()),
             Err(refusal) => {
-                let again = refusal.again(self.emitter.alloc);
+                let answer = again(&refusal, self.alloc);
                 self.refusal = Some(refusal);
-                Err(again)
+                Err(answer)
             }
         }
     }
@@ -314,7 +314,7 @@ impl Serializer {
         ensures answers { Answers self.now result }
     {
         match &self.refusal {
-            Some(refusal) => Err(refusal.again(self.emitter.alloc)),
+            Some(refusal) => Err(again(refusal, self.alloc)),
             None => answer,
         }
     }
@@ -324,7 +324,7 @@ impl Serializer {
     fn part<T: Serialize>(&mut self, value: &T) -> Result<(), WriteError>
         ensures { Passes (T.calls value.now) (T.gives_up value.now) self.old self.new result }
     {
-        let answer = value.serialize(self.emitter.alloc, self);
+        let answer = value.serialize(self.alloc, self);
         self.answer(answer)
     }
 
@@ -394,25 +394,19 @@ impl Serializer {
         self.hand_out()
     }
 
+    // The refusal that was kept, or else the text.
+    #[tactic(auto, using(crate::proofs::Finishing::finishes))]
     fn hand_out(self) -> Result<String, WriteError>
         ensures { Finishes self result }
     {
-        let Serializer { emitter, refusal } = self;
+        let Serializer {
+            emitter,
+            refusal,
+            alloc: _,
+        } = self;
         match refusal {
             Some(refusal) => Err(refusal),
-            None => {
-                let Emitter {
-                    text,
-                    frames,
-                    is_done,
-                    alloc: _,
-                } = emitter;
-                if is_done && frames.is_empty() {
-                    Ok(text)
-                } else {
-                    Err(WriteError::CallOrder)
-                }
-            }
+            None => emitter.finish(),
         }
     }
 }
@@ -432,7 +426,7 @@ impl Serializer {
 /// }
 /// ```
 pub trait Serialize {
-    ghost use Rattle.basic_toml_write.specs.Items.{Item};
+    ghost use Rattle.basic_toml_emit.specs.Items.{Item};
     ghost use Rattle.basic_toml_write.specs.Recorded.{Sends};
 
     // The items that a value spells.

@@ -1,7 +1,7 @@
 // What no clause says: worked rows, and that no call wants memory where there is enough.
 ghost use Rattle.std.specs.Prelude.{[], ◌∷◌, ⊤};
-ghost use Rattle.basic_toml_write.specs.Items.{a_leaf, open_table};
-ghost use Rattle.basic_toml_write.specs.Written.{refused};
+ghost use Rattle.basic_toml_emit.specs.Items.{a_leaf, open_table};
+ghost use Rattle.basic_toml_emit.specs.Written.{refused};
 
 use super::*;
 use basic_toml_value::{Float, Table, Value};

@@ -1,10 +1,10 @@
 ghost use Rattle.std.specs.Prelude.{◌≡◌, false};
 ghost use Rattle.basic_toml_value.specs.Data.{Data};
-ghost use Rattle.basic_toml_write.specs.Written.{Written};
+ghost use Rattle.basic_toml_emit.specs.Written.{Written};
 ghost use Rattle.basic_toml_write.specs.Spelling.{Spells};
-ghost use Rattle.basic_toml_write.specs.Layout.{layout};
+ghost use Rattle.basic_toml_emit.specs.Layout.{layout};
 ghost use Rattle.basic_toml_write.specs.Kept.{kept};
-ghost use Rattle.basic_toml_write.specs.Depth.{nesting_limit, depth};
+ghost use Rattle.basic_toml_emit.specs.Depth.{nesting_limit, depth};
 ghost use Rattle.basic_toml_write.specs.Shapes.{is_unsupported};
 ghost use Rattle.basic_toml_write.specs.Values.{data_calls};
 ghost use Rattle.basic_toml_write.specs.Trees.{tree_of, written_of};

@@ -1,6 +1,6 @@
 use Rattle.std.proofs.Common.{◌∷◌, take, drop, suc, subst}
 use Rattle.std.proofs.lemmas.Result.{err_from_is_err_and}
-use Rattle.basic_toml_write.specs.Items.{open_array, element_mark}
+use Rattle.basic_toml_emit.specs.Items.{open_array, element_mark}
 use Rattle.basic_toml_write.proofs.Parts.{Sent, take_all, take_more, take_split, parts_unopened, parts_next, parts_fault, parts_closed}
 use Rattle.basic_toml_write.proofs.impls.serialize_elements.Goals as goal
 

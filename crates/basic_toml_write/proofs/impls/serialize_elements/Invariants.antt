@@ -1,5 +1,5 @@
 use Rattle.std.proofs.Common.{◌∷◌, take}
-use Rattle.basic_toml_write.specs.Items.{open_array, element_mark}
+use Rattle.basic_toml_emit.specs.Items.{open_array, element_mark}
 use Rattle.basic_toml_write.proofs.Parts.{Sent}
 use Rattle.basic_toml_write.proofs.impls.serialize_elements.Given as goal
 

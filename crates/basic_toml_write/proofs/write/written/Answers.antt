@@ -3,7 +3,7 @@ use Rattle.basic_toml_write.proofs.Unique.{spelled_once}
 use Rattle.basic_toml_write.proofs.Ordered.{ordered}
 use Rattle.basic_toml_write.proofs.TreeLaws.{spells_tree, tree-written, written-tree_kept}
 use Rattle.basic_toml_write.proofs.Kept.{layout-kept, depth-kept}
-use Rattle.basic_toml_write.specs.Depth.{nesting_limit}
+use Rattle.basic_toml_emit.specs.Depth.{nesting_limit}
 use Rattle.basic_toml_write.proofs.write.written.Goals as goal
 
 pub returns : goal.returns

@@ -1,7 +1,7 @@
 use Rattle.std.proofs.Common.{◌∷◌, map, string_bytes}
 use Rattle.std.proofs.lemmas.Result.{err_from_is_err_and}
 use Rattle.std.specs.Map.Iter.{deref_pair}
-use Rattle.basic_toml_write.specs.Items.{open_table, field}
+use Rattle.basic_toml_emit.specs.Items.{open_table, field}
 use Rattle.basic_toml_write.proofs.Parts.{yields_split, yields_next, yields_end, parts_unopened, parts_yield, parts_fault, parts_closed}
 use Rattle.basic_toml_write.proofs.impls.BTreeMapStringSerialize.serialize.Goals as goal
 

@@ -1,6 +1,6 @@
 use Rattle.std.proofs.Common.{◌≡◌, ◌∷◌, ◌++◌, map, string_bytes}
 use Rattle.std.specs.Map.Iter.{deref_pair}
-use Rattle.basic_toml_write.specs.Items.{open_table, field}
+use Rattle.basic_toml_emit.specs.Items.{open_table, field}
 use Rattle.basic_toml_write.proofs.Parts.{Sent}
 use Rattle.basic_toml_write.proofs.impls.BTreeMapStringSerialize.serialize.Given as goal
 

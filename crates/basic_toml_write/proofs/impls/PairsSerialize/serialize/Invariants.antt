@@ -1,6 +1,6 @@
 use Rattle.std.proofs.Common.{◌≡◌, ◌∷◌, ◌++◌, map}
 use Rattle.basic_toml_value.specs.Iter.{rest, pair_of}
-use Rattle.basic_toml_write.specs.Items.{open_table, field}
+use Rattle.basic_toml_emit.specs.Items.{open_table, field}
 use Rattle.basic_toml_write.proofs.Parts.{Sent}
 use Rattle.basic_toml_write.proofs.impls.PairsSerialize.serialize.Given as goal
 

@@ -1,7 +1,7 @@
 use Rattle.std.proofs.Common.{List, sym, ◌∙◌, ap, subst}
 use Rattle.std.specs.Prelude.{Any}
 use Rattle.basic_toml_value.specs.View.{view}
-use Rattle.basic_toml_write.specs.Items.{Item}
+use Rattle.basic_toml_emit.specs.Items.{Item}
 use Rattle.basic_toml_write.specs.Recorded.{Sends}
 use Rattle.basic_toml_write.specs.Values.{data_calls, array_calls, table_calls}
 use Rattle.basic_toml_write.proofs.Sending.{sends_widen}

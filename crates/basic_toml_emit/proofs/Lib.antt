@@ -1,0 +1,4 @@
+pub mod KeySets
+pub mod Quoting
+pub mod Stacks
+pub mod Finishing

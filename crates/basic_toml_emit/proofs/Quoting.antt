@@ -1,0 +1,74 @@
+-- Bytes between quotes, up to the first that does not stand for itself.
+use Rattle.std.proofs.Common.{◌≡◌, ℕ, zero, suc, ◌+◌, ◌<◌, ◌≤◌, List, [], ◌∷◌, ◌++◌, true, false, length, get_or, take, drop, refl, ◌∙◌, ap, subst, arith, append_assoc, append-nil, add-one}
+use Rattle.std.specs.Prelude.{◌==◌, decimal}
+use Rattle.std.proofs.lemmas.Bool.Decides.{nat_tests}
+use Rattle.std.proofs.lemmas.Str.{IsCharBoundary-after_ascii}
+use Rattle.std.specs.Str.{IsUtf8, IsCharBoundary}
+use Rattle.std.specs.List.{list_all}
+use Rattle.basic_toml_emit.specs.Texts.{needs_escape, is_bare, is_bare_key, quoted_byte, quoted_bytes, comma, more_numbers, written_numbers}
+
+quoted_byte_plain : (b : ℕ) → needs_escape b ≡ false → quoted_byte b ≡ b ∷ []
+quoted_byte_plain b p = grind (arith, nat_tests)
+
+pub below_128 : (b : ℕ) → needs_escape b ≡ true → b < 128
+below_128 b p = grind (arith, nat_tests)
+
+pub quoted_bytes_plain : (bs : List ℕ) → ((k : ℕ) → k < length bs → needs_escape (get_or bs k 0) ≡ false) → quoted_bytes bs ≡ bs
+quoted_bytes_plain [] p = refl
+quoted_bytes_plain (b ∷ bs) p = rw (quoted_byte_plain b (p 0 (omega arith)), quoted_bytes_plain bs (λ k lt. p (suc k) (omega arith))) refl
+
+pub quoted_bytes_split : (bs : List ℕ) (i : ℕ) → i < length bs → ((k : ℕ) → k < i → needs_escape (get_or bs k 0) ≡ false) → quoted_bytes bs ≡ take i bs ++ (quoted_byte (get_or bs i 0) ++ quoted_bytes (drop (suc i) bs))
+quoted_bytes_split [] i lt p = absurd (omega arith)
+quoted_bytes_split (b ∷ bs) zero lt p = refl
+quoted_bytes_split (b ∷ bs) (suc i) lt p = rw (quoted_byte_plain b (p 0 (omega arith))) (ap (λ z. b ∷ z) (quoted_bytes_split bs i (omega arith) (λ k lt'. p (suc k) (omega arith))))
+
+more_numbers_push : (ns : List ℕ) (n : ℕ) → more_numbers (ns ++ (n ∷ [])) ≡ more_numbers ns ++ (comma ++ decimal n)
+more_numbers_push [] n = ap (λ z. comma ++ z) (append-nil (decimal n))
+more_numbers_push (m ∷ ns) n = rw (more_numbers_push ns n) (simp append_assoc)
+
+pub written_numbers_first : (n : ℕ) → written_numbers (n ∷ []) ≡ decimal n
+written_numbers_first n = append-nil (decimal n)
+
+pub written_numbers_push : (ns : List ℕ) (n : ℕ) → 0 < length ns → written_numbers (ns ++ (n ∷ [])) ≡ written_numbers ns ++ (comma ++ decimal n)
+written_numbers_push [] n lt = absurd (omega arith)
+written_numbers_push (m ∷ ns) n lt = rw (more_numbers_push ns n) (simp append_assoc)
+
+take_more : (ns : List ℕ) (i : ℕ) → i < length ns → take (suc i) ns ≡ take i ns ++ (get_or ns i 0 ∷ [])
+take_more [] i lt = absurd (omega arith)
+take_more (n ∷ ns) zero lt = refl
+take_more (n ∷ ns) (suc i) lt = ap (λ z. n ∷ z) (take_more ns i (omega arith))
+
+pub written_numbers_start : (ns : List ℕ) (i : ℕ) → i < length ns → i ≡ 0 → written_numbers (take (i + 1) ns) ≡ decimal (get_or ns i 0)
+written_numbers_start [] i lt e = absurd (omega arith)
+written_numbers_start (n ∷ ns) zero lt e = written_numbers_first n
+written_numbers_start (n ∷ ns) (suc i) lt e = absurd (omega arith)
+
+length_take : (ns : List ℕ) (i : ℕ) → 0 < i → i < length ns → 0 < length (take i ns)
+length_take [] i p lt = absurd (omega arith)
+length_take (n ∷ ns) zero p lt = absurd (omega arith)
+length_take (n ∷ ns) (suc i) p lt = omega arith
+
+pub written_numbers_more : (ns : List ℕ) (i : ℕ) → i < length ns → 0 < i → written_numbers (take (i + 1) ns) ≡ written_numbers (take i ns) ++ (comma ++ decimal (get_or ns i 0))
+written_numbers_more ns i lt p = rw add-one (ap written_numbers (take_more ns i lt) ∙ written_numbers_push (take i ns) (get_or ns i 0) (length_take ns i p lt))
+
+pub is_bare_key_some : (bs : List ℕ) → (length bs == 0) ≡ false → is_bare_key bs ≡ list_all is_bare bs
+is_bare_key_some [] e = absurd (cc)
+is_bare_key_some (b ∷ bs) e = refl
+
+-- behind a byte that does not stand for itself
+pub boundary_behind : (bs cs : List ℕ) (i : ℕ) → cs ≡ bs → IsUtf8 bs → i < length bs → (i < length cs → needs_escape (get_or cs i 0) ≡ true) → IsCharBoundary bs (i + 1)
+boundary_behind bs cs i e u lt p = IsCharBoundary-after_ascii bs i u lt (below_128 (get_or bs i 0) (subst (λ z. i < length z → needs_escape (get_or z i 0) ≡ true) e p lt))
+
+pub quoted_at : (bs cs front behind : List ℕ) (i : ℕ) → cs ≡ bs → i < length bs → ((k : ℕ) → k < i → needs_escape (get_or cs k 0) ≡ false) → front ≡ take i bs → behind ≡ drop (i + 1) bs → quoted_bytes bs ≡ front ++ (quoted_byte (get_or cs i 0) ++ quoted_bytes behind)
+quoted_at bs cs front behind i e lt p f b = rw (e, f, b, add-one) (quoted_bytes_split bs i lt (subst (λ z. (k : ℕ) → k < i → needs_escape (get_or z k 0) ≡ false) e p))
+
+pub quoted_all : (bs cs : List ℕ) (i : ℕ) → cs ≡ bs → length bs ≤ i → ((k : ℕ) → k < i → needs_escape (get_or cs k 0) ≡ false) → quoted_bytes bs ≡ bs
+quoted_all bs cs i e le p = quoted_bytes_plain bs (λ k lt. subst (λ z. needs_escape (get_or z k 0) ≡ false) e (p k (omega arith)))
+
+pub numbers_first : (init t t' t'' : List ℕ) (ns : List ℕ) (i : ℕ) → i < length ns → i ≡ 0 → t ≡ init ++ written_numbers (take i ns) → t' ≡ t → t'' ≡ t' ++ decimal (get_or ns i 0) → t'' ≡ init ++ written_numbers (take (i + 1) ns)
+numbers_first init t t' t'' [] i lt z p q r = absurd (omega arith)
+numbers_first init t t' t'' (n ∷ ns) zero lt z p q r = rw (r, q, p, written_numbers_first n) (simp append-nil)
+numbers_first init t t' t'' (n ∷ ns) (suc i) lt z p q r = absurd (omega arith)
+
+pub numbers_next : (init t t' t'' : List ℕ) (ns : List ℕ) (i : ℕ) → i < length ns → 0 < i → t ≡ init ++ written_numbers (take i ns) → t' ≡ t ++ comma → t'' ≡ t' ++ decimal (get_or ns i 0) → t'' ≡ init ++ written_numbers (take (i + 1) ns)
+numbers_next init t t' t'' ns i lt z p q r = rw (r, q, p, written_numbers_more ns i lt z) (simp append_assoc)

@@ -1,0 +1,13 @@
+pub mod Written
+pub mod Items
+pub mod Texts
+pub mod Layout
+pub mod Depth
+pub mod Open
+pub mod Refusals
+pub mod Calls
+pub mod Faults
+pub mod Present
+pub mod Leaves
+pub mod Frames
+pub mod States

@@ -1,0 +1,177 @@
+ghost use Rattle.std.specs.Prelude.{◌≡◌, ℕ, suc, nat_le, Bool, List, [], ◌∷◌, ◌++◌, IfOk, IfErr, MatchOption, string_bytes, length};
+ghost use Rattle.basic_toml_emit.specs.declared.error.WriteError.TheVariants.{OutOfMemory};
+ghost use Rattle.basic_toml_emit.specs.Open as o;
+ghost use Rattle.basic_toml_emit.specs.Calls as c;
+ghost use Rattle.basic_toml_emit.specs.Texts.{joined};
+ghost use Rattle.basic_toml_emit.specs.Layout.{element_header, row_start};
+ghost use Rattle.basic_toml_emit.specs.Frames.{frames_of, frame_of, header_of, path_part, first_after};
+
+use crate::WriteError;
+use crate::keys::Keys;
+use crate::text::write_key;
+use std::alloc::Global;
+
+// How many arrays and tables may be open at once.
+pub const NESTING_LIMIT: usize = 128;
+
+// Whether the header of a table is still to be written.
+#[derive(Clone, Copy, Debug, PartialEq, Eq)]
+pub enum Header {
+    Settled,
+    Due { later: bool },
+}
+
+// What an open table waits for.
+#[derive(Drop)]
+pub enum Stage {
+    NoKey,
+    KeyPlace,
+    KeySet(String),
+}
+
+// What the elements of an open array are so far.
+#[derive(Clone, Copy, Debug, PartialEq, Eq)]
+pub enum Kind {
+    Unknown,
+    Tables,
+    Others,
+}
+
+#[derive(Drop)]
+pub struct TableFrame {
+    pub header: Header,
+    pub stage: Stage,
+    pub holds_section: bool,
+    pub keys: Keys,
+}
+
+// An open array or table. An array knows whether its entry stands behind a present one of the same table.
+#[derive(Drop)]
+pub enum Frame {
+    Table(TableFrame),
+    Array { kind: Kind, later: bool },
+}
+
+pub fn new_table(alloc: Global, header: Header) -> Frame
+    ensures { frame_of result ≡ o.new_table (header_of header) }
+{
+    Frame::Table(TableFrame {
+        header,
+        stage: Stage::NoKey,
+        holds_section: false,
+        keys: Keys::new(alloc),
+    })
+}
+
+// Puts a frame on the stack.
+#[tactic(auto, using(crate::proofs::Stacks::frames_push))]
+pub fn put(frames: &mut Vec<Frame>, frame: Frame) -> Result<(), WriteError>
+    ensures ok { IfOk result (λ _. frames_of frames.new.items ≡ frame_of frame ∷ frames_of frames.old.items) }
+    ensures err { IfErr result (λ e. e ≡ OutOfMemory) }
+{
+    match frames.push(frame) {
+        Ok(()) => Ok(()),
+        Err(_) => Err(WriteError::OutOfMemory),
+    }
+}
+
+// Takes the innermost frame off the stack.
+#[tactic(auto, using(crate::proofs::Stacks::frames_push))]
+pub fn take(frames: &mut Vec<Frame>) -> Option<Frame>
+    ensures { MatchOption result ((frames.old.items ≡ []) × (frames.new.items ≡ [])) (λ f. frames_of frames.old.items ≡ frame_of f ∷ frames_of frames.new.items) }
+{
+    frames.pop()
+}
+
+// Whether nothing is open.
+#[tactic(auto, using(crate::proofs::Stacks::nothing_open_no, crate::proofs::Stacks::nothing_open_yes))]
+pub fn is_nothing_open(frames: &Vec<Frame>) -> bool
+    ensures { result ≡ c.is_nothing_open (frames_of frames.now.items) }
+{
+    frames.is_empty()
+}
+
+// Whether no array and no table may be opened within a frame that stands on these.
+#[tactic(auto, using(crate::proofs::Stacks::frames_length))]
+pub fn is_full(frames: &Vec<Frame>) -> bool
+    ensures { result ≡ nat_le NESTING_LIMIT (suc (length (frames_of frames.now.items))) }
+{
+    frames.len() >= NESTING_LIMIT - 1
+}
+
+// The key that a frame adds to a path; whether the path is still empty.
+fn write_part(text: &mut String, frame: &Frame, first: bool) -> Result<bool, WriteError>
+    ensures text { IfOk result (λ _. string_bytes text.new ≡ string_bytes text.old ++ path_part first (frame_of frame.now)) }
+    ensures first { IfOk result (λ f. f ≡ first_after first (frame_of frame.now)) }
+    ensures err { IfErr result (λ e. e ≡ OutOfMemory) }
+{
+    match frame {
+        Frame::Array { .. } => Ok(first),
+        Frame::Table(table) => {
+            if !first {
+                text.push_str(".")?;
+            }
+            write_key(text, table.keys.last())?;
+            Ok(false)
+        }
+    }
+}
+
+// The keys to the innermost frame, joined by periods.
+fn write_path(text: &mut String, frames: &[Frame]) -> Result<(), WriteError>
+    ensures ok { IfOk result (λ _. string_bytes text.new ≡ string_bytes text.old ++ joined (c.path (frames_of frames.now))) }
+    ensures err { IfErr result (λ e. e ≡ OutOfMemory) }
+{
+    let mut first = true;
+    for frame in frames {
+        first = write_part(text, frame, first)?;
+    }
+    Ok(())
+}
+
+// The header of a table in these frames, where it is due.
+pub fn write_header(text: &mut String, frames: &[Frame], header: Header) -> Result<(), WriteError>
+    ensures ok { IfOk result (λ _. string_bytes text.new ≡ string_bytes text.old ++ c.header_text (header_of header) (frames_of frames.now)) }
+    ensures err { IfErr result (λ e. e ≡ OutOfMemory) }
+{
+    match header {
+        Header::Settled => Ok(()),
+        Header::Due { later } => {
+            if later {
+                text.push_str("\n")?;
+            }
+            text.push_str("[")?;
+            write_path(text, frames)?;
+            text.push_str("]\n")?;
+            Ok(())
+        }
+    }
+}
+
+// The header of an element of an array of tables.
+pub fn write_element_header(
+    text: &mut String,
+    frames: &[Frame],
+    later: bool,
+) -> Result<(), WriteError>
+    ensures ok { IfOk result (λ _. string_bytes text.new ≡ string_bytes text.old ++ element_header later (c.path (frames_of frames.now))) }
+    ensures err { IfErr result (λ e. e ≡ OutOfMemory) }
+{
+    if later {
+        text.push_str("\n")?;
+    }
+    text.push_str("[[")?;
+    write_path(text, frames)?;
+    text.push_str("]]\n")?;
+    Ok(())
+}
+
+// What stands before the value of a row.
+pub fn write_row_start(text: &mut String, key: &str) -> Result<(), WriteError>
+    ensures ok { IfOk result (λ _. string_bytes text.new ≡ string_bytes text.old ++ row_start key.now) }
+    ensures err { IfErr result (λ e. e ≡ OutOfMemory) }
+{
+    write_key(text, key)?;
+    text.push_str(" = ")?;
+    Ok(())
+}

@@ -1,9 +1,0 @@
-use Rattle.std.proofs.Common.{◌≡◌, ◌++◌, string_bytes, take}
-use Rattle.basic_toml_write.specs.Texts.{joined}
-use Rattle.basic_toml_write.specs.Calls.{path}
-use Rattle.basic_toml_write.specs.Frames.{frames_of}
-use Rattle.basic_toml_write.proofs.Stacks.{is_first}
-use Rattle.basic_toml_write.proofs.frames.write_path.Given as goal
-
-abbrev pub invariant-loop-frame : goal.invariant-loop-frame
-invariant-loop-frame l = record { text_is : string_bytes l.text ≡ string_bytes l.initial.text ++ joined (path (frames_of (take l.frame-index l.frames))); first_is : l.first ≡ is_first (path (frames_of (take l.frame-index l.frames))) }
