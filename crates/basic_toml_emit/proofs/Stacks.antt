@@ -1,5 +1,5 @@
 -- The frames of a stack.
-use Rattle.std.proofs.Common.{◌≡◌, ℕ, zero, suc, get_or, take, ◌+◌, ◌<◌, List, [], ◌∷◌, ◌++◌, length, refl, sym, ◌∙◌, ap, arith, append-nil, cond, add-one, Bool, true, false}
+use Rattle.std.proofs.Common.{◌≡◌, ℕ, zero, suc, Option, Some, None, MatchOption, Result, Ok, Err, IfOk, get_or, take, slice_set, slice_index_or, ◌+◌, ◌-◌, ◌<◌, List, [], ◌∷◌, ◌++◌, length, refl, sym, ◌∙◌, ap, arith, append-nil, cond, add-one, Bool, true, false}
 use Rattle.basic_toml_emit.specs.Open as o
 use Rattle.basic_toml_emit.specs.Calls as c
 use Rattle.basic_toml_emit.specs.Texts.{joined, written_key}
@@ -79,3 +79,39 @@ path_more fs i d lt e = rw add-one (ap (λ z. joined (c.path z)) (frames_take fs
 
 pub first_more : (fs : List Frame) (i : ℕ) (d : Frame) → i < length fs → d ≡ get_or fs i d → is_first (c.path (frames_of (take (i + 1) fs))) ≡ first_after (is_first (c.path (frames_of (take i fs)))) (frame_of d)
 first_more fs i d lt e = rw add-one (ap (λ z. is_first (c.path z)) (frames_take fs i d lt e) ∙ first_next (frame_of d) (frames_of (take i fs)))
+
+-- the innermost frame, of those that a slice was split into
+pub innermost_is : {A B : Type 0} (frame : A → Frame) (outer : B → List Frame) (fs : List Frame) (r : Option (A × B)) → MatchOption r (length fs ≡ 0) (λ p. (fs ≡ outer p.1 ++ (frame p.0 ∷ [])) × (length (outer p.1) + 1 ≡ length fs)) → MatchOption r (frames_of fs ≡ []) (λ p. frames_of fs ≡ frame_of (frame p.0) ∷ frames_of (outer p.1))
+innermost_is frame outer fs None e = no_frames fs e
+innermost_is frame outer fs (Some p) e = frames_push (outer p.1) fs (frame p.0) e.0
+
+init_set : (fs : List Frame) (n : ℕ) (f : Frame) → length fs ≡ suc n → slice_set fs n f ≡ take n fs ++ (f ∷ [])
+init_set [] n f e = absurd (omega arith)
+init_set (x ∷ []) zero f e = refl
+init_set (x ∷ y ∷ fs) zero f e = absurd (omega arith)
+init_set (x ∷ fs) (suc n) f e = ap (λ z. x ∷ z) (init_set fs n f (omega arith))
+
+init_last : (fs : List Frame) (n : ℕ) (d : Frame) → length fs ≡ suc n → fs ≡ take n fs ++ (slice_index_or fs n d ∷ [])
+init_last [] n d e = absurd (omega arith)
+init_last (x ∷ []) zero d e = refl
+init_last (x ∷ y ∷ fs) zero d e = absurd (omega arith)
+init_last (x ∷ fs) (suc n) d e = ap (λ z. x ∷ z) (init_last fs n d (omega arith))
+
+module _ (change : List o.Frame → List o.Frame) (fs : List Frame) (d f : Frame) (behind : 0 < length fs) (is : slice_index_or fs (length fs - 1) d ≡ f) where
+  abbrev init : List Frame
+  init = take (length fs - 1) fs
+
+  -- the innermost frame is another one
+  pub frames_changed : (g : Frame) → ((below : List o.Frame) → frame_of g ∷ below ≡ change (frame_of f ∷ below)) → frames_of (slice_set fs (length fs - 1) g) ≡ change (frames_of fs)
+  frames_changed g h =
+      frames_push init _ g (init_set fs (length fs - 1) g (omega arith))
+      ∙ (h (frames_of init)
+      ∙ sym (ap change (frames_push init fs (slice_index_or fs (length fs - 1) d) (init_last fs (length fs - 1) d (omega arith)) ∙ ap (λ x. frame_of x ∷ frames_of init) is)))
+
+  -- the innermost frame stays
+  pub frames_kept : ((below : List o.Frame) → frame_of f ∷ below ≡ change (frame_of f ∷ below)) → frames_of (slice_set fs (length fs - 1) (slice_index_or fs (length fs - 1) d)) ≡ change (frames_of fs)
+  frames_kept h = ap (λ g. frames_of (slice_set fs (length fs - 1) g)) is ∙ frames_changed f h
+
+pub if_ok : {A E : Type 0} {P Q : Type 0} → (P → Q) → (r : Result A E) → IfOk r (λ _. P) → IfOk r (λ _. Q)
+if_ok f (Ok a) p = f p
+if_ok f (Err e) p = p

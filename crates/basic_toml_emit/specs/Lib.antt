@@ -6,6 +6,7 @@ pub mod Depth
 pub mod Open
 pub mod Refusals
 pub mod Calls
+pub mod Changes
 pub mod Faults
 pub mod Present
 pub mod Leaves

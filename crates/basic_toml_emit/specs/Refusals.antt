@@ -73,6 +73,10 @@ is_absent_outside at_start nothing = true
 is_absent_outside in_array nothing = true
 is_absent_outside _ _ = false
 
+abbrev pub is_in_table : List Frame → Bool
+is_in_table (a_table _ _ _ _ _ ∷ _) = true
+is_in_table _ = false
+
 abbrev pub is_in_array : List Frame → Bool
 is_in_array (an_array _ _ ∷ _) = true
 is_in_array _ = false

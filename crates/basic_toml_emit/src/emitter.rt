@@ -11,7 +11,7 @@ mod sections;
 
 use crate::WriteError;
 use crate::call::Call;
-use crate::frames::{Frame, Header, new_table, put, take};
+use crate::frames::{Frame, Header, innermost, leave, new_table, put, take};
 use crate::leaf::Leaf;
 use std::alloc::Global;
 
@@ -91,10 +91,14 @@ impl Emitter {
     fn leaf(&mut self, leaf: Leaf<'_>) -> Result<(), WriteError>
         ensures { Steps (a_leaf (leaf_of leaf.entry)) self.old self.new result }
     {
-        match take(&mut self.frames) {
+        match innermost(&self.frames) {
             None => Err(self.outside(WriteError::UnsupportedType)),
-            Some(Frame::Table(table)) => self.leaf_in_table(table, leaf),
-            Some(Frame::Array { kind, later }) => self.leaf_in_array(kind, later, leaf),
+            Some((Frame::Table(_), _)) => self.leaf_in_table(leaf),
+            Some((Frame::Array { kind, later }, _)) => {
+                let (kind, later) = (*kind, *later);
+                leave(&mut self.frames);
+                self.leaf_in_array(kind, later, leaf)
+            }
         }
     }
 

@@ -1,15 +1,18 @@
 ghost use Rattle.std.specs.Prelude.{◌≡◌, ℕ, suc, nat_le, Bool, List, [], ◌∷◌, ◌++◌, IfOk, IfErr, MatchOption, string_bytes, length};
 ghost use Rattle.basic_toml_emit.specs.declared.error.WriteError.TheVariants.{OutOfMemory};
+ghost use Rattle.basic_toml_emit.specs.declared.frames.Frame.TheVariants.{Table};
 ghost use Rattle.basic_toml_emit.specs.Open as o;
 ghost use Rattle.basic_toml_emit.specs.Calls as c;
+ghost use Rattle.basic_toml_emit.specs.Changes.{outer, with_stage, with_entry, with_kind};
 ghost use Rattle.basic_toml_emit.specs.Texts.{joined};
 ghost use Rattle.basic_toml_emit.specs.Layout.{element_header, row_start};
-ghost use Rattle.basic_toml_emit.specs.Frames.{frames_of, frame_of, header_of, path_part, first_after};
+ghost use Rattle.basic_toml_emit.specs.Frames.{frames_of, frame_of, header_of, stage_of, kind_of, path_part, first_after};
 
 use crate::WriteError;
 use crate::keys::Keys;
 use crate::text::write_key;
 use std::alloc::Global;
+use std::mem;
 
 // How many arrays and tables may be open at once.
 pub const NESTING_LIMIT: usize = 128;
@@ -43,6 +46,20 @@ pub struct TableFrame {
     pub stage: Stage,
     pub holds_section: bool,
     pub keys: Keys,
+}
+
+impl TableFrame {
+    // Counts the key that is set among those of present entries: its entry is a row.
+    fn enter_row(&mut self) -> Result<(), WriteError>
+        ensures ok { IfOk result (λ _. (below : List o.Frame) → frame_of (Table self.new) ∷ below ≡ with_entry (frame_of (Table self.old) ∷ below)) }
+        ensures err { IfErr result (λ e. e ≡ OutOfMemory) }
+    {
+        if let Stage::KeySet(key) = mem::replace(&mut self.stage, Stage::NoKey) {
+            self.keys.push(key)?;
+            self.header = Header::Settled;
+        }
+        Ok(())
+    }
 }
 
 // An open array or table. An array knows whether its entry stands behind a present one of the same table.
@@ -83,6 +100,62 @@ pub fn take(frames: &mut Vec<Frame>) -> Option<Frame>
     frames.pop()
 }
 
+// The innermost frame, and those around it.
+#[tactic(auto, using(crate::proofs::Stacks::frames_push))]
+pub fn innermost(frames: &[Frame]) -> Option<(&Frame, &[Frame])>
+    ensures { MatchOption result (frames_of frames.now ≡ []) (λ p. frames_of frames.now ≡ frame_of p.0.now ∷ frames_of p.1.now) }
+{
+    frames.split_last()
+}
+
+// Takes the innermost frame away.
+#[tactic(auto, using(crate::proofs::Stacks::frames_push))]
+pub fn leave(frames: &mut Vec<Frame>)
+    ensures { frames_of frames.new.items ≡ outer (frames_of frames.old.items) }
+{
+    frames.pop();
+}
+
+// Sets what the innermost table waits for.
+#[tactic(auto, using(crate::proofs::Stacks::frames_changed))]
+pub fn set_stage(frames: &mut [Frame], stage: Stage)
+    ensures { frames_of frames.new ≡ with_stage (stage_of stage) (frames_of frames.old) }
+{
+    let len = frames.len();
+    if len > 0 {
+        if let Frame::Table(table) = &mut frames[len - 1] {
+            table.stage = stage;
+        }
+    }
+}
+
+// Makes a row of the entry whose key is set in the innermost table.
+pub fn enter_row(frames: &mut [Frame]) -> Result<(), WriteError>
+    ensures ok { IfOk result (λ _. frames_of frames.new ≡ with_entry (frames_of frames.old)) }
+    ensures err { IfErr result (λ e. e ≡ OutOfMemory) }
+{
+    let len = frames.len();
+    if len == 0 {
+        return Ok(());
+    }
+    match &mut frames[len - 1] {
+        Frame::Table(table) => table.enter_row(),
+        Frame::Array { .. } => Ok(()),
+    }
+}
+
+// Sets what the elements of the innermost array are.
+pub fn set_kind(frames: &mut [Frame], kind: Kind)
+    ensures { frames_of frames.new ≡ with_kind (kind_of kind) (frames_of frames.old) }
+{
+    let len = frames.len();
+    if len > 0 {
+        if let Frame::Array { kind: stood, .. } = &mut frames[len - 1] {
+            *stood = kind;
+        }
+    }
+}
+
 // Whether nothing is open.
 #[tactic(auto, using(crate::proofs::Stacks::nothing_open_no, crate::proofs::Stacks::nothing_open_yes))]
 pub fn is_nothing_open(frames: &Vec<Frame>) -> bool
@@ -93,8 +166,8 @@ pub fn is_nothing_open(frames: &Vec<Frame>) -> bool
 
 // Whether no array and no table may be opened within a frame that stands on these.
 #[tactic(auto, using(crate::proofs::Stacks::frames_length))]
-pub fn is_full(frames: &Vec<Frame>) -> bool
-    ensures { result ≡ nat_le NESTING_LIMIT (suc (length (frames_of frames.now.items))) }
+pub fn is_full(frames: &[Frame]) -> bool
+    ensures { result ≡ nat_le NESTING_LIMIT (suc (length (frames_of frames.now))) }
 {
     frames.len() >= NESTING_LIMIT - 1
 }

@@ -2,7 +2,7 @@ ghost use Rattle.basic_toml_emit.specs.Items.{nothing, key, field, some_mark, va
 
 use super::Emitter;
 use crate::WriteError;
-use crate::frames::{Frame, Stage, TableFrame, put, take};
+use crate::frames::{Frame, Stage, innermost, set_stage};
 
 // Keys, absent options, and the marks before a part.
 impl Emitter {
@@ -12,20 +12,17 @@ impl Emitter {
     pub(super) fn key(&mut self) -> Result<(), WriteError>
         ensures { Steps key self.old self.new result }
     {
-        match take(&mut self.frames) {
+        match innermost(&self.frames) {
             None => Err(WriteError::CallOrder),
-            Some(Frame::Table(table)) => match table.stage {
-                Stage::NoKey => put(
-                    &mut self.frames,
-                    Frame::Table(TableFrame {
-                        stage: Stage::KeyPlace,
-                        ..table
-                    }),
-                ),
+            Some((Frame::Table(table), _)) => match table.stage {
+                Stage::NoKey => {
+                    set_stage(&mut self.frames, Stage::KeyPlace);
+                    Ok(())
+                }
                 Stage::KeyPlace => Err(WriteError::CallOrder),
                 Stage::KeySet(_) => Err(WriteError::CallOrder),
             },
-            Some(Frame::Array { .. }) => Err(WriteError::CallOrder),
+            Some((Frame::Array { .. }, _)) => Err(WriteError::CallOrder),
         }
     }
 
@@ -33,23 +30,18 @@ impl Emitter {
     pub(super) fn field(&mut self, name: &str) -> Result<(), WriteError>
         ensures { Steps (field name.now) self.old self.new result }
     {
-        match take(&mut self.frames) {
+        match innermost(&self.frames) {
             None => Err(WriteError::CallOrder),
-            Some(Frame::Table(table)) => match table.stage {
+            Some((Frame::Table(table), _)) => match table.stage {
                 Stage::NoKey => {
                     let key = String::from_str(self.alloc, name)?;
-                    put(
-                        &mut self.frames,
-                        Frame::Table(TableFrame {
-                            stage: Stage::KeySet(key),
-                            ..table
-                        }),
-                    )
+                    set_stage(&mut self.frames, Stage::KeySet(key));
+                    Ok(())
                 }
                 Stage::KeyPlace => Err(WriteError::CallOrder),
                 Stage::KeySet(_) => Err(WriteError::CallOrder),
             },
-            Some(Frame::Array { .. }) => Err(WriteError::CallOrder),
+            Some((Frame::Array { .. }, _)) => Err(WriteError::CallOrder),
         }
     }
 
@@ -57,20 +49,17 @@ impl Emitter {
     pub(super) fn nothing(&mut self) -> Result<(), WriteError>
         ensures { Steps nothing self.old self.new result }
     {
-        match take(&mut self.frames) {
+        match innermost(&self.frames) {
             None => Err(self.outside(WriteError::UnsupportedNone)),
-            Some(Frame::Table(table)) => match table.stage {
+            Some((Frame::Table(table), _)) => match table.stage {
                 Stage::NoKey => Err(WriteError::CallOrder),
                 Stage::KeyPlace => Err(WriteError::KeyNotString),
-                Stage::KeySet(_) => put(
-                    &mut self.frames,
-                    Frame::Table(TableFrame {
-                        stage: Stage::NoKey,
-                        ..table
-                    }),
-                ),
+                Stage::KeySet(_) => {
+                    set_stage(&mut self.frames, Stage::NoKey);
+                    Ok(())
+                }
             },
-            Some(Frame::Array { .. }) => Err(WriteError::UnsupportedNone),
+            Some((Frame::Array { .. }, _)) => Err(WriteError::UnsupportedNone),
         }
     }
 
@@ -78,21 +67,19 @@ impl Emitter {
     pub(super) fn some_mark(&mut self) -> Result<(), WriteError>
         ensures { Steps some_mark self.old self.new result }
     {
-        match take(&mut self.frames) {
+        match innermost(&self.frames) {
             None => {
                 if self.is_done {
                     return Err(WriteError::CallOrder);
                 }
                 Ok(())
             }
-            Some(Frame::Table(table)) => match table.stage {
+            Some((Frame::Table(table), _)) => match table.stage {
                 Stage::NoKey => Err(WriteError::CallOrder),
                 Stage::KeyPlace => Err(WriteError::KeyNotString),
-                Stage::KeySet(_) => put(&mut self.frames, Frame::Table(table)),
+                Stage::KeySet(_) => Ok(()),
             },
-            Some(Frame::Array { kind, later }) => {
-                put(&mut self.frames, Frame::Array { kind, later })
-            }
+            Some((Frame::Array { .. }, _)) => Ok(()),
         }
     }
 
@@ -100,14 +87,14 @@ impl Emitter {
     pub(super) fn value_mark(&mut self) -> Result<(), WriteError>
         ensures { Steps value_mark self.old self.new result }
     {
-        match take(&mut self.frames) {
+        match innermost(&self.frames) {
             None => Err(WriteError::CallOrder),
-            Some(Frame::Table(table)) => match table.stage {
+            Some((Frame::Table(table), _)) => match table.stage {
                 Stage::NoKey => Err(WriteError::CallOrder),
                 Stage::KeyPlace => Err(WriteError::CallOrder),
-                Stage::KeySet(_) => put(&mut self.frames, Frame::Table(table)),
+                Stage::KeySet(_) => Ok(()),
             },
-            Some(Frame::Array { .. }) => Err(WriteError::CallOrder),
+            Some((Frame::Array { .. }, _)) => Err(WriteError::CallOrder),
         }
     }
 
@@ -115,16 +102,10 @@ impl Emitter {
     pub(super) fn element_mark(&mut self) -> Result<(), WriteError>
         ensures { Steps element_mark self.old self.new result }
     {
-        match take(&mut self.frames) {
+        match innermost(&self.frames) {
             None => Err(WriteError::CallOrder),
-            Some(Frame::Table(table)) => match table.stage {
-                Stage::NoKey => Err(WriteError::CallOrder),
-                Stage::KeyPlace => Err(WriteError::CallOrder),
-                Stage::KeySet(_) => Err(WriteError::CallOrder),
-            },
-            Some(Frame::Array { kind, later }) => {
-                put(&mut self.frames, Frame::Array { kind, later })
-            }
+            Some((Frame::Table(_), _)) => Err(WriteError::CallOrder),
+            Some((Frame::Array { .. }, _)) => Ok(()),
         }
     }
 }

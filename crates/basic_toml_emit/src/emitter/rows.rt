@@ -3,77 +3,56 @@ ghost use Rattle.basic_toml_emit.specs.declared.error.WriteError.TheVariants.{Ou
 ghost use Rattle.basic_toml_emit.specs.declared.frames.Frame.TheVariants.{Table, Array};
 ghost use Rattle.basic_toml_emit.specs.Items.{a_leaf, open_array, close};
 ghost use Rattle.basic_toml_emit.specs.Leaves.{leaf_of};
-ghost use Rattle.basic_toml_emit.specs.Refusals.{holds_section};
+ghost use Rattle.basic_toml_emit.specs.Refusals.{holds_section, is_in_table};
 ghost use Rattle.basic_toml_emit.specs.Frames.{frames_of};
 
 use super::Emitter;
 use crate::WriteError;
 use crate::frames::{
-    Frame, Header, Kind, Stage, TableFrame, is_full, put, take, write_header, write_row_start,
+    Frame, Header, Kind, Stage, TableFrame, enter_row, innermost, is_full, put, set_stage, take,
+    write_header, write_row_start,
 };
 use crate::leaf::Leaf;
 
 // Scalars, and arrays that hold no table.
 impl Emitter {
-    ghost use Rattle.basic_toml_emit.specs.States.{under, StepsFrom, StartsRow, EndsRow};
+    ghost use Rattle.basic_toml_emit.specs.States.{under, Steps, StepsFrom, StartsRow, EndsRow};
 
-    pub(super) fn leaf_in_table(
-        &mut self,
-        table: TableFrame,
-        leaf: Leaf<'_>,
-    ) -> Result<(), WriteError>
-        ensures { StepsFrom (under (Table table) self.old) (a_leaf (leaf_of leaf.entry)) self.new result }
+    pub(super) fn leaf_in_table(&mut self, leaf: Leaf<'_>) -> Result<(), WriteError>
+        requires { is_in_table (frames_of self.old.frames.items) ≡ true }
+        ensures { Steps (a_leaf (leaf_of leaf.entry)) self.old self.new result }
     {
-        let TableFrame {
-            header,
-            stage,
-            holds_section,
-            mut keys,
-        } = table;
-        match stage {
+        let Some((Frame::Table(table), outer)) = innermost(&self.frames) else {
+            return Err(WriteError::CallOrder);
+        };
+        match &table.stage {
             Stage::NoKey => Err(WriteError::CallOrder),
             Stage::KeyPlace => {
                 let Some(text) = leaf.key() else {
                     return Err(WriteError::KeyNotString);
                 };
                 let key = String::from_str(self.alloc, text)?;
-                put(
-                    &mut self.frames,
-                    Frame::Table(TableFrame {
-                        header,
-                        stage: Stage::KeySet(key),
-                        holds_section,
-                        keys,
-                    }),
-                )
+                set_stage(&mut self.frames, Stage::KeySet(key));
+                Ok(())
             }
             Stage::KeySet(key) => {
                 if leaf.is_refused() {
                     return Err(WriteError::UnsupportedType);
                 }
-                if keys.contains(key.as_str()) {
-                    return Err(WriteError::DuplicateKey(key));
+                if table.keys.contains(key.as_str()) {
+                    return Err(WriteError::DuplicateKey(key.clone()?));
                 }
-                if holds_section {
+                if table.holds_section {
                     return Err(WriteError::ValueAfterTable);
                 }
-                if leaf.is_bytes() && is_full(&self.frames) {
+                if leaf.is_bytes() && is_full(outer) {
                     return Err(WriteError::NestedTooDeeply);
                 }
-                write_header(&mut self.text, &self.frames, header)?;
+                write_header(&mut self.text, outer, table.header)?;
                 write_row_start(&mut self.text, key.as_str())?;
                 leaf.write(&mut self.text)?;
                 self.text.push_str("\n")?;
-                keys.push(key)?;
-                put(
-                    &mut self.frames,
-                    Frame::Table(TableFrame {
-                        header: Header::Settled,
-                        stage: Stage::NoKey,
-                        holds_section,
-                        keys,
-                    }),
-                )
+                enter_row(&mut self.frames)
             }
         }
     }
