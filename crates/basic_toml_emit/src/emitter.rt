@@ -1,6 +1,5 @@
 ghost use Rattle.std.specs.Prelude.{◌≡◌, if◌then◌else◌};
 ghost use Rattle.basic_toml_emit.specs.declared.error.WriteError.TheVariants.{CallOrder};
-ghost use Rattle.basic_toml_emit.specs.declared.frames.Frame.TheVariants.{Table, Array};
 ghost use Rattle.basic_toml_emit.specs.Items.{a_leaf, nothing, open_array, open_table, close, key, field, some_mark, value_mark, element_mark};
 ghost use Rattle.basic_toml_emit.specs.Leaves.{item_of, leaf_of};
 ghost use Rattle.basic_toml_emit.specs.Open.{fresh};
@@ -11,7 +10,7 @@ mod sections;
 
 use crate::WriteError;
 use crate::call::Call;
-use crate::frames::{Frame, Header, innermost, leave, new_table, put, take};
+use crate::frames::{Frame, Header, innermost, new_table, put};
 use crate::leaf::Leaf;
 use std::alloc::Global;
 
@@ -27,7 +26,7 @@ pub struct Emitter {
 }
 
 impl Emitter {
-    ghost use Rattle.basic_toml_emit.specs.States.{state_of, under, Steps, StepsFrom, HandsOut};
+    ghost use Rattle.basic_toml_emit.specs.States.{state_of, Steps, HandsOut};
 
     /// An emitter that has taken nothing. Takes no memory.
     pub fn new(alloc: Global) -> Emitter
@@ -96,7 +95,6 @@ impl Emitter {
             Some((Frame::Table(_), _)) => self.leaf_in_table(leaf),
             Some((Frame::Array { kind, later }, _)) => {
                 let (kind, later) = (*kind, *later);
-                leave(&mut self.frames);
                 self.leaf_in_array(kind, later, leaf)
             }
         }
@@ -105,25 +103,31 @@ impl Emitter {
     fn open_table(&mut self) -> Result<(), WriteError>
         ensures { Steps open_table self.old self.new result }
     {
-        match take(&mut self.frames) {
+        match innermost(&self.frames) {
             None => {
                 if self.is_done {
                     return Err(WriteError::CallOrder);
                 }
                 put(&mut self.frames, new_table(self.alloc, Header::Settled))
             }
-            Some(Frame::Table(table)) => self.open_table_in_table(table),
-            Some(Frame::Array { kind, later }) => self.open_table_in_array(kind, later),
+            Some((Frame::Table(_), _)) => self.open_table_in_table(),
+            Some((Frame::Array { kind, later }, _)) => {
+                let (kind, later) = (*kind, *later);
+                self.open_table_in_array(kind, later)
+            }
         }
     }
 
     fn open_array(&mut self) -> Result<(), WriteError>
         ensures { Steps open_array self.old self.new result }
     {
-        match take(&mut self.frames) {
+        match innermost(&self.frames) {
             None => Err(self.outside(WriteError::UnsupportedType)),
-            Some(Frame::Table(table)) => self.open_array_in_table(table),
-            Some(Frame::Array { kind, later }) => self.open_array_in_array(kind, later),
+            Some((Frame::Table(_), _)) => self.open_array_in_table(),
+            Some((Frame::Array { kind, later }, _)) => {
+                let (kind, later) = (*kind, *later);
+                self.open_array_in_array(kind, later)
+            }
         }
     }
 
@@ -131,10 +135,13 @@ impl Emitter {
     fn close(&mut self) -> Result<(), WriteError>
         ensures { Steps close self.old self.new result }
     {
-        match take(&mut self.frames) {
+        match innermost(&self.frames) {
             None => Err(WriteError::CallOrder),
-            Some(Frame::Table(table)) => self.close_table(table),
-            Some(Frame::Array { kind, later }) => self.close_array(kind, later),
+            Some((Frame::Table(_), _)) => self.close_table(),
+            Some((Frame::Array { kind, later }, _)) => {
+                let (kind, later) = (*kind, *later);
+                self.close_array(kind, later)
+            }
         }
     }
 }

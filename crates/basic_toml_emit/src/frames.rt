@@ -1,12 +1,12 @@
-ghost use Rattle.std.specs.Prelude.{◌≡◌, ℕ, suc, nat_le, Bool, List, [], ◌∷◌, ◌++◌, IfOk, IfErr, MatchOption, string_bytes, length};
+ghost use Rattle.std.specs.Prelude.{◌≡◌, ℕ, nat_le, Bool, List, [], ◌∷◌, ◌++◌, IfOk, IfErr, MatchOption, string_bytes, length};
 ghost use Rattle.basic_toml_emit.specs.declared.error.WriteError.TheVariants.{OutOfMemory};
 ghost use Rattle.basic_toml_emit.specs.declared.frames.Frame.TheVariants.{Table};
 ghost use Rattle.basic_toml_emit.specs.Open as o;
 ghost use Rattle.basic_toml_emit.specs.Calls as c;
-ghost use Rattle.basic_toml_emit.specs.Changes.{outer, with_stage, with_entry, with_kind};
+ghost use Rattle.basic_toml_emit.specs.Changes.{outer, with_stage, with_entry};
 ghost use Rattle.basic_toml_emit.specs.Texts.{joined};
 ghost use Rattle.basic_toml_emit.specs.Layout.{element_header, row_start};
-ghost use Rattle.basic_toml_emit.specs.Frames.{frames_of, frame_of, header_of, stage_of, kind_of, path_part, first_after};
+ghost use Rattle.basic_toml_emit.specs.Frames.{frames_of, frame_of, header_of, stage_of, path_part, first_after};
 
 use crate::WriteError;
 use crate::keys::Keys;
@@ -49,14 +49,13 @@ pub struct TableFrame {
 }
 
 impl TableFrame {
-    // Counts the key that is set among those of present entries: its entry is a row.
-    fn enter_row(&mut self) -> Result<(), WriteError>
+    // Counts the key that is set among those of present entries.
+    fn enter_key(&mut self) -> Result<(), WriteError>
         ensures ok { IfOk result (λ _. (below : List o.Frame) → frame_of (Table self.new) ∷ below ≡ with_entry (frame_of (Table self.old) ∷ below)) }
         ensures err { IfErr result (λ e. e ≡ OutOfMemory) }
     {
         if let Stage::KeySet(key) = mem::replace(&mut self.stage, Stage::NoKey) {
             self.keys.push(key)?;
-            self.header = Header::Settled;
         }
         Ok(())
     }
@@ -92,14 +91,6 @@ pub fn put(frames: &mut Vec<Frame>, frame: Frame) -> Result<(), WriteError>
     }
 }
 
-// Takes the innermost frame off the stack.
-#[tactic(auto, using(crate::proofs::Stacks::frames_push))]
-pub fn take(frames: &mut Vec<Frame>) -> Option<Frame>
-    ensures { MatchOption result ((frames.old.items ≡ []) × (frames.new.items ≡ [])) (λ f. frames_of frames.old.items ≡ frame_of f ∷ frames_of frames.new.items) }
-{
-    frames.pop()
-}
-
 // The innermost frame, and those around it.
 #[tactic(auto, using(crate::proofs::Stacks::frames_push))]
 pub fn innermost(frames: &[Frame]) -> Option<(&Frame, &[Frame])>
@@ -129,8 +120,8 @@ pub fn set_stage(frames: &mut [Frame], stage: Stage)
     }
 }
 
-// Makes a row of the entry whose key is set in the innermost table.
-pub fn enter_row(frames: &mut [Frame]) -> Result<(), WriteError>
+// Counts the key that is set in the innermost table among those of present entries.
+pub fn enter_key(frames: &mut [Frame]) -> Result<(), WriteError>
     ensures ok { IfOk result (λ _. frames_of frames.new ≡ with_entry (frames_of frames.old)) }
     ensures err { IfErr result (λ e. e ≡ OutOfMemory) }
 {
@@ -139,19 +130,32 @@ pub fn enter_row(frames: &mut [Frame]) -> Result<(), WriteError>
         return Ok(());
     }
     match &mut frames[len - 1] {
-        Frame::Table(table) => table.enter_row(),
+        Frame::Table(table) => table.enter_key(),
         Frame::Array { .. } => Ok(()),
     }
 }
 
-// Sets what the elements of the innermost array are.
-pub fn set_kind(frames: &mut [Frame], kind: Kind)
-    ensures { frames_of frames.new ≡ with_kind (kind_of kind) (frames_of frames.old) }
+// Notes that the header of the innermost table is written, or not to be written at all.
+pub fn settle(frames: &mut [Frame])
+    ensures { frames_of frames.new ≡ c.with_row (frames_of frames.old) }
 {
     let len = frames.len();
     if len > 0 {
-        if let Frame::Array { kind: stood, .. } = &mut frames[len - 1] {
-            *stood = kind;
+        if let Frame::Table(table) = &mut frames[len - 1] {
+            table.header = Header::Settled;
+        }
+    }
+}
+
+// Notes that a section stands in the innermost table.
+pub fn hold_section(frames: &mut [Frame])
+    ensures { frames_of frames.new ≡ c.with_sections (frames_of frames.old) }
+{
+    let len = frames.len();
+    if len > 0 {
+        if let Frame::Table(table) = &mut frames[len - 1] {
+            table.header = Header::Settled;
+            table.holds_section = true;
         }
     }
 }
@@ -164,12 +168,12 @@ pub fn is_nothing_open(frames: &Vec<Frame>) -> bool
     frames.is_empty()
 }
 
-// Whether no array and no table may be opened within a frame that stands on these.
+// Whether no array and no table may be opened within these.
 #[tactic(auto, using(crate::proofs::Stacks::frames_length))]
 pub fn is_full(frames: &[Frame]) -> bool
-    ensures { result ≡ nat_le NESTING_LIMIT (suc (length (frames_of frames.now))) }
+    ensures { result ≡ nat_le NESTING_LIMIT (length (frames_of frames.now)) }
 {
-    frames.len() >= NESTING_LIMIT - 1
+    frames.len() >= NESTING_LIMIT
 }
 
 // The key that a frame adds to a path; whether the path is still empty.

@@ -1,22 +1,23 @@
-ghost use Rattle.std.specs.Prelude.{◌≡◌, ◌⊎◌, true, IfOk, IfErr};
+ghost use Rattle.std.specs.Prelude.{◌≡◌, ◌⊎◌, ◌∷◌, true, IfOk, IfErr};
 ghost use Rattle.basic_toml_emit.specs.declared.error.WriteError.TheVariants.{OutOfMemory, ValueAfterTable};
-ghost use Rattle.basic_toml_emit.specs.declared.frames.Frame.TheVariants.{Table, Array};
 ghost use Rattle.basic_toml_emit.specs.Items.{a_leaf, open_array, close};
 ghost use Rattle.basic_toml_emit.specs.Leaves.{leaf_of};
-ghost use Rattle.basic_toml_emit.specs.Refusals.{holds_section, is_in_table};
-ghost use Rattle.basic_toml_emit.specs.Frames.{frames_of};
+ghost use Rattle.basic_toml_emit.specs.Open.{an_array};
+ghost use Rattle.basic_toml_emit.specs.Refusals.{is_in_table, holds_section};
+ghost use Rattle.basic_toml_emit.specs.Frames.{frames_of, kind_of};
+ghost use Rattle.basic_toml_emit.specs.Changes.{outer};
 
 use super::Emitter;
 use crate::WriteError;
 use crate::frames::{
-    Frame, Header, Kind, Stage, TableFrame, enter_row, innermost, is_full, put, set_stage, take,
-    write_header, write_row_start,
+    Frame, Kind, Stage, enter_key, innermost, is_full, leave, put, set_stage, settle, write_header,
+    write_row_start,
 };
 use crate::leaf::Leaf;
 
 // Scalars, and arrays that hold no table.
 impl Emitter {
-    ghost use Rattle.basic_toml_emit.specs.States.{under, Steps, StepsFrom, StartsRow, EndsRow};
+    ghost use Rattle.basic_toml_emit.specs.States.{Steps, StartsRow, StartsElements, EndsRow};
 
     pub(super) fn leaf_in_table(&mut self, leaf: Leaf<'_>) -> Result<(), WriteError>
         requires { is_in_table (frames_of self.old.frames.items) ≡ true }
@@ -45,26 +46,28 @@ impl Emitter {
                 if table.holds_section {
                     return Err(WriteError::ValueAfterTable);
                 }
-                if leaf.is_bytes() && is_full(outer) {
+                if leaf.is_bytes() && is_full(&self.frames) {
                     return Err(WriteError::NestedTooDeeply);
                 }
                 write_header(&mut self.text, outer, table.header)?;
                 write_row_start(&mut self.text, key.as_str())?;
                 leaf.write(&mut self.text)?;
                 self.text.push_str("\n")?;
-                enter_row(&mut self.frames)
+                enter_key(&mut self.frames)?;
+                settle(&mut self.frames);
+                Ok(())
             }
         }
     }
 
-    #[tactic(auto, using(crate::proofs::Stacks::length_with_row))]
     pub(super) fn leaf_in_array(
         &mut self,
         kind: Kind,
         later: bool,
         leaf: Leaf<'_>,
     ) -> Result<(), WriteError>
-        ensures { StepsFrom (under (Array kind later) self.old) (a_leaf (leaf_of leaf.entry)) self.new result }
+        requires { frames_of self.old.frames.items ≡ an_array (kind_of kind) later ∷ outer (frames_of self.old.frames.items) }
+        ensures { Steps (a_leaf (leaf_of leaf.entry)) self.old self.new result }
     {
         if leaf.is_refused() {
             return Err(WriteError::UnsupportedType);
@@ -72,52 +75,34 @@ impl Emitter {
         let is_full = is_full(&self.frames);
         match kind {
             Kind::Tables => return Err(WriteError::UnsupportedType),
-            Kind::Unknown => self.start_row()?,
+            Kind::Unknown => self.start_elements(later)?,
             Kind::Others => self.text.push_str(", ")?,
         }
         if leaf.is_bytes() && is_full {
             return Err(WriteError::NestedTooDeeply);
         }
-        leaf.write(&mut self.text)?;
-        put(
-            &mut self.frames,
-            Frame::Array {
-                kind: Kind::Others,
-                later,
-            },
-        )
+        leaf.write(&mut self.text)
     }
 
-    pub(super) fn open_array_in_table(&mut self, table: TableFrame) -> Result<(), WriteError>
-        ensures { StepsFrom (under (Table table) self.old) open_array self.new result }
+    pub(super) fn open_array_in_table(&mut self) -> Result<(), WriteError>
+        requires { is_in_table (frames_of self.old.frames.items) ≡ true }
+        ensures { Steps open_array self.old self.new result }
     {
-        let TableFrame {
-            header,
-            stage,
-            holds_section,
-            mut keys,
-        } = table;
-        match stage {
+        let Some((Frame::Table(table), _)) = innermost(&self.frames) else {
+            return Err(WriteError::CallOrder);
+        };
+        match &table.stage {
             Stage::NoKey => Err(WriteError::CallOrder),
             Stage::KeyPlace => Err(WriteError::KeyNotString),
             Stage::KeySet(key) => {
-                if keys.contains(key.as_str()) {
-                    return Err(WriteError::DuplicateKey(key));
+                if table.keys.contains(key.as_str()) {
+                    return Err(WriteError::DuplicateKey(key.clone()?));
                 }
                 if is_full(&self.frames) {
                     return Err(WriteError::NestedTooDeeply);
                 }
-                let later = !keys.is_empty();
-                keys.push(key)?;
-                put(
-                    &mut self.frames,
-                    Frame::Table(TableFrame {
-                        header,
-                        stage: Stage::NoKey,
-                        holds_section,
-                        keys,
-                    }),
-                )?;
+                let later = !table.keys.is_empty();
+                enter_key(&mut self.frames)?;
                 put(
                     &mut self.frames,
                     Frame::Array {
@@ -129,26 +114,19 @@ impl Emitter {
         }
     }
 
-    #[tactic(auto, using(crate::proofs::Stacks::length_with_row))]
     pub(super) fn open_array_in_array(&mut self, kind: Kind, later: bool) -> Result<(), WriteError>
-        ensures { StepsFrom (under (Array kind later) self.old) open_array self.new result }
+        requires { frames_of self.old.frames.items ≡ an_array (kind_of kind) later ∷ outer (frames_of self.old.frames.items) }
+        ensures { Steps open_array self.old self.new result }
     {
         let is_full = is_full(&self.frames);
         match kind {
             Kind::Tables => return Err(WriteError::UnsupportedType),
-            Kind::Unknown => self.start_row()?,
+            Kind::Unknown => self.start_elements(later)?,
             Kind::Others => self.text.push_str(", ")?,
         }
         if is_full {
             return Err(WriteError::NestedTooDeeply);
         }
-        put(
-            &mut self.frames,
-            Frame::Array {
-                kind: Kind::Others,
-                later,
-            },
-        )?;
         put(
             &mut self.frames,
             Frame::Array {
@@ -160,9 +138,11 @@ impl Emitter {
 
     #[tactic(auto, using(crate::proofs::Stacks::array_end_with_row))]
     pub(super) fn close_array(&mut self, kind: Kind, later: bool) -> Result<(), WriteError>
-        ensures { StepsFrom (under (Array kind later) self.old) close self.new result }
+        requires { frames_of self.old.frames.items ≡ an_array (kind_of kind) later ∷ outer (frames_of self.old.frames.items) }
+        ensures { Steps close self.old self.new result }
     {
         let _ = later;
+        leave(&mut self.frames);
         match kind {
             Kind::Unknown => {
                 self.start_row()?;
@@ -173,56 +153,49 @@ impl Emitter {
         }
     }
 
-    // Writes what stands before the first element of an array that is no table.
-    pub(super) fn start_row(&mut self) -> Result<(), WriteError>
+    // Writes what stands before the first element of the innermost array, which is no table.
+    fn start_elements(&mut self, later: bool) -> Result<(), WriteError>
+        ensures ok { IfOk result (λ _. StartsElements later self.old self.new) }
+        ensures err { IfErr result (λ e. (e ≡ OutOfMemory) ⊎ (e ≡ ValueAfterTable) × (holds_section (outer (frames_of self.old.frames.items)) ≡ true)) }
+    {
+        leave(&mut self.frames);
+        self.start_row()?;
+        put(
+            &mut self.frames,
+            Frame::Array {
+                kind: Kind::Others,
+                later,
+            },
+        )
+    }
+
+    // Writes what stands before the elements of an array that stands in the innermost frame, and holds no table.
+    fn start_row(&mut self) -> Result<(), WriteError>
         ensures ok { IfOk result (λ _. StartsRow self.old self.new) }
         ensures err { IfErr result (λ e. (e ≡ OutOfMemory) ⊎ (e ≡ ValueAfterTable) × (holds_section (frames_of self.old.frames.items) ≡ true)) }
     {
-        match take(&mut self.frames) {
-            None => {
-                self.text.push_str("[")?;
-                Ok(())
+        if let Some((Frame::Table(table), outer)) = innermost(&self.frames) {
+            if table.holds_section {
+                return Err(WriteError::ValueAfterTable);
             }
-            Some(Frame::Array { kind, later }) => {
-                self.text.push_str("[")?;
-                put(&mut self.frames, Frame::Array { kind, later })
-            }
-            Some(Frame::Table(table)) => {
-                if table.holds_section {
-                    return Err(WriteError::ValueAfterTable);
-                }
-                write_header(&mut self.text, &self.frames, table.header)?;
-                write_row_start(&mut self.text, table.keys.last())?;
-                self.text.push_str("[")?;
-                put(
-                    &mut self.frames,
-                    Frame::Table(TableFrame {
-                        header: Header::Settled,
-                        ..table
-                    }),
-                )
-            }
+            write_header(&mut self.text, outer, table.header)?;
+            write_row_start(&mut self.text, table.keys.last())?;
         }
+        self.text.push_str("[")?;
+        settle(&mut self.frames);
+        Ok(())
     }
 
-    // Writes what stands behind the last element of an array that holds no table.
+    // Writes what stands behind them.
     fn end_row(&mut self) -> Result<(), WriteError>
         ensures ok { IfOk result (λ _. EndsRow self.old self.new) }
         ensures err { IfErr result (λ e. e ≡ OutOfMemory) }
     {
-        match take(&mut self.frames) {
-            None => {
-                self.text.push_str("]")?;
-                Ok(())
-            }
-            Some(Frame::Array { kind, later }) => {
-                self.text.push_str("]")?;
-                put(&mut self.frames, Frame::Array { kind, later })
-            }
-            Some(Frame::Table(table)) => {
-                self.text.push_str("]\n")?;
-                put(&mut self.frames, Frame::Table(table))
-            }
+        match innermost(&self.frames) {
+            Some((Frame::Table(_), _)) => self.text.push_str("]\n")?,
+            Some((Frame::Array { .. }, _)) => self.text.push_str("]")?,
+            None => self.text.push_str("]")?,
         }
+        Ok(())
     }
 }

@@ -1,0 +1,10 @@
+use Rattle.std.proofs.Common.{refl, arith}
+use Rattle.basic_toml_emit.specs.Calls.{with_sections}
+use Rattle.basic_toml_emit.proofs.Stacks.{frames_changed, frames_kept}
+use Rattle.basic_toml_emit.proofs.frames.hold_section.Goals as goal
+
+pub returns-in-Table : goal.returns-in-Table
+returns-in-Table c = frames_changed with_sections c.args.frames.now _ _ (omega arith) c.in-Table.is _ (λ below. refl)
+
+pub returns-in_default : goal.returns-in_default
+returns-in_default c = frames_kept with_sections c.args.frames.now _ _ (omega arith) c.in_default.is (λ below. refl)
