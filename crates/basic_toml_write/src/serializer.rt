@@ -220,10 +220,8 @@ impl Serializer {
     ) -> Result<(), WriteError>
         ensures { Takes (a_leaf w.refused ∷ []) self.old self.new result }
     {
-        let _ = index;
-        let _ = variant;
         let _ = value;
-        self.serialize_unit_struct(name)
+        self.serialize_tuple_variant(name, index, variant, 1)
     }
 
     /// Refuses a variant that holds values: `UnsupportedType`.
