@@ -1,0 +1,59 @@
+ghost use Rattle.std.specs.Prelude.{[], ◌∷◌, ⊤};
+ghost use Rattle.basic_toml_emit.specs.Items.{a_leaf, open_table};
+ghost use Rattle.basic_toml_emit.specs.Written.{refused};
+
+use crate::{Serialize, Serializer, WriteError};
+use std::alloc::{AllocError, Global};
+
+// A part that makes no call.
+pub struct Silent;
+
+impl Serialize for Silent {
+    ghost calls = { λ _. [] };
+
+    #[tactic(auto, using(crate::proofs::Sending::sends_nothing))]
+    fn serialize(&self, alloc: Global, ser: &mut Serializer) -> Result<(), WriteError> {
+        let _ = alloc;
+        let _ = ser;
+        Ok(())
+    }
+}
+
+// Opens a table and gives up.
+pub struct Halting;
+
+impl Serialize for Halting {
+    ghost calls = { λ _. open_table ∷ [] };
+
+    ghost gives_up = { λ _. ⊤ };
+
+    #[tactic(auto, using(crate::proofs::Sending::sends_gave_up))]
+    fn serialize(&self, alloc: Global, ser: &mut Serializer) -> Result<(), WriteError> {
+        let _ = ser.serialize_map(None);
+        Err(WriteError::custom(alloc, "no"))
+    }
+}
+
+// Drops the refusal of its call.
+pub struct Careless;
+
+impl Serialize for Careless {
+    ghost calls = { λ _. a_leaf refused ∷ [] };
+
+    #[tactic(auto, using(crate::proofs::Sending::sends_dropped))]
+    fn serialize(&self, alloc: Global, ser: &mut Serializer) -> Result<(), WriteError> {
+        let _ = alloc;
+        let _ = ser.serialize_unit();
+        Ok(())
+    }
+}
+
+pub fn text_or_fault(
+    alloc: Global,
+    answer: Result<String, WriteError>,
+) -> Result<String, AllocError> {
+    match answer {
+        Ok(text) => Ok(text),
+        Err(fault) => format!(in alloc; "{fault:?}"),
+    }
+}
