@@ -1,16 +1,13 @@
-ghost use Rattle.std.specs.Prelude.{◌≡◌, ℕ, nat_le, Bool, List, [], ◌∷◌, ◌++◌, IfOk, IfErr, MatchOption, string_bytes, length};
+ghost use Rattle.std.specs.Prelude.{◌≡◌, nat_le, List, [], ◌∷◌, IfOk, IfErr, MatchOption, length};
 ghost use Rattle.basic_toml_emit.specs.declared.error.WriteError.TheVariants.{OutOfMemory};
 ghost use Rattle.basic_toml_emit.specs.declared.frames.Frame.TheVariants.{Table};
 ghost use Rattle.basic_toml_emit.specs.Open as o;
 ghost use Rattle.basic_toml_emit.specs.Calls as c;
 ghost use Rattle.basic_toml_emit.specs.Changes.{outer, with_stage, with_entry};
-ghost use Rattle.basic_toml_emit.specs.Texts.{joined};
-ghost use Rattle.basic_toml_emit.specs.Layout.{element_header, row_start};
-ghost use Rattle.basic_toml_emit.specs.Frames.{frames_of, frame_of, header_of, stage_of, path_part, first_after};
+ghost use Rattle.basic_toml_emit.specs.Frames.{frames_of, frame_of, header_of, stage_of};
 
 use crate::WriteError;
 use crate::keys::Keys;
-use crate::text::write_key;
 use std::alloc::Global;
 use std::mem;
 
@@ -92,7 +89,6 @@ pub fn put(frames: &mut Vec<Frame>, frame: Frame) -> Result<(), WriteError>
 }
 
 // The innermost frame, and those around it.
-#[tactic(auto, using(crate::proofs::Stacks::frames_push))]
 pub fn innermost(frames: &[Frame]) -> Option<(&Frame, &[Frame])>
     ensures { MatchOption result (frames_of frames.now ≡ []) (λ p. frames_of frames.now ≡ frame_of p.0.now ∷ frames_of p.1.now) }
 {
@@ -108,7 +104,6 @@ pub fn leave(frames: &mut Vec<Frame>)
 }
 
 // Sets what the innermost table waits for.
-#[tactic(auto, using(crate::proofs::Stacks::frames_changed))]
 pub fn set_stage(frames: &mut [Frame], stage: Stage)
     ensures { frames_of frames.new ≡ with_stage (stage_of stage) (frames_of frames.old) }
 {
@@ -174,81 +169,4 @@ pub fn is_full(frames: &[Frame]) -> bool
     ensures { result ≡ nat_le NESTING_LIMIT (length (frames_of frames.now)) }
 {
     frames.len() >= NESTING_LIMIT
-}
-
-// The key that a frame adds to a path; whether the path is still empty.
-fn write_part(text: &mut String, frame: &Frame, first: bool) -> Result<bool, WriteError>
-    ensures text { IfOk result (λ _. string_bytes text.new ≡ string_bytes text.old ++ path_part first (frame_of frame.now)) }
-    ensures first { IfOk result (λ f. f ≡ first_after first (frame_of frame.now)) }
-    ensures err { IfErr result (λ e. e ≡ OutOfMemory) }
-{
-    match frame {
-        Frame::Array { .. } => Ok(first),
-        Frame::Table(table) => {
-            if !first {
-                text.push_str(".")?;
-            }
-            write_key(text, table.keys.last())?;
-            Ok(false)
-        }
-    }
-}
-
-// The keys to the innermost frame, joined by periods.
-fn write_path(text: &mut String, frames: &[Frame]) -> Result<(), WriteError>
-    ensures ok { IfOk result (λ _. string_bytes text.new ≡ string_bytes text.old ++ joined (c.path (frames_of frames.now))) }
-    ensures err { IfErr result (λ e. e ≡ OutOfMemory) }
-{
-    let mut first = true;
-    for frame in frames {
-        first = write_part(text, frame, first)?;
-    }
-    Ok(())
-}
-
-// The header of a table in these frames, where it is due.
-pub fn write_header(text: &mut String, frames: &[Frame], header: Header) -> Result<(), WriteError>
-    ensures ok { IfOk result (λ _. string_bytes text.new ≡ string_bytes text.old ++ c.header_text (header_of header) (frames_of frames.now)) }
-    ensures err { IfErr result (λ e. e ≡ OutOfMemory) }
-{
-    match header {
-        Header::Settled => Ok(()),
-        Header::Due { later } => {
-            if later {
-                text.push_str("\n")?;
-            }
-            text.push_str("[")?;
-            write_path(text, frames)?;
-            text.push_str("]\n")?;
-            Ok(())
-        }
-    }
-}
-
-// The header of an element of an array of tables.
-pub fn write_element_header(
-    text: &mut String,
-    frames: &[Frame],
-    later: bool,
-) -> Result<(), WriteError>
-    ensures ok { IfOk result (λ _. string_bytes text.new ≡ string_bytes text.old ++ element_header later (c.path (frames_of frames.now))) }
-    ensures err { IfErr result (λ e. e ≡ OutOfMemory) }
-{
-    if later {
-        text.push_str("\n")?;
-    }
-    text.push_str("[[")?;
-    write_path(text, frames)?;
-    text.push_str("]]\n")?;
-    Ok(())
-}
-
-// What stands before the value of a row.
-pub fn write_row_start(text: &mut String, key: &str) -> Result<(), WriteError>
-    ensures ok { IfOk result (λ _. string_bytes text.new ≡ string_bytes text.old ++ row_start key.now) }
-    ensures err { IfErr result (λ e. e ≡ OutOfMemory) }
-{
-    write_key(text, key)?;
-    text.push_str(" = ")?;
-    Ok(())
 }

@@ -8,6 +8,7 @@ mod call;
 mod emitter;
 mod error;
 mod frames;
+mod headers;
 mod keys;
 mod leaf;
 mod text;

@@ -10,9 +10,9 @@ ghost use Rattle.basic_toml_emit.specs.Changes.{outer};
 use super::Emitter;
 use crate::WriteError;
 use crate::frames::{
-    Frame, Kind, Stage, enter_key, innermost, is_full, leave, put, set_stage, settle, write_header,
-    write_row_start,
+    Frame, Kind, Stage, enter_key, innermost, is_full, leave, put, set_stage, settle,
 };
+use crate::headers::{write_header, write_row_start};
 use crate::leaf::Leaf;
 
 // Scalars, and arrays that hold no table.

@@ -10,8 +10,9 @@ use super::Emitter;
 use crate::WriteError;
 use crate::frames::{
     Frame, Header, Kind, Stage, enter_key, hold_section, innermost, is_full, is_nothing_open,
-    leave, new_table, put, write_element_header, write_header,
+    leave, new_table, put,
 };
+use crate::headers::{write_element_header, write_header};
 
 // Tables, and arrays of them.
 impl Emitter {

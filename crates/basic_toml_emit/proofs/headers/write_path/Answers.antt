@@ -3,7 +3,7 @@ use Rattle.basic_toml_emit.specs.Frames.{frame_of, frames_of, path_part, first_a
 use Rattle.basic_toml_emit.specs.Calls.{path}
 use Rattle.basic_toml_emit.specs.Texts.{joined}
 use Rattle.basic_toml_emit.proofs.Stacks.{is_first, path_more, first_more}
-use Rattle.basic_toml_emit.proofs.frames.write_path.Goals as goal
+use Rattle.basic_toml_emit.proofs.headers.write_path.Goals as goal
 
 pub loop-frame-preserved : goal.loop-frame-preserved
 loop-frame-preserved c = record {
