@@ -17,7 +17,7 @@ use Rattle.basic_toml_read.proofs.StepLaws.{step_same}
 use Rattle.basic_toml_read.proofs.Walk.{under, under_behind, under_append, under_none}
 use Rattle.basic_toml_read.proofs.Accepts.{enter_all_grows}
 use Rattle.basic_toml_read.proofs.Grouping.{or_none, shoots}
-use Rattle.basic_toml_read.proofs.Agree.{places, path_is}
+use Rattle.basic_toml_read.proofs.Cuts.{places, path_is}
 
 -- a path that begins another adds nothing to it
 beginning_at : (s : Step) (p q : Path) (v : Option Data) → ((g : Growth) → grow (grow g p None) q v ≡ grow g q v)

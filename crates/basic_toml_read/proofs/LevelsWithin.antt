@@ -20,7 +20,7 @@ use Rattle.basic_toml_read.specs.Entering.{all_keyed}
 use Rattle.basic_toml_value.specs.Numbers.{integer_of, float_of}
 use Rattle.basic_toml_read.specs.Document.{has_clash, tree_of_sections}
 use Rattle.basic_toml_read.proofs.Grouping.{tree_is_grouped}
-use Rattle.basic_toml_read.proofs.Agree.{keys_cut, cuts_are, counts_are, count_in}
+use Rattle.basic_toml_read.proofs.Cuts.{keys_cut, cuts_are, counts_are, count_in}
 use Rattle.basic_toml_read.proofs.DepthReached.{Among, first, next, end_depth, reached}
 use Rattle.basic_toml_read.proofs.PeaceOfMentions.{RowOf, this, later, rows_peace, mentions_peace}
 use Rattle.basic_toml_read.proofs.OldDocuments.{some_keys, list_keyed}

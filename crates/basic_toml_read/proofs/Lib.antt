@@ -14,6 +14,7 @@ pub mod WorkedNodes
 pub mod WorkedNesting
 pub mod WorkedGrammar
 pub mod WorkedFaults
+pub mod Cuts
 pub mod Agree
 pub mod Grouping
 pub mod Grows
