@@ -23,4 +23,5 @@ pub mod Distinct
 pub mod NumberFaults
 pub mod GrammarFaults
 pub mod NestingFaults
+pub mod ErrorView
 pub mod Statements
