@@ -12,10 +12,10 @@ fault n bytes = number_fault (length bytes) (drop n (folded bytes))
 at_a : map (fault 4)
     (codes "a = 01" ∷ codes "a = 1__1" ∷ codes "a = 9223372036854775808" ∷ codes "a = +-5" ∷ codes "a = 0x-1" ∷ codes "a = -0x1" ∷ codes "a = +00"
     ∷ codes "a = 0." ∷ codes "a = 0.0E" ∷ codes "a = 0.0e-" ∷ codes "a = 01." ∷ codes "a = 1_." ∷ codes "a = 1x." ∷ codes "a = 00_"
-    ∷ codes "a = _1" ∷ codes "a = -9223372036854775808" ∷ codes "a = 9e99999" ∷ codes "a = +inf" ∷ codes "a = 0x00fF" ∷ codes "a = 1_0e+0_1" ∷ [])
+    ∷ codes "a = +_1" ∷ codes "a = -9223372036854775808" ∷ codes "a = 9e99999" ∷ codes "a = +inf" ∷ codes "a = 0x00fF" ∷ codes "a = 1_0e+0_1" ∷ [])
     ≡ Some 5 ∷ Some 4 ∷ Some 4 ∷ Some 5 ∷ Some 6 ∷ Some 4 ∷ Some 6
     ∷ Some 6 ∷ Some 4 ∷ Some 8 ∷ Some 7 ∷ Some 7 ∷ Some 7 ∷ Some 5
-    ∷ Some 4 ∷ None ∷ None ∷ None ∷ None ∷ None ∷ []
+    ∷ Some 5 ∷ None ∷ None ∷ None ∷ None ∷ None ∷ []
 unfolding chars
 at_a = refl
 
@@ -32,3 +32,8 @@ at_foo = refl
 behind_equals : fault 2 (codes "0=0r=false") ≡ Some 2
 unfolding chars
 behind_equals = refl
+
+-- what begins no number has no such fault
+no_number : map (fault 4) (codes "a = !" ∷ codes "a = x" ∷ codes "a = _1" ∷ codes "a = true" ∷ codes "a = 1+2" ∷ codes "a = inf.x" ∷ []) ≡ None ∷ None ∷ None ∷ None ∷ None ∷ Some 4 ∷ []
+unfolding chars
+no_number = refl

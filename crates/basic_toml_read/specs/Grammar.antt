@@ -6,9 +6,9 @@
 --   array: values between `[` and `]` with commas between them, one more allowed at the end, and blanks, line feeds and comments around
 --   inline table: rows between `{` and `}` with commas between them and blanks around
 -- `comment` tells which characters a comment may hold: `Text.is_comment`, but for the law about the old rules.
-use Rattle.std.specs.Prelude.{◌≡◌, ℕ, Bool, true, false, ◌||◌, ◌==◌, if◌then◌else◌, ℤ, List, [], ◌∷◌, codes, encode_utf8_all, Option, Some, None}
+use Rattle.std.specs.Prelude.{◌≡◌, ℕ, ◌+◌, position, Bool, true, false, ◌||◌, ◌==◌, if◌then◌else◌, ℤ, List, [], ◌∷◌, codes, encode_utf8_all, Option, Some, None}
 use Rattle.std.specs.Str.{bytes_eq}
-use Rattle.basic_toml_tokens.specs.Text.{Text, Sign, place_in, run, after_run, is_blank, is_keylike, is_comment, after_blanks}
+use Rattle.basic_toml_tokens.specs.Text.{Text, Sign, run, after_run, is_blank, is_keylike, is_comment, after_blanks}
 use Rattle.basic_toml_tokens.specs.Strings.{IsString}
 use Rattle.basic_toml_value.specs.Numbers.{integer_of, float_of}
 use Rattle.basic_toml_read.specs.Sections.{Key, Raw, Elements, no_elements, element, Rows, no_rows, row, Section}
@@ -39,14 +39,14 @@ word_value word =
     if bytes_eq word (codes "true") then Some (Raw.boolean true) else if bytes_eq word (codes "false") then Some (Raw.boolean false)
     else number_value (integer_of word) (float_of word)
 
--- behind the first period of a word, if it has one
-abbrev pub after_period : Text → Text
-after_period [] = []
-after_period (x ∷ text) = if is_wordlike x.1 then (if x.1 == 46 then text else after_period text) else []
+-- how many characters of a word stand before what is behind its first period, or 0
+abbrev pub to_period : Option ℕ → ℕ
+to_period None = 0
+to_period (Some i) = i + 1
 
 -- a float with a fraction has the place of the character behind the period (own)
 abbrev pub word_place : Raw → ℕ → Text → ℕ
-word_place (Raw.float _) p text = place_in p (after_period text)
+word_place (Raw.float _) p text = p + to_period (position (λ c. c == 46) (run is_wordlike text))
 word_place _ p text = p
 
 -- behind a comment, if one stands there
