@@ -3,5 +3,6 @@
 
 mod error;
 pub mod laws;
+mod part;
 
 pub use error::{ReadError, ReadErrorKind};
