@@ -29,4 +29,5 @@ pub mod EveryClashNamed
 pub mod DepthReached
 pub mod PeaceOfMentions
 pub mod LevelsWithin
+pub mod Taken
 pub mod Proved

@@ -24,4 +24,5 @@ pub mod NumberFaults
 pub mod GrammarFaults
 pub mod NestingFaults
 pub mod ErrorView
+pub mod Taking
 pub mod Statements

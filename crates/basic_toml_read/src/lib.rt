@@ -1,6 +1,7 @@
 //! From the tokens of a text to its sections, and from sections to the tree of the document.
 #![tactic(auto)]
 
+mod cursor;
 mod error;
 pub mod laws;
 mod part;

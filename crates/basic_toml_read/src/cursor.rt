@@ -1,0 +1,147 @@
+//! A text, and the tokenizer that stands in it.
+ghost use Rattle.std.specs.Prelude.{◌≡◌, ◌≤◌, ℕ, Some, length};
+ghost use Rattle.std.specs.Str.{IsCharBoundary};
+ghost use Rattle.basic_toml_tokens.specs.Text.{start_of};
+ghost use Rattle.basic_toml_tokens.specs.TokenAt.{Lexeme, sign_of};
+ghost use Rattle.basic_toml_tokens.specs.Tokens.{TokenAt, lexeme_of};
+ghost use Rattle.basic_toml_tokens.specs.Reading.{between};
+ghost use Rattle.basic_toml_read.specs.Taking as spec;
+ghost use Rattle.basic_toml_read.specs.Taking.{code_of, TakesToken, TakesOnly, EatsSign, IsWordOf, TakesWord, IsLooked, LooksForWord, SkipsWord};
+
+use crate::ReadError;
+use basic_toml_tokens::{Error, Span, Token, Tokenizer};
+use std::alloc::Global;
+use std::marker::Model;
+
+/// Stands at a place of a text, and takes tokens from there on.
+#[derive(Drop)]
+pub(crate) struct Cursor<'a> {
+    text: &'a str,
+    tokens: Tokenizer<'a>,
+}
+
+impl<'a> Model for Cursor<'a> {
+    ghost use Rattle.std.specs.Prelude.{◌≡◌};
+    ghost use Rattle.basic_toml_tokens.specs.Reading.{Reading};
+
+    ghost Value = { Reading };
+
+    ghost view = { λ c. c.tokens };
+
+    ghost invariant = { λ c. c.text.now ≡ c.tokens.text };
+}
+
+impl<'a> Cursor<'a> {
+    /// Stands at the start of a text, behind a U+FEFF.
+    pub fn new(text: &'a str) -> Cursor<'a>
+        ensures { result ≡ record { text = text.now; place = start_of text.now } }
+    {
+        Cursor {
+            text,
+            tokens: Tokenizer::new(text),
+        }
+    }
+
+    /// Another that stands at the same place.
+    pub fn fork(&self) -> Cursor<'a>
+        ensures { result ≡ self.now }
+    {
+        Cursor {
+            text: self.text,
+            tokens: self.tokens.clone().unwrap(),
+        }
+    }
+
+    /// The byte offset where it stands.
+    pub fn current(&mut self) -> usize
+        ensures place { result ≡ self.old.place }
+        ensures same { self.new ≡ self.old }
+    {
+        self.tokens.current()
+    }
+
+    /// The text from one place up to another.
+    pub fn slice(&self, start: usize, end: usize) -> &'a str
+        requires forward { start ≤ end }
+        requires begins { IsCharBoundary self.now.text start }
+        requires ends { IsCharBoundary self.now.text end }
+        ensures { result.now ≡ between self.now.text start end }
+    {
+        &self.text[start..end]
+    }
+
+    /// Takes the next token, and answers where it stood; `None` at the end of the text.
+    pub fn next(&mut self, alloc: Global) -> Result<Option<(Span, Token<'a>)>, ReadError>
+        ensures answers { TakesToken self.old self.new result }
+        ensures only { (l : Lexeme) (end : ℕ) → TokenAt self.old.text self.old.place l end → TakesOnly l result }
+    {
+        Ok(self.tokens.next(alloc)?)
+    }
+
+    /// Takes a sign, a token of one character, if it stands there.
+    pub fn eat(&mut self, alloc: Global, sign: Token<'a>) -> Result<bool, ReadError>
+        requires { sign_of (code_of (lexeme_of sign)) ≡ Some (lexeme_of sign) }
+        ensures { EatsSign (code_of (lexeme_of sign.entry)) self.old self.new result }
+    {
+        Ok(self.tokens.eat(alloc, sign)?)
+    }
+
+    /// Takes a word, if one stands there. Another token may be taken, too.
+    pub fn keylike(&mut self, alloc: Global) -> Result<Option<&'a str>, ReadError>
+        ensures { TakesWord self.old self.new result }
+    {
+        match self.next(alloc)? {
+            Some((_, token)) => Ok(word_of(token)),
+            None => Ok(None),
+        }
+    }
+
+    /// Takes the words, periods and pluses that stand there without anything between them. The only
+    /// error is that memory was refused, for a string behind them.
+    pub fn skip_word(&mut self, alloc: Global) -> Result<(), ReadError>
+        requires { IsCharBoundary self.old.text self.old.place }
+        ensures { SkipsWord self.old self.new result }
+    {
+        while self.is_at_word(alloc)? {
+            self.next(alloc)?;
+        }
+        Ok(())
+    }
+
+    // Whether a word, a period or a plus stands there.
+    fn is_at_word(&mut self, alloc: Global) -> Result<bool, ReadError>
+        ensures found { LooksForWord self.old result }
+        ensures same { self.new ≡ self.old }
+    {
+        let ahead = self.tokens.peek(alloc);
+        looks_for_word(ahead)
+    }
+}
+
+// Whether what `peek` answers is a word, a period or a plus. A fault is none, but want of memory is answered.
+fn looks_for_word(ahead: Result<Option<(Span, Token<'_>)>, Error>) -> Result<bool, ReadError>
+    ensures { IsLooked ahead.entry result }
+{
+    match ahead {
+        Ok(Some((_, token))) => Ok(is_word_token(&token)),
+        Ok(None) => Ok(false),
+        Err(Error::OutOfMemory) => Err(ReadError::from(Error::OutOfMemory)),
+        Err(_) => Ok(false),
+    }
+}
+
+// The text of a word, or `None` for another token.
+fn word_of<'a>(token: Token<'a>) -> Option<&'a str>
+    ensures { IsWordOf (lexeme_of token.entry) result }
+{
+    match token {
+        Token::Keylike(word) => Some(word),
+        _ => None,
+    }
+}
+
+fn is_word_token(token: &Token<'_>) -> bool
+    ensures { result ≡ spec.is_word_token (lexeme_of token.now) }
+{
+    matches!(token, Token::Keylike(_) | Token::Period | Token::Plus)
+}
