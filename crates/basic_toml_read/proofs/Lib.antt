@@ -30,4 +30,5 @@ pub mod DepthReached
 pub mod PeaceOfMentions
 pub mod LevelsWithin
 pub mod Taken
+pub mod NumberWalked
 pub mod Proved

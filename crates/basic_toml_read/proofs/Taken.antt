@@ -1,6 +1,6 @@
 -- What a tokenizer answers, as what stands at the front of its text.
 use Rattle.std.proofs.Common.{inl, inr, ◌≡◌, ℕ, ◌-◌, ◌<◌, ◌≤◌, ◌==◌, ◌||◌, Bool, true, false, cond, List, [], ◌∷◌, length, get_or, refl, ap, sym, ◌∙◌, subst, arith, Option, Some, None, Result, Ok, Err, IsErrAnd}
-use Rattle.std.specs.Str.{IsCharBoundary}
+use Rattle.std.specs.Str.{IsUtf8, IsCharBoundary}
 use Rattle.std.specs.Borrow.{Bor}
 use Rattle.std.proofs.lemmas.Str.{IsCharBoundary-before_ascii}
 use Rattle.std.proofs.lemmas.Bool.{eqb-true, eq-eqb, or_cases, or_from, both_ways, cases_lt}
@@ -8,7 +8,7 @@ use Rattle.std.proofs.lemmas.Bool.Decides.{nat_tests}
 use Rattle.basic_toml_tokens.specs.declared.error.Error.{Error}
 use Rattle.basic_toml_tokens.specs.declared.error.Error.TheVariants as error
 use Rattle.basic_toml_tokens.specs.declared.error.Error.TheVariants.{OutOfMemory}
-use Rattle.basic_toml_tokens.specs.Text.{Text, Sign, text_at, run, after_run, is_keylike}
+use Rattle.basic_toml_tokens.specs.Text.{Text, Sign, place_in, text_at, run, after_run, is_keylike}
 use Rattle.basic_toml_tokens.specs.TokenAt.{Lexeme, newline, equals, period, comma, colon, plus, left_brace, right_brace, left_bracket, right_bracket, keylike, whitespace, comment, string, sign_of, IsToken, sign, blanks, word, remark, quoted}
 use Rattle.basic_toml_tokens.specs.Faults.{IsFault}
 use Rattle.basic_toml_tokens.specs.Reading.{Reading, text_of, between}
@@ -19,12 +19,13 @@ use Rattle.basic_toml_tokens.specs.Tokens.{lexeme_of, HasSource, TokenAt}
 use Rattle.basic_toml_tokens.specs.Calls.{Takes, Stops, Peeks, Eats, Answers}
 use Rattle.basic_toml_tokens.proofs.Between.{length-between, get_or-between}
 use Rattle.basic_toml_tokens.proofs.Fold.{place_is}
+use Rattle.basic_toml_tokens.proofs.Asking.{over_at_end}
 use Rattle.basic_toml_tokens.proofs.Unique.{token_same, token_or_fault}
 use Rattle.basic_toml_read.specs.Faults.{Fault}
 use Rattle.basic_toml_read.specs.ErrorView.{token_fault}
 use Rattle.basic_toml_read.specs.Reader.{sign_at}
 use Rattle.basic_toml_read.specs.Grammar.{is_wordlike}
-use Rattle.basic_toml_read.specs.Taking.{Leads, here, over, IsStopped, IsWordOf, IsBehindWord, IsInWord, TakesToken, TakesOnly, TakesWord, IsLooked, LooksForWord, EatsSign, code_of, is_word_token}
+use Rattle.basic_toml_read.specs.Taking.{Leads, here, over, IsStopped, EndsWithWord, IsWordOf, IsBehindWord, IsInWord, TakesToken, TakesOnly, TakesWord, IsLooked, LooksForWord, EatsSign, code_of, is_word_token}
 
 -- a tokenizer that stops
 pub stopped : (old new : Reading) (error : Error) → Stops old new error → IsStopped (text_of old) (token_fault error)
@@ -89,6 +90,7 @@ eats l old new true s h =
           ∙ ap (λ (t : Text). Some (old.place, t)) same,
       h.1,
       over h.0.token (subst (λ (t : Text). Leads (text_at old.text new.place) t) same here),
+      subst (λ (t : List ℕ). IsCharBoundary t new.place) (sym h.1) h.0.boundary,
     )
 eats l old new false s (inl e, same) = (ap (sign_at (code_of l)) e, same)
 eats l old new false s (inr h, same) = (sign_missing (text_of old) h.2.token s h.3, same)
@@ -275,3 +277,23 @@ word_step start r new (Some pair) inside (l, end, t, w) h only =
       rest = word_moves h.taken.stands.token is_word ∙ inside.rest;
       ends = h.taken.stands.boundary;
     })
+
+pub leads_on : {text mid stop : Text} → Leads text mid → Leads mid stop → Leads text stop
+leads_on here m = m
+leads_on (over t l) m = over t (leads_on l m)
+
+-- a stop further on
+pub stopped_on : {text mid : Text} {fault : Fault} → Leads text mid → IsStopped mid fault → IsStopped text fault
+stopped_on l (inl e) = inl e
+stopped_on l (inr r) = inr (record { stop = r.stop; rest = r.rest; error = r.error; leads = leads_on l r.leads; stands = r.stands; told = r.told })
+
+pub ends_on : {text mid stop : Text} → Leads text mid → EndsWithWord mid stop → EndsWithWord text stop
+ends_on l e = record { front = e.front; leads = leads_on l e.leads; source = e.source; word = e.word; token = e.token }
+
+-- the place of a text, at its end too
+pub place_here : (bytes : List ℕ) (at : ℕ) → IsUtf8 bytes → IsCharBoundary bytes at → place_in (length bytes) (text_at bytes at) ≡ at
+place_here bytes at whole boundary = go (text_at bytes at) refl
+  where
+    go : (t : Text) → text_at bytes at ≡ t → place_in (length bytes) t ≡ at
+    go [] e = omega (arith, over_at_end bytes at whole boundary e, boundary.0)
+    go (x ∷ t) e = place_is bytes at x t e

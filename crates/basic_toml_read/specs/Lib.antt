@@ -25,4 +25,5 @@ pub mod GrammarFaults
 pub mod NestingFaults
 pub mod ErrorView
 pub mod Taking
+pub mod NumberWalk
 pub mod Statements

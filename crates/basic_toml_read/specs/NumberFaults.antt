@@ -68,10 +68,14 @@ abbrev pub plus_power_fault : ℕ → ℕ → Option (ℕ × Text) → Option �
 plus_power_fault end start None = Some start
 plus_power_fault end start (Some s) = plus_word_fault (place_in end s.1) start (run is_keylike s.1)
 
+-- what an exponent has in the word of its `e`, at `at`
+abbrev pub near_power_fault : ℕ → ℕ → List ℕ → Option ℕ
+near_power_fault at start power = option_or (signed_part_fault true at power) (left_fault start (after_part (without_minus power)))
+
 -- behind the `e` of an exponent these characters, at `at`, and then the text
 abbrev pub power_fault : ℕ → ℕ → ℕ → List ℕ → Text → Option ℕ
 power_fault end start at [] text = plus_power_fault end start (sign_at plus text)
-power_fault end start at (d ∷ ds) text = option_or (signed_part_fault true at (d ∷ ds)) (left_fault start (after_part (without_minus (d ∷ ds))))
+power_fault end start at (d ∷ ds) text = near_power_fault at start (d ∷ ds)
 
 -- the exponent of a float, where these characters are left at `at`
 abbrev pub exponent_fault : ℕ → ℕ → ℕ → List ℕ → Text → Option ℕ
@@ -87,12 +91,16 @@ float_fault end start word text =
     let left = after_part (without_minus word) in
     option_or (signed_part_fault false start word) (exponent_fault end start (end_before start word left) left text)
 
--- with a fraction at `at`
+-- of the parts before an exponent, with a fraction at `at`
+abbrev pub fraction_parts_fault : ℕ → List ℕ → ℕ → List ℕ → Option ℕ
+fraction_parts_fault start word at fraction =
+    option_or (signed_part_fault false start word) (option_or (left_fault start (after_part (without_minus word))) (part_fault true at at fraction))
+
+-- with a fraction
 abbrev pub fraction_fault : ℕ → ℕ → List ℕ → ℕ → List ℕ → Text → Option ℕ
 fraction_fault end start word at fraction text =
     let left = after_part fraction in
-    option_or (signed_part_fault false start word) (option_or (left_fault start (after_part (without_minus word)))
-    (option_or (part_fault true at at fraction) (exponent_fault end start (end_before at fraction left) left text)))
+    option_or (fraction_parts_fault start word at fraction) (exponent_fault end start (end_before at fraction left) left text)
 
 -- what stands behind a period: the fraction, and the text
 abbrev pub behind_period_fault : ℕ → ℕ → List ℕ → List ℕ → Text → Option ℕ

@@ -22,6 +22,14 @@ pub data Leads : Text → Text → Type 0 where
   here : {text : Text} → Leads text text
   over : {source : List ℕ} {text mid rest : Text} {l : Lexeme} → IsToken source text l mid → Leads mid rest → Leads text rest
 
+-- and the last of them is a word
+pub record EndsWithWord (text rest : Text) : Type 0 where
+  pub front : Text
+  pub leads : Leads text front
+  pub source : List ℕ
+  pub word : List ℕ
+  pub token : IsToken source front (keylike word) rest
+
 -- no token stands where tokens lead to, and the fault says why
 pub record IsRefused (text : Text) (fault : Fault) : Type 0 where
   pub stop : Text
@@ -88,7 +96,7 @@ code_of _ = 0
 
 -- this character, if it stands there
 abbrev pub EatsSign : ℕ → Reading → Reading → Result Bool Fault → Type 0
-EatsSign c old new (Ok true) = (sign_at c (text_of old) ≡ Some (old.place, text_of new)) × (new.text ≡ old.text) × Leads (text_of old) (text_of new)
+EatsSign c old new (Ok true) = (sign_at c (text_of old) ≡ Some (old.place, text_of new)) × (new.text ≡ old.text) × Leads (text_of old) (text_of new) × IsCharBoundary new.text new.place
 EatsSign c old new (Ok false) = (sign_at c (text_of old) ≡ None) × (new ≡ old)
 EatsSign c old new (Err fault) = IsStopped (text_of old) fault
 

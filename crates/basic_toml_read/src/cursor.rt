@@ -1,6 +1,6 @@
 //! A text, and the tokenizer that stands in it.
 ghost use Rattle.std.specs.Prelude.{◌≡◌, ◌≤◌, ℕ, Some, length};
-ghost use Rattle.std.specs.Str.{IsCharBoundary};
+ghost use Rattle.std.specs.Str.{IsUtf8, IsCharBoundary};
 ghost use Rattle.basic_toml_tokens.specs.Text.{start_of};
 ghost use Rattle.basic_toml_tokens.specs.TokenAt.{Lexeme, sign_of};
 ghost use Rattle.basic_toml_tokens.specs.Tokens.{TokenAt, lexeme_of};
@@ -22,13 +22,14 @@ pub(crate) struct Cursor<'a> {
 
 impl<'a> Model for Cursor<'a> {
     ghost use Rattle.std.specs.Prelude.{◌≡◌};
+    ghost use Rattle.std.specs.Str.{IsUtf8};
     ghost use Rattle.basic_toml_tokens.specs.Reading.{Reading};
 
     ghost Value = { Reading };
 
     ghost view = { λ c. c.tokens };
 
-    ghost invariant = { λ c. c.text.now ≡ c.tokens.text };
+    ghost invariant = { λ c. (c.text.now ≡ c.tokens.text) × IsUtf8 c.tokens.text };
 }
 
 impl<'a> Cursor<'a> {
@@ -56,6 +57,7 @@ impl<'a> Cursor<'a> {
     pub fn current(&mut self) -> usize
         ensures place { result ≡ self.old.place }
         ensures same { self.new ≡ self.old }
+        ensures utf8 { IsUtf8 self.old.text }
     {
         self.tokens.current()
     }
@@ -65,7 +67,8 @@ impl<'a> Cursor<'a> {
         requires forward { start ≤ end }
         requires begins { IsCharBoundary self.now.text start }
         requires ends { IsCharBoundary self.now.text end }
-        ensures { result.now ≡ between self.now.text start end }
+        ensures bytes { result.now ≡ between self.now.text start end }
+        ensures utf8 { IsUtf8 self.now.text }
     {
         &self.text[start..end]
     }

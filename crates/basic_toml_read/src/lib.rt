@@ -3,6 +3,7 @@
 
 mod cursor;
 mod error;
+mod fault;
 pub mod laws;
 mod part;
 
