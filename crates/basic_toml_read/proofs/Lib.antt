@@ -31,4 +31,7 @@ pub mod PeaceOfMentions
 pub mod LevelsWithin
 pub mod Taken
 pub mod NumberWalked
+pub mod NumberValues
+pub mod WordsRead
+pub mod WordStops
 pub mod Proved

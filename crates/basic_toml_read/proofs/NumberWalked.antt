@@ -20,7 +20,7 @@ eaten c old new b h e = subst (λ (b : Bool). EatsSign c old new (Ok b)) e h
 then_word : (from : Text) (start : ℕ) (w : List ℕ) (r : Reading) → Leads from (text_at r.text start) → IsBehindWord start w r → EndsWithWord from (text_of r)
 then_word from start w r l b = record { front = text_at r.text start; leads = l; source = b.token.0; word = w; token = b.token.1 }
 
-past_word : {from rest : Text} → EndsWithWord from rest → Leads from rest
+pub past_word : {from rest : Text} → EndsWithWord from rest → Leads from rest
 past_word e = leads_on e.leads (over e.token here)
 
 pub plus_found : (old mid new : Reading) (w : List ℕ) (start at : ℕ) (found : Option ℕ) → EatsSign 43 old mid (Ok true) → IsUtf8 new.text → IsBehindWord mid.place w new → new.text ≡ mid.text

@@ -1,5 +1,5 @@
 -- What a tokenizer answers, as what stands at the front of its text.
-use Rattle.std.proofs.Common.{inl, inr, ◌≡◌, ℕ, ◌-◌, ◌<◌, ◌≤◌, ◌==◌, ◌||◌, Bool, true, false, cond, List, [], ◌∷◌, length, get_or, refl, ap, sym, ◌∙◌, subst, arith, Option, Some, None, Result, Ok, Err, IsErrAnd}
+use Rattle.std.proofs.Common.{◌⊎◌, inl, inr, ◌≡◌, ℕ, ◌-◌, ◌<◌, ◌≤◌, ◌==◌, ◌||◌, Bool, true, false, cond, List, [], ◌∷◌, length, get_or, refl, ap, sym, ◌∙◌, subst, arith, Option, Some, None, Result, Ok, Err, IsErrAnd}
 use Rattle.std.specs.Str.{IsUtf8, IsCharBoundary}
 use Rattle.std.specs.Borrow.{Bor}
 use Rattle.std.proofs.lemmas.Str.{IsCharBoundary-before_ascii}
@@ -22,7 +22,7 @@ use Rattle.basic_toml_tokens.proofs.Fold.{place_is}
 use Rattle.basic_toml_tokens.proofs.Asking.{over_at_end}
 use Rattle.basic_toml_tokens.proofs.Unique.{token_same, token_or_fault}
 use Rattle.basic_toml_read.specs.Faults.{Fault}
-use Rattle.basic_toml_read.specs.ErrorView.{token_fault}
+use Rattle.basic_toml_read.specs.ErrorView.{token_fault, want_of_memory}
 use Rattle.basic_toml_read.specs.Reader.{sign_at}
 use Rattle.basic_toml_read.specs.Grammar.{is_wordlike}
 use Rattle.basic_toml_read.specs.Taking.{Leads, here, over, IsStopped, EndsWithWord, IsWordOf, IsBehindWord, IsInWord, TakesToken, TakesOnly, TakesWord, IsLooked, LooksForWord, EatsSign, code_of, is_word_token}
@@ -122,10 +122,10 @@ keylike_small c e = elim (cases_lt c 128) [ inl h ↦ h | inr h ↦ absurd (both
     wide c h = grind (arith, nat_tests, or_from)
 
 -- a word begins with a keylike character
-abbrev Begins : Text → List ℕ → Type 0
+abbrev pub Begins : Text → List ℕ → Type 0
 Begins text w = (c : ℕ) × (cs : List ℕ) × (w ≡ c ∷ cs) × (is_keylike c ≡ true)
 
-word_is : {source : List ℕ} {text rest : Text} {l : Lexeme} (w : List ℕ) → IsToken source text l rest → l ≡ keylike w
+pub word_is : {source : List ℕ} {text rest : Text} {l : Lexeme} (w : List ℕ) → IsToken source text l rest → l ≡ keylike w
     → (run is_keylike text ≡ w) × (rest ≡ after_run is_keylike text) × Begins text w
 word_is w (sign {c = c} at e) h = let z : c ≡ code_of (keylike w) = code_is c (keylike w) (e ∙ ap (λ (l : Lexeme). Some l) h) in let n : sign_of 0 ≡ Some (keylike w) = rw z at (e ∙ ap (λ (l : Lexeme). Some l) h) in cc
 word_is w (blanks at e) h = cc
@@ -297,3 +297,24 @@ place_here bytes at whole boundary = go (text_at bytes at) refl
     go : (t : Text) → text_at bytes at ≡ t → place_in (length bytes) t ≡ at
     go [] e = omega (arith, over_at_end bytes at whole boundary e, boundary.0)
     go (x ∷ t) e = place_is bytes at x t e
+
+-- where a run of characters of words is over
+not_longer : (text : Text) → length (after_run is_wordlike text) ≤ length text
+not_longer [] = omega arith
+not_longer (x ∷ text) = go (is_wordlike x.1) (not_longer text)
+  where
+    go : (b : Bool) → length (after_run is_wordlike text) ≤ length text → length (cond b (after_run is_wordlike text) (x ∷ text)) ≤ length (x ∷ text)
+    go true h = omega arith
+    go false h = omega arith
+
+run_over : (text : Text) → after_run is_wordlike text ≡ text → run is_wordlike text ≡ []
+run_over [] e = refl
+run_over (x ∷ text) e = go (is_wordlike x.1) e
+  where
+    go : (b : Bool) → cond b (after_run is_wordlike text) (x ∷ text) ≡ x ∷ text → cond b (x.1 ∷ run is_wordlike text) [] ≡ []
+    go true e = absurd (omega (arith, ap length e, not_longer text))
+    go false e = refl
+
+pub stops_apart : (old new : Reading) (error : Error) → Stops old new error → (token_fault error ≡ want_of_memory) ⊎ (run is_wordlike (text_of old) ≡ [])
+stops_apart old new error (inl h) = inr (run_over (text_of old) (over_at_fault (text_of old) h.1.fault_is))
+stops_apart old new error (inr h) = inl (ap token_fault h.0)

@@ -26,4 +26,5 @@ pub mod NestingFaults
 pub mod ErrorView
 pub mod Taking
 pub mod NumberWalk
+pub mod Words
 pub mod Statements

@@ -80,6 +80,11 @@ LooksForWord r (Ok true) = (l : Lexeme) × (end : ℕ) × TokenAt r.text r.place
 LooksForWord r (Ok false) = after_run is_wordlike (text_of r) ≡ text_of r
 LooksForWord r (Err fault) = fault ≡ want_of_memory
 
+-- a fault that is not want of memory comes where no word begins
+abbrev pub StopsApart : {A : Type 0} → Reading → Result A Fault → Type 0
+StopsApart r (Ok x) = Unit {0}
+StopsApart r (Err fault) = (fault ≡ want_of_memory) ⊎ (run is_wordlike (text_of r) ≡ [])
+
 -- the character of a token of one character
 abbrev pub code_of : Lexeme → ℕ
 code_of newline = 10

@@ -6,7 +6,7 @@ ghost use Rattle.basic_toml_tokens.specs.TokenAt.{Lexeme, sign_of};
 ghost use Rattle.basic_toml_tokens.specs.Tokens.{TokenAt, lexeme_of};
 ghost use Rattle.basic_toml_tokens.specs.Reading.{between};
 ghost use Rattle.basic_toml_read.specs.Taking as spec;
-ghost use Rattle.basic_toml_read.specs.Taking.{code_of, TakesToken, TakesOnly, EatsSign, IsWordOf, TakesWord, IsLooked, LooksForWord, SkipsWord};
+ghost use Rattle.basic_toml_read.specs.Taking.{StopsApart, code_of, TakesToken, TakesOnly, EatsSign, IsWordOf, TakesWord, IsLooked, LooksForWord, SkipsWord};
 
 use crate::ReadError;
 use basic_toml_tokens::{Error, Span, Token, Tokenizer};
@@ -77,6 +77,7 @@ impl<'a> Cursor<'a> {
     pub fn next(&mut self, alloc: Global) -> Result<Option<(Span, Token<'a>)>, ReadError>
         ensures answers { TakesToken self.old self.new result }
         ensures only { (l : Lexeme) (end : ℕ) → TokenAt self.old.text self.old.place l end → TakesOnly l result }
+        ensures apart { StopsApart self.old result }
     {
         Ok(self.tokens.next(alloc)?)
     }
@@ -91,7 +92,8 @@ impl<'a> Cursor<'a> {
 
     /// Takes a word, if one stands there. Another token may be taken, too.
     pub fn keylike(&mut self, alloc: Global) -> Result<Option<&'a str>, ReadError>
-        ensures { TakesWord self.old self.new result }
+        ensures taken { TakesWord self.old self.new result }
+        ensures apart { StopsApart self.old result }
     {
         match self.next(alloc)? {
             Some((_, token)) => Ok(word_of(token)),

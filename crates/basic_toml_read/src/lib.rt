@@ -5,6 +5,7 @@ mod cursor;
 mod error;
 mod fault;
 pub mod laws;
+mod number;
 mod part;
 
 pub use error::{ReadError, ReadErrorKind};

@@ -11,7 +11,7 @@ use Rattle.basic_toml_read.proofs.cursor.Cursor.fraction_fault.Goals as goal
 pub returns-in_default : goal.returns-in_default
 returns-in_default c =
     let old = c.args.self.now in
-    let missing = rw c.in_default.is at c.in_ok-fraction.ensures in (
+    let missing = rw c.in_default.is at c.in_ok-fraction.ensures.taken in (
       no_fraction old c.args.start c.current-at.result c.args.word.now c.current-at.ensures.utf8 c.requires.boundary c.current-at.ensures.place
           (ap (λ (r : Reading). run is_keylike (text_of r)) (sym c.current-at.ensures.same) ∙ missing),
       λ none. cc,
@@ -22,7 +22,7 @@ returns-then-is_some c =
     let old = c.args.self.now in
     let mid = c.keylike.new.self in
     let w = c.in-Some.fraction.now in
-    let taken = rw c.in-Some.is at c.in_ok-fraction.ensures in
+    let taken = rw c.in-Some.is at c.in_ok-fraction.ensures.taken in
     let b = subst (λ (r : Reading). IsBehindWord r.place w mid) c.current-at.ensures.same taken.0 in
     let same : mid.text ≡ old.text = taken.1 ∙ ap (λ (r : Reading). r.text) c.current-at.ensures.same in
     let parts = c.fraction_parts_fault-fault.ensures ∙ ap (λ (n : ℕ). spec.fraction_parts_fault c.args.start c.args.word.now n c.as_bytes-fraction.result.now) c.current-at.ensures.place
@@ -35,7 +35,7 @@ returns c =
     let mid = c.keylike.new.self in
     let w = c.in-Some.fraction.now in
     let at = c.current-end.result - length c.split_part.result.1.now in
-    let taken = rw c.in-Some.is at c.in_ok-fraction.ensures in
+    let taken = rw c.in-Some.is at c.in_ok-fraction.ensures.taken in
     let b = subst (λ (r : Reading). IsBehindWord r.place w mid) c.current-at.ensures.same taken.0 in
     let same : mid.text ≡ old.text = taken.1 ∙ ap (λ (r : Reading). r.text) c.current-at.ensures.same in
     let value = c.as_bytes-fraction.ensures.value in

@@ -14,7 +14,7 @@ returns-in_err-word c =
     let old = c.args.self.now in
     let eats = eaten 43 old c.eat.new.self c.in_ok-eat.field-0 c.in_ok-eat.ensures c.if-not-branch.false in
     failed (Finds EndsWithWord (spec.plus_power_fault (length old.text) c.args.start (sign_at numbers.plus (text_of old))) (plus_rest (sign_at numbers.plus (text_of old)) (text_of old)) old c.keylike.new.self)
-    c.from_residual-in_err-word.result c.in_err-word.field-0.0 c.from_residual-in_err-word.ensures.1 (stopped_on eats.2 c.in_err-word.ensures)
+    c.from_residual-in_err-word.result c.in_err-word.field-0.0 c.from_residual-in_err-word.ensures.1 (stopped_on eats.2 c.in_err-word.ensures.taken)
 
 pub returns : goal.returns
 returns c =
@@ -22,7 +22,7 @@ returns c =
     let w = c.in-Some.word.now in
     let at = c.current.result - length w in
     let eats = eaten 43 old c.eat.new.self c.in_ok-eat.field-0 c.in_ok-eat.ensures c.if-not-branch.false in
-    let taken = rw c.in-Some.is at c.in_ok-word.ensures in
+    let taken = rw c.in-Some.is at c.in_ok-word.ensures.taken in
     subst (λ (new : Reading). Finds EndsWithWord (spec.plus_power_fault (length old.text) c.args.start (sign_at numbers.plus (text_of old))) (plus_rest (sign_at numbers.plus (text_of old)) (text_of old)) old new (Ok c.plus_word_fault.result))
     (sym c.current.ensures.same)
     (plus_found old c.eat.new.self c.keylike.new.self w c.args.start at c.plus_word_fault.result eats c.current.ensures.utf8 taken.0 taken.1

@@ -1,0 +1,60 @@
+-- What reading a word answers: the value that it writes, or its fault.
+use Rattle.std.specs.Prelude.{◌⊎◌, ◌≡◌, ℕ, ◌+◌, ◌==◌, position, Bool, true, false, List, Option, Some, None, Result, Ok, Err}
+use Rattle.basic_toml_tokens.specs.Text.{Text, place_in, run, is_keylike}
+use Rattle.basic_toml_tokens.specs.TokenAt.{Lexeme, period, plus, IsToken}
+use Rattle.basic_toml_tokens.specs.Descriptions.{description_of}
+use Rattle.basic_toml_tokens.specs.Reading.{Reading, text_of}
+use Rattle.basic_toml_tokens.specs.Tokens.{TokenAt}
+use Rattle.basic_toml_read.specs.declared.number.Word.{Word}
+use Rattle.basic_toml_read.specs.declared.number.Word.TheVariants as word
+use Rattle.basic_toml_read.specs.Sections.{Raw}
+use Rattle.basic_toml_read.specs.Faults.{wanted, number_invalid, unquoted_string, Fault}
+use Rattle.basic_toml_read.specs.ErrorView.{want_of_memory}
+use Rattle.basic_toml_read.specs.GrammarFaults.{fault_at, is_unquoted}
+use Rattle.basic_toml_read.specs.NumberFaults.{number_fault}
+use Rattle.basic_toml_read.specs.Reader.{word_at}
+use Rattle.basic_toml_read.specs.Taking.{EndsWithWord, IsStopped}
+
+abbrev pub raw_of : Word → Raw
+raw_of (word.Boolean b) = Raw.boolean b
+raw_of (word.Integer z) = Raw.integer z
+raw_of (word.Float text) = Raw.float text
+
+-- the place of a value that begins at `start`, with its word at `at`
+abbrev pub place_by : ℕ → ℕ → Option ℕ → ℕ
+place_by start at None = start
+place_by start at (Some i) = at + i + 1
+
+abbrev pub value_place : ℕ → ℕ → List ℕ → Raw → ℕ
+value_place start at word (Raw.float _) = place_by start at (position (λ c. c == 46) word)
+value_place start at word _ = start
+
+-- a token that a word may go on with, but not a number
+abbrev pub is_joint : Lexeme → Bool
+is_joint period = true
+is_joint plus = true
+is_joint _ = false
+
+-- a period or a plus stands where another thing is wanted, or no token does
+abbrev pub IsJointNext : List ℕ → Reading → Fault → Type 0
+IsJointNext expected r fault =
+    ((l : Lexeme) × (end : ℕ) × TokenAt r.text r.place l end × (is_joint l ≡ true) × (fault ≡ fault_at (wanted expected (description_of l)) r.place))
+    ⊎ IsStopped (text_of r) fault
+
+-- A number is at fault where `at` says; or a period or a plus stands behind it, where another thing is wanted; or a token is refused.
+pub data IsNumberStop (end : ℕ) (expected : List ℕ) (at : Option ℕ) (front : Text) : Fault → Type 0 where
+  invalid : {p : ℕ} → at ≡ Some p → IsNumberStop end expected at front (fault_at number_invalid p)
+  goes_on : {source : List ℕ} {stop rest : Text} {l : Lexeme} → EndsWithWord front stop → IsToken source stop l rest → is_joint l ≡ true
+      → IsNumberStop end expected at front (fault_at (wanted expected (description_of l)) (place_in end stop))
+  stopped : {fault : Fault} → IsStopped front fault → IsNumberStop end expected at front fault
+
+-- or a bare word stands there
+abbrev pub IsWordStop : ℕ → List ℕ → Text → Fault → Type 0
+IsWordStop end expected front fault =
+    IsNumberStop end expected (number_fault end front) front fault
+    ⊎ ((is_unquoted (run is_keylike front) ≡ true) × (fault ≡ fault_at unquoted_string (place_in end front)))
+
+-- the value at the front with its place, or why there is none
+abbrev pub ReadsWord : List ℕ → ℕ → Text → Reading → Result (ℕ × Word) Fault → Type 0
+ReadsWord expected end front new (Ok pair) = word_at front ≡ Some (record { place = pair.0; value = raw_of pair.1; rest = text_of new })
+ReadsWord expected end front new (Err fault) = (fault ≡ want_of_memory) ⊎ ((word_at front ≡ None) × IsWordStop end expected front fault)
