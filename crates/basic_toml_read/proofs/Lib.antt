@@ -34,4 +34,5 @@ pub mod NumberWalked
 pub mod NumberValues
 pub mod WordsRead
 pub mod WordStops
+pub mod PlusRead
 pub mod Proved

@@ -26,7 +26,7 @@ pub word_begins : (start : ℕ) (w : List ℕ) (r : Reading) → IsBehindWord st
 word_begins start w r b = record { front = text_at r.text start; leads = here; source = b.token.0; word = w; token = b.token.1 }
 
 -- a word begins with a keylike character
-run_first : (t : Text) (c : ℕ) (cs : List ℕ) → run is_keylike t ≡ c ∷ cs → is_keylike c ≡ true
+pub run_first : (t : Text) (c : ℕ) (cs : List ℕ) → run is_keylike t ≡ c ∷ cs → is_keylike c ≡ true
 run_first [] c cs e = cc
 run_first (x ∷ t) c cs e = go (is_keylike x.1) refl e
   where

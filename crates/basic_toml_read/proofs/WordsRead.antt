@@ -129,10 +129,11 @@ word_span start w old new whole b past =
     let (forward, bytes) = word_text old.text start new.place whole b.begins ends there in
     (forward, ap (λ (t : List ℕ). between t start new.place) past.text ∙ bytes)
 
-pub word_answer : (start at : ℕ) (w : List ℕ) (old new : Reading) (text : List ℕ) (v : Raw) (place : ℕ) → IsBehindWord start w old → IsPastWord old new → text ≡ run is_wordlike (text_at old.text start)
-    → Some v ≡ word_value text → at ≡ start → place ≡ value_place at at text v → word_at (text_at old.text start) ≡ Some (record { place = place; value = v; rest = text_of new })
-word_answer start at w old new text v place b past text_is told at_is place_is =
+pub word_answer : (start at : ℕ) (w : List ℕ) (old : Reading) (rest : Text) (text : List ℕ) (v : Raw) (place : ℕ) → IsBehindWord start w old → rest ≡ after_run is_wordlike (text_at old.text start)
+    → text ≡ run is_wordlike (text_at old.text start) → Some v ≡ word_value text → at ≡ start → place ≡ value_place at at text v
+    → word_at (text_at old.text start) ≡ Some (record { place = place; value = v; rest = rest })
+word_answer start at w old rest text v place b rest_is text_is told at_is place_is =
     let value : word_value (run is_wordlike (text_at old.text start)) ≡ Some v = ap word_value (sym text_is) ∙ sym told in
     let there : place ≡ value_place start start (run is_wordlike (text_at old.text start)) v =
     place_is ∙ ap (λ (n : ℕ). value_place n n text v) at_is ∙ ap (λ (t : List ℕ). value_place start start t v) text_is in
-    word_there start w old (text_of new) v b (past_whole start w old new b past) value ∙ ap (λ (n : ℕ). Some (record { place = n; value = v; rest = text_of new })) (sym there)
+    word_there start w old rest v b rest_is value ∙ ap (λ (n : ℕ). Some (record { place = n; value = v; rest = rest })) (sym there)

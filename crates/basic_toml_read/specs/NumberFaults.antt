@@ -132,12 +132,15 @@ word_fault end start word text =
     else if list_any is_mark word then float_fault end start word text
     else unmarked_fault end start word (sign_at period text)
 
+-- a word that no plus may stand before
+abbrev pub takes_no_plus : List ℕ → Bool
+takes_no_plus [] = true
+takes_no_plus (c ∷ cs) = c == minus || is_prefixed (c ∷ cs)
+
 -- behind a plus, with this word at the front of the text
 abbrev pub plus_fault : ℕ → List ℕ → Text → Option ℕ
-plus_fault end [] text = Some (place_in end text)
-plus_fault end (c ∷ cs) text =
-    if c == minus || is_prefixed (c ∷ cs) then Some (place_in end text)
-    else word_fault end (place_in end text) (c ∷ cs) (after_run is_keylike text)
+plus_fault end word text =
+    if takes_no_plus word then Some (place_in end text) else word_fault end (place_in end text) word (after_run is_keylike text)
 
 -- a word that begins a number: with a digit or a minus, or `inf` or `nan`
 abbrev pub begins_number : List ℕ → Bool

@@ -1,6 +1,7 @@
 -- What reading a word answers: the value that it writes, or its fault.
-use Rattle.std.specs.Prelude.{◌⊎◌, ◌≡◌, ℕ, ◌+◌, ◌==◌, position, Bool, true, false, List, Option, Some, None, Result, Ok, Err}
-use Rattle.basic_toml_tokens.specs.Text.{Text, place_in, run, is_keylike}
+use Rattle.std.specs.Prelude.{◌⊎◌, ◌≡◌, ℕ, ◌+◌, ◌==◌, position, Bool, true, false, List, length, Option, Some, None, Result, Ok, Err}
+use Rattle.std.specs.Borrow.{Bor}
+use Rattle.basic_toml_tokens.specs.Text.{Text, place_in, text_at, run, after_run, is_keylike}
 use Rattle.basic_toml_tokens.specs.TokenAt.{Lexeme, period, plus, IsToken}
 use Rattle.basic_toml_tokens.specs.Descriptions.{description_of}
 use Rattle.basic_toml_tokens.specs.Reading.{Reading, text_of}
@@ -12,6 +13,7 @@ use Rattle.basic_toml_read.specs.Faults.{wanted, number_invalid, unquoted_string
 use Rattle.basic_toml_read.specs.ErrorView.{want_of_memory}
 use Rattle.basic_toml_read.specs.GrammarFaults.{fault_at, is_unquoted}
 use Rattle.basic_toml_read.specs.NumberFaults.{number_fault}
+use Rattle.basic_toml_read.specs.Grammar.{is_wordlike}
 use Rattle.basic_toml_read.specs.Reader.{word_at}
 use Rattle.basic_toml_read.specs.Taking.{EndsWithWord, IsStopped}
 
@@ -28,6 +30,12 @@ place_by start at (Some i) = at + i + 1
 abbrev pub value_place : ℕ → ℕ → List ℕ → Raw → ℕ
 value_place start at word (Raw.float _) = place_by start at (position (λ c. c == 46) word)
 value_place start at word _ = start
+
+-- the longest run of characters of words at `start`, and the cursor behind it
+abbrev pub TakesWhole : ℕ → Reading → Reading → Result (Bor (List ℕ)) Fault → Type 0
+TakesWhole start old new (Ok text) = (text.now ≡ run is_wordlike (text_at old.text start)) × (text_of new ≡ after_run is_wordlike (text_at old.text start))
+    × (start + length text.now ≡ new.place)
+TakesWhole start old new (Err fault) = fault ≡ want_of_memory
 
 -- a token that a word may go on with, but not a number
 abbrev pub is_joint : Lexeme → Bool

@@ -30,11 +30,21 @@ pub(crate) fn begins_number(word: &str) -> bool
     }
 }
 
-/// Whether a word begins with `0x`, `0o` or `0b`.
-pub(crate) fn is_prefixed(word: &[u8]) -> bool
+// Whether a word begins with `0x`, `0o` or `0b`.
+fn is_prefixed(word: &[u8]) -> bool
     ensures { result ≡ spec.is_prefixed word.now }
 {
     matches!(word, [b'0', b'x' | b'o' | b'b', ..])
+}
+
+/// Whether no plus may stand before a word.
+pub(crate) fn takes_no_plus(word: &[u8]) -> bool
+    ensures { result ≡ spec.takes_no_plus word.now }
+{
+    match word {
+        [] | [b'-', ..] => true,
+        _ => is_prefixed(word),
+    }
 }
 
 fn is_special(word: &[u8]) -> bool

@@ -1,7 +1,7 @@
 //! Words that are values: numbers, `true` and `false`.
-ghost use Rattle.std.specs.Prelude.{◌≡◌, ◌+◌, ◌-◌, ◌<◌, ◌≤◌, ◌^◌, ◌==◌, position, codes, ◌||◌, [], None, length, IfOk};
+ghost use Rattle.std.specs.Prelude.{◌≡◌, ◌+◌, ◌-◌, ◌<◌, ◌≤◌, ◌^◌, ◌==◌, position, codes, ◌||◌, ◌∷◌, [], None, length, IfOk};
 ghost use Rattle.std.specs.Option.{option_map};
-ghost use Rattle.std.specs.Str.{bytes_eq};
+ghost use Rattle.std.specs.Str.{IsCharBoundary, bytes_eq};
 ghost use Rattle.basic_toml_tokens.specs.Text.{text_at, run, is_keylike};
 ghost use Rattle.basic_toml_tokens.specs.Reading.{text_of};
 ghost use Rattle.basic_toml_value.specs.Numbers as numbers;
@@ -12,10 +12,10 @@ ghost use Rattle.basic_toml_read.specs.Taking.{IsBehindWord};
 ghost use Rattle.basic_toml_read.specs.Words as spec;
 ghost use Rattle.basic_toml_read.specs.Faults as kinds;
 ghost use Rattle.basic_toml_read.specs.GrammarFaults.{fault_at};
-ghost use Rattle.basic_toml_read.specs.Words.{raw_of, IsJointNext, IsNumberStop, IsWordStop, ReadsWord};
+ghost use Rattle.basic_toml_read.specs.Words.{raw_of, TakesWhole, IsJointNext, IsNumberStop, IsWordStop, ReadsWord};
 
 use crate::cursor::Cursor;
-use crate::fault::{begins_number, is_prefixed};
+use crate::fault::{begins_number, takes_no_plus};
 use crate::{ReadError, ReadErrorKind};
 use basic_toml_tokens::Token;
 use basic_toml_value::{Float, float_of, integer_of};
@@ -91,13 +91,48 @@ impl<'a> Cursor<'a> {
     {
         let mut behind = self.fork();
         let start = self.current() - word.len();
-        self.skip_word(alloc)?;
-        let end = self.current();
-        let text = self.slice(start, end);
+        let text = self.whole_word(alloc, word)?;
         if let Some(value) = word_value(alloc, text)? {
             return Ok((value_place(start, start, text, &value), value));
         }
         Err(behind.word_error(alloc, word, wanted))
+    }
+
+    /// The value that begins with the plus at `start`, behind which the cursor stands, and its place.
+    pub(crate) fn plus(
+        &mut self,
+        alloc: Global,
+        start: usize,
+        wanted: &'static str,
+    ) -> Result<(usize, Word), ReadError>
+        requires boundary { IsCharBoundary self.old.text self.old.place }
+        requires sign { text_at self.old.text start ≡ (start, 43) ∷ text_of self.old }
+        ensures { ReadsWord wanted.now (length self.old.text) (text_at self.old.text start) self.new result }
+    {
+        let at = self.current();
+        let Some(word) = self.keylike(alloc)? else {
+            return Err(ReadError::at(at, ReadErrorKind::NumberInvalid));
+        };
+        if takes_no_plus(word.as_bytes()) {
+            return Err(ReadError::at(at, ReadErrorKind::NumberInvalid));
+        }
+        let mut behind = self.fork();
+        let text = self.whole_word(alloc, word)?;
+        if let Some(value) = number_value(alloc, text)? {
+            return Ok((value_place(start, at, text, &value), value));
+        }
+        Err(behind.number_error(alloc, word, wanted))
+    }
+
+    // Takes what goes on with a word, periods and pluses between words too, and answers all of it.
+    fn whole_word(&mut self, alloc: Global, word: &str) -> Result<&'a str, ReadError>
+        requires { IsBehindWord (self.old.place - length word.now) word.now self.old }
+        ensures { TakesWhole (self.old.place - length word.now) self.old self.new result }
+    {
+        let start = self.current() - word.len();
+        self.skip_word(alloc)?;
+        let end = self.current();
+        Ok(self.slice(start, end))
     }
 
     // Why a word and what goes on with it are no value.
