@@ -6,8 +6,12 @@ use Rattle.std.specs.Str.{chars}
 use Rattle.std.specs.Char.{len_utf8}
 use Rattle.std.proofs.lemmas.Bool.{both_ways, eqb-true, ne_eqb, or_cases, or_parts, and_parts, cases_lt, lt-ltb, le-ltb}
 use Rattle.basic_toml_tokens.specs.Text.{Text, place_in, text_at, folded_from, first_of, run, after_run, is_keylike}
-use Rattle.basic_toml_tokens.specs.TokenAt.{sign}
-use Rattle.basic_toml_tokens.specs.Reading.{Reading, text_of}
+use Rattle.basic_toml_tokens.specs.TokenAt.{Lexeme, IsToken, sign, plus}
+use Rattle.basic_toml_tokens.specs.declared.span.Span.{Span}
+use Rattle.basic_toml_tokens.specs.declared.token.Token.{Token}
+use Rattle.basic_toml_tokens.specs.Reading.{Reading, text_of, between}
+use Rattle.basic_toml_tokens.specs.Tokens.{lexeme_of}
+use Rattle.basic_toml_tokens.specs.Calls.{Takes}
 use Rattle.basic_toml_tokens.proofs.Fold.{place_is}
 use Rattle.basic_toml_value.specs.Numbers.{integer_of, float_of, decimal, in_radix, after_zero, is_unsigned_float, without_sign, canonical}
 use Rattle.basic_toml_read.specs.Sections.{Raw}
@@ -18,7 +22,7 @@ use Rattle.basic_toml_read.specs.NumberFaults.{is_prefixed, takes_no_plus, plus_
 use Rattle.basic_toml_read.specs.Taking.{Leads, here, over, IsBehindWord}
 use Rattle.basic_toml_read.specs.Faults.{Fault}
 use Rattle.basic_toml_read.specs.Words.{place_by, value_place, IsNumberStop, invalid, goes_on, stopped}
-use Rattle.basic_toml_read.proofs.Taken.{stopped_on, ends_on}
+use Rattle.basic_toml_read.proofs.Taken.{sign_is, stopped_on, ends_on}
 use Rattle.basic_toml_read.proofs.NumberValues.{run_splits}
 use Rattle.basic_toml_read.proofs.WordsRead.{word_missing}
 use Rattle.basic_toml_read.proofs.WordStops.{run_first, place_of_word}
@@ -248,3 +252,19 @@ plus_stop start old there expected w mid fault b same takes h =
     let placed = subst (λ (n : ℕ). IsNumberStop (length mid.text) expected (word_fault (length mid.text) n w (text_of mid)) (text_at mid.text n) fault) place_same h in
     let ended = subst (λ (t : List ℕ). IsNumberStop (length t) expected (word_fault (length t) old.place w (text_of mid)) (text_at t old.place) fault) same placed in
     stop_on (plus_leads start old there) (subst (λ (o : Option ℕ). IsNumberStop end expected o (text_of old) fault) (sym at_is) ended)
+
+-- a word or a plus that was taken, as the calls behind it ask for it
+pub behind_here : (start : ℕ) (w : List ℕ) (r : Reading) → IsBehindWord start w r → IsBehindWord (r.place - length w) w r
+behind_here start w r b = let e : start ≡ r.place - length w = omega (arith, b.place) in subst (λ (n : ℕ). IsBehindWord n w r) e b
+
+pub front_is : (old new : Reading) (w : List ℕ) → IsBehindWord old.place w new → new.text ≡ old.text → text_at new.text (new.place - length w) ≡ text_of old
+front_is old new w b same =
+    let e : new.place - length w ≡ old.place = omega (arith, b.place) in
+    ap (text_at new.text) e ∙ ap (λ (t : List ℕ). text_at t old.place) same
+
+pub plus_taken : (old new : Reading) (span : Span) (t : Token) → Takes old new span t → lexeme_of t ≡ plus → text_at new.text old.place ≡ (old.place, 43) ∷ text_of new
+plus_taken old new span t h e =
+    let (p, there) = sign_is (subst (λ (l : Lexeme). IsToken (between old.text old.place span.end) (text_of old) l (text_at old.text span.end)) e h.taken.stands.token) refl in
+    let place : p ≡ old.place = place_is old.text old.place (p, 43) (text_at old.text span.end) there in
+    ap (λ (t : List ℕ). text_at t old.place) (ap (λ (r : Reading). r.text) h.after) ∙ there ∙ ap (λ (n : ℕ). (n, 43) ∷ text_at old.text span.end) place
+    ∙ ap (λ (t : Text). (old.place, 43) ∷ t) (sym (ap text_of h.after))

@@ -59,7 +59,7 @@ sign_code c =
 pub code_is : (c : ℕ) (l : Lexeme) → sign_of c ≡ Some l → c ≡ code_of l
 code_is c l e = subst (Signs c) e (sign_code c)
 
-sign_is : {source : List ℕ} {text rest : Text} {l : Lexeme} → IsToken source text l rest → sign_of (code_of l) ≡ Some l → (p : ℕ) × Sign (code_of l) text p rest
+pub sign_is : {source : List ℕ} {text rest : Text} {l : Lexeme} → IsToken source text l rest → sign_of (code_of l) ≡ Some l → (p : ℕ) × Sign (code_of l) text p rest
 sign_is (sign {p} {c} {l} {text} {rest} at e) h = (p, subst (λ (d : ℕ). Sign d text p rest) (code_is c l e) at)
 sign_is (blanks at e) h = cc
 sign_is (word at e) h = cc

@@ -1,13 +1,15 @@
 -- What reading a word answers: the value that it writes, or its fault.
-use Rattle.std.specs.Prelude.{◌⊎◌, ◌≡◌, ℕ, ◌+◌, ◌==◌, position, Bool, true, false, List, length, Option, Some, None, Result, Ok, Err}
+use Rattle.std.specs.Prelude.{◌⊎◌, ◌≡◌, ℕ, ◌+◌, ◌==◌, position, Bool, true, false, List, [], length, Option, Some, None, Result, Ok, Err}
 use Rattle.std.specs.Borrow.{Bor}
 use Rattle.basic_toml_tokens.specs.Text.{Text, place_in, text_at, run, after_run, is_keylike}
-use Rattle.basic_toml_tokens.specs.TokenAt.{Lexeme, period, plus, IsToken}
+use Rattle.basic_toml_tokens.specs.TokenAt.{Lexeme, keylike, period, plus, IsToken}
 use Rattle.basic_toml_tokens.specs.Descriptions.{description_of}
 use Rattle.basic_toml_tokens.specs.Reading.{Reading, text_of}
 use Rattle.basic_toml_tokens.specs.Tokens.{TokenAt}
 use Rattle.basic_toml_read.specs.declared.number.Word.{Word}
 use Rattle.basic_toml_read.specs.declared.number.Word.TheVariants as word
+use Rattle.basic_toml_read.specs.declared.number.First.{First}
+use Rattle.basic_toml_read.specs.declared.number.First.TheVariants as first
 use Rattle.basic_toml_read.specs.Sections.{Raw}
 use Rattle.basic_toml_read.specs.Faults.{wanted, number_invalid, unquoted_string, Fault}
 use Rattle.basic_toml_read.specs.ErrorView.{want_of_memory}
@@ -66,3 +68,21 @@ IsWordStop end expected front fault =
 abbrev pub ReadsWord : List ℕ → ℕ → Text → Reading → Result (ℕ × Word) Fault → Type 0
 ReadsWord expected end front new (Ok pair) = word_at front ≡ Some (record { place = pair.0; value = raw_of pair.1; rest = text_of new })
 ReadsWord expected end front new (Err fault) = (fault ≡ want_of_memory) ⊎ ((word_at front ≡ None) × IsWordStop end expected front fault)
+
+-- a token that a number, `true` or `false` may begin with
+abbrev pub begins_word : Lexeme → Bool
+begins_word (keylike _) = true
+begins_word plus = true
+begins_word _ = false
+
+-- which of the two it is, if one
+abbrev pub IsFirst : Lexeme → First → Type 0
+IsFirst l (first.Word text) = l ≡ keylike text.now
+IsFirst l first.Plus = l ≡ plus
+IsFirst l first.Other = begins_word l ≡ false
+
+-- the value of a number, `true` or `false`; or none, where neither a word nor a plus stands
+abbrev pub ReadsNumber : List ℕ → Reading → Reading → Result (Option (ℕ × Word)) Fault → Type 0
+ReadsNumber expected old new (Ok (Some pair)) = word_at (text_of old) ≡ Some (record { place = pair.0; value = raw_of pair.1; rest = text_of new })
+ReadsNumber expected old new (Ok None) = (text_of old ≡ []) ⊎ ((l : Lexeme) × (end : ℕ) × TokenAt old.text old.place l end × (begins_word l ≡ false))
+ReadsNumber expected old new (Err fault) = (fault ≡ want_of_memory) ⊎ ((word_at (text_of old) ≡ None) × IsWordStop (length old.text) expected (text_of old) fault)

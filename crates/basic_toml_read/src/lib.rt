@@ -7,5 +7,7 @@ mod fault;
 pub mod laws;
 mod number;
 mod part;
+#[cfg(test)]
+mod tests;
 
 pub use error::{ReadError, ReadErrorKind};

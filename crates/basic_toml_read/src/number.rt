@@ -3,6 +3,7 @@ ghost use Rattle.std.specs.Prelude.{◌≡◌, ◌+◌, ◌-◌, ◌<◌, ◌≤
 ghost use Rattle.std.specs.Option.{option_map};
 ghost use Rattle.std.specs.Str.{IsCharBoundary, bytes_eq};
 ghost use Rattle.basic_toml_tokens.specs.Text.{text_at, run, is_keylike};
+ghost use Rattle.basic_toml_tokens.specs.Tokens.{lexeme_of};
 ghost use Rattle.basic_toml_tokens.specs.Reading.{text_of};
 ghost use Rattle.basic_toml_value.specs.Numbers as numbers;
 ghost use Rattle.basic_toml_read.specs.Grammar as grammar;
@@ -12,7 +13,7 @@ ghost use Rattle.basic_toml_read.specs.Taking.{IsBehindWord};
 ghost use Rattle.basic_toml_read.specs.Words as spec;
 ghost use Rattle.basic_toml_read.specs.Faults as kinds;
 ghost use Rattle.basic_toml_read.specs.GrammarFaults.{fault_at};
-ghost use Rattle.basic_toml_read.specs.Words.{raw_of, TakesWhole, IsJointNext, IsNumberStop, IsWordStop, ReadsWord};
+ghost use Rattle.basic_toml_read.specs.Words.{IsFirst, ReadsNumber, raw_of, TakesWhole, IsJointNext, IsNumberStop, IsWordStop, ReadsWord};
 
 use crate::cursor::Cursor;
 use crate::fault::{begins_number, takes_no_plus};
@@ -27,6 +28,24 @@ pub(crate) enum Word {
     Boolean(bool),
     Integer(i64),
     Float(Float),
+}
+
+// What a value begins with.
+#[derive(Drop)]
+enum First<'a> {
+    Word(&'a str),
+    Plus,
+    Other,
+}
+
+fn first_of<'a>(token: Token<'a>) -> First<'a>
+    ensures { IsFirst (lexeme_of token.entry) result }
+{
+    match token {
+        Token::Keylike(word) => First::Word(word),
+        Token::Plus => First::Plus,
+        _ => First::Other,
+    }
 }
 
 fn word_value(alloc: Global, word: &str) -> Result<Option<Word>, AllocError>
@@ -78,9 +97,37 @@ fn value_place(start: usize, at: usize, word: &str, value: &Word) -> usize
 }
 
 impl<'a> Cursor<'a> {
-    /// The value that begins with this word, and its place. What stands behind it is never a period or a
-    /// plus: a fault calls it what is found where `wanted` should stand.
-    pub(crate) fn word(
+    /// The number, `true` or `false` that stands there, and its place. `None` where another token stands,
+    /// which is taken, or the text is over.
+    ///
+    /// A word goes on over periods and pluses. Where only a beginning of it is a value, the fault says what
+    /// is found where `wanted` should stand.
+    pub(crate) fn number(
+        &mut self,
+        alloc: Global,
+        wanted: &'static str,
+    ) -> Result<Option<(usize, Word)>, ReadError>
+        ensures { ReadsNumber wanted.now self.old self.new result }
+    {
+        let start = self.current();
+        let Some((_, token)) = self.next(alloc)? else {
+            return Ok(None);
+        };
+        match first_of(token) {
+            First::Word(word) => match self.word(alloc, word, wanted) {
+                Ok(found) => Ok(Some(found)),
+                Err(error) => Err(error),
+            },
+            First::Plus => match self.plus(alloc, start, wanted) {
+                Ok(found) => Ok(Some(found)),
+                Err(error) => Err(error),
+            },
+            First::Other => Ok(None),
+        }
+    }
+
+    // The value that begins with this word, behind which the cursor stands, and its place.
+    fn word(
         &mut self,
         alloc: Global,
         word: &str,
@@ -98,8 +145,8 @@ impl<'a> Cursor<'a> {
         Err(behind.word_error(alloc, word, wanted))
     }
 
-    /// The value that begins with the plus at `start`, behind which the cursor stands, and its place.
-    pub(crate) fn plus(
+    // The same with a plus at `start`, behind which the cursor stands.
+    fn plus(
         &mut self,
         alloc: Global,
         start: usize,
