@@ -35,4 +35,5 @@ pub mod NumberValues
 pub mod WordsRead
 pub mod WordStops
 pub mod PlusRead
+pub mod KeysRead
 pub mod Proved

@@ -65,7 +65,7 @@ bare_missed h = ap bare_key_at h.sign
     none false e = refl
     none true e = absurd (key_quote h.char e h.kind)
 
-key_found : {text rest : Text} {k : Key} → IsKey text k rest → key_at text ≡ Some (k, rest)
+pub key_found : {text rest : Text} {k : Key} → IsKey text k rest → key_at text ≡ Some (k, rest)
 key_found {text = text} (bare s w) = ap (λ o. option_or o (and_then (string_at text) quoted_key)) (bare_found s w)
 key_found {text = text} (quoted s) = ap (λ o. option_or o (and_then (string_at text) quoted_key)) (bare_missed (string_heads s)) ∙ then_on _ (string_found s)
 

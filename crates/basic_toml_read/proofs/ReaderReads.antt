@@ -51,7 +51,7 @@ quoted_read text s r e f = go s.multiline (string_read text s e) f
     go true i e = cc
     go false i e = let there : this ≡ r = cc in subst (λ (r : Key × Text). IsKey text r.0 r.1) there (quoted i)
 
-key_read : (text : Text) (r : Key × Text) → key_at text ≡ Some r → IsKey text r.0 r.1
+pub key_read : (text : Text) (r : Key × Text) → key_at text ≡ Some r → IsKey text r.0 r.1
 key_read text r e = elim (or_some (bare_key_at text) (and_then (string_at text) quoted_key) r e) [
   | inl h ↦ bare_read text r h
   | inr h ↦ (let (s, s_is, f) = then_some (string_at text) quoted_key r h in quoted_read text s r s_is f)

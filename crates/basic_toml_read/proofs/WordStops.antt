@@ -76,7 +76,7 @@ token_some (word {p} {c} {text} {next} at e) h = let z : (p, c) ∷ next ≡ [] 
 token_some (remark {p} {text} {next} at) h = let z : (p, 35) ∷ next ≡ [] = sym at ∙ h in cc
 token_some (quoted s) h = opens_some s.opens h
 
-place_of_token : {source : List ℕ} {rest : Text} {l : Lexeme} (end : ℕ) (r : Reading) (t : Text) → text_of r ≡ t → IsToken source t l rest → place_in end t ≡ r.place
+pub place_of_token : {source : List ℕ} {rest : Text} {l : Lexeme} (end : ℕ) (r : Reading) (t : Text) → text_of r ≡ t → IsToken source t l rest → place_in end t ≡ r.place
 place_of_token end r [] h t = absurd (token_some t refl)
 place_of_token end r (x ∷ u) h t = place_is r.text r.place x u h
 

@@ -27,4 +27,5 @@ pub mod ErrorView
 pub mod Taking
 pub mod NumberWalk
 pub mod Words
+pub mod Keyed
 pub mod Statements

@@ -5,10 +5,12 @@ ghost use Rattle.basic_toml_tokens.specs.Text.{start_of};
 ghost use Rattle.basic_toml_tokens.specs.TokenAt.{Lexeme, sign_of};
 ghost use Rattle.basic_toml_tokens.specs.Tokens.{TokenAt, lexeme_of};
 ghost use Rattle.basic_toml_tokens.specs.Reading.{between};
+ghost use Rattle.basic_toml_read.specs.Keyed.{ReadsKey};
 ghost use Rattle.basic_toml_read.specs.Taking as spec;
 ghost use Rattle.basic_toml_read.specs.Taking.{StopsApart, code_of, TakesToken, TakesOnly, EatsSign, IsWordOf, TakesWord, IsLooked, LooksForWord, SkipsWord};
 
 use crate::ReadError;
+use crate::key::Key;
 use basic_toml_tokens::{Error, Span, Token, Tokenizer};
 use std::alloc::Global;
 use std::marker::Model;
@@ -99,6 +101,17 @@ impl<'a> Cursor<'a> {
             Some((_, token)) => Ok(word_of(token)),
             None => Ok(None),
         }
+    }
+
+    /// Takes a key. Another token is taken, too.
+    pub fn key(&mut self, alloc: Global) -> Result<Key<'a>, ReadError>
+        ensures { ReadsKey self.old self.new result }
+    {
+        let (span, text) = self.tokens.table_key(alloc)?;
+        Ok(Key {
+            place: span.start,
+            text,
+        })
     }
 
     /// Takes the words, periods and pluses that stand there without anything between them. The only

@@ -4,6 +4,7 @@
 mod cursor;
 mod error;
 mod fault;
+mod key;
 pub mod laws;
 mod number;
 mod part;
