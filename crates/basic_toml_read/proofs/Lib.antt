@@ -36,4 +36,5 @@ pub mod WordsRead
 pub mod WordStops
 pub mod PlusRead
 pub mod KeysRead
+pub mod StopsStand
 pub mod Proved
