@@ -13,9 +13,9 @@ ghost use Rattle.basic_toml_read.specs.Taking.{Leads, EndsWithWord, IsBehindWord
 
 use crate::ReadError;
 use crate::cursor::Cursor;
-use crate::part::{part_fault, signed_part_fault, split_part};
+use crate::part::{part_fault, signed_part_fault};
 use basic_toml_tokens::Token;
-use basic_toml_value::integer_of;
+use basic_toml_value::{integer_of, split_part};
 use std::alloc::Global;
 
 /// Whether a word begins a number: with a digit or a minus, or `inf` or `nan`.

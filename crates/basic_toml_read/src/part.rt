@@ -1,50 +1,8 @@
 // Where a part of a number is at fault.
-ghost use Rattle.std.specs.Prelude.{◌≡◌, ◌+◌, ◌<◌, ◌≤◌, ◌^◌, length};
-ghost use Rattle.basic_toml_value.specs.Numbers as numbers;
-ghost use Rattle.basic_toml_value.specs.Numbers.{part_of, after_part};
+ghost use Rattle.std.specs.Prelude.{◌≡◌, ◌+◌, ◌<◌, ◌^◌, length};
 ghost use Rattle.basic_toml_read.specs.NumberFaults as spec;
 
-// The digits and underscores that a text begins with, and what stands behind them.
-pub(crate) fn split_part(text: &[u8]) -> (&[u8], &[u8])
-    ensures part { result.0.now ≡ part_of text.now }
-    ensures rest { result.1.now ≡ after_part text.now }
-    ensures lengths { length result.0.now + length result.1.now ≡ length text.now }
-{
-    for (end, byte) in text.iter().enumerate() {
-        if !(*byte as char).is_digit(10) && *byte != b'_' {
-            return text.split_at(end);
-        }
-    }
-    text.split_at(text.len())
-}
-
-// Whether these are digits with single underscores between them.
-fn is_digits(text: &[u8]) -> bool
-    ensures { result ≡ numbers.is_digits 10 text.now }
-{
-    let mut must_follow = true;
-    for byte in text {
-        if (*byte as char).is_digit(10) {
-            must_follow = false;
-        } else if *byte == b'_' && !must_follow {
-            must_follow = true;
-        } else {
-            return false;
-        }
-    }
-    !must_follow
-}
-
-// Whether they are, and no zero leads.
-fn is_whole(text: &[u8]) -> bool
-    ensures { result ≡ numbers.is_whole text.now }
-{
-    match text {
-        [] => false,
-        [b'0', more @ ..] => more.is_empty(),
-        _ => is_digits(text),
-    }
-}
+use basic_toml_value::{is_digits, is_whole, split_part};
 
 // The place of a digit behind a leading zero.
 fn behind_zero(at: usize, text: &[u8]) -> Option<usize>

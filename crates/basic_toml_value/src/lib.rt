@@ -9,7 +9,7 @@ mod pairs;
 mod value;
 
 pub use float::{Float, float_of};
-pub use numbers::integer_of;
+pub use numbers::{integer_of, is_digits, is_whole, split_part};
 pub use pairs::{Iter, Pairs, PushRefusal};
 pub use value::{Table, Value};
 

@@ -1,5 +1,5 @@
 // The texts of numbers.
-ghost use Rattle.std.specs.Prelude.{◌≡◌, ◌≤◌, ◌^◌, ◌-◌, ℕ, Some, None, min, length, if◌then◌else◌};
+ghost use Rattle.std.specs.Prelude.{◌≡◌, ◌≤◌, ◌+◌, ◌^◌, ◌-◌, ℕ, Some, None, min, length, if◌then◌else◌};
 ghost use Rattle.basic_toml_value.specs.Numbers as spec;
 
 /// The number of an integer: decimal with an optional sign and no leading zero, or `0x`, `0o` or `0b` with digits
@@ -86,13 +86,20 @@ fn value_of(radix: u32, digits: &[u8]) -> Option<u64>
     Some(value)
 }
 
-// Whether the text is a whole part: `0`, or digits that begin with another digit.
-fn is_whole(digits: &[u8]) -> bool
+/// Whether these are decimal digits with single underscores between them.
+pub fn is_digits(digits: &[u8]) -> bool
+    ensures { result ≡ spec.is_digits 10 digits.now }
+{
+    value_of(10, digits).is_some()
+}
+
+/// Whether the text is a whole part: `0`, or digits that begin with another digit.
+pub fn is_whole(digits: &[u8]) -> bool
     ensures { result ≡ spec.is_whole digits.now }
 {
     match digits {
         [b'0', more @ ..] => more.is_empty(),
-        _ => value_of(10, digits).is_some(),
+        _ => is_digits(digits),
     }
 }
 
@@ -124,7 +131,7 @@ fn is_tail(text: &[u8]) -> bool
     match text {
         [b'.', rest @ ..] => {
             let (fraction, exponent) = split_part(rest);
-            value_of(10, fraction).is_some() && (exponent.is_empty() || is_exponent(exponent))
+            is_digits(fraction) && (exponent.is_empty() || is_exponent(exponent))
         }
         _ => is_exponent(text),
     }
@@ -134,15 +141,16 @@ fn is_exponent(text: &[u8]) -> bool
     ensures { result ≡ spec.is_exponent text.now }
 {
     match text {
-        [b'e' | b'E', power @ ..] => value_of(10, without_sign(power)).is_some(),
+        [b'e' | b'E', power @ ..] => is_digits(without_sign(power)),
         _ => false,
     }
 }
 
-// The digits and underscores that the text begins with, and what stands behind them.
-fn split_part(text: &[u8]) -> (&[u8], &[u8])
+/// The decimal digits and underscores that the text begins with, and what stands behind them.
+pub fn split_part(text: &[u8]) -> (&[u8], &[u8])
     ensures part { result.0.now ≡ spec.part_of text.now }
     ensures rest { result.1.now ≡ spec.after_part text.now }
+    ensures lengths { length result.0.now + length result.1.now ≡ length text.now }
 {
     for (end, byte) in text.iter().enumerate() {
         if !(*byte as char).is_digit(10) && *byte != b'_' {
