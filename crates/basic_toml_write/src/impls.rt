@@ -196,8 +196,8 @@ impl<V: Serialize> Serialize for BTreeMap<String, V> {
     fn serialize(&self, alloc: Global, ser: &mut Serializer) -> Result<(), WriteError> {
         let _ = alloc;
         ser.serialize_map(Some(self.len()))?;
-        for (key, value) in self.iter() {
-            ser.serialize_field(key.as_str(), value)?;
+        for (name, value) in self.iter() {
+            ser.serialize_field(name.as_str(), value)?;
         }
         ser.end()
     }

@@ -13,13 +13,13 @@ returns-in_err-serialize_map g c =
 pub returns-in_err-serialize_field : goal.returns-in_err-serialize_field
 returns-in_err-serialize_field g c =
     let p = err_from_is_err_and c.from_residual-in_err-serialize_field.result c.from_residual-in_err-serialize_field.ensures.1 in
-    rw (p.1, p.2) (parts_fault (λ p. field (string_bytes p.0) ∷ g.V.Serialize.calls p.1) (λ p. g.V.Serialize.gives_up p.1) open_table c.args.self.now.entries (map deref_pair c.loop-key.yielded) (deref_pair (c.in-Some.key, c.in-Some.value)) c.next.new.self (yields_split deref_pair c.args.self.now.entries c.loop-key.yielded c.loop-key.key-iterator c.next.new.self c.next.result c.next.ensures.steps c.loop-key.invariant.left (c.in-Some.key, c.in-Some.value) c.in-Some.is) c.args.ser.now c.loop-key.ser c.serialize_field.new.self _ c.loop-key.invariant.sent (rw c.as_str.ensures.value at c.in_err-serialize_field.ensures))
+    rw (p.1, p.2) (parts_fault (λ p. field (string_bytes p.0) ∷ g.V.Serialize.calls p.1) (λ p. g.V.Serialize.gives_up p.1) open_table c.args.self.now.entries (map deref_pair c.loop-name.yielded) (deref_pair (c.in-Some.name, c.in-Some.value)) c.next.new.self (yields_split deref_pair c.args.self.now.entries c.loop-name.yielded c.loop-name.name-iterator c.next.new.self c.next.result c.next.ensures.steps c.loop-name.invariant.left (c.in-Some.name, c.in-Some.value) c.in-Some.is) c.args.ser.now c.loop-name.ser c.serialize_field.new.self _ c.loop-name.invariant.sent (rw c.as_str.ensures.value at c.in_err-serialize_field.ensures))
 
-pub loop-key-preserved : goal.loop-key-preserved
-loop-key-preserved g c = record {
-  sent = parts_yield (λ p. field (string_bytes p.0) ∷ g.V.Serialize.calls p.1) (λ p. g.V.Serialize.gives_up p.1) open_table deref_pair c.loop-key.yielded (c.in-Some.key, c.in-Some.value) c.args.ser.now c.loop-key.ser c.serialize_field.new.self c.loop-key.invariant.sent (rw c.as_str.ensures.value at c.in_ok-serialize_field.ensures);
-  left = yields_next deref_pair c.args.self.now.entries c.loop-key.yielded c.loop-key.key-iterator c.next.new.self c.next.result c.next.ensures.steps c.loop-key.invariant.left (c.in-Some.key, c.in-Some.value) c.in-Some.is;
+pub loop-name-preserved : goal.loop-name-preserved
+loop-name-preserved g c = record {
+  sent = parts_yield (λ p. field (string_bytes p.0) ∷ g.V.Serialize.calls p.1) (λ p. g.V.Serialize.gives_up p.1) open_table deref_pair c.loop-name.yielded (c.in-Some.name, c.in-Some.value) c.args.ser.now c.loop-name.ser c.serialize_field.new.self c.loop-name.invariant.sent (rw c.as_str.ensures.value at c.in_ok-serialize_field.ensures);
+  left = yields_next deref_pair c.args.self.now.entries c.loop-name.yielded c.loop-name.name-iterator c.next.new.self c.next.result c.next.ensures.steps c.loop-name.invariant.left (c.in-Some.name, c.in-Some.value) c.in-Some.is;
 }
 
 pub returns : goal.returns
-returns g c = parts_closed (λ p. field (string_bytes p.0) ∷ g.V.Serialize.calls p.1) (λ p. g.V.Serialize.gives_up p.1) open_table c.args.self.now.entries (map deref_pair c.loop-key.yielded) (yields_end deref_pair c.args.self.now.entries c.loop-key.yielded c.loop-key.key-iterator c.next.new.self c.next.result c.next.ensures.steps c.loop-key.invariant.left c.in-None.is) c.args.ser.now c.loop-key.ser c.end.new.self c.end.result c.loop-key.invariant.sent c.end.ensures
+returns g c = parts_closed (λ p. field (string_bytes p.0) ∷ g.V.Serialize.calls p.1) (λ p. g.V.Serialize.gives_up p.1) open_table c.args.self.now.entries (map deref_pair c.loop-name.yielded) (yields_end deref_pair c.args.self.now.entries c.loop-name.yielded c.loop-name.name-iterator c.next.new.self c.next.result c.next.ensures.steps c.loop-name.invariant.left c.in-None.is) c.args.ser.now c.loop-name.ser c.end.new.self c.end.result c.loop-name.invariant.sent c.end.ensures

@@ -4,5 +4,5 @@ use Rattle.basic_toml_emit.specs.Items.{open_table, field}
 use Rattle.basic_toml_write.proofs.Parts.{Sent}
 use Rattle.basic_toml_write.proofs.impls.BTreeMapStringSerialize.serialize.Given as goal
 
-abbrev pub invariant-loop-key : goal.invariant-loop-key
-invariant-loop-key g l = record { sent : Sent (λ p. field (string_bytes p.0) ∷ g.V.Serialize.calls p.1) (λ p. g.V.Serialize.gives_up p.1) open_table (map deref_pair l.yielded) l.fn.ser l.ser; left : map deref_pair l.yielded ++ l.key-iterator ≡ l.self.entries }
+abbrev pub invariant-loop-name : goal.invariant-loop-name
+invariant-loop-name g l = record { sent : Sent (λ p. field (string_bytes p.0) ∷ g.V.Serialize.calls p.1) (λ p. g.V.Serialize.gives_up p.1) open_table (map deref_pair l.yielded) l.fn.ser l.ser; left : map deref_pair l.yielded ++ l.name-iterator ≡ l.self.entries }
