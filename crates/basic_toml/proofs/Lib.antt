@@ -7,7 +7,7 @@ pub mod ReadBack
 pub mod Repeats
 pub mod ReadingLaws
 pub mod Written
-pub mod FaultTexts
-pub mod TypeReadLaws
-pub mod OneMeaning
+pub mod WorkedErrorTexts
+pub mod TableHoldsDocument
+pub mod TextHasOneMeaning
 pub mod TextOf

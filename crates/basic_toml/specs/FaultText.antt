@@ -1,22 +1,25 @@
 -- The text of a fault: its message; then its key path, where it has one, with periods between the keys; then its line
--- and column, counted from 1, where it has a place. (own)
-use Rattle.std.specs.Prelude.{ℕ, ◌+◌, ◌&&◌, ◌||◌, ◌==◌, nat_le, if◌then◌else◌, false, List, [], ◌∷◌, ◌++◌, codes, decimal, Option, Some, None}
+-- and column, counted from 1, where it has an offset. (own)
+use Rattle.std.specs.Prelude.{ℕ, ◌+◌, ◌&&◌, ◌||◌, ◌==◌, nat_le, if◌then◌else◌, false, List, [], ◌∷◌, ◌++◌, codes}
+use Rattle.std.specs.Prelude.{decimal, Option, Some, None}
 use Rattle.std.specs.Fmt.{digits}
+use Rattle.basic_toml_tokens.specs.Ascii as ascii
 use Rattle.basic_toml.specs.Fault as fault
 
--- A character as a fault shows it: behind a backslash, or as its number between braces, where it does not print.
+-- A character as a fault shows it: after a backslash, or as its number between braces, where it does not print.
 abbrev pub escaped : ℕ → List ℕ
 escaped c =
-    if c == 9 then codes "\\t" else if c == 13 then codes "\\r" else if c == 10 then codes "\\n"
-    else if c == 39 || (c == 34 || c == 92) then 92 ∷ c ∷ []
-    else if nat_le 32 c && nat_le c 126 then c ∷ []
+    if c == ascii.tab then codes "\\t" else if c == ascii.carriage_return then codes "\\r" else if c ==
+    ascii.line_feed then codes "\\n"
+    else if c == ascii.single_quote || (c == ascii.double_quote || c == ascii.backslash) then ascii.backslash ∷ c ∷ []
+    else if nat_le ascii.space c && nat_le c 126 then c ∷ []
     else codes "\\u{" ++ (digits 16 false c ++ codes "}")
 
 -- a text between two `
 abbrev pub quoted : List ℕ → List ℕ
 quoted text = 96 ∷ text ++ 96 ∷ []
 
-abbrev pub message : fault.Kind → List ℕ
+abbrev pub message : fault.FaultKind → List ℕ
 message (fault.invalid_char_in_string c) = codes "invalid character in string: " ++ quoted (escaped c)
 message (fault.invalid_escape c) = codes "invalid escape character in string: " ++ quoted (escaped c)
 message (fault.invalid_hex_escape c) = codes "invalid hex escape character in string: " ++ quoted (escaped c)
@@ -47,15 +50,15 @@ message fault.out_of_memory = codes "out of memory"
 abbrev pub joined : List (List ℕ) → List ℕ
 joined [] = []
 joined (key ∷ []) = key
-joined (key ∷ other ∷ keys) = key ++ (46 ∷ joined (other ∷ keys))
+joined (key ∷ other ∷ keys) = key ++ (ascii.period ∷ joined (other ∷ keys))
 
 abbrev pub key_text : List (List ℕ) → List ℕ
 key_text [] = []
 key_text (key ∷ keys) = codes " for key " ++ quoted (joined (key ∷ keys))
 
-abbrev pub place_text : Option (ℕ × ℕ) → List ℕ
-place_text None = []
-place_text (Some p) = codes " at line " ++ (decimal (p.0 + 1) ++ (codes " column " ++ decimal (p.1 + 1)))
+abbrev pub offset_text : Option (ℕ × ℕ) → List ℕ
+offset_text None = []
+offset_text (Some p) = codes " at line " ++ (decimal (p.0 + 1) ++ (codes " column " ++ decimal (p.1 + 1)))
 
 abbrev pub fault_text : fault.Fault → List ℕ
-fault_text f = message f.kind ++ (key_text f.key_path ++ place_text f.line_column)
+fault_text f = message f.kind ++ (key_text f.key_path ++ offset_text f.line_column)

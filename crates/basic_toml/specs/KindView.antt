@@ -1,10 +1,10 @@
 -- What contracts see of a fault's kind.
 use Rattle.std.specs.Prelude.{string_bytes}
 use Rattle.basic_toml.specs.Fault as fault
-use Rattle.basic_toml.specs.declared.error.Kind.{Kind}
-use Rattle.basic_toml.specs.declared.error.Kind.TheVariants as kinds
+use Rattle.basic_toml.specs.declared.error.ErrorKind.{ErrorKind}
+use Rattle.basic_toml.specs.declared.error.ErrorKind.TheVariants as kinds
 
-abbrev pub kind_of : Kind → fault.Kind
+abbrev pub kind_of : ErrorKind → fault.FaultKind
 kind_of (kinds.DuplicateKey key) = fault.duplicate_key (string_bytes key)
 kind_of (kinds.Custom message) = fault.custom (string_bytes message)
 kind_of kinds.NotUtf8 = fault.not_utf8

@@ -1,16 +1,17 @@
--- Reading plain rows from the front of a text: what was read, and what stands behind it.
-use Rattle.std.specs.Prelude.{ℕ, ◌+◌, Bool, true, false, ◌==◌, if◌then◌else◌, List, [], ◌∷◌, length, drop, codes, Option, Some, None, take_while, option_and_then}
+-- Reading plain rows from the front of a text: what was read, and what stands after it.
+use Rattle.std.specs.Prelude.{ℕ, ◌+◌, Bool, true, false, ◌==◌, if◌then◌else◌, List, [], ◌∷◌, length, drop, codes}
+use Rattle.std.specs.Prelude.{Option, Some, None, take_while, option_and_then}
 use Rattle.std.specs.List.{list_all, prefix_len}
 use Rattle.std.specs.Str.{bytes_eq}
 use Rattle.basic_toml_value.specs.Data.{Data, integer, boolean, string}
 use Rattle.basic_toml_value.specs.Numbers.{integer_of}
 use Rattle.basic_toml.specs.PlainRows.{PlainRow, is_blank, is_bare, is_decimal, is_printable, lines_of}
 
--- what stands behind the longest front that passes
+-- what stands after the longest front that passes
 abbrev pub after_run : (ℕ → Bool) → List ℕ → List ℕ
 after_run p text = drop (prefix_len p text) text
 
--- what stands behind the character
+-- what stands after the character
 abbrev pub after_sign : ℕ → List ℕ → Option (List ℕ)
 after_sign sign [] = None
 after_sign sign (c ∷ text) = if c == sign then Some text else None
@@ -18,11 +19,13 @@ after_sign sign (c ∷ text) = if c == sign then Some text else None
 -- a body and the quote that ends it
 unfoldable pub quoted_at : ℕ → List ℕ → Option (Data × List ℕ)
 quoted_at quote text =
-    option_and_then (λ rest. option_and_then (λ behind. Some (string (take_while is_printable rest), behind)) (after_sign quote (after_run is_printable rest)))
+    option_and_then (λ rest. option_and_then (λ after. Some (string (take_while is_printable rest), after))
+    (after_sign quote (after_run is_printable rest)))
     (after_sign quote text)
 
 unfoldable pub number_at : List ℕ → Option (Data × List ℕ)
-number_at text = option_and_then (λ z. Some (integer z, after_run is_decimal text)) (integer_of (take_while is_decimal text))
+number_at text = option_and_then (λ z. Some (integer z, after_run is_decimal text))
+    (integer_of (take_while is_decimal text))
 
 unfoldable pub word_at : List ℕ → Option (Data × List ℕ)
 word_at text =
@@ -39,12 +42,13 @@ value_at (c ∷ text) =
 abbrev pub is_blank_line : List ℕ → Bool
 is_blank_line = list_all is_blank
 
--- the row of a line whose first character that is no blank stands at a place
+-- the row of a line whose first character that is no blank stands at an offset
 unfoldable pub row_at : ℕ → List ℕ → Option PlainRow
-row_at place text =
+row_at offset text =
     if length (take_while is_bare text) == 0 then None
     else option_and_then (λ rest. option_and_then (λ value.
-    if is_blank_line value.1 then Some (record { place = place; key = take_while is_bare text; value = value.0 }) else None)
+    if is_blank_line value.1 then Some (record { offset = offset; key = take_while is_bare text; value = value.0 })
+    else None)
     (value_at (after_run is_blank rest)))
     (after_sign 61 (after_run is_blank (after_run is_bare text)))
 
@@ -55,7 +59,7 @@ abbrev pub with_row : PlainRow → Option (List PlainRow) → Option (List Plain
 with_row row None = None
 with_row row (Some rows) = Some (row ∷ rows)
 
--- the rows of lines, the first of which begins at a place
+-- the rows of lines, the first of which begins at an offset
 unfoldable pub rows_from : ℕ → List (List ℕ) → Option (List PlainRow)
 rows_from at [] = Some []
 rows_from at (line ∷ lines) =

@@ -25,11 +25,11 @@ value_view (Boolean b) = d.boolean b
 value_view (String text) = d.string text.now
 
 abbrev pub row_view : Row → PlainRow
-row_view row = record { place = row.place; key = row.key.now; value = value_view row.value }
+row_view row = record { offset = row.offset; key = row.key.now; value = value_view row.value }
 
 abbrev pub rows_view : Vec Row Global → List PlainRow
 rows_view rows = map row_view rows.items
 
--- what was read, and what stands behind it
+-- what was read, and what stands after it
 abbrev pub and_rest : {A B : Type 0} → (A → B) → A × Bor (List ℕ) → B × List ℕ
 and_rest view read = (view read.0, read.1.now)

@@ -1,10 +1,10 @@
--- The fault that a refusal of the writer is, or a type's own fault.
+-- The fault that an error of the writer is, or a type's own fault.
 use Rattle.std.specs.Prelude.{string_bytes}
 use Rattle.basic_toml.specs.Fault as fault
 use Rattle.basic_toml_emit.specs.declared.error.WriteError.{WriteError}
 use Rattle.basic_toml_emit.specs.declared.error.WriteError.TheVariants as write
 
-abbrev pub write_kind : WriteError → fault.Kind
+abbrev pub write_kind : WriteError → fault.FaultKind
 write_kind write.UnsupportedType = fault.unsupported_type
 write_kind write.KeyNotString = fault.key_not_string
 write_kind write.ValueAfterTable = fault.value_after_table

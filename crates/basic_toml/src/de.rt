@@ -1,11 +1,12 @@
 //! Reading texts.
-ghost use Rattle.std.specs.Prelude.{◌≡◌, ◌⊎◌, false, true, Bool, IfOk, IfErr, IsUtf8};
-ghost use Rattle.basic_toml_value.specs.Data.{Data, table};
+ghost use Rattle.std.specs.Prelude.{◌≡◌, IfOk, IfErr, IsUtf8};
+ghost use Rattle.basic_toml_value.specs.Data.{table};
 ghost use Rattle.basic_toml_value.specs.View.{view, entries};
-ghost use Rattle.basic_toml.specs.Fault.{out_of_memory, not_text, want_of_memory};
-ghost use Rattle.basic_toml.specs.Nodes.{data_at};
+ghost use Rattle.basic_toml.specs.Fault.{not_text, want_of_memory};
+ghost use Rattle.basic_toml.specs.Node.{data_at};
 ghost use Rattle.basic_toml.specs.PlainView.{value_view};
-ghost use Rattle.basic_toml.specs.Reading.{Answers};
+ghost use Rattle.basic_toml.specs.De.{ReadsText, OnlyMemory};
+ghost use Rattle.basic_toml.specs.TypeReads.{table_reads};
 
 use crate::Error;
 use crate::node::Node;
@@ -16,19 +17,15 @@ use std::alloc::{AllocError, Global};
 
 /// A type that can be read from a text.
 pub trait Deserialize<'de>: Sized {
-    ghost use Rattle.std.specs.Prelude.{Bool};
     ghost use Rattle.basic_toml_value.specs.Data.{Data};
 
     // Which values are read from which data.
     ghost reads: { Data → Self → Type 0 };
 
-    // Whether a value is read from the data.
-    ghost is_readable: { Data → Bool };
-
     /// Reads a value from a node.
     fn deserialize(alloc: Global, node: Node<'_, 'de>) -> Result<Self, Error>
         ensures ok { IfOk result (λ value. reads (data_at node.entry) value) }
-        ensures err { IfErr result (λ e. (e.kind ≡ out_of_memory) ⊎ (is_readable (data_at node.entry) ≡ false)) };
+        ensures err { IfErr result (OnlyMemory (reads (data_at node.entry))) };
 }
 
 impl<'t> Scalar<'t> {
@@ -68,9 +65,7 @@ impl<'t, 'de> Node<'t, 'de> {
 }
 
 impl<'de> Deserialize<'de> for Table {
-    ghost reads = { λ d t. d ≡ table (entries t) };
-
-    ghost is_readable = { λ _. true };
+    ghost reads = { table_reads };
 
     fn deserialize(alloc: Global, node: Node<'_, 'de>) -> Result<Table, Error> {
         Ok(node.to_table(alloc)?)
@@ -88,13 +83,13 @@ impl<'de> Deserialize<'de> for Table {
 /// type answers where it reads nothing from the table, and `out of memory` where a growth was refused.
 #[tactic(auto, using(crate::proofs::ReadingLaws::given, crate::proofs::ReadingLaws::refused))]
 pub fn from_str<'de, T: Deserialize<'de>>(alloc: Global, s: &'de str) -> Result<T, Error>
-    ensures { Answers T.reads T.is_readable s.now result }
+    ensures { ReadsText T.reads s.now result }
 {
     let Some(rows) = rows_of(alloc, s)? else {
         return Err(Error::custom(alloc, "not read yet"));
     };
     match first_repeat(alloc, rows.as_slice())? {
-        Some(row) => Err(Error::duplicate_key(alloc, s, row.place, row.key)),
+        Some(row) => Err(Error::duplicate_key(alloc, s, row.offset, row.key)),
         None => T::deserialize(
             alloc,
             Node {
@@ -110,7 +105,7 @@ pub fn from_str<'de, T: Deserialize<'de>>(alloc: Global, s: &'de str) -> Result<
 ///
 /// `input is not valid UTF-8` where they are not, and the errors of [`from_str`].
 pub fn from_slice<'de, T: Deserialize<'de>>(alloc: Global, bytes: &'de [u8]) -> Result<T, Error>
-    ensures text { IsUtf8 bytes.now → Answers T.reads T.is_readable bytes.now result }
+    ensures text { IsUtf8 bytes.now → ReadsText T.reads bytes.now result }
     ensures other { ¬ IsUtf8 bytes.now → result ≡ Err not_text }
 {
     match simdutf8::compat::from_utf8(bytes) {

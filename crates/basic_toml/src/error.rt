@@ -2,14 +2,14 @@
 ghost use Rattle.std.specs.Prelude.{◌≡◌, ◌≤◌, Some, None, IsTrue, ◌↔◌, ◌⊎◌, [], length};
 ghost use Rattle.basic_toml.specs.LineColumn.{line_at, column_at};
 
-use crate::place::{column_at, line_at};
+use crate::line_column::{column_at, line_at};
 use basic_toml_write::WriteError;
 use std::alloc::{AllocError, Global};
 use std::fmt;
 use std::marker::Model;
 
 #[derive(Debug, Drop)]
-enum Kind {
+enum ErrorKind {
     DuplicateKey(String),
     Custom(String),
     NotUtf8,
@@ -22,7 +22,7 @@ enum Kind {
     OutOfMemory,
 }
 
-impl fmt::Display for Kind {
+impl fmt::Display for ErrorKind {
     ghost use Rattle.std.specs.Prelude.{Some};
     ghost use Rattle.basic_toml.specs.FaultText.{message};
     ghost use Rattle.basic_toml.specs.KindView.{kind_of};
@@ -31,26 +31,26 @@ impl fmt::Display for Kind {
 
     fn fmt<W: fmt::Write>(&self, f: &mut fmt::Formatter<W>) -> fmt::Result {
         match self {
-            Kind::DuplicateKey(key) => write!(f, "duplicate key: `{key}`"),
-            Kind::Custom(message) => write!(f, "{message}"),
-            Kind::NotUtf8 => write!(f, "input is not valid UTF-8"),
-            Kind::UnsupportedType => write!(f, "unsupported Rust type"),
-            Kind::KeyNotString => write!(f, "map key was not a string"),
-            Kind::ValueAfterTable => write!(f, "values must be emitted before tables"),
-            Kind::UnsupportedNone => write!(f, "unsupported None value"),
-            Kind::CallOrder => write!(f, "serializer calls out of order"),
-            Kind::NestedTooDeeply => write!(f, "nested too deeply"),
-            Kind::OutOfMemory => write!(f, "out of memory"),
+            ErrorKind::DuplicateKey(key) => write!(f, "duplicate key: `{key}`"),
+            ErrorKind::Custom(message) => write!(f, "{message}"),
+            ErrorKind::NotUtf8 => write!(f, "input is not valid UTF-8"),
+            ErrorKind::UnsupportedType => write!(f, "unsupported Rust type"),
+            ErrorKind::KeyNotString => write!(f, "map key was not a string"),
+            ErrorKind::ValueAfterTable => write!(f, "values must be emitted before tables"),
+            ErrorKind::UnsupportedNone => write!(f, "unsupported None value"),
+            ErrorKind::CallOrder => write!(f, "serializer calls out of order"),
+            ErrorKind::NestedTooDeeply => write!(f, "nested too deeply"),
+            ErrorKind::OutOfMemory => write!(f, "out of memory"),
         }
     }
 }
 
 /// Why a text was not read, or a value not written.
 ///
-/// Its text says what is wrong and, where it has a place, at which line and column, counted from 1.
+/// Its text says what is wrong and, where it has an offset, at which line and column, counted from 1.
 #[derive(Debug, Drop)]
 pub struct Error {
-    kind: Kind,
+    kind: ErrorKind,
     line_column: Option<(usize, usize)>,
 }
 
@@ -59,7 +59,7 @@ impl Model for Error {
 
     ghost Value = { Fault };
 
-    ghost use Rattle.basic_toml.specs.ErrorView.{fault_of, HasSmallNumbers};
+    ghost use Rattle.basic_toml.specs.Error.{fault_of, HasSmallNumbers};
 
     ghost view = { fault_of };
 
@@ -85,9 +85,9 @@ impl fmt::Display for Error {
 }
 
 impl Error {
-    ghost use Rattle.basic_toml.specs.Fault.{duplicate_key, custom, not_text, out_of_memory, placeless, want_of_memory};
+    ghost use Rattle.basic_toml.specs.Fault.{duplicate_key, custom, not_text, out_of_memory, without_offset, want_of_memory};
 
-    /// The line and the column where the fault stands, both from 0, if it has a place; a column counts bytes.
+    /// The line and the column where the error stands, both from 0, if it has an offset; a column counts bytes.
     pub fn line_col(&self) -> Option<(usize, usize)>
         ensures { result ≡ self.now.line_column }
     {
@@ -98,29 +98,35 @@ impl Error {
     pub fn is_out_of_memory(&self) -> bool
         ensures { IsTrue result ↔ (self.now.kind ≡ out_of_memory) }
     {
-        matches!(self.kind, Kind::OutOfMemory)
+        matches!(self.kind, ErrorKind::OutOfMemory)
     }
 
     /// The later of two equal keys stands at a byte offset of the text.
-    pub(crate) fn duplicate_key(alloc: Global, text: &str, place: usize, key: &str) -> Error
-        requires { place ≤ length text.now }
-        ensures { (result ≡ want_of_memory) ⊎ (result ≡ record { kind = duplicate_key key.now; key_path = []; line_column = Some (line_at text.now place, column_at text.now place) }) }
+    pub(crate) fn duplicate_key(alloc: Global, text: &str, offset: usize, key: &str) -> Error
+        requires { offset ≤ length text.now }
+        ensures { (result ≡ want_of_memory)
+            ⊎ (result ≡ record {
+              kind = duplicate_key key.now;
+              key_path = [];
+              line_column =
+                  Some (line_at text.now offset, column_at text.now offset);
+            }) }
     {
         match String::from_str(alloc, key) {
             Ok(key) => Error {
-                kind: Kind::DuplicateKey(key),
-                line_column: Some((line_at(text, place), column_at(text, place))),
+                kind: ErrorKind::DuplicateKey(key),
+                line_column: Some((line_at(text, offset), column_at(text, offset))),
             },
             Err(e) => Error::from(e),
         }
     }
 
     pub(crate) fn custom(alloc: Global, message: &str) -> Error
-        ensures { (result ≡ want_of_memory) ⊎ (result ≡ placeless (custom message.now)) }
+        ensures { (result ≡ want_of_memory) ⊎ (result ≡ without_offset (custom message.now)) }
     {
         match String::from_str(alloc, message) {
             Ok(message) => Error {
-                kind: Kind::Custom(message),
+                kind: ErrorKind::Custom(message),
                 line_column: None,
             },
             Err(e) => Error::from(e),
@@ -131,7 +137,7 @@ impl Error {
         ensures { result ≡ not_text }
     {
         Error {
-            kind: Kind::NotUtf8,
+            kind: ErrorKind::NotUtf8,
             line_column: None,
         }
     }
@@ -144,29 +150,29 @@ impl From<AllocError> for Error {
 
     fn from(_e: AllocError) -> Error {
         Error {
-            kind: Kind::OutOfMemory,
+            kind: ErrorKind::OutOfMemory,
             line_column: None,
         }
     }
 }
 
 impl From<WriteError> for Error {
-    ghost use Rattle.basic_toml.specs.Fault.{placeless};
+    ghost use Rattle.basic_toml.specs.Fault.{without_offset};
     ghost use Rattle.basic_toml.specs.WriteFaults.{write_kind};
 
-    ghost from_gives = { λ fault e. e ≡ placeless (write_kind fault) };
+    ghost from_gives = { λ fault e. e ≡ without_offset (write_kind fault) };
 
     fn from(fault: WriteError) -> Error {
         let kind = match fault {
-            WriteError::UnsupportedType => Kind::UnsupportedType,
-            WriteError::KeyNotString => Kind::KeyNotString,
-            WriteError::ValueAfterTable => Kind::ValueAfterTable,
-            WriteError::UnsupportedNone => Kind::UnsupportedNone,
-            WriteError::Custom(message) => Kind::Custom(message),
-            WriteError::DuplicateKey(key) => Kind::DuplicateKey(key),
-            WriteError::CallOrder => Kind::CallOrder,
-            WriteError::NestedTooDeeply => Kind::NestedTooDeeply,
-            WriteError::OutOfMemory => Kind::OutOfMemory,
+            WriteError::UnsupportedType => ErrorKind::UnsupportedType,
+            WriteError::KeyNotString => ErrorKind::KeyNotString,
+            WriteError::ValueAfterTable => ErrorKind::ValueAfterTable,
+            WriteError::UnsupportedNone => ErrorKind::UnsupportedNone,
+            WriteError::Custom(message) => ErrorKind::Custom(message),
+            WriteError::DuplicateKey(key) => ErrorKind::DuplicateKey(key),
+            WriteError::CallOrder => ErrorKind::CallOrder,
+            WriteError::NestedTooDeeply => ErrorKind::NestedTooDeeply,
+            WriteError::OutOfMemory => ErrorKind::OutOfMemory,
         };
         Error {
             kind,

@@ -4,15 +4,20 @@
 mod de;
 mod error;
 pub mod laws;
+mod line_column;
 mod node;
-mod place;
 mod plain;
 mod repeat;
 mod ser;
 #[cfg(test)]
 mod tests;
 
-pub use basic_toml_value::{Float, PushRefusal, Table, Value};
+/// The tokens of a text, with their spans.
+pub mod tokens {
+    pub use basic_toml_tokens::{Error, Span, Token, Tokenizer};
+}
+
+pub use basic_toml_value::{Float, PushRefusal, Table, Value, float_of, integer_of};
 pub use basic_toml_write::{Serialize, Serializer, WriteError};
 pub use de::{Deserialize, from_slice, from_str};
 pub use error::Error;

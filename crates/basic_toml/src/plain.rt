@@ -44,7 +44,7 @@ pub(crate) enum Scalar<'t> {
 /// A key, the byte offset where it stands, and its value.
 #[derive(Clone, Copy)]
 pub(crate) struct Row<'t> {
-    pub(crate) place: usize,
+    pub(crate) offset: usize,
     pub(crate) key: &'t str,
     pub(crate) value: Scalar<'t>,
 }
@@ -56,8 +56,8 @@ fn run_len(text: &[u8], class: Class) -> usize
     text.iter().take_while(|c| class.contains(**c)).count()
 }
 
-/// The longest front of a class, and what stands behind it.
-#[tactic(auto, using(crate::proofs::Runs::length_run, crate::proofs::Runs::boundary_behind_run))]
+/// The longest front of a class, and what stands after it.
+#[tactic(auto, using(crate::proofs::Runs::length_run, crate::proofs::Runs::boundary_after_run))]
 fn split_run(text: &str, class: Class) -> (&str, &str)
     ensures run { result.0.now ≡ take_while (passes class) text.now }
     ensures rest { result.1.now ≡ after_run (passes class) text.now }
@@ -67,7 +67,7 @@ fn split_run(text: &str, class: Class) -> (&str, &str)
     (&text[..end], &text[end..])
 }
 
-/// What stands behind an ASCII character.
+/// What stands after an ASCII character.
 #[tactic(auto, using(crate::proofs::Runs::stripped))]
 fn strip_sign(text: &str, sign: char) -> Option<&str>
     requires { sign < 128 }
@@ -129,8 +129,8 @@ pub(crate) fn is_all(text: &str, class: Class) -> bool
 }
 
 #[tactic(auto, unfolding(crate::specs::PlainReading::row_at))]
-fn row_at(place: usize, text: &str) -> Option<Row<'_>>
-    ensures { option_map row_view result ≡ row_at place text.now }
+fn row_at(offset: usize, text: &str) -> Option<Row<'_>>
+    ensures { option_map row_view result ≡ row_at offset text.now }
 {
     let (key, rest) = split_run(text, Class::Bare);
     if key.is_empty() {
@@ -143,7 +143,7 @@ fn row_at(place: usize, text: &str) -> Option<Row<'_>>
     if !is_all(rest, Class::Blank) {
         return None;
     }
-    Some(Row { place, key, value })
+    Some(Row { offset, key, value })
 }
 
 /// The row of a line that begins at a byte offset.

@@ -1,3 +1,6 @@
+mod memory;
+mod writing;
+
 use super::*;
 use std::alloc::{AllocError, Global};
 use std::test::Fail;
@@ -9,12 +12,9 @@ struct Any {
 }
 
 impl<'de> Deserialize<'de> for Any {
-    ghost use Rattle.std.specs.Prelude.{◌≡◌, true};
-    ghost use Rattle.basic_toml_value.specs.View.{view};
+    ghost use Rattle.basic_toml.specs.TypeReads.{value_reads};
 
-    ghost reads = { λ d any. view any.value ≡ d };
-
-    ghost is_readable = { λ _. true };
+    ghost reads = { λ d any. value_reads d any.value };
 
     fn deserialize(alloc: Global, node: Node<'_, 'de>) -> Result<Any, Error> {
         Ok(Any {
@@ -117,5 +117,17 @@ fn settings(rt: HostRuntime) -> Result<(), Fail> {
         tidied(rt.alloc(), text)?.as_str(),
         "name = \"x\"\nport = 8080\n"
     );
+    Ok(())
+}
+
+#[test]
+fn shows_tokens_and_numbers(rt: HostRuntime) -> Result<(), Fail> {
+    let mut tokenizer = tokens::Tokenizer::new(" a");
+    let (span, token) = tokenizer.next(rt.alloc())?.ok_or("no token")?;
+    assert_eq!(rt; (span.start, span.end), (0, 1));
+    assert!(rt; token == tokens::Token::Whitespace(" "));
+    assert_eq!(rt; integer_of("0x1f"), Some(31));
+    let float = float_of(rt.alloc(), "+1.5")?.ok_or("no float")?;
+    assert_eq!(rt; float.as_str(), "1.5");
     Ok(())
 }

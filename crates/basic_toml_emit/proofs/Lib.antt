@@ -1,4 +1,8 @@
-pub mod KeySets
-pub mod Quoting
-pub mod Stacks
-pub mod Finishing
+pub mod KeyIsAdded
+pub mod Greatest
+pub mod Classes
+pub mod QuotedUpToEscape
+pub mod Naming
+pub mod FramesOfStack
+pub mod Taking
+pub mod FinishHandsOut

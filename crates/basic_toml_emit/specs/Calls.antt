@@ -1,13 +1,17 @@
 -- What the calls of a serializer do (own). An item that no rule refuses is taken: it changes the text and what is open.
 -- A header is written when the first present entry shows that it is due, or at the end of its table; the opening bracket of an array
 -- at its first element that is no table, or at its end where it is empty.
-use Rattle.std.specs.Prelude.{ℕ, Bool, true, false, List, [], ◌∷◌, ◌++◌, Option, Some, is_some, unwrap_or, Result, Ok, Err}
-use Rattle.basic_toml_emit.specs.Written.{Leaf, text}
-use Rattle.basic_toml_emit.specs.Items.{Item, a_leaf, nothing, open_array, open_table, close, key, field}
-use Rattle.basic_toml_emit.specs.Texts.{written_leaf, comma}
+use Rattle.std.specs.Prelude.{ℕ, Bool, true, false, List, [], ◌∷◌, ◌++◌, Option, Some, is_some, unwrap_or, Result}
+use Rattle.std.specs.Prelude.{Ok, Err}
+use Rattle.basic_toml_tokens.specs.Ascii as ascii
+use Rattle.basic_toml_emit.specs.Written.{Scalar, text}
+use Rattle.basic_toml_emit.specs.Items.{Item, a_scalar, an_absent, open_array, open_table, close, key, field}
+use Rattle.basic_toml_emit.specs.Texts.{written_scalar, comma}
 use Rattle.basic_toml_emit.specs.Layout.{table_header, element_header, row_start}
-use Rattle.basic_toml_emit.specs.Open.{Header, settled, due, Stage, no_key, key_place, key_set, Kind, unknown, tables, others, Keys, with_key, Frame, a_table, an_array, new_table, State, state, fresh}
-use Rattle.basic_toml_emit.specs.Refusals.{Refusal, call_order, place_of, rules, first_refusal}
+use Rattle.basic_toml_emit.specs.Open.{Header, settled, due, Stage, no_key, key_place, key_set, ElementKind, unknown}
+use Rattle.basic_toml_emit.specs.Open.{tables, others, PresentKeys, with_key, Frame, a_table, an_array, new_table}
+use Rattle.basic_toml_emit.specs.Open.{State, state, fresh}
+use Rattle.basic_toml_emit.specs.Rules.{CallFault, call_order, place_of, rules, first_fault}
 
 abbrev pub last_key : Option (List ℕ) → List ℕ
 last_key l = unwrap_or l []
@@ -23,14 +27,14 @@ abbrev pub header_text : Header → List Frame → List ℕ
 header_text settled fs = []
 header_text (due is_later) fs = table_header is_later (path fs)
 
--- what stands before the first element of an array that is no table, and behind the last
+-- what stands before the first element of an array that is no table, and after the last
 abbrev pub array_start : List Frame → List ℕ
-array_start (a_table h _ _ _ l ∷ fs) = header_text h fs ++ (row_start (last_key l) ++ (91 ∷ []))
-array_start _ = 91 ∷ []
+array_start (a_table h _ _ _ l ∷ fs) = header_text h fs ++ (row_start (last_key l) ++ (ascii.left_bracket ∷ []))
+array_start _ = ascii.left_bracket ∷ []
 
 abbrev pub array_end : List Frame → List ℕ
-array_end (a_table _ _ _ _ _ ∷ _) = 93 ∷ 10 ∷ []
-array_end _ = 93 ∷ []
+array_end (a_table _ _ _ _ _ ∷ _) = ascii.right_bracket ∷ ascii.line_feed ∷ []
+array_end _ = ascii.right_bracket ∷ []
 
 -- the frames below an array, once it is known not to hold tables, and once it is known to
 abbrev pub with_row : List Frame → List Frame
@@ -46,7 +50,7 @@ is_nothing_open [] = true
 is_nothing_open (_ ∷ _) = false
 
 -- the key of a text
-abbrev pub with_text : Leaf → Stage → Stage
+abbrev pub with_text : Scalar → Stage → Stage
 with_text (text k) s = key_set k
 with_text _ s = s
 
@@ -54,30 +58,38 @@ abbrev pub at_start : List ℕ → Bool → Item → State
 at_start t d open_table = state t (new_table settled ∷ []) d
 at_start t d _ = state t [] d
 
-abbrev pub in_table : Bool → List ℕ → Header → Bool → Keys → Option (List ℕ) → List Frame → Item → State
+abbrev pub in_table : Bool → List ℕ → Header → Bool → PresentKeys → Option (List ℕ) → List Frame → Item → State
 in_table d t h w p l fs close = state (t ++ header_text h fs) fs (is_nothing_open fs)
 in_table d t h w p l fs key = state t (a_table h key_place w p l ∷ fs) d
 in_table d t h w p l fs (field k) = state t (a_table h (key_set k) w p l ∷ fs) d
 in_table d t h w p l fs _ = state t (a_table h no_key w p l ∷ fs) d
 
-abbrev pub at_key : Bool → List ℕ → Header → Bool → Keys → Option (List ℕ) → List Frame → Item → State
-at_key d t h w p l fs (a_leaf v) = state t (a_table h (with_text v key_place) w p l ∷ fs) d
+abbrev pub at_key : Bool → List ℕ → Header → Bool → PresentKeys → Option (List ℕ) → List Frame → Item → State
+at_key d t h w p l fs (a_scalar v) = state t (a_table h (with_text v key_place) w p l ∷ fs) d
 at_key d t h w p l fs _ = state t (a_table h key_place w p l ∷ fs) d
 
-abbrev pub at_value : Bool → List ℕ → Header → List ℕ → Bool → Keys → Option (List ℕ) → List Frame → Item → State
-at_value d t h k w p l fs (a_leaf v) = state (t ++ (header_text h fs ++ (row_start k ++ (written_leaf v ++ (10 ∷ []))))) (a_table settled no_key w (with_key k p) (Some k) ∷ fs) d
-at_value d t h k w p l fs nothing = state t (a_table h no_key w p l ∷ fs) d
-at_value d t h k w p l fs open_array = state t (an_array unknown (is_some l) ∷ a_table h no_key w (with_key k p) (Some k) ∷ fs) d
-at_value d t h k w p l fs open_table = state t (new_table (due (is_some l)) ∷ a_table settled no_key true (with_key k p) (Some k) ∷ fs) d
+abbrev pub at_value : Bool → List ℕ → Header → List ℕ → Bool → PresentKeys → Option (List ℕ) → List Frame → Item → State
+at_value d t h k w p l fs (a_scalar v) =
+    state (t ++ (header_text h fs ++ (row_start k ++ (written_scalar v ++ (ascii.line_feed ∷ [])))))
+    (a_table settled no_key w (with_key k p) (Some k) ∷ fs) d
+at_value d t h k w p l fs an_absent = state t (a_table h no_key w p l ∷ fs) d
+at_value d t h k w p l fs open_array =
+    state t (an_array unknown (is_some l) ∷ a_table h no_key w (with_key k p) (Some k) ∷ fs) d
+at_value d t h k w p l fs open_table =
+    state t (new_table (due (is_some l)) ∷ a_table settled no_key true (with_key k p) (Some k) ∷ fs) d
 at_value d t h k w p l fs _ = state t (a_table h (key_set k) w p l ∷ fs) d
 
-abbrev pub in_array : Bool → List ℕ → Kind → Bool → List Frame → Item → State
-in_array d t unknown later fs (a_leaf v) = state (t ++ (array_start fs ++ written_leaf v)) (an_array others later ∷ with_row fs) d
-in_array d t others later fs (a_leaf v) = state (t ++ (comma ++ written_leaf v)) (an_array others later ∷ fs) d
-in_array d t unknown later fs open_array = state (t ++ array_start fs) (an_array unknown later ∷ an_array others later ∷ with_row fs) d
+abbrev pub in_array : Bool → List ℕ → ElementKind → Bool → List Frame → Item → State
+in_array d t unknown later fs (a_scalar v) =
+    state (t ++ (array_start fs ++ written_scalar v)) (an_array others later ∷ with_row fs) d
+in_array d t others later fs (a_scalar v) = state (t ++ (comma ++ written_scalar v)) (an_array others later ∷ fs) d
+in_array d t unknown later fs open_array =
+    state (t ++ array_start fs) (an_array unknown later ∷ an_array others later ∷ with_row fs) d
 in_array d t others later fs open_array = state (t ++ comma) (an_array unknown later ∷ an_array others later ∷ fs) d
-in_array d t unknown later fs open_table = state (t ++ element_header later (path fs)) (new_table settled ∷ an_array tables later ∷ with_sections fs) d
-in_array d t tables later fs open_table = state (t ++ element_header true (path fs)) (new_table settled ∷ an_array tables later ∷ fs) d
+in_array d t unknown later fs open_table =
+    state (t ++ element_header later (path fs)) (new_table settled ∷ an_array tables later ∷ with_sections fs) d
+in_array d t tables later fs open_table =
+    state (t ++ element_header true (path fs)) (new_table settled ∷ an_array tables later ∷ fs) d
 in_array d t unknown later fs close = state (t ++ (array_start fs ++ array_end fs)) (with_row fs) d
 in_array d t others later fs close = state (t ++ array_end fs) fs d
 in_array d t tables later fs close = state t fs d
@@ -91,29 +103,29 @@ taken t (a_table h key_place w p l ∷ fs) d i = at_key d t h w p l fs i
 taken t (a_table h (key_set k) w p l ∷ fs) d i = at_value d t h k w p l fs i
 taken t (an_array kind later ∷ fs) d i = in_array d t kind later fs i
 
-abbrev pub step : ℕ → List ℕ → List Frame → Bool → Item → Result State Refusal
-step limit t fs d i = first_refusal (rules limit (place_of fs d) fs i) (Ok (taken t fs d i))
+abbrev pub step : ℕ → List ℕ → List Frame → Bool → Item → Result State CallFault
+step limit t fs d i = first_fault (rules limit (place_of fs d) fs i) (Ok (taken t fs d i))
 
-abbrev pub after : ℕ → State → Item → Result State Refusal
+abbrev pub after : ℕ → State → Item → Result State CallFault
 after limit s i = step limit s.text s.open_frames s.is_done i
 
-abbrev pub on_ok : {A B : Type 0} → (A → Result B Refusal) → Result A Refusal → Result B Refusal
+abbrev pub on_ok : {A B : Type 0} → (A → Result B CallFault) → Result A CallFault → Result B CallFault
 on_ok f (Ok a) = f a
 on_ok f (Err e) = Err e
 
--- the items of a list in turn; the first refusal stands
-abbrev pub run : ℕ → State → List Item → Result State Refusal
+-- the items of a list in turn; the first error stands
+abbrev pub run : ℕ → State → List Item → Result State CallFault
 run limit s [] = Ok s
 run limit s (i ∷ is) = on_ok (λ s'. run limit s' is) (after limit s i)
 
 -- the text, where the value is whole
-abbrev pub hand_out : List ℕ → List Frame → Bool → Result (List ℕ) Refusal
+abbrev pub hand_out : List ℕ → List Frame → Bool → Result (List ℕ) CallFault
 hand_out t [] true = Ok t
 hand_out t _ _ = Err call_order
 
-abbrev pub finished : State → Result (List ℕ) Refusal
+abbrev pub finished : State → Result (List ℕ) CallFault
 finished s = hand_out s.text s.open_frames s.is_done
 
 -- what a list of calls comes to
-abbrev pub outcome : ℕ → List Item → Result (List ℕ) Refusal
+abbrev pub outcome : ℕ → List Item → Result (List ℕ) CallFault
 outcome limit is = on_ok finished (run limit fresh is)

@@ -1,5 +1,7 @@
 -- What a step changes in the open frames.
-use Rattle.std.specs.Prelude.{[], ◌∷◌, List, Some}
+use Rattle.std.specs.Prelude.{ℕ, List, [], ◌∷◌, ◌++◌, Bool, false, Some, is_some}
+use Rattle.basic_toml_emit.specs.Layout.{row_start}
+use Rattle.basic_toml_emit.specs.Calls.{last_key, header_text}
 use Rattle.basic_toml_emit.specs.Open.{Stage, no_key, key_set, with_key, Frame, a_table}
 
 -- it is taken away
@@ -17,3 +19,18 @@ abbrev pub with_entry : List Frame → List Frame
 with_entry (a_table h (key_set k) w p l ∷ fs) = a_table h no_key w (with_key k p) (Some k) ∷ fs
 with_entry (a_table h _ w p l ∷ fs) = a_table h no_key w p l ∷ fs
 with_entry fs = fs
+
+-- the key that is set has a present entry already
+abbrev pub holds_key : List Frame → Bool
+holds_key (a_table _ (key_set k) _ present _ ∷ _) = present k
+holds_key _ = false
+
+-- a present entry stands in the innermost table
+abbrev pub has_entry : List Frame → Bool
+has_entry (a_table _ _ _ _ l ∷ _) = is_some l
+has_entry _ = false
+
+-- what stands before the value of the entry whose key was entered last
+abbrev pub value_start : List Frame → List ℕ
+value_start (a_table h _ _ _ l ∷ fs) = header_text h fs ++ row_start (last_key l)
+value_start _ = []

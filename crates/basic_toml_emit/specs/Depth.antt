@@ -1,18 +1,19 @@
 -- The depth of a written value (own): a scalar and an absent option count 0; an array or a table counts one more than its deepest
 -- member, and 1 where it is empty. A written value has a depth of at most the nesting limit.
 use Rattle.std.specs.Prelude.{ℕ, suc, max}
-use Rattle.basic_toml_emit.specs.Written.{Leaf, bytes, Written, leaf, absent, array, table, Elements, no_elements, element, Entries, no_entries, entry}
+use Rattle.basic_toml_emit.specs.Written.{Scalar, bytes, Written, scalar, absent, array, table, Elements}
+use Rattle.basic_toml_emit.specs.Written.{no_elements, element, Entries, no_entries, entry}
 
 abbrev pub nesting_limit : ℕ
 nesting_limit = 128
 
-abbrev pub leaf_depth : Leaf → ℕ
-leaf_depth (bytes _) = 1
-leaf_depth _ = 0
+abbrev pub scalar_depth : Scalar → ℕ
+scalar_depth (bytes _) = 1
+scalar_depth _ = 0
 
 abbrev mutual
   pub depth : Written → ℕ
-  depth (leaf l) = leaf_depth l
+  depth (scalar l) = scalar_depth l
   depth absent = 0
   depth (array es) = suc (elements_depth es)
   depth (table es) = suc (entries_depth es)

@@ -1,15 +1,16 @@
 -- What the stack of a serializer says is open.
-use Rattle.std.specs.Prelude.{ℕ, Bool, false, cond, List, [], ◌∷◌, ◌++◌, string_bytes}
+use Rattle.std.specs.Prelude.{ℕ, Bool, false, cond, List, [], ◌∷◌, ◌++◌}
+use Rattle.basic_toml_tokens.specs.Ascii as ascii
 use Rattle.basic_toml_emit.specs.Open as o
 use Rattle.basic_toml_emit.specs.Calls.{last_key}
 use Rattle.basic_toml_emit.specs.Texts.{written_key}
-use Rattle.basic_toml_emit.specs.Present.{keys_of, last_of}
+use Rattle.basic_toml_emit.specs.PresentKeys.{keys_of, last_of, pending_of}
 use Rattle.basic_toml_emit.specs.declared.frames.Header.{Header}
 use Rattle.basic_toml_emit.specs.declared.frames.Header.TheVariants.{Settled, Due}
 use Rattle.basic_toml_emit.specs.declared.frames.Stage.{Stage}
 use Rattle.basic_toml_emit.specs.declared.frames.Stage.TheVariants.{NoKey, KeyPlace, KeySet}
-use Rattle.basic_toml_emit.specs.declared.frames.Kind.{Kind}
-use Rattle.basic_toml_emit.specs.declared.frames.Kind.TheVariants.{Unknown, Tables, Others}
+use Rattle.basic_toml_emit.specs.declared.frames.ElementKind.{ElementKind}
+use Rattle.basic_toml_emit.specs.declared.frames.ElementKind.TheVariants.{Unknown, Tables, Others}
 use Rattle.basic_toml_emit.specs.declared.frames.Frame.{Frame}
 use Rattle.basic_toml_emit.specs.declared.frames.Frame.TheVariants.{Table, Array}
 
@@ -17,18 +18,20 @@ abbrev pub header_of : Header → o.Header
 header_of Settled = o.settled
 header_of (Due later) = o.due later
 
-abbrev pub stage_of : Stage → o.Stage
-stage_of NoKey = o.no_key
-stage_of KeyPlace = o.key_place
-stage_of (KeySet k) = o.key_set (string_bytes k)
+-- with this key, where one is set
+abbrev pub stage_of : Stage → List ℕ → o.Stage
+stage_of NoKey k = o.no_key
+stage_of KeyPlace k = o.key_place
+stage_of KeySet k = o.key_set k
 
-abbrev pub kind_of : Kind → o.Kind
+abbrev pub kind_of : ElementKind → o.ElementKind
 kind_of Unknown = o.unknown
 kind_of Tables = o.tables
 kind_of Others = o.others
 
 abbrev pub frame_of : Frame → o.Frame
-frame_of (Table f) = o.a_table (header_of f.header) (stage_of f.stage) f.holds_section (keys_of f.keys) (last_of f.keys)
+frame_of (Table f) = o.a_table (header_of f.header) (stage_of f.stage (pending_of f.keys.value)) f.holds_section
+    (keys_of f.keys.value) (last_of f.keys.value)
 frame_of (Array kind later) = o.an_array (kind_of kind) later
 
 abbrev pub frames_onto : List Frame → List o.Frame → List o.Frame
@@ -41,7 +44,7 @@ frames_of fs = frames_onto fs []
 
 -- what a frame adds to the text of a path
 abbrev pub path_part : Bool → o.Frame → List ℕ
-path_part first (o.a_table _ _ _ _ l) = cond first [] (46 ∷ []) ++ written_key (last_key l)
+path_part first (o.a_table _ _ _ _ l) = cond first [] (ascii.period ∷ []) ++ written_key (last_key l)
 path_part first (o.an_array _ _) = []
 
 abbrev pub first_after : Bool → o.Frame → Bool

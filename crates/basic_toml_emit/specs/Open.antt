@@ -3,7 +3,7 @@
 -- tables was written in it, which keys have a present entry, and the last of these. An open array knows what its elements are so far.
 use Rattle.std.specs.Prelude.{ℕ, Bool, true, false, cond, bytes_eq, List, [], Option, None}
 
--- the header of a table: written or not to be written at all, or to be written where it proves due, behind a blank line or not
+-- the header of a table: written or not to be written at all, or to be written where it proves due, after a blank line or not
 pub data Header : Type 0 where
   settled : Header
   due : Bool → Header
@@ -14,23 +14,23 @@ pub data Stage : Type 0 where
   key_set : List ℕ → Stage
 
 -- what the elements of an array are so far
-pub data Kind : Type 0 where
-  unknown tables others : Kind
+pub data ElementKind : Type 0 where
+  unknown tables others : ElementKind
 
 -- whether a key has a present entry
-abbrev pub Keys : Type 0
-Keys = List ℕ → Bool
+abbrev pub PresentKeys : Type 0
+PresentKeys = List ℕ → Bool
 
-abbrev pub no_keys : Keys
+abbrev pub no_keys : PresentKeys
 no_keys k = false
 
-abbrev pub with_key : List ℕ → Keys → Keys
+abbrev pub with_key : List ℕ → PresentKeys → PresentKeys
 with_key l keys k = cond (bytes_eq l k) true (keys k)
 
--- an array also knows whether its entry stands behind a present one of the same table
+-- an array also knows whether its entry stands after a present one of the same table
 pub data Frame : Type 0 where
-  a_table : Header → Stage → Bool → Keys → Option (List ℕ) → Frame
-  an_array : Kind → Bool → Frame
+  a_table : Header → Stage → Bool → PresentKeys → Option (List ℕ) → Frame
+  an_array : ElementKind → Bool → Frame
 
 abbrev pub new_table : Header → Frame
 new_table h = a_table h no_key false no_keys None

@@ -1,12 +1,12 @@
-use crate::leaf::Leaf;
+use crate::scalar::Scalar;
 
-/// What a call records as one item. A call that is given a part records a mark before it.
+/// What a call records as one item. A call that is given a part records a prefix before it.
 #[derive(Clone, Copy)]
 pub enum Call<'a> {
     /// A value without parts of its own; at a key, its text.
-    Leaf(Leaf<'a>),
+    Scalar(Scalar<'a>),
     /// An absent option.
-    Nothing,
+    Absent,
     OpenArray,
     OpenTable,
     /// Closes the innermost array or table.
@@ -16,9 +16,9 @@ pub enum Call<'a> {
     /// Sets a key.
     Field(&'a str),
     /// An option that is there follows.
-    SomeMark,
+    SomePrefix,
     /// The value of the entry whose key is set follows.
-    ValueMark,
+    ValuePrefix,
     /// An element of the innermost array follows.
-    ElementMark,
+    ElementPrefix,
 }

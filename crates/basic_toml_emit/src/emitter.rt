@@ -1,32 +1,40 @@
-ghost use Rattle.std.specs.Prelude.{◌≡◌, if◌then◌else◌};
-ghost use Rattle.basic_toml_emit.specs.declared.error.WriteError.TheVariants.{CallOrder};
-ghost use Rattle.basic_toml_emit.specs.Items.{a_leaf, nothing, open_array, open_table, close, key, field, some_mark, value_mark, element_mark};
-ghost use Rattle.basic_toml_emit.specs.Leaves.{item_of, leaf_of};
-ghost use Rattle.basic_toml_emit.specs.Open.{fresh};
+ghost use Rattle.std.specs.Prelude.{◌≡◌, ◌&&◌, Result, if◌then◌else◌};
+ghost use Rattle.basic_toml_emit.specs.declared.fault.Fault.TheVariants.{CallOrder};
+ghost use Rattle.basic_toml_emit.specs.Items.{a_scalar, an_absent, open_array, open_table, close, key, field, some_prefix, value_prefix, element_prefix};
+ghost use Rattle.basic_toml_emit.specs.Scalar.{item_of, scalar_of};
+ghost use Rattle.basic_toml_emit.specs.Open.{State, fresh};
+ghost use Rattle.basic_toml_emit.specs.Calls as c;
+ghost use Rattle.basic_toml_emit.specs.Rules.{CallFault, key_of};
+ghost use Rattle.basic_toml_emit.specs.Error.{Meets, Names};
+ghost use Rattle.basic_toml_emit.specs.Frames.{frames_of};
 
-mod marks;
+mod prefixes;
 mod rows;
 mod sections;
 
 use crate::WriteError;
 use crate::call::Call;
-use crate::frames::{Frame, Header, innermost, new_table, put};
-use crate::leaf::Leaf;
+use crate::fault::Fault;
+use crate::frames::{Frame, Header, innermost, is_nothing_open, key_set, new_table, put};
+use crate::keys::Keys;
+use crate::scalar::Scalar;
 use std::alloc::Global;
 
 /// The text so far, and the arrays and tables that are open in it.
 ///
-/// Each step takes one item. After a step that answers a fault an emitter is of no more use.
+/// Each step takes one item. After a step that answers an error an emitter is of no more use.
 #[derive(Drop)]
 pub struct Emitter {
     text: String,
     frames: Vec<Frame>,
+    // What tables that are closed have left.
+    spare: Vec<Box<Keys>>,
     is_done: bool,
     alloc: Global,
 }
 
 impl Emitter {
-    ghost use Rattle.basic_toml_emit.specs.States.{state_of, Steps, HandsOut};
+    ghost use Rattle.basic_toml_emit.specs.Emitter.{state_of, Steps, Takes, HandsOut};
 
     /// An emitter that has taken nothing. Takes no memory.
     pub fn new(alloc: Global) -> Emitter
@@ -35,80 +43,117 @@ impl Emitter {
         Emitter {
             text: String::new(alloc),
             frames: Vec::new(alloc),
+            spare: Vec::new(alloc),
             is_done: false,
             alloc,
         }
     }
 
-    /// Takes what a call records, or answers the refusal that is due.
+    /// Takes what a call records, or answers the error that is due.
+    #[inline(always)]
     pub fn step(&mut self, call: Call<'_>) -> Result<(), WriteError>
         ensures { Steps (item_of call.entry) self.old self.new result }
     {
+        match self.take(call) {
+            Ok(()) => Ok(()),
+            Err(error) => Err(self.named(error)),
+        }
+    }
+
+    // An error that was met, with what it owns.
+    fn named(&self, error: Fault) -> WriteError
+        ensures { (x : Result State CallFault) → Meets error (key_of (frames_of self.now.frames.items)) x
+            → Names result x }
+    {
+        match error {
+            Fault::UnsupportedType => WriteError::UnsupportedType,
+            Fault::KeyNotString => WriteError::KeyNotString,
+            Fault::ValueAfterTable => WriteError::ValueAfterTable,
+            Fault::UnsupportedNone => WriteError::UnsupportedNone,
+            Fault::DuplicateKey => match String::from_str(self.alloc, key_set(&self.frames)) {
+                Ok(key) => WriteError::DuplicateKey(key),
+                Err(_) => WriteError::OutOfMemory,
+            },
+            Fault::CallOrder => WriteError::CallOrder,
+            Fault::NestedTooDeeply => WriteError::NestedTooDeeply,
+            Fault::OutOfMemory => WriteError::OutOfMemory,
+        }
+    }
+
+    #[inline(always)]
+    fn take(&mut self, call: Call<'_>) -> Result<(), Fault>
+        ensures { Takes (item_of call.entry) self.old self.new result }
+    {
         match call {
-            Call::Leaf(leaf) => self.leaf(leaf),
-            Call::Nothing => self.nothing(),
+            Call::Scalar(scalar) => self.scalar(scalar),
+            Call::Absent => self.absent(),
             Call::OpenArray => self.open_array(),
             Call::OpenTable => self.open_table(),
             Call::Close => self.close(),
             Call::Key => self.key(),
             Call::Field(name) => self.field(name),
-            Call::SomeMark => self.some_mark(),
-            Call::ValueMark => self.value_mark(),
-            Call::ElementMark => self.element_mark(),
+            Call::SomePrefix => self.some_prefix(),
+            Call::ValuePrefix => self.value_prefix(),
+            Call::ElementPrefix => self.element_prefix(),
         }
     }
 
     /// The text, where the items made a whole table; else `CallOrder`. Takes no memory.
+    #[tactic(auto, using(crate::proofs::FinishHandsOut::hands_out_whole, crate::proofs::FinishHandsOut::hands_out_nothing))]
     pub fn finish(self) -> Result<String, WriteError>
         ensures { HandsOut self result }
     {
-        let Emitter {
-            text,
-            frames,
-            is_done,
-            alloc: _,
-        } = self;
-        if is_done && frames.is_empty() {
-            Ok(text)
+        if self.is_whole() {
+            Ok(self.text)
         } else {
             Err(WriteError::CallOrder)
         }
     }
 
-    // The fault of a value that finds nothing open.
-    fn outside(&self, fault: WriteError) -> WriteError
-        ensures { result ≡ (if self.now.is_done then CallOrder else fault) }
+    // Whether the items made a whole table.
+    fn is_whole(&self) -> bool
+        ensures { result ≡ (self.now.is_done && c.is_nothing_open (frames_of self.now.frames.items)) }
+    {
+        self.is_done && is_nothing_open(&self.frames)
+    }
+
+    // The error of a value that finds nothing open.
+    fn outside(&self, error: Fault) -> Fault
+        ensures { result ≡ (if self.now.is_done then CallOrder else error) }
     {
         if self.is_done {
-            WriteError::CallOrder
+            Fault::CallOrder
         } else {
-            fault
+            error
         }
     }
 
     // A value without parts of its own; at a key, the text of the key.
-    fn leaf(&mut self, leaf: Leaf<'_>) -> Result<(), WriteError>
-        ensures { Steps (a_leaf (leaf_of leaf.entry)) self.old self.new result }
+    #[inline(always)]
+    fn scalar(&mut self, scalar: Scalar<'_>) -> Result<(), Fault>
+        ensures { Takes (a_scalar (scalar_of scalar.entry)) self.old self.new result }
     {
         match innermost(&self.frames) {
-            None => Err(self.outside(WriteError::UnsupportedType)),
-            Some((Frame::Table(_), _)) => self.leaf_in_table(leaf),
+            None => Err(self.outside(Fault::UnsupportedType)),
+            Some((Frame::Table(_), _)) => self.scalar_in_table(scalar),
             Some((Frame::Array { kind, later }, _)) => {
                 let (kind, later) = (*kind, *later);
-                self.leaf_in_array(kind, later, leaf)
+                self.scalar_in_array(kind, later, scalar)
             }
         }
     }
 
-    fn open_table(&mut self) -> Result<(), WriteError>
-        ensures { Steps open_table self.old self.new result }
+    fn open_table(&mut self) -> Result<(), Fault>
+        ensures { Takes open_table self.old self.new result }
     {
         match innermost(&self.frames) {
             None => {
                 if self.is_done {
-                    return Err(WriteError::CallOrder);
+                    return Err(Fault::CallOrder);
                 }
-                put(&mut self.frames, new_table(self.alloc, Header::Settled))
+                let table = new_table(self.alloc, &mut self.spare, Header::Settled)?;
+                put(&mut self.frames, table)?;
+                Ok(())
             }
             Some((Frame::Table(_), _)) => self.open_table_in_table(),
             Some((Frame::Array { kind, later }, _)) => {
@@ -118,11 +163,11 @@ impl Emitter {
         }
     }
 
-    fn open_array(&mut self) -> Result<(), WriteError>
-        ensures { Steps open_array self.old self.new result }
+    fn open_array(&mut self) -> Result<(), Fault>
+        ensures { Takes open_array self.old self.new result }
     {
         match innermost(&self.frames) {
-            None => Err(self.outside(WriteError::UnsupportedType)),
+            None => Err(self.outside(Fault::UnsupportedType)),
             Some((Frame::Table(_), _)) => self.open_array_in_table(),
             Some((Frame::Array { kind, later }, _)) => {
                 let (kind, later) = (*kind, *later);
@@ -132,11 +177,11 @@ impl Emitter {
     }
 
     // Closes the innermost array or table.
-    fn close(&mut self) -> Result<(), WriteError>
-        ensures { Steps close self.old self.new result }
+    fn close(&mut self) -> Result<(), Fault>
+        ensures { Takes close self.old self.new result }
     {
         match innermost(&self.frames) {
-            None => Err(WriteError::CallOrder),
+            None => Err(Fault::CallOrder),
             Some((Frame::Table(_), _)) => self.close_table(),
             Some((Frame::Array { kind, later }, _)) => {
                 let (kind, later) = (*kind, *later);

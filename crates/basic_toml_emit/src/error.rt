@@ -1,9 +1,10 @@
 use std::alloc::{AllocError, Global};
 
-/// Why a value was not written. No fault has a place.
+/// Why a value was not written. No error has an offset.
 #[derive(Debug, Drop)]
 pub enum WriteError {
-    /// A kind of value that the text has no form for where it stands: a root that is no table, a table beside a non-table in one array
+    /// A kind of value that the text has no form for where it stands: a root that is no table, a table beside a
+    /// non-table in one array
     /// or in an array of an array, a unit, a variant that holds data, an integer above 9223372036854775807.
     UnsupportedType,
     /// A key that is not a text.
@@ -12,7 +13,7 @@ pub enum WriteError {
     ValueAfterTable,
     /// An absent option at the root or in an array.
     UnsupportedNone,
-    /// A type's own fault, with its message.
+    /// A type's own error, with its message.
     Custom(String),
     /// A second present entry under this key of one table.
     DuplicateKey(String),
@@ -36,9 +37,9 @@ impl From<AllocError> for WriteError {
 }
 
 impl WriteError {
-    ghost use Rattle.basic_toml_emit.specs.Faults.{IsCustom};
+    ghost use Rattle.basic_toml_emit.specs.Error.{IsCustom};
 
-    /// A type's own fault. `OutOfMemory` where the message finds no memory.
+    /// A type's own error. `OutOfMemory` where the message finds no memory.
     pub fn custom(alloc: Global, message: &str) -> WriteError
         ensures { IsCustom message.now result }
     {

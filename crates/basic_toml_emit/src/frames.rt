@@ -1,15 +1,15 @@
-ghost use Rattle.std.specs.Prelude.{◌≡◌, nat_le, List, [], ◌∷◌, IfOk, IfErr, MatchOption, length};
-ghost use Rattle.basic_toml_emit.specs.declared.error.WriteError.TheVariants.{OutOfMemory};
+ghost use Rattle.std.specs.Prelude.{◌≡◌, ◌≢◌, true, false, not, nat_le, List, [], ◌∷◌, None, IfOk, MatchOption, length};
 ghost use Rattle.basic_toml_emit.specs.declared.frames.Frame.TheVariants.{Table};
+ghost use Rattle.basic_toml_emit.specs.declared.frames.Stage.TheVariants.{KeySet};
+ghost use Rattle.basic_toml_emit.specs.PresentKeys.{keys_of, last_of};
 ghost use Rattle.basic_toml_emit.specs.Open as o;
 ghost use Rattle.basic_toml_emit.specs.Calls as c;
-ghost use Rattle.basic_toml_emit.specs.Changes.{outer, with_stage, with_entry};
+ghost use Rattle.basic_toml_emit.specs.Rules.{key_of};
+ghost use Rattle.basic_toml_emit.specs.Changes.{outer, with_stage, with_entry, holds_key};
 ghost use Rattle.basic_toml_emit.specs.Frames.{frames_of, frame_of, header_of, stage_of};
 
-use crate::WriteError;
 use crate::keys::Keys;
-use std::alloc::Global;
-use std::mem;
+use std::alloc::{AllocError, Global};
 
 // How many arrays and tables may be open at once.
 pub const NESTING_LIMIT: usize = 128;
@@ -21,17 +21,17 @@ pub enum Header {
     Due { later: bool },
 }
 
-// What an open table waits for.
-#[derive(Drop)]
+// What an open table waits for. The key that is set stands with its keys.
+#[derive(Clone, Copy, Debug, PartialEq, Eq)]
 pub enum Stage {
     NoKey,
     KeyPlace,
-    KeySet(String),
+    KeySet,
 }
 
 // What the elements of an open array are so far.
 #[derive(Clone, Copy, Debug, PartialEq, Eq)]
-pub enum Kind {
+pub enum ElementKind {
     Unknown,
     Tables,
     Others,
@@ -42,70 +42,111 @@ pub struct TableFrame {
     pub header: Header,
     pub stage: Stage,
     pub holds_section: bool,
-    pub keys: Keys,
+    pub keys: Box<Keys>,
 }
 
 impl TableFrame {
-    // Counts the key that is set among those of present entries.
-    fn enter_key(&mut self) -> Result<(), WriteError>
-        ensures ok { IfOk result (λ _. (below : List o.Frame) → frame_of (Table self.new) ∷ below ≡ with_entry (frame_of (Table self.old) ∷ below)) }
-        ensures err { IfErr result (λ e. e ≡ OutOfMemory) }
+    // Sets a key.
+    fn set_key(&mut self, key: &str) -> Result<(), AllocError>
+        ensures { IfOk result (λ _. (below : List o.Frame) → frame_of (Table self.new)
+            ∷ below ≡ with_stage (o.key_set key.now) (frame_of (Table self.old) ∷ below)) }
     {
-        if let Stage::KeySet(key) = mem::replace(&mut self.stage, Stage::NoKey) {
-            self.keys.push(key)?;
-        }
+        self.keys.set(key)?;
+        self.stage = Stage::KeySet;
         Ok(())
+    }
+
+    // Counts the key that is set among those of present entries. `false` where it is among them already, and then
+    // nothing is changed.
+    fn enter_key(&mut self) -> Result<bool, AllocError>
+        ensures answer { IfOk result (λ is_new. (below : List o.Frame)
+            → is_new ≡ not (holds_key (frame_of (Table self.old) ∷ below))) }
+        ensures entered { IfOk result (λ is_new. is_new ≡ true → (below : List o.Frame) → frame_of (Table self.new)
+            ∷ below ≡ with_entry (frame_of (Table self.old) ∷ below)) }
+        ensures unchanged { IfOk result (λ is_new. is_new ≡ false → (below : List o.Frame) → frame_of (Table self.new)
+            ∷ below ≡ frame_of (Table self.old) ∷ below) }
+    {
+        if self.stage == Stage::KeySet && !self.keys.enter()? {
+            return Ok(false);
+        }
+        self.stage = Stage::NoKey;
+        Ok(true)
     }
 }
 
-// An open array or table. An array knows whether its entry stands behind a present one of the same table.
+// An open array or table. An array knows whether its entry stands after a present one of the same table.
 #[derive(Drop)]
 pub enum Frame {
     Table(TableFrame),
-    Array { kind: Kind, later: bool },
+    Array { kind: ElementKind, later: bool },
 }
 
-pub fn new_table(alloc: Global, header: Header) -> Frame
-    ensures { frame_of result ≡ o.new_table (header_of header) }
+// No keys, in what other keys have left.
+fn no_keys(alloc: Global, spare: &mut Vec<Box<Keys>>) -> Result<Box<Keys>, AllocError>
+    ensures keys { IfOk result (λ keys. keys_of keys.value ≡ o.no_keys) }
+    ensures last { IfOk result (λ keys. last_of keys.value ≡ None) }
 {
-    Frame::Table(TableFrame {
+    match spare.pop() {
+        Some(mut keys) => {
+            keys.clear();
+            Ok(keys)
+        }
+        None => match Box::new(alloc, Keys::new(alloc)) {
+            Ok(keys) => Ok(keys),
+            Err(_) => Err(AllocError),
+        },
+    }
+}
+
+// A table without keys.
+pub fn new_table(
+    alloc: Global,
+    spare: &mut Vec<Box<Keys>>,
+    header: Header,
+) -> Result<Frame, AllocError>
+    ensures { IfOk result (λ frame. frame_of frame ≡ o.new_table (header_of header)) }
+{
+    Ok(Frame::Table(TableFrame {
         header,
         stage: Stage::NoKey,
         holds_section: false,
-        keys: Keys::new(alloc),
-    })
+        keys: no_keys(alloc, spare)?,
+    }))
 }
 
 // Puts a frame on the stack.
-#[tactic(auto, using(crate::proofs::Stacks::frames_push))]
-pub fn put(frames: &mut Vec<Frame>, frame: Frame) -> Result<(), WriteError>
-    ensures ok { IfOk result (λ _. frames_of frames.new.items ≡ frame_of frame ∷ frames_of frames.old.items) }
-    ensures err { IfErr result (λ e. e ≡ OutOfMemory) }
+#[tactic(auto, using(crate::proofs::FramesOfStack::frames_push))]
+pub fn put(frames: &mut Vec<Frame>, frame: Frame) -> Result<(), AllocError>
+    ensures { IfOk result (λ _. frames_of frames.new.items ≡ frame_of frame ∷ frames_of frames.old.items) }
 {
     match frames.push(frame) {
         Ok(()) => Ok(()),
-        Err(_) => Err(WriteError::OutOfMemory),
+        Err(_) => Err(AllocError),
     }
 }
 
 // The innermost frame, and those around it.
 pub fn innermost(frames: &[Frame]) -> Option<(&Frame, &[Frame])>
-    ensures { MatchOption result (frames_of frames.now ≡ []) (λ p. frames_of frames.now ≡ frame_of p.0.now ∷ frames_of p.1.now) }
+    ensures { MatchOption result (frames_of frames.now ≡ []) (λ p. frames_of frames.now ≡ frame_of p.0.now
+        ∷ frames_of p.1.now) }
 {
     frames.split_last()
 }
 
-// Takes the innermost frame away.
-#[tactic(auto, using(crate::proofs::Stacks::frames_push))]
-pub fn leave(frames: &mut Vec<Frame>)
+// Takes the innermost frame away. What held the keys of a table is kept for another.
+#[tactic(auto, using(crate::proofs::FramesOfStack::frames_push))]
+pub fn leave(frames: &mut Vec<Frame>, spare: &mut Vec<Box<Keys>>)
     ensures { frames_of frames.new.items ≡ outer (frames_of frames.old.items) }
 {
-    frames.pop();
+    if let Some(Frame::Table(table)) = frames.pop() {
+        let _ = spare.push(table.keys);
+    }
 }
 
 // Sets what the innermost table waits for.
 pub fn set_stage(frames: &mut [Frame], stage: Stage)
-    ensures { frames_of frames.new ≡ with_stage (stage_of stage) (frames_of frames.old) }
+    requires { stage ≢ KeySet }
+    ensures { frames_of frames.new ≡ with_stage (stage_of stage []) (frames_of frames.old) }
 {
     let len = frames.len();
     if len > 0 {
@@ -115,18 +156,45 @@ pub fn set_stage(frames: &mut [Frame], stage: Stage)
     }
 }
 
-// Counts the key that is set in the innermost table among those of present entries.
-pub fn enter_key(frames: &mut [Frame]) -> Result<(), WriteError>
-    ensures ok { IfOk result (λ _. frames_of frames.new ≡ with_entry (frames_of frames.old)) }
-    ensures err { IfErr result (λ e. e ≡ OutOfMemory) }
+// Sets a key in the innermost table.
+pub fn set_key(frames: &mut [Frame], key: &str) -> Result<(), AllocError>
+    ensures { IfOk result (λ _. frames_of frames.new ≡ with_stage (o.key_set key.now) (frames_of frames.old)) }
 {
     let len = frames.len();
     if len == 0 {
         return Ok(());
     }
     match &mut frames[len - 1] {
-        Frame::Table(table) => table.enter_key(),
+        Frame::Table(table) => table.set_key(key),
         Frame::Array { .. } => Ok(()),
+    }
+}
+
+// The key that is set in the innermost table, or the empty text.
+pub fn key_set(frames: &[Frame]) -> &str
+    ensures { result.now ≡ key_of (frames_of frames.now) }
+{
+    match innermost(frames) {
+        Some((Frame::Table(table), _)) if table.stage == Stage::KeySet => table.keys.pending(),
+        _ => "",
+    }
+}
+
+// Counts the key that is set in the innermost table among those of present entries. `false` where it is among them
+// already, and then
+// nothing is changed.
+pub fn enter_key(frames: &mut [Frame]) -> Result<bool, AllocError>
+    ensures answer { IfOk result (λ is_new. is_new ≡ not (holds_key (frames_of frames.old))) }
+    ensures entered { IfOk result (λ is_new. is_new ≡ true → frames_of frames.new ≡ with_entry (frames_of frames.old)) }
+    ensures unchanged { IfOk result (λ is_new. is_new ≡ false → frames_of frames.new ≡ frames_of frames.old) }
+{
+    let len = frames.len();
+    if len == 0 {
+        return Ok(true);
+    }
+    match &mut frames[len - 1] {
+        Frame::Table(table) => table.enter_key(),
+        Frame::Array { .. } => Ok(true),
     }
 }
 
@@ -156,7 +224,7 @@ pub fn hold_section(frames: &mut [Frame])
 }
 
 // Whether nothing is open.
-#[tactic(auto, using(crate::proofs::Stacks::nothing_open_no, crate::proofs::Stacks::nothing_open_yes))]
+#[tactic(auto, using(crate::proofs::FramesOfStack::nothing_open_no, crate::proofs::FramesOfStack::nothing_open_yes))]
 pub fn is_nothing_open(frames: &Vec<Frame>) -> bool
     ensures { result ≡ c.is_nothing_open (frames_of frames.now.items) }
 {
@@ -164,7 +232,7 @@ pub fn is_nothing_open(frames: &Vec<Frame>) -> bool
 }
 
 // Whether no array and no table may be opened within these.
-#[tactic(auto, using(crate::proofs::Stacks::frames_length))]
+#[tactic(auto, using(crate::proofs::FramesOfStack::frames_length))]
 pub fn is_full(frames: &[Frame]) -> bool
     ensures { result ≡ nat_le NESTING_LIMIT (length (frames_of frames.now)) }
 {

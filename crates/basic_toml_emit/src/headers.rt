@@ -1,25 +1,24 @@
-ghost use Rattle.std.specs.Prelude.{◌≡◌, ◌++◌, IfOk, IfErr, string_bytes};
-ghost use Rattle.basic_toml_emit.specs.declared.error.WriteError.TheVariants.{OutOfMemory};
+ghost use Rattle.std.specs.Prelude.{◌≡◌, ◌++◌, IfOk, string_bytes};
 ghost use Rattle.basic_toml_emit.specs.Calls as c;
 ghost use Rattle.basic_toml_emit.specs.Texts.{joined};
 ghost use Rattle.basic_toml_emit.specs.Layout.{element_header, row_start};
 ghost use Rattle.basic_toml_emit.specs.Frames.{frames_of, frame_of, header_of, path_part, first_after};
 
-use crate::WriteError;
 use crate::frames::{Frame, Header};
 use crate::text::write_key;
+use std::alloc::AllocError;
 
 // The key that a frame adds to a path; whether the path is still empty.
-fn write_part(text: &mut String, frame: &Frame, first: bool) -> Result<bool, WriteError>
-    ensures text { IfOk result (λ _. string_bytes text.new ≡ string_bytes text.old ++ path_part first (frame_of frame.now)) }
+fn write_part(text: &mut String, frame: &Frame, first: bool) -> Result<bool, AllocError>
+    ensures text { IfOk result (λ _. string_bytes text.new ≡ string_bytes text.old
+        ++ path_part first (frame_of frame.now)) }
     ensures first { IfOk result (λ f. f ≡ first_after first (frame_of frame.now)) }
-    ensures err { IfErr result (λ e. e ≡ OutOfMemory) }
 {
     match frame {
         Frame::Array { .. } => Ok(first),
         Frame::Table(table) => {
             if !first {
-                text.push_str(".")?;
+                text.push('.')?;
             }
             write_key(text, table.keys.last())?;
             Ok(false)
@@ -28,9 +27,9 @@ fn write_part(text: &mut String, frame: &Frame, first: bool) -> Result<bool, Wri
 }
 
 // The keys to the innermost frame, joined by periods.
-fn write_path(text: &mut String, frames: &[Frame]) -> Result<(), WriteError>
-    ensures ok { IfOk result (λ _. string_bytes text.new ≡ string_bytes text.old ++ joined (c.path (frames_of frames.now))) }
-    ensures err { IfErr result (λ e. e ≡ OutOfMemory) }
+fn write_path(text: &mut String, frames: &[Frame]) -> Result<(), AllocError>
+    ensures { IfOk result (λ _. string_bytes text.new ≡ string_bytes text.old
+        ++ joined (c.path (frames_of frames.now))) }
 {
     let mut first = true;
     for frame in frames {
@@ -40,17 +39,18 @@ fn write_path(text: &mut String, frames: &[Frame]) -> Result<(), WriteError>
 }
 
 // The header of a table in these frames, where it is due.
-pub fn write_header(text: &mut String, frames: &[Frame], header: Header) -> Result<(), WriteError>
-    ensures ok { IfOk result (λ _. string_bytes text.new ≡ string_bytes text.old ++ c.header_text (header_of header) (frames_of frames.now)) }
-    ensures err { IfErr result (λ e. e ≡ OutOfMemory) }
+#[inline(always)]
+pub fn write_header(text: &mut String, frames: &[Frame], header: Header) -> Result<(), AllocError>
+    ensures { IfOk result (λ _. string_bytes text.new ≡ string_bytes text.old
+        ++ c.header_text (header_of header) (frames_of frames.now)) }
 {
     match header {
         Header::Settled => Ok(()),
         Header::Due { later } => {
             if later {
-                text.push_str("\n")?;
+                text.push('\n')?;
             }
-            text.push_str("[")?;
+            text.push('[')?;
             write_path(text, frames)?;
             text.push_str("]\n")?;
             Ok(())
@@ -63,12 +63,12 @@ pub fn write_element_header(
     text: &mut String,
     frames: &[Frame],
     later: bool,
-) -> Result<(), WriteError>
-    ensures ok { IfOk result (λ _. string_bytes text.new ≡ string_bytes text.old ++ element_header later (c.path (frames_of frames.now))) }
-    ensures err { IfErr result (λ e. e ≡ OutOfMemory) }
+) -> Result<(), AllocError>
+    ensures { IfOk result (λ _. string_bytes text.new ≡ string_bytes text.old
+        ++ element_header later (c.path (frames_of frames.now))) }
 {
     if later {
-        text.push_str("\n")?;
+        text.push('\n')?;
     }
     text.push_str("[[")?;
     write_path(text, frames)?;
@@ -77,9 +77,8 @@ pub fn write_element_header(
 }
 
 // What stands before the value of a row.
-pub fn write_row_start(text: &mut String, key: &str) -> Result<(), WriteError>
-    ensures ok { IfOk result (λ _. string_bytes text.new ≡ string_bytes text.old ++ row_start key.now) }
-    ensures err { IfErr result (λ e. e ≡ OutOfMemory) }
+pub fn write_row_start(text: &mut String, key: &str) -> Result<(), AllocError>
+    ensures { IfOk result (λ _. string_bytes text.new ≡ string_bytes text.old ++ row_start key.now) }
 {
     write_key(text, key)?;
     text.push_str(" = ")?;

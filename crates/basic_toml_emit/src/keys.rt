@@ -1,115 +1,200 @@
-ghost use Rattle.std.specs.Prelude.{◌≡◌, IfOk, IfErr, None, Some, not, is_some, unwrap_or, [], string_bytes};
-ghost use Rattle.std.specs.List.{list_any};
-ghost use Rattle.std.specs.Str.{bytes_eq};
-ghost use Rattle.std.specs.BTreeSet.{contains_text};
+// The keys of the present entries of a table, and the key that is set.
+//
+// While the keys are few, or each is above those before it, there is no index of them: a key above the greatest is
+// new without a search,
+// and else the keys are looked through one by one. More keys get an index once one of them is not above the greatest.
+ghost use Rattle.std.specs.Prelude.{◌≡◌, ◌≤◌, true, false, not, is_some, unwrap_or, None, Some, [], ◌∷◌, ◌++◌, IfOk, OnErr, IsTrue, IsSome, MatchOption, length};
+ghost use Rattle.basic_toml_value.specs.Keys.{are_distinct};
+ghost use Rattle.basic_toml_value.specs.Index.{IsIndex};
 ghost use Rattle.basic_toml_emit.specs.Open.{no_keys, with_key};
-ghost use Rattle.basic_toml_emit.specs.declared.error.WriteError.TheVariants.{OutOfMemory};
+ghost use Rattle.basic_toml_emit.specs.Keys.{is_below, with_keys, key_before, IsGreatest};
+ghost use Rattle.basic_toml_emit.specs.Names.{last_name};
+ghost use Rattle.basic_toml_emit.specs.Kept as n;
+ghost use Rattle.basic_toml_emit.specs.Kept.{kept_of};
+ghost use Rattle.std.proofs.Props.{props};
 
-use crate::WriteError;
-use std::alloc::Global;
-use std::collections::BTreeSet;
-
-#[tactic(auto, using(crate::proofs::KeySets::contains_text_insert))]
-fn insert(keys: &mut BTreeSet<String>, key: String) -> Result<(), WriteError>
-    ensures ok { IfOk result (λ _. contains_text keys.new ≡ with_key (string_bytes key) (contains_text keys.old)) }
-    ensures err { IfErr result (λ e. e ≡ OutOfMemory) }
-{
-    match keys.insert(key) {
-        Ok(_) => Ok(()),
-        Err(_) => Err(WriteError::OutOfMemory),
-    }
-}
-
-fn is_among(keys: &[String], key: &str) -> bool
-    ensures { result ≡ list_any (λ k. bytes_eq (string_bytes k) key.now) keys.now }
-{
-    keys.iter().any(|k| k.as_str() == key)
-}
+use crate::names::Names;
+use basic_toml_value::{Found, Index};
+use std::alloc::{AllocError, Global};
 
 // How many keys are looked through one by one.
-const FEW: usize = 8;
+const FEW: usize = 32;
 
-// The keys of the present entries of a table: the first few in a list, the others in an ordered set. The last one stands apart, so that
-// a header can name it and no key is copied.
+// Whether the name that is set is among those that are kept.
+#[tactic(auto, using(crate::proofs::KeyIsAdded::with_keys_take, crate::proofs::KeyIsAdded::with_keys_at))]
+fn is_among(names: &Names) -> bool
+    ensures { result ≡ with_keys (kept_of names.now) (n.pending_of names.now) }
+{
+    for position in 0..names.len() {
+        if names.get(position) == names.pending() {
+            return true;
+        }
+    }
+    false
+}
+
+// Keeps the name that is set.
+#[tactic(auto, using(crate::proofs::KeyIsAdded::with_keys_push, crate::proofs::KeyIsAdded::distinct_push, crate::proofs::Greatest::last_name_push))]
+fn keep(names: &mut Names) -> Result<(), AllocError>
+    ensures ok { IfOk result (λ _. kept_of names.new ≡ kept_of names.old ++ n.pending_of names.old ∷ []) }
+    ensures keys { IfOk result
+        (λ _. with_keys (kept_of names.new) ≡ with_key (n.pending_of names.old) (with_keys (kept_of names.old))) }
+    ensures last { IfOk result (λ _. last_name (kept_of names.new) ≡ Some (n.pending_of names.old)) }
+    ensures distinct { IfOk result (λ _. IsTrue (are_distinct (kept_of names.old))
+        → with_keys (kept_of names.old) (n.pending_of names.old) ≡ false → IsTrue (are_distinct (kept_of names.new))) }
+    ensures err { OnErr result (kept_of names.new ≡ kept_of names.old) }
+{
+    names.keep()
+}
+
+fn forget(names: &mut Names, greatest: &mut usize, index: &mut Option<Index>)
+    ensures names { kept_of names.new ≡ [] }
+    ensures greatest { greatest.new ≡ 0 }
+    ensures index { index.new ≡ None }
+{
+    names.clear();
+    *greatest = 0;
+    *index = None;
+}
+
 #[derive(Drop)]
 pub struct Keys {
-    few: Vec<String>,
-    others: BTreeSet<String>,
-    last: Option<String>,
+    names: Names,
+    // How many names stand up to the greatest one, itself included, where there is no index.
+    greatest: usize,
+    index: Option<Index>,
+    alloc: Global,
+    ghost distinct: { IsTrue (are_distinct (kept_of names)) },
+    ghost within: { greatest ≤ length (kept_of names) },
+    ghost searched: { MatchOption index (IsGreatest (key_before greatest (kept_of names)) (with_keys (kept_of names))) (λ i. IsIndex (kept_of names) i) } by { Prim.hlevel props },
 }
 
 impl Keys {
-    ghost use Rattle.basic_toml_emit.specs.Present.{earlier_of, keys_of, last_of};
+    ghost use Rattle.basic_toml_emit.specs.PresentKeys.{keys_of, last_of, pending_of};
 
     pub fn new(alloc: Global) -> Keys
-        ensures none { keys_of result ≡ no_keys }
+        ensures keys { keys_of result ≡ no_keys }
         ensures last { last_of result ≡ None }
     {
         Keys {
-            few: Vec::new(alloc),
-            others: BTreeSet::new(alloc),
-            last: None,
+            names: Names::new(alloc),
+            greatest: 0,
+            index: None,
+            alloc,
         }
+    }
+
+    // Forgets all keys.
+    pub fn clear(&mut self)
+        ensures keys { keys_of self.new ≡ no_keys }
+        ensures last { last_of self.new ≡ None }
+    {
+        forget(&mut self.names, &mut self.greatest, &mut self.index);
     }
 
     pub fn is_empty(&self) -> bool
         ensures { not result ≡ is_some (last_of self.now) }
     {
-        self.last.is_none()
+        self.names.len() == 0
     }
 
-    pub fn contains(&self, key: &str) -> bool
-        ensures { result ≡ keys_of self.now key.now }
-    {
-        match &self.last {
-            Some(last) => last.as_str() == key || self.holds(key),
-            None => self.holds(key),
-        }
-    }
-
-    // Whether a key stands before the last.
-    fn holds(&self, key: &str) -> bool
-        ensures { result ≡ earlier_of self.now key.now }
-    {
-        is_among(self.few.as_slice(), key) || self.others.contains(key)
-    }
-
-    // The last key that was pushed, or the empty text.
+    // The key that was entered last, or the empty text.
     pub fn last(&self) -> &str
         ensures { result.now ≡ unwrap_or (last_of self.now) [] }
     {
-        match &self.last {
-            Some(last) => last.as_str(),
-            None => "",
-        }
+        self.names.last()
     }
 
-    pub fn push(&mut self, key: String) -> Result<(), WriteError>
-        ensures keys { IfOk result (λ _. keys_of self.new ≡ with_key (string_bytes key) (keys_of self.old)) }
-        ensures last { IfOk result (λ _. last_of self.new ≡ Some (string_bytes key)) }
-        ensures err { IfErr result (λ e. e ≡ OutOfMemory) }
+    // The key that is set.
+    pub fn pending(&self) -> &str
+        ensures { result.now ≡ pending_of self.now }
     {
-        if let Some(last) = self.last.take() {
-            self.keep(last)?;
-        }
-        self.last = Some(key);
-        Ok(())
+        self.names.pending()
     }
 
-    // Puts a key that stood last to those before it.
-    #[tactic(auto, using(crate::proofs::KeySets::with_keys_push, crate::proofs::KeySets::with_keys_behind))]
-    fn keep(&mut self, key: String) -> Result<(), WriteError>
-        ensures keys { IfOk result (λ _. earlier_of self.new ≡ with_key (string_bytes key) (earlier_of self.old)) }
-        ensures last { self.new.last ≡ self.old.last }
-        ensures err { IfErr result (λ e. e ≡ OutOfMemory) }
+    // Sets a key.
+    pub fn set(&mut self, key: &str) -> Result<(), AllocError>
+        ensures keys { IfOk result (λ _. keys_of self.new ≡ keys_of self.old) }
+        ensures last { IfOk result (λ _. last_of self.new ≡ last_of self.old) }
+        ensures pending { IfOk result (λ _. pending_of self.new ≡ key.now) }
     {
-        if self.few.len() < FEW {
-            match self.few.push(key) {
-                Ok(()) => Ok(()),
-                Err(_) => Err(WriteError::OutOfMemory),
-            }
+        self.names.set(key)
+    }
+
+    // Enters the key that is set. `false` where it is there already, and then nothing is changed.
+    pub fn enter(&mut self) -> Result<bool, AllocError>
+        ensures answer { IfOk result (λ is_new. is_new ≡ not (keys_of self.old (pending_of self.old))) }
+        ensures keys { IfOk result (λ is_new. is_new ≡ true
+            → keys_of self.new ≡ with_key (pending_of self.old) (keys_of self.old)) }
+        ensures last { IfOk result (λ is_new. is_new ≡ true → last_of self.new ≡ Some (pending_of self.old)) }
+        ensures unchanged { IfOk result (λ is_new. is_new ≡ false → self.new ≡ self.old) }
+    {
+        if self.index.is_some() {
+            self.enter_indexed()
         } else {
-            insert(&mut self.others, key)
+            self.enter_few()
+        }
+    }
+
+    // The same with an index.
+    #[tactic(auto, using(crate::proofs::KeyIsAdded::key_found, crate::proofs::KeyIsAdded::key_absent))]
+    fn enter_indexed(&mut self) -> Result<bool, AllocError>
+        requires { IsSome self.old.index }
+        ensures answer { IfOk result (λ is_new. is_new ≡ not (keys_of self.old (pending_of self.old))) }
+        ensures keys { IfOk result (λ is_new. is_new ≡ true
+            → keys_of self.new ≡ with_key (pending_of self.old) (keys_of self.old)) }
+        ensures last { IfOk result (λ is_new. is_new ≡ true → last_of self.new ≡ Some (pending_of self.old)) }
+        ensures unchanged { IfOk result (λ is_new. is_new ≡ false → self.new ≡ self.old) }
+    {
+        let Some(index) = &mut self.index else {
+            return Err(AllocError);
+        };
+        let gap = match index.search(&self.names, self.names.pending()) {
+            Found::At(_) => return Ok(false),
+            Found::Absent(gap) => gap,
+        };
+        index.insert(self.alloc, &self.names, self.names.pending(), gap)?;
+        if keep(&mut self.names).is_ok() {
+            return Ok(true);
+        }
+        forget(&mut self.names, &mut self.greatest, &mut self.index);
+        Err(AllocError)
+    }
+
+    // The same without one.
+    #[tactic(auto, using(crate::proofs::Greatest::not_among))]
+    fn enter_few(&mut self) -> Result<bool, AllocError>
+        requires { self.old.index ≡ None }
+        ensures answer { IfOk result (λ is_new. is_new ≡ not (keys_of self.old (pending_of self.old))) }
+        ensures keys { IfOk result (λ is_new. is_new ≡ true
+            → keys_of self.new ≡ with_key (pending_of self.old) (keys_of self.old)) }
+        ensures last { IfOk result (λ is_new. is_new ≡ true → last_of self.new ≡ Some (pending_of self.old)) }
+        ensures unchanged { IfOk result (λ is_new. is_new ≡ false → self.new ≡ self.old) }
+    {
+        if self.is_above() {
+            keep(&mut self.names)?;
+            let count = self.names.len();
+            self.greatest = count;
+            return Ok(true);
+        }
+        if is_among(&self.names) {
+            return Ok(false);
+        }
+        keep(&mut self.names)?;
+        if self.names.len() > FEW {
+            self.index = Some(Index::of(self.alloc, &self.names)?);
+        }
+        Ok(true)
+    }
+
+    // Whether the key that is set is above the greatest.
+    fn is_above(&self) -> bool
+        ensures { result ≡ is_below (key_before self.now.greatest (kept_of self.now.names)) (pending_of self.now) }
+    {
+        let key = self.names.pending();
+        match self.greatest {
+            0 => !key.is_empty(),
+            count => self.names.get(count - 1) < key,
         }
     }
 }

@@ -1,19 +1,22 @@
 //! TOML text, emitted as its items come.
 //!
-//! An [`Emitter`] takes the items that calls record, one after another, and appends to its text: keys, values, headers, brackets. It
+//! An [`Emitter`] takes the items that calls record, one after another, and appends to its text: keys, values,
+//! headers, brackets. It
 //! refuses an item that the text has no form for where it stands.
 #![tactic(auto)]
 
 mod call;
 mod emitter;
 mod error;
+mod fault;
 mod frames;
 mod headers;
 mod keys;
-mod leaf;
+mod names;
+mod scalar;
 mod text;
 
 pub use call::Call;
 pub use emitter::Emitter;
 pub use error::WriteError;
-pub use leaf::Leaf;
+pub use scalar::Scalar;

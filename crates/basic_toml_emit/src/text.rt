@@ -1,16 +1,31 @@
-ghost use Rattle.std.specs.Prelude.{◌≡◌, ℕ, ◌<◌, ◌≤◌, ◌/◌, ◌%◌, true, false, List, [], ◌∷◌, ◌++◌, IfOk, IfErr, MatchOption, string_bytes, length, take, slice_index, IfSome};
+// Keys, strings and numbers as the text has them.
+//
+// Strings are copied in the runs of bytes that stand for themselves, so that one without an escape is one copy.
+ghost use Rattle.std.specs.Prelude.{◌≡◌, ℕ, ◌<◌, ◌/◌, ◌%◌, true, false, List, [], ◌∷◌, ◌++◌, IfOk, string_bytes, length, take, slice_index, decimal};
+ghost use Rattle.std.specs.Fmt.{signed_decimal};
 ghost use Rattle.std.specs.List.{list_all};
-ghost use Rattle.basic_toml_emit.specs.declared.error.WriteError.TheVariants.{OutOfMemory};
 ghost use Rattle.basic_toml_emit.specs.Texts as texts;
-ghost use Rattle.basic_toml_emit.specs.Texts.{quoted_byte, quoted_bytes, quoted, written_key, is_bare_key, written_numbers};
+ghost use Rattle.basic_toml_emit.specs.Texts.{quoted_byte, quoted, written_key, is_bare_key, written_numbers};
 
-use crate::WriteError;
+use std::alloc::AllocError;
+
+// What each byte is: `b` where it may stand in a bare key, `e` where it stands for something else than itself between
+// quotes.
+static CLASSES: [u8; 256] = *b"\
+    eeeeeeeeeeeeeeeeeeeeeeeeeeeeeeee\
+    ..e..........b..bbbbbbbbbb......\
+    .bbbbbbbbbbbbbbbbbbbbbbbbbb.e..b\
+    .bbbbbbbbbbbbbbbbbbbbbbbbbb....e\
+    ................................\
+    ................................\
+    ................................\
+    ................................";
 
 // Whether a byte stands for something else than itself between quotes.
 fn needs_escape(byte: u8) -> bool
     ensures { result ≡ texts.needs_escape byte }
 {
-    byte < 0x20 || byte == 0x7f || byte == b'"' || byte == b'\\'
+    CLASSES[byte as usize] == b'e'
 }
 
 fn upper_digit(n: u8) -> char
@@ -25,10 +40,9 @@ fn upper_digit(n: u8) -> char
     }
 }
 
-fn push_escape(text: &mut String, byte: u8) -> Result<(), WriteError>
+fn write_escape(text: &mut String, byte: u8) -> Result<(), AllocError>
     requires { texts.needs_escape byte ≡ true }
-    ensures ok { IfOk result (λ _. string_bytes text.new ≡ string_bytes text.old ++ quoted_byte byte) }
-    ensures err { IfErr result (λ e. e ≡ OutOfMemory) }
+    ensures { IfOk result (λ _. string_bytes text.new ≡ string_bytes text.old ++ quoted_byte byte) }
 {
     if byte == 0x08 {
         text.push_str("\\b")?;
@@ -52,56 +66,29 @@ fn push_escape(text: &mut String, byte: u8) -> Result<(), WriteError>
     Ok(())
 }
 
-// How many bytes stand for themselves before the first that does not, or before the end.
-fn plain_len(bytes: &[u8]) -> usize
-    ensures within { result ≤ length bytes.now }
-    ensures plain { (k : ℕ) → k < result → texts.needs_escape (slice_index bytes.now k) ≡ false }
-    ensures stops { result < length bytes.now → texts.needs_escape (slice_index bytes.now result) ≡ true }
+// A string between quotes.
+pub fn write_quoted(text: &mut String, value: &str) -> Result<(), AllocError>
+    ensures { IfOk result (λ _. string_bytes text.new ≡ string_bytes text.old ++ quoted value.now) }
 {
+    text.push('"')?;
+    let bytes = value.as_bytes();
+    let mut written = 0;
     for (i, byte) in bytes.iter().enumerate() {
         if needs_escape(*byte) {
-            return i;
+            text.push_str(&value[written..i])?;
+            write_escape(text, *byte)?;
+            written = i + 1;
         }
     }
-    bytes.len()
-}
-
-// The text before the first byte that does not stand for itself, that byte, and the text behind it.
-fn split_at_escape(text: &str) -> Option<(&str, u8, &str)>
-    ensures none { MatchOption result (quoted_bytes text.now ≡ text.now) (λ p. quoted_bytes text.now ≡ p.0.now ++ (quoted_byte p.1 ++ quoted_bytes p.2.now)) }
-    ensures shorter { IfSome result (λ p. length p.2.now < length text.now) }
-    ensures escape { IfSome result (λ p. texts.needs_escape p.1 ≡ true) }
-{
-    let bytes = text.as_bytes();
-    let at = plain_len(bytes);
-    if at < bytes.len() {
-        Some((&text[..at], bytes[at], &text[at + 1..]))
-    } else {
-        None
-    }
-}
-
-// A string between quotes.
-pub fn write_quoted(text: &mut String, value: &str) -> Result<(), WriteError>
-    ensures ok { IfOk result (λ _. string_bytes text.new ≡ string_bytes text.old ++ quoted value.now) }
-    ensures err { IfErr result (λ e. e ≡ OutOfMemory) }
-{
-    text.push_str("\"")?;
-    let mut rest = value;
-    while let Some((plain, byte, behind)) = split_at_escape(rest) {
-        text.push_str(plain)?;
-        push_escape(text, byte)?;
-        rest = behind;
-    }
-    text.push_str(rest)?;
-    text.push_str("\"")?;
+    text.push_str(&value[written..])?;
+    text.push('"')?;
     Ok(())
 }
 
 fn is_bare(byte: u8) -> bool
     ensures { result ≡ texts.is_bare byte }
 {
-    byte.is_ascii_alphanumeric() || byte == b'-' || byte == b'_'
+    CLASSES[byte as usize] == b'b'
 }
 
 fn are_bare(bytes: &[u8]) -> bool
@@ -111,7 +98,7 @@ fn are_bare(bytes: &[u8]) -> bool
 }
 
 // Whether a key needs no quotes.
-#[tactic(auto, using(crate::proofs::Quoting::is_bare_key_some))]
+#[tactic(auto, using(crate::proofs::QuotedUpToEscape::is_bare_key_some))]
 fn is_bare_key(key: &str) -> bool
     ensures { result ≡ is_bare_key key.now }
 {
@@ -119,22 +106,40 @@ fn is_bare_key(key: &str) -> bool
 }
 
 // A key: bare where it can be, else between quotes.
-pub fn write_key(text: &mut String, key: &str) -> Result<(), WriteError>
-    ensures ok { IfOk result (λ _. string_bytes text.new ≡ string_bytes text.old ++ written_key key.now) }
-    ensures err { IfErr result (λ e. e ≡ OutOfMemory) }
+pub fn write_key(text: &mut String, key: &str) -> Result<(), AllocError>
+    ensures { IfOk result (λ _. string_bytes text.new ≡ string_bytes text.old ++ written_key key.now) }
 {
     if is_bare_key(key) {
-        text.push_str(key)?;
+        text.push_str(key)
     } else {
-        write_quoted(text, key)?;
+        write_quoted(text, key)
     }
-    Ok(())
+}
+
+pub fn write_signed(text: &mut String, n: i64) -> Result<(), AllocError>
+    ensures { IfOk result (λ _. string_bytes text.new ≡ string_bytes text.old ++ signed_decimal n) }
+{
+    if n < 0 {
+        write!(text, "{n}")
+    } else {
+        write_unsigned(text, n.unsigned_abs())
+    }
+}
+
+#[tactic(auto, using(std::proofs::lemmas::Fmt::decimal_digit))]
+pub fn write_unsigned(text: &mut String, n: u64) -> Result<(), AllocError>
+    ensures { IfOk result (λ _. string_bytes text.new ≡ string_bytes text.old ++ decimal n) }
+{
+    if n < 10 {
+        text.push(char::from(b'0' + n as u8))
+    } else {
+        write!(text, "{n}")
+    }
 }
 
 // The elements of an array of bytes.
-pub fn write_numbers(text: &mut String, numbers: &[u8]) -> Result<(), WriteError>
-    ensures ok { IfOk result (λ _. string_bytes text.new ≡ string_bytes text.old ++ written_numbers numbers.now) }
-    ensures err { IfErr result (λ e. e ≡ OutOfMemory) }
+pub fn write_numbers(text: &mut String, numbers: &[u8]) -> Result<(), AllocError>
+    ensures { IfOk result (λ _. string_bytes text.new ≡ string_bytes text.old ++ written_numbers numbers.now) }
 {
     for (i, number) in numbers.iter().enumerate() {
         if i > 0 {

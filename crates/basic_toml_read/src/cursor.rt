@@ -2,12 +2,12 @@
 ghost use Rattle.std.specs.Prelude.{◌≡◌, ◌≤◌, ℕ, Some, length};
 ghost use Rattle.std.specs.Str.{IsUtf8, IsCharBoundary};
 ghost use Rattle.basic_toml_tokens.specs.Text.{start_of};
-ghost use Rattle.basic_toml_tokens.specs.TokenAt.{Lexeme, sign_of};
-ghost use Rattle.basic_toml_tokens.specs.Tokens.{TokenAt, lexeme_of};
+ghost use Rattle.basic_toml_tokens.specs.TokenAt.{Lexeme, punctuation_of};
+ghost use Rattle.basic_toml_tokens.specs.Token.{TokenAt, lexeme_of};
 ghost use Rattle.basic_toml_tokens.specs.Reading.{between};
-ghost use Rattle.basic_toml_read.specs.Keyed.{ReadsKey};
-ghost use Rattle.basic_toml_read.specs.Taking as spec;
-ghost use Rattle.basic_toml_read.specs.Taking.{StopsApart, code_of, TakesToken, TakesOnly, EatsSign, IsWordOf, TakesWord, IsLooked, LooksForWord, SkipsWord};
+ghost use Rattle.basic_toml_read.specs.Key.{ReadsKey};
+ghost use Rattle.basic_toml_read.specs.Cursor as spec;
+ghost use Rattle.basic_toml_read.specs.Cursor.{StopsApart, code_of, TakesToken, TakesOnly, EatsPunctuation, IsWordOf, TakesWord, IsLooked, LooksForWord, SkipsWord};
 
 use crate::ReadError;
 use crate::key::Key;
@@ -15,7 +15,7 @@ use basic_toml_tokens::{Error, Span, Token, Tokenizer};
 use std::alloc::Global;
 use std::marker::Model;
 
-/// Stands at a place of a text, and takes tokens from there on.
+/// Stands at an offset of a text, and takes tokens from there on.
 #[derive(Drop)]
 pub(crate) struct Cursor<'a> {
     text: &'a str,
@@ -35,9 +35,9 @@ impl<'a> Model for Cursor<'a> {
 }
 
 impl<'a> Cursor<'a> {
-    /// Stands at the start of a text, behind a U+FEFF.
+    /// Stands at the start of a text, after a U+FEFF.
     pub fn new(text: &'a str) -> Cursor<'a>
-        ensures { result ≡ record { text = text.now; place = start_of text.now } }
+        ensures { result ≡ record { text = text.now; offset = start_of text.now } }
     {
         Cursor {
             text,
@@ -45,7 +45,18 @@ impl<'a> Cursor<'a> {
         }
     }
 
-    /// Another that stands at the same place.
+    /// Stands at an offset.
+    pub fn at(text: &'a str, at: usize) -> Cursor<'a>
+        requires { IsCharBoundary text.now at }
+        ensures { result ≡ record { text = text.now; offset = at } }
+    {
+        Cursor {
+            text,
+            tokens: Tokenizer::at(text, at),
+        }
+    }
+
+    /// Another that stands at the same offset.
     pub fn fork(&self) -> Cursor<'a>
         ensures { result ≡ self.now }
     {
@@ -57,14 +68,14 @@ impl<'a> Cursor<'a> {
 
     /// The byte offset where it stands.
     pub fn current(&mut self) -> usize
-        ensures place { result ≡ self.old.place }
+        ensures offset { result ≡ self.old.offset }
         ensures same { self.new ≡ self.old }
         ensures utf8 { IsUtf8 self.old.text }
     {
         self.tokens.current()
     }
 
-    /// The text from one place up to another.
+    /// The text from one offset up to another.
     pub fn slice(&self, start: usize, end: usize) -> &'a str
         requires forward { start ≤ end }
         requires begins { IsCharBoundary self.now.text start }
@@ -78,7 +89,7 @@ impl<'a> Cursor<'a> {
     /// Takes the next token, and answers where it stood; `None` at the end of the text.
     pub fn next(&mut self, alloc: Global) -> Result<Option<(Span, Token<'a>)>, ReadError>
         ensures answers { TakesToken self.old self.new result }
-        ensures only { (l : Lexeme) (end : ℕ) → TokenAt self.old.text self.old.place l end → TakesOnly l result }
+        ensures only { (l : Lexeme) (end : ℕ) → TokenAt self.old.text self.old.offset l end → TakesOnly l result }
         ensures apart { StopsApart self.old result }
     {
         Ok(self.tokens.next(alloc)?)
@@ -86,8 +97,8 @@ impl<'a> Cursor<'a> {
 
     /// Takes a sign, a token of one character, if it stands there.
     pub fn eat(&mut self, alloc: Global, sign: Token<'a>) -> Result<bool, ReadError>
-        requires { sign_of (code_of (lexeme_of sign)) ≡ Some (lexeme_of sign) }
-        ensures { EatsSign (code_of (lexeme_of sign.entry)) self.old self.new result }
+        requires { punctuation_of (code_of (lexeme_of sign)) ≡ Some (lexeme_of sign) }
+        ensures { EatsPunctuation (code_of (lexeme_of sign.entry)) self.old self.new result }
     {
         Ok(self.tokens.eat(alloc, sign)?)
     }
@@ -109,15 +120,15 @@ impl<'a> Cursor<'a> {
     {
         let (span, text) = self.tokens.table_key(alloc)?;
         Ok(Key {
-            place: span.start,
+            offset: span.start,
             text,
         })
     }
 
     /// Takes the words, periods and pluses that stand there without anything between them. The only
-    /// error is that memory was refused, for a string behind them.
+    /// error is that memory was refused, for a string after them.
     pub fn skip_word(&mut self, alloc: Global) -> Result<(), ReadError>
-        requires { IsCharBoundary self.old.text self.old.place }
+        requires { IsCharBoundary self.old.text self.old.offset }
         ensures { SkipsWord self.old self.new result }
     {
         while self.is_at_word(alloc)? {
@@ -136,7 +147,7 @@ impl<'a> Cursor<'a> {
     }
 }
 
-// Whether what `peek` answers is a word, a period or a plus. A fault is none, but want of memory is answered.
+// Whether what `peek` answers is a word, a period or a plus. An error is none, but want of memory is answered.
 fn looks_for_word(ahead: Result<Option<(Span, Token<'_>)>, Error>) -> Result<bool, ReadError>
     ensures { IsLooked ahead.entry result }
 {

@@ -1,16 +1,16 @@
 //! Why a text is not read.
 ghost use Rattle.std.specs.Prelude.{◌≡◌, map, string_bytes};
-ghost use Rattle.basic_toml_read.specs.ErrorView.{kind_of};
+ghost use Rattle.basic_toml_read.specs.Error.{kind_of};
 
 use std::alloc::AllocError;
 use std::marker::Model;
 
-/// What a fault is.
+/// What an error is.
 #[derive(Debug, Drop)]
 pub enum ReadErrorKind {
     /// A control character in a string.
     InvalidCharInString(char),
-    /// A character behind a backslash that begins no escape.
+    /// A character after a backslash that begins no escape.
     InvalidEscape(char),
     /// A character of `\u` or `\U` that is no hexadecimal digit.
     InvalidHexEscape(char),
@@ -49,24 +49,24 @@ pub enum ReadErrorKind {
     RedefineAsArray,
     /// A key or a bracket within 128 others.
     NestedTooDeeply,
-    /// A type's own fault, with its message.
+    /// A type's own error, with its message.
     Custom(String),
     /// Memory that was refused.
     OutOfMemory,
 }
 
-/// Why a text was not read: the fault, its place, and the keys that lead there.
+/// Why a text was not read: the error, its offset, and the keys that lead there.
 #[derive(Debug, Drop)]
 pub struct ReadError {
     kind: ReadErrorKind,
-    place: Option<usize>,
+    offset: Option<usize>,
     // `None` where there are no keys
     key_path: Option<Vec<String>>,
 }
 
 impl Model for ReadError {
-    ghost use Rattle.basic_toml_read.specs.Faults.{Fault};
-    ghost use Rattle.basic_toml_read.specs.ErrorView.{fault_of};
+    ghost use Rattle.basic_toml_grammar.specs.Faults.{Fault};
+    ghost use Rattle.basic_toml_read.specs.Error.{fault_of};
 
     ghost Value = { Fault };
 
@@ -75,7 +75,7 @@ impl Model for ReadError {
 
 impl ReadError {
     ghost use Rattle.std.specs.Prelude.{Some, []};
-    ghost use Rattle.basic_toml_read.specs.GrammarFaults.{fault_at};
+    ghost use Rattle.basic_toml_grammar.specs.GrammarFaults.{fault_at};
 
     /// What it is.
     pub fn kind(&self) -> &ReadErrorKind
@@ -84,11 +84,11 @@ impl ReadError {
         &self.kind
     }
 
-    /// The byte offset where it stands, if it has a place.
+    /// The byte offset where it stands, if it has an offset.
     pub fn place(&self) -> Option<usize>
-        ensures { result ≡ self.now.place }
+        ensures { result ≡ self.now.offset }
     {
-        self.place
+        self.offset
     }
 
     /// The keys that lead to it: those of the section, and the first key of the row.
@@ -101,34 +101,34 @@ impl ReadError {
         }
     }
 
-    /// A fault of the grammar.
-    pub(crate) fn at(place: usize, kind: ReadErrorKind) -> ReadError
-        ensures { result ≡ fault_at (kind_of kind) place }
+    /// An error of the grammar.
+    pub(crate) fn at(offset: usize, kind: ReadErrorKind) -> ReadError
+        ensures { result ≡ fault_at (kind_of kind) offset }
     {
         ReadError {
             kind,
-            place: Some(place),
+            offset: Some(offset),
             key_path: None,
         }
     }
 }
 
 impl From<AllocError> for ReadError {
-    ghost use Rattle.basic_toml_read.specs.ErrorView.{want_of_memory};
+    ghost use Rattle.basic_toml_read.specs.Error.{want_of_memory};
 
     ghost from_gives = { λ _ error. error ≡ want_of_memory };
 
     fn from(_error: AllocError) -> ReadError {
         ReadError {
             kind: ReadErrorKind::OutOfMemory,
-            place: None,
+            offset: None,
             key_path: None,
         }
     }
 }
 
 impl From<basic_toml_tokens::Error> for ReadError {
-    ghost use Rattle.basic_toml_read.specs.ErrorView.{token_fault};
+    ghost use Rattle.basic_toml_read.specs.Error.{token_fault};
 
     ghost from_gives = { λ fault error. error ≡ token_fault fault };
 
@@ -155,7 +155,7 @@ impl From<basic_toml_tokens::Error> for ReadError {
             } => ReadError::at(at, ReadErrorKind::Wanted { expected, found }),
             Error::OutOfMemory => ReadError {
                 kind: ReadErrorKind::OutOfMemory,
-                place: None,
+                offset: None,
                 key_path: None,
             },
         }

@@ -2,9 +2,9 @@
 
 use std::borrow::CowStr;
 
-/// A key, and the place where it begins.
+/// A key, and the offset where it begins.
 #[derive(Drop)]
 pub(crate) struct Key<'a> {
-    pub place: usize,
+    pub offset: usize,
     pub text: CowStr<'a>,
 }

@@ -3,12 +3,21 @@
 
 mod cursor;
 mod error;
-mod fault;
+mod explain;
+mod front;
+mod header;
 mod key;
-pub mod laws;
+#[cfg(test)]
+mod list_tests;
 mod number;
-mod part;
+mod reader;
+mod scalar;
+mod section;
+mod stop;
 #[cfg(test)]
 mod tests;
+mod values;
 
 pub use error::{ReadError, ReadErrorKind};
+pub use reader::sections;
+pub use section::Section;

@@ -3,20 +3,23 @@ ghost use Rattle.std.specs.Prelude.{◌≡◌, ◌+◌, ◌-◌, ◌<◌, ◌≤
 ghost use Rattle.std.specs.Option.{option_map};
 ghost use Rattle.std.specs.Str.{IsCharBoundary, bytes_eq};
 ghost use Rattle.basic_toml_tokens.specs.Text.{text_at, run, is_keylike};
-ghost use Rattle.basic_toml_tokens.specs.Tokens.{lexeme_of};
+ghost use Rattle.basic_toml_tokens.specs.Token.{lexeme_of};
 ghost use Rattle.basic_toml_tokens.specs.Reading.{text_of};
 ghost use Rattle.basic_toml_value.specs.Numbers as numbers;
-ghost use Rattle.basic_toml_read.specs.Grammar as grammar;
-ghost use Rattle.basic_toml_read.specs.Grammar.{is_wordlike};
-ghost use Rattle.basic_toml_read.specs.NumberFaults as faults;
-ghost use Rattle.basic_toml_read.specs.Taking.{IsBehindWord};
-ghost use Rattle.basic_toml_read.specs.Words as spec;
-ghost use Rattle.basic_toml_read.specs.Faults as kinds;
-ghost use Rattle.basic_toml_read.specs.GrammarFaults.{fault_at};
-ghost use Rattle.basic_toml_read.specs.Words.{IsFirst, ReadsNumber, raw_of, TakesWhole, IsJointNext, IsNumberStop, IsWordStop, ReadsWord};
+ghost use Rattle.basic_toml_grammar.specs.Grammar as grammar;
+ghost use Rattle.basic_toml_grammar.specs.Grammar.{is_wordlike};
+ghost use Rattle.basic_toml_grammar.specs.NumberFaults as faults;
+ghost use Rattle.basic_toml_read.specs.Cursor.{IsAfterWord};
+ghost use Rattle.basic_toml_read.specs.Number as spec;
+ghost use Rattle.basic_toml_grammar.specs.Faults as kinds;
+ghost use Rattle.basic_toml_grammar.specs.GrammarFaults.{fault_at};
+ghost use Rattle.basic_toml_read.specs.Number.{IsFirst, ReadsNumber, raw_of, TakesWhole, IsJointNext, IsNumberStop, IsWordStop, ReadsWord};
 
+mod fault;
+mod part;
+
+use self::fault::{begins_number, takes_no_plus, word_fault};
 use crate::cursor::Cursor;
-use crate::fault::{begins_number, takes_no_plus};
 use crate::{ReadError, ReadErrorKind};
 use basic_toml_tokens::Token;
 use basic_toml_value::{Float, float_of, integer_of};
@@ -48,7 +51,7 @@ fn first_of<'a>(token: Token<'a>) -> First<'a>
     }
 }
 
-fn word_value(alloc: Global, word: &str) -> Result<Option<Word>, AllocError>
+pub(crate) fn word_value(alloc: Global, word: &str) -> Result<Option<Word>, AllocError>
     ensures { IfOk result (λ found. option_map raw_of found ≡ grammar.word_value word.now) }
 {
     match word {
@@ -59,7 +62,8 @@ fn word_value(alloc: Global, word: &str) -> Result<Option<Word>, AllocError>
 }
 
 fn number_value(alloc: Global, word: &str) -> Result<Option<Word>, AllocError>
-    ensures { IfOk result (λ found. option_map raw_of found ≡ grammar.number_value (numbers.integer_of word.now) (numbers.float_of word.now)) }
+    ensures { IfOk result (λ found. option_map raw_of found
+        ≡ grammar.number_value (numbers.integer_of word.now) (numbers.float_of word.now)) }
 {
     if let Some(number) = integer_of(word) {
         return Ok(Some(Word::Integer(number)));
@@ -82,10 +86,11 @@ fn period_in(word: &[u8]) -> Option<usize>
     word.iter().position(|byte| *byte == b'.')
 }
 
-// The place of a value that begins at `start`, with its word at `at`: a float with a fraction has the place behind the period.
-fn value_place(start: usize, at: usize, word: &str, value: &Word) -> usize
+// The offset of a value that begins at `start`, with its word at `at`: a float with a fraction has the offset after
+// the period.
+pub(crate) fn value_offset(start: usize, at: usize, word: &str, value: &Word) -> usize
     requires { at + length word.now < 2 ^ 64 }
-    ensures { result ≡ spec.value_place start at word.now (raw_of value.now) }
+    ensures { result ≡ spec.value_offset start at word.now (raw_of value.now) }
 {
     match value {
         Word::Float(_) => match period_in(word.as_bytes()) {
@@ -96,135 +101,135 @@ fn value_place(start: usize, at: usize, word: &str, value: &Word) -> usize
     }
 }
 
-impl<'a> Cursor<'a> {
-    /// The number, `true` or `false` that stands there, and its place. `None` where another token stands,
-    /// which is taken, or the text is over.
-    ///
-    /// A word goes on over periods and pluses. Where only a beginning of it is a value, the fault says what
-    /// is found where `wanted` should stand.
-    pub(crate) fn number(
-        &mut self,
-        alloc: Global,
-        wanted: &'static str,
-    ) -> Result<Option<(usize, Word)>, ReadError>
-        ensures { ReadsNumber wanted.now self.old self.new result }
-    {
-        let start = self.current();
-        let Some((_, token)) = self.next(alloc)? else {
-            return Ok(None);
-        };
-        match first_of(token) {
-            First::Word(word) => match self.word(alloc, word, wanted) {
-                Ok(found) => Ok(Some(found)),
-                Err(error) => Err(error),
-            },
-            First::Plus => match self.plus(alloc, start, wanted) {
-                Ok(found) => Ok(Some(found)),
-                Err(error) => Err(error),
-            },
-            First::Other => Ok(None),
-        }
+/// The number, `true` or `false` that stands there, and its offset. `None` where another token stands,
+/// which is taken, or the text is over.
+///
+/// A word goes on over periods and pluses. Where only a beginning of it is a value, the error says what
+/// is found where `wanted` should stand.
+pub(crate) fn number(
+    cursor: &mut Cursor<'_>,
+    alloc: Global,
+    wanted: &'static str,
+) -> Result<Option<(usize, Word)>, ReadError>
+    ensures { ReadsNumber wanted.now cursor.old cursor.new result }
+{
+    let start = cursor.current();
+    let Some((_, token)) = cursor.next(alloc)? else {
+        return Ok(None);
+    };
+    match first_of(token) {
+        First::Word(word) => Ok(Some(read_word(cursor, alloc, word, wanted)?)),
+        First::Plus => Ok(Some(read_plus(cursor, alloc, start, wanted)?)),
+        First::Other => Ok(None),
     }
+}
 
-    // The value that begins with this word, behind which the cursor stands, and its place.
-    fn word(
-        &mut self,
-        alloc: Global,
-        word: &str,
-        wanted: &'static str,
-    ) -> Result<(usize, Word), ReadError>
-        requires { IsBehindWord (self.old.place - length word.now) word.now self.old }
-        ensures { ReadsWord wanted.now (length self.old.text) (text_at self.old.text (self.old.place - length word.now)) self.new result }
-    {
-        let mut behind = self.fork();
-        let start = self.current() - word.len();
-        let text = self.whole_word(alloc, word)?;
-        if let Some(value) = word_value(alloc, text)? {
-            return Ok((value_place(start, start, text, &value), value));
-        }
-        Err(behind.word_error(alloc, word, wanted))
+// The value that begins with this word, after which the cursor stands, and its offset.
+fn read_word(
+    cursor: &mut Cursor<'_>,
+    alloc: Global,
+    word: &str,
+    wanted: &'static str,
+) -> Result<(usize, Word), ReadError>
+    requires { IsAfterWord (cursor.old.offset - length word.now) word.now cursor.old }
+    ensures { ReadsWord wanted.now (length cursor.old.text)
+        (text_at cursor.old.text (cursor.old.offset - length word.now)) cursor.new result }
+{
+    let mut after = cursor.fork();
+    let start = cursor.current() - word.len();
+    let text = whole_word(cursor, alloc, word)?;
+    if let Some(value) = word_value(alloc, text)? {
+        return Ok((value_offset(start, start, text, &value), value));
     }
+    Err(word_error(&mut after, alloc, word, wanted))
+}
 
-    // The same with a plus at `start`, behind which the cursor stands.
-    fn plus(
-        &mut self,
-        alloc: Global,
-        start: usize,
-        wanted: &'static str,
-    ) -> Result<(usize, Word), ReadError>
-        requires boundary { IsCharBoundary self.old.text self.old.place }
-        requires sign { text_at self.old.text start ≡ (start, 43) ∷ text_of self.old }
-        ensures { ReadsWord wanted.now (length self.old.text) (text_at self.old.text start) self.new result }
-    {
-        let at = self.current();
-        let Some(word) = self.keylike(alloc)? else {
-            return Err(ReadError::at(at, ReadErrorKind::NumberInvalid));
-        };
-        if takes_no_plus(word.as_bytes()) {
-            return Err(ReadError::at(at, ReadErrorKind::NumberInvalid));
-        }
-        let mut behind = self.fork();
-        let text = self.whole_word(alloc, word)?;
-        if let Some(value) = number_value(alloc, text)? {
-            return Ok((value_place(start, at, text, &value), value));
-        }
-        Err(behind.number_error(alloc, word, wanted))
+// The same with a plus at `start`, after which the cursor stands.
+fn read_plus(
+    cursor: &mut Cursor<'_>,
+    alloc: Global,
+    start: usize,
+    wanted: &'static str,
+) -> Result<(usize, Word), ReadError>
+    requires boundary { IsCharBoundary cursor.old.text cursor.old.offset }
+    requires sign { text_at cursor.old.text start ≡ (start, 43) ∷ text_of cursor.old }
+    ensures { ReadsWord wanted.now (length cursor.old.text) (text_at cursor.old.text start) cursor.new result }
+{
+    let at = cursor.current();
+    let Some(word) = cursor.keylike(alloc)? else {
+        return Err(ReadError::at(at, ReadErrorKind::NumberInvalid));
+    };
+    if takes_no_plus(word.as_bytes()) {
+        return Err(ReadError::at(at, ReadErrorKind::NumberInvalid));
     }
-
-    // Takes what goes on with a word, periods and pluses between words too, and answers all of it.
-    fn whole_word(&mut self, alloc: Global, word: &str) -> Result<&'a str, ReadError>
-        requires { IsBehindWord (self.old.place - length word.now) word.now self.old }
-        ensures { TakesWhole (self.old.place - length word.now) self.old self.new result }
-    {
-        let start = self.current() - word.len();
-        self.skip_word(alloc)?;
-        let end = self.current();
-        Ok(self.slice(start, end))
+    let mut after = cursor.fork();
+    let text = whole_word(cursor, alloc, word)?;
+    if let Some(value) = number_value(alloc, text)? {
+        return Ok((value_offset(start, at, text, &value), value));
     }
+    Err(number_error(&mut after, alloc, word, wanted))
+}
 
-    // Why a word and what goes on with it are no value.
-    fn word_error(&mut self, alloc: Global, word: &str, wanted: &'static str) -> ReadError
-        requires behind { IsBehindWord (self.old.place - length word.now) word.now self.old }
-        requires no_value { grammar.word_value (run is_wordlike (text_at self.old.text (self.old.place - length word.now))) ≡ None }
-        ensures { IsWordStop (length self.old.text) wanted.now (text_at self.old.text (self.old.place - length word.now)) result }
-    {
-        if is_boolean(word) {
-            return self.joint_error(alloc, wanted);
-        }
-        if !begins_number(word) {
-            let start = self.current() - word.len();
-            return ReadError::at(start, ReadErrorKind::UnquotedString);
-        }
-        self.number_error(alloc, word, wanted)
+// Takes what goes on with a word, periods and pluses between words too, and answers all of it.
+fn whole_word<'a>(cursor: &mut Cursor<'a>, alloc: Global, word: &str) -> Result<&'a str, ReadError>
+    requires { IsAfterWord (cursor.old.offset - length word.now) word.now cursor.old }
+    ensures { TakesWhole (cursor.old.offset - length word.now) cursor.old cursor.new result }
+{
+    let start = cursor.current() - word.len();
+    cursor.skip_word(alloc)?;
+    let end = cursor.current();
+    Ok(cursor.slice(start, end))
+}
+
+// Why a word and what goes on with it are no value.
+fn word_error(cursor: &mut Cursor<'_>, alloc: Global, word: &str, wanted: &'static str) -> ReadError
+    requires after { IsAfterWord (cursor.old.offset - length word.now) word.now cursor.old }
+    requires no_value { grammar.word_value
+        (run is_wordlike (text_at cursor.old.text (cursor.old.offset - length word.now))) ≡ None }
+    ensures { IsWordStop (length cursor.old.text) wanted.now
+        (text_at cursor.old.text (cursor.old.offset - length word.now)) result }
+{
+    if is_boolean(word) {
+        return joint_error(cursor, alloc, wanted);
     }
-
-    // The same of a number.
-    fn number_error(&mut self, alloc: Global, word: &str, wanted: &'static str) -> ReadError
-        requires behind { IsBehindWord (self.old.place - length word.now) word.now self.old }
-        requires no_value { let text = run is_wordlike (text_at self.old.text (self.old.place - length word.now)) in
-            grammar.number_value (numbers.integer_of text) (numbers.float_of text) ≡ None }
-        ensures { let start = self.old.place - length word.now in
-            IsNumberStop (length self.old.text) wanted.now (faults.word_fault (length self.old.text) start word.now (text_of self.old)) (text_at self.old.text start) result }
-    {
-        match self.word_fault(alloc, word) {
-            Ok(Some(place)) => ReadError::at(place, ReadErrorKind::NumberInvalid),
-            Ok(None) => self.joint_error(alloc, wanted),
-            Err(error) => error,
-        }
+    if !begins_number(word) {
+        let start = cursor.current() - word.len();
+        return ReadError::at(start, ReadErrorKind::UnquotedString);
     }
+    number_error(cursor, alloc, word, wanted)
+}
 
-    // What stands behind a word that is over, where another thing is wanted.
-    fn joint_error(&mut self, alloc: Global, wanted: &'static str) -> ReadError
-        requires some { run is_wordlike (text_of self.old) ≡ [] → ⊥ }
-        requires no_word { run is_keylike (text_of self.old) ≡ [] }
-        ensures { IsJointNext wanted.now self.old result }
-    {
-        let at = self.current();
-        match self.next(alloc) {
-            Ok(Some((_, token))) => wanted_at(at, wanted, token.describe()),
-            Ok(None) => wanted_at(at, wanted, "eof"),
-            Err(error) => error,
-        }
+// The same of a number.
+fn number_error(
+    cursor: &mut Cursor<'_>,
+    alloc: Global,
+    word: &str,
+    wanted: &'static str,
+) -> ReadError
+    requires after { IsAfterWord (cursor.old.offset - length word.now) word.now cursor.old }
+    requires no_value { let text = run is_wordlike (text_at cursor.old.text (cursor.old.offset - length word.now)) in
+        grammar.number_value (numbers.integer_of text) (numbers.float_of text) ≡ None }
+    ensures { let start = cursor.old.offset - length word.now in
+        IsNumberStop (length cursor.old.text) wanted.now (faults.word_fault (length cursor.old.text) start word.now (text_of cursor.old)) (text_at cursor.old.text start) result }
+{
+    match word_fault(cursor, alloc, word) {
+        Ok(Some(offset)) => ReadError::at(offset, ReadErrorKind::NumberInvalid),
+        Ok(None) => joint_error(cursor, alloc, wanted),
+        Err(error) => error,
+    }
+}
+
+// What stands after a word that is over, where another thing is wanted.
+fn joint_error(cursor: &mut Cursor<'_>, alloc: Global, wanted: &'static str) -> ReadError
+    requires some { run is_wordlike (text_of cursor.old) ≡ [] → ⊥ }
+    requires no_word { run is_keylike (text_of cursor.old) ≡ [] }
+    ensures { IsJointNext wanted.now cursor.old result }
+{
+    let at = cursor.current();
+    match cursor.next(alloc) {
+        Ok(Some((_, token))) => wanted_at(at, wanted, token.describe()),
+        Ok(None) => wanted_at(at, wanted, "eof"),
+        Err(error) => error,
     }
 }
 

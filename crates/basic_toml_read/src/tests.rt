@@ -1,17 +1,17 @@
 // What each number gives, and each text that is none; the values by their debug text.
 use crate::cursor::Cursor;
-use crate::number::Word;
+use crate::number::{Word, number};
 use crate::{ReadError, ReadErrorKind};
 use std::alloc::{AllocError, Global};
 use std::test::Fail;
 
-// The place and the value of what a text begins with, or the place of its fault and the fault.
+// The offset and the value of what a text begins with, or the offset of its error and the error.
 fn shown(alloc: Global, text: &str) -> Result<String, AllocError> {
-    match Cursor::new(text).number(alloc, "newline") {
-        Ok(Some((place, Word::Boolean(value)))) => format!(in alloc; "{place} {value}"),
-        Ok(Some((place, Word::Integer(value)))) => format!(in alloc; "{place} {value}"),
-        Ok(Some((place, Word::Float(value)))) => {
-            format!(in alloc; "{place} float {}", value.as_str())
+    match number(&mut Cursor::new(text), alloc, "newline") {
+        Ok(Some((offset, Word::Boolean(value)))) => format!(in alloc; "{offset} {value}"),
+        Ok(Some((offset, Word::Integer(value)))) => format!(in alloc; "{offset} {value}"),
+        Ok(Some((offset, Word::Float(value)))) => {
+            format!(in alloc; "{offset} float {}", value.as_str())
         }
         Ok(None) => String::from_str(alloc, "none"),
         Err(error) => shown_error(alloc, &error),
@@ -19,14 +19,14 @@ fn shown(alloc: Global, text: &str) -> Result<String, AllocError> {
 }
 
 fn shown_error(alloc: Global, error: &ReadError) -> Result<String, AllocError> {
-    let place = error.place().unwrap_or(0);
+    let offset = error.place().unwrap_or(0);
     match error.kind() {
-        ReadErrorKind::NumberInvalid => format!(in alloc; "{place} invalid"),
-        ReadErrorKind::UnquotedString => format!(in alloc; "{place} unquoted"),
-        ReadErrorKind::Unexpected(c) => format!(in alloc; "{place} unexpected {c}"),
-        ReadErrorKind::UnterminatedString => format!(in alloc; "{place} unterminated"),
+        ReadErrorKind::NumberInvalid => format!(in alloc; "{offset} invalid"),
+        ReadErrorKind::UnquotedString => format!(in alloc; "{offset} unquoted"),
+        ReadErrorKind::Unexpected(c) => format!(in alloc; "{offset} unexpected {c}"),
+        ReadErrorKind::UnterminatedString => format!(in alloc; "{offset} unterminated"),
         ReadErrorKind::Wanted { expected, found } => {
-            format!(in alloc; "{place} expected {expected}, found {found}")
+            format!(in alloc; "{offset} expected {expected}, found {found}")
         }
         _ => String::from_str(alloc, "other"),
     }
@@ -57,7 +57,7 @@ fn reads_numbers(rt: HostRuntime) -> Result<(), Fail> {
 }
 
 #[test]
-fn places_faults_of_numbers(rt: HostRuntime) -> Result<(), Fail> {
+fn offsets_faults_of_numbers(rt: HostRuntime) -> Result<(), Fail> {
     let cases = [
         ("1_", "0 invalid"),
         ("1_0_", "0 invalid"),

@@ -1,6 +1,7 @@
 -- What a fault calls a token (own).
 use Rattle.std.specs.Prelude.{ℕ, true, false, List, codes}
-use Rattle.basic_toml_tokens.specs.TokenAt.{Lexeme, whitespace, newline, comment, equals, period, comma, colon, plus, left_brace, right_brace, left_bracket, right_bracket, keylike, string}
+use Rattle.basic_toml_tokens.specs.TokenAt.{Lexeme, whitespace, newline, comment, equals, period, comma, colon, plus}
+use Rattle.basic_toml_tokens.specs.TokenAt.{left_brace, right_brace, left_bracket, right_bracket, keylike, string}
 
 abbrev pub description_of : Lexeme → List ℕ
 description_of (whitespace text) = codes "whitespace"

@@ -2,16 +2,16 @@
 ghost use Rattle.std.specs.Prelude.{◌≡◌, ◌<◌, length, false, slice_index};
 ghost use Rattle.std.specs.Str.{IsCharBoundary};
 ghost use Rattle.basic_toml_tokens.specs.Reading.{IsRun};
-ghost use Rattle.basic_toml_tokens.specs.Classes.{passes};
+ghost use Rattle.basic_toml_tokens.specs.Class.{passes};
 
 /// What a run is of. None holds a line feed or a carriage return.
 #[derive(Clone, Copy, Drop)]
-pub(crate) enum Class {
+pub enum Class {
     /// Spaces and tabs.
     Blank,
     /// Letters, digits, `-` and `_`.
     Keylike,
-    /// Tabs and all but control characters.
+    /// Tabs, and all characters from U+0020 on but U+007F.
     Comment,
     /// The same without `'`.
     Literal,
@@ -41,7 +41,7 @@ pub(crate) fn is_in(class: Class, byte: u8) -> bool
 
 /// Where the longest run of a class ends.
 #[inline]
-pub(crate) fn end_of_run(text: &str, at: usize, class: Class) -> usize
+pub fn end_of_run(text: &str, at: usize, class: Class) -> usize
     requires { IsCharBoundary text.now at }
     ensures run { IsRun (passes class) text.now at result }
     ensures stopped { result < length text.now → passes class (slice_index text.now result) ≡ false }

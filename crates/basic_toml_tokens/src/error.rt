@@ -1,32 +1,29 @@
-//! Why no token stands at a place, or not the one that is wanted.
-ghost use Rattle.std.specs.Prelude.{◌≡◌};
-
-use std::alloc::AllocError;
+//! Why no token stands at an offset, or not the one that is wanted.
 
 /// Why a call of a `Tokenizer` was refused. Places are byte offsets in the text.
 #[derive(Debug, Drop, PartialEq, Eq)]
 pub enum Error {
-    /// A control character in a string, and its place.
+    /// A control character in a string, below U+0020 or U+007F, and its offset.
     InvalidCharInString(usize, char),
-    /// A character behind a backslash that begins no escape, and its place.
+    /// A character after a backslash that begins no escape, and its offset.
     InvalidEscape(usize, char),
-    /// A character of `\u` or `\U` that is no hexadecimal digit, and its place.
+    /// A character of `\u` or `\U` that is no hexadecimal digit, and its offset.
     InvalidHexEscape(usize, char),
-    /// The number of `\u` or `\U` that is no character, and the place of the letter.
+    /// The number of `\u` or `\U` that is no character, and the offset of the letter.
     InvalidEscapeValue(usize, u32),
-    /// The place of a line feed in a one-line string.
+    /// The offset of a line feed in a one-line string.
     NewlineInString(usize),
-    /// A character that begins no token, and its place.
+    /// A character that begins no token, and its offset.
     Unexpected(usize, char),
-    /// The place of a string that the text ends in.
+    /// The offset of a string that the text ends in.
     UnterminatedString(usize),
-    /// The place of a line feed in a key. No call answers it, since no one-line string holds one.
+    /// The offset of a line feed in a key. No call answers it, since no one-line string holds one.
     NewlineInTableKey(usize),
-    /// The place of a multiline string where a key is wanted.
+    /// The offset of a multiline string where a key is wanted.
     MultilineStringKey(usize),
     /// Another token, or the end of the text.
     Wanted {
-        /// The place of what was found.
+        /// The offset of what was found.
         at: usize,
         /// What was wanted.
         expected: &'static str,
@@ -35,14 +32,4 @@ pub enum Error {
     },
     /// The copy of a string's value found no memory.
     OutOfMemory,
-}
-
-impl From<AllocError> for Error {
-    ghost use Rattle.basic_toml_tokens.specs.declared.error.Error.TheVariants.{OutOfMemory};
-
-    ghost from_gives = { λ _ error. error ≡ OutOfMemory };
-
-    fn from(_error: AllocError) -> Error {
-        Error::OutOfMemory
-    }
 }

@@ -1,13 +1,15 @@
 //! The tokens of a TOML text (v0.5.0, without dates and times).
 //!
-//! A `Tokenizer` stands at a place of a text and takes one `Token` after another, with the `Span`
+//! A `Tokenizer` stands at an offset of a text and takes one `Token` after another, with the `Span`
 //! where it stands, or answers the `Error` that stands there. Values of strings borrow the text
 //! where they can.
 #![tactic(auto)]
 
 mod class;
 mod error;
+pub mod laws;
 mod line;
+mod punctuation;
 mod quote;
 mod scan;
 mod span;
@@ -18,7 +20,12 @@ mod tests;
 mod token;
 mod tokenizer;
 
+pub use class::{Class, end_of_run};
 pub use error::Error;
+pub use punctuation::{after_feed, after_punctuation};
+pub use scan::scan as token_at;
 pub use span::Span;
+pub use step::start as start_of_text;
+pub use string::{Quoted, TokenStop, string as string_at};
 pub use token::Token;
 pub use tokenizer::Tokenizer;

@@ -2,15 +2,15 @@
 ghost use Rattle.std.specs.Prelude.{◌≡◌};
 ghost use Rattle.std.specs.Str.{IsCharBoundary};
 ghost use Rattle.basic_toml_tokens.specs.Text.{text_at};
-ghost use Rattle.basic_toml_tokens.specs.Lines.{IsLineEnd, IsCommentEnd};
+ghost use Rattle.basic_toml_tokens.specs.Line.{IsLineEnd, IsCommentEnd};
 
 use crate::Error;
 use crate::class::{Class, end_of_run};
 use crate::step::step;
-use crate::string::Refusal;
+use crate::string::TokenStop;
 
-/// Where the text goes on behind the next line feed.
-pub(crate) fn behind_line(text: &str, at: usize) -> usize
+/// Where the text goes on after the next line feed.
+pub(crate) fn after_line(text: &str, at: usize) -> usize
     requires { IsCharBoundary text.now at }
     ensures { IsLineEnd text.now at result }
 {
@@ -24,8 +24,8 @@ pub(crate) fn behind_line(text: &str, at: usize) -> usize
     end
 }
 
-/// Where the text goes on behind a comment and its line feed, or `None` where no comment stands.
-pub(crate) fn behind_comment(text: &str, at: usize) -> Result<Option<usize>, Refusal>
+/// Where the text goes on after a comment and its line feed, or `None` where no comment stands.
+pub(crate) fn after_comment(text: &str, at: usize) -> Result<Option<usize>, TokenStop>
     requires { IsCharBoundary text.now at }
     ensures { IsCommentEnd text.now at result }
 {
@@ -35,7 +35,7 @@ pub(crate) fn behind_comment(text: &str, at: usize) -> Result<Option<usize>, Ref
     let end = end_of_run(text, body, Class::Comment);
     match step(text, end) {
         Some(('\n', next)) => Ok(Some(next)),
-        Some((c, next)) => Err(Refusal {
+        Some((c, next)) => Err(TokenStop {
             error: Error::Unexpected(end, c),
             at: next,
         }),

@@ -3,12 +3,13 @@ ghost use Rattle.std.specs.Prelude.{◌≡◌, ◌≤◌, ◌<◌, ◌+◌, ◌^
 ghost use Rattle.std.specs.Str.{IsCharBoundary};
 ghost use Rattle.basic_toml_tokens.specs.Text.{text_at, after_run, is_blank};
 ghost use Rattle.basic_toml_tokens.specs.Strings.{is_quote, letter_value, is_space, is_plain, count_of};
-ghost use Rattle.basic_toml_tokens.specs.Scan.{hex_front, blanks_front, escape_front, front_of};
+ghost use Rattle.basic_toml_tokens.specs.BodyFront.{hex_front, blanks_front, escape_front, front_of};
 ghost use Rattle.basic_toml_tokens.specs.Reading.{IsStep};
-ghost use Rattle.basic_toml_tokens.specs.Ahead.{kind_of, IsReplaced, IsAhead, IsSpaceEnd, IsFeed, AreDelimiters};
+ghost use Rattle.basic_toml_tokens.specs.Quote.{kind_of, IsReplaced, IsAhead, IsSpaceEnd, AreDelimiters};
 
 use crate::Error;
 use crate::class::{Class, end_of_run};
+use crate::punctuation::after_feed;
 use crate::step::step;
 
 /// What a string stands between.
@@ -20,20 +21,20 @@ pub(crate) struct Quote {
     pub(crate) multiline: bool,
 }
 
-/// What stands at a place of a body. All places are byte offsets.
+/// What stands at an offset of a body. All offsets are byte offsets.
 #[derive(Drop)]
 pub(crate) enum Piece {
-    /// Bytes that stand for themselves, up to the place.
+    /// Bytes that stand for themselves, up to the offset.
     Verbatim(usize),
-    /// Bytes up to the place that stand for a character or for nothing.
+    /// Bytes up to the offset that stand for a character or for nothing.
     Replaced(Option<char>, usize),
-    /// The end of the string: what is content ends at the first place, the string at the second.
+    /// The end of the string: what is content ends at the first offset, the string at the second.
     Closed(usize, usize),
     /// None of these, and where the text goes on.
     Broken(Error, usize),
 }
 
-/// The character that a letter behind a backslash stands for.
+/// The character that a letter after a backslash stands for.
 fn letter(c: char) -> Option<char>
     ensures { result ≡ letter_value c }
 {
@@ -49,30 +50,19 @@ fn letter(c: char) -> Option<char>
     }
 }
 
-/// Where the text goes on behind a line feed, if one stands at the place.
-pub(crate) fn behind_feed(text: &str, at: usize) -> Option<usize>
-    requires { IsCharBoundary text.now at }
-    ensures { IsFeed text.now at result }
-{
-    match step(text, at) {
-        Some(('\n', next)) => Some(next),
-        _ => None,
-    }
-}
-
-/// Where the blanks and line feeds from the place on end.
+/// Where the blanks and line feeds from the offset on end.
 fn end_of_space(text: &str, at: usize) -> usize
     requires { IsCharBoundary text.now at }
     ensures { IsSpaceEnd text.now at result }
 {
     let mut end = end_of_run(text, at, Class::Blank);
-    while let Some(next) = behind_feed(text, end) {
+    while let Some(next) = after_feed(text, end) {
         end = end_of_run(text, next, Class::Blank);
     }
     end
 }
 
-/// What `digits` hexadecimal digits at the place stand for. Their letter stands at `letter`.
+/// What `digits` hexadecimal digits at the offset stand for. Their letter stands at `letter`.
 fn hex(text: &str, at: usize, digits: u32, letter: usize, start: usize) -> Piece
     requires boundary { IsCharBoundary text.now at }
     requires few { digits ≤ 8 }
@@ -81,14 +71,14 @@ fn hex(text: &str, at: usize, digits: u32, letter: usize, start: usize) -> Piece
     let mut number: u32 = 0;
     let mut next = at;
     for _ in 0..digits {
-        let Some((c, behind)) = step(text, next) else {
+        let Some((c, after)) = step(text, next) else {
             return Piece::Broken(Error::UnterminatedString(start), next);
         };
         let Some(digit) = c.to_digit(16) else {
-            return Piece::Broken(Error::InvalidHexEscape(next, c), behind);
+            return Piece::Broken(Error::InvalidHexEscape(next, c), after);
         };
         number = number * 16 + digit;
-        next = behind;
+        next = after;
     }
     match char::from_u32(number) {
         Some(c) => Piece::Replaced(Some(c), next),
@@ -96,10 +86,11 @@ fn hex(text: &str, at: usize, digits: u32, letter: usize, start: usize) -> Piece
     }
 }
 
-/// A continuation, from the place behind its backslash on, where `first` stands.
+/// A continuation, from the offset after its backslash on, where `first` stands.
 fn continuation(text: &str, at: usize, first: char, start: usize) -> Piece
     requires boundary { IsCharBoundary text.now at }
-    ensures { IsReplaced (blanks_front start (at, first) (after_run is_blank (text_at text.now at))) text.now at result }
+    ensures { IsReplaced (blanks_front start (at, first) (after_run is_blank (text_at text.now at))) text.now at
+        result }
 {
     let end = end_of_run(text, at, Class::Blank);
     match step(text, end) {
@@ -109,7 +100,7 @@ fn continuation(text: &str, at: usize, first: char, start: usize) -> Piece
     }
 }
 
-/// An escape or a continuation, from the place behind its backslash on.
+/// An escape or a continuation, from the offset after its backslash on.
 fn escape(text: &str, at: usize, quote: Quote, start: usize) -> Piece
     requires boundary { IsCharBoundary text.now at }
     ensures { IsReplaced (escape_front (kind_of quote) start (text_at text.now at)) text.now at result }
@@ -128,7 +119,7 @@ fn escape(text: &str, at: usize, quote: Quote, start: usize) -> Piece
     }
 }
 
-/// How many delimiters stand from the place on, up to five.
+/// How many delimiters stand from the offset on, up to five.
 pub(crate) fn delimiters(text: &str, at: usize, delimiter: u8) -> usize
     requires boundary { IsCharBoundary text.now at }
     requires quote { is_quote delimiter ≡ true }
@@ -142,7 +133,7 @@ pub(crate) fn delimiters(text: &str, at: usize, delimiter: u8) -> usize
     n
 }
 
-/// What stands at a place of the body of the string from `start` on, where no plain character does.
+/// What stands at an offset of the body of the string from `start` on, where no plain character does.
 pub(crate) fn piece_at(text: &str, at: usize, quote: Quote, start: usize) -> Piece
     requires boundary { IsCharBoundary text.now at }
     requires quote { is_quote quote.delimiter ≡ true }
@@ -168,7 +159,7 @@ pub(crate) fn piece_at(text: &str, at: usize, quote: Quote, start: usize) -> Pie
     if byte == b'\\' {
         return escape(text, at + 1, quote, start);
     }
-    match behind_feed(text, at) {
+    match after_feed(text, at) {
         Some(next) if !quote.multiline => Piece::Broken(Error::NewlineInString(at), next),
         Some(next) if byte == b'\r' => Piece::Replaced(Some('\n'), next),
         Some(next) => Piece::Verbatim(next),

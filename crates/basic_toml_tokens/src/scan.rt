@@ -1,17 +1,17 @@
-//! The token at a place.
+//! The token at an offset.
 ghost use Rattle.std.specs.Prelude.{◌≡◌};
 ghost use Rattle.std.specs.Str.{IsCharBoundary, IsUtf8};
-ghost use Rattle.basic_toml_tokens.specs.Next.{IsSign, IsFound};
+ghost use Rattle.basic_toml_tokens.specs.Scan.{IsPunctuation, IsFound};
 
 use crate::class::{Class, end_of_run, is_in};
 use crate::step::step;
-use crate::string::{Refusal, string};
+use crate::string::{TokenStop, string};
 use crate::{Error, Token};
 use std::alloc::Global;
 
 /// The token of one character.
-fn sign(byte: u8) -> Option<Token<'static>>
-    ensures { IsSign byte result }
+fn punctuation(byte: u8) -> Option<Token<'static>>
+    ensures { IsPunctuation byte result }
 {
     match byte {
         b'\n' => Some(Token::Newline),
@@ -28,12 +28,12 @@ fn sign(byte: u8) -> Option<Token<'static>>
     }
 }
 
-/// The token at a place and where it ends, or `None` at the end of the text.
-pub(crate) fn scan<'a>(
+/// The token at an offset and where it ends, or `None` at the end of the text.
+pub fn scan<'a>(
     alloc: Global,
     text: &'a str,
     at: usize,
-) -> Result<Option<(Token<'a>, usize)>, Refusal>
+) -> Result<Option<(Token<'a>, usize)>, TokenStop>
     requires { IsCharBoundary text.now at }
     ensures found { IsFound text.now at result }
     ensures utf8 { IsUtf8 text.now }
@@ -65,15 +65,15 @@ pub(crate) fn scan<'a>(
                 };
                 Ok(Some((token, quoted.end)))
             }
-            Err(refusal) => Err(refusal),
+            Err(stop) => Err(stop),
         };
     }
-    if let Some(token) = sign(byte) {
+    if let Some(token) = punctuation(byte) {
         return Ok(Some((token, at + 1)));
     }
     match step(text, at) {
         Some(('\n', next)) => Ok(Some((Token::Newline, next))),
-        Some((c, next)) => Err(Refusal {
+        Some((c, next)) => Err(TokenStop {
             error: Error::Unexpected(at, c),
             at: next,
         }),

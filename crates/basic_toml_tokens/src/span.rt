@@ -6,7 +6,7 @@ ghost use Rattle.std.specs.Prelude.{◌≡◌};
 pub struct Span {
     /// Where the first byte stands.
     pub start: usize,
-    /// Where the first byte behind it stands.
+    /// Where the first byte after it stands.
     pub end: usize,
 }
 

@@ -15,7 +15,7 @@ fn first(text: &str) -> u8
     }
 }
 
-/// The character at a place, and what follows it.
+/// The character at an offset, and what follows it.
 fn char_at(text: &str, at: usize) -> Option<(char, &str)>
     requires { IsCharBoundary text.now at }
     ensures { MatchOption result (text_at text.now at ≡ [])
@@ -28,9 +28,9 @@ fn char_at(text: &str, at: usize) -> Option<(char, &str)>
     }
 }
 
-/// Where a text begins, behind a U+FEFF.
-pub(crate) fn start(text: &str) -> usize
-    ensures place { result ≡ start_of text.now }
+/// Where a text begins, after a U+FEFF.
+pub fn start(text: &str) -> usize
+    ensures offset { result ≡ start_of text.now }
     ensures boundary { IsCharBoundary text.now result }
 {
     match char_at(text, 0) {
@@ -39,7 +39,7 @@ pub(crate) fn start(text: &str) -> usize
     }
 }
 
-/// The folded character at a place, and the place behind it.
+/// The folded character at an offset, and the offset after it.
 pub(crate) fn step(text: &str, at: usize) -> Option<(char, usize)>
     requires { IsCharBoundary text.now at }
     ensures { MatchOption result (text_at text.now at ≡ []) (λ r. IsStep text.now at r.0 r.1) }

@@ -3,37 +3,38 @@ ghost use Rattle.std.specs.Prelude.{◌≡◌, ◌<◌, ◌≤◌, ◌++◌, tru
 ghost use Rattle.std.specs.Str.{IsCharBoundary};
 ghost use Rattle.std.specs.Cow.{cow_str_bytes};
 ghost use Rattle.basic_toml_tokens.specs.Strings.{is_quote, is_plain};
-ghost use Rattle.basic_toml_tokens.specs.Classes.{passes};
-ghost use Rattle.basic_toml_tokens.specs.Ahead.{chars_of};
-ghost use Rattle.basic_toml_tokens.specs.Quoted.{IsOpen, copied_of, is_owned, IsQuoted, IsRefused};
+ghost use Rattle.basic_toml_tokens.specs.Class.{passes};
+ghost use Rattle.basic_toml_tokens.specs.Quote.{chars_of};
+ghost use Rattle.basic_toml_tokens.specs.String.{IsOpen, copied_of, is_owned, IsQuoted, IsRefused};
 
 use crate::Error;
 use crate::class::{Class, end_of_run};
-use crate::quote::{Piece, Quote, behind_feed, delimiters, piece_at};
+use crate::punctuation::after_feed;
+use crate::quote::{Piece, Quote, delimiters, piece_at};
 use std::alloc::{AllocError, Global};
 use std::borrow::CowStr;
 
 /// A string.
 #[derive(Drop)]
-pub(crate) struct Quoted<'a> {
+pub struct Quoted<'a> {
     /// Its bytes in the text.
-    pub(crate) src: &'a str,
+    pub src: &'a str,
     /// What it stands for.
-    pub(crate) val: CowStr<'a>,
+    pub val: CowStr<'a>,
     /// Whether it stands between three delimiters.
-    pub(crate) multiline: bool,
+    pub multiline: bool,
     /// Where it ends.
-    pub(crate) end: usize,
+    pub end: usize,
 }
 
 /// Why nothing was taken, and where the text goes on.
 #[derive(Drop)]
-pub(crate) struct Refusal {
-    pub(crate) error: Error,
-    pub(crate) at: usize,
+pub struct TokenStop {
+    pub error: Error,
+    pub at: usize,
 }
 
-/// What the string at a place stands between, and where its body begins.
+/// What the string at an offset stands between, and where its body begins.
 fn open(text: &str, start: usize) -> (Quote, usize)
     requires boundary { IsCharBoundary text.now start }
     requires within { start < length text.now }
@@ -52,7 +53,7 @@ fn open(text: &str, start: usize) -> (Quote, usize)
         delimiter,
         multiline: true,
     };
-    match behind_feed(text, start + 3) {
+    match after_feed(text, start + 3) {
         Some(body) => (quote, body),
         None => (quote, start + 3),
     }
@@ -106,13 +107,13 @@ fn plain_class(quote: Quote) -> Class
     }
 }
 
-/// The string at a place.
-pub(crate) fn string<'a>(alloc: Global, text: &'a str, start: usize) -> Result<Quoted<'a>, Refusal>
+/// The string at an offset.
+pub fn string<'a>(alloc: Global, text: &'a str, start: usize) -> Result<Quoted<'a>, TokenStop>
     requires boundary { IsCharBoundary text.now start }
     requires within { start < length text.now }
     requires quote { is_quote (slice_index text.now start) ≡ true }
     ensures { MatchResult result (λ quoted. IsQuoted text.now start quoted)
-        (λ refusal. IsRefused text.now start refusal) }
+        (λ stop. IsRefused text.now start stop) }
 {
     let (quote, body) = open(text, start);
     let class = plain_class(quote);
@@ -127,7 +128,7 @@ pub(crate) fn string<'a>(alloc: Global, text: &'a str, start: usize) -> Result<Q
                 match extended(alloc, copy, &text[kept..at], c) {
                     Ok(longer) => copy = Some(longer),
                     Err(_) => {
-                        return Err(Refusal {
+                        return Err(TokenStop {
                             error: Error::OutOfMemory,
                             at: start,
                         });
@@ -144,13 +145,13 @@ pub(crate) fn string<'a>(alloc: Global, text: &'a str, start: usize) -> Result<Q
                         multiline: quote.multiline,
                         end,
                     }),
-                    Err(_) => Err(Refusal {
+                    Err(_) => Err(TokenStop {
                         error: Error::OutOfMemory,
                         at: start,
                     }),
                 };
             }
-            Piece::Broken(error, next) => return Err(Refusal { error, at: next }),
+            Piece::Broken(error, next) => return Err(TokenStop { error, at: next }),
         }
     }
 }

@@ -44,10 +44,10 @@ pub enum Token<'a> {
 }
 
 impl Token<'_> {
-    ghost use Rattle.basic_toml_tokens.specs.Tokens.{lexeme_of};
+    ghost use Rattle.basic_toml_tokens.specs.Token.{lexeme_of};
     ghost use Rattle.basic_toml_tokens.specs.Descriptions.{description_of};
 
-    /// What a fault calls it, as `an equals`.
+    /// What an error calls it, as `an equals`.
     pub fn describe(&self) -> &'static str
         ensures { result.now ≡ description_of (lexeme_of self.now) }
     {

@@ -1,13 +1,14 @@
 //! The tokenizer.
 ghost use Rattle.std.specs.Prelude.{◌≡◌, ℕ, ⊤};
+ghost use Rattle.std.specs.Str.{IsCharBoundary};
 ghost use Rattle.basic_toml_tokens.specs.Text.{start_of, after_blanks};
 ghost use Rattle.basic_toml_tokens.specs.TokenAt.{Lexeme};
-ghost use Rattle.basic_toml_tokens.specs.Tokens.{TokenAt, lexeme_of};
+ghost use Rattle.basic_toml_tokens.specs.Token.{TokenAt, lexeme_of};
 ghost use Rattle.basic_toml_tokens.specs.Reading.{Reading, text_of};
-ghost use Rattle.basic_toml_tokens.specs.Calls.{Answers, AnswersOnly, TakesOne, Skips, after_line, EatsComment, EatsSpanned, Eats, ExpectsSpanned, Expects, EndsLine, TakesKey};
+ghost use Rattle.basic_toml_tokens.specs.Tokenizer.{NextAnswers, AnswersOnly, TakesOne, Skips, after_line, EatsComment, EatsSpanned, Eats, ExpectsSpanned, Expects, EndsLine, TakesKey};
 
 use crate::class::{Class, end_of_run};
-use crate::line::{behind_comment, behind_line};
+use crate::line::{after_comment, after_line};
 use crate::scan::scan;
 use crate::step::{start, step};
 use crate::{Error, Span, Token};
@@ -15,15 +16,17 @@ use std::alloc::{AllocError, Global};
 use std::borrow::CowStr;
 use std::marker::Model;
 
-/// Stands at a place of a text (TOML v0.5.0), and takes tokens from there on.
+/// Stands at an offset of a text (TOML v0.5.0), and takes tokens from there on.
 ///
-/// Places are 0-based byte offsets. A carriage return directly followed by a line feed counts as
+/// Places are 0-based byte offsets. It stands on a character boundary of the text, or at its end, so
+/// that the text can be cut there. A carriage return directly followed by a line feed counts as
 /// one line feed, and stands where the carriage return does. Of `a = "\n"`, the tokens are a
 /// keylike `a`, a whitespace, an equals, a whitespace and a string that holds one line feed.
 ///
-/// A call takes memory only where the next token is a string whose value has to be copied: it holds
-/// an escape, a continuation, or a carriage return and a line feed other than directly behind a
-/// multiline opener. Without memory it answers `Error::OutOfMemory`, and nothing moved.
+/// A call takes memory only where a string opens whose value has to be copied: before its end, or
+/// before the offset where it breaks, it holds an escape, a continuation, or a carriage return and a
+/// line feed other than directly after a multiline opener. Without memory it answers
+/// `Error::OutOfMemory`, and nothing moved.
 #[derive(Drop)]
 pub struct Tokenizer<'a> {
     text: &'a str,
@@ -36,7 +39,7 @@ impl<'a> Model for Tokenizer<'a> {
 
     ghost Value = { Reading };
 
-    ghost view = { λ t. record { text = t.text.now; place = t.at } };
+    ghost view = { λ t. record { text = t.text.now; offset = t.at } };
 
     ghost invariant = { λ t. IsCharBoundary t.text.now t.at };
 }
@@ -55,10 +58,11 @@ impl<'a> Clone for Tokenizer<'a> {
 }
 
 impl<'a> Tokenizer<'a> {
-    /// Stands at the start of a text, behind a U+FEFF.
+    /// Stands at the start of a text, after a U+FEFF.
     pub fn new(input: &'a str) -> Tokenizer<'a>
         ensures text { result.text ≡ input.now }
-        ensures place { result.place ≡ start_of input.now }
+        ensures offset { result.offset ≡ start_of input.now }
+        ensures boundary { IsCharBoundary result.text result.offset }
     {
         Tokenizer {
             text: input,
@@ -66,17 +70,27 @@ impl<'a> Tokenizer<'a> {
         }
     }
 
+    /// Stands at an offset of a text. It has to be the start of a character.
+    pub fn at(input: &'a str, at: usize) -> Tokenizer<'a>
+        requires { IsCharBoundary input.now at }
+        ensures text { result.text ≡ input.now }
+        ensures offset { result.offset ≡ at }
+    {
+        Tokenizer { text: input, at }
+    }
+
     /// Takes the next token, and answers where it stood; `None` at the end of the text.
     ///
-    /// Where no token stands, it answers the fault that does. It then stands behind the character
-    /// that the fault names, behind the last digit for `InvalidEscapeValue`, before the first
+    /// Where no token stands, it answers the error that does. It then stands after the character
+    /// that the error names, after the last digit for `InvalidEscapeValue`, before the first
     /// character that is no blank for the `InvalidEscape` of a blank, and at the end of the text for
     /// `UnterminatedString`.
     pub fn next(&mut self, alloc: Global) -> Result<Option<(Span, Token<'a>)>, Error>
-        ensures answers { Answers self.old self.new result }
+        ensures answers { NextAnswers self.old self.new result }
         // the token that stands there is answered, unless memory runs out
-        ensures only { (l : Lexeme) (end : ℕ) → TokenAt self.old.text self.old.place l end
-            → AnswersOnly self.old.place l end result }
+        ensures only { (l : Lexeme) (end : ℕ) → TokenAt self.old.text self.old.offset l end
+            → AnswersOnly self.old.offset l end result }
+        ensures boundary { IsCharBoundary self.new.text self.new.offset }
     {
         match scan(alloc, self.text, self.at) {
             Ok(Some((token, end))) => {
@@ -88,19 +102,20 @@ impl<'a> Tokenizer<'a> {
                 Ok(Some((span, token)))
             }
             Ok(None) => Ok(None),
-            Err(refusal) => {
-                self.at = refusal.at;
-                Err(refusal.error)
+            Err(stop) => {
+                self.at = stop.at;
+                Err(stop.error)
             }
         }
     }
 
     /// What `next` answers, without moving.
     pub fn peek(&mut self, alloc: Global) -> Result<Option<(Span, Token<'a>)>, Error>
-        ensures answers { (ahead : Reading) × Answers self.old ahead result }
-        ensures only { (l : Lexeme) (end : ℕ) → TokenAt self.old.text self.old.place l end
-            → AnswersOnly self.old.place l end result }
+        ensures answers { (ahead : Reading) × NextAnswers self.old ahead result }
+        ensures only { (l : Lexeme) (end : ℕ) → TokenAt self.old.text self.old.offset l end
+            → AnswersOnly self.old.offset l end result }
         ensures same { self.new ≡ self.old }
+        ensures boundary { IsCharBoundary self.new.text self.new.offset }
     {
         let mut ahead = Tokenizer {
             text: self.text,
@@ -110,9 +125,10 @@ impl<'a> Tokenizer<'a> {
     }
 
     /// Takes the next token where it equals `expected`, with the same texts. Where it does not, and
-    /// after a fault of `peek`, nothing moved.
+    /// after an error of `peek`, nothing moved.
     pub fn eat(&mut self, alloc: Global, expected: Token<'a>) -> Result<bool, Error>
-        ensures { Eats (lexeme_of expected.entry) self.old self.new result }
+        ensures answers { Eats (lexeme_of expected.entry) self.old self.new result }
+        ensures boundary { IsCharBoundary self.new.text self.new.offset }
     {
         let taken = self.eat_spanned(alloc, expected)?;
         Ok(taken.is_some())
@@ -120,7 +136,8 @@ impl<'a> Tokenizer<'a> {
 
     /// As `eat`, and answers where the token stood.
     pub fn eat_spanned(&mut self, alloc: Global, expected: Token<'a>) -> Result<Option<Span>, Error>
-        ensures { EatsSpanned (lexeme_of expected.entry) self.old self.new result }
+        ensures answers { EatsSpanned (lexeme_of expected.entry) self.old self.new result }
+        ensures boundary { IsCharBoundary self.new.text self.new.offset }
     {
         match self.peek(alloc)? {
             Some((span, found)) if found.is(&expected) => {
@@ -133,10 +150,11 @@ impl<'a> Tokenizer<'a> {
 
     /// Takes the next token, which is to equal `expected`.
     ///
-    /// Another token is taken too, and refused with `Error::Wanted` at the place before it. At the
-    /// end of the text what was found is called `eof`. A fault of `next` is answered as it is.
+    /// Another token is taken too, and refused with `Error::Wanted` at the offset before it. At the
+    /// end of the text what was found is called `eof`. An error of `next` is answered as it is.
     pub fn expect(&mut self, alloc: Global, expected: Token<'a>) -> Result<(), Error>
-        ensures { Expects (lexeme_of expected.entry) self.old self.new result }
+        ensures answers { Expects (lexeme_of expected.entry) self.old self.new result }
+        ensures boundary { IsCharBoundary self.new.text self.new.offset }
     {
         self.expect_spanned(alloc, expected)?;
         Ok(())
@@ -144,7 +162,8 @@ impl<'a> Tokenizer<'a> {
 
     /// As `expect`, and answers where the token stood.
     pub fn expect_spanned(&mut self, alloc: Global, expected: Token<'a>) -> Result<Span, Error>
-        ensures { ExpectsSpanned (lexeme_of expected.entry) self.old self.new result }
+        ensures answers { ExpectsSpanned (lexeme_of expected.entry) self.old self.new result }
+        ensures boundary { IsCharBoundary self.new.text self.new.offset }
     {
         let at = self.at;
         let Some((span, found)) = self.next(alloc)? else {
@@ -169,7 +188,8 @@ impl<'a> Tokenizer<'a> {
     /// Another token is taken too: a multiline string is refused with `Error::MultilineStringKey`,
     /// any other with `Error::Wanted`.
     pub fn table_key(&mut self, alloc: Global) -> Result<(Span, CowStr<'a>), Error>
-        ensures { TakesKey self.old self.new result }
+        ensures answers { TakesKey self.old self.new result }
+        ensures boundary { IsCharBoundary self.new.text self.new.offset }
     {
         let at = self.at;
         match self.next(alloc)? {
@@ -195,25 +215,27 @@ impl<'a> Tokenizer<'a> {
 
     /// Takes spaces and tabs.
     pub fn eat_whitespace(&mut self)
-        ensures { Skips self.old self.new (after_blanks (text_of self.old)) }
+        ensures skips { Skips self.old self.new (after_blanks (text_of self.old)) }
+        ensures boundary { IsCharBoundary self.new.text self.new.offset }
     {
         self.at = end_of_run(self.text, self.at, Class::Blank);
     }
 
-    /// Takes a comment (TOML v0.5.0, "Comment") and the line feed or the end behind it; `false` where
-    /// none stands. A control character that ends it is taken, and refused with `Error::Unexpected`.
+    /// Takes a comment (TOML v0.5.0, "Comment") and the line feed or the end after it; `false` where
+    /// none stands. Another character that ends it is taken, and refused with `Error::Unexpected`.
     pub fn eat_comment(&mut self) -> Result<bool, Error>
-        ensures { EatsComment self.old self.new result }
+        ensures answers { EatsComment self.old self.new result }
+        ensures boundary { IsCharBoundary self.new.text self.new.offset }
     {
-        match behind_comment(self.text, self.at) {
+        match after_comment(self.text, self.at) {
             Ok(Some(next)) => {
                 self.at = next;
                 Ok(true)
             }
             Ok(None) => Ok(false),
-            Err(refusal) => {
-                self.at = refusal.at;
-                Err(refusal.error)
+            Err(stop) => {
+                self.at = stop.at;
+                Err(stop.error)
             }
         }
     }
@@ -221,7 +243,8 @@ impl<'a> Tokenizer<'a> {
     /// Takes a line feed, or meets the end of the text. Another token is taken too, and refused with
     /// `Error::Wanted`.
     pub fn eat_newline_or_eof(&mut self, alloc: Global) -> Result<(), Error>
-        ensures { EndsLine self.old self.new result }
+        ensures answers { EndsLine self.old self.new result }
+        ensures boundary { IsCharBoundary self.new.text self.new.offset }
     {
         let at = self.at;
         match self.next(alloc)? {
@@ -236,14 +259,16 @@ impl<'a> Tokenizer<'a> {
 
     /// Takes all up to the next line feed, and that.
     pub fn skip_to_newline(&mut self)
-        ensures { Skips self.old self.new (after_line (text_of self.old)) }
+        ensures skips { Skips self.old self.new (after_line (text_of self.old)) }
+        ensures boundary { IsCharBoundary self.new.text self.new.offset }
     {
-        self.at = behind_line(self.text, self.at);
+        self.at = after_line(self.text, self.at);
     }
 
-    /// The place of the next character, or the length of the text.
+    /// The offset of the next character, or the length of the text.
     pub fn current(&mut self) -> usize
-        ensures place { result ≡ self.old.place }
+        ensures offset { result ≡ self.old.offset }
+        ensures boundary { IsCharBoundary self.old.text result }
         ensures same { self.new ≡ self.old }
     {
         self.at
@@ -251,7 +276,8 @@ impl<'a> Tokenizer<'a> {
 
     /// Takes one character, a carriage return and a line feed as one line feed.
     pub fn one(&mut self) -> Option<(usize, char)>
-        ensures { TakesOne self.old self.new result }
+        ensures answers { TakesOne self.old self.new result }
+        ensures boundary { IsCharBoundary self.new.text self.new.offset }
     {
         let at = self.at;
         match step(self.text, at) {

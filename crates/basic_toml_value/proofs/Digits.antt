@@ -1,5 +1,7 @@
 -- The digits that a loop has read, and the number so far.
-use Rattle.std.proofs.Common.{◌≡◌, ℕ, ◌+◌, ◌*◌, ◌^◌, ◌-◌, ◌<◌, ◌≤◌, min, Bool, true, false, not, ◌&&◌, ◌==◌, if◌then◌else◌, List, [], ◌∷◌, length, drop, get_or, filter, Option, Some, None, refl, ◌∙◌, ◌⊎◌, inl, inr, arith}
+use Rattle.std.proofs.Common.{◌≡◌, ℕ, ◌+◌, ◌*◌, ◌^◌, ◌-◌, ◌<◌, ◌≤◌, min, Bool, true, false, not, ◌&&◌, ◌==◌}
+use Rattle.std.proofs.Common.{if◌then◌else◌, List, [], ◌∷◌, length, drop, get_or, filter, Option, Some, None, refl}
+use Rattle.std.proofs.Common.{◌∙◌, ◌⊎◌, inl, inr, arith}
 use Rattle.std.proofs.lemmas.List.{at_drop_more, at_drop_all}
 use Rattle.std.proofs.lemmas.Bool.Decides.{nat_tests}
 use Rattle.std.proofs.Math.Nat.{min-eq_left, min-eq_right, le-mul_of_pos_right}
@@ -32,25 +34,36 @@ capped_below r v d top below = rw (min-eq_left below) (omega arith)
 
 capped_above : (r v d top : ℕ) → 0 < r → top ≤ v → min (min (min v top * r) top + d) top ≡ min (v * r + d) top
 capped_above r v d top positive above =
-    rw (min-eq_right above) (omega (arith, le-mul_of_pos_right {m = r} top positive, le-mul_of_pos_right {m = r} v positive))
+    rw (min-eq_right above) (omega
+    (arith, le-mul_of_pos_right {m = r} top positive, le-mul_of_pos_right {m = r} v positive))
 
 capped : (r v d top : ℕ) → 0 < r → min (min (min v top * r) top + d) top ≡ min (v * r + d) top
-capped r v d top positive = elim (cases_lt v top) [ inl below ↦ capped_below r v d top (omega arith) | inr above ↦ capped_above r v d top positive above ]
+capped r v d top positive =
+    elim (cases_lt v top) [
+      | inl below ↦ capped_below r v d top (omega arith)
+      | inr above ↦
+          capped_above r v d top positive above
+    ]
 
-pub with_digit-min : (radix value c : ℕ) → 0 < radix → with_digit radix (min value most) c ≡ min (value * radix + digit_value c) most
+pub with_digit-min : (radix value c : ℕ) → 0 < radix
+    → with_digit radix (min value most) c ≡ min (value * radix + digit_value c) most
 with_digit-min radix value c positive = capped radix value (digit_value c) most positive
 
 -- a byte that is no underscore, or stands where a digit has to follow
-pub no_run : (c : ℕ) (must_follow : Bool) → (c ≡ 95 → ⊥) ⊎ ((c ≡ 95) × (must_follow ≡ true)) → (c == underscore && not must_follow) ≡ false
+pub no_run : (c : ℕ) (must_follow : Bool) → (c ≡ 95 → ⊥) ⊎ ((c ≡ 95) × (must_follow ≡ true))
+    → (c == underscore && not must_follow) ≡ false
 no_run c must_follow (inl differs) = grind (arith, nat_tests)
 no_run c must_follow (inr (is, follow)) = grind (arith, nat_tests)
 
 -- the next byte is no digit and no underscore between digits
-pub read_from-stops : (radix : ℕ) (must_follow : Bool) (value : ℕ) (cs : List ℕ) (i : ℕ) → i < length cs → is_digit (get_or cs i 0) radix ≡ false → (get_or cs i 0 == underscore && not must_follow) ≡ false → read_from radix must_follow value (drop i cs) ≡ None
+pub read_from-stops : (radix : ℕ) (must_follow : Bool) (value : ℕ) (cs : List ℕ) (i : ℕ) → i < length cs
+    → is_digit (get_or cs i 0) radix ≡ false → (get_or cs i 0 == underscore && not must_follow) ≡ false
+    → read_from radix must_follow value (drop i cs) ≡ None
 read_from-stops radix must_follow value cs i within no_digit no_underscore =
     at_drop_more (read_from radix must_follow value) cs i 0 within ∙ rw (no_digit, no_underscore)
 
-pub read_from-ends : (radix : ℕ) (must_follow : Bool) (value : ℕ) (cs : List ℕ) (i : ℕ) → length cs ≤ i → read_from radix must_follow value (drop i cs) ≡ (if must_follow then None else Some value)
+pub read_from-ends : (radix : ℕ) (must_follow : Bool) (value : ℕ) (cs : List ℕ) (i : ℕ) → length cs ≤ i
+    → read_from radix must_follow value (drop i cs) ≡ (if must_follow then None else Some value)
 read_from-ends radix must_follow value cs i past = at_drop_all (read_from radix must_follow value) cs i past
 
 -- an underscore is a digit in no radix up to 36
@@ -58,16 +71,28 @@ no_underscore : (radix c : ℕ) → radix ≤ 36 → is_digit c radix ≡ true �
 no_underscore radix c small is = grind (arith, nat_tests)
 
 pub read_from-is : (radix : ℕ) (must_follow : Bool) (value : ℕ) (cs : List ℕ) → 0 < radix → radix ≤ 36 →
-    read_from radix must_follow (min value most) cs ≡ (if goes_on radix must_follow cs then Some (min (digits_value_after radix value (without_underscores cs)) most) else None)
+    read_from radix must_follow (min value most) cs
+    ≡ (if goes_on radix must_follow cs then Some
+    (min (digits_value_after radix value (without_underscores cs)) most) else None)
 read_from-is radix true value [] positive small = refl
 read_from-is radix false value [] positive small = refl
 read_from-is radix true value (c ∷ cs) positive small =
     elim (cases_Bool (is_digit c radix)) [
-      | inl is ↦ rw (is, no_underscore radix c small is, with_digit-min radix value c positive) (read_from-is radix false (value * radix + digit_value c) cs positive small)
-      | inr fails ↦ rw fails (elim (cases_Bool (c == underscore)) [ inl line ↦ rw line refl | inr differs ↦ rw differs refl ])
+      | inl is ↦ rw (is, no_underscore radix c small is, with_digit-min radix value c positive)
+          (read_from-is radix false (value * radix + digit_value c) cs positive small)
+      | inr fails ↦ rw fails (elim (cases_Bool (c == underscore)) [
+        | inl line ↦ rw line refl
+        | inr differs ↦
+            rw differs refl
+      ])
     ]
 read_from-is radix false value (c ∷ cs) positive small =
     elim (cases_Bool (is_digit c radix)) [
-      | inl is ↦ rw (is, no_underscore radix c small is, with_digit-min radix value c positive) (read_from-is radix false (value * radix + digit_value c) cs positive small)
-      | inr fails ↦ rw fails (elim (cases_Bool (c == underscore)) [ inl line ↦ rw line (read_from-is radix true value cs positive small) | inr differs ↦ rw differs refl ])
+      | inl is ↦ rw (is, no_underscore radix c small is, with_digit-min radix value c positive)
+          (read_from-is radix false (value * radix + digit_value c) cs positive small)
+      | inr fails ↦ rw fails (elim (cases_Bool (c == underscore)) [
+        | inl line ↦
+            rw line (read_from-is radix true value cs positive small)
+        | inr differs ↦ rw differs refl
+      ])
     ]

@@ -5,7 +5,8 @@ use Rattle.std.specs.Cmp.{IsEquivalence, equiv}
 use Rattle.std.specs.Cmp.{both_ways}
 use Rattle.std.proofs.lemmas.Bool.Decides.{Decides-int_eq}
 use Rattle.std.proofs.lemmas.Slice.Eq.{bytes_eq-Decides}
-use Rattle.basic_toml_value.specs.Data.{Data, integer, float, boolean, string, array, table, Items, no_items, item, Members, no_members, member}
+use Rattle.basic_toml_value.specs.Data.{Data, integer, float, boolean, string, array, table, Items, no_items, item}
+use Rattle.basic_toml_value.specs.Data.{Members, no_members, member}
 use Rattle.basic_toml_value.specs.Equal.{data_eq, items_eq, members_eq}
 
 both : (a b : Bool) → (a && b) ≡ true → (a ≡ true) × (b ≡ true)
@@ -27,7 +28,8 @@ mutual
 
   pub items_eq_same : (x y : Items) → items_eq x y ≡ true → x ≡ y
   items_eq_same no_items no_items is = refl
-  items_eq_same (item m ms) (item n ns) is = let parts = both (data_eq m n) (items_eq ms ns) is in cc (data_eq_same m n parts.0, items_eq_same ms ns parts.1)
+  items_eq_same (item m ms) (item n ns) is = let parts = both (data_eq m n) (items_eq ms ns) is in
+      cc (data_eq_same m n parts.0, items_eq_same ms ns parts.1)
   items_eq_same _ _ is = absurd (cc)
 
   pub members_eq_same : (x y : Members) → members_eq x y ≡ true → x ≡ y
@@ -57,7 +59,8 @@ mutual
   members_eq-same (member k m ms) = rw ((bytes_eq-Decides k k).1 refl, data_eq-same m) (members_eq-same ms)
 
 -- a test that holds of equal values alone is an equivalence
-equivalence : {K : Type 0} (E : K → K → Bool) → ((x y : K) → E x y ≡ true → x ≡ y) → ((x : K) → E x x ≡ true) → IsEquivalence E
+equivalence : {K : Type 0} (E : K → K → Bool) → ((x y : K) → E x y ≡ true → x ≡ y) → ((x : K) → E x x ≡ true)
+    → IsEquivalence E
 equivalence E same reflexive = equiv (record {
   symm = λ x y. both_ways (E x y) (E y x) (λ e. rw (same x y e) (reflexive y)) (λ e. rw (same y x e) (reflexive x));
   trans = λ x y z e f. rw (same x y e) f;

@@ -1,9 +1,7 @@
 -- The keys of a table: texts, seen as their bytes, each once.
-use Rattle.std.specs.Prelude.{ℕ, List, [], ◌∷◌, Bool, true, not, ◌&&◌, String, string_bytes, map}
+use Rattle.std.specs.Prelude.{ℕ, List, [], ◌∷◌, Bool, true, not, ◌&&◌}
 use Rattle.std.specs.List.{list_any}
-use Rattle.std.specs.Cmp.Lexicographic.{pointwise}
 use Rattle.std.specs.Str.{bytes_eq}
-use Rattle.std.specs.declared.alloc.Global.{Global}
 
 -- whether a key is one of these
 abbrev pub is_among : List (List ℕ) → List ℕ → Bool
@@ -13,10 +11,3 @@ is_among keys key = list_any (bytes_eq key) keys
 abbrev pub are_distinct : List (List ℕ) → Bool
 are_distinct [] = true
 are_distinct (k ∷ ks) = not (is_among ks k) && are_distinct ks
-
-abbrev pub texts_of : List (String Global) → List (List ℕ)
-texts_of = map string_bytes
-
--- the same keys in the same order
-abbrev pub same_keys : List (List ℕ) → List (List ℕ) → Bool
-same_keys = pointwise bytes_eq

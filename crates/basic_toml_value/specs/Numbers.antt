@@ -3,7 +3,8 @@
 -- its value lies in i64. A float is a decimal whole part, then a fraction, an exponent, or both; or `inf` or `nan`.
 -- One underscore may stand between two digits. A float is its text (own): without plus signs and underscores,
 -- with `E` for `e`.
-use Rattle.std.specs.Prelude.{ℕ, zero, suc, ◌^◌, Bool, true, false, not, ◌&&◌, ◌||◌, ◌==◌, nat_lt, if◌then◌else◌, ℤ, pos, negsuc, List, [], ◌∷◌, map, filter, codes, Option, Some, None}
+use Rattle.std.specs.Prelude.{ℕ, zero, suc, ◌^◌, Bool, true, false, not, ◌&&◌, ◌||◌, ◌==◌, nat_lt, if◌then◌else◌, ℤ}
+use Rattle.std.specs.Prelude.{pos, negsuc, List, [], ◌∷◌, map, filter, codes, Option, Some, None}
 use Rattle.std.specs.Char.{is_digit}
 use Rattle.std.specs.Str.{bytes_eq}
 use Rattle.std.specs.Str.Parse.{digits_value}
@@ -25,8 +26,8 @@ abbrev pub is_sign : ℕ → Bool
 is_sign c = c == plus || c == minus
 
 -- `e` or `E`
-abbrev pub is_mark : ℕ → Bool
-is_mark c = c == 101 || c == 69
+abbrev pub is_exponent_letter : ℕ → Bool
+is_exponent_letter c = c == 101 || c == 69
 
 -- [p](_?[p])* of the digits p of a radix; where no digit has to follow, (_?[p])*
 abbrev pub goes_on : ℕ → Bool → List ℕ → Bool
@@ -58,7 +59,7 @@ decimal negative cs = if is_whole cs then signed negative (value_in 10 cs) else 
 abbrev pub in_radix : ℕ → List ℕ → Option ℤ
 in_radix radix cs = if is_digits radix cs then signed false (value_in radix cs) else None
 
--- behind a leading `0`: the end, or `x`, `o` or `b` and digits
+-- after a leading `0`: the end, or `x`, `o` or `b` and digits
 abbrev pub after_zero : List ℕ → Option ℤ
 after_zero [] = Some (pos 0)
 after_zero (c ∷ cs) =
@@ -78,7 +79,7 @@ without_sign (c ∷ cs) = if is_sign c then cs else c ∷ cs
 abbrev pub is_part : ℕ → Bool
 is_part c = is_digit c 10 || c == underscore
 
--- the digits and underscores that a text begins with, and what stands behind them
+-- the digits and underscores that a text begins with, and what stands after them
 abbrev pub part_of : List ℕ → List ℕ
 part_of [] = []
 part_of (c ∷ cs) = if is_part c then c ∷ part_of cs else []
@@ -90,7 +91,7 @@ after_part (c ∷ cs) = if is_part c then after_part cs else c ∷ cs
 -- [eE][+-]?[0-9](_?[0-9])*
 abbrev pub is_exponent : List ℕ → Bool
 is_exponent [] = false
-is_exponent (c ∷ cs) = is_mark c && is_digits 10 (without_sign cs)
+is_exponent (c ∷ cs) = is_exponent_letter c && is_digits 10 (without_sign cs)
 
 -- \.[0-9](_?[0-9])*, then an exponent or nothing; or an exponent
 abbrev pub is_tail : List ℕ → Bool

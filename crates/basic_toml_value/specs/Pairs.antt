@@ -10,9 +10,6 @@ pairs_code c = coded_list (coded× (coded_list coded_ℕ) c)
 abbrev pub keys_of : {V : Type 0} → List (List ℕ × V) → List (List ℕ)
 keys_of pairs = map (λ p. p.0) pairs
 
-abbrev pub values_of : {V : Type 0} → List (List ℕ × V) → List V
-values_of pairs = map (λ p. p.1) pairs
-
 -- whether a pair has the key
 abbrev pub has_key : {V : Type 0} → List (List ℕ × V) → List ℕ → Bool
 has_key pairs key = is_among (keys_of pairs) key

@@ -1,6 +1,7 @@
 -- The data that a `Value` and a `Table` stand for: what contracts see of them.
 use Rattle.std.specs.Prelude.{ℕ, List, map, string_bytes}
-use Rattle.basic_toml_value.specs.Data.{Data, integer, float, boolean, string, array, table, Items, Members, items_of, members_of}
+use Rattle.basic_toml_value.specs.Data.{Data, integer, float, boolean, string, array, table, Items, Members}
+use Rattle.basic_toml_value.specs.Data.{items_of, members_of}
 use Rattle.basic_toml_value.specs.declared.value.Value.{Value, fold-Value}
 use Rattle.basic_toml_value.specs.declared.value.Value.TheOpen.{Value-F}
 

@@ -11,7 +11,7 @@ use crate::numbers::is_float;
 use std::alloc::{AllocError, Global};
 use std::marker::Model;
 
-/// A float, as its canonical text: without plus signs and underscores, the exponent marked `E`.
+/// A float, as its canonical text: without plus signs and underscores, the exponent lettered `E`.
 ///
 /// A float is never computed. Two floats are equal where their texts are.
 #[derive(Debug, Drop)]

@@ -1,185 +1,175 @@
-// An index of keys: their positions sorted by the keys' bytes, in leaves of bounded size.
-ghost use Rattle.std.specs.Prelude.{◌≡◌, ◌≤◌, ◌<◌, ◌+◌, ◌-◌, ℕ, List, [], ◌∷◌, ◌++◌, length, slice_index_or, nat_lt, true, false, IsTrue, OnOk, OnErr, IfOk, IfSome, IfNone, Some, slice_get, slice_set, insert as insert_at, map};
-ghost use Rattle.std.specs.List.{list_all};
-ghost use Rattle.basic_toml_value.specs.Keys.{are_distinct, is_among, texts_of};
-ghost use Rattle.basic_toml_value.specs.Index.{is_below, key_at, keys_at, leaf_keys, first_key, is_filled, leaves_of, leaf_at, row_of, IsIndex};
+// An index of keys, for whoever keeps texts by their positions: a table, nodes of a tree, the keys of an open table.
+//
+// Few texts stand without an index and are looked through. From `FEW` on their positions stand sorted, each beside a
+// ending of its text, so that most comparisons touch no text. A search is one walk: it answers the position of a key,
+// or
+// the gap where the key would go, and `insert` takes the gap.
+ghost use Rattle.std.specs.Prelude.{◌≡◌, List, ℕ, [], ◌∷◌, ◌++◌, length, false, Some, IsTrue, IfOk, OnOk, OnErr};
+ghost use Rattle.std.specs.Prelude.{slice_get};
+ghost use Rattle.basic_toml_value.specs.Keys.{are_distinct, is_among};
+ghost use Rattle.basic_toml_value.specs.Index.{IsIndex, IsGap, IfAt, IfAbsent};
 
+mod ending;
+mod leaves;
+
+use leaves::Leaf;
 use std::alloc::{AllocError, Global};
 
-// How many keys stand without an index.
-const SMALL: usize = 16;
+// How many texts stand without an index.
+const FEW: usize = 16;
 
-// How many positions a leaf may hold.
-const LEAF: usize = 512;
+/// Texts by their positions, from 0 on.
+pub trait Texts {
+    ghost use Rattle.std.specs.Prelude.{◌≡◌, ◌<◌, List, ℕ, length, Some, slice_get};
 
-// The position of a key.
-pub fn find(texts: &[String], leaves: &[Vec<usize>], key: &str) -> Option<usize>
-    requires some { 0 < length leaves.now }
-    requires index { IsIndex (texts_of texts.now) (leaves_of leaves.now) }
-    ensures found { IfSome result (λ position. slice_get (texts_of texts.now) position ≡ Some key.now) }
-    ensures absent { IfNone result (is_among (texts_of texts.now) key.now ≡ false) }
-{
-    let leaf = leaf(leaves, leaf_for(texts, leaves, key));
-    let slot = slot_for(texts, leaf, key);
-    if slot < leaf.len() && text_at(texts, leaf, slot) == key {
-        return Some(leaf[slot]);
-    }
-    None
+    ghost texts: { Self → List (List ℕ) };
+
+    /// How many texts there are.
+    fn count(&self) -> usize
+        ensures { result ≡ length (texts self.now) };
+
+    /// The text at a position.
+    fn text(&self, position: usize) -> &str
+        requires { position < length (texts self.now) }
+        ensures { slice_get (texts self.now) position ≡ Some result.now };
 }
 
-// Takes in a key that is to stand behind the texts, where they have an index or are too many to go without.
-pub fn extend(leaves: &mut Vec<Vec<usize>>, texts: &[String], key: &str) -> Result<(), AllocError>
-    requires index { 0 < length leaves.old.items → IsIndex (texts_of texts.now) (leaves_of leaves.old.items) }
-    requires distinct { IsTrue (are_distinct (texts_of texts.now)) }
-    requires absent { is_among (texts_of texts.now) key.now ≡ false }
-    ensures ok { OnOk result (0 < length leaves.new.items → IsIndex (texts_of texts.now ++ key.now ∷ []) (leaves_of leaves.new.items)) }
-    ensures err { OnErr result (0 < length leaves.new.items → IsIndex (texts_of texts.now) (leaves_of leaves.new.items)) }
-{
-    if leaves.is_empty() {
-        if texts.len() < SMALL {
-            return Ok(());
-        }
-        *leaves = build(*leaves.allocator(), texts)?;
-    }
-    insert(leaves, texts, key)
+/// What a search for a key finds.
+#[derive(Clone, Copy)]
+pub enum Found {
+    /// The key is the text at this position.
+    At(usize),
+    /// The key is none of the texts, and would go into this gap.
+    Absent(Gap),
 }
 
-// An index of all texts.
-fn build(alloc: Global, texts: &[String]) -> Result<Vec<Vec<usize>>, AllocError>
-    requires some { 0 < length texts.now }
-    requires distinct { IsTrue (are_distinct (texts_of texts.now)) }
-    ensures index { IfOk result (λ leaves. IsIndex (texts_of texts.now) (leaves_of leaves.items)) }
-    ensures some { IfOk result (λ leaves. 0 < length leaves.items) }
-{
-    let mut leaves = first_leaf(alloc)?;
-    for position in 1..texts.len() {
-        insert(&mut leaves, &texts[..position], texts[position].as_str())?;
-    }
-    Ok(leaves)
-}
-
-// The leaves of a lone key.
-fn first_leaf(alloc: Global) -> Result<Vec<Vec<usize>>, AllocError>
-    ensures { IfOk result (λ leaves. leaves_of leaves.items ≡ (0 ∷ []) ∷ []) }
-{
-    let mut leaf = Vec::new(alloc);
-    leaf.push(0)?;
-    let mut leaves = Vec::new(alloc);
-    leaves.push(leaf)?;
-    Ok(leaves)
-}
-
-// Takes in a key that is to stand behind the texts. An error leaves the index as it was.
-fn insert(leaves: &mut Vec<Vec<usize>>, texts: &[String], key: &str) -> Result<(), AllocError>
-    requires some { 0 < length leaves.old.items }
-    requires index { IsIndex (texts_of texts.now) (leaves_of leaves.old.items) }
-    requires absent { is_among (texts_of texts.now) key.now ≡ false }
-    ensures ok { OnOk result (IsIndex (texts_of texts.now ++ key.now ∷ []) (leaves_of leaves.new.items)) }
-    ensures err_unchanged { OnErr result (leaves_of leaves.new.items ≡ leaves_of leaves.old.items) }
-    ensures some { 0 < length leaves.new.items }
-{
-    let seen = leaves.as_slice();
-    let at = leaf_for(texts, seen, key);
-    let slot = slot_for(texts, leaf(seen, at), key);
-    place(leaves, at, slot, texts.len())?;
-    if leaf(leaves.as_slice(), at).len() > LEAF {
-        split(leaves, at);
-    }
-    Ok(())
-}
-
-// Puts a position into a leaf at a slot.
-fn place(
-    leaves: &mut Vec<Vec<usize>>,
-    at: usize,
+/// Where a key that is none of the texts goes in an index of them.
+#[derive(Clone, Copy)]
+pub struct Gap {
+    leaf: usize,
     slot: usize,
-    position: usize,
-) -> Result<(), AllocError>
-    requires within { at < length leaves.old.items }
-    requires in_leaf { slot ≤ length (leaf_at (leaves_of leaves.old.items) at) }
-    ensures ok { OnOk result (leaves_of leaves.new.items ≡ slice_set (leaves_of leaves.old.items) at (insert_at (leaf_at (leaves_of leaves.old.items) at) slot position)) }
-    ensures err_unchanged { OnErr result (leaves_of leaves.new.items ≡ leaves_of leaves.old.items) }
-{
-    let leaf = &mut leaves[at];
-    leaf.insert(slot, position)?;
-    Ok(())
+    ending: u64,
 }
 
-// Splits a leaf in two where memory allows; the row of keys stays as it is.
-fn split(leaves: &mut Vec<Vec<usize>>, at: usize)
-    requires within { at < length leaves.old.items }
-    requires two { 2 ≤ length (leaf_at (leaves_of leaves.old.items) at) }
-    ensures row { (keys : List (List ℕ)) → row_of keys (leaves_of leaves.new.items) ≡ row_of keys (leaves_of leaves.old.items) }
-    ensures filled { (count : ℕ) → IsTrue (list_all (is_filled count) (leaves_of leaves.old.items)) → IsTrue (list_all (is_filled count) (leaves_of leaves.new.items)) }
-    ensures some { 0 < length leaves.new.items }
-{
-    if leaves.try_reserve(1).is_err() {
-        return;
-    }
-    let leaf = &mut leaves[at];
-    let middle = leaf.len() / 2;
-    let Ok(right) = leaf.split_off(middle) else {
-        return;
-    };
-    match leaves.insert(at + 1, right) {
-        Ok(()) => {}
-        Err(_) => unreachable!(),
-    }
-}
-
-// The index of the first position in a leaf whose key is not below `key`, or the leaf's length.
-fn slot_for(texts: &[String], leaf: &[usize], key: &str) -> usize
-    requires { IsTrue (list_all (λ p. nat_lt p (length texts.now)) leaf.now) }
-    ensures bound { result ≤ length leaf.now }
-    ensures before { 0 < result → is_below (key_at (texts_of texts.now) (slice_index_or leaf.now (result - 1) 0)) key.now ≡ true }
-    ensures behind { result < length leaf.now → is_below (key_at (texts_of texts.now) (slice_index_or leaf.now result 0)) key.now ≡ false }
-{
-    let mut low = 0;
-    let mut high = leaf.len();
-    while low < high {
-        let middle = low + (high - low) / 2;
-        if text_at(texts, leaf, middle) < key {
-            low = middle + 1;
-        } else {
-            high = middle;
+impl Gap {
+    // The gap where no index stands.
+    fn none() -> Gap {
+        Gap {
+            leaf: 0,
+            slot: 0,
+            ending: 0,
         }
     }
-    low
 }
 
-// The last leaf whose first key is not above `key`, or the first leaf.
-fn leaf_for(texts: &[String], leaves: &[Vec<usize>], key: &str) -> usize
-    requires some { 0 < length leaves.now }
-    requires filled { IsTrue (list_all (is_filled (length texts.now)) (leaves_of leaves.now)) }
-    ensures bound { result < length leaves.now }
-    ensures not_above { 0 < result → is_below key.now (first_key (texts_of texts.now) (leaves_of leaves.now) result) ≡ false }
-    ensures next_above { result + 1 < length leaves.now → is_below key.now (first_key (texts_of texts.now) (leaves_of leaves.now) (result + 1)) ≡ true }
-{
-    let mut low = 0;
-    let mut high = leaves.len();
-    while high - low > 1 {
-        let middle = low + (high - low) / 2;
-        if key < text_at(texts, leaf(leaves, middle), 0) {
-            high = middle;
-        } else {
-            low = middle;
+/// An index of texts that differ, or that there is none yet.
+///
+/// It holds no text: each call is handed the texts that it is an index of.
+#[derive(Drop)]
+pub struct Index {
+    leaves: Option<Box<Vec<Leaf>>>,
+}
+
+impl Index {
+    /// No index, which takes no memory: it serves any texts that differ, and a search looks through them.
+    pub fn none() -> Index
+        ensures { (keys : List (List ℕ)) → IsTrue (are_distinct keys) → IsIndex keys result }
+    {
+        Index { leaves: None }
+    }
+
+    /// An index of texts that differ, made at once; none where the texts are few.
+    pub fn of<T: Texts>(alloc: Global, texts: &T) -> Result<Index, AllocError>
+        requires { IsTrue (are_distinct (T.texts texts.now)) }
+        ensures { IfOk result (λ index. IsIndex (T.texts texts.now) index) }
+    {
+        if texts.count() <= FEW {
+            return Ok(Index::none());
+        }
+        let leaves = leaves::build(alloc, texts)?;
+        Ok(Index {
+            leaves: Some(Box::new(alloc, leaves)?),
+        })
+    }
+
+    /// The position of a key among the texts, or where it would go.
+    pub fn search<T: Texts>(&self, texts: &T, key: &str) -> Found
+        requires { IsIndex (T.texts texts.now) self.now }
+        ensures found { IfAt result (λ position. slice_get (T.texts texts.now) position ≡ Some key.now) }
+        ensures absent { IfAbsent result (λ gap. is_among (T.texts texts.now) key.now ≡ false) }
+        ensures gap { IfAbsent result (λ gap. IsGap (T.texts texts.now) self.now key.now gap) }
+    {
+        match &self.leaves {
+            Some(leaves) => leaves::search(leaves.as_slice(), texts, key),
+            None => look_through(texts, key),
         }
     }
-    low
+
+    /// Where a key goes that is none of the texts, as the caller has seen: `search` without looking through them.
+    pub fn gap<T: Texts>(&self, texts: &T, key: &str) -> Gap
+        requires index { IsIndex (T.texts texts.now) self.now }
+        requires absent { is_among (T.texts texts.now) key.now ≡ false }
+        ensures { IsGap (T.texts texts.now) self.now key.now result }
+    {
+        match &self.leaves {
+            Some(leaves) => leaves::gap(leaves.as_slice(), texts, key),
+            None => Gap::none(),
+        }
+    }
+
+    /// Takes in a key that is to stand after the texts, where it goes. Where memory is refused, the index stays one
+    /// of the texts as they are.
+    pub fn insert<T: Texts>(
+        &mut self,
+        alloc: Global,
+        texts: &T,
+        key: &str,
+        gap: Gap,
+    ) -> Result<(), AllocError>
+        requires index { IsIndex (T.texts texts.now) self.old }
+        requires gap { IsGap (T.texts texts.now) self.old key.now gap }
+        ensures ok { OnOk result (IsIndex (T.texts texts.now ++ key.now ∷ []) self.new) }
+        ensures err { OnErr result (IsIndex (T.texts texts.now) self.new) }
+    {
+        let count = texts.count();
+        if let Some(leaves) = &mut self.leaves {
+            return leaves::insert(leaves, gap, count);
+        }
+        if count >= FEW {
+            let mut leaves = leaves::build(alloc, texts)?;
+            let gap = leaves::gap(leaves.as_slice(), texts, key);
+            leaves::insert(&mut leaves, gap, count)?;
+            self.leaves = Some(Box::new(alloc, leaves)?);
+        }
+        Ok(())
+    }
+
+    /// A copy, which serves the same texts.
+    pub fn clone(&self, alloc: Global) -> Result<Index, AllocError>
+        ensures { IfOk result (λ copy. (keys : List (List ℕ)) → IsIndex keys self.now → IsIndex keys copy) }
+    {
+        match &self.leaves {
+            Some(leaves) => {
+                let copy = leaves::copy(alloc, leaves.as_slice())?;
+                Ok(Index {
+                    leaves: Some(Box::new(alloc, copy)?),
+                })
+            }
+            None => Ok(Index::none()),
+        }
+    }
 }
 
-fn leaf(leaves: &[Vec<usize>], at: usize) -> &[usize]
-    requires { at < length leaves.now }
-    ensures { result.now ≡ leaf_at (leaves_of leaves.now) at }
+// The position of a key among texts, looked at one after the other.
+#[tactic(auto, using(crate::proofs::DistinctKeys::keys_passed))]
+fn look_through<T: Texts>(texts: &T, key: &str) -> Found
+    ensures found { IfAt result (λ position. slice_get (T.texts texts.now) position ≡ Some key.now) }
+    ensures absent { IfAbsent result (λ gap. is_among (T.texts texts.now) key.now ≡ false) }
 {
-    leaves[at].as_slice()
-}
-
-// The text at a leaf's slot.
-fn text_at<'t>(texts: &'t [String], leaf: &[usize], slot: usize) -> &'t str
-    requires slot { slot < length leaf.now }
-    requires within { IsTrue (list_all (λ p. nat_lt p (length texts.now)) leaf.now) }
-    ensures { result.now ≡ key_at (texts_of texts.now) (slice_index_or leaf.now slot 0) }
-{
-    texts[leaf[slot]].as_str()
+    for position in 0..texts.count() {
+        if texts.text(position) == key {
+            return Found::At(position);
+        }
+    }
+    Found::Absent(Gap::none())
 }

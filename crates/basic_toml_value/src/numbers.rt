@@ -60,7 +60,8 @@ fn signed(negative: bool, value: u64) -> Option<i64>
 fn value_of(radix: u32, digits: &[u8]) -> Option<u64>
     requires least { 2 ≤ radix }
     requires most { radix ≤ 36 }
-    ensures { result ≡ (if spec.is_digits radix digits.now then Some (min (spec.value_in radix digits.now) (2 ^ 64 - 1)) else None) }
+    ensures { result ≡ (if spec.is_digits radix digits.now then Some
+        (min (spec.value_in radix digits.now) (2 ^ 64 - 1)) else None) }
 {
     let mut value: u64 = 0;
     let mut must_follow = true;
@@ -146,7 +147,7 @@ fn is_exponent(text: &[u8]) -> bool
     }
 }
 
-/// The decimal digits and underscores that the text begins with, and what stands behind them.
+/// The decimal digits and underscores that the text begins with, and what stands after them.
 pub fn split_part(text: &[u8]) -> (&[u8], &[u8])
     ensures part { result.0.now ≡ spec.part_of text.now }
     ensures rest { result.1.now ≡ spec.after_part text.now }

@@ -1,11 +1,14 @@
-// Keys and values side by side, seen as one list of pairs.
-ghost use Rattle.std.specs.Prelude.{◌≡◌, ◌==◌, ℕ, List, [], ◌∷◌, ◌++◌, length, drop, IfOk, OnOk, OnErr, IfErr, IsTrue, ◌↔◌, string_bytes, false};
+// A table: its pairs in one vector, and an index of their keys where there are more than a few.
+ghost use Rattle.std.specs.Prelude.{◌≡◌, ◌==◌, ℕ, List, [], ◌∷◌, ◌++◌, length, OnOk, OnErr, IfErr, IsTrue, ◌↔◌};
+ghost use Rattle.std.specs.Prelude.{string_bytes, false};
 ghost use Rattle.std.specs.Option.{option_copied};
-ghost use Rattle.basic_toml_value.specs.Keys.{are_distinct, same_keys};
-ghost use Rattle.basic_toml_value.specs.Pairs.{keys_of, values_of, has_key, value_at};
+ghost use Rattle.basic_toml_value.specs.Keys.{are_distinct};
+ghost use Rattle.basic_toml_value.specs.Index.{IsIndex, IsGap};
+ghost use Rattle.basic_toml_value.specs.Entries.{seen, texts_of};
+ghost use Rattle.basic_toml_value.specs.Pairs.{keys_of, has_key, value_at};
 
-use crate::keys::Keys;
-use std::alloc::{AllocError, Global};
+use crate::index::{Found, Gap, Index, Texts};
+use std::alloc::Global;
 use std::fmt;
 use std::marker::Model;
 
@@ -18,26 +21,49 @@ pub enum PushRefusal {
     OutOfMemory,
 }
 
+/// A key with its value.
+#[derive(Drop)]
+pub struct Pair<V> {
+    /// The key.
+    pub key: String,
+    /// Its value.
+    pub value: V,
+}
+
+impl<V> Texts for Vec<Pair<V>> {
+    ghost use Rattle.basic_toml_value.specs.Entries.{texts_of};
+
+    ghost texts = { λ entries. texts_of entries.items };
+
+    fn count(&self) -> usize {
+        self.len()
+    }
+
+    fn text(&self, position: usize) -> &str {
+        self[position].key.as_str()
+    }
+}
+
 /// Keys with their values, in order, each key once.
 #[derive(Drop)]
 pub struct Pairs<V> {
-    keys: Keys,
-    values: Vec<V>,
+    entries: Vec<Pair<V>>,
+    index: Index,
 }
 
 impl<V> Model for Pairs<V> {
-    ghost use Rattle.std.specs.Prelude.{List, ℕ, ◌≡◌, length, IsTrue};
-    ghost use Rattle.std.specs.List.{zip};
+    ghost use Rattle.std.specs.Prelude.{List, ℕ};
     ghost use Rattle.basic_toml_value.specs.Pairs.{pairs_code};
-    ghost use Rattle.basic_toml_value.specs.Keys.{are_distinct};
+    ghost use Rattle.basic_toml_value.specs.Index.{IsIndex};
+    ghost use Rattle.basic_toml_value.specs.Entries.{seen, texts_of};
 
     ghost Value = { List (List ℕ × V) };
 
     ghost coded = { pairs_code V.code };
 
-    ghost view = { λ p. zip p.keys p.values.items };
+    ghost view = { λ p. seen p.entries.items };
 
-    ghost invariant = { λ p. (length p.values.items ≡ length p.keys) × IsTrue (are_distinct p.keys) };
+    ghost invariant = { λ p. IsIndex (texts_of p.entries.items) p.index };
 }
 
 impl<V> Pairs<V> {
@@ -48,115 +74,140 @@ impl<V> Pairs<V> {
         ensures { result ≡ [] }
     {
         Pairs {
-            keys: Keys::new(alloc),
-            values: Vec::new(alloc),
+            entries: Vec::new(alloc),
+            index: Index::none(),
         }
     }
 
+    /// A table of pairs whose keys differ, with an index of the keys.
+    ///
+    /// Where the index is `Index::none()`, `get` looks through the pairs, however many there are, and the first push
+    /// makes an index of more than a few.
+    pub fn from_parts(entries: Vec<Pair<V>>, index: Index) -> Pairs<V>
+        requires { IsIndex (texts_of entries.items) index }
+        ensures { result ≡ seen entries.items }
+    {
+        Pairs { entries, index }
+    }
+
     /// How many pairs there are.
-    #[tactic(auto, using(crate::proofs::PairsLemmas::length_zip_same))]
     pub fn len(&self) -> usize
         ensures { result ≡ length self.now }
     {
-        self.values.len()
+        self.entries.len()
     }
 
     /// Whether there is no pair.
-    #[tactic(auto, using(crate::proofs::PairsLemmas::length_zip_same))]
     pub fn is_empty(&self) -> bool
         ensures { result ≡ (length self.now == 0) }
     {
-        self.values.is_empty()
+        self.entries.is_empty()
     }
 
     /// The value at a key.
+    #[tactic(auto, using(crate::proofs::SeenPairs::seen_pairs))]
     pub fn get(&self, key: &str) -> Option<&V>
         ensures { option_copied result ≡ value_at self.now key.now }
     {
-        match self.keys.find(key) {
-            Some(position) => Some(&self.values[position]),
-            None => None,
+        match self.index.search(&self.entries, key) {
+            Found::At(position) => Some(&self.entries[position].value),
+            Found::Absent(_) => None,
         }
     }
 
     /// Puts a pair last, unless its key is there.
     ///
-    /// A refusal hands the pair back and leaves the table as it was.
+    /// A push that fails hands the pair back and leaves the table as it was.
+    #[tactic(auto, using(crate::proofs::SeenPairs::seen_pairs))]
     pub fn push(&mut self, key: String, value: V) -> Result<(), (PushRefusal, String, V)>
         ensures ok { OnOk result (self.new ≡ self.old ++ (string_bytes key, value) ∷ []) }
         ensures absent { OnOk result (has_key self.old (string_bytes key) ≡ false) }
-        ensures present { IfErr result (λ e. (e.0 ≡ PushRefusal.KeyPresent) ↔ IsTrue (has_key self.old (string_bytes key))) }
+        ensures present { IfErr result
+            (λ e. (e.0 ≡ PushRefusal.KeyPresent) ↔ IsTrue (has_key self.old (string_bytes key))) }
         ensures err_unchanged { OnErr result (self.new ≡ self.old) }
         ensures pair_back { IfErr result (λ e. (e.1 ≡ key) × (e.2 ≡ value)) }
     {
-        if self.get(key.as_str()).is_some() {
-            return Err((PushRefusal::KeyPresent, key, value));
-        }
-        match self.push_new(key, value) {
-            Ok(()) => Ok(()),
-            Err((key, value)) => Err((PushRefusal::OutOfMemory, key, value)),
+        match self.index.search(&self.entries, key.as_str()) {
+            Found::At(_) => Err((PushRefusal::KeyPresent, key, value)),
+            Found::Absent(gap) => match put(&mut self.entries, &mut self.index, gap, key, value) {
+                Ok(()) => Ok(()),
+                Err((key, value)) => Err((PushRefusal::OutOfMemory, key, value)),
+            },
         }
     }
 
-    /// Puts a pair last whose key is not there, as the caller has seen: `push` without its search.
+    /// Puts a pair last whose key is not there, as the caller has seen: `push` that looks through no pairs.
     ///
     /// Where memory is refused, the pair comes back and the table stays as it was.
+    #[tactic(auto, using(crate::proofs::SeenPairs::seen_pairs))]
     pub fn push_new(&mut self, key: String, value: V) -> Result<(), (String, V)>
         requires { has_key self.old (string_bytes key) ≡ false }
         ensures ok { OnOk result (self.new ≡ self.old ++ (string_bytes key, value) ∷ []) }
         ensures err_unchanged { OnErr result (self.new ≡ self.old) }
         ensures pair_back { IfErr result (λ e. (e.0 ≡ key) × (e.1 ≡ value)) }
     {
-        if self.values.try_reserve(1).is_err() {
-            return Err((key, value));
-        }
-        if let Err(key) = self.keys.push(key) {
-            return Err((key, value));
-        }
-        match self.values.push(value) {
-            Ok(()) => Ok(()),
-            Err(_) => unreachable!(),
-        }
+        let gap = self.index.gap(&self.entries, key.as_str());
+        put(&mut self.entries, &mut self.index, gap, key, value)
     }
 
-    // The values in order.
-    pub(crate) fn values(&self) -> &[V]
-        ensures { result.now ≡ values_of self.now }
+    // The pairs in order.
+    pub(crate) fn entries(&self) -> &[Pair<V>]
+        ensures { seen result.now ≡ self.now }
     {
-        self.values.as_slice()
+        self.entries.as_slice()
+    }
+
+    // The index of the keys.
+    #[tactic(auto, using(crate::proofs::SeenPairs::seen_pairs))]
+    pub(crate) fn index(&self) -> &Index
+        ensures { IsIndex (keys_of self.now) result.now }
+    {
+        &self.index
     }
 
     // The allocator that the table keeps.
     pub(crate) fn allocator(&self) -> Global {
-        *self.values.allocator()
-    }
-
-    // The same keys with other values.
-    pub(crate) fn with_values(&self, values: Vec<V>) -> Result<Pairs<V>, AllocError>
-    where
-        V: Drop,
-        requires { length values.items ≡ length self.now }
-        ensures keys { IfOk result (λ pairs. keys_of pairs ≡ keys_of self.now) }
-        ensures values { IfOk result (λ pairs. values_of pairs ≡ values.items) }
-    {
-        let keys = self.keys.clone()?;
-        Ok(Pairs { keys, values })
-    }
-
-    // Whether another table has the same keys in the same order.
-    pub(crate) fn has_same_keys(&self, other: &Pairs<V>) -> bool
-        ensures { result ≡ same_keys (keys_of self.now) (keys_of other.now) }
-    {
-        self.keys.is_same(&other.keys)
+        *self.entries.allocator()
     }
 
     /// The pairs in order, each once.
+    #[tactic(auto, using(crate::proofs::SeenPairs::seen_pairs))]
     pub fn iter(&self) -> Iter<'_, V>
         ensures pairs { rest result ≡ self.now }
         ensures distinct { IsTrue (are_distinct (keys_of self.now)) }
     {
-        let _ = &self.keys;
-        Iter { pairs: self, at: 0 }
+        Iter {
+            entries: self.entries.as_slice(),
+            at: 0,
+        }
+    }
+}
+
+// Puts a pair last whose key goes into the gap.
+fn put<V>(
+    entries: &mut Vec<Pair<V>>,
+    index: &mut Index,
+    gap: Gap,
+    key: String,
+    value: V,
+) -> Result<(), (String, V)>
+    requires index { IsIndex (texts_of entries.old.items) index.old }
+    requires gap { IsGap (texts_of entries.old.items) index.old (string_bytes key) gap }
+    ensures ok { OnOk result (entries.new.items ≡ entries.old.items ++ record { key = key; value = value } ∷ []) }
+    ensures index { IsIndex (texts_of entries.new.items) index.new }
+    ensures err_unchanged { OnErr result (entries.new.items ≡ entries.old.items) }
+    ensures pair_back { IfErr result (λ e. (e.0 ≡ key) × (e.1 ≡ value)) }
+{
+    if entries.try_reserve(1).is_err() {
+        return Err((key, value));
+    }
+    let alloc = *entries.allocator();
+    if index.insert(alloc, entries, key.as_str(), gap).is_err() {
+        return Err((key, value));
+    }
+    match entries.push(Pair { key, value }) {
+        Ok(()) => Ok(()),
+        Err(_) => unreachable!(),
     }
 }
 
@@ -173,7 +224,7 @@ impl<V: fmt::Debug> fmt::Debug for Pairs<V> {
 /// The pairs of a table in order, each once.
 #[derive(Drop)]
 pub struct Iter<'t, V> {
-    pairs: &'t Pairs<V>,
+    entries: &'t [Pair<V>],
     at: usize,
 }
 
@@ -188,12 +239,11 @@ impl<'t, V> Iterator for Iter<'t, V> {
     ghost remaining = { item_count rest };
 
     fn next(&mut self) -> Option<(&'t str, &'t V)> {
-        let pairs = self.pairs;
-        let Some(value) = pairs.values.get(self.at) else {
+        let entries = self.entries;
+        let Some(pair) = entries.get(self.at) else {
             return None;
         };
-        let key = pairs.keys.at(self.at);
         self.at += 1;
-        Some((key, value))
+        Some((pair.key.as_str(), &pair.value))
     }
 }

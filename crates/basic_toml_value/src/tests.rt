@@ -1,5 +1,6 @@
 // What no clause says: that each call succeeds with ample memory.
-use crate::{Float, PushRefusal, Table, Value};
+use crate::{Float, Index, Pair, PushRefusal, Table, Value};
+use std::alloc::{AllocError, Global};
 use std::test::Fail;
 
 #[test]
@@ -59,5 +60,59 @@ fn copies_and_compares(rt: HostRuntime) -> Result<(), Fail> {
             .push(String::from_str(rt.alloc(), "y")?, value)
             .is_ok()
     );
+    Ok(())
+}
+
+// Keys that begin alike and end alike, so that endings decide nothing.
+fn key_like_others(alloc: Global, number: u32) -> Result<String, AllocError> {
+    Ok(format!(in alloc;
+        "the same beginning {} the same end",
+        number.wrapping_mul(7919) % 2003
+    )?)
+}
+
+#[test]
+fn tells_keys_of_one_ending_apart(rt: HostRuntime) -> Result<(), Fail> {
+    let mut table = Table::new(rt.alloc());
+    for number in 0..500_u32 {
+        let key = key_like_others(rt.alloc(), number)?;
+        assert!(rt; table.push(key, Value::Integer(number as i64)).is_ok());
+    }
+    for number in 0..500_u32 {
+        let key = key_like_others(rt.alloc(), number)?;
+        assert!(rt;
+            table
+                .get(key.as_str())
+                .is_some_and(|found| *found == Value::Integer(number as i64))
+        );
+        match table.push(key, Value::Boolean(false)) {
+            Err((refusal, _, _)) => assert_eq!(rt; refusal, PushRefusal::KeyPresent),
+            Ok(()) => panic!(rt; "the key is there"),
+        }
+    }
+    let key = key_like_others(rt.alloc(), 500)?;
+    assert!(rt; table.get(key.as_str()).is_none());
+    Ok(())
+}
+
+#[test]
+fn makes_tables_of_parts(rt: HostRuntime) -> Result<(), Fail> {
+    let mut entries = Vec::new(rt.alloc());
+    let key = String::from_str(rt.alloc(), "a")?;
+    entries.push(Pair {
+        key,
+        value: Value::Integer(1),
+    })?;
+    let index = Index::of(rt.alloc(), &entries)?;
+    let index = index.clone(rt.alloc())?;
+    let mut table = Table::from_parts(entries, index);
+    assert!(rt;
+        table
+            .get("a")
+            .is_some_and(|found| *found == Value::Integer(1))
+    );
+    let key = String::from_str(rt.alloc(), "b")?;
+    assert!(rt; table.push(key, Value::Boolean(true)).is_ok());
+    assert_eq!(rt; table.len(), 2);
     Ok(())
 }

@@ -1,11 +1,13 @@
 // Values, and tables of them.
-ghost use Rattle.std.specs.Prelude.{◌≡◌, IfOk, map};
+ghost use Rattle.std.specs.Prelude.{◌≡◌, ◌&&◌, IfOk, length, map, string_bytes};
 ghost use Rattle.std.specs.Ordering.{on};
+ghost use Rattle.std.specs.Str.{bytes_eq};
+ghost use Rattle.basic_toml_value.specs.Entries.{seen, texts_of};
 ghost use Rattle.basic_toml_value.specs.Equal.{data_eq, items_eq, members_eq};
 ghost use Rattle.basic_toml_value.specs.View.{view, entries, items_view};
 
 use crate::float::Float;
-use crate::pairs::Pairs;
+use crate::pairs::{Pair, Pairs};
 use std::alloc::{AllocError, Global};
 
 /// A table: keys with their values, in order, each key once.
@@ -54,8 +56,9 @@ impl Table {
     pub fn clone(&self) -> Result<Table, AllocError>
         ensures { IfOk result (λ copy. entries copy ≡ entries self.now) }
     {
-        let values = clone_elements(self.allocator(), self.values())?;
-        self.with_values(values)
+        let copies = clone_entries(self.allocator(), self.entries())?;
+        let index = self.index().clone(self.allocator())?;
+        Ok(Pairs::from_parts(copies, index))
     }
 }
 
@@ -66,6 +69,20 @@ fn clone_elements(alloc: Global, values: &[Value]) -> Result<Vec<Value>, AllocEr
     let mut copies = Vec::with_capacity(alloc, values.len())?;
     for value in values {
         copies.push(value.clone()?)?;
+    }
+    Ok(copies)
+}
+
+#[cycle(copies)]
+fn clone_entries(alloc: Global, pairs: &[Pair<Value>]) -> Result<Vec<Pair<Value>>, AllocError>
+    ensures data { IfOk result (λ copies. entries (seen copies.items) ≡ entries (seen pairs.now)) }
+    ensures texts { IfOk result (λ copies. texts_of copies.items ≡ texts_of pairs.now) }
+{
+    let mut copies = Vec::with_capacity(alloc, pairs.len())?;
+    for pair in pairs {
+        let key = pair.key.clone()?;
+        let value = pair.value.clone()?;
+        copies.push(Pair { key, value })?;
     }
     Ok(copies)
 }
@@ -131,6 +148,7 @@ fn same_values(left: &Value, right: &Value) -> bool
 }
 
 #[cycle(same)]
+#[tactic(auto, using(crate::proofs::LengthsDecide::lengths_decide))]
 fn same_elements(left: &[Value], right: &[Value]) -> bool
     ensures { result ≡ items_eq (items_view left.now) (items_view right.now) }
 {
@@ -146,8 +164,30 @@ fn same_elements(left: &[Value], right: &[Value]) -> bool
 }
 
 #[cycle(same)]
+#[tactic(auto, using(crate::proofs::LengthsDecide::lengths_decide))]
 fn same_tables(left: &Table, right: &Table) -> bool
     ensures { result ≡ members_eq (entries left.now) (entries right.now) }
 {
-    left.has_same_keys(right) && same_elements(left.values(), right.values())
+    left.len() == right.len() && same_entries(left.entries(), right.entries())
+}
+
+#[cycle(same)]
+fn same_entries(left: &[Pair<Value>], right: &[Pair<Value>]) -> bool
+    requires { length left.now ≡ length right.now }
+    ensures { result ≡ members_eq (entries (seen left.now)) (entries (seen right.now)) }
+{
+    for i in 0..left.len() {
+        if !same_pairs(&left[i], &right[i]) {
+            return false;
+        }
+    }
+    true
+}
+
+#[cycle(same)]
+fn same_pairs(left: &Pair<Value>, right: &Pair<Value>) -> bool
+    ensures { result ≡ (bytes_eq (string_bytes left.now.key) (string_bytes right.now.key)
+        && data_eq (view left.now.value) (view right.now.value)) }
+{
+    left.key.as_str() == right.key.as_str() && same_values(&left.value, &right.value)
 }

@@ -1,16 +1,18 @@
-pub mod Fits
-pub mod Forward
-pub mod Backward
-pub mod Shaped
-pub mod Unique
-pub mod Kept
-pub mod Main
-pub mod Sending
-pub mod Finishing
-pub mod Parts
-pub mod Sent
-pub mod Ordered
-pub mod Headline
-pub mod WritingOut
-mod Rows
-pub mod TreeLaws
+pub mod ValuesThatFit
+pub mod FittingValueIsTaken
+pub mod TakenListSpells
+pub mod FitsWithoutUnsupportedShape
+pub mod SpellingIsUnique
+pub mod KeptHasSameLayout
+pub mod OutcomeIsLayout
+pub mod KeptErrorIsAnswered
+pub mod ListsAreSentInTurn
+pub mod FinishHandsOut
+pub mod PartsAreSent
+pub mod DataIsSentByParts
+pub mod SpelledListIsInOrder
+pub mod TextIsLayout
+pub mod CallsAreWrittenOut
+mod WorkedRows
+pub mod TreesAreKept
+pub mod LawsHold

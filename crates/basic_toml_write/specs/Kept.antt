@@ -1,20 +1,21 @@
 -- What is kept of a written value (own): the absent entries of its tables are left out, at every depth; texts of either kind count
 -- as strings, and bytes as an array of integers.
 use Rattle.std.specs.Prelude.{ℕ, pos, List, [], ◌∷◌}
-use Rattle.basic_toml_emit.specs.Written.{Leaf, integer, text, other_text, bytes, Written, leaf, absent, array, table, Elements, no_elements, element, Entries, no_entries, entry}
+use Rattle.basic_toml_emit.specs.Written.{Scalar, integer, text, other_text, bytes, Written, scalar, absent, array}
+use Rattle.basic_toml_emit.specs.Written.{table, Elements, no_elements, element, Entries, no_entries, entry}
 
 abbrev pub number_elements : List ℕ → Elements
 number_elements [] = no_elements
-number_elements (n ∷ ns) = element (leaf (integer (pos n))) (number_elements ns)
+number_elements (n ∷ ns) = element (scalar (integer (pos n))) (number_elements ns)
 
-abbrev pub kept_leaf : Leaf → Written
-kept_leaf (other_text t) = leaf (text t)
-kept_leaf (bytes ns) = array (number_elements ns)
-kept_leaf l = leaf l
+abbrev pub kept_scalar : Scalar → Written
+kept_scalar (other_text t) = scalar (text t)
+kept_scalar (bytes ns) = array (number_elements ns)
+kept_scalar l = scalar l
 
 abbrev mutual
   pub kept : Written → Written
-  kept (leaf l) = kept_leaf l
+  kept (scalar l) = kept_scalar l
   kept absent = absent
   kept (array es) = array (kept_elements es)
   kept (table es) = table (kept_entries es)

@@ -2,7 +2,9 @@ pub mod Spelling
 pub mod Kept
 pub mod Shapes
 pub mod Trees
+pub mod Recordable
 pub mod Again
-pub mod Recorded
-pub mod Values
-pub mod Writing
+pub mod Serializer
+pub mod Impls
+pub mod Write
+pub mod Statements

@@ -5,7 +5,8 @@
 -- a refused kind, or an integer above 9223372036854775807, stands anywhere;
 -- the value is deeper than the nesting limit.
 use Rattle.std.specs.Prelude.{ℕ, Bool, true, false, not, ◌&&◌, ◌||◌, nat_lt, bytes_eq, List}
-use Rattle.basic_toml_emit.specs.Written.{Written, leaf, absent, array, table, Elements, no_elements, element, Entries, no_entries, entry, is_absent, is_table, is_refused}
+use Rattle.basic_toml_emit.specs.Written.{Written, scalar, absent, array, table, Elements, no_elements, element}
+use Rattle.basic_toml_emit.specs.Written.{Entries, no_entries, entry, is_absent, is_table, is_refused}
 use Rattle.basic_toml_emit.specs.Layout.{Form, row, section, sections, form}
 use Rattle.basic_toml_emit.specs.Depth.{depth}
 
@@ -33,20 +34,21 @@ holds_array_with_table (element v es) = is_array_with_table v || holds_array_wit
 abbrev pub is_bad_array : Elements → Bool
 is_bad_array es = (holds_table es && holds_other es) || (holds_array_with_table es || holds_absent es)
 
--- a row may not stand behind a section
+-- a row may not stand after a section
 abbrev pub is_late : Bool → Form → Bool
-is_late behind_section row = behind_section
-is_late behind_section _ = false
+is_late after_section row = after_section
+is_late after_section _ = false
 
--- whether what follows stands behind a section
-abbrev pub then_behind : Bool → Form → Bool
-then_behind behind_section section = true
-then_behind behind_section sections = true
-then_behind behind_section _ = behind_section
+-- whether what follows stands after a section
+abbrev pub then_after : Bool → Form → Bool
+then_after after_section section = true
+then_after after_section sections = true
+then_after after_section _ = after_section
 
 abbrev pub has_late_row : Bool → Entries → Bool
-has_late_row behind_section no_entries = false
-has_late_row behind_section (entry k v es) = is_late behind_section (form v) || has_late_row (then_behind behind_section (form v)) es
+has_late_row after_section no_entries = false
+has_late_row after_section (entry k v es) =
+    is_late after_section (form v) || has_late_row (then_after after_section (form v)) es
 
 -- a present entry has this key
 abbrev pub has_key : List ℕ → Entries → Bool
@@ -66,7 +68,7 @@ is_bad_table es = has_late_row false es || repeats_key es
 -- a shape that no limit mends, anywhere in the value
 abbrev mutual
   pub has_bad : Written → Bool
-  has_bad (leaf l) = is_refused l
+  has_bad (scalar l) = is_refused l
   has_bad absent = false
   has_bad (array es) = is_bad_array es || element_has_bad es
   has_bad (table es) = is_bad_table es || entry_has_bad es

@@ -1,26 +1,28 @@
 -- The tree of data that is kept of a written value, and the written value of a tree (own).
 -- Absent entries are left out, texts of either kind are strings, and bytes are an array of integers. What has no form in a tree, a
--- refused leaf or an absent option outside a table, counts as an empty table: an unsupported shape excludes it.
+-- refused scalar or an absent option outside a table, counts as an empty table: an unsupported shape excludes it.
 use Rattle.std.specs.Prelude.{ℕ, pos, List, [], ◌∷◌}
 use Rattle.basic_toml_value.specs.Data as d
-use Rattle.basic_toml_emit.specs.Written.{Leaf, integer, boolean, float, text, other_text, bytes, refused, Written, leaf, absent, array, table, Elements, no_elements, element, Entries, no_entries, entry}
+use Rattle.basic_toml_emit.specs.Written.{Scalar, integer, boolean, float, text, other_text, bytes, refused, Written}
+use Rattle.basic_toml_emit.specs.Written.{scalar, absent, array, table, Elements, no_elements, element, Entries}
+use Rattle.basic_toml_emit.specs.Written.{no_entries, entry}
 
 abbrev pub number_items : List ℕ → d.Items
 number_items [] = d.no_items
 number_items (n ∷ ns) = d.item (d.integer (pos n)) (number_items ns)
 
-abbrev pub leaf_tree : Leaf → d.Data
-leaf_tree (integer z) = d.integer z
-leaf_tree (boolean b) = d.boolean b
-leaf_tree (float t) = d.float t
-leaf_tree (text t) = d.string t
-leaf_tree (other_text t) = d.string t
-leaf_tree (bytes ns) = d.array (number_items ns)
-leaf_tree refused = d.table d.no_members
+abbrev pub scalar_tree : Scalar → d.Data
+scalar_tree (integer z) = d.integer z
+scalar_tree (boolean b) = d.boolean b
+scalar_tree (float t) = d.float t
+scalar_tree (text t) = d.string t
+scalar_tree (other_text t) = d.string t
+scalar_tree (bytes ns) = d.array (number_items ns)
+scalar_tree refused = d.table d.no_members
 
 abbrev mutual
   pub tree_of : Written → d.Data
-  tree_of (leaf l) = leaf_tree l
+  tree_of (scalar l) = scalar_tree l
   tree_of absent = d.table d.no_members
   tree_of (array es) = d.array (element_trees es)
   tree_of (table es) = d.table (entry_trees es)
@@ -36,10 +38,10 @@ abbrev mutual
 
 abbrev mutual
   pub written_of : d.Data → Written
-  written_of (d.integer z) = leaf (integer z)
-  written_of (d.float t) = leaf (float t)
-  written_of (d.boolean b) = leaf (boolean b)
-  written_of (d.string t) = leaf (text t)
+  written_of (d.integer z) = scalar (integer z)
+  written_of (d.float t) = scalar (float t)
+  written_of (d.boolean b) = scalar (boolean b)
+  written_of (d.string t) = scalar (text t)
   written_of (d.array xs) = array (elements_of xs)
   written_of (d.table ms) = table (entries_of ms)
 

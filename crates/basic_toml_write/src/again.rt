@@ -1,13 +1,13 @@
-ghost use Rattle.basic_toml_write.specs.Again.{IsAgain};
+ghost use Rattle.basic_toml_write.specs.Again.{IsSame, IsAgain};
 
 use basic_toml_emit::WriteError;
 use std::alloc::Global;
 
-// The same refusal once more. `OutOfMemory` where the key finds no memory.
-pub fn again(refusal: &WriteError, alloc: Global) -> WriteError
-    ensures { IsAgain refusal.now result }
+// The same error once more. `OutOfMemory` where the key finds no memory.
+pub fn again(error: &WriteError, alloc: Global) -> WriteError
+    ensures { IsAgain error.now result }
 {
-    match refusal {
+    match error {
         WriteError::UnsupportedType => WriteError::UnsupportedType,
         WriteError::KeyNotString => WriteError::KeyNotString,
         WriteError::ValueAfterTable => WriteError::ValueAfterTable,
@@ -20,5 +20,16 @@ pub fn again(refusal: &WriteError, alloc: Global) -> WriteError
         WriteError::CallOrder => WriteError::CallOrder,
         WriteError::NestedTooDeeply => WriteError::NestedTooDeeply,
         WriteError::OutOfMemory => WriteError::OutOfMemory,
+    }
+}
+
+// An error to keep, and the same to answer. Both are `OutOfMemory` where the key finds no memory.
+pub fn twice(error: WriteError, alloc: Global) -> (WriteError, WriteError)
+    ensures kept { IsAgain error result.0 }
+    ensures same { IsSame result.0 result.1 }
+{
+    match again(&error, alloc) {
+        WriteError::OutOfMemory => (WriteError::OutOfMemory, WriteError::OutOfMemory),
+        answer => (error, answer),
     }
 }

@@ -1,7 +1,7 @@
-ghost use Rattle.std.specs.Prelude.{◌≡◌, ℕ, List, [], ◌∷◌, ◌++◌, pos, string_bytes, Any, encode_utf8};
+ghost use Rattle.std.specs.Prelude.{◌≡◌, ℕ, List, [], ◌∷◌, ◌++◌, pos, string_bytes, encode_utf8};
 ghost use Rattle.basic_toml_emit.specs.Written as w;
-ghost use Rattle.basic_toml_write.specs.Recorded.{Sends};
-ghost use Rattle.basic_toml_write.specs.Values.{data_calls, leaf_calls, option_calls, OptionGivesUp, array_calls, table_calls, map_calls};
+ghost use Rattle.basic_toml_write.specs.Serializer.{Sends};
+ghost use Rattle.basic_toml_write.specs.Impls.{data_calls, scalar_calls, option_calls, OptionGivesUp, AnyGivesUp, array_calls, table_calls, map_calls};
 ghost use Rattle.basic_toml_value.specs.View.{view};
 
 use crate::{Serialize, Serializer, WriteError};
@@ -10,7 +10,7 @@ use std::alloc::Global;
 use std::collections::BTreeMap;
 
 impl Serialize for bool {
-    ghost calls = { λ b. leaf_calls (w.boolean b) };
+    ghost calls = { λ b. scalar_calls (w.boolean b) };
 
     fn serialize(&self, alloc: Global, ser: &mut Serializer) -> Result<(), WriteError> {
         let _ = alloc;
@@ -19,7 +19,7 @@ impl Serialize for bool {
 }
 
 impl Serialize for i8 {
-    ghost calls = { λ n. leaf_calls (w.integer n) };
+    ghost calls = { λ n. scalar_calls (w.integer n) };
 
     fn serialize(&self, alloc: Global, ser: &mut Serializer) -> Result<(), WriteError> {
         let _ = alloc;
@@ -28,7 +28,7 @@ impl Serialize for i8 {
 }
 
 impl Serialize for i16 {
-    ghost calls = { λ n. leaf_calls (w.integer n) };
+    ghost calls = { λ n. scalar_calls (w.integer n) };
 
     fn serialize(&self, alloc: Global, ser: &mut Serializer) -> Result<(), WriteError> {
         let _ = alloc;
@@ -37,7 +37,7 @@ impl Serialize for i16 {
 }
 
 impl Serialize for i32 {
-    ghost calls = { λ n. leaf_calls (w.integer n) };
+    ghost calls = { λ n. scalar_calls (w.integer n) };
 
     fn serialize(&self, alloc: Global, ser: &mut Serializer) -> Result<(), WriteError> {
         let _ = alloc;
@@ -46,7 +46,7 @@ impl Serialize for i32 {
 }
 
 impl Serialize for i64 {
-    ghost calls = { λ n. leaf_calls (w.integer n) };
+    ghost calls = { λ n. scalar_calls (w.integer n) };
 
     fn serialize(&self, alloc: Global, ser: &mut Serializer) -> Result<(), WriteError> {
         let _ = alloc;
@@ -55,7 +55,7 @@ impl Serialize for i64 {
 }
 
 impl Serialize for u8 {
-    ghost calls = { λ n. leaf_calls (w.integer (pos n)) };
+    ghost calls = { λ n. scalar_calls (w.integer (pos n)) };
 
     fn serialize(&self, alloc: Global, ser: &mut Serializer) -> Result<(), WriteError> {
         let _ = alloc;
@@ -64,7 +64,7 @@ impl Serialize for u8 {
 }
 
 impl Serialize for u16 {
-    ghost calls = { λ n. leaf_calls (w.integer (pos n)) };
+    ghost calls = { λ n. scalar_calls (w.integer (pos n)) };
 
     fn serialize(&self, alloc: Global, ser: &mut Serializer) -> Result<(), WriteError> {
         let _ = alloc;
@@ -73,7 +73,7 @@ impl Serialize for u16 {
 }
 
 impl Serialize for u32 {
-    ghost calls = { λ n. leaf_calls (w.integer (pos n)) };
+    ghost calls = { λ n. scalar_calls (w.integer (pos n)) };
 
     fn serialize(&self, alloc: Global, ser: &mut Serializer) -> Result<(), WriteError> {
         let _ = alloc;
@@ -82,7 +82,7 @@ impl Serialize for u32 {
 }
 
 impl Serialize for u64 {
-    ghost calls = { λ n. leaf_calls (w.integer (pos n)) };
+    ghost calls = { λ n. scalar_calls (w.integer (pos n)) };
 
     fn serialize(&self, alloc: Global, ser: &mut Serializer) -> Result<(), WriteError> {
         let _ = alloc;
@@ -91,7 +91,7 @@ impl Serialize for u64 {
 }
 
 impl Serialize for char {
-    ghost calls = { λ c. leaf_calls (w.other_text (encode_utf8 c)) };
+    ghost calls = { λ c. scalar_calls (w.other_text (encode_utf8 c)) };
 
     fn serialize(&self, alloc: Global, ser: &mut Serializer) -> Result<(), WriteError> {
         let _ = alloc;
@@ -100,7 +100,7 @@ impl Serialize for char {
 }
 
 impl Serialize for &str {
-    ghost calls = { λ s. leaf_calls (w.text s.now) };
+    ghost calls = { λ s. scalar_calls (w.text s.now) };
 
     fn serialize(&self, alloc: Global, ser: &mut Serializer) -> Result<(), WriteError> {
         let _ = alloc;
@@ -109,7 +109,7 @@ impl Serialize for &str {
 }
 
 impl Serialize for String {
-    ghost calls = { λ s. leaf_calls (w.text (string_bytes s)) };
+    ghost calls = { λ s. scalar_calls (w.text (string_bytes s)) };
 
     fn serialize(&self, alloc: Global, ser: &mut Serializer) -> Result<(), WriteError> {
         let _ = alloc;
@@ -118,7 +118,7 @@ impl Serialize for String {
 }
 
 impl Serialize for Float {
-    ghost calls = { λ f. leaf_calls (w.float f) };
+    ghost calls = { λ f. scalar_calls (w.float f) };
 
     fn serialize(&self, alloc: Global, ser: &mut Serializer) -> Result<(), WriteError> {
         let _ = alloc;
@@ -142,7 +142,7 @@ impl<T: Serialize> Serialize for Option<T> {
 
 // The calls of an array.
 fn serialize_elements<T: Serialize>(elements: &[T], ser: &mut Serializer) -> Result<(), WriteError>
-    ensures { Sends (array_calls T.calls elements.now) (Any T.gives_up elements.now) ser.old ser.new result }
+    ensures { Sends (array_calls T.calls elements.now) (AnyGivesUp T.gives_up elements.now) ser.old ser.new result }
 {
     ser.serialize_seq(Some(elements.len()))?;
     for element in elements {
@@ -154,7 +154,7 @@ fn serialize_elements<T: Serialize>(elements: &[T], ser: &mut Serializer) -> Res
 impl<T: Serialize> Serialize for &[T] {
     ghost calls = { λ xs. array_calls T.calls xs.now };
 
-    ghost gives_up = { λ xs. Any T.gives_up xs.now };
+    ghost gives_up = { λ xs. AnyGivesUp T.gives_up xs.now };
 
     fn serialize(&self, alloc: Global, ser: &mut Serializer) -> Result<(), WriteError> {
         let _ = alloc;
@@ -165,7 +165,7 @@ impl<T: Serialize> Serialize for &[T] {
 impl<T: Serialize> Serialize for Vec<T> {
     ghost calls = { λ xs. array_calls T.calls xs.items };
 
-    ghost gives_up = { λ xs. Any T.gives_up xs.items };
+    ghost gives_up = { λ xs. AnyGivesUp T.gives_up xs.items };
 
     fn serialize(&self, alloc: Global, ser: &mut Serializer) -> Result<(), WriteError> {
         let _ = alloc;
@@ -176,7 +176,7 @@ impl<T: Serialize> Serialize for Vec<T> {
 impl<V: Serialize> Serialize for Pairs<V> {
     ghost calls = { table_calls V.calls };
 
-    ghost gives_up = { Any (λ p. V.gives_up p.1) };
+    ghost gives_up = { AnyGivesUp (λ p. V.gives_up p.1) };
 
     fn serialize(&self, alloc: Global, ser: &mut Serializer) -> Result<(), WriteError> {
         let _ = alloc;
@@ -191,7 +191,7 @@ impl<V: Serialize> Serialize for Pairs<V> {
 impl<V: Serialize> Serialize for BTreeMap<String, V> {
     ghost calls = { λ m. map_calls V.calls m.entries };
 
-    ghost gives_up = { λ m. Any (λ p. V.gives_up p.1) m.entries };
+    ghost gives_up = { λ m. AnyGivesUp (λ p. V.gives_up p.1) m.entries };
 
     fn serialize(&self, alloc: Global, ser: &mut Serializer) -> Result<(), WriteError> {
         let _ = alloc;

@@ -1,11 +1,13 @@
 //! From the calls that a value makes to TOML text.
 //!
-//! A type that implements [`Serialize`] tells its value to a [`Serializer`] by calls; the serializer appends to its text as the calls
+//! A type that implements [`Serialize`] tells its value to a [`Serializer`] by calls; the serializer appends to its
+//! text as the calls
 //! come, and hands the text out where they spell a whole table.
 #![tactic(auto)]
 
 mod again;
 mod impls;
+pub mod laws;
 mod serializer;
 #[cfg(test)]
 mod tests;

@@ -1,19 +1,22 @@
 ghost use Rattle.std.specs.Prelude.{◌≡◌, ℕ, List, [], ◌∷◌, ◌++◌, pos, OnOk, IfErr, MatchOption, None, Err, is_some, ⊤, encode_utf8};
-ghost use Rattle.basic_toml_emit.specs.Items.{Item, a_leaf, nothing, open_array, open_table, close, key, field, some_mark, value_mark, element_mark};
+ghost use Rattle.basic_toml_emit.specs.Items.{Item, a_scalar, an_absent, open_array, open_table, close, key, field, some_prefix, value_prefix, element_prefix};
 ghost use Rattle.basic_toml_emit.specs.Written as w;
-ghost use Rattle.basic_toml_emit.specs.Leaves.{item_of};
+ghost use Rattle.basic_toml_emit.specs.Scalar.{item_of};
 
-use crate::again::again;
-use basic_toml_emit::{Call, Emitter, Leaf, WriteError};
+use crate::again::{again, twice};
+use basic_toml_emit::{Call, Emitter, Scalar, WriteError};
 use basic_toml_value::Float;
 use std::alloc::Global;
 
 /// Turns calls into TOML text (TOML v0.5.0).
 ///
-/// The calls open and close arrays and tables, set keys and write values; a key comes before its value. Scalars, arrays of values and
-/// empty arrays are rows; tables and arrays of tables are sections, which come after the rows of their table. After a refusal every later
-/// call but [`has_refused`](Serializer::has_refused) answers that refusal, or `OutOfMemory` where its key finds no memory, and no text is
-/// handed out.
+/// The calls open and close arrays and tables, set keys and write values; a key comes before its value. Scalars,
+/// arrays of values and
+/// empty arrays are rows; tables and arrays of tables are sections, which come after the rows of their table. After
+/// an error every later
+/// call but [`has_refused`](Serializer::has_refused) answers that error, or `OutOfMemory` where its key finds no
+/// memory, and no text is
+/// handed out. An error whose key finds no memory when it is met is `OutOfMemory` from then on.
 ///
 /// ```text
 /// let mut ser = Serializer::new(alloc);
@@ -25,63 +28,74 @@ use std::alloc::Global;
 #[derive(Drop)]
 pub struct Serializer {
     emitter: Emitter,
-    refusal: Option<WriteError>,
+    error: Option<WriteError>,
     alloc: Global,
 }
 
 impl Serializer {
-    ghost use Rattle.basic_toml_emit.specs.States.{Steps};
-    ghost use Rattle.basic_toml_write.specs.Recorded.{HasRecorded, Takes, Passes, Answers, Finishes, refusal_of};
-    ghost use Rattle.basic_toml_write.specs.Writing.{IsLayout, Succeeds};
+    ghost use Rattle.basic_toml_emit.specs.Emitter.{Steps};
+    ghost use Rattle.basic_toml_write.specs.Recordable.{IsRecordable};
+    ghost use Rattle.basic_toml_write.specs.Serializer.{HasRecorded, NoFault, Takes, Passes, Refused, Finishes, error_of};
+    ghost use Rattle.basic_toml_write.specs.Write.{IsLayout, Succeeds};
 
     /// A serializer without any calls yet. Takes no memory.
-    #[tactic(auto, unfolding(crate::specs::Recorded::HasRecorded))]
+    #[tactic(auto, using(crate::proofs::ListsAreSentInTurn::records_nothing))]
     pub fn new(alloc: Global) -> Serializer
         ensures { HasRecorded result [] }
     {
         Serializer {
             emitter: Emitter::new(alloc),
-            refusal: None,
+            error: None,
             alloc,
         }
     }
 
     /// Whether a call was refused. Takes no memory and changes nothing.
     pub fn has_refused(&self) -> bool
-        ensures { result ≡ is_some (refusal_of self.now) }
+        ensures { result ≡ is_some (error_of self.now) }
     {
-        self.refusal.is_some()
+        self.error.is_some()
     }
 
-    // The refusal that stands, if one does.
-    #[tactic(auto, using(crate::proofs::Sending::takes_refused))]
+    // The error that stands, if one does.
+    #[inline(always)]
+    #[tactic(auto, using(crate::proofs::ListsAreSentInTurn::takes_refused))]
     fn ready(&self) -> Result<(), WriteError>
-        ensures none { OnOk result (self.now.refusal ≡ None) }
+        ensures none { OnOk result (self.now.error ≡ None) }
         ensures refused { IfErr result (λ e. (is : List Item) → Takes is self.now self.now (Err e)) }
     {
-        match &self.refusal {
-            Some(refusal) => Err(again(refusal, self.alloc)),
+        match &self.error {
+            Some(error) => Err(again(error, self.alloc)),
             None => Ok(()),
         }
     }
 
-    // Keeps a refusal, and answers it.
-    #[tactic(auto, using(crate::proofs::Sending::takes_ok, crate::proofs::Sending::takes_err))]
+    // Keeps an error, and answers the one that is kept.
+    fn refuse(&mut self, error: WriteError) -> Result<(), WriteError>
+        ensures { Refused error self.new result }
+    {
+        let (kept, answer) = twice(error, self.alloc);
+        self.error = Some(kept);
+        Err(answer)
+    }
+
+    // The answer of a step; an error is kept.
+    #[inline(always)]
+    #[tactic(auto, using(crate::proofs::ListsAreSentInTurn::takes_ok, crate::proofs::ListsAreSentInTurn::takes_err))]
     fn keep(&mut self, answer: Result<(), WriteError>) -> Result<(), WriteError>
-        ensures { (i : Item) (before : Serializer) → before.refusal ≡ None → self.old.refusal ≡ None → Steps i before.emitter self.old.emitter answer → Takes (i ∷ []) before self.new result }
+        ensures { (i : Item) (before : Serializer) → IsRecordable i → before.error ≡ None → self.old.error ≡ None
+            → Steps i before.emitter self.old.emitter answer → Takes (i ∷ []) before self.new result }
     {
         match answer {
             Ok(()) => Ok(()),
-            Err(refusal) => {
-                let answer = again(&refusal, self.alloc);
-                self.refusal = Some(refusal);
-                Err(answer)
-            }
+            Err(error) => self.refuse(error),
         }
     }
 
-    // One item: it is taken, or the refusal that is due is kept and answered.
+    // One item: it is taken, or the error that is due is kept and answered.
+    #[inline(always)]
     fn take(&mut self, call: Call<'_>) -> Result<(), WriteError>
+        requires { IsRecordable (item_of call) }
         ensures { Takes (item_of call.entry ∷ []) self.old self.new result }
     {
         self.ready()?;
@@ -91,94 +105,94 @@ impl Serializer {
 
     /// Writes a boolean.
     pub fn serialize_bool(&mut self, v: bool) -> Result<(), WriteError>
-        ensures { Takes (a_leaf (w.boolean v) ∷ []) self.old self.new result }
+        ensures { Takes (a_scalar (w.boolean v) ∷ []) self.old self.new result }
     {
-        self.take(Call::Leaf(Leaf::Boolean(v)))
+        self.take(Call::Scalar(Scalar::Boolean(v)))
     }
 
     /// Writes an integer.
     pub fn serialize_i8(&mut self, v: i8) -> Result<(), WriteError>
-        ensures { Takes (a_leaf (w.integer v) ∷ []) self.old self.new result }
+        ensures { Takes (a_scalar (w.integer v) ∷ []) self.old self.new result }
     {
         self.serialize_i16(i16::from(v))
     }
 
     /// Writes an integer.
     pub fn serialize_i16(&mut self, v: i16) -> Result<(), WriteError>
-        ensures { Takes (a_leaf (w.integer v) ∷ []) self.old self.new result }
+        ensures { Takes (a_scalar (w.integer v) ∷ []) self.old self.new result }
     {
         self.serialize_i32(i32::from(v))
     }
 
     /// Writes an integer.
     pub fn serialize_i32(&mut self, v: i32) -> Result<(), WriteError>
-        ensures { Takes (a_leaf (w.integer v) ∷ []) self.old self.new result }
+        ensures { Takes (a_scalar (w.integer v) ∷ []) self.old self.new result }
     {
         self.serialize_i64(i64::from(v))
     }
 
     /// Writes an integer.
     pub fn serialize_i64(&mut self, v: i64) -> Result<(), WriteError>
-        ensures { Takes (a_leaf (w.integer v) ∷ []) self.old self.new result }
+        ensures { Takes (a_scalar (w.integer v) ∷ []) self.old self.new result }
     {
-        self.take(Call::Leaf(Leaf::Signed(v)))
+        self.take(Call::Scalar(Scalar::Signed(v)))
     }
 
     /// Writes an integer.
     pub fn serialize_u8(&mut self, v: u8) -> Result<(), WriteError>
-        ensures { Takes (a_leaf (w.integer (pos v)) ∷ []) self.old self.new result }
+        ensures { Takes (a_scalar (w.integer (pos v)) ∷ []) self.old self.new result }
     {
         self.serialize_u16(u16::from(v))
     }
 
     /// Writes an integer.
     pub fn serialize_u16(&mut self, v: u16) -> Result<(), WriteError>
-        ensures { Takes (a_leaf (w.integer (pos v)) ∷ []) self.old self.new result }
+        ensures { Takes (a_scalar (w.integer (pos v)) ∷ []) self.old self.new result }
     {
         self.serialize_u32(u32::from(v))
     }
 
     /// Writes an integer.
     pub fn serialize_u32(&mut self, v: u32) -> Result<(), WriteError>
-        ensures { Takes (a_leaf (w.integer (pos v)) ∷ []) self.old self.new result }
+        ensures { Takes (a_scalar (w.integer (pos v)) ∷ []) self.old self.new result }
     {
         self.serialize_u64(u64::from(v))
     }
 
     /// Writes an integer. `UnsupportedType` where it is above 9223372036854775807.
     pub fn serialize_u64(&mut self, v: u64) -> Result<(), WriteError>
-        ensures { Takes (a_leaf (w.integer (pos v)) ∷ []) self.old self.new result }
+        ensures { Takes (a_scalar (w.integer (pos v)) ∷ []) self.old self.new result }
     {
-        self.take(Call::Leaf(Leaf::Unsigned(v)))
+        self.take(Call::Scalar(Scalar::Unsigned(v)))
     }
 
     /// Writes a float by its canonical text.
     pub fn serialize_float(&mut self, v: &Float) -> Result<(), WriteError>
-        ensures { Takes (a_leaf (w.float v.now) ∷ []) self.old self.new result }
+        ensures { Takes (a_scalar (w.float v.now) ∷ []) self.old self.new result }
     {
-        self.take(Call::Leaf(Leaf::Float(v.as_str())))
+        self.take(Call::Scalar(Scalar::Float(v.as_str())))
     }
 
     /// Writes a string of one character, which may not be a key.
     pub fn serialize_char(&mut self, v: char) -> Result<(), WriteError>
-        ensures { Takes (a_leaf (w.other_text (encode_utf8 v)) ∷ []) self.old self.new result }
+        ensures { Takes (a_scalar (w.other_text (encode_utf8 v)) ∷ []) self.old self.new result }
     {
         let mut bytes = [0; 4];
-        self.take(Call::Leaf(Leaf::OtherText(v.encode_utf8(&mut bytes))))
+        self.take(Call::Scalar(Scalar::OtherText(v.encode_utf8(&mut bytes))))
     }
 
     /// Writes a string; at a key, sets the key.
     pub fn serialize_str(&mut self, v: &str) -> Result<(), WriteError>
-        ensures { Takes (a_leaf (w.text v.now) ∷ []) self.old self.new result }
+        ensures { Takes (a_scalar (w.text v.now) ∷ []) self.old self.new result }
     {
-        self.take(Call::Leaf(Leaf::Text(v)))
+        self.take(Call::Scalar(Scalar::Text(v)))
     }
 
     /// Writes an array of integers.
     pub fn serialize_bytes(&mut self, v: &[u8]) -> Result<(), WriteError>
-        ensures { Takes (a_leaf (w.bytes v.now) ∷ []) self.old self.new result }
+        ensures { Takes (a_scalar (w.bytes v.now) ∷ []) self.old self.new result }
     {
-        self.take(Call::Leaf(Leaf::Bytes(v)))
+        self.take(Call::Scalar(Scalar::Bytes(v)))
     }
 
     /// Writes the name of a variant as a string, which may not be a key.
@@ -188,29 +202,29 @@ impl Serializer {
         index: u32,
         variant: &str,
     ) -> Result<(), WriteError>
-        ensures { Takes (a_leaf (w.other_text variant.now) ∷ []) self.old self.new result }
+        ensures { Takes (a_scalar (w.other_text variant.now) ∷ []) self.old self.new result }
     {
         let _ = name;
         let _ = index;
-        self.take(Call::Leaf(Leaf::OtherText(variant)))
+        self.take(Call::Scalar(Scalar::OtherText(variant)))
     }
 
-    /// Refuses a unit: `UnsupportedType`.
+    /// Names a unit: `UnsupportedType`.
     pub fn serialize_unit(&mut self) -> Result<(), WriteError>
-        ensures { Takes (a_leaf w.refused ∷ []) self.old self.new result }
+        ensures { Takes (a_scalar w.refused ∷ []) self.old self.new result }
     {
-        self.take(Call::Leaf(Leaf::Refused))
+        self.take(Call::Scalar(Scalar::Refused))
     }
 
-    /// Refuses a unit: `UnsupportedType`.
+    /// Names a unit: `UnsupportedType`.
     pub fn serialize_unit_struct(&mut self, name: &str) -> Result<(), WriteError>
-        ensures { Takes (a_leaf w.refused ∷ []) self.old self.new result }
+        ensures { Takes (a_scalar w.refused ∷ []) self.old self.new result }
     {
         let _ = name;
         self.serialize_unit()
     }
 
-    /// Refuses a variant that holds a value: `UnsupportedType`. The value is not looked at.
+    /// Names a variant that holds a value: `UnsupportedType`. The value is not looked at.
     pub fn serialize_newtype_variant<T: Serialize>(
         &mut self,
         name: &str,
@@ -218,13 +232,13 @@ impl Serializer {
         variant: &str,
         value: &T,
     ) -> Result<(), WriteError>
-        ensures { Takes (a_leaf w.refused ∷ []) self.old self.new result }
+        ensures { Takes (a_scalar w.refused ∷ []) self.old self.new result }
     {
         let _ = value;
         self.serialize_tuple_variant(name, index, variant, 1)
     }
 
-    /// Refuses a variant that holds values: `UnsupportedType`.
+    /// Names a variant that holds values: `UnsupportedType`.
     pub fn serialize_tuple_variant(
         &mut self,
         name: &str,
@@ -232,7 +246,7 @@ impl Serializer {
         variant: &str,
         len: usize,
     ) -> Result<(), WriteError>
-        ensures { Takes (a_leaf w.refused ∷ []) self.old self.new result }
+        ensures { Takes (a_scalar w.refused ∷ []) self.old self.new result }
     {
         let _ = index;
         let _ = variant;
@@ -240,7 +254,7 @@ impl Serializer {
         self.serialize_unit_struct(name)
     }
 
-    /// Refuses a variant that holds values: `UnsupportedType`.
+    /// Names a variant that holds values: `UnsupportedType`.
     pub fn serialize_struct_variant(
         &mut self,
         name: &str,
@@ -248,16 +262,16 @@ impl Serializer {
         variant: &str,
         len: usize,
     ) -> Result<(), WriteError>
-        ensures { Takes (a_leaf w.refused ∷ []) self.old self.new result }
+        ensures { Takes (a_scalar w.refused ∷ []) self.old self.new result }
     {
         self.serialize_tuple_variant(name, index, variant, len)
     }
 
     /// An absent option: an entry with it is left out. `UnsupportedNone` elsewhere.
     pub fn serialize_none(&mut self) -> Result<(), WriteError>
-        ensures { Takes (nothing ∷ []) self.old self.new result }
+        ensures { Takes (an_absent ∷ []) self.old self.new result }
     {
-        self.take(Call::Nothing)
+        self.take(Call::Absent)
     }
 
     /// Opens an array; its length is not looked at.
@@ -306,29 +320,39 @@ impl Serializer {
         self.take(Call::Close)
     }
 
-    // The answer of a part, or the refusal that was met in it.
-    fn answer(&self, answer: Result<(), WriteError>) -> Result<(), WriteError>
-        ensures part { MatchOption (refusal_of self.now) (result ≡ answer) (λ e. ⊤) }
-        ensures answers { Answers self.now result }
+    // The answer of a part, or the error that was met in it.
+    #[inline(always)]
+    fn answer(&mut self, answer: Result<(), WriteError>) -> Result<(), WriteError>
+        ensures { MatchOption (error_of self.old) ((self.new ≡ self.old) × (result ≡ answer))
+            (λ error. Refused error self.new result) }
     {
-        match &self.refusal {
-            Some(refusal) => Err(again(refusal, self.alloc)),
+        // Asked first, since moving an error out costs more, and mostly there is none.
+        if !self.has_refused() {
+            return answer;
+        }
+        match self.error.take() {
+            Some(error) => self.refuse(error),
             None => answer,
         }
     }
 
-    // The calls of a part. A refusal that was met in it is answered even where the part answered Ok; else the part's own fault is.
-    #[tactic(auto, using(crate::proofs::Sending::passes_answer))]
+    // The calls of a part. An error that is met in it is answered even where the part answers Ok; else the part's own
+    // error is.
+    #[inline(always)]
+    #[tactic(auto, using(crate::proofs::ListsAreSentInTurn::passes_answer))]
     fn part<T: Serialize>(&mut self, value: &T) -> Result<(), WriteError>
         ensures { Passes (T.calls value.now) (T.gives_up value.now) self.old self.new result }
     {
+        self.ready()?;
         let answer = value.serialize(self.alloc, self);
         self.answer(answer)
     }
 
     // What a call records before its part, and the calls of the part.
-    #[tactic(auto, using(crate::proofs::Sending::passes_then, crate::proofs::Sending::passes_cut))]
-    fn behind<T: Serialize>(&mut self, call: Call<'_>, value: &T) -> Result<(), WriteError>
+    #[inline(always)]
+    #[tactic(auto, using(crate::proofs::ListsAreSentInTurn::passes_then, crate::proofs::ListsAreSentInTurn::passes_cut))]
+    fn after<T: Serialize>(&mut self, call: Call<'_>, value: &T) -> Result<(), WriteError>
+        requires { IsRecordable (item_of call) }
         ensures { Passes (item_of call.entry ∷ T.calls value.now) (T.gives_up value.now) self.old self.new result }
     {
         self.take(call)?;
@@ -338,9 +362,9 @@ impl Serializer {
 
     /// Writes an option that is there.
     pub fn serialize_some<T: Serialize>(&mut self, value: &T) -> Result<(), WriteError>
-        ensures { Passes (some_mark ∷ T.calls value.now) (T.gives_up value.now) self.old self.new result }
+        ensures { Passes (some_prefix ∷ T.calls value.now) (T.gives_up value.now) self.old self.new result }
     {
-        self.behind(Call::SomeMark, value)
+        self.after(Call::SomePrefix, value)
     }
 
     /// Writes the value that a newtype holds.
@@ -359,51 +383,50 @@ impl Serializer {
     pub fn serialize_key<T: Serialize>(&mut self, value: &T) -> Result<(), WriteError>
         ensures { Passes (key ∷ T.calls value.now) (T.gives_up value.now) self.old self.new result }
     {
-        self.behind(Call::Key, value)
+        self.after(Call::Key, value)
     }
 
     /// Writes the value of the entry whose key is set.
     pub fn serialize_value<T: Serialize>(&mut self, value: &T) -> Result<(), WriteError>
-        ensures { Passes (value_mark ∷ T.calls value.now) (T.gives_up value.now) self.old self.new result }
+        ensures { Passes (value_prefix ∷ T.calls value.now) (T.gives_up value.now) self.old self.new result }
     {
-        self.behind(Call::ValueMark, value)
+        self.after(Call::ValuePrefix, value)
     }
 
     /// Sets the key of the next entry, and writes its value.
     pub fn serialize_field<T: Serialize>(&mut self, name: &str, value: &T) -> Result<(), WriteError>
         ensures { Passes (field name.now ∷ T.calls value.now) (T.gives_up value.now) self.old self.new result }
     {
-        self.behind(Call::Field(name), value)
+        self.after(Call::Field(name), value)
     }
 
     /// Writes an element of the innermost array.
     pub fn serialize_element<T: Serialize>(&mut self, value: &T) -> Result<(), WriteError>
-        ensures { Passes (element_mark ∷ T.calls value.now) (T.gives_up value.now) self.old self.new result }
+        ensures { Passes (element_prefix ∷ T.calls value.now) (T.gives_up value.now) self.old self.new result }
     {
-        self.behind(Call::ElementMark, value)
+        self.after(Call::ElementPrefix, value)
     }
 
-    /// The text, where the calls spelled a whole table; else the refusal that was answered before, or `CallOrder`.
+    /// The text, where the calls spelled a whole table; else the error that was answered before, or `CallOrder`.
     pub fn finish(self) -> Result<String, WriteError>
         ensures answer { Finishes self result }
         ensures text { (is : List Item) → HasRecorded self is → IsLayout is result }
-        ensures succeeds { (is : List Item) → HasRecorded self is → Succeeds is ⊥ result }
+        ensures succeeds { (is : List Item) → HasRecorded self is → Succeeds is NoFault result }
     {
         self.hand_out()
     }
 
-    // The refusal that was kept, or else the text.
-    #[tactic(auto, using(crate::proofs::Finishing::finishes))]
+    // The error that was kept, or else the text.
     fn hand_out(self) -> Result<String, WriteError>
         ensures { Finishes self result }
     {
         let Serializer {
             emitter,
-            refusal,
+            error,
             alloc: _,
         } = self;
-        match refusal {
-            Some(refusal) => Err(refusal),
+        match error {
+            Some(error) => Err(error),
             None => emitter.finish(),
         }
     }
@@ -413,7 +436,7 @@ impl Serializer {
 ///
 /// ```text
 /// impl Serialize for Server {
-///     ghost calls = { λ s. open_table ∷ (field (codes "port") ∷ a_leaf (integer (pos s.port)) ∷ close ∷ []) };
+///     ghost calls = { λ s. open_table ∷ (field (codes "port") ∷ a_scalar (integer (pos s.port)) ∷ close ∷ []) };
 ///
 ///     fn serialize(&self, alloc: Global, ser: &mut Serializer) -> Result<(), WriteError> {
 ///         let _ = alloc;
@@ -424,16 +447,17 @@ impl Serializer {
 /// }
 /// ```
 pub trait Serialize {
+    ghost use Rattle.basic_toml_emit.specs.declared.error.WriteError.{WriteError};
     ghost use Rattle.basic_toml_emit.specs.Items.{Item};
-    ghost use Rattle.basic_toml_write.specs.Recorded.{Sends};
+    ghost use Rattle.basic_toml_write.specs.Serializer.{Sends};
 
     // The items that a value spells.
     ghost calls: { Self → List Item };
 
-    // Holds of a value whose own rule may fail.
-    ghost gives_up: { Self → Type 0 } = { λ _. ⊥ };
+    // Which errors of its own a value may give up with.
+    ghost gives_up: { Self → WriteError → Type 0 } = { λ _ _. ⊥ };
 
-    /// Makes the calls of the value on `ser`. A fault of the type's own is made by [`WriteError::custom`].
+    /// Makes the calls of the value on `ser`. An error of the type's own is made by [`WriteError::custom`].
     fn serialize(&self, alloc: Global, ser: &mut Serializer) -> Result<(), WriteError>
         ensures { Sends (calls self.now) (gives_up self.now) ser.old ser.new result };
 }

@@ -1,2 +1,2 @@
-pub mod Fronts
-pub mod Dues
+pub mod FrontIsAppended
+pub mod AnswerIsDue

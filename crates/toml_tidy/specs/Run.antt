@@ -5,27 +5,29 @@ use Rattle.basic_toml.specs.Calls.{outcome}
 use Rattle.basic_toml.specs.Data.{Members, table}
 use Rattle.basic_toml.specs.Depth.{nesting_limit}
 use Rattle.basic_toml.specs.Document.{IsDocument, IsTextFault}
-use Rattle.basic_toml.specs.Fault.{Fault, placeless, not_text}
+use Rattle.basic_toml.specs.Fault.{Fault, without_offset, not_text}
 use Rattle.basic_toml.specs.FaultText.{fault_text}
 use Rattle.basic_toml.specs.Layout.{layout}
-use Rattle.basic_toml.specs.Refusals.{Refusal}
+use Rattle.basic_toml.specs.Rules.{CallFault}
 use Rattle.basic_toml.specs.Shapes.{is_unsupported}
 use Rattle.basic_toml.specs.Trees.{written_of}
-use Rattle.basic_toml.specs.Values.{data_calls}
-use Rattle.basic_toml.specs.Writing.{refusal_kind}
+use Rattle.basic_toml.specs.Impls.{data_calls}
+use Rattle.basic_toml.specs.Ser.{fault_kind}
 
 abbrev pub line : Fault → List ℕ
 line fault = fault_text fault ++ codes "\n"
 
 -- the status, and the text to write
 pub data IsDue (input : List ℕ) : ℕ → List ℕ → Type 0 where
-  tidied : {members : Members} → IsUtf8 input → IsDocument input members → is_unsupported nesting_limit (written_of (table members)) ≡ false
+  tidied : {members : Members} → IsUtf8 input → IsDocument input members
+      → is_unsupported nesting_limit (written_of (table members)) ≡ false
       → IsDue input 0 (layout (written_of (table members)))
   refused : {fault : Fault} → IsUtf8 input → IsTextFault input fault → IsDue input 1 (line fault)
   not_utf8 : (IsUtf8 input → ⊥) → IsDue input 1 (line not_text)
-  -- the first refusal that the calls of the table meet
-  unwritable : {members : Members} {refusal : Refusal} → IsUtf8 input → IsDocument input members → outcome nesting_limit (data_calls (table members)) ≡ Err refusal
-      → IsDue input 2 (line (placeless (refusal_kind refusal)))
+  -- the first error that the calls of the table meet
+  unwritable : {members : Members} {error : CallFault} → IsUtf8 input → IsDocument input members
+      → outcome nesting_limit (data_calls (table members)) ≡ Err error
+      → IsDue input 2 (line (without_offset (fault_kind error)))
 
 -- a front of the text was written
 abbrev pub AppendsFront : Option (List ℕ) → Option (List ℕ) → List ℕ → Type 0
@@ -36,4 +38,5 @@ pub data Ends (input : List ℕ) (old new : Option (List ℕ)) : ℕ → Type 0 
   done : {status : ℕ} {text : List ℕ} → IsDue input status text → Appends old new text → Ends input old new status
   -- reading or memory failed
   not_answered : Keeps old new → Ends input old new 3
-  not_written_all : {status : ℕ} {text : List ℕ} → IsDue input status text → AppendsFront old new text → Ends input old new 3
+  not_written_all : {status : ℕ} {text : List ℕ} → IsDue input status text → AppendsFront old new text
+      → Ends input old new 3

@@ -1,7 +1,7 @@
 //! `toml_tidy` reads a TOML text from standard input and writes it anew to standard output.
 //!
 //! It ends with status 0 where the text was read and written; with 1 where the text was refused, and 2 where its table
-//! cannot be written, and then what it writes is the fault and a line feed; and with 3 where reading, writing or memory
+//! cannot be written, and then what it writes is the error and a line feed; and with 3 where reading, writing or memory
 //! failed. Where reading or memory failed, it writes nothing.
 #![tactic(auto)]
 
@@ -25,7 +25,8 @@ const FAILED: u8 = 3;
 ///
 /// An interrupted read or write counts as failed, and so does a write that takes no byte.
 pub fn run<R: Read, W: Write>(alloc: Global, reader: &mut R, writer: &mut W) -> u8
-    ensures { IfSome (R.remaining reader.old) (λ input. Ends input (W.contents writer.old) (W.contents writer.new) result) }
+    ensures { IfSome (R.remaining reader.old)
+        (λ input. Ends input (W.contents writer.old) (W.contents writer.new) result) }
 {
     let Ok(input) = read_all(alloc, reader) else {
         return FAILED;

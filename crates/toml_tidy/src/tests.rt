@@ -98,3 +98,25 @@ fn fails_at_each_call(rt: HostRuntime) -> Result<(), Fail> {
     }
     Ok(())
 }
+
+/// Takes no byte.
+#[derive(Drop)]
+struct Full;
+
+impl Write for Full {
+    fn write(&mut self, _buf: &[u8]) -> io::Result<usize> {
+        Ok(0)
+    }
+
+    fn flush(&mut self) -> io::Result<()> {
+        Ok(())
+    }
+}
+
+#[test]
+fn fails_where_no_byte_is_taken(rt: HostRuntime) {
+    for (input, status) in [(b"a = 7".as_slice(), 3), (b"a = [1]", 3), (b"", 0)] {
+        let mut reader = input;
+        assert_eq!(rt; run(rt.alloc(), &mut reader, &mut Full), status);
+    }
+}

@@ -1,6 +1,7 @@
-//! Tables of worked texts, each of them one test.
+//! Tables of worked texts, each of them one test, and callers of a tokenizer.
 #![tactic(auto)]
 
+pub mod callers;
 #[cfg(test)]
 mod numbers;
 #[cfg(test)]

@@ -1,9 +1,10 @@
+use crate::callers::rest;
 use basic_toml_tokens::{Token, Tokenizer};
 use std::alloc::Global;
 use std::borrow::CowStr;
 use std::test::Fail;
 
-// Each token with its span, a string by its value and whether it is borrowed, and each fault; at most 32.
+// Each token with its span, a string by its value and whether it is borrowed, and each error; at most 32.
 fn shown(alloc: Global, text: &str) -> Result<String, Fail> {
     let mut tokenizer = Tokenizer::new(text);
     let mut all = String::new(alloc);
@@ -47,6 +48,10 @@ fn tokens_and_faults(rt: HostRuntime) -> Result<(), Fail> {
             "a\u{feff}",
             "0..1 Keylike(\"a\"); Unexpected(1, '\\u{feff}')",
         ),
+        (
+            "\u{feff}\u{feff}a",
+            "Unexpected(3, '\\u{feff}'); 6..7 Keylike(\"a\")",
+        ),
         // what is borrowed
         ("'''\r\na'''", "0..9 multiline borrowed \"a\""),
         ("'''a\r\n'''", "0..9 multiline owned \"a\\n\""),
@@ -71,7 +76,7 @@ fn tokens_and_faults(rt: HostRuntime) -> Result<(), Fail> {
             "\"\"\"\\\r\n   \r\n   a\"\"\"",
             "0..18 multiline owned \"a\"",
         ),
-        // faults, each followed by the end
+        // errors, each followed by the end
         ("\"\\a", "InvalidEscape(2, 'a')"),
         ("\"\\\r\n", "InvalidEscape(2, '\\n')"),
         ("\"\\", "UnterminatedString(0)"),
@@ -80,12 +85,50 @@ fn tokens_and_faults(rt: HostRuntime) -> Result<(), Fail> {
         ("\"\\uD800", "InvalidEscapeValue(2, 55296)"),
         ("'\n", "NewlineInString(1)"),
         ("'\0", "InvalidCharInString(1, '\\0')"),
+        ("'", "UnterminatedString(0)"),
+        ("\"\\u\"", "InvalidHexEscape(3, '\"')"),
+        // errors, and what stands after them
+        ("'\n'", "NewlineInString(1); UnterminatedString(2)"),
+        ("\"\n\"", "NewlineInString(1); UnterminatedString(2)"),
+        (
+            "'\r'",
+            "InvalidCharInString(1, '\\r'); UnterminatedString(2)",
+        ),
+        (
+            "\"\u{7f}\"",
+            "InvalidCharInString(1, '\\u{7f}'); UnterminatedString(2)",
+        ),
+        (
+            "'''\r'''",
+            "InvalidCharInString(3, '\\r'); UnterminatedString(4)",
+        ),
+        (
+            "\"\"\"\\  \r\"\"\"",
+            "InvalidEscape(4, ' '); Unexpected(6, '\\r'); UnterminatedString(7)",
+        ),
+        (
+            "\"\\uxx\"",
+            "InvalidHexEscape(3, 'x'); 4..5 Keylike(\"x\"); UnterminatedString(5)",
+        ),
+        (
+            "\"\\uD800\"",
+            "InvalidEscapeValue(2, 55296); UnterminatedString(7)",
+        ),
+        (
+            "key|=3",
+            "0..3 Keylike(\"key\"); Unexpected(3, '|'); 4..5 Equals; 5..6 Keylike(\"3\")",
+        ),
         ("#\0", "0..1 Comment(\"#\"); Unexpected(1, '\\0')"),
         ("#\u{7f}", "0..1 Comment(\"#\"); Unexpected(1, '\\u{7f}')"),
         // the other tokens
         ("-_-", "0..3 Keylike(\"-_-\")"),
         ("___", "0..3 Keylike(\"___\")"),
         ("0bar", "0..4 Keylike(\"0bar\")"),
+        ("1997-09-09", "0..10 Keylike(\"1997-09-09\")"),
+        (
+            "09:09:09",
+            "0..2 Keylike(\"09\"); 2..3 Colon; 3..5 Keylike(\"09\"); 5..6 Colon; 6..8 Keylike(\"09\")",
+        ),
         (
             " a ",
             "0..1 Whitespace(\" \"); 1..2 Keylike(\"a\"); 2..3 Whitespace(\" \")",
@@ -100,4 +143,11 @@ fn tokens_and_faults(rt: HostRuntime) -> Result<(), Fail> {
     Ok(())
 }
 
-// Each call that can take memory finds it.
+#[test]
+fn rest_of_a_text(rt: HostRuntime) {
+    let text = "\u{feff}\u{e9}a";
+    let mut tokenizer = Tokenizer::new(text);
+    assert_eq!(rt; rest(text, &mut tokenizer), "\u{e9}a");
+    assert_eq!(rt; tokenizer.one(), Some((3, '\u{e9}')));
+    assert_eq!(rt; rest(text, &mut tokenizer), "a");
+}

@@ -1,200 +1,247 @@
 ghost use Rattle.std.specs.Prelude.{◌≡◌, ◌⊎◌, ◌∷◌, true, IfOk, IfErr};
-ghost use Rattle.basic_toml_emit.specs.declared.error.WriteError.TheVariants.{OutOfMemory, ValueAfterTable};
-ghost use Rattle.basic_toml_emit.specs.Items.{a_leaf, open_array, close};
-ghost use Rattle.basic_toml_emit.specs.Leaves.{leaf_of};
+ghost use Rattle.basic_toml_emit.specs.declared.fault.Fault.TheVariants.{OutOfMemory, DuplicateKey, ValueAfterTable};
+ghost use Rattle.basic_toml_emit.specs.Items.{a_scalar, open_array, close};
+ghost use Rattle.basic_toml_emit.specs.Scalar.{scalar_of};
 ghost use Rattle.basic_toml_emit.specs.Open.{an_array};
-ghost use Rattle.basic_toml_emit.specs.Refusals.{is_in_table, holds_section};
+ghost use Rattle.basic_toml_emit.specs.Rules.{is_in_table, place_of, at_key, at_value, holds_section};
 ghost use Rattle.basic_toml_emit.specs.Frames.{frames_of, kind_of};
-ghost use Rattle.basic_toml_emit.specs.Changes.{outer};
+ghost use Rattle.basic_toml_emit.specs.Changes.{outer, holds_key, has_entry};
 
 use super::Emitter;
-use crate::WriteError;
+use crate::fault::Fault;
 use crate::frames::{
-    Frame, Kind, Stage, enter_key, innermost, is_full, leave, put, set_stage, settle,
+    ElementKind, Frame, Stage, enter_key, innermost, is_full, leave, put, set_key, settle,
 };
 use crate::headers::{write_header, write_row_start};
-use crate::leaf::Leaf;
+use crate::scalar::Scalar;
 
 // Scalars, and arrays that hold no table.
 impl Emitter {
-    ghost use Rattle.basic_toml_emit.specs.States.{Steps, StartsRow, StartsElements, EndsRow};
+    ghost use Rattle.basic_toml_emit.specs.Emitter.{Takes, Enters, StartsValue, StartsRow, StartsElements, EndsRow};
 
-    pub(super) fn leaf_in_table(&mut self, leaf: Leaf<'_>) -> Result<(), WriteError>
+    #[inline(always)]
+    pub(super) fn scalar_in_table(&mut self, scalar: Scalar<'_>) -> Result<(), Fault>
         requires { is_in_table (frames_of self.old.frames.items) ≡ true }
-        ensures { Steps (a_leaf (leaf_of leaf.entry)) self.old self.new result }
-    {
-        let Some((Frame::Table(table), outer)) = innermost(&self.frames) else {
-            return Err(WriteError::CallOrder);
-        };
-        match &table.stage {
-            Stage::NoKey => Err(WriteError::CallOrder),
-            Stage::KeyPlace => {
-                let Some(text) = leaf.key() else {
-                    return Err(WriteError::KeyNotString);
-                };
-                let key = String::from_str(self.alloc, text)?;
-                set_stage(&mut self.frames, Stage::KeySet(key));
-                Ok(())
-            }
-            Stage::KeySet(key) => {
-                if leaf.is_refused() {
-                    return Err(WriteError::UnsupportedType);
-                }
-                if table.keys.contains(key.as_str()) {
-                    return Err(WriteError::DuplicateKey(key.clone()?));
-                }
-                if table.holds_section {
-                    return Err(WriteError::ValueAfterTable);
-                }
-                if leaf.is_bytes() && is_full(&self.frames) {
-                    return Err(WriteError::NestedTooDeeply);
-                }
-                write_header(&mut self.text, outer, table.header)?;
-                write_row_start(&mut self.text, key.as_str())?;
-                leaf.write(&mut self.text)?;
-                self.text.push_str("\n")?;
-                enter_key(&mut self.frames)?;
-                settle(&mut self.frames);
-                Ok(())
-            }
-        }
-    }
-
-    pub(super) fn leaf_in_array(
-        &mut self,
-        kind: Kind,
-        later: bool,
-        leaf: Leaf<'_>,
-    ) -> Result<(), WriteError>
-        requires { frames_of self.old.frames.items ≡ an_array (kind_of kind) later ∷ outer (frames_of self.old.frames.items) }
-        ensures { Steps (a_leaf (leaf_of leaf.entry)) self.old self.new result }
-    {
-        if leaf.is_refused() {
-            return Err(WriteError::UnsupportedType);
-        }
-        let is_full = is_full(&self.frames);
-        match kind {
-            Kind::Tables => return Err(WriteError::UnsupportedType),
-            Kind::Unknown => self.start_elements(later)?,
-            Kind::Others => self.text.push_str(", ")?,
-        }
-        if leaf.is_bytes() && is_full {
-            return Err(WriteError::NestedTooDeeply);
-        }
-        leaf.write(&mut self.text)
-    }
-
-    pub(super) fn open_array_in_table(&mut self) -> Result<(), WriteError>
-        requires { is_in_table (frames_of self.old.frames.items) ≡ true }
-        ensures { Steps open_array self.old self.new result }
+        ensures { Takes (a_scalar (scalar_of scalar.entry)) self.old self.new result }
     {
         let Some((Frame::Table(table), _)) = innermost(&self.frames) else {
-            return Err(WriteError::CallOrder);
+            return Err(Fault::CallOrder);
         };
-        match &table.stage {
-            Stage::NoKey => Err(WriteError::CallOrder),
-            Stage::KeyPlace => Err(WriteError::KeyNotString),
-            Stage::KeySet(key) => {
-                if table.keys.contains(key.as_str()) {
-                    return Err(WriteError::DuplicateKey(key.clone()?));
-                }
-                if is_full(&self.frames) {
-                    return Err(WriteError::NestedTooDeeply);
-                }
-                let later = !table.keys.is_empty();
-                enter_key(&mut self.frames)?;
-                put(
-                    &mut self.frames,
-                    Frame::Array {
-                        kind: Kind::Unknown,
-                        later,
-                    },
-                )
-            }
+        match table.stage {
+            Stage::NoKey => Err(Fault::CallOrder),
+            Stage::KeyPlace => self.scalar_at_key(scalar),
+            Stage::KeySet => self.scalar_at_value(scalar),
         }
     }
 
-    pub(super) fn open_array_in_array(&mut self, kind: Kind, later: bool) -> Result<(), WriteError>
-        requires { frames_of self.old.frames.items ≡ an_array (kind_of kind) later ∷ outer (frames_of self.old.frames.items) }
-        ensures { Steps open_array self.old self.new result }
+    // Sets a key.
+    fn scalar_at_key(&mut self, scalar: Scalar<'_>) -> Result<(), Fault>
+        requires { place_of (frames_of self.old.frames.items) self.old.is_done ≡ at_key }
+        ensures { Takes (a_scalar (scalar_of scalar.entry)) self.old self.new result }
     {
+        let Some(key) = scalar.key() else {
+            return Err(Fault::KeyNotString);
+        };
+        set_key(&mut self.frames, key)?;
+        Ok(())
+    }
+
+    // Writes a row.
+    #[inline(always)]
+    fn scalar_at_value(&mut self, scalar: Scalar<'_>) -> Result<(), Fault>
+        requires { place_of (frames_of self.old.frames.items) self.old.is_done ≡ at_value }
+        ensures { Takes (a_scalar (scalar_of scalar.entry)) self.old self.new result }
+    {
+        if scalar.is_refused() {
+            return Err(Fault::UnsupportedType);
+        }
         let is_full = is_full(&self.frames);
-        match kind {
-            Kind::Tables => return Err(WriteError::UnsupportedType),
-            Kind::Unknown => self.start_elements(later)?,
-            Kind::Others => self.text.push_str(", ")?,
+        self.enter()?;
+        self.start_value()?;
+        if scalar.is_bytes() && is_full {
+            return Err(Fault::NestedTooDeeply);
         }
-        if is_full {
-            return Err(WriteError::NestedTooDeeply);
-        }
-        put(
-            &mut self.frames,
-            Frame::Array {
-                kind: Kind::Unknown,
-                later,
-            },
-        )
+        scalar.write(&mut self.text)?;
+        self.text.push('\n')?;
+        Ok(())
     }
 
-    #[tactic(auto, using(crate::proofs::Stacks::array_end_with_row))]
-    pub(super) fn close_array(&mut self, kind: Kind, later: bool) -> Result<(), WriteError>
-        requires { frames_of self.old.frames.items ≡ an_array (kind_of kind) later ∷ outer (frames_of self.old.frames.items) }
-        ensures { Steps close self.old self.new result }
+    // Counts the key that is set among those of present entries.
+    pub(super) fn enter(&mut self) -> Result<(), Fault>
+        ensures ok { IfOk result (λ _. Enters self.old self.new) }
+        ensures err { IfErr result (λ e. (e ≡ OutOfMemory) ⊎ (e ≡ DuplicateKey)
+            × (holds_key (frames_of self.old.frames.items) ≡ true)
+            × (frames_of self.new.frames.items ≡ frames_of self.old.frames.items)) }
     {
-        let _ = later;
-        leave(&mut self.frames);
-        match kind {
-            Kind::Unknown => {
-                self.start_row()?;
-                self.end_row()
-            }
-            Kind::Others => self.end_row(),
-            Kind::Tables => Ok(()),
+        if enter_key(&mut self.frames)? {
+            Ok(())
+        } else {
+            Err(Fault::DuplicateKey)
         }
     }
 
-    // Writes what stands before the first element of the innermost array, which is no table.
-    fn start_elements(&mut self, later: bool) -> Result<(), WriteError>
-        ensures ok { IfOk result (λ _. StartsElements later self.old self.new) }
-        ensures err { IfErr result (λ e. (e ≡ OutOfMemory) ⊎ (e ≡ ValueAfterTable) × (holds_section (outer (frames_of self.old.frames.items)) ≡ true)) }
-    {
-        leave(&mut self.frames);
-        self.start_row()?;
-        put(
-            &mut self.frames,
-            Frame::Array {
-                kind: Kind::Others,
-                later,
-            },
-        )
-    }
-
-    // Writes what stands before the elements of an array that stands in the innermost frame, and holds no table.
-    fn start_row(&mut self) -> Result<(), WriteError>
-        ensures ok { IfOk result (λ _. StartsRow self.old self.new) }
-        ensures err { IfErr result (λ e. (e ≡ OutOfMemory) ⊎ (e ≡ ValueAfterTable) × (holds_section (frames_of self.old.frames.items) ≡ true)) }
+    // Writes what stands before the value of the key that was entered last in the innermost frame, a table.
+    fn start_value(&mut self) -> Result<(), Fault>
+        ensures ok { IfOk result (λ _. StartsValue self.old self.new) }
+        ensures err { IfErr result (λ e. (e ≡ OutOfMemory) ⊎ (e ≡ ValueAfterTable)
+            × (holds_section (frames_of self.old.frames.items) ≡ true)) }
     {
         if let Some((Frame::Table(table), outer)) = innermost(&self.frames) {
             if table.holds_section {
-                return Err(WriteError::ValueAfterTable);
+                return Err(Fault::ValueAfterTable);
             }
             write_header(&mut self.text, outer, table.header)?;
             write_row_start(&mut self.text, table.keys.last())?;
         }
-        self.text.push_str("[")?;
         settle(&mut self.frames);
         Ok(())
     }
 
-    // Writes what stands behind them.
-    fn end_row(&mut self) -> Result<(), WriteError>
+    pub(super) fn scalar_in_array(
+        &mut self,
+        kind: ElementKind,
+        later: bool,
+        scalar: Scalar<'_>,
+    ) -> Result<(), Fault>
+        requires { frames_of self.old.frames.items ≡ an_array (kind_of kind) later
+            ∷ outer (frames_of self.old.frames.items) }
+        ensures { Takes (a_scalar (scalar_of scalar.entry)) self.old self.new result }
+    {
+        if scalar.is_refused() {
+            return Err(Fault::UnsupportedType);
+        }
+        let is_full = is_full(&self.frames);
+        match kind {
+            ElementKind::Tables => return Err(Fault::UnsupportedType),
+            ElementKind::Unknown => self.start_elements(later)?,
+            ElementKind::Others => self.text.push_str(", ")?,
+        }
+        if scalar.is_bytes() && is_full {
+            return Err(Fault::NestedTooDeeply);
+        }
+        scalar.write(&mut self.text)?;
+        Ok(())
+    }
+
+    pub(super) fn open_array_in_table(&mut self) -> Result<(), Fault>
+        requires { is_in_table (frames_of self.old.frames.items) ≡ true }
+        ensures { Takes open_array self.old self.new result }
+    {
+        let Some((Frame::Table(table), _)) = innermost(&self.frames) else {
+            return Err(Fault::CallOrder);
+        };
+        let later = !table.keys.is_empty();
+        match table.stage {
+            Stage::NoKey => Err(Fault::CallOrder),
+            Stage::KeyPlace => Err(Fault::KeyNotString),
+            Stage::KeySet => self.open_array_at_value(later),
+        }
+    }
+
+    fn open_array_at_value(&mut self, later: bool) -> Result<(), Fault>
+        requires place { place_of (frames_of self.old.frames.items) self.old.is_done ≡ at_value }
+        requires later { later ≡ has_entry (frames_of self.old.frames.items) }
+        ensures { Takes open_array self.old self.new result }
+    {
+        let is_full = is_full(&self.frames);
+        self.enter()?;
+        if is_full {
+            return Err(Fault::NestedTooDeeply);
+        }
+        put(
+            &mut self.frames,
+            Frame::Array {
+                kind: ElementKind::Unknown,
+                later,
+            },
+        )?;
+        Ok(())
+    }
+
+    pub(super) fn open_array_in_array(
+        &mut self,
+        kind: ElementKind,
+        later: bool,
+    ) -> Result<(), Fault>
+        requires { frames_of self.old.frames.items ≡ an_array (kind_of kind) later
+            ∷ outer (frames_of self.old.frames.items) }
+        ensures { Takes open_array self.old self.new result }
+    {
+        let is_full = is_full(&self.frames);
+        match kind {
+            ElementKind::Tables => return Err(Fault::UnsupportedType),
+            ElementKind::Unknown => self.start_elements(later)?,
+            ElementKind::Others => self.text.push_str(", ")?,
+        }
+        if is_full {
+            return Err(Fault::NestedTooDeeply);
+        }
+        put(
+            &mut self.frames,
+            Frame::Array {
+                kind: ElementKind::Unknown,
+                later,
+            },
+        )?;
+        Ok(())
+    }
+
+    #[tactic(auto, using(crate::proofs::FramesOfStack::array_end_with_row))]
+    pub(super) fn close_array(&mut self, kind: ElementKind, later: bool) -> Result<(), Fault>
+        requires { frames_of self.old.frames.items ≡ an_array (kind_of kind) later
+            ∷ outer (frames_of self.old.frames.items) }
+        ensures { Takes close self.old self.new result }
+    {
+        let _ = later;
+        leave(&mut self.frames, &mut self.spare);
+        match kind {
+            ElementKind::Unknown => {
+                self.start_row()?;
+                self.end_row()
+            }
+            ElementKind::Others => self.end_row(),
+            ElementKind::Tables => Ok(()),
+        }
+    }
+
+    // Writes what stands before the first element of the innermost array, which is no table.
+    fn start_elements(&mut self, later: bool) -> Result<(), Fault>
+        ensures ok { IfOk result (λ _. StartsElements later self.old self.new) }
+        ensures err { IfErr result (λ e. (e ≡ OutOfMemory) ⊎ (e ≡ ValueAfterTable)
+            × (holds_section (outer (frames_of self.old.frames.items)) ≡ true)) }
+    {
+        leave(&mut self.frames, &mut self.spare);
+        self.start_row()?;
+        put(
+            &mut self.frames,
+            Frame::Array {
+                kind: ElementKind::Others,
+                later,
+            },
+        )?;
+        Ok(())
+    }
+
+    // Writes what stands before the elements of an array that stands in the innermost frame, and holds no table.
+    fn start_row(&mut self) -> Result<(), Fault>
+        ensures ok { IfOk result (λ _. StartsRow self.old self.new) }
+        ensures err { IfErr result (λ e. (e ≡ OutOfMemory) ⊎ (e ≡ ValueAfterTable)
+            × (holds_section (frames_of self.old.frames.items) ≡ true)) }
+    {
+        self.start_value()?;
+        self.text.push('[')?;
+        Ok(())
+    }
+
+    // Writes what stands after them.
+    fn end_row(&mut self) -> Result<(), Fault>
         ensures ok { IfOk result (λ _. EndsRow self.old self.new) }
         ensures err { IfErr result (λ e. e ≡ OutOfMemory) }
     {
         match innermost(&self.frames) {
             Some((Frame::Table(_), _)) => self.text.push_str("]\n")?,
-            Some((Frame::Array { .. }, _)) => self.text.push_str("]")?,
-            None => self.text.push_str("]")?,
+            Some((Frame::Array { .. }, _)) => self.text.push(']')?,
+            None => self.text.push(']')?,
         }
         Ok(())
     }

@@ -1,105 +1,117 @@
 ghost use Rattle.std.specs.Prelude.{◌≡◌, ◌⊎◌, ◌∷◌, true, IfOk, IfErr};
-ghost use Rattle.basic_toml_emit.specs.declared.error.WriteError.TheVariants.{OutOfMemory, UnsupportedType};
+ghost use Rattle.basic_toml_emit.specs.declared.fault.Fault.TheVariants.{OutOfMemory, UnsupportedType};
 ghost use Rattle.basic_toml_emit.specs.Items.{open_table, close};
 ghost use Rattle.basic_toml_emit.specs.Open.{an_array};
-ghost use Rattle.basic_toml_emit.specs.Refusals.{is_in_table, is_in_array};
+ghost use Rattle.basic_toml_emit.specs.Rules.{is_in_table, is_in_array, place_of, at_value};
 ghost use Rattle.basic_toml_emit.specs.Frames.{frames_of, kind_of};
-ghost use Rattle.basic_toml_emit.specs.Changes.{outer};
+ghost use Rattle.basic_toml_emit.specs.Changes.{outer, has_entry};
 
 use super::Emitter;
-use crate::WriteError;
+use crate::fault::Fault;
 use crate::frames::{
-    Frame, Header, Kind, Stage, enter_key, hold_section, innermost, is_full, is_nothing_open,
-    leave, new_table, put,
+    ElementKind, Frame, Header, Stage, hold_section, innermost, is_full, is_nothing_open, leave,
+    new_table, put,
 };
 use crate::headers::{write_element_header, write_header};
 
 // Tables, and arrays of them.
 impl Emitter {
-    ghost use Rattle.basic_toml_emit.specs.States.{Steps, StartsSections};
+    ghost use Rattle.basic_toml_emit.specs.Emitter.{Takes, StartsSections};
 
-    pub(super) fn open_table_in_table(&mut self) -> Result<(), WriteError>
+    pub(super) fn open_table_in_table(&mut self) -> Result<(), Fault>
         requires { is_in_table (frames_of self.old.frames.items) ≡ true }
-        ensures { Steps open_table self.old self.new result }
+        ensures { Takes open_table self.old self.new result }
     {
         let Some((Frame::Table(table), _)) = innermost(&self.frames) else {
-            return Err(WriteError::CallOrder);
+            return Err(Fault::CallOrder);
         };
-        match &table.stage {
-            Stage::NoKey => Err(WriteError::CallOrder),
-            Stage::KeyPlace => Err(WriteError::KeyNotString),
-            Stage::KeySet(key) => {
-                if table.keys.contains(key.as_str()) {
-                    return Err(WriteError::DuplicateKey(key.clone()?));
-                }
-                if is_full(&self.frames) {
-                    return Err(WriteError::NestedTooDeeply);
-                }
-                let later = !table.keys.is_empty();
-                enter_key(&mut self.frames)?;
-                hold_section(&mut self.frames);
-                put(
-                    &mut self.frames,
-                    new_table(self.alloc, Header::Due { later }),
-                )
-            }
+        let later = !table.keys.is_empty();
+        match table.stage {
+            Stage::NoKey => Err(Fault::CallOrder),
+            Stage::KeyPlace => Err(Fault::KeyNotString),
+            Stage::KeySet => self.open_table_at_value(later),
         }
     }
 
-    pub(super) fn open_table_in_array(&mut self, kind: Kind, later: bool) -> Result<(), WriteError>
-        requires { frames_of self.old.frames.items ≡ an_array (kind_of kind) later ∷ outer (frames_of self.old.frames.items) }
-        ensures { Steps open_table self.old self.new result }
+    fn open_table_at_value(&mut self, later: bool) -> Result<(), Fault>
+        requires place { place_of (frames_of self.old.frames.items) self.old.is_done ≡ at_value }
+        requires later { later ≡ has_entry (frames_of self.old.frames.items) }
+        ensures { Takes open_table self.old self.new result }
+    {
+        let is_full = is_full(&self.frames);
+        self.enter()?;
+        if is_full {
+            return Err(Fault::NestedTooDeeply);
+        }
+        hold_section(&mut self.frames);
+        let table = new_table(self.alloc, &mut self.spare, Header::Due { later })?;
+        put(&mut self.frames, table)?;
+        Ok(())
+    }
+
+    pub(super) fn open_table_in_array(
+        &mut self,
+        kind: ElementKind,
+        later: bool,
+    ) -> Result<(), Fault>
+        requires { frames_of self.old.frames.items ≡ an_array (kind_of kind) later
+            ∷ outer (frames_of self.old.frames.items) }
+        ensures { Takes open_table self.old self.new result }
     {
         let is_full = is_full(&self.frames);
         match kind {
-            Kind::Others => return Err(WriteError::UnsupportedType),
-            Kind::Unknown => self.start_sections(later)?,
-            Kind::Tables => {}
+            ElementKind::Others => return Err(Fault::UnsupportedType),
+            ElementKind::Unknown => self.start_sections(later)?,
+            ElementKind::Tables => {}
         }
         if is_full {
-            return Err(WriteError::NestedTooDeeply);
+            return Err(Fault::NestedTooDeeply);
         }
-        let is_behind = later || kind == Kind::Tables;
-        write_element_header(&mut self.text, &self.frames, is_behind)?;
-        put(&mut self.frames, new_table(self.alloc, Header::Settled))
+        let is_after = later || kind == ElementKind::Tables;
+        write_element_header(&mut self.text, &self.frames, is_after)?;
+        let table = new_table(self.alloc, &mut self.spare, Header::Settled)?;
+        put(&mut self.frames, table)?;
+        Ok(())
     }
 
-    pub(super) fn close_table(&mut self) -> Result<(), WriteError>
+    pub(super) fn close_table(&mut self) -> Result<(), Fault>
         requires { is_in_table (frames_of self.old.frames.items) ≡ true }
-        ensures { Steps close self.old self.new result }
+        ensures { Takes close self.old self.new result }
     {
         let Some((Frame::Table(table), outer)) = innermost(&self.frames) else {
-            return Err(WriteError::CallOrder);
+            return Err(Fault::CallOrder);
         };
         match table.stage {
             Stage::NoKey => {
                 write_header(&mut self.text, outer, table.header)?;
-                leave(&mut self.frames);
+                leave(&mut self.frames, &mut self.spare);
                 self.is_done = is_nothing_open(&self.frames);
                 Ok(())
             }
-            Stage::KeyPlace => Err(WriteError::CallOrder),
-            Stage::KeySet(_) => Err(WriteError::CallOrder),
+            Stage::KeyPlace => Err(Fault::CallOrder),
+            Stage::KeySet => Err(Fault::CallOrder),
         }
     }
 
     // From its first table on, the innermost array is one section for each element of the table that it stands in.
-    #[tactic(auto, using(crate::proofs::Stacks::path_with_sections))]
-    fn start_sections(&mut self, later: bool) -> Result<(), WriteError>
+    #[tactic(auto, using(crate::proofs::FramesOfStack::path_with_sections))]
+    fn start_sections(&mut self, later: bool) -> Result<(), Fault>
         ensures ok { IfOk result (λ _. StartsSections later self.old self.new) }
-        ensures err { IfErr result (λ e. (e ≡ OutOfMemory) ⊎ (e ≡ UnsupportedType) × (is_in_array (outer (frames_of self.old.frames.items)) ≡ true)) }
+        ensures err { IfErr result (λ e. (e ≡ OutOfMemory) ⊎ (e ≡ UnsupportedType)
+            × (is_in_array (outer (frames_of self.old.frames.items)) ≡ true)) }
     {
-        leave(&mut self.frames);
+        leave(&mut self.frames, &mut self.spare);
         if let Some((Frame::Array { .. }, _)) = innermost(&self.frames) {
-            return Err(WriteError::UnsupportedType);
+            return Err(Fault::UnsupportedType);
         }
         hold_section(&mut self.frames);
         put(
             &mut self.frames,
             Frame::Array {
-                kind: Kind::Tables,
+                kind: ElementKind::Tables,
                 later,
             },
-        )
+        )?;
+        Ok(())
     }
 }

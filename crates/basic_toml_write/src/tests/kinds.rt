@@ -14,7 +14,7 @@ fn answers_for_the_type(rt: HostRuntime) -> Result<(), AllocError> {
     assert_eq!(rt; careless.as_str(), "UnsupportedType");
     let halting = text_or_fault(alloc, written(alloc, &Halting))?;
     assert_eq!(rt; halting.as_str(), "Custom(\"no\")");
-    // A type's own fault is no refusal.
+    // A type's own error is no error.
     let mut ser = Serializer::new(alloc);
     assert!(rt; ser.serialize_newtype_struct("H", &Halting).is_err());
     assert!(rt; !ser.has_refused());
@@ -49,9 +49,10 @@ fn writes_each_kind(rt: HostRuntime) -> Result<(), WriteError> {
     ser.serialize_value(&more)?;
     ser.serialize_field("q", &Silent)?;
     ser.serialize_unit_variant("E", 0, "V")?;
-    if let Some(float) = Float::parse(alloc, "1.5e+3")? {
-        ser.serialize_field("r", &float)?;
-    }
+    let Some(float) = Float::parse(alloc, "1.5e+3")? else {
+        return Err(WriteError::custom(alloc, "no float"));
+    };
+    ser.serialize_field("r", &float)?;
     ser.serialize_field("s", &Silent)?;
     ser.serialize_tuple_struct("Pair", 2)?;
     ser.serialize_element(&6u8)?;
@@ -59,6 +60,10 @@ fn writes_each_kind(rt: HostRuntime) -> Result<(), WriteError> {
     ser.serialize_some(&7u8)?;
     ser.end()?;
     ser.end()?;
+    ser.serialize_field("v", &Silent)?;
+    ser.serialize_newtype_struct("New", &8u8)?;
+    ser.serialize_field("w", &Silent)?;
+    ser.serialize_float(&float)?;
     let mut map = BTreeMap::new(alloc);
     map.insert(String::from_str(alloc, "z")?, 2u8)
         .map_err(AllocError::from)?;
@@ -74,7 +79,7 @@ fn writes_each_kind(rt: HostRuntime) -> Result<(), WriteError> {
     let text = ser.finish()?;
     assert_eq!(rt;
         text.as_str(),
-        "a = -1\nb = -2\nc = -3\nd = -4\ne = 1\nf = 2\ng = 3\nh = 4\ni = true\nj = \"\u{e9}\"\nk = \"x\"\nl = \"y\"\nm = 5\no = [1, 2]\np = [3, 4]\nq = \"V\"\nr = 1.5E3\ns = [6, [7]]\n\n[t]\ny = 1\nz = 2\n\n[u]\nz = 2\ny = [false]\n"
+        "a = -1\nb = -2\nc = -3\nd = -4\ne = 1\nf = 2\ng = 3\nh = 4\ni = true\nj = \"\u{e9}\"\nk = \"x\"\nl = \"y\"\nm = 5\no = [1, 2]\np = [3, 4]\nq = \"V\"\nr = 1.5E3\ns = [6, [7]]\nv = 8\nw = 1.5E3\n\n[t]\ny = 1\nz = 2\n\n[u]\nz = 2\ny = [false]\n"
     );
     Ok(())
 }

@@ -1,5 +1,6 @@
-ghost use Rattle.std.specs.Prelude.{[], ◌∷◌, ⊤};
-ghost use Rattle.basic_toml_emit.specs.Items.{a_leaf, open_table};
+ghost use Rattle.std.specs.Prelude.{[], ◌∷◌, codes};
+ghost use Rattle.basic_toml_emit.specs.Error.{IsCustom};
+ghost use Rattle.basic_toml_emit.specs.Items.{a_scalar, open_table};
 ghost use Rattle.basic_toml_emit.specs.Written.{refused};
 
 use crate::{Serialize, Serializer, WriteError};
@@ -11,7 +12,7 @@ pub struct Silent;
 impl Serialize for Silent {
     ghost calls = { λ _. [] };
 
-    #[tactic(auto, using(crate::proofs::Sending::sends_nothing))]
+    #[tactic(auto, using(crate::proofs::ListsAreSentInTurn::sends_nothing))]
     fn serialize(&self, alloc: Global, ser: &mut Serializer) -> Result<(), WriteError> {
         let _ = alloc;
         let _ = ser;
@@ -25,22 +26,22 @@ pub struct Halting;
 impl Serialize for Halting {
     ghost calls = { λ _. open_table ∷ [] };
 
-    ghost gives_up = { λ _. ⊤ };
+    ghost gives_up = { λ _. IsCustom (codes "no") };
 
-    #[tactic(auto, using(crate::proofs::Sending::sends_gave_up))]
+    #[tactic(auto, using(crate::proofs::ListsAreSentInTurn::sends_gave_up))]
     fn serialize(&self, alloc: Global, ser: &mut Serializer) -> Result<(), WriteError> {
         let _ = ser.serialize_map(None);
         Err(WriteError::custom(alloc, "no"))
     }
 }
 
-// Drops the refusal of its call.
+// Drops the error of its call.
 pub struct Careless;
 
 impl Serialize for Careless {
-    ghost calls = { λ _. a_leaf refused ∷ [] };
+    ghost calls = { λ _. a_scalar refused ∷ [] };
 
-    #[tactic(auto, using(crate::proofs::Sending::sends_dropped))]
+    #[tactic(auto, using(crate::proofs::ListsAreSentInTurn::sends_dropped))]
     fn serialize(&self, alloc: Global, ser: &mut Serializer) -> Result<(), WriteError> {
         let _ = alloc;
         let _ = ser.serialize_unit();

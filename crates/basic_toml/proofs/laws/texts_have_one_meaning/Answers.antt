@@ -1,4 +1,4 @@
-use Rattle.basic_toml.proofs.OneMeaning.{one_document, one_fault}
+use Rattle.basic_toml.proofs.TextHasOneMeaning.{one_document, one_fault}
 use Rattle.basic_toml.proofs.ReadingLaws.{no_document}
 use Rattle.basic_toml.proofs.laws.texts_have_one_meaning.Goals as goal
 

@@ -9,5 +9,5 @@ abbrev pub invariant-loop-line : goal.invariant-loop-line
 invariant-loop-line l =
     record {
       rows : onto (rows_view l.rows) (rows_from l.at (drop (length l.yielded) (lines_of l.text))) ≡ rows_of l.text;
-      place : l.at + size_of (drop (length l.yielded) (lines_of l.text)) ≡ length l.text + 1;
+      offset : l.at + size_of (drop (length l.yielded) (lines_of l.text)) ≡ length l.text + 1;
     }

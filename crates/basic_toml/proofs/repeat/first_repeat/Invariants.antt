@@ -13,5 +13,7 @@ abbrev pub invariant-loop-row : goal.invariant-loop-row
 invariant-loop-row l =
     record {
       distinct : IsTrue (are_distinct (keys_of (map row_view (take l.row-index l.rows))));
-      seen : (key : Bor (List ℕ)) → contains (λ x y. slice_cmp nat_cmp x.now y.now) l.seen key ≡ is_among (keys_of (map row_view (take l.row-index l.rows))) key.now;
+      seen : (key : Bor (List ℕ))
+          → contains (λ x y. slice_cmp nat_cmp x.now y.now) l.seen key
+          ≡ is_among (keys_of (map row_view (take l.row-index l.rows))) key.now;
     }

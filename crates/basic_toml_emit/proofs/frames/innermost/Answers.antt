@@ -1,4 +1,4 @@
-use Rattle.basic_toml_emit.proofs.Stacks.{innermost_is}
+use Rattle.basic_toml_emit.proofs.FramesOfStack.{innermost_is}
 use Rattle.basic_toml_emit.proofs.frames.innermost.Goals as goal
 
 pub returns : goal.returns

@@ -1,6 +1,6 @@
 use Rattle.std.proofs.Common.{refl, arith}
 use Rattle.basic_toml_emit.specs.Calls.{with_row}
-use Rattle.basic_toml_emit.proofs.Stacks.{frames_changed, frames_kept}
+use Rattle.basic_toml_emit.proofs.FramesOfStack.{frames_changed, frames_kept}
 use Rattle.basic_toml_emit.proofs.frames.settle.Goals as goal
 
 pub returns-in-Table : goal.returns-in-Table

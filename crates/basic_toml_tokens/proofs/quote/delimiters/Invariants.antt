@@ -1,5 +1,5 @@
 use Rattle.std.proofs.Common.{◌-◌, ◌≤◌}
-use Rattle.basic_toml_tokens.proofs.Delimiters.{Taken}
+use Rattle.basic_toml_tokens.proofs.DelimitersAreCounted.{Taken}
 use Rattle.basic_toml_tokens.proofs.quote.delimiters.Given as goal
 
 abbrev pub invariant-loop-n : goal.invariant-loop-n

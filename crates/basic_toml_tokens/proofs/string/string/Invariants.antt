@@ -1,6 +1,6 @@
 use Rattle.std.proofs.Common.{◌-◌, length}
-use Rattle.basic_toml_tokens.specs.Ahead.{kind_of}
-use Rattle.basic_toml_tokens.proofs.SoFar.{SoFar}
+use Rattle.basic_toml_tokens.specs.Quote.{kind_of}
+use Rattle.basic_toml_tokens.proofs.PiecesSoFar.{SoFar}
 use Rattle.basic_toml_tokens.proofs.string.string.Given as goal
 
 abbrev pub invariant-loop-next : goal.invariant-loop-next

@@ -1,7 +1,7 @@
 use Rattle.std.proofs.Common.{subst}
 use Rattle.basic_toml_tokens.specs.Reading.{Reading}
-use Rattle.basic_toml_read.specs.Taking.{LooksForWord}
-use Rattle.basic_toml_read.proofs.Taken.{looks}
+use Rattle.basic_toml_read.specs.Cursor.{LooksForWord}
+use Rattle.basic_toml_read.proofs.TakenTokenStands.{looks}
 use Rattle.basic_toml_read.proofs.cursor.Cursor.is_at_word.Goals as goal
 
 pub returns-clause-found : goal.returns-clause-found

@@ -1,4 +1,4 @@
-use Rattle.basic_toml_read.proofs.Taken.{takes_word}
+use Rattle.basic_toml_read.proofs.TakenTokenStands.{takes_word}
 use Rattle.basic_toml_read.proofs.cursor.Cursor.keylike.Goals as goal
 
 pub returns-in-Some-clause-taken : goal.returns-in-Some-clause-taken

@@ -1,10 +1,10 @@
 use Rattle.std.proofs.Common.{◌⊎◌, ◌≡◌, [], subst}
 use Rattle.basic_toml_tokens.specs.Text.{run}
-use Rattle.basic_toml_read.specs.Grammar.{is_wordlike}
+use Rattle.basic_toml_grammar.specs.Grammar.{is_wordlike}
 use Rattle.basic_toml_tokens.specs.Reading.{Reading, text_of}
-use Rattle.basic_toml_read.specs.ErrorView.{token_fault, want_of_memory}
-use Rattle.basic_toml_read.specs.Taking.{TakesToken, IsStopped, StopsApart}
-use Rattle.basic_toml_read.proofs.Taken.{stopped, stops_apart, failed}
+use Rattle.basic_toml_read.specs.Error.{token_fault, want_of_memory}
+use Rattle.basic_toml_read.specs.Cursor.{TakesToken, IsStopped, StopsApart}
+use Rattle.basic_toml_read.proofs.TakenTokenStands.{stopped, stops_apart, failed}
 use Rattle.basic_toml_read.proofs.cursor.Cursor.next.Goals as goal
 
 pub returns-in_err-next-clause-answers : goal.returns-in_err-next-clause-answers

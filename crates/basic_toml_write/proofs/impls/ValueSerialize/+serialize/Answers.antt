@@ -1,23 +1,26 @@
 use Rattle.std.proofs.Common.{List, sym, ◌∙◌, ap, subst}
-use Rattle.std.specs.Prelude.{Any}
 use Rattle.basic_toml_value.specs.View.{view}
 use Rattle.basic_toml_emit.specs.Items.{Item}
-use Rattle.basic_toml_write.specs.Recorded.{Sends}
-use Rattle.basic_toml_write.specs.Values.{data_calls, array_calls, table_calls}
-use Rattle.basic_toml_write.proofs.Sending.{sends_widen}
-use Rattle.basic_toml_write.proofs.Sent.{array_sent, table_sent, any_never, view-Array, view-Table}
+use Rattle.basic_toml_write.specs.Serializer.{NoFault, Sends}
+use Rattle.basic_toml_write.specs.Impls.{AnyGivesUp, data_calls, array_calls, table_calls}
+use Rattle.basic_toml_write.proofs.ListsAreSentInTurn.{sends_widen}
+use Rattle.basic_toml_write.proofs.DataIsSentByParts.{array_sent, table_sent, any_never, view-Array, view-Table}
 use Rattle.basic_toml_write.proofs.impls.ValueSerialize.+serialize.Goals as goal
 
 pub returns-in-Array : goal.returns-in-Array
 returns-in-Array n c =
     let xs = c.in-Array.values.items in
-    subst (λ (is : List Item). Sends is ⊥ c.args.ser.now c.serialize.new.ser c.serialize.result)
+    subst (λ (is : List Item). Sends is NoFault c.args.ser.now c.serialize.new.ser c.serialize.result)
     (array_sent xs ∙ sym (ap data_calls (ap view c.in-Array.is ∙ view-Array c.in-Array.values)))
-    (sends_widen (Any (λ x. ⊥) xs) ⊥ (any_never xs) (array_calls (λ v. data_calls (view v)) xs) c.args.ser.now c.serialize.new.ser c.serialize.result c.serialize.ensures)
+    (sends_widen (AnyGivesUp (λ x. NoFault) xs) NoFault (λ e. any_never xs)
+    (array_calls (λ v. data_calls (view v)) xs) c.args.ser.now c.serialize.new.ser c.serialize.result
+    c.serialize.ensures)
 
 pub returns-in-Table : goal.returns-in-Table
 returns-in-Table n c =
     let ps = c.in-Table.table in
-    subst (λ (is : List Item). Sends is ⊥ c.args.ser.now c.serialize-in-Table.new.ser c.serialize-in-Table.result)
+    subst (λ (is : List Item). Sends is NoFault c.args.ser.now c.serialize-in-Table.new.ser c.serialize-in-Table.result)
     (table_sent ps ∙ sym (ap data_calls (ap view c.in-Table.is ∙ view-Table ps)))
-    (sends_widen (Any (λ x. ⊥) ps) ⊥ (any_never ps) (table_calls (λ v. data_calls (view v)) ps) c.args.ser.now c.serialize-in-Table.new.ser c.serialize-in-Table.result c.serialize-in-Table.ensures)
+    (sends_widen (AnyGivesUp (λ x. NoFault) ps) NoFault (λ e. any_never ps)
+    (table_calls (λ v. data_calls (view v)) ps) c.args.ser.now c.serialize-in-Table.new.ser
+    c.serialize-in-Table.result c.serialize-in-Table.ensures)

@@ -1,4 +1,4 @@
-use Rattle.basic_toml_write.proofs.Sending.{takes_refused}
+use Rattle.basic_toml_write.proofs.ListsAreSentInTurn.{takes_refused}
 use Rattle.basic_toml_write.proofs.serializer.Serializer.ready.Goals as goal
 
 pub returns-in-Some-clause-refused : goal.returns-in-Some-clause-refused

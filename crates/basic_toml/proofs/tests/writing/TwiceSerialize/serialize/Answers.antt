@@ -1,0 +1,87 @@
+use Rattle.std.proofs.Common.{◌≡◌, List, [], ◌∷◌, ◌++◌, codes, ◌⊎◌, inl, inr, Result, Ok, Err}
+use Rattle.std.proofs.lemmas.Result.{err_from_is_err_and}
+use Rattle.basic_toml_emit.specs.Items.{Item, open_table, close, field}
+use Rattle.basic_toml_emit.specs.declared.error.WriteError.{WriteError}
+use Rattle.basic_toml_write.specs.Serializer.{NoFault, Sends, Takes, Passes}
+use Rattle.basic_toml_write.specs.declared.serializer.Serializer.{Serializer}
+use Rattle.basic_toml_write.proofs.ListsAreSentInTurn.{sends_then, sends_cut, sends_widen}
+use Rattle.basic_toml.proofs.tests.writing.TwiceSerialize.serialize.Goals as goal
+
+-- a table of two entries, of which each may give up
+module _ (first second : List Item) (F G : WriteError → Type 0) where
+  abbrev Either : WriteError → Type 0
+  Either e = F e ⊎ G e
+
+  unopened : (old new : Serializer) (e : WriteError) → Takes (open_table ∷ []) old new (Err e)
+      → Sends (((open_table ∷ first) ++ second) ++ (close ∷ [])) Either old new (Err e)
+  unopened old new e p =
+      sends_cut Either ((open_table ∷ first) ++ second) (close ∷ []) old new e
+      (sends_cut Either (open_table ∷ first) second old new e
+      (sends_cut Either (open_table ∷ []) first old new e
+      (sends_widen NoFault Either (λ e b. absurd b) (open_table ∷ []) old new (Err e) p.sends)))
+
+  with_first : (old mid new : Serializer) (r : Result (Unit {0}) WriteError) → Takes (open_table ∷ []) old mid (Ok tt)
+      → Passes first F mid new r → Sends (open_table ∷ first) Either old new r
+  with_first old mid new r p q =
+      sends_then Either (open_table ∷ []) first NoFault old mid new r p.sends
+      (sends_widen F Either (λ e own. inl own) first mid new r q.sends)
+
+  cut_first : (old mid new : Serializer) (e : WriteError) → Takes (open_table ∷ []) old mid (Ok tt)
+      → Passes first F mid new (Err e) → Sends (((open_table ∷ first) ++ second) ++ (close ∷ [])) Either old new (Err e)
+  cut_first old mid new e p q =
+      sends_cut Either ((open_table ∷ first) ++ second) (close ∷ []) old new e
+      (sends_cut Either (open_table ∷ first) second old new e (with_first old mid new (Err e) p q))
+
+  with_second : (old mid next new : Serializer) (r : Result (Unit {0}) WriteError)
+      → Takes (open_table ∷ []) old mid (Ok tt) → Passes first F mid next (Ok tt) → Passes second G next new r
+      → Sends ((open_table ∷ first) ++ second) Either old new r
+  with_second old mid next new r p q s =
+      sends_then Either (open_table ∷ first) second Either old next new r (with_first old mid next (Ok tt) p q)
+      (sends_widen G Either (λ e own. inr own) second next new r s.sends)
+
+  cut_second : (old mid next new : Serializer) (e : WriteError) → Takes (open_table ∷ []) old mid (Ok tt)
+      → Passes first F mid next (Ok tt) → Passes second G next new (Err e)
+      → Sends (((open_table ∷ first) ++ second) ++ (close ∷ [])) Either old new (Err e)
+  cut_second old mid next new e p q s =
+      sends_cut Either ((open_table ∷ first) ++ second) (close ∷ []) old new e
+      (with_second old mid next new (Err e) p q s)
+
+  closed : (old mid next last new : Serializer) (r : Result (Unit {0}) WriteError)
+      → Takes (open_table ∷ []) old mid (Ok tt) → Passes first F mid next (Ok tt) → Passes second G next last (Ok tt)
+      → Takes (close ∷ []) last new r
+      → Sends (((open_table ∷ first) ++ second) ++ (close ∷ [])) Either old new r
+  closed old mid next last new r p q s t =
+      sends_then Either ((open_table ∷ first) ++ second) (close ∷ []) Either old last new r
+      (with_second old mid next last (Ok tt) p q s)
+      (sends_widen NoFault Either (λ e b. absurd b) (close ∷ []) last new r t.sends)
+
+pub returns-in_err-serialize_map : goal.returns-in_err-serialize_map
+returns-in_err-serialize_map g c =
+    let p = err_from_is_err_and c.from_residual.result c.from_residual.ensures.1 in
+    rw (p.1, p.2) (unopened (field (codes "k") ∷ g.A.Serialize.calls c.args.self.now.first) (field (codes "k")
+    ∷ g.B.Serialize.calls c.args.self.now.second) (g.A.Serialize.gives_up c.args.self.now.first)
+    (g.B.Serialize.gives_up c.args.self.now.second) _ _ _ c.in_err-serialize_map.ensures)
+
+pub returns-in_err-serialize_field : goal.returns-in_err-serialize_field
+returns-in_err-serialize_field g c =
+    let p = err_from_is_err_and c.from_residual-in_err-serialize_field.result
+    c.from_residual-in_err-serialize_field.ensures.1 in
+    rw (p.1, p.2) (cut_first (field (codes "k") ∷ g.A.Serialize.calls c.args.self.now.first) (field (codes "k")
+    ∷ g.B.Serialize.calls c.args.self.now.second) (g.A.Serialize.gives_up c.args.self.now.first)
+    (g.B.Serialize.gives_up c.args.self.now.second) _ _ _ _ c.in_ok-serialize_map.ensures
+    c.in_err-serialize_field.ensures)
+
+pub returns-in_err-serialize_field-2 : goal.returns-in_err-serialize_field-2
+returns-in_err-serialize_field-2 g c =
+    let p = err_from_is_err_and c.from_residual-in_err-serialize_field-2.result
+    c.from_residual-in_err-serialize_field-2.ensures.1 in
+    rw (p.1, p.2) (cut_second (field (codes "k") ∷ g.A.Serialize.calls c.args.self.now.first) (field (codes "k")
+    ∷ g.B.Serialize.calls c.args.self.now.second) (g.A.Serialize.gives_up c.args.self.now.first)
+    (g.B.Serialize.gives_up c.args.self.now.second) _ _ _ _ _ c.in_ok-serialize_map.ensures
+    c.in_ok-serialize_field.ensures c.in_err-serialize_field-2.ensures)
+
+pub returns : goal.returns
+returns g c = closed (field (codes "k") ∷ g.A.Serialize.calls c.args.self.now.first) (field (codes "k")
+    ∷ g.B.Serialize.calls c.args.self.now.second) (g.A.Serialize.gives_up c.args.self.now.first)
+    (g.B.Serialize.gives_up c.args.self.now.second) _ _ _ _ _ _ c.in_ok-serialize_map.ensures
+    c.in_ok-serialize_field.ensures c.in_ok-serialize_field-2.ensures c.end.ensures

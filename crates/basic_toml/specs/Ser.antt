@@ -1,0 +1,73 @@
+-- How writing a value ends, and what its text means. (own)
+use Rattle.std.specs.Prelude.{◌≡◌, ◌⊎◌, ℕ, List, Result, Err, IfOk, IfErr, MatchResult, false, true, string_bytes}
+use Rattle.std.specs.Prelude.{String}
+use Rattle.std.specs.declared.alloc.Global.{Global}
+use Rattle.basic_toml_value.specs.Data.{Data}
+use Rattle.basic_toml_emit.specs.Written.{Written}
+use Rattle.basic_toml_write.specs.Recordable.{AreRecordable}
+use Rattle.basic_toml_write.specs.Trees.{tree_of, written_of}
+use Rattle.basic_toml_write.specs.Impls.{data_calls}
+use Rattle.basic_toml_emit.specs.Items.{Item}
+use Rattle.basic_toml_write.specs.Spelling.{Spells}
+use Rattle.basic_toml_emit.specs.Layout.{layout}
+use Rattle.basic_toml_emit.specs.Depth.{nesting_limit}
+use Rattle.basic_toml_write.specs.Shapes.{is_unsupported}
+use Rattle.basic_toml_emit.specs.Rules as rules
+use Rattle.basic_toml_emit.specs.Calls.{outcome}
+use Rattle.basic_toml_emit.specs.declared.error.WriteError.{WriteError}
+use Rattle.basic_toml.specs.Fault as fault
+use Rattle.basic_toml.specs.Fault.{Fault, FaultKind, without_offset, want_of_memory}
+use Rattle.basic_toml.specs.PlainTables.{is_plain, IsReadBack}
+use Rattle.basic_toml.specs.WriteFaults.{write_kind}
+
+abbrev pub fault_kind : rules.CallFault → FaultKind
+fault_kind rules.unsupported_type = fault.unsupported_type
+fault_kind rules.key_not_string = fault.key_not_string
+fault_kind rules.value_after_table = fault.value_after_table
+fault_kind rules.unsupported_none = fault.unsupported_none
+fault_kind rules.call_order = fault.call_order
+fault_kind rules.nested_too_deeply = fault.nested_too_deeply
+fault_kind (rules.duplicate_key key) = fault.duplicate_key key
+
+-- the fault is the first error that the calls meet
+pub record IsFirstFault (calls : List Item) (f : Fault) : Type 0 where
+  pub error : rules.CallFault
+  pub met : outcome nesting_limit calls ≡ Err error
+  pub named : f ≡ without_offset (fault_kind error)
+
+-- the fault is one of the type's own, which it may give up with
+pub record IsOwnFault (gives_up : WriteError → Type 0) (f : Fault) : Type 0 where
+  pub own : WriteError
+  pub allowed : gives_up own
+  pub named : f ≡ without_offset (write_kind own)
+
+-- the text is the layout of the value that the calls spell, in which no unsupported shape occurs; each item is one that
+-- a call can record
+pub record IsTextOf (calls : List Item) (text : List ℕ) : Type 0 where
+  pub recordable : AreRecordable calls
+  pub value : Written
+  pub spelled : Spells calls value
+  pub supported : is_unsupported nesting_limit value ≡ false
+  pub laid_out : text ≡ layout value
+
+-- the text is the layout of the data, in which no unsupported shape occurs
+pub record IsDataText (x : Data) (text : List ℕ) : Type 0 where
+  pub supported : is_unsupported nesting_limit (written_of x) ≡ false
+  pub laid_out : text ≡ layout (written_of x)
+
+-- How writing a value ends: memory aside, and where the type gives up with no fault of its own, the layout where the calls
+-- spell a value in which no unsupported shape occurs, and else the first error that they meet.
+pub record Writes (calls : List Item) (gives_up : WriteError → Type 0) (result : Result (String Global) Fault)
+    : Type 0 where
+  pub text : IfOk result (λ s. IsTextOf calls (string_bytes s))
+  pub succeeds : (w : Written) → Spells calls w → is_unsupported nesting_limit w ≡ false
+      → MatchResult result (λ s. string_bytes s ≡ layout w) (λ f. IsOwnFault gives_up f ⊎ (f ≡ want_of_memory))
+  pub refused : IfErr result (λ f. (f ≡ want_of_memory) ⊎ (IsOwnFault gives_up f ⊎ IsFirstFault calls f))
+
+-- where the calls are those of data, the text is the layout of that data
+abbrev pub HoldsData : List Item → List ℕ → Type 0
+HoldsData calls text = (d : Data) → calls ≡ data_calls d → IsDataText d text
+
+-- where what is kept of the value that the calls spell is a table of plain rows, the text means that table
+abbrev pub ReadsBack : List Item → List ℕ → Type 0
+ReadsBack calls text = (w : Written) → Spells calls w → is_plain (tree_of w) ≡ true → IsReadBack (tree_of w) text

@@ -1,0 +1,22 @@
+-- Lists of keys.
+use Rattle.std.specs.Prelude.{◌≡◌, ℕ, zero, suc, Bool, true, false, List, [], ◌∷◌, slice_index_or}
+use Rattle.std.specs.Ordering.{is_lt, nat_cmp}
+use Rattle.std.specs.Cmp.Lexicographic.{slice_cmp}
+use Rattle.basic_toml_emit.specs.Open.{PresentKeys, no_keys, with_key}
+
+-- the order of keys: byte by byte
+abbrev pub is_below : List ℕ → List ℕ → Bool
+is_below a b = is_lt (slice_cmp nat_cmp a b)
+
+abbrev pub with_keys : List (List ℕ) → PresentKeys
+with_keys [] = no_keys
+with_keys (k ∷ ks) = with_key k (with_keys ks)
+
+-- the last of so many keys; of none, the least text
+abbrev pub key_before : ℕ → List (List ℕ) → List ℕ
+key_before zero ks = []
+key_before (suc position) ks = slice_index_or ks position []
+
+-- no key that is there is above this one
+abbrev pub IsGreatest : List ℕ → PresentKeys → Type 0
+IsGreatest greatest keys = (key : List ℕ) → keys key ≡ true → is_below greatest key ≡ false

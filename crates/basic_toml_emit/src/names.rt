@@ -1,0 +1,132 @@
+// Names in one text, one after another, so that taking one copies it and allocates nothing once the text has grown.
+//
+// After the names that are kept stands the one that is set last. The kept ones end within `held`, and the text may be
+// cut there and at
+// both ends of each of them.
+ghost use Rattle.std.specs.Prelude.{◌≡◌, ◌<◌, [], ◌∷◌, ◌++◌, IfOk, OnErr, length, unwrap_or, slice_index_or, string_bytes};
+ghost use Rattle.std.specs.List.{All};
+ghost use Rattle.std.specs.Str.{IsCharBoundary};
+ghost use Rattle.std.proofs.Props.{props};
+ghost use Rattle.basic_toml_emit.specs.Names.{IsPlace, name_at, last_name};
+
+use basic_toml_value::Texts;
+use std::alloc::{AllocError, Global};
+
+// Where a name stands.
+#[derive(Clone, Copy, Drop)]
+struct Place {
+    start: usize,
+    end: usize,
+}
+
+fn name<'t>(text: &'t str, held: usize, place: Place) -> &'t str
+    requires { IsPlace text.now held place }
+    ensures { result.now ≡ name_at text.now place }
+{
+    let _ = held;
+    &text[place.start..place.end]
+}
+
+#[derive(Drop)]
+pub struct Names {
+    text: String,
+    places: Vec<Place>,
+    held: usize,
+    ghost cut: { IsCharBoundary (string_bytes text) held } by { Prim.hlevel props },
+    ghost fit: { All (IsPlace (string_bytes text) held) places.items } by { Prim.hlevel props },
+}
+
+impl Names {
+    ghost use Rattle.basic_toml_emit.specs.Kept.{kept_of, pending_of};
+
+    pub fn new(alloc: Global) -> Names
+        ensures { kept_of result ≡ [] }
+    {
+        Names {
+            text: String::new(alloc),
+            places: Vec::new(alloc),
+            held: 0,
+        }
+    }
+
+    // Forgets all names.
+    pub fn clear(&mut self)
+        ensures { kept_of self.new ≡ [] }
+    {
+        self.text.clear();
+        self.places.clear();
+        self.held = 0;
+    }
+
+    // How many names are kept.
+    pub fn len(&self) -> usize
+        ensures { result ≡ length (kept_of self.now) }
+    {
+        self.places.len()
+    }
+
+    // A name that is kept.
+    pub fn get(&self, position: usize) -> &str
+        requires { position < length (kept_of self.now) }
+        ensures { result.now ≡ slice_index_or (kept_of self.now) position [] }
+    {
+        name(self.text.as_str(), self.held, self.places[position])
+    }
+
+    // The name that was kept last, or the empty text.
+    #[tactic(auto, using(crate::proofs::Naming::last_name_is))]
+    pub fn last(&self) -> &str
+        ensures { result.now ≡ unwrap_or (last_name (kept_of self.now)) [] }
+    {
+        let len = self.len();
+        if len == 0 {
+            return "";
+        }
+        self.get(len - 1)
+    }
+
+    // The name that is set.
+    pub fn pending(&self) -> &str
+        ensures { result.now ≡ pending_of self.now }
+    {
+        &self.text[self.held..]
+    }
+
+    // Sets a name.
+    pub fn set(&mut self, name: &str) -> Result<(), AllocError>
+        ensures kept { kept_of self.new ≡ kept_of self.old }
+        ensures pending { IfOk result (λ _. pending_of self.new ≡ name.now) }
+    {
+        self.text.truncate(self.held);
+        self.text.push_str(name)
+    }
+
+    // Keeps the name that is set.
+    pub fn keep(&mut self) -> Result<(), AllocError>
+        ensures ok { IfOk result (λ _. kept_of self.new ≡ kept_of self.old ++ pending_of self.old ∷ []) }
+        ensures err { OnErr result (kept_of self.new ≡ kept_of self.old) }
+    {
+        let end = self.text.len();
+        self.places.push(Place {
+            start: self.held,
+            end,
+        })?;
+        self.held = end;
+        Ok(())
+    }
+}
+
+// The names that are kept.
+impl Texts for Names {
+    ghost use Rattle.basic_toml_emit.specs.Kept.{kept_of};
+
+    ghost texts = { kept_of };
+
+    fn count(&self) -> usize {
+        self.len()
+    }
+
+    fn text(&self, position: usize) -> &str {
+        self.get(position)
+    }
+}

@@ -1,0 +1,65 @@
+-- Where `NestedTooDeeply` stands, own. In a text: at the first key or bracket above the limit, where the level of a key or a
+-- bracket is that in some text of the grammar that has the same bytes up to there, and there the same character. In a section
+-- list: at a section one of whose mentions makes the tree deeper than the limit, since the numbers of array elements count too.
+use Rattle.std.specs.Prelude.{◌≡◌, ℕ, suc, ◌+◌, ◌==◌, ◌||◌, nat_lt, Bool, if◌then◌else◌, List, [], ◌∷◌, length}
+use Rattle.std.specs.Prelude.{Option, Some, None}
+use Rattle.std.specs.List.{list_any}
+use Rattle.std.specs.Str.{IsUtf8}
+use Rattle.basic_toml_tokens.specs.Ascii as ascii
+use Rattle.basic_toml_value.specs.Data.{Data}
+use Rattle.basic_toml_tokens.specs.Text.{Text, folded}
+use Rattle.basic_toml_grammar.specs.Sections.{Section}
+use Rattle.basic_toml_grammar.specs.IndexedPath.{Located}
+use Rattle.basic_toml_grammar.specs.Tree.{Mention}
+use Rattle.basic_toml_grammar.specs.Mentions.{section_mentions}
+use Rattle.basic_toml_grammar.specs.Depth.{depth}
+use Rattle.basic_toml_grammar.specs.Grammar.{IsSectionList}
+use Rattle.basic_toml_grammar.specs.Levels.{deep_offsets}
+
+-- the texts are the same up to an offset, which stands in both
+pub data AgreeTo (p : ℕ) : Text → Text → Type 0 where
+  here : {c : ℕ} {text other : Text} → AgreeTo p ((p, c) ∷ text) ((p, c) ∷ other)
+  further : {x : ℕ × ℕ} {text other : Text} → AgreeTo p text other → AgreeTo p (x ∷ text) (x ∷ other)
+
+-- the first of some offsets
+abbrev pub first_offset : List ℕ → Option ℕ
+first_offset [] = None
+first_offset (p ∷ offsets) = Some p
+
+pub record IsTooDeepAt (limit : ℕ) (text : Text) (p : ℕ) : Type 0 where
+  pub bytes : List ℕ
+  pub utf8 : IsUtf8 bytes
+  pub sections : List Section
+  pub agree : AgreeTo p text (folded bytes)
+  pub grammar : IsSectionList (folded bytes) sections
+  pub first : first_offset (deep_offsets limit sections) ≡ Some p
+
+-- Only these signs lead a level deeper: `[`, `{`, `.` and `=`. So a key or a bracket above the limit stands after as many of
+-- them as the limit at least (law `deep_offsets_are_opened`).
+abbrev pub leads_deeper : ℕ → Bool
+leads_deeper c = (c == ascii.left_bracket || c == ascii.left_brace) || (c == ascii.period || c == ascii.equals)
+
+abbrev pub openers : Text → ℕ
+openers [] = 0
+openers (x ∷ text) = if leads_deeper x.1 then suc (openers text) else openers text
+
+-- the characters before an offset
+abbrev pub before : ℕ → Text → Text
+before p [] = []
+before p (x ∷ text) = if x.0 == p then [] else x ∷ before p text
+
+-- how deep a mention makes the tree: a table here counts one
+abbrev pub mention_depth : Mention → ℕ
+mention_depth m = length m.path + end_depth m.value
+  where
+    end_depth : Option Data → ℕ
+    end_depth None = 1
+    end_depth (Some d) = depth d
+
+abbrev pub is_deep : ℕ → Located → Bool
+is_deep limit l = list_any (λ m. nat_lt limit (mention_depth m)) (section_mentions l.path l.section.rows)
+
+-- the offsets of sections that make the tree too deep
+abbrev pub deep_sections : ℕ → List Located → List ℕ
+deep_sections limit [] = []
+deep_sections limit (l ∷ ls) = if is_deep limit l then l.section.at ∷ deep_sections limit ls else deep_sections limit ls

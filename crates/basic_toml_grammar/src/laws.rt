@@ -1,0 +1,132 @@
+//! Laws about what a text means, each as the contract of a function that does nothing.
+
+ghost use Rattle.basic_toml_grammar.specs.Statements.{GrammarIsUnambiguous, GrammarIsRead, GrammarGivesKeys, LevelsAreWithinDepth, DeepPlacesAreOpened, ShallowTextIsFree, TreeIsGrouped, KeysAreDistinct, ClashesAgree, PathsAgree, MarksFit, EveryClashIsNamed, OldDocumentsStand, PlacesMeanNothing, ReturnsMeanNothing, ByteOrderMarkMeansNothing, OrderIsFree, PlainOrderIsFree, ReorderedMeansTheSame, PlainReorderedMeansTheSame, SameMapsAreAsDeep, EnteringAccepts, EnteringGrows};
+
+/// The grammar gives a text at most one section list.
+pub fn grammar_is_unambiguous()
+    ensures { GrammarIsUnambiguous }
+{}
+
+/// The section list of a text is the one that is read.
+pub fn grammar_is_read()
+    ensures { GrammarIsRead }
+{}
+
+/// Each row of a section list has a key, and so has the header of an array section.
+pub fn grammar_gives_keys()
+    ensures { GrammarGivesKeys }
+{}
+
+/// The tree of mentions is the one that the grouping by first steps gives.
+#[tactic(auto, using(crate::proofs::LawsHold::grouped_tree))]
+pub fn tree_is_grouped()
+    ensures { TreeIsGrouped }
+{}
+
+/// Each table of a document has distinct keys.
+#[tactic(auto, using(crate::proofs::LawsHold::distinct))]
+pub fn keys_are_distinct()
+    ensures { KeysAreDistinct }
+{}
+
+/// A section list clashes exactly where it allows a clash error.
+#[tactic(auto, using(crate::proofs::LawsHold::named))]
+pub fn every_clash_is_named()
+    ensures { EveryClashIsNamed }
+{}
+
+/// Sections clash by the cuts of their paths exactly where they do by their targets.
+#[tactic(auto, using(crate::proofs::LawsHold::agree))]
+pub fn clashes_agree()
+    ensures { ClashesAgree }
+{}
+
+/// The indexed path of a section is its target and its own element.
+#[tactic(auto, using(crate::proofs::LawsHold::paths))]
+pub fn paths_agree()
+    ensures { PathsAgree }
+{}
+
+/// Marks in order fit exactly where no two of them collide.
+#[tactic(auto, using(crate::proofs::LawsHold::fit))]
+pub fn marks_fit()
+    ensures { MarksFit }
+{}
+
+/// No level of a section list without clashes passes the depth of its tree.
+pub fn levels_are_within_depth()
+    ensures { LevelsAreWithinDepth }
+{}
+
+/// Nothing is too deep where fewer signs that lead deeper stand before it than the limit.
+#[tactic(auto, using(crate::proofs::LawsHold::opened))]
+pub fn deep_offsets_are_opened()
+    ensures opened { DeepPlacesAreOpened }
+    ensures shallow { ShallowTextIsFree }
+{}
+
+/// A text without U+007F keeps the document that it had by the old rules.
+#[tactic(auto, using(crate::proofs::LawsHold::old))]
+pub fn old_documents_stand()
+    ensures { OldDocumentsStand }
+{}
+
+/// What a text means does not depend on the offsets of its characters.
+#[tactic(auto, using(crate::proofs::RespelledLaws::offsets_mean_nothing))]
+pub fn offsets_mean_nothing()
+    ensures { PlacesMeanNothing }
+{}
+
+/// CR LF for each LF of a text without CR leaves its document.
+#[tactic(auto, using(crate::proofs::RespelledLaws::returns_mean_nothing))]
+pub fn returns_mean_nothing()
+    ensures { ReturnsMeanNothing }
+{}
+
+/// One U+FEFF in front of a text that begins with none leaves its document.
+#[tactic(auto, using(crate::proofs::RespelledLaws::byte_order_mark_means_nothing))]
+pub fn byte_order_mark_means_nothing()
+    ensures { ByteOrderMarkMeansNothing }
+{}
+
+/// Whether a list clashes does not depend on the order of its sections, where each keeps its path.
+#[tactic(auto, using(crate::proofs::LawsHold::order))]
+pub fn order_is_free()
+    ensures { OrderIsFree }
+{}
+
+/// Without array sections it does not depend on their order at all.
+#[tactic(auto, using(crate::proofs::LawsHold::plain_order))]
+pub fn plain_order_is_free()
+    ensures { PlainOrderIsFree }
+{}
+
+/// Sections in another order mean the same, where each keeps its indexed path.
+#[tactic(auto, using(crate::proofs::Reorderings::reordered_means_the_same))]
+pub fn reordered_means_the_same()
+    ensures { ReorderedMeansTheSame }
+{}
+
+/// Without array sections they mean the same in each order.
+#[tactic(auto, using(crate::proofs::Reorderings::plain_reordered_means_the_same))]
+pub fn plain_reordered_means_the_same()
+    ensures { PlainReorderedMeansTheSame }
+{}
+
+/// Trees of the same maps are equally deep.
+#[tactic(auto, using(crate::proofs::Reorderings::same_maps_are_as_deep))]
+pub fn same_maps_are_as_deep()
+    ensures { SameMapsAreAsDeep }
+{}
+
+/// A section list is entered exactly where nothing clashes.
+#[tactic(auto, using(crate::proofs::LawsHold::entering))]
+pub fn entering_accepts()
+    ensures { EnteringAccepts }
+{}
+
+/// What is entered has the tree of its mentions.
+#[tactic(auto, using(crate::proofs::LawsHold::growing))]
+pub fn entering_grows()
+    ensures { EnteringGrows }
+{}

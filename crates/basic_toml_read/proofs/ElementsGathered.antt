@@ -1,0 +1,288 @@
+-- The elements of an array, one by one.
+use Rattle.std.proofs.Common.{inl, inr, ◌≡◌, ℕ, ◌<◌, ◌≤◌, List, [], ◌∷◌, ◌++◌, max, refl, ap, sym, ◌∙◌, subst, arith}
+use Rattle.std.proofs.Common.{append_assoc, append-nil, Option, Some, None, Result, Ok, Err}
+use Rattle.std.specs.Str.{IsCharBoundary}
+use Rattle.basic_toml_tokens.specs.Text.{Text, text_at}
+use Rattle.basic_toml_tokens.specs.Punctuation.{IsPunctuationEnd}
+use Rattle.basic_toml_read.specs.declared.section.Raw as code
+use Rattle.basic_toml_read.specs.declared.section.Element.{Element, roll-Element}
+use Rattle.basic_toml_read.specs.declared.stop.Stop.{Stop}
+use Rattle.basic_toml_read.specs.declared.stop.Why.{Why}
+use Rattle.basic_toml_read.specs.declared.stop.Why.TheVariants as why
+use Rattle.basic_toml_read.specs.declared.scalar.Valued.{Valued}
+use Rattle.basic_toml_read.specs.declared.values.Gathered.{Gathered}
+use Rattle.basic_toml_grammar.specs.Sections.{Raw, Elements, no_elements, element}
+use Rattle.basic_toml_grammar.specs.Entering.{and_then}
+use Rattle.basic_toml_grammar.specs.Levels.{value_level, elements_level}
+use Rattle.basic_toml_grammar.specs.Reader as reader
+use Rattle.basic_toml_grammar.specs.Reader.{char_at, if_found, string_at, word_at, string_value_at}
+use Rattle.basic_toml_read.specs.FrontOf.{value_of, elements_of}
+use Rattle.basic_toml_read.specs.AtPlace.{Leaves}
+use Rattle.basic_toml_read.specs.SectionView.{raw_of, placed_of, with_element, elements_view}
+use Rattle.basic_toml_read.specs.StopsAt.{Misses}
+use Rattle.basic_toml_read.specs.Gathers.{IsValueRead, AreElementsRead, ClosesAt, ReadsElements}
+use Rattle.basic_toml_grammar.proofs.StringsAreRead.{then_some}
+use Rattle.basic_toml_grammar.proofs.ReaderIsSound.{found_some}
+use Rattle.basic_toml_grammar.proofs.ReaderIsComplete.{gap}
+use Rattle.basic_toml_read.specs.StopPlaces.{before_value}
+use Rattle.basic_toml_read.proofs.Carried.{Carries, stays, then_on, over_element}
+use Rattle.basic_toml_read.proofs.EnoughSteps.{elements_is}
+use Rattle.basic_toml_read.proofs.LeftAfter.{sign_there, sign_missing}
+use Rattle.basic_toml_read.proofs.ViewsSeen.{element_seen}
+use Rattle.basic_toml_read.proofs.KeysTold.{misses_then}
+
+-- elements one after another
+pub joined : Elements → Elements → Elements
+joined no_elements es = es
+joined (element p v ds) es = element p v (joined ds es)
+
+pub after_elements : Elements → Option (Elements × Text) → Option (Elements × Text)
+after_elements front o = and_then o (λ r. Some (joined front r.0, r.1))
+
+joined_more : (front : Elements) (p : ℕ) (v : Raw) (es : Elements)
+    → joined front (element p v es) ≡ joined (joined front (element p v no_elements)) es
+unfolding joined
+joined_more no_elements p v es = refl
+joined_more (element q w front) p v es = ap (element q w) (joined_more front p v es)
+
+joined_none : (front : Elements) → joined front no_elements ≡ front
+unfolding joined
+joined_none no_elements = refl
+joined_none (element q w front) = ap (element q w) (joined_none front)
+
+after_more : (front : Elements) (p : ℕ) (v : Raw) (o : Option (Elements × Text))
+    → after_elements front (and_then o (λ r. Some (element p v r.0, r.1)))
+    ≡ after_elements (joined front (element p v no_elements)) o
+unfolding after_elements
+after_more front p v None = refl
+after_more front p v (Some r) = ap (λ (es : Elements). Some (es, r.1)) (joined_more front p v r.0)
+
+after_none : (o : Option (Elements × Text)) → o ≡ after_elements no_elements o
+unfolding after_elements joined
+after_none None = refl
+after_none (Some r) = refl
+
+level_joined : (l : ℕ) (front es : Elements)
+    → elements_level l (joined front es) ≡ max (elements_level l front) (elements_level l es)
+unfolding joined
+level_joined l no_elements es = omega arith
+level_joined l (element p v front) es = omega (arith, level_joined l front es)
+
+-- an element more
+pub elements_view_more : (es : List Element) (p : ℕ) (value : code.Raw) (v : Raw) → raw_of value ≡ Some v
+    → elements_view (es ++ roll-Element (record { offset = p; value = value }) ∷ [])
+    ≡ joined (elements_view es) (element p v no_elements)
+unfolding joined
+elements_view_more [] p value v e =
+    ap (λ q. with_element q.offset q.value no_elements) (element_seen p value) ∙
+    ap (λ o. with_element p o no_elements) e
+elements_view_more (x ∷ es) p value v e = go (placed_of x).value (elements_view_more es p value v e)
+  where
+    go : (o : Option Raw) → elements_view (es ++ roll-Element (record { offset = p; value = value }) ∷ [])
+        ≡ joined (elements_view es) (element p v no_elements)
+        → with_element (placed_of x).offset o
+        (elements_view (es ++ roll-Element (record { offset = p; value = value }) ∷ []))
+        ≡ joined (with_element (placed_of x).offset o (elements_view es)) (element p v no_elements)
+    go None h = h
+    go (Some w) h = ap (element (placed_of x).offset w) h
+
+-- the elements of an array up to an offset
+pub record ElementsSoFar (bytes : List ℕ) (start level at : ℕ) (old new : Gathered) : Type 0 where
+  pub got : List Element
+  pub told : elements_of (text_at bytes start) ≡ after_elements (elements_view got) (elements_of (text_at bytes at))
+  pub pushed : new.elements.items ≡ old.elements.items ++ got
+  pub rows : new.rows.items ≡ old.rows.items
+  pub limit : elements_level level (elements_view got) ≤ 128
+  pub boundary : IsCharBoundary bytes at
+  pub forward : start ≤ at
+  pub carries : Carries before_value (text_at bytes start) before_value (text_at bytes at)
+
+pub elements_start : (bytes : List ℕ) (start level : ℕ) (old : Gathered) → IsCharBoundary bytes start
+    → ElementsSoFar bytes start level start old old
+elements_start bytes start level old b = record {
+  got = [];
+  told = after_none (elements_of (text_at bytes start));
+  pushed = sym (append-nil old.elements.items);
+  rows = refl;
+  limit = omega arith;
+  boundary = b;
+  forward = omega arith;
+  carries = stays;
+}
+
+-- what stands after a value that is read
+elements_on : (v : reader.Valued) → Option (Elements × Text)
+elements_on v = if_found (char_at 44 (gap v.rest))
+    (λ s. and_then (elements_of (gap s.1)) (λ r. Some (element v.offset v.value r.0, r.1)))
+    (and_then (char_at 93 (gap v.rest)) (λ s. Some (element v.offset v.value no_elements, s.1)))
+
+elements_by_value : (text : Text) → char_at 93 text ≡ None → elements_of text ≡ and_then (value_of text) elements_on
+unfolding elements_on
+elements_by_value text e =
+    elements_is text ∙ ap (λ o. if_found o (λ s. Some (no_elements, s.1)) (and_then (value_of text) (λ v.
+    if_found (char_at 44 (gap v.rest))
+    (λ s. and_then (elements_of (gap s.1)) (λ r. Some (element v.offset v.value r.0, r.1)))
+    (and_then (char_at 93 (gap v.rest)) (λ s. Some (element v.offset v.value no_elements, s.1)))))) e
+
+-- an element's level is one of the array's
+level_on : (l : ℕ) (v : reader.Valued) (r : Elements × Text) → elements_on v ≡ Some r
+    → value_level l v.value ≤ elements_level l r.0
+unfolding elements_on
+level_on l v r e =
+    elim (found_some (char_at 44 (gap v.rest))
+    (λ s. and_then (elements_of (gap s.1)) (λ r. Some (element v.offset v.value r.0, r.1))) _ r e) [
+      | inl h ↦ (let (s, s_is, f) = h in
+          let (q, q_is, same) = then_some (elements_of (gap s.1)) (λ r. Some (element v.offset v.value r.0, r.1)) r f in
+          let there : element v.offset v.value q.0 ≡ r.0 = cc in
+          omega (arith, ap (elements_level l) there))
+      | inr h ↦ (let (s, s_is, same) =
+          then_some (char_at 93 (gap v.rest)) (λ s. Some (element v.offset v.value no_elements, s.1)) r h in
+          let there : element v.offset v.value no_elements ≡ r.0 = cc in
+          omega (arith, ap (elements_level l) there))
+    ]
+
+module _ (bytes : List ℕ) (start level at : ℕ) (old new : Gathered) (s : ElementsSoFar bytes start level at old new)
+  where
+    -- the closing bracket
+    pub elements_end : (end : ℕ) → IsPunctuationEnd 93 bytes at (Some end) → AreElementsRead bytes start level old new end
+    unfolding after_elements
+    elements_end end sign = record {
+      added = s.got;
+      is = s.told ∙ ap (after_elements (elements_view s.got)) (elements_is (text_at bytes at) ∙
+          ap (λ o. if_found o (λ s. Some (no_elements, s.1)) (and_then (value_of (text_at bytes at)) (λ v.
+          if_found (char_at 44 (gap v.rest))
+          (λ s. and_then (elements_of (gap s.1)) (λ r. Some (element v.offset v.value r.0, r.1)))
+          (and_then (char_at 93 (gap v.rest)) (λ s. Some (element v.offset v.value no_elements, s.1))))))
+          (sign_there sign.0))
+          ∙ ap (λ (es : Elements). Some (es, text_at bytes end)) (joined_none (elements_view s.got));
+      pushed = s.pushed;
+      rows = s.rows;
+      limit = s.limit;
+      boundary = sign.1;
+      later = omega (arith, s.forward, sign.2);
+    }
+
+    -- no value
+    pub elements_missing : (w : Why) → IsPunctuationEnd 93 bytes at None
+        → Misses w (value_of (text_at bytes at)) (λ v. 128 < value_level level v.value)
+        → Misses w (elements_of (text_at bytes start)) (λ r. 128 < elements_level level r.0)
+    unfolding after_elements
+    elements_missing w sign m =
+        misses_then w (value_of (text_at bytes at)) (elements_of (text_at bytes start))
+        (λ v. 128 < value_level level v.value) (λ r. 128 < elements_level level r.0)
+        (λ e. there ∙ ap (λ o. after_elements (elements_view s.got) (and_then o elements_on)) e)
+        (λ y e. let (r, r_is, f) =
+        then_some (and_then (value_of (text_at bytes at)) elements_on)
+        (λ r. Some (joined (elements_view s.got) r.0, r.1)) y (sym there ∙ e) in
+        let (v, v_is, g) = then_some (value_of (text_at bytes at)) elements_on r r_is in
+        let same : joined (elements_view s.got) r.0 ≡ y.0 = cc in (
+          v,
+          v_is,
+          λ h. omega (
+            arith,
+            h,
+            level_on level v r g,
+            ap (elements_level level) same,
+            level_joined level (elements_view s.got) r.0,
+          ),
+        ))
+        m
+      where
+        there : elements_of (text_at bytes start)
+            ≡ after_elements (elements_view s.got) (and_then (value_of (text_at bytes at)) elements_on)
+        there = s.told ∙ ap (after_elements (elements_view s.got))
+            (elements_by_value (text_at bytes at) (sign_missing 93 (text_at bytes at) sign))
+
+    -- after a value
+    module _ (mid new' : Gathered) (v : Valued) (r : IsValueRead bytes at level new mid v) (after : ℕ)
+        (left : Leaves bytes v.end after (gap (text_at bytes v.end))) (unclosed : IsPunctuationEnd 93 bytes at None)
+        (pushed : new'.elements.items ≡ mid.elements.items
+        ++ (roll-Element (record { offset = v.offset; value = v.value }) ∷ []))
+        (rows : new'.rows.items ≡ mid.rows.items) where
+      got' : List Element
+      got' = s.got ++ (roll-Element (record { offset = v.offset; value = v.value }) ∷ [])
+
+      view' : elements_view (s.got ++ (roll-Element (record { offset = v.offset; value = v.value }) ∷ []))
+          ≡ joined (elements_view s.got) (element v.offset r.found.raw no_elements)
+      view' = elements_view_more s.got v.offset v.value r.found.raw r.found.seen
+
+      limit' : elements_level level
+          (elements_view (s.got ++ (roll-Element (record { offset = v.offset; value = v.value }) ∷ []))) ≤ 128
+      limit' = omega (
+        arith,
+        ap (elements_level level) view',
+        level_joined level (elements_view s.got) (element v.offset r.found.raw no_elements),
+        s.limit,
+        r.limit,
+      )
+
+      pushed' : new'.elements.items ≡ old.elements.items
+          ++ (s.got ++ (roll-Element (record { offset = v.offset; value = v.value }) ∷ []))
+      pushed' = pushed ∙ ap (λ (l : List Element). l
+          ++ (roll-Element (record { offset = v.offset; value = v.value }) ∷ [])) (r.keeps.elements ∙ s.pushed)
+          ∙ append_assoc old.elements.items s.got (roll-Element (record { offset = v.offset; value = v.value }) ∷ [])
+
+      told' : elements_of (text_at bytes start)
+          ≡ after_elements (elements_view s.got)
+          (elements_on (record { offset = v.offset; value = r.found.raw; rest = text_at bytes v.end }))
+      told' = s.told ∙ ap (after_elements (elements_view s.got))
+          (elements_by_value (text_at bytes at) (sign_missing 93 (text_at bytes at) unclosed) ∙
+          ap (λ o. and_then o elements_on) r.found.is)
+
+      pub elements_more : (next at' : ℕ) → IsPunctuationEnd 44 bytes after (Some next)
+          → Leaves bytes next at' (gap (text_at bytes next)) → ElementsSoFar bytes start level at' old new'
+      unfolding elements_on
+      elements_more next at' sign later = record {
+        got = s.got ++ (roll-Element (record { offset = v.offset; value = v.value }) ∷ []);
+        told = told' ∙ ap (λ o. after_elements (elements_view s.got)
+            (if_found o (λ s. and_then (elements_of (gap s.1)) (λ q. Some (element v.offset r.found.raw q.0, q.1)))
+            (and_then (char_at 93 (gap (text_at bytes v.end)))
+            (λ s. Some (element v.offset r.found.raw no_elements, s.1))))) (ap (char_at 44) (sym left.left) ∙
+            sign_there sign.0)
+            ∙ after_more (elements_view s.got) v.offset r.found.raw (elements_of (gap (text_at bytes next)))
+            ∙ ap (λ (es : Elements). after_elements es (elements_of (gap (text_at bytes next)))) (sym view')
+            ∙ ap (λ (t : Text). after_elements
+            (elements_view (s.got ++ (roll-Element (record { offset = v.offset; value = v.value }) ∷ [])))
+            (elements_of t)) (sym later.left);
+        pushed = pushed';
+        rows = rows ∙ r.keeps.rows ∙ s.rows;
+        limit = limit';
+        boundary = later.boundary;
+        forward = omega (arith, s.forward, r.found.later, left.forward, sign.2, later.forward);
+        carries = then_on s.carries
+            (over_element bytes at after next at'
+            (record { offset = v.offset; value = r.found.raw; rest = text_at bytes v.end }) v.end r.found.is refl left
+            sign later);
+      }
+
+      last_on : IsPunctuationEnd 44 bytes after None → elements_of (text_at bytes start)
+          ≡ after_elements (elements_view s.got)
+          (and_then (char_at 93 (text_at bytes after)) (λ s. Some (element v.offset r.found.raw no_elements, s.1)))
+      unfolding elements_on
+      last_on sign = told' ∙ ap
+          (λ o. after_elements (elements_view s.got)
+          (if_found o (λ s. and_then (elements_of (gap s.1)) (λ q. Some (element v.offset r.found.raw q.0, q.1)))
+          (and_then (char_at 93 (gap (text_at bytes v.end)))
+          (λ s. Some (element v.offset r.found.raw no_elements, s.1))))) (ap (char_at 44) (sym left.left) ∙
+          sign_missing 44 (text_at bytes after) sign)
+          ∙ ap (λ (t : Text). after_elements (elements_view s.got)
+          (and_then (char_at 93 t) (λ s. Some (element v.offset r.found.raw no_elements, s.1)))) (sym left.left)
+
+      pub elements_close : (result : Result ℕ Stop) → IsPunctuationEnd 44 bytes after None
+          → ClosesAt 93 why.Bracket bytes after result → ReadsElements bytes start level old new' result
+      unfolding after_elements
+      elements_close (Ok end) sign closes = record {
+        added = s.got ++ (roll-Element (record { offset = v.offset; value = v.value }) ∷ []);
+        is = last_on sign ∙ ap (λ o. after_elements (elements_view s.got)
+            (and_then o (λ s. Some (element v.offset r.found.raw no_elements, s.1)))) closes.0
+            ∙ ap (λ (es : Elements). Some (es, text_at bytes end)) (sym view');
+        pushed = pushed';
+        rows = rows ∙ r.keeps.rows ∙ s.rows;
+        limit = limit';
+        boundary = closes.1;
+        later = omega (arith, s.forward, r.found.later, left.forward, closes.2);
+      }
+      elements_close (Err stop) sign closes =
+          subst (λ stop. ReadsElements bytes start level old new' (Err stop)) (sym closes.1)
+          (last_on sign ∙ ap (λ o. after_elements (elements_view s.got)
+          (and_then o (λ s. Some (element v.offset r.found.raw no_elements, s.1)))) closes.0)

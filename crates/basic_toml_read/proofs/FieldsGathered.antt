@@ -1,0 +1,279 @@
+-- The rows of an inline table, one by one.
+use Rattle.std.proofs.Common.{inl, inr, ◌≡◌, ℕ, ◌<◌, ◌≤◌, List, [], ◌++◌, max, refl, ap, sym, ◌∙◌, subst, arith}
+use Rattle.std.proofs.Common.{append_assoc, append-nil, Option, Some, None, Result, Ok, Err}
+use Rattle.std.specs.Str.{IsCharBoundary}
+use Rattle.basic_toml_tokens.specs.Text.{Text, text_at, after_blanks}
+use Rattle.basic_toml_tokens.specs.Punctuation.{IsPunctuationEnd}
+use Rattle.basic_toml_read.specs.declared.section.Row.{Row}
+use Rattle.basic_toml_read.specs.declared.stop.Stop.{Stop}
+use Rattle.basic_toml_read.specs.declared.stop.Why.{Why}
+use Rattle.basic_toml_read.specs.declared.stop.Why.TheVariants as why
+use Rattle.basic_toml_read.specs.declared.values.Gathered.{Gathered}
+use Rattle.basic_toml_grammar.specs.Sections.{Key, Raw, Rows, no_rows, row}
+use Rattle.basic_toml_grammar.specs.Entering.{and_then}
+use Rattle.basic_toml_grammar.specs.Levels.{rows_level}
+use Rattle.basic_toml_grammar.specs.Reader as reader
+use Rattle.basic_toml_grammar.specs.Reader.{char_at, if_found, string_at, word_at, string_value_at}
+use Rattle.basic_toml_read.specs.FrontOf.{fields_of, fields_on_of, row_of}
+use Rattle.basic_toml_read.specs.AtPlace.{Leaves}
+use Rattle.basic_toml_read.specs.SectionView.{rows_view}
+use Rattle.basic_toml_read.specs.StopsAt.{Misses}
+use Rattle.basic_toml_read.specs.Gathers.{row_level, IsRowRead, AreFieldsRead, ClosesAt, ReadsFields}
+use Rattle.basic_toml_grammar.proofs.StringsAreRead.{then_some}
+use Rattle.basic_toml_grammar.proofs.ReaderIsSound.{found_some}
+use Rattle.basic_toml_grammar.specs.GrammarFaults.{precedes_key}
+use Rattle.basic_toml_read.proofs.Carried.{Carries, stays, then_on, over_field}
+use Rattle.basic_toml_read.proofs.EnoughSteps.{fields_is, fields_on_is}
+use Rattle.basic_toml_read.proofs.LeftAfter.{sign_there, sign_missing}
+use Rattle.basic_toml_read.proofs.KeysTold.{misses_then}
+
+-- the rows of an inline table up to an offset
+unfoldable pub joined_rows : Rows → Rows → Rows
+joined_rows no_rows rs = rs
+joined_rows (row keys p v front) rs = row keys p v (joined_rows front rs)
+
+unfoldable pub after_rows : Rows → Option (Rows × Text) → Option (Rows × Text)
+after_rows front o = and_then o (λ r. Some (joined_rows front r.0, r.1))
+
+pub joined_rows_more : (front : Rows) (keys : List Key) (p : ℕ) (v : Raw) (rs : Rows)
+    → joined_rows front (row keys p v rs) ≡ joined_rows (joined_rows front (row keys p v no_rows)) rs
+unfolding joined_rows
+joined_rows_more no_rows keys p v rs = refl
+joined_rows_more (row ks q w front) keys p v rs = ap (row ks q w) (joined_rows_more front keys p v rs)
+
+pub joined_rows_none : (front : Rows) → joined_rows front no_rows ≡ front
+unfolding joined_rows
+joined_rows_none no_rows = refl
+joined_rows_none (row ks q w front) = ap (row ks q w) (joined_rows_none front)
+
+pub after_rows_more : (front : Rows) (keys : List Key) (p : ℕ) (v : Raw) (o : Option (Rows × Text))
+    → after_rows front (and_then o (λ r. Some (row keys p v r.0, r.1)))
+    ≡ after_rows (joined_rows front (row keys p v no_rows)) o
+unfolding after_rows
+after_rows_more front keys p v None = refl
+after_rows_more front keys p v (Some r) = ap (λ (rs : Rows). Some (rs, r.1)) (joined_rows_more front keys p v r.0)
+
+pub after_no_rows : (o : Option (Rows × Text)) → o ≡ after_rows no_rows o
+unfolding after_rows joined_rows
+after_no_rows None = refl
+after_no_rows (Some r) = refl
+
+pub level_joined_rows : (l : ℕ) (front rs : Rows)
+    → rows_level l (joined_rows front rs) ≡ max (rows_level l front) (rows_level l rs)
+unfolding joined_rows
+level_joined_rows l no_rows rs = omega arith
+level_joined_rows l (row keys p v front) rs = omega (arith, level_joined_rows l front rs)
+
+-- rows that end with a value
+pub record Whole (got : List Row) : Type 0 where
+  pub seen : (rest : List Row) → rows_view (got ++ rest) ≡ joined_rows (rows_view got) (rows_view rest)
+
+pub whole_none : Whole []
+unfolding joined_rows
+whole_none = record { seen = λ rest. refl }
+
+pub whole_one : (added : List Row) (keys : List Key) (p : ℕ) (v : Raw)
+    → ((rest : List Row) → rows_view (added ++ rest) ≡ row keys p v (rows_view rest))
+    → rows_view added ≡ row keys p v no_rows
+whole_one added keys p v h = ap rows_view (sym (append-nil added)) ∙ h []
+
+pub whole_more : (got added : List Row) (keys : List Key) (p : ℕ) (v : Raw) → Whole got
+    → ((rest : List Row) → rows_view (added ++ rest) ≡ row keys p v (rows_view rest))
+    → Whole (got ++ added) × (rows_view (got ++ added) ≡ joined_rows (rows_view got) (row keys p v no_rows))
+whole_more got added keys p v w h =
+    let view : rows_view (got ++ added) ≡ joined_rows (rows_view got) (row keys p v no_rows) = w.seen added ∙
+    ap (joined_rows (rows_view got)) (whole_one added keys p v h) in (
+      record {
+        seen = λ rest. ap rows_view (append_assoc got added rest) ∙ w.seen (added ++ rest) ∙
+            ap (joined_rows (rows_view got)) (h rest)
+            ∙ joined_rows_more (rows_view got) keys p v (rows_view rest) ∙
+            ap (λ (rs : Rows). joined_rows rs (rows_view rest)) (sym view);
+      },
+      view,
+    )
+
+pub record FieldsSoFar (bytes : List ℕ) (start level at : ℕ) (old new : Gathered) : Type 0 where
+  pub got : List Row
+  pub whole : Whole got
+  pub told : fields_of (text_at bytes start) ≡ after_rows (rows_view got) (fields_on_of (text_at bytes at))
+  pub pushed : new.rows.items ≡ old.rows.items ++ got
+  pub elements : new.elements.items ≡ old.elements.items
+  pub limit : rows_level level (rows_view got) ≤ 128
+  pub boundary : IsCharBoundary bytes at
+  pub forward : start ≤ at
+  pub carries : Carries precedes_key (text_at bytes start) precedes_key (text_at bytes at)
+
+no_brace : (bytes : List ℕ) (start : ℕ) → IsPunctuationEnd 125 bytes start None
+    → fields_of (text_at bytes start) ≡ fields_on_of (text_at bytes start)
+no_brace bytes start sign = fields_is (text_at bytes start) ∙
+    ap (λ o. if_found o (λ s. Some (no_rows, s.1)) (fields_on_of (text_at bytes start)))
+    (sign_missing 125 (text_at bytes start) sign)
+
+pub fields_start : (bytes : List ℕ) (start level : ℕ) (old : Gathered) → IsCharBoundary bytes start
+    → IsPunctuationEnd 125 bytes start None → FieldsSoFar bytes start level start old old
+fields_start bytes start level old b sign = record {
+  got = [];
+  whole = whole_none;
+  told = no_brace bytes start sign ∙ after_no_rows (fields_on_of (text_at bytes start));
+  pushed = sym (append-nil old.rows.items);
+  elements = refl;
+  limit = omega arith;
+  boundary = b;
+  forward = omega arith;
+  carries = stays;
+}
+
+pub fields_none : (bytes : List ℕ) (start level end : ℕ) (old : Gathered) → IsPunctuationEnd 125 bytes start (Some end)
+    → AreFieldsRead bytes start level old old end
+fields_none bytes start level end old sign = record {
+  added = [];
+  is = fields_is (text_at bytes start) ∙
+      ap (λ o. if_found o (λ s. Some (no_rows, s.1)) (fields_on_of (text_at bytes start))) (sign_there sign.0);
+  pushed = sym (append-nil old.rows.items);
+  elements = refl;
+  limit = omega arith;
+  boundary = sign.1;
+  later = omega (arith, sign.2);
+}
+
+fields_on : reader.Assigned → Option (Rows × Text)
+fields_on r = if_found (char_at 44 (after_blanks r.rest))
+    (λ s. and_then (fields_on_of (after_blanks s.1)) (λ rows. Some (row r.keys r.offset r.value rows.0, rows.1)))
+    (and_then (char_at 125 (after_blanks r.rest)) (λ s. Some (row r.keys r.offset r.value no_rows, s.1)))
+
+fields_by_row : (text : Text) → fields_on_of text ≡ and_then (row_of text) fields_on
+unfolding fields_on
+fields_by_row text = fields_on_is text
+
+-- a row's level is one of the table's
+row_level_on : (l : ℕ) (r : reader.Assigned) (rs : Rows × Text) → fields_on r ≡ Some rs
+    → row_level l r ≤ rows_level l rs.0
+unfolding fields_on
+row_level_on l r rs e =
+    elim (found_some (char_at 44 (after_blanks r.rest))
+    (λ s. and_then (fields_on_of (after_blanks s.1)) (λ rows. Some (row r.keys r.offset r.value rows.0, rows.1)))
+    _ rs e) [
+      | inl h ↦ (let (s, s_is, f) = h in
+          let (q, q_is, same) = then_some (fields_on_of (after_blanks s.1))
+          (λ rows. Some (row r.keys r.offset r.value rows.0, rows.1)) rs f in
+          let there : row r.keys r.offset r.value q.0 ≡ rs.0 = cc in
+          omega (arith, ap (rows_level l) there))
+      | inr h ↦ (let (s, s_is, same) =
+          then_some (char_at 125 (after_blanks r.rest)) (λ s. Some (row r.keys r.offset r.value no_rows, s.1)) rs h in
+          let there : row r.keys r.offset r.value no_rows ≡ rs.0 = cc in
+          omega (arith, ap (rows_level l) there))
+    ]
+
+module _ (bytes : List ℕ) (start level at : ℕ) (old new : Gathered) (s : FieldsSoFar bytes start level at old new) where
+  -- no row
+  pub fields_missing : (w : Why) → Misses w (row_of (text_at bytes at)) (λ r. 128 < row_level level r)
+      → Misses w (fields_of (text_at bytes start)) (λ r. 128 < rows_level level r.0)
+  unfolding after_rows
+  fields_missing w m =
+      misses_then w (row_of (text_at bytes at)) (fields_of (text_at bytes start)) (λ r. 128 < row_level level r)
+      (λ r. 128 < rows_level level r.0)
+      (λ e. there ∙ ap (λ o. after_rows (rows_view s.got) (and_then o fields_on)) e)
+      (λ y e. let (q, q_is, f) =
+      then_some (and_then (row_of (text_at bytes at)) fields_on)
+      (λ r. Some (joined_rows (rows_view s.got) r.0, r.1)) y (sym there ∙ e) in
+      let (r, r_is, g) = then_some (row_of (text_at bytes at)) fields_on q q_is in
+      let same : joined_rows (rows_view s.got) q.0 ≡ y.0 = cc in (
+        r,
+        r_is,
+        λ h. omega (
+          arith,
+          h,
+          row_level_on level r q g,
+          ap (rows_level level) same,
+          level_joined_rows level (rows_view s.got) q.0,
+        ),
+      ))
+      m
+    where
+      there : fields_of (text_at bytes start)
+          ≡ after_rows (rows_view s.got) (and_then (row_of (text_at bytes at)) fields_on)
+      there = s.told ∙ ap (after_rows (rows_view s.got)) (fields_by_row (text_at bytes at))
+
+  -- after a row
+  module _ (new' : Gathered) (end : ℕ) (r : IsRowRead bytes at level new new' end) (after : ℕ)
+      (left : Leaves bytes end after (after_blanks (text_at bytes end))) where
+    view' : rows_view (s.got ++ r.added)
+        ≡ joined_rows (rows_view s.got) (row r.found.keys r.found.offset r.found.value no_rows)
+    view' = (whole_more s.got r.added r.found.keys r.found.offset r.found.value s.whole r.seen).1
+
+    limit' : rows_level level (rows_view (s.got ++ r.added)) ≤ 128
+    limit' = omega (
+      arith,
+      ap (rows_level level) view',
+      level_joined_rows level (rows_view s.got) (row r.found.keys r.found.offset r.found.value no_rows),
+      s.limit,
+      r.limit,
+    )
+
+    pushed' : new'.rows.items ≡ old.rows.items ++ (s.got ++ r.added)
+    pushed' = r.pushed ∙ ap (λ (l : List Row). l ++ r.added) s.pushed ∙ append_assoc old.rows.items s.got r.added
+
+    rest' : after_blanks r.found.rest ≡ text_at bytes after
+    rest' = ap after_blanks r.rest ∙ sym left.left
+
+    told' : fields_of (text_at bytes start) ≡ after_rows (rows_view s.got) (fields_on r.found)
+    told' = s.told ∙ ap (after_rows (rows_view s.got)) (fields_by_row (text_at bytes at) ∙
+        ap (λ o. and_then o fields_on) r.is)
+
+    pub fields_more : (next at' : ℕ) → IsPunctuationEnd 44 bytes after (Some next)
+        → Leaves bytes next at' (after_blanks (text_at bytes next)) → FieldsSoFar bytes start level at' old new'
+    unfolding fields_on
+    fields_more next at' sign later = record {
+      got = s.got ++ r.added;
+      whole = (whole_more s.got r.added r.found.keys r.found.offset r.found.value s.whole r.seen).0;
+      told = told' ∙ ap (λ o. after_rows (rows_view s.got)
+          (if_found o (λ s. and_then (fields_on_of (after_blanks s.1))
+          (λ q. Some (row r.found.keys r.found.offset r.found.value q.0, q.1)))
+          (and_then (char_at 125 (after_blanks r.found.rest))
+          (λ s. Some (row r.found.keys r.found.offset r.found.value no_rows, s.1))))) (ap (char_at 44) rest' ∙
+          sign_there sign.0)
+          ∙ after_rows_more (rows_view s.got) r.found.keys r.found.offset r.found.value
+          (fields_on_of (after_blanks (text_at bytes next)))
+          ∙ ap (λ (rs : Rows). after_rows rs (fields_on_of (after_blanks (text_at bytes next)))) (sym view')
+          ∙ ap (λ (t : Text). after_rows (rows_view (s.got ++ r.added)) (fields_on_of t)) (sym later.left);
+      pushed = pushed';
+      elements = r.elements ∙ s.elements;
+      limit = limit';
+      boundary = later.boundary;
+      forward = omega (arith, s.forward, r.later, left.forward, sign.2, later.forward);
+      carries = then_on s.carries (over_field bytes at after next at' r.found end r.is r.rest left sign later);
+    }
+
+    last_on : IsPunctuationEnd 44 bytes after None → fields_of (text_at bytes start)
+        ≡ after_rows (rows_view s.got)
+        (and_then (char_at 125 (text_at bytes after))
+        (λ s. Some (row r.found.keys r.found.offset r.found.value no_rows, s.1)))
+    unfolding fields_on
+    last_on sign = told' ∙ ap
+        (λ o. after_rows (rows_view s.got)
+        (if_found o (λ s. and_then (fields_on_of (after_blanks s.1))
+        (λ q. Some (row r.found.keys r.found.offset r.found.value q.0, q.1)))
+        (and_then (char_at 125 (after_blanks r.found.rest))
+        (λ s. Some (row r.found.keys r.found.offset r.found.value no_rows, s.1))))) (ap (char_at 44) rest' ∙
+        sign_missing 44 (text_at bytes after) sign)
+        ∙ ap (λ (t : Text). after_rows (rows_view s.got)
+        (and_then (char_at 125 t) (λ s. Some (row r.found.keys r.found.offset r.found.value no_rows, s.1)))) rest'
+
+    pub fields_close : (result : Result ℕ Stop) → IsPunctuationEnd 44 bytes after None
+        → ClosesAt 125 why.Comma bytes after result → ReadsFields bytes start level old new' result
+    unfolding after_rows
+    fields_close (Ok close) sign closes = record {
+      added = s.got ++ r.added;
+      is = last_on sign ∙ ap (λ o. after_rows (rows_view s.got)
+          (and_then o (λ s. Some (row r.found.keys r.found.offset r.found.value no_rows, s.1)))) closes.0
+          ∙ ap (λ (rs : Rows). Some (rs, text_at bytes close)) (sym view');
+      pushed = pushed';
+      elements = r.elements ∙ s.elements;
+      limit = limit';
+      boundary = closes.1;
+      later = omega (arith, s.forward, r.later, left.forward, closes.2);
+    }
+    fields_close (Err stop) sign closes =
+        subst (λ stop. ReadsFields bytes start level old new' (Err stop)) (sym closes.1)
+        (last_on sign ∙ ap (λ o. after_rows (rows_view s.got)
+        (and_then o (λ s. Some (row r.found.keys r.found.offset r.found.value no_rows, s.1)))) closes.0)

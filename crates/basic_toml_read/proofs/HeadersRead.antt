@@ -1,0 +1,351 @@
+-- Headers, by what stands in them.
+use Rattle.std.proofs.Common.{◌≡◌, ℕ, ◌+◌, ◌-◌, ◌<◌, ◌≤◌, Bool, true, false, List, [], ◌∷◌, ◌++◌, length, map, refl}
+use Rattle.std.proofs.Common.{ap, sym, ◌∙◌, subst, arith, length-append, Option, Some, None, Ok, Err, Vec, Global}
+use Rattle.std.proofs.lemmas.List.{map-append}
+use Rattle.std.specs.Str.{IsCharBoundary}
+use Rattle.std.specs.Cow.{cow_str_bytes}
+use Rattle.std.specs.declared.borrow.CowStr.{CowStr}
+use Rattle.basic_toml_tokens.specs.Text.{Text, text_at, after_blanks}
+use Rattle.basic_toml_tokens.specs.Punctuation.{IsPunctuationEnd}
+use Rattle.basic_toml_read.specs.declared.stop.Stop.{Stop}
+use Rattle.basic_toml_read.specs.declared.stop.Why.{Why}
+use Rattle.basic_toml_read.specs.declared.stop.Why.TheVariants as why
+use Rattle.basic_toml_read.specs.declared.scalar.Keyed.{Keyed}
+use Rattle.basic_toml_read.specs.declared.header.HeaderKeys.{HeaderKeys}
+use Rattle.basic_toml_grammar.specs.Sections.{Key}
+use Rattle.basic_toml_grammar.specs.Entering.{and_then}
+use Rattle.basic_toml_grammar.specs.Reader as reader
+use Rattle.basic_toml_grammar.specs.Reader.{char_at, if_found}
+use Rattle.basic_toml_read.specs.FrontOf.{keys_of, header_of}
+use Rattle.basic_toml_read.specs.AtPlace.{Leaves}
+use Rattle.basic_toml_read.specs.SectionView.{keys_with}
+use Rattle.basic_toml_read.specs.StopsAt.{Misses, MissesKey, ReadsKeyAt}
+use Rattle.basic_toml_read.specs.Gathers.{ClosesAt}
+use Rattle.basic_toml_read.specs.Lists.{AreHeaderKeys, IsHeaderRead, ReadsHeader}
+use Rattle.basic_toml_grammar.proofs.StringsAreRead.{then_some}
+use Rattle.basic_toml_read.proofs.EnoughSteps.{header_is}
+use Rattle.basic_toml_read.proofs.LeftAfter.{sign_there, sign_missing}
+use Rattle.basic_toml_read.proofs.KeysTold.{KeysTold, misses_then, keys_missing, keys_deep, told_start, told_more}
+use Rattle.basic_toml_read.proofs.KeysTold.{told_last}
+
+keys_with_more : (offsets : List ℕ) (ts : List (List ℕ)) (p : ℕ) (t : List ℕ) → length offsets ≡ length ts
+    → keys_with (offsets ++ p ∷ []) (ts ++ t ∷ []) ≡ keys_with offsets ts ++ record { offset = p; text = t } ∷ []
+keys_with_more [] [] p t e = refl
+keys_with_more [] (u ∷ ts) p t e = absurd (omega arith)
+keys_with_more (q ∷ offsets) [] p t e = absurd (omega arith)
+keys_with_more (q ∷ offsets) (u ∷ ts) p t e =
+    ap (λ (l : List Key). record { offset = q; text = u } ∷ l) (keys_with_more offsets ts p t (omega arith))
+
+pub keys_with_length : (offsets : List ℕ) (ts : List (List ℕ)) → length offsets ≡ length ts
+    → length (keys_with offsets ts) ≡ length ts
+keys_with_length [] [] e = refl
+keys_with_length [] (u ∷ ts) e = absurd (omega arith)
+keys_with_length (q ∷ offsets) [] e = absurd (omega arith)
+keys_with_length (q ∷ offsets) (u ∷ ts) e = omega (arith, keys_with_length offsets ts (omega arith))
+
+map_length : (keys : List (CowStr Global)) → length (map cow_str_bytes keys) ≡ length keys
+map_length [] = refl
+map_length (x ∷ keys) = omega (arith, map_length keys)
+
+pub header_length : (offsets : List ℕ) (keys : List (CowStr Global)) → length offsets ≡ length keys
+    → length (keys_with offsets (map cow_str_bytes keys)) ≡ length keys
+header_length offsets keys e =
+    omega (arith, keys_with_length offsets (map cow_str_bytes keys) (omega (arith, map_length keys)), map_length keys)
+
+header_more : (offsets : List ℕ) (keys : List (CowStr Global)) (p : ℕ) (k : CowStr Global)
+    → length offsets ≡ length keys
+    → keys_with (offsets ++ p ∷ []) (map cow_str_bytes (keys ++ k ∷ [])) ≡ keys_with offsets (map cow_str_bytes keys)
+    ++ record { offset = p; text = cow_str_bytes k } ∷ []
+header_more offsets keys p k e = ap (keys_with (offsets ++ p ∷ [])) (map-append cow_str_bytes keys (k ∷ [])) ∙
+    keys_with_more offsets (map cow_str_bytes keys) p (cow_str_bytes k) (omega (arith, map_length keys))
+
+-- the keys of a header up to an offset
+pub record HeaderSoFar (bytes : List ℕ) (at offset level : ℕ) (keys : List (CowStr Global)) (offsets : List ℕ) : Type
+    0 where
+  pub told : KeysTold bytes at 2 offset level (keys_with offsets (map cow_str_bytes keys))
+  pub same : length offsets ≡ length keys
+
+pub header_start : (bytes : List ℕ) (at : ℕ) (keys : List (CowStr Global)) (offsets : List ℕ) → keys ≡ []
+    → offsets ≡ [] → IsCharBoundary bytes at → HeaderSoFar bytes at at 2 keys offsets
+header_start bytes at keys offsets k p b = record {
+  told = subst (λ (front : List Key). KeysTold bytes at 2 at 2 front)
+      (sym (ap (λ (l : List ℕ). keys_with l (map cow_str_bytes keys)) p ∙ none (map cow_str_bytes keys)))
+      (told_start bytes at 2 (omega arith) b);
+  same = omega (arith, ap length k, ap length p);
+}
+  where
+    none : (ts : List (List ℕ)) → keys_with [] ts ≡ []
+    none [] = refl
+    none (t ∷ ts) = refl
+
+-- the level of the last key
+level_of : (n : ℕ) → 2 + n - 1 ≡ n + 1
+level_of n = omega arith
+
+misses_level : (w : Why) (text : Text) → Misses w (keys_of text) (λ keys. 128 < 2 + length keys.0 - 1)
+    → Misses w (keys_of text) (λ keys. 128 < length keys.0 + 1)
+misses_level w text m =
+    misses_then w (keys_of text) (keys_of text) (λ keys. 128 < 2 + length keys.0 - 1)
+    (λ keys. 128 < length keys.0 + 1) (λ e. e) (λ y e. (y, e, λ h. omega (arith, level_of (length y.0)))) m
+
+pub header_missing : (bytes : List ℕ) (at offset level : ℕ) (keys : List (CowStr Global)) (offsets : List ℕ)
+    → HeaderSoFar bytes at offset level keys offsets → (w : Why) → MissesKey w (text_at bytes offset)
+    → Misses w (keys_of (text_at bytes at)) (λ keys. 128 < length keys.0 + 1)
+header_missing bytes at offset level keys offsets s w m =
+    misses_level w (text_at bytes at)
+    (keys_missing bytes at 2 offset level (keys_with offsets (map cow_str_bytes keys)) s.told w m)
+
+pub header_deep : (bytes : List ℕ) (at offset level : ℕ) (keys : List (CowStr Global)) (offsets : List ℕ)
+    → HeaderSoFar bytes at offset level keys offsets → 128 < level
+    → Misses why.Deep (keys_of (text_at bytes at)) (λ keys. 128 < length keys.0 + 1)
+header_deep bytes at offset level keys offsets s h =
+    misses_level why.Deep (text_at bytes at)
+    (keys_deep bytes at 2 offset level (keys_with offsets (map cow_str_bytes keys)) s.told h)
+
+module _ (bytes : List ℕ) (at offset level : ℕ) (keys : List (CowStr Global)) (offsets : List ℕ)
+    (s : HeaderSoFar bytes at offset level keys offsets)
+    (k : Keyed) (key : ReadsKeyAt bytes offset (Ok k)) (end : ℕ)
+    (blanks : Leaves bytes k.end end (after_blanks (text_at bytes k.end))) (high : level ≤ 128)
+    (keys' : List (CowStr Global)) (offsets' : List ℕ) (pushed : keys' ≡ keys ++ (k.key ∷ []))
+    (placed : offsets' ≡ offsets ++ (offset ∷ [])) where
+  more' : keys_with offsets' (map cow_str_bytes keys') ≡ keys_with offsets (map cow_str_bytes keys)
+      ++ record { offset = offset; text = cow_str_bytes k.key } ∷ []
+  more' = ap (λ (l : List ℕ). keys_with l (map cow_str_bytes keys')) placed ∙
+      ap (λ (l : List (CowStr Global)). keys_with (offsets ++ offset ∷ []) (map cow_str_bytes l)) pushed
+      ∙ header_more offsets keys offset k.key s.same
+
+  same' : length offsets' ≡ length keys'
+  same' = omega (
+    arith,
+    ap length placed,
+    ap length pushed,
+    s.same,
+    length-append offsets (offset ∷ []),
+    length-append keys (k.key ∷ []),
+  )
+
+  pub header_next : (next offset' : ℕ) → IsPunctuationEnd 46 bytes end (Some next)
+      → Leaves bytes next offset' (after_blanks (text_at bytes next))
+      → HeaderSoFar bytes at offset' (level + 1) keys' offsets'
+  header_next next offset' sign after = record {
+    told = subst (λ (front : List Key). KeysTold bytes at 2 offset' (level + 1) front) (sym more')
+        (told_more bytes at 2 offset level (keys_with offsets (map cow_str_bytes keys)) s.told k key end blanks high
+        next offset' sign after);
+    same = same';
+  }
+
+  pub header_last : (ks : Vec (CowStr Global) Global) (ps : Vec ℕ Global) → ks.items ≡ keys' → ps.items ≡ offsets'
+      → IsPunctuationEnd 46 bytes end None
+      → AreHeaderKeys bytes at (record { keys = ks; offsets = ps; end = end })
+  header_last ks ps keys_are offsets_are sign =
+      let there : keys_with ps.items (map cow_str_bytes ks.items) ≡ keys_with offsets (map cow_str_bytes keys)
+      ++ record { offset = offset; text = cow_str_bytes k.key } ∷ [] =
+      ap (λ (l : List ℕ). keys_with l (map cow_str_bytes ks.items)) offsets_are ∙
+      ap (λ (l : List (CowStr Global)). keys_with offsets' (map cow_str_bytes l)) keys_are ∙ more' in
+      record {
+        mid = text_at bytes k.end;
+        is = told_last bytes at 2 offset level (keys_with offsets (map cow_str_bytes keys)) s.told k key end blanks
+            high sign
+            ∙ ap (λ (l : List Key). Some (l, text_at bytes k.end)) (sym there);
+        after = blanks.left;
+        same = omega (arith, ap length keys_are, ap length offsets_are, same');
+        limit = omega (
+          arith,
+          ap length keys_are,
+          ap length pushed,
+          length-append keys (k.key ∷ []),
+          s.told.level_is,
+          header_length offsets keys s.same,
+          high,
+        );
+        boundary = blanks.boundary;
+        later = omega (arith, s.told.forward, key.2, blanks.forward);
+      }
+
+-- a header, by its brackets
+headed : ℕ → List Key → Bool → Text → reader.Headed
+headed p keys a rest = record { offset = p; keys = keys; is_array = a; rest = rest }
+
+single : ℕ × Text → Option reader.Headed
+single s = and_then (keys_of (after_blanks s.1))
+    (λ keys. and_then (char_at 93 (after_blanks keys.1)) (λ close. Some (headed s.0 keys.0 false close.1)))
+
+double : ℕ × Text → ℕ × Text → Option reader.Headed
+double s t = and_then (keys_of (after_blanks t.1))
+    (λ keys. and_then (char_at 93 (after_blanks keys.1))
+    (λ close. and_then (char_at 93 close.1) (λ last. Some (headed s.0 keys.0 true last.1))))
+
+header_by : (text : Text) (o : Option (ℕ × Text)) → char_at 91 text ≡ o
+    → header_of text ≡ and_then o (λ s. if_found (char_at 91 s.1) (double s) (single s))
+unfolding single double headed
+header_by text o e = header_is text ∙ ap (λ o. and_then o (λ s. if_found (char_at 91 s.1) (double s) (single s))) e
+
+pub no_bracket : (text : Text) → char_at 91 text ≡ None → header_of text ≡ None
+no_bracket text e = header_by text None e
+
+module _ (bytes : List ℕ) (at inner : ℕ) (sign : char_at 91 (text_at bytes at) ≡ Some (at, text_at bytes inner))
+    (after : at < inner) where
+  -- one bracket
+  module _ (one : IsPunctuationEnd 91 bytes inner None) (start : ℕ)
+      (left : Leaves bytes inner start (after_blanks (text_at bytes inner))) where
+    by_one : header_of (text_at bytes at)
+        ≡ and_then (keys_of (text_at bytes start))
+        (λ keys. and_then (char_at 93 (after_blanks keys.1)) (λ close. Some (headed at keys.0 false close.1)))
+    unfolding single
+    by_one =
+        header_by (text_at bytes at) (Some (at, text_at bytes inner)) sign
+        ∙ ap (λ o. if_found o (double (at, text_at bytes inner)) (single (at, text_at bytes inner)))
+        (sign_missing 91 (text_at bytes inner) one)
+        ∙ ap (λ t. and_then (keys_of t)
+        (λ keys. and_then (char_at 93 (after_blanks keys.1)) (λ close. Some (headed at keys.0 false close.1))))
+        (sym left.left)
+
+    pub one_missing : (w : Why) → Misses w (keys_of (text_at bytes start)) (λ keys. 128 < length keys.0 + 1)
+        → Misses w (header_of (text_at bytes at)) (λ h. 128 < length h.keys + 1)
+    unfolding headed
+    one_missing w m =
+        misses_then w (keys_of (text_at bytes start)) (header_of (text_at bytes at)) (λ keys. 128 < length keys.0 + 1)
+        (λ h. 128 < length h.keys + 1)
+        (λ e. by_one ∙ ap (λ o. and_then o on) e)
+        (λ y e. let (keys, keys_is, f) = then_some (keys_of (text_at bytes start)) on y (sym by_one ∙ e) in
+        let (c, c_is, same) = then_some (char_at 93 (after_blanks keys.1))
+        (λ close. Some (headed at keys.0 false close.1)) y f in
+        let there : keys.0 ≡ y.keys = cc in
+        (keys, keys_is, λ h. omega (arith, h, ap length there)))
+        m
+      where
+        on : List Key × Text → Option reader.Headed
+        on keys = and_then (char_at 93 (after_blanks keys.1)) (λ close. Some (headed at keys.0 false close.1))
+
+    module _ (found : HeaderKeys) (k : AreHeaderKeys bytes start found) where
+      by_keys : header_of (text_at bytes at)
+          ≡ and_then (char_at 93 (text_at bytes found.end))
+          (λ close. Some (headed at (keys_with found.offsets.items (map cow_str_bytes found.keys.items)) false close.1))
+      by_keys =
+          by_one ∙ ap (λ o. and_then o
+          (λ keys. and_then (char_at 93 (after_blanks keys.1)) (λ close. Some (headed at keys.0 false close.1))))
+          k.is
+          ∙ ap (λ t. and_then (char_at 93 t)
+          (λ close. Some (headed at (keys_with found.offsets.items (map cow_str_bytes found.keys.items)) false
+          close.1))) (sym k.after)
+
+      pub one_closed : (end : ℕ) → ClosesAt 93 why.Bracket bytes found.end (Ok end)
+          → IsHeaderRead bytes at (record {
+            at = at;
+            is_array = false;
+            keys = found.keys;
+            offsets = found.offsets;
+            end = end;
+          })
+      unfolding headed
+      one_closed end c = record {
+        is = by_keys ∙ ap (λ o. and_then o
+            (λ close. Some (headed at (keys_with found.offsets.items (map cow_str_bytes found.keys.items)) false
+            close.1))) c.0;
+        same = k.same;
+        limit = k.limit;
+        boundary = c.1;
+        later = omega (arith, after, left.forward, k.later, c.2);
+      }
+
+      pub one_unclosed : (stop : Stop) → ClosesAt 93 why.Bracket bytes found.end (Err stop)
+          → ReadsHeader bytes at (Err stop)
+      one_unclosed stop c =
+          subst (λ stop. ReadsHeader bytes at (Err stop)) (sym c.1)
+          (by_keys ∙ ap (λ o. and_then o
+          (λ close. Some (headed at (keys_with found.offsets.items (map cow_str_bytes found.keys.items)) false
+          close.1))) c.0)
+
+  -- two brackets
+  module _ (first : ℕ) (two : IsPunctuationEnd 91 bytes inner (Some first)) (start : ℕ)
+      (left : Leaves bytes first start (after_blanks (text_at bytes first))) where
+    by_two : header_of (text_at bytes at)
+        ≡ and_then (keys_of (text_at bytes start))
+        (λ keys. and_then (char_at 93 (after_blanks keys.1))
+        (λ close. and_then (char_at 93 close.1) (λ last. Some (headed at keys.0 true last.1))))
+    unfolding double
+    by_two =
+        header_by (text_at bytes at) (Some (at, text_at bytes inner)) sign
+        ∙ ap (λ o. if_found o (double (at, text_at bytes inner)) (single (at, text_at bytes inner))) (sign_there two.0)
+        ∙ ap (λ t. and_then (keys_of t)
+        (λ keys. and_then (char_at 93 (after_blanks keys.1))
+        (λ close. and_then (char_at 93 close.1) (λ last. Some (headed at keys.0 true last.1))))) (sym left.left)
+
+    pub two_missing : (w : Why) → Misses w (keys_of (text_at bytes start)) (λ keys. 128 < length keys.0 + 1)
+        → Misses w (header_of (text_at bytes at)) (λ h. 128 < length h.keys + 1)
+    unfolding headed
+    two_missing w m =
+        misses_then w (keys_of (text_at bytes start)) (header_of (text_at bytes at)) (λ keys. 128 < length keys.0 + 1)
+        (λ h. 128 < length h.keys + 1)
+        (λ e. by_two ∙ ap (λ o. and_then o on) e)
+        (λ y e. let (keys, keys_is, f) = then_some (keys_of (text_at bytes start)) on y (sym by_two ∙ e) in
+        let (c, c_is, g) = then_some (char_at 93 (after_blanks keys.1))
+        (λ close. and_then (char_at 93 close.1) (λ last. Some (headed at keys.0 true last.1))) y f in
+        let (d, d_is, same) = then_some (char_at 93 c.1) (λ last. Some (headed at keys.0 true last.1)) y g in
+        let there : keys.0 ≡ y.keys = cc in
+        (keys, keys_is, λ h. omega (arith, h, ap length there)))
+        m
+      where
+        on : List Key × Text → Option reader.Headed
+        on keys = and_then (char_at 93 (after_blanks keys.1))
+            (λ close. and_then (char_at 93 close.1) (λ last. Some (headed at keys.0 true last.1)))
+
+    module _ (found : HeaderKeys) (k : AreHeaderKeys bytes start found) where
+      by_both : header_of (text_at bytes at)
+          ≡ and_then (char_at 93 (text_at bytes found.end))
+          (λ close. and_then (char_at 93 close.1)
+          (λ last. Some (headed at (keys_with found.offsets.items (map cow_str_bytes found.keys.items)) true
+          last.1)))
+      by_both =
+          by_two ∙ ap (λ o. and_then o
+          (λ keys. and_then (char_at 93 (after_blanks keys.1))
+          (λ close. and_then (char_at 93 close.1) (λ last. Some (headed at keys.0 true last.1))))) k.is
+          ∙ ap (λ t. and_then (char_at 93 t)
+          (λ close. and_then (char_at 93 close.1)
+          (λ last. Some (headed at (keys_with found.offsets.items (map cow_str_bytes found.keys.items)) true
+          last.1)))) (sym k.after)
+
+      pub two_unclosed : (stop : Stop) → ClosesAt 93 why.Bracket bytes found.end (Err stop)
+          → ReadsHeader bytes at (Err stop)
+      two_unclosed stop c =
+          subst (λ stop. ReadsHeader bytes at (Err stop)) (sym c.1)
+          (by_both ∙ ap (λ o. and_then o
+          (λ close. and_then (char_at 93 close.1)
+          (λ last. Some (headed at (keys_with found.offsets.items (map cow_str_bytes found.keys.items)) true
+          last.1)))) c.0)
+
+      module _ (last : ℕ) (closes : ClosesAt 93 why.Bracket bytes found.end (Ok last)) where
+        by_last : header_of (text_at bytes at)
+            ≡ and_then (char_at 93 (text_at bytes last))
+            (λ last. Some (headed at (keys_with found.offsets.items (map cow_str_bytes found.keys.items)) true last.1))
+        by_last = by_both ∙ ap (λ o. and_then o
+            (λ close. and_then (char_at 93 close.1)
+            (λ last. Some (headed at (keys_with found.offsets.items (map cow_str_bytes found.keys.items)) true
+            last.1)))) closes.0
+
+        pub two_half_closed : (stop : Stop) → ClosesAt 93 why.Bracket bytes last (Err stop)
+            → ReadsHeader bytes at (Err stop)
+        two_half_closed stop c =
+            subst (λ stop. ReadsHeader bytes at (Err stop)) (sym c.1)
+            (by_last ∙ ap (λ o. and_then o
+            (λ last. Some (headed at (keys_with found.offsets.items (map cow_str_bytes found.keys.items)) true
+            last.1))) c.0)
+
+        pub two_closed : (end : ℕ) → ClosesAt 93 why.Bracket bytes last (Ok end)
+            → IsHeaderRead bytes at (record {
+              at = at;
+              is_array = true;
+              keys = found.keys;
+              offsets = found.offsets;
+              end = end;
+            })
+        unfolding headed
+        two_closed end c = record {
+          is = by_last ∙ ap (λ o. and_then o
+              (λ last. Some (headed at (keys_with found.offsets.items (map cow_str_bytes found.keys.items)) true
+              last.1))) c.0;
+          same = k.same;
+          limit = k.limit;
+          boundary = c.1;
+          later = omega (arith, after, two.2, left.forward, k.later, closes.2, c.2);
+        }

@@ -1,0 +1,183 @@
+-- What is left of a text after blanks, comments, gaps and words.
+use Rattle.std.proofs.Common.{inl, inr, ◌≡◌, ℕ, ◌≤◌, ◌==◌, ◌||◌, Bool, true, false, cond, List, [], ◌∷◌, length}
+use Rattle.std.proofs.Common.{refl, ap, sym, ◌∙◌, arith, Option, Some, None, is_some, eqb-true}
+use Rattle.std.specs.Str.{IsCharBoundary}
+use Rattle.std.proofs.lemmas.Bool.{eq-eqb, false≢true, or_from, or_right, or_cases}
+use Rattle.basic_toml_tokens.specs.Text.{Text, StartsWith, text_at, after_run, is_blank, is_keylike, is_comment}
+use Rattle.basic_toml_tokens.specs.Text.{after_blanks}
+use Rattle.basic_toml_tokens.specs.Strings.{is_quote}
+use Rattle.basic_toml_tokens.specs.Punctuation.{IsPunctuationEnd}
+use Rattle.basic_toml_tokens.specs.Quote.{IsFeed}
+use Rattle.basic_toml_tokens.proofs.SpacesAreRuns.{after_twice, fails_first}
+use Rattle.basic_toml_tokens.proofs.StepIsTheFold.{text_end}
+use Rattle.basic_toml_grammar.specs.Grammar.{is_wordlike, after_comment_by, after_gap_from, after_gap}
+use Rattle.basic_toml_grammar.specs.Reader.{char_at, string_at, word_at, end_of}
+use Rattle.basic_toml_read.specs.AtPlace.{EndsAt, BeginsString, IsJoint}
+
+-- a character at the front, and another one
+pub sign_there : {c p : ℕ} {text rest : Text} → StartsWith c text p rest → char_at c text ≡ Some (p, rest)
+sign_there {c = c} {p = p} {rest = rest} s = ap (char_at c) s ∙ ap (λ b. cond b (Some (p, rest)) None) (eq-eqb c c refl)
+
+pub sign_missing : (c : ℕ) (text : Text) → after_run (λ x. x == c) text ≡ text → char_at c text ≡ None
+sign_missing c [] e = refl
+sign_missing c (x ∷ text) e = ap (λ b. cond b (Some (x.0, text)) None) (fails_first (λ x. x == c) x text e)
+
+pub no_comment : (text : Text) → after_run (λ x. x == 35) text ≡ text → after_comment_by is_comment text ≡ text
+no_comment [] e = refl
+no_comment (x ∷ text) e = ap (λ b. cond b (after_run is_comment text) (x ∷ text)) (fails_first (λ x. x == 35) x text e)
+
+-- the end of a line
+pub line_ends : (bytes : List ℕ) (at : ℕ) → length bytes ≤ at → IsCharBoundary bytes at → EndsAt bytes at (Some at)
+line_ends bytes at h b =
+    (ap end_of (text_end bytes at h) ∙ ap (λ t. Some t) (sym (text_end bytes at h)), b, omega arith, inr h)
+
+no_end : (text : Text) → after_run (λ c. c == 10) text ≡ text → (text ≡ [] → ⊥) → end_of text ≡ None
+no_end [] e some = absurd (some refl)
+no_end (x ∷ text) e some = ap (λ b. cond b (Some text) None) (fails_first (λ c. c == 10) x text e)
+
+pub line_goes_on : (bytes : List ℕ) (at : ℕ) (o : Option ℕ) → (text_at bytes at ≡ [] → ⊥) → IsFeed bytes at o
+    → EndsAt bytes at o
+line_goes_on bytes at (Some next) some f = (ap end_of f.0, f.1, omega (arith, f.2), inl f.2)
+line_goes_on bytes at None some e = no_end (text_at bytes at) e some
+
+-- gaps
+pub gap_past_blanks : (text : Text) → after_gap is_comment (after_blanks text) ≡ after_gap is_comment text
+gap_past_blanks [] = refl
+gap_past_blanks (x ∷ text) = go (is_blank x.1) refl (gap_past_blanks text)
+  where
+    go : (b : Bool) → is_blank x.1 ≡ b → after_gap is_comment (after_blanks text) ≡ after_gap is_comment text
+        → after_gap is_comment (cond b (after_blanks text) (x ∷ text)) ≡ after_gap is_comment (x ∷ text)
+    go true e h = h ∙ sym (ap
+        (λ b. cond (b || x.1 == 10) (after_gap is_comment text)
+        (cond (x.1 == 35) (after_gap_from is_comment true text) (x ∷ text))) e)
+    go false e h = refl
+
+-- what a comment does not hold ends it, and is no gap but for a line feed
+not_comment : (c : ℕ) → is_comment c ≡ false → (c == 10) ≡ false → ((is_blank c || c == 10) ≡ false)
+    × ((c == 35) ≡ false)
+not_comment c e f = (or_from (is_blank c) (c == 10) (no_blank (is_blank c) refl) f, no_hash (c == 35) refl)
+  where
+    no_blank : (b : Bool) → is_blank c ≡ b → b ≡ false
+    no_blank false h = refl
+    no_blank true h = elim (or_cases (c == 32) (c == 9) h) [
+      | inl k ↦ sym (ap is_comment (eqb-true c 32 k)) ∙ e
+      | inr k ↦ sym (ap is_comment (eqb-true c 9 k)) ∙ e
+    ]
+
+    no_hash : (b : Bool) → (c == 35) ≡ b → b ≡ false
+    no_hash false h = refl
+    no_hash true h = sym (ap is_comment (eqb-true c 35 h)) ∙ e
+
+in_comment : (text : Text) → after_gap_from is_comment true text ≡ after_gap is_comment (after_run is_comment text)
+in_comment [] = refl
+in_comment (x ∷ text) = go (x.1 == 10) refl (is_comment x.1) refl (in_comment text)
+  where
+    gap : Text → Text
+    gap t = after_gap is_comment t
+
+    go : (a : Bool) → (x.1 == 10) ≡ a → (b : Bool) → is_comment x.1 ≡ b
+        → after_gap_from is_comment true text ≡ after_gap is_comment (after_run is_comment text)
+        → cond a (after_gap_from is_comment false text) (cond b (after_gap_from is_comment true text) (x ∷ text))
+        ≡ after_gap is_comment (cond b (after_run is_comment text) (x ∷ text))
+    go true e true f h = absurd (false≢true (ap is_comment (sym (eqb-true x.1 10 e)) ∙ f))
+    go true e false f h = sym
+        (ap (λ b. cond b (after_gap is_comment text)
+        (cond (x.1 == 35) (after_gap_from is_comment true text) (x ∷ text))) (or_right (is_blank x.1) (x.1 == 10) e))
+    go false e true f h = h
+    go false e false f h =
+        let no = not_comment x.1 f e in
+        sym (ap (λ b. cond b (after_gap is_comment text)
+        (cond (x.1 == 35) (after_gap_from is_comment true text) (x ∷ text))) no.0
+        ∙ ap (λ b. cond b (after_gap_from is_comment true text) (x ∷ text)) no.1)
+
+pub gap_past_comment : (text : Text)
+    → after_gap is_comment (after_comment_by is_comment text) ≡ after_gap is_comment text
+gap_past_comment [] = refl
+gap_past_comment (x ∷ text) = go (x.1 == 35) refl
+  where
+    go : (b : Bool) → (x.1 == 35) ≡ b
+        → after_gap is_comment (cond b (after_run is_comment text) (x ∷ text)) ≡ after_gap is_comment (x ∷ text)
+    go true e = sym (in_comment text)
+        ∙ sym (ap (λ c. cond (is_blank c || c == 10) (after_gap is_comment text)
+        (cond (c == 35) (after_gap_from is_comment true text) (x ∷ text))) (eqb-true x.1 35 e))
+    go false e = refl
+
+abbrev pub line_of : Text → Text
+line_of text = after_comment_by is_comment (after_blanks text)
+
+pub gap_past_line : (text : Text) → after_gap is_comment (line_of text) ≡ after_gap is_comment text
+gap_past_line text = gap_past_comment (after_blanks text) ∙ gap_past_blanks text
+
+-- a gap ends where no line feed stands after a comment
+stands : (x : ℕ × ℕ) (text : Text) → (x.1 == 10) ≡ false → is_blank x.1 ≡ false → (x.1 == 35) ≡ false
+    → after_gap is_comment (x ∷ text) ≡ x ∷ text
+stands x text a b c =
+    ap (λ d. cond d (after_gap is_comment text) (cond (x.1 == 35) (after_gap_from is_comment true text) (x ∷ text)))
+    (or_from (is_blank x.1) (x.1 == 10) b a)
+    ∙ ap (λ d. cond d (after_gap_from is_comment true text) (x ∷ text)) c
+
+blank_stops : (text : Text) → after_blanks (after_blanks text) ≡ after_blanks text
+blank_stops text = after_twice is_blank text
+
+pub gap_stops : (text : Text) → after_run (λ c. c == 10) (line_of text) ≡ line_of text
+    → after_gap is_comment (line_of text) ≡ line_of text
+gap_stops text e = go (after_blanks text) (blank_stops text) e
+  where
+    after : (t : Text) → after_run is_comment t ≡ t → after_run (λ c. c == 10) t ≡ t → after_gap is_comment t ≡ t
+    after [] h k = refl
+    after (x ∷ t) h k =
+        let f = fails_first is_comment x t h in
+        let g = fails_first (λ c. c == 10) x t k in
+        let no = not_comment x.1 f g in
+        ap (λ d. cond d (after_gap is_comment t) (cond (x.1 == 35) (after_gap_from is_comment true t) (x ∷ t))) no.0
+        ∙ ap (λ d. cond d (after_gap_from is_comment true t) (x ∷ t)) no.1
+
+    go : (t : Text) → after_blanks t ≡ t
+        → after_run (λ c. c == 10) (after_comment_by is_comment t) ≡ after_comment_by is_comment t
+        → after_gap is_comment (after_comment_by is_comment t) ≡ after_comment_by is_comment t
+    go [] h k = refl
+    go (x ∷ t) h k = at (x.1 == 35) refl k
+      where
+        at : (b : Bool) → (x.1 == 35) ≡ b
+            → after_run (λ c. c == 10) (cond b (after_run is_comment t) (x ∷ t))
+            ≡ cond b (after_run is_comment t) (x ∷ t)
+            → after_gap is_comment (cond b (after_run is_comment t) (x ∷ t)) ≡ cond b (after_run is_comment t) (x ∷ t)
+        at true f k = after (after_run is_comment t) (after_twice is_comment t) k
+        at false f k = stands x t (fails_first (λ c. c == 10) x t k) (fails_first is_blank x t h) f
+
+-- over a line feed
+pub gap_past_feed : {p : ℕ} {text next : Text} → StartsWith 10 text p next
+    → after_gap is_comment next ≡ after_gap is_comment text
+gap_past_feed s = sym (ap (after_gap is_comment) s)
+
+-- words
+pub no_joint : (text : Text) → after_run (λ x. x == 46) text ≡ text → after_run (λ x. x == 43) text ≡ text
+    → after_run is_keylike text ≡ text → after_run is_wordlike text ≡ text
+no_joint [] a b k = refl
+no_joint (x ∷ text) a b k =
+    ap (λ d. cond d (after_run is_wordlike text) (x ∷ text))
+    (or_from (is_keylike x.1) (x.1 == 43 || x.1 == 46) (fails_first is_keylike x text k)
+    (or_from (x.1 == 43) (x.1 == 46) (fails_first (λ x. x == 43) x text b) (fails_first (λ x. x == 46) x text a)))
+
+pub joint_there : (bytes : List ℕ) (at : ℕ) (o : Option ℕ)
+    → after_run (λ x. x == 46) (text_at bytes at) ≡ text_at bytes at → IsPunctuationEnd 43 bytes at o → IsJoint bytes at o
+joint_there bytes at None a e = no_joint (text_at bytes at) a e
+joint_there bytes at (Some next) a s = (ap (after_run is_wordlike) s.0, s.1, omega (arith, s.2))
+
+-- strings
+pub no_string : (text : Text) → after_run (λ x. x == 34) text ≡ text → after_run (λ x. x == 39) text ≡ text
+    → string_at text ≡ None
+no_string [] a b = refl
+no_string (x ∷ text) a b =
+    let e : is_quote x.1 ≡ false =
+    or_from (x.1 == 34) (x.1 == 39) (fails_first (λ x. x == 34) x text a) (fails_first (λ x. x == 39) x text b) in
+    rw e refl
+
+pub string_begins : (bytes : List ℕ) (at : ℕ) (o : Option ℕ)
+    → after_run (λ x. x == 34) (text_at bytes at) ≡ text_at bytes at → IsPunctuationEnd 39 bytes at o
+    → BeginsString bytes at (is_some o)
+string_begins bytes at None a e = no_string (text_at bytes at) a e
+string_begins bytes at (Some next) a s = (omega (arith, s.1.0, s.2), ap is_quote s.3, ap word_at s.0)
+
+pub quote_begins : (bytes : List ℕ) (at next : ℕ) → IsPunctuationEnd 34 bytes at (Some next) → BeginsString bytes at true
+quote_begins bytes at next s = (omega (arith, s.1.0, s.2), ap is_quote s.3, ap word_at s.0)

@@ -1,0 +1,348 @@
+-- The sections of a text, one by one.
+use Rattle.std.proofs.Common.{◌≡◌, ℕ, ◌+◌, ◌-◌, ◌<◌, ◌≤◌, max, false, List, [], ◌∷◌, ◌++◌, length, map, refl, ap}
+use Rattle.std.proofs.Common.{sym, ◌∙◌, arith, append_assoc, append-nil, Option, Some, None, Ok, Err, Vec, Global}
+use Rattle.std.proofs.Common.{drop, take, inl, subst}
+use Rattle.std.proofs.lemmas.List.{map-append}
+use Rattle.std.specs.Cow.{cow_str_bytes}
+use Rattle.basic_toml_tokens.specs.Text.{Text, text_at, folded, start_of, after_blanks}
+use Rattle.basic_toml_read.specs.declared.header.Header.{Header}
+use Rattle.basic_toml_read.specs.declared.section.Row as code_rows
+use Rattle.basic_toml_read.specs.declared.section.Section as code
+use Rattle.basic_toml_read.specs.declared.stop.Stop.{Stop}
+use Rattle.basic_toml_read.specs.declared.stop.Why.{Why}
+use Rattle.basic_toml_read.specs.declared.values.Gathered.{Gathered}
+use Rattle.basic_toml_grammar.specs.Sections.{Key, Rows, no_rows, row, Section}
+use Rattle.basic_toml_grammar.specs.Entering.{and_then}
+use Rattle.basic_toml_grammar.specs.Grammar.{with_root}
+use Rattle.basic_toml_grammar.specs.Levels.{rows_level, section_level, highest_level}
+use Rattle.basic_toml_grammar.specs.Reader as reader
+use Rattle.basic_toml_grammar.specs.Reader.{line_end_at, section_list_of}
+use Rattle.basic_toml_read.specs.FrontOf.{rows_of, header_of, sections_of}
+use Rattle.basic_toml_read.specs.SectionView.{rows_view, keys_with, section_of}
+use Rattle.basic_toml_read.specs.StopsAt.{Misses}
+use Rattle.basic_toml_read.specs.Lists.{IsHeaderRead, EndsLineAt, AreRowsRead, NextAt, IsFrom, root_view, TakesRoot}
+use Rattle.basic_toml_read.specs.Lists.{sections_from, IsSectionRead, ReadsList}
+use Rattle.basic_toml_grammar.proofs.StringsAreRead.{then_some}
+use Rattle.basic_toml_grammar.specs.Grammar.{after_comment_by}
+use Rattle.basic_toml_tokens.specs.Text.{is_comment}
+use Rattle.basic_toml_grammar.specs.GrammarFaults.{Reached, at_start}
+use Rattle.basic_toml_read.specs.StopPlaces.{NextStands}
+use Rattle.basic_toml_read.proofs.Carried.{line_at, header_here, line_after}
+use Rattle.basic_toml_read.proofs.EnoughSteps.{list_is, sections_is, sections_is_none}
+use Rattle.basic_toml_read.proofs.HeadersRead.{header_length}
+use Rattle.basic_toml_read.proofs.KeysTold.{misses_then, misses_none}
+
+-- how much is left after the bracket of the next header
+pub left_after : List ℕ → Option ℕ → ℕ
+left_after bytes None = 0
+left_after bytes (Some at) = length bytes - at + 1
+
+-- sections one after another
+pub onto : List Section → Option (List Section) → Option (List Section)
+onto front o = and_then o (λ sections. Some (front ++ sections))
+
+onto_more : (front : List Section) (s : Section) (o : Option (List Section))
+    → onto front (and_then o (λ sections. Some (s ∷ sections))) ≡ onto (front ++ s ∷ []) o
+unfolding onto
+onto_more front s None = refl
+onto_more front s (Some sections) = ap (λ (l : List Section). Some l) (sym (append_assoc front (s ∷ []) sections))
+
+highest_onto : (front sections : List Section)
+    → highest_level (front ++ sections) ≡ max (highest_level front) (highest_level sections)
+highest_onto [] sections = omega arith
+highest_onto (s ∷ front) sections = omega (arith, highest_onto front sections)
+
+root_onto : (rs : Rows) (headed : List Section) → with_root rs headed ≡ with_root rs [] ++ headed
+root_onto no_rows headed = refl
+root_onto (row keys p v rs) headed = refl
+
+root_first : (rs : Rows) (o : Option (List Section))
+    → and_then o (λ headed. Some (with_root rs headed)) ≡ onto (with_root rs []) o
+unfolding onto
+root_first rs None = refl
+root_first rs (Some headed) = ap (λ (l : List Section). Some l) (root_onto rs headed)
+
+root_level : (rs : Rows) → (rows_level 1 rs ≤ highest_level (with_root rs []))
+    × (highest_level (with_root rs []) ≤ max 1 (rows_level 1 rs))
+root_level no_rows = (omega arith, omega arith)
+root_level (row keys p v rs) = (omega arith, omega arith)
+
+-- the sections up to an offset
+pub record ListSoFar (bytes : List ℕ) (next : Option ℕ) (gathered : Gathered) (list : List code.Section) : Type 0 where
+  pub rest : Text
+  pub ends : NextAt bytes rest next
+  pub told : section_list_of (folded bytes) ≡ onto (map section_of list) (sections_of rest)
+  pub none : gathered.rows.items ≡ []
+  pub limit : highest_level (map section_of list) ≤ 128
+  pub reached : NextStands (folded bytes) bytes next
+
+-- the rows before the first header
+module _ (bytes : List ℕ) (start : ℕ) (start_is : start ≡ start_of bytes) where
+  list_by : section_list_of (folded bytes)
+      ≡ and_then (rows_of (text_at bytes start))
+      (λ rows. and_then (sections_of rows.1) (λ headed. Some (with_root rows.0 headed)))
+  list_by = list_is (folded bytes) ∙
+      ap (λ n. and_then (rows_of (text_at bytes n))
+      (λ rows. and_then (sections_of rows.1) (λ headed. Some (with_root rows.0 headed)))) (sym start_is)
+
+  pub root_missing : (w : Why) → Misses w (rows_of (text_at bytes start)) (λ r. 128 < rows_level 1 r.0)
+      → Misses w (section_list_of (folded bytes)) (λ sections. 128 < highest_level sections)
+  root_missing w m =
+      misses_then w (rows_of (text_at bytes start)) (section_list_of (folded bytes)) (λ r. 128 < rows_level 1 r.0)
+      (λ sections. 128 < highest_level sections)
+      (λ e. list_by ∙ ap (λ o. and_then o
+      (λ rows. and_then (sections_of rows.1) (λ headed. Some (with_root rows.0 headed)))) e)
+      (λ y e. let (rows, rows_is, f) =
+      then_some (rows_of (text_at bytes start))
+      (λ rows. and_then (sections_of rows.1) (λ headed. Some (with_root rows.0 headed))) y (sym list_by ∙ e) in
+      let (headed, headed_is, same) = then_some (sections_of rows.1) (λ headed. Some (with_root rows.0 headed)) y f in
+      let there : with_root rows.0 headed ≡ y = cc in (
+        rows,
+        rows_is,
+        λ h. omega (
+          arith,
+          h,
+          ap highest_level (sym (root_onto rows.0 headed) ∙ there),
+          highest_onto (with_root rows.0 []) headed,
+          (root_level rows.0).0,
+        ),
+      ))
+      m
+
+  pub root_there : (old mid new : Gathered) (next : Option ℕ) (before after : Vec code.Section Global)
+      → old.rows.items ≡ [] → AreRowsRead bytes start 1 old mid next → before.items ≡ []
+      → TakesRoot mid new before after (Ok tt) → ListSoFar bytes next new after.items
+  root_there old mid new next before after empty r none taken = record {
+    rest = r.rest;
+    ends = r.ends;
+    told = told ∙ ap (λ (l : List Section). onto l (sections_of r.rest)) same;
+    none = taken.0;
+    limit = omega (arith, ap highest_level same, (root_level (rows_view r.added)).1, r.limit);
+    reached = r.reached (folded bytes)
+        (inl (record {
+          before = None;
+          feed = false;
+          reached =
+              subst (λ (n : ℕ). Reached (folded bytes) None false (text_at bytes n)) (sym start_is) at_start;
+          fit = refl;
+        }));
+  }
+    where
+      items : mid.rows.items ≡ r.added
+      items = r.pushed ∙ ap (λ (l : List code_rows.Row). l ++ r.added) empty
+
+      view : (rs : List code_rows.Row) → (rows_view rs ≡ no_rows → rs ≡ []) → with_root (rows_view rs) [] ≡ root_view rs
+      view [] some = refl
+      view (x ∷ rs) some = by (rows_view (x ∷ rs)) (λ e. let z : x ∷ rs ≡ [] = some e in cc)
+        where
+          by : (t : Rows) → (t ≡ no_rows → ⊥)
+              → with_root t [] ≡ record { at = 0; header = []; is_array = false; rows = t } ∷ []
+          by no_rows h = absurd (h refl)
+          by (row keys p v t) h = refl
+
+      same : with_root (rows_view r.added) [] ≡ map section_of after.items
+      same = view r.added r.some ∙
+          sym (taken.1 ∙ ap (λ (l : List code.Section). map section_of l ++ root_view mid.rows.items) none ∙
+          ap root_view items)
+
+      told : section_list_of (folded bytes) ≡ onto (with_root (rows_view r.added) []) (sections_of r.rest)
+      told = list_by ∙ ap (λ o. and_then o
+          (λ rows. and_then (sections_of rows.1) (λ headed. Some (with_root rows.0 headed)))) r.is ∙
+          root_first (rows_view r.added) (sections_of r.rest)
+
+-- from a header on
+list_from : (bytes : List ℕ) (at : ℕ) (gathered : Gathered) (list : List code.Section)
+    → ListSoFar bytes (Some at) gathered list
+    → section_list_of (folded bytes)
+    ≡ onto (map section_of list) (and_then (header_of (text_at bytes at)) sections_from)
+list_from bytes at gathered list s =
+    let (x, line, rest_is, here, b) = s.ends in
+    s.told ∙ ap (onto (map section_of list)) (ap sections_of rest_is ∙ sections_is x line ∙
+    ap (λ t. and_then (header_of t) sections_from) (ap after_blanks (sym rest_is) ∙ sym here))
+
+-- a section, by its header
+sections_on : (h : reader.Headed) (sections : List Section) → sections_from h ≡ Some sections
+    → length h.keys + 1 ≤ highest_level sections
+sections_on h sections e =
+    let (next, next_is, f) =
+    then_some (line_end_at h.rest)
+    (λ next. and_then (rows_of next) (λ rows. and_then (sections_of rows.1) (λ sections.
+    Some (record { at = h.offset; header = h.keys; is_array = h.is_array; rows = rows.0 } ∷ sections)))) sections e in
+    let (rows, rows_is, g) = then_some (rows_of next) (λ rows. and_then (sections_of rows.1) (λ sections.
+    Some (record { at = h.offset; header = h.keys; is_array = h.is_array; rows = rows.0 } ∷ sections))) sections f in
+    let (rest, rest_is, same) = then_some (sections_of rows.1) (λ sections.
+    Some (record { at = h.offset; header = h.keys; is_array = h.is_array; rows = rows.0 } ∷ sections)) sections g in
+    let there : record { at = h.offset; header = h.keys; is_array = h.is_array; rows = rows.0 } ∷ rest ≡ sections =
+    cc in
+    omega (arith, ap highest_level there)
+
+module _ (bytes : List ℕ) (at : ℕ) where
+  pub header_missing : (w : Why) → Misses w (header_of (text_at bytes at)) (λ h. 128 < length h.keys + 1)
+      → Misses w (and_then (header_of (text_at bytes at)) sections_from) (λ sections. 128 < highest_level sections)
+  header_missing w m =
+      misses_then w (header_of (text_at bytes at)) (and_then (header_of (text_at bytes at)) sections_from)
+      (λ h. 128 < length h.keys + 1) (λ sections. 128 < highest_level sections)
+      (λ e. ap (λ o. and_then o sections_from) e)
+      (λ y e. let (h, h_is, f) = then_some (header_of (text_at bytes at)) sections_from y e in
+      (h, h_is, λ high. omega (arith, high, sections_on h y f)))
+      m
+
+  module _ (h : Header) (read : IsHeaderRead bytes at h) where
+    keys_here : List Key
+    keys_here = keys_with h.offsets.items (map cow_str_bytes h.keys.items)
+
+    made : Rows → Section
+    made rs = record { at = h.at; header = keys_here; is_array = h.is_array; rows = rs }
+
+    by_line : and_then (header_of (text_at bytes at)) sections_from
+        ≡ and_then (line_end_at (text_at bytes h.end))
+        (λ next. and_then (rows_of next)
+        (λ rows. and_then (sections_of rows.1) (λ sections. Some (made rows.0 ∷ sections))))
+    unfolding made keys_here
+    by_line = ap (λ o. and_then o sections_from) read.is
+
+    pub line_missing : (stop : Stop) → EndsLineAt bytes h.end (Err stop)
+        → Misses stop.why (and_then (header_of (text_at bytes at)) sections_from)
+        (λ sections. 128 < highest_level sections)
+    line_missing stop e =
+        misses_none stop.why (and_then (header_of (text_at bytes at)) sections_from)
+        (λ sections. 128 < highest_level sections)
+        (by_line ∙ ap (λ o. and_then o
+        (λ next. and_then (rows_of next)
+        (λ rows. and_then (sections_of rows.1) (λ sections. Some (made rows.0 ∷ sections))))) e.0)
+
+    module _ (line : ℕ) (ended : EndsLineAt bytes h.end (Ok line)) where
+      by_rows : and_then (header_of (text_at bytes at)) sections_from
+          ≡ and_then (rows_of (text_at bytes line))
+          (λ rows. and_then (sections_of rows.1) (λ sections. Some (made rows.0 ∷ sections)))
+      by_rows = by_line ∙ ap (λ o. and_then o
+          (λ next. and_then (rows_of next)
+          (λ rows. and_then (sections_of rows.1) (λ sections. Some (made rows.0 ∷ sections))))) ended.0
+
+      level_here : length keys_here ≡ length h.keys.items
+      unfolding keys_here
+      level_here = header_length h.offsets.items h.keys.items read.same
+
+      pub rows_missing : (w : Why)
+          → Misses w (rows_of (text_at bytes line)) (λ r. 128 < rows_level (length h.keys.items + 1) r.0)
+          → Misses w (and_then (header_of (text_at bytes at)) sections_from) (λ sections. 128 < highest_level sections)
+      unfolding made
+      rows_missing w m =
+          misses_then w (rows_of (text_at bytes line)) (and_then (header_of (text_at bytes at)) sections_from)
+          (λ r. 128 < rows_level (length h.keys.items + 1) r.0) (λ sections. 128 < highest_level sections)
+          (λ e. by_rows ∙ ap (λ o. and_then o
+          (λ rows. and_then (sections_of rows.1) (λ sections. Some (made rows.0 ∷ sections)))) e)
+          (λ y e. let (rows, rows_is, g) =
+          then_some (rows_of (text_at bytes line))
+          (λ rows. and_then (sections_of rows.1) (λ sections. Some (made rows.0 ∷ sections))) y (sym by_rows ∙ e) in
+          let (more, more_is, same) = then_some (sections_of rows.1) (λ sections. Some (made rows.0 ∷ sections)) y g in
+          let first : made rows.0 ∷ more ≡ y = cc in (
+            rows,
+            rows_is,
+            λ high. omega
+                (arith, high, ap highest_level first, ap (λ n. rows_level (n + 1) rows.0) level_here),
+          ))
+          m
+
+      pub section_there : (old mid new : Gathered) (next : Option ℕ) (before after : Vec code.Section Global)
+          (kept : Vec code_rows.Row Global) → old.rows.items ≡ []
+          → AreRowsRead bytes line (length h.keys.items + 1) old mid next → kept.items ≡ drop 0 mid.rows.items
+          → new.rows.items ≡ take 0 mid.rows.items
+          → after.items ≡ before.items
+          ++ (record { at = h.at; is_array = h.is_array; header = h.keys; offsets = h.offsets; rows = kept } ∷ [])
+          → IsSectionRead bytes at new before after next
+      unfolding made keys_here
+      section_there old mid new next before after kept empty r kept_is rest_is pushed =
+          let items : r.added ≡ kept.items =
+          sym (kept_is ∙ r.pushed ∙ ap (λ (l : List code_rows.Row). l ++ r.added) empty) in
+          let view : made (rows_view r.added) ≡ made (rows_view kept.items) =
+          ap (λ (l : List code_rows.Row). made (rows_view l)) items in
+          record {
+            made = record { at = h.at; is_array = h.is_array; header = h.keys; offsets = h.offsets; rows = kept };
+            pushed = pushed;
+            rest = r.rest;
+            is = by_rows ∙ ap (λ o. and_then o
+                (λ rows. and_then (sections_of rows.1) (λ sections. Some (made rows.0 ∷ sections)))) r.is
+                ∙ ap (λ (t : Section). and_then (sections_of r.rest) (λ sections. Some (t ∷ sections))) view;
+            ends = r.ends;
+            from = further next r.from;
+            reached = λ whole a. r.reached whole
+                (line_after (after_comment_by is_comment (after_blanks (text_at bytes h.end))) (text_at bytes line)
+                (line_at (text_at bytes h.end) (header_here (text_at bytes at) _ a read.is)) ended.0);
+            none = rest_is;
+            limit = omega (
+              arith,
+              ap section_level view,
+              r.limit,
+              read.limit,
+              level_here,
+              ap (λ n. rows_level (n + 1) (rows_view r.added)) level_here,
+            );
+          }
+        where
+          further : (next : Option ℕ) → IsFrom line next → IsFrom (at + 1) next
+          further None h' = tt
+          further (Some p) h' = omega (arith, read.later, ended.2)
+
+-- a section more
+pub list_more : (bytes : List ℕ) (at : ℕ) (next : Option ℕ) (old new : Gathered)
+    (before after : Vec code.Section Global) → ListSoFar bytes (Some at) old before.items
+    → IsSectionRead bytes at new before after next
+    → ListSoFar bytes next new after.items
+list_more bytes at next old new before after s r = record {
+  rest = r.rest;
+  ends = r.ends;
+  told = list_from bytes at old before.items s ∙ ap (onto (map section_of before.items)) r.is ∙
+      onto_more (map section_of before.items) (section_of r.made) (sections_of r.rest)
+      ∙ ap (λ (l : List Section). onto l (sections_of r.rest)) same;
+  none = r.none;
+  limit = omega (
+    arith,
+    s.limit,
+    r.limit,
+    ap highest_level same,
+    highest_onto (map section_of before.items) (section_of r.made ∷ []),
+  );
+  reached = r.reached (folded bytes) s.reached.0;
+}
+  where
+    same : map section_of before.items ++ section_of r.made ∷ [] ≡ map section_of after.items
+    same = sym (ap (map section_of) r.pushed ∙ map-append section_of before.items (r.made ∷ []))
+
+pub list_missing : (bytes : List ℕ) (at : ℕ) (gathered : Gathered) (list : List code.Section)
+    → ListSoFar bytes (Some at) gathered list → (w : Why)
+    → Misses w (and_then (header_of (text_at bytes at)) sections_from) (λ sections. 128 < highest_level sections)
+    → Misses w (section_list_of (folded bytes)) (λ sections. 128 < highest_level sections)
+unfolding onto
+list_missing bytes at gathered list s w m =
+    let there = list_from bytes at gathered list s in
+    misses_then w (and_then (header_of (text_at bytes at)) sections_from) (section_list_of (folded bytes))
+    (λ sections. 128 < highest_level sections) (λ sections. 128 < highest_level sections)
+    (λ e. there ∙ ap (onto (map section_of list)) e)
+    (λ y e. let (headed, headed_is, f) =
+    then_some (and_then (header_of (text_at bytes at)) sections_from)
+    (λ sections. Some (map section_of list ++ sections)) y (sym there ∙ e) in
+    let joined : map section_of list ++ headed ≡ y = cc in (
+      headed,
+      headed_is,
+      λ high. omega
+          (arith, high, ap highest_level joined, highest_onto (map section_of list) headed),
+    ))
+    m
+
+pub falls : (bytes : List ℕ) (at : ℕ) (now next : Option ℕ) (rest : Text) → now ≡ Some at → at ≤ length bytes
+    → IsFrom (at + 1) next → NextAt bytes rest next → left_after bytes next < left_after bytes now
+unfolding left_after
+falls bytes at now None rest e h f n = omega (arith, ap (left_after bytes) e)
+falls bytes at now (Some p) rest e h f n = let (x, line, is, here, b) = n in omega (arith, ap (left_after bytes) e, b.0)
+
+-- the end of the text
+pub list_over : (bytes : List ℕ) (gathered : Gathered) (list : Vec code.Section Global)
+    → ListSoFar bytes None gathered list.items → ReadsList bytes (Ok list)
+unfolding onto
+list_over bytes gathered list s = (
+  s.told ∙ ap (λ t. onto (map section_of list.items) (sections_of t)) s.ends ∙
+      ap (onto (map section_of list.items)) sections_is_none ∙
+      ap (λ (l : List Section). Some l) (append-nil (map section_of list.items)),
+  s.limit,
+)

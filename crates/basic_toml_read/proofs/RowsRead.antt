@@ -1,0 +1,301 @@
+-- The rows of a section, line by line.
+use Rattle.std.proofs.Common.{◌⊎◌, inl, inr, ◌≡◌, ℕ, ◌<◌, ◌≤◌, List, [], ◌∷◌, ◌++◌, length, refl, ap, sym, ◌∙◌}
+use Rattle.std.proofs.Common.{arith, append_assoc, append-nil, true, false, Option, Some, None, is_some, Ok, Err}
+use Rattle.std.proofs.Common.{subst}
+use Rattle.std.specs.Str.{IsUtf8, IsCharBoundary}
+use Rattle.basic_toml_tokens.specs.Text.{Text, text_at, is_comment, after_blanks}
+use Rattle.basic_toml_tokens.specs.Punctuation.{IsPunctuationEnd}
+use Rattle.basic_toml_tokens.proofs.RestsArePartsOfText.{over_at_end}
+use Rattle.basic_toml_tokens.proofs.StepIsTheFold.{text_end}
+use Rattle.basic_toml_read.specs.declared.section.Row.{Row}
+use Rattle.basic_toml_read.specs.declared.stop.Stop.{Stop}
+use Rattle.basic_toml_read.specs.declared.stop.Why.{Why}
+use Rattle.basic_toml_read.specs.declared.stop.Why.TheVariants as why
+use Rattle.basic_toml_read.specs.declared.values.Gathered.{Gathered}
+use Rattle.basic_toml_grammar.specs.Sections.{Key, Raw, Rows, no_rows, row}
+use Rattle.basic_toml_grammar.specs.Entering.{and_then}
+use Rattle.basic_toml_grammar.specs.Grammar.{after_comment_by}
+use Rattle.basic_toml_grammar.specs.Levels.{rows_level}
+use Rattle.basic_toml_grammar.specs.Reader as reader
+use Rattle.basic_toml_grammar.specs.Reader.{char_at, if_found, end_of, line_end_at}
+use Rattle.basic_toml_read.specs.FrontOf.{rows_of, row_of}
+use Rattle.basic_toml_read.specs.AtPlace.{Leaves, EndsAt}
+use Rattle.basic_toml_read.specs.SectionView.{rows_view}
+use Rattle.basic_toml_read.specs.StopsAt.{Misses}
+use Rattle.basic_toml_read.specs.Gathers.{row_level, IsRowRead}
+use Rattle.basic_toml_read.specs.Lists.{EndsLineAt, AreRowsRead}
+use Rattle.basic_toml_grammar.proofs.StringsAreRead.{then_some}
+use Rattle.basic_toml_grammar.specs.GrammarFaults.{precedes_key}
+use Rattle.basic_toml_read.specs.StopPlaces.{anywhere, IsAt, LineAt}
+use Rattle.basic_toml_read.proofs.Carried.{moved, blanks_at, line_at, row_here, any_at, line_after}
+use Rattle.basic_toml_read.proofs.EnoughSteps.{rows_is, rows_is_none}
+use Rattle.basic_toml_read.proofs.LeftAfter.{sign_there, sign_missing}
+use Rattle.basic_toml_read.proofs.KeysTold.{misses_then, misses_none}
+use Rattle.basic_toml_read.proofs.FieldsGathered.{joined_rows, joined_rows_none, after_rows, after_rows_more}
+use Rattle.basic_toml_read.proofs.FieldsGathered.{after_no_rows, level_joined_rows, Whole, whole_none, whole_more}
+
+line_any : {whole text : Text} → LineAt whole text → IsAt whole anywhere text
+line_any (inl a) = any_at a
+line_any (inr e) = e.0
+
+pub record RowsSoFar (bytes : List ℕ) (start level at : ℕ) (old new : Gathered) : Type 0 where
+  pub got : List Row
+  pub whole : Whole got
+  pub told : rows_of (text_at bytes start) ≡ after_rows (rows_view got) (rows_of (text_at bytes at))
+  pub pushed : new.rows.items ≡ old.rows.items ++ got
+  pub some : rows_view got ≡ no_rows → got ≡ []
+  pub elements : new.elements.items ≡ old.elements.items
+  pub limit : rows_level level (rows_view got) ≤ 128
+  pub boundary : IsCharBoundary bytes at
+  pub forward : start ≤ at
+  pub lines : (whole : Text) → LineAt whole (text_at bytes start) → LineAt whole (text_at bytes at)
+
+pub rows_start : (bytes : List ℕ) (start level : ℕ) (old : Gathered) → IsCharBoundary bytes start
+    → RowsSoFar bytes start level start old old
+rows_start bytes start level old b = record {
+  got = [];
+  whole = whole_none;
+  told = after_no_rows (rows_of (text_at bytes start));
+  pushed = sym (append-nil old.rows.items);
+  some = λ _. refl;
+  elements = refl;
+  limit = omega arith;
+  boundary = b;
+  forward = omega arith;
+  lines = λ whole a. a;
+}
+
+some_first : (a b : Rows × Text) → Some a ≡ Some b → a.0 ≡ b.0
+some_first a b e = let same : a ≡ b = cc in ap (λ (p : Rows × Text). p.0) same
+
+joined_some : (front : Rows) (keys : List Key) (p : ℕ) (v : Raw) → joined_rows front (row keys p v no_rows) ≡ no_rows
+    → ⊥
+unfolding joined_rows
+joined_some no_rows keys p v e = cc
+joined_some (row ks q w front) keys p v e = cc
+
+module _ (bytes : List ℕ) (start level at : ℕ) (old new : Gathered) (s : RowsSoFar bytes start level at old new) where
+  -- the end of the text
+  pub rows_over : length bytes ≤ at → AreRowsRead bytes start level old new None
+  unfolding after_rows
+  rows_over h = record {
+    added = s.got;
+    rest = [];
+    is = s.told ∙ ap (λ t. after_rows (rows_view s.got) (rows_of t)) (text_end bytes at h) ∙
+        ap (after_rows (rows_view s.got)) rows_is_none
+        ∙ ap (λ (rs : Rows). Some (rs, [])) (joined_rows_none (rows_view s.got));
+    pushed = s.pushed;
+    some = s.some;
+    elements = s.elements;
+    limit = s.limit;
+    ends = refl;
+    from = tt;
+    reached = λ whole a. tt;
+  }
+
+  -- a line
+  module _ (x : ℕ × ℕ) (line : Text) (line_is : text_at bytes at ≡ x ∷ line) (front : ℕ)
+      (blanks : Leaves bytes at front (after_blanks (text_at bytes at))) where
+    -- a line that is not empty begins where a key may
+    pub line_some : {whole : Text} → LineAt whole (text_at bytes at) → IsAt whole precedes_key (text_at bytes at)
+    line_some (inl a) = a
+    line_some (inr e) = let z : x ∷ line ≡ [] = sym line_is ∙ e.1 in cc
+
+    row_on : reader.Assigned → Option (Rows × Text)
+    row_on r = and_then (line_end_at r.rest)
+        (λ next. and_then (rows_of next) (λ rows. Some (row r.keys r.offset r.value rows.0, rows.1)))
+
+    here : after_blanks (x ∷ line) ≡ text_at bytes front
+    here = sym (blanks.left ∙ ap after_blanks line_is)
+
+    by_line : (o : Option (ℕ × Text)) → char_at 91 (text_at bytes front) ≡ o → rows_of (text_at bytes at)
+        ≡ if_found o (λ s. Some (no_rows, x ∷ line))
+        (if_found (line_end_at (x ∷ line)) (λ next. rows_of next) (and_then (row_of (text_at bytes front)) row_on))
+    unfolding row_on
+    by_line o e =
+        ap rows_of line_is ∙ rows_is x line
+        ∙ ap (λ t. if_found (char_at 91 t) (λ s. Some (no_rows, x ∷ line))
+        (if_found (line_end_at (x ∷ line)) (λ next. rows_of next) (and_then (row_of t) row_on))) here
+        ∙ ap (λ o. if_found o (λ s. Some (no_rows, x ∷ line))
+        (if_found (line_end_at (x ∷ line)) (λ next. rows_of next)
+        (and_then (row_of (text_at bytes front)) row_on))) e
+
+    -- a header
+    pub rows_bracket : (next : ℕ) → IsPunctuationEnd 91 bytes front (Some next)
+        → AreRowsRead bytes start level old new (Some front)
+    unfolding after_rows
+    rows_bracket next sign = record {
+      added = s.got;
+      rest = x ∷ line;
+      is = s.told ∙ ap (after_rows (rows_view s.got)) (by_line (Some (front, text_at bytes next)) (sign_there sign.0))
+          ∙ ap (λ (rs : Rows). Some (rs, x ∷ line)) (joined_rows_none (rows_view s.got));
+      pushed = s.pushed;
+      some = s.some;
+      elements = s.elements;
+      limit = s.limit;
+      ends = (x, line, refl, sym here, blanks.boundary);
+      from = omega (arith, s.forward, blanks.forward);
+      reached = λ whole a. (
+        moved (sym blanks.left) (blanks_at (text_at bytes at) (line_any (s.lines whole a))),
+        λ none. let z : None ≡ Some (front, text_at bytes next) = sym none ∙ sign_there sign.0 in cc,
+      );
+    }
+
+    module _ (none : IsPunctuationEnd 91 bytes front None) (end : ℕ)
+        (comment : Leaves bytes front end (after_comment_by is_comment (text_at bytes front))) where
+      ends_by : line_end_at (x ∷ line) ≡ end_of (text_at bytes end)
+      ends_by = ap (λ t. end_of (after_comment_by is_comment t)) here ∙ ap end_of (sym comment.left)
+
+      by_row : end_of (text_at bytes end) ≡ None
+          → rows_of (text_at bytes at) ≡ and_then (row_of (text_at bytes front)) row_on
+      by_row e =
+          by_line None (sign_missing 91 (text_at bytes front) none)
+          ∙ ap (λ o. if_found o (λ next. rows_of next) (and_then (row_of (text_at bytes front)) row_on)) (ends_by ∙ e)
+
+      -- an empty line
+      pub rows_empty : (next : ℕ) → EndsAt bytes end (Some next) → at < next → RowsSoFar bytes start level next old new
+      rows_empty next e less = record {
+        got = s.got;
+        whole = s.whole;
+        told = s.told ∙ ap (after_rows (rows_view s.got)) (by_line None (sign_missing 91 (text_at bytes front) none)
+            ∙ ap (λ o. if_found o (λ next. rows_of next) (and_then (row_of (text_at bytes front)) row_on)) (ends_by ∙
+            e.0));
+        pushed = s.pushed;
+        some = s.some;
+        elements = s.elements;
+        limit = s.limit;
+        boundary = e.1;
+        forward = omega (arith, s.forward);
+        lines = λ whole a. line_after (text_at bytes end) (text_at bytes next)
+            (moved (sym (comment.left ∙ ap (after_comment_by is_comment) blanks.left))
+            (line_at (text_at bytes at) (line_any (s.lines whole a)))) e.0;
+      }
+
+      module _ (goes_on : EndsAt bytes end None) where
+        told' : rows_of (text_at bytes start)
+            ≡ after_rows (rows_view s.got) (and_then (row_of (text_at bytes front)) row_on)
+        told' = s.told ∙ ap (after_rows (rows_view s.got)) (by_row goes_on)
+
+        -- no row
+        pub rows_missing : (w : Why) → Misses w (row_of (text_at bytes front)) (λ r. 128 < row_level level r)
+            → Misses w (rows_of (text_at bytes start)) (λ r. 128 < rows_level level r.0)
+        unfolding after_rows row_on
+        rows_missing w m =
+            misses_then w (row_of (text_at bytes front)) (rows_of (text_at bytes start))
+            (λ r. 128 < row_level level r) (λ r. 128 < rows_level level r.0)
+            (λ e. told' ∙ ap (λ o. after_rows (rows_view s.got) (and_then o row_on)) e)
+            (λ y e. let (q, q_is, f) =
+            then_some (and_then (row_of (text_at bytes front)) row_on)
+            (λ r. Some (joined_rows (rows_view s.got) r.0, r.1)) y (sym told' ∙ e) in
+            let (r, r_is, g) = then_some (row_of (text_at bytes front)) row_on q q_is in
+            let (next, next_is, i) =
+            then_some (line_end_at r.rest)
+            (λ next. and_then (rows_of next) (λ rows. Some (row r.keys r.offset r.value rows.0, rows.1))) q g in
+            let (rows, rows_is, same) =
+            then_some (rows_of next) (λ rows. Some (row r.keys r.offset r.value rows.0, rows.1)) q i in
+            let there : row r.keys r.offset r.value rows.0 ≡ q.0 =
+            some_first (row r.keys r.offset r.value rows.0, rows.1) q same in
+            let joined : joined_rows (rows_view s.got) q.0 ≡ y.0 =
+            some_first (joined_rows (rows_view s.got) q.0, q.1) y f in (
+              r,
+              r_is,
+              λ h. omega (
+                arith,
+                h,
+                ap (rows_level level) there,
+                ap (rows_level level) joined,
+                level_joined_rows level (rows_view s.got) q.0,
+              ),
+            ))
+            m
+
+        -- a row
+        module _ (new' : Gathered) (after : ℕ) (r : IsRowRead bytes front level new new' after) where
+          by_end : rows_of (text_at bytes start)
+              ≡ after_rows (rows_view s.got) (and_then (line_end_at (text_at bytes after)) (λ next.
+              and_then (rows_of next) (λ rows. Some (row r.found.keys r.found.offset r.found.value rows.0, rows.1))))
+          unfolding row_on
+          by_end = told' ∙ ap (λ o. after_rows (rows_view s.got) (and_then o row_on)) r.is
+              ∙ ap (λ t. after_rows (rows_view s.got) (and_then (line_end_at t) (λ next.
+              and_then (rows_of next) (λ rows. Some (row r.found.keys r.found.offset r.found.value rows.0, rows.1)))))
+              r.rest
+
+          pub rows_unended : (stop : Stop) → EndsLineAt bytes after (Err stop)
+              → Misses stop.why (rows_of (text_at bytes start)) (λ r. 128 < rows_level level r.0)
+          unfolding after_rows
+          rows_unended stop e =
+              misses_none stop.why (rows_of (text_at bytes start)) (λ r. 128 < rows_level level r.0)
+              (by_end ∙ ap (λ o. after_rows (rows_view s.got)
+              (and_then o (λ next. and_then (rows_of next)
+              (λ rows. Some (row r.found.keys r.found.offset r.found.value rows.0, rows.1))))) e.0)
+
+          pub rows_more : (next : ℕ) → EndsLineAt bytes after (Ok next) → RowsSoFar bytes start level next old new'
+          rows_more next e =
+              let w = whole_more s.got r.added r.found.keys r.found.offset r.found.value s.whole r.seen in
+              record {
+                got = s.got ++ r.added;
+                whole = w.0;
+                told = by_end ∙ ap (λ o. after_rows (rows_view s.got)
+                    (and_then o (λ next. and_then (rows_of next)
+                    (λ rows. Some (row r.found.keys r.found.offset r.found.value rows.0, rows.1))))) e.0
+                    ∙ after_rows_more (rows_view s.got) r.found.keys r.found.offset r.found.value
+                    (rows_of (text_at bytes next))
+                    ∙ ap (λ (rs : Rows). after_rows rs (rows_of (text_at bytes next))) (sym w.1);
+                pushed = r.pushed ∙ ap (λ (l : List Row). l ++ r.added) s.pushed ∙
+                    append_assoc old.rows.items s.got r.added;
+                some = λ none. absurd (joined_some (rows_view s.got) r.found.keys r.found.offset r.found.value
+                    (sym w.1 ∙ none));
+                elements = r.elements ∙ s.elements;
+                limit = omega (
+                  arith,
+                  ap (rows_level level) w.1,
+                  level_joined_rows level (rows_view s.got) (row r.found.keys r.found.offset r.found.value no_rows),
+                  s.limit,
+                  r.limit,
+                );
+                boundary = e.1;
+                forward = omega (arith, s.forward, blanks.forward, r.later, e.2);
+                lines = λ whole a. line_after (after_comment_by is_comment (after_blanks (text_at bytes after)))
+                    (text_at bytes next) (line_at (text_at bytes after)
+                    (moved r.rest (row_here (text_at bytes front) r.found
+                    (moved (sym blanks.left) (blanks_at (text_at bytes at) (line_some (s.lines whole a)))) r.is)))
+                    e.0;
+              }
+
+-- a line takes at least one character
+pub line_later : (bytes : List ℕ) (at front end next : ℕ) → at < length bytes → at ≤ front → front ≤ end
+    → EndsAt bytes end (Some next) → at < next
+line_later bytes at front end next h k l e = go e.3
+  where
+    go : (end < next) ⊎ (length bytes ≤ next) → at < next
+    go (inl m) = omega arith
+    go (inr m) = omega arith
+
+pub some_line : (bytes : List ℕ) (at : ℕ) → IsUtf8 bytes → IsCharBoundary bytes at → at < length bytes → (x : ℕ × ℕ)
+    × (line : Text) × (text_at bytes at ≡ x ∷ line)
+some_line bytes at whole here h = go (text_at bytes at) refl
+  where
+    go : (t : Text) → text_at bytes at ≡ t → (x : ℕ × ℕ) × (line : Text) × (text_at bytes at ≡ x ∷ line)
+    go [] e = absurd (omega (arith, over_at_end bytes at whole here e))
+    go (x ∷ line) e = (x, line, e)
+
+pub line_ended : (bytes : List ℕ) (at end : ℕ) (next : ℕ)
+    → Leaves bytes at end (after_comment_by is_comment (after_blanks (text_at bytes at)))
+    → EndsAt bytes end (Some next) → EndsLineAt bytes at (Ok next)
+line_ended bytes at end next l e = (ap end_of (sym l.left) ∙ e.0, e.1, omega (arith, l.forward, e.2))
+
+pub line_unended : (bytes : List ℕ) (at end : ℕ) (stop : Stop)
+    → Leaves bytes at end (after_comment_by is_comment (after_blanks (text_at bytes at))) → EndsAt bytes end None
+    → stop.why ≡ why.Newline
+    → EndsLineAt bytes at (Err stop)
+line_unended bytes at end stop l e w = (ap end_of (sym l.left) ∙ e, w)
+
+pub sign_stands : (c : ℕ) (bytes : List ℕ) (at : ℕ) (o : Option ℕ) → IsPunctuationEnd c bytes at o → true ≡ is_some o
+    → (next : ℕ) × IsPunctuationEnd c bytes at (Some next)
+sign_stands c bytes at None s e = cc
+sign_stands c bytes at (Some next) s e = (next, s)
+
+pub sign_lacks : (c : ℕ) (bytes : List ℕ) (at : ℕ) (o : Option ℕ) → IsPunctuationEnd c bytes at o → false ≡ is_some o
+    → IsPunctuationEnd c bytes at None
+sign_lacks c bytes at None s e = s
+sign_lacks c bytes at (Some next) s e = cc

@@ -1,0 +1,211 @@
+-- Keys, strings and words at an offset, against the grammar.
+use Rattle.std.proofs.Common.{inl, inr, ◌≡◌, ℕ, zero, suc, ◌<◌, Bool, true, false, cond, List, [], ◌∷◌, length}
+use Rattle.std.proofs.Common.{get_or, refl, ap, sym, ◌∙◌, subst, arith, encode_utf8_all, Option, Some, None, Result}
+use Rattle.std.proofs.Common.{Ok, Err}
+use Rattle.std.specs.Str.{IsUtf8, IsCharBoundary}
+use Rattle.std.specs.Cow.{cow_str_bytes}
+use Rattle.std.specs.Option.{option_or}
+use Rattle.std.specs.declared.borrow.CowStr.{CowStr}
+use Rattle.std.specs.declared.alloc.Global.{Global}
+use Rattle.std.proofs.lemmas.Str.{encodes-IsAscii}
+use Rattle.basic_toml_tokens.specs.declared.error.Error.{Error}
+use Rattle.basic_toml_tokens.specs.declared.error.Error.TheVariants.{OutOfMemory}
+use Rattle.basic_toml_tokens.specs.declared.string.Quoted.{Quoted}
+use Rattle.basic_toml_tokens.specs.declared.string.TokenStop.{TokenStop}
+use Rattle.basic_toml_tokens.specs.Text.{Text, text_at, run, after_run, is_keylike}
+use Rattle.basic_toml_tokens.specs.Reading.{between, IsRun}
+use Rattle.basic_toml_tokens.specs.String.{IsQuoted, IsRefused}
+use Rattle.basic_toml_tokens.proofs.TextBetweenOffsets.{length-between}
+use Rattle.basic_toml_tokens.proofs.StepIsTheFold.{offset_is}
+use Rattle.basic_toml_tokens.proofs.TokenIsUnique.{no_break}
+use Rattle.basic_toml_read.specs.declared.stop.Stop.{Stop}
+use Rattle.basic_toml_read.specs.declared.stop.Why.{Why}
+use Rattle.basic_toml_read.specs.declared.stop.Why.TheVariants.{Memory, Key, Value}
+use Rattle.basic_toml_read.specs.declared.scalar.Keyed.{Keyed}
+use Rattle.basic_toml_grammar.specs.Sections as sections
+use Rattle.basic_toml_grammar.specs.Entering.{and_then}
+use Rattle.basic_toml_grammar.specs.Grammar.{is_wordlike, word_value}
+use Rattle.basic_toml_grammar.specs.Reader as reader
+use Rattle.basic_toml_grammar.specs.Reader.{string_at, bare_key_at, quoted_key, key_at, string_value_at, word_at}
+use Rattle.basic_toml_read.specs.StopsAt.{why_of, MissesKey, MissesString, ReadsKeyAt, IsKeyOf}
+use Rattle.basic_toml_grammar.proofs.StringsAreRead.{string_found, string_read}
+use Rattle.basic_toml_read.specs.AtPlace.{Leaves}
+use Rattle.basic_toml_read.specs.Number.{value_offset}
+use Rattle.basic_toml_read.proofs.TakenTokenStands.{keylike_small, run_over}
+use Rattle.basic_toml_read.proofs.WordIsRead.{word_text, word_stands, word_missing}
+
+keylike_run_small : (text : Text) (i : ℕ) → get_or (run is_keylike text) i 0 < 128
+keylike_run_small [] i = omega arith
+keylike_run_small (x ∷ text) i = go (is_keylike x.1) refl i (keylike_run_small text)
+  where
+    go : (b : Bool) → is_keylike x.1 ≡ b → (i : ℕ) → ((i : ℕ) → get_or (run is_keylike text) i 0 < 128)
+        → get_or (cond b (x.1 ∷ run is_keylike text) []) i 0 < 128
+    go true e zero h = keylike_small x.1 e
+    go true e (suc i) h = h i
+    go false e i h = omega arith
+
+-- the bytes of a bare key
+pub bare_text : (bytes : List ℕ) (at end : ℕ) → IsRun is_keylike bytes at end
+    → between bytes at end ≡ run is_keylike (text_at bytes at)
+bare_text bytes at end r = sym r.spelled ∙
+    encodes-IsAscii (run is_keylike (text_at bytes at)) (keylike_run_small (text_at bytes at))
+
+pub no_bare : (bytes : List ℕ) (at end : ℕ) → IsRun is_keylike bytes at end → at ≡ end
+    → run is_keylike (text_at bytes at) ≡ []
+no_bare bytes at end r e = sym (bare_text bytes at end r) ∙
+    empty (between bytes at end) (omega (arith, length-between bytes at end r.forward r.boundary.0))
+  where
+    empty : (l : List ℕ) → length l ≡ 0 → l ≡ []
+    empty [] h = refl
+    empty (x ∷ l) h = cc
+
+bare_found : (text : Text) (p : ℕ) → ((x : ℕ × ℕ) (t : Text) → text ≡ x ∷ t → x.0 ≡ p) → (run is_keylike text ≡ [] → ⊥)
+    → key_at text ≡ Some (record { offset = p; text = run is_keylike text }, after_run is_keylike text)
+bare_found [] p offset some = absurd (some refl)
+bare_found (x ∷ text) p offset some = go (is_keylike x.1) refl some
+  where
+    go : (b : Bool) → is_keylike x.1 ≡ b → (cond b (x.1 ∷ run is_keylike text) [] ≡ [] → ⊥)
+        → key_at (x ∷ text) ≡ Some
+        (record { offset = p; text = run is_keylike (x ∷ text) }, after_run is_keylike (x ∷ text))
+    go false e some = absurd (some refl)
+    go true e some =
+        ap (λ o. option_or o (and_then (string_at (x ∷ text)) quoted_key))
+        (ap (λ b. cond b (Some (
+          record { offset = x.0; text = run is_keylike (x ∷ text) },
+          after_run is_keylike (x ∷ text),
+        )) None) e)
+        ∙ ap (λ (n : ℕ). Some (
+          record { offset = n; text = run is_keylike (x ∷ text) },
+          after_run is_keylike (x ∷ text),
+        )) (offset x text refl)
+
+pub bare_key : (bytes : List ℕ) (at end : ℕ) (key : CowStr Global) → IsRun is_keylike bytes at end → (at ≡ end → ⊥)
+    → cow_str_bytes key ≡ between bytes at end
+    → ReadsKeyAt bytes at (Ok (record { key = key; end = end }))
+bare_key bytes at end key r some e =
+    let text_is : run is_keylike (text_at bytes at) ≡ cow_str_bytes key = sym (bare_text bytes at end r) ∙ sym e in (
+      bare_found (text_at bytes at) at (λ x t h. offset_is bytes at x t h)
+          (λ h. some_run (ap length (bare_text bytes at end r ∙ h)))
+          ∙ ap (λ (t : List ℕ). Some (record { offset = at; text = t }, after_run is_keylike (text_at bytes at)))
+          text_is
+          ∙ ap (λ (t : Text). Some (record { offset = at; text = cow_str_bytes key }, t)) (sym r.rest),
+      r.boundary,
+      omega (arith, r.forward),
+    )
+  where
+    some_run : length (between bytes at end) ≡ 0 → ⊥
+    some_run h = some (omega (arith, length-between bytes at end r.forward r.boundary.0, r.forward))
+
+-- where no bare key stands
+no_bare_key : (text : Text) → run is_keylike text ≡ [] → bare_key_at text ≡ None
+no_bare_key [] e = refl
+no_bare_key (x ∷ text) e = go (is_keylike x.1) refl e
+  where
+    go : (b : Bool) → is_keylike x.1 ≡ b → cond b (x.1 ∷ run is_keylike text) [] ≡ [] → bare_key_at (x ∷ text) ≡ None
+    go true h e = cc
+    go false h e = ap (λ b. cond b
+        (Some (record { offset = x.0; text = run is_keylike (x ∷ text) }, after_run is_keylike (x ∷ text))) None) h
+
+key_by_string : (text : Text) (o : Option reader.Quoted) → run is_keylike text ≡ [] → string_at text ≡ o
+    → key_at text ≡ and_then o quoted_key
+key_by_string text o e s = ap (λ b. option_or b (and_then (string_at text) quoted_key)) (no_bare_key text e) ∙
+    ap (λ o. and_then o quoted_key) s
+
+pub no_key : (text : Text) → run is_keylike text ≡ [] → string_at text ≡ None → key_at text ≡ None
+no_key text e s = key_by_string text None e s
+
+-- strings of the code
+pub string_is : (bytes : List ℕ) (at : ℕ) (q : Quoted) (s : IsQuoted bytes at q)
+    → string_at (text_at bytes at)
+    ≡ Some (record { offset = at; multiline = q.multiline; value = s.value; rest = text_at bytes q.end })
+string_is bytes at q s = string_found s.string
+
+pub string_key : (bytes : List ℕ) (at : ℕ) (q : Quoted) (result : Result Keyed Stop)
+    → run is_keylike (text_at bytes at) ≡ [] → IsQuoted bytes at q → IsKeyOf q at result → ReadsKeyAt bytes at result
+string_key bytes at q (Ok k) none s is =
+    subst (λ k. ReadsKeyAt bytes at (Ok k)) (sym is.1) (
+      key_by_string (text_at bytes at) _ none (string_is bytes at q s)
+          ∙ ap (λ b. cond b None (Some (record { offset = at; text = encode_utf8_all s.value }, text_at bytes q.end)))
+          is.0
+          ∙ ap (λ (t : List ℕ). Some (record { offset = at; text = t }, text_at bytes q.end)) (sym s.spelled),
+      s.boundary,
+      s.forward,
+    )
+string_key bytes at q (Err stop) none s is =
+    subst (λ stop. ReadsKeyAt bytes at (Err stop)) (sym is.1) (
+      key_by_string (text_at bytes at) _ none (string_is bytes at q s)
+          ∙ ap (λ b. cond b None (Some (record { offset = at; text = encode_utf8_all s.value }, text_at bytes q.end)))
+          is.0,
+      λ _. refl,
+    )
+
+why_by : (Q : Why → Type 0) (why : Why) (e : Error) → Q Memory → ((e ≡ OutOfMemory → ⊥) → Q why) → Q (why_of e why)
+why_by Q why OutOfMemory m k = m
+why_by Q why e m k = k (λ h. cc)
+
+-- where a string was refused
+refused_none : (bytes : List ℕ) (at : ℕ) (r : TokenStop) → IsRefused bytes at r → (r.error ≡ OutOfMemory → ⊥)
+    → string_at (text_at bytes at) ≡ None
+refused_none bytes at r (inr m) other = absurd (other m.0)
+refused_none bytes at r (inl b) other = go (string_at (text_at bytes at)) refl
+  where
+    go : (o : Option reader.Quoted) → string_at (text_at bytes at) ≡ o → o ≡ None
+    go None e = refl
+    go (Some s) e = absurd (no_break (string_read (text_at bytes at) s e) b.0)
+
+pub key_refused : (bytes : List ℕ) (at : ℕ) (r : TokenStop) → run is_keylike (text_at bytes at) ≡ []
+    → IsRefused bytes at r → MissesKey (why_of r.error Key) (text_at bytes at)
+key_refused bytes at r none is =
+    why_by (λ why. MissesKey why (text_at bytes at)) Key r.error tt
+    (λ other. no_key (text_at bytes at) none (refused_none bytes at r is other))
+
+pub string_refused : (bytes : List ℕ) (at : ℕ) (r : TokenStop) → IsRefused bytes at r
+    → MissesString (why_of r.error Value) (text_at bytes at)
+string_refused bytes at r is =
+    why_by (λ why. MissesString why (text_at bytes at)) Value r.error tt (λ other. refused_none bytes at r is other)
+
+pub string_value : (bytes : List ℕ) (at : ℕ) (q : Quoted) → IsQuoted bytes at q
+    → string_value_at (text_at bytes at)
+    ≡ Some (record { offset = at; value = sections.Raw.string (cow_str_bytes q.val); rest = text_at bytes q.end })
+string_value bytes at q s =
+    ap (λ o. and_then o (λ s. Some
+    (record { offset = s.offset; value = sections.Raw.string (encode_utf8_all s.value); rest = s.rest })))
+    (string_is bytes at q s)
+    ∙ ap (λ (t : List ℕ). Some (record { offset = at; value = sections.Raw.string t; rest = text_at bytes q.end }))
+    (sym s.spelled)
+
+-- words
+pub no_word_run : (bytes : List ℕ) (at : ℕ) → text_at bytes at ≡ after_run is_wordlike (text_at bytes at)
+    → (word_at (text_at bytes at) ≡ None) × (run is_wordlike (text_at bytes at) ≡ [])
+no_word_run bytes at e =
+    let none = run_over (text_at bytes at) (sym e) in
+    (word_missing (text_at bytes at) (ap word_value none), none)
+
+pub word_run : (bytes : List ℕ) (at end : ℕ) → IsUtf8 bytes → IsCharBoundary bytes at
+    → Leaves bytes at end (after_run is_wordlike (text_at bytes at)) → (at ≡ end → ⊥)
+    → (between bytes at end ≡ run is_wordlike (text_at bytes at)) × (run is_wordlike (text_at bytes at) ≡ [] → ⊥)
+word_run bytes at end whole here l some =
+    let text = (word_text bytes at end whole here l.boundary l.left).1 in (
+      text,
+      λ e. some (omega (
+        arith,
+        ap length (text ∙ e),
+        length-between bytes at end l.forward l.boundary.0,
+        l.forward,
+      )),
+    )
+
+pub word_value_is : (bytes : List ℕ) (at end : ℕ) (word : List ℕ) (v : sections.Raw)
+    → word ≡ run is_wordlike (text_at bytes at) → (run is_wordlike (text_at bytes at) ≡ [] → ⊥)
+    → text_at bytes end ≡ after_run is_wordlike (text_at bytes at) → Some v ≡ word_value word
+    → word_at (text_at bytes at)
+    ≡ Some (record { offset = value_offset at at word v; value = v; rest = text_at bytes end })
+word_value_is bytes at end word v e some left told =
+    word_stands bytes at (text_at bytes end) v (λ h. some (ap (run is_wordlike) h)) left (ap word_value (sym e) ∙
+    sym told)
+    ∙ ap (λ (w : List ℕ). Some (record { offset = value_offset at at w v; value = v; rest = text_at bytes end }))
+    (sym e)
+
+pub no_word_value : (bytes : List ℕ) (at : ℕ) (word : List ℕ) → word ≡ run is_wordlike (text_at bytes at)
+    → None ≡ word_value word → word_at (text_at bytes at) ≡ None
+no_word_value bytes at word e told = word_missing (text_at bytes at) (ap word_value (sym e) ∙ sym told)

@@ -1,0 +1,414 @@
+-- Rows and values, by what stands in them.
+use Rattle.std.proofs.Common.{◌⊎◌, inl, inr, ◌≡◌, ℕ, ◌+◌, ◌-◌, ◌<◌, ◌≤◌, List, [], ◌∷◌, ◌++◌, length, drop, take}
+use Rattle.std.proofs.Common.{refl, ap, sym, ◌∙◌, subst, arith, append_assoc, length-append, Option, Some, None}
+use Rattle.std.proofs.Common.{Result, Ok, Err, Vec, Global, ℤ, Bool, true, false, cond, encode_utf8_all}
+use Rattle.std.specs.Prelude.{codes}
+use Rattle.std.specs.Str.{bytes_eq}
+use Rattle.std.proofs.Math.Seq.{drop-append_seam, take-append_seam}
+use Rattle.std.specs.Option.{option_or}
+use Rattle.std.specs.Cow.{cow_str_bytes}
+use Rattle.basic_toml_tokens.specs.Text.{Text, text_at, run, after_run, after_blanks}
+use Rattle.basic_toml_tokens.specs.Punctuation.{IsPunctuationEnd}
+use Rattle.basic_toml_read.specs.declared.section.Raw as code
+use Rattle.basic_toml_read.specs.declared.section.Element.{Element}
+use Rattle.basic_toml_read.specs.declared.section.Row.{Row, roll-Row}
+use Rattle.basic_toml_read.specs.declared.stop.Stop.{Stop}
+use Rattle.basic_toml_read.specs.declared.stop.Why.{Why}
+use Rattle.basic_toml_read.specs.declared.stop.Why.TheVariants as why
+use Rattle.basic_toml_read.specs.declared.scalar.Valued.{Valued}
+use Rattle.basic_toml_read.specs.declared.values.Gathered.{Gathered}
+use Rattle.basic_toml_read.specs.declared.values.LastKey.{LastKey}
+use Rattle.basic_toml_grammar.specs.Sections.{Key, Raw, Elements, Rows}
+use Rattle.basic_toml_grammar.specs.Entering.{and_then}
+use Rattle.basic_toml_grammar.specs.Levels.{value_level, elements_level, rows_level}
+use Rattle.basic_toml_grammar.specs.Reader as reader
+use Rattle.basic_toml_grammar.specs.Reader.{char_at, if_found, string_at, word_at, string_value_at}
+use Rattle.basic_toml_value.specs.Numbers.{integer_of, float_of}
+use Rattle.basic_toml_grammar.specs.Grammar.{is_wordlike, number_value, word_value, word_offset}
+use Rattle.basic_toml_read.specs.FrontOf.{keys_of, value_of, elements_of, fields_of, row_of}
+use Rattle.basic_toml_read.specs.AtPlace.{Leaves}
+use Rattle.basic_toml_read.specs.SectionView.{elements_view, rows_view}
+use Rattle.basic_toml_read.specs.StopsAt.{Misses, ReadsStringAt, ReadsWordAt, MissesString, MissesWord}
+use Rattle.basic_toml_read.specs.Gathers.{with_keys, IsLastKey, row_level, IsRowRead, Keeps, IsValueRead}
+use Rattle.basic_toml_read.specs.Gathers.{AreElementsRead, IsArrayRead, AreFieldsRead, IsInlineRead, ReadsValue}
+use Rattle.basic_toml_read.specs.Gathers.{ReadsArray, ReadsInline}
+use Rattle.basic_toml_grammar.proofs.StringsAreRead.{then_some}
+use Rattle.basic_toml_grammar.proofs.ReaderIsComplete.{gap}
+use Rattle.basic_toml_read.proofs.EnoughSteps.{value_is, row_is}
+use Rattle.basic_toml_read.proofs.LeftAfter.{sign_there, sign_missing}
+use Rattle.basic_toml_read.proofs.ViewsSeen.{row_before, array_of, inline_of}
+use Rattle.basic_toml_read.proofs.KeysTold.{misses_then}
+use Rattle.basic_toml_read.proofs.KeysGathered.{with_keys_row}
+
+-- a row without keys
+pub keys_missed : (level : ℕ) (text : Text) (w : Why)
+    → Misses w (keys_of text) (λ keys. 128 < level + length keys.0 - 1)
+    → Misses w (row_of text) (λ r. 128 < row_level level r)
+keys_missed level text w m =
+    misses_then w (keys_of text) (row_of text) (λ keys. 128 < level + length keys.0 - 1) (λ r. 128 < row_level level r)
+    (λ e. row_is text ∙ ap (λ o. and_then o on) e)
+    (λ y e. let (keys, keys_is, f) = then_some (keys_of text) on y (sym (row_is text) ∙ e) in
+    let (s, s_is, g) = then_some (char_at 61 (after_blanks keys.1)) (value_on keys.0) y f in
+    let (v, v_is, same) = then_some (value_of (after_blanks s.1))
+    (λ v. Some (record { keys = keys.0; offset = v.offset; value = v.value; rest = v.rest })) y g in
+    let there : record { keys = keys.0; offset = v.offset; value = v.value; rest = v.rest } ≡ y = cc in
+    (keys, keys_is, λ h. subst (λ r. 128 < row_level level r) there (omega arith)))
+    m
+  where
+    value_on : List Key → ℕ × Text → Option reader.Assigned
+    value_on keys s = and_then (value_of (after_blanks s.1))
+        (λ v. Some (record { keys = keys; offset = v.offset; value = v.value; rest = v.rest }))
+
+    on : List Key × Text → Option reader.Assigned
+    on keys = and_then (char_at 61 (after_blanks keys.1)) (value_on keys.0)
+
+-- a row
+module _ (bytes : List ℕ) (at level : ℕ) (old mid : Gathered) (last : LastKey)
+    (k : IsLastKey bytes at level old mid last) where
+  all_keys : List Key
+  all_keys = k.front ++ record { offset = last.offset; text = cow_str_bytes last.key } ∷ []
+
+  assigned : List Key → reader.Valued → reader.Assigned
+  assigned keys v = record { keys = keys; offset = v.offset; value = v.value; rest = v.rest }
+
+  row_by : (o : Option (ℕ × Text)) → char_at 61 (text_at bytes last.end) ≡ o → row_of (text_at bytes at)
+      ≡ and_then o (λ s. and_then (value_of (after_blanks s.1)) (λ v. Some (assigned all_keys v)))
+  unfolding all_keys assigned
+  row_by o e =
+      row_is (text_at bytes at)
+      ∙ ap (λ o. and_then o (λ keys. and_then (char_at 61 (after_blanks keys.1))
+      (λ s. and_then (value_of (after_blanks s.1)) (λ v. Some (assigned keys.0 v))))) k.is
+      ∙ ap (λ o. and_then o (λ s. and_then (value_of (after_blanks s.1)) (λ v. Some (assigned all_keys v))))
+      (ap (char_at 61) (sym k.after) ∙ e)
+
+  pub no_equals : IsPunctuationEnd 61 bytes last.end None → row_of (text_at bytes at) ≡ None
+  no_equals sign = row_by None (sign_missing 61 (text_at bytes last.end) sign)
+
+  length_keys : length all_keys ≡ length k.front + 1
+  unfolding all_keys
+  length_keys = omega (
+    arith,
+    length-append k.front (record { offset = last.offset; text = cow_str_bytes last.key }
+        ∷ []),
+  )
+
+  module _ (next at' : ℕ) (sign : IsPunctuationEnd 61 bytes last.end (Some next))
+      (left : Leaves bytes next at' (after_blanks (text_at bytes next))) where
+    row_by_value : row_of (text_at bytes at) ≡ and_then (value_of (text_at bytes at')) (λ v. Some (assigned all_keys v))
+    row_by_value = row_by (Some (last.end, text_at bytes next)) (sign_there sign.0) ∙
+        ap (λ t. and_then (value_of t) (λ v. Some (assigned all_keys v))) (sym left.left)
+
+    pub value_missing : (w : Why)
+        → Misses w (value_of (text_at bytes at')) (λ v. 128 < value_level last.level v.value)
+        → Misses w (row_of (text_at bytes at)) (λ r. 128 < row_level level r)
+    unfolding assigned
+    value_missing w m =
+        misses_then w (value_of (text_at bytes at')) (row_of (text_at bytes at))
+        (λ v. 128 < value_level last.level v.value) (λ r. 128 < row_level level r)
+        (λ e. row_by_value ∙ ap (λ o. and_then o (λ v. Some (assigned all_keys v))) e)
+        (λ y e. let (v, v_is, f) =
+        then_some (value_of (text_at bytes at')) (λ v. Some (assigned all_keys v)) y (sym row_by_value ∙ e) in
+        let same : assigned all_keys v ≡ y = cc in
+        (v, v_is, λ h. subst (λ r. 128 < row_level level r) same (high v h)))
+        m
+      where
+        high : (v : reader.Valued) → 128 < value_level last.level v.value → 128 < row_level level (assigned all_keys v)
+        high v h =
+            let e : level + length all_keys - 1 ≡ last.level = omega (arith, length_keys, k.level_is) in
+            omega (arith, h, ap (λ n. value_level n v.value) e)
+
+    pub row_there : (new mid' : Gathered) (v : Valued) → IsValueRead bytes at' last.level mid mid' v
+        → new.rows.items ≡ mid'.rows.items
+        ++ (roll-Row (record { key = last.key; offset = last.offset; start = v.offset; value = v.value }) ∷ [])
+        → new.elements.items ≡ mid'.elements.items
+        → IsRowRead bytes at level old new v.end
+    unfolding assigned all_keys
+    row_there new mid' v r pushed elements = record {
+      found = assigned all_keys (record { offset = v.offset; value = r.found.raw; rest = text_at bytes v.end });
+      is = row_by_value ∙ ap (λ o. and_then o (λ v. Some (assigned all_keys v))) r.found.is;
+      rest = refl;
+      added = k.dots ++ (roll-Row (record { key = last.key; offset = last.offset; start = v.offset; value = v.value })
+          ∷ []);
+      pushed = pushed ∙ ap (λ (l : List Row). l
+          ++ (roll-Row (record { key = last.key; offset = last.offset; start = v.offset; value = v.value }) ∷ []))
+          (r.keeps.rows ∙ k.pushed)
+          ∙ append_assoc old.rows.items k.dots
+          (roll-Row (record { key = last.key; offset = last.offset; start = v.offset; value = v.value }) ∷ []);
+      seen = λ rest. ap rows_view
+          (append_assoc k.dots (roll-Row
+          (record { key = last.key; offset = last.offset; start = v.offset; value = v.value }) ∷ []) rest)
+          ∙ k.seen (roll-Row (record { key = last.key; offset = last.offset; start = v.offset; value = v.value })
+          ∷ rest)
+          ∙ ap (with_keys k.front) (row_before last.key last.offset v.offset v.value r.found.raw rest r.found.seen)
+          ∙ with_keys_row k.front (record { offset = last.offset; text = cow_str_bytes last.key }) [] v.offset
+          r.found.raw (rows_view rest);
+      elements = elements ∙ r.keeps.elements ∙ k.elements;
+      limit =
+          let e : level + length all_keys - 1 ≡ last.level = omega (arith, length_keys, k.level_is) in
+          omega (arith, r.limit, k.limit, ap (λ n. value_level n r.found.raw) e);
+      boundary = r.found.boundary;
+      later = omega (arith, k.later, sign.2, left.forward, r.found.later);
+    }
+
+-- a value, by its first character
+value_by_bracket : (bytes : List ℕ) (at next : ℕ) → IsPunctuationEnd 91 bytes at (Some next)
+    → value_of (text_at bytes at)
+    ≡ and_then (elements_of (gap (text_at bytes next)))
+    (λ r. Some (record { offset = at; value = Raw.array r.0; rest = r.1 }))
+value_by_bracket bytes at next sign =
+    value_is (text_at bytes at) ∙ ap (λ o. if_found o
+    (λ s. and_then (elements_of (gap s.1)) (λ r. Some (record { offset = s.0; value = Raw.array r.0; rest = r.1 })))
+    (if_found (char_at 123 (text_at bytes at))
+    (λ s. and_then (fields_of (after_blanks s.1))
+    (λ r. Some (record { offset = s.0; value = Raw.inline r.0; rest = r.1 })))
+    (option_or (word_at (text_at bytes at)) (string_value_at (text_at bytes at))))) (sign_there sign.0)
+
+value_by_others : (bytes : List ℕ) (at : ℕ) (o : Option (ℕ × Text)) → IsPunctuationEnd 91 bytes at None
+    → char_at 123 (text_at bytes at) ≡ o
+    → value_of (text_at bytes at) ≡ if_found o
+    (λ s. and_then (fields_of (after_blanks s.1))
+    (λ r. Some (record { offset = s.0; value = Raw.inline r.0; rest = r.1 })))
+    (option_or (word_at (text_at bytes at)) (string_value_at (text_at bytes at)))
+value_by_others bytes at o none e =
+    value_is (text_at bytes at) ∙ ap (λ o. if_found o
+    (λ s. and_then (elements_of (gap s.1)) (λ r. Some (record { offset = s.0; value = Raw.array r.0; rest = r.1 })))
+    (if_found (char_at 123 (text_at bytes at))
+    (λ s. and_then (fields_of (after_blanks s.1))
+    (λ r. Some (record { offset = s.0; value = Raw.inline r.0; rest = r.1 })))
+    (option_or (word_at (text_at bytes at)) (string_value_at (text_at bytes at)))))
+    (sign_missing 91 (text_at bytes at) none)
+    ∙ ap (λ o. if_found o
+    (λ s. and_then (fields_of (after_blanks s.1))
+    (λ r. Some (record { offset = s.0; value = Raw.inline r.0; rest = r.1 })))
+    (option_or (word_at (text_at bytes at)) (string_value_at (text_at bytes at)))) e
+
+pub array_value : (bytes : List ℕ) (at next level : ℕ) (old new : Gathered) (result : Result Valued Stop)
+    → IsPunctuationEnd 91 bytes at (Some next)
+    → ReadsArray bytes at next (level + 1) old new result → ReadsValue bytes at level old new result
+array_value bytes at next level old new (Ok v) sign a = record {
+  found = record {
+    raw = Raw.array a.elements;
+    seen = a.seen;
+    is = value_by_bracket bytes at next sign ∙
+        ap (λ o. and_then o (λ r. Some (record { offset = at; value = Raw.array r.0; rest = r.1 }))) a.is
+        ∙ ap (λ (n : ℕ). Some (record { offset = n; value = Raw.array a.elements; rest = text_at bytes v.end }))
+        (sym a.offset_is);
+    boundary = a.boundary;
+    later = omega (arith, sign.2, a.later);
+  };
+  limit = omega (arith, a.limit);
+  keeps = a.keeps;
+}
+array_value bytes at next level old new (Err stop) sign m =
+    misses_then stop.why (elements_of (gap (text_at bytes next))) (value_of (text_at bytes at))
+    (λ r. (128 < level + 1) ⊎ (128 < elements_level (level + 1) r.0)) (λ v. 128 < value_level level v.value)
+    (λ e. value_by_bracket bytes at next sign ∙
+    ap (λ o. and_then o (λ r. Some (record { offset = at; value = Raw.array r.0; rest = r.1 }))) e)
+    (λ y e. let (r, r_is, f) =
+    then_some (elements_of (gap (text_at bytes next)))
+    (λ r. Some (record { offset = at; value = Raw.array r.0; rest = r.1 })) y
+    (sym (value_by_bracket bytes at next sign) ∙ e) in
+    let same : record { offset = at; value = Raw.array r.0; rest = r.1 } ≡ y = cc in
+    (r, r_is, λ h. subst (λ (v : reader.Valued). 128 < value_level level v.value) same (high r.0 h)))
+    m
+  where
+    high : (es : Elements) → (128 < level + 1) ⊎ (128 < elements_level (level + 1) es)
+        → 128 < value_level level (Raw.array es)
+    high es (inl h) = omega arith
+    high es (inr h) = omega arith
+
+pub inline_value : (bytes : List ℕ) (at next level : ℕ) (old new : Gathered) (result : Result Valued Stop)
+    → IsPunctuationEnd 91 bytes at None → IsPunctuationEnd 123 bytes at (Some next)
+    → ReadsInline bytes at next (level + 1) old new result → ReadsValue bytes at level old new result
+inline_value bytes at next level old new (Ok v) none sign a = record {
+  found = record {
+    raw = Raw.inline a.rows;
+    seen = a.seen;
+    is = value_by_others bytes at (Some (at, text_at bytes next)) none (sign_there sign.0) ∙
+        ap (λ o. and_then o (λ r. Some (record { offset = at; value = Raw.inline r.0; rest = r.1 }))) a.is
+        ∙ ap (λ (n : ℕ). Some (record { offset = n; value = Raw.inline a.rows; rest = text_at bytes v.end }))
+        (sym a.offset_is);
+    boundary = a.boundary;
+    later = omega (arith, sign.2, a.later);
+  };
+  limit = omega (arith, a.limit);
+  keeps = a.keeps;
+}
+inline_value bytes at next level old new (Err stop) none sign m =
+    let is = value_by_others bytes at (Some (at, text_at bytes next)) none (sign_there sign.0) in
+    misses_then stop.why (fields_of (after_blanks (text_at bytes next))) (value_of (text_at bytes at))
+    (λ r. (128 < level + 1) ⊎ (128 < rows_level (level + 1) r.0)) (λ v. 128 < value_level level v.value)
+    (λ e. is ∙ ap (λ o. and_then o (λ r. Some (record { offset = at; value = Raw.inline r.0; rest = r.1 }))) e)
+    (λ y e. let (r, r_is, f) =
+    then_some (fields_of (after_blanks (text_at bytes next)))
+    (λ r. Some (record { offset = at; value = Raw.inline r.0; rest = r.1 })) y (sym is ∙ e) in
+    let same : record { offset = at; value = Raw.inline r.0; rest = r.1 } ≡ y = cc in
+    (r, r_is, λ h. subst (λ (v : reader.Valued). 128 < value_level level v.value) same (high r.0 h)))
+    m
+  where
+    high : (rs : Rows) → (128 < level + 1) ⊎ (128 < rows_level (level + 1) rs) → 128 < value_level level (Raw.inline rs)
+    high rs (inl h) = omega arith
+    high rs (inr h) = omega arith
+
+-- a scalar has no level
+keeps_all : (g : Gathered) → Keeps g g
+keeps_all g = record { elements = refl; rows = refl }
+
+string_level : (l : ℕ) (text : Text) (v : reader.Valued) → string_value_at text ≡ Some v → value_level l v.value ≡ 0
+string_level l text v e =
+    let (s, s_is, f) = then_some (string_at text)
+    (λ s. Some (record { offset = s.offset; value = Raw.string (encode_utf8_all s.value); rest = s.rest })) v e in
+    let there : Raw.string (encode_utf8_all s.value) ≡ v.value = cc in
+    sym (ap (value_level l) there)
+
+number_level : (l : ℕ) (o : Option ℤ) (t : Option (List ℕ)) (v : Raw) → number_value o t ≡ Some v → value_level l v ≡ 0
+number_level l (Some z) t v e = let there : Raw.integer z ≡ v = cc in sym (ap (value_level l) there)
+number_level l None (Some t) v e = let there : Raw.float t ≡ v = cc in sym (ap (value_level l) there)
+number_level l None None v e = cc
+
+word_level : (l : ℕ) (text : Text) (v : reader.Valued) → word_at text ≡ Some v → value_level l v.value ≡ 0
+word_level l [] v e = cc
+word_level l (x ∷ text) v e =
+    let (w, w_is, f) = then_some (word_value (run is_wordlike (x ∷ text)))
+    (λ v. Some (record {
+      offset = word_offset v x.0 (x ∷ text);
+      value = v;
+      rest =
+          after_run is_wordlike (x ∷ text);
+    })) v e in
+    let there : w ≡ v.value = cc in
+    sym (ap (value_level l) there) ∙ go (bytes_eq word (codes "true")) (bytes_eq word (codes "false")) w w_is
+  where
+    word : List ℕ
+    word = run is_wordlike (x ∷ text)
+
+    go : (a b : Bool) (w : Raw)
+        → cond a (Some (Raw.boolean true))
+        (cond b (Some (Raw.boolean false)) (number_value (integer_of word) (float_of word))) ≡ Some w
+        → value_level l w ≡ 0
+    go true b w e = let there : Raw.boolean true ≡ w = cc in sym (ap (value_level l) there)
+    go false true w e = let there : Raw.boolean false ≡ w = cc in sym (ap (value_level l) there)
+    go false false w e = number_level l (integer_of word) (float_of word) w e
+
+scalar_by : (bytes : List ℕ) (at : ℕ) → IsPunctuationEnd 91 bytes at None → IsPunctuationEnd 123 bytes at None
+    → value_of (text_at bytes at) ≡ option_or (word_at (text_at bytes at)) (string_value_at (text_at bytes at))
+scalar_by bytes at none none' = value_by_others bytes at None none (sign_missing 123 (text_at bytes at) none')
+
+pub string_value : (bytes : List ℕ) (at level : ℕ) (old : Gathered) (result : Result Valued Stop)
+    → IsPunctuationEnd 91 bytes at None → IsPunctuationEnd 123 bytes at None → word_at (text_at bytes at) ≡ None
+    → ReadsStringAt bytes at result → ReadsValue bytes at level old old result
+string_value bytes at level old (Ok v) none none' no_word f = record {
+  found = record {
+    raw = f.raw;
+    seen = f.seen;
+    is = scalar_by bytes at none none' ∙ ap (λ o. option_or o (string_value_at (text_at bytes at))) no_word ∙ f.is;
+    boundary = f.boundary;
+    later = f.later;
+  };
+  limit = omega (arith, string_level level (text_at bytes at) _ f.is);
+  keeps = keeps_all old;
+}
+string_value bytes at level old (Err stop) none none' no_word m = go stop.why m.0
+  where
+    go : (w : Why) → MissesString w (text_at bytes at)
+        → Misses w (value_of (text_at bytes at)) (λ v. 128 < value_level level v.value)
+    go why.Memory m = tt
+    go why.Value m =
+        scalar_by bytes at none none' ∙ ap (λ o. option_or o (string_value_at (text_at bytes at))) no_word
+        ∙ ap (λ o. and_then o (λ s. Some
+        (record { offset = s.offset; value = Raw.string (encode_utf8_all s.value); rest = s.rest }))) m
+    go _ m = absurd m
+
+pub word_value_here : (bytes : List ℕ) (at level : ℕ) (old : Gathered) (result : Result Valued Stop)
+    → IsPunctuationEnd 91 bytes at None → IsPunctuationEnd 123 bytes at None → string_at (text_at bytes at) ≡ None
+    → ReadsWordAt bytes at result → ReadsValue bytes at level old old result
+word_value_here bytes at level old (Ok v) none none' no_string f = record {
+  found = record {
+    raw = f.raw;
+    seen = f.seen;
+    is = scalar_by bytes at none none' ∙ ap (λ o. option_or o (string_value_at (text_at bytes at))) f.is;
+    boundary = f.boundary;
+    later = f.later;
+  };
+  limit = omega (arith, word_level level (text_at bytes at) _ f.is);
+  keeps = keeps_all old;
+}
+word_value_here bytes at level old (Err stop) none none' no_string m = go stop.why m.0
+  where
+    missed : word_at (text_at bytes at) ≡ None → value_of (text_at bytes at) ≡ None
+    missed e =
+        scalar_by bytes at none none' ∙ ap (λ o. option_or o (string_value_at (text_at bytes at))) e
+        ∙ ap (λ o. and_then o (λ s. Some
+        (record { offset = s.offset; value = Raw.string (encode_utf8_all s.value); rest = s.rest }))) no_string
+
+    go : (w : Why) → MissesWord w (text_at bytes at)
+        → Misses w (value_of (text_at bytes at)) (λ v. 128 < value_level level v.value)
+    go why.Memory m = tt
+    go why.Value m = missed m.0
+    go (why.Word end) m = missed m.0
+    go _ m = absurd m
+
+-- arrays and inline tables, whole
+pub array_whole : (bytes : List ℕ) (offset at start level end : ℕ) (old mid new : Gathered)
+    (kept : Vec Element Global) → level ≤ 128
+    → Leaves bytes at start (gap (text_at bytes at)) → AreElementsRead bytes start level old mid end
+    → kept.items ≡ drop (length old.elements.items) mid.elements.items
+    → new.elements.items ≡ take (length old.elements.items) mid.elements.items → new.rows.items ≡ mid.rows.items
+    → IsArrayRead bytes offset at level old new (record { offset = offset; value = code.Array kept; end = end })
+array_whole bytes offset at start level end old mid new kept low left r kept_is rest_is rows =
+    let items : kept.items ≡ r.added = kept_is ∙ ap (drop (length old.elements.items)) r.pushed ∙
+    drop-append_seam old.elements.items r.added in
+    record {
+      elements = elements_view r.added;
+      seen = array_of kept ∙ ap (λ (l : List Element). Some (Raw.array (elements_view l))) items;
+      is = ap elements_of (sym left.left) ∙ r.is;
+      offset_is = refl;
+      limit = (low, r.limit);
+      keeps = record {
+        elements = rest_is ∙ ap (take (length old.elements.items)) r.pushed ∙
+            take-append_seam old.elements.items r.added;
+        rows = rows ∙ r.rows;
+      };
+      boundary = r.boundary;
+      later = omega (arith, left.forward, r.later);
+    }
+
+pub array_missing : (bytes : List ℕ) (at start level : ℕ) (w : Why) → Leaves bytes at start (gap (text_at bytes at))
+    → Misses w (elements_of (text_at bytes start)) (λ r. 128 < elements_level level r.0)
+    → Misses w (elements_of (gap (text_at bytes at))) (λ r. (128 < level) ⊎ (128 < elements_level level r.0))
+array_missing bytes at start level w left m =
+    misses_then w (elements_of (text_at bytes start)) (elements_of (gap (text_at bytes at)))
+    (λ r. 128 < elements_level level r.0) (λ r. (128 < level) ⊎ (128 < elements_level level r.0))
+    (λ e. ap elements_of (sym left.left) ∙ e) (λ y e. (y, ap elements_of left.left ∙ e, λ h. inr h)) m
+
+pub inline_whole : (bytes : List ℕ) (offset at start level end : ℕ) (old mid new : Gathered) (kept : Vec Row Global)
+    → level ≤ 128
+    → Leaves bytes at start (after_blanks (text_at bytes at)) → AreFieldsRead bytes start level old mid end
+    → kept.items ≡ drop (length old.rows.items) mid.rows.items
+    → new.rows.items ≡ take (length old.rows.items) mid.rows.items → new.elements.items ≡ mid.elements.items
+    → IsInlineRead bytes offset at level old new (record { offset = offset; value = code.Inline kept; end = end })
+inline_whole bytes offset at start level end old mid new kept low left r kept_is rest_is elements =
+    let items : kept.items ≡ r.added = kept_is ∙ ap (drop (length old.rows.items)) r.pushed ∙
+    drop-append_seam old.rows.items r.added in
+    record {
+      rows = rows_view r.added;
+      seen = inline_of kept ∙ ap (λ (l : List Row). Some (Raw.inline (rows_view l))) items;
+      is = ap fields_of (sym left.left) ∙ r.is;
+      offset_is = refl;
+      limit = (low, r.limit);
+      keeps = record {
+        elements = elements ∙ r.elements;
+        rows = rest_is ∙ ap (take (length old.rows.items)) r.pushed ∙ take-append_seam old.rows.items r.added;
+      };
+      boundary = r.boundary;
+      later = omega (arith, left.forward, r.later);
+    }
+
+pub inline_missing : (bytes : List ℕ) (at start level : ℕ) (w : Why)
+    → Leaves bytes at start (after_blanks (text_at bytes at))
+    → Misses w (fields_of (text_at bytes start)) (λ r. 128 < rows_level level r.0)
+    → Misses w (fields_of (after_blanks (text_at bytes at))) (λ r. (128 < level) ⊎ (128 < rows_level level r.0))
+inline_missing bytes at start level w left m =
+    misses_then w (fields_of (text_at bytes start)) (fields_of (after_blanks (text_at bytes at)))
+    (λ r. 128 < rows_level level r.0) (λ r. (128 < level) ⊎ (128 < rows_level level r.0))
+    (λ e. ap fields_of (sym left.left) ∙ e) (λ y e. (y, ap fields_of left.left ∙ e, λ h. inr h)) m

@@ -1,0 +1,83 @@
+use Rattle.std.proofs.Common.{sym, subst, Err}
+use Rattle.basic_toml_tokens.specs.Text.{text_at}
+use Rattle.basic_toml_read.specs.declared.stop.Stop.{Stop}
+use Rattle.basic_toml_read.specs.Lists.{ReadsHeader}
+use Rattle.basic_toml_read.proofs.KeysTold.{stopped}
+use Rattle.basic_toml_read.proofs.HeadersRead.{no_bracket, one_missing, one_unclosed, one_closed, two_missing}
+use Rattle.basic_toml_read.proofs.HeadersRead.{two_unclosed, two_half_closed, two_closed}
+use Rattle.basic_toml_read.proofs.header.header_at.Goals as goal
+
+pub returns-in_err-inner-clause-read : goal.returns-in_err-inner-clause-read
+returns-in_err-inner-clause-read c =
+    let stop = c.in_err-inner.field-0.0 in
+    stopped (ReadsHeader c.args.text.now c.args.at) c.from_residual.result stop c.from_residual.ensures.1
+    (subst (λ (stop : Stop). ReadsHeader c.args.text.now c.args.at (Err stop)) (sym c.in_err-inner.ensures.read.1)
+    (no_bracket (text_at c.args.text.now c.args.at) c.in_err-inner.ensures.read.0))
+
+pub returns-in_err-keys-in-None-clause-read : goal.returns-in_err-keys-in-None-clause-read
+returns-in_err-keys-in-None-clause-read c =
+    let stop = c.in_err-keys-in-None.field-0.0 in
+    stopped (ReadsHeader c.args.text.now c.args.at) c.from_residual-in_err-keys-in-None.result stop
+    c.from_residual-in_err-keys-in-None.ensures.1
+    (one_missing c.args.text.now c.args.at c.in_ok-inner.inner c.in_ok-inner.ensures.read.0
+    c.in_ok-inner.ensures.read.2 c.in-None.ensures c.after_blanks.result c.after_blanks.ensures
+    stop.why c.in_err-keys-in-None.ensures.read)
+
+pub returns-in_err-end-in-None-clause-read : goal.returns-in_err-end-in-None-clause-read
+returns-in_err-end-in-None-clause-read c =
+    let stop = c.in_err-end-in-None.field-0.0 in
+    let k = c.in_ok-keys-in-None in
+    stopped (ReadsHeader c.args.text.now c.args.at) c.from_residual-in_err-end-in-None.result stop
+    c.from_residual-in_err-end-in-None.ensures.1
+    (one_unclosed c.args.text.now c.args.at c.in_ok-inner.inner c.in_ok-inner.ensures.read.0
+    c.in_ok-inner.ensures.read.2 c.in-None.ensures c.after_blanks.result c.after_blanks.ensures
+    k.field-0 k.ensures.read stop
+    c.in_err-end-in-None.ensures.read)
+
+pub returns-in_err-keys-in-Some-clause-read : goal.returns-in_err-keys-in-Some-clause-read
+returns-in_err-keys-in-Some-clause-read c =
+    let stop = c.in_err-keys-in-Some.field-0.0 in
+    stopped (ReadsHeader c.args.text.now c.args.at) c.from_residual-in_err-keys-in-Some.result stop
+    c.from_residual-in_err-keys-in-Some.ensures.1
+    (two_missing c.args.text.now c.args.at c.in_ok-inner.inner c.in_ok-inner.ensures.read.0
+    c.in_ok-inner.ensures.read.2 c.in-Some.first c.in-Some.ensures c.after_blanks-in-Some.result
+    c.after_blanks-in-Some.ensures
+    stop.why c.in_err-keys-in-Some.ensures.read)
+
+pub returns-in_err-last-in-Some-clause-read : goal.returns-in_err-last-in-Some-clause-read
+returns-in_err-last-in-Some-clause-read c =
+    let stop = c.in_err-last-in-Some.field-0.0 in
+    let k = c.in_ok-keys-in-Some in
+    stopped (ReadsHeader c.args.text.now c.args.at) c.from_residual-in_err-last-in-Some.result stop
+    c.from_residual-in_err-last-in-Some.ensures.1
+    (two_unclosed c.args.text.now c.args.at c.in_ok-inner.inner c.in_ok-inner.ensures.read.0
+    c.in_ok-inner.ensures.read.2 c.in-Some.first c.in-Some.ensures c.after_blanks-in-Some.result
+    c.after_blanks-in-Some.ensures
+    k.field-0 k.ensures.read stop c.in_err-last-in-Some.ensures.read)
+
+pub returns-in_err-end-in-Some-clause-read : goal.returns-in_err-end-in-Some-clause-read
+returns-in_err-end-in-Some-clause-read c =
+    let stop = c.in_err-end-in-Some.field-0.0 in
+    let k = c.in_ok-keys-in-Some in
+    stopped (ReadsHeader c.args.text.now c.args.at) c.from_residual-in_err-end-in-Some.result stop
+    c.from_residual-in_err-end-in-Some.ensures.1
+    (two_half_closed c.args.text.now c.args.at c.in_ok-inner.inner c.in_ok-inner.ensures.read.0
+    c.in_ok-inner.ensures.read.2 c.in-Some.first c.in-Some.ensures c.after_blanks-in-Some.result
+    c.after_blanks-in-Some.ensures
+    k.field-0 k.ensures.read c.in_ok-last-in-Some.last c.in_ok-last-in-Some.ensures.read
+    stop c.in_err-end-in-Some.ensures.read)
+
+pub returns-in_ok-end-in-None-clause-read : goal.returns-in_ok-end-in-None-clause-read
+returns-in_ok-end-in-None-clause-read c =
+    let k = c.in_ok-keys-in-None in
+    one_closed c.args.text.now c.args.at c.in_ok-inner.inner c.in_ok-inner.ensures.read.0 c.in_ok-inner.ensures.read.2
+    c.in-None.ensures c.after_blanks.result c.after_blanks.ensures k.field-0 k.ensures.read
+    c.in_ok-end-in-None.end c.in_ok-end-in-None.ensures.read
+
+pub returns-in_ok-end-in-Some-clause-read : goal.returns-in_ok-end-in-Some-clause-read
+returns-in_ok-end-in-Some-clause-read c =
+    let k = c.in_ok-keys-in-Some in
+    two_closed c.args.text.now c.args.at c.in_ok-inner.inner c.in_ok-inner.ensures.read.0 c.in_ok-inner.ensures.read.2
+    c.in-Some.first c.in-Some.ensures c.after_blanks-in-Some.result c.after_blanks-in-Some.ensures
+    k.field-0 k.ensures.read c.in_ok-last-in-Some.last c.in_ok-last-in-Some.ensures.read
+    c.in_ok-end-in-Some.end c.in_ok-end-in-Some.ensures.read

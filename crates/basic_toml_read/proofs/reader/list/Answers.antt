@@ -1,0 +1,50 @@
+use Rattle.std.proofs.Common.{ℕ, Option, subst}
+use Rattle.basic_toml_read.specs.Lists.{ReadsList}
+use Rattle.basic_toml_read.proofs.KeysTold.{stopped}
+use Rattle.basic_toml_read.proofs.ListsRead.{ListSoFar, root_missing, root_there, list_more, list_missing, falls}
+use Rattle.basic_toml_read.proofs.ListsRead.{list_over}
+use Rattle.basic_toml_read.proofs.reader.list.Goals as goal
+
+pub returns-in_err-bracket-clause-read : goal.returns-in_err-bracket-clause-read
+returns-in_err-bracket-clause-read c =
+    let stop = c.in_err-bracket.field-0.0 in
+    stopped (ReadsList c.args.text.now) c.from_residual.result stop c.from_residual.ensures.1
+    (root_missing c.args.text.now c.start.result c.start.ensures.offset stop.why c.in_err-bracket.ensures.read)
+
+pub loop-bracket-init : goal.loop-bracket-init
+loop-bracket-init c =
+    root_there c.args.text.now c.start.result c.start.ensures.offset
+    (record { alloc = c.args.alloc; elements = c.new.result; rows = c.new-2.result }) c.rows.new.self
+    c.root.new.self c.in_ok-bracket.bracket
+    c.new-sections.result c.root.new.sections c.new-2.ensures.items c.in_ok-bracket.ensures.read
+    c.new-sections.ensures.items c.in_ok-root.ensures
+
+pub returns-in_err-bracket-2-clause-read : goal.returns-in_err-bracket-2-clause-read
+returns-in_err-bracket-2-clause-read c =
+    let stop = c.in_err-bracket-2.field-0.0 in
+    stopped (ReadsList c.args.text.now) c.from_residual-in_err-bracket-2.result stop
+    c.from_residual-in_err-bracket-2.ensures.1
+    (list_missing c.args.text.now c.in-Some.at c.loop-bracket.gathered c.loop-bracket.sections.items
+    (subst (λ (o : Option ℕ). ListSoFar c.args.text.now o c.loop-bracket.gathered c.loop-bracket.sections.items)
+    c.in-Some.is c.loop-bracket.invariant) stop.why c.in_err-bracket-2.ensures.read)
+
+pub loop-bracket-smaller : goal.loop-bracket-smaller
+loop-bracket-smaller c =
+    let r = c.in_ok-bracket-2.ensures.read in
+    let s = subst (λ (o : Option ℕ). ListSoFar c.args.text.now o c.loop-bracket.gathered
+    c.loop-bracket.sections.items) c.in-Some.is c.loop-bracket.invariant in
+    falls c.args.text.now c.in-Some.at c.loop-bracket.bracket c.in_ok-bracket-2.bracket r.rest c.in-Some.is s.ends.4.0
+    r.from r.ends
+
+pub loop-bracket-preserved : goal.loop-bracket-preserved
+loop-bracket-preserved c =
+    list_more c.args.text.now c.in-Some.at c.in_ok-bracket-2.bracket c.loop-bracket.gathered c.section.new.self
+    c.loop-bracket.sections c.section.new.sections
+    (subst (λ (o : Option ℕ). ListSoFar c.args.text.now o c.loop-bracket.gathered c.loop-bracket.sections.items)
+    c.in-Some.is c.loop-bracket.invariant) c.in_ok-bracket-2.ensures.read
+
+pub returns-clause-read : goal.returns-clause-read
+returns-clause-read c =
+    list_over c.args.text.now c.loop-bracket.gathered c.loop-bracket.sections
+    (subst (λ (o : Option ℕ). ListSoFar c.args.text.now o c.loop-bracket.gathered c.loop-bracket.sections.items)
+    c.in_default.is c.loop-bracket.invariant)

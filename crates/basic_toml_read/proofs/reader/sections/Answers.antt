@@ -1,0 +1,9 @@
+use Rattle.basic_toml_read.proofs.Explained.{list_answered, stop_answered}
+use Rattle.basic_toml_read.proofs.reader.sections.Goals as goal
+
+pub returns-in-Ok : goal.returns-in-Ok
+returns-in-Ok c = list_answered c.args.text.now c.in-Ok.sections c.in-Ok.ensures.read
+
+pub returns-in-Err : goal.returns-in-Err
+returns-in-Err c = stop_answered c.args.text.now c.in-Err.stop.why c.in-Err.stop.at c.explain.result
+    c.in-Err.ensures.read c.explain.ensures

@@ -1,0 +1,157 @@
+use Rattle.std.proofs.Common.{◌≡◌, ℕ, length, drop, take, ap, ◌∙◌, arith, refl}
+use Rattle.basic_toml_tokens.specs.Text.{text_at}
+use Rattle.basic_toml_read.specs.Gathers.{ReadsRow, ReadsElements, ReadsFields}
+use Rattle.basic_toml_read.proofs.KeysTold.{stopped}
+use Rattle.basic_toml_read.proofs.ElementsGathered.{elements_start, elements_end, elements_missing, elements_more}
+use Rattle.basic_toml_read.proofs.ElementsGathered.{elements_close}
+use Rattle.basic_toml_read.proofs.FieldsGathered.{fields_start, fields_none, fields_missing, fields_more, fields_close}
+use Rattle.basic_toml_read.proofs.ValuesGathered.{keys_missed, no_equals, value_missing, row_there, array_value}
+use Rattle.basic_toml_read.proofs.ValuesGathered.{inline_value, string_value, word_value_here, array_whole}
+use Rattle.basic_toml_read.proofs.ValuesGathered.{inline_whole}
+use Rattle.basic_toml_read.proofs.values.Gathered.+values.Goals as goal
+
+pub elements-loop-end-init : goal.elements-loop-end-init
+elements-loop-end-init t c = elements_start c.args.text.now c.args.start c.args.level c.args.self.now c.requires.1.1.0
+
+pub elements-returns-in-Some-clause-read : goal.elements-returns-in-Some-clause-read
+elements-returns-in-Some-clause-read t c =
+    elements_end c.args.text.now c.args.start c.args.level c.loop-end.at c.args.self.now c.loop-end.self
+    c.loop-end.invariant c.in-Some.end c.in-Some.ensures
+
+pub elements-returns-in_err-valued-clause-read : goal.elements-returns-in_err-valued-clause-read
+elements-returns-in_err-valued-clause-read t c =
+    let stop = c.in_err-valued.field-0.0 in
+    stopped (ReadsElements c.args.text.now c.args.start c.args.level c.args.self.now c.value.new.self)
+    c.from_residual.result stop c.from_residual.ensures.1
+    (elements_missing c.args.text.now c.args.start c.args.level c.loop-end.at c.args.self.now c.loop-end.self
+    c.loop-end.invariant stop.why c.in_default.ensures c.in_err-valued.ensures.read)
+
+pub elements-returns-in_default-after_punctuation-clause-read : goal.elements-returns-in_default-after_punctuation-clause-read
+elements-returns-in_default-after_punctuation-clause-read t c =
+    elements_close c.args.text.now c.args.start c.args.level c.loop-end.at c.args.self.now c.loop-end.self
+    c.loop-end.invariant
+    c.value.new.self (record {
+      alloc = c.value.new.self.alloc;
+      elements = c.push.new.self;
+      rows =
+          c.value.new.self.rows;
+    }) c.in_ok-valued.valued c.in_ok-valued.ensures.read
+    c.after_gap-after.result c.after_gap-after.ensures c.in_default.ensures c.in_ok-push.ensures.items refl
+    c.closed.result c.in_default-after_punctuation.ensures c.closed.ensures.read
+
+pub elements-loop-end-preserved : goal.elements-loop-end-preserved
+elements-loop-end-preserved t c =
+    elements_more c.args.text.now c.args.start c.args.level c.loop-end.at c.args.self.now c.loop-end.self
+    c.loop-end.invariant
+    c.value.new.self (record {
+      alloc = c.value.new.self.alloc;
+      elements = c.push.new.self;
+      rows =
+          c.value.new.self.rows;
+    }) c.in_ok-valued.valued c.in_ok-valued.ensures.read
+    c.after_gap-after.result c.after_gap-after.ensures c.in_default.ensures c.in_ok-push.ensures.items refl
+    c.in-Some-after_punctuation.next c.after_gap-at.result c.in-Some-after_punctuation.ensures c.after_gap-at.ensures
+
+pub fields-returns-in-Some-clause-read : goal.fields-returns-in-Some-clause-read
+fields-returns-in-Some-clause-read t c =
+    fields_none c.args.text.now c.args.start c.args.level c.in-Some.end c.args.self.now c.in-Some.ensures
+
+pub fields-loop-after-init : goal.fields-loop-after-init
+fields-loop-after-init t c =
+    fields_start c.args.text.now c.args.start c.args.level c.args.self.now c.requires.1.1.0 c.in_default.ensures
+
+pub fields-returns-in_err-row-clause-read : goal.fields-returns-in_err-row-clause-read
+fields-returns-in_err-row-clause-read t c =
+    let stop = c.in_err-row.field-0.0 in
+    stopped (ReadsFields c.args.text.now c.args.start c.args.level c.args.self.now c.row.new.self)
+    c.from_residual.result stop c.from_residual.ensures.1
+    (fields_missing c.args.text.now c.args.start c.args.level c.loop-after.at c.args.self.now c.loop-after.self
+    c.loop-after.invariant stop.why c.in_err-row.ensures.read)
+
+pub fields-returns-in_default-after_punctuation-clause-read : goal.fields-returns-in_default-after_punctuation-clause-read
+fields-returns-in_default-after_punctuation-clause-read t c =
+    fields_close c.args.text.now c.args.start c.args.level c.loop-after.at c.args.self.now c.loop-after.self
+    c.loop-after.invariant
+    c.row.new.self c.in_ok-row.field-0 c.in_ok-row.ensures.read c.after_blanks-after.result
+    c.after_blanks-after.ensures c.closed.result c.in_default-after_punctuation.ensures c.closed.ensures.read
+
+pub fields-loop-after-preserved : goal.fields-loop-after-preserved
+fields-loop-after-preserved t c =
+    fields_more c.args.text.now c.args.start c.args.level c.loop-after.at c.args.self.now c.loop-after.self
+    c.loop-after.invariant
+    c.row.new.self c.in_ok-row.field-0 c.in_ok-row.ensures.read c.after_blanks-after.result c.after_blanks-after.ensures
+    c.in-Some-after_punctuation.next c.after_blanks-at.result c.in-Some-after_punctuation.ensures c.after_blanks-at.ensures
+
+pub row-returns-in_err-last-clause-read : goal.row-returns-in_err-last-clause-read
+row-returns-in_err-last-clause-read t c =
+    let stop = c.in_err-last.field-0.0 in
+    stopped (ReadsRow c.args.text.now c.args.at c.args.level c.args.self.now c.keys.new.self) c.from_residual.result
+    stop c.from_residual.ensures.1
+    (keys_missed c.args.level (text_at c.args.text.now c.args.at) stop.why c.in_err-last.ensures.read)
+
+pub row-returns-in_default-clause-read : goal.row-returns-in_default-clause-read
+row-returns-in_default-clause-read t c =
+    no_equals c.args.text.now c.args.at c.args.level c.args.self.now c.keys.new.self c.in_ok-last.last
+    c.in_ok-last.ensures.read c.in_default.ensures
+
+pub row-returns-in_err-valued-clause-read : goal.row-returns-in_err-valued-clause-read
+row-returns-in_err-valued-clause-read t c =
+    let stop = c.in_err-valued.field-0.0 in
+    stopped (ReadsRow c.args.text.now c.args.at c.args.level c.args.self.now c.value.new.self)
+    c.from_residual-in_err-valued.result stop c.from_residual-in_err-valued.ensures.1
+    (value_missing c.args.text.now c.args.at c.args.level c.args.self.now c.keys.new.self c.in_ok-last.last
+    c.in_ok-last.ensures.read
+    c.in-Some.next c.after_blanks.result c.in-Some.ensures c.after_blanks.ensures stop.why
+    c.in_err-valued.ensures.read)
+
+pub row-returns-clause-read : goal.row-returns-clause-read
+row-returns-clause-read t c =
+    row_there c.args.text.now c.args.at c.args.level c.args.self.now c.keys.new.self c.in_ok-last.last
+    c.in_ok-last.ensures.read
+    c.in-Some.next c.after_blanks.result c.in-Some.ensures c.after_blanks.ensures
+    (record { alloc = c.value.new.self.alloc; elements = c.value.new.self.elements; rows = c.push.new.self })
+    c.value.new.self c.in_ok-valued.valued c.in_ok-valued.ensures.read c.in_ok-push.ensures.items refl
+
+pub value-returns-in-Some-clause-read : goal.value-returns-in-Some-clause-read
+value-returns-in-Some-clause-read t c =
+    array_value c.args.text.now c.args.at c.in-Some.next c.args.level c.args.self.now c.array.new.self c.array.result
+    c.in-Some.ensures c.array.ensures.read
+
+pub value-returns-in-Some-after_punctuation-clause-read : goal.value-returns-in-Some-after_punctuation-clause-read
+value-returns-in-Some-after_punctuation-clause-read t c =
+    inline_value c.args.text.now c.args.at c.in-Some-after_punctuation.next c.args.level c.args.self.now c.inline.new.self
+    c.inline.result c.in_default.ensures c.in-Some-after_punctuation.ensures c.inline.ensures.read
+
+pub value-returns-then-begins_string-clause-read : goal.value-returns-then-begins_string-clause-read
+value-returns-then-begins_string-clause-read t c =
+    string_value c.args.text.now c.args.at c.args.level c.args.self.now c.string_value_at.result c.in_default.ensures
+    c.in_default-after_punctuation.ensures c.if-begins_string.ensures.2 c.string_value_at.ensures.read
+
+pub value-returns-clause-read : goal.value-returns-clause-read
+value-returns-clause-read t c =
+    word_value_here c.args.text.now c.args.at c.args.level c.args.self.now c.word_at.result c.in_default.ensures
+    c.in_default-after_punctuation.ensures c.if-begins_string.ensures c.word_at.ensures.read
+
+pub array-returns-clause-read : goal.array-returns-clause-read
+array-returns-clause-read t c =
+    let g = c.elements.new.self in
+    let counted : c.len-from.result ≡ length c.args.self.now.elements.items =
+    omega (arith, c.len-from.ensures, c.args.self.now.elements.ok.0) in
+    array_whole c.args.text.now c.args.offset c.args.at c.after_gap.result c.args.level c.in_ok-end.end
+    c.args.self.now g (record { alloc = g.alloc; elements = c.taken.new.items; rows = g.rows })
+    c.in_ok-taken.field-0
+    c.in_ok-raise.ensures c.after_gap.ensures c.in_ok-end.ensures.read
+    (c.in_ok-taken.ensures.0 ∙ ap (λ (n : ℕ). drop n g.elements.items) counted) (c.in_ok-taken.ensures.1 ∙
+    ap (λ (n : ℕ). take n g.elements.items) counted) refl
+
+pub inline-returns-clause-read : goal.inline-returns-clause-read
+inline-returns-clause-read t c =
+    let g = c.fields.new.self in
+    let counted : c.len-from.result ≡ length c.args.self.now.rows.items =
+    omega (arith, c.len-from.ensures, c.args.self.now.rows.ok.0) in
+    inline_whole c.args.text.now c.args.offset c.args.at c.after_blanks.result c.args.level c.in_ok-end.end
+    c.args.self.now g (record { alloc = g.alloc; elements = g.elements; rows = c.taken.new.items })
+    c.in_ok-taken.field-0
+    c.in_ok-raise.ensures c.after_blanks.ensures c.in_ok-end.ensures.read
+    (c.in_ok-taken.ensures.0 ∙ ap (λ (n : ℕ). drop n g.rows.items) counted) (c.in_ok-taken.ensures.1 ∙
+    ap (λ (n : ℕ). take n g.rows.items) counted) refl

@@ -1,0 +1,73 @@
+use Rattle.std.proofs.Common.{arith}
+use Rattle.basic_toml_read.specs.Lists.{ReadsRows}
+use Rattle.basic_toml_read.proofs.KeysTold.{stopped}
+use Rattle.basic_toml_read.proofs.RowsRead.{rows_start, rows_over, rows_bracket, rows_empty, rows_missing}
+use Rattle.basic_toml_read.proofs.RowsRead.{rows_unended, rows_more, line_later, some_line, sign_stands, sign_lacks}
+use Rattle.basic_toml_read.proofs.values.Gathered.rows.Goals as goal
+
+pub loop-at-init : goal.loop-at-init
+loop-at-init c = rows_start c.args.text.now c.args.start c.args.level c.args.self.now c.requires.boundary
+
+pub returns-then-is_some-clause-read : goal.returns-then-is_some-clause-read
+returns-then-is_some-clause-read c =
+    let i = c.loop-at.invariant in
+    let l = some_line c.args.text.now c.loop-at.at c.utf8.text i.boundary c.loop-at-test.true in
+    let s = sign_stands 91 c.args.text.now c.after_blanks-front.result c.after_punctuation.result c.after_punctuation.ensures
+    c.if-is_some.ensures in
+    rows_bracket c.args.text.now c.args.start c.args.level c.loop-at.at c.args.self.now c.loop-at.self i l.0 l.1 l.2
+    c.after_blanks-front.result c.after_blanks-front.ensures s.0 s.1
+
+pub loop-at-preserved-in-Some : goal.loop-at-preserved-in-Some
+loop-at-preserved-in-Some c =
+    let i = c.loop-at.invariant in
+    let l = some_line c.args.text.now c.loop-at.at c.utf8.text i.boundary c.loop-at-test.true in
+    let s = sign_lacks 91 c.args.text.now c.after_blanks-front.result c.after_punctuation.result c.after_punctuation.ensures
+    c.if-is_some.ensures in
+    let e = c.after_comment-end in
+    rows_empty c.args.text.now c.args.start c.args.level c.loop-at.at c.args.self.now c.loop-at.self i l.0 l.1 l.2
+    c.after_blanks-front.result c.after_blanks-front.ensures s
+    e.result e.ensures c.in-Some.next c.in-Some.ensures
+    (line_later c.args.text.now c.loop-at.at c.after_blanks-front.result e.result c.in-Some.next c.loop-at-test.true
+    c.after_blanks-front.ensures.forward e.ensures.forward c.in-Some.ensures)
+
+pub returns-in_err-end-in-None-clause-read : goal.returns-in_err-end-in-None-clause-read
+returns-in_err-end-in-None-clause-read c =
+    let i = c.loop-at.invariant in
+    let l = some_line c.args.text.now c.loop-at.at c.utf8.text i.boundary c.loop-at-test.true in
+    let s = sign_lacks 91 c.args.text.now c.after_blanks-front.result c.after_punctuation.result c.after_punctuation.ensures
+    c.if-is_some.ensures in
+    let stop = c.in_err-end-in-None.field-0.0 in
+    stopped (ReadsRows c.args.text.now c.args.start c.args.level c.args.self.now c.row.new.self)
+    c.from_residual.result stop c.from_residual.ensures.1
+    (rows_missing c.args.text.now c.args.start c.args.level c.loop-at.at c.args.self.now c.loop-at.self i l.0 l.1 l.2
+    c.after_blanks-front.result c.after_blanks-front.ensures s
+    c.after_comment-end.result c.after_comment-end.ensures c.in-None.ensures stop.why c.in_err-end-in-None.ensures.read)
+
+pub returns-in_err-at-in-None-clause-read : goal.returns-in_err-at-in-None-clause-read
+returns-in_err-at-in-None-clause-read c =
+    let i = c.loop-at.invariant in
+    let l = some_line c.args.text.now c.loop-at.at c.utf8.text i.boundary c.loop-at-test.true in
+    let s = sign_lacks 91 c.args.text.now c.after_blanks-front.result c.after_punctuation.result c.after_punctuation.ensures
+    c.if-is_some.ensures in
+    let stop = c.in_err-at-in-None.field-0.0 in
+    stopped (ReadsRows c.args.text.now c.args.start c.args.level c.args.self.now c.row.new.self)
+    c.from_residual-in_err-at-in-None.result stop c.from_residual-in_err-at-in-None.ensures.1
+    (rows_unended c.args.text.now c.args.start c.args.level c.loop-at.at c.args.self.now c.loop-at.self i l.0 l.1 l.2
+    c.after_blanks-front.result c.after_blanks-front.ensures s
+    c.after_comment-end.result c.after_comment-end.ensures c.in-None.ensures c.row.new.self c.in_ok-end-in-None.end
+    c.in_ok-end-in-None.ensures.read stop c.in_err-at-in-None.ensures.read)
+
+pub loop-at-preserved : goal.loop-at-preserved
+loop-at-preserved c =
+    let i = c.loop-at.invariant in
+    let l = some_line c.args.text.now c.loop-at.at c.utf8.text i.boundary c.loop-at-test.true in
+    let s = sign_lacks 91 c.args.text.now c.after_blanks-front.result c.after_punctuation.result c.after_punctuation.ensures
+    c.if-is_some.ensures in
+    rows_more c.args.text.now c.args.start c.args.level c.loop-at.at c.args.self.now c.loop-at.self i l.0 l.1 l.2
+    c.after_blanks-front.result c.after_blanks-front.ensures s
+    c.after_comment-end.result c.after_comment-end.ensures c.in-None.ensures c.row.new.self c.in_ok-end-in-None.end
+    c.in_ok-end-in-None.ensures.read c.in_ok-at-in-None.at c.in_ok-at-in-None.ensures.read
+
+pub returns-clause-read : goal.returns-clause-read
+returns-clause-read c = rows_over c.args.text.now c.args.start c.args.level c.loop-at.at c.args.self.now
+    c.loop-at.self c.loop-at.invariant (omega (arith, c.loop-at-test.false))

@@ -1,0 +1,32 @@
+use Rattle.std.proofs.Common.{◌≡◌, ℕ, ◌+◌, ◌<◌, length, subst, arith}
+use Rattle.basic_toml_tokens.specs.Text.{text_at}
+use Rattle.basic_toml_read.specs.FrontOf.{rows_of}
+use Rattle.basic_toml_grammar.specs.Levels.{rows_level}
+use Rattle.basic_toml_read.specs.StopsAt.{Misses}
+use Rattle.basic_toml_read.specs.Lists.{AreRowsRead, ReadsSection}
+use Rattle.basic_toml_read.proofs.KeysTold.{stopped}
+use Rattle.basic_toml_read.proofs.ListsRead.{rows_missing, section_there}
+use Rattle.basic_toml_read.proofs.values.Gathered.section.Goals as goal
+
+pub returns-in_err-next-clause-read : goal.returns-in_err-next-clause-read
+returns-in_err-next-clause-read c =
+    let h = c.in_ok-header.header in
+    let stop = c.in_err-next.field-0.0 in
+    let counted : c.len.result ≡ length h.keys.items = omega (arith, c.len.ensures, h.keys.ok.0) in
+    stopped (ReadsSection c.args.text.now c.args.at c.rows.new.self c.args.sections.now c.args.sections.now)
+    c.from_residual-in_err-next.result stop c.from_residual-in_err-next.ensures.1
+    (rows_missing c.args.text.now c.args.at h c.in_ok-header.ensures.read c.in_ok-line.line c.in_ok-line.ensures.read
+    stop.why
+    (subst (λ (n : ℕ). Misses stop.why (rows_of (text_at c.args.text.now c.in_ok-line.line))
+    (λ r. 128 < rows_level (n + 1) r.0)) counted c.in_err-next.ensures.read))
+
+pub returns-clause-read : goal.returns-clause-read
+returns-clause-read c =
+    let h = c.in_ok-header.header in
+    let counted : c.len.result ≡ length h.keys.items = omega (arith, c.len.ensures, h.keys.ok.0) in
+    let mid = c.rows.new.self in
+    section_there c.args.text.now c.args.at h c.in_ok-header.ensures.read c.in_ok-line.line c.in_ok-line.ensures.read
+    c.args.self.now mid _ c.in_ok-next.next c.args.sections.now c.push.new.self c.in_ok-rows.rows c.requires.none
+    (subst (λ (n : ℕ). AreRowsRead c.args.text.now c.in_ok-line.line (n + 1) c.args.self.now mid c.in_ok-next.next)
+    counted c.in_ok-next.ensures.read)
+    c.in_ok-rows.ensures.0 c.in_ok-rows.ensures.1 c.in_ok-push.ensures.items

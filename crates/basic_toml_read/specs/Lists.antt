@@ -1,0 +1,131 @@
+-- What reading headers, rows and whole texts answers.
+use Rattle.std.specs.Prelude.{false, ◌≡◌, ◌≤◌, ◌<◌, ◌+◌, ℕ, List, [], ◌∷◌, ◌++◌, length, map, Option, Some, None}
+use Rattle.std.specs.Prelude.{Result, Ok, Err, Vec}
+use Rattle.std.specs.Str.{IsCharBoundary}
+use Rattle.std.specs.Cow.{cow_str_bytes}
+use Rattle.std.specs.declared.alloc.Global.{Global}
+use Rattle.basic_toml_tokens.specs.Text.{Text, text_at, folded, after_blanks}
+use Rattle.basic_toml_read.specs.declared.header.Header.{Header}
+use Rattle.basic_toml_read.specs.declared.header.HeaderKeys.{HeaderKeys}
+use Rattle.basic_toml_read.specs.declared.section.Row as code_rows
+use Rattle.basic_toml_read.specs.declared.section.Section as code_sections
+use Rattle.basic_toml_read.specs.declared.stop.Stop.{Stop}
+use Rattle.basic_toml_read.specs.declared.stop.Why.TheVariants.{Memory, Newline}
+use Rattle.basic_toml_read.specs.declared.values.Gathered.{Gathered}
+use Rattle.basic_toml_grammar.specs.Sections.{no_rows, Section}
+use Rattle.basic_toml_grammar.specs.Levels.{rows_level, section_level, highest_level}
+use Rattle.basic_toml_grammar.specs.Reader as reader
+use Rattle.basic_toml_grammar.specs.Reader.{char_at, line_end_at, section_list_of}
+use Rattle.basic_toml_read.specs.FrontOf.{keys_of, header_of, rows_of, sections_of}
+use Rattle.basic_toml_grammar.specs.Entering.{and_then}
+use Rattle.basic_toml_read.specs.SectionView.{rows_view, keys_with, section_of}
+use Rattle.basic_toml_read.specs.StopsAt.{Misses}
+use Rattle.basic_toml_read.specs.StopPlaces.{anywhere, IsAt, LineAt, NextStands}
+
+pub record AreHeaderKeys (bytes : List ℕ) (at : ℕ) (found : HeaderKeys) : Type 0 where
+  pub mid : Text
+  pub is : keys_of (text_at bytes at) ≡ Some (keys_with found.offsets.items (map cow_str_bytes found.keys.items), mid)
+  pub after : text_at bytes found.end ≡ after_blanks mid
+  pub same : length found.offsets.items ≡ length found.keys.items
+  pub limit : length found.keys.items + 1 ≤ 128
+  pub boundary : IsCharBoundary bytes found.end
+  pub later : at < found.end
+
+abbrev pub ReadsHeaderKeys : List ℕ → ℕ → Result HeaderKeys Stop → Type 0
+ReadsHeaderKeys bytes at (Ok found) = AreHeaderKeys bytes at found
+ReadsHeaderKeys bytes at (Err stop) = Misses stop.why (keys_of (text_at bytes at)) (λ keys. 128 < length keys.0 + 1)
+
+pub record IsHeaderRead (bytes : List ℕ) (at : ℕ) (h : Header) : Type 0 where
+  pub is : header_of (text_at bytes at)
+      ≡ Some (record {
+        offset = h.at;
+        keys = keys_with h.offsets.items (map cow_str_bytes h.keys.items);
+        is_array =
+            h.is_array;
+        rest = text_at bytes h.end;
+      })
+  pub same : length h.offsets.items ≡ length h.keys.items
+  pub limit : length h.keys.items + 1 ≤ 128
+  pub boundary : IsCharBoundary bytes h.end
+  pub later : at < h.end
+
+abbrev pub ReadsHeader : List ℕ → ℕ → Result Header Stop → Type 0
+ReadsHeader bytes at (Ok h) = IsHeaderRead bytes at h
+ReadsHeader bytes at (Err stop) = Misses stop.why (header_of (text_at bytes at)) (λ h. 128 < length h.keys + 1)
+
+-- after the end of a line
+abbrev pub EndsLineAt : List ℕ → ℕ → Result ℕ Stop → Type 0
+EndsLineAt bytes at (Ok next) = (line_end_at (text_at bytes at) ≡ Some (text_at bytes next))
+    × IsCharBoundary bytes next × (at ≤ next)
+EndsLineAt bytes at (Err stop) = (line_end_at (text_at bytes at) ≡ None) × (stop.why ≡ Newline)
+
+-- where rows end: at the line of a header, whose bracket stands there, or at the end of the text
+abbrev pub NextAt : List ℕ → Text → Option ℕ → Type 0
+NextAt bytes rest None = rest ≡ []
+NextAt bytes rest (Some at) = (x : ℕ × ℕ) × (line : Text) × (rest ≡ x ∷ line) × (text_at bytes at ≡ after_blanks rest)
+    × IsCharBoundary bytes at
+
+-- not before an offset
+abbrev pub IsFrom : ℕ → Option ℕ → Type 0
+IsFrom start None = Unit {0}
+IsFrom start (Some at) = start ≤ at
+
+pub record AreRowsRead (bytes : List ℕ) (start level : ℕ) (old new : Gathered) (next : Option ℕ) : Type 0 where
+  pub added : List code_rows.Row
+  pub rest : Text
+  pub is : rows_of (text_at bytes start) ≡ Some (rows_view added, rest)
+  pub pushed : new.rows.items ≡ old.rows.items ++ added
+  pub some : rows_view added ≡ no_rows → added ≡ []
+  pub elements : new.elements.items ≡ old.elements.items
+  pub limit : rows_level level (rows_view added) ≤ 128
+  pub ends : NextAt bytes rest next
+  pub from : IsFrom start next
+  pub reached : (whole : Text) → LineAt whole (text_at bytes start) → NextStands whole bytes next
+
+abbrev pub ReadsRows : List ℕ → ℕ → ℕ → Gathered → Gathered → Result (Option ℕ) Stop → Type 0
+ReadsRows bytes start level old new (Ok next) = AreRowsRead bytes start level old new next
+ReadsRows bytes start level old new (Err stop) =
+    Misses stop.why (rows_of (text_at bytes start)) (λ r. 128 < rows_level level r.0)
+
+-- the rows before the first header
+abbrev pub root_view : List code_rows.Row → List Section
+root_view [] = []
+root_view (r ∷ rs) = record { at = 0; header = []; is_array = false; rows = rows_view (r ∷ rs) } ∷ []
+
+abbrev pub TakesRoot : Gathered → Gathered → Vec code_sections.Section Global → Vec code_sections.Section Global
+    → Result (Unit {0}) Stop → Type 0
+TakesRoot old new before after (Ok _) = (new.rows.items ≡ [])
+    × (map section_of after.items ≡ map section_of before.items ++ root_view old.rows.items)
+TakesRoot old new before after (Err stop) = stop.why ≡ Memory
+
+-- the sections from a header on
+abbrev pub sections_from : reader.Headed → Option (List Section)
+sections_from h = and_then (line_end_at h.rest)
+    (λ next. and_then (rows_of next) (λ rows. and_then (sections_of rows.1) (λ sections.
+    Some (record { at = h.offset; header = h.keys; is_array = h.is_array; rows = rows.0 } ∷ sections))))
+
+pub record IsSectionRead (bytes : List ℕ) (at : ℕ) (new : Gathered) (before after : Vec code_sections.Section Global)
+    (next : Option ℕ) : Type 0 where
+  pub made : code_sections.Section
+  pub pushed : after.items ≡ before.items ++ (made ∷ [])
+  pub rest : Text
+  pub is : and_then (header_of (text_at bytes at)) sections_from
+      ≡ and_then (sections_of rest) (λ sections. Some (section_of made ∷ sections))
+  pub ends : NextAt bytes rest next
+  pub from : IsFrom (at + 1) next
+  pub reached : (whole : Text) → IsAt whole anywhere (text_at bytes at) → NextStands whole bytes next
+  pub none : new.rows.items ≡ []
+  pub limit : section_level (section_of made) ≤ 128
+
+abbrev pub ReadsSection : List ℕ → ℕ → Gathered → Vec code_sections.Section Global → Vec code_sections.Section Global
+    → Result (Option ℕ) Stop → Type 0
+ReadsSection bytes at new before after (Ok next) = IsSectionRead bytes at new before after next
+ReadsSection bytes at new before after (Err stop) =
+    Misses stop.why (and_then (header_of (text_at bytes at)) sections_from) (λ sections. 128 < highest_level sections)
+
+-- the section list of the text, within the limit
+abbrev pub ReadsList : List ℕ → Result (Vec code_sections.Section Global) Stop → Type 0
+ReadsList bytes (Ok list) =
+    (section_list_of (folded bytes) ≡ Some (map section_of list.items))
+    × (highest_level (map section_of list.items) ≤ 128)
+ReadsList bytes (Err stop) = Misses stop.why (section_list_of (folded bytes)) (λ sections. 128 < highest_level sections)

@@ -1,0 +1,86 @@
+-- Where reading stops, and what does not stand there.
+use Rattle.std.specs.Prelude.{◌⊎◌, ◌≡◌, ◌<◌, ℕ, true, false, List, [], Option, Some, None, Result, Ok, Err}
+use Rattle.std.specs.Str.{IsCharBoundary}
+use Rattle.std.specs.Cow.{cow_str_bytes}
+use Rattle.basic_toml_tokens.specs.declared.error.Error.{Error}
+use Rattle.basic_toml_tokens.specs.declared.error.Error.TheVariants.{OutOfMemory}
+use Rattle.basic_toml_tokens.specs.declared.string.Quoted.{Quoted}
+use Rattle.basic_toml_tokens.specs.Text.{Text, text_at, run}
+use Rattle.basic_toml_read.specs.declared.stop.Stop.{Stop}
+use Rattle.basic_toml_read.specs.declared.stop.Why.{Why}
+use Rattle.basic_toml_read.specs.declared.stop.Why.TheVariants.{Memory, Deep, Key, Value, Word}
+use Rattle.basic_toml_read.specs.declared.scalar.Keyed.{Keyed}
+use Rattle.basic_toml_read.specs.declared.scalar.Valued.{Valued}
+use Rattle.basic_toml_grammar.specs.Sections.{Raw}
+use Rattle.basic_toml_grammar.specs.Grammar.{is_wordlike}
+use Rattle.basic_toml_grammar.specs.Reader as reader
+use Rattle.basic_toml_grammar.specs.Reader.{key_at, string_at, string_value_at, word_at}
+use Rattle.basic_toml_read.specs.SectionView.{raw_of}
+
+abbrev pub no_memory : Stop
+no_memory = record { at = 0; why = Memory }
+
+-- the stop where no string was taken
+abbrev pub why_of : Error → Why → Why
+why_of OutOfMemory why = Memory
+why_of _ why = why
+
+abbrev pub stop_of : Error → ℕ → Why → Stop
+stop_of error at why = record { at = at; why = why_of error why }
+
+-- in the text, but where memory was refused
+abbrev pub StopsInside : List ℕ → Stop → Type 0
+StopsInside bytes stop = (stop.why ≡ Memory) ⊎ IsCharBoundary bytes stop.at
+
+-- What is missing at the front of a text, by the reason of the stop: nothing where memory was refused; where a level
+-- passes the limit, it does in all that stands there.
+abbrev pub Misses : {A : Type 0} → Why → Option A → (A → Type 0) → Type 0
+Misses Memory o high = Unit {0}
+Misses {A = A} Deep o high = (x : A) → o ≡ Some x → high x
+Misses _ o high = o ≡ None
+
+-- no key
+abbrev pub MissesKey : Why → Text → Type 0
+MissesKey Memory text = Unit {0}
+MissesKey Key text = key_at text ≡ None
+MissesKey _ text = ⊥
+
+abbrev pub ReadsKeyAt : List ℕ → ℕ → Result Keyed Stop → Type 0
+ReadsKeyAt bytes at (Ok k) =
+    (key_at (text_at bytes at) ≡ Some (record { offset = at; text = cow_str_bytes k.key }, text_at bytes k.end))
+    × IsCharBoundary bytes k.end × (at < k.end)
+ReadsKeyAt bytes at (Err stop) = MissesKey stop.why (text_at bytes at) × (stop.why ≡ Key → stop.at ≡ at)
+
+-- a one-line string as a key
+abbrev pub IsKeyOf : Quoted → ℕ → Result Keyed Stop → Type 0
+IsKeyOf quoted at (Ok k) = (quoted.multiline ≡ false) × (k ≡ record { key = quoted.val; end = quoted.end })
+IsKeyOf quoted at (Err stop) = (quoted.multiline ≡ true) × (stop ≡ record { at = at; why = Key })
+
+-- the value that the code has, and where it ends
+pub record IsValued (bytes : List ℕ) (at : ℕ) (v : Valued) (found : Option reader.Valued) : Type 0 where
+  pub raw : Raw
+  pub seen : raw_of v.value ≡ Some raw
+  pub is : found ≡ Some (record { offset = v.offset; value = raw; rest = text_at bytes v.end })
+  pub boundary : IsCharBoundary bytes v.end
+  pub later : at < v.end
+
+-- no string
+abbrev pub MissesString : Why → Text → Type 0
+MissesString Memory text = Unit {0}
+MissesString Value text = string_at text ≡ None
+MissesString _ text = ⊥
+
+abbrev pub ReadsStringAt : List ℕ → ℕ → Result Valued Stop → Type 0
+ReadsStringAt bytes at (Ok v) = IsValued bytes at v (string_value_at (text_at bytes at))
+ReadsStringAt bytes at (Err stop) = MissesString stop.why (text_at bytes at) × (stop.why ≡ Value → stop.at ≡ at)
+
+-- no number, `true` or `false`; where a word stands, it is none
+abbrev pub MissesWord : Why → Text → Type 0
+MissesWord Memory text = Unit {0}
+MissesWord Value text = (word_at text ≡ None) × (run is_wordlike text ≡ [])
+MissesWord (Word end) text = (word_at text ≡ None) × (run is_wordlike text ≡ [] → ⊥)
+MissesWord _ text = ⊥
+
+abbrev pub ReadsWordAt : List ℕ → ℕ → Result Valued Stop → Type 0
+ReadsWordAt bytes at (Ok v) = IsValued bytes at v (word_at (text_at bytes at))
+ReadsWordAt bytes at (Err stop) = MissesWord stop.why (text_at bytes at) × ((stop.why ≡ Memory → ⊥) → stop.at ≡ at)

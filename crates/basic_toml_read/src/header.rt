@@ -1,0 +1,99 @@
+//! Headers.
+ghost use Rattle.std.specs.Prelude.{IfErr};
+ghost use Rattle.std.specs.Str.{IsCharBoundary};
+ghost use Rattle.basic_toml_read.specs.StopsAt.{StopsInside};
+ghost use Rattle.basic_toml_read.specs.Lists.{ReadsHeaderKeys, ReadsHeader};
+
+use crate::front::after_blanks;
+use crate::scalar::key_at;
+use crate::stop::{Stop, Why};
+use crate::values::{closed, raise};
+use basic_toml_tokens::after_punctuation;
+use std::alloc::Global;
+use std::borrow::CowStr;
+
+/// A header and where it ends. `at` is the offset of its first bracket.
+#[derive(Drop)]
+pub(crate) struct Header<'de> {
+    pub at: usize,
+    pub is_array: bool,
+    pub keys: Vec<CowStr<'de>>,
+    pub offsets: Vec<usize>,
+    pub end: usize,
+}
+
+/// The keys of a header with their offsets, and where the blanks after them end.
+#[derive(Drop)]
+struct HeaderKeys<'de> {
+    keys: Vec<CowStr<'de>>,
+    offsets: Vec<usize>,
+    end: usize,
+}
+
+// The keys of a header, the first of which has level 2.
+fn header_keys<'de>(alloc: Global, text: &'de str, at: usize) -> Result<HeaderKeys<'de>, Stop>
+    requires { IsCharBoundary text.now at }
+    ensures read { ReadsHeaderKeys text.now at result }
+    ensures inside { IfErr result (λ stop. StopsInside text.now stop) }
+{
+    let mut keys = Vec::new(alloc);
+    let mut offsets = Vec::new(alloc);
+    let mut offset = at;
+    let mut level = 2;
+    loop {
+        let keyed = key_at(alloc, text, offset)?;
+        raise(level, offset)?;
+        keys.push(keyed.key)?;
+        offsets.push(offset)?;
+        let end = after_blanks(text, keyed.end);
+        match after_punctuation(text, end, b'.') {
+            Some(next) => {
+                offset = after_blanks(text, next);
+                level += 1;
+            }
+            None => return Ok(HeaderKeys { keys, offsets, end }),
+        }
+    }
+}
+
+/// The header whose first bracket stands at `at`.
+pub(crate) fn header_at<'de>(alloc: Global, text: &'de str, at: usize) -> Result<Header<'de>, Stop>
+    requires { IsCharBoundary text.now at }
+    ensures read { ReadsHeader text.now at result }
+    ensures inside { IfErr result (λ stop. StopsInside text.now stop) }
+{
+    let inner = closed(text, at, b'[', Why::Newline)?;
+    match after_punctuation(text, inner, b'[') {
+        None => {
+            let HeaderKeys { keys, offsets, end } = header_keys(
+                alloc,
+                text,
+                after_blanks(text, inner),
+            )?;
+            let end = closed(text, end, b']', Why::Bracket)?;
+            Ok(Header {
+                at,
+                is_array: false,
+                keys,
+                offsets,
+                end,
+            })
+        }
+        Some(first) => {
+            let HeaderKeys { keys, offsets, end } = header_keys(
+                alloc,
+                text,
+                after_blanks(text, first),
+            )?;
+            let last = closed(text, end, b']', Why::Bracket)?;
+            let end = closed(text, last, b']', Why::Bracket)?;
+            Ok(Header {
+                at,
+                is_array: true,
+                keys,
+                offsets,
+                end,
+            })
+        }
+    }
+}

@@ -1,0 +1,140 @@
+//! From a text to its section list.
+ghost use Rattle.std.specs.Prelude.{IfErr, ◌≡◌, ◌≤◌, []};
+ghost use Rattle.std.specs.Str.{IsCharBoundary};
+ghost use Rattle.basic_toml_read.specs.StopsAt.{StopsInside};
+ghost use Rattle.basic_toml_read.specs.SectionsAnswer.{AnswersSections};
+ghost use Rattle.basic_toml_read.specs.Lists.{EndsLineAt, ReadsRows, TakesRoot, ReadsSection, ReadsList};
+
+use crate::ReadError;
+use crate::explain::explain;
+use crate::front::{after_blanks, after_comment, after_line, end_of_line};
+use crate::header::header_at;
+use crate::section::Section;
+use crate::stop::{End, Stop, Why};
+use crate::values::{Gathered, taken};
+use basic_toml_tokens::{after_punctuation, start_of_text};
+use std::alloc::Global;
+
+// Where the next line begins, after blanks and a comment.
+fn next_line(text: &str, at: usize) -> Result<usize, Stop>
+    requires { IsCharBoundary text.now at }
+    ensures read { EndsLineAt text.now at result }
+    ensures inside { IfErr result (λ stop. StopsInside text.now stop) }
+{
+    let end = end_of_line(text, at);
+    match after_line(text, end) {
+        Some(next) => Ok(next),
+        None => Err(Stop {
+            at: end,
+            why: Why::Newline,
+        }),
+    }
+}
+
+impl<'de> Gathered<'de> {
+    // The rows from a line on, in a table of a level, up to the end of the text or to a header;
+    // answers where its bracket stands.
+    fn rows(&mut self, text: &'de str, start: usize, level: usize) -> Result<Option<usize>, Stop>
+        requires boundary { IsCharBoundary text.now start }
+        requires level { level ≤ 128 }
+        ensures read { ReadsRows text.now start level self.old self.new result }
+        ensures inside { IfErr result (λ stop. StopsInside text.now stop) }
+    {
+        let mut at = start;
+        while at < text.len() {
+            let front = after_blanks(text, at);
+            if after_punctuation(text, front, b'[').is_some() {
+                return Ok(Some(front));
+            }
+            let end = after_comment(text, front);
+            match after_line(text, end) {
+                Some(next) => at = next,
+                None => {
+                    let end = self.row(text, front, level, End::Newline)?;
+                    at = next_line(text, end)?;
+                }
+            }
+        }
+        Ok(None)
+    }
+}
+
+impl<'de> Gathered<'de> {
+    // Adds the rows before the first header as a section, if there are any.
+    fn root(&mut self, sections: &mut Vec<Section<'de>>) -> Result<(), Stop>
+        ensures { TakesRoot self.old self.new sections.old sections.new result }
+    {
+        if self.rows.is_empty() {
+            return Ok(());
+        }
+        let rows = taken(&mut self.rows, 0)?;
+        sections.push(Section {
+            at: 0,
+            is_array: false,
+            header: Vec::new(self.alloc),
+            offsets: Vec::new(self.alloc),
+            rows,
+        })?;
+        Ok(())
+    }
+
+    // Adds the section whose header stands at `at`; answers where the bracket of the next one stands.
+    fn section(
+        &mut self,
+        text: &'de str,
+        at: usize,
+        sections: &mut Vec<Section<'de>>,
+    ) -> Result<Option<usize>, Stop>
+        requires boundary { IsCharBoundary text.now at }
+        requires none { self.old.rows.items ≡ [] }
+        ensures read { ReadsSection text.now at self.new sections.old sections.new result }
+        ensures inside { IfErr result (λ stop. StopsInside text.now stop) }
+    {
+        let header = header_at(self.alloc, text, at)?;
+        let line = next_line(text, header.end)?;
+        let next = self.rows(text, line, header.keys.len() + 1)?;
+        let rows = taken(&mut self.rows, 0)?;
+        sections.push(Section {
+            at: header.at,
+            is_array: header.is_array,
+            header: header.keys,
+            offsets: header.offsets,
+            rows,
+        })?;
+        Ok(next)
+    }
+}
+
+/// The section list of a text, or where reading stops.
+pub(crate) fn list<'de>(alloc: Global, text: &'de str) -> Result<Vec<Section<'de>>, Stop>
+    ensures read { ReadsList text.now result }
+    ensures inside { IfErr result (λ stop. StopsInside text.now stop) }
+{
+    let mut gathered = Gathered {
+        alloc,
+        elements: Vec::new(alloc),
+        rows: Vec::new(alloc),
+    };
+    let mut sections = Vec::new(alloc);
+    let mut bracket = gathered.rows(text, start_of_text(text), 1)?;
+    gathered.root(&mut sections)?;
+    while let Some(at) = bracket {
+        bracket = gathered.section(text, at, &mut sections)?;
+    }
+    Ok(sections)
+}
+
+/// The section list of a text (TOML v0.5.0, without dates and times): the rows before the first
+/// header, if there are any, and then each header with its rows, in order.
+///
+/// It is refused where the text has none, with an error of the grammar and the byte offset where it
+/// stands; with `NestedTooDeeply` where a key or a bracket stands within 128 others; and with
+/// `OutOfMemory`, without an offset, where memory is refused.
+pub fn sections<'de>(alloc: Global, text: &'de str) -> Result<Vec<Section<'de>>, ReadError>
+    ensures { AnswersSections text.now result }
+{
+    match list(alloc, text) {
+        Ok(sections) => Ok(sections),
+        Err(stop) => Err(explain(alloc, text, stop)),
+    }
+}

@@ -1,0 +1,141 @@
+//! Keys, strings and words at an offset of a text.
+ghost use Rattle.std.specs.Prelude.{IfErr, ◌≡◌, ◌<◌, [], Some, true, length, slice_index};
+ghost use Rattle.std.specs.Str.{IsCharBoundary};
+ghost use Rattle.basic_toml_tokens.specs.Text.{text_at, run, is_keylike};
+ghost use Rattle.basic_toml_tokens.specs.Strings.{is_quote};
+ghost use Rattle.basic_toml_read.specs.Number as words;
+ghost use Rattle.basic_toml_read.specs.SectionView.{raw_of};
+ghost use Rattle.basic_toml_read.specs.StopsAt.{StopsInside, IsKeyOf, ReadsKeyAt, ReadsStringAt, ReadsWordAt};
+
+use crate::front::{begins_string, end_of_word};
+use crate::number::{Word, value_offset, word_value};
+use crate::section::Raw;
+use crate::stop::{End, Stop, Why, refused};
+use basic_toml_tokens::{Class, Quoted, end_of_run, string_at};
+use std::alloc::Global;
+use std::borrow::CowStr;
+
+/// A value with its offset, and where it ends.
+#[derive(Drop)]
+pub(crate) struct Valued<'de> {
+    pub offset: usize,
+    pub value: Raw<'de>,
+    pub end: usize,
+}
+
+/// A key, and where it ends.
+#[derive(Drop)]
+pub(crate) struct Keyed<'de> {
+    pub key: CowStr<'de>,
+    pub end: usize,
+}
+
+/// The key at an offset.
+pub(crate) fn key_at<'de>(alloc: Global, text: &'de str, at: usize) -> Result<Keyed<'de>, Stop>
+    requires { IsCharBoundary text.now at }
+    ensures read { ReadsKeyAt text.now at result }
+    ensures inside { IfErr result (λ stop. StopsInside text.now stop) }
+{
+    let end = end_of_run(text, at, Class::Keylike);
+    if at == end {
+        return quoted_key_at(alloc, text, at);
+    }
+    Ok(Keyed {
+        key: CowStr::Borrowed(&text[at..end]),
+        end,
+    })
+}
+
+// The key at an offset where no bare one stands.
+fn quoted_key_at<'de>(alloc: Global, text: &'de str, at: usize) -> Result<Keyed<'de>, Stop>
+    requires boundary { IsCharBoundary text.now at }
+    requires none { run is_keylike (text_at text.now at) ≡ [] }
+    ensures read { ReadsKeyAt text.now at result }
+    ensures inside { IfErr result (λ stop. StopsInside text.now stop) }
+{
+    if !begins_string(text, at) {
+        return Err(Stop { at, why: Why::Key });
+    }
+    match string_at(alloc, text, at) {
+        Ok(quoted) => key_of(quoted, at),
+        Err(refusal) => Err(refused(refusal, at, Why::Key)),
+    }
+}
+
+// A one-line string as a key.
+fn key_of<'de>(quoted: Quoted<'de>, at: usize) -> Result<Keyed<'de>, Stop>
+    ensures { IsKeyOf quoted.entry at result }
+{
+    if quoted.multiline {
+        return Err(Stop { at, why: Why::Key });
+    }
+    Ok(Keyed {
+        key: quoted.val,
+        end: quoted.end,
+    })
+}
+
+/// The string at an offset, as a value.
+pub(crate) fn string_value_at<'de>(
+    alloc: Global,
+    text: &'de str,
+    at: usize,
+) -> Result<Valued<'de>, Stop>
+    requires boundary { IsCharBoundary text.now at }
+    requires within { at < length text.now }
+    requires quote { is_quote (slice_index text.now at) ≡ true }
+    ensures read { ReadsStringAt text.now at result }
+    ensures inside { IfErr result (λ stop. StopsInside text.now stop) }
+{
+    match string_at(alloc, text, at) {
+        Ok(quoted) => Ok(Valued {
+            offset: at,
+            value: Raw::String(quoted.val),
+            end: quoted.end,
+        }),
+        Err(refusal) => Err(refused(refusal, at, Why::Value)),
+    }
+}
+
+// The value of a word.
+fn raw<'de>(word: Word) -> Raw<'de>
+    ensures { raw_of result ≡ Some (words.raw_of word) }
+{
+    match word {
+        Word::Boolean(value) => Raw::Boolean(value),
+        Word::Integer(value) => Raw::Integer(value),
+        Word::Float(value) => Raw::Float(value),
+    }
+}
+
+/// The number, `true` or `false` at an offset. `end` is wanted after it.
+pub(crate) fn word_at<'de>(
+    alloc: Global,
+    text: &'de str,
+    at: usize,
+    end: End,
+) -> Result<Valued<'de>, Stop>
+    requires { IsCharBoundary text.now at }
+    ensures read { ReadsWordAt text.now at result }
+    ensures inside { IfErr result (λ stop. StopsInside text.now stop) }
+{
+    let after = end_of_word(text, at);
+    if at == after {
+        return Err(Stop {
+            at,
+            why: Why::Value,
+        });
+    }
+    let word = &text[at..after];
+    let Some(value) = word_value(alloc, word)? else {
+        return Err(Stop {
+            at,
+            why: Why::Word(end),
+        });
+    };
+    Ok(Valued {
+        offset: value_offset(at, at, word, &value),
+        value: raw(value),
+        end: after,
+    })
+}

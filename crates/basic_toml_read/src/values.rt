@@ -1,0 +1,274 @@
+//! Rows and values, which nest.
+ghost use Rattle.std.specs.Prelude.{IfErr, ◌≡◌, ◌≤◌, true, length, drop, take, IfOk};
+ghost use Rattle.std.specs.Str.{IsCharBoundary};
+ghost use Rattle.basic_toml_read.specs.StopsAt.{StopsInside};
+ghost use Rattle.basic_toml_tokens.specs.Punctuation.{is_lone};
+ghost use Rattle.basic_toml_read.specs.Gathers.{RaisesTo, ClosesAt, ReadsKeys, ReadsRow, ReadsValue, ReadsElements, ReadsArray, ReadsFields, ReadsInline};
+
+use crate::front::{after_blanks, after_gap, begins_string};
+use crate::scalar::{Valued, key_at, string_value_at, word_at};
+use crate::section::{Element, Raw, Row};
+use crate::stop::{End, Stop, Why};
+use basic_toml_tokens::after_punctuation;
+use std::alloc::{AllocError, Global};
+use std::borrow::CowStr;
+use std::mem;
+
+/// The highest level of a key or a bracket.
+const LIMIT: usize = 128;
+
+/// What is read is gathered in vectors that are used again, and is taken out of them where it is
+/// whole. So each vector that is kept is as long as it has to be.
+#[derive(Drop)]
+pub(crate) struct Gathered<'de> {
+    pub alloc: Global,
+    pub elements: Vec<Element<'de>>,
+    pub rows: Vec<Row<'de>>,
+}
+
+/// The last key of a row with its offset and its level, and where the blanks after it end.
+#[derive(Drop)]
+struct LastKey<'de> {
+    key: CowStr<'de>,
+    offset: usize,
+    level: usize,
+    end: usize,
+}
+
+/// A key or a bracket at an offset has this level.
+#[inline]
+pub(crate) fn raise(level: usize, at: usize) -> Result<(), Stop>
+    ensures { RaisesTo level at result }
+{
+    if level > LIMIT {
+        return Err(Stop { at, why: Why::Deep });
+    }
+    Ok(())
+}
+
+// From this many items on, a whole vector is handed over as it is, and not copied.
+const MANY: usize = 64;
+
+/// The items from a number on, in a vector of their own.
+pub(crate) fn taken<T>(items: &mut Vec<T>, from: usize) -> Result<Vec<T>, AllocError>
+    requires { from ≤ length items.old.items }
+    ensures { IfOk result (λ kept. (kept.items ≡ drop from items.old.items)
+        × (items.new.items ≡ take from items.old.items)) }
+{
+    if from == items.len() {
+        return Ok(Vec::new(*items.allocator()));
+    }
+    if from == 0 && items.len() >= MANY {
+        let alloc = *items.allocator();
+        return Ok(mem::replace(items, Vec::new(alloc)));
+    }
+    items.split_off(from)
+}
+
+impl<'de> Gathered<'de> {
+    // The keys of a row, the first of which has this level. Each but the last becomes a row without
+    // a value.
+    fn keys(&mut self, text: &'de str, at: usize, first: usize) -> Result<LastKey<'de>, Stop>
+        requires boundary { IsCharBoundary text.now at }
+        requires level { first ≤ 128 }
+        ensures read { ReadsKeys text.now at first self.old self.new result }
+        ensures inside { IfErr result (λ stop. StopsInside text.now stop) }
+    {
+        let mut offset = at;
+        let mut level = first;
+        loop {
+            let keyed = key_at(self.alloc, text, offset)?;
+            raise(level, offset)?;
+            let end = after_blanks(text, keyed.end);
+            match after_punctuation(text, end, b'.') {
+                Some(next) => {
+                    self.rows.push(Row {
+                        key: keyed.key,
+                        offset,
+                        start: 0,
+                        value: Raw::Dot,
+                    })?;
+                    offset = after_blanks(text, next);
+                    level += 1;
+                }
+                None => {
+                    return Ok(LastKey {
+                        key: keyed.key,
+                        offset,
+                        level,
+                        end,
+                    });
+                }
+            }
+        }
+    }
+
+    /// The row at an offset, whose first key has this level; answers where it ends. `end` is wanted
+    /// after it.
+    #[cycle(values)]
+    pub(crate) fn row(
+        &mut self,
+        text: &'de str,
+        at: usize,
+        level: usize,
+        end: End,
+    ) -> Result<usize, Stop>
+        requires boundary { IsCharBoundary text.now at }
+        requires level { level ≤ 128 }
+        ensures read { ReadsRow text.now at level self.old self.new result }
+        ensures inside { IfErr result (λ stop. StopsInside text.now stop) }
+    {
+        let last = self.keys(text, at, level)?;
+        let Some(next) = after_punctuation(text, last.end, b'=') else {
+            return Err(Stop {
+                at: last.end,
+                why: Why::Equals,
+            });
+        };
+        let valued = self.value(text, after_blanks(text, next), last.level, end)?;
+        self.rows.push(Row {
+            key: last.key,
+            offset: last.offset,
+            start: valued.offset,
+            value: valued.value,
+        })?;
+        Ok(valued.end)
+    }
+
+    // The value at an offset within something of a level. `end` is wanted after it.
+    #[cycle(values)]
+    fn value(
+        &mut self,
+        text: &'de str,
+        at: usize,
+        level: usize,
+        end: End,
+    ) -> Result<Valued<'de>, Stop>
+        requires boundary { IsCharBoundary text.now at }
+        requires level { level ≤ 128 }
+        ensures read { ReadsValue text.now at level self.old self.new result }
+        ensures inside { IfErr result (λ stop. StopsInside text.now stop) }
+    {
+        if let Some(next) = after_punctuation(text, at, b'[') {
+            return self.array(text, at, next, level + 1);
+        }
+        if let Some(next) = after_punctuation(text, at, b'{') {
+            return self.inline(text, at, next, level + 1);
+        }
+        if begins_string(text, at) {
+            return string_value_at(self.alloc, text, at);
+        }
+        word_at(self.alloc, text, at, end)
+    }
+
+    // The array whose bracket stands at `offset` and has this level, from after the bracket on.
+    #[cycle(values)]
+    fn array(
+        &mut self,
+        text: &'de str,
+        offset: usize,
+        at: usize,
+        level: usize,
+    ) -> Result<Valued<'de>, Stop>
+        requires stands { IsCharBoundary text.now offset }
+        requires boundary { IsCharBoundary text.now at }
+        requires level { level ≤ 129 }
+        ensures read { ReadsArray text.now offset at level self.old self.new result }
+        ensures inside { IfErr result (λ stop. StopsInside text.now stop) }
+    {
+        raise(level, offset)?;
+        let from = self.elements.len();
+        let end = self.elements(text, after_gap(text, at), level)?;
+        Ok(Valued {
+            offset,
+            value: Raw::Array(taken(&mut self.elements, from)?),
+            end,
+        })
+    }
+
+    // The elements of an array up to its closing bracket; answers where that ends.
+    #[cycle(values)]
+    fn elements(&mut self, text: &'de str, start: usize, level: usize) -> Result<usize, Stop>
+        requires boundary { IsCharBoundary text.now start }
+        requires level { level ≤ 128 }
+        ensures read { ReadsElements text.now start level self.old self.new result }
+        ensures inside { IfErr result (λ stop. StopsInside text.now stop) }
+    {
+        let mut at = start;
+        loop {
+            if let Some(end) = after_punctuation(text, at, b']') {
+                return Ok(end);
+            }
+            let valued = self.value(text, at, level, End::Bracket)?;
+            self.elements.push(Element {
+                offset: valued.offset,
+                value: valued.value,
+            })?;
+            let after = after_gap(text, valued.end);
+            let Some(next) = after_punctuation(text, after, b',') else {
+                return closed(text, after, b']', Why::Bracket);
+            };
+            at = after_gap(text, next);
+        }
+    }
+
+    // The inline table whose brace stands at `offset` and has this level, from after the brace on.
+    #[cycle(values)]
+    fn inline(
+        &mut self,
+        text: &'de str,
+        offset: usize,
+        at: usize,
+        level: usize,
+    ) -> Result<Valued<'de>, Stop>
+        requires stands { IsCharBoundary text.now offset }
+        requires boundary { IsCharBoundary text.now at }
+        requires level { level ≤ 129 }
+        ensures read { ReadsInline text.now offset at level self.old self.new result }
+        ensures inside { IfErr result (λ stop. StopsInside text.now stop) }
+    {
+        raise(level, offset)?;
+        let from = self.rows.len();
+        let end = self.fields(text, after_blanks(text, at), level)?;
+        Ok(Valued {
+            offset,
+            value: Raw::Inline(taken(&mut self.rows, from)?),
+            end,
+        })
+    }
+
+    // The rows of an inline table up to its closing brace; answers where that ends.
+    #[cycle(values)]
+    fn fields(&mut self, text: &'de str, start: usize, level: usize) -> Result<usize, Stop>
+        requires boundary { IsCharBoundary text.now start }
+        requires level { level ≤ 128 }
+        ensures read { ReadsFields text.now start level self.old self.new result }
+        ensures inside { IfErr result (λ stop. StopsInside text.now stop) }
+    {
+        if let Some(end) = after_punctuation(text, start, b'}') {
+            return Ok(end);
+        }
+        let mut at = start;
+        loop {
+            let after = after_blanks(text, self.row(text, at, level, End::Comma)?);
+            let Some(next) = after_punctuation(text, after, b',') else {
+                return closed(text, after, b'}', Why::Comma);
+            };
+            at = after_blanks(text, next);
+        }
+    }
+}
+
+/// After the sign that stands at an offset, or else the stop there.
+#[inline]
+pub(crate) fn closed(text: &str, at: usize, sign: u8, why: Why) -> Result<usize, Stop>
+    requires boundary { IsCharBoundary text.now at }
+    requires lone { is_lone sign ≡ true }
+    ensures read { ClosesAt sign why text.now at result }
+    ensures inside { IfErr result (λ stop. StopsInside text.now stop) }
+{
+    match after_punctuation(text, at, sign) {
+        Some(next) => Ok(next),
+        None => Err(Stop { at, why }),
+    }
+}

@@ -1,0 +1,61 @@
+-- Characters in front of a text, each at offset 0. What a text means does not depend on offsets, so this is enough for a
+-- layout.
+use Rattle.std.proofs.Common.{◌≡◌, ℕ, Bool, true, not, List, [], ◌∷◌, ◌++◌, refl, ap, ◌∙◌}
+use Rattle.std.specs.List.{list_all}
+use Rattle.std.proofs.lemmas.Bool.{and_parts, and_from, not-true, cond-true, cond-false}
+use Rattle.basic_toml_tokens.specs.Text.{Text, run, after_run, is_blank, after_blanks}
+use Rattle.basic_toml_grammar.specs.Respelled.{characters}
+
+abbrev pub onto : List ℕ → Text → Text
+onto [] rest = rest
+onto (c ∷ cs) rest = (0, c) ∷ onto cs rest
+
+pub onto-append : (xs ys : List ℕ) (rest : Text) → onto (xs ++ ys) rest ≡ onto xs (onto ys rest)
+onto-append [] ys rest = refl
+onto-append (x ∷ xs) ys rest = ap (λ t. (0, x) ∷ t) (onto-append xs ys rest)
+
+pub onto_three : (xs ys zs : List ℕ) (rest : Text) → onto ((xs ++ ys) ++ zs) rest ≡ onto xs (onto ys (onto zs rest))
+onto_three xs ys zs rest = onto-append (xs ++ ys) zs rest ∙ onto-append xs ys (onto zs rest)
+
+pub characters-onto : (cs : List ℕ) → characters (onto cs []) ≡ cs
+characters-onto [] = refl
+characters-onto (c ∷ cs) = ap (λ l. c ∷ l) (characters-onto cs)
+
+-- characters that pass one test pass another
+pub all_pass : (f g : ℕ → Bool) → ((c : ℕ) → f c ≡ true → g c ≡ true) → (cs : List ℕ) → list_all f cs ≡ true
+    → list_all g cs ≡ true
+all_pass f g each [] h = refl
+all_pass f g each (c ∷ cs) h =
+    let p : (f c ≡ true) × (list_all f cs ≡ true) = and_parts _ _ h in
+    and_from _ _ (each c p.0) (all_pass f g each cs p.1)
+
+-- the first character, if one stands there, does not pass
+abbrev pub stops : (ℕ → Bool) → Text → Bool
+stops f [] = true
+stops f (x ∷ text) = not (f x.1)
+
+run_stops : (f : ℕ → Bool) (rest : Text) → stops f rest ≡ true → run f rest ≡ []
+run_stops f [] e = refl
+run_stops f (x ∷ rest) e = cond-false (f x.1) (x.1 ∷ run f rest) [] (not-true (f x.1) e)
+
+after_run_stops : (f : ℕ → Bool) (rest : Text) → stops f rest ≡ true → after_run f rest ≡ rest
+after_run_stops f [] e = refl
+after_run_stops f (x ∷ rest) e = cond-false (f x.1) (after_run f rest) (x ∷ rest) (not-true (f x.1) e)
+
+pub no_blanks : (text : Text) → stops is_blank text ≡ true → after_blanks text ≡ text
+no_blanks text e = after_run_stops is_blank text e
+
+-- characters that pass, in front of a text whose first one does not
+pub run_onto : (f : ℕ → Bool) (cs : List ℕ) (rest : Text) → list_all f cs ≡ true → stops f rest ≡ true
+    → run f (onto cs rest) ≡ cs
+run_onto f [] rest all e = run_stops f rest e
+run_onto f (c ∷ cs) rest all e =
+    let p : (f c ≡ true) × (list_all f cs ≡ true) = and_parts _ _ all in
+    cond-true (f c) (c ∷ run f (onto cs rest)) [] p.0 ∙ ap (λ l. c ∷ l) (run_onto f cs rest p.1 e)
+
+pub after_run_onto : (f : ℕ → Bool) (cs : List ℕ) (rest : Text) → list_all f cs ≡ true → stops f rest ≡ true
+    → after_run f (onto cs rest) ≡ rest
+after_run_onto f [] rest all e = after_run_stops f rest e
+after_run_onto f (c ∷ cs) rest all e =
+    let p : (f c ≡ true) × (list_all f cs ≡ true) = and_parts _ _ all in
+    cond-true (f c) (after_run f (onto cs rest)) ((0, c) ∷ onto cs rest) p.0 ∙ after_run_onto f cs rest p.1 e

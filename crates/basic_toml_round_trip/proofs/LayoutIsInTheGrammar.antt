@@ -1,0 +1,172 @@
+-- The layout of a laid-out table, in characters at offset 0, is in the grammar, with the section list of the table.
+use Rattle.std.proofs.Common.{◌≡◌, ℕ, Bool, true, false, cond, List, [], ◌∷◌, ◌++◌, map, ap, sym, ◌∙◌, subst}
+use Rattle.std.proofs.Common.{append_assoc, append-nil, refl}
+use Rattle.std.specs.Str.{chars}
+use Rattle.basic_toml_tokens.specs.Text.{Text, is_comment, after_blanks}
+use Rattle.basic_toml_value.specs.Data.{Items, Members}
+use Rattle.basic_toml_emit.specs.Layout.{is_header_due, table_header, element_header}
+use Rattle.basic_toml_write.specs.Trees.{written_of, entries_of}
+use Rattle.basic_toml_grammar.specs.Sections.{Key, KeyTexts, Raw, Rows, no_rows, row, Section}
+use Rattle.basic_toml_grammar.specs.Grammar as g
+use Rattle.basic_toml_grammar.specs.Grammar.{IsRow, IsRows, IsHeader, IsSections, with_root, IsSectionList}
+use Rattle.basic_toml_round_trip.proofs.LaidOut.{Laid, a_row, then_parts, Parts, no_parts, a_table, an_array, Nodes}
+use Rattle.basic_toml_round_trip.proofs.LaidOut.{no_nodes, a_node}
+use Rattle.basic_toml_round_trip.proofs.SectionsOfTable.{has_header, rows, backwards, section_of, inner_sections}
+use Rattle.basic_toml_round_trip.proofs.SectionsOfTable.{part_sections, node_sections, sections}
+use Rattle.basic_toml_round_trip.proofs.CharactersInFront.{onto, onto-append, onto_three}
+use Rattle.basic_toml_round_trip.proofs.CharactersOfLayout.{decoded, decoded_members, path_chars, row_chars}
+use Rattle.basic_toml_round_trip.proofs.CharactersOfLayout.{table_chars, nodes_chars}
+use Rattle.basic_toml_round_trip.proofs.KeysAreInTheGrammar.{AreTexts}
+use Rattle.basic_toml_round_trip.proofs.HeadersAreInTheGrammar.{table_header_stands, element_header_stands}
+use Rattle.basic_toml_round_trip.proofs.RowsAreInTheGrammar.{feed_ends, row_stands}
+use Rattle.basic_toml_round_trip.proofs.RowsMakeHeadersDue.{row_form, decoded_form, row_text, decoded_header_due}
+
+-- these rows and then these sections, up to the end
+record Stands (text : Text) (rs : Rows) (ss : List Section) : Type 0 where
+  mid : Text
+  lines : IsRows is_comment text rs mid
+  others : IsSections is_comment mid ss
+
+in_text : {text other : Text} {rs : Rows} {ss : List Section} → text ≡ other → Stands other rs ss → Stands text rs ss
+in_text {rs = rs} {ss = ss} e t = subst (λ x. Stands x rs ss) (sym e) t
+
+as_list : {text : Text} {rs : Rows} {ss ts : List Section} → ss ≡ ts → Stands text rs ss → Stands text rs ts
+as_list {text = text} {rs = rs} e t = subst (λ x. Stands text rs x) e t
+
+-- an empty line, a row, or a header with its section in front
+stands_feed : {text : Text} {rs : Rows} {ss : List Section} → Stands text rs ss → Stands ((0, 10) ∷ text) rs ss
+stands_feed {text = text} t = record { mid = t.mid; lines = g.empty_line (feed_ends text) t.lines; others = t.others }
+
+stands_row : {keys : List Key} {p : ℕ} {v : Raw} {text next : Text} {rs : Rows} {ss : List Section}
+    → IsRow is_comment (after_blanks text) keys p v ((0, 10) ∷ next) → Stands next rs ss
+    → Stands text (row keys p v rs) ss
+stands_row {next = next} r t = record { mid = t.mid; lines = g.row_line r (feed_ends next) t.lines; others = t.others }
+
+stands_header : (path : KeyTexts) {is_array : Bool} {after text : Text} {rs : Rows} {ss : List Section}
+    → IsHeader ((0, 91) ∷ after) 0 (backwards path) is_array ((0, 10) ∷ text) → Stands text rs ss
+    → Stands ((0, 91) ∷ after) no_rows (section_of path is_array rs ∷ ss)
+stands_header path {after = after} {text = text} h t = record {
+  mid = (0, 91) ∷ after;
+  lines = g.header_next refl;
+  others = g.section h (feed_ends text) t.lines t.others;
+}
+
+-- the header of a table, after a blank line or not
+stands_table : (later : Bool) (k : List ℕ) (path : KeyTexts) {text : Text} {rs : Rows} {ss : List Section}
+    → AreTexts (k ∷ path)
+    → Stands text rs ss
+    → Stands (onto (table_header later (map chars (k ∷ path))) text) no_rows (section_of (k ∷ path) false rs ∷ ss)
+stands_table later k path {text = text} {rs = rs} {ss = ss} u t = go later
+  where
+    here : Stands (onto (table_header false (map chars (k ∷ path))) text) no_rows (section_of (k ∷ path) false rs ∷ ss)
+    here =
+        in_text (ap (λ t. (0, 91) ∷ t) (onto-append (path_chars (k ∷ path)) (93 ∷ 10 ∷ []) text))
+        (stands_header (k ∷ path) (table_header_stands k path ((0, 10) ∷ text) u) t)
+
+    go : (later : Bool)
+        → Stands (onto (table_header later (map chars (k ∷ path))) text) no_rows (section_of (k ∷ path) false rs ∷ ss)
+    go true = stands_feed here
+    go false = here
+
+-- and of an element
+stands_element : (later : Bool) (k : List ℕ) (path : KeyTexts) {text : Text} {rs : Rows} {ss : List Section}
+    → AreTexts (k ∷ path)
+    → Stands text rs ss
+    → Stands (onto (element_header later (map chars (k ∷ path))) text) no_rows (section_of (k ∷ path) true rs ∷ ss)
+stands_element later k path {text = text} {rs = rs} {ss = ss} u t = go later
+  where
+    here : Stands (onto (element_header false (map chars (k ∷ path))) text) no_rows (section_of (k ∷ path) true rs ∷ ss)
+    here =
+        in_text (ap (λ t. (0, 91) ∷ (0, 91) ∷ t) (onto-append (path_chars (k ∷ path)) (93 ∷ 93 ∷ 10 ∷ []) text))
+        (stands_header (k ∷ path) (element_header_stands k path ((0, 10) ∷ text) u) t)
+
+    go : (later : Bool)
+        → Stands (onto (element_header later (map chars (k ∷ path))) text) no_rows (section_of (k ∷ path) true rs ∷ ss)
+    go true = stands_feed here
+    go false = here
+
+-- a table with its header, or without one where it needs none
+abbrev header_chars : Bool → Bool → KeyTexts → List ℕ
+header_chars has later path = cond has (table_header later (map chars path)) []
+
+stands_whole : (later : Bool) (k : List ℕ) (path : KeyTexts) {x : Members} (laid : Laid [] x) {text : Text}
+    {ss : List Section} → AreTexts (k ∷ path) → Stands text (rows laid) ss
+    → Stands (onto (header_chars (has_header laid) later (k ∷ path)) text) no_rows
+    (cond (has_header laid) (section_of (k ∷ path) false (rows laid) ∷ []) [] ++ ss)
+stands_whole later k path (a_row new text value laid) u t = stands_table later k path u t
+stands_whole later k path (then_parts no_parts) u t = stands_table later k path u t
+stands_whole later k path (then_parts (a_table new text laid parts)) u t = t
+stands_whole later k path (then_parts (an_array new text nodes parts)) u t = t
+
+-- a table of an array, and the others after it
+abbrev array_chars : Bool → KeyTexts → Members → Items → List ℕ
+array_chars later path x xs = element_header later (map chars path) ++ (table_chars path false x ++ nodes_chars path xs)
+
+stands_array : (later : Bool) (k : List ℕ) (path : KeyTexts) (x : Members) (xs : Items) (after : Text) {rs : Rows}
+    {ss : List Section} → AreTexts (k ∷ path)
+    → Stands (onto (table_chars (k ∷ path) false x) (onto (nodes_chars (k ∷ path) xs) after)) rs ss
+    → Stands (onto (array_chars later (k ∷ path) x xs) after) no_rows (section_of (k ∷ path) true rs ∷ ss)
+stands_array later k path x xs after u t =
+    let header : List ℕ = element_header later (map chars (k ∷ path)) in
+    in_text
+    (onto-append header (table_chars (k ∷ path) false x ++ nodes_chars (k ∷ path) xs) after
+    ∙ ap (onto header) (onto-append (table_chars (k ∷ path) false x) (nodes_chars (k ∷ path) xs) after))
+    (stands_element later k path u t)
+
+mutual
+  inner_stand : {seen : KeyTexts} {ms : Members} (laid : Laid seen ms) (later : Bool) (path : KeyTexts) {rest : Text}
+      {ss : List Section} → AreTexts path → Stands rest no_rows ss
+      → Stands (onto (table_chars path later ms) rest) (rows laid) (inner_sections path laid ++ ss)
+  inner_stand (a_row {k = k} {x = x} {ms = ms} new text value laid) later path {rest = rest} u t =
+      in_text
+      (ap (λ cs. onto cs rest)
+      (row_text (map chars path) (chars k) later (written_of (decoded x)) (entries_of (decoded_members ms))
+      (decoded_form x ∙ row_form x value))
+      ∙ onto-append (row_chars k x) (table_chars path true ms) rest)
+      (stands_row (row_stands k x (onto (table_chars path true ms) rest) text value) (inner_stand laid true path u t))
+  inner_stand (then_parts parts) later path u t = parts_stand parts later path u t
+
+  parts_stand : {seen : KeyTexts} {ms : Members} (parts : Parts seen ms) (later : Bool) (path : KeyTexts) {rest : Text}
+      {ss : List Section} → AreTexts path → Stands rest no_rows ss
+      → Stands (onto (table_chars path later ms) rest) no_rows (part_sections path parts ++ ss)
+  parts_stand no_parts later path u t = t
+  parts_stand (a_table {k = k} {x = x} {ms = ms} new text laid parts) later path {rest = rest} u t =
+      let below : List ℕ = table_chars (k ∷ path) false x in
+      let after : List ℕ = table_chars path true ms in
+      let due : Bool = is_header_due (entries_of (decoded_members x)) in
+      as_list (simp append_assoc)
+      (in_text
+      (onto_three (header_chars due later (k ∷ path)) below after rest
+      ∙ ap (λ b. onto (header_chars b later (k ∷ path)) (onto below (onto after rest))) (decoded_header_due laid))
+      (stands_whole later k path laid (text, u)
+      (inner_stand laid false (k ∷ path) (text, u) (parts_stand parts true path u t))))
+  parts_stand (an_array {k = k} {x = x} {xs = xs} {ms = ms} new text (a_node laid ns) ps) later path {rest = rest} u t =
+      let after : Text = onto (table_chars path true ms) rest in
+      as_list (simp append_assoc)
+      (in_text (onto-append (array_chars later (k ∷ path) x xs) (table_chars path true ms) rest)
+      (stands_array later k path x xs after (text, u)
+      (inner_stand laid false (k ∷ path) (text, u) (nodes_stand ns k path (text, u) (parts_stand ps true path u t)))))
+
+  nodes_stand : {xs : Items} (nodes : Nodes xs) (k : List ℕ) (path : KeyTexts) {rest : Text} {ss : List Section}
+      → AreTexts (k ∷ path) → Stands rest no_rows ss
+      → Stands (onto (nodes_chars (k ∷ path) xs) rest) no_rows (node_sections (k ∷ path) nodes ++ ss)
+  nodes_stand no_nodes k path u t = t
+  nodes_stand (a_node {x = x} {xs = xs} laid nodes) k path {rest = rest} u t =
+      as_list (simp append_assoc)
+      (stands_array true k path x xs rest u (inner_stand laid false (k ∷ path) u (nodes_stand nodes k path u t)))
+
+-- the whole layout
+pub layout_grammar : {ms : Members} (laid : Laid [] ms)
+    → IsSectionList (onto (table_chars [] false ms) []) (sections laid)
+layout_grammar laid =
+    let t : Stands _ (rows laid) (inner_sections [] laid) =
+    as_list (append-nil (inner_sections [] laid))
+    (inner_stand laid false [] tt (record { mid = []; lines = g.over; others = g.no_more })) in
+    record {
+      rows = rows laid;
+      headed = inner_sections [] laid;
+      rest = t.mid;
+      root = t.lines;
+      others = t.others;
+      all = refl;
+    }

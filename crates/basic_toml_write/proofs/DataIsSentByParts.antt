@@ -1,0 +1,37 @@
+-- The items of a tree of data, by those of its parts.
+use Rattle.std.proofs.Common.{◌≡◌, ℕ, List, [], ◌∷◌, ◌++◌, map, refl, ap, rules, Vec, Global}
+use Rattle.std.specs.Prelude.{Any}
+use Rattle.std.specs.List.{flat_map}
+use Rattle.basic_toml_value.specs.Data.{array, table, items_of}
+use Rattle.basic_toml_value.specs.View.{view, entries}
+use Rattle.basic_toml_value.specs.declared.value.Value.{Value, the_lemmas}
+use Rattle.basic_toml_value.specs.declared.value.Value.TheVariants.{Array, Table}
+use Rattle.basic_toml_emit.specs.Items.{element_prefix, field, open_array, open_table, close}
+use Rattle.basic_toml_write.specs.Impls.{data_calls, items_calls, members_calls, array_calls, table_calls}
+
+items_sent : (vs : List Value)
+    → flat_map (λ v. element_prefix ∷ data_calls (view v)) vs ≡ items_calls (items_of (map view vs))
+items_sent [] = refl
+items_sent (v ∷ vs) = ap (λ z. element_prefix ∷ (data_calls (view v) ++ z)) (items_sent vs)
+
+members_sent : (ps : List (List ℕ × Value))
+    → flat_map (λ p. field p.0 ∷ data_calls (view p.1)) ps ≡ members_calls (entries ps)
+members_sent [] = refl
+members_sent (p ∷ ps) = ap (λ z. field p.0 ∷ (data_calls (view p.1) ++ z)) (members_sent ps)
+
+pub array_sent : (vs : List Value)
+    → array_calls (λ v. data_calls (view v)) vs ≡ data_calls (array (items_of (map view vs)))
+array_sent vs = ap (λ z. open_array ∷ (z ++ (close ∷ []))) (items_sent vs)
+
+pub table_sent : (ps : List (List ℕ × Value))
+    → table_calls (λ v. data_calls (view v)) ps ≡ data_calls (table (entries ps))
+table_sent ps = ap (λ z. open_table ∷ (z ++ (close ∷ []))) (members_sent ps)
+
+pub any_never : {A : Type 0} (xs : List A) → Any (λ x. ⊥) xs → ⊥
+any_never xs h = h.4
+
+pub view-Array : (v : Vec Value Global) → view (Array v) ≡ array (items_of (map view v.items))
+view-Array v = search (rules, the_lemmas)
+
+pub view-Table : (ps : List (List ℕ × Value)) → view (Table ps) ≡ table (entries ps)
+view-Table ps = search (rules, the_lemmas)

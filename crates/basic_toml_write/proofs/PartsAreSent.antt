@@ -1,0 +1,116 @@
+-- The items of a value that opens with an item, sends its parts in turn, and closes.
+use Rattle.std.proofs.Common.{◌≡◌, ℕ, zero, suc, ◌+◌, ◌<◌, ◌≤◌, List, [], ◌∷◌, ◌++◌, length, get_or, take, drop}
+use Rattle.std.proofs.Common.{refl, sym, ◌∙◌, ap, arith, append_assoc, append-nil, add-one, subst, map, Option, Some}
+use Rattle.std.proofs.Common.{None, Ok, Err, Result}
+use Rattle.std.specs.Prelude.{Any}
+use Rattle.std.specs.List.{flat_map}
+use Rattle.std.specs.Map.Iter.{TakesFirst}
+use Rattle.std.proofs.lemmas.List.{map-append}
+use Rattle.std.proofs.lemmas.List.Concat.{flat_map-append}
+use Rattle.std.proofs.lemmas.Map.Iter.{rest_more, rest_all}
+use Rattle.basic_toml_emit.specs.Items.{Item, close}
+use Rattle.basic_toml_write.specs.Serializer.{NoFault, Sends, Takes, Passes}
+use Rattle.basic_toml_write.specs.Impls.{AnyGivesUp}
+use Rattle.basic_toml_write.proofs.ListsAreSentInTurn.{sends_then, sends_cut, sends_widen}
+use Rattle.basic_toml_emit.specs.declared.error.WriteError.{WriteError}
+use Rattle.basic_toml_write.specs.declared.serializer.Serializer.{Serializer}
+
+pub take_all : {A : Type 0} (xs : List A) (n : ℕ) → length xs ≤ n → take n xs ≡ xs
+take_all [] zero le = refl
+take_all [] (suc n) le = refl
+take_all (x ∷ xs) zero le = absurd (omega arith)
+take_all (x ∷ xs) (suc n) le = ap (λ z. x ∷ z) (take_all xs n (omega arith))
+
+pub take_more : {A : Type 0} (xs : List A) (i : ℕ) (x : A) → i < length xs → x ≡ get_or xs i x → take i xs
+    ++ (x ∷ []) ≡ take (i + 1) xs
+take_more [] i x lt e = absurd (omega arith)
+take_more (y ∷ xs) zero x lt e = ap (λ z. z ∷ []) e
+take_more (y ∷ xs) (suc i) x lt e = rw add-one (ap (λ z. y ∷ z) (take_more xs i x (omega arith) e ∙ rw add-one refl))
+
+pub take_split : {A : Type 0} (xs : List A) (i : ℕ) (x : A) → i < length xs → x ≡ get_or xs i x → take i xs
+    ++ (x ∷ drop (suc i) xs) ≡ xs
+take_split [] i x lt e = absurd (omega arith)
+take_split (y ∷ xs) zero x lt e = ap (λ z. z ∷ xs) e
+take_split (y ∷ xs) (suc i) x lt e = ap (λ z. y ∷ z) (take_split xs i x (omega arith) e)
+
+length_before : {A : Type 0} (ps : List A) (x : A) (rest : List A) → length ps < length (ps ++ (x ∷ rest))
+length_before [] x rest = omega arith
+length_before (p ∷ ps) x rest = omega (arith, length_before ps x rest)
+
+get_or_after : {A : Type 0} (ps : List A) (x : A) (rest : List A) → get_or (ps ++ (x ∷ rest)) (length ps) x ≡ x
+get_or_after [] x rest = refl
+get_or_after (p ∷ ps) x rest = get_or_after ps x rest
+
+any_here : {A : Type 0} (P : A → Type 0) (ps : List A) (x : A) (rest : List A) → P x → Any P (ps ++ (x ∷ rest))
+any_here P ps x rest h = (length ps, x, length_before ps x rest, get_or_after ps x rest, h)
+
+-- an iterator that has yielded some items of a list, and shows the rest
+module _ {A B : Type 0} (shows : B → A) (all : List A) (ys : List B) (s t : List A) (r : Option B)
+    (step : TakesFirst shows s r t) (left : map shows ys ++ s ≡ all) where
+  pub yields_split : (x : B) → r ≡ Some x → map shows ys ++ (shows x ∷ t) ≡ all
+  yields_split x is = ap (λ z. map shows ys ++ z) (sym (rest_more shows s t r x is step)) ∙ left
+
+  pub yields_next : (x : B) → r ≡ Some x → map shows (ys ++ (x ∷ [])) ++ t ≡ all
+  yields_next x is = ap (λ z. z ++ t) (map-append shows ys (x ∷ [])) ∙
+      (append_assoc (map shows ys) (shows x ∷ []) t ∙ yields_split x is)
+
+  pub yields_end : r ≡ None → map shows ys ≡ all
+  yields_end is = sym (append-nil (map shows ys)) ∙
+      (ap (λ z. map shows ys ++ z) (sym (rest_all shows s t r is step)) ∙ left)
+
+sends_ok : (G H : WriteError → Type 0) (is : List Item) (old new : Serializer) → Sends is G old new (Ok tt)
+    → Sends is H old new (Ok tt)
+sends_ok G H is old new p = record { goes = p.goes; stays = p.stays }
+
+module _ {A : Type 0} (f : A → List Item) (GivesUp : A → WriteError → Type 0) (open_item : Item) where
+  -- it could not be opened
+  pub parts_unopened : (xs : List A) (old new : Serializer) (e : WriteError) → Takes (open_item ∷ []) old new (Err e)
+      → Sends (open_item ∷ (flat_map f xs ++ (close ∷ []))) (AnyGivesUp GivesUp xs) old new (Err e)
+  parts_unopened xs old new e p =
+      sends_cut (AnyGivesUp GivesUp xs) (open_item ∷ []) (flat_map f xs ++ (close ∷ [])) old new e
+      (sends_widen NoFault (AnyGivesUp GivesUp xs) (λ e b. absurd b) (open_item ∷ []) old new (Err e) p.sends)
+
+  -- these parts were sent
+  abbrev pub Sent : List A → Serializer → Serializer → Type 0
+  Sent ps old mid = Sends (open_item ∷ flat_map f ps) NoFault old mid (Ok tt)
+
+  pub parts_next : (ps : List A) (x : A) (old mid new : Serializer) → Sent ps old mid
+      → Passes (f x) (GivesUp x) mid new (Ok tt) → Sent (ps ++ (x ∷ [])) old new
+  parts_next ps x old mid new p q =
+      subst (λ (l : List Item). Sends (open_item ∷ l) NoFault old new (Ok tt))
+      (sym (flat_map-append f ps (x ∷ []) ∙ ap (λ z. flat_map f ps ++ z) (append-nil (f x))))
+      (sends_then NoFault (open_item ∷ flat_map f ps) (f x) NoFault old mid new (Ok tt) p
+      (sends_ok (GivesUp x) NoFault (f x) mid new q.sends))
+
+  -- the same, where the parts are shown by what an iterator yields
+  pub parts_yield : {B : Type 0} (shows : B → A) (ys : List B) (x : B) (old mid new : Serializer)
+      → Sent (map shows ys) old mid → Passes (f (shows x)) (GivesUp (shows x)) mid new (Ok tt)
+      → Sent (map shows (ys ++ (x ∷ []))) old new
+  parts_yield shows ys x old mid new p q =
+      subst (λ ps. Sent ps old new) (sym (map-append shows ys (x ∷ [])))
+      (parts_next (map shows ys) (shows x) old mid new p q)
+
+  -- a part met a fault
+  pub parts_fault : (xs ps : List A) (x : A) (rest : List A) → ps ++ (x ∷ rest) ≡ xs
+      → (old mid new : Serializer) (e : WriteError) → Sent ps old mid → Passes (f x) (GivesUp x) mid new (Err e)
+      → Sends (open_item ∷ (flat_map f xs ++ (close ∷ []))) (AnyGivesUp GivesUp xs) old new (Err e)
+  parts_fault xs ps x rest split old mid new e p q =
+      let G : WriteError → Type 0 = AnyGivesUp GivesUp (ps ++ (x ∷ rest)) in
+      let same : flat_map f (ps ++ (x ∷ rest)) ++ (close ∷ []) ≡ flat_map f ps
+      ++ (f x ++ (flat_map f rest ++ (close ∷ []))) =
+      ap (λ z. z ++ (close ∷ [])) (flat_map-append f ps (x ∷ rest)) ∙ simp append_assoc in
+      subst (λ (l : List A). Sends (open_item ∷ (flat_map f l ++ (close ∷ []))) (AnyGivesUp GivesUp l) old new
+      (Err e)) split
+      (subst (λ (l : List Item). Sends (open_item ∷ l) G old new (Err e)) (sym same)
+      (sends_then G (open_item ∷ flat_map f ps) (f x ++ (flat_map f rest ++ (close ∷ []))) NoFault old mid new (Err e) p
+      (sends_cut G (f x) (flat_map f rest ++ (close ∷ [])) mid new e
+      (sends_widen (GivesUp x) G (λ z. any_here (λ y. GivesUp y z) ps x rest) (f x) mid new (Err e) q.sends))))
+
+  -- all parts were sent, and the value closed
+  pub parts_closed : (xs ps : List A) → ps ≡ xs → (old mid new : Serializer) (r : Result (Unit {0}) WriteError)
+      → Sent ps old mid → Takes (close ∷ []) mid new r
+      → Sends (open_item ∷ (flat_map f xs ++ (close ∷ []))) (AnyGivesUp GivesUp xs) old new r
+  parts_closed xs ps same old mid new r p q =
+      sends_then (AnyGivesUp GivesUp xs) (open_item ∷ flat_map f xs) (close ∷ []) NoFault old mid new r
+      (subst (λ (l : List A). Sends (open_item ∷ flat_map f l) NoFault old mid (Ok tt)) same p)
+      (sends_widen NoFault (AnyGivesUp GivesUp xs) (λ e b. absurd b) (close ∷ []) mid new r q.sends)

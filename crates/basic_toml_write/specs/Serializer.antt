@@ -1,0 +1,83 @@
+-- What a serializer has recorded, and what a call leaves (own).
+-- A fresh serializer has recorded the empty list. A call that answers Ok appends its items to each list that was recorded; an error is
+-- the first that is due after such a list. After an error every call answers that error, and nothing is handed out.
+use Rattle.std.specs.Prelude.{◌≡◌, List, ◌++◌, Option, Some, None, IsSome, Result, Ok, Err, MatchOption, MatchResult}
+use Rattle.std.specs.Prelude.{OnErr, ◌⊎◌, ⊤, String}
+use Rattle.std.specs.declared.alloc.Global.{Global}
+use Rattle.basic_toml_emit.specs.Items.{Item}
+use Rattle.basic_toml_emit.specs.Depth.{nesting_limit}
+use Rattle.basic_toml_emit.specs.Open.{State, fresh}
+use Rattle.basic_toml_emit.specs.Rules.{CallFault}
+use Rattle.basic_toml_emit.specs.Calls.{run}
+use Rattle.basic_toml_emit.specs.Error.{Names}
+use Rattle.basic_toml_write.specs.Recordable.{AreRecordable}
+use Rattle.basic_toml_write.specs.Again.{IsSame, IsAgain}
+use Rattle.basic_toml_emit.specs.Emitter.{state_of, HandsOut}
+use Rattle.basic_toml_emit.specs.declared.error.WriteError.{WriteError}
+use Rattle.basic_toml_emit.specs.declared.error.WriteError.TheVariants.{OutOfMemory}
+use Rattle.basic_toml_write.specs.declared.serializer.Serializer.{Serializer}
+
+-- what a list of items comes to, from the start
+abbrev pub ran : List Item → Result State CallFault
+ran is = run nesting_limit fresh is
+
+-- the error that was answered, if one was
+abbrev pub error_of : Serializer → Option WriteError
+error_of s = s.error
+
+-- the serializer has taken this list, item by item, and has refused nothing
+pub record HasRecorded (s : Serializer) (is : List Item) : Type 0 where
+  pub unrefused : s.error ≡ None
+  pub recordable : AreRecordable is
+  pub taken : ran is ≡ Ok (state_of s.emitter)
+
+-- which faults what sends items may give up with: none
+abbrev pub NoFault : WriteError → Type 0
+NoFault _ = ⊥
+
+-- All of a list is recorded; or what sent it gave up, or wanted memory of its own; or the first error due in it was met.
+abbrev pub Goes : List Item → (WriteError → Type 0) → Serializer → Result (Unit {0}) WriteError → Type 0
+Goes whole gives_up new r =
+    MatchOption (error_of new)
+    (MatchResult r (λ _. HasRecorded new whole) (λ e. gives_up e ⊎ (e ≡ OutOfMemory)))
+    (λ e. Names e (ran whole))
+
+-- These items were sent, by what may give up with such faults.
+pub record Sends (is : List Item) (gives_up : WriteError → Type 0) (old new : Serializer)
+    (r : Result (Unit {0}) WriteError)
+    : Type 0 where
+  pub goes : (before : List Item) → HasRecorded old before → Goes (before ++ is) gives_up new r
+  pub stays : (e : WriteError) → error_of old ≡ Some e → error_of new ≡ Some e
+
+-- An error that is met now is kept and answered, one and the same; one that was met before is answered once more.
+abbrev pub AnswersError : Serializer → Serializer → Result (Unit {0}) WriteError → Type 0
+AnswersError old new r =
+    MatchOption (error_of new) ⊤
+    (λ kept. MatchResult r (λ _. ⊥) (λ e. MatchOption (error_of old) (IsSame kept e) (λ _. IsAgain kept e)))
+
+-- this error, or want of memory where its key finds none, is kept and answered
+abbrev pub Refused : WriteError → Serializer → Result (Unit {0}) WriteError → Type 0
+Refused error new r =
+    MatchOption (error_of new) ⊥ (λ kept. IsAgain error kept × MatchResult r (λ _. ⊥) (λ e. IsSame kept e))
+
+-- a call of these items, whose faults are rules
+pub record Takes (is : List Item) (old new : Serializer) (r : Result (Unit {0}) WriteError) : Type 0 where
+  pub sends : Sends is NoFault old new r
+  pub answers : AnswersError old new r
+  pub refuses : OnErr r (IsSome (error_of new))
+
+-- a call of these items, of which a part is sent by what may give up with such faults
+pub record Passes (is : List Item) (gives_up : WriteError → Type 0) (old new : Serializer)
+    (r : Result (Unit {0}) WriteError)
+    : Type 0 where
+  pub sends : Sends is gives_up old new r
+  pub answers : AnswersError old new r
+
+-- the error that was kept, or else the text, where what was taken is a whole table
+abbrev pub Finishes : Serializer → Result (String Global) WriteError → Type 0
+Finishes s r = MatchOption (error_of s) (HandsOut s.emitter r) (λ e. r ≡ Err e)
+
+-- The error that was met, whatever the type answered; else the type's own fault; else what is handed out.
+abbrev pub Settles : Serializer → Result (Unit {0}) WriteError → Result (String Global) WriteError → Type 0
+Settles s answer r =
+    MatchOption (error_of s) (MatchResult answer (λ _. Finishes s r) (λ e. r ≡ Err e)) (λ e. r ≡ Err e)

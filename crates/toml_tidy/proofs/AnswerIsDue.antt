@@ -1,0 +1,119 @@
+-- What is due, from what reading and writing answered.
+use Rattle.std.proofs.Common.{◌≡◌, ◌≢◌, ◌⊎◌, inl, inr, ℕ, Bool, true, false, List, [], ◌∷◌, ◌++◌, map, flat_map}
+use Rattle.std.proofs.Common.{IsUtf8, codes, refl, ap, sym, ◌∙◌, subst, Result, Ok, Err, Option, Some, None, IfSome}
+use Rattle.std.specs.List.{Any}
+use Rattle.std.specs.Str.{is_utf8}
+use Rattle.std.proofs.lemmas.Str.{IsUtf8-from_is_utf8, is_utf8-from_IsUtf8}
+use Rattle.std.specs.Io.KnownBytes.{Appends}
+use Rattle.std.proofs.KnownBytes.{Keeps-refl}
+use Rattle.basic_toml.specs.Data.{Data, Members, members_of, table}
+use Rattle.basic_toml.specs.Document.{IsDocument}
+use Rattle.basic_toml.specs.Calls.{outcome}
+use Rattle.basic_toml.specs.Depth.{nesting_limit}
+use Rattle.basic_toml.specs.Fault.{Fault, out_of_memory, want_of_memory, not_text}
+use Rattle.basic_toml.specs.FaultText.{fault_text}
+use Rattle.basic_toml.specs.Items.{Item, field}
+use Rattle.basic_toml.specs.De.{ReadsText}
+use Rattle.basic_toml.specs.Impls.{data_calls, members_calls}
+use Rattle.basic_toml.specs.Ser.{IsDataText, IsFirstFault}
+use Rattle.toml_tidy.specs.Run.{IsDue, tidied, refused, not_utf8, unwritable, AppendsFront, Ends, done, not_answered}
+use Rattle.toml_tidy.specs.Run.{not_written_all}
+
+-- bytes are UTF-8, or are not
+utf8_or_not : (bytes : List ℕ) → IsUtf8 bytes ⊎ (IsUtf8 bytes → ⊥)
+utf8_or_not bytes = go (is_utf8 bytes) refl
+  where
+    go : (b : Bool) → is_utf8 bytes ≡ b → IsUtf8 bytes ⊎ (IsUtf8 bytes → ⊥)
+    go true e = inl (IsUtf8-from_is_utf8 bytes e)
+    go false e = inr (λ u. let other : is_utf8 bytes ≡ true = is_utf8-from_IsUtf8 bytes u in cc)
+
+-- the calls of pairs are those of their data
+pub pairs_calls : {V : Type 0} (view : V → Data) (pairs : List (List ℕ × V))
+    → flat_map (λ p. field p.0 ∷ data_calls (view p.1)) pairs
+    ≡ members_calls (members_of (map (λ p. (p.0, view p.1)) pairs))
+pairs_calls view [] = refl
+pairs_calls view (p ∷ pairs) =
+    ap (λ (is : List Item). field p.0 ∷ (data_calls (view p.1) ++ is)) (pairs_calls view pairs)
+
+pub none_of : {X : Type 0} (P : X → Type 0) → ((x : X) → P x → ⊥) → (xs : List X) → Any P xs → ⊥
+none_of P never xs any = let (k, x, within, at, holds) = any in never x holds
+
+-- a type T that is read from tables, and shows its members
+module _ {T : Type 0} (entries : T → Members) where
+  abbrev reads_table : Data → T → Type 0
+  reads_table d t = d ≡ table (entries t)
+
+  read_as : (input : List ℕ) (t : T) → (IsUtf8 input → ReadsText reads_table input (Ok t))
+      → ((IsUtf8 input → ⊥) → Ok t ≡ Err not_text) → IsUtf8 input × IsDocument input (entries t)
+  read_as input t text other = elim (utf8_or_not input) [
+    | inl utf8 ↦ (let (members, document, same) = (text utf8).found in let equal : members ≡ entries t = cc in
+        (utf8, subst (IsDocument input) equal document))
+    | inr not ↦ absurd (let wrong : Ok t ≡ Err not_text = other not in cc)
+  ]
+
+  pub tidied_due : (input text : List ℕ) (t : T) → (IsUtf8 input → ReadsText reads_table input (Ok t))
+      → ((IsUtf8 input → ⊥) → Ok t ≡ Err not_text)
+      → IsDataText (table (entries t)) text → IsDue input 0 text
+  tidied_due input text t answers other is =
+      let (utf8, document) = read_as input t answers other in
+      subst (IsDue input 0) (sym is.laid_out) (tidied utf8 document is.supported)
+
+  pub unwritable_due : (input text : List ℕ) (t : T) (fault : Fault) (calls : List Item) (own : Type 0)
+      → (IsUtf8 input → ReadsText reads_table input (Ok t)) → ((IsUtf8 input → ⊥) → Ok t ≡ Err not_text)
+      → calls ≡ data_calls (table (entries t)) → (own → ⊥) → (fault ≡ want_of_memory)
+      ⊎ (own ⊎ IsFirstFault calls fault) → fault.kind ≢ out_of_memory → text ≡ fault_text fault ++ codes "\n"
+      → IsDue input 2 text
+  unwritable_due input text t fault calls own answers other made never (inl memory) kind e =
+      absurd (kind (ap (λ (f : Fault). f.kind) memory))
+  unwritable_due input text t fault calls own answers other made never (inr (inl up)) kind e = absurd (never up)
+  unwritable_due input text t fault calls own answers other made never (inr (inr r)) kind e =
+      let (utf8, document) = read_as input t answers other in
+      subst (IsDue input 2) (sym (subst (λ (f : Fault). text ≡ fault_text f ++ codes "\n") r.named e))
+      (unwritable utf8 document (subst (λ (is : List Item). outcome nesting_limit is ≡ Err r.error) made r.met))
+
+  pub refused_due : (input text : List ℕ) (fault : Fault)
+      → ((members : Members) → IsDocument input members → (t : T) × reads_table (table members) t)
+      → (IsUtf8 input → ReadsText reads_table input (Err fault))
+      → ((IsUtf8 input → ⊥) → ◌≡◌ {A = Result T Fault} (Err fault) (Err not_text))
+      → fault.kind ≢ out_of_memory → text ≡ fault_text fault ++ codes "\n" → IsDue input 1 text
+  refused_due input text fault held answers other kind e = subst (IsDue input 1) (sym e) (elim (utf8_or_not input) [
+    | inl utf8 ↦ elim ((answers utf8).fault (λ members document. let (t, is_read) = held members document in
+        not_memory ((answers utf8).only members document t is_read))) [
+          | inl memory ↦ absurd (not_memory memory)
+          | inr fault_is ↦ refused utf8 fault_is
+        ]
+    | inr not ↦ (let is : fault ≡ not_text = cc (other not) in
+        subst (λ (f : Fault). IsDue input 1 (fault_text f ++ codes "\n")) (sym is) (not_utf8 not))
+  ])
+    where
+      not_memory : fault ≡ want_of_memory → ⊥
+      not_memory memory = kind (ap (λ (f : Fault). f.kind) memory)
+
+-- how a run ends, from what each step of it answered; a reader that does not tell its bytes promises nothing
+module _ (remaining old new : Option (List ℕ)) where
+  pub unanswered : IfSome remaining (λ input. Ends input old old 3)
+  unanswered = go remaining
+    where
+      go : (o : Option (List ℕ)) → IfSome o (λ input. Ends input old old 3)
+      go None = tt
+      go (Some input) = not_answered (Keeps-refl old)
+
+  pub all_written : (items bytes text piece : List ℕ) (status : ℕ) → IfSome remaining (λ left. items ≡ left)
+      → bytes ≡ items → IsDue bytes status text → piece ≡ text → Appends old new piece
+      → IfSome remaining (λ input. Ends input old new status)
+  all_written items bytes text piece status read same due whole appends = go remaining read
+    where
+      go : (o : Option (List ℕ)) → IfSome o (λ left. items ≡ left) → IfSome o (λ input. Ends input old new status)
+      go None all = tt
+      go (Some input) all = subst (λ (b : List ℕ). Ends b old new status) (same ∙ all)
+          (done due (subst (Appends old new) whole appends))
+
+  pub front_written : (items bytes text piece : List ℕ) (status : ℕ) → IfSome remaining (λ left. items ≡ left)
+      → bytes ≡ items → IsDue bytes status text → piece ≡ text → AppendsFront old new piece
+      → IfSome remaining (λ input. Ends input old new 3)
+  front_written items bytes text piece status read same due whole front = go remaining read
+    where
+      go : (o : Option (List ℕ)) → IfSome o (λ left. items ≡ left) → IfSome o (λ input. Ends input old new 3)
+      go None all = tt
+      go (Some input) all = subst (λ (b : List ℕ). Ends b old new 3) (same ∙ all)
+          (not_written_all due (subst (AppendsFront old new) whole front))
