@@ -2,7 +2,7 @@
 use Rattle.std.proofs.Common.{◌≡◌, ℕ, List, false, sym, ◌∙◌, ap, subst, Result, Ok, Err, IfOk, string_bytes, String}
 use Rattle.std.proofs.Common.{Global}
 use Rattle.basic_toml_emit.specs.Items.{Item}
-use Rattle.basic_toml_emit.specs.Depth.{nesting_limit}
+use Rattle.basic_toml_value.specs.Nesting.{nesting_limit}
 use Rattle.basic_toml_emit.specs.Layout.{layout}
 use Rattle.basic_toml_emit.specs.Written.{Written}
 use Rattle.basic_toml_write.specs.Shapes.{is_unsupported}

@@ -10,7 +10,8 @@ use Rattle.basic_toml_emit.specs.Written as w
 use Rattle.basic_toml_emit.specs.Texts as texts
 use Rattle.basic_toml_write.specs.Trees.{tree_of, entry_trees, scalar_tree}
 use Rattle.basic_toml_emit.specs.Layout.{layout, entries_text, row_start}
-use Rattle.basic_toml_emit.specs.Depth.{depth, nesting_limit}
+use Rattle.basic_toml_value.specs.Nesting.{nesting_limit}
+use Rattle.basic_toml_emit.specs.Depth.{depth}
 use Rattle.basic_toml_write.specs.Shapes.{has_key, repeats_key, has_late_row, is_bad_table, entry_has_bad, has_bad}
 use Rattle.basic_toml_write.specs.Shapes.{is_unsupported}
 use Rattle.basic_toml.specs.PlainRows.{is_bare, is_bare_key, is_printable}

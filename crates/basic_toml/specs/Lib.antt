@@ -17,6 +17,7 @@ pub mod tokens
 pub use Rattle.basic_toml_value.specs.Data
 pub use Rattle.basic_toml_value.specs.Equal
 pub use Rattle.basic_toml_value.specs.Iter
+pub use Rattle.basic_toml_value.specs.Nesting
 pub use Rattle.basic_toml_value.specs.Numbers
 pub use Rattle.basic_toml_value.specs.Pairs
 pub use Rattle.basic_toml_value.specs.View

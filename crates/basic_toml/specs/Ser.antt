@@ -10,7 +10,7 @@ use Rattle.basic_toml_write.specs.Impls.{data_calls}
 use Rattle.basic_toml_emit.specs.Items.{Item}
 use Rattle.basic_toml_write.specs.Spelling.{Spells}
 use Rattle.basic_toml_emit.specs.Layout.{layout}
-use Rattle.basic_toml_emit.specs.Depth.{nesting_limit}
+use Rattle.basic_toml_value.specs.Nesting.{nesting_limit}
 use Rattle.basic_toml_write.specs.Shapes.{is_unsupported}
 use Rattle.basic_toml_emit.specs.Rules as rules
 use Rattle.basic_toml_emit.specs.Calls.{outcome}

@@ -4,7 +4,7 @@ use Rattle.std.proofs.Common.{append_assoc}
 use Rattle.std.specs.Prelude.{◌&&◌, nat_le}
 use Rattle.basic_toml_emit.specs.Written.{Scalar, is_refused, is_bytes}
 use Rattle.basic_toml_emit.specs.Items.{a_scalar}
-use Rattle.basic_toml_emit.specs.Depth.{nesting_limit}
+use Rattle.basic_toml_value.specs.Nesting.{nesting_limit}
 use Rattle.basic_toml_emit.specs.Texts.{written_scalar}
 use Rattle.basic_toml_emit.specs.Layout.{row_start}
 use Rattle.basic_toml_emit.specs.Open.{Frame, a_table, an_array, no_key, key_place, key_set, state, with_key, settled}

@@ -4,9 +4,6 @@ use Rattle.std.specs.Prelude.{ℕ, suc, max}
 use Rattle.basic_toml_emit.specs.Written.{Scalar, bytes, Written, scalar, absent, array, table, Elements}
 use Rattle.basic_toml_emit.specs.Written.{no_elements, element, Entries, no_entries, entry}
 
-abbrev pub nesting_limit : ℕ
-nesting_limit = 128
-
 abbrev pub scalar_depth : Scalar → ℕ
 scalar_depth (bytes _) = 1
 scalar_depth _ = 0

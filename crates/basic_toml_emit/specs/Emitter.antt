@@ -2,7 +2,7 @@
 use Rattle.std.specs.Prelude.{◌≡◌, Bool, false, ◌∷◌, ◌++◌, Result, Ok, Err, MatchResult, String, string_bytes}
 use Rattle.std.specs.declared.alloc.Global.{Global}
 use Rattle.basic_toml_emit.specs.Items.{Item}
-use Rattle.basic_toml_emit.specs.Depth.{nesting_limit}
+use Rattle.basic_toml_value.specs.Nesting.{nesting_limit}
 use Rattle.basic_toml_emit.specs.Open.{State, state, an_array, tables, others}
 use Rattle.basic_toml_emit.specs.Rules.{call_order, holds_section, is_in_array, key_of}
 use Rattle.basic_toml_emit.specs.Calls.{after, finished, path, array_start, array_end, with_row, with_sections}

@@ -10,7 +10,8 @@ use Rattle.basic_toml_grammar.specs.Sections.{Key, texts, Raw, Elements, Rows, n
 use Rattle.basic_toml_grammar.specs.RowClash.{has_row_clash}
 use Rattle.basic_toml_grammar.specs.SectionClash.{sections_clash}
 use Rattle.basic_toml_grammar.specs.Entering.{rows_keyed, header_keyed, all_keyed}
-use Rattle.basic_toml_grammar.specs.Depth.{depth, depth_limit}
+use Rattle.basic_toml_value.specs.Nesting.{nesting_limit}
+use Rattle.basic_toml_grammar.specs.Depth.{depth}
 use Rattle.basic_toml_grammar.specs.Grammar.{IsKeys, more, is_wordlike, after_comment_by, after_gap_from, after_gap}
 use Rattle.basic_toml_grammar.specs.Grammar.{IsValue, word, string, array, inline, IsElements, close, last, and_more}
 use Rattle.basic_toml_grammar.specs.Grammar.{IsFields, some, IsFieldsOn, last_row, more_rows, IsRow, assigned}
@@ -223,7 +224,7 @@ list_keyed g = ap all_keyed g.all ∙ root_keyed g.rows g.headed (grammar_rows_k
 document_kept : (ss : List Section) (t : Data) → all_keyed ss ≡ true → old_document_of ss ≡ Some t
     → document_of ss ≡ Some t
 document_kept ss t k e =
-    go (has_row_clash ss) (sections_clashed ss) refl (not (nat_le (depth (tree_of_sections ss)) depth_limit)) e
+    go (has_row_clash ss) (sections_clashed ss) refl (not (nat_le (depth (tree_of_sections ss)) nesting_limit)) e
   where
     go : (a b : Bool) → sections_clashed ss ≡ b → (d : Bool)
         → (if (a || b) || d then None else Some (tree_of_sections ss)) ≡ Some t

@@ -12,7 +12,8 @@ use Rattle.basic_toml_grammar.specs.SectionClash.{without_last_number, target, i
 use Rattle.basic_toml_grammar.specs.SectionClash.{clashes_one_way, clashes, any_pair}
 use Rattle.basic_toml_grammar.specs.Mentions.{finished, finished_elements, row_mentions, section_mentions, mentions}
 use Rattle.basic_toml_grammar.specs.Growth.{tree_of}
-use Rattle.basic_toml_grammar.specs.Depth.{depth, depth_limit}
+use Rattle.basic_toml_value.specs.Nesting.{nesting_limit}
+use Rattle.basic_toml_grammar.specs.Depth.{depth}
 use Rattle.basic_toml_grammar.specs.Document.{tree_of_sections, document_of}
 use Rattle.basic_toml_grammar.proofs.SameSections.{SameRaw, same_integer, same_float, same_boolean, same_string}
 use Rattle.basic_toml_grammar.proofs.SameSections.{same_array, same_inline, SameElements, no_more_elements}
@@ -149,7 +150,7 @@ mentions_same (one_more {i = i} {j = j} {is = is} x h) =
 -- the document
 pub document_same : {ss ts : List Section} → SameSections ss ts → document_of ss ≡ document_of ts
 document_same {ss = ss} {ts = ts} h =
-    (λ n. cond ((row_clash_same h n || pairs_same all n) || not (nat_le (depth (tree n)) depth_limit)) None
+    (λ n. cond ((row_clash_same h n || pairs_same all n) || not (nat_le (depth (tree n)) nesting_limit)) None
     (Some (tree n)))
   where
     all : AllSame (located ss) (located ts)

@@ -9,7 +9,8 @@ use Rattle.basic_toml_grammar.specs.IndexedPath.{located}
 use Rattle.basic_toml_grammar.specs.SectionClash.{sections_clash}
 use Rattle.basic_toml_grammar.specs.Growth.{tree_of}
 use Rattle.basic_toml_grammar.specs.Mentions.{mentions}
-use Rattle.basic_toml_grammar.specs.Depth.{depth, depth_limit}
+use Rattle.basic_toml_value.specs.Nesting.{nesting_limit}
+use Rattle.basic_toml_grammar.specs.Depth.{depth}
 use Rattle.basic_toml_grammar.specs.Grammar.{IsSectionList}
 
 abbrev pub has_clash : List Section → Bool
@@ -24,7 +25,7 @@ document_within limit sections =
     if has_clash sections || not (nat_le (depth tree) limit) then None else Some tree
 
 abbrev pub document_of : List Section → Option Data
-document_of sections = document_within depth_limit sections
+document_of sections = document_within nesting_limit sections
 
 -- the tree is the document of a text
 pub record IsDocument (text : Text) (tree : Data) : Type 0 where

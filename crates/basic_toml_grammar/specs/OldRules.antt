@@ -10,7 +10,8 @@ use Rattle.basic_toml_grammar.specs.Steps.{key, Path, begins}
 use Rattle.basic_toml_grammar.specs.IndexedPath.{Located, located}
 use Rattle.basic_toml_grammar.specs.RowClash.{has_row_clash}
 use Rattle.basic_toml_grammar.specs.SectionClash.{same_path, array_on_cut, any_pair}
-use Rattle.basic_toml_grammar.specs.Depth.{depth, depth_limit}
+use Rattle.basic_toml_value.specs.Nesting.{nesting_limit}
+use Rattle.basic_toml_grammar.specs.Depth.{depth}
 use Rattle.basic_toml_grammar.specs.Grammar.{IsSectionListBy}
 use Rattle.basic_toml_grammar.specs.Document.{tree_of_sections}
 
@@ -36,7 +37,7 @@ was_comment c = c == ascii.tab || nat_le ascii.space c
 abbrev pub old_document_of : List Section → Option Data
 old_document_of sections =
     let tree = tree_of_sections sections in
-    if (has_row_clash sections || sections_clashed sections) || not (nat_le (depth tree) depth_limit) then None else
+    if (has_row_clash sections || sections_clashed sections) || not (nat_le (depth tree) nesting_limit) then None else
     Some tree
 
 -- the tree was the document of a text

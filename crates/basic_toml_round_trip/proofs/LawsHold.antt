@@ -8,7 +8,7 @@ use Rattle.basic_toml_value.specs.Data.{Data}
 use Rattle.basic_toml_emit.specs.Written.{Written, scalar, absent, array, table}
 use Rattle.basic_toml_emit.specs.Layout.{layout}
 use Rattle.basic_toml_emit.specs.Depth as written
-use Rattle.basic_toml_emit.specs.Depth.{nesting_limit}
+use Rattle.basic_toml_value.specs.Nesting.{nesting_limit}
 use Rattle.basic_toml_emit.specs.Calls.{outcome}
 use Rattle.basic_toml_write.specs.Kept.{kept}
 use Rattle.basic_toml_write.specs.Shapes.{has_bad, is_unsupported}
@@ -18,7 +18,7 @@ use Rattle.basic_toml_write.proofs.KeptHasSameLayout.{depth-kept}
 use Rattle.basic_toml_write.proofs.OutcomeIsLayout.{outcome-layout}
 use Rattle.basic_toml_write.proofs.TreesAreKept.{spells_tree, tree-written, written-tree_kept}
 use Rattle.basic_toml_grammar.specs.Sections.{Section}
-use Rattle.basic_toml_grammar.specs.Depth.{depth, depth_limit}
+use Rattle.basic_toml_grammar.specs.Depth.{depth}
 use Rattle.basic_toml_grammar.specs.Document.{has_clash, tree_of_sections, document_of, IsDocument}
 use Rattle.basic_toml_grammar.proofs.LawsHold.{unambiguous, within}
 use Rattle.basic_toml_grammar.proofs.RespelledLaws.{returns_mean_nothing, byte_order_mark_means_nothing}
@@ -46,15 +46,15 @@ with_byte_order_mark items w s r u =
 
 -- what a document says of its section list
 what_means : (sections : List Section) (tree : Data) → document_of sections ≡ Some tree
-    → (has_clash sections ≡ false) × (depth (tree_of_sections sections) ≤ depth_limit)
-what_means sections tree = go (has_clash sections) refl (nat_le (depth (tree_of_sections sections)) depth_limit) refl
+    → (has_clash sections ≡ false) × (depth (tree_of_sections sections) ≤ nesting_limit)
+what_means sections tree = go (has_clash sections) refl (nat_le (depth (tree_of_sections sections)) nesting_limit) refl
   where
-    go : (c : Bool) → has_clash sections ≡ c → (l : Bool) → nat_le (depth (tree_of_sections sections)) depth_limit ≡ l
+    go : (c : Bool) → has_clash sections ≡ c → (l : Bool) → nat_le (depth (tree_of_sections sections)) nesting_limit ≡ l
         → (if c || not l then None else Some (tree_of_sections sections)) ≡ Some tree
-        → (c ≡ false) × (depth (tree_of_sections sections) ≤ depth_limit)
+        → (c ≡ false) × (depth (tree_of_sections sections) ≤ nesting_limit)
     go true c l e f = cc
     go false c false e f = cc
-    go false c true e f = (refl, leb-true (depth (tree_of_sections sections)) depth_limit e)
+    go false c true e f = (refl, leb-true (depth (tree_of_sections sections)) nesting_limit e)
 
 pub levels_fit : WrittenLevelsFit
 levels_fit items w s r u sections g =

@@ -11,7 +11,8 @@ use Rattle.basic_toml_grammar.specs.Growth.{tree_of}
 use Rattle.basic_toml_grammar.specs.Mentions.{row_mentions}
 use Rattle.basic_toml_grammar.specs.Placed.{placed_clash, any_placed_clash}
 use Rattle.basic_toml_grammar.specs.Entering.{all_keyed}
-use Rattle.basic_toml_grammar.specs.Depth.{depth, depth_limit}
+use Rattle.basic_toml_value.specs.Nesting.{nesting_limit}
+use Rattle.basic_toml_grammar.specs.Depth.{depth}
 use Rattle.basic_toml_grammar.specs.Document.{tree_of_sections, document_of}
 use Rattle.basic_toml_grammar.proofs.ClashesAgree.{clashes_agree}
 use Rattle.basic_toml_grammar.proofs.EnteringGrows.{placed_mentions, mentions_are}
@@ -43,12 +44,12 @@ means {ms = ms} laid =
         ∙ root_tree laid
 
 pub sections_mean : {ms : Members} (laid : Laid [] ms) → all_keyed (sections laid) ≡ true
-    → depth (d.table ms) ≤ depth_limit
+    → depth (d.table ms) ≤ nesting_limit
     → document_of (sections laid) ≡ Some (d.table ms)
 sections_mean {ms = ms} laid keyed deep =
     let rows_part : has_row_clash (sections laid) ≡ false = sections_quiet laid in
     let sections_part : sections_clash (sections laid) ≡ false = clashes_agree (sections laid) keyed ∙ no_clash laid in
     ap
     (λ t. if (has_row_clash (sections laid) || sections_clash (sections laid)) || not
-    (nat_le (depth t) depth_limit) then None else Some t) (means laid)
-    ∙ rw (rows_part, sections_part, le-leb (depth (d.table ms)) depth_limit deep) refl
+    (nat_le (depth t) nesting_limit) then None else Some t) (means laid)
+    ∙ rw (rows_part, sections_part, le-leb (depth (d.table ms)) nesting_limit deep) refl

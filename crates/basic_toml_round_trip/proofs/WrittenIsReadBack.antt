@@ -9,13 +9,13 @@ use Rattle.basic_toml_value.specs.Data.{Data, Members}
 use Rattle.basic_toml_emit.specs.Written.{Written, scalar, absent, array, table}
 use Rattle.basic_toml_emit.specs.Layout.{layout}
 use Rattle.basic_toml_emit.specs.Depth as written
-use Rattle.basic_toml_emit.specs.Depth.{nesting_limit}
+use Rattle.basic_toml_value.specs.Nesting.{nesting_limit}
 use Rattle.basic_toml_write.specs.Kept.{kept}
 use Rattle.basic_toml_write.specs.Shapes.{has_bad, is_unsupported}
 use Rattle.basic_toml_write.specs.Trees.{tree_of, written_of}
 use Rattle.basic_toml_write.proofs.KeptHasSameLayout.{layout-kept, depth-kept}
 use Rattle.basic_toml_write.proofs.TreesAreKept.{written-tree_kept}
-use Rattle.basic_toml_grammar.specs.Depth.{depth, depth_limit}
+use Rattle.basic_toml_grammar.specs.Depth.{depth}
 use Rattle.basic_toml_grammar.specs.Document.{IsDocument}
 use Rattle.basic_toml_grammar.specs.Respelled.{characters, has_return, has_byte_order_mark}
 use Rattle.basic_toml_grammar.proofs.OldDocumentsStand.{list_keyed}
@@ -46,7 +46,7 @@ unmarked {bytes = bytes} {cs = cs} s e =
     ap (λ b. characters (text_at bytes (if b then 3 else 0))) (ap (λ cs. first_of cs == 0xFEFF) (spelt_chars s) ∙ e)
     ∙ ap (λ cs. characters (folded_from false 0 cs)) (spelt_chars s) ∙ folded_characters cs 0 s.fine
 
-pub laid_text : {ms : Members} (laid : Laid [] ms) → depth (d.table ms) ≤ depth_limit
+pub laid_text : {ms : Members} (laid : Laid [] ms) → depth (d.table ms) ≤ nesting_limit
     → IsText (layout (written_of (d.table ms))) (d.table ms)
 laid_text {ms = ms} laid deep =
     let cs : List ℕ = table_chars [] false ms in
@@ -78,7 +78,7 @@ written_text (table es) r u =
     let depths : depth (tree_of (table es)) ≡ written.depth (table es) =
     sym (depth-written (tree_of (table es))) ∙ ap written.depth (written-tree_kept nesting_limit (table es) u)
     ∙ depth-kept (table es) in
-    let deep : depth (tree_of (table es)) ≤ depth_limit =
+    let deep : depth (tree_of (table es)) ≤ nesting_limit =
     omega (arith, depths, ltb-false nesting_limit (written.depth (table es)) p.1) in
     subst (λ x. IsText (layout (table es)) x) (sym (tree-kept (table es)))
     (subst (λ b. IsText b (tree_of (table es))) (kept_layout (table es) u) (laid_text (table_laid es p.0 r) deep))

@@ -5,13 +5,12 @@ use Rattle.basic_toml_value.specs.Data.{Data}
 use Rattle.basic_toml_grammar.specs.Sections.{Section}
 use Rattle.basic_toml_grammar.specs.Grammar.{IsSectionList}
 use Rattle.basic_toml_grammar.specs.Levels.{highest_level}
-use Rattle.basic_toml_grammar.specs.Depth.{depth_limit}
+use Rattle.basic_toml_value.specs.Nesting.{nesting_limit}
 use Rattle.basic_toml_grammar.specs.Document.{IsDocument}
 use Rattle.basic_toml_grammar.specs.Respelled.{with_returns, with_byte_order_mark}
 use Rattle.basic_toml_emit.specs.Written.{Written}
 use Rattle.basic_toml_emit.specs.Items.{Item}
 use Rattle.basic_toml_emit.specs.Layout.{layout}
-use Rattle.basic_toml_emit.specs.Depth.{nesting_limit}
 use Rattle.basic_toml_emit.specs.Calls.{outcome}
 use Rattle.basic_toml_write.specs.Spelling.{Spells}
 use Rattle.basic_toml_write.specs.Recordable.{AreRecordable}
@@ -33,7 +32,7 @@ WrittenIsReadBack = ForEachWritten (λ w. IsDocument (folded (layout w)) (tree_o
 -- no level of its section list passes the depth limit
 abbrev pub WrittenLevelsFit : Type 0
 WrittenLevelsFit = ForEachWritten (λ w.
-    (sections : List Section) → IsSectionList (folded (layout w)) sections → highest_level sections ≤ depth_limit)
+    (sections : List Section) → IsSectionList (folded (layout w)) sections → highest_level sections ≤ nesting_limit)
 
 -- it is read back with CR LF for each LF
 abbrev pub WrittenIsReadWithReturns : Type 0

@@ -3,7 +3,7 @@ use Rattle.std.proofs.Common.{◌≡◌, List, sym, ap, subst, refl, Option, Som
 use Rattle.std.proofs.Common.{MatchResult, ◌⊎◌, inl, inr, String}
 use Rattle.std.specs.declared.alloc.Global.{Global}
 use Rattle.basic_toml_emit.specs.Items.{Item}
-use Rattle.basic_toml_emit.specs.Depth.{nesting_limit}
+use Rattle.basic_toml_value.specs.Nesting.{nesting_limit}
 use Rattle.basic_toml_emit.specs.Calls.{on_ok, finished, outcome}
 use Rattle.basic_toml_emit.specs.Error.{Names}
 use Rattle.basic_toml_write.specs.Recordable.{AreRecordable}

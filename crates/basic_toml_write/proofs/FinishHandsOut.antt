@@ -2,7 +2,7 @@
 use Rattle.std.proofs.Common.{◌≡◌, List, ◌∙◌, ap, MatchResult, Result, Ok, Err, string_bytes, String}
 use Rattle.std.specs.declared.alloc.Global.{Global}
 use Rattle.basic_toml_emit.specs.Items.{Item}
-use Rattle.basic_toml_emit.specs.Depth.{nesting_limit}
+use Rattle.basic_toml_value.specs.Nesting.{nesting_limit}
 use Rattle.basic_toml_emit.specs.Rules.{call_order}
 use Rattle.basic_toml_emit.specs.Calls.{on_ok, finished, outcome}
 use Rattle.basic_toml_emit.specs.Emitter.{state_of, HandsOut}

@@ -7,7 +7,7 @@ use Rattle.basic_toml_emit.specs.Written.{table, Elements, no_elements, element,
 use Rattle.basic_toml_emit.specs.Items.{Item, a_scalar, an_absent, open_array, open_table, close, key, field}
 use Rattle.basic_toml_emit.specs.Items.{some_prefix, value_prefix, element_prefix}
 use Rattle.basic_toml_emit.specs.Layout.{layout}
-use Rattle.basic_toml_emit.specs.Depth.{nesting_limit}
+use Rattle.basic_toml_value.specs.Nesting.{nesting_limit}
 use Rattle.basic_toml_write.specs.Kept.{kept}
 use Rattle.basic_toml_write.specs.Shapes.{is_unsupported}
 use Rattle.basic_toml_emit.specs.Rules.{CallFault, unsupported_type, key_not_string, value_after_table}

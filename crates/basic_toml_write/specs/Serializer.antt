@@ -5,7 +5,7 @@ use Rattle.std.specs.Prelude.{◌≡◌, List, ◌++◌, Option, Some, None, IsS
 use Rattle.std.specs.Prelude.{OnErr, ◌⊎◌, ⊤, String}
 use Rattle.std.specs.declared.alloc.Global.{Global}
 use Rattle.basic_toml_emit.specs.Items.{Item}
-use Rattle.basic_toml_emit.specs.Depth.{nesting_limit}
+use Rattle.basic_toml_value.specs.Nesting.{nesting_limit}
 use Rattle.basic_toml_emit.specs.Open.{State, fresh}
 use Rattle.basic_toml_emit.specs.Rules.{CallFault}
 use Rattle.basic_toml_emit.specs.Calls.{run}

@@ -4,7 +4,8 @@ use Rattle.basic_toml_value.specs.Data.{Data}
 use Rattle.basic_toml_emit.specs.Written.{Written, float}
 use Rattle.basic_toml_emit.specs.Items.{Item, a_scalar}
 use Rattle.basic_toml_emit.specs.Layout.{layout}
-use Rattle.basic_toml_emit.specs.Depth.{depth, nesting_limit}
+use Rattle.basic_toml_value.specs.Nesting.{nesting_limit}
+use Rattle.basic_toml_emit.specs.Depth.{depth}
 use Rattle.basic_toml_write.specs.Spelling.{Spells}
 use Rattle.basic_toml_write.specs.Kept.{kept}
 use Rattle.basic_toml_write.specs.Shapes.{is_unsupported}

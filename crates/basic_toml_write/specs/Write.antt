@@ -6,7 +6,7 @@ use Rattle.basic_toml_emit.specs.Items.{Item}
 use Rattle.basic_toml_write.specs.Recordable.{AreRecordable}
 use Rattle.basic_toml_write.specs.Spelling.{Spells}
 use Rattle.basic_toml_emit.specs.Layout.{layout}
-use Rattle.basic_toml_emit.specs.Depth.{nesting_limit}
+use Rattle.basic_toml_value.specs.Nesting.{nesting_limit}
 use Rattle.basic_toml_write.specs.Shapes.{is_unsupported}
 use Rattle.basic_toml_emit.specs.Rules.{CallFault, key_not_string, call_order}
 use Rattle.basic_toml_emit.specs.Calls.{outcome}

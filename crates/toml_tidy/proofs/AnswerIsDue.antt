@@ -9,7 +9,7 @@ use Rattle.std.proofs.KnownBytes.{Keeps-refl}
 use Rattle.basic_toml.specs.Data.{Data, Members, members_of, table}
 use Rattle.basic_toml.specs.Document.{IsDocument}
 use Rattle.basic_toml.specs.Calls.{outcome}
-use Rattle.basic_toml.specs.Depth.{nesting_limit}
+use Rattle.basic_toml.specs.Nesting.{nesting_limit}
 use Rattle.basic_toml.specs.Fault.{Fault, out_of_memory, want_of_memory, not_text}
 use Rattle.basic_toml.specs.FaultText.{fault_text}
 use Rattle.basic_toml.specs.Items.{Item, field}

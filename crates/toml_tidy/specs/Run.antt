@@ -3,7 +3,7 @@ use Rattle.std.specs.Prelude.{◌≡◌, ℕ, IsUtf8, false, List, ◌++◌, tak
 use Rattle.std.specs.Io.KnownBytes.{Appends, Keeps}
 use Rattle.basic_toml.specs.Calls.{outcome}
 use Rattle.basic_toml.specs.Data.{Members, table}
-use Rattle.basic_toml.specs.Depth.{nesting_limit}
+use Rattle.basic_toml.specs.Nesting.{nesting_limit}
 use Rattle.basic_toml.specs.Document.{IsDocument, IsTextFault}
 use Rattle.basic_toml.specs.Fault.{Fault, without_offset, not_text}
 use Rattle.basic_toml.specs.FaultText.{fault_text}

@@ -1,6 +1,6 @@
 use Rattle.std.proofs.Common.{◌≡◌, ◌++◌, sym, ap, ◌∙◌, arith, string_bytes, false, length}
 use Rattle.std.specs.Prelude.{nat_le}
-use Rattle.basic_toml_emit.specs.Depth.{nesting_limit}
+use Rattle.basic_toml_value.specs.Nesting.{nesting_limit}
 use Rattle.basic_toml_emit.specs.Items.{a_scalar}
 use Rattle.basic_toml_emit.specs.Scalar.{scalar_of}
 use Rattle.basic_toml_emit.specs.Rules.{is_too_deep}
