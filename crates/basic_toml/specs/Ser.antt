@@ -1,10 +1,13 @@
 -- How writing a value ends, and what its text means. (own)
-use Rattle.std.specs.Prelude.{◌≡◌, ◌⊎◌, ℕ, List, Result, Err, IfOk, IfErr, MatchResult, false, true, string_bytes}
+use Rattle.std.specs.Prelude.{◌≡◌, ◌⊎◌, ℕ, List, Result, Ok, Err, IfOk, IfErr, MatchResult, false, true, string_bytes}
 use Rattle.std.specs.Prelude.{String}
 use Rattle.std.specs.declared.alloc.Global.{Global}
+use Rattle.basic_toml_tokens.specs.Text.{folded}
 use Rattle.basic_toml_value.specs.Data.{Data}
+use Rattle.basic_toml_grammar.specs.Document.{IsDocument}
 use Rattle.basic_toml_emit.specs.Written.{Written}
 use Rattle.basic_toml_write.specs.Recordable.{AreRecordable}
+use Rattle.basic_toml_write.specs.Kept.{kept}
 use Rattle.basic_toml_write.specs.Trees.{tree_of, written_of}
 use Rattle.basic_toml_write.specs.Impls.{data_calls}
 use Rattle.basic_toml_emit.specs.Items.{Item}
@@ -67,6 +70,12 @@ pub record Writes (calls : List Item) (gives_up : WriteError → Type 0) (result
 -- where the calls are those of data, the text is the layout of that data
 abbrev pub HoldsData : List Item → List ℕ → Type 0
 HoldsData calls text = (d : Data) → calls ≡ data_calls d → IsDataText d text
+
+-- The text means what is kept of the value that the calls spell: that tree is its document, keys in order, and the calls of
+-- the tree come to the same bytes.
+pub record MeansKept (calls : List Item) (text : List ℕ) : Type 0 where
+  pub document : (w : Written) → Spells calls w → IsDocument (folded text) (tree_of (kept w))
+  pub again : (tree : Data) → IsDocument (folded text) tree → outcome nesting_limit (data_calls tree) ≡ Ok text
 
 -- where what is kept of the value that the calls spell is a table of plain rows, the text means that table
 abbrev pub ReadsBack : List Item → List ℕ → Type 0
