@@ -51,7 +51,3 @@ want_of_memory = without_offset out_of_memory
 -- bytes that are not UTF-8
 abbrev pub not_text : Fault
 not_text = without_offset not_utf8
-
--- a value that no text stands for
-abbrev pub not_written : Fault
-not_written = without_offset unsupported_type

@@ -1,6 +1,6 @@
 -- Plain tables: what rows of the part that is read can hold. (own)
--- The keys are bare, and each value is an integer of 64 bits, a boolean, or a string of printable ASCII characters other
--- than `'`, `"` and the backslash.
+-- The keys are bare, and each value is an integer of 64 bits, a boolean, or a string of printable ASCII characters
+-- other than `'`, `"` and the backslash.
 use Rattle.std.specs.Prelude.{ℕ, ◌^◌, Bool, true, false, ◌&&◌, nat_lt, ℤ, pos, negsuc, List}
 use Rattle.std.specs.List.{list_all}
 use Rattle.basic_toml_value.specs.Data.{Data, integer, boolean, string, table, Members, no_members, member}

@@ -58,8 +58,8 @@ pub record IsDataText (x : Data) (text : List ℕ) : Type 0 where
   pub supported : is_unsupported nesting_limit (written_of x) ≡ false
   pub laid_out : text ≡ layout (written_of x)
 
--- How writing a value ends: memory aside, and where the type gives up with no fault of its own, the layout where the calls
--- spell a value in which no unsupported shape occurs, and else the first error that they meet.
+-- How writing a value ends: memory aside, and where the type gives up with no fault of its own, the layout where the
+-- calls spell a value in which no unsupported shape occurs, and else the first error that they meet.
 pub record Writes (calls : List Item) (gives_up : WriteError → Type 0) (result : Result (String Global) Fault)
     : Type 0 where
   pub text : IfOk result (λ s. IsTextOf calls (string_bytes s))
@@ -71,8 +71,8 @@ pub record Writes (calls : List Item) (gives_up : WriteError → Type 0) (result
 abbrev pub HoldsData : List Item → List ℕ → Type 0
 HoldsData calls text = (d : Data) → calls ≡ data_calls d → IsDataText d text
 
--- The text means what is kept of the value that the calls spell: that tree is its document, keys in order, and the calls of
--- the tree come to the same bytes.
+-- The text means what is kept of the value that the calls spell: that tree is its document, keys in order, and the
+-- calls of the tree come to the same bytes.
 pub record MeansKept (calls : List Item) (text : List ℕ) : Type 0 where
   pub document : (w : Written) → Spells calls w → IsDocument (folded text) (tree_of (kept w))
   pub again : (tree : Data) → IsDocument (folded text) tree → outcome nesting_limit (data_calls tree) ≡ Ok text

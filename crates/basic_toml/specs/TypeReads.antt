@@ -1,5 +1,5 @@
 -- What each type reads from the data of a node: `reads d x` says that the value x is read from the data d. No offset
--- plays a part. (own)
+-- plays a part. Today `Table` alone is read; what the others read is stated for the reader to come. (own)
 use Rattle.std.specs.Prelude.{◌≡◌, ◌<◌, ◌^◌, ℕ, ℤ, pos, negsuc, Bool, true, false, nat_lt, List, [], ◌∷◌, Option}
 use Rattle.std.specs.Prelude.{Some, None, ⊤, Vec, String, string_bytes}
 use Rattle.std.specs.BTreeMap.{BTreeMap, get_by_text}

@@ -22,7 +22,7 @@ pub trait Deserialize<'de>: Sized {
     // Which values are read from which data.
     ghost reads: { Data → Self → Type 0 };
 
-    /// Reads a value from a node.
+    /// Reads a value from a node; an error, other than want of memory, only where the type reads nothing from it.
     fn deserialize(alloc: Global, node: Node<'_, 'de>) -> Result<Self, Error>
         ensures ok { IfOk result (λ value. reads (data_at node.entry) value) }
         ensures err { IfErr result (OnlyMemory (reads (data_at node.entry))) };
@@ -41,7 +41,7 @@ impl<'t> Scalar<'t> {
 }
 
 impl<'t, 'de> Node<'t, 'de> {
-    /// A copy of the value.
+    /// A copy of the value. The only error is that memory was refused.
     pub fn to_value(self, alloc: Global) -> Result<Value, Error>
         ensures value { IfOk result (λ value. view value ≡ data_at self.entry) }
         ensures memory { IfErr result (λ e. e ≡ want_of_memory) }
@@ -74,13 +74,14 @@ impl<'de> Deserialize<'de> for Table {
 
 /// Reads a value from a text.
 ///
-/// Today a text is read where it holds nothing but rows of a bare key, `=` and a decimal integer, `true`, `false` or a
-/// string without escapes, and blank lines. (TOML v0.5.0, "Key/Value Pair")
+/// Today a text is read where it holds nothing but blank lines and rows of a bare key, `=` and a decimal integer,
+/// `true`, `false` or a string of printable ASCII characters without quotes and backslash. (TOML v0.5.0, "Key/Value
+/// Pair")
 ///
 /// # Errors
 ///
-/// `` duplicate key: `k` `` at the later key where two rows have one key, and `not read yet` for any other text. What a
-/// type answers where it reads nothing from the table, and `out of memory` where a growth was refused.
+/// `` duplicate key: `k` `` at the later key where two rows have one key, and `not read yet` for any other text. Where a
+/// type reads nothing from the table, its own error; and `out of memory` where a growth was refused.
 #[tactic(auto, using(crate::proofs::ReadingLaws::given, crate::proofs::ReadingLaws::refused))]
 pub fn from_str<'de, T: Deserialize<'de>>(alloc: Global, s: &'de str) -> Result<T, Error>
     ensures { ReadsText T.reads s.now result }

@@ -1,4 +1,6 @@
 //! A TOML reader and writer: text or bytes in, a [`Table`] out, and back.
+//!
+//! Today [`from_str`] reads plain rows alone; [`to_string`] writes every value.
 #![tactic(auto)]
 
 mod de;

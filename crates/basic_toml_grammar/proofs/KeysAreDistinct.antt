@@ -25,7 +25,7 @@ abbrev is_fine : Option Data → Bool
 is_fine None = true
 is_fine (Some v) = is_distinct v
 
--- at each offset the steps are distinct, and the values are fine
+-- at each path the steps are distinct, and the values are fine
 mutual
   data Fine : Growth → Type 0 where
     fine : {h : Option Data} {bs : Branches} → is_fine h ≡ true → FineBranches bs → Fine (grown h bs)

@@ -4,7 +4,7 @@ use Rattle.std.specs.Prelude.{◌||◌}
 use Rattle.basic_toml_grammar.specs.RowClash.{has_row_clash}
 use Rattle.basic_toml_grammar.specs.Statements.{GrammarIsUnambiguous, TreeIsGrouped, KeysAreDistinct, ClashesAgree}
 use Rattle.basic_toml_grammar.specs.Statements.{PathsAgree, MarksFit, EveryClashIsNamed, GrammarIsRead}
-use Rattle.basic_toml_grammar.specs.Statements.{GrammarGivesKeys, LevelsAreWithinDepth, DeepPlacesAreOpened}
+use Rattle.basic_toml_grammar.specs.Statements.{GrammarGivesKeys, LevelsAreWithinDepth, DeepOffsetsAreOpened}
 use Rattle.basic_toml_grammar.specs.Statements.{ShallowTextIsFree, OldDocumentsStand, OrderIsFree, PlainOrderIsFree}
 use Rattle.basic_toml_grammar.specs.Statements.{EnteringAccepts, EnteringGrows}
 use Rattle.basic_toml_grammar.proofs.GrammarIsUnambiguous.{one_section_list}
@@ -15,7 +15,7 @@ use Rattle.basic_toml_grammar.proofs.PathsAgree.{paths_agree}
 use Rattle.basic_toml_grammar.proofs.MarksFit.{marks_fit}
 use Rattle.basic_toml_grammar.proofs.ClashesAgree.{clashes_agree}
 use Rattle.basic_toml_grammar.proofs.LevelsAreWithinDepth.{levels_within}
-use Rattle.basic_toml_grammar.proofs.DeepPlacesAreOpened.{deep_offsets_are_opened}
+use Rattle.basic_toml_grammar.proofs.DeepOffsetsAreOpened.{deep_offsets_are_opened}
 use Rattle.basic_toml_grammar.proofs.WorkedNesting.{shallow_text}
 use Rattle.basic_toml_grammar.proofs.OldDocumentsStand.{list_keyed, old_documents}
 use Rattle.basic_toml_grammar.proofs.ReaderIsComplete.{grammar_is_read}
@@ -53,7 +53,7 @@ fit marks = marks_fit marks
 pub within : LevelsAreWithinDepth
 within text sections g e = levels_within sections g e
 
-pub opened : DeepPlacesAreOpened × ShallowTextIsFree
+pub opened : DeepOffsetsAreOpened × ShallowTextIsFree
 opened = ((λ limit p text d. deep_offsets_are_opened limit p text d), (λ p d. shallow_text p d))
 
 pub old : OldDocumentsStand

@@ -23,7 +23,7 @@ pub mod EnteringGrows
 pub mod ClashesAreOldClashes
 pub mod KeysAreDistinct
 pub mod GrammarIsUnambiguous
-pub mod DeepPlacesAreOpened
+pub mod DeepOffsetsAreOpened
 pub mod StringsAreRead
 pub mod ReaderIsSound
 pub mod ReaderIsComplete
@@ -39,7 +39,7 @@ pub mod SameMapsReordered
 pub mod Reorderings
 pub mod SameChars
 pub mod SameSections
-pub mod PlacesForgotten
+pub mod OffsetsForgotten
 pub mod RespelledLaws
 pub mod WorkedChanges
 pub mod LawsHold

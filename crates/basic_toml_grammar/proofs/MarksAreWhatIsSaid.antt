@@ -1,4 +1,5 @@
--- The marks of a section are what it says, and two sections clash exactly where a mark of one may not stand with one of the other.
+-- The marks of a section are what it says, and two sections clash exactly where a mark of one may not stand with one
+-- of the other.
 use Rattle.std.proofs.Common.{◌≡◌, ℕ, Bool, true, false, List, [], ◌∷◌, Option, Some, None, refl, sym, ◌∙◌, subst}
 use Rattle.std.proofs.Common.{inl, inr}
 use Rattle.std.specs.Prelude.{◌&&◌, ◌⊎◌}

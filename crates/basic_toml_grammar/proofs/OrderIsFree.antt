@@ -105,7 +105,7 @@ keyed_reordered (kept {x = s} r) = ap (λ b. is_keyed s && b) (keyed_reordered r
 keyed_reordered (turned {x = s} {y = t} {xs = xs}) = swap (is_keyed s) (is_keyed t) (all_keyed xs)
 keyed_reordered (and_on r q) = keyed_reordered r ∙ keyed_reordered q
 
--- and so keeps its offset in each order
+-- and so keeps its path in each order
 pub placed_reordered : (sections others : List Section) → list_any (λ s. s.is_array) sections ≡ false
     → Reordered Section sections others
     → Reordered Placed (placed sections) (placed others)

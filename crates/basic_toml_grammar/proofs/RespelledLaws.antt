@@ -16,11 +16,11 @@ use Rattle.basic_toml_grammar.specs.Reader.{section_list_of}
 use Rattle.basic_toml_grammar.specs.Document.{document_of, IsDocument}
 use Rattle.basic_toml_grammar.specs.Respelled.{characters, with_returns, has_return, with_byte_order_mark}
 use Rattle.basic_toml_grammar.specs.Respelled.{has_byte_order_mark}
-use Rattle.basic_toml_grammar.specs.Statements.{PlacesMeanNothing, ReturnsMeanNothing, ByteOrderMarkMeansNothing}
+use Rattle.basic_toml_grammar.specs.Statements.{OffsetsMeanNothing, ReturnsMeanNothing, ByteOrderMarkMeansNothing}
 use Rattle.basic_toml_grammar.proofs.ReaderIsComplete.{grammar_is_read}
 use Rattle.basic_toml_grammar.proofs.SameChars.{SameChars, none, more, turned, Both, neither, both}
 use Rattle.basic_toml_grammar.proofs.SameSections.{SameSections, lists_same}
-use Rattle.basic_toml_grammar.proofs.PlacesForgotten.{document_same}
+use Rattle.basic_toml_grammar.proofs.OffsetsForgotten.{document_same}
 
 -- texts of the same characters have the same document
 document_there : {text other : Text} {tree : Data} → SameChars text other → IsDocument text tree → IsDocument other tree
@@ -47,7 +47,7 @@ same_chars (x ∷ text) (y ∷ other) e =
     let on : characters text ≡ characters other = cc in
     subst (λ c. SameChars (x ∷ text) ((y.0, c) ∷ other)) here (more (same_chars text other on))
 
-pub offsets_mean_nothing : PlacesMeanNothing
+pub offsets_mean_nothing : OffsetsMeanNothing
 offsets_mean_nothing text other tree e =
     let h : SameChars text other = same_chars text other e in
     (document_there h, document_there (turned h))

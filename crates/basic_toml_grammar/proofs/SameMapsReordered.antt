@@ -1,4 +1,4 @@
--- The tree of a list without clashes has the same maps in each order in which its sections keep their offsets.
+-- The tree of a list without clashes has the same maps in each order in which its sections keep their indexed paths.
 use Rattle.std.proofs.Common.{◌≡◌, ◌⊎◌, inl, inr, ℕ, zero, suc, ◌≤◌, ◌==◌, Bool, true, false, cond, List, [], ◌∷◌}
 use Rattle.std.proofs.Common.{◌++◌, refl, ap, sym, ◌∙◌, subst, arith, append_assoc, Option, Some, None}
 use Rattle.std.specs.Prelude.{◌&&◌, nat_lt}

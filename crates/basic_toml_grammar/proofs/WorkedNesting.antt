@@ -11,7 +11,7 @@ use Rattle.basic_toml_grammar.specs.NestingFaults.{deep_sections, leads_deeper, 
 use Rattle.basic_toml_grammar.specs.Document.{document_within}
 use Rattle.basic_toml_grammar.specs.Reader.{sections_of_bytes}
 use Rattle.basic_toml_grammar.specs.Statements.{ShallowTextIsFree}
-use Rattle.basic_toml_grammar.proofs.DeepPlacesAreOpened.{deep_offsets_are_opened}
+use Rattle.basic_toml_grammar.proofs.DeepOffsetsAreOpened.{deep_offsets_are_opened}
 
 -- the highest level, the offsets above the limit, the sections that make the tree deeper, and whether there is a document
 abbrev Outcome : Type 0

@@ -18,13 +18,13 @@ is name start offset outer keys =
       type_name = name;
       start = Some start;
       offset = Some offset;
-      outer_place = Some outer;
+      outer_offset = Some outer;
       key_path =
           keys;
     })
 
 nothing : node (codes "") []
-    ≡ Some (record { type_name = codes "table"; start = None; offset = None; outer_place = None; key_path = [] })
+    ≡ Some (record { type_name = codes "table"; start = None; offset = None; outer_offset = None; key_path = [] })
 unfolding chars
 nothing = refl
 

@@ -1,5 +1,5 @@
--- Nesting, own: a scalar has depth 0; an array or a table counts one more than its deepest member, and 1 where it is empty.
--- A document has a depth of at most the nesting limit.
+-- Nesting, own: a scalar has depth 0; an array or a table counts one more than its deepest member, and 1 where it is
+-- empty. A document has a depth of at most the nesting limit.
 use Rattle.std.specs.Prelude.{ℕ, suc, max}
 use Rattle.basic_toml_value.specs.Data.{Data, Items, no_items, item, Members, no_members, member}
 

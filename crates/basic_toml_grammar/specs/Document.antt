@@ -1,5 +1,5 @@
--- Document, TOML v0.5.0: the tree that a text means. A text has one where the grammar gives it a section list, no rows and no
--- sections of it clash, and the tree of its mentions has a depth of at most 128.
+-- Document, TOML v0.5.0: the tree that a text means. A text has one where the grammar gives it a section list, no rows
+-- and no sections of it clash, and the tree of its mentions has a depth of at most the nesting limit.
 use Rattle.std.specs.Prelude.{◌≡◌, ℕ, Bool, ◌||◌, not, nat_le, if◌then◌else◌, List, Option, Some, None}
 use Rattle.basic_toml_tokens.specs.Text.{Text}
 use Rattle.basic_toml_value.specs.Data.{Data}

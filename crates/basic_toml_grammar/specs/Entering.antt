@@ -1,5 +1,6 @@
--- A section list entered key by key, as the resolver does, own: the state is the marks so far, the latest first. It goes
--- through exactly where nothing clashes, and its tree is the tree of mentions (laws `entering_accepts`, `entering_grows`).
+-- A section list entered key by key, as the resolver does, own: the state is the marks so far, the latest first. It
+-- goes through exactly where nothing clashes, and its tree is the tree of mentions (laws `entering_accepts`,
+-- `entering_grows`).
 use Rattle.std.specs.Prelude.{ℕ, zero, suc, Bool, true, false, ◌&&◌, if◌then◌else◌, List, [], ◌∷◌, ◌++◌, Option}
 use Rattle.std.specs.Prelude.{Some, None}
 use Rattle.basic_toml_value.specs.Data.{Data}

@@ -1,4 +1,5 @@
--- What a reading refuses: the kind of the fault, its offset, and the keys that lead there. An offset is a byte offset, own.
+-- What a reading refuses: the kind of the fault, its offset, and the keys that lead there. An offset is a byte offset,
+-- own.
 use Rattle.std.specs.Prelude.{ℕ, List, Option}
 use Rattle.basic_toml_grammar.specs.Sections.{KeyTexts}
 

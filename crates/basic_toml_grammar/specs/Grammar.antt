@@ -1,9 +1,13 @@
--- Grammar, TOML v0.5.0 without dates and times, with arrays that may mix kinds of values: a text is a document of a list of
--- sections. Each fact goes from a text to the rest after what it speaks of.
---   document: lines with a line feed between each two; a line holds a row, a header, or neither, then blanks and a comment
---   row: keys, `=`, a value; header: keys between `[` and `]`, or between `[[` and `]]`; keys: keys with periods between them
---   key: keylike characters, or a one-line string; value: a string, an integer, a float, `true`, `false`, an array, an inline table
---   array: values between `[` and `]` with commas between them, one more allowed at the end, and blanks, line feeds and comments around
+-- Grammar, TOML v0.5.0 without dates and times, with arrays that may mix kinds of values: a text is a document of a
+-- list of sections. Each fact goes from a text to the rest after what it speaks of.
+--   document: lines with a line feed between each two; a line holds a row, a header, or neither, then blanks and a
+--     comment
+--   header: keys between `[` and `]`, or between `[[` and `]]`
+--   row: keys, `=`, a value
+--   keys: keys with periods between them; key: keylike characters, or a one-line string
+--   value: a string, an integer, a float, `true`, `false`, an array, an inline table
+--   array: values between `[` and `]` with commas between them, one more allowed at the end, and blanks, line feeds and
+--     comments around
 --   inline table: rows between `{` and `}` with commas between them and blanks around
 -- `comment` tells which characters a comment may hold: `Text.is_comment`, but for the law about the old rules.
 use Rattle.std.specs.Prelude.{◌≡◌, ℕ, ◌+◌, position, Bool, true, false, ◌||◌, ◌==◌, if◌then◌else◌, ℤ, List, [], ◌∷◌}

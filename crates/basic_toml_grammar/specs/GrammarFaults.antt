@@ -1,12 +1,13 @@
 -- Which faults a text outside the grammar allows, own. Each comes only where the text has no section list.
--- The faults of tokens come at the first offset, reached from the start by tokens, where no token stands. The others come at a
--- offset so reached; let B be the last token before it that is no blank, line feed or comment.
---   a multiline string as a key, or `a table key` wanted: B is `[`, `{`, `,` or `.`, or missing, or a line feed follows it;
---     where a key is wanted, what stands there is neither keylike nor a string
---   `an equals`, `a right bracket`, `a comma`, `newline` wanted: B is keylike or a string, or (not for `an equals`) `]` or `}`;
---     what stands there is not that token
---   the end of the text, `a value` wanted, an unquoted string, an invalid number: B is `=`, `[` or `,`; what stands there
---     begins no value, or is a word that begins like no number and is none of `true`, `false`, `inf`, `nan`
+-- The faults of tokens come at the first offset, reached from the start by tokens, where no token stands. The others
+-- come at an offset so reached; let B be the last token before it that is no blank, line feed or comment.
+--   a multiline string as a key, or `a table key` wanted: B is `[`, `{`, `,` or `.`, or missing, or a line feed follows
+--     it; where a key is wanted, what stands there is neither keylike nor a string
+--   `an equals`, `a right bracket`, `a comma`, `newline` wanted: B is keylike or a string, or (not for `an equals`) `]`
+--     or `}`; what stands there is not that token
+--   the end of the text, `a value` wanted, an unquoted string, an invalid number: B is `=`, `[` or `,`; the text ends
+--     there; or a token that begins no value stands there; or a word that begins like no number and is none of `true`,
+--     `false`, `inf`, `nan`; or a number at fault, whose offset `NumberFaults` has
 use Rattle.std.specs.Prelude.{◌≡◌, ℕ, Bool, true, false, not, ◌&&◌, ◌||◌, ◌==◌, List, [], ◌∷◌, codes, length, Option}
 use Rattle.std.specs.Prelude.{Some, None}
 use Rattle.std.specs.Char.{is_ascii_digit}
@@ -105,7 +106,7 @@ pub data Stands : Text → Option Lexeme → List ℕ → Type 0 where
       → Stands text (Some l) (description_of l)
   end : Stands [] None (codes "eof")
 
--- the three signs that may be wanted
+-- the punctuation that may be wanted
 abbrev pub is_equals : Lexeme → Bool
 is_equals equals = true
 is_equals _ = false

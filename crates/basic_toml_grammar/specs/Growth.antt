@@ -1,5 +1,5 @@
--- The tree of mentions, computed: one mention after another is put into a tree whose branches stand in order of first mention.
--- It is the tree that the grouping rule gives (`Tree.IsTree`, law `tree_is_grouped`).
+-- The tree of mentions, computed: one mention after another is put into a tree whose branches stand in order of first
+-- mention. It is the tree that the grouping rule gives (`Tree.IsTree`, law `tree_is_grouped`).
 use Rattle.std.specs.Prelude.{if◌then◌else◌, List, [], ◌∷◌, Option, Some, None}
 use Rattle.std.specs.Option.{option_or}
 use Rattle.basic_toml_value.specs.Data.{Data, Items, no_items, item, Members, no_members, member}

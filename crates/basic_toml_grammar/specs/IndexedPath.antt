@@ -1,8 +1,8 @@
--- Indexed path: where the table of a section stands in the tree. 'Array of Tables' of TOML v0.5.0: a header below an array
--- of tables belongs to the array's latest element.
--- The cut at 0 of a section's path is empty. The cut at l is the cut at l - 1, then the header's key l, then the number c - 1
--- where c is positive. Here c counts the array sections, this one or earlier, whose whole header is the first l keys and
--- whose cut at l - 1 is the same. The indexed path is the cut at the number of keys.
+-- Indexed path: where the table of a section stands in the tree. 'Array of Tables' of TOML v0.5.0: a header below an
+-- array of tables belongs to the array's latest element.
+-- The cut at 0 of a section's path is empty. The cut at l is the cut at l - 1, then the header's key l, then the
+-- number c - 1 where c is positive. Here c counts the array sections, this one or earlier, whose whole header is the
+-- first l keys and whose cut at l - 1 is the same. The indexed path is the cut at the number of keys.
 use Rattle.std.specs.Prelude.{ℕ, zero, suc, ◌&&◌, if◌then◌else◌, List, [], ◌∷◌, ◌++◌, length, take}
 use Rattle.basic_toml_grammar.specs.Sections.{KeyTexts, texts, Section}
 use Rattle.basic_toml_grammar.specs.Steps.{key, number, Path, path_eq, steps_of}

@@ -1,6 +1,6 @@
--- Levels of keys and brackets, own: how deep the tree is where they stand. Key l of a header stands at level l + 1; key m of a
--- row under a header of n keys at n + m; a bracket of a value one above what holds it; key m of a row of an inline table
--- whose brace has level L at L + m - 1. A section list fits a limit where no level passes it.
+-- Levels of keys and brackets, own: how deep the tree is where they stand. Key l of a header stands at level l + 1;
+-- key m of a row under a header of n keys at n + m; a bracket of a value one above what holds it; key m of a row of an
+-- inline table whose brace has level L at L + m - 1. A section list fits a limit where no level passes it.
 use Rattle.std.specs.Prelude.{ℕ, ◌+◌, ◌-◌, nat_lt, max, if◌then◌else◌, List, [], ◌∷◌, ◌++◌, length}
 use Rattle.std.specs.List.{flat_map}
 use Rattle.basic_toml_grammar.specs.Sections.{Key, Raw, Elements, no_elements, element, Rows, no_rows, row, Section}

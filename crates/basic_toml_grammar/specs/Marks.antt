@@ -1,6 +1,6 @@
--- What sections say of paths: marks, own. A header passes through a table, goes by an array's latest element, names a table or
--- the element that it adds, and adds an element to an array. A row passes through tables by its dots, and gives a value.
--- Two sections clash exactly where a mark of one and a mark of the other may not stand together.
+-- What sections say of paths: marks, own. A header passes through a table, goes by an array's latest element, names a
+-- table or the element that it adds, and adds an element to an array. A row passes through tables by its dots, and
+-- gives a value. Two sections clash exactly where a mark of one and a mark of the other may not stand together.
 use Rattle.std.specs.Prelude.{ℕ, Bool, true, false, ◌&&◌, List, [], ◌∷◌, ◌++◌, Option, Some, None}
 use Rattle.std.specs.List.{list_any}
 use Rattle.basic_toml_value.specs.Data.{Data}

@@ -1,5 +1,5 @@
--- The mentions of a section list, own: a section mentions its indexed path as 'table here', then, after it, the key path of
--- each row with its finished value. An inline table is finished as the tree of its rows' mentions.
+-- The mentions of a section list, own: a section mentions its indexed path as 'table here', then, after it, the key
+-- path of each row with its finished value. An inline table is finished as the tree of its rows' mentions.
 use Rattle.std.specs.Prelude.{List, [], ◌∷◌, ◌++◌, Some, None}
 use Rattle.basic_toml_value.specs.Data.{Data, Items, no_items, item}
 use Rattle.basic_toml_grammar.specs.Sections.{texts, Raw, Elements, no_elements, element, Rows, no_rows, row}

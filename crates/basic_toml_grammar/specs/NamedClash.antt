@@ -1,13 +1,14 @@
--- Named clash, own: the faults that a section list allows, one for each pair that clashes. 'Later' is later in the list of
--- mentions: of two rows the second, of two sections the second with all its rows.
+-- Named clash, own: the faults that a section list allows, one for each pair that clashes. 'Later' is later in the
+-- list of mentions: of two rows the second, of two sections the second with all its rows.
 -- `DottedKeyInvalidType`: a row's path properly begins a later row's; at the earlier row's value, with no key path.
--- `DuplicateKey`: a row's path equals an earlier row's or begins one; at the last key of the later row. The key path is the
--- section's keys and the first key of the row, if it has several; inside a value, the first key of the row that holds it.
--- `DuplicateKey`: a row lies on the path of a header, or the header crosses it; at the later of the two occurrences of the
--- key. The key is the row's last where it lies on the path, and the header's last where it is crossed; the key path is all
--- keys before it.
--- `DuplicateTable`: two sections with one path, or `[[a]]` and `[a]`. `RedefineAsArray`: `[[a]]` and a header that passes
--- through `a`. Both at the later section, with its keys.
+-- `DuplicateKey`: a row's path equals an earlier row's or begins one; at the last key of the later row. The key path
+-- is the section's keys and the first key of the row, if it has several; inside a value, the first key of the row that
+-- holds it.
+-- `DuplicateKey`: a row lies on the path of a header, or the header crosses it; at the later of the two occurrences of
+-- the key. The key is the row's last where it lies on the path, and the header's last where it is crossed; the key path
+-- is all keys before it.
+-- `DuplicateTable`: two sections with one path, or `[[a]]` and `[a]`. `RedefineAsArray`: `[[a]]` and a header that
+-- passes through `a`. Both at the later section, with its keys.
 -- `DottedKeyInvalidType` comes first over the whole list.
 use Rattle.std.specs.Prelude.{ℕ, zero, suc, ◌-◌, ◌+◌, Bool, true, false, if◌then◌else◌, List, [], ◌∷◌, ◌++◌, length}
 use Rattle.std.specs.Prelude.{take, Contains, Some}
@@ -100,7 +101,6 @@ repeated_faults_of s = repeated_faults (λ keys. texts s.header ++ first_of_seve
     ++ first_key keys) s.rows
 
 -- the faults of two sections where `later` stands after the other
-
 abbrev pub table_fault : Section → Fault
 table_fault later = record {
   kind = duplicate_table (join_with_byte ascii.period (texts later.header));

@@ -1,6 +1,7 @@
--- Where `NestedTooDeeply` stands, own. In a text: at the first key or bracket above the limit, where the level of a key or a
--- bracket is that in some text of the grammar that has the same bytes up to there, and there the same character. In a section
--- list: at a section one of whose mentions makes the tree deeper than the limit, since the numbers of array elements count too.
+-- Where `NestedTooDeeply` stands, own. In a text: at the first key or bracket above the limit, where the level of a
+-- key or a bracket is that in some text of the grammar that has the same bytes up to there, and there the same
+-- character. In a section list: at a section one of whose mentions makes the tree deeper than the limit, since the
+-- numbers of array elements count too.
 use Rattle.std.specs.Prelude.{◌≡◌, ℕ, suc, ◌+◌, ◌==◌, ◌||◌, nat_lt, Bool, if◌then◌else◌, List, [], ◌∷◌, length}
 use Rattle.std.specs.Prelude.{Option, Some, None}
 use Rattle.std.specs.List.{list_any}
@@ -34,8 +35,8 @@ pub record IsTooDeepAt (limit : ℕ) (text : Text) (p : ℕ) : Type 0 where
   pub grammar : IsSectionList (folded bytes) sections
   pub first : first_offset (deep_offsets limit sections) ≡ Some p
 
--- Only these signs lead a level deeper: `[`, `{`, `.` and `=`. So a key or a bracket above the limit stands after as many of
--- them as the limit at least (law `deep_offsets_are_opened`).
+-- Only these characters lead a level deeper: `[`, `{`, `.` and `=`. So a key or a bracket above the limit stands after
+-- as many of them as the limit at least (law `deep_offsets_are_opened`).
 abbrev pub leads_deeper : ℕ → Bool
 leads_deeper c = (c == ascii.left_bracket || c == ascii.left_brace) || (c == ascii.period || c == ascii.equals)
 

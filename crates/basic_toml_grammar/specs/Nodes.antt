@@ -1,9 +1,9 @@
--- Where a node of a document comes from, by the section list alone, own. A node is told by its path in the tree.
--- What a header names or passes through is made by sections: `table` or `array`, placed at the last section, with the keys of
--- its path. Everything else comes from a row, with its section's keys and the row's first key: a value, a part of a value, or
--- a table that the dots of a row make. Such a dotted table begins where the first value begins that made it.
--- The outer offset is the beginning of the nearest inline or dotted table around a node, else the last section.
--- The offset is where the value begins, of an array literal the outer offset.
+-- Where a node of a document comes from, by the section list alone, own. A node is told by its path in the tree. What
+-- a header names or passes through is made by sections: `table` or `array`, placed at the last section, with the keys
+-- of its path. Everything else comes from a row, with its section's keys and the row's first key: a value, a part of a
+-- value, or a table that the dots of a row make. Such a dotted table begins where the first value begins that made it.
+-- The outer offset is the beginning of the nearest inline or dotted table around a node, else the last section. The
+-- offset is where the value begins, of an array literal the outer offset.
 use Rattle.std.specs.Prelude.{ℕ, zero, suc, Bool, true, false, ◌&&◌, if◌then◌else◌, List, [], ◌∷◌, ◌++◌, length}
 use Rattle.std.specs.Prelude.{drop, codes, Option, Some, None}
 use Rattle.std.specs.List.{list_any}
@@ -19,7 +19,7 @@ pub record Node : Type 0 where
   pub type_name : List ℕ
   pub start : Option ℕ
   pub offset : Option ℕ
-  pub outer_place : Option ℕ
+  pub outer_offset : Option ℕ
   pub key_path : KeyTexts
 
 -- a path without its last step
@@ -47,14 +47,15 @@ value_node keys outer at v =
       type_name = raw_name v;
       start = Some at;
       offset = offset_of v at outer;
-      outer_place = outer;
+      outer_offset = outer;
       key_path =
           keys;
     }
 
 abbrev pub dotted_node : KeyTexts → Option ℕ → ℕ → Node
-dotted_node keys outer at =
-    record { type_name = codes "dotted table"; start = Some at; offset = Some at; outer_place = outer; key_path = keys }
+dotted_node keys outer at = record {
+  type_name = codes "dotted table"; start = Some at; offset = Some at; outer_offset = outer; key_path = keys
+}
 
 -- where the dotted table at this path begins: at the value of the first row whose path goes on from it
 abbrev pub dotted_start : Rows → Path → Option ℕ
@@ -110,7 +111,7 @@ made_node ls last p = record {
   type_name = (if is_array ls p then codes "array" else codes "table");
   start = last;
   offset = last;
-  outer_place = last;
+  outer_offset = last;
   key_path = keys_of p;
 }
 

@@ -1,14 +1,15 @@
--- The offset of `NumberInvalid`, own. Parts are the integer part with its minus, the digits after a prefix, the fraction, and
--- the exponent, with its minus where it has one and without its plus. What stands, and the offset:
+-- The offset of `NumberInvalid`, own. Parts are the integer part with its minus, the digits after a prefix, the
+-- fraction, and the exponent, with its minus where it has one and without its plus. What stands, and the offset:
 --   `+` with no keylike characters after it, or with `-`, `0x`, `0o` or `0b`        after the plus
 --   an underscore before the first digit of a part                                     the underscore
 --   in a decimal integer part a digit after a leading zero (or after `0_`)           that digit
 --   a part with no digit, or with an underscore that no digit follows                  the start of the part
 --   a period after an integer part, with no keylike characters after it              after the period
 --   characters left over, an `e` with no exponent, an integer outside i64              the start of the digits: a sign
---                                                                                      included, a prefix and a plus not
--- Of several: for a word without `e`, `E` or prefix the row on the period comes first; then the parts from left to right, each
--- at its first offending character; characters left over last. After a prefix each of them is at the start of the digits.
+--                                                                                     included, a prefix and a plus not
+-- Of several: for a word without `e`, `E` or prefix the row on the period comes first; then the parts from left to
+-- right, each at its first offending character; characters left over last. After a prefix each of them is at the start
+-- of the digits.
 use Rattle.std.specs.Prelude.{ℕ, ◌+◌, ◌-◌, Bool, true, false, ◌&&◌, ◌||◌, ◌==◌, if◌then◌else◌, List, [], ◌∷◌, length}
 use Rattle.std.specs.Prelude.{is_none, Option, Some, None}
 use Rattle.std.specs.Char.{is_digit, is_ascii_digit}

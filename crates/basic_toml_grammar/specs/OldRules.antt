@@ -1,5 +1,6 @@
--- The clash of sections and the comment as they were before, own: of a row its first key alone clashed, and a comment held U+007F.
--- They stand beside the rules for one law: what had a document by these has the same document (`old_documents_stand`).
+-- The clash of sections and the comment as they were before, own: of a row its first key alone clashed, and a comment
+-- held U+007F. They stand beside the rules for one law: what had a document by these has the same document
+-- (`old_documents_stand`).
 use Rattle.std.specs.Prelude.{◌≡◌, ℕ, nat_le, ◌==◌, ◌||◌, not, Bool, true, false, if◌then◌else◌, List, [], ◌∷◌, ◌++◌}
 use Rattle.std.specs.Prelude.{◌&&◌, Option, Some, None}
 use Rattle.basic_toml_tokens.specs.Ascii as ascii
@@ -46,7 +47,8 @@ pub record WasDocument (text : Text) (tree : Data) : Type 0 where
   pub grammar : IsSectionListBy was_comment text sections
   pub means : old_document_of sections ≡ Some tree
 
--- No character is U+007F. A text that had a document held it in comments alone, since no string and no other token holds it.
+-- No character is U+007F. A text that had a document held it in comments alone, since no string and no other token
+-- holds it.
 abbrev pub has_no_delete : Text → Bool
 has_no_delete [] = true
 has_no_delete (x ∷ text) = not (x.1 == ascii.delete) && has_no_delete text

@@ -1,6 +1,6 @@
--- Where sections stand, section by section: the form of the indexed path and of the section clash that proofs go by (laws
--- `paths_agree`, `clashes_agree`). The path of a section is its target, then the number of its own element where it is an
--- array section. An array has as many elements as array sections stood at that target before.
+-- Where sections stand, section by section: the form of the indexed path and of the section clash that proofs go by
+-- (laws `paths_agree`, `clashes_agree`). The path of a section is its target, then the number of its own element where
+-- it is an array section. An array has as many elements as array sections stood at that target before.
 use Rattle.std.specs.Prelude.{ℕ, suc, Bool, true, false, ◌&&◌, ◌||◌, if◌then◌else◌, List, [], ◌∷◌, ◌++◌, Option}
 use Rattle.std.specs.Prelude.{Some, None}
 use Rattle.basic_toml_grammar.specs.Sections.{KeyTexts, texts, Section, Rows, no_rows, row}
@@ -30,8 +30,8 @@ elements_at p [] = 0
 elements_at p (l ∷ ls) =
     if adds_element l.element && path_eq l.target p then suc (elements_at p ls) else elements_at p ls
 
--- What a header's keys lead to from a cut on: each key with the number of the latest element there, but for the last key of an
--- array section. `count` says how many elements an array has so far.
+-- What a header's keys lead to from a cut on: each key with the number of the latest element there, but for the last
+-- key of an array section. `count` says how many elements an array has so far.
 abbrev pub target_from : (Path → ℕ) → Bool → Path → KeyTexts → Path
 target_from count is_array cut [] = []
 target_from count is_array cut (k ∷ []) = key k ∷ (if is_array then [] else latest (count (cut ++ key k ∷ [])))

@@ -12,7 +12,7 @@ use Rattle.basic_toml_grammar.specs.Entering.{and_then}
 use Rattle.basic_toml_grammar.specs.Grammar.{is_wordlike, word_value, word_offset, after_comment_by, after_gap}
 use Rattle.basic_toml_grammar.specs.Grammar.{with_root}
 
--- a sign, by its offset
+-- a character, by its offset
 abbrev pub char_at : ℕ → Text → Option (ℕ × Text)
 char_at c [] = None
 char_at c (x ∷ text) = if x.1 == c then Some (x.0, text) else None

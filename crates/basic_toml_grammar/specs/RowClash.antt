@@ -1,5 +1,5 @@
--- Row clash: two different rows of one section, or of one inline table at any depth in a value, where the key path of one
--- equals or begins that of the other. 'Keys' and 'Inline Table' of TOML v0.5.0: a key is defined once.
+-- Row clash: two different rows of one section, or of one inline table at any depth in a value, where the key path of
+-- one equals or begins that of the other. 'Keys' and 'Inline Table' of TOML v0.5.0: a key is defined once.
 use Rattle.std.specs.Prelude.{◌||◌, Bool, false, List}
 use Rattle.std.specs.List.{list_any}
 use Rattle.basic_toml_grammar.specs.Sections.{texts, Raw, Elements, no_elements, element, Rows, no_rows, row, Section}

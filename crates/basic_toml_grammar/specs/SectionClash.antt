@@ -1,10 +1,10 @@
 -- Section clash: two different sections i and j where
 -- (a) their indexed paths are equal; or
--- (b) j is an array section, and some cut of i is the indexed path of j without its last number; or, for a row of i with key
---     path p, where P is the indexed path of i followed by p,
+-- (b) j is an array section, and some cut of i is the indexed path of j without its last number; or, for a row of i
+--     with key path p, where P is the indexed path of i followed by p,
 -- (c1) P equals or begins the indexed path of j; or
--- (c2) the indexed path of j, without its last number where j is an array section, is the indexed path of i followed by a
---     beginning of p that has at least one key and fewer than all.
+-- (c2) the indexed path of j, without its last number where j is an array section, is the indexed path of i followed by
+--     a beginning of p that has at least one key and fewer than all.
 -- So a header may pass through a table that dotted keys made, and neither name it nor cross a row's own path.
 -- 'Table' and 'Array of Tables' of TOML v0.5.0; that dotted keys and headers may share a table is own.
 use Rattle.std.specs.Prelude.{Bool, false, ◌&&◌, ◌||◌, if◌then◌else◌, List, [], ◌∷◌, ◌++◌, map}

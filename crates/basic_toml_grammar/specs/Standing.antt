@@ -1,5 +1,6 @@
--- What stands at a path after some marks, own: it tells which further mark fits (law `marks_fit`). A table can be passed by
--- a header, named by one and extended by dots; an array has so many elements, and none where only its latest was asked for.
+-- What stands at a path after some marks, own: it tells which further mark fits (law `marks_fit`). A table can be
+-- passed by a header, named by one and extended by dots; an array has so many elements, and none where only its latest
+-- was asked for.
 use Rattle.std.specs.Prelude.{ℕ, zero, suc, Bool, true, false, not, ◌&&◌, if◌then◌else◌, List, [], ◌∷◌, Option, Some}
 use Rattle.std.specs.Prelude.{None}
 use Rattle.basic_toml_value.specs.Data.{Data}

@@ -72,8 +72,8 @@ OldDocumentsStand = (text : Text) (tree : Data) → has_no_delete text ≡ true 
     → IsDocument text tree
 
 -- what a text means does not depend on the offsets of its characters
-abbrev pub PlacesMeanNothing : Type 0
-PlacesMeanNothing = (text other : Text) (tree : Data) → characters text ≡ characters other
+abbrev pub OffsetsMeanNothing : Type 0
+OffsetsMeanNothing = (text other : Text) (tree : Data) → characters text ≡ characters other
     → IsDocument text tree ↔ IsDocument other tree
 
 -- so CR LF for each LF of a text without CR leaves its document
@@ -92,9 +92,9 @@ LevelsAreWithinDepth = (text : Text) (sections : List Section) → IsSectionList
     → has_clash sections ≡ false
     → highest_level sections ≤ depth (tree_of_sections sections)
 
--- nothing is too deep where fewer signs that lead deeper stand before it than the limit
-abbrev pub DeepPlacesAreOpened : Type 0
-DeepPlacesAreOpened = (limit p : ℕ) (text : Text) → IsTooDeepAt limit text p → limit ≤ openers (before p text)
+-- nothing is too deep where fewer characters that lead deeper stand before it than the limit
+abbrev pub DeepOffsetsAreOpened : Type 0
+DeepOffsetsAreOpened = (limit p : ℕ) (text : Text) → IsTooDeepAt limit text p → limit ≤ openers (before p text)
 
 -- so at a limit of 4 nothing is too deep in `a = !`, which is refused for another fault
 abbrev pub ShallowTextIsFree : Type 0

@@ -1,7 +1,7 @@
--- Tree of mentions, own words for 'Table' of TOML v0.5.0: a mention is a path with 'table here' or with a finished value.
--- Among mentions, an empty path with a value gives that value. Otherwise the mentions are grouped by their first step, in the
--- order in which these steps are first mentioned, and each group without that step gives its tree by the same rule.
--- Key steps make a table, number steps an array; no steps make the empty table.
+-- Tree of mentions, own words for 'Table' of TOML v0.5.0: a mention is a path with 'table here' or with a finished
+-- value. Among mentions, an empty path with a value gives that value. Otherwise the mentions are grouped by their
+-- first step, in the order in which these steps are first mentioned, and each group without that step gives its tree
+-- by the same rule. Key steps make a table, number steps an array; no steps make the empty table.
 -- `IsTree` is this rule, and `Growth.tree_of` computes it (law `tree_is_grouped`).
 use Rattle.std.specs.Prelude.{◌≡◌, Bool, false, if◌then◌else◌, List, [], ◌∷◌, Option, Some, None}
 use Rattle.std.specs.Option.{option_or}

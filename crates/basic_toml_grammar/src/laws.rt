@@ -1,13 +1,13 @@
 //! Laws about what a text means, each as the contract of a function that does nothing.
 
-ghost use Rattle.basic_toml_grammar.specs.Statements.{GrammarIsUnambiguous, GrammarIsRead, GrammarGivesKeys, LevelsAreWithinDepth, DeepPlacesAreOpened, ShallowTextIsFree, TreeIsGrouped, KeysAreDistinct, ClashesAgree, PathsAgree, MarksFit, EveryClashIsNamed, OldDocumentsStand, PlacesMeanNothing, ReturnsMeanNothing, ByteOrderMarkMeansNothing, OrderIsFree, PlainOrderIsFree, ReorderedMeansTheSame, PlainReorderedMeansTheSame, SameMapsAreAsDeep, EnteringAccepts, EnteringGrows};
+ghost use Rattle.basic_toml_grammar.specs.Statements.{GrammarIsUnambiguous, GrammarIsRead, GrammarGivesKeys, LevelsAreWithinDepth, DeepOffsetsAreOpened, ShallowTextIsFree, TreeIsGrouped, KeysAreDistinct, ClashesAgree, PathsAgree, MarksFit, EveryClashIsNamed, OldDocumentsStand, OffsetsMeanNothing, ReturnsMeanNothing, ByteOrderMarkMeansNothing, OrderIsFree, PlainOrderIsFree, ReorderedMeansTheSame, PlainReorderedMeansTheSame, SameMapsAreAsDeep, EnteringAccepts, EnteringGrows};
 
 /// The grammar gives a text at most one section list.
 pub fn grammar_is_unambiguous()
     ensures { GrammarIsUnambiguous }
 {}
 
-/// The section list of a text is the one that is read.
+/// The section list of a text is the one that `Reader.section_list_of` computes.
 pub fn grammar_is_read()
     ensures { GrammarIsRead }
 {}
@@ -58,10 +58,10 @@ pub fn levels_are_within_depth()
     ensures { LevelsAreWithinDepth }
 {}
 
-/// Nothing is too deep where fewer signs that lead deeper stand before it than the limit.
+/// Nothing is too deep where fewer characters that lead deeper stand before it than the limit.
 #[tactic(auto, using(crate::proofs::LawsHold::opened))]
 pub fn deep_offsets_are_opened()
-    ensures opened { DeepPlacesAreOpened }
+    ensures opened { DeepOffsetsAreOpened }
     ensures shallow { ShallowTextIsFree }
 {}
 
@@ -74,7 +74,7 @@ pub fn old_documents_stand()
 /// What a text means does not depend on the offsets of its characters.
 #[tactic(auto, using(crate::proofs::RespelledLaws::offsets_mean_nothing))]
 pub fn offsets_mean_nothing()
-    ensures { PlacesMeanNothing }
+    ensures { OffsetsMeanNothing }
 {}
 
 /// CR LF for each LF of a text without CR leaves its document.

@@ -20,7 +20,7 @@ pub mod ValuesAreInTheGrammar
 pub mod RowsAreInTheGrammar
 pub mod RowsMakeHeadersDue
 pub mod LayoutIsInTheGrammar
-pub mod GrammarHasNoMark
+pub mod GrammarHasNoByteOrderMark
 pub mod QuotedIsUtf8
 pub mod LayoutIsUtf8
 -- Its sections do not clash, and mean its tree

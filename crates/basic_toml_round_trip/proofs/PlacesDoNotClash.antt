@@ -12,8 +12,8 @@ use Rattle.basic_toml_grammar.specs.Placed.{Placed, step_into, adds_element, pat
 use Rattle.basic_toml_grammar.specs.Placed.{rows_meet, placed_clash_one_way, placed_clash}
 use Rattle.basic_toml_round_trip.proofs.LaidOut.{IsNew, Laid, a_row, then_parts, Parts, no_parts, a_table, an_array}
 use Rattle.basic_toml_round_trip.proofs.LaidOut.{Nodes, no_nodes, a_node}
-use Rattle.basic_toml_round_trip.proofs.SectionsOfTable.{has_header, rows, below, placed_here, head_offsets}
-use Rattle.basic_toml_round_trip.proofs.SectionsOfTable.{inner_offsets, part_offsets, node_offsets}
+use Rattle.basic_toml_round_trip.proofs.SectionsOfTable.{has_header, rows, below, placed_here, head_placed}
+use Rattle.basic_toml_round_trip.proofs.SectionsOfTable.{inner_placed, part_placed, node_offsets}
 use Rattle.basic_toml_round_trip.proofs.StepsKeepSectionsApart.{placed_at, one_way, rows_apart, At, deeper, element}
 use Rattle.basic_toml_round_trip.proofs.StepsKeepSectionsApart.{Differ, by_keys, by_numbers, rows_below, AllAt}
 use Rattle.basic_toml_round_trip.proofs.StepsKeepSectionsApart.{at_more, at_below, any-append, none_clashes}
@@ -41,17 +41,17 @@ older k seen ls h = at_more (NewKey (k ∷ seen)) (NewKey seen) one ls h
     one (key l) h = h.1
     one (number n) h = h
 
-parts_at : {seen : KeyTexts} {ms : Members} (parts : Parts seen ms) → AllAt (NewKey seen) (part_offsets parts)
+parts_at : {seen : KeyTexts} {ms : Members} (parts : Parts seen ms) → AllAt (NewKey seen) (part_placed parts)
 parts_at no_parts = tt
 parts_at (a_table {seen = seen} {k = k} new text laid parts) =
-    at_below (NewKey seen) (key k) (head_offsets laid ++ inner_offsets laid) (part_offsets parts) new
-    (older k seen (part_offsets parts) (parts_at parts))
+    at_below (NewKey seen) (key k) (head_placed laid ++ inner_placed laid) (part_placed parts) new
+    (older k seen (part_placed parts) (parts_at parts))
 parts_at (an_array {seen = seen} {k = k} new text nodes parts) =
-    at_below (NewKey seen) (key k) (node_offsets 0 nodes) (part_offsets parts) new
-    (older k seen (part_offsets parts) (parts_at parts))
+    at_below (NewKey seen) (key k) (node_offsets 0 nodes) (part_placed parts) new
+    (older k seen (part_placed parts) (parts_at parts))
 
 inner_at : {seen : KeyTexts} {ms : Members} (laid : Laid seen ms)
-    → AllAt (NewKey (keys_after laid)) (inner_offsets laid)
+    → AllAt (NewKey (keys_after laid)) (inner_placed laid)
 inner_at (a_row new text value laid) = inner_at laid
 inner_at (then_parts parts) = parts_at parts
 
@@ -68,7 +68,7 @@ nodes_at : (i j : ℕ) {xs : Items} (nodes : Nodes xs) → i ≤ j → AllAt (Fr
 nodes_at i j no_nodes h = tt
 nodes_at i j (a_node laid nodes) h = (
   (number j, element, h),
-  at_below (FromNumber i) (number j) (inner_offsets laid) (node_offsets (suc j) nodes) h
+  at_below (FromNumber i) (number j) (inner_placed laid) (node_offsets (suc j) nodes) h
       (nodes_at i (suc j) nodes (omega arith)),
 )
 
@@ -146,26 +146,26 @@ element_free i laid [] h = refl
 element_free i laid (o ∷ os) h = or_from _ _ (element_apart i laid h.0.1 h.0.2) (element_free i laid os h.1)
 
 head_pairs : {seen : KeyTexts} {ms : Members} (laid : Laid seen ms) (has : Bool)
-    → any_pair placed_clash (inner_offsets laid) ≡ false
-    → any_pair placed_clash (cond has (placed_here None (rows laid) ∷ []) [] ++ inner_offsets laid) ≡ false
-head_pairs laid true e = or_from _ _ (head_free laid (inner_offsets laid) (inner_at laid)) e
+    → any_pair placed_clash (inner_placed laid) ≡ false
+    → any_pair placed_clash (cond has (placed_here None (rows laid) ∷ []) [] ++ inner_placed laid) ≡ false
+head_pairs laid true e = or_from _ _ (head_free laid (inner_placed laid) (inner_at laid)) e
 head_pairs laid false e = e
 
--- no two of the offsets clash
+-- no two of the paths clash
 mutual
   pub inner_apart : {seen : KeyTexts} {ms : Members} (laid : Laid seen ms)
-      → any_pair placed_clash (inner_offsets laid) ≡ false
+      → any_pair placed_clash (inner_placed laid) ≡ false
   inner_apart (a_row new text value laid) = inner_apart laid
   inner_apart (then_parts parts) = parts_apart parts
 
   parts_apart : {seen : KeyTexts} {ms : Members} (parts : Parts seen ms)
-      → any_pair placed_clash (part_offsets parts) ≡ false
+      → any_pair placed_clash (part_placed parts) ≡ false
   parts_apart no_parts = refl
   parts_apart (a_table {seen = seen} {k = k} new text laid parts) =
-      pairs_apart (NewKey (k ∷ seen)) (key k) (head_offsets laid ++ inner_offsets laid) (part_offsets parts)
+      pairs_apart (NewKey (k ∷ seen)) (key k) (head_placed laid ++ inner_placed laid) (part_placed parts)
       (head_pairs laid (has_header laid) (inner_apart laid)) (parts_at parts) (key_differs k seen) (parts_apart parts)
   parts_apart (an_array {seen = seen} {k = k} new text nodes parts) =
-      pairs_apart (NewKey (k ∷ seen)) (key k) (node_offsets 0 nodes) (part_offsets parts) (nodes_apart 0 nodes)
+      pairs_apart (NewKey (k ∷ seen)) (key k) (node_offsets 0 nodes) (part_placed parts) (nodes_apart 0 nodes)
       (parts_at parts) (key_differs k seen) (parts_apart parts)
 
   nodes_apart : (i : ℕ) {xs : Items} (nodes : Nodes xs) → any_pair placed_clash (node_offsets i nodes) ≡ false
@@ -174,15 +174,15 @@ mutual
       let later : AllAt (FromNumber (suc i)) (node_offsets (suc i) nodes) =
       nodes_at (suc i) (suc i) nodes (omega arith) in
       or_from _ _
-      (any-append (placed_clash (placed_here (Some i) (rows laid))) (below (number i) (inner_offsets laid))
+      (any-append (placed_clash (placed_here (Some i) (rows laid))) (below (number i) (inner_placed laid))
       (node_offsets (suc i) nodes)
-      (element_free i laid (inner_offsets laid) (inner_at laid))
+      (element_free i laid (inner_placed laid) (inner_at laid))
       (none_clashes (FromNumber (suc i)) (placed_here (Some i) (rows laid)) (node_offsets (suc i) nodes) element later
       (number_differs i)))
-      (pairs_apart (FromNumber (suc i)) (number i) (inner_offsets laid) (node_offsets (suc i) nodes)
+      (pairs_apart (FromNumber (suc i)) (number i) (inner_placed laid) (node_offsets (suc i) nodes)
       (inner_apart laid) later (number_differs i) (nodes_apart (suc i) nodes))
 
 -- nor do they with the root
 pub root_apart : {ms : Members} (laid : Laid [] ms)
-    → any_pair placed_clash (placed_here None (rows laid) ∷ inner_offsets laid) ≡ false
+    → any_pair placed_clash (placed_here None (rows laid) ∷ inner_placed laid) ≡ false
 root_apart laid = head_pairs laid true (inner_apart laid)

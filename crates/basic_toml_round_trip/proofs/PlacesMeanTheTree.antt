@@ -13,8 +13,8 @@ use Rattle.basic_toml_grammar.proofs.TreeIsGrouped.{tree_is_grouped}
 use Rattle.basic_toml_grammar.proofs.EnteringGrows.{placed_mentions}
 use Rattle.basic_toml_round_trip.proofs.LaidOut.{IsInRow, AreInRow, IsNone, Laid, a_row, then_parts, Parts, no_parts}
 use Rattle.basic_toml_round_trip.proofs.LaidOut.{a_table, an_array, Nodes, no_nodes, a_node}
-use Rattle.basic_toml_round_trip.proofs.SectionsOfTable.{raw, raw_items, rows, placed_here, head_offsets}
-use Rattle.basic_toml_round_trip.proofs.SectionsOfTable.{inner_offsets, part_offsets, node_offsets}
+use Rattle.basic_toml_round_trip.proofs.SectionsOfTable.{raw, raw_items, rows, placed_here, head_placed}
+use Rattle.basic_toml_round_trip.proofs.SectionsOfTable.{inner_placed, part_placed, node_offsets}
 use Rattle.basic_toml_round_trip.proofs.StepsGroupMentions.{after, below_first, AllOff, off_after, value_after}
 use Rattle.basic_toml_round_trip.proofs.StepsGroupMentions.{Filled, filled, filled_after, one_group, table_here}
 use Rattle.basic_toml_round_trip.proofs.StepsGroupMentions.{groups_here, groups_of, table_made, groups_from}
@@ -36,21 +36,21 @@ mutual
 
 -- what the rows and the parts of a table mention, and what they do with the mention of the table where it has a header
 abbrev pub inner_mentions : {seen : KeyTexts} {ms : Members} → Laid seen ms → List Mention
-inner_mentions laid = row_mentions [] (rows laid) ++ placed_mentions (inner_offsets laid)
+inner_mentions laid = row_mentions [] (rows laid) ++ placed_mentions (inner_placed laid)
 
 abbrev whole_mentions : {seen : KeyTexts} {ms : Members} → Laid seen ms → List Mention
-whole_mentions laid = placed_mentions (head_offsets laid ++ inner_offsets laid)
+whole_mentions laid = placed_mentions (head_placed laid ++ inner_placed laid)
 
 -- none of them has a value at the empty path
 no_value : {seen : KeyTexts} {ms : Members} (parts : Parts seen ms)
-    → value_here (placed_mentions (part_offsets parts)) ≡ None
+    → value_here (placed_mentions (part_placed parts)) ≡ None
 no_value no_parts = refl
 no_value (a_table {k = k} new text laid parts) =
-    ap value_here (below_first (key k) (head_offsets laid ++ inner_offsets laid) (part_offsets parts))
-    ∙ value_after (key k) (whole_mentions laid) (placed_mentions (part_offsets parts)) ∙ no_value parts
+    ap value_here (below_first (key k) (head_placed laid ++ inner_placed laid) (part_placed parts))
+    ∙ value_after (key k) (whole_mentions laid) (placed_mentions (part_placed parts)) ∙ no_value parts
 no_value (an_array {k = k} new text nodes parts) =
-    ap value_here (below_first (key k) (node_offsets 0 nodes) (part_offsets parts))
-    ∙ value_after (key k) (placed_mentions (node_offsets 0 nodes)) (placed_mentions (part_offsets parts))
+    ap value_here (below_first (key k) (node_offsets 0 nodes) (part_placed parts))
+    ∙ value_after (key k) (placed_mentions (node_offsets 0 nodes)) (placed_mentions (part_placed parts))
     ∙ no_value parts
 
 no_value_inside : {seen : KeyTexts} {ms : Members} (laid : Laid seen ms) → value_here (inner_mentions laid) ≡ None
@@ -59,13 +59,13 @@ no_value_inside (then_parts parts) = no_value parts
 
 -- none goes by a key that is not new
 parts_off : (k : List ℕ) {seen : KeyTexts} {ms : Members} (parts : Parts seen ms) → IsNone k seen
-    → AllOff (key k) (placed_mentions (part_offsets parts))
+    → AllOff (key k) (placed_mentions (part_placed parts))
 parts_off k no_parts h = tt
 parts_off k (a_table {k = l} new text laid parts) h =
-    subst (AllOff (key k)) (sym (below_first (key l) (head_offsets laid ++ inner_offsets laid) (part_offsets parts)))
+    subst (AllOff (key k)) (sym (below_first (key l) (head_placed laid ++ inner_placed laid) (part_placed parts)))
     (off_after (key k) (key l) (whole_mentions laid) _ (h l new) (parts_off k parts (λ j n. h j n.1)))
 parts_off k (an_array {k = l} new text nodes parts) h =
-    subst (AllOff (key k)) (sym (below_first (key l) (node_offsets 0 nodes) (part_offsets parts)))
+    subst (AllOff (key k)) (sym (below_first (key l) (node_offsets 0 nodes) (part_placed parts)))
     (off_after (key k) (key l) (placed_mentions (node_offsets 0 nodes)) _ (h l new)
     (parts_off k parts (λ j n. h j n.1)))
 
@@ -76,7 +76,7 @@ laid_off k (then_parts parts) h = parts_off k parts h
 
 -- an element is a table one step below
 abbrev element_offsets : {seen : KeyTexts} {ms : Members} → Laid seen ms → List Placed
-element_offsets laid = placed_here None (rows laid) ∷ inner_offsets laid
+element_offsets laid = placed_here None (rows laid) ∷ inner_placed laid
 
 node_first : (i : ℕ) {x : Members} {xs : Items} (laid : Laid [] x) (nodes : Nodes xs)
     → placed_mentions (node_offsets i (a_node laid nodes))
@@ -104,7 +104,7 @@ part_filled : {seen : KeyTexts} {ms : Members} (laid : Laid seen ms) → Filled 
 part_filled (a_row new text value laid) = filled
 part_filled (then_parts no_parts) = filled
 part_filled (then_parts (a_table {k = k} new text laid parts)) =
-    subst Filled (sym (below_first (key k) (head_offsets laid ++ inner_offsets laid) (part_offsets parts)))
+    subst Filled (sym (below_first (key k) (head_placed laid ++ inner_placed laid) (part_placed parts)))
     (filled_after (key k) _ (part_filled laid))
 part_filled (then_parts (an_array new text (a_node laid nodes) parts)) = filled
 
@@ -149,16 +149,16 @@ mutual
   laid_groups (then_parts parts) = parts_groups parts
 
   parts_groups : {seen : KeyTexts} {ms : Members} (parts : Parts seen ms)
-      → AreGroups (placed_mentions (part_offsets parts)) (groups_of ms)
+      → AreGroups (placed_mentions (part_placed parts)) (groups_of ms)
   parts_groups no_parts = no_steps refl
   parts_groups (a_table {seen = seen} {k = k} {x = x} {ms = ms} new text laid parts) =
       subst (λ l. AreGroups l (groups_of (member k (d.table x) ms)))
-      (sym (below_first (key k) (head_offsets laid ++ inner_offsets laid) (part_offsets parts)))
+      (sym (below_first (key k) (head_placed laid ++ inner_placed laid) (part_placed parts)))
       (one_group (key k) _ (part_filled laid) (whole_tree laid (laid_groups laid))
       (parts_off k parts (later_keys k seen)) (parts_groups parts))
   parts_groups (an_array {seen = seen} {k = k} {x = x} {xs = xs} {ms = ms} new text nodes parts) =
       subst (λ l. AreGroups l (groups_of (member k (d.array (item (d.table x) xs)) ms)))
-      (sym (below_first (key k) (node_offsets 0 nodes) (part_offsets parts)))
+      (sym (below_first (key k) (node_offsets 0 nodes) (part_placed parts)))
       (one_group (key k) _ (nodes_filled 0 nodes) (array_tree nodes (nodes_groups 0 nodes))
       (parts_off k parts (later_keys k seen)) (parts_groups parts))
 

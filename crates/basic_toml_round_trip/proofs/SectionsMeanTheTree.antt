@@ -17,7 +17,7 @@ use Rattle.basic_toml_grammar.specs.Document.{tree_of_sections, document_of}
 use Rattle.basic_toml_grammar.proofs.ClashesAgree.{clashes_agree}
 use Rattle.basic_toml_grammar.proofs.EnteringGrows.{placed_mentions, mentions_are}
 use Rattle.basic_toml_round_trip.proofs.LaidOut.{Laid}
-use Rattle.basic_toml_round_trip.proofs.SectionsOfTable.{rows, inner_offsets, sections, placed_here}
+use Rattle.basic_toml_round_trip.proofs.SectionsOfTable.{rows, inner_placed, sections, placed_here}
 use Rattle.basic_toml_round_trip.proofs.RowsDoNotClash.{sections_quiet}
 use Rattle.basic_toml_round_trip.proofs.PlacesDoNotClash.{inner_apart, root_apart}
 use Rattle.basic_toml_round_trip.proofs.PlacesMeanTheTree.{root_tree, rootless_tree}
@@ -27,20 +27,20 @@ use Rattle.basic_toml_round_trip.proofs.SectionsStandAtTheirPlaces.{root_offsets
 no_clash : {ms : Members} (laid : Laid [] ms) → any_placed_clash (sections laid) ≡ false
 no_clash laid = ap (any_pair placed_clash) (sections_stand laid) ∙ go (rows laid) refl
   where
-    go : (rs : Rows) → rows laid ≡ rs → any_pair placed_clash (root_offsets rs (inner_offsets laid)) ≡ false
+    go : (rs : Rows) → rows laid ≡ rs → any_pair placed_clash (root_offsets rs (inner_placed laid)) ≡ false
     go no_rows e = inner_apart laid
     go (row keys at v rs) e =
-        ap (λ rs. any_pair placed_clash (placed_here None rs ∷ inner_offsets laid)) (sym e) ∙ root_apart laid
+        ap (λ rs. any_pair placed_clash (placed_here None rs ∷ inner_placed laid)) (sym e) ∙ root_apart laid
 
 means : {ms : Members} (laid : Laid [] ms) → tree_of_sections (sections laid) ≡ d.table ms
 means {ms = ms} laid =
     ap tree_of (mentions_are [] (sections laid) ∙ ap placed_mentions (sections_stand laid)) ∙ go (rows laid) refl
   where
-    go : (rs : Rows) → rows laid ≡ rs → tree_of (placed_mentions (root_offsets rs (inner_offsets laid))) ≡ d.table ms
+    go : (rs : Rows) → rows laid ≡ rs → tree_of (placed_mentions (root_offsets rs (inner_placed laid))) ≡ d.table ms
     go no_rows e =
-        ap (λ rs. tree_of (row_mentions [] rs ++ placed_mentions (inner_offsets laid))) (sym e) ∙ rootless_tree laid
+        ap (λ rs. tree_of (row_mentions [] rs ++ placed_mentions (inner_placed laid))) (sym e) ∙ rootless_tree laid
     go (row keys at v rs) e =
-        ap (λ rs. tree_of (table_here ∷ (row_mentions [] rs ++ placed_mentions (inner_offsets laid)))) (sym e)
+        ap (λ rs. tree_of (table_here ∷ (row_mentions [] rs ++ placed_mentions (inner_placed laid)))) (sym e)
         ∙ root_tree laid
 
 pub sections_mean : {ms : Members} (laid : Laid [] ms) → all_keyed (sections laid) ≡ true

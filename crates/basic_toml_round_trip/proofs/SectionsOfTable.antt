@@ -79,7 +79,7 @@ abbrev mutual
 abbrev pub sections : {ms : Members} → Laid [] ms → List Section
 sections laid = with_root (rows laid) (inner_sections [] laid)
 
--- offsets one step further down
+-- paths one step further down
 abbrev pub below : Step → List Placed → List Placed
 below s [] = []
 below s (l ∷ ls) = record { target = s ∷ l.target; element = l.element; rows = l.rows } ∷ below s ls
@@ -89,22 +89,22 @@ abbrev pub placed_here : Option ℕ → Rows → Placed
 placed_here e rs = record { target = []; element = e; rows = rs }
 
 -- where its own section stands, if it has a header
-abbrev pub head_offsets : {seen : KeyTexts} {ms : Members} → Laid seen ms → List Placed
-head_offsets laid = cond (has_header laid) (placed_here None (rows laid) ∷ []) []
+abbrev pub head_placed : {seen : KeyTexts} {ms : Members} → Laid seen ms → List Placed
+head_placed laid = cond (has_header laid) (placed_here None (rows laid) ∷ []) []
 
 -- and where those after its rows stand
 abbrev mutual
-  pub inner_offsets : {seen : KeyTexts} {ms : Members} → Laid seen ms → List Placed
-  inner_offsets (a_row new text value laid) = inner_offsets laid
-  inner_offsets (then_parts parts) = part_offsets parts
+  pub inner_placed : {seen : KeyTexts} {ms : Members} → Laid seen ms → List Placed
+  inner_placed (a_row new text value laid) = inner_placed laid
+  inner_placed (then_parts parts) = part_placed parts
 
-  pub part_offsets : {seen : KeyTexts} {ms : Members} → Parts seen ms → List Placed
-  part_offsets no_parts = []
-  part_offsets (a_table {k = k} new text laid parts) =
-      below (key k) (head_offsets laid ++ inner_offsets laid) ++ part_offsets parts
-  part_offsets (an_array {k = k} new text nodes parts) = below (key k) (node_offsets 0 nodes) ++ part_offsets parts
+  pub part_placed : {seen : KeyTexts} {ms : Members} → Parts seen ms → List Placed
+  part_placed no_parts = []
+  part_placed (a_table {k = k} new text laid parts) =
+      below (key k) (head_placed laid ++ inner_placed laid) ++ part_placed parts
+  part_placed (an_array {k = k} new text nodes parts) = below (key k) (node_offsets 0 nodes) ++ part_placed parts
 
   pub node_offsets : {xs : Items} → ℕ → Nodes xs → List Placed
   node_offsets i no_nodes = []
   node_offsets i (a_node laid nodes) =
-      placed_here (Some i) (rows laid) ∷ (below (number i) (inner_offsets laid) ++ node_offsets (suc i) nodes)
+      placed_here (Some i) (rows laid) ∷ (below (number i) (inner_placed laid) ++ node_offsets (suc i) nodes)

@@ -27,7 +27,7 @@ use Rattle.basic_toml_round_trip.proofs.CharactersOfLayout.{table_chars}
 use Rattle.basic_toml_round_trip.proofs.QuotedIsUtf8.{Spelt, spelt_utf8, spelt_chars, folded_characters}
 use Rattle.basic_toml_round_trip.proofs.LayoutIsUtf8.{layout_spelt}
 use Rattle.basic_toml_round_trip.proofs.LayoutIsInTheGrammar.{layout_grammar}
-use Rattle.basic_toml_round_trip.proofs.GrammarHasNoMark.{no_mark}
+use Rattle.basic_toml_round_trip.proofs.GrammarHasNoByteOrderMark.{no_mark}
 use Rattle.basic_toml_round_trip.proofs.SectionsMeanTheTree.{sections_mean}
 use Rattle.basic_toml_round_trip.proofs.SpelledIsRecorded.{IsRecorded}
 use Rattle.basic_toml_round_trip.proofs.SupportedIsLaidOut.{table_laid}

@@ -22,7 +22,7 @@ pub fn written_is_read_with_returns()
 
 /// With one U+FEFF in front it means the same.
 #[tactic(auto, using(crate::proofs::LawsHold::with_byte_order_mark))]
-pub fn written_is_read_with_mark()
+pub fn written_is_read_with_byte_order_mark()
     ensures { WrittenIsReadWithByteOrderMark }
 {}
 

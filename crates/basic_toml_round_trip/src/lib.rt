@@ -1,5 +1,5 @@
-//! What is written is read back: laws that join what a text means (`basic_toml_grammar`) with what calls write (`basic_toml_emit`,
-//! `basic_toml_write`). There is no code here.
+//! What is written is read back: laws that join what a text means (`basic_toml_grammar`) with what calls write
+//! (`basic_toml_emit`, `basic_toml_write`). There is no code here.
 #![tactic(auto)]
 
 pub mod laws;

@@ -1,9 +1,8 @@
-// An index of keys, for whoever keeps texts by their positions: a table, nodes of a tree, the keys of an open table.
-//
-// Few texts stand without an index and are looked through. From `FEW` on their positions stand sorted, each beside a
-// ending of its text, so that most comparisons touch no text. A search is one walk: it answers the position of a key,
-// or
-// the gap where the key would go, and `insert` takes the gap.
+//! An index of keys, for whoever keeps texts by their positions: a table, the keys of an open table.
+//!
+//! Up to `FEW` texts stand without an index and are looked through. Beyond that their positions stand sorted, each
+//! beside the ending of its text, so that most comparisons touch no text. A search is one walk: it answers the position
+//! of a key, or the gap where the key would go, and `insert` takes the gap.
 ghost use Rattle.std.specs.Prelude.{◌≡◌, List, ℕ, [], ◌∷◌, ◌++◌, length, false, Some, IsTrue, IfOk, OnOk, OnErr};
 ghost use Rattle.std.specs.Prelude.{slice_get};
 ghost use Rattle.basic_toml_value.specs.Keys.{are_distinct, is_among};

@@ -1,4 +1,4 @@
-// The texts of numbers.
+//! The texts of numbers.
 ghost use Rattle.std.specs.Prelude.{◌≡◌, ◌≤◌, ◌+◌, ◌^◌, ◌-◌, ℕ, Some, None, min, length, if◌then◌else◌};
 ghost use Rattle.basic_toml_value.specs.Numbers as spec;
 

@@ -1,4 +1,4 @@
-// A table: its pairs in one vector, and an index of their keys where there are more than a few.
+//! A table: its pairs in one vector, and an index of their keys where there are more than a few.
 ghost use Rattle.std.specs.Prelude.{◌≡◌, ◌==◌, ℕ, List, [], ◌∷◌, ◌++◌, length, OnOk, OnErr, IfErr, IsTrue, ◌↔◌};
 ghost use Rattle.std.specs.Prelude.{string_bytes, false};
 ghost use Rattle.std.specs.Option.{option_copied};

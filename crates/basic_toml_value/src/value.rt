@@ -1,4 +1,4 @@
-// Values, and tables of them.
+//! Values, and tables of them.
 ghost use Rattle.std.specs.Prelude.{◌≡◌, ◌&&◌, IfOk, length, map, string_bytes};
 ghost use Rattle.std.specs.Ordering.{on};
 ghost use Rattle.std.specs.Str.{bytes_eq};

@@ -1,4 +1,4 @@
-// The ending of a key: its last eight bytes as one number, zeros before a shorter key.
+//! The ending of a key: its last eight bytes as one number, zeros before a shorter key.
 ghost use Rattle.std.specs.Prelude.{◌≡◌, length};
 ghost use Rattle.basic_toml_value.specs.Index as spec;
 

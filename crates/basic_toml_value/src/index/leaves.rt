@@ -1,5 +1,5 @@
-// Slots in leaves: the keys that they stand for rise from slot to slot and from leaf to leaf. No leaf is empty, and
-// one that has outgrown `LEAF` slots is split in two; where memory is refused for that, it stays long.
+//! Slots in leaves: the keys that they stand for rise from slot to slot and from leaf to leaf. No leaf is empty, and
+//! one that has outgrown `LEAF` slots is split in two; where memory is refused for that, it stays long.
 ghost use Rattle.std.specs.Prelude.{◌≡◌, ◌≤◌, ◌<◌, ◌+◌, ◌-◌, ◌↔◌, [], ◌∷◌, ◌++◌, length, true, false};
 ghost use Rattle.std.specs.Prelude.{IsTrue, IfOk, OnOk, OnErr, slice_get, Some, insert as insert_at};
 ghost use Rattle.std.specs.List.{list_all};

@@ -1,4 +1,4 @@
--- A key or a bracket above a limit stands after as many signs that lead deeper as the limit at least.
+-- A key or a bracket above a limit stands after as many characters that lead deeper as the limit at least.
 use Rattle.std.proofs.Common.{◌≡◌, ℕ, suc, ◌+◌, ◌-◌, ◌≤◌, ◌==◌, ◌&&◌, Bool, true, false, cond, List, [], ◌∷◌, ◌++◌}
 use Rattle.std.proofs.Common.{length, drop, refl, ap, sym, ◌∙◌, subst, arith, Option, Some, None, nat_lt}
 use Rattle.std.specs.Prelude.{ℤ, codes}
@@ -21,7 +21,7 @@ use Rattle.basic_toml_grammar.specs.Grammar.{IsHeader, table, array_of_tables, I
 use Rattle.basic_toml_grammar.specs.Grammar.{with_root, IsSectionListBy}
 use Rattle.basic_toml_grammar.specs.Levels.{deep_keys, deep_in, deep_among, deep_rows, deep_offsets}
 use Rattle.basic_toml_grammar.specs.NestingFaults.{AgreeTo, here, first_offset, leads_deeper, openers, before}
-use Rattle.basic_toml_grammar.specs.Statements.{DeepPlacesAreOpened}
+use Rattle.basic_toml_grammar.specs.Statements.{DeepOffsetsAreOpened}
 use Rattle.basic_toml_grammar.proofs.RestsAreEnds.{IsEnd, all, further, ends_on, sign_ends, run_ends, gap_ends}
 use Rattle.basic_toml_grammar.proofs.RestsAreEnds.{key_ends, keys_end, value_ends, row_ends, line_ends, rows_end}
 use Rattle.basic_toml_grammar.proofs.RestsAreEnds.{header_ends}
@@ -35,7 +35,7 @@ openers_of_end (further {x = x} {text = text} {rest = rest} e) = go (leads_deepe
     go true h = omega arith
     go false h = h
 
--- a sign that leads deeper is one more
+-- a character that leads deeper is one more
 opened : {c p : ℕ} {text rest : Text} → StartsWith c text p rest → leads_deeper c ≡ true
     → openers text ≡ suc (openers rest)
 opened {rest = rest} s e = ap openers s ∙ ap (λ b. cond b (suc (openers rest)) (openers rest)) e
@@ -211,7 +211,7 @@ module _ (limit : ℕ) (whole : Text) where
         (row_opened l (ends_on e b) r (omega (arith, openers_of_end b)))
         (rows_opened l (ends_on e (ends_on b d)) xs (omega (arith, openers_of_end b, openers_of_end d)))
 
-    -- keys of a header, and how many signs it has
+    -- keys of a header, and how many such characters it has
     header_opened : {text rest : Text} {p : ℕ} {ks : List Key} {a : Bool} → IsEnd whole text
         → IsHeader text p ks a rest → AllOpened (deep_keys limit 2 ks)
     header_opened e (table {next = next} s ks f) =
@@ -326,7 +326,7 @@ first_opened limit whole (q ∷ offsets) p h e =
     let same : q ≡ p = cc in
     subst (IsOpened limit whole) same (All-head (IsOpened limit whole) q offsets h)
 
-pub deep_offsets_are_opened : DeepPlacesAreOpened
+pub deep_offsets_are_opened : DeepOffsetsAreOpened
 deep_offsets_are_opened limit p text d =
     let whole : Text = folded d.bytes in
     let o : IsOpened limit whole p =
