@@ -2,6 +2,7 @@ ghost use Rattle.std.specs.Prelude.{[], ◌∷◌, codes};
 ghost use Rattle.basic_toml_emit.specs.Error.{IsCustom};
 ghost use Rattle.basic_toml_emit.specs.Items.{a_scalar, open_table};
 ghost use Rattle.basic_toml_emit.specs.Written.{refused};
+ghost use Rattle.basic_toml_write.specs.Serializer.{GivesUpAfter};
 
 use crate::{Serialize, Serializer, WriteError};
 use std::alloc::{AllocError, Global};
@@ -26,7 +27,7 @@ pub struct Halting;
 impl Serialize for Halting {
     ghost calls = { λ _. open_table ∷ [] };
 
-    ghost gives_up = { λ _. IsCustom (codes "no") };
+    ghost gives_up = { λ _. GivesUpAfter (open_table ∷ []) (IsCustom (codes "no")) };
 
     #[tactic(auto, using(crate::proofs::ListsAreSentInTurn::sends_gave_up))]
     fn serialize(&self, alloc: Global, ser: &mut Serializer) -> Result<(), WriteError> {
