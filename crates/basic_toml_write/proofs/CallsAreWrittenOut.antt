@@ -7,7 +7,7 @@ use Rattle.basic_toml_value.specs.Nesting.{nesting_limit}
 use Rattle.basic_toml_emit.specs.Calls.{on_ok, finished, outcome}
 use Rattle.basic_toml_emit.specs.Error.{Names}
 use Rattle.basic_toml_write.specs.Recordable.{AreRecordable}
-use Rattle.basic_toml_write.specs.Serializer.{ran, HasRecorded, error_of, NoFault, GaveUp, Goes, Settles, Finishes}
+use Rattle.basic_toml_write.specs.Serializer.{ran, HasRecorded, error_of, NoFault, GaveUp, Sends, Settles, Finishes}
 use Rattle.basic_toml_write.specs.Write.{WritesOut}
 use Rattle.basic_toml_emit.specs.Emitter.{HandsOut}
 use Rattle.basic_toml_write.proofs.ListsAreSentInTurn.{GoesAt}
@@ -63,9 +63,9 @@ module _ (is : List Item) (G : List Item → WriteError → Type 0) (s : Seriali
   settled_at (Err e) r None at own same = subst (WritesOut is G) (sym same) (gave_up e own)
 
   -- the calls of a value were made from the start, and settled
-  pub settled_out : (a : Result (Unit {0}) WriteError) (r : Result (String Global) WriteError) → Goes [] is G s a
-      → Settles s a r → WritesOut is G r
-  settled_out a r goes settles = settled_at a r (error_of s) refl goes settles
+  pub settled_out : (start : Serializer) (a : Result (Unit {0}) WriteError) (r : Result (String Global) WriteError)
+      → HasRecorded start [] → Sends is G start s a → Settles s a r → WritesOut is G r
+  settled_out start a r h sends settles = settled_at a r (error_of s) refl (sends.goes [] h) settles
 
 -- a list that was recorded comes to what is handed out
 pub recorded_out : (is : List Item) (s : Serializer) (r : Result (String Global) WriteError) → HasRecorded s is

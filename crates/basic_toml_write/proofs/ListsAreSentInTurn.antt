@@ -145,6 +145,15 @@ takes_err i before new e r p kept h = record {
     on_err (Ok x) h = tt
     on_err (Err x) h = h
 
+-- a part gives up after what was sent before it, item by item or in one
+pub part_after : (xs ahead : List Item) (G : OwnErrors) (sent : List Item) (e : WriteError)
+    → PartGivesUp ahead G sent e → PartGivesUp (xs ++ ahead) G (xs ++ sent) e
+part_after xs ahead G sent e g = record {
+  own = g.own;
+  allowed = g.allowed;
+  at = ap (λ l. xs ++ l) g.at ∙ sym (append_assoc xs ahead g.own);
+}
+
 module _ (xs ys : List Item) where
   -- what gave up after the second list gave up after both
   gave_up_then : (G W : OwnErrors) → ((sent : List Item) (e : WriteError) → G sent e → W (xs ++ sent) e)
@@ -247,16 +256,12 @@ module _ (G : OwnErrors) where
     answers = answers_part old mid new a r none (error_of mid) refl k;
   }
 
-  after_item : (i : Item) (sent : List Item) (e : WriteError) → PartGivesUp [] G sent e
-      → PartGivesUp (i ∷ []) G (i ∷ sent) e
-  after_item i sent e g = record { own = g.own; allowed = g.allowed; at = ap (λ l. i ∷ l) g.at }
-
 -- an item, and then a part
 pub passes_then : (G : OwnErrors) (i : Item) (ys : List Item) (old mid new : Serializer) (r : Answer)
     → Takes (i ∷ []) old mid (Ok tt) → Passes [] ys G mid new r → Passes (i ∷ []) ys G old new r
 passes_then G i ys old mid new r p q = record {
-  sends = sends_then (i ∷ []) ys (PartGivesUp [] G) (PartGivesUp (i ∷ []) G) (after_item G i) NoFault old mid new r
-      p.sends q.sends;
+  sends = sends_then (i ∷ []) ys (PartGivesUp [] G) (PartGivesUp (i ∷ []) G) (part_after (i ∷ []) [] G) NoFault
+      old mid new r p.sends q.sends;
   answers = answers_then (error_of old) (error_of mid) (error_of new) p.sends.stays p.answers q.answers;
 }
   where
@@ -274,45 +279,6 @@ passes_cut G i ys old new x p =
       sends = sends_cut (i ∷ []) ys (PartGivesUp (i ∷ []) G) old new x
           (sends_never (PartGivesUp (i ∷ []) G) (i ∷ []) old new (Err x) p.sends);
       answers = p.answers;
-    }
-
--- nothing was sent
-pub sends_nothing : (s : Serializer) → Sends [] NoFault s s (Ok tt)
-sends_nothing s = record {
-  goes = λ before h. subst (GoesAt before [] NoFault s (Ok tt)) (sym h.unrefused)
-      (subst (HasRecorded s) (sym (append-nil before)) h);
-  stays = λ e k. k;
-}
-
--- a call was made, and then the type gave up
-module _ (errors : WriteError → Type 0) (is : List Item) (new : Serializer) (x : WriteError) (own : errors x) where
-  goes_gave_up : (before : List Item) (r : Answer) (o : Option WriteError) → GoesAt before is NoFault new r o
-      → OnErr r (IsSome o) → GoesAt before is (GivesUpAfter is errors) new (Err x) o
-  goes_gave_up before (Ok y) None g k =
-      inl (record { sent = is; allowed = record { at = refl; named = own }; recorded = g })
-  goes_gave_up before (Err y) None g k = absurd (cc)
-  goes_gave_up before r (Some e) g k = g
-
-  pub sends_gave_up : (old : Serializer) (r : Answer) → Takes is old new r
-      → Sends is (GivesUpAfter is errors) old new (Err x)
-  sends_gave_up old r p = record {
-    goes = λ before h. goes_gave_up before r new.error (p.sends.goes before h) p.refuses;
-    stays = p.sends.stays;
-  }
-
-goes_dropped : (before is : List Item) (new : Serializer) (r : Answer) (o : Option WriteError)
-    → GoesAt before is NoFault new r o → OnErr r (IsSome o) → GoesAt before is NoFault new (Ok tt) o
-goes_dropped before is new (Ok x) None g k = g
-goes_dropped before is new (Err e) None g k = absurd (cc)
-goes_dropped before is new r (Some e) g k = g
-
--- a call was made, and its answer dropped
-pub sends_dropped : (is : List Item) (old new : Serializer) (r : Answer) → Takes is old new r
-    → Sends is NoFault old new (Ok tt)
-sends_dropped is old new r p =
-    record {
-      goes = λ before h. goes_dropped before is new r (error_of new) (p.sends.goes before h) p.refuses;
-      stays = p.sends.stays;
     }
 
 -- a part of a serializer that has refused

@@ -10,7 +10,7 @@ use Rattle.std.proofs.lemmas.Map.Iter.{rest_more, rest_all}
 use Rattle.basic_toml_emit.specs.Items.{Item, close}
 use Rattle.basic_toml_write.specs.Serializer.{NoFault, PartGivesUp, Sends, Takes, Passes}
 use Rattle.basic_toml_write.specs.Impls.{AnyGivesUp}
-use Rattle.basic_toml_write.proofs.ListsAreSentInTurn.{sends_then, sends_cut, sends_never}
+use Rattle.basic_toml_write.proofs.ListsAreSentInTurn.{part_after, sends_then, sends_cut, sends_never}
 use Rattle.basic_toml_emit.specs.declared.error.WriteError.{WriteError}
 use Rattle.basic_toml_write.specs.declared.serializer.Serializer.{Serializer}
 
@@ -100,12 +100,7 @@ module _ {A : Type 0} (opening : Item) (prefix : A → Item) (calls : A → List
     rest = rest;
     part = x;
     split = refl;
-    gives_up = record {
-      own = g.own;
-      allowed = g.allowed;
-      at = ap (λ l. opening ∷ (flat_map part_calls ps ++ l)) g.at ∙
-          ap (λ l. opening ∷ l) (sym (append_assoc (flat_map part_calls ps) (prefix x ∷ []) g.own));
-    };
+    gives_up = part_after (opening ∷ flat_map part_calls ps) (prefix x ∷ []) (GivesUp x) sent e g;
   }
 
   -- a part answered an error

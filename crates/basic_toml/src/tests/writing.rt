@@ -14,7 +14,7 @@ struct Silent;
 impl Serialize for Silent {
     ghost calls = { λ _. [] };
 
-    #[tactic(auto, using(basic_toml_write::proofs::ListsAreSentInTurn::sends_nothing))]
+    #[tactic(auto, using(basic_toml_write::proofs::OneCallIsSent::sends_nothing))]
     fn serialize(&self, alloc: Global, ser: &mut Serializer) -> Result<(), WriteError> {
         let _ = alloc;
         let _ = ser;
@@ -30,7 +30,7 @@ impl Serialize for Halting {
 
     ghost gives_up = { λ _. GivesUpAfter (open_table ∷ []) (IsCustom (codes "no")) };
 
-    #[tactic(auto, using(basic_toml_write::proofs::ListsAreSentInTurn::sends_gave_up))]
+    #[tactic(auto, using(basic_toml_write::proofs::OneCallIsSent::sends_gave_up))]
     fn serialize(&self, alloc: Global, ser: &mut Serializer) -> Result<(), WriteError> {
         let _ = ser.serialize_map(None);
         Err(WriteError::custom(alloc, "no"))
@@ -45,7 +45,7 @@ impl Serialize for Careless {
 
     ghost gives_up = { λ _. GivesUpAfter (a_scalar refused ∷ []) (IsCustom (codes "no")) };
 
-    #[tactic(auto, using(basic_toml_write::proofs::ListsAreSentInTurn::sends_gave_up))]
+    #[tactic(auto, using(basic_toml_write::proofs::OneCallIsSent::sends_gave_up))]
     fn serialize(&self, alloc: Global, ser: &mut Serializer) -> Result<(), WriteError> {
         let _ = ser.serialize_unit();
         Err(WriteError::custom(alloc, "no"))

@@ -13,7 +13,7 @@ pub struct Silent;
 impl Serialize for Silent {
     ghost calls = { λ _. [] };
 
-    #[tactic(auto, using(crate::proofs::ListsAreSentInTurn::sends_nothing))]
+    #[tactic(auto, using(crate::proofs::OneCallIsSent::sends_nothing))]
     fn serialize(&self, alloc: Global, ser: &mut Serializer) -> Result<(), WriteError> {
         let _ = alloc;
         let _ = ser;
@@ -29,7 +29,7 @@ impl Serialize for Halting {
 
     ghost gives_up = { λ _. GivesUpAfter (open_table ∷ []) (IsCustom (codes "no")) };
 
-    #[tactic(auto, using(crate::proofs::ListsAreSentInTurn::sends_gave_up))]
+    #[tactic(auto, using(crate::proofs::OneCallIsSent::sends_gave_up))]
     fn serialize(&self, alloc: Global, ser: &mut Serializer) -> Result<(), WriteError> {
         let _ = ser.serialize_map(None);
         Err(WriteError::custom(alloc, "no"))
@@ -42,7 +42,7 @@ pub struct Careless;
 impl Serialize for Careless {
     ghost calls = { λ _. a_scalar refused ∷ [] };
 
-    #[tactic(auto, using(crate::proofs::ListsAreSentInTurn::sends_dropped))]
+    #[tactic(auto, using(crate::proofs::OneCallIsSent::sends_dropped))]
     fn serialize(&self, alloc: Global, ser: &mut Serializer) -> Result<(), WriteError> {
         let _ = alloc;
         let _ = ser.serialize_unit();
