@@ -1,6 +1,6 @@
 -- Items that are sent one after another.
 use Rattle.std.proofs.Common.{◌≡◌, ℕ, List, [], ◌∷◌, ◌++◌, Option, Some, None, IsSome, Result, Ok, Err, sym, ◌∙◌, ap}
-use Rattle.std.proofs.Common.{subst, refl, inl, inr, MatchOption, MatchResult, ◌⊎◌, OnErr, append_assoc, append-nil}
+use Rattle.std.proofs.Common.{subst, refl, inl, inr, MatchOption, MatchResult, ◌⊎◌, OnErr, append_assoc}
 use Rattle.std.specs.Prelude.{⊤}
 use Rattle.std.proofs.lemmas.List.Elements.{All-nil, All-cons, All-append}
 use Rattle.basic_toml_emit.specs.Items.{Item}
@@ -12,7 +12,7 @@ use Rattle.basic_toml_emit.specs.Calls.{run, on_ok, after}
 use Rattle.basic_toml_emit.specs.Error.{Names}
 use Rattle.basic_toml_write.specs.Again.{IsSame, IsAgain}
 use Rattle.basic_toml_emit.specs.Emitter.{state_of}
-use Rattle.basic_toml_write.specs.Serializer.{ran, HasRecorded, error_of, NoFault, GivesUpAfter, PartGivesUp, GaveUp}
+use Rattle.basic_toml_write.specs.Serializer.{ran, HasRecorded, error_of, NoFault, PartGivesUp, GaveUp}
 use Rattle.basic_toml_write.specs.Serializer.{Goes, Sends, AnswersError, Refused, Takes, Passes}
 use Rattle.basic_toml_write.proofs.KeptErrorIsAnswered.{refuses_later, refuses_again}
 use Rattle.basic_toml_emit.specs.declared.error.WriteError.{WriteError}

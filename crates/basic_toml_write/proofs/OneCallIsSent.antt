@@ -1,5 +1,5 @@
 -- Types that make one call or none, and what they do with its answer.
-use Rattle.std.proofs.Common.{List, [], ◌++◌, Option, Some, None, IsSome, Result, Ok, Err, sym, subst, refl, inl, OnErr}
+use Rattle.std.proofs.Common.{List, [], Option, Some, None, IsSome, Result, Ok, Err, sym, subst, refl, inl, OnErr}
 use Rattle.std.proofs.Common.{append-nil}
 use Rattle.basic_toml_emit.specs.Items.{Item}
 use Rattle.basic_toml_write.specs.Serializer.{HasRecorded, error_of, NoFault, GivesUpAfter, Sends, Takes}

@@ -8,7 +8,7 @@ abbrev pub invariant-loop-name : goal.invariant-loop-name
 invariant-loop-name g l =
     record {
       sent : Sent open_table (λ p. field (string_bytes p.0))
-    (λ p. g.V.Serialize.calls p.1) (λ p. g.V.Serialize.gives_up p.1) (map deref_pair l.yielded) l.fn.ser l.ser;
+          (λ p. g.V.Serialize.calls p.1) (λ p. g.V.Serialize.gives_up p.1) (map deref_pair l.yielded) l.fn.ser l.ser;
       left : map deref_pair l.yielded
           ++ l.name-iterator ≡ l.self.entries;
     }

@@ -27,7 +27,7 @@ returns-in_err-serialize_field g c =
 pub loop-key-preserved : goal.loop-key-preserved
 loop-key-preserved g c = record {
   sent = parts_yield open_table (λ p. field p.0)
-    (λ p. g.V.Serialize.calls p.1) (λ p. g.V.Serialize.gives_up p.1) pair_of
+      (λ p. g.V.Serialize.calls p.1) (λ p. g.V.Serialize.gives_up p.1) pair_of
       c.loop-key.yielded (c.in-Some.key, c.in-Some.value) c.args.ser.now c.loop-key.ser c.serialize_field.new.self
       c.loop-key.invariant.sent c.in_ok-serialize_field.ensures;
   left = yields_next pair_of c.args.self.now c.loop-key.yielded (rest c.loop-key.key-iterator) (rest c.next.new.self)

@@ -8,7 +8,7 @@ abbrev pub invariant-loop-key : goal.invariant-loop-key
 invariant-loop-key g l =
     record {
       sent : Sent open_table (λ p. field p.0)
-    (λ p. g.V.Serialize.calls p.1) (λ p. g.V.Serialize.gives_up p.1)
+          (λ p. g.V.Serialize.calls p.1) (λ p. g.V.Serialize.gives_up p.1)
           (map pair_of l.yielded) l.fn.ser l.ser;
       left : map pair_of l.yielded ++ rest l.key-iterator ≡ l.self;
     }

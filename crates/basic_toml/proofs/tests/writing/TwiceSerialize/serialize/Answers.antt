@@ -8,12 +8,12 @@ use Rattle.basic_toml_write.proofs.ListsAreSentInTurn.{part_after, sends_then, s
 use Rattle.basic_toml.proofs.tests.writing.TwiceSerialize.serialize.Goals as goal
 
 -- a table of two entries, of which each may give up
-module _ (key : Item) (as bs : List Item) (F G : List Item → WriteError → Type 0) where
+module _ (key : Item) (xs ys : List Item) (F G : List Item → WriteError → Type 0) where
   abbrev first : List Item
-  first = open_table ∷ (key ∷ as)
+  first = open_table ∷ (key ∷ xs)
 
   abbrev both : List Item
-  both = first ++ (key ∷ bs)
+  both = first ++ (key ∷ ys)
 
   abbrev Either : List Item → WriteError → Type 0
   Either sent e = PartGivesUp (open_table ∷ (key ∷ [])) F sent e ⊎ PartGivesUp (first ++ (key ∷ [])) G sent e
@@ -28,38 +28,38 @@ module _ (key : Item) (as bs : List Item) (F G : List Item → WriteError → Ty
       → Sends (both ++ (close ∷ [])) Either old new (Err e)
   unopened old new e p =
       sends_cut both (close ∷ []) Either old new e
-      (sends_cut first (key ∷ bs) Either old new e
-      (sends_cut (open_table ∷ []) (key ∷ as) Either old new e
+      (sends_cut first (key ∷ ys) Either old new e
+      (sends_cut (open_table ∷ []) (key ∷ xs) Either old new e
       (sends_never Either (open_table ∷ []) old new (Err e) p.sends)))
 
   with_first : (old mid new : Serializer) (r : Result (Unit {0}) WriteError) → Takes (open_table ∷ []) old mid (Ok tt)
-      → Passes (key ∷ []) as F mid new r → Sends first Either old new r
+      → Passes (key ∷ []) xs F mid new r → Sends first Either old new r
   with_first old mid new r p q =
-      sends_then (open_table ∷ []) (key ∷ as) (PartGivesUp (key ∷ []) F) Either first_gave_up NoFault old mid new r
+      sends_then (open_table ∷ []) (key ∷ xs) (PartGivesUp (key ∷ []) F) Either first_gave_up NoFault old mid new r
       p.sends q.sends
 
   cut_first : (old mid new : Serializer) (e : WriteError) → Takes (open_table ∷ []) old mid (Ok tt)
-      → Passes (key ∷ []) as F mid new (Err e) → Sends (both ++ (close ∷ [])) Either old new (Err e)
+      → Passes (key ∷ []) xs F mid new (Err e) → Sends (both ++ (close ∷ [])) Either old new (Err e)
   cut_first old mid new e p q =
       sends_cut both (close ∷ []) Either old new e
-      (sends_cut first (key ∷ bs) Either old new e (with_first old mid new (Err e) p q))
+      (sends_cut first (key ∷ ys) Either old new e (with_first old mid new (Err e) p q))
 
   with_second : (old mid next new : Serializer) (r : Result (Unit {0}) WriteError)
-      → Takes (open_table ∷ []) old mid (Ok tt) → Passes (key ∷ []) as F mid next (Ok tt)
-      → Passes (key ∷ []) bs G next new r → Sends both Either old new r
+      → Takes (open_table ∷ []) old mid (Ok tt) → Passes (key ∷ []) xs F mid next (Ok tt)
+      → Passes (key ∷ []) ys G next new r → Sends both Either old new r
   with_second old mid next new r p q s =
-      sends_then first (key ∷ bs) (PartGivesUp (key ∷ []) G) Either second_gave_up Either old next new r
+      sends_then first (key ∷ ys) (PartGivesUp (key ∷ []) G) Either second_gave_up Either old next new r
       (with_first old mid next (Ok tt) p q) s.sends
 
   cut_second : (old mid next new : Serializer) (e : WriteError) → Takes (open_table ∷ []) old mid (Ok tt)
-      → Passes (key ∷ []) as F mid next (Ok tt) → Passes (key ∷ []) bs G next new (Err e)
+      → Passes (key ∷ []) xs F mid next (Ok tt) → Passes (key ∷ []) ys G next new (Err e)
       → Sends (both ++ (close ∷ [])) Either old new (Err e)
   cut_second old mid next new e p q s =
       sends_cut both (close ∷ []) Either old new e (with_second old mid next new (Err e) p q s)
 
   closed : (old mid next last new : Serializer) (r : Result (Unit {0}) WriteError)
-      → Takes (open_table ∷ []) old mid (Ok tt) → Passes (key ∷ []) as F mid next (Ok tt)
-      → Passes (key ∷ []) bs G next last (Ok tt) → Takes (close ∷ []) last new r
+      → Takes (open_table ∷ []) old mid (Ok tt) → Passes (key ∷ []) xs F mid next (Ok tt)
+      → Passes (key ∷ []) ys G next last (Ok tt) → Takes (close ∷ []) last new r
       → Sends (both ++ (close ∷ [])) Either old new r
   closed old mid next last new r p q s t =
       sends_then both (close ∷ []) NoFault Either (λ sent e never. absurd never) Either old last new r
