@@ -32,4 +32,5 @@ pub use Rattle.basic_toml_write.specs.Serializer
 pub use Rattle.basic_toml_write.specs.Shapes
 pub use Rattle.basic_toml_write.specs.Spelling
 pub use Rattle.basic_toml_write.specs.Trees
+pub use Rattle.basic_toml_write.specs.Write
 pub use Rattle.basic_toml_write.specs.Impls

@@ -12,6 +12,7 @@ use Rattle.basic_toml_write.specs.Trees.{tree_of, written_of}
 use Rattle.basic_toml_write.specs.Impls.{data_calls}
 use Rattle.basic_toml_emit.specs.Items.{Item}
 use Rattle.basic_toml_write.specs.Spelling.{Spells}
+use Rattle.basic_toml_write.specs.Write.{IsOwnError}
 use Rattle.basic_toml_emit.specs.Layout.{layout}
 use Rattle.basic_toml_value.specs.Nesting.{nesting_limit}
 use Rattle.basic_toml_write.specs.Shapes.{is_unsupported}
@@ -38,10 +39,10 @@ pub record IsFirstFault (calls : List Item) (f : Fault) : Type 0 where
   pub met : outcome nesting_limit calls ≡ Err error
   pub named : f ≡ without_offset (fault_kind error)
 
--- the fault is one of the type's own, which it may give up with
-pub record IsOwnFault (gives_up : WriteError → Type 0) (f : Fault) : Type 0 where
+-- the fault is an error of the type's own, with which it may give up after calls of which none is refused
+pub record IsOwnFault (gives_up : List Item → WriteError → Type 0) (f : Fault) : Type 0 where
   pub own : WriteError
-  pub allowed : gives_up own
+  pub met : IsOwnError gives_up own
   pub named : f ≡ without_offset (write_kind own)
 
 -- the text is the layout of the value that the calls spell, in which no unsupported shape occurs; each item is one that
@@ -58,9 +59,11 @@ pub record IsDataText (x : Data) (text : List ℕ) : Type 0 where
   pub supported : is_unsupported nesting_limit (written_of x) ≡ false
   pub laid_out : text ≡ layout (written_of x)
 
--- How writing a value ends: memory aside, and where the type gives up with no fault of its own, the layout where the
--- calls spell a value in which no unsupported shape occurs, and else the first error that they meet.
-pub record Writes (calls : List Item) (gives_up : WriteError → Type 0) (result : Result (String Global) Fault)
+-- How writing a value ends, memory aside: with an error of the type's own, where it gives up before a call was refused;
+-- else with the layout, where the calls spell a value in which no unsupported shape occurs, and else with the first
+-- error that they meet.
+pub record Writes (calls : List Item) (gives_up : List Item → WriteError → Type 0)
+    (result : Result (String Global) Fault)
     : Type 0 where
   pub text : IfOk result (λ s. IsTextOf calls (string_bytes s))
   pub succeeds : (w : Written) → Spells calls w → is_unsupported nesting_limit w ≡ false

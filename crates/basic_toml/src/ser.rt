@@ -15,7 +15,8 @@ use std::alloc::Global;
 /// # Errors
 ///
 /// The first error that the value's calls meet, as [`Serializer`](crate::Serializer) says of each, even where the
-/// type passes over it; else the type's own error; and `out of memory` where a growth was refused.
+/// type passes over it or answers one of its own; else the type's own error, where it gives up; and `out of memory`
+/// where a growth was refused.
 #[tactic(auto, using(crate::proofs::TextOf::promised))]
 pub fn to_string<T: Serialize>(alloc: Global, value: &T) -> Result<String, Error>
     ensures written { Writes (T.calls value.now) (T.gives_up value.now) result }

@@ -1,5 +1,5 @@
 -- A serializer that was sent the items of a value, from the start.
-use Rattle.std.proofs.Common.{◌≡◌, List, sym, ap, subst, refl, Option, Some, None, MatchOption, Result, Ok, Err}
+use Rattle.std.proofs.Common.{◌≡◌, List, [], sym, ap, subst, refl, Option, Some, None, MatchOption, Result, Ok, Err}
 use Rattle.std.proofs.Common.{MatchResult, ◌⊎◌, inl, inr, String}
 use Rattle.std.specs.declared.alloc.Global.{Global}
 use Rattle.basic_toml_emit.specs.Items.{Item}
@@ -7,7 +7,7 @@ use Rattle.basic_toml_value.specs.Nesting.{nesting_limit}
 use Rattle.basic_toml_emit.specs.Calls.{on_ok, finished, outcome}
 use Rattle.basic_toml_emit.specs.Error.{Names}
 use Rattle.basic_toml_write.specs.Recordable.{AreRecordable}
-use Rattle.basic_toml_write.specs.Serializer.{ran, HasRecorded, error_of, NoFault, Goes, Settles, Finishes}
+use Rattle.basic_toml_write.specs.Serializer.{ran, HasRecorded, error_of, NoFault, GaveUp, Sends, Settles, Finishes}
 use Rattle.basic_toml_write.specs.Write.{WritesOut}
 use Rattle.basic_toml_emit.specs.Emitter.{HandsOut}
 use Rattle.basic_toml_write.proofs.ListsAreSentInTurn.{GoesAt}
@@ -40,27 +40,32 @@ abbrev SettlesAt : Serializer → Result (Unit {0}) WriteError → Result (Strin
     → Type 0
 SettlesAt s a r o = MatchOption o (MatchResult a (λ _. Finishes s r) (λ e. r ≡ Err e)) (λ e. r ≡ Err e)
 
-module _ (is : List Item) (G : WriteError → Type 0) (s : Serializer) where
+module _ (is : List Item) (G : List Item → WriteError → Type 0) (s : Serializer) where
   finished_out : (r : Result (String Global) WriteError) → AreRecordable is → Ends is r → WritesOut is G r
   finished_out (Ok t) can h = (h, can)
   finished_out (Err e) can h = inr (subst (λ x. Names x (outcome nesting_limit is)) (sym h.0) h.1)
 
-  -- a fault of the type's own
-  gave_up : (e : WriteError) → G e ⊎ (e ≡ OutOfMemory) → WritesOut is G (Err e)
-  gave_up e (inl own) = inl own
+  -- an error of the type's own
+  gave_up : (e : WriteError) → GaveUp [] G s e ⊎ (e ≡ OutOfMemory) → WritesOut is G (Err e)
+  gave_up e (inl own) = inl (record {
+    sent = own.sent;
+    allowed = own.allowed;
+    recordable = own.recorded.recordable;
+    unrefused = rw own.recorded.taken refl;
+  })
   gave_up e (inr memory) = inr (subst (λ x. Names x (outcome nesting_limit is)) (sym memory) tt)
 
   settled_at : (a : Result (Unit {0}) WriteError) (r : Result (String Global) WriteError) (o : Option WriteError)
-      → error_of s ≡ o → GoesAt is G s a o → SettlesAt s a r o → WritesOut is G r
+      → error_of s ≡ o → GoesAt [] is G s a o → SettlesAt s a r o → WritesOut is G r
   settled_at a r (Some e) at refused same = subst (WritesOut is G) (sym same) (inr (refuses_outcome e is refused))
   settled_at (Ok x) r None at recorded f =
       finished_out r recorded.recordable (ends s is r recorded (subst (FinishesAt s r) at f))
   settled_at (Err e) r None at own same = subst (WritesOut is G) (sym same) (gave_up e own)
 
   -- the calls of a value were made from the start, and settled
-  pub settled_out : (a : Result (Unit {0}) WriteError) (r : Result (String Global) WriteError) → Goes is G s a
-      → Settles s a r → WritesOut is G r
-  settled_out a r goes settles = settled_at a r (error_of s) refl goes settles
+  pub settled_out : (start : Serializer) (a : Result (Unit {0}) WriteError) (r : Result (String Global) WriteError)
+      → HasRecorded start [] → Sends is G start s a → Settles s a r → WritesOut is G r
+  settled_out start a r h sends settles = settled_at a r (error_of s) refl (sends.goes [] h) settles
 
 -- a list that was recorded comes to what is handed out
 pub recorded_out : (is : List Item) (s : Serializer) (r : Result (String Global) WriteError) → HasRecorded s is

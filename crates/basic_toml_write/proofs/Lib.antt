@@ -7,6 +7,7 @@ pub mod KeptHasSameLayout
 pub mod OutcomeIsLayout
 pub mod KeptErrorIsAnswered
 pub mod ListsAreSentInTurn
+pub mod OneCallIsSent
 pub mod FinishHandsOut
 pub mod PartsAreSent
 pub mod DataIsSentByParts

@@ -2,16 +2,15 @@
 use Rattle.std.proofs.Common.{◌≡◌, ℕ, zero, suc, ◌+◌, ◌<◌, ◌≤◌, List, [], ◌∷◌, ◌++◌, length, get_or, take, drop}
 use Rattle.std.proofs.Common.{refl, sym, ◌∙◌, ap, arith, append_assoc, append-nil, add-one, subst, map, Option, Some}
 use Rattle.std.proofs.Common.{None, Ok, Err, Result}
-use Rattle.std.specs.Prelude.{Any}
 use Rattle.std.specs.List.{flat_map}
 use Rattle.std.specs.Map.Iter.{TakesFirst}
 use Rattle.std.proofs.lemmas.List.{map-append}
 use Rattle.std.proofs.lemmas.List.Concat.{flat_map-append}
 use Rattle.std.proofs.lemmas.Map.Iter.{rest_more, rest_all}
 use Rattle.basic_toml_emit.specs.Items.{Item, close}
-use Rattle.basic_toml_write.specs.Serializer.{NoFault, Sends, Takes, Passes}
+use Rattle.basic_toml_write.specs.Serializer.{NoFault, PartGivesUp, Sends, Takes, Passes}
 use Rattle.basic_toml_write.specs.Impls.{AnyGivesUp}
-use Rattle.basic_toml_write.proofs.ListsAreSentInTurn.{sends_then, sends_cut, sends_widen}
+use Rattle.basic_toml_write.proofs.ListsAreSentInTurn.{part_after, sends_then, sends_cut, sends_never}
 use Rattle.basic_toml_emit.specs.declared.error.WriteError.{WriteError}
 use Rattle.basic_toml_write.specs.declared.serializer.Serializer.{Serializer}
 
@@ -33,17 +32,6 @@ take_split [] i x lt e = absurd (omega arith)
 take_split (y ∷ xs) zero x lt e = ap (λ z. z ∷ xs) e
 take_split (y ∷ xs) (suc i) x lt e = ap (λ z. y ∷ z) (take_split xs i x (omega arith) e)
 
-length_before : {A : Type 0} (ps : List A) (x : A) (rest : List A) → length ps < length (ps ++ (x ∷ rest))
-length_before [] x rest = omega arith
-length_before (p ∷ ps) x rest = omega (arith, length_before ps x rest)
-
-get_or_after : {A : Type 0} (ps : List A) (x : A) (rest : List A) → get_or (ps ++ (x ∷ rest)) (length ps) x ≡ x
-get_or_after [] x rest = refl
-get_or_after (p ∷ ps) x rest = get_or_after ps x rest
-
-any_here : {A : Type 0} (P : A → Type 0) (ps : List A) (x : A) (rest : List A) → P x → Any P (ps ++ (x ∷ rest))
-any_here P ps x rest h = (length ps, x, length_before ps x rest, get_or_after ps x rest, h)
-
 -- an iterator that has yielded some items of a list, and shows the rest
 module _ {A B : Type 0} (shows : B → A) (all : List A) (ys : List B) (s t : List A) (r : Option B)
     (step : TakesFirst shows s r t) (left : map shows ys ++ s ≡ all) where
@@ -58,59 +46,83 @@ module _ {A B : Type 0} (shows : B → A) (all : List A) (ys : List B) (s t : Li
   yields_end is = sym (append-nil (map shows ys)) ∙
       (ap (λ z. map shows ys ++ z) (sym (rest_all shows s t r is step)) ∙ left)
 
-sends_ok : (G H : WriteError → Type 0) (is : List Item) (old new : Serializer) → Sends is G old new (Ok tt)
+sends_ok : (G H : List Item → WriteError → Type 0) (is : List Item) (old new : Serializer) → Sends is G old new (Ok tt)
     → Sends is H old new (Ok tt)
 sends_ok G H is old new p = record { goes = p.goes; stays = p.stays }
 
-module _ {A : Type 0} (f : A → List Item) (GivesUp : A → WriteError → Type 0) (open_item : Item) where
+-- a value that opens with an item, sends its parts, each after its prefix, and closes
+module _ {A : Type 0} (opening : Item) (prefix : A → Item) (calls : A → List Item)
+    (GivesUp : A → List Item → WriteError → Type 0) where
+  abbrev part_calls : A → List Item
+  part_calls x = prefix x ∷ calls x
+
+  abbrev WholeGivesUp : List A → List Item → WriteError → Type 0
+  WholeGivesUp = AnyGivesUp opening prefix calls GivesUp
+
+  abbrev pub whole_calls : List A → List Item
+  whole_calls xs = opening ∷ (flat_map part_calls xs ++ (close ∷ []))
+
   -- it could not be opened
-  pub parts_unopened : (xs : List A) (old new : Serializer) (e : WriteError) → Takes (open_item ∷ []) old new (Err e)
-      → Sends (open_item ∷ (flat_map f xs ++ (close ∷ []))) (AnyGivesUp GivesUp xs) old new (Err e)
+  pub parts_unopened : (xs : List A) (old new : Serializer) (e : WriteError) → Takes (opening ∷ []) old new (Err e)
+      → Sends (whole_calls xs) (WholeGivesUp xs) old new (Err e)
   parts_unopened xs old new e p =
-      sends_cut (AnyGivesUp GivesUp xs) (open_item ∷ []) (flat_map f xs ++ (close ∷ [])) old new e
-      (sends_widen NoFault (AnyGivesUp GivesUp xs) (λ e b. absurd b) (open_item ∷ []) old new (Err e) p.sends)
+      sends_cut (opening ∷ []) (flat_map part_calls xs ++ (close ∷ [])) (WholeGivesUp xs) old new e
+      (sends_never (WholeGivesUp xs) (opening ∷ []) old new (Err e) p.sends)
 
   -- these parts were sent
   abbrev pub Sent : List A → Serializer → Serializer → Type 0
-  Sent ps old mid = Sends (open_item ∷ flat_map f ps) NoFault old mid (Ok tt)
+  Sent ps old mid = Sends (opening ∷ flat_map part_calls ps) NoFault old mid (Ok tt)
 
   pub parts_next : (ps : List A) (x : A) (old mid new : Serializer) → Sent ps old mid
-      → Passes (f x) (GivesUp x) mid new (Ok tt) → Sent (ps ++ (x ∷ [])) old new
+      → Passes (prefix x ∷ []) (calls x) (GivesUp x) mid new (Ok tt) → Sent (ps ++ (x ∷ [])) old new
   parts_next ps x old mid new p q =
-      subst (λ (l : List Item). Sends (open_item ∷ l) NoFault old new (Ok tt))
-      (sym (flat_map-append f ps (x ∷ []) ∙ ap (λ z. flat_map f ps ++ z) (append-nil (f x))))
-      (sends_then NoFault (open_item ∷ flat_map f ps) (f x) NoFault old mid new (Ok tt) p
-      (sends_ok (GivesUp x) NoFault (f x) mid new q.sends))
+      subst (λ (l : List Item). Sends (opening ∷ l) NoFault old new (Ok tt))
+      (sym (flat_map-append part_calls ps (x ∷ []) ∙ ap (λ z. flat_map part_calls ps ++ z) (append-nil (part_calls x))))
+      (sends_then (opening ∷ flat_map part_calls ps) (part_calls x) NoFault NoFault (λ sent e never. never) NoFault
+      old mid new (Ok tt) p
+      (sends_ok (PartGivesUp (prefix x ∷ []) (GivesUp x)) NoFault (part_calls x) mid new q.sends))
 
   -- the same, where the parts are shown by what an iterator yields
   pub parts_yield : {B : Type 0} (shows : B → A) (ys : List B) (x : B) (old mid new : Serializer)
-      → Sent (map shows ys) old mid → Passes (f (shows x)) (GivesUp (shows x)) mid new (Ok tt)
+      → Sent (map shows ys) old mid
+      → Passes (prefix (shows x) ∷ []) (calls (shows x)) (GivesUp (shows x)) mid new (Ok tt)
       → Sent (map shows (ys ++ (x ∷ []))) old new
   parts_yield shows ys x old mid new p q =
       subst (λ ps. Sent ps old new) (sym (map-append shows ys (x ∷ [])))
       (parts_next (map shows ys) (shows x) old mid new p q)
 
-  -- a part met a fault
+  -- what a part gave up with, once those before it were sent
+  part_gave_up : (ps : List A) (x : A) (rest : List A) (sent : List Item) (e : WriteError)
+      → PartGivesUp (prefix x ∷ []) (GivesUp x) sent e
+      → WholeGivesUp (ps ++ (x ∷ rest)) ((opening ∷ flat_map part_calls ps) ++ sent) e
+  part_gave_up ps x rest sent e g = record {
+    before = ps;
+    rest = rest;
+    part = x;
+    split = refl;
+    gives_up = part_after (opening ∷ flat_map part_calls ps) (prefix x ∷ []) (GivesUp x) sent e g;
+  }
+
+  -- a part answered an error
   pub parts_fault : (xs ps : List A) (x : A) (rest : List A) → ps ++ (x ∷ rest) ≡ xs
-      → (old mid new : Serializer) (e : WriteError) → Sent ps old mid → Passes (f x) (GivesUp x) mid new (Err e)
-      → Sends (open_item ∷ (flat_map f xs ++ (close ∷ []))) (AnyGivesUp GivesUp xs) old new (Err e)
+      → (old mid new : Serializer) (e : WriteError) → Sent ps old mid
+      → Passes (prefix x ∷ []) (calls x) (GivesUp x) mid new (Err e)
+      → Sends (whole_calls xs) (WholeGivesUp xs) old new (Err e)
   parts_fault xs ps x rest split old mid new e p q =
-      let G : WriteError → Type 0 = AnyGivesUp GivesUp (ps ++ (x ∷ rest)) in
-      let same : flat_map f (ps ++ (x ∷ rest)) ++ (close ∷ []) ≡ flat_map f ps
-      ++ (f x ++ (flat_map f rest ++ (close ∷ []))) =
-      ap (λ z. z ++ (close ∷ [])) (flat_map-append f ps (x ∷ rest)) ∙ simp append_assoc in
-      subst (λ (l : List A). Sends (open_item ∷ (flat_map f l ++ (close ∷ []))) (AnyGivesUp GivesUp l) old new
-      (Err e)) split
-      (subst (λ (l : List Item). Sends (open_item ∷ l) G old new (Err e)) (sym same)
-      (sends_then G (open_item ∷ flat_map f ps) (f x ++ (flat_map f rest ++ (close ∷ []))) NoFault old mid new (Err e) p
-      (sends_cut G (f x) (flat_map f rest ++ (close ∷ [])) mid new e
-      (sends_widen (GivesUp x) G (λ z. any_here (λ y. GivesUp y z) ps x rest) (f x) mid new (Err e) q.sends))))
+      let G : List Item → WriteError → Type 0 = PartGivesUp (prefix x ∷ []) (GivesUp x) in
+      let after : List Item = flat_map part_calls rest ++ (close ∷ []) in
+      let same : flat_map part_calls (ps ++ (x ∷ rest)) ++ (close ∷ []) ≡ flat_map part_calls ps
+      ++ (part_calls x ++ after) =
+      ap (λ z. z ++ (close ∷ [])) (flat_map-append part_calls ps (x ∷ rest)) ∙ simp append_assoc in
+      subst (λ (l : List A). Sends (whole_calls l) (WholeGivesUp l) old new (Err e)) split
+      (subst (λ (l : List Item). Sends (opening ∷ l) (WholeGivesUp (ps ++ (x ∷ rest))) old new (Err e)) (sym same)
+      (sends_then (opening ∷ flat_map part_calls ps) (part_calls x ++ after) G (WholeGivesUp (ps ++ (x ∷ rest)))
+      (part_gave_up ps x rest) NoFault old mid new (Err e) p (sends_cut (part_calls x) after G mid new e q.sends)))
 
   -- all parts were sent, and the value closed
   pub parts_closed : (xs ps : List A) → ps ≡ xs → (old mid new : Serializer) (r : Result (Unit {0}) WriteError)
-      → Sent ps old mid → Takes (close ∷ []) mid new r
-      → Sends (open_item ∷ (flat_map f xs ++ (close ∷ []))) (AnyGivesUp GivesUp xs) old new r
+      → Sent ps old mid → Takes (close ∷ []) mid new r → Sends (whole_calls xs) (WholeGivesUp xs) old new r
   parts_closed xs ps same old mid new r p q =
-      sends_then (AnyGivesUp GivesUp xs) (open_item ∷ flat_map f xs) (close ∷ []) NoFault old mid new r
-      (subst (λ (l : List A). Sends (open_item ∷ flat_map f l) NoFault old mid (Ok tt)) same p)
-      (sends_widen NoFault (AnyGivesUp GivesUp xs) (λ e b. absurd b) (close ∷ []) mid new r q.sends)
+      sends_then (opening ∷ flat_map part_calls xs) (close ∷ []) NoFault (WholeGivesUp xs)
+      (λ sent e never. absurd never) NoFault old mid new r
+      (subst (λ (l : List A). Sends (opening ∷ flat_map part_calls l) NoFault old mid (Ok tt)) same p) q.sends

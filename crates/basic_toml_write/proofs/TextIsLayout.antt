@@ -14,7 +14,7 @@ use Rattle.basic_toml_emit.specs.declared.error.WriteError.TheVariants.{ValueAft
 use Rattle.basic_toml_emit.specs.declared.error.WriteError.TheVariants.{DuplicateKey, CallOrder, NestedTooDeeply}
 use Rattle.basic_toml_emit.specs.declared.error.WriteError.TheVariants.{OutOfMemory}
 
-pub is_layout : (is : List Item) (G : WriteError → Type 0) (r : Result (String Global) WriteError) → WritesOut is G r
+pub is_layout : (is : List Item) (G : List Item → WriteError → Type 0) (r : Result (String Global) WriteError) → WritesOut is G r
     → IsLayout is r
 is_layout is G (Ok t) h = layout-outcome nesting_limit is (string_bytes t) h.0
 is_layout is G (Err e) h = tt
@@ -37,7 +37,7 @@ no_error OutOfMemory t h = refl
 same_text : (t u : List ℕ) → given t ≡ given u → t ≡ u
 same_text t u e = cc
 
-pub succeeds : (is : List Item) (G : WriteError → Type 0) (r : Result (String Global) WriteError) → WritesOut is G r
+pub succeeds : (is : List Item) (G : List Item → WriteError → Type 0) (r : Result (String Global) WriteError) → WritesOut is G r
     → Succeeds is G r
 succeeds is G (Ok t) h w s u = same_text _ _ (sym h.0 ∙ outcome-layout nesting_limit is w s u)
 succeeds is G (Err e) (inl g) w s u = inl g

@@ -1,5 +1,5 @@
 -- The items that values of the library spell: scalars one, lists and maps those of their parts, and a tree of data those of its shape.
-use Rattle.std.specs.Prelude.{ℕ, List, [], ◌∷◌, ◌++◌, Option, Some, None, Any, string_bytes, String}
+use Rattle.std.specs.Prelude.{◌≡◌, ℕ, List, [], ◌∷◌, ◌++◌, Option, Some, None, string_bytes, String}
 use Rattle.std.specs.List.{flat_map}
 use Rattle.std.specs.declared.alloc.Global.{Global}
 use Rattle.basic_toml_value.specs.Data as d
@@ -7,6 +7,7 @@ use Rattle.basic_toml_emit.specs.Written as w
 use Rattle.basic_toml_emit.specs.declared.error.WriteError.{WriteError}
 use Rattle.basic_toml_emit.specs.Items.{Item, a_scalar, an_absent, open_array, open_table, close, field, some_prefix}
 use Rattle.basic_toml_emit.specs.Items.{element_prefix}
+use Rattle.basic_toml_write.specs.Serializer.{NoFault, PartGivesUp}
 
 abbrev pub scalar_calls : w.Scalar → List Item
 scalar_calls l = a_scalar l ∷ []
@@ -15,25 +16,47 @@ abbrev pub option_calls : {A : Type 0} → (A → List Item) → Option A → Li
 option_calls calls None = an_absent ∷ []
 option_calls calls (Some x) = some_prefix ∷ calls x
 
--- a value gives up as one of its parts does
-abbrev pub OptionGivesUp : {A : Type 0} → (A → WriteError → Type 0) → Option A → WriteError → Type 0
-OptionGivesUp GivesUp None e = ⊥
-OptionGivesUp GivesUp (Some x) e = GivesUp x e
+-- an option gives up as what it holds
+abbrev pub OptionGivesUp : {A : Type 0} → (A → List Item → WriteError → Type 0) → Option A → List Item → WriteError
+    → Type 0
+OptionGivesUp GivesUp None = NoFault
+OptionGivesUp GivesUp (Some x) = PartGivesUp (some_prefix ∷ []) (GivesUp x)
 
-abbrev pub AnyGivesUp : {A : Type 0} → (A → WriteError → Type 0) → List A → WriteError → Type 0
-AnyGivesUp GivesUp xs e = Any (λ x. GivesUp x e) xs
+-- A value that opens with an item and sends parts in turn, each after its prefix, gives up as one of them does, once
+-- those before it were sent.
+pub record AnyGivesUp {A : Type 0} (opening : Item) (prefix : A → Item) (calls : A → List Item)
+    (GivesUp : A → List Item → WriteError → Type 0) (parts : List A) (sent : List Item) (e : WriteError)
+    : Type 0 where
+  pub before : List A
+  pub rest : List A
+  pub part : A
+  pub split : before ++ (part ∷ rest) ≡ parts
+  pub gives_up : PartGivesUp (opening ∷ (flat_map (λ x. prefix x ∷ calls x) before ++ (prefix part ∷ []))) (GivesUp part)
+      sent e
 
 -- each element after its prefix
 abbrev pub array_calls : {A : Type 0} → (A → List Item) → List A → List Item
 array_calls calls xs = open_array ∷ (flat_map (λ x. element_prefix ∷ calls x) xs ++ (close ∷ []))
 
+abbrev pub ArrayGivesUp : {A : Type 0} → (A → List Item) → (A → List Item → WriteError → Type 0) → List A → List Item
+    → WriteError → Type 0
+ArrayGivesUp calls GivesUp = AnyGivesUp open_array (λ x. element_prefix) calls GivesUp
+
 -- each value after its key
 abbrev pub table_calls : {A : Type 0} → (A → List Item) → List (List ℕ × A) → List Item
 table_calls calls ps = open_table ∷ (flat_map (λ p. field p.0 ∷ calls p.1) ps ++ (close ∷ []))
 
+abbrev pub TableGivesUp : {A : Type 0} → (A → List Item) → (A → List Item → WriteError → Type 0) → List (List ℕ × A)
+    → List Item → WriteError → Type 0
+TableGivesUp calls GivesUp = AnyGivesUp open_table (λ p. field p.0) (λ p. calls p.1) (λ p. GivesUp p.1)
+
 -- the same, where the keys are texts of a map
 abbrev pub map_calls : {A : Type 0} → (A → List Item) → List (String Global × A) → List Item
 map_calls calls ps = open_table ∷ (flat_map (λ p. field (string_bytes p.0) ∷ calls p.1) ps ++ (close ∷ []))
+
+abbrev pub MapGivesUp : {A : Type 0} → (A → List Item) → (A → List Item → WriteError → Type 0)
+    → List (String Global × A) → List Item → WriteError → Type 0
+MapGivesUp calls GivesUp = AnyGivesUp open_table (λ p. field (string_bytes p.0)) (λ p. calls p.1) (λ p. GivesUp p.1)
 
 abbrev mutual
   pub data_calls : d.Data → List Item

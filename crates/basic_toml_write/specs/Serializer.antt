@@ -31,22 +31,45 @@ pub record HasRecorded (s : Serializer) (is : List Item) : Type 0 where
   pub recordable : AreRecordable is
   pub taken : ran is ≡ Ok (state_of s.emitter)
 
--- which faults what sends items may give up with: none
-abbrev pub NoFault : WriteError → Type 0
-NoFault _ = ⊥
+-- After which of its items what sends a list may give up, and with which errors of its own: never.
+abbrev pub NoFault : List Item → WriteError → Type 0
+NoFault sent e = ⊥
 
--- All of a list is recorded; or what sent it gave up, or wanted memory of its own; or the first error due in it was met.
-abbrev pub Goes : List Item → (WriteError → Type 0) → Serializer → Result (Unit {0}) WriteError → Type 0
-Goes whole gives_up new r =
+-- a value gives up after these items alone, with one of these errors
+pub record GivesUpAfter (items : List Item) (errors : WriteError → Type 0) (sent : List Item) (e : WriteError)
+    : Type 0 where
+  pub at : sent ≡ items
+  pub named : errors e
+
+-- a part, before which these items are sent, gives up
+pub record PartGivesUp (ahead : List Item) (gives_up : List Item → WriteError → Type 0) (sent : List Item)
+    (e : WriteError)
+    : Type 0 where
+  pub own : List Item
+  pub allowed : gives_up own e
+  pub at : sent ≡ ahead ++ own
+
+-- what sent items gave up with this error, after items of its own that are all recorded
+pub record GaveUp (before : List Item) (gives_up : List Item → WriteError → Type 0) (new : Serializer) (e : WriteError)
+    : Type 0 where
+  pub sent : List Item
+  pub allowed : gives_up sent e
+  pub recorded : HasRecorded new (before ++ sent)
+
+-- After a list that was recorded before, all of these items are recorded; or what sent them gave up, or wanted memory of
+-- its own; or the first error due in them was met.
+abbrev pub Goes : (before is : List Item) → (List Item → WriteError → Type 0) → Serializer
+    → Result (Unit {0}) WriteError → Type 0
+Goes before is gives_up new r =
     MatchOption (error_of new)
-    (MatchResult r (λ _. HasRecorded new whole) (λ e. gives_up e ⊎ (e ≡ OutOfMemory)))
-    (λ e. Names e (ran whole))
+    (MatchResult r (λ _. HasRecorded new (before ++ is)) (λ e. GaveUp before gives_up new e ⊎ (e ≡ OutOfMemory)))
+    (λ e. Names e (ran (before ++ is)))
 
--- These items were sent, by what may give up with such faults.
-pub record Sends (is : List Item) (gives_up : WriteError → Type 0) (old new : Serializer)
+-- These items were sent, by what may give up so.
+pub record Sends (is : List Item) (gives_up : List Item → WriteError → Type 0) (old new : Serializer)
     (r : Result (Unit {0}) WriteError)
     : Type 0 where
-  pub goes : (before : List Item) → HasRecorded old before → Goes (before ++ is) gives_up new r
+  pub goes : (before : List Item) → HasRecorded old before → Goes before is gives_up new r
   pub stays : (e : WriteError) → error_of old ≡ Some e → error_of new ≡ Some e
 
 -- An error that is met now is kept and answered, one and the same; one that was met before is answered once more.
@@ -66,18 +89,18 @@ pub record Takes (is : List Item) (old new : Serializer) (r : Result (Unit {0}) 
   pub answers : AnswersError old new r
   pub refuses : OnErr r (IsSome (error_of new))
 
--- a call of these items, of which a part is sent by what may give up with such faults
-pub record Passes (is : List Item) (gives_up : WriteError → Type 0) (old new : Serializer)
+-- a call that records items, and then has a part send its own
+pub record Passes (ahead is : List Item) (gives_up : List Item → WriteError → Type 0) (old new : Serializer)
     (r : Result (Unit {0}) WriteError)
     : Type 0 where
-  pub sends : Sends is gives_up old new r
+  pub sends : Sends (ahead ++ is) (PartGivesUp ahead gives_up) old new r
   pub answers : AnswersError old new r
 
 -- the error that was kept, or else the text, where what was taken is a whole table
 abbrev pub Finishes : Serializer → Result (String Global) WriteError → Type 0
 Finishes s r = MatchOption (error_of s) (HandsOut s.emitter r) (λ e. r ≡ Err e)
 
--- The error that was met, whatever the type answered; else the type's own fault; else what is handed out.
+-- The error that was met, whatever the type answered; else the type's own error; else what is handed out.
 abbrev pub Settles : Serializer → Result (Unit {0}) WriteError → Result (String Global) WriteError → Type 0
 Settles s answer r =
     MatchOption (error_of s) (MatchResult answer (λ _. Finishes s r) (λ e. r ≡ Err e)) (λ e. r ≡ Err e)

@@ -1,7 +1,7 @@
 ghost use Rattle.std.specs.Prelude.{◌≡◌, ℕ, List, [], ◌∷◌, ◌++◌, pos, string_bytes, encode_utf8};
 ghost use Rattle.basic_toml_emit.specs.Written as w;
 ghost use Rattle.basic_toml_write.specs.Serializer.{Sends};
-ghost use Rattle.basic_toml_write.specs.Impls.{data_calls, scalar_calls, option_calls, OptionGivesUp, AnyGivesUp, array_calls, table_calls, map_calls};
+ghost use Rattle.basic_toml_write.specs.Impls.{data_calls, scalar_calls, option_calls, OptionGivesUp, array_calls, ArrayGivesUp, table_calls, TableGivesUp, map_calls, MapGivesUp};
 ghost use Rattle.basic_toml_value.specs.View.{view};
 
 use crate::{Serialize, Serializer, WriteError};
@@ -142,7 +142,7 @@ impl<T: Serialize> Serialize for Option<T> {
 
 // The calls of an array.
 fn serialize_elements<T: Serialize>(elements: &[T], ser: &mut Serializer) -> Result<(), WriteError>
-    ensures { Sends (array_calls T.calls elements.now) (AnyGivesUp T.gives_up elements.now) ser.old ser.new result }
+    ensures { Sends (array_calls T.calls elements.now) (ArrayGivesUp T.calls T.gives_up elements.now) ser.old ser.new result }
 {
     ser.serialize_seq(Some(elements.len()))?;
     for element in elements {
@@ -154,7 +154,7 @@ fn serialize_elements<T: Serialize>(elements: &[T], ser: &mut Serializer) -> Res
 impl<T: Serialize> Serialize for &[T] {
     ghost calls = { λ xs. array_calls T.calls xs.now };
 
-    ghost gives_up = { λ xs. AnyGivesUp T.gives_up xs.now };
+    ghost gives_up = { λ xs. ArrayGivesUp T.calls T.gives_up xs.now };
 
     fn serialize(&self, alloc: Global, ser: &mut Serializer) -> Result<(), WriteError> {
         let _ = alloc;
@@ -165,7 +165,7 @@ impl<T: Serialize> Serialize for &[T] {
 impl<T: Serialize> Serialize for Vec<T> {
     ghost calls = { λ xs. array_calls T.calls xs.items };
 
-    ghost gives_up = { λ xs. AnyGivesUp T.gives_up xs.items };
+    ghost gives_up = { λ xs. ArrayGivesUp T.calls T.gives_up xs.items };
 
     fn serialize(&self, alloc: Global, ser: &mut Serializer) -> Result<(), WriteError> {
         let _ = alloc;
@@ -176,7 +176,7 @@ impl<T: Serialize> Serialize for Vec<T> {
 impl<V: Serialize> Serialize for Pairs<V> {
     ghost calls = { table_calls V.calls };
 
-    ghost gives_up = { AnyGivesUp (λ p. V.gives_up p.1) };
+    ghost gives_up = { TableGivesUp V.calls V.gives_up };
 
     fn serialize(&self, alloc: Global, ser: &mut Serializer) -> Result<(), WriteError> {
         let _ = alloc;
@@ -191,7 +191,7 @@ impl<V: Serialize> Serialize for Pairs<V> {
 impl<V: Serialize> Serialize for BTreeMap<String, V> {
     ghost calls = { λ m. map_calls V.calls m.entries };
 
-    ghost gives_up = { λ m. AnyGivesUp (λ p. V.gives_up p.1) m.entries };
+    ghost gives_up = { λ m. MapGivesUp V.calls V.gives_up m.entries };
 
     fn serialize(&self, alloc: Global, ser: &mut Serializer) -> Result<(), WriteError> {
         let _ = alloc;

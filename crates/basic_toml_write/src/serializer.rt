@@ -341,7 +341,7 @@ impl Serializer {
     #[inline(always)]
     #[tactic(auto, using(crate::proofs::ListsAreSentInTurn::passes_answer))]
     fn part<T: Serialize>(&mut self, value: &T) -> Result<(), WriteError>
-        ensures { Passes (T.calls value.now) (T.gives_up value.now) self.old self.new result }
+        ensures { Passes [] (T.calls value.now) (T.gives_up value.now) self.old self.new result }
     {
         self.ready()?;
         let answer = value.serialize(self.alloc, self);
@@ -353,7 +353,7 @@ impl Serializer {
     #[tactic(auto, using(crate::proofs::ListsAreSentInTurn::passes_then, crate::proofs::ListsAreSentInTurn::passes_cut))]
     fn after<T: Serialize>(&mut self, call: Call<'_>, value: &T) -> Result<(), WriteError>
         requires { IsRecordable (item_of call) }
-        ensures { Passes (item_of call.entry ∷ T.calls value.now) (T.gives_up value.now) self.old self.new result }
+        ensures { Passes (item_of call.entry ∷ []) (T.calls value.now) (T.gives_up value.now) self.old self.new result }
     {
         self.take(call)?;
         let answer = self.part(value);
@@ -362,7 +362,7 @@ impl Serializer {
 
     /// Writes an option that is there.
     pub fn serialize_some<T: Serialize>(&mut self, value: &T) -> Result<(), WriteError>
-        ensures { Passes (some_prefix ∷ T.calls value.now) (T.gives_up value.now) self.old self.new result }
+        ensures { Passes (some_prefix ∷ []) (T.calls value.now) (T.gives_up value.now) self.old self.new result }
     {
         self.after(Call::SomePrefix, value)
     }
@@ -373,7 +373,7 @@ impl Serializer {
         name: &str,
         value: &T,
     ) -> Result<(), WriteError>
-        ensures { Passes (T.calls value.now) (T.gives_up value.now) self.old self.new result }
+        ensures { Passes [] (T.calls value.now) (T.gives_up value.now) self.old self.new result }
     {
         let _ = name;
         self.part(value)
@@ -381,28 +381,28 @@ impl Serializer {
 
     /// Sets the key of the next entry to a text that is given by its own calls. `KeyNotString` where they make no text.
     pub fn serialize_key<T: Serialize>(&mut self, value: &T) -> Result<(), WriteError>
-        ensures { Passes (key ∷ T.calls value.now) (T.gives_up value.now) self.old self.new result }
+        ensures { Passes (key ∷ []) (T.calls value.now) (T.gives_up value.now) self.old self.new result }
     {
         self.after(Call::Key, value)
     }
 
     /// Writes the value of the entry whose key is set.
     pub fn serialize_value<T: Serialize>(&mut self, value: &T) -> Result<(), WriteError>
-        ensures { Passes (value_prefix ∷ T.calls value.now) (T.gives_up value.now) self.old self.new result }
+        ensures { Passes (value_prefix ∷ []) (T.calls value.now) (T.gives_up value.now) self.old self.new result }
     {
         self.after(Call::ValuePrefix, value)
     }
 
     /// Sets the key of the next entry, and writes its value.
     pub fn serialize_field<T: Serialize>(&mut self, name: &str, value: &T) -> Result<(), WriteError>
-        ensures { Passes (field name.now ∷ T.calls value.now) (T.gives_up value.now) self.old self.new result }
+        ensures { Passes (field name.now ∷ []) (T.calls value.now) (T.gives_up value.now) self.old self.new result }
     {
         self.after(Call::Field(name), value)
     }
 
     /// Writes an element of the innermost array.
     pub fn serialize_element<T: Serialize>(&mut self, value: &T) -> Result<(), WriteError>
-        ensures { Passes (element_prefix ∷ T.calls value.now) (T.gives_up value.now) self.old self.new result }
+        ensures { Passes (element_prefix ∷ []) (T.calls value.now) (T.gives_up value.now) self.old self.new result }
     {
         self.after(Call::ElementPrefix, value)
     }
@@ -434,6 +434,9 @@ impl Serializer {
 
 /// A value that tells itself to a [`Serializer`].
 ///
+/// The ghost member `calls` names the items that the value sends. A type that may give up with an error of its own
+/// names in `gives_up` after which of them, and with which error: an error of the serializer goes before it.
+///
 /// ```text
 /// impl Serialize for Server {
 ///     ghost calls = { λ s. open_table ∷ (field (codes "port") ∷ a_scalar (integer (pos s.port)) ∷ close ∷ []) };
@@ -449,13 +452,13 @@ impl Serializer {
 pub trait Serialize {
     ghost use Rattle.basic_toml_emit.specs.declared.error.WriteError.{WriteError};
     ghost use Rattle.basic_toml_emit.specs.Items.{Item};
-    ghost use Rattle.basic_toml_write.specs.Serializer.{Sends};
+    ghost use Rattle.basic_toml_write.specs.Serializer.{Sends, NoFault};
 
     // The items that a value spells.
     ghost calls: { Self → List Item };
 
-    // Which errors of its own a value may give up with.
-    ghost gives_up: { Self → WriteError → Type 0 } = { λ _ _. ⊥ };
+    // After which of its items, a beginning of what it sends, a value may give up, and with which errors of its own.
+    ghost gives_up: { Self → List Item → WriteError → Type 0 } = { λ _. NoFault };
 
     /// Makes the calls of the value on `ser`. An error of the type's own is made by [`WriteError::custom`].
     fn serialize(&self, alloc: Global, ser: &mut Serializer) -> Result<(), WriteError>

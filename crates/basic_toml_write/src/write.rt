@@ -6,8 +6,9 @@ use std::alloc::Global;
 
 /// The text of a value: the layout of what its calls spell.
 ///
-/// An error of the serializer is answered even where the type answered Ok; else the type's own error; else what
-/// [`Serializer::finish`] answers.
+/// An error of the serializer is answered even where the type passed over it, or answered one of its own. Else the
+/// type's own error is, so that it gave up after calls of which none was refused; else what [`Serializer::finish`]
+/// answers.
 pub fn written<T: Serialize>(alloc: Global, value: &T) -> Result<String, WriteError>
     ensures due { WritesOut (T.calls value.now) (T.gives_up value.now) result }
     ensures text { IsLayout (T.calls value.now) result }
@@ -17,6 +18,7 @@ pub fn written<T: Serialize>(alloc: Global, value: &T) -> Result<String, WriteEr
 }
 
 // Makes the calls of a value, and settles what they come to.
+#[tactic(auto, using(crate::proofs::CallsAreWrittenOut::settled_out))]
 fn write_out<T: Serialize>(alloc: Global, value: &T) -> Result<String, WriteError>
     ensures { WritesOut (T.calls value.now) (T.gives_up value.now) result }
 {

@@ -1,7 +1,6 @@
 -- What is due, from what reading and writing answered.
 use Rattle.std.proofs.Common.{◌≡◌, ◌≢◌, ◌⊎◌, inl, inr, ℕ, Bool, true, false, List, [], ◌∷◌, ◌++◌, map, flat_map}
 use Rattle.std.proofs.Common.{IsUtf8, codes, refl, ap, sym, ◌∙◌, subst, Result, Ok, Err, Option, Some, None, IfSome}
-use Rattle.std.specs.List.{Any}
 use Rattle.std.specs.Str.{is_utf8}
 use Rattle.std.proofs.lemmas.Str.{IsUtf8-from_is_utf8, is_utf8-from_IsUtf8}
 use Rattle.std.specs.Io.KnownBytes.{Appends}
@@ -34,9 +33,6 @@ pub pairs_calls : {V : Type 0} (view : V → Data) (pairs : List (List ℕ × V)
 pairs_calls view [] = refl
 pairs_calls view (p ∷ pairs) =
     ap (λ (is : List Item). field p.0 ∷ (data_calls (view p.1) ++ is)) (pairs_calls view pairs)
-
-pub none_of : {X : Type 0} (P : X → Type 0) → ((x : X) → P x → ⊥) → (xs : List X) → Any P xs → ⊥
-none_of P never xs any = let (k, x, within, at, holds) = any in never x holds
 
 -- a type T that is read from tables, and shows its members
 module _ {T : Type 0} (entries : T → Members) where

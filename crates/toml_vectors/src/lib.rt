@@ -1,4 +1,4 @@
-//! Tables of worked texts, each of them one test, and callers of a tokenizer.
+//! Tables of worked texts, each of them one test, and callers of a tokenizer and of the writer.
 #![tactic(auto)]
 
 pub mod callers;
@@ -6,3 +6,4 @@ pub mod callers;
 mod numbers;
 #[cfg(test)]
 mod tokens;
+pub mod writers;

@@ -3,6 +3,7 @@ ghost use Rattle.std.specs.Prelude.{[], ◌∷◌, ◌++◌, ◌⊎◌, codes};
 ghost use Rattle.basic_toml_emit.specs.Error.{IsCustom};
 ghost use Rattle.basic_toml_emit.specs.Items.{a_scalar, open_table, close, field};
 ghost use Rattle.basic_toml_emit.specs.Written.{refused};
+ghost use Rattle.basic_toml_write.specs.Serializer.{GivesUpAfter, PartGivesUp};
 
 use crate::{Serialize, Serializer, Table, Value, WriteError, to_string};
 use std::alloc::{AllocError, Global};
@@ -13,7 +14,7 @@ struct Silent;
 impl Serialize for Silent {
     ghost calls = { λ _. [] };
 
-    #[tactic(auto, using(basic_toml_write::proofs::ListsAreSentInTurn::sends_nothing))]
+    #[tactic(auto, using(basic_toml_write::proofs::OneCallIsSent::sends_nothing))]
     fn serialize(&self, alloc: Global, ser: &mut Serializer) -> Result<(), WriteError> {
         let _ = alloc;
         let _ = ser;
@@ -27,9 +28,9 @@ struct Halting;
 impl Serialize for Halting {
     ghost calls = { λ _. open_table ∷ [] };
 
-    ghost gives_up = { λ _. IsCustom (codes "no") };
+    ghost gives_up = { λ _. GivesUpAfter (open_table ∷ []) (IsCustom (codes "no")) };
 
-    #[tactic(auto, using(basic_toml_write::proofs::ListsAreSentInTurn::sends_gave_up))]
+    #[tactic(auto, using(basic_toml_write::proofs::OneCallIsSent::sends_gave_up))]
     fn serialize(&self, alloc: Global, ser: &mut Serializer) -> Result<(), WriteError> {
         let _ = ser.serialize_map(None);
         Err(WriteError::custom(alloc, "no"))
@@ -42,9 +43,9 @@ struct Careless;
 impl Serialize for Careless {
     ghost calls = { λ _. a_scalar refused ∷ [] };
 
-    ghost gives_up = { λ _. IsCustom (codes "no") };
+    ghost gives_up = { λ _. GivesUpAfter (a_scalar refused ∷ []) (IsCustom (codes "no")) };
 
-    #[tactic(auto, using(basic_toml_write::proofs::ListsAreSentInTurn::sends_gave_up))]
+    #[tactic(auto, using(basic_toml_write::proofs::OneCallIsSent::sends_gave_up))]
     fn serialize(&self, alloc: Global, ser: &mut Serializer) -> Result<(), WriteError> {
         let _ = ser.serialize_unit();
         Err(WriteError::custom(alloc, "no"))
@@ -62,7 +63,9 @@ impl<A: Serialize, B: Serialize> Serialize for Twice<A, B> {
     ghost calls = { λ t. open_table ∷ (field (codes "k") ∷ A.calls t.first) ++ (field (codes "k") ∷ B.calls t.second)
         ++ (close ∷ []) };
 
-    ghost gives_up = { λ t e. A.gives_up t.first e ⊎ B.gives_up t.second e };
+    ghost gives_up = { λ t sent e. PartGivesUp (open_table ∷ (field (codes "k") ∷ [])) (A.gives_up t.first) sent e
+        ⊎ PartGivesUp ((open_table ∷ (field (codes "k") ∷ A.calls t.first)) ++ (field (codes "k") ∷ []))
+        (B.gives_up t.second) sent e };
 
     fn serialize(&self, alloc: Global, ser: &mut Serializer) -> Result<(), WriteError> {
         let _ = alloc;

@@ -2,6 +2,7 @@ ghost use Rattle.std.specs.Prelude.{[], ◌∷◌, codes};
 ghost use Rattle.basic_toml_emit.specs.Error.{IsCustom};
 ghost use Rattle.basic_toml_emit.specs.Items.{a_scalar, open_table};
 ghost use Rattle.basic_toml_emit.specs.Written.{refused};
+ghost use Rattle.basic_toml_write.specs.Serializer.{GivesUpAfter};
 
 use crate::{Serialize, Serializer, WriteError};
 use std::alloc::{AllocError, Global};
@@ -12,7 +13,7 @@ pub struct Silent;
 impl Serialize for Silent {
     ghost calls = { λ _. [] };
 
-    #[tactic(auto, using(crate::proofs::ListsAreSentInTurn::sends_nothing))]
+    #[tactic(auto, using(crate::proofs::OneCallIsSent::sends_nothing))]
     fn serialize(&self, alloc: Global, ser: &mut Serializer) -> Result<(), WriteError> {
         let _ = alloc;
         let _ = ser;
@@ -26,9 +27,9 @@ pub struct Halting;
 impl Serialize for Halting {
     ghost calls = { λ _. open_table ∷ [] };
 
-    ghost gives_up = { λ _. IsCustom (codes "no") };
+    ghost gives_up = { λ _. GivesUpAfter (open_table ∷ []) (IsCustom (codes "no")) };
 
-    #[tactic(auto, using(crate::proofs::ListsAreSentInTurn::sends_gave_up))]
+    #[tactic(auto, using(crate::proofs::OneCallIsSent::sends_gave_up))]
     fn serialize(&self, alloc: Global, ser: &mut Serializer) -> Result<(), WriteError> {
         let _ = ser.serialize_map(None);
         Err(WriteError::custom(alloc, "no"))
@@ -41,7 +42,7 @@ pub struct Careless;
 impl Serialize for Careless {
     ghost calls = { λ _. a_scalar refused ∷ [] };
 
-    #[tactic(auto, using(crate::proofs::ListsAreSentInTurn::sends_dropped))]
+    #[tactic(auto, using(crate::proofs::OneCallIsSent::sends_dropped))]
     fn serialize(&self, alloc: Global, ser: &mut Serializer) -> Result<(), WriteError> {
         let _ = alloc;
         let _ = ser.serialize_unit();

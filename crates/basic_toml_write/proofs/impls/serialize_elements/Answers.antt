@@ -1,4 +1,4 @@
-use Rattle.std.proofs.Common.{◌∷◌, take, drop, suc, subst}
+use Rattle.std.proofs.Common.{take, drop, suc, subst}
 use Rattle.std.proofs.lemmas.Result.{err_from_is_err_and}
 use Rattle.basic_toml_emit.specs.Items.{open_array, element_prefix}
 use Rattle.basic_toml_write.proofs.PartsAreSent.{Sent, take_all, take_more, take_split, parts_unopened, parts_next}
@@ -8,14 +8,14 @@ use Rattle.basic_toml_write.proofs.impls.serialize_elements.Goals as goal
 pub returns-in_err-serialize_seq : goal.returns-in_err-serialize_seq
 returns-in_err-serialize_seq g c =
     let p = err_from_is_err_and c.from_residual.result c.from_residual.ensures.1 in
-    rw (p.1, p.2) (parts_unopened (λ x. element_prefix ∷ g.T.Serialize.calls x) g.T.Serialize.gives_up open_array
+    rw (p.1, p.2) (parts_unopened open_array (λ x. element_prefix) g.T.Serialize.calls g.T.Serialize.gives_up
     c.args.elements.now c.args.ser.now c.serialize_seq.new.self _ c.in_err-serialize_seq.ensures)
 
 pub returns-in_err-serialize_element : goal.returns-in_err-serialize_element
 returns-in_err-serialize_element g c =
     let p = err_from_is_err_and c.from_residual-in_err-serialize_element.result
     c.from_residual-in_err-serialize_element.ensures.1 in
-    rw (p.1, p.2) (parts_fault (λ x. element_prefix ∷ g.T.Serialize.calls x) g.T.Serialize.gives_up open_array
+    rw (p.1, p.2) (parts_fault open_array (λ x. element_prefix) g.T.Serialize.calls g.T.Serialize.gives_up
     c.args.elements.now (take c.loop-element.element-index c.args.elements.now) c.element-item.result
     (drop (suc c.loop-element.element-index) c.args.elements.now)
     (take_split c.args.elements.now c.loop-element.element-index c.element-item.result c.loop-element-test.true
@@ -24,16 +24,16 @@ returns-in_err-serialize_element g c =
 
 pub loop-element-preserved : goal.loop-element-preserved
 loop-element-preserved g c =
-    subst (λ ps. Sent (λ x. element_prefix ∷ g.T.Serialize.calls x) g.T.Serialize.gives_up open_array ps
+    subst (λ ps. Sent open_array (λ x. element_prefix) g.T.Serialize.calls g.T.Serialize.gives_up ps
     c.args.ser.now c.serialize_element.new.self)
     (take_more c.args.elements.now c.loop-element.element-index c.element-item.result c.loop-element-test.true
     c.element-item.is)
-    (parts_next (λ x. element_prefix ∷ g.T.Serialize.calls x) g.T.Serialize.gives_up open_array
+    (parts_next open_array (λ x. element_prefix) g.T.Serialize.calls g.T.Serialize.gives_up
     (take c.loop-element.element-index c.args.elements.now) c.element-item.result c.args.ser.now
     c.loop-element.ser c.serialize_element.new.self c.loop-element.invariant c.in_ok-serialize_element.ensures)
 
 pub returns : goal.returns
-returns g c = parts_closed (λ x. element_prefix ∷ g.T.Serialize.calls x) g.T.Serialize.gives_up open_array
+returns g c = parts_closed open_array (λ x. element_prefix) g.T.Serialize.calls g.T.Serialize.gives_up
     c.args.elements.now (take c.loop-element.element-index c.args.elements.now)
     (take_all c.args.elements.now c.loop-element.element-index c.loop-element-test.false) c.args.ser.now
     c.loop-element.ser c.end.new.self c.end.result c.loop-element.invariant c.end.ensures

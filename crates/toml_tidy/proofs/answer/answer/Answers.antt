@@ -3,7 +3,7 @@ use Rattle.basic_toml.specs.Items.{Item, open_table, close}
 use Rattle.basic_toml.specs.Data.{table}
 use Rattle.basic_toml.specs.View.{view, entries}
 use Rattle.basic_toml.proofs.TableHoldsDocument.{document_held}
-use Rattle.toml_tidy.proofs.AnswerIsDue.{pairs_calls, none_of, tidied_due, unwritable_due, refused_due}
+use Rattle.toml_tidy.proofs.AnswerIsDue.{pairs_calls, tidied_due, unwritable_due, refused_due}
 use Rattle.toml_tidy.proofs.answer.answer.Goals as goal
 
 pub returns-in-Ok-to_string : goal.returns-in-Ok-to_string
@@ -16,7 +16,7 @@ pub returns-in-Ok : goal.returns-in-Ok
 returns-in-Ok c =
     let made = ap (λ (is : List Item). open_table ∷ (is ++ (close ∷ []))) (pairs_calls view c.in-Ok.table) in
     unwritable_due entries c.args.input.now _ c.in-Ok.table c.in-Err-to_string.fault _ _ c.in-Ok.ensures.text
-    c.in-Ok.ensures.other made (λ own. none_of _ (λ p never. never) c.in-Ok.table own.allowed)
+    c.in-Ok.ensures.other made (λ own. own.met.allowed.gives_up.allowed)
     c.in-Err-to_string.ensures.written.refused
     c.in_ok-line_of-in-Err-to_string.ensures.fault c.in_ok-line_of-in-Err-to_string.ensures.line
 

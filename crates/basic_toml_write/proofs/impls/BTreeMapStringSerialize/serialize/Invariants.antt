@@ -1,4 +1,4 @@
-use Rattle.std.proofs.Common.{◌≡◌, ◌∷◌, ◌++◌, map, string_bytes}
+use Rattle.std.proofs.Common.{◌≡◌, ◌++◌, map, string_bytes}
 use Rattle.std.specs.Map.Iter.{deref_pair}
 use Rattle.basic_toml_emit.specs.Items.{open_table, field}
 use Rattle.basic_toml_write.proofs.PartsAreSent.{Sent}
@@ -7,8 +7,8 @@ use Rattle.basic_toml_write.proofs.impls.BTreeMapStringSerialize.serialize.Given
 abbrev pub invariant-loop-name : goal.invariant-loop-name
 invariant-loop-name g l =
     record {
-      sent : Sent (λ p. field (string_bytes p.0) ∷ g.V.Serialize.calls p.1) (λ p. g.V.Serialize.gives_up p.1)
-          open_table (map deref_pair l.yielded) l.fn.ser l.ser;
+      sent : Sent open_table (λ p. field (string_bytes p.0))
+          (λ p. g.V.Serialize.calls p.1) (λ p. g.V.Serialize.gives_up p.1) (map deref_pair l.yielded) l.fn.ser l.ser;
       left : map deref_pair l.yielded
           ++ l.name-iterator ≡ l.self.entries;
     }

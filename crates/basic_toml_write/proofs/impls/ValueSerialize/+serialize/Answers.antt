@@ -1,8 +1,8 @@
 use Rattle.std.proofs.Common.{List, sym, ◌∙◌, ap, subst}
 use Rattle.basic_toml_value.specs.View.{view}
-use Rattle.basic_toml_emit.specs.Items.{Item}
+use Rattle.basic_toml_emit.specs.Items.{Item, open_array, open_table}
 use Rattle.basic_toml_write.specs.Serializer.{NoFault, Sends}
-use Rattle.basic_toml_write.specs.Impls.{AnyGivesUp, data_calls, array_calls, table_calls}
+use Rattle.basic_toml_write.specs.Impls.{data_calls, array_calls, ArrayGivesUp, table_calls, TableGivesUp}
 use Rattle.basic_toml_write.proofs.ListsAreSentInTurn.{sends_widen}
 use Rattle.basic_toml_write.proofs.DataIsSentByParts.{array_sent, table_sent, any_never, view-Array, view-Table}
 use Rattle.basic_toml_write.proofs.impls.ValueSerialize.+serialize.Goals as goal
@@ -12,7 +12,7 @@ returns-in-Array n c =
     let xs = c.in-Array.values.items in
     subst (λ (is : List Item). Sends is NoFault c.args.ser.now c.serialize.new.ser c.serialize.result)
     (array_sent xs ∙ sym (ap data_calls (ap view c.in-Array.is ∙ view-Array c.in-Array.values)))
-    (sends_widen (AnyGivesUp (λ x. NoFault) xs) NoFault (λ e. any_never xs)
+    (sends_widen (ArrayGivesUp (λ v. data_calls (view v)) (λ v. NoFault) xs) NoFault (any_never open_array _ _ xs)
     (array_calls (λ v. data_calls (view v)) xs) c.args.ser.now c.serialize.new.ser c.serialize.result
     c.serialize.ensures)
 
@@ -21,6 +21,6 @@ returns-in-Table n c =
     let ps = c.in-Table.table in
     subst (λ (is : List Item). Sends is NoFault c.args.ser.now c.serialize-in-Table.new.ser c.serialize-in-Table.result)
     (table_sent ps ∙ sym (ap data_calls (ap view c.in-Table.is ∙ view-Table ps)))
-    (sends_widen (AnyGivesUp (λ x. NoFault) ps) NoFault (λ e. any_never ps)
+    (sends_widen (TableGivesUp (λ v. data_calls (view v)) (λ v. NoFault) ps) NoFault (any_never open_table _ _ ps)
     (table_calls (λ v. data_calls (view v)) ps) c.args.ser.now c.serialize-in-Table.new.ser
     c.serialize-in-Table.result c.serialize-in-Table.ensures)
