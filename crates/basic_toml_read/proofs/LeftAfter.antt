@@ -3,7 +3,7 @@ use Rattle.std.proofs.Common.{inl, inr, ◌≡◌, ℕ, ◌≤◌, ◌==◌, ◌
 use Rattle.std.proofs.Common.{refl, ap, sym, ◌∙◌, arith, Option, Some, None, is_some, eqb-true}
 use Rattle.std.specs.Str.{IsCharBoundary}
 use Rattle.std.proofs.lemmas.Bool.{eq-eqb, false≢true, or_from, or_right, or_cases}
-use Rattle.basic_toml_tokens.specs.Text.{Text, StartsWith, text_at, after_run, is_blank, is_keylike, is_comment}
+use Rattle.basic_toml_tokens.specs.Text.{Text, StartsWith, text_at, run, after_run, is_blank, is_keylike, is_comment}
 use Rattle.basic_toml_tokens.specs.Text.{after_blanks}
 use Rattle.basic_toml_tokens.specs.Strings.{is_quote}
 use Rattle.basic_toml_tokens.specs.Punctuation.{IsPunctuationEnd}
@@ -177,7 +177,9 @@ pub string_begins : (bytes : List ℕ) (at : ℕ) (o : Option ℕ)
     → after_run (λ x. x == 34) (text_at bytes at) ≡ text_at bytes at → IsPunctuationEnd 39 bytes at o
     → BeginsString bytes at (is_some o)
 string_begins bytes at None a e = no_string (text_at bytes at) a e
-string_begins bytes at (Some next) a s = (omega (arith, s.1.0, s.2), ap is_quote s.3, ap word_at s.0)
+string_begins bytes at (Some next) a s =
+    (omega (arith, s.1.0, s.2), ap is_quote s.3, ap word_at s.0, ap (run is_wordlike) s.0)
 
 pub quote_begins : (bytes : List ℕ) (at next : ℕ) → IsPunctuationEnd 34 bytes at (Some next) → BeginsString bytes at true
-quote_begins bytes at next s = (omega (arith, s.1.0, s.2), ap is_quote s.3, ap word_at s.0)
+quote_begins bytes at next s =
+    (omega (arith, s.1.0, s.2), ap is_quote s.3, ap word_at s.0, ap (run is_wordlike) s.0)
