@@ -26,7 +26,7 @@ use Rattle.basic_toml_grammar.proofs.StringsAreRead.{then_some}
 use Rattle.basic_toml_grammar.specs.Grammar.{after_comment_by}
 use Rattle.basic_toml_tokens.specs.Text.{is_comment}
 use Rattle.basic_toml_grammar.specs.GrammarFaults.{Reached, at_start}
-use Rattle.basic_toml_read.specs.StopPlaces.{NextStands}
+use Rattle.basic_toml_read.specs.StopPlaces.{after_value, anywhere, IsAt, LineAt, NextStands}
 use Rattle.basic_toml_read.proofs.Carried.{line_at, header_here, line_after}
 use Rattle.basic_toml_read.proofs.EnoughSteps.{list_is, sections_is, sections_is_none}
 use Rattle.basic_toml_read.proofs.HeadersRead.{header_length}
@@ -109,6 +109,15 @@ module _ (bytes : List ℕ) (start : ℕ) (start_is : start ≡ start_of bytes) 
       ))
       m
 
+  -- the text begins a line
+  pub list_begins : LineAt (folded bytes) (text_at bytes start)
+  list_begins = inl (record {
+    before = None;
+    feed = false;
+    reached = subst (λ (n : ℕ). Reached (folded bytes) None false (text_at bytes n)) (sym start_is) at_start;
+    fit = refl;
+  })
+
   pub root_there : (old mid new : Gathered) (next : Option ℕ) (before after : Vec code.Section Global)
       → old.rows.items ≡ [] → AreRowsRead bytes start 1 old mid next → before.items ≡ []
       → TakesRoot mid new before after (Ok tt) → ListSoFar bytes next new after.items
@@ -118,14 +127,7 @@ module _ (bytes : List ℕ) (start : ℕ) (start_is : start ≡ start_of bytes) 
     told = told ∙ ap (λ (l : List Section). onto l (sections_of r.rest)) same;
     none = taken.0;
     limit = omega (arith, ap highest_level same, (root_level (rows_view r.added)).1, r.limit);
-    reached = r.reached (folded bytes)
-        (inl (record {
-          before = None;
-          feed = false;
-          reached =
-              subst (λ (n : ℕ). Reached (folded bytes) None false (text_at bytes n)) (sym start_is) at_start;
-          fit = refl;
-        }));
+    reached = r.reached (folded bytes) list_begins;
   }
     where
       items : mid.rows.items ≡ r.added
@@ -211,7 +213,18 @@ module _ (bytes : List ℕ) (at : ℕ) where
         (λ next. and_then (rows_of next)
         (λ rows. and_then (sections_of rows.1) (λ sections. Some (made rows.0 ∷ sections))))) e.0)
 
+    -- where the header has ended
+    pub header_ended : (whole : Text) → IsAt whole anywhere (text_at bytes at)
+        → IsAt whole after_value (text_at bytes h.end)
+    header_ended whole a = header_here (text_at bytes at) _ a read.is
+
     module _ (line : ℕ) (ended : EndsLineAt bytes h.end (Ok line)) where
+      -- and the line after it begins
+      pub line_begins : (whole : Text) → IsAt whole anywhere (text_at bytes at) → LineAt whole (text_at bytes line)
+      line_begins whole a =
+          line_after (after_comment_by is_comment (after_blanks (text_at bytes h.end))) (text_at bytes line)
+          (line_at (text_at bytes h.end) (header_ended whole a)) ended.0
+
       by_rows : and_then (header_of (text_at bytes at)) sections_from
           ≡ and_then (rows_of (text_at bytes line))
           (λ rows. and_then (sections_of rows.1) (λ sections. Some (made rows.0 ∷ sections)))
@@ -266,9 +279,7 @@ module _ (bytes : List ℕ) (at : ℕ) where
                 ∙ ap (λ (t : Section). and_then (sections_of r.rest) (λ sections. Some (t ∷ sections))) view;
             ends = r.ends;
             from = further next r.from;
-            reached = λ whole a. r.reached whole
-                (line_after (after_comment_by is_comment (after_blanks (text_at bytes h.end))) (text_at bytes line)
-                (line_at (text_at bytes h.end) (header_here (text_at bytes at) _ a read.is)) ended.0);
+            reached = λ whole a. r.reached whole (line_begins whole a);
             none = rest_is;
             limit = omega (
               arith,

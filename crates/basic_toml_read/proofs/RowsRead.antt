@@ -26,7 +26,7 @@ use Rattle.basic_toml_read.specs.Gathers.{row_level, IsRowRead}
 use Rattle.basic_toml_read.specs.Lists.{EndsLineAt, AreRowsRead}
 use Rattle.basic_toml_grammar.proofs.StringsAreRead.{then_some}
 use Rattle.basic_toml_grammar.specs.GrammarFaults.{precedes_key}
-use Rattle.basic_toml_read.specs.StopPlaces.{anywhere, IsAt, LineAt}
+use Rattle.basic_toml_read.specs.StopPlaces.{after_value, anywhere, IsAt, LineAt}
 use Rattle.basic_toml_read.proofs.Carried.{moved, blanks_at, line_at, row_here, any_at, line_after}
 use Rattle.basic_toml_read.proofs.EnoughSteps.{rows_is, rows_is_none}
 use Rattle.basic_toml_read.proofs.LeftAfter.{sign_there, sign_missing}
@@ -100,6 +100,15 @@ module _ (bytes : List ℕ) (start level at : ℕ) (old new : Gathered) (s : Row
     pub line_some : {whole : Text} → LineAt whole (text_at bytes at) → IsAt whole precedes_key (text_at bytes at)
     line_some (inl a) = a
     line_some (inr e) = let z : x ∷ line ≡ [] = sym line_is ∙ e.1 in cc
+
+    -- where a row begins, and where it has ended
+    pub row_begins : (whole : Text) → LineAt whole (text_at bytes start) → IsAt whole precedes_key (text_at bytes front)
+    row_begins whole a = moved (sym blanks.left) (blanks_at (text_at bytes at) (line_some (s.lines whole a)))
+
+    pub row_ended : (new' : Gathered) (after : ℕ) → IsRowRead bytes front level new new' after → (whole : Text)
+        → LineAt whole (text_at bytes start) → IsAt whole after_value (text_at bytes after)
+    row_ended new' after r whole a =
+        moved r.rest (row_here (text_at bytes front) r.found (row_begins whole a) r.is)
 
     row_on : reader.Assigned → Option (Rows × Text)
     row_on r = and_then (line_end_at r.rest)
@@ -256,10 +265,7 @@ module _ (bytes : List ℕ) (start level at : ℕ) (old new : Gathered) (s : Row
                 boundary = e.1;
                 forward = omega (arith, s.forward, blanks.forward, r.later, e.2);
                 lines = λ whole a. line_after (after_comment_by is_comment (after_blanks (text_at bytes after)))
-                    (text_at bytes next) (line_at (text_at bytes after)
-                    (moved r.rest (row_here (text_at bytes front) r.found
-                    (moved (sym blanks.left) (blanks_at (text_at bytes at) (line_some (s.lines whole a)))) r.is)))
-                    e.0;
+                    (text_at bytes next) (line_at (text_at bytes after) (row_ended new' after r whole a)) e.0;
               }
 
 -- a line takes at least one character

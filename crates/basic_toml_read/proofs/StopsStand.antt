@@ -219,3 +219,13 @@ after_field bytes at level old new end r after left = record {
   on = λ start a. moved (sym left.left)
       (blanks_at (text_at bytes end) (moved r.rest (row_here (text_at bytes at) r.found a r.is)));
 }
+
+-- what `?` answers in a section
+pub header_result : {A : Type 0} (bytes : List ℕ) (at : ℕ) (stop : Stop) (result : Result A Stop)
+    → IsErrAnd result (λ s. s ≡ stop) → StopsFrom anywhere bytes at stop → HeaderStands bytes at result
+header_result bytes at stop result e s = λ some. stopped (λ r. StandsFrom anywhere bytes at r) result stop e s
+
+-- and of a whole text
+pub list_stop : {A : Type 0} (start : Text) (bytes : List ℕ) (stop : Stop) (result : Result A Stop)
+    → IsErrAnd result (λ s. s ≡ stop) → StopStands start bytes stop.why stop.at → IfStops start bytes result
+list_stop start bytes stop result e s = stopped (λ r. IfStops start bytes r) result stop e s

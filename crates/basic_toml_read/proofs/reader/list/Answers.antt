@@ -3,6 +3,9 @@ use Rattle.basic_toml_read.specs.Lists.{ReadsList}
 use Rattle.basic_toml_read.proofs.KeysTold.{stopped}
 use Rattle.basic_toml_read.proofs.ListsRead.{ListSoFar, root_missing, root_there, list_more, list_missing, falls}
 use Rattle.basic_toml_read.proofs.ListsRead.{list_over}
+use Rattle.basic_toml_tokens.specs.Text.{folded}
+use Rattle.basic_toml_read.proofs.StopsStand.{list_stop}
+use Rattle.basic_toml_read.proofs.ListsRead.{list_begins}
 use Rattle.basic_toml_read.proofs.reader.list.Goals as goal
 
 pub returns-in_err-bracket-clause-read : goal.returns-in_err-bracket-clause-read
@@ -48,3 +51,19 @@ returns-clause-read c =
     list_over c.args.text.now c.loop-bracket.gathered c.loop-bracket.sections
     (subst (λ (o : Option ℕ). ListSoFar c.args.text.now o c.loop-bracket.gathered c.loop-bracket.sections.items)
     c.in_default.is c.loop-bracket.invariant)
+
+-- the stops
+pub returns-in_err-bracket-clause-stands : goal.returns-in_err-bracket-clause-stands
+returns-in_err-bracket-clause-stands c =
+    list_stop (folded c.args.text.now) c.args.text.now c.in_err-bracket.field-0.0 c.from_residual.result
+    c.from_residual.ensures.1
+    (c.in_err-bracket.ensures.stands (folded c.args.text.now)
+    (list_begins c.args.text.now c.start.result c.start.ensures.offset))
+
+pub returns-in_err-bracket-2-clause-stands : goal.returns-in_err-bracket-2-clause-stands
+returns-in_err-bracket-2-clause-stands c =
+    let s = subst (λ (o : Option ℕ). ListSoFar c.args.text.now o c.loop-bracket.gathered
+    c.loop-bracket.sections.items) c.in-Some.is c.loop-bracket.invariant in
+    list_stop (folded c.args.text.now) c.args.text.now c.in_err-bracket-2.field-0.0
+    c.from_residual-in_err-bracket-2.result c.from_residual-in_err-bracket-2.ensures.1
+    (c.in_err-bracket-2.ensures.stands s.reached.1 (folded c.args.text.now) s.reached.0)
