@@ -1,7 +1,7 @@
 -- The sections of a text, one by one.
 use Rattle.std.proofs.Common.{◌≡◌, ℕ, ◌+◌, ◌-◌, ◌<◌, ◌≤◌, max, false, List, [], ◌∷◌, ◌++◌, length, map, refl, ap}
 use Rattle.std.proofs.Common.{sym, ◌∙◌, arith, append_assoc, append-nil, Option, Some, None, Ok, Err, Vec, Global}
-use Rattle.std.proofs.Common.{drop, take, inl, subst}
+use Rattle.std.proofs.Common.{drop, take, inl, subst, Result, IfErr}
 use Rattle.std.proofs.lemmas.List.{map-append}
 use Rattle.std.specs.Cow.{cow_str_bytes}
 use Rattle.basic_toml_tokens.specs.Text.{Text, text_at, folded, start_of, after_blanks}
@@ -21,7 +21,7 @@ use Rattle.basic_toml_read.specs.FrontOf.{rows_of, header_of, sections_of}
 use Rattle.basic_toml_read.specs.SectionView.{rows_view, keys_with, section_of}
 use Rattle.basic_toml_read.specs.StopsAt.{Misses}
 use Rattle.basic_toml_read.specs.Lists.{IsHeaderRead, EndsLineAt, AreRowsRead, NextAt, IsFrom, root_view, TakesRoot}
-use Rattle.basic_toml_read.specs.Lists.{sections_from, IsSectionRead, ReadsList}
+use Rattle.basic_toml_read.specs.Lists.{sections_from, IsSectionRead, ReadsList, IsGap, PassesGaps}
 use Rattle.basic_toml_grammar.proofs.StringsAreRead.{then_some}
 use Rattle.basic_toml_grammar.specs.Grammar.{after_comment_by}
 use Rattle.basic_toml_tokens.specs.Text.{is_comment}
@@ -67,6 +67,14 @@ root_level : (rs : Rows) → (rows_level 1 rs ≤ highest_level (with_root rs []
 root_level no_rows = (omega arith, omega arith)
 root_level (row keys p v rs) = (omega arith, omega arith)
 
+pub some_none : {A : Type 0} (x : A) → Some x ≡ None → ⊥
+some_none x e = cc
+
+-- what is known of each error
+pub if_err : {A : Type 0} (P : Type 0) (result : Result A Stop) → P → IfErr result (λ stop. P)
+if_err P (Ok x) p = tt
+if_err P (Err stop) p = p
+
 -- the sections up to an offset
 pub record ListSoFar (bytes : List ℕ) (next : Option ℕ) (gathered : Gathered) (list : List code.Section) : Type 0 where
   pub rest : Text
@@ -75,6 +83,7 @@ pub record ListSoFar (bytes : List ℕ) (next : Option ℕ) (gathered : Gathered
   pub none : gathered.rows.items ≡ []
   pub limit : highest_level (map section_of list) ≤ 128
   pub reached : NextStands (folded bytes) bytes next
+  pub gaps : IsGap (folded bytes) → next ≡ None
 
 -- the rows before the first header
 module _ (bytes : List ℕ) (start : ℕ) (start_is : start ≡ start_of bytes) where
@@ -118,16 +127,30 @@ module _ (bytes : List ℕ) (start : ℕ) (start_is : start ≡ start_of bytes) 
     fit = refl;
   })
 
+  -- rows that a gap has none of
+  pub gap_passed : (old mid : Gathered) (next : Option ℕ) → PassesGaps bytes start old mid (Ok next)
+      → IsGap (folded bytes) → (next ≡ None) × (mid.rows.items ≡ old.rows.items)
+  gap_passed old mid next p g =
+      let there = p (subst (λ (n : ℕ). IsGap (text_at bytes n)) (sym start_is) g) in
+      let same : next ≡ None = (let e = there.0 in cc) in (same, there.1)
+
+  pub gap_stopped : (old mid : Gathered) (stop : Stop) → PassesGaps bytes start old mid (Err stop)
+      → IsGap (folded bytes) → ⊥
+  gap_stopped old mid stop p g =
+      let there = p (subst (λ (n : ℕ). IsGap (text_at bytes n)) (sym start_is) g) in let e = there.0 in cc
+
   pub root_there : (old mid new : Gathered) (next : Option ℕ) (before after : Vec code.Section Global)
-      → old.rows.items ≡ [] → AreRowsRead bytes start 1 old mid next → before.items ≡ []
+      → old.rows.items ≡ [] → AreRowsRead bytes start 1 old mid next
+      → PassesGaps bytes start old mid (Ok next) → before.items ≡ []
       → TakesRoot mid new before after (Ok tt) → ListSoFar bytes next new after.items
-  root_there old mid new next before after empty r none taken = record {
+  root_there old mid new next before after empty r passed none taken = record {
     rest = r.rest;
     ends = r.ends;
     told = told ∙ ap (λ (l : List Section). onto l (sections_of r.rest)) same;
     none = taken.0;
     limit = omega (arith, ap highest_level same, (root_level (rows_view r.added)).1, r.limit);
     reached = r.reached (folded bytes) list_begins;
+    gaps = λ g. (gap_passed old mid next passed g).0;
   }
     where
       items : mid.rows.items ≡ r.added
@@ -315,6 +338,7 @@ list_more bytes at next old new before after s r = record {
     highest_onto (map section_of before.items) (section_of r.made ∷ []),
   );
   reached = r.reached (folded bytes) s.reached.0;
+  gaps = λ g. let e = s.gaps g in cc;
 }
   where
     same : map section_of before.items ++ section_of r.made ∷ [] ≡ map section_of after.items

@@ -4,8 +4,8 @@ ghost use Rattle.std.specs.Str.{IsCharBoundary};
 ghost use Rattle.basic_toml_tokens.specs.Text.{folded};
 ghost use Rattle.basic_toml_read.specs.StopsAt.{StopsInside};
 ghost use Rattle.basic_toml_read.specs.StopPlaces.{after_value, IfStops, StandsFrom, HeaderStands, LinesStand};
-ghost use Rattle.basic_toml_read.specs.SectionsAnswer.{AnswersSections};
-ghost use Rattle.basic_toml_read.specs.Lists.{EndsLineAt, ReadsRows, TakesRoot, ReadsSection, ReadsList};
+ghost use Rattle.basic_toml_read.specs.SectionsAnswer.{AnswersSections, HoldsMore};
+ghost use Rattle.basic_toml_read.specs.Lists.{EndsLineAt, ReadsRows, PassesGaps, TakesRoot, ReadsSection, ReadsList};
 
 use crate::ReadError;
 use crate::explain::explain;
@@ -43,6 +43,7 @@ impl<'de> Gathered<'de> {
         ensures read { ReadsRows text.now start level self.old self.new result }
         ensures inside { IfErr result (λ stop. StopsInside text.now stop) }
         ensures stands { LinesStand text.now start result }
+        ensures gaps { PassesGaps text.now start self.old self.new result }
     {
         let mut at = start;
         while at < text.len() {
@@ -115,6 +116,7 @@ pub(crate) fn list<'de>(alloc: Global, text: &'de str) -> Result<Vec<Section<'de
     ensures read { ReadsList text.now result }
     ensures inside { IfErr result (λ stop. StopsInside text.now stop) }
     ensures stands { IfStops (folded text.now) text.now result }
+    ensures more { IfErr result (λ _. HoldsMore (folded text.now)) }
 {
     let mut gathered = Gathered {
         alloc,
