@@ -1,14 +1,14 @@
 -- The faults where reading stops are those that the text allows there.
-use Rattle.std.proofs.Common.{inl, inr, ◌≡◌, ◌<◌, ◌≤◌, ◌==◌, ℕ, Bool, true, false, cond, List, [], ◌∷◌, ◌++◌, length}
+use Rattle.std.proofs.Common.{inl, inr, ◌≡◌, ◌<◌, ℕ, Bool, true, false, List, [], ◌∷◌, ◌++◌, length}
 use Rattle.std.proofs.Common.{arith, refl, ap, sym, ◌∙◌, subst, Option, Some, None, Ok, Err, Vec, Global, codes}
 use Rattle.std.specs.Str.{IsUtf8, IsCharBoundary}
 use Rattle.basic_toml_tokens.specs.declared.error.Error.{Error}
 use Rattle.basic_toml_tokens.specs.declared.string.TokenStop.{TokenStop}
-use Rattle.basic_toml_tokens.specs.Text.{Text, StartsWith, offset_in, folded, text_at, run, after_run, is_keylike}
+use Rattle.basic_toml_tokens.specs.Text.{Text, offset_in, folded, text_at, run, after_run, is_keylike}
 use Rattle.basic_toml_tokens.specs.TokenAt.{Lexeme, newline, equals, period, comma, plus, left_brace, left_bracket}
 use Rattle.basic_toml_tokens.specs.TokenAt.{right_bracket, keylike, string, punctuation_of, IsToken, punctuation}
 use Rattle.basic_toml_tokens.specs.TokenAt.{blanks, word, remark, quoted}
-use Rattle.basic_toml_tokens.specs.Reading.{Reading, text_of}
+use Rattle.basic_toml_tokens.specs.Reading.{Reading}
 use Rattle.basic_toml_tokens.specs.Descriptions.{description_of}
 use Rattle.basic_toml_tokens.specs.declared.token.Token.{Token}
 use Rattle.basic_toml_tokens.specs.Token.{lexeme_of, IsTaken}
@@ -30,7 +30,7 @@ use Rattle.basic_toml_grammar.specs.GrammarFaults as grammar
 use Rattle.basic_toml_grammar.specs.GrammarFaults.{fault_at, is_newline, is_equals, is_right_bracket, is_comma}
 use Rattle.basic_toml_grammar.specs.GrammarFaults.{begins_value, Stands, token, end, IsNot, StandsIn, precedes_key, Reached}
 use Rattle.basic_toml_grammar.specs.Reader.{char_at, key_at, string_at, word_at, end_of}
-use Rattle.basic_toml_read.specs.Error.{token_fault, want_of_memory}
+use Rattle.basic_toml_read.specs.Error.{token_fault}
 use Rattle.basic_toml_grammar.specs.Levels.{highest_level}
 use Rattle.basic_toml_grammar.specs.Reader.{section_list_of}
 use Rattle.basic_toml_read.specs.Cursor.{code_of, is_word_token}
@@ -277,9 +277,9 @@ module _ (bytes : List ℕ) (at : ℕ) (whole : IsUtf8 bytes) (boundary : IsChar
       go (Some pair) r = absurd (none_some _ (sym none ∙ r))
       go None r = value_wanting fault a (λ e. some (ap (run is_wordlike) e))
           (λ source rest m u. elim r [
-        | inl over ↦ absurd (some (ap (run is_wordlike) over))
-        | inr t ↦ apart _ source _ rest t.0 m t.2.token t.3 u (is_word_token t.0) refl
-      ]) w
+            | inl over ↦ absurd (some (ap (run is_wordlike) over))
+            | inr t ↦ apart _ source _ rest t.0 m t.2.token t.3 u (is_word_token t.0) refl
+          ]) w
 
 -- by the reason of the stop
 pub by_reason : (bytes : List ℕ) (stop : Stop) (w : Why) (fault : Fault) → stop.why ≡ w → (w ≡ Memory → ⊥)

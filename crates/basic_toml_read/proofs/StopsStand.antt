@@ -1,9 +1,9 @@
 -- Where reading stops, the stop stands: which token is before it, and what does not stand there.
-use Rattle.std.proofs.Common.{◌≡◌, ℕ, Bool, true, false, List, [], ◌∷◌, refl, ap, sym, ◌∙◌, subst, Option, Some, None}
+use Rattle.std.proofs.Common.{◌≡◌, ℕ, Bool, true, false, List, [], refl, sym, subst, Option, Some, None}
 use Rattle.std.proofs.Common.{Result, Ok, Err}
 use Rattle.std.specs.Result.{IsErrAnd}
 use Rattle.basic_toml_tokens.specs.Text.{Text, text_at, run, is_comment, after_blanks}
-use Rattle.basic_toml_tokens.specs.TokenAt.{Lexeme, equals, left_brace, left_bracket, right_bracket, punctuation_of}
+use Rattle.basic_toml_tokens.specs.TokenAt.{Lexeme, equals, left_bracket, right_bracket, punctuation_of}
 use Rattle.basic_toml_tokens.specs.Punctuation.{IsPunctuationEnd}
 use Rattle.basic_toml_read.specs.declared.header.HeaderKeys.{HeaderKeys}
 use Rattle.basic_toml_read.specs.declared.scalar.Valued.{Valued}
@@ -14,7 +14,7 @@ use Rattle.basic_toml_read.specs.declared.values.Gathered.{Gathered}
 use Rattle.basic_toml_read.specs.declared.values.LastKey.{LastKey}
 use Rattle.basic_toml_grammar.specs.Grammar.{is_wordlike, after_comment_by, after_gap}
 use Rattle.basic_toml_grammar.specs.GrammarFaults.{is_gap, precedes_key}
-use Rattle.basic_toml_grammar.specs.Reader.{char_at, string_at, end_of}
+use Rattle.basic_toml_grammar.specs.Reader.{char_at, string_at}
 use Rattle.basic_toml_read.specs.AtPlace.{Leaves, EndsAt}
 use Rattle.basic_toml_read.specs.StopsAt.{no_memory, MissesKey, MissesString, MissesWord, ReadsKeyAt, ReadsStringAt}
 use Rattle.basic_toml_read.specs.StopsAt.{ReadsWordAt}

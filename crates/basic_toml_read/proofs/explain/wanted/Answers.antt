@@ -1,8 +1,5 @@
-use Rattle.std.proofs.Common.{List, ℕ, Some, sym, subst, ap, ◌∙◌}
-use Rattle.basic_toml_tokens.specs.Scan.{IsFound}
-use Rattle.basic_toml_grammar.specs.GrammarFaults.{token, end}
-use Rattle.basic_toml_grammar.specs.Faults.{Fault}
-use Rattle.basic_toml_read.specs.Explain.{IsWanting, found}
+use Rattle.std.proofs.Common.{sym, subst}
+use Rattle.basic_toml_read.specs.Explain.{IsWanting}
 use Rattle.basic_toml_read.proofs.Explained.{refusal_found, token_found, end_found}
 use Rattle.basic_toml_read.proofs.explain.wanted.Goals as goal
 

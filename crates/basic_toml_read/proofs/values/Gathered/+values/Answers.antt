@@ -1,4 +1,4 @@
-use Rattle.std.proofs.Common.{◌≡◌, ℕ, length, drop, take, ap, ◌∙◌, arith, refl, Some, Err}
+use Rattle.std.proofs.Common.{◌≡◌, ℕ, length, drop, take, ap, ◌∙◌, arith, refl, Err}
 use Rattle.basic_toml_tokens.specs.Text.{text_at}
 use Rattle.basic_toml_tokens.specs.TokenAt.{left_bracket, left_brace}
 use Rattle.basic_toml_read.specs.declared.stop.Why.TheVariants.{Equals}
