@@ -1,24 +1,20 @@
 -- From one offset to the next after what is read.
-use Rattle.std.proofs.Common.{◌⊎◌, inl, inr, ◌≡◌, ℕ, suc, ◌+◌, ◌*◌, ◌≤◌, ◌<◌, Bool, true, false, List, [], ◌∷◌}
-use Rattle.std.proofs.Common.{length, refl, ap, sym, ◌∙◌, subst, arith, Option, Some, None, Result, Ok, Err, cond}
+use Rattle.std.proofs.Common.{inl, inr, ◌≡◌, ℕ, suc, ◌+◌, ◌*◌, Bool, true, false, List, [], ◌∷◌}
+use Rattle.std.proofs.Common.{length, refl, ap, sym, subst, Option, Some, None, cond}
 use Rattle.std.proofs.Common.{◌==◌, eqb-true}
 use Rattle.basic_toml_tokens.specs.Text.{Text, StartsWith, text_at, is_comment, after_blanks}
-use Rattle.basic_toml_tokens.specs.TokenAt.{Lexeme, equals, period, comma, left_brace, left_bracket, right_bracket}
+use Rattle.basic_toml_tokens.specs.TokenAt.{Lexeme, period, comma, left_bracket, right_bracket}
 use Rattle.basic_toml_tokens.specs.TokenAt.{punctuation_of}
 use Rattle.basic_toml_tokens.specs.Punctuation.{IsPunctuationEnd}
-use Rattle.basic_toml_read.specs.declared.stop.Stop.{Stop}
-use Rattle.basic_toml_read.specs.declared.stop.Why.{Why}
-use Rattle.basic_toml_read.specs.declared.stop.Why.TheVariants as why
 use Rattle.basic_toml_grammar.specs.Sections.{Key}
 use Rattle.basic_toml_grammar.specs.Grammar.{after_comment_by, after_gap, IsHeader, table, array_of_tables}
 use Rattle.basic_toml_grammar.specs.Reader as reader
 use Rattle.basic_toml_grammar.specs.Reader.{char_at, key_at, end_of}
 use Rattle.basic_toml_read.specs.FrontOf.{keys_of, value_of, row_of, header_of}
-use Rattle.basic_toml_read.specs.AtPlace.{Leaves, EndsAt}
-use Rattle.basic_toml_read.specs.StopsAt.{MissesKey}
-use Rattle.basic_toml_grammar.specs.GrammarFaults.{is_gap, Reached, precedes_key, precedes_value, ends_key, ends_value}
-use Rattle.basic_toml_read.specs.StopPlaces.{Fits, before_value, after_key, after_value, anywhere, IsAt, StopStands}
-use Rattle.basic_toml_read.specs.StopPlaces.{IfStops, StandsFrom, LineAt}
+use Rattle.basic_toml_read.specs.AtPlace.{Leaves}
+use Rattle.basic_toml_grammar.specs.GrammarFaults.{is_gap, Reached, precedes_key, ends_key, ends_value}
+use Rattle.basic_toml_read.specs.StopPlaces.{Fits, before_value, after_key, after_value, anywhere, IsAt}
+use Rattle.basic_toml_read.specs.StopPlaces.{LineAt}
 use Rattle.basic_toml_grammar.proofs.ReaderIsSound.{sign_read, key_read, keys_read, value_read, row_read, header_read}
 use Rattle.basic_toml_read.proofs.LeftAfter.{sign_there}
 use Rattle.basic_toml_read.proofs.Reaching.{After, over_blanks, over_line, over_gap, over_sign, over_feed, over_key}

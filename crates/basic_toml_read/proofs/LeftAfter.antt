@@ -3,7 +3,7 @@ use Rattle.std.proofs.Common.{inl, inr, ◌≡◌, ℕ, ◌≤◌, ◌==◌, ◌
 use Rattle.std.proofs.Common.{refl, ap, sym, ◌∙◌, arith, Option, Some, None, is_some, eqb-true}
 use Rattle.std.specs.Str.{IsCharBoundary}
 use Rattle.std.proofs.lemmas.Bool.{eq-eqb, false≢true, or_from, or_right, or_cases}
-use Rattle.basic_toml_tokens.specs.Text.{Text, StartsWith, text_at, after_run, is_blank, is_keylike, is_comment}
+use Rattle.basic_toml_tokens.specs.Text.{Text, StartsWith, text_at, run, after_run, is_blank, is_keylike, is_comment}
 use Rattle.basic_toml_tokens.specs.Text.{after_blanks}
 use Rattle.basic_toml_tokens.specs.Strings.{is_quote}
 use Rattle.basic_toml_tokens.specs.Punctuation.{IsPunctuationEnd}
@@ -177,7 +177,42 @@ pub string_begins : (bytes : List ℕ) (at : ℕ) (o : Option ℕ)
     → after_run (λ x. x == 34) (text_at bytes at) ≡ text_at bytes at → IsPunctuationEnd 39 bytes at o
     → BeginsString bytes at (is_some o)
 string_begins bytes at None a e = no_string (text_at bytes at) a e
-string_begins bytes at (Some next) a s = (omega (arith, s.1.0, s.2), ap is_quote s.3, ap word_at s.0)
+string_begins bytes at (Some next) a s =
+    (omega (arith, s.1.0, s.2), ap is_quote s.3, ap word_at s.0, ap (run is_wordlike) s.0)
 
 pub quote_begins : (bytes : List ℕ) (at next : ℕ) → IsPunctuationEnd 34 bytes at (Some next) → BeginsString bytes at true
-quote_begins bytes at next s = (omega (arith, s.1.0, s.2), ap is_quote s.3, ap word_at s.0)
+quote_begins bytes at next s =
+    (omega (arith, s.1.0, s.2), ap is_quote s.3, ap word_at s.0, ap (run is_wordlike) s.0)
+
+-- where a gap is all that is left
+pub gap_over : (text next : Text) → end_of text ≡ Some next → after_gap is_comment text ≡ []
+    → after_gap is_comment next ≡ []
+gap_over [] next e gap = let same : [] ≡ next = cc in ap (after_gap is_comment) (sym same)
+gap_over (x ∷ text) next e gap = go (x.1 == 10) refl e
+  where
+    go : (b : Bool) → (x.1 == 10) ≡ b → cond b (Some text) None ≡ Some next → after_gap is_comment next ≡ []
+    go true k e =
+        let same : text ≡ next = cc in
+        let s : StartsWith 10 (x ∷ text) x.0 text = ap (λ (c : ℕ). (x.0, c) ∷ text) (eqb-true x.1 10 k) in
+        ap (after_gap is_comment) (sym same) ∙ gap_past_feed s ∙ gap
+    go false k e = cc
+
+no_feed_there : (text : Text) → end_of text ≡ None → after_run (λ c. c == 10) text ≡ text
+no_feed_there [] e = cc
+no_feed_there (x ∷ text) e = go (x.1 == 10) refl e
+  where
+    go : (b : Bool) → (x.1 == 10) ≡ b → cond b (Some text) None ≡ None
+        → cond b (after_run (λ c. c == 10) text) (x ∷ text) ≡ x ∷ text
+    go true k e = cc
+    go false k e = refl
+
+pub gap_ends_line : (text : Text) → end_of (line_of text) ≡ None → after_gap is_comment text ≡ [] → ⊥
+gap_ends_line text e gap =
+    let over : line_of text ≡ [] =
+    sym (gap_stops text (no_feed_there (line_of text) e)) ∙ gap_past_line text ∙ gap in
+    let z : None ≡ Some [] = sym e ∙ ap end_of over in cc
+
+pub gap_has_no_bracket : {p : ℕ} {rest : Text} (text : Text) → StartsWith 91 (after_blanks text) p rest
+    → after_gap is_comment text ≡ [] → ⊥
+gap_has_no_bracket {p = p} {rest = rest} text s gap =
+    let z : (p, 91) ∷ rest ≡ [] = sym (ap (after_gap is_comment) s) ∙ gap_past_blanks text ∙ gap in cc

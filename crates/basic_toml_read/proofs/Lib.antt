@@ -22,3 +22,4 @@ pub mod Explained
 pub mod NumbersEnd
 pub mod Reaching
 pub mod Carried
+pub mod StopsStand

@@ -1,7 +1,7 @@
 -- The sections of a text, one by one.
 use Rattle.std.proofs.Common.{◌≡◌, ℕ, ◌+◌, ◌-◌, ◌<◌, ◌≤◌, max, false, List, [], ◌∷◌, ◌++◌, length, map, refl, ap}
 use Rattle.std.proofs.Common.{sym, ◌∙◌, arith, append_assoc, append-nil, Option, Some, None, Ok, Err, Vec, Global}
-use Rattle.std.proofs.Common.{drop, take, inl, subst}
+use Rattle.std.proofs.Common.{drop, take, inl, subst, Result, IfErr}
 use Rattle.std.proofs.lemmas.List.{map-append}
 use Rattle.std.specs.Cow.{cow_str_bytes}
 use Rattle.basic_toml_tokens.specs.Text.{Text, text_at, folded, start_of, after_blanks}
@@ -21,12 +21,12 @@ use Rattle.basic_toml_read.specs.FrontOf.{rows_of, header_of, sections_of}
 use Rattle.basic_toml_read.specs.SectionView.{rows_view, keys_with, section_of}
 use Rattle.basic_toml_read.specs.StopsAt.{Misses}
 use Rattle.basic_toml_read.specs.Lists.{IsHeaderRead, EndsLineAt, AreRowsRead, NextAt, IsFrom, root_view, TakesRoot}
-use Rattle.basic_toml_read.specs.Lists.{sections_from, IsSectionRead, ReadsList}
+use Rattle.basic_toml_read.specs.Lists.{sections_from, IsSectionRead, ReadsList, IsGap, PassesGaps}
 use Rattle.basic_toml_grammar.proofs.StringsAreRead.{then_some}
 use Rattle.basic_toml_grammar.specs.Grammar.{after_comment_by}
 use Rattle.basic_toml_tokens.specs.Text.{is_comment}
 use Rattle.basic_toml_grammar.specs.GrammarFaults.{Reached, at_start}
-use Rattle.basic_toml_read.specs.StopPlaces.{NextStands}
+use Rattle.basic_toml_read.specs.StopPlaces.{after_value, anywhere, IsAt, LineAt, NextStands}
 use Rattle.basic_toml_read.proofs.Carried.{line_at, header_here, line_after}
 use Rattle.basic_toml_read.proofs.EnoughSteps.{list_is, sections_is, sections_is_none}
 use Rattle.basic_toml_read.proofs.HeadersRead.{header_length}
@@ -67,6 +67,14 @@ root_level : (rs : Rows) → (rows_level 1 rs ≤ highest_level (with_root rs []
 root_level no_rows = (omega arith, omega arith)
 root_level (row keys p v rs) = (omega arith, omega arith)
 
+pub some_none : {A : Type 0} (x : A) → Some x ≡ None → ⊥
+some_none x e = cc
+
+-- what is known of each error
+pub if_err : {A : Type 0} (P : Type 0) (result : Result A Stop) → P → IfErr result (λ stop. P)
+if_err P (Ok x) p = tt
+if_err P (Err stop) p = p
+
 -- the sections up to an offset
 pub record ListSoFar (bytes : List ℕ) (next : Option ℕ) (gathered : Gathered) (list : List code.Section) : Type 0 where
   pub rest : Text
@@ -75,6 +83,7 @@ pub record ListSoFar (bytes : List ℕ) (next : Option ℕ) (gathered : Gathered
   pub none : gathered.rows.items ≡ []
   pub limit : highest_level (map section_of list) ≤ 128
   pub reached : NextStands (folded bytes) bytes next
+  pub gaps : IsGap (folded bytes) → next ≡ None
 
 -- the rows before the first header
 module _ (bytes : List ℕ) (start : ℕ) (start_is : start ≡ start_of bytes) where
@@ -109,23 +118,39 @@ module _ (bytes : List ℕ) (start : ℕ) (start_is : start ≡ start_of bytes) 
       ))
       m
 
+  -- the text begins a line
+  pub list_begins : LineAt (folded bytes) (text_at bytes start)
+  list_begins = inl (record {
+    before = None;
+    feed = false;
+    reached = subst (λ (n : ℕ). Reached (folded bytes) None false (text_at bytes n)) (sym start_is) at_start;
+    fit = refl;
+  })
+
+  -- rows that a gap has none of
+  pub gap_passed : (old mid : Gathered) (next : Option ℕ) → PassesGaps bytes start old mid (Ok next)
+      → IsGap (folded bytes) → (next ≡ None) × (mid.rows.items ≡ old.rows.items)
+  gap_passed old mid next p g =
+      let there = p (subst (λ (n : ℕ). IsGap (text_at bytes n)) (sym start_is) g) in
+      let same : next ≡ None = (let e = there.0 in cc) in (same, there.1)
+
+  pub gap_stopped : (old mid : Gathered) (stop : Stop) → PassesGaps bytes start old mid (Err stop)
+      → IsGap (folded bytes) → ⊥
+  gap_stopped old mid stop p g =
+      let there = p (subst (λ (n : ℕ). IsGap (text_at bytes n)) (sym start_is) g) in let e = there.0 in cc
+
   pub root_there : (old mid new : Gathered) (next : Option ℕ) (before after : Vec code.Section Global)
-      → old.rows.items ≡ [] → AreRowsRead bytes start 1 old mid next → before.items ≡ []
+      → old.rows.items ≡ [] → AreRowsRead bytes start 1 old mid next
+      → PassesGaps bytes start old mid (Ok next) → before.items ≡ []
       → TakesRoot mid new before after (Ok tt) → ListSoFar bytes next new after.items
-  root_there old mid new next before after empty r none taken = record {
+  root_there old mid new next before after empty r passed none taken = record {
     rest = r.rest;
     ends = r.ends;
     told = told ∙ ap (λ (l : List Section). onto l (sections_of r.rest)) same;
     none = taken.0;
     limit = omega (arith, ap highest_level same, (root_level (rows_view r.added)).1, r.limit);
-    reached = r.reached (folded bytes)
-        (inl (record {
-          before = None;
-          feed = false;
-          reached =
-              subst (λ (n : ℕ). Reached (folded bytes) None false (text_at bytes n)) (sym start_is) at_start;
-          fit = refl;
-        }));
+    reached = r.reached (folded bytes) list_begins;
+    gaps = λ g. (gap_passed old mid next passed g).0;
   }
     where
       items : mid.rows.items ≡ r.added
@@ -211,7 +236,18 @@ module _ (bytes : List ℕ) (at : ℕ) where
         (λ next. and_then (rows_of next)
         (λ rows. and_then (sections_of rows.1) (λ sections. Some (made rows.0 ∷ sections))))) e.0)
 
+    -- where the header has ended
+    pub header_ended : (whole : Text) → IsAt whole anywhere (text_at bytes at)
+        → IsAt whole after_value (text_at bytes h.end)
+    header_ended whole a = header_here (text_at bytes at) _ a read.is
+
     module _ (line : ℕ) (ended : EndsLineAt bytes h.end (Ok line)) where
+      -- and the line after it begins
+      pub line_begins : (whole : Text) → IsAt whole anywhere (text_at bytes at) → LineAt whole (text_at bytes line)
+      line_begins whole a =
+          line_after (after_comment_by is_comment (after_blanks (text_at bytes h.end))) (text_at bytes line)
+          (line_at (text_at bytes h.end) (header_ended whole a)) ended.0
+
       by_rows : and_then (header_of (text_at bytes at)) sections_from
           ≡ and_then (rows_of (text_at bytes line))
           (λ rows. and_then (sections_of rows.1) (λ sections. Some (made rows.0 ∷ sections)))
@@ -266,9 +302,7 @@ module _ (bytes : List ℕ) (at : ℕ) where
                 ∙ ap (λ (t : Section). and_then (sections_of r.rest) (λ sections. Some (t ∷ sections))) view;
             ends = r.ends;
             from = further next r.from;
-            reached = λ whole a. r.reached whole
-                (line_after (after_comment_by is_comment (after_blanks (text_at bytes h.end))) (text_at bytes line)
-                (line_at (text_at bytes h.end) (header_here (text_at bytes at) _ a read.is)) ended.0);
+            reached = λ whole a. r.reached whole (line_begins whole a);
             none = rest_is;
             limit = omega (
               arith,
@@ -304,6 +338,7 @@ list_more bytes at next old new before after s r = record {
     highest_onto (map section_of before.items) (section_of r.made ∷ []),
   );
   reached = r.reached (folded bytes) s.reached.0;
+  gaps = λ g. let e = s.gaps g in cc;
 }
   where
     same : map section_of before.items ++ section_of r.made ∷ [] ≡ map section_of after.items

@@ -1,7 +1,6 @@
 -- The rows of a section, line by line.
 use Rattle.std.proofs.Common.{◌⊎◌, inl, inr, ◌≡◌, ℕ, ◌<◌, ◌≤◌, List, [], ◌∷◌, ◌++◌, length, refl, ap, sym, ◌∙◌}
 use Rattle.std.proofs.Common.{arith, append_assoc, append-nil, true, false, Option, Some, None, is_some, Ok, Err}
-use Rattle.std.proofs.Common.{subst}
 use Rattle.std.specs.Str.{IsUtf8, IsCharBoundary}
 use Rattle.basic_toml_tokens.specs.Text.{Text, text_at, is_comment, after_blanks}
 use Rattle.basic_toml_tokens.specs.Punctuation.{IsPunctuationEnd}
@@ -14,7 +13,7 @@ use Rattle.basic_toml_read.specs.declared.stop.Why.TheVariants as why
 use Rattle.basic_toml_read.specs.declared.values.Gathered.{Gathered}
 use Rattle.basic_toml_grammar.specs.Sections.{Key, Raw, Rows, no_rows, row}
 use Rattle.basic_toml_grammar.specs.Entering.{and_then}
-use Rattle.basic_toml_grammar.specs.Grammar.{after_comment_by}
+use Rattle.basic_toml_grammar.specs.Grammar.{after_comment_by, after_gap}
 use Rattle.basic_toml_grammar.specs.Levels.{rows_level}
 use Rattle.basic_toml_grammar.specs.Reader as reader
 use Rattle.basic_toml_grammar.specs.Reader.{char_at, if_found, end_of, line_end_at}
@@ -23,13 +22,13 @@ use Rattle.basic_toml_read.specs.AtPlace.{Leaves, EndsAt}
 use Rattle.basic_toml_read.specs.SectionView.{rows_view}
 use Rattle.basic_toml_read.specs.StopsAt.{Misses}
 use Rattle.basic_toml_read.specs.Gathers.{row_level, IsRowRead}
-use Rattle.basic_toml_read.specs.Lists.{EndsLineAt, AreRowsRead}
+use Rattle.basic_toml_read.specs.Lists.{EndsLineAt, AreRowsRead, IsGap}
 use Rattle.basic_toml_grammar.proofs.StringsAreRead.{then_some}
 use Rattle.basic_toml_grammar.specs.GrammarFaults.{precedes_key}
-use Rattle.basic_toml_read.specs.StopPlaces.{anywhere, IsAt, LineAt}
+use Rattle.basic_toml_read.specs.StopPlaces.{after_value, anywhere, IsAt, LineAt}
 use Rattle.basic_toml_read.proofs.Carried.{moved, blanks_at, line_at, row_here, any_at, line_after}
 use Rattle.basic_toml_read.proofs.EnoughSteps.{rows_is, rows_is_none}
-use Rattle.basic_toml_read.proofs.LeftAfter.{sign_there, sign_missing}
+use Rattle.basic_toml_read.proofs.LeftAfter.{sign_there, sign_missing, gap_past_line, gap_over, gap_ends_line, gap_has_no_bracket}
 use Rattle.basic_toml_read.proofs.KeysTold.{misses_then, misses_none}
 use Rattle.basic_toml_read.proofs.FieldsGathered.{joined_rows, joined_rows_none, after_rows, after_rows_more}
 use Rattle.basic_toml_read.proofs.FieldsGathered.{after_no_rows, level_joined_rows, Whole, whole_none, whole_more}
@@ -49,6 +48,7 @@ pub record RowsSoFar (bytes : List ℕ) (start level at : ℕ) (old new : Gather
   pub boundary : IsCharBoundary bytes at
   pub forward : start ≤ at
   pub lines : (whole : Text) → LineAt whole (text_at bytes start) → LineAt whole (text_at bytes at)
+  pub gaps : IsGap (text_at bytes start) → IsGap (text_at bytes at) × (new.rows.items ≡ old.rows.items)
 
 pub rows_start : (bytes : List ℕ) (start level : ℕ) (old : Gathered) → IsCharBoundary bytes start
     → RowsSoFar bytes start level start old old
@@ -63,6 +63,7 @@ rows_start bytes start level old b = record {
   boundary = b;
   forward = omega arith;
   lines = λ whole a. a;
+  gaps = λ g. (g, refl);
 }
 
 some_first : (a b : Rows × Text) → Some a ≡ Some b → a.0 ≡ b.0
@@ -100,6 +101,15 @@ module _ (bytes : List ℕ) (start level at : ℕ) (old new : Gathered) (s : Row
     pub line_some : {whole : Text} → LineAt whole (text_at bytes at) → IsAt whole precedes_key (text_at bytes at)
     line_some (inl a) = a
     line_some (inr e) = let z : x ∷ line ≡ [] = sym line_is ∙ e.1 in cc
+
+    -- where a row begins, and where it has ended
+    pub row_begins : (whole : Text) → LineAt whole (text_at bytes start) → IsAt whole precedes_key (text_at bytes front)
+    row_begins whole a = moved (sym blanks.left) (blanks_at (text_at bytes at) (line_some (s.lines whole a)))
+
+    pub row_ended : (new' : Gathered) (after : ℕ) → IsRowRead bytes front level new new' after → (whole : Text)
+        → LineAt whole (text_at bytes start) → IsAt whole after_value (text_at bytes after)
+    row_ended new' after r whole a =
+        moved r.rest (row_here (text_at bytes front) r.found (row_begins whole a) r.is)
 
     row_on : reader.Assigned → Option (Rows × Text)
     row_on r = and_then (line_end_at r.rest)
@@ -141,6 +151,10 @@ module _ (bytes : List ℕ) (start level at : ℕ) (old new : Gathered) (s : Row
       );
     }
 
+    -- a header is no gap
+    pub bracket_no_gap : (next : ℕ) → IsPunctuationEnd 91 bytes front (Some next) → IsGap (text_at bytes start) → ⊥
+    bracket_no_gap next sign g = gap_has_no_bracket (text_at bytes at) (sym blanks.left ∙ sign.0) (s.gaps g).0
+
     module _ (none : IsPunctuationEnd 91 bytes front None) (end : ℕ)
         (comment : Leaves bytes front end (after_comment_by is_comment (text_at bytes front))) where
       ends_by : line_end_at (x ∷ line) ≡ end_of (text_at bytes end)
@@ -151,6 +165,12 @@ module _ (bytes : List ℕ) (start level at : ℕ) (old new : Gathered) (s : Row
       by_row e =
           by_line None (sign_missing 91 (text_at bytes front) none)
           ∙ ap (λ o. if_found o (λ next. rows_of next) (and_then (row_of (text_at bytes front)) row_on)) (ends_by ∙ e)
+
+      -- a gap that reaches the end of a line
+      gap_here : IsGap (text_at bytes start) → IsGap (text_at bytes end)
+      gap_here g =
+          ap (after_gap is_comment) (comment.left ∙ ap (after_comment_by is_comment) blanks.left)
+          ∙ gap_past_line (text_at bytes at) ∙ (s.gaps g).0
 
       -- an empty line
       pub rows_empty : (next : ℕ) → EndsAt bytes end (Some next) → at < next → RowsSoFar bytes start level next old new
@@ -169,9 +189,15 @@ module _ (bytes : List ℕ) (start level at : ℕ) (old new : Gathered) (s : Row
         lines = λ whole a. line_after (text_at bytes end) (text_at bytes next)
             (moved (sym (comment.left ∙ ap (after_comment_by is_comment) blanks.left))
             (line_at (text_at bytes at) (line_any (s.lines whole a)))) e.0;
+        gaps = λ g. (gap_over (text_at bytes end) (text_at bytes next) e.0 (gap_here g), (s.gaps g).1);
       }
 
       module _ (goes_on : EndsAt bytes end None) where
+        -- a line that goes on is no gap
+        pub rows_no_gap : IsGap (text_at bytes start) → ⊥
+        rows_no_gap g = gap_ends_line (text_at bytes at)
+            (ap end_of (sym (comment.left ∙ ap (after_comment_by is_comment) blanks.left)) ∙ goes_on) (s.gaps g).0
+
         told' : rows_of (text_at bytes start)
             ≡ after_rows (rows_view s.got) (and_then (row_of (text_at bytes front)) row_on)
         told' = s.told ∙ ap (after_rows (rows_view s.got)) (by_row goes_on)
@@ -256,10 +282,8 @@ module _ (bytes : List ℕ) (start level at : ℕ) (old new : Gathered) (s : Row
                 boundary = e.1;
                 forward = omega (arith, s.forward, blanks.forward, r.later, e.2);
                 lines = λ whole a. line_after (after_comment_by is_comment (after_blanks (text_at bytes after)))
-                    (text_at bytes next) (line_at (text_at bytes after)
-                    (moved r.rest (row_here (text_at bytes front) r.found
-                    (moved (sym blanks.left) (blanks_at (text_at bytes at) (line_some (s.lines whole a)))) r.is)))
-                    e.0;
+                    (text_at bytes next) (line_at (text_at bytes after) (row_ended new' after r whole a)) e.0;
+                gaps = λ g. absurd (rows_no_gap g);
               }
 
 -- a line takes at least one character

@@ -52,7 +52,7 @@ breaks_told (faults.hex d at then n l after) = grammar.hex_escape
 breaks_told (faults.over_in_hex d at then n l e) = grammar.open_string
 breaks_told (faults.value d at then n l s) = grammar.escape_value
 
-fault_told : {text rest : Text} {error : Error} → IsFault text error rest → IsTokenFault error (token_fault error)
+pub fault_told : {text rest : Text} {error : Error} → IsFault text error rest → IsTokenFault error (token_fault error)
 fault_told (faults.unexpected at h) = grammar.other_char
 fault_told (faults.broken b) = breaks_told b.breaks
 

@@ -1,7 +1,8 @@
 -- What the reader finds at an offset of a text, and where the text goes on.
-use Rattle.std.specs.Prelude.{◌⊎◌, ◌≡◌, ◌≤◌, ◌<◌, ℕ, Bool, true, false, List, length, slice_index, Option, Some, None}
+use Rattle.std.specs.Prelude.{◌⊎◌, ◌≡◌, ◌≤◌, ◌<◌, ℕ, Bool, true, false, List, [], length, slice_index, Option, Some}
+use Rattle.std.specs.Prelude.{None}
 use Rattle.std.specs.Str.{IsCharBoundary}
-use Rattle.basic_toml_tokens.specs.Text.{Text, text_at, after_run, is_keylike}
+use Rattle.basic_toml_tokens.specs.Text.{Text, text_at, run, after_run, is_keylike}
 use Rattle.basic_toml_tokens.specs.Strings.{is_quote}
 use Rattle.basic_toml_grammar.specs.Grammar.{is_wordlike}
 use Rattle.basic_toml_grammar.specs.Reader.{string_at, word_at, end_of}
@@ -21,7 +22,7 @@ EndsAt bytes at None = end_of (text_at bytes at) ≡ None
 -- whether a string begins at the offset, where no word does then
 abbrev pub BeginsString : List ℕ → ℕ → Bool → Type 0
 BeginsString bytes at true = (at < length bytes) × (is_quote (slice_index bytes at) ≡ true)
-    × (word_at (text_at bytes at) ≡ None)
+    × (word_at (text_at bytes at) ≡ None) × (run is_wordlike (text_at bytes at) ≡ [])
 BeginsString bytes at false = string_at (text_at bytes at) ≡ None
 
 -- after a period or a plus; or neither stands there

@@ -11,3 +11,4 @@ pub mod Gathers
 pub mod Lists
 pub mod SectionsAnswer
 pub mod StopPlaces
+pub mod Explain

@@ -4,7 +4,7 @@ use Rattle.std.specs.Prelude.{Result, Ok, Err, Vec}
 use Rattle.std.specs.Str.{IsCharBoundary}
 use Rattle.std.specs.Cow.{cow_str_bytes}
 use Rattle.std.specs.declared.alloc.Global.{Global}
-use Rattle.basic_toml_tokens.specs.Text.{Text, text_at, folded, after_blanks}
+use Rattle.basic_toml_tokens.specs.Text.{Text, text_at, folded, is_comment, after_blanks}
 use Rattle.basic_toml_read.specs.declared.header.Header.{Header}
 use Rattle.basic_toml_read.specs.declared.header.HeaderKeys.{HeaderKeys}
 use Rattle.basic_toml_read.specs.declared.section.Row as code_rows
@@ -12,6 +12,7 @@ use Rattle.basic_toml_read.specs.declared.section.Section as code_sections
 use Rattle.basic_toml_read.specs.declared.stop.Stop.{Stop}
 use Rattle.basic_toml_read.specs.declared.stop.Why.TheVariants.{Memory, Newline}
 use Rattle.basic_toml_read.specs.declared.values.Gathered.{Gathered}
+use Rattle.basic_toml_grammar.specs.Grammar.{after_gap}
 use Rattle.basic_toml_grammar.specs.Sections.{no_rows, Section}
 use Rattle.basic_toml_grammar.specs.Levels.{rows_level, section_level, highest_level}
 use Rattle.basic_toml_grammar.specs.Reader as reader
@@ -87,6 +88,15 @@ ReadsRows bytes start level old new (Ok next) = AreRowsRead bytes start level ol
 ReadsRows bytes start level old new (Err stop) =
     Misses stop.why (rows_of (text_at bytes start)) (λ r. 128 < rows_level level r.0)
 
+-- nothing but blanks, line feeds and comments
+abbrev pub IsGap : Text → Type 0
+IsGap text = after_gap is_comment text ≡ []
+
+-- in a gap stand no rows, and no header follows
+abbrev pub PassesGaps : List ℕ → ℕ → Gathered → Gathered → Result (Option ℕ) Stop → Type 0
+PassesGaps bytes start old new result = IsGap (text_at bytes start) → (result ≡ Ok None)
+    × (new.rows.items ≡ old.rows.items)
+
 -- the rows before the first header
 abbrev pub root_view : List code_rows.Row → List Section
 root_view [] = []
@@ -96,7 +106,7 @@ abbrev pub TakesRoot : Gathered → Gathered → Vec code_sections.Section Globa
     → Result (Unit {0}) Stop → Type 0
 TakesRoot old new before after (Ok _) = (new.rows.items ≡ [])
     × (map section_of after.items ≡ map section_of before.items ++ root_view old.rows.items)
-TakesRoot old new before after (Err stop) = stop.why ≡ Memory
+TakesRoot old new before after (Err stop) = (stop.why ≡ Memory) × (old.rows.items ≡ [] → ⊥)
 
 -- the sections from a header on
 abbrev pub sections_from : reader.Headed → Option (List Section)

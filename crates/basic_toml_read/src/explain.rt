@@ -1,8 +1,14 @@
 //! What stands where reading stops.
+ghost use Rattle.std.specs.Prelude.{◌≡◌, None, [], codes};
 ghost use Rattle.std.specs.Str.{IsCharBoundary};
-ghost use Rattle.std.specs.Prelude.{◌≡◌};
+ghost use Rattle.basic_toml_tokens.specs.Text.{text_at, folded, run};
+ghost use Rattle.basic_toml_grammar.specs.Faults as kinds;
+ghost use Rattle.basic_toml_grammar.specs.Grammar.{is_wordlike};
+ghost use Rattle.basic_toml_grammar.specs.GrammarFaults.{fault_at, precedes_key};
+ghost use Rattle.basic_toml_grammar.specs.Reader.{key_at, word_at};
 ghost use Rattle.basic_toml_read.specs.StopsAt.{StopsInside};
-ghost use Rattle.basic_toml_read.specs.SectionsAnswer.{Explains, IsGrammarFault};
+ghost use Rattle.basic_toml_read.specs.StopPlaces.{before_value, IsAt, NoValue};
+ghost use Rattle.basic_toml_read.specs.Explain.{end_word, IsWanting, IsDue, Explains, Stops};
 
 use crate::cursor::Cursor;
 use crate::number::number;
@@ -11,7 +17,10 @@ use crate::{ReadError, ReadErrorKind};
 use basic_toml_tokens::{Error, token_at};
 use std::alloc::Global;
 
-fn after_value(end: End) -> &'static str {
+// What is wanted after a value.
+fn after_value(end: End) -> &'static str
+    ensures { result.now ≡ end_word end }
+{
     match end {
         End::Newline => "newline",
         End::Bracket => "a right bracket",
@@ -22,7 +31,7 @@ fn after_value(end: End) -> &'static str {
 // Another thing stands at an offset than what is wanted there.
 fn wanted(alloc: Global, text: &str, at: usize, expected: &'static str) -> ReadError
     requires { IsCharBoundary text.now at }
-    ensures { IsGrammarFault result }
+    ensures { IsWanting text.now at expected.now result }
 {
     match token_at(alloc, text, at) {
         Ok(Some((token, _))) => wanted_at(at, expected, token.describe()),
@@ -32,15 +41,17 @@ fn wanted(alloc: Global, text: &str, at: usize, expected: &'static str) -> ReadE
 }
 
 fn wanted_at(at: usize, expected: &'static str, found: &'static str) -> ReadError
-    ensures { IsGrammarFault result }
+    ensures { result ≡ fault_at (kinds.wanted expected.now found.now) at }
 {
     ReadError::at(at, ReadErrorKind::Wanted { expected, found })
 }
 
 // No key stands at an offset.
 fn no_key(alloc: Global, text: &str, at: usize) -> ReadError
-    requires { IsCharBoundary text.now at }
-    ensures { IsGrammarFault result }
+    requires boundary { IsCharBoundary text.now at }
+    requires before { IsAt (folded text.now) precedes_key (text_at text.now at) }
+    requires none { key_at (text_at text.now at) ≡ None }
+    ensures { IsDue text.now result }
 {
     match Cursor::at(text, at).key(alloc) {
         Ok(_) => wanted(alloc, text, at, "a table key"),
@@ -50,8 +61,10 @@ fn no_key(alloc: Global, text: &str, at: usize) -> ReadError
 
 // No value begins at an offset.
 fn no_value(alloc: Global, text: &str, at: usize) -> ReadError
-    requires { IsCharBoundary text.now at }
-    ensures { IsGrammarFault result }
+    requires boundary { IsCharBoundary text.now at }
+    requires before { IsAt (folded text.now) before_value (text_at text.now at) }
+    requires none { NoValue (text_at text.now at) }
+    ensures { IsDue text.now result }
 {
     if at == text.len() {
         return ReadError::at(at, ReadErrorKind::UnexpectedEof);
@@ -61,8 +74,11 @@ fn no_value(alloc: Global, text: &str, at: usize) -> ReadError
 
 // The word at an offset is no value, and `end` would be wanted after one.
 fn no_word(alloc: Global, text: &str, at: usize, end: End) -> ReadError
-    requires { IsCharBoundary text.now at }
-    ensures { IsGrammarFault result }
+    requires boundary { IsCharBoundary text.now at }
+    requires before { IsAt (folded text.now) before_value (text_at text.now at) }
+    requires none { word_at (text_at text.now at) ≡ None }
+    requires some { run is_wordlike (text_at text.now at) ≡ [] → ⊥ }
+    ensures { IsDue text.now result }
 {
     let mut cursor = Cursor::at(text, at);
     match number(&mut cursor, alloc, after_value(end)) {
@@ -74,8 +90,9 @@ fn no_word(alloc: Global, text: &str, at: usize, end: End) -> ReadError
 /// The error that stands where reading stopped.
 #[cold]
 pub(crate) fn explain(alloc: Global, text: &str, stop: Stop) -> ReadError
-    requires { StopsInside text.now stop }
-    ensures { Explains stop result }
+    requires inside { StopsInside text.now stop }
+    requires stands { Stops text.now stop }
+    ensures { Explains text.now stop result }
 {
     let at = stop.at;
     match stop.why {

@@ -3,6 +3,8 @@ ghost use Rattle.std.specs.Prelude.{IfErr};
 ghost use Rattle.std.specs.Str.{IsCharBoundary};
 ghost use Rattle.basic_toml_read.specs.StopsAt.{StopsInside};
 ghost use Rattle.basic_toml_read.specs.Lists.{ReadsHeaderKeys, ReadsHeader};
+ghost use Rattle.basic_toml_read.specs.StopPlaces.{StandsFrom, HeaderStands};
+ghost use Rattle.basic_toml_grammar.specs.GrammarFaults.{precedes_key};
 
 use crate::front::after_blanks;
 use crate::scalar::key_at;
@@ -35,6 +37,7 @@ fn header_keys<'de>(alloc: Global, text: &'de str, at: usize) -> Result<HeaderKe
     requires { IsCharBoundary text.now at }
     ensures read { ReadsHeaderKeys text.now at result }
     ensures inside { IfErr result (λ stop. StopsInside text.now stop) }
+    ensures stands { StandsFrom precedes_key text.now at result }
 {
     let mut keys = Vec::new(alloc);
     let mut offsets = Vec::new(alloc);
@@ -61,6 +64,7 @@ pub(crate) fn header_at<'de>(alloc: Global, text: &'de str, at: usize) -> Result
     requires { IsCharBoundary text.now at }
     ensures read { ReadsHeader text.now at result }
     ensures inside { IfErr result (λ stop. StopsInside text.now stop) }
+    ensures stands { HeaderStands text.now at result }
 {
     let inner = closed(text, at, b'[', Why::Newline)?;
     match after_punctuation(text, inner, b'[') {

@@ -1,9 +1,11 @@
 //! From a text to its section list.
 ghost use Rattle.std.specs.Prelude.{IfErr, ◌≡◌, ◌≤◌, []};
 ghost use Rattle.std.specs.Str.{IsCharBoundary};
+ghost use Rattle.basic_toml_tokens.specs.Text.{folded};
 ghost use Rattle.basic_toml_read.specs.StopsAt.{StopsInside};
-ghost use Rattle.basic_toml_read.specs.SectionsAnswer.{AnswersSections};
-ghost use Rattle.basic_toml_read.specs.Lists.{EndsLineAt, ReadsRows, TakesRoot, ReadsSection, ReadsList};
+ghost use Rattle.basic_toml_read.specs.StopPlaces.{after_value, IfStops, StandsFrom, HeaderStands, LinesStand};
+ghost use Rattle.basic_toml_read.specs.SectionsAnswer.{AnswersSections, HoldsMore};
+ghost use Rattle.basic_toml_read.specs.Lists.{EndsLineAt, ReadsRows, PassesGaps, TakesRoot, ReadsSection, ReadsList};
 
 use crate::ReadError;
 use crate::explain::explain;
@@ -20,6 +22,7 @@ fn next_line(text: &str, at: usize) -> Result<usize, Stop>
     requires { IsCharBoundary text.now at }
     ensures read { EndsLineAt text.now at result }
     ensures inside { IfErr result (λ stop. StopsInside text.now stop) }
+    ensures stands { StandsFrom after_value text.now at result }
 {
     let end = end_of_line(text, at);
     match after_line(text, end) {
@@ -39,6 +42,8 @@ impl<'de> Gathered<'de> {
         requires level { level ≤ 128 }
         ensures read { ReadsRows text.now start level self.old self.new result }
         ensures inside { IfErr result (λ stop. StopsInside text.now stop) }
+        ensures stands { LinesStand text.now start result }
+        ensures gaps { PassesGaps text.now start self.old self.new result }
     {
         let mut at = start;
         while at < text.len() {
@@ -89,6 +94,7 @@ impl<'de> Gathered<'de> {
         requires none { self.old.rows.items ≡ [] }
         ensures read { ReadsSection text.now at self.new sections.old sections.new result }
         ensures inside { IfErr result (λ stop. StopsInside text.now stop) }
+        ensures stands { HeaderStands text.now at result }
     {
         let header = header_at(self.alloc, text, at)?;
         let line = next_line(text, header.end)?;
@@ -109,6 +115,8 @@ impl<'de> Gathered<'de> {
 pub(crate) fn list<'de>(alloc: Global, text: &'de str) -> Result<Vec<Section<'de>>, Stop>
     ensures read { ReadsList text.now result }
     ensures inside { IfErr result (λ stop. StopsInside text.now stop) }
+    ensures stands { IfStops (folded text.now) text.now result }
+    ensures more { IfErr result (λ _. HoldsMore (folded text.now)) }
 {
     let mut gathered = Gathered {
         alloc,

@@ -2,6 +2,8 @@
 ghost use Rattle.std.specs.Prelude.{IfErr, ◌≡◌, ◌≤◌, true, length, drop, take, IfOk};
 ghost use Rattle.std.specs.Str.{IsCharBoundary};
 ghost use Rattle.basic_toml_read.specs.StopsAt.{StopsInside};
+ghost use Rattle.basic_toml_read.specs.StopPlaces.{StandsFrom, before_value};
+ghost use Rattle.basic_toml_grammar.specs.GrammarFaults.{precedes_key};
 ghost use Rattle.basic_toml_tokens.specs.Punctuation.{is_lone};
 ghost use Rattle.basic_toml_read.specs.Gathers.{RaisesTo, ClosesAt, ReadsKeys, ReadsRow, ReadsValue, ReadsElements, ReadsArray, ReadsFields, ReadsInline};
 
@@ -73,6 +75,7 @@ impl<'de> Gathered<'de> {
         requires level { first ≤ 128 }
         ensures read { ReadsKeys text.now at first self.old self.new result }
         ensures inside { IfErr result (λ stop. StopsInside text.now stop) }
+        ensures stands { StandsFrom precedes_key text.now at result }
     {
         let mut offset = at;
         let mut level = first;
@@ -117,6 +120,7 @@ impl<'de> Gathered<'de> {
         requires level { level ≤ 128 }
         ensures read { ReadsRow text.now at level self.old self.new result }
         ensures inside { IfErr result (λ stop. StopsInside text.now stop) }
+        ensures stands { StandsFrom precedes_key text.now at result }
     {
         let last = self.keys(text, at, level)?;
         let Some(next) = after_punctuation(text, last.end, b'=') else {
@@ -148,6 +152,7 @@ impl<'de> Gathered<'de> {
         requires level { level ≤ 128 }
         ensures read { ReadsValue text.now at level self.old self.new result }
         ensures inside { IfErr result (λ stop. StopsInside text.now stop) }
+        ensures stands { StandsFrom before_value text.now at result }
     {
         if let Some(next) = after_punctuation(text, at, b'[') {
             return self.array(text, at, next, level + 1);
@@ -175,6 +180,7 @@ impl<'de> Gathered<'de> {
         requires level { level ≤ 129 }
         ensures read { ReadsArray text.now offset at level self.old self.new result }
         ensures inside { IfErr result (λ stop. StopsInside text.now stop) }
+        ensures stands { StandsFrom before_value text.now at result }
     {
         raise(level, offset)?;
         let from = self.elements.len();
@@ -193,6 +199,7 @@ impl<'de> Gathered<'de> {
         requires level { level ≤ 128 }
         ensures read { ReadsElements text.now start level self.old self.new result }
         ensures inside { IfErr result (λ stop. StopsInside text.now stop) }
+        ensures stands { StandsFrom before_value text.now start result }
     {
         let mut at = start;
         loop {
@@ -226,6 +233,7 @@ impl<'de> Gathered<'de> {
         requires level { level ≤ 129 }
         ensures read { ReadsInline text.now offset at level self.old self.new result }
         ensures inside { IfErr result (λ stop. StopsInside text.now stop) }
+        ensures stands { StandsFrom precedes_key text.now at result }
     {
         raise(level, offset)?;
         let from = self.rows.len();
@@ -244,6 +252,7 @@ impl<'de> Gathered<'de> {
         requires level { level ≤ 128 }
         ensures read { ReadsFields text.now start level self.old self.new result }
         ensures inside { IfErr result (λ stop. StopsInside text.now stop) }
+        ensures stands { StandsFrom precedes_key text.now start result }
     {
         if let Some(end) = after_punctuation(text, start, b'}') {
             return Ok(end);

@@ -1,5 +1,14 @@
-use Rattle.basic_toml_read.proofs.Explained.{by_word}
+use Rattle.basic_toml_read.proofs.Explained.{word_due, period_due}
 use Rattle.basic_toml_read.proofs.explain.no_word.Goals as goal
 
+pub returns-in-Ok : goal.returns-in-Ok
+returns-in-Ok c =
+    period_due c.args.text.now c.args.at c.utf8.text c.requires.boundary c.after_value.result.now c.at-cursor.result
+    c.number.new.cursor c.in-Ok.field-0 c.wanted.result c.at-cursor.ensures c.in-Ok.ensures c.requires.before
+    c.requires.none c.requires.some c.wanted.ensures
+
 pub returns : goal.returns
-returns c = by_word c.after_value.result.now c.at-cursor.result c.number.new.cursor c.in-Err.error c.in-Err.ensures
+returns c =
+    word_due c.args.text.now c.args.at c.utf8.text c.requires.boundary c.args.end c.after_value.result.now
+    c.at-cursor.result c.number.new.cursor c.in-Err.error c.at-cursor.ensures c.after_value.ensures
+    c.requires.before c.in-Err.ensures

@@ -5,6 +5,9 @@ use Rattle.basic_toml_read.specs.Lists.{ReadsHeader}
 use Rattle.basic_toml_read.proofs.KeysTold.{stopped}
 use Rattle.basic_toml_read.proofs.HeadersRead.{no_bracket, one_missing, one_unclosed, one_closed, two_missing}
 use Rattle.basic_toml_read.proofs.HeadersRead.{two_unclosed, two_half_closed, two_closed}
+use Rattle.basic_toml_read.proofs.Carried.{then_on}
+use Rattle.basic_toml_read.proofs.StopsStand.{header_stop, no_bracket_there, to_keys, to_array_keys, after_header_keys}
+use Rattle.basic_toml_read.proofs.StopsStand.{after_bracket}
 use Rattle.basic_toml_read.proofs.header.header_at.Goals as goal
 
 pub returns-in_err-inner-clause-read : goal.returns-in_err-inner-clause-read
@@ -81,3 +84,53 @@ returns-in_ok-end-in-Some-clause-read c =
     c.in-Some.first c.in-Some.ensures c.after_blanks-in-Some.result c.after_blanks-in-Some.ensures
     k.field-0 k.ensures.read c.in_ok-last-in-Some.last c.in_ok-last-in-Some.ensures.read
     c.in_ok-end-in-Some.end c.in_ok-end-in-Some.ensures.read
+
+-- the stop of a header
+pub returns-in_err-keys-in-None-clause-stands : goal.returns-in_err-keys-in-None-clause-stands
+returns-in_err-keys-in-None-clause-stands c =
+    header_stop c.args.text.now c.args.at c.after_blanks.result c.in_err-keys-in-None.field-0.0
+    c.from_residual-in_err-keys-in-None.result c.from_residual-in_err-keys-in-None.ensures.1
+    (to_keys c.args.text.now c.args.at c.in_ok-inner.inner c.in_ok-inner.ensures.read.0 c.after_blanks.result
+    c.after_blanks.ensures) c.in_err-keys-in-None.ensures.stands
+
+pub returns-in_err-end-in-None-clause-stands : goal.returns-in_err-end-in-None-clause-stands
+returns-in_err-end-in-None-clause-stands c =
+    let k = c.in_ok-keys-in-None in
+    let stop = c.in_err-end-in-None.field-0.0 in
+    header_stop c.args.text.now c.args.at k.field-0.end stop c.from_residual-in_err-end-in-None.result
+    c.from_residual-in_err-end-in-None.ensures.1
+    (then_on (to_keys c.args.text.now c.args.at c.in_ok-inner.inner c.in_ok-inner.ensures.read.0
+    c.after_blanks.result c.after_blanks.ensures)
+    (after_header_keys c.args.text.now c.after_blanks.result k.field-0 k.ensures.read))
+    (no_bracket_there c.args.text.now k.field-0.end stop c.in_err-end-in-None.ensures.read)
+
+pub returns-in_err-keys-in-Some-clause-stands : goal.returns-in_err-keys-in-Some-clause-stands
+returns-in_err-keys-in-Some-clause-stands c =
+    header_stop c.args.text.now c.args.at c.after_blanks-in-Some.result c.in_err-keys-in-Some.field-0.0
+    c.from_residual-in_err-keys-in-Some.result c.from_residual-in_err-keys-in-Some.ensures.1
+    (to_array_keys c.args.text.now c.args.at c.in_ok-inner.inner c.in_ok-inner.ensures.read.0 c.in-Some.first
+    c.in-Some.ensures c.after_blanks-in-Some.result c.after_blanks-in-Some.ensures) c.in_err-keys-in-Some.ensures.stands
+
+pub returns-in_err-last-in-Some-clause-stands : goal.returns-in_err-last-in-Some-clause-stands
+returns-in_err-last-in-Some-clause-stands c =
+    let k = c.in_ok-keys-in-Some in
+    let stop = c.in_err-last-in-Some.field-0.0 in
+    header_stop c.args.text.now c.args.at k.field-0.end stop c.from_residual-in_err-last-in-Some.result
+    c.from_residual-in_err-last-in-Some.ensures.1
+    (then_on (to_array_keys c.args.text.now c.args.at c.in_ok-inner.inner c.in_ok-inner.ensures.read.0
+    c.in-Some.first c.in-Some.ensures c.after_blanks-in-Some.result c.after_blanks-in-Some.ensures)
+    (after_header_keys c.args.text.now c.after_blanks-in-Some.result k.field-0 k.ensures.read))
+    (no_bracket_there c.args.text.now k.field-0.end stop c.in_err-last-in-Some.ensures.read)
+
+pub returns-in_err-end-in-Some-clause-stands : goal.returns-in_err-end-in-Some-clause-stands
+returns-in_err-end-in-Some-clause-stands c =
+    let k = c.in_ok-keys-in-Some in
+    let stop = c.in_err-end-in-Some.field-0.0 in
+    let last = c.in_ok-last-in-Some in
+    header_stop c.args.text.now c.args.at last.last stop c.from_residual-in_err-end-in-Some.result
+    c.from_residual-in_err-end-in-Some.ensures.1
+    (then_on (to_array_keys c.args.text.now c.args.at c.in_ok-inner.inner c.in_ok-inner.ensures.read.0
+    c.in-Some.first c.in-Some.ensures c.after_blanks-in-Some.result c.after_blanks-in-Some.ensures)
+    (then_on (after_header_keys c.args.text.now c.after_blanks-in-Some.result k.field-0 k.ensures.read)
+    (after_bracket c.args.text.now k.field-0.end last.last last.ensures.read)))
+    (no_bracket_there c.args.text.now last.last stop c.in_err-end-in-Some.ensures.read)

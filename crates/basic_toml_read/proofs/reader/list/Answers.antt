@@ -1,8 +1,12 @@
-use Rattle.std.proofs.Common.{ℕ, Option, subst}
+use Rattle.std.proofs.Common.{ℕ, Option, subst, ◌∙◌}
 use Rattle.basic_toml_read.specs.Lists.{ReadsList}
 use Rattle.basic_toml_read.proofs.KeysTold.{stopped}
 use Rattle.basic_toml_read.proofs.ListsRead.{ListSoFar, root_missing, root_there, list_more, list_missing, falls}
 use Rattle.basic_toml_read.proofs.ListsRead.{list_over}
+use Rattle.basic_toml_tokens.specs.Text.{folded}
+use Rattle.basic_toml_read.proofs.StopsStand.{list_stop}
+use Rattle.basic_toml_read.proofs.ListsRead.{list_begins, gap_stopped, gap_passed, if_err, some_none}
+use Rattle.basic_toml_read.specs.SectionsAnswer.{HoldsMore}
 use Rattle.basic_toml_read.proofs.reader.list.Goals as goal
 
 pub returns-in_err-bracket-clause-read : goal.returns-in_err-bracket-clause-read
@@ -17,7 +21,7 @@ loop-bracket-init c =
     (record { alloc = c.args.alloc; elements = c.new.result; rows = c.new-2.result }) c.rows.new.self
     c.root.new.self c.in_ok-bracket.bracket
     c.new-sections.result c.root.new.sections c.new-2.ensures.items c.in_ok-bracket.ensures.read
-    c.new-sections.ensures.items c.in_ok-root.ensures
+    c.in_ok-bracket.ensures.gaps c.new-sections.ensures.items c.in_ok-root.ensures
 
 pub returns-in_err-bracket-2-clause-read : goal.returns-in_err-bracket-2-clause-read
 returns-in_err-bracket-2-clause-read c =
@@ -48,3 +52,40 @@ returns-clause-read c =
     list_over c.args.text.now c.loop-bracket.gathered c.loop-bracket.sections
     (subst (λ (o : Option ℕ). ListSoFar c.args.text.now o c.loop-bracket.gathered c.loop-bracket.sections.items)
     c.in_default.is c.loop-bracket.invariant)
+
+-- the stops
+pub returns-in_err-bracket-clause-stands : goal.returns-in_err-bracket-clause-stands
+returns-in_err-bracket-clause-stands c =
+    list_stop (folded c.args.text.now) c.args.text.now c.in_err-bracket.field-0.0 c.from_residual.result
+    c.from_residual.ensures.1
+    (c.in_err-bracket.ensures.stands (folded c.args.text.now)
+    (list_begins c.args.text.now c.start.result c.start.ensures.offset))
+
+pub returns-in_err-bracket-2-clause-stands : goal.returns-in_err-bracket-2-clause-stands
+returns-in_err-bracket-2-clause-stands c =
+    let s = subst (λ (o : Option ℕ). ListSoFar c.args.text.now o c.loop-bracket.gathered
+    c.loop-bracket.sections.items) c.in-Some.is c.loop-bracket.invariant in
+    list_stop (folded c.args.text.now) c.args.text.now c.in_err-bracket-2.field-0.0
+    c.from_residual-in_err-bracket-2.result c.from_residual-in_err-bracket-2.ensures.1
+    (c.in_err-bracket-2.ensures.stands s.reached.1 (folded c.args.text.now) s.reached.0)
+
+-- gaps
+pub returns-in_err-bracket-clause-more : goal.returns-in_err-bracket-clause-more
+returns-in_err-bracket-clause-more c =
+    if_err (HoldsMore (folded c.args.text.now)) c.from_residual.result
+    (gap_stopped c.args.text.now c.start.result c.start.ensures.offset
+    (record { alloc = c.args.alloc; elements = c.new.result; rows = c.new-2.result }) c.rows.new.self
+    c.in_err-bracket.field-0.0 c.in_err-bracket.ensures.gaps)
+
+pub returns-in_err-root-clause-more : goal.returns-in_err-root-clause-more
+returns-in_err-root-clause-more c =
+    if_err (HoldsMore (folded c.args.text.now)) c.from_residual-in_err-root.result
+    (λ g. c.in_err-root.ensures.1 ((gap_passed c.args.text.now c.start.result c.start.ensures.offset
+    (record { alloc = c.args.alloc; elements = c.new.result; rows = c.new-2.result }) c.rows.new.self c.in_ok-bracket.bracket c.in_ok-bracket.ensures.gaps g).1 ∙ c.new-2.ensures.items))
+
+pub returns-in_err-bracket-2-clause-more : goal.returns-in_err-bracket-2-clause-more
+returns-in_err-bracket-2-clause-more c =
+    let s = subst (λ (o : Option ℕ). ListSoFar c.args.text.now o c.loop-bracket.gathered
+    c.loop-bracket.sections.items) c.in-Some.is c.loop-bracket.invariant in
+    if_err (HoldsMore (folded c.args.text.now)) c.from_residual-in_err-bracket-2.result
+    (λ g. some_none c.in-Some.at (s.gaps g))

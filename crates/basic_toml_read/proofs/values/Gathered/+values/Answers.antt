@@ -1,5 +1,7 @@
-use Rattle.std.proofs.Common.{◌≡◌, ℕ, length, drop, take, ap, ◌∙◌, arith, refl}
+use Rattle.std.proofs.Common.{◌≡◌, ℕ, length, drop, take, ap, ◌∙◌, arith, refl, Err}
 use Rattle.basic_toml_tokens.specs.Text.{text_at}
+use Rattle.basic_toml_tokens.specs.TokenAt.{left_bracket, left_brace}
+use Rattle.basic_toml_read.specs.declared.stop.Why.TheVariants.{Equals}
 use Rattle.basic_toml_read.specs.Gathers.{ReadsRow, ReadsElements, ReadsFields}
 use Rattle.basic_toml_read.proofs.KeysTold.{stopped}
 use Rattle.basic_toml_read.proofs.ElementsGathered.{elements_start, elements_end, elements_missing, elements_more}
@@ -8,6 +10,13 @@ use Rattle.basic_toml_read.proofs.FieldsGathered.{fields_start, fields_none, fie
 use Rattle.basic_toml_read.proofs.ValuesGathered.{keys_missed, no_equals, value_missing, row_there, array_value}
 use Rattle.basic_toml_read.proofs.ValuesGathered.{inline_value, string_value, word_value_here, array_whole}
 use Rattle.basic_toml_read.proofs.ValuesGathered.{inline_whole}
+use Rattle.basic_toml_grammar.specs.GrammarFaults.{precedes_key, precedes_value}
+use Rattle.basic_toml_read.specs.StopPlaces.{before_value}
+use Rattle.basic_toml_read.proofs.Carried.{then_on}
+use Rattle.basic_toml_read.proofs.LeftAfter.{sign_there}
+use Rattle.basic_toml_read.proofs.StopsStand.{result_on, stop_on, over_a_sign, over_the_blanks, over_the_gap}
+use Rattle.basic_toml_read.proofs.StopsStand.{bracket_or_stop, brace_or_stop, after_last_key, no_equals_there}
+use Rattle.basic_toml_read.proofs.StopsStand.{after_equals, string_stops, word_stops, after_element, after_field}
 use Rattle.basic_toml_read.proofs.values.Gathered.+values.Goals as goal
 
 pub elements-loop-end-init : goal.elements-loop-end-init
@@ -155,3 +164,85 @@ inline-returns-clause-read t c =
     c.in_ok-raise.ensures c.after_blanks.ensures c.in_ok-end.ensures.read
     (c.in_ok-taken.ensures.0 ∙ ap (λ (n : ℕ). drop n g.rows.items) counted) (c.in_ok-taken.ensures.1 ∙
     ap (λ (n : ℕ). take n g.rows.items) counted) refl
+
+-- the stops
+pub elements-returns-in_err-valued-clause-stands : goal.elements-returns-in_err-valued-clause-stands
+elements-returns-in_err-valued-clause-stands t c =
+    stop_on c.args.text.now c.args.start c.loop-end.at c.in_err-valued.field-0.0 c.from_residual.result
+    c.from_residual.ensures.1 c.loop-end.invariant.carries c.in_err-valued.ensures.stands
+
+pub elements-returns-in_default-after_punctuation-clause-stands : goal.elements-returns-in_default-after_punctuation-clause-stands
+elements-returns-in_default-after_punctuation-clause-stands t c =
+    result_on c.args.text.now c.args.start c.after_gap-after.result c.closed.result
+    (then_on c.loop-end.invariant.carries
+    (after_element c.args.text.now c.loop-end.at c.args.level c.loop-end.self c.value.new.self c.in_ok-valued.valued
+    c.in_ok-valued.ensures.read c.after_gap-after.result c.after_gap-after.ensures))
+    (bracket_or_stop c.args.text.now c.after_gap-after.result c.closed.result c.closed.ensures.read)
+
+pub fields-returns-in_err-row-clause-stands : goal.fields-returns-in_err-row-clause-stands
+fields-returns-in_err-row-clause-stands t c =
+    stop_on c.args.text.now c.args.start c.loop-after.at c.in_err-row.field-0.0 c.from_residual.result
+    c.from_residual.ensures.1 c.loop-after.invariant.carries c.in_err-row.ensures.stands
+
+pub fields-returns-in_default-after_punctuation-clause-stands : goal.fields-returns-in_default-after_punctuation-clause-stands
+fields-returns-in_default-after_punctuation-clause-stands t c =
+    result_on c.args.text.now c.args.start c.after_blanks-after.result c.closed.result
+    (then_on c.loop-after.invariant.carries
+    (after_field c.args.text.now c.loop-after.at c.args.level c.loop-after.self c.row.new.self c.in_ok-row.field-0
+    c.in_ok-row.ensures.read c.after_blanks-after.result c.after_blanks-after.ensures))
+    (brace_or_stop c.args.text.now c.after_blanks-after.result c.closed.result c.in_default-after_punctuation.ensures
+    c.closed.ensures.read)
+
+pub row-returns-in_default-clause-stands : goal.row-returns-in_default-clause-stands
+row-returns-in_default-clause-stands t c =
+    let k = c.in_ok-last in
+    result_on {A = ℕ} c.args.text.now c.args.at k.last.end (Err (record { at = k.last.end; why = Equals }))
+    (after_last_key c.args.text.now c.args.at c.args.level c.args.self.now c.keys.new.self k.last k.ensures.read)
+    (no_equals_there c.args.text.now k.last.end c.in_default.ensures)
+
+pub row-returns-in_err-valued-clause-stands : goal.row-returns-in_err-valued-clause-stands
+row-returns-in_err-valued-clause-stands t c =
+    let k = c.in_ok-last in
+    stop_on c.args.text.now c.args.at c.after_blanks.result c.in_err-valued.field-0.0
+    c.from_residual-in_err-valued.result c.from_residual-in_err-valued.ensures.1
+    (then_on
+    (after_last_key c.args.text.now c.args.at c.args.level c.args.self.now c.keys.new.self k.last k.ensures.read)
+    (after_equals c.args.text.now k.last.end c.in-Some.next c.after_blanks.result c.in-Some.ensures
+    c.after_blanks.ensures)) c.in_err-valued.ensures.stands
+
+pub value-returns-in-Some-clause-stands : goal.value-returns-in-Some-clause-stands
+value-returns-in-Some-clause-stands t c =
+    result_on c.args.text.now c.args.at c.in-Some.next c.array.result
+    (over_a_sign before_value c.args.text.now c.args.at c.in-Some.next 91 left_bracket (sign_there c.in-Some.ensures.0)
+    refl refl refl) c.array.ensures.stands
+
+pub value-returns-in-Some-after_punctuation-clause-stands : goal.value-returns-in-Some-after_punctuation-clause-stands
+value-returns-in-Some-after_punctuation-clause-stands t c =
+    let s = c.in-Some-after_punctuation in
+    result_on c.args.text.now c.args.at s.next c.inline.result
+    (over_a_sign precedes_key c.args.text.now c.args.at s.next 123 left_brace (sign_there s.ensures.0) refl refl refl)
+    c.inline.ensures.stands
+
+pub value-returns-then-begins_string-clause-stands : goal.value-returns-then-begins_string-clause-stands
+value-returns-then-begins_string-clause-stands t c =
+    string_stops c.args.text.now c.args.at c.in_default.ensures c.in_default-after_punctuation.ensures
+    c.string_value_at.result c.if-begins_string.ensures.3 c.string_value_at.ensures.read
+
+pub value-returns-clause-stands : goal.value-returns-clause-stands
+value-returns-clause-stands t c =
+    word_stops c.args.text.now c.args.at c.in_default.ensures c.in_default-after_punctuation.ensures c.word_at.result
+    c.if-begins_string.ensures c.word_at.ensures.read
+
+pub array-returns-in_err-end-clause-stands : goal.array-returns-in_err-end-clause-stands
+array-returns-in_err-end-clause-stands t c =
+    stop_on c.args.text.now c.args.at c.after_gap.result c.in_err-end.field-0.0 c.from_residual-in_err-end.result
+    c.from_residual-in_err-end.ensures.1
+    (over_the_gap precedes_value c.args.text.now c.args.at c.after_gap.result c.after_gap.ensures)
+    c.in_err-end.ensures.stands
+
+pub inline-returns-in_err-end-clause-stands : goal.inline-returns-in_err-end-clause-stands
+inline-returns-in_err-end-clause-stands t c =
+    stop_on c.args.text.now c.args.at c.after_blanks.result c.in_err-end.field-0.0 c.from_residual-in_err-end.result
+    c.from_residual-in_err-end.ensures.1
+    (over_the_blanks c.args.text.now c.args.at c.after_blanks.result c.after_blanks.ensures)
+    c.in_err-end.ensures.stands

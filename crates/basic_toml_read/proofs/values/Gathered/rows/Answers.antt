@@ -3,6 +3,8 @@ use Rattle.basic_toml_read.specs.Lists.{ReadsRows}
 use Rattle.basic_toml_read.proofs.KeysTold.{stopped}
 use Rattle.basic_toml_read.proofs.RowsRead.{rows_start, rows_over, rows_bracket, rows_empty, rows_missing}
 use Rattle.basic_toml_read.proofs.RowsRead.{rows_unended, rows_more, line_later, some_line, sign_stands, sign_lacks}
+use Rattle.basic_toml_read.proofs.StopsStand.{line_stop_on}
+use Rattle.basic_toml_read.proofs.RowsRead.{row_begins, row_ended, bracket_no_gap, rows_no_gap}
 use Rattle.basic_toml_read.proofs.values.Gathered.rows.Goals as goal
 
 pub loop-at-init : goal.loop-at-init
@@ -71,3 +73,55 @@ loop-at-preserved c =
 pub returns-clause-read : goal.returns-clause-read
 returns-clause-read c = rows_over c.args.text.now c.args.start c.args.level c.loop-at.at c.args.self.now
     c.loop-at.self c.loop-at.invariant (omega (arith, c.loop-at-test.false))
+
+-- gaps
+pub returns-then-is_some-clause-gaps : goal.returns-then-is_some-clause-gaps
+returns-then-is_some-clause-gaps c =
+    let i = c.loop-at.invariant in
+    let l = some_line c.args.text.now c.loop-at.at c.utf8.text i.boundary c.loop-at-test.true in
+    let s = sign_stands 91 c.args.text.now c.after_blanks-front.result c.after_punctuation.result c.after_punctuation.ensures
+    c.if-is_some.ensures in
+    λ g. absurd (bracket_no_gap c.args.text.now c.args.start c.args.level c.loop-at.at c.args.self.now c.loop-at.self
+    i l.0 l.1 l.2 c.after_blanks-front.result c.after_blanks-front.ensures s.0 s.1 g)
+
+pub returns-in_err-end-in-None-clause-gaps : goal.returns-in_err-end-in-None-clause-gaps
+returns-in_err-end-in-None-clause-gaps c =
+    let i = c.loop-at.invariant in
+    let l = some_line c.args.text.now c.loop-at.at c.utf8.text i.boundary c.loop-at-test.true in
+    let s = sign_lacks 91 c.args.text.now c.after_blanks-front.result c.after_punctuation.result c.after_punctuation.ensures
+    c.if-is_some.ensures in
+    λ g. absurd (rows_no_gap c.args.text.now c.args.start c.args.level c.loop-at.at c.args.self.now c.loop-at.self
+    i l.0 l.1 l.2 c.after_blanks-front.result c.after_blanks-front.ensures s c.after_comment-end.result
+    c.after_comment-end.ensures c.in-None.ensures g)
+
+pub returns-in_err-at-in-None-clause-gaps : goal.returns-in_err-at-in-None-clause-gaps
+returns-in_err-at-in-None-clause-gaps c =
+    let i = c.loop-at.invariant in
+    let l = some_line c.args.text.now c.loop-at.at c.utf8.text i.boundary c.loop-at-test.true in
+    let s = sign_lacks 91 c.args.text.now c.after_blanks-front.result c.after_punctuation.result c.after_punctuation.ensures
+    c.if-is_some.ensures in
+    λ g. absurd (rows_no_gap c.args.text.now c.args.start c.args.level c.loop-at.at c.args.self.now c.loop-at.self
+    i l.0 l.1 l.2 c.after_blanks-front.result c.after_blanks-front.ensures s c.after_comment-end.result
+    c.after_comment-end.ensures c.in-None.ensures g)
+
+-- the stops
+pub returns-in_err-end-in-None-clause-stands : goal.returns-in_err-end-in-None-clause-stands
+returns-in_err-end-in-None-clause-stands c =
+    let i = c.loop-at.invariant in
+    let l = some_line c.args.text.now c.loop-at.at c.utf8.text i.boundary c.loop-at-test.true in
+    line_stop_on c.args.text.now c.args.start c.after_blanks-front.result c.in_err-end-in-None.field-0.0
+    c.from_residual.result c.from_residual.ensures.1
+    (row_begins c.args.text.now c.args.start c.args.level c.loop-at.at c.args.self.now c.loop-at.self i l.0 l.1 l.2
+    c.after_blanks-front.result c.after_blanks-front.ensures)
+    c.in_err-end-in-None.ensures.stands
+
+pub returns-in_err-at-in-None-clause-stands : goal.returns-in_err-at-in-None-clause-stands
+returns-in_err-at-in-None-clause-stands c =
+    let i = c.loop-at.invariant in
+    let l = some_line c.args.text.now c.loop-at.at c.utf8.text i.boundary c.loop-at-test.true in
+    line_stop_on c.args.text.now c.args.start c.in_ok-end-in-None.end c.in_err-at-in-None.field-0.0
+    c.from_residual-in_err-at-in-None.result c.from_residual-in_err-at-in-None.ensures.1
+    (row_ended c.args.text.now c.args.start c.args.level c.loop-at.at c.args.self.now c.loop-at.self i l.0 l.1 l.2
+    c.after_blanks-front.result c.after_blanks-front.ensures c.row.new.self c.in_ok-end-in-None.end
+    c.in_ok-end-in-None.ensures.read)
+    c.in_err-at-in-None.ensures.stands

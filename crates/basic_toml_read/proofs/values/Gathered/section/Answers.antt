@@ -6,6 +6,8 @@ use Rattle.basic_toml_read.specs.StopsAt.{Misses}
 use Rattle.basic_toml_read.specs.Lists.{AreRowsRead, ReadsSection}
 use Rattle.basic_toml_read.proofs.KeysTold.{stopped}
 use Rattle.basic_toml_read.proofs.ListsRead.{rows_missing, section_there}
+use Rattle.basic_toml_read.proofs.StopsStand.{header_result}
+use Rattle.basic_toml_read.proofs.ListsRead.{header_ended, line_begins}
 use Rattle.basic_toml_read.proofs.values.Gathered.section.Goals as goal
 
 pub returns-in_err-next-clause-read : goal.returns-in_err-next-clause-read
@@ -30,3 +32,21 @@ returns-clause-read c =
     (subst (λ (n : ℕ). AreRowsRead c.args.text.now c.in_ok-line.line (n + 1) c.args.self.now mid c.in_ok-next.next)
     counted c.in_ok-next.ensures.read)
     c.in_ok-rows.ensures.0 c.in_ok-rows.ensures.1 c.in_ok-push.ensures.items
+
+-- the stops
+pub returns-in_err-line-clause-stands : goal.returns-in_err-line-clause-stands
+returns-in_err-line-clause-stands c =
+    let h = c.in_ok-header.header in
+    header_result c.args.text.now c.args.at c.in_err-line.field-0.0 c.from_residual-in_err-line.result
+    c.from_residual-in_err-line.ensures.1
+    (λ start a. c.in_err-line.ensures.stands start
+    (header_ended c.args.text.now c.args.at h c.in_ok-header.ensures.read start a))
+
+pub returns-in_err-next-clause-stands : goal.returns-in_err-next-clause-stands
+returns-in_err-next-clause-stands c =
+    let h = c.in_ok-header.header in
+    header_result c.args.text.now c.args.at c.in_err-next.field-0.0 c.from_residual-in_err-next.result
+    c.from_residual-in_err-next.ensures.1
+    (λ start a. c.in_err-next.ensures.stands start
+    (line_begins c.args.text.now c.args.at h c.in_ok-header.ensures.read c.in_ok-line.line c.in_ok-line.ensures.read
+    start a))
