@@ -6,7 +6,6 @@ use Rattle.std.specs.declared.alloc.Global.{Global}
 use Rattle.basic_toml_emit.specs.Error.{IsCustom}
 use Rattle.basic_toml_emit.specs.declared.error.WriteError.{WriteError}
 use Rattle.basic_toml_write.proofs.OutcomeIsLayout.{outcome-layout}
-use Rattle.basic_toml.specs.Calls.{outcome}
 use Rattle.basic_toml.specs.Fault.{Fault, want_of_memory, without_offset, unsupported_type}
 use Rattle.basic_toml.specs.Items.{Item, a_scalar}
 use Rattle.basic_toml.specs.Layout.{layout}

@@ -28,7 +28,8 @@ returns-in_err-serialize_field g c =
 pub loop-name-preserved : goal.loop-name-preserved
 loop-name-preserved g c = record {
   sent = parts_yield open_table (λ p. field (string_bytes p.0))
-      (λ p. g.V.Serialize.calls p.1) (λ p. g.V.Serialize.gives_up p.1) deref_pair c.loop-name.yielded (c.in-Some.name, c.in-Some.value) c.args.ser.now c.loop-name.ser
+      (λ p. g.V.Serialize.calls p.1) (λ p. g.V.Serialize.gives_up p.1) deref_pair c.loop-name.yielded
+      (c.in-Some.name, c.in-Some.value) c.args.ser.now c.loop-name.ser
       c.serialize_field.new.self c.loop-name.invariant.sent
       (rw c.as_str.ensures.value at c.in_ok-serialize_field.ensures);
   left = yields_next deref_pair c.args.self.now.entries c.loop-name.yielded c.loop-name.name-iterator c.next.new.self
