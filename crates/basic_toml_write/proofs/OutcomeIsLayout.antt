@@ -1,4 +1,5 @@
--- A list of items comes to a text exactly where it spells a written value without an unsupported shape, and the text is its layout.
+-- A list of items comes to a text exactly where it spells a written value without an unsupported shape, and the text
+-- is its layout.
 use Rattle.std.proofs.Common.{◌≡◌, ℕ, List, [], ◌∷◌, sym, ◌∙◌, ap, Bool, true, false, Result, Ok, Err}
 use Rattle.basic_toml_emit.specs.Written.{Written}
 use Rattle.basic_toml_emit.specs.Items.{Item}

@@ -1,4 +1,5 @@
--- The items that values of the library spell: scalars one, lists and maps those of their parts, and a tree of data those of its shape.
+-- The items that values of the library spell: scalars one, lists and maps those of their parts, and a tree of data
+-- those of its shape.
 use Rattle.std.specs.Prelude.{◌≡◌, ℕ, List, [], ◌∷◌, ◌++◌, Option, Some, None, string_bytes, String}
 use Rattle.std.specs.List.{flat_map}
 use Rattle.std.specs.declared.alloc.Global.{Global}

@@ -1,6 +1,7 @@
 -- What a serializer has recorded, and what a call leaves (own).
--- A fresh serializer has recorded the empty list. A call that answers Ok appends its items to each list that was recorded; an error is
--- the first that is due after such a list. After an error every call answers that error, and nothing is handed out.
+-- A fresh serializer has recorded the empty list. A call that answers Ok appends its items to each list that was
+-- recorded; an error is the first that is due after such a list. After an error every call answers that error, and
+-- nothing is handed out.
 use Rattle.std.specs.Prelude.{◌≡◌, List, ◌++◌, Option, Some, None, IsSome, Result, Ok, Err, MatchOption, MatchResult}
 use Rattle.std.specs.Prelude.{OnErr, ◌⊎◌, ⊤, String}
 use Rattle.std.specs.declared.alloc.Global.{Global}
@@ -56,8 +57,8 @@ pub record GaveUp (before : List Item) (gives_up : List Item → WriteError → 
   pub allowed : gives_up sent e
   pub recorded : HasRecorded new (before ++ sent)
 
--- After a list that was recorded before, all of these items are recorded; or what sent them gave up, or wanted memory of
--- its own; or the first error due in them was met.
+-- After a list that was recorded before, all of these items are recorded; or what sent them gave up, or wanted memory
+-- of its own; or the first error due in them was met.
 abbrev pub Goes : (before is : List Item) → (List Item → WriteError → Type 0) → Serializer
     → Result (Unit {0}) WriteError → Type 0
 Goes before is gives_up new r =

@@ -4,7 +4,6 @@
 -- an array is open array, then values, some-prefixes and element-prefixes in any order, then end;
 -- a table is open table, entries, end;
 -- an entry is key and a text, or field; then some-prefixes and value-prefixes in any order; then a value.
--- A list is well-formed where it spells a written value.
 use Rattle.std.specs.Prelude.{ℕ, List, [], ◌∷◌}
 use Rattle.basic_toml_emit.specs.Written.{Scalar, text, Written, scalar, absent, array, table, Elements, no_elements}
 use Rattle.basic_toml_emit.specs.Written.{element, Entries, no_entries, entry}
@@ -47,6 +46,3 @@ mutual
 pub data Spells : List Item → Written → Type 0 where
   root : {is : List Item} {w : Written} → IsValue is w [] → Spells is w
   root_some : {is : List Item} {w : Written} → Spells is w → Spells (some_prefix ∷ is) w
-
-abbrev pub IsWellFormed : List Item → Type 0
-IsWellFormed is = (w : Written) × Spells is w

@@ -31,7 +31,7 @@ DataIsSpelled = (d : Data) → Spells (data_calls d) (written_of d)
 abbrev pub DataIsKept : Type 0
 DataIsKept = (d : Data) → tree_of (written_of d) ≡ d
 
--- what is kept of a value is the written value of its tree
+-- what is kept of a value without an unsupported shape is the written value of its tree
 abbrev pub KeptIsTree : Type 0
 KeptIsTree = (w : Written) → is_unsupported nesting_limit w ≡ false → written_of (tree_of w) ≡ kept w
 

@@ -1,6 +1,6 @@
--- The tree of data that is kept of a written value, and the written value of a tree (own).
--- Absent entries are left out, texts of either kind are strings, and bytes are an array of integers. What has no form in a tree, a
--- refused scalar or an absent option outside a table, counts as an empty table: an unsupported shape excludes it.
+-- The tree of data that is kept of a written value, and the written value of a tree (own). Absent entries are left
+-- out, texts of either kind are strings, and bytes are an array of integers. What has no form in a tree, a refused
+-- scalar or an absent option outside a table, counts as an empty table: an unsupported shape excludes it.
 use Rattle.std.specs.Prelude.{ℕ, pos, List, [], ◌∷◌}
 use Rattle.basic_toml_value.specs.Data as d
 use Rattle.basic_toml_emit.specs.Written.{Scalar, integer, boolean, float, text, other_text, bytes, refused, Written}

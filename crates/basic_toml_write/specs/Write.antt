@@ -37,14 +37,15 @@ IsLayout is r =
     (λ t. (w : Written) × (Spells is w) × (is_unsupported nesting_limit w ≡ false) × (string_bytes t ≡ layout w))
     (λ e. ⊤)
 
--- where the items spell a written value without an unsupported shape, only memory or an error of the type's own stands in the way
--- of its layout
+-- where the items spell a written value without an unsupported shape, only memory or an error of the type's own stands
+-- in the way of its layout
 abbrev pub Succeeds : List Item → (List Item → WriteError → Type 0) → Result (String Global) WriteError → Type 0
 Succeeds is gives_up r =
     (w : Written) → Spells is w → is_unsupported nesting_limit w ≡ false
     → MatchResult r (λ t. string_bytes t ≡ layout w) (λ e. IsOwnError gives_up e ⊎ (e ≡ OutOfMemory))
 
--- an error that a well-formed list may meet: none for the order of the calls, and none for a key that is no text
+-- an error that a list that spells a value may meet: none for the order of the calls, and none for a key that is no
+-- text
 abbrev pub IsFair : CallFault → Type 0
 IsFair key_not_string = ⊥
 IsFair call_order = ⊥

@@ -1,3 +1,4 @@
+//! The calls of each type.
 ghost use Rattle.std.specs.Prelude.{◌≡◌, ℕ, List, [], ◌∷◌, ◌++◌, pos, string_bytes, encode_utf8};
 ghost use Rattle.basic_toml_emit.specs.Written as w;
 ghost use Rattle.basic_toml_write.specs.Serializer.{Sends};
@@ -12,8 +13,7 @@ use std::collections::BTreeMap;
 impl Serialize for bool {
     ghost calls = { λ b. scalar_calls (w.boolean b) };
 
-    fn serialize(&self, alloc: Global, ser: &mut Serializer) -> Result<(), WriteError> {
-        let _ = alloc;
+    fn serialize(&self, _alloc: Global, ser: &mut Serializer) -> Result<(), WriteError> {
         ser.serialize_bool(*self)
     }
 }
@@ -21,8 +21,7 @@ impl Serialize for bool {
 impl Serialize for i8 {
     ghost calls = { λ n. scalar_calls (w.integer n) };
 
-    fn serialize(&self, alloc: Global, ser: &mut Serializer) -> Result<(), WriteError> {
-        let _ = alloc;
+    fn serialize(&self, _alloc: Global, ser: &mut Serializer) -> Result<(), WriteError> {
         ser.serialize_i8(*self)
     }
 }
@@ -30,8 +29,7 @@ impl Serialize for i8 {
 impl Serialize for i16 {
     ghost calls = { λ n. scalar_calls (w.integer n) };
 
-    fn serialize(&self, alloc: Global, ser: &mut Serializer) -> Result<(), WriteError> {
-        let _ = alloc;
+    fn serialize(&self, _alloc: Global, ser: &mut Serializer) -> Result<(), WriteError> {
         ser.serialize_i16(*self)
     }
 }
@@ -39,8 +37,7 @@ impl Serialize for i16 {
 impl Serialize for i32 {
     ghost calls = { λ n. scalar_calls (w.integer n) };
 
-    fn serialize(&self, alloc: Global, ser: &mut Serializer) -> Result<(), WriteError> {
-        let _ = alloc;
+    fn serialize(&self, _alloc: Global, ser: &mut Serializer) -> Result<(), WriteError> {
         ser.serialize_i32(*self)
     }
 }
@@ -48,8 +45,7 @@ impl Serialize for i32 {
 impl Serialize for i64 {
     ghost calls = { λ n. scalar_calls (w.integer n) };
 
-    fn serialize(&self, alloc: Global, ser: &mut Serializer) -> Result<(), WriteError> {
-        let _ = alloc;
+    fn serialize(&self, _alloc: Global, ser: &mut Serializer) -> Result<(), WriteError> {
         ser.serialize_i64(*self)
     }
 }
@@ -57,8 +53,7 @@ impl Serialize for i64 {
 impl Serialize for u8 {
     ghost calls = { λ n. scalar_calls (w.integer (pos n)) };
 
-    fn serialize(&self, alloc: Global, ser: &mut Serializer) -> Result<(), WriteError> {
-        let _ = alloc;
+    fn serialize(&self, _alloc: Global, ser: &mut Serializer) -> Result<(), WriteError> {
         ser.serialize_u8(*self)
     }
 }
@@ -66,8 +61,7 @@ impl Serialize for u8 {
 impl Serialize for u16 {
     ghost calls = { λ n. scalar_calls (w.integer (pos n)) };
 
-    fn serialize(&self, alloc: Global, ser: &mut Serializer) -> Result<(), WriteError> {
-        let _ = alloc;
+    fn serialize(&self, _alloc: Global, ser: &mut Serializer) -> Result<(), WriteError> {
         ser.serialize_u16(*self)
     }
 }
@@ -75,8 +69,7 @@ impl Serialize for u16 {
 impl Serialize for u32 {
     ghost calls = { λ n. scalar_calls (w.integer (pos n)) };
 
-    fn serialize(&self, alloc: Global, ser: &mut Serializer) -> Result<(), WriteError> {
-        let _ = alloc;
+    fn serialize(&self, _alloc: Global, ser: &mut Serializer) -> Result<(), WriteError> {
         ser.serialize_u32(*self)
     }
 }
@@ -84,8 +77,7 @@ impl Serialize for u32 {
 impl Serialize for u64 {
     ghost calls = { λ n. scalar_calls (w.integer (pos n)) };
 
-    fn serialize(&self, alloc: Global, ser: &mut Serializer) -> Result<(), WriteError> {
-        let _ = alloc;
+    fn serialize(&self, _alloc: Global, ser: &mut Serializer) -> Result<(), WriteError> {
         ser.serialize_u64(*self)
     }
 }
@@ -93,8 +85,7 @@ impl Serialize for u64 {
 impl Serialize for char {
     ghost calls = { λ c. scalar_calls (w.other_text (encode_utf8 c)) };
 
-    fn serialize(&self, alloc: Global, ser: &mut Serializer) -> Result<(), WriteError> {
-        let _ = alloc;
+    fn serialize(&self, _alloc: Global, ser: &mut Serializer) -> Result<(), WriteError> {
         ser.serialize_char(*self)
     }
 }
@@ -102,8 +93,7 @@ impl Serialize for char {
 impl Serialize for &str {
     ghost calls = { λ s. scalar_calls (w.text s.now) };
 
-    fn serialize(&self, alloc: Global, ser: &mut Serializer) -> Result<(), WriteError> {
-        let _ = alloc;
+    fn serialize(&self, _alloc: Global, ser: &mut Serializer) -> Result<(), WriteError> {
         ser.serialize_str(*self)
     }
 }
@@ -111,8 +101,7 @@ impl Serialize for &str {
 impl Serialize for String {
     ghost calls = { λ s. scalar_calls (w.text (string_bytes s)) };
 
-    fn serialize(&self, alloc: Global, ser: &mut Serializer) -> Result<(), WriteError> {
-        let _ = alloc;
+    fn serialize(&self, _alloc: Global, ser: &mut Serializer) -> Result<(), WriteError> {
         ser.serialize_str(self.as_str())
     }
 }
@@ -120,8 +109,7 @@ impl Serialize for String {
 impl Serialize for Float {
     ghost calls = { λ f. scalar_calls (w.float f) };
 
-    fn serialize(&self, alloc: Global, ser: &mut Serializer) -> Result<(), WriteError> {
-        let _ = alloc;
+    fn serialize(&self, _alloc: Global, ser: &mut Serializer) -> Result<(), WriteError> {
         ser.serialize_float(self)
     }
 }
@@ -131,8 +119,7 @@ impl<T: Serialize> Serialize for Option<T> {
 
     ghost gives_up = { OptionGivesUp T.gives_up };
 
-    fn serialize(&self, alloc: Global, ser: &mut Serializer) -> Result<(), WriteError> {
-        let _ = alloc;
+    fn serialize(&self, _alloc: Global, ser: &mut Serializer) -> Result<(), WriteError> {
         match self {
             None => ser.serialize_none(),
             Some(value) => ser.serialize_some(value),
@@ -156,8 +143,7 @@ impl<T: Serialize> Serialize for &[T] {
 
     ghost gives_up = { λ xs. ArrayGivesUp T.calls T.gives_up xs.now };
 
-    fn serialize(&self, alloc: Global, ser: &mut Serializer) -> Result<(), WriteError> {
-        let _ = alloc;
+    fn serialize(&self, _alloc: Global, ser: &mut Serializer) -> Result<(), WriteError> {
         serialize_elements(*self, ser)
     }
 }
@@ -167,8 +153,7 @@ impl<T: Serialize> Serialize for Vec<T> {
 
     ghost gives_up = { λ xs. ArrayGivesUp T.calls T.gives_up xs.items };
 
-    fn serialize(&self, alloc: Global, ser: &mut Serializer) -> Result<(), WriteError> {
-        let _ = alloc;
+    fn serialize(&self, _alloc: Global, ser: &mut Serializer) -> Result<(), WriteError> {
         serialize_elements(self.as_slice(), ser)
     }
 }
@@ -178,8 +163,7 @@ impl<V: Serialize> Serialize for Pairs<V> {
 
     ghost gives_up = { TableGivesUp V.calls V.gives_up };
 
-    fn serialize(&self, alloc: Global, ser: &mut Serializer) -> Result<(), WriteError> {
-        let _ = alloc;
+    fn serialize(&self, _alloc: Global, ser: &mut Serializer) -> Result<(), WriteError> {
         ser.serialize_map(Some(self.len()))?;
         for (key, value) in self.iter() {
             ser.serialize_field(key, value)?;
@@ -193,8 +177,7 @@ impl<V: Serialize> Serialize for BTreeMap<String, V> {
 
     ghost gives_up = { λ m. MapGivesUp V.calls V.gives_up m.entries };
 
-    fn serialize(&self, alloc: Global, ser: &mut Serializer) -> Result<(), WriteError> {
-        let _ = alloc;
+    fn serialize(&self, _alloc: Global, ser: &mut Serializer) -> Result<(), WriteError> {
         ser.serialize_map(Some(self.len()))?;
         for (name, value) in self.iter() {
             ser.serialize_field(name.as_str(), value)?;

@@ -1,8 +1,7 @@
 //! From the calls that a value makes to TOML text.
 //!
 //! A type that implements [`Serialize`] tells its value to a [`Serializer`] by calls; the serializer appends to its
-//! text as the calls
-//! come, and hands the text out where they spell a whole table.
+//! text as the calls come, and hands the text out where they spell a whole table.
 #![tactic(auto)]
 
 mod again;

@@ -1,3 +1,4 @@
+//! The serializer.
 ghost use Rattle.std.specs.Prelude.{◌≡◌, ℕ, List, [], ◌∷◌, ◌++◌, pos, OnOk, IfErr, MatchOption, None, Err, is_some, ⊤, encode_utf8};
 ghost use Rattle.basic_toml_emit.specs.Items.{Item, a_scalar, an_absent, open_array, open_table, close, key, field, some_prefix, value_prefix, element_prefix};
 ghost use Rattle.basic_toml_emit.specs.Written as w;
@@ -11,12 +12,17 @@ use std::alloc::Global;
 /// Turns calls into TOML text (TOML v0.5.0).
 ///
 /// The calls open and close arrays and tables, set keys and write values; a key comes before its value. Scalars,
-/// arrays of values and
-/// empty arrays are rows; tables and arrays of tables are sections, which come after the rows of their table. After
-/// an error every later
+/// arrays of values and empty arrays are rows; tables and arrays of tables are sections, which come after the rows of
+/// their table.
+///
+/// # Errors
+///
+/// A call answers the first of these that applies: `KeyNotString` (no text where a key is due), `CallOrder`,
+/// `UnsupportedType` (a kind of value without a form), `UnsupportedNone`, `UnsupportedType` (a root or an element that
+/// does not fit), `DuplicateKey`, `ValueAfterTable`, `NestedTooDeeply`; and `OutOfMemory`. After an error every later
 /// call but [`has_refused`](Serializer::has_refused) answers that error, or `OutOfMemory` where its key finds no
-/// memory, and no text is
-/// handed out. An error whose key finds no memory when it is met is `OutOfMemory` from then on.
+/// memory, and no text is handed out. An error whose key finds no memory when it is met is `OutOfMemory` from then on.
+/// An error of a part's own is answered and not kept.
 ///
 /// ```text
 /// let mut ser = Serializer::new(alloc);
@@ -198,63 +204,56 @@ impl Serializer {
     /// Writes the name of a variant as a string, which may not be a key.
     pub fn serialize_unit_variant(
         &mut self,
-        name: &str,
-        index: u32,
+        _name: &str,
+        _index: u32,
         variant: &str,
     ) -> Result<(), WriteError>
         ensures { Takes (a_scalar (w.other_text variant.now) ∷ []) self.old self.new result }
     {
-        let _ = name;
-        let _ = index;
         self.take(Call::Scalar(Scalar::OtherText(variant)))
     }
 
-    /// Names a unit: `UnsupportedType`.
+    /// Refuses a unit: `UnsupportedType` where a value may stand.
     pub fn serialize_unit(&mut self) -> Result<(), WriteError>
         ensures { Takes (a_scalar w.refused ∷ []) self.old self.new result }
     {
         self.take(Call::Scalar(Scalar::Refused))
     }
 
-    /// Names a unit: `UnsupportedType`.
-    pub fn serialize_unit_struct(&mut self, name: &str) -> Result<(), WriteError>
+    /// Refuses a unit: `UnsupportedType` where a value may stand.
+    pub fn serialize_unit_struct(&mut self, _name: &str) -> Result<(), WriteError>
         ensures { Takes (a_scalar w.refused ∷ []) self.old self.new result }
     {
-        let _ = name;
         self.serialize_unit()
     }
 
-    /// Names a variant that holds a value: `UnsupportedType`. The value is not looked at.
+    /// Refuses a variant that holds a value, which is not looked at: `UnsupportedType` where a value may stand.
     pub fn serialize_newtype_variant<T: Serialize>(
         &mut self,
         name: &str,
         index: u32,
         variant: &str,
-        value: &T,
+        _value: &T,
     ) -> Result<(), WriteError>
         ensures { Takes (a_scalar w.refused ∷ []) self.old self.new result }
     {
-        let _ = value;
         self.serialize_tuple_variant(name, index, variant, 1)
     }
 
-    /// Names a variant that holds values: `UnsupportedType`.
+    /// Refuses a variant that holds values: `UnsupportedType` where a value may stand.
     pub fn serialize_tuple_variant(
         &mut self,
         name: &str,
-        index: u32,
-        variant: &str,
-        len: usize,
+        _index: u32,
+        _variant: &str,
+        _len: usize,
     ) -> Result<(), WriteError>
         ensures { Takes (a_scalar w.refused ∷ []) self.old self.new result }
     {
-        let _ = index;
-        let _ = variant;
-        let _ = len;
         self.serialize_unit_struct(name)
     }
 
-    /// Names a variant that holds values: `UnsupportedType`.
+    /// Refuses a variant that holds values: `UnsupportedType` where a value may stand.
     pub fn serialize_struct_variant(
         &mut self,
         name: &str,
@@ -275,10 +274,9 @@ impl Serializer {
     }
 
     /// Opens an array; its length is not looked at.
-    pub fn serialize_seq(&mut self, len: Option<usize>) -> Result<(), WriteError>
+    pub fn serialize_seq(&mut self, _len: Option<usize>) -> Result<(), WriteError>
         ensures { Takes (open_array ∷ []) self.old self.new result }
     {
-        let _ = len;
         self.take(Call::OpenArray)
     }
 
@@ -290,26 +288,23 @@ impl Serializer {
     }
 
     /// Opens an array; its length is not looked at.
-    pub fn serialize_tuple_struct(&mut self, name: &str, len: usize) -> Result<(), WriteError>
+    pub fn serialize_tuple_struct(&mut self, _name: &str, len: usize) -> Result<(), WriteError>
         ensures { Takes (open_array ∷ []) self.old self.new result }
     {
-        let _ = name;
         self.serialize_tuple(len)
     }
 
     /// Opens a table; its length is not looked at.
-    pub fn serialize_map(&mut self, len: Option<usize>) -> Result<(), WriteError>
+    pub fn serialize_map(&mut self, _len: Option<usize>) -> Result<(), WriteError>
         ensures { Takes (open_table ∷ []) self.old self.new result }
     {
-        let _ = len;
         self.take(Call::OpenTable)
     }
 
     /// Opens a table; its length is not looked at.
-    pub fn serialize_struct(&mut self, name: &str, len: usize) -> Result<(), WriteError>
+    pub fn serialize_struct(&mut self, _name: &str, len: usize) -> Result<(), WriteError>
         ensures { Takes (open_table ∷ []) self.old self.new result }
     {
-        let _ = name;
         self.serialize_map(Some(len))
     }
 
@@ -370,12 +365,11 @@ impl Serializer {
     /// Writes the value that a newtype holds.
     pub fn serialize_newtype_struct<T: Serialize>(
         &mut self,
-        name: &str,
+        _name: &str,
         value: &T,
     ) -> Result<(), WriteError>
         ensures { Passes [] (T.calls value.now) (T.gives_up value.now) self.old self.new result }
     {
-        let _ = name;
         self.part(value)
     }
 
@@ -441,8 +435,7 @@ impl Serializer {
 /// impl Serialize for Server {
 ///     ghost calls = { λ s. open_table ∷ (field (codes "port") ∷ a_scalar (integer (pos s.port)) ∷ close ∷ []) };
 ///
-///     fn serialize(&self, alloc: Global, ser: &mut Serializer) -> Result<(), WriteError> {
-///         let _ = alloc;
+///     fn serialize(&self, _alloc: Global, ser: &mut Serializer) -> Result<(), WriteError> {
 ///         ser.serialize_struct("Server", 1)?;
 ///         ser.serialize_field("port", &self.port)?;
 ///         ser.end()

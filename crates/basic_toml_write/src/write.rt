@@ -1,3 +1,4 @@
+//! The text of a value.
 ghost use Rattle.basic_toml_write.specs.Serializer.{Settles};
 ghost use Rattle.basic_toml_write.specs.Write.{WritesOut, IsLayout, Succeeds};
 
@@ -32,7 +33,7 @@ fn settle(ser: Serializer, answer: Result<(), WriteError>) -> Result<String, Wri
     ensures { Settles ser answer result }
 {
     match answer {
-        Err(fault) if !ser.has_refused() => Err(fault),
+        Err(error) if !ser.has_refused() => Err(error),
         _ => ser.finish(),
     }
 }
