@@ -56,8 +56,8 @@ pub record GaveUp (before : List Item) (gives_up : List Item → WriteError → 
   pub allowed : gives_up sent e
   pub recorded : HasRecorded new (before ++ sent)
 
--- After a list that was recorded before, all of these items are recorded; or what sent them gave up, or wanted memory of
--- its own; or the first error due in them was met.
+-- After a list that was recorded before, all of these items are recorded; or what sent them gave up, or wanted memory
+-- of its own; or the first error due in them was met.
 abbrev pub Goes : (before is : List Item) → (List Item → WriteError → Type 0) → Serializer
     → Result (Unit {0}) WriteError → Type 0
 Goes before is gives_up new r =

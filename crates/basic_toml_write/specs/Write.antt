@@ -37,8 +37,8 @@ IsLayout is r =
     (λ t. (w : Written) × (Spells is w) × (is_unsupported nesting_limit w ≡ false) × (string_bytes t ≡ layout w))
     (λ e. ⊤)
 
--- where the items spell a written value without an unsupported shape, only memory or an error of the type's own stands in the way
--- of its layout
+-- where the items spell a written value without an unsupported shape, only memory or an error of the type's own stands
+-- in the way of its layout
 abbrev pub Succeeds : List Item → (List Item → WriteError → Type 0) → Result (String Global) WriteError → Type 0
 Succeeds is gives_up r =
     (w : Written) → Spells is w → is_unsupported nesting_limit w ≡ false
