@@ -59,9 +59,9 @@ pub record IsDataText (x : Data) (text : List ℕ) : Type 0 where
   pub supported : is_unsupported nesting_limit (written_of x) ≡ false
   pub laid_out : text ≡ layout (written_of x)
 
--- How writing a value ends, memory aside: with an error of the type's own, where it gives up before a call was refused;
--- else with the layout, where the calls spell a value in which no unsupported shape occurs, and else with the first
--- error that they meet.
+-- How writing a value ends, memory aside: with an error of the type's own, where it gives up before a call was
+-- refused; else with the layout, where the calls spell a value in which no unsupported shape occurs, and else with
+-- the first error that they meet.
 pub record Writes (calls : List Item) (gives_up : List Item → WriteError → Type 0)
     (result : Result (String Global) Fault)
     : Type 0 where

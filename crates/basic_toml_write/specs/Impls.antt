@@ -32,8 +32,8 @@ pub record AnyGivesUp {A : Type 0} (opening : Item) (prefix : A → Item) (calls
   pub rest : List A
   pub part : A
   pub split : before ++ (part ∷ rest) ≡ parts
-  pub gives_up : PartGivesUp (opening ∷ (flat_map (λ x. prefix x ∷ calls x) before ++ (prefix part ∷ []))) (GivesUp part)
-      sent e
+  pub gives_up : PartGivesUp (opening ∷ (flat_map (λ x. prefix x ∷ calls x) before ++ (prefix part ∷ [])))
+      (GivesUp part) sent e
 
 -- each element after its prefix
 abbrev pub array_calls : {A : Type 0} → (A → List Item) → List A → List Item

@@ -10,7 +10,8 @@ pub returns-in_err-serialize_map : goal.returns-in_err-serialize_map
 returns-in_err-serialize_map g c =
     let p = err_from_is_err_and c.from_residual.result c.from_residual.ensures.1 in
     rw (p.1, p.2) (parts_unopened open_table (λ p. field p.0)
-    (λ p. g.V.Serialize.calls p.1) (λ p. g.V.Serialize.gives_up p.1) c.args.self.now c.args.ser.now c.serialize_map.new.self _ c.in_err-serialize_map.ensures)
+    (λ p. g.V.Serialize.calls p.1) (λ p. g.V.Serialize.gives_up p.1) c.args.self.now c.args.ser.now
+    c.serialize_map.new.self _ c.in_err-serialize_map.ensures)
 
 pub returns-in_err-serialize_field : goal.returns-in_err-serialize_field
 returns-in_err-serialize_field g c =
