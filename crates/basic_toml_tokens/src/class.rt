@@ -19,24 +19,56 @@ pub enum Class {
     Basic,
 }
 
+// The bit of each class.
+const BLANK: u8 = 1;
+
+const KEYLIKE: u8 = 2;
+
+const COMMENT: u8 = 4;
+
+const LITERAL: u8 = 8;
+
+const BASIC: u8 = 16;
+
+// The classes of a byte: of a control character, a blank, a letter, a digit, `-` or `_` (W for word), of `'`, of `"` or
+// the backslash, and of any other.
+const C: u8 = 0;
+
+const B: u8 = BLANK | COMMENT | LITERAL | BASIC;
+
+const W: u8 = KEYLIKE | COMMENT | LITERAL | BASIC;
+
+const S: u8 = COMMENT | BASIC;
+
+const D: u8 = COMMENT | LITERAL;
+
+const O: u8 = COMMENT | LITERAL | BASIC;
+
+// The classes of each byte, 32 in a row.
+static CLASSES: [u8; 256] = [
+    C, C, C, C, C, C, C, C, C, B, C, C, C, C, C, C, C, C, C, C, C, C, C, C, C, C, C, C, C, C, C, C,
+    B, O, D, O, O, O, O, S, O, O, O, O, O, W, O, O, W, W, W, W, W, W, W, W, W, W, O, O, O, O, O, O,
+    O, W, W, W, W, W, W, W, W, W, W, W, W, W, W, W, W, W, W, W, W, W, W, W, W, W, W, O, D, O, O, W,
+    O, W, W, W, W, W, W, W, W, W, W, W, W, W, W, W, W, W, W, W, W, W, W, W, W, W, W, O, O, O, O, C,
+    O, O, O, O, O, O, O, O, O, O, O, O, O, O, O, O, O, O, O, O, O, O, O, O, O, O, O, O, O, O, O, O,
+    O, O, O, O, O, O, O, O, O, O, O, O, O, O, O, O, O, O, O, O, O, O, O, O, O, O, O, O, O, O, O, O,
+    O, O, O, O, O, O, O, O, O, O, O, O, O, O, O, O, O, O, O, O, O, O, O, O, O, O, O, O, O, O, O, O,
+    O, O, O, O, O, O, O, O, O, O, O, O, O, O, O, O, O, O, O, O, O, O, O, O, O, O, O, O, O, O, O, O,
+];
+
 /// Whether a character with this first byte is of the class.
 #[inline]
 pub(crate) fn is_in(class: Class, byte: u8) -> bool
     ensures { result ≡ passes class byte }
 {
-    match class {
-        Class::Blank => byte == b' ' || byte == b'\t',
-        Class::Keylike => byte.is_ascii_alphanumeric() || byte == b'-' || byte == b'_',
-        Class::Comment => byte >= b' ' && byte != 127 || byte == b'\t',
-        Class::Literal => {
-            byte > b'\'' && byte != 127 || byte >= b' ' && byte < b'\'' || byte == b'\t'
-        }
-        Class::Basic => {
-            byte > b'\\' && byte != 127
-                || byte >= b' ' && byte < b'\\' && byte != b'"'
-                || byte == b'\t'
-        }
-    }
+    let bit = match class {
+        Class::Blank => BLANK,
+        Class::Keylike => KEYLIKE,
+        Class::Comment => COMMENT,
+        Class::Literal => LITERAL,
+        Class::Basic => BASIC,
+    };
+    CLASSES[byte as usize] & bit != 0
 }
 
 /// Where the longest run of a class ends.
