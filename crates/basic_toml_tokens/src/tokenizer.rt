@@ -9,7 +9,7 @@ ghost use Rattle.basic_toml_tokens.specs.Tokenizer.{NextAnswers, AnswersOnly, Ta
 
 use crate::class::{Class, end_of_run};
 use crate::line::{after_comment, after_line};
-use crate::scan::scan;
+use crate::scan::{rest, unquoted};
 use crate::step::{start, step};
 use crate::{Error, Span, Token};
 use std::alloc::{AllocError, Global};
@@ -92,7 +92,15 @@ impl<'a> Tokenizer<'a> {
             → AnswersOnly self.old.offset l end result }
         ensures boundary { IsCharBoundary self.new.text self.new.offset }
     {
-        match scan(alloc, self.text, self.at) {
+        if let Some((token, end)) = unquoted(self.text, self.at) {
+            let span = Span {
+                start: self.at,
+                end,
+            };
+            self.at = end;
+            return Ok(Some((span, token)));
+        }
+        match rest(alloc, self.text, self.at) {
             Ok(Some((token, end))) => {
                 let span = Span {
                     start: self.at,
