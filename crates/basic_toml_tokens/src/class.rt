@@ -19,7 +19,7 @@ pub enum Class {
     Basic,
 }
 
-// The bit of each class.
+// A class is a bit of a byte's entry in the table.
 const BLANK: u8 = 1;
 
 const KEYLIKE: u8 = 2;
@@ -30,18 +30,22 @@ const LITERAL: u8 = 8;
 
 const BASIC: u8 = 16;
 
-// The classes of a byte: of a control character, a blank, a letter, a digit, `-` or `_` (W for word), of `'`, of `"` or
-// the backslash, and of any other.
+// A control character other than the tab, in no class.
 const C: u8 = 0;
 
+// A blank: a space or a tab.
 const B: u8 = BLANK | COMMENT | LITERAL | BASIC;
 
+// A letter, a digit, `-` or `_`, as in a word.
 const W: u8 = KEYLIKE | COMMENT | LITERAL | BASIC;
 
+// The single quote.
 const S: u8 = COMMENT | BASIC;
 
+// The double quote or the backslash.
 const D: u8 = COMMENT | LITERAL;
 
+// Any other byte, each byte of a character beyond ASCII among them.
 const O: u8 = COMMENT | LITERAL | BASIC;
 
 // The classes of each byte, 32 in a row.
