@@ -1,7 +1,7 @@
 -- The token at an offset, by its first byte.
 use Rattle.std.proofs.Common.{◌⊎◌, inl, inr, ◌≡◌, ◌≢◌, ◌↔◌, ℕ, zero, suc, ◌+◌, ◌<◌, ◌≤◌, ◌==◌, Bool, true, false}
 use Rattle.std.proofs.Common.{cond, List, [], ◌∷◌, ◌++◌, length, refl, ap, sym, ◌∙◌, subst, arith, get_or, Some}
-use Rattle.std.proofs.Common.{None, encode_utf8_all, Err}
+use Rattle.std.proofs.Common.{None, Option, is_none, not, ◌||◌, encode_utf8_all, Err}
 use Rattle.std.specs.Borrow.{Bor}
 use Rattle.std.specs.Str.{IsUtf8, IsCharBoundary, IsAscii}
 use Rattle.std.specs.Cow.{IsBorrowedStr}
@@ -25,7 +25,7 @@ use Rattle.basic_toml_tokens.specs.Reading.{between, IsStep, IsRun}
 use Rattle.basic_toml_tokens.specs.Copies.{is_copied}
 use Rattle.basic_toml_tokens.specs.String.{is_owned, IsQuoted, IsRefused}
 use Rattle.basic_toml_tokens.specs.Token.{lexeme_of, HasSource, FaultAt, IsTaken, BorrowsRightly}
-use Rattle.basic_toml_tokens.specs.Scan.{IsBare, IsPunctuation, IsFound}
+use Rattle.basic_toml_tokens.specs.Scan.{IsBare, IsPunctuation, tells_unquoted, IsFound}
 use Rattle.basic_toml_tokens.proofs.TextBetweenOffsets.{between_cons}
 use Rattle.basic_toml_tokens.proofs.SpacesAreRuns.{length-after}
 use Rattle.basic_toml_tokens.proofs.StepIsTheFold.{byte_step}
@@ -88,6 +88,20 @@ borrowed_where (Owned text) b e = (λ h. absurd h, λ f. let z : true ≡ false 
 pub quote_from : (c : ℕ) → (c ≡ 34) ⊎ ((c ≡ 34 → ⊥) × (c ≡ 39)) → is_quote c ≡ true
 quote_from c (inl e) = rw e refl
 quote_from c (inr h) = rw h.1 refl
+
+-- a character of which a first byte tells nothing, and back
+pub untold : (c : ℕ) → punctuation_of c ≡ None → is_blank c ≡ false → is_keylike c ≡ false → (c == 35) ≡ false
+    → tells_unquoted c ≡ false
+untold c s b k h = rw (s, b, k, h) refl
+
+none_of : (o : Option Lexeme) → not (is_none o) ≡ false → o ≡ None
+none_of None h = refl
+none_of (Some l) h = cc
+
+neither : (a b : Bool) → (a || b) ≡ false → (a ≡ false) × (b ≡ false)
+neither false false h = (refl, refl)
+neither true b h = cc
+neither false true h = cc
 
 -- a character that begins no token
 begins_none : (c : ℕ) → punctuation_of c ≡ None → is_blank c ≡ false → is_keylike c ≡ false → (c == 35) ≡ false
@@ -227,16 +241,18 @@ module _ (bytes : List ℕ) (at : ℕ) (whole : IsUtf8 bytes) (here : IsCharBoun
   string_refused stop (inl (b, there, later)) = inl (record { fault_is = broken b; boundary = there; forward = later })
   string_refused stop (inr h) = inr h
 
-  pub other_found : (c next : ℕ) → IsStep bytes at c next → c ≢ 10 → is_keylike (get_or bytes at 0) ≡ false
-      → is_blank (get_or bytes at 0) ≡ false → get_or bytes at 0 ≢ 35 → get_or bytes at 0 ≢ 34 → get_or bytes at 0 ≢ 39
-      → punctuation_of (get_or bytes at 0) ≡ None → FaultAt bytes at (Unexpected at c) next
-  other_found c next s ne k b h q l n =
+  pub other_found : (c next : ℕ) → IsStep bytes at c next → c ≢ 10 → tells_unquoted (get_or bytes at 0) ≡ false
+      → get_or bytes at 0 ≢ 34 → get_or bytes at 0 ≢ 39 → FaultAt bytes at (Unexpected at c) next
+  other_found c next s ne h q l =
       record { fault_is = unexpected s.text (go (cases_lt c 128)); boundary = s.boundary; forward = s.later }
     where
       go : (c < 128) ⊎ (128 ≤ c) → begins_token c ≡ false
       go (inl small) =
+          let b = get_or bytes at 0 in
+          let (first, second) = neither _ _ h in
+          let (no_punctuation, no_blank) = neither _ _ first in
+          let (no_word, no_hash) = neither _ _ second in
           subst (λ (d : ℕ). begins_token d ≡ false) (s.byte small ne)
-          (begins_none (get_or bytes at 0) n b k (ne_eqb (get_or bytes at 0) 35 h)
-          (or_from (get_or bytes at 0 == 34) (get_or bytes at 0 == 39) (ne_eqb (get_or bytes at 0) 34 q)
-          (ne_eqb (get_or bytes at 0) 39 l)))
+          (begins_none b (none_of (punctuation_of b) no_punctuation) no_blank no_word no_hash
+          (or_from (b == 34) (b == 39) (ne_eqb b 34 q) (ne_eqb b 39 l)))
       go (inr wide) = wide_none c wide

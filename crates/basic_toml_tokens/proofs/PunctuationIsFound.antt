@@ -1,14 +1,14 @@
 -- What the byte at an offset says of the character there.
 use Rattle.std.proofs.Common.{◌⊎◌, inl, inr, ◌≡◌, ◌≢◌, ℕ, ◌+◌, ◌<◌, ◌≤◌, ◌==◌, Bool, true, false, cond, List, []}
-use Rattle.std.proofs.Common.{◌∷◌, ◌++◌, length, drop, get_or, refl, ap, sym, ◌∙◌, subst, arith, encode_utf8}
-use Rattle.std.proofs.Common.{encode_utf8_all, ltb, ltb-true, Some, None, length-drop, get_or-drop}
+use Rattle.std.proofs.Common.{◌∷◌, length, drop, get_or, refl, ap, sym, ◌∙◌, arith}
+use Rattle.std.proofs.Common.{encode_utf8_all, ltb-true, Some, None, length-drop, get_or-drop}
 use Rattle.std.specs.Prelude.{not, ◌||◌}
-use Rattle.std.specs.Str.{IsUtf8, IsCharBoundary, chars}
+use Rattle.std.specs.Str.{IsUtf8, IsCharBoundary}
 use Rattle.std.specs.List.{prefix_len}
 use Rattle.std.proofs.lemmas.List.Sums.{prefix_len-drop_no, prefix_len-drop_all}
 use Rattle.std.proofs.lemmas.Str.{IsUtf8-drop, byte_from_char}
-use Rattle.std.proofs.lemmas.Bool.{and_parts, ne_eqb, cases_lt, false≢true, eqb-true, eq-eqb, or_left, or_right}
-use Rattle.basic_toml_tokens.specs.Text.{Text, text_at, run, after_run}
+use Rattle.std.proofs.lemmas.Bool.{and_parts, ne_eqb, cases_lt, false≢true, eqb-true, eq-eqb}
+use Rattle.basic_toml_tokens.specs.Text.{text_at, after_run}
 use Rattle.basic_toml_tokens.specs.Reading.{IsStep}
 use Rattle.basic_toml_tokens.specs.Punctuation.{is_lone, IsPunctuationEnd}
 use Rattle.basic_toml_tokens.specs.Quote.{IsFeed}

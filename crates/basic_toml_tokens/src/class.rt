@@ -19,24 +19,60 @@ pub enum Class {
     Basic,
 }
 
+// A class is a bit of a byte's entry in the table.
+const BLANK: u8 = 1;
+
+const KEYLIKE: u8 = 2;
+
+const COMMENT: u8 = 4;
+
+const LITERAL: u8 = 8;
+
+const BASIC: u8 = 16;
+
+// A control character other than the tab, in no class.
+const C: u8 = 0;
+
+// A blank: a space or a tab.
+const B: u8 = BLANK | COMMENT | LITERAL | BASIC;
+
+// A letter, a digit, `-` or `_`, as in a word.
+const W: u8 = KEYLIKE | COMMENT | LITERAL | BASIC;
+
+// The single quote.
+const S: u8 = COMMENT | BASIC;
+
+// The double quote or the backslash.
+const D: u8 = COMMENT | LITERAL;
+
+// Any other byte, each byte of a character beyond ASCII among them.
+const O: u8 = COMMENT | LITERAL | BASIC;
+
+// The classes of each byte, 32 in a row.
+static CLASSES: [u8; 256] = [
+    C, C, C, C, C, C, C, C, C, B, C, C, C, C, C, C, C, C, C, C, C, C, C, C, C, C, C, C, C, C, C, C,
+    B, O, D, O, O, O, O, S, O, O, O, O, O, W, O, O, W, W, W, W, W, W, W, W, W, W, O, O, O, O, O, O,
+    O, W, W, W, W, W, W, W, W, W, W, W, W, W, W, W, W, W, W, W, W, W, W, W, W, W, W, O, D, O, O, W,
+    O, W, W, W, W, W, W, W, W, W, W, W, W, W, W, W, W, W, W, W, W, W, W, W, W, W, W, O, O, O, O, C,
+    O, O, O, O, O, O, O, O, O, O, O, O, O, O, O, O, O, O, O, O, O, O, O, O, O, O, O, O, O, O, O, O,
+    O, O, O, O, O, O, O, O, O, O, O, O, O, O, O, O, O, O, O, O, O, O, O, O, O, O, O, O, O, O, O, O,
+    O, O, O, O, O, O, O, O, O, O, O, O, O, O, O, O, O, O, O, O, O, O, O, O, O, O, O, O, O, O, O, O,
+    O, O, O, O, O, O, O, O, O, O, O, O, O, O, O, O, O, O, O, O, O, O, O, O, O, O, O, O, O, O, O, O,
+];
+
 /// Whether a character with this first byte is of the class.
 #[inline]
 pub(crate) fn is_in(class: Class, byte: u8) -> bool
     ensures { result ≡ passes class byte }
 {
-    match class {
-        Class::Blank => byte == b' ' || byte == b'\t',
-        Class::Keylike => byte.is_ascii_alphanumeric() || byte == b'-' || byte == b'_',
-        Class::Comment => byte >= b' ' && byte != 127 || byte == b'\t',
-        Class::Literal => {
-            byte > b'\'' && byte != 127 || byte >= b' ' && byte < b'\'' || byte == b'\t'
-        }
-        Class::Basic => {
-            byte > b'\\' && byte != 127
-                || byte >= b' ' && byte < b'\\' && byte != b'"'
-                || byte == b'\t'
-        }
-    }
+    let bit = match class {
+        Class::Blank => BLANK,
+        Class::Keylike => KEYLIKE,
+        Class::Comment => COMMENT,
+        Class::Literal => LITERAL,
+        Class::Basic => BASIC,
+    };
+    CLASSES[byte as usize] & bit != 0
 }
 
 /// Where the longest run of a class ends.

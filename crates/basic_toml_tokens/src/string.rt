@@ -108,6 +108,7 @@ fn plain_class(quote: Quote) -> Class
 }
 
 /// The string at an offset.
+#[inline(never)]
 pub fn string<'a>(alloc: Global, text: &'a str, start: usize) -> Result<Quoted<'a>, TokenStop>
     requires boundary { IsCharBoundary text.now start }
     requires within { start < length text.now }

@@ -5,11 +5,11 @@ ghost use Rattle.basic_toml_tokens.specs.Text.{start_of, after_blanks};
 ghost use Rattle.basic_toml_tokens.specs.TokenAt.{Lexeme};
 ghost use Rattle.basic_toml_tokens.specs.Token.{TokenAt, lexeme_of};
 ghost use Rattle.basic_toml_tokens.specs.Reading.{Reading, text_of};
-ghost use Rattle.basic_toml_tokens.specs.Tokenizer.{NextAnswers, AnswersOnly, TakesOne, Skips, after_line, EatsComment, EatsSpanned, Eats, ExpectsSpanned, Expects, EndsLine, TakesKey};
+ghost use Rattle.basic_toml_tokens.specs.Tokenizer.{moved, NextAnswers, AnswersOnly, TakesOne, Skips, after_line, EatsComment, EatsSpanned, Eats, ExpectsSpanned, Expects, EndsLine, TakesKey};
 
 use crate::class::{Class, end_of_run};
 use crate::line::{after_comment, after_line};
-use crate::scan::scan;
+use crate::scan::{rest, unquoted};
 use crate::step::{start, step};
 use crate::{Error, Span, Token};
 use std::alloc::{AllocError, Global};
@@ -92,21 +92,29 @@ impl<'a> Tokenizer<'a> {
             → AnswersOnly self.old.offset l end result }
         ensures boundary { IsCharBoundary self.new.text self.new.offset }
     {
-        match scan(alloc, self.text, self.at) {
-            Ok(Some((token, end))) => {
-                let span = Span {
-                    start: self.at,
-                    end,
-                };
-                self.at = end;
-                Ok(Some((span, token)))
-            }
+        if let Some((token, end)) = unquoted(self.text, self.at) {
+            return Ok(Some((self.pass(end), token)));
+        }
+        match rest(alloc, self.text, self.at) {
+            Ok(Some((token, end))) => Ok(Some((self.pass(end), token))),
             Ok(None) => Ok(None),
             Err(stop) => {
                 self.at = stop.at;
                 Err(stop.error)
             }
         }
+    }
+
+    /// Moves to where a token ends, and answers where it stood.
+    #[inline(always)]
+    fn pass(&mut self, end: usize) -> Span
+        requires { IsCharBoundary self.old.text end }
+        ensures span { result ≡ record { start = self.old.offset; end = end } }
+        ensures after { self.new ≡ moved self.old end }
+    {
+        let start = self.at;
+        self.at = end;
+        Span { start, end }
     }
 
     /// What `next` answers, without moving.

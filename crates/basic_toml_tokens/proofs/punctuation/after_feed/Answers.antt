@@ -1,4 +1,4 @@
-use Rattle.std.proofs.Common.{◌≡◌, ◌<◌, ◌+◌, List, ℕ, length, get_or, ap, sym, ◌∙◌, arith}
+use Rattle.std.proofs.Common.{◌+◌, List, ℕ, length, get_or, ap, sym, ◌∙◌, arith}
 use Rattle.std.proofs.lemmas.List.{get_or_past}
 use Rattle.basic_toml_tokens.proofs.PunctuationIsFound.{feed_there, return_there, no_feed, over}
 use Rattle.basic_toml_tokens.proofs.punctuation.after_feed.Goals as goal
