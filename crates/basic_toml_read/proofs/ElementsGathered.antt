@@ -6,9 +6,9 @@ use Rattle.basic_toml_tokens.specs.Text.{Text, text_at}
 use Rattle.basic_toml_tokens.specs.Punctuation.{IsPunctuationEnd}
 use Rattle.basic_toml_read.specs.declared.section.Raw as code
 use Rattle.basic_toml_read.specs.declared.section.Element.{Element, roll-Element}
-use Rattle.basic_toml_read.specs.declared.stop.Stop.{Stop}
-use Rattle.basic_toml_read.specs.declared.stop.Why.{Why}
-use Rattle.basic_toml_read.specs.declared.stop.Why.TheVariants as why
+use Rattle.basic_toml_explain.specs.declared.stop.Stop.{Stop}
+use Rattle.basic_toml_explain.specs.declared.stop.Why.{Why}
+use Rattle.basic_toml_explain.specs.declared.stop.Why.TheVariants as why
 use Rattle.basic_toml_read.specs.declared.scalar.Valued.{Valued}
 use Rattle.basic_toml_read.specs.declared.values.Gathered.{Gathered}
 use Rattle.basic_toml_grammar.specs.Sections.{Raw, Elements, no_elements, element}
@@ -24,7 +24,7 @@ use Rattle.basic_toml_read.specs.Gathers.{IsValueRead, AreElementsRead, ClosesAt
 use Rattle.basic_toml_grammar.proofs.StringsAreRead.{then_some}
 use Rattle.basic_toml_grammar.proofs.ReaderIsSound.{found_some}
 use Rattle.basic_toml_grammar.proofs.ReaderIsComplete.{gap}
-use Rattle.basic_toml_read.specs.StopPlaces.{before_value}
+use Rattle.basic_toml_explain.specs.StopPlaces.{before_value}
 use Rattle.basic_toml_read.proofs.Carried.{Carries, stays, then_on, over_element}
 use Rattle.basic_toml_read.proofs.EnoughSteps.{elements_is}
 use Rattle.basic_toml_read.proofs.LeftAfter.{sign_there, sign_missing}

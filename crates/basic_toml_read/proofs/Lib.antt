@@ -1,11 +1,4 @@
-pub mod TakenTokenStands
-pub mod NumberFaultIsFound
-pub mod FaultlessNumberHasValue
 pub mod WordIsRead
-pub mod WordStopIsDue
-pub mod PlusWordIsRead
-pub mod KeyIsRead
-pub mod StopsAreAllowed
 pub mod ViewsSeen
 pub mod LeftAfter
 pub mod EnoughSteps
@@ -18,8 +11,8 @@ pub mod ValuesGathered
 pub mod HeadersRead
 pub mod RowsRead
 pub mod ListsRead
-pub mod Explained
 pub mod NumbersEnd
 pub mod Reaching
 pub mod Carried
 pub mod StopsStand
+pub mod ListIsAnswered

@@ -8,8 +8,8 @@ use Rattle.basic_toml_tokens.specs.Text.{Text, text_at, folded, start_of, after_
 use Rattle.basic_toml_read.specs.declared.header.Header.{Header}
 use Rattle.basic_toml_read.specs.declared.section.Row as code_rows
 use Rattle.basic_toml_read.specs.declared.section.Section as code
-use Rattle.basic_toml_read.specs.declared.stop.Stop.{Stop}
-use Rattle.basic_toml_read.specs.declared.stop.Why.{Why}
+use Rattle.basic_toml_explain.specs.declared.stop.Stop.{Stop}
+use Rattle.basic_toml_explain.specs.declared.stop.Why.{Why}
 use Rattle.basic_toml_read.specs.declared.values.Gathered.{Gathered}
 use Rattle.basic_toml_grammar.specs.Sections.{Key, Rows, no_rows, row, Section}
 use Rattle.basic_toml_grammar.specs.Entering.{and_then}
@@ -26,7 +26,8 @@ use Rattle.basic_toml_grammar.proofs.StringsAreRead.{then_some}
 use Rattle.basic_toml_grammar.specs.Grammar.{after_comment_by}
 use Rattle.basic_toml_tokens.specs.Text.{is_comment}
 use Rattle.basic_toml_grammar.specs.GrammarFaults.{Reached, at_start}
-use Rattle.basic_toml_read.specs.StopPlaces.{after_value, anywhere, IsAt, LineAt, NextStands}
+use Rattle.basic_toml_explain.specs.StopPlaces.{after_value, anywhere, IsAt}
+use Rattle.basic_toml_read.specs.StopsReached.{LineAt, NextStands}
 use Rattle.basic_toml_read.proofs.Carried.{line_at, header_here, line_after}
 use Rattle.basic_toml_read.proofs.EnoughSteps.{list_is, sections_is, sections_is_none}
 use Rattle.basic_toml_read.proofs.HeadersRead.{header_length}

@@ -17,7 +17,7 @@ use Rattle.basic_toml_grammar.specs.Grammar.{array as array_here, inline as inli
 use Rattle.basic_toml_grammar.specs.GrammarFaults.{is_gap, Reached, shorter_after_gap, after_token, ends_key}
 use Rattle.basic_toml_grammar.specs.GrammarFaults.{ends_value}
 use Rattle.basic_toml_read.proofs.LeftAfter.{line_of, gap_past_line, gap_past_feed, gap_stops}
-use Rattle.basic_toml_read.proofs.TakenTokenStands.{run_within}
+use Rattle.basic_toml_explain.proofs.TakenTokenStands.{run_within}
 use Rattle.basic_toml_read.proofs.NumbersEnd.{ends_keylike, word_end}
 use Rattle.basic_toml_grammar.proofs.ReaderIsComplete.{blanks_length}
 use Rattle.basic_toml_grammar.proofs.StringsAreRead.{length_run}

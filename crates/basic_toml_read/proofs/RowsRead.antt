@@ -7,9 +7,9 @@ use Rattle.basic_toml_tokens.specs.Punctuation.{IsPunctuationEnd}
 use Rattle.basic_toml_tokens.proofs.RestsArePartsOfText.{over_at_end}
 use Rattle.basic_toml_tokens.proofs.StepIsTheFold.{text_end}
 use Rattle.basic_toml_read.specs.declared.section.Row.{Row}
-use Rattle.basic_toml_read.specs.declared.stop.Stop.{Stop}
-use Rattle.basic_toml_read.specs.declared.stop.Why.{Why}
-use Rattle.basic_toml_read.specs.declared.stop.Why.TheVariants as why
+use Rattle.basic_toml_explain.specs.declared.stop.Stop.{Stop}
+use Rattle.basic_toml_explain.specs.declared.stop.Why.{Why}
+use Rattle.basic_toml_explain.specs.declared.stop.Why.TheVariants as why
 use Rattle.basic_toml_read.specs.declared.values.Gathered.{Gathered}
 use Rattle.basic_toml_grammar.specs.Sections.{Key, Raw, Rows, no_rows, row}
 use Rattle.basic_toml_grammar.specs.Entering.{and_then}
@@ -25,7 +25,8 @@ use Rattle.basic_toml_read.specs.Gathers.{row_level, IsRowRead}
 use Rattle.basic_toml_read.specs.Lists.{EndsLineAt, AreRowsRead, IsGap}
 use Rattle.basic_toml_grammar.proofs.StringsAreRead.{then_some}
 use Rattle.basic_toml_grammar.specs.GrammarFaults.{precedes_key}
-use Rattle.basic_toml_read.specs.StopPlaces.{after_value, anywhere, IsAt, LineAt}
+use Rattle.basic_toml_explain.specs.StopPlaces.{after_value, anywhere, IsAt}
+use Rattle.basic_toml_read.specs.StopsReached.{LineAt}
 use Rattle.basic_toml_read.proofs.Carried.{moved, blanks_at, line_at, row_here, any_at, line_after}
 use Rattle.basic_toml_read.proofs.EnoughSteps.{rows_is, rows_is_none}
 use Rattle.basic_toml_read.proofs.LeftAfter.{sign_there, sign_missing, gap_past_line, gap_over, gap_ends_line, gap_has_no_bracket}

@@ -18,9 +18,9 @@ use Rattle.basic_toml_tokens.specs.String.{IsQuoted, IsRefused}
 use Rattle.basic_toml_tokens.proofs.TextBetweenOffsets.{length-between}
 use Rattle.basic_toml_tokens.proofs.StepIsTheFold.{offset_is}
 use Rattle.basic_toml_tokens.proofs.TokenIsUnique.{no_break}
-use Rattle.basic_toml_read.specs.declared.stop.Stop.{Stop}
-use Rattle.basic_toml_read.specs.declared.stop.Why.{Why}
-use Rattle.basic_toml_read.specs.declared.stop.Why.TheVariants.{Memory, Key, Value}
+use Rattle.basic_toml_explain.specs.declared.stop.Stop.{Stop}
+use Rattle.basic_toml_explain.specs.declared.stop.Why.{Why}
+use Rattle.basic_toml_explain.specs.declared.stop.Why.TheVariants.{Memory, Key, Value}
 use Rattle.basic_toml_read.specs.declared.scalar.Keyed.{Keyed}
 use Rattle.basic_toml_grammar.specs.Sections as sections
 use Rattle.basic_toml_grammar.specs.Entering.{and_then}
@@ -30,8 +30,8 @@ use Rattle.basic_toml_grammar.specs.Reader.{string_at, bare_key_at, quoted_key, 
 use Rattle.basic_toml_read.specs.StopsAt.{why_of, MissesKey, MissesString, ReadsKeyAt, IsKeyOf}
 use Rattle.basic_toml_grammar.proofs.StringsAreRead.{string_found, string_read}
 use Rattle.basic_toml_read.specs.AtPlace.{Leaves}
-use Rattle.basic_toml_read.specs.Number.{value_offset}
-use Rattle.basic_toml_read.proofs.TakenTokenStands.{keylike_small, run_over}
+use Rattle.basic_toml_read.specs.Word.{value_offset}
+use Rattle.basic_toml_explain.proofs.TakenTokenStands.{keylike_small, run_over}
 use Rattle.basic_toml_read.proofs.WordIsRead.{word_text, word_stands, word_missing}
 
 keylike_run_small : (text : Text) (i : ℕ) → get_or (run is_keylike text) i 0 < 128

@@ -7,21 +7,22 @@ use Rattle.basic_toml_tokens.specs.TokenAt.{Lexeme, equals, left_bracket, right_
 use Rattle.basic_toml_tokens.specs.Punctuation.{IsPunctuationEnd}
 use Rattle.basic_toml_read.specs.declared.header.HeaderKeys.{HeaderKeys}
 use Rattle.basic_toml_read.specs.declared.scalar.Valued.{Valued}
-use Rattle.basic_toml_read.specs.declared.stop.Stop.{Stop}
-use Rattle.basic_toml_read.specs.declared.stop.Why.{Why}
-use Rattle.basic_toml_read.specs.declared.stop.Why.TheVariants as why
+use Rattle.basic_toml_explain.specs.declared.stop.Stop.{Stop}
+use Rattle.basic_toml_explain.specs.declared.stop.Why.{Why}
+use Rattle.basic_toml_explain.specs.declared.stop.Why.TheVariants as why
 use Rattle.basic_toml_read.specs.declared.values.Gathered.{Gathered}
 use Rattle.basic_toml_read.specs.declared.values.LastKey.{LastKey}
 use Rattle.basic_toml_grammar.specs.Grammar.{is_wordlike, after_comment_by, after_gap}
 use Rattle.basic_toml_grammar.specs.GrammarFaults.{is_gap, precedes_key}
 use Rattle.basic_toml_grammar.specs.Reader.{char_at, string_at}
 use Rattle.basic_toml_read.specs.AtPlace.{Leaves, EndsAt}
-use Rattle.basic_toml_read.specs.StopsAt.{no_memory, MissesKey, MissesString, MissesWord, ReadsKeyAt, ReadsStringAt}
+use Rattle.basic_toml_explain.specs.Stop.{no_memory}
+use Rattle.basic_toml_read.specs.StopsAt.{MissesKey, MissesString, MissesWord, ReadsKeyAt, ReadsStringAt}
 use Rattle.basic_toml_read.specs.StopsAt.{ReadsWordAt}
 use Rattle.basic_toml_read.specs.Gathers.{ClosesAt, IsLastKey, IsValueRead, IsRowRead}
 use Rattle.basic_toml_read.specs.Lists.{AreHeaderKeys}
-use Rattle.basic_toml_read.specs.StopPlaces.{Fits, before_value, after_key, after_value, anywhere, IsAt, StopStands}
-use Rattle.basic_toml_read.specs.StopPlaces.{IfStops, StandsFrom, HeaderStands, LineAt, LinesStand}
+use Rattle.basic_toml_explain.specs.StopPlaces.{Fits, before_value, after_key, after_value, anywhere, IsAt, StopStands}
+use Rattle.basic_toml_read.specs.StopsReached.{IfStops, StandsFrom, HeaderStands, LineAt, LinesStand}
 use Rattle.basic_toml_read.proofs.Carried.{Carries, then_on, moved, blanks_at, line_at, value_gap_at, sign_at_offset}
 use Rattle.basic_toml_read.proofs.Carried.{keys_here, value_here, row_here, key_after}
 use Rattle.basic_toml_read.proofs.KeysTold.{stopped}

@@ -12,9 +12,9 @@ use Rattle.basic_toml_tokens.specs.Punctuation.{IsPunctuationEnd}
 use Rattle.basic_toml_read.specs.declared.section.Raw as code
 use Rattle.basic_toml_read.specs.declared.section.Element.{Element}
 use Rattle.basic_toml_read.specs.declared.section.Row.{Row, roll-Row}
-use Rattle.basic_toml_read.specs.declared.stop.Stop.{Stop}
-use Rattle.basic_toml_read.specs.declared.stop.Why.{Why}
-use Rattle.basic_toml_read.specs.declared.stop.Why.TheVariants as why
+use Rattle.basic_toml_explain.specs.declared.stop.Stop.{Stop}
+use Rattle.basic_toml_explain.specs.declared.stop.Why.{Why}
+use Rattle.basic_toml_explain.specs.declared.stop.Why.TheVariants as why
 use Rattle.basic_toml_read.specs.declared.scalar.Valued.{Valued}
 use Rattle.basic_toml_read.specs.declared.values.Gathered.{Gathered}
 use Rattle.basic_toml_read.specs.declared.values.LastKey.{LastKey}

@@ -6,9 +6,9 @@ use Rattle.basic_toml_tokens.specs.Text.{Text, text_at, is_comment, after_blanks
 use Rattle.basic_toml_read.specs.declared.section.Element as code_elements
 use Rattle.basic_toml_read.specs.declared.section.Row as code_rows
 use Rattle.basic_toml_read.specs.declared.scalar.Valued.{Valued}
-use Rattle.basic_toml_read.specs.declared.stop.Stop.{Stop}
-use Rattle.basic_toml_read.specs.declared.stop.Why.{Why}
-use Rattle.basic_toml_read.specs.declared.stop.Why.TheVariants.{Deep}
+use Rattle.basic_toml_explain.specs.declared.stop.Stop.{Stop}
+use Rattle.basic_toml_explain.specs.declared.stop.Why.{Why}
+use Rattle.basic_toml_explain.specs.declared.stop.Why.TheVariants.{Deep}
 use Rattle.basic_toml_read.specs.declared.values.Gathered.{Gathered}
 use Rattle.basic_toml_read.specs.declared.values.LastKey.{LastKey}
 use Rattle.basic_toml_grammar.specs.Sections.{Key, Raw, Elements, Rows, no_rows, row}

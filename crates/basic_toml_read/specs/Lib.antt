@@ -1,14 +1,9 @@
-pub mod Error
-pub mod Cursor
-pub mod NumberFault
-pub mod Number
-pub mod Key
+pub mod Word
 pub mod SectionView
 pub mod AtPlace
 pub mod FrontOf
 pub mod StopsAt
+pub mod StopsReached
 pub mod Gathers
 pub mod Lists
 pub mod SectionsAnswer
-pub mod StopPlaces
-pub mod Explain

@@ -9,8 +9,8 @@ use Rattle.basic_toml_read.specs.declared.header.Header.{Header}
 use Rattle.basic_toml_read.specs.declared.header.HeaderKeys.{HeaderKeys}
 use Rattle.basic_toml_read.specs.declared.section.Row as code_rows
 use Rattle.basic_toml_read.specs.declared.section.Section as code_sections
-use Rattle.basic_toml_read.specs.declared.stop.Stop.{Stop}
-use Rattle.basic_toml_read.specs.declared.stop.Why.TheVariants.{Memory, Newline}
+use Rattle.basic_toml_explain.specs.declared.stop.Stop.{Stop}
+use Rattle.basic_toml_explain.specs.declared.stop.Why.TheVariants.{Memory, Newline}
 use Rattle.basic_toml_read.specs.declared.values.Gathered.{Gathered}
 use Rattle.basic_toml_grammar.specs.Grammar.{after_gap}
 use Rattle.basic_toml_grammar.specs.Sections.{no_rows, Section}
@@ -21,7 +21,8 @@ use Rattle.basic_toml_read.specs.FrontOf.{keys_of, header_of, rows_of, sections_
 use Rattle.basic_toml_grammar.specs.Entering.{and_then}
 use Rattle.basic_toml_read.specs.SectionView.{rows_view, keys_with, section_of}
 use Rattle.basic_toml_read.specs.StopsAt.{Misses}
-use Rattle.basic_toml_read.specs.StopPlaces.{anywhere, IsAt, LineAt, NextStands}
+use Rattle.basic_toml_explain.specs.StopPlaces.{anywhere, IsAt}
+use Rattle.basic_toml_read.specs.StopsReached.{LineAt, NextStands}
 
 pub record AreHeaderKeys (bytes : List ℕ) (at : ℕ) (found : HeaderKeys) : Type 0 where
   pub mid : Text

@@ -5,7 +5,7 @@ use Rattle.basic_toml_tokens.specs.Text.{Text, folded}
 use Rattle.basic_toml_read.specs.declared.section.Section as code
 use Rattle.basic_toml_grammar.specs.Sections.{Section}
 use Rattle.basic_toml_grammar.specs.Faults.{nested_too_deeply, Fault}
-use Rattle.basic_toml_read.specs.Error.{want_of_memory}
+use Rattle.basic_toml_explain.specs.Error.{want_of_memory}
 use Rattle.basic_toml_grammar.specs.GrammarFaults.{fault_at, AllowsGrammarFault}
 use Rattle.basic_toml_grammar.specs.Grammar.{IsSectionList}
 use Rattle.basic_toml_grammar.specs.Levels.{highest_level}

@@ -1,14 +1,14 @@
 -- Where reading stops, and what does not stand there.
-use Rattle.std.specs.Prelude.{◌⊎◌, ◌≡◌, ◌<◌, ℕ, true, false, List, [], Option, Some, None, Result, Ok, Err}
+use Rattle.std.specs.Prelude.{◌≡◌, ◌<◌, ℕ, true, false, List, [], Option, Some, None, Result, Ok, Err}
 use Rattle.std.specs.Str.{IsCharBoundary}
 use Rattle.std.specs.Cow.{cow_str_bytes}
 use Rattle.basic_toml_tokens.specs.declared.error.Error.{Error}
 use Rattle.basic_toml_tokens.specs.declared.error.Error.TheVariants.{OutOfMemory}
 use Rattle.basic_toml_tokens.specs.declared.string.Quoted.{Quoted}
 use Rattle.basic_toml_tokens.specs.Text.{Text, text_at, run}
-use Rattle.basic_toml_read.specs.declared.stop.Stop.{Stop}
-use Rattle.basic_toml_read.specs.declared.stop.Why.{Why}
-use Rattle.basic_toml_read.specs.declared.stop.Why.TheVariants.{Memory, Deep, Key, Value, Word}
+use Rattle.basic_toml_explain.specs.declared.stop.Stop.{Stop}
+use Rattle.basic_toml_explain.specs.declared.stop.Why.{Why}
+use Rattle.basic_toml_explain.specs.declared.stop.Why.TheVariants.{Memory, Deep, Key, Value, Word}
 use Rattle.basic_toml_read.specs.declared.scalar.Keyed.{Keyed}
 use Rattle.basic_toml_read.specs.declared.scalar.Valued.{Valued}
 use Rattle.basic_toml_grammar.specs.Sections.{Raw}
@@ -17,9 +17,6 @@ use Rattle.basic_toml_grammar.specs.Reader as reader
 use Rattle.basic_toml_grammar.specs.Reader.{key_at, string_at, string_value_at, word_at}
 use Rattle.basic_toml_read.specs.SectionView.{raw_of}
 
-abbrev pub no_memory : Stop
-no_memory = record { at = 0; why = Memory }
-
 -- the stop where no string was taken
 abbrev pub why_of : Error → Why → Why
 why_of OutOfMemory why = Memory
@@ -27,10 +24,6 @@ why_of _ why = why
 
 abbrev pub stop_of : Error → ℕ → Why → Stop
 stop_of error at why = record { at = at; why = why_of error why }
-
--- in the text, but where memory was refused
-abbrev pub StopsInside : List ℕ → Stop → Type 0
-StopsInside bytes stop = (stop.why ≡ Memory) ⊎ IsCharBoundary bytes stop.at
 
 -- What is missing at the front of a text, by the reason of the stop: nothing where memory was refused; where a level
 -- passes the limit, it does in all that stands there.

@@ -1,15 +1,15 @@
 //! Headers.
 ghost use Rattle.std.specs.Prelude.{IfErr};
 ghost use Rattle.std.specs.Str.{IsCharBoundary};
-ghost use Rattle.basic_toml_read.specs.StopsAt.{StopsInside};
+ghost use Rattle.basic_toml_explain.specs.Stop.{StopsInside};
 ghost use Rattle.basic_toml_read.specs.Lists.{ReadsHeaderKeys, ReadsHeader};
-ghost use Rattle.basic_toml_read.specs.StopPlaces.{StandsFrom, HeaderStands};
+ghost use Rattle.basic_toml_read.specs.StopsReached.{StandsFrom, HeaderStands};
 ghost use Rattle.basic_toml_grammar.specs.GrammarFaults.{precedes_key};
 
 use crate::front::after_blanks;
 use crate::scalar::key_at;
-use crate::stop::{Stop, Why};
 use crate::values::{closed, raise};
+use basic_toml_explain::{Stop, Why};
 use basic_toml_tokens::after_punctuation;
 use std::alloc::Global;
 use std::borrow::CowStr;

@@ -2,18 +2,17 @@
 ghost use Rattle.std.specs.Prelude.{IfErr, ◌≡◌, ◌≤◌, []};
 ghost use Rattle.std.specs.Str.{IsCharBoundary};
 ghost use Rattle.basic_toml_tokens.specs.Text.{folded};
-ghost use Rattle.basic_toml_read.specs.StopsAt.{StopsInside};
-ghost use Rattle.basic_toml_read.specs.StopPlaces.{after_value, IfStops, StandsFrom, HeaderStands, LinesStand};
+ghost use Rattle.basic_toml_explain.specs.Stop.{StopsInside};
+ghost use Rattle.basic_toml_explain.specs.StopPlaces.{after_value};
+ghost use Rattle.basic_toml_read.specs.StopsReached.{IfStops, StandsFrom, HeaderStands, LinesStand};
 ghost use Rattle.basic_toml_read.specs.SectionsAnswer.{AnswersSections, HoldsMore};
 ghost use Rattle.basic_toml_read.specs.Lists.{EndsLineAt, ReadsRows, PassesGaps, TakesRoot, ReadsSection, ReadsList};
 
-use crate::ReadError;
-use crate::explain::explain;
 use crate::front::{after_blanks, after_comment, after_line, end_of_line};
 use crate::header::header_at;
 use crate::section::Section;
-use crate::stop::{End, Stop, Why};
 use crate::values::{Gathered, taken};
+use basic_toml_explain::{End, ReadError, Stop, Why, error_at};
 use basic_toml_tokens::{after_punctuation, start_of_text};
 use std::alloc::Global;
 
@@ -143,6 +142,6 @@ pub fn sections<'de>(alloc: Global, text: &'de str) -> Result<Vec<Section<'de>>,
 {
     match list(alloc, text) {
         Ok(sections) => Ok(sections),
-        Err(stop) => Err(explain(alloc, text, stop)),
+        Err(stop) => Err(error_at(alloc, text, stop)),
     }
 }

@@ -3,15 +3,16 @@ ghost use Rattle.std.specs.Prelude.{IfErr, ◌≡◌, ◌<◌, [], Some, true, l
 ghost use Rattle.std.specs.Str.{IsCharBoundary};
 ghost use Rattle.basic_toml_tokens.specs.Text.{text_at, run, is_keylike};
 ghost use Rattle.basic_toml_tokens.specs.Strings.{is_quote};
-ghost use Rattle.basic_toml_read.specs.Number as words;
+ghost use Rattle.basic_toml_read.specs.Word as words;
 ghost use Rattle.basic_toml_read.specs.SectionView.{raw_of};
-ghost use Rattle.basic_toml_read.specs.StopsAt.{StopsInside, IsKeyOf, ReadsKeyAt, ReadsStringAt, ReadsWordAt};
+ghost use Rattle.basic_toml_explain.specs.Stop.{StopsInside};
+ghost use Rattle.basic_toml_read.specs.StopsAt.{stop_of, IsKeyOf, ReadsKeyAt, ReadsStringAt, ReadsWordAt};
 
 use crate::front::{begins_string, end_of_word};
-use crate::number::{Word, value_offset, word_value};
 use crate::section::Raw;
-use crate::stop::{End, Stop, Why, refused};
-use basic_toml_tokens::{Class, Quoted, end_of_run, string_at};
+use crate::word::{Word, value_offset, word_value};
+use basic_toml_explain::{End, Stop, Why};
+use basic_toml_tokens::{Class, Error, Quoted, TokenStop, end_of_run, string_at};
 use std::alloc::Global;
 use std::borrow::CowStr;
 
@@ -28,6 +29,19 @@ pub(crate) struct Valued<'de> {
 pub(crate) struct Keyed<'de> {
     pub key: CowStr<'de>,
     pub end: usize,
+}
+
+// The stop at an offset where no string was taken.
+fn refused(refusal: TokenStop, at: usize, why: Why) -> Stop
+    ensures { result ≡ stop_of refusal.error at why }
+{
+    match refusal.error {
+        Error::OutOfMemory => Stop {
+            at,
+            why: Why::Memory,
+        },
+        _ => Stop { at, why },
+    }
 }
 
 /// The key at an offset.

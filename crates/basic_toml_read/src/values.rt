@@ -1,8 +1,9 @@
 //! Rows and values, which nest.
 ghost use Rattle.std.specs.Prelude.{IfErr, ◌≡◌, ◌≤◌, true, length, drop, take, IfOk};
 ghost use Rattle.std.specs.Str.{IsCharBoundary};
-ghost use Rattle.basic_toml_read.specs.StopsAt.{StopsInside};
-ghost use Rattle.basic_toml_read.specs.StopPlaces.{StandsFrom, before_value};
+ghost use Rattle.basic_toml_explain.specs.Stop.{StopsInside};
+ghost use Rattle.basic_toml_explain.specs.StopPlaces.{before_value};
+ghost use Rattle.basic_toml_read.specs.StopsReached.{StandsFrom};
 ghost use Rattle.basic_toml_grammar.specs.GrammarFaults.{precedes_key};
 ghost use Rattle.basic_toml_tokens.specs.Punctuation.{is_lone};
 ghost use Rattle.basic_toml_read.specs.Gathers.{RaisesTo, ClosesAt, ReadsKeys, ReadsRow, ReadsValue, ReadsElements, ReadsArray, ReadsFields, ReadsInline};
@@ -10,7 +11,7 @@ ghost use Rattle.basic_toml_read.specs.Gathers.{RaisesTo, ClosesAt, ReadsKeys, R
 use crate::front::{after_blanks, after_gap, begins_string};
 use crate::scalar::{Valued, key_at, string_value_at, word_at};
 use crate::section::{Element, Raw, Row};
-use crate::stop::{End, Stop, Why};
+use basic_toml_explain::{End, Stop, Why};
 use basic_toml_tokens::after_punctuation;
 use std::alloc::{AllocError, Global};
 use std::borrow::CowStr;

@@ -2,7 +2,7 @@ use Rattle.std.proofs.Common.{ap, sym, ◌∙◌, arith}
 use Rattle.basic_toml_tokens.specs.Text.{text_at, after_run, is_keylike}
 use Rattle.basic_toml_tokens.proofs.SpacesAreRuns.{after_twice}
 use Rattle.basic_toml_grammar.specs.Grammar.{is_wordlike}
-use Rattle.basic_toml_read.proofs.TakenTokenStands.{run_within}
+use Rattle.basic_toml_explain.proofs.TakenTokenStands.{run_within}
 use Rattle.basic_toml_read.proofs.front.end_of_word.Goals as goal
 
 pub loop-next-init : goal.loop-next-init

@@ -1,6 +1,6 @@
 use Rattle.std.proofs.Common.{sym, subst, Err}
 use Rattle.basic_toml_tokens.specs.Text.{text_at}
-use Rattle.basic_toml_read.specs.declared.stop.Stop.{Stop}
+use Rattle.basic_toml_explain.specs.declared.stop.Stop.{Stop}
 use Rattle.basic_toml_read.specs.Lists.{ReadsHeader}
 use Rattle.basic_toml_read.proofs.KeysTold.{stopped}
 use Rattle.basic_toml_read.proofs.HeadersRead.{no_bracket, one_missing, one_unclosed, one_closed, two_missing}

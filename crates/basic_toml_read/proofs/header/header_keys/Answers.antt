@@ -1,7 +1,7 @@
 use Rattle.std.proofs.Common.{◌≡◌, refl, subst}
 use Rattle.std.specs.Result.{IsErrAnd}
 use Rattle.basic_toml_read.specs.Lists.{ReadsHeaderKeys}
-use Rattle.basic_toml_read.specs.declared.stop.Why.TheVariants.{Deep}
+use Rattle.basic_toml_explain.specs.declared.stop.Why.TheVariants.{Deep}
 use Rattle.basic_toml_read.proofs.KeysTold.{stopped}
 use Rattle.basic_toml_read.proofs.HeadersRead.{header_start, header_next, header_last, header_missing, header_deep}
 use Rattle.basic_toml_read.proofs.header.header_keys.Goals as goal

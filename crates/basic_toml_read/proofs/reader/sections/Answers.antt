@@ -1,4 +1,4 @@
-use Rattle.basic_toml_read.proofs.Explained.{list_answered, stop_answered}
+use Rattle.basic_toml_read.proofs.ListIsAnswered.{list_answered, stop_answered}
 use Rattle.basic_toml_read.proofs.reader.sections.Goals as goal
 
 pub returns-in-Ok : goal.returns-in-Ok

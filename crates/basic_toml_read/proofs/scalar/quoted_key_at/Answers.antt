@@ -1,7 +1,7 @@
 use Rattle.std.proofs.Common.{◌≡◌, refl, sym, subst}
 use Rattle.basic_toml_tokens.specs.Text.{text_at}
-use Rattle.basic_toml_read.specs.declared.stop.Stop.{Stop}
-use Rattle.basic_toml_read.specs.declared.stop.Why.TheVariants.{Key}
+use Rattle.basic_toml_explain.specs.declared.stop.Stop.{Stop}
+use Rattle.basic_toml_explain.specs.declared.stop.Why.TheVariants.{Key}
 use Rattle.basic_toml_read.specs.StopsAt.{MissesKey}
 use Rattle.basic_toml_read.proofs.ScalarsRead.{string_key, key_refused}
 use Rattle.basic_toml_read.proofs.scalar.quoted_key_at.Goals as goal

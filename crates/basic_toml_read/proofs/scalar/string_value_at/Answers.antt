@@ -1,8 +1,8 @@
 use Rattle.std.proofs.Common.{refl, sym, subst}
 use Rattle.std.specs.Cow.{cow_str_bytes}
 use Rattle.basic_toml_tokens.specs.Text.{text_at}
-use Rattle.basic_toml_read.specs.declared.stop.Stop.{Stop}
-use Rattle.basic_toml_read.specs.declared.stop.Why.TheVariants.{Value}
+use Rattle.basic_toml_explain.specs.declared.stop.Stop.{Stop}
+use Rattle.basic_toml_explain.specs.declared.stop.Why.TheVariants.{Value}
 use Rattle.basic_toml_grammar.specs.Sections as sections
 use Rattle.std.specs.Prelude.{◌≡◌}
 use Rattle.basic_toml_read.specs.StopsAt.{MissesString}

@@ -1,7 +1,7 @@
 use Rattle.std.proofs.Common.{ℕ, Some, refl, ap, sym, ◌∙◌, arith}
 use Rattle.std.specs.Option.{option_map}
 use Rattle.basic_toml_tokens.specs.Text.{text_at}
-use Rattle.basic_toml_read.specs.Number.{raw_of}
+use Rattle.basic_toml_read.specs.Word.{raw_of}
 use Rattle.basic_toml_read.proofs.ScalarsRead.{no_word_run, word_run, word_value_is, no_word_value}
 use Rattle.basic_toml_read.proofs.scalar.word_at.Goals as goal
 

@@ -1,7 +1,7 @@
 use Rattle.std.proofs.Common.{◌≡◌, ℕ, length, drop, take, ap, ◌∙◌, arith, refl, Err}
 use Rattle.basic_toml_tokens.specs.Text.{text_at}
 use Rattle.basic_toml_tokens.specs.TokenAt.{left_bracket, left_brace}
-use Rattle.basic_toml_read.specs.declared.stop.Why.TheVariants.{Equals}
+use Rattle.basic_toml_explain.specs.declared.stop.Why.TheVariants.{Equals}
 use Rattle.basic_toml_read.specs.Gathers.{ReadsRow, ReadsElements, ReadsFields}
 use Rattle.basic_toml_read.proofs.KeysTold.{stopped}
 use Rattle.basic_toml_read.proofs.ElementsGathered.{elements_start, elements_end, elements_missing, elements_more}
@@ -11,7 +11,7 @@ use Rattle.basic_toml_read.proofs.ValuesGathered.{keys_missed, no_equals, value_
 use Rattle.basic_toml_read.proofs.ValuesGathered.{inline_value, string_value, word_value_here, array_whole}
 use Rattle.basic_toml_read.proofs.ValuesGathered.{inline_whole}
 use Rattle.basic_toml_grammar.specs.GrammarFaults.{precedes_key, precedes_value}
-use Rattle.basic_toml_read.specs.StopPlaces.{before_value}
+use Rattle.basic_toml_explain.specs.StopPlaces.{before_value}
 use Rattle.basic_toml_read.proofs.Carried.{then_on}
 use Rattle.basic_toml_read.proofs.LeftAfter.{sign_there}
 use Rattle.basic_toml_read.proofs.StopsStand.{result_on, stop_on, over_a_sign, over_the_blanks, over_the_gap}

@@ -1,6 +1,6 @@
 use Rattle.std.proofs.Common.{◌≡◌, refl, subst}
 use Rattle.std.specs.Result.{IsErrAnd}
-use Rattle.basic_toml_read.specs.declared.stop.Why.TheVariants.{Deep}
+use Rattle.basic_toml_explain.specs.declared.stop.Why.TheVariants.{Deep}
 use Rattle.basic_toml_read.specs.Gathers.{ReadsKeys}
 use Rattle.basic_toml_read.proofs.ViewsSeen.{dot_before}
 use Rattle.basic_toml_read.proofs.KeysTold.{stopped, keys_missing, keys_deep}

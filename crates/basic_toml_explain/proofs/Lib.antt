@@ -1,0 +1,9 @@
+pub mod TakenTokenStands
+pub mod NumberFaultIsFound
+pub mod FaultlessNumberHasValue
+pub mod JointIsFound
+pub mod WordStopIsDue
+pub mod PlusWordIsNone
+pub mod KeyIsRead
+pub mod StopsAreAllowed
+pub mod Explained

@@ -1,0 +1,163 @@
+//! Why a text is not read.
+ghost use Rattle.std.specs.Prelude.{◌≡◌, map, string_bytes};
+ghost use Rattle.basic_toml_explain.specs.Error.{kind_of};
+
+use std::alloc::AllocError;
+use std::marker::Model;
+
+/// What an error is.
+#[derive(Debug, Drop)]
+pub enum ReadErrorKind {
+    /// A control character in a string.
+    InvalidCharInString(char),
+    /// A character after a backslash that begins no escape.
+    InvalidEscape(char),
+    /// A character of `\u` or `\U` that is no hexadecimal digit.
+    InvalidHexEscape(char),
+    /// The number of `\u` or `\U` that is no character.
+    InvalidEscapeValue(u32),
+    /// A line feed in a one-line string.
+    NewlineInString,
+    /// A character that begins no token.
+    Unexpected(char),
+    /// A string that the text ends in.
+    UnterminatedString,
+    /// A line feed in a key. No call answers it, since no one-line string holds one.
+    NewlineInTableKey,
+    /// A multiline string where a key is wanted.
+    MultilineStringKey,
+    /// Another thing than what is wanted.
+    Wanted {
+        /// What was wanted.
+        expected: &'static str,
+        /// What was found, `eof` for the end of the text.
+        found: &'static str,
+    },
+    /// The text ends where a value is wanted.
+    UnexpectedEof,
+    /// A number that is none, or that lies outside `i64`.
+    NumberInvalid,
+    /// A bare word where a value is wanted.
+    UnquotedString,
+    /// A dotted key that goes on from a row of the same section or inline table.
+    DottedKeyInvalidType,
+    /// The second occurrence of this key.
+    DuplicateKey(String),
+    /// The second header of this path, its keys joined by periods.
+    DuplicateTable(String),
+    /// An array of tables at a table.
+    RedefineAsArray,
+    /// A key or a bracket within 128 others.
+    NestedTooDeeply,
+    /// A type's own error, with its message.
+    Custom(String),
+    /// Memory that was refused.
+    OutOfMemory,
+}
+
+/// Why a text was not read: the error, its offset, and the keys that lead there.
+#[derive(Debug, Drop)]
+pub struct ReadError {
+    kind: ReadErrorKind,
+    offset: Option<usize>,
+    // `None` where there are no keys
+    key_path: Option<Vec<String>>,
+}
+
+impl Model for ReadError {
+    ghost use Rattle.basic_toml_grammar.specs.Faults.{Fault};
+    ghost use Rattle.basic_toml_explain.specs.Error.{fault_of};
+
+    ghost Value = { Fault };
+
+    ghost view = { fault_of };
+}
+
+impl ReadError {
+    ghost use Rattle.std.specs.Prelude.{Some, []};
+    ghost use Rattle.basic_toml_grammar.specs.GrammarFaults.{fault_at};
+
+    /// What it is.
+    pub fn kind(&self) -> &ReadErrorKind
+        ensures { kind_of result.now ≡ self.now.kind }
+    {
+        &self.kind
+    }
+
+    /// The byte offset where it stands, if it has an offset.
+    pub fn place(&self) -> Option<usize>
+        ensures { result ≡ self.now.offset }
+    {
+        self.offset
+    }
+
+    /// The keys that lead to it: those of the section, and the first key of the row.
+    pub fn key_path(&self) -> &[String]
+        ensures { map string_bytes result.now ≡ self.now.key_path }
+    {
+        match &self.key_path {
+            Some(keys) => keys.as_slice(),
+            None => &[],
+        }
+    }
+
+    /// An error of the grammar.
+    pub(crate) fn at(offset: usize, kind: ReadErrorKind) -> ReadError
+        ensures { result ≡ fault_at (kind_of kind) offset }
+    {
+        ReadError {
+            kind,
+            offset: Some(offset),
+            key_path: None,
+        }
+    }
+}
+
+impl From<AllocError> for ReadError {
+    ghost use Rattle.basic_toml_explain.specs.Error.{want_of_memory};
+
+    ghost from_gives = { λ _ error. error ≡ want_of_memory };
+
+    fn from(_error: AllocError) -> ReadError {
+        ReadError {
+            kind: ReadErrorKind::OutOfMemory,
+            offset: None,
+            key_path: None,
+        }
+    }
+}
+
+impl From<basic_toml_tokens::Error> for ReadError {
+    ghost use Rattle.basic_toml_explain.specs.Error.{token_fault};
+
+    ghost from_gives = { λ fault error. error ≡ token_fault fault };
+
+    fn from(fault: basic_toml_tokens::Error) -> ReadError {
+        use basic_toml_tokens::Error;
+        match fault {
+            Error::InvalidCharInString(at, c) => {
+                ReadError::at(at, ReadErrorKind::InvalidCharInString(c))
+            }
+            Error::InvalidEscape(at, c) => ReadError::at(at, ReadErrorKind::InvalidEscape(c)),
+            Error::InvalidHexEscape(at, c) => ReadError::at(at, ReadErrorKind::InvalidHexEscape(c)),
+            Error::InvalidEscapeValue(at, n) => {
+                ReadError::at(at, ReadErrorKind::InvalidEscapeValue(n))
+            }
+            Error::NewlineInString(at) => ReadError::at(at, ReadErrorKind::NewlineInString),
+            Error::Unexpected(at, c) => ReadError::at(at, ReadErrorKind::Unexpected(c)),
+            Error::UnterminatedString(at) => ReadError::at(at, ReadErrorKind::UnterminatedString),
+            Error::NewlineInTableKey(at) => ReadError::at(at, ReadErrorKind::NewlineInTableKey),
+            Error::MultilineStringKey(at) => ReadError::at(at, ReadErrorKind::MultilineStringKey),
+            Error::Wanted {
+                at,
+                expected,
+                found,
+            } => ReadError::at(at, ReadErrorKind::Wanted { expected, found }),
+            Error::OutOfMemory => ReadError {
+                kind: ReadErrorKind::OutOfMemory,
+                offset: None,
+                key_path: None,
+            },
+        }
+    }
+}

@@ -1,0 +1,36 @@
+-- What `sections` answers: the list that is read, or why there is none.
+use Rattle.std.proofs.Common.{inl, inr, ◌≡◌, ◌<◌, ℕ, List, sym, ◌∙◌, subst, Some, None, Ok, Vec, Global}
+use Rattle.basic_toml_tokens.specs.Text.{folded}
+use Rattle.basic_toml_grammar.specs.Faults.{Fault}
+use Rattle.basic_toml_grammar.specs.Levels.{highest_level}
+use Rattle.basic_toml_grammar.specs.Reader.{section_list_of}
+use Rattle.basic_toml_grammar.proofs.ReaderIsComplete.{list_found}
+use Rattle.basic_toml_grammar.proofs.ReaderIsSound.{list_read}
+use Rattle.basic_toml_explain.specs.declared.stop.Why.{Why}
+use Rattle.basic_toml_explain.specs.declared.stop.Why.TheVariants.{Memory, Deep}
+use Rattle.basic_toml_explain.specs.Explain.{IsDue, ExplainsWhy}
+use Rattle.basic_toml_read.specs.declared.section.Section as code
+use Rattle.basic_toml_read.specs.StopsAt.{Misses}
+use Rattle.basic_toml_read.specs.Lists.{ReadsList}
+use Rattle.basic_toml_read.specs.SectionsAnswer.{HoldsMore, IsRefused, memory, deep, outside, AnswersSections}
+
+-- the list that is read is the one of the grammar
+pub list_answered : (bytes : List ℕ) (list : Vec code.Section Global) → ReadsList bytes (Ok list)
+    → AnswersSections bytes (Ok list)
+list_answered bytes list r = (list_read (folded bytes) _ r.0, r.1)
+
+of_grammar : (bytes : List ℕ) (fault : Fault) → HoldsMore (folded bytes) → section_list_of (folded bytes) ≡ None
+    → IsDue bytes fault → IsRefused bytes fault
+of_grammar bytes fault more none (inl m) = subst (IsRefused bytes) (sym m) (memory more)
+of_grammar bytes fault more none (inr s) = outside (record {
+  outside = λ sections g. let z : None ≡ Some sections = sym none ∙ list_found (folded bytes) sections g in cc;
+  stands = s;
+})
+
+pub stop_answered : (bytes : List ℕ) (w : Why) (at : ℕ) (fault : Fault) → HoldsMore (folded bytes)
+    → Misses w (section_list_of (folded bytes)) (λ sections. 128 < highest_level sections)
+    → ExplainsWhy bytes w at fault → IsRefused bytes fault
+stop_answered bytes Memory at fault more m e = subst (IsRefused bytes) (sym e) (memory more)
+stop_answered bytes Deep at fault more m e =
+    subst (IsRefused bytes) (sym e) (deep (λ sections g. m sections (list_found (folded bytes) sections g)))
+stop_answered bytes _ at fault more m e = of_grammar bytes fault more m e
