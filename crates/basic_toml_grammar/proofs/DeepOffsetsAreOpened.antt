@@ -27,7 +27,7 @@ use Rattle.basic_toml_grammar.proofs.RestsAreEnds.{key_ends, keys_end, value_end
 use Rattle.basic_toml_grammar.proofs.RestsAreEnds.{header_ends}
 
 -- an end has at most as many
-openers_of_end : {text rest : Text} → IsEnd text rest → openers rest ≤ openers text
+pub openers_of_end : {text rest : Text} → IsEnd text rest → openers rest ≤ openers text
 openers_of_end all = omega arith
 openers_of_end (further {x = x} {text = text} {rest = rest} e) = go (leads_deeper x.1) (openers_of_end e)
   where
@@ -36,7 +36,7 @@ openers_of_end (further {x = x} {text = text} {rest = rest} e) = go (leads_deepe
     go false h = h
 
 -- a character that leads deeper is one more
-opened : {c p : ℕ} {text rest : Text} → StartsWith c text p rest → leads_deeper c ≡ true
+pub opened : {c p : ℕ} {text rest : Text} → StartsWith c text p rest → leads_deeper c ≡ true
     → openers text ≡ suc (openers rest)
 opened {rest = rest} s e = ap openers s ∙ ap (λ b. cond b (suc (openers rest)) (openers rest)) e
 
@@ -115,7 +115,7 @@ module _ (limit : ℕ) (whole : Text) where
       ) in
       one_opened l (deep_keys limit (l + 1) ks) e t.2 h (keys_opened (l + 1) f xs n)
 
-  keys_passed : {text rest : Text} {ks : List Key} → IsKeys text ks rest → length ks + openers rest ≤ suc (openers text)
+  pub keys_passed : {text rest : Text} {ks : List Key} → IsKeys text ks rest → length ks + openers rest ≤ suc (openers text)
   keys_passed (IsKeys.one k) = omega (arith, openers_of_end (key_ends k))
   keys_passed (more {mid = mid} {next = next} k s xs) =
       omega (
@@ -221,7 +221,7 @@ module _ (limit : ℕ) (whole : Text) where
         keys_opened 2 (ends_on e (ends_on (sign_ends s) (ends_on (sign_ends t) (run_ends is_blank inner)))) ks
         (omega (arith, openers_of_end e, opened s refl, opened t refl, openers_of_end (run_ends is_blank inner)))
 
-    header_passed : {text rest : Text} {p : ℕ} {ks : List Key} {a : Bool} → IsHeader text p ks a rest
+    pub header_passed : {text rest : Text} {p : ℕ} {ks : List Key} {a : Bool} → IsHeader text p ks a rest
         → length ks + openers rest ≤ openers text
     header_passed (table {next = next} {mid = mid} s ks f) =
         omega (

@@ -21,6 +21,8 @@ use Rattle.basic_toml_grammar.proofs.StringsAreRead.{then_some}
 use Rattle.basic_toml_grammar.proofs.ReaderIsSound.{found_some}
 use Rattle.basic_toml_grammar.specs.GrammarFaults.{precedes_key}
 use Rattle.basic_toml_read.proofs.Carried.{Carries, stays, then_on, over_period}
+use Rattle.basic_toml_grammar.specs.NestingFaults.{openers}
+use Rattle.basic_toml_read.proofs.Sinking.{key_sinks, blanks_sink, sign_sinks}
 use Rattle.basic_toml_read.proofs.EnoughSteps.{keys_is}
 use Rattle.basic_toml_read.proofs.LeftAfter.{sign_there, sign_missing}
 
@@ -78,6 +80,7 @@ pub record KeysTold (bytes : List ℕ) (at first offset level : ℕ) (front : Li
   pub boundary : IsCharBoundary bytes offset
   pub forward : at ≤ offset
   pub carries : Carries precedes_key (text_at bytes at) precedes_key (text_at bytes offset)
+  pub sinks : level + openers (text_at bytes offset) ≤ first + openers (text_at bytes at)
 
 pub told_start : (bytes : List ℕ) (at first : ℕ) → first ≤ 128 → IsCharBoundary bytes at
     → KeysTold bytes at first at first []
@@ -90,6 +93,7 @@ told_start bytes at first low b =
           b;
       forward = omega arith;
       carries = stays;
+      sinks = omega arith;
     }
 
 module _ (bytes : List ℕ) (at first offset level : ℕ) (front : List Key)
@@ -162,6 +166,16 @@ module _ (bytes : List ℕ) (at first offset level : ℕ) (front : List Key)
           boundary = after.boundary;
           forward = omega (arith, s.forward, key.2, blanks.forward, after.forward, sign.2);
           carries = then_on s.carries (over_period bytes offset k.end end next offset' key.0 blanks sign after);
+          sinks = omega (
+            arith,
+            s.sinks,
+            key_sinks (text_at bytes offset) (text_at bytes k.end) key.0,
+            ap openers blanks.left,
+            blanks_sink (text_at bytes k.end),
+            sign_sinks 46 (text_at bytes end) (end, text_at bytes next) (sign_there sign.0) refl,
+            ap openers after.left,
+            blanks_sink (text_at bytes next),
+          );
         }
 
     -- no period

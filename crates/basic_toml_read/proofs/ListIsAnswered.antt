@@ -1,8 +1,9 @@
 -- What `sections` answers: the list that is read, or why there is none.
-use Rattle.std.proofs.Common.{inl, inr, ◌≡◌, ◌<◌, ℕ, List, sym, ◌∙◌, subst, Some, None, Ok, Vec, Global}
-use Rattle.basic_toml_tokens.specs.Text.{folded}
+use Rattle.std.proofs.Common.{inl, inr, ◌≡◌, ◌<◌, ◌≤◌, ◌+◌, ℕ, List, refl, sym, ◌∙◌, subst, Some, None, Ok, Vec, Global}
+use Rattle.basic_toml_tokens.specs.Text.{text_at, folded}
 use Rattle.basic_toml_grammar.specs.Faults.{Fault}
 use Rattle.basic_toml_grammar.specs.Levels.{highest_level}
+use Rattle.basic_toml_grammar.specs.NestingFaults.{openers}
 use Rattle.basic_toml_grammar.specs.Reader.{section_list_of}
 use Rattle.basic_toml_grammar.proofs.ReaderIsComplete.{list_found}
 use Rattle.basic_toml_grammar.proofs.ReaderIsSound.{list_read}
@@ -28,9 +29,10 @@ of_grammar bytes fault more none (inr s) = outside (record {
 })
 
 pub stop_answered : (bytes : List ℕ) (w : Why) (at : ℕ) (fault : Fault) → HoldsMore (folded bytes)
+    → (w ≡ Deep → 128 + openers (text_at bytes at) ≤ openers (folded bytes))
     → Misses w (section_list_of (folded bytes)) (λ sections. 128 < highest_level sections)
     → ExplainsWhy bytes w at fault → IsRefused bytes fault
-stop_answered bytes Memory at fault more m e = subst (IsRefused bytes) (sym e) (memory more)
-stop_answered bytes Deep at fault more m e =
-    subst (IsRefused bytes) (sym e) (deep (λ sections g. m sections (list_found (folded bytes) sections g)))
-stop_answered bytes _ at fault more m e = of_grammar bytes fault more m e
+stop_answered bytes Memory at fault more low m e = subst (IsRefused bytes) (sym e) (memory more)
+stop_answered bytes Deep at fault more low m e =
+    subst (IsRefused bytes) (sym e) (deep (λ sections g. m sections (list_found (folded bytes) sections g)) (low refl))
+stop_answered bytes _ at fault more low m e = of_grammar bytes fault more m e

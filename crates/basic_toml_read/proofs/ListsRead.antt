@@ -29,6 +29,9 @@ use Rattle.basic_toml_grammar.specs.GrammarFaults.{Reached, at_start}
 use Rattle.basic_toml_explain.specs.StopPlaces.{after_value, anywhere, IsAt}
 use Rattle.basic_toml_read.specs.StopsReached.{LineAt, NextStands}
 use Rattle.basic_toml_read.proofs.Carried.{line_at, header_here, line_after}
+use Rattle.basic_toml_grammar.specs.NestingFaults.{openers}
+use Rattle.basic_toml_read.specs.StopsReached.{SinksTo}
+use Rattle.basic_toml_read.proofs.Sinking.{header_sinks, line_sinks, end_sinks}
 use Rattle.basic_toml_read.proofs.EnoughSteps.{list_is, sections_is, sections_is_none}
 use Rattle.basic_toml_read.proofs.HeadersRead.{header_length}
 use Rattle.basic_toml_read.proofs.KeysTold.{misses_then, misses_none}
@@ -68,6 +71,10 @@ root_level : (rs : Rows) → (rows_level 1 rs ≤ highest_level (with_root rs []
 root_level no_rows = (omega arith, omega arith)
 root_level (row keys p v rs) = (omega arith, omega arith)
 
+sinks_on : (bytes : List ℕ) (m n : ℕ) (next : Option ℕ) → SinksTo bytes m next → m ≤ n → SinksTo bytes n next
+sinks_on bytes m n None s h = tt
+sinks_on bytes m n (Some at) s h = omega arith
+
 pub some_none : {A : Type 0} (x : A) → Some x ≡ None → ⊥
 some_none x e = cc
 
@@ -85,6 +92,7 @@ pub record ListSoFar (bytes : List ℕ) (next : Option ℕ) (gathered : Gathered
   pub limit : highest_level (map section_of list) ≤ 128
   pub reached : NextStands (folded bytes) bytes next
   pub gaps : IsGap (folded bytes) → next ≡ None
+  pub sinks : SinksTo bytes (openers (folded bytes)) next
 
 -- the rows before the first header
 module _ (bytes : List ℕ) (start : ℕ) (start_is : start ≡ start_of bytes) where
@@ -152,6 +160,7 @@ module _ (bytes : List ℕ) (start : ℕ) (start_is : start ≡ start_of bytes) 
     limit = omega (arith, ap highest_level same, (root_level (rows_view r.added)).1, r.limit);
     reached = r.reached (folded bytes) list_begins;
     gaps = λ g. (gap_passed old mid next passed g).0;
+    sinks = subst (λ (n : ℕ). SinksTo bytes (openers (text_at bytes n)) next) start_is r.sinks;
   }
     where
       items : mid.rows.items ≡ r.added
@@ -304,6 +313,12 @@ module _ (bytes : List ℕ) (at : ℕ) where
             ends = r.ends;
             from = further next r.from;
             reached = λ whole a. r.reached whole (line_begins whole a);
+            sinks = sinks_on bytes (openers (text_at bytes line)) (openers (text_at bytes at)) next r.sinks (omega (
+              arith,
+              header_sinks (text_at bytes at) _ read.is,
+              line_sinks (text_at bytes h.end),
+              end_sinks (after_comment_by is_comment (after_blanks (text_at bytes h.end))) (text_at bytes line) ended.0,
+            ));
             none = rest_is;
             limit = omega (
               arith,
@@ -340,6 +355,7 @@ list_more bytes at next old new before after s r = record {
   );
   reached = r.reached (folded bytes) s.reached.0;
   gaps = λ g. let e = s.gaps g in cc;
+  sinks = sinks_on bytes (openers (text_at bytes at)) (openers (folded bytes)) next r.sinks s.sinks;
 }
   where
     same : map section_of before.items ++ section_of r.made ∷ [] ≡ map section_of after.items

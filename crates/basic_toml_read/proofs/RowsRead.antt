@@ -28,6 +28,8 @@ use Rattle.basic_toml_grammar.specs.GrammarFaults.{precedes_key}
 use Rattle.basic_toml_explain.specs.StopPlaces.{after_value, anywhere, IsAt}
 use Rattle.basic_toml_read.specs.StopsReached.{LineAt}
 use Rattle.basic_toml_read.proofs.Carried.{moved, blanks_at, line_at, row_here, any_at, line_after}
+use Rattle.basic_toml_grammar.specs.NestingFaults.{openers}
+use Rattle.basic_toml_read.proofs.Sinking.{row_sinks, blanks_sink, line_sinks, end_sinks}
 use Rattle.basic_toml_read.proofs.EnoughSteps.{rows_is, rows_is_none}
 use Rattle.basic_toml_read.proofs.LeftAfter.{sign_there, sign_missing, gap_past_line, gap_over, gap_ends_line, gap_has_no_bracket}
 use Rattle.basic_toml_read.proofs.KeysTold.{misses_then, misses_none}
@@ -50,6 +52,7 @@ pub record RowsSoFar (bytes : List ℕ) (start level at : ℕ) (old new : Gather
   pub forward : start ≤ at
   pub lines : (whole : Text) → LineAt whole (text_at bytes start) → LineAt whole (text_at bytes at)
   pub gaps : IsGap (text_at bytes start) → IsGap (text_at bytes at) × (new.rows.items ≡ old.rows.items)
+  pub sinks : openers (text_at bytes at) ≤ openers (text_at bytes start)
 
 pub rows_start : (bytes : List ℕ) (start level : ℕ) (old : Gathered) → IsCharBoundary bytes start
     → RowsSoFar bytes start level start old old
@@ -65,6 +68,7 @@ rows_start bytes start level old b = record {
   forward = omega arith;
   lines = λ whole a. a;
   gaps = λ g. (g, refl);
+  sinks = omega arith;
 }
 
 some_first : (a b : Rows × Text) → Some a ≡ Some b → a.0 ≡ b.0
@@ -93,6 +97,7 @@ module _ (bytes : List ℕ) (start level at : ℕ) (old new : Gathered) (s : Row
     ends = refl;
     from = tt;
     reached = λ whole a. tt;
+    sinks = tt;
   }
 
   -- a line
@@ -150,6 +155,7 @@ module _ (bytes : List ℕ) (start level at : ℕ) (old new : Gathered) (s : Row
         moved (sym blanks.left) (blanks_at (text_at bytes at) (line_any (s.lines whole a))),
         λ none. let z : None ≡ Some (front, text_at bytes next) = sym none ∙ sign_there sign.0 in cc,
       );
+      sinks = omega (arith, s.sinks, ap openers blanks.left, blanks_sink (text_at bytes at));
     }
 
     -- a header is no gap
@@ -191,6 +197,13 @@ module _ (bytes : List ℕ) (start level at : ℕ) (old new : Gathered) (s : Row
             (moved (sym (comment.left ∙ ap (after_comment_by is_comment) blanks.left))
             (line_at (text_at bytes at) (line_any (s.lines whole a)))) e.0;
         gaps = λ g. (gap_over (text_at bytes end) (text_at bytes next) e.0 (gap_here g), (s.gaps g).1);
+        sinks = omega (
+          arith,
+          s.sinks,
+          end_sinks (text_at bytes end) (text_at bytes next) e.0,
+          ap openers (comment.left ∙ ap (after_comment_by is_comment) blanks.left),
+          line_sinks (text_at bytes at),
+        );
       }
 
       module _ (goes_on : EndsAt bytes end None) where
@@ -285,6 +298,16 @@ module _ (bytes : List ℕ) (start level at : ℕ) (old new : Gathered) (s : Row
                 lines = λ whole a. line_after (after_comment_by is_comment (after_blanks (text_at bytes after)))
                     (text_at bytes next) (line_at (text_at bytes after) (row_ended new' after r whole a)) e.0;
                 gaps = λ g. absurd (rows_no_gap g);
+                sinks = omega (
+                  arith,
+                  s.sinks,
+                  ap openers blanks.left,
+                  blanks_sink (text_at bytes at),
+                  row_sinks (text_at bytes front) r.found r.is,
+                  ap openers r.rest,
+                  line_sinks (text_at bytes after),
+                  end_sinks (after_comment_by is_comment (after_blanks (text_at bytes after))) (text_at bytes next) e.0,
+                );
               }
 
 -- a line takes at least one character

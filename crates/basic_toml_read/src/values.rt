@@ -1,9 +1,9 @@
 //! Rows and values, which nest.
-ghost use Rattle.std.specs.Prelude.{IfErr, ◌≡◌, ◌≤◌, true, length, drop, take, IfOk};
+ghost use Rattle.std.specs.Prelude.{IfErr, ◌≡◌, ◌≤◌, ◌+◌, true, length, drop, take, IfOk};
 ghost use Rattle.std.specs.Str.{IsCharBoundary};
 ghost use Rattle.basic_toml_explain.specs.Stop.{StopsInside};
 ghost use Rattle.basic_toml_explain.specs.StopPlaces.{before_value};
-ghost use Rattle.basic_toml_read.specs.StopsReached.{StandsFrom};
+ghost use Rattle.basic_toml_read.specs.StopsReached.{StandsFrom, DeepFrom, DeepWithin};
 ghost use Rattle.basic_toml_grammar.specs.GrammarFaults.{precedes_key};
 ghost use Rattle.basic_toml_tokens.specs.Punctuation.{is_lone};
 ghost use Rattle.basic_toml_read.specs.Gathers.{RaisesTo, ClosesAt, ReadsKeys, ReadsRow, ReadsValue, ReadsElements, ReadsArray, ReadsFields, ReadsInline};
@@ -77,6 +77,7 @@ impl<'de> Gathered<'de> {
         ensures read { ReadsKeys text.now at first self.old self.new result }
         ensures inside { IfErr result (λ stop. StopsInside text.now stop) }
         ensures stands { StandsFrom precedes_key text.now at result }
+        ensures deep { DeepFrom text.now at first result }
     {
         let mut offset = at;
         let mut level = first;
@@ -122,6 +123,7 @@ impl<'de> Gathered<'de> {
         ensures read { ReadsRow text.now at level self.old self.new result }
         ensures inside { IfErr result (λ stop. StopsInside text.now stop) }
         ensures stands { StandsFrom precedes_key text.now at result }
+        ensures deep { DeepFrom text.now at level result }
     {
         let last = self.keys(text, at, level)?;
         let Some(next) = after_punctuation(text, last.end, b'=') else {
@@ -154,6 +156,7 @@ impl<'de> Gathered<'de> {
         ensures read { ReadsValue text.now at level self.old self.new result }
         ensures inside { IfErr result (λ stop. StopsInside text.now stop) }
         ensures stands { StandsFrom before_value text.now at result }
+        ensures deep { DeepFrom text.now at (level + 1) result }
     {
         if let Some(next) = after_punctuation(text, at, b'[') {
             return self.array(text, at, next, level + 1);
@@ -182,6 +185,7 @@ impl<'de> Gathered<'de> {
         ensures read { ReadsArray text.now offset at level self.old self.new result }
         ensures inside { IfErr result (λ stop. StopsInside text.now stop) }
         ensures stands { StandsFrom before_value text.now at result }
+        ensures deep { DeepWithin text.now offset at level result }
     {
         raise(level, offset)?;
         let from = self.elements.len();
@@ -201,6 +205,7 @@ impl<'de> Gathered<'de> {
         ensures read { ReadsElements text.now start level self.old self.new result }
         ensures inside { IfErr result (λ stop. StopsInside text.now stop) }
         ensures stands { StandsFrom before_value text.now start result }
+        ensures deep { DeepFrom text.now start (level + 1) result }
     {
         let mut at = start;
         loop {
@@ -235,6 +240,7 @@ impl<'de> Gathered<'de> {
         ensures read { ReadsInline text.now offset at level self.old self.new result }
         ensures inside { IfErr result (λ stop. StopsInside text.now stop) }
         ensures stands { StandsFrom precedes_key text.now at result }
+        ensures deep { DeepWithin text.now offset at level result }
     {
         raise(level, offset)?;
         let from = self.rows.len();
@@ -254,6 +260,7 @@ impl<'de> Gathered<'de> {
         ensures read { ReadsFields text.now start level self.old self.new result }
         ensures inside { IfErr result (λ stop. StopsInside text.now stop) }
         ensures stands { StandsFrom precedes_key text.now start result }
+        ensures deep { DeepFrom text.now start level result }
     {
         if let Some(end) = after_punctuation(text, start, b'}') {
             return Ok(end);

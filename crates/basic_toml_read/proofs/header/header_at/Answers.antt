@@ -8,6 +8,7 @@ use Rattle.basic_toml_read.proofs.HeadersRead.{two_unclosed, two_half_closed, tw
 use Rattle.basic_toml_read.proofs.Carried.{then_on}
 use Rattle.basic_toml_read.proofs.StopsStand.{header_stop, no_bracket_there, to_keys, to_array_keys, after_header_keys}
 use Rattle.basic_toml_read.proofs.StopsStand.{after_bracket}
+use Rattle.basic_toml_read.proofs.DeepStops.{deep_on, to_keys_left, to_array_keys_left}
 use Rattle.basic_toml_read.proofs.header.header_at.Goals as goal
 
 pub returns-in_err-inner-clause-read : goal.returns-in_err-inner-clause-read
@@ -134,3 +135,18 @@ returns-in_err-end-in-Some-clause-stands c =
     (then_on (after_header_keys c.args.text.now c.after_blanks-in-Some.result k.field-0 k.ensures.read)
     (after_bracket c.args.text.now k.field-0.end last.last last.ensures.read)))
     (no_bracket_there c.args.text.now last.last stop c.in_err-end-in-Some.ensures.read)
+
+-- levels
+pub returns-in_err-keys-in-None-clause-deep : goal.returns-in_err-keys-in-None-clause-deep
+returns-in_err-keys-in-None-clause-deep c =
+    deep_on c.args.text.now c.args.at c.after_blanks.result 1 2 c.in_err-keys-in-None.field-0.0
+    c.from_residual-in_err-keys-in-None.result c.from_residual-in_err-keys-in-None.ensures.1
+    (to_keys_left c.args.text.now c.args.at c.in_ok-inner.inner c.after_blanks.result c.in_ok-inner.ensures.read.0
+    c.after_blanks.ensures) c.in_err-keys-in-None.ensures.deep
+
+pub returns-in_err-keys-in-Some-clause-deep : goal.returns-in_err-keys-in-Some-clause-deep
+returns-in_err-keys-in-Some-clause-deep c =
+    deep_on c.args.text.now c.args.at c.after_blanks-in-Some.result 1 2 c.in_err-keys-in-Some.field-0.0
+    c.from_residual-in_err-keys-in-Some.result c.from_residual-in_err-keys-in-Some.ensures.1
+    (to_array_keys_left c.args.text.now c.args.at c.in_ok-inner.inner c.in-Some.first c.after_blanks-in-Some.result
+    c.in_ok-inner.ensures.read.0 c.in-Some.ensures c.after_blanks-in-Some.ensures) c.in_err-keys-in-Some.ensures.deep

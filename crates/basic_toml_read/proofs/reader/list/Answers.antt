@@ -1,4 +1,4 @@
-use Rattle.std.proofs.Common.{ℕ, Option, subst, ◌∙◌}
+use Rattle.std.proofs.Common.{ℕ, Option, subst, ap, ◌∙◌, arith}
 use Rattle.basic_toml_read.specs.Lists.{ReadsList}
 use Rattle.basic_toml_read.proofs.KeysTold.{stopped}
 use Rattle.basic_toml_read.proofs.ListsRead.{ListSoFar, root_missing, root_there, list_more, list_missing, falls}
@@ -7,6 +7,9 @@ use Rattle.basic_toml_tokens.specs.Text.{folded}
 use Rattle.basic_toml_read.proofs.StopsStand.{list_stop}
 use Rattle.basic_toml_read.proofs.ListsRead.{list_begins, gap_stopped, gap_passed, if_err, some_none}
 use Rattle.basic_toml_read.specs.SectionsAnswer.{HoldsMore}
+use Rattle.basic_toml_grammar.specs.NestingFaults.{openers}
+use Rattle.basic_toml_tokens.specs.Text.{text_at}
+use Rattle.basic_toml_read.specs.StopsReached.{IfDeep}
 use Rattle.basic_toml_read.proofs.reader.list.Goals as goal
 
 pub returns-in_err-bracket-clause-read : goal.returns-in_err-bracket-clause-read
@@ -89,3 +92,28 @@ returns-in_err-bracket-2-clause-more c =
     c.loop-bracket.sections.items) c.in-Some.is c.loop-bracket.invariant in
     if_err (HoldsMore (folded c.args.text.now)) c.from_residual-in_err-bracket-2.result
     (λ g. some_none c.in-Some.at (s.gaps g))
+
+-- levels
+pub returns-in_err-bracket-clause-deep : goal.returns-in_err-bracket-clause-deep
+returns-in_err-bracket-clause-deep c =
+    let text = c.args.text.now in
+    stopped (λ r. IfDeep text (openers (folded text)) r) c.from_residual.result c.in_err-bracket.field-0.0
+    c.from_residual.ensures.1
+    (c.in_err-bracket.ensures.deep (openers (folded text))
+    (omega (arith, ap (λ (n : ℕ). openers (text_at text n)) c.start.ensures.offset)))
+
+pub returns-in_err-root-clause-deep : goal.returns-in_err-root-clause-deep
+returns-in_err-root-clause-deep c =
+    let text = c.args.text.now in
+    let w = c.in_err-root.ensures.0 in
+    stopped (λ r. IfDeep text (openers (folded text)) r) c.from_residual-in_err-root.result
+    c.in_err-root.field-0.0 c.from_residual-in_err-root.ensures.1 (λ e. cc)
+
+pub returns-in_err-bracket-2-clause-deep : goal.returns-in_err-bracket-2-clause-deep
+returns-in_err-bracket-2-clause-deep c =
+    let text = c.args.text.now in
+    let s = subst (λ (o : Option ℕ). ListSoFar c.args.text.now o c.loop-bracket.gathered
+    c.loop-bracket.sections.items) c.in-Some.is c.loop-bracket.invariant in
+    stopped (λ r. IfDeep text (openers (folded text)) r) c.from_residual-in_err-bracket-2.result
+    c.in_err-bracket-2.field-0.0 c.from_residual-in_err-bracket-2.ensures.1
+    (c.in_err-bracket-2.ensures.deep (openers (folded text)) (omega (arith, s.sinks)))

@@ -6,4 +6,4 @@ returns-in-Ok c = list_answered c.args.text.now c.in-Ok.sections c.in-Ok.ensures
 
 pub returns-in-Err : goal.returns-in-Err
 returns-in-Err c = stop_answered c.args.text.now c.in-Err.stop.why c.in-Err.stop.at c.explain.result
-    c.in-Err.ensures.more c.in-Err.ensures.read c.explain.ensures
+    c.in-Err.ensures.more c.in-Err.ensures.deep c.in-Err.ensures.read c.explain.ensures

@@ -5,6 +5,7 @@ use Rattle.basic_toml_read.proofs.RowsRead.{rows_start, rows_over, rows_bracket,
 use Rattle.basic_toml_read.proofs.RowsRead.{rows_unended, rows_more, line_later, some_line, sign_stands, sign_lacks}
 use Rattle.basic_toml_read.proofs.StopsStand.{line_stop_on}
 use Rattle.basic_toml_read.proofs.RowsRead.{row_begins, row_ended, bracket_no_gap, rows_no_gap}
+use Rattle.basic_toml_read.proofs.DeepStops.{deep_on, shallow, blanks_left}
 use Rattle.basic_toml_read.proofs.values.Gathered.rows.Goals as goal
 
 pub loop-at-init : goal.loop-at-init
@@ -125,3 +126,20 @@ returns-in_err-at-in-None-clause-stands c =
     c.after_blanks-front.result c.after_blanks-front.ensures c.row.new.self c.in_ok-end-in-None.end
     c.in_ok-end-in-None.ensures.read)
     c.in_err-at-in-None.ensures.stands
+
+-- levels
+pub returns-in_err-end-in-None-clause-deep : goal.returns-in_err-end-in-None-clause-deep
+returns-in_err-end-in-None-clause-deep c =
+    deep_on c.args.text.now c.args.start c.after_blanks-front.result c.args.level c.args.level
+    c.in_err-end-in-None.field-0.0 c.from_residual.result c.from_residual.ensures.1
+    (omega (
+      arith,
+      c.loop-at.invariant.sinks,
+      blanks_left c.args.text.now c.loop-at.at c.after_blanks-front.result c.after_blanks-front.ensures,
+    )) c.in_err-end-in-None.ensures.deep
+
+pub returns-in_err-at-in-None-clause-deep : goal.returns-in_err-at-in-None-clause-deep
+returns-in_err-at-in-None-clause-deep c =
+    let w = c.in_err-at-in-None.ensures.read.1 in
+    shallow c.args.text.now c.args.start c.args.level c.in_err-at-in-None.field-0.0
+    c.from_residual-in_err-at-in-None.result c.from_residual-in_err-at-in-None.ensures.1 (λ e. cc)
