@@ -6,6 +6,7 @@
 #![tactic(auto)]
 
 mod again;
+mod data;
 mod impls;
 pub mod laws;
 mod serializer;
