@@ -1,8 +1,8 @@
-ghost use Rattle.std.specs.Prelude.{◌≡◌, ◌&&◌, Result, if◌then◌else◌};
+ghost use Rattle.std.specs.Prelude.{◌≡◌, ◌&&◌, true, [], Result, if◌then◌else◌, string_bytes};
 ghost use Rattle.basic_toml_emit.specs.declared.fault.Fault.TheVariants.{CallOrder};
 ghost use Rattle.basic_toml_emit.specs.Items.{a_scalar, an_absent, open_array, open_table, close, key, field, some_prefix, value_prefix, element_prefix};
 ghost use Rattle.basic_toml_emit.specs.Scalar.{item_of, scalar_of};
-ghost use Rattle.basic_toml_emit.specs.Open.{State, fresh};
+ghost use Rattle.basic_toml_emit.specs.Open.{State, state, fresh};
 ghost use Rattle.basic_toml_emit.specs.Calls as c;
 ghost use Rattle.basic_toml_emit.specs.Rules.{CallFault, key_of};
 ghost use Rattle.basic_toml_emit.specs.Error.{Meets, Names};
@@ -47,6 +47,27 @@ impl Emitter {
             is_done: false,
             alloc,
         }
+    }
+
+    /// An emitter that has taken the items of a whole table, whose text is this. Takes no memory.
+    pub fn with_whole(alloc: Global, text: String) -> Emitter
+        ensures { state_of result ≡ state (string_bytes text) [] true }
+    {
+        Emitter {
+            text,
+            frames: Vec::new(alloc),
+            spare: Vec::new(alloc),
+            is_done: true,
+            alloc,
+        }
+    }
+
+    /// Whether nothing was taken yet, or nothing that left a trace.
+    #[tactic(auto, using(crate::proofs::FramesOfStack::nothing_open_yes))]
+    pub fn is_fresh(&self) -> bool
+        ensures { result ≡ true → state_of self.now ≡ fresh }
+    {
+        !self.is_done && self.frames.is_empty() && self.text.is_empty()
     }
 
     /// Takes what a call records, or answers the error that is due.

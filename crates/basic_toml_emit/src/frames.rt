@@ -11,7 +11,7 @@ ghost use Rattle.basic_toml_emit.specs.Frames.{frames_of, frame_of, header_of, s
 use crate::keys::Keys;
 use std::alloc::{AllocError, Global};
 
-// How many arrays and tables may be open at once.
+/// How many arrays and tables may be open at once.
 pub const NESTING_LIMIT: usize = 128;
 
 // Whether the header of a table is still to be written.

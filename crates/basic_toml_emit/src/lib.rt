@@ -19,4 +19,6 @@ mod text;
 pub use call::Call;
 pub use emitter::Emitter;
 pub use error::WriteError;
+pub use frames::NESTING_LIMIT;
 pub use scalar::Scalar;
+pub use text::write_key;

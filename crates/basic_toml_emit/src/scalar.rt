@@ -57,8 +57,9 @@ impl<'a> Scalar<'a> {
         }
     }
 
+    /// Appends the text of a value in a row; of a refused one, nothing.
     #[inline(always)]
-    pub(crate) fn write(self, text: &mut String) -> Result<(), AllocError>
+    pub fn write(self, text: &mut String) -> Result<(), AllocError>
         ensures { IfOk result (λ _. string_bytes text.new ≡ string_bytes text.old
             ++ written_scalar (scalar_of self.entry)) }
     {

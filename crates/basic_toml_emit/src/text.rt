@@ -105,7 +105,7 @@ fn is_bare_key(key: &str) -> bool
     !key.is_empty() && are_bare(key.as_bytes())
 }
 
-// A key: bare where it can be, else between quotes.
+/// Appends a key: bare where it can be, else between quotes.
 pub fn write_key(text: &mut String, key: &str) -> Result<(), AllocError>
     ensures { IfOk result (λ _. string_bytes text.new ≡ string_bytes text.old ++ written_key key.now) }
 {

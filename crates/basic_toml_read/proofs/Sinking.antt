@@ -7,7 +7,7 @@ use Rattle.basic_toml_grammar.specs.Grammar.{after_comment_by, after_gap}
 use Rattle.basic_toml_grammar.specs.NestingFaults.{leads_deeper, openers}
 use Rattle.basic_toml_grammar.specs.Reader as reader
 use Rattle.basic_toml_grammar.specs.Reader.{char_at, key_at, end_of}
-use Rattle.basic_toml_grammar.proofs.DeepPlacesAreOpened.{openers_of_end, opened, keys_passed, header_passed}
+use Rattle.basic_toml_grammar.proofs.DeepOffsetsAreOpened.{openers_of_end, opened, keys_passed, header_passed}
 use Rattle.basic_toml_grammar.proofs.ReaderIsSound.{sign_read, key_read, keys_read, value_read, row_read, header_read}
 use Rattle.basic_toml_grammar.proofs.RestsAreEnds.{all, further, sign_ends, run_ends, gap_ends, comment_ends}
 use Rattle.basic_toml_grammar.proofs.RestsAreEnds.{key_ends, value_ends, row_ends}

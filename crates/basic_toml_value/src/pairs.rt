@@ -150,9 +150,11 @@ impl<V> Pairs<V> {
         put(&mut self.entries, &mut self.index, gap, key, value)
     }
 
-    // The pairs in order.
-    pub(crate) fn entries(&self) -> &[Pair<V>]
-        ensures { seen result.now ≡ self.now }
+    /// The pairs in order.
+    #[tactic(auto, using(crate::proofs::SeenPairs::seen_pairs))]
+    pub fn entries(&self) -> &[Pair<V>]
+        ensures pairs { seen result.now ≡ self.now }
+        ensures distinct { IsTrue (are_distinct (keys_of self.now)) }
     {
         self.entries.as_slice()
     }

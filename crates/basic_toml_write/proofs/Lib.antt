@@ -11,6 +11,11 @@ pub mod OneCallIsSent
 pub mod FinishHandsOut
 pub mod PartsAreSent
 pub mod DataIsSentByParts
+pub mod TablesFit
+pub mod DataIsLaidOut
+pub mod DataIsRecordable
+pub mod FittingDataIsTaken
+pub mod TableIsLaidOut
 pub mod SpelledListIsInOrder
 pub mod TextIsLayout
 pub mod CallsAreWrittenOut

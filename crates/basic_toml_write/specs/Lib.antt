@@ -6,5 +6,7 @@ pub mod Recordable
 pub mod Again
 pub mod Serializer
 pub mod Impls
+pub mod DataFits
+pub mod DataText
 pub mod Write
 pub mod Statements

@@ -6,7 +6,7 @@ ghost use Rattle.basic_toml_write.specs.Impls.{data_calls, scalar_calls, option_
 ghost use Rattle.basic_toml_value.specs.View.{view};
 
 use crate::{Serialize, Serializer, WriteError};
-use basic_toml_value::{Float, Pairs, Value};
+use basic_toml_value::{Float, Pairs, Table, Value};
 use std::alloc::Global;
 use std::collections::BTreeMap;
 
@@ -158,17 +158,27 @@ impl<T: Serialize> Serialize for Vec<T> {
     }
 }
 
-impl<V: Serialize> Serialize for Pairs<V> {
-    ghost calls = { table_calls V.calls };
+// The calls of a table.
+fn serialize_entries<V: Serialize>(pairs: &Pairs<V>, ser: &mut Serializer) -> Result<(), WriteError>
+    ensures { Sends (table_calls V.calls pairs.now) (TableGivesUp V.calls V.gives_up pairs.now) ser.old ser.new result }
+{
+    ser.serialize_map(Some(pairs.len()))?;
+    for (key, value) in pairs.iter() {
+        ser.serialize_field(key, value)?;
+    }
+    ser.end()
+}
 
-    ghost gives_up = { TableGivesUp V.calls V.gives_up };
+// A whole table is laid out at once where it can be: its keys differ, so no key need be looked for.
+impl Serialize for Table {
+    ghost calls = { table_calls (λ v. data_calls (view v)) };
 
+    #[cycle(data)]
     fn serialize(&self, _alloc: Global, ser: &mut Serializer) -> Result<(), WriteError> {
-        ser.serialize_map(Some(self.len()))?;
-        for (key, value) in self.iter() {
-            ser.serialize_field(key, value)?;
+        match ser.lay_out(self) {
+            Some(answer) => answer,
+            None => serialize_entries(self, ser),
         }
-        ser.end()
     }
 }
 
@@ -189,6 +199,7 @@ impl<V: Serialize> Serialize for BTreeMap<String, V> {
 impl Serialize for Value {
     ghost calls = { λ v. data_calls (view v) };
 
+    #[cycle(data)]
     fn serialize(&self, alloc: Global, ser: &mut Serializer) -> Result<(), WriteError> {
         match self {
             Value::Integer(n) => ser.serialize_i64(*n),

@@ -5,6 +5,7 @@
 #![tactic(auto)]
 
 mod again;
+mod data;
 mod impls;
 pub mod laws;
 mod serializer;

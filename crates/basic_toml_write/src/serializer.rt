@@ -5,8 +5,9 @@ ghost use Rattle.basic_toml_emit.specs.Written as w;
 ghost use Rattle.basic_toml_emit.specs.Scalar.{item_of};
 
 use crate::again::{again, twice};
+use crate::data::{laid_out, table_fits};
 use basic_toml_emit::{Call, Emitter, Scalar, WriteError};
-use basic_toml_value::Float;
+use basic_toml_value::{Float, Table};
 use std::alloc::Global;
 
 /// Turns calls into TOML text (TOML v0.5.0).
@@ -41,6 +42,10 @@ pub struct Serializer {
 impl Serializer {
     ghost use Rattle.basic_toml_emit.specs.Emitter.{Steps};
     ghost use Rattle.basic_toml_write.specs.Recordable.{IsRecordable};
+    ghost use Rattle.basic_toml_value.specs.Data as d;
+    ghost use Rattle.basic_toml_value.specs.View.{entries};
+    ghost use Rattle.basic_toml_write.specs.Impls.{data_calls};
+    ghost use Rattle.basic_toml_write.specs.Serializer.{Sends};
     ghost use Rattle.basic_toml_write.specs.Serializer.{HasRecorded, NoFault, Takes, Passes, Refused, Finishes, error_of};
     ghost use Rattle.basic_toml_write.specs.Write.{IsLayout, Succeeds};
 
@@ -313,6 +318,25 @@ impl Serializer {
         ensures { Takes (close ∷ []) self.old self.new result }
     {
         self.take(Call::Close)
+    }
+
+    // Lays a table of data out, where no call was made before and no rule refuses the table. Else `None`, and nothing
+    // is changed.
+    #[tactic(auto, using(crate::proofs::TableIsLaidOut::sends_laid, crate::proofs::TableIsLaidOut::sends_short))]
+    pub(crate) fn lay_out(&mut self, table: &Table) -> Option<Result<(), WriteError>>
+        ensures { MatchOption result (self.new ≡ self.old)
+            (λ answer. Sends (data_calls (d.table (entries table.now))) NoFault self.old self.new answer) }
+    {
+        if self.has_refused() || !self.emitter.is_fresh() || !table_fits(table, 0) {
+            return None;
+        }
+        match laid_out(self.alloc, table) {
+            Ok(text) => {
+                self.emitter = Emitter::with_whole(self.alloc, text);
+                Some(Ok(()))
+            }
+            Err(_) => Some(self.refuse(WriteError::OutOfMemory)),
+        }
     }
 
     // The answer of a part, or the error that was met in it.

@@ -8,7 +8,7 @@ use Rattle.basic_toml_value.proofs.value.+copies.Goals as goal
 
 pub Table::clone-from_parts-requires : goal.Table::clone-from_parts-requires
 Table::clone-from_parts-requires t c =
-    let keys : keys_of c.args.self.now ≡ texts_of c.in_ok-copies.copies.items = ap keys_of (sym c.entries.ensures) ∙
+    let keys : keys_of c.args.self.now ≡ texts_of c.in_ok-copies.copies.items = ap keys_of (sym c.entries.ensures.pairs) ∙
     keys_of-seen c.entries.result.now ∙ sym c.in_ok-copies.ensures.texts in
     c.in_ok-index.ensures (texts_of c.in_ok-copies.copies.items) (rw keys at c.index.ensures)
 

@@ -5,10 +5,10 @@ use Rattle.basic_toml_write.specs.Serializer.{NoFault, Sends}
 use Rattle.basic_toml_write.specs.Impls.{data_calls, array_calls, ArrayGivesUp, table_calls, TableGivesUp}
 use Rattle.basic_toml_write.proofs.ListsAreSentInTurn.{sends_widen}
 use Rattle.basic_toml_write.proofs.DataIsSentByParts.{array_sent, table_sent, any_never, view-Array, view-Table}
-use Rattle.basic_toml_write.proofs.impls.ValueSerialize.+serialize.Goals as goal
+use Rattle.basic_toml_write.proofs.impls.+data.Goals as goal
 
-pub returns-in-Array : goal.returns-in-Array
-returns-in-Array n c =
+pub ValueSerialize::serialize-returns-in-Array : goal.ValueSerialize::serialize-returns-in-Array
+ValueSerialize::serialize-returns-in-Array n c =
     let xs = c.in-Array.values.items in
     subst (λ (is : List Item). Sends is NoFault c.args.ser.now c.serialize.new.ser c.serialize.result)
     (array_sent xs ∙ sym (ap data_calls (ap view c.in-Array.is ∙ view-Array c.in-Array.values)))
@@ -16,11 +16,22 @@ returns-in-Array n c =
     (array_calls (λ v. data_calls (view v)) xs) c.args.ser.now c.serialize.new.ser c.serialize.result
     c.serialize.ensures)
 
-pub returns-in-Table : goal.returns-in-Table
-returns-in-Table n c =
+pub ValueSerialize::serialize-returns-in-Table : goal.ValueSerialize::serialize-returns-in-Table
+ValueSerialize::serialize-returns-in-Table n c =
     let ps = c.in-Table.table in
     subst (λ (is : List Item). Sends is NoFault c.args.ser.now c.serialize-in-Table.new.ser c.serialize-in-Table.result)
-    (table_sent ps ∙ sym (ap data_calls (ap view c.in-Table.is ∙ view-Table ps)))
+    (table_sent ps ∙ sym (ap data_calls (ap view c.in-Table.is ∙ view-Table ps))) c.serialize-in-Table.ensures
+
+pub TableSerialize::serialize-returns-in-Some : goal.TableSerialize::serialize-returns-in-Some
+TableSerialize::serialize-returns-in-Some n c =
+    subst (λ (is : List Item). Sends is NoFault c.args.ser.now c.lay_out.new.self c.in-Some.answer)
+    (sym (table_sent c.args.self.now)) c.in-Some.ensures
+
+pub TableSerialize::serialize-returns-in-None : goal.TableSerialize::serialize-returns-in-None
+TableSerialize::serialize-returns-in-None n c =
+    let ps = c.args.self.now in
+    subst (λ old. Sends (table_calls (λ v. data_calls (view v)) ps) NoFault old c.serialize_entries.new.ser
+    c.serialize_entries.result) c.in-None.ensures
     (sends_widen (TableGivesUp (λ v. data_calls (view v)) (λ v. NoFault) ps) NoFault (any_never open_table _ _ ps)
-    (table_calls (λ v. data_calls (view v)) ps) c.args.ser.now c.serialize-in-Table.new.ser
-    c.serialize-in-Table.result c.serialize-in-Table.ensures)
+    (table_calls (λ v. data_calls (view v)) ps) c.lay_out.new.self c.serialize_entries.new.ser
+    c.serialize_entries.result c.serialize_entries.ensures)

@@ -4,13 +4,13 @@ use Rattle.basic_toml_value.specs.Iter.{rest, pair_of}
 use Rattle.basic_toml_emit.specs.Items.{open_table, field}
 use Rattle.basic_toml_write.proofs.PartsAreSent.{yields_split, yields_next, yields_end, parts_unopened, parts_yield}
 use Rattle.basic_toml_write.proofs.PartsAreSent.{parts_fault, parts_closed}
-use Rattle.basic_toml_write.proofs.impls.PairsSerialize.serialize.Goals as goal
+use Rattle.basic_toml_write.proofs.impls.serialize_entries.Goals as goal
 
 pub returns-in_err-serialize_map : goal.returns-in_err-serialize_map
 returns-in_err-serialize_map g c =
     let p = err_from_is_err_and c.from_residual.result c.from_residual.ensures.1 in
     rw (p.1, p.2) (parts_unopened open_table (λ p. field p.0)
-    (λ p. g.V.Serialize.calls p.1) (λ p. g.V.Serialize.gives_up p.1) c.args.self.now c.args.ser.now
+    (λ p. g.V.Serialize.calls p.1) (λ p. g.V.Serialize.gives_up p.1) c.args.pairs.now c.args.ser.now
     c.serialize_map.new.self _ c.in_err-serialize_map.ensures)
 
 pub returns-in_err-serialize_field : goal.returns-in_err-serialize_field
@@ -19,8 +19,8 @@ returns-in_err-serialize_field g c =
     c.from_residual-in_err-serialize_field.ensures.1 in
     rw (p.1, p.2) (parts_fault open_table (λ p. field p.0)
     (λ p. g.V.Serialize.calls p.1) (λ p. g.V.Serialize.gives_up p.1)
-    c.args.self.now (map pair_of c.loop-key.yielded) (pair_of (c.in-Some.key, c.in-Some.value))
-    (rest c.next.new.self) (yields_split pair_of c.args.self.now c.loop-key.yielded (rest c.loop-key.key-iterator)
+    c.args.pairs.now (map pair_of c.loop-key.yielded) (pair_of (c.in-Some.key, c.in-Some.value))
+    (rest c.next.new.self) (yields_split pair_of c.args.pairs.now c.loop-key.yielded (rest c.loop-key.key-iterator)
     (rest c.next.new.self) c.next.result c.next.ensures.steps c.loop-key.invariant.left
     (c.in-Some.key, c.in-Some.value) c.in-Some.is) c.args.ser.now c.loop-key.ser c.serialize_field.new.self _
     c.loop-key.invariant.sent c.in_err-serialize_field.ensures)
@@ -31,14 +31,14 @@ loop-key-preserved g c = record {
       (λ p. g.V.Serialize.calls p.1) (λ p. g.V.Serialize.gives_up p.1) pair_of
       c.loop-key.yielded (c.in-Some.key, c.in-Some.value) c.args.ser.now c.loop-key.ser c.serialize_field.new.self
       c.loop-key.invariant.sent c.in_ok-serialize_field.ensures;
-  left = yields_next pair_of c.args.self.now c.loop-key.yielded (rest c.loop-key.key-iterator) (rest c.next.new.self)
+  left = yields_next pair_of c.args.pairs.now c.loop-key.yielded (rest c.loop-key.key-iterator) (rest c.next.new.self)
       c.next.result c.next.ensures.steps c.loop-key.invariant.left (c.in-Some.key, c.in-Some.value) c.in-Some.is;
 }
 
 pub returns : goal.returns
 returns g c = parts_closed open_table (λ p. field p.0)
     (λ p. g.V.Serialize.calls p.1) (λ p. g.V.Serialize.gives_up p.1)
-    c.args.self.now (map pair_of c.loop-key.yielded)
-    (yields_end pair_of c.args.self.now c.loop-key.yielded (rest c.loop-key.key-iterator) (rest c.next.new.self)
+    c.args.pairs.now (map pair_of c.loop-key.yielded)
+    (yields_end pair_of c.args.pairs.now c.loop-key.yielded (rest c.loop-key.key-iterator) (rest c.next.new.self)
     c.next.result c.next.ensures.steps c.loop-key.invariant.left c.in-None.is) c.args.ser.now c.loop-key.ser
     c.end.new.self c.end.result c.loop-key.invariant.sent c.end.ensures

@@ -2,7 +2,7 @@ use Rattle.std.proofs.Common.{◌≡◌, ◌++◌, map}
 use Rattle.basic_toml_value.specs.Iter.{rest, pair_of}
 use Rattle.basic_toml_emit.specs.Items.{open_table, field}
 use Rattle.basic_toml_write.proofs.PartsAreSent.{Sent}
-use Rattle.basic_toml_write.proofs.impls.PairsSerialize.serialize.Given as goal
+use Rattle.basic_toml_write.proofs.impls.serialize_entries.Given as goal
 
 abbrev pub invariant-loop-key : goal.invariant-loop-key
 invariant-loop-key g l =
@@ -10,5 +10,5 @@ invariant-loop-key g l =
       sent : Sent open_table (λ p. field p.0)
           (λ p. g.V.Serialize.calls p.1) (λ p. g.V.Serialize.gives_up p.1)
           (map pair_of l.yielded) l.fn.ser l.ser;
-      left : map pair_of l.yielded ++ rest l.key-iterator ≡ l.self;
+      left : map pair_of l.yielded ++ rest l.key-iterator ≡ l.pairs;
     }
