@@ -1,6 +1,6 @@
 -- What the calls of a serializer do (own). An item that no rule refuses is taken: it changes the text and what is open.
--- A header is written when the first present entry shows that it is due, or at the end of its table; the opening bracket of an array
--- at its first element that is no table, or at its end where it is empty.
+-- A header is written when the first present entry shows that it is due, or at the end of its table; the opening
+-- bracket of an array at its first element that is no table, or at its end where it is empty.
 use Rattle.std.specs.Prelude.{ℕ, Bool, true, false, List, [], ◌∷◌, ◌++◌, Option, Some, is_some, unwrap_or, Result}
 use Rattle.std.specs.Prelude.{Ok, Err}
 use Rattle.basic_toml_tokens.specs.Ascii as ascii

@@ -1,9 +1,10 @@
 -- The text of a written value (TOML v0.5.0, "Table" and "Array of Tables"; which header is left out is own).
--- An entry is a row `key = value` where it is a scalar, an empty array, or an array that begins with no table; a table is a section,
--- and an array that begins with a table is one section for each element; an absent entry is left out.
--- The header `[path]` of a table is written where the table has no present entry or its first present entry is a row, after a
--- blank line where its entry is not the first present one of its table. An element's `[[path]]` is always written, after a blank
--- line where it is not the first element or its entry is not the first present one. Entries stand in order. The root has no header.
+-- An entry is a row `key = value` where it is a scalar, an empty array, or an array that begins with no table; a table
+-- is a section, and an array that begins with a table is one section for each element; an absent entry is left out.
+-- The header `[path]` of a table is written where the table has no present entry or its first present entry is a row,
+-- after a blank line where its entry is not the first present one of its table. An element's `[[path]]` is always
+-- written, after a blank line where it is not the first element or its entry is not the first present one. Entries
+-- stand in order. The root has no header.
 use Rattle.std.specs.Prelude.{ℕ, Bool, true, false, cond, List, [], ◌∷◌, ◌++◌, codes}
 use Rattle.basic_toml_tokens.specs.Ascii as ascii
 use Rattle.basic_toml_emit.specs.Written.{Written, scalar, absent, array, table, Elements, no_elements, element}
@@ -63,7 +64,8 @@ element_header is_later path = blank_line is_later
 abbrev pub row_start : List ℕ → List ℕ
 row_start k = written_key k ++ codes " = "
 
--- In each, the path of the table has its last key first, and is_later says that a present entry of the same table stands before.
+-- In each, the path of the table has its last key first, and is_later says that a present entry of the same table
+-- stands before.
 abbrev mutual
   pub entry_text : List (List ℕ) → List ℕ → Bool → Written → List ℕ
   entry_text path k is_later (scalar l) = row_start k ++ (written_scalar l ++ (ascii.line_feed ∷ []))

@@ -1,9 +1,11 @@
 -- What stands open in a serializer after the calls so far (own): arrays and tables, the innermost first.
--- An open table has no key, awaits the text of a key (key place), or has a key set. It knows whether a table or a non-empty array of
--- tables was written in it, which keys have a present entry, and the last of these. An open array knows what its elements are so far.
+-- An open table has no key, awaits the text of a key (key place), or has a key set. It knows whether a table or a
+-- non-empty array of tables was written in it, which keys have a present entry, and the last of these. An open array
+-- knows what its elements are so far.
 use Rattle.std.specs.Prelude.{ℕ, Bool, true, false, cond, bytes_eq, List, [], Option, None}
 
--- the header of a table: written or not to be written at all, or to be written where it proves due, after a blank line or not
+-- the header of a table: written or not to be written at all, or to be written where it proves due, after a blank line
+-- or not
 pub data Header : Type 0 where
   settled : Header
   due : Bool → Header

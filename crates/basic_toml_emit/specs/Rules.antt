@@ -82,7 +82,8 @@ abbrev pub is_in_array : List Frame → Bool
 is_in_array (an_array _ _ ∷ _) = true
 is_in_array _ = false
 
--- no table at the start; in an array a table beside a non-table, or a non-table beside a table, or a table where that array is itself an element
+-- at the start what is no table; in an array a table beside a non-table, or the other way round, or a table where that
+-- array is itself an element
 abbrev pub is_misfit : List Frame → Item → Bool
 is_misfit [] i = is_other i
 is_misfit (an_array unknown _ ∷ fs) open_table = is_in_array fs
@@ -104,7 +105,8 @@ abbrev pub holds_section : List Frame → Bool
 holds_section (a_table _ _ written _ _ ∷ _) = written
 holds_section _ = false
 
--- A row after a section of its table; an array is a row from its first element that is no table, or from its end where it is empty.
+-- A row after a section of its table; an array is a row from its first element that is no table, or from its end where
+-- it is empty.
 abbrev pub is_late_row : List Frame → Item → Bool
 is_late_row (a_table _ (key_set _) written _ _ ∷ _) (a_scalar _) = written
 is_late_row (an_array unknown _ ∷ fs) (a_scalar _) = holds_section fs

@@ -1,7 +1,7 @@
 -- How keys and scalars are written (TOML v0.5.0, "Keys", "String", "Integer", "Float", "Boolean").
 -- A key is bare where it is not empty and all of `A-Z a-z 0-9 - _`; else it is a string.
--- A string stands between `"`: `\b \t \n \f \r \" \\`; other characters up to U+001F, and U+007F, as `\u` and four upper-case
--- hexadecimal digits; the rest as they are. Integers are decimal, floats as held, arrays `[v, v]`.
+-- A string stands between `"`: `\b \t \n \f \r \" \\`; other characters up to U+001F, and U+007F, as `\u` and four
+-- upper-case hexadecimal digits; the rest as they are. Integers are decimal, floats as held, arrays `[v, v]`.
 use Rattle.std.specs.Prelude.{ℕ, ◌+◌, ◌/◌, ◌%◌, Bool, true, false, cond, ◌&&◌, ◌||◌, nat_le, ◌==◌, List, [], ◌∷◌}
 use Rattle.std.specs.Prelude.{◌++◌, codes, decimal}
 use Rattle.std.specs.List.{list_all}

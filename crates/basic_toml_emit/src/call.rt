@@ -1,3 +1,4 @@
+//! What a call records.
 use crate::scalar::Scalar;
 
 /// What a call records as one item. A call that is given a part records a prefix before it.
@@ -7,7 +8,9 @@ pub enum Call<'a> {
     Scalar(Scalar<'a>),
     /// An absent option.
     Absent,
+    /// Opens an array.
     OpenArray,
+    /// Opens a table.
     OpenTable,
     /// Closes the innermost array or table.
     Close,

@@ -1,3 +1,4 @@
+//! The emitter.
 ghost use Rattle.std.specs.Prelude.{◌≡◌, ◌&&◌, true, [], Result, if◌then◌else◌, string_bytes};
 ghost use Rattle.basic_toml_emit.specs.declared.fault.Fault.TheVariants.{CallOrder};
 ghost use Rattle.basic_toml_emit.specs.Items.{a_scalar, an_absent, open_array, open_table, close, key, field, some_prefix, value_prefix, element_prefix};

@@ -1,11 +1,12 @@
+//! Why a value is not written.
 use std::alloc::{AllocError, Global};
 
 /// Why a value was not written. No error has an offset.
 #[derive(Debug, Drop)]
 pub enum WriteError {
-    /// A kind of value that the text has no form for where it stands: a root that is no table, a table beside a
-    /// non-table in one array
-    /// or in an array of an array, a unit, a variant that holds data, an integer above 9223372036854775807.
+    /// A kind of value that the text has no form for where it stands: a root that is no table, a table and a non-table
+    /// in one array, a table in an array of an array, a unit, a variant that holds data, an integer above
+    /// 9223372036854775807.
     UnsupportedType,
     /// A key that is not a text.
     KeyNotString,

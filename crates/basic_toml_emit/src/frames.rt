@@ -1,3 +1,4 @@
+//! The open arrays and tables.
 ghost use Rattle.std.specs.Prelude.{◌≡◌, ◌≢◌, true, false, not, nat_le, List, [], ◌∷◌, None, IfOk, MatchOption, length};
 ghost use Rattle.basic_toml_emit.specs.declared.frames.Frame.TheVariants.{Table};
 ghost use Rattle.basic_toml_emit.specs.declared.frames.Stage.TheVariants.{KeySet};
@@ -181,8 +182,7 @@ pub fn key_set(frames: &[Frame]) -> &str
 }
 
 // Counts the key that is set in the innermost table among those of present entries. `false` where it is among them
-// already, and then
-// nothing is changed.
+// already, and then nothing is changed.
 pub fn enter_key(frames: &mut [Frame]) -> Result<bool, AllocError>
     ensures answer { IfOk result (λ is_new. is_new ≡ not (holds_key (frames_of frames.old))) }
     ensures entered { IfOk result (λ is_new. is_new ≡ true → frames_of frames.new ≡ with_entry (frames_of frames.old)) }

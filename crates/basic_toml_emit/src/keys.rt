@@ -1,8 +1,8 @@
-// The keys of the present entries of a table, and the key that is set.
-//
-// While the keys are few, or each is above those before it, there is no index of them: a key above the greatest is
-// new without a search,
-// and else the keys are looked through one by one. More keys get an index once one of them is not above the greatest.
+//! The keys of the present entries of a table, and the key that is set.
+//!
+//! While the keys are few, or each is above those before it, there is no index of them: a key above the greatest is new
+//! without a search, and else the keys are looked through one by one. More keys get an index once one of them is not
+//! above the greatest.
 ghost use Rattle.std.specs.Prelude.{◌≡◌, ◌≤◌, true, false, not, is_some, unwrap_or, None, Some, [], ◌∷◌, ◌++◌, IfOk, OnErr, IsTrue, IsSome, MatchOption, length};
 ghost use Rattle.basic_toml_value.specs.Keys.{are_distinct};
 ghost use Rattle.basic_toml_value.specs.Index.{IsIndex};

@@ -1,8 +1,7 @@
 //! TOML text, emitted as its items come.
 //!
 //! An [`Emitter`] takes the items that calls record, one after another, and appends to its text: keys, values,
-//! headers, brackets. It
-//! refuses an item that the text has no form for where it stands.
+//! headers, brackets. It refuses an item that the text has no form for where it stands.
 #![tactic(auto)]
 
 mod call;

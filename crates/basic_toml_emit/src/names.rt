@@ -1,8 +1,7 @@
-// Names in one text, one after another, so that taking one copies it and allocates nothing once the text has grown.
-//
-// After the names that are kept stands the one that is set last. The kept ones end within `held`, and the text may be
-// cut there and at
-// both ends of each of them.
+//! Names in one text, one after another, so that taking one copies it and allocates nothing once the text has grown.
+//!
+//! After the names that are kept stands the one that is set last. The kept ones end within `held`, and the text may be
+//! cut there and at both ends of each of them.
 ghost use Rattle.std.specs.Prelude.{◌≡◌, ◌<◌, [], ◌∷◌, ◌++◌, IfOk, OnErr, length, unwrap_or, slice_index_or, string_bytes};
 ghost use Rattle.std.specs.List.{All};
 ghost use Rattle.std.specs.Str.{IsCharBoundary};

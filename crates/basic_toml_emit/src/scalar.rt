@@ -1,3 +1,4 @@
+//! Values without parts.
 ghost use Rattle.std.specs.Prelude.{◌≡◌, ℕ, ◌++◌, false, IfOk, MatchOption, string_bytes};
 ghost use Rattle.basic_toml_emit.specs.Written as w;
 ghost use Rattle.basic_toml_emit.specs.Items.{a_scalar};
@@ -10,11 +11,15 @@ use std::alloc::AllocError;
 /// A value without parts of its own, as a call brings it.
 #[derive(Clone, Copy)]
 pub enum Scalar<'a> {
+    /// An integer.
     Signed(i64),
+    /// An integer; refused above 9223372036854775807.
     Unsigned(u64),
+    /// A boolean.
     Boolean(bool),
     /// A float by its canonical text.
     Float(&'a str),
+    /// A text, which may be a key.
     Text(&'a str),
     /// A text that may not be a key.
     OtherText(&'a str),

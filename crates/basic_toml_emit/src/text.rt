@@ -1,6 +1,6 @@
-// Keys, strings and numbers as the text has them.
-//
-// Strings are copied in the runs of bytes that stand for themselves, so that one without an escape is one copy.
+//! Keys, strings and numbers as the text has them.
+//!
+//! Strings are copied in the runs of bytes that stand for themselves, so that one without an escape is one copy.
 ghost use Rattle.std.specs.Prelude.{◌≡◌, ℕ, ◌<◌, ◌/◌, ◌%◌, true, false, List, [], ◌∷◌, ◌++◌, IfOk, string_bytes, length, take, slice_index, decimal};
 ghost use Rattle.std.specs.Fmt.{signed_decimal};
 ghost use Rattle.std.specs.List.{list_all};

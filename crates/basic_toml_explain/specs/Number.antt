@@ -25,7 +25,8 @@ IsJointNext expected r fault =
     × (fault ≡ fault_at (wanted expected (description_of l)) r.offset))
     ⊎ IsStopped (text_of r) fault
 
--- A number is at fault where `at` says; or a period or a plus stands after it, where another thing is wanted; or a token is refused.
+-- A number is at fault where `at` says; or a period or a plus stands after it, where another thing is wanted; or a
+-- token is refused.
 pub data IsNumberStop (end : ℕ) (expected : List ℕ) (at : Option ℕ) (front : Text) : Fault → Type 0 where
   invalid : {p : ℕ} → at ≡ Some p → IsNumberStop end expected at front (fault_at number_invalid p)
   goes_on : {source : List ℕ} {stop rest : Text} {l : Lexeme} → EndsWithWord front stop → IsToken source stop l rest

@@ -1,4 +1,5 @@
--- What stands at the front of a text, of each kind of thing: as `Reader` computes it, with as many steps as any text of that length takes.
+-- What stands at the front of a text, of each kind of thing: as `Reader` computes it, with as many steps as any text
+-- of that length takes.
 use Rattle.std.specs.Prelude.{suc, ◌+◌, ◌*◌, List, length, Option}
 use Rattle.basic_toml_tokens.specs.Text.{Text}
 use Rattle.basic_toml_grammar.specs.Sections.{Key, Elements, Rows, Section}

@@ -1,4 +1,5 @@
--- What the code's values, rows and sections stand for. A row without a value is a key that the keys of the next row follow.
+-- What the code's values, rows and sections stand for. A row without a value is a key that the keys of the next row
+-- follow.
 use Rattle.std.specs.Prelude.{ℕ, List, [], ◌∷◌, Option, Some, None, map}
 use Rattle.std.specs.Cow.{cow_str_bytes}
 use Rattle.basic_toml_read.specs.declared.section.Raw.{fold-Raw}

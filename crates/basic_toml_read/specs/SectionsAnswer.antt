@@ -17,9 +17,9 @@ use Rattle.basic_toml_read.specs.SectionView.{section_of}
 abbrev pub HoldsMore : Text → Type 0
 HoldsMore text = IsGap text → ⊥
 
--- Why a text has no section list within the limit: memory was refused, where the text is more than blanks, comments and line
--- feeds; or each list that it has passes the limit, and the fault is of nesting, behind as many signs that lead deeper as
--- the limit; or the fault is one that the grammar allows.
+-- Why a text has no section list within the limit: memory was refused, where the text is more than blanks, comments
+-- and line feeds; or each list that it has passes the limit, and the fault is of nesting, behind as many signs that
+-- lead deeper as the limit; or the fault is one that the grammar allows.
 pub data IsRefused (bytes : List ℕ) : Fault → Type 0 where
   memory : HoldsMore (folded bytes) → IsRefused bytes want_of_memory
   deep : {offset : ℕ} → ((sections : List Section) → IsSectionList (folded bytes) sections

@@ -1,4 +1,5 @@
--- What a scanner finds at the front of a string's body, by its first characters. `Strings` and `Faults` say what it means.
+-- What a scanner finds at the front of a string's body, by its first characters. `Strings` and `Faults` say what it
+-- means.
 use Rattle.std.specs.Prelude.{ℕ, suc, zero, ◌+◌, ◌-◌, ◌*◌, ◌&&◌, ◌==◌, nat_lt, min, if◌then◌else◌, List, [], ◌∷◌}
 use Rattle.std.specs.Prelude.{drop, replicate, Option, Some, None}
 use Rattle.std.specs.Char.{digit_value}

@@ -1,5 +1,6 @@
--- Which strings ask for a copy of their value (own): those that hold an escape, a continuation, or a CR LF other than directly after a multiline opener.
--- Between `"` a backslash begins an escape or a continuation and stands nowhere else; in a string a CR stands only in CR LF.
+-- Which strings ask for a copy of their value (own): those that hold an escape, a continuation, or a CR LF other than
+-- directly after a multiline opener. Between `"` a backslash begins an escape or a continuation and stands nowhere
+-- else; in a string a CR stands only in CR LF.
 use Rattle.std.specs.Prelude.{◌≡◌, ℕ, Bool, true, false, ◌&&◌, ◌||◌, ◌==◌, if◌then◌else◌, List, [], ◌∷◌, drop}
 use Rattle.std.specs.Prelude.{slice_index}
 use Rattle.std.specs.List.{list_any}
@@ -29,7 +30,8 @@ abbrev pub needs_copy : Lexeme → Bool
 needs_copy (string source value multiline) = is_copied multiline source
 needs_copy _ = false
 
--- A string opens at `at`, and pieces of its body lead to `upto`, before which something asks for a copy. The string may end or break after them.
+-- A string opens at `at`, and pieces of its body lead to `upto`, before which something asks for a copy. The string may
+-- end or break after them.
 pub record NeedsMemory (bytes : List ℕ) (at : ℕ) : Type 0 where
   pub kind : Quotes
   pub body : Text

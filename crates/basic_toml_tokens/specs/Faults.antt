@@ -1,5 +1,6 @@
 -- Why no token stands at the front of a text, and what stands after the offset where that is clear (own).
--- A string is refused at its first piece that is none, with the character or the number that stands there, or where the text ends before it closes.
+-- A string is refused at its first piece that is none, with the character or the number that stands there, or where the
+-- text ends before it closes.
 use Rattle.std.specs.Prelude.{◌≡◌, ◌≢◌, ◌≤◌, ◌<◌, ℕ, Bool, true, false, not, ◌&&◌, ◌||◌, ◌==◌, nat_lt, List, []}
 use Rattle.std.specs.Prelude.{length, drop, Some, is_none}
 use Rattle.std.specs.Char.{IsScalar}

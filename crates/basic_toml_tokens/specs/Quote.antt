@@ -1,4 +1,4 @@
--- What the code finds at an offset of a string's body, against `Scan`.
+-- What the code finds at an offset of a string's body, against `BodyFront`.
 use Rattle.std.specs.Prelude.{◌≡◌, ◌≤◌, ◌<◌, ◌==◌, ℕ, ◌+◌, true, false, List, [], ◌∷◌, Option, Some, None, drop}
 use Rattle.std.specs.Prelude.{slice_index, replicate, min, encode_utf8_all}
 use Rattle.std.specs.Str.{IsCharBoundary}

@@ -1,4 +1,4 @@
--- What the code finds at an offset, against `Tokens`.
+-- What the code finds at an offset, against `TokenAt` and `Faults`.
 use Rattle.std.specs.Prelude.{◌⊎◌, ◌≡◌, ◌==◌, ◌||◌, ℕ, Bool, false, not, List, [], Option, Some, None, is_none, Result}
 use Rattle.std.specs.Prelude.{Ok, Err, slice_index}
 use Rattle.basic_toml_tokens.specs.Ascii as ascii

@@ -1,6 +1,8 @@
--- Strings by their pieces (TOML v0.5.0, "String"). Between `'` each character stands for itself; between `"` a backslash begins an escape.
--- On one line a string stands between single delimiters. A multiline string begins with three, and a line feed directly after them is dropped.
--- In its body one or two delimiters are content, and three to five close it: those past three are content. Of a longer run the first five are taken.
+-- Strings by their pieces (TOML v0.5.0, "String"). Between `'` each character stands for itself; between `"` a
+-- backslash begins an escape.
+-- On one line a string stands between single delimiters. A multiline string begins with three, and a line feed directly
+-- after them is dropped. In its body one or two delimiters are content, and three to five close it: those past three
+-- are content. Of a longer run the first five are taken.
 use Rattle.std.specs.Prelude.{◌≡◌, ◌≤◌, ◌<◌, ℕ, ◌-◌, Bool, true, false, not, ◌&&◌, ◌||◌, ◌==◌, min, if◌then◌else◌}
 use Rattle.std.specs.Prelude.{List, [], ◌∷◌, ◌++◌, length, take, drop, replicate, Option, Some, None}
 use Rattle.std.specs.Char.{is_digit, IsScalar}
@@ -20,7 +22,8 @@ is_quote c = c == ascii.double_quote || c == ascii.single_quote
 abbrev pub count_of : ℕ → Text → ℕ
 count_of d text = length (run (λ c. c == d) text)
 
--- A character that stands for itself: a tab, or any from U+0020 on but U+007F, the delimiter, and a backslash between `"`; on several lines a line feed too.
+-- A character that stands for itself: a tab, or any from U+0020 on but U+007F, the delimiter, and a backslash between
+-- `"`; on several lines a line feed too.
 abbrev pub is_plain : ℕ → ℕ → Bool
 is_plain d c = (is_comment c && not (c == d)) && not (c == ascii.backslash && d == ascii.double_quote)
 

@@ -1,5 +1,6 @@
--- The folded text (TOML v0.5.0, "Spec"): characters with their offsets, an offset being a byte offset.
--- One U+FEFF at the start is skipped. A CR directly followed by LF is one line feed at the offset of the CR; every other character stands at its own offset.
+-- The folded text (TOML v0.5.0, "Spec"): characters with their offsets, an offset being a byte offset. One U+FEFF at
+-- the start is skipped. A CR directly followed by LF is one line feed at the offset of the CR; every other character
+-- stands at its own offset.
 use Rattle.std.specs.Prelude.{◌≡◌, ℕ, ◌+◌, Bool, true, false, not, ◌&&◌, ◌||◌, ◌==◌, nat_le, if◌then◌else◌, List, []}
 use Rattle.std.specs.Prelude.{◌∷◌, drop}
 use Rattle.std.specs.Char.{is_ascii_alphanumeric, len_utf8}

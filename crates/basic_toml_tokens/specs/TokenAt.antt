@@ -1,5 +1,6 @@
 -- The token that stands at the front of a text, with what stands after it (TOML v0.5.0; 'Colon' and 'Plus' are own).
--- One of nine signs or a line feed; the longest run of blanks, or of keylike characters; `#` and the longest run of comment characters; a string.
+-- One of nine characters of punctuation or a line feed; the longest run of blanks, or of keylike characters; `#` and
+-- the longest run of comment characters; a string.
 use Rattle.std.specs.Prelude.{◌≡◌, ℕ, Bool, true, ◌==◌, if◌then◌else◌, List, ◌∷◌, encode_utf8_all, Option, Some, None}
 use Rattle.basic_toml_tokens.specs.Ascii as ascii
 use Rattle.basic_toml_tokens.specs.Text.{Text, StartsWith, run, after_run, is_blank, is_keylike, is_comment}
@@ -32,7 +33,8 @@ punctuation_of c =
     else if c == ascii.left_bracket then Some left_bracket else if c == ascii.right_bracket then Some right_bracket
     else None
 
--- The token at the front. `source` is the bytes from its front to its end, which a string holds: its line feeds may be CR LF there.
+-- The token at the front. `source` is the bytes from its front to its end, which a string holds: its line feeds may be
+-- CR LF there.
 pub data IsToken (source : List ℕ) : Text → Lexeme → Text → Type 0 where
   punctuation : {p c : ℕ} {l : Lexeme} {text rest : Text} → StartsWith c text p rest → punctuation_of c ≡ Some l
       → IsToken source text l rest

@@ -1,6 +1,6 @@
 //! Why no token stands at an offset, or not the one that is wanted.
 
-/// Why a call of a `Tokenizer` was refused. Places are byte offsets in the text.
+/// Why a call of a `Tokenizer` was refused. Offsets count the bytes of the text, from 0.
 #[derive(Debug, Drop, PartialEq, Eq)]
 pub enum Error {
     /// A control character in a string, below U+0020 or U+007F, and its offset.

@@ -23,14 +23,16 @@ pub struct Quoted<'a> {
     pub val: CowStr<'a>,
     /// Whether it stands between three delimiters.
     pub multiline: bool,
-    /// Where it ends.
+    /// The byte offset after it.
     pub end: usize,
 }
 
 /// Why nothing was taken, and where the text goes on.
 #[derive(Drop)]
 pub struct TokenStop {
+    /// What is wrong there.
     pub error: Error,
+    /// The byte offset where the text goes on; that of the string where memory was refused.
     pub at: usize,
 }
 
@@ -107,7 +109,8 @@ fn plain_class(quote: Quote) -> Class
     }
 }
 
-/// The string at an offset.
+/// The string whose first delimiter stands at the byte offset `start`. The errors are those of its body, and want of
+/// memory.
 #[inline(never)]
 pub fn string<'a>(alloc: Global, text: &'a str, start: usize) -> Result<Quoted<'a>, TokenStop>
     requires boundary { IsCharBoundary text.now start }

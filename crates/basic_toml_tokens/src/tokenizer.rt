@@ -18,7 +18,7 @@ use std::marker::Model;
 
 /// Stands at an offset of a text (TOML v0.5.0), and takes tokens from there on.
 ///
-/// Places are 0-based byte offsets. It stands on a character boundary of the text, or at its end, so
+/// Offsets count bytes, from 0. It stands on a character boundary of the text, or at its end, so
 /// that the text can be cut there. A carriage return directly followed by a line feed counts as
 /// one line feed, and stands where the carriage return does. Of `a = "\n"`, the tokens are a
 /// keylike `a`, a whitespace, an equals, a whitespace and a string that holds one line feed.
@@ -158,7 +158,7 @@ impl<'a> Tokenizer<'a> {
 
     /// Takes the next token, which is to equal `expected`.
     ///
-    /// Another token is taken too, and refused with `Error::Wanted` at the offset before it. At the
+    /// Another token is taken too, and refused with `Error::Wanted` at its offset. At the
     /// end of the text what was found is called `eof`. An error of `next` is answered as it is.
     pub fn expect(&mut self, alloc: Global, expected: Token<'a>) -> Result<(), Error>
         ensures answers { Expects (lexeme_of expected.entry) self.old self.new result }

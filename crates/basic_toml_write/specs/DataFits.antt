@@ -1,5 +1,5 @@
--- Which tables of data are laid out at once (own): those that no rule of writing refuses, each key once in its table, as a walk over
--- the table finds it. In each, so many arrays and tables are open where the value stands.
+-- Which tables of data are laid out at once (own): those that no rule of writing refuses, each key once in its table,
+-- as a walk over the table finds it. In each, so many arrays and tables are open where the value stands.
 use Rattle.std.specs.Prelude.{ℕ, ◌+◌, Bool, true, false, not, ◌&&◌, ◌||◌, nat_lt, List, [], ◌∷◌, cond}
 use Rattle.basic_toml_value.specs.Data.{Data, integer, array, table, Items, no_items, item, Members, no_members, member}
 use Rattle.basic_toml_value.specs.Keys.{are_distinct}

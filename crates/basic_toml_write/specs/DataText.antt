@@ -1,4 +1,5 @@
--- The parts of a text that are written one after another: one section, one element of an array of tables, and all of them.
+-- The parts of a text that are written one after another: one section, one element of an array of tables, and all of
+-- them.
 use Rattle.std.specs.Prelude.{◌≡◌, ℕ, zero, suc, Bool, true, false, cond, List, [], ◌++◌}
 use Rattle.basic_toml_emit.specs.Written.{Written, array, table, Elements, no_elements, element, Entries}
 use Rattle.basic_toml_emit.specs.Layout.{table_header, element_header, is_header_due, entries_text}

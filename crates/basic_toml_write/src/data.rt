@@ -1,4 +1,4 @@
-// Tables of data, which are laid out at once: their keys differ, so no key is looked for.
+//! Tables of data, which are laid out at once: their keys differ, so no key is looked for.
 ghost use Rattle.std.specs.Prelude.{◌≡◌, IfOk, string_bytes};
 ghost use Rattle.basic_toml_value.specs.Data as d;
 ghost use Rattle.basic_toml_value.specs.View.{entries};

@@ -1,10 +1,10 @@
+//! Keys, absent options, and the prefixes before a part.
 ghost use Rattle.basic_toml_emit.specs.Items.{an_absent, key, field, some_prefix, value_prefix, element_prefix};
 
 use super::Emitter;
 use crate::fault::Fault;
 use crate::frames::{Frame, Stage, innermost, set_key, set_stage};
 
-// Keys, absent options, and the prefixes before a part.
 impl Emitter {
     ghost use Rattle.basic_toml_emit.specs.Emitter.{Takes};
 

@@ -1,3 +1,4 @@
+//! Scalars, and arrays that hold no table.
 ghost use Rattle.std.specs.Prelude.{◌≡◌, ◌⊎◌, ◌∷◌, true, IfOk, IfErr};
 ghost use Rattle.basic_toml_emit.specs.declared.fault.Fault.TheVariants.{OutOfMemory, DuplicateKey, ValueAfterTable};
 ghost use Rattle.basic_toml_emit.specs.Items.{a_scalar, open_array, close};
@@ -15,7 +16,6 @@ use crate::frames::{
 use crate::headers::{write_header, write_row_start};
 use crate::scalar::Scalar;
 
-// Scalars, and arrays that hold no table.
 impl Emitter {
     ghost use Rattle.basic_toml_emit.specs.Emitter.{Takes, Enters, StartsValue, StartsRow, StartsElements, EndsRow};
 

@@ -1,3 +1,4 @@
+//! Tables, and arrays of them.
 ghost use Rattle.std.specs.Prelude.{◌≡◌, ◌⊎◌, ◌∷◌, true, IfOk, IfErr};
 ghost use Rattle.basic_toml_emit.specs.declared.fault.Fault.TheVariants.{OutOfMemory, UnsupportedType};
 ghost use Rattle.basic_toml_emit.specs.Items.{open_table, close};
@@ -14,7 +15,6 @@ use crate::frames::{
 };
 use crate::headers::{write_element_header, write_header};
 
-// Tables, and arrays of them.
 impl Emitter {
     ghost use Rattle.basic_toml_emit.specs.Emitter.{Takes, StartsSections};
 

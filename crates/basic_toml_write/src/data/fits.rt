@@ -1,4 +1,5 @@
-// Whether a table of data can be laid out at once: no rule of writing refuses it. Its keys differ, and are not looked at.
+//! Whether a table of data can be laid out at once: no rule of writing refuses it. Its keys differ, and are not looked
+//! at.
 ghost use Rattle.std.specs.Prelude.{◌≡◌, true, false, not};
 ghost use Rattle.basic_toml_value.specs.Entries.{seen};
 ghost use Rattle.basic_toml_value.specs.View.{view, entries, items_view};

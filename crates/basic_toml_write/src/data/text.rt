@@ -1,6 +1,7 @@
-// The text of a table of data: its rows and sections in order.
-//
-// The keys to a table stand in `path` as they are written, joined by periods; each section cuts it back to what it was.
+//! The text of a table of data: its rows and sections in order.
+//!
+//! The keys to a table stand in `path` as they are written, joined by periods; each section cuts it back to what it
+//! was.
 ghost use Rattle.std.specs.Prelude.{◌≡◌, ℕ, List, [], ◌∷◌, ◌++◌, true, false, cond, IfOk, string_bytes};
 ghost use Rattle.basic_toml_tokens.specs.Ascii as ascii;
 ghost use Rattle.basic_toml_value.specs.Entries.{seen};
