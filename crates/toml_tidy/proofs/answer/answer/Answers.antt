@@ -16,7 +16,7 @@ pub returns-in-Ok : goal.returns-in-Ok
 returns-in-Ok c =
     let made = ap (λ (is : List Item). open_table ∷ (is ++ (close ∷ []))) (pairs_calls view c.in-Ok.table) in
     unwritable_due entries c.args.input.now _ c.in-Ok.table c.in-Err-to_string.fault _ _ c.in-Ok.ensures.text
-    c.in-Ok.ensures.other made (λ own. own.met.allowed.gives_up.allowed)
+    c.in-Ok.ensures.other made (λ own. own.met.allowed)
     c.in-Err-to_string.ensures.written.refused
     c.in_ok-line_of-in-Err-to_string.ensures.fault c.in_ok-line_of-in-Err-to_string.ensures.line
 
