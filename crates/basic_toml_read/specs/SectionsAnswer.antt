@@ -2,6 +2,7 @@
 use Rattle.std.specs.Prelude.{◌≤◌, ◌<◌, ◌+◌, ℕ, List, map, Result, Ok, Err, Vec}
 use Rattle.std.specs.declared.alloc.Global.{Global}
 use Rattle.basic_toml_tokens.specs.Text.{Text, text_at, folded}
+use Rattle.basic_toml_value.specs.Nesting.{nesting_limit}
 use Rattle.basic_toml_read.specs.declared.section.Section as code
 use Rattle.basic_toml_grammar.specs.Sections.{Section}
 use Rattle.basic_toml_grammar.specs.Faults.{nested_too_deeply, Fault}
@@ -23,12 +24,13 @@ HoldsMore text = IsGap text → ⊥
 pub data IsRefused (bytes : List ℕ) : Fault → Type 0 where
   memory : HoldsMore (folded bytes) → IsRefused bytes want_of_memory
   deep : {offset : ℕ} → ((sections : List Section) → IsSectionList (folded bytes) sections
-      → 128 < highest_level sections) → 128 + openers (text_at bytes offset) ≤ openers (folded bytes)
+      → nesting_limit < highest_level sections)
+      → nesting_limit + openers (text_at bytes offset) ≤ openers (folded bytes)
       → IsRefused bytes (fault_at nested_too_deeply offset)
   outside : {fault : Fault} → AllowsGrammarFault bytes fault → IsRefused bytes fault
 
 -- the section list of the text, whose levels are within the limit
 abbrev pub AnswersSections : List ℕ → Result (Vec code.Section Global) Fault → Type 0
 AnswersSections bytes (Ok list) = IsSectionList (folded bytes) (map section_of list.items)
-    × (highest_level (map section_of list.items) ≤ 128)
+    × (highest_level (map section_of list.items) ≤ nesting_limit)
 AnswersSections bytes (Err fault) = IsRefused bytes fault

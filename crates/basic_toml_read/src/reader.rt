@@ -140,7 +140,8 @@ pub(crate) fn list<'de>(alloc: Global, text: &'de str) -> Result<Vec<Section<'de
 ///
 /// It is refused where the text has none, with an error of the grammar and the byte offset where it
 /// stands; with `NestedTooDeeply` where a key or a bracket stands within 128 others; and with
-/// `OutOfMemory`, without an offset, where memory is refused.
+/// `OutOfMemory`, without an offset, where memory is refused. A text of blanks, comments and line
+/// feeds alone has no sections, and asks for no memory.
 pub fn sections<'de>(alloc: Global, text: &'de str) -> Result<Vec<Section<'de>>, ReadError>
     ensures { AnswersSections text.now result }
 {
