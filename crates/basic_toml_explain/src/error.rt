@@ -39,17 +39,17 @@ pub enum ReadErrorKind {
     NumberInvalid,
     /// A bare word where a value is wanted.
     UnquotedString,
-    /// A dotted key that goes on from a row of the same section or inline table.
+    /// A dotted key that goes on from a row of the same section or inline table. No call answers it yet.
     DottedKeyInvalidType,
-    /// The second occurrence of this key.
+    /// The second occurrence of this key. No call answers it yet.
     DuplicateKey(String),
-    /// The second header of this path, its keys joined by periods.
+    /// The second header of this path, its keys joined by periods. No call answers it yet.
     DuplicateTable(String),
-    /// An array of tables at a table.
+    /// An array of tables at a table. No call answers it yet.
     RedefineAsArray,
     /// A key or a bracket within 128 others.
     NestedTooDeeply,
-    /// A type's own error, with its message.
+    /// A type's own error, with its message. No call answers it yet.
     Custom(String),
     /// Memory that was refused.
     OutOfMemory,
@@ -91,7 +91,8 @@ impl ReadError {
         self.offset
     }
 
-    /// The keys that lead to it: those of the section, and the first key of the row.
+    /// The keys that lead to it: those of the section, and the first key of the row. No call answers any yet: errors of
+    /// clashes come with the resolver.
     pub fn key_path(&self) -> &[String]
         ensures { map string_bytes result.now ≡ self.now.key_path }
     {

@@ -1,4 +1,4 @@
--- A level above the limit comes only behind as many signs that lead deeper.
+-- A level above the limit comes only behind as many characters that lead deeper.
 use Rattle.std.proofs.Common.{◌≡◌, ◌≤◌, ◌<◌, ◌+◌, ℕ, suc, List, length, refl, ap, sym, subst, arith}
 use Rattle.std.proofs.Common.{true, Some, Result, Ok, Err, length-append, [], ◌∷◌}
 use Rattle.std.specs.Result.{IsErrAnd}

@@ -1,4 +1,4 @@
--- How many signs that lead deeper are left after what is read.
+-- How many characters that lead deeper are left after what is read.
 use Rattle.std.proofs.Common.{◌≡◌, ◌≤◌, ◌+◌, ◌*◌, ℕ, suc, List, length, ap, arith, Bool, true, false}
 use Rattle.std.proofs.Common.{[], ◌∷◌, ◌==◌, cond, Some, None}
 use Rattle.basic_toml_tokens.specs.Text.{Text, is_blank, is_comment, after_blanks}

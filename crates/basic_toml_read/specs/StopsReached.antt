@@ -17,7 +17,7 @@ IfStops start bytes (Err stop) = StopStands start bytes stop.why stop.at
 abbrev pub StandsFrom : {A : Type 0} → Fits → List ℕ → ℕ → Result A Stop → Type 0
 StandsFrom fits bytes at result = (start : Text) → IsAt start fits (text_at bytes at) → IfStops start bytes result
 
--- a level above the limit comes only where as many signs that lead deeper stand before it, of n in the text
+-- a level above the limit comes only where as many characters that lead deeper stand before it, of n in the text
 abbrev pub IfDeep : {A : Type 0} → List ℕ → ℕ → Result A Stop → Type 0
 IfDeep bytes n (Ok x) = Unit {0}
 IfDeep bytes n (Err stop) = stop.why ≡ Deep → 128 + openers (text_at bytes stop.at) ≤ n

@@ -1,4 +1,5 @@
-//! From the tokens of a text to its sections, and from sections to the tree of the document.
+//! From a text to its section list ([`sections`]), or to an error that the text allows. The step from sections to the
+//! tree of the document is to come.
 #![tactic(auto)]
 
 mod front;

@@ -37,7 +37,7 @@ pub(crate) struct Row<'de> {
     pub value: Raw<'de>,
 }
 
-/// A header with its rows, or the rows before the first header.
+/// A header with its rows, or the rows before the first header. Its rows are for the resolver to come.
 #[derive(Drop)]
 pub struct Section<'de> {
     pub(crate) at: usize,
