@@ -80,8 +80,8 @@ impl<'de> Deserialize<'de> for Table {
 ///
 /// # Errors
 ///
-/// `` duplicate key: `k` `` at the later key where two rows have one key, and `not read yet` for any other text. Where a
-/// type reads nothing from the table, its own error; and `out of memory` where a growth was refused.
+/// `` duplicate key: `k` `` at the later key where two rows have one key, and `not read yet` for any other text. Where
+/// a type reads nothing from the table, its own error; and `out of memory` where a growth was refused.
 #[tactic(auto, using(crate::proofs::ReadingLaws::given, crate::proofs::ReadingLaws::refused))]
 pub fn from_str<'de, T: Deserialize<'de>>(alloc: Global, s: &'de str) -> Result<T, Error>
     ensures { ReadsText T.reads s.now result }

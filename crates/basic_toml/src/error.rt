@@ -47,8 +47,9 @@ impl fmt::Display for ErrorKind {
 
 /// Why a text was not read, or a value not written.
 ///
-/// It is `not read yet`, a repeated key, bytes that are not UTF-8, an error of the writer, a message of a type's own, or
-/// want of memory. Its text says what is wrong and, where it has an offset, at which line and column, counted from 1.
+/// It is `not read yet`, a repeated key, bytes that are not UTF-8, an error of the writer, a message of a type's own,
+/// or want of memory. Its text says what is wrong and, where it has an offset, at which line and column, counted from
+/// 1.
 #[derive(Debug, Drop)]
 pub struct Error {
     kind: ErrorKind,

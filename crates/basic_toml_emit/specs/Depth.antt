@@ -1,6 +1,6 @@
--- The depth of a written value (own): a scalar and an absent option count 0, but bytes 1, as the array that they are; an
--- array or a table counts one more than its deepest member, and 1 where it is empty. A written value has a depth of at
--- most the nesting limit.
+-- The depth of a written value (own): a scalar and an absent option count 0, but bytes 1, as the array that they are;
+-- an array or a table counts one more than its deepest member, and 1 where it is empty. A written value has a depth of
+-- at most the nesting limit.
 use Rattle.std.specs.Prelude.{ℕ, suc, max}
 use Rattle.basic_toml_emit.specs.Written.{Scalar, bytes, Written, scalar, absent, array, table, Elements}
 use Rattle.basic_toml_emit.specs.Written.{no_elements, element, Entries, no_entries, entry}

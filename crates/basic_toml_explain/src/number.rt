@@ -82,7 +82,8 @@ fn plus_error(
     requires sign { text_at cursor.old.text start ≡ (start, 43) ∷ text_of cursor.old }
     requires no_value { word_at (text_at cursor.old.text start) ≡ None }
     ensures { let front = text_at cursor.old.text start in
-        IsNumberStop (length cursor.old.text) wanted.now (faults.number_fault (length cursor.old.text) front) front result }
+        IsNumberStop (length cursor.old.text) wanted.now (faults.number_fault (length cursor.old.text) front) front
+        result }
 {
     let at = cursor.current();
     match cursor.keylike(alloc) {
@@ -126,7 +127,9 @@ fn number_error(
     requires no_value { let text = run is_wordlike (text_at cursor.old.text (cursor.old.offset - length word.now)) in
         grammar.number_value (numbers.integer_of text) (numbers.float_of text) ≡ None }
     ensures { let start = cursor.old.offset - length word.now in
-        IsNumberStop (length cursor.old.text) wanted.now (faults.word_fault (length cursor.old.text) start word.now (text_of cursor.old)) (text_at cursor.old.text start) result }
+        IsNumberStop (length cursor.old.text) wanted.now
+        (faults.word_fault (length cursor.old.text) start word.now (text_of cursor.old))
+        (text_at cursor.old.text start) result }
 {
     match word_fault(cursor, alloc, word) {
         Ok(Some(offset)) => ReadError::at(offset, ReadErrorKind::NumberInvalid),

@@ -129,7 +129,8 @@ impl<T: Serialize> Serialize for Option<T> {
 
 // The calls of an array.
 fn serialize_elements<T: Serialize>(elements: &[T], ser: &mut Serializer) -> Result<(), WriteError>
-    ensures { Sends (array_calls T.calls elements.now) (ArrayGivesUp T.calls T.gives_up elements.now) ser.old ser.new result }
+    ensures { Sends (array_calls T.calls elements.now) (ArrayGivesUp T.calls T.gives_up elements.now) ser.old ser.new
+        result }
 {
     ser.serialize_seq(Some(elements.len()))?;
     for element in elements {

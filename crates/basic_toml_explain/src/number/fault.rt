@@ -209,7 +209,8 @@ fn fraction_fault(
     requires boundary { IsCharBoundary cursor.old.text cursor.old.offset }
     ensures { Finds Leads (spec.after_period_fault (length cursor.old.text) start word.now
         (run is_keylike (text_of cursor.old)) (text_of cursor.old))
-        (mark_rest (after_part (run is_keylike (text_of cursor.old))) (after_run is_keylike (text_of cursor.old))) cursor.old cursor.new result }
+        (mark_rest (after_part (run is_keylike (text_of cursor.old))) (after_run is_keylike (text_of cursor.old)))
+        cursor.old cursor.new result }
 {
     let at = cursor.current();
     let Some(fraction) = cursor.keylike(alloc)? else {

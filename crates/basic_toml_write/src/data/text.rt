@@ -19,7 +19,8 @@ use std::alloc::AllocError;
 // A value within a row; of a table, nothing.
 #[cycle(rows)]
 fn write_value(text: &mut String, value: &Value) -> Result<(), AllocError>
-    ensures { IfOk result (λ _. string_bytes text.new ≡ string_bytes text.old ++ written (written_of (view value.now))) }
+    ensures { IfOk result (λ _. string_bytes text.new ≡ string_bytes text.old
+        ++ written (written_of (view value.now))) }
 {
     match value {
         Value::Integer(n) => Scalar::Signed(*n).write(text),
