@@ -1,4 +1,5 @@
-// Whether a table of data can be laid out at once: no rule of writing refuses it. Its keys differ, and are not looked at.
+// Whether a table of data can be laid out at once: no rule of writing refuses it. Its keys differ, and are not
+// looked at.
 ghost use Rattle.std.specs.Prelude.{◌≡◌, true, false, not};
 ghost use Rattle.basic_toml_value.specs.Entries.{seen};
 ghost use Rattle.basic_toml_value.specs.View.{view, entries, items_view};
@@ -50,6 +51,7 @@ fn fits_in_row(value: &Value, around: usize) -> bool
     match value {
         Value::Integer(number) => integer_fits(*number),
         Value::Float(float) => {
+            // What is promised of this text, that it is a float, is all that is needed of it.
             let _text = float.as_str();
             true
         }
