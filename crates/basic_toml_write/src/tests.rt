@@ -2,3 +2,4 @@
 mod calls;
 mod kinds;
 mod parts;
+mod tables;

@@ -51,6 +51,7 @@ fn fits_in_row(value: &Value, around: usize) -> bool
     match value {
         Value::Integer(number) => integer_fits(*number),
         Value::Float(float) => {
+            // What is promised of this text, that it is a float, is all that is needed of it.
             let _text = float.as_str();
             true
         }
