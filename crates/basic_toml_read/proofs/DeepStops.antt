@@ -1,5 +1,5 @@
 -- A level above the limit comes only behind as many characters that lead deeper.
-use Rattle.std.proofs.Common.{◌≡◌, ◌≤◌, ◌<◌, ◌+◌, ℕ, suc, List, length, refl, ap, sym, subst, arith}
+use Rattle.std.proofs.Common.{◌≡◌, ◌≤◌, ◌+◌, ℕ, suc, List, length, refl, ap, subst, arith}
 use Rattle.std.proofs.Common.{true, Some, Result, Ok, Err, length-append, [], ◌∷◌}
 use Rattle.std.specs.Result.{IsErrAnd}
 use Rattle.std.specs.Cow.{cow_str_bytes}
@@ -18,7 +18,7 @@ use Rattle.basic_toml_read.specs.declared.values.LastKey.{LastKey}
 use Rattle.basic_toml_read.specs.AtPlace.{Leaves}
 use Rattle.basic_toml_read.specs.Gathers.{IsLastKey}
 use Rattle.basic_toml_read.specs.Lists.{IsHeaderRead, EndsLineAt}
-use Rattle.basic_toml_read.specs.StopsAt.{MissesKey, MissesString, MissesWord, ReadsStringAt, ReadsWordAt}
+use Rattle.basic_toml_read.specs.StopsAt.{MissesString, MissesWord, ReadsStringAt, ReadsWordAt}
 use Rattle.basic_toml_read.specs.StopsReached.{DeepFrom, DeepWithin}
 use Rattle.basic_toml_read.proofs.HeadersRead.{header_length}
 use Rattle.basic_toml_read.proofs.KeysTold.{stopped}
@@ -41,18 +41,7 @@ pub shallow : {A : Type 0} (bytes : List ℕ) (at level : ℕ) (stop : Stop) (re
 shallow bytes at level stop result e other =
     stopped (λ r. DeepFrom bytes at level r) result stop e (λ n h d. absurd (other d))
 
--- the stop of a level
-pub too_deep_here : {A : Type 0} (bytes : List ℕ) (at at' level level' : ℕ) (stop : Stop) (result : Result A Stop)
-    → IsErrAnd result (λ s. s ≡ stop)
-    → level' + openers (text_at bytes at') ≤ level + openers (text_at bytes at)
-    → 128 < level' → stop ≡ record { at = at'; why = Deep } → DeepFrom bytes at level result
-too_deep_here bytes at at' level level' stop result e less high is =
-    stopped (λ r. DeepFrom bytes at level r) result stop e
-    (λ n h. subst (λ (s : Stop). s.why ≡ Deep → 128 + openers (text_at bytes s.at) ≤ n) (sym is) (λ d. omega arith))
-
-pub no_key_deep : (w : Why) (text : Text) → MissesKey w text → w ≡ Deep → ⊥
-no_key_deep w text m e = subst (λ (w : Why). MissesKey w text) e m
-
+-- no scalar stops for its level
 pub no_string_deep : (w : Why) (text : Text) → MissesString w text → w ≡ Deep → ⊥
 no_string_deep w text m e = subst (λ (w : Why). MissesString w text) e m
 

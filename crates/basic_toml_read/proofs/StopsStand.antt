@@ -16,8 +16,7 @@ use Rattle.basic_toml_grammar.specs.Grammar.{is_wordlike, after_comment_by, afte
 use Rattle.basic_toml_grammar.specs.GrammarFaults.{is_gap, precedes_key}
 use Rattle.basic_toml_grammar.specs.Reader.{char_at, string_at}
 use Rattle.basic_toml_read.specs.AtPlace.{Leaves, EndsAt}
-use Rattle.basic_toml_explain.specs.Stop.{no_memory}
-use Rattle.basic_toml_read.specs.StopsAt.{MissesKey, MissesString, MissesWord, ReadsKeyAt, ReadsStringAt}
+use Rattle.basic_toml_read.specs.StopsAt.{MissesString, MissesWord, ReadsStringAt}
 use Rattle.basic_toml_read.specs.StopsAt.{ReadsWordAt}
 use Rattle.basic_toml_read.specs.Gathers.{ClosesAt, IsLastKey, IsValueRead, IsRowRead}
 use Rattle.basic_toml_read.specs.Lists.{AreHeaderKeys}
@@ -45,19 +44,6 @@ pub stop_on : {A : Type 0} {fits fits' : Fits} (bytes : List ℕ) (at at' : ℕ)
 stop_on {fits = fits} bytes at at' stop result e c s =
     stopped (λ r. StandsFrom fits bytes at r) result stop e (λ start a. s start (c.on start a))
 
--- memory was refused
-pub without_memory : {A : Type 0} (fits : Fits) (bytes : List ℕ) (at : ℕ) (result : Result A Stop)
-    → IsErrAnd result (λ s. s ≡ no_memory) → StandsFrom fits bytes at result
-without_memory fits bytes at result e =
-    stopped (λ r. StandsFrom fits bytes at r) result no_memory e (λ start a. tt)
-
--- a level above the limit
-pub too_deep : {A : Type 0} (fits : Fits) (bytes : List ℕ) (at p : ℕ) (stop : Stop) (result : Result A Stop)
-    → IsErrAnd result (λ s. s ≡ stop) → stop ≡ record { at = p; why = why.Deep } → StandsFrom fits bytes at result
-too_deep fits bytes at p stop result e d =
-    stopped (λ r. StandsFrom fits bytes at r) result stop e
-    (λ start a. subst (λ (s : Stop). StopStands start bytes s.why s.at) (sym d) tt)
-
 -- over a sign, and over what is left out
 pub over_a_sign : {fits : Fits} (fits' : Fits) (bytes : List ℕ) (at next c : ℕ) (l : Lexeme)
     → char_at c (text_at bytes at) ≡ Some (at, text_at bytes next) → punctuation_of c ≡ Some l → is_gap l ≡ false
@@ -72,18 +58,6 @@ pub over_the_gap : (p : Option Lexeme → Bool) (bytes : List ℕ) (at next : �
     → Leaves bytes at next (after_gap is_comment (text_at bytes at))
     → Carries (λ before feed. p before) (text_at bytes at) (λ before feed. p before) (text_at bytes next)
 over_the_gap p bytes at next l = record { on = λ start a. moved (sym l.left) (value_gap_at (text_at bytes at) a) }
-
--- keys
-key_stop : (start : Text) (bytes : List ℕ) (offset at : ℕ) (w : Why) → IsAt start precedes_key (text_at bytes offset)
-    → MissesKey w (text_at bytes offset) → (w ≡ why.Key → at ≡ offset) → StopStands start bytes w at
-key_stop start bytes offset at why.Memory a m h = tt
-key_stop start bytes offset at why.Key a m h =
-    subst (λ (n : ℕ). StopStands start bytes why.Key n) (sym (h refl)) (a, m)
-key_stop start bytes offset at _ a m h = absurd m
-
-pub key_stops : (bytes : List ℕ) (offset : ℕ) (stop : Stop) → ReadsKeyAt bytes offset (Err stop)
-    → StopsFrom precedes_key bytes offset stop
-key_stops bytes offset stop r = λ start a. key_stop start bytes offset stop.at stop.why a r.0 r.1
 
 -- signs that are missing
 pub no_bracket_there : (bytes : List ℕ) (at : ℕ) (stop : Stop) → ClosesAt 93 why.Bracket bytes at (Err stop)
