@@ -1,6 +1,6 @@
 //! Why a text is not read.
 ghost use Rattle.std.specs.Prelude.{◌≡◌, map, string_bytes};
-ghost use Rattle.basic_toml_read.specs.Error.{kind_of};
+ghost use Rattle.basic_toml_read.specs.Error.{kind_of, fault_within};
 
 use std::alloc::AllocError;
 use std::marker::Model;
@@ -101,8 +101,8 @@ impl ReadError {
         }
     }
 
-    /// An error of the grammar.
-    pub(crate) fn at(offset: usize, kind: ReadErrorKind) -> ReadError
+    /// An error that stands at an offset, without a key path.
+    pub fn at(offset: usize, kind: ReadErrorKind) -> ReadError
         ensures { result ≡ fault_at (kind_of kind) offset }
     {
         ReadError {
@@ -110,6 +110,15 @@ impl ReadError {
             offset: Some(offset),
             key_path: None,
         }
+    }
+
+    /// An error that stands at an offset, within these keys.
+    pub fn within(offset: usize, kind: ReadErrorKind, keys: Vec<String>) -> ReadError
+        ensures { result ≡ fault_within (kind_of kind) offset (map string_bytes keys.items) }
+    {
+        let mut error = ReadError::at(offset, kind);
+        error.key_path = Some(keys);
+        error
     }
 }
 

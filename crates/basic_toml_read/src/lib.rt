@@ -20,4 +20,4 @@ mod values;
 
 pub use error::{ReadError, ReadErrorKind};
 pub use reader::sections;
-pub use section::Section;
+pub use section::{Element, Raw, Row, Section};
