@@ -1,0 +1,2 @@
+pub mod ItemData
+pub mod KeysSeen
