@@ -1,7 +1,12 @@
 //! Why a section is not entered, and the error that names it.
 
+ghost use Rattle.std.specs.Prelude.{◌≡◌, ◌-◌, [], IfOk, length, map, string_bytes, slice_index_or};
+ghost use Rattle.std.specs.Cow.{cow_str_bytes};
+ghost use Rattle.basic_toml_tree.specs.Clash.{header_texts, header_fault, IsFaultOf, NamesClash};
+
 use basic_toml_read::{ReadError, ReadErrorKind, Row, Section};
 use std::alloc::{AllocError, AllocFailed, Global};
+use std::borrow::CowStr;
 
 /// Why a section is not entered.
 #[derive(Drop)]
@@ -48,17 +53,15 @@ pub(crate) fn texts_of(
     Ok(texts)
 }
 
-// The first keys of a header.
-fn header_path(
-    alloc: Global,
-    section: &Section<'_>,
-    count: usize,
-) -> Result<Vec<String>, AllocError> {
-    let mut path = Vec::new(alloc);
-    for key in section.header.iter().take(count) {
-        path.push(String::from_str(alloc, key.as_str())?)?;
+// Copies of the texts of keys.
+fn key_texts(alloc: Global, keys: &[CowStr<'_>]) -> Result<Vec<String>, AllocError>
+    ensures { IfOk result (λ texts. map string_bytes texts.items ≡ map cow_str_bytes keys.now) }
+{
+    let mut texts = Vec::new(alloc);
+    for key in keys {
+        texts.push(String::from_str(alloc, key.as_str())?)?;
     }
-    Ok(path)
+    Ok(texts)
 }
 
 // The keys of a header, joined by periods.
@@ -73,41 +76,61 @@ fn joined(alloc: Global, section: &Section<'_>) -> Result<String, AllocError> {
     Ok(name)
 }
 
-// A key of a header stands before it.
-fn header_key(alloc: Global, section: &Section<'_>, left: usize) -> Result<ReadError, AllocError> {
-    let number = section.header.len().saturating_sub(left);
-    let key = match section.header.get(number) {
-        Some(key) => String::from_str(alloc, key.as_str())?,
-        None => String::new(alloc),
-    };
-    let offset = match section.offsets.get(number) {
+// A copy of the text of the key at a number, and of none past the end.
+#[tactic(auto, using(crate::proofs::HeadersNamed::headers_named))]
+fn key_text(alloc: Global, keys: &[CowStr<'_>], number: usize) -> Result<String, AllocError>
+    ensures { IfOk result (λ text. string_bytes text ≡ slice_index_or (map cow_str_bytes keys.now) number []) }
+{
+    match keys.get(number) {
+        Some(key) => String::from_str(alloc, key.as_str()),
+        None => Ok(String::new(alloc)),
+    }
+}
+
+// The offset at a number, or else another one.
+fn offset_or(offsets: &[usize], number: usize, other: usize) -> usize
+    ensures { result ≡ slice_index_or offsets.now number other }
+{
+    match offsets.get(number) {
         Some(offset) => *offset,
-        None => section.at,
-    };
-    let path = header_path(alloc, section, number)?;
+        None => other,
+    }
+}
+
+// A key of a header stands before it.
+fn header_key(alloc: Global, section: &Section<'_>, left: usize) -> Result<ReadError, AllocError>
+    ensures { IfOk result (λ error. error ≡ header_fault section.now (length (header_texts section.now) - left)) }
+{
+    let keys = section.header.as_slice();
+    let number = keys.len().saturating_sub(left);
+    let key = key_text(alloc, keys, number)?;
+    let offset = offset_or(section.offsets.as_slice(), number, section.at);
+    let path = key_texts(alloc, &keys[..number])?;
     Ok(ReadError::within(offset, ReadErrorKind::DuplicateKey(key), path))
 }
 
 impl Clash {
-    fn named(self, alloc: Global, section: &Section<'_>) -> Result<ReadError, AllocError> {
+    fn named(self, alloc: Global, section: &Section<'_>) -> Result<ReadError, AllocError>
+        ensures { IfOk result (IsFaultOf section.now self) }
+    {
         let at = section.at;
-        let all = section.header.len();
+        let keys = section.header.as_slice();
         match self {
             Clash::Memory => Err(AllocError),
             Clash::Deep => Ok(ReadError::at(at, ReadErrorKind::NestedTooDeeply)),
             Clash::Header(left) => header_key(alloc, section, left),
             Clash::Named => {
                 let name = joined(alloc, section)?;
-                let path = header_path(alloc, section, all)?;
+                let path = key_texts(alloc, keys)?;
                 Ok(ReadError::within(at, ReadErrorKind::DuplicateTable(name), path))
             }
             Clash::Redefined => {
-                let path = header_path(alloc, section, all)?;
+                let path = key_texts(alloc, keys)?;
                 Ok(ReadError::within(at, ReadErrorKind::RedefineAsArray, path))
             }
             Clash::Row { path, key, offset } => {
                 let mut path = path;
-                let mut keys = header_path(alloc, section, all)?;
+                let mut keys = key_texts(alloc, keys)?;
                 keys.append(&mut path)?;
                 Ok(ReadError::within(offset, ReadErrorKind::DuplicateKey(key), keys))
             }
@@ -115,7 +138,9 @@ impl Clash {
     }
 
     /// The error of a section's clash, or want of memory.
-    pub fn error(self, alloc: Global, section: &Section<'_>) -> ReadError {
+    pub fn error(self, alloc: Global, section: &Section<'_>) -> ReadError
+        ensures { NamesClash section.now self result }
+    {
         match self.named(alloc, section) {
             Ok(error) => error,
             Err(error) => ReadError::from(error),

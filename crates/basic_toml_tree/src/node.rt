@@ -1,6 +1,11 @@
 //! The nodes of a tree.
 
-ghost use Rattle.std.specs.Prelude.{◌<◌, IsSome};
+ghost use Rattle.std.specs.Prelude.{◌≡◌, ◌<◌, IsSome, IfOk};
+ghost use Rattle.std.specs.Option.{ForSome};
+ghost use Rattle.basic_toml_value.specs.Data.{table as table_of_members};
+ghost use Rattle.basic_toml_value.specs.View.{view, entries};
+ghost use Rattle.basic_toml_tree.specs.Data.{table_data};
+ghost use Rattle.basic_toml_tree.specs.Nodes.{node_data};
 
 use crate::item::{Child, Item, Table};
 use crate::tree::Tree;
@@ -42,7 +47,9 @@ pub struct Node<'t, 'de> {
 
 impl<'de> Tree<'de> {
     /// The table of the whole document.
-    pub fn root(&self) -> Node<'_, 'de> {
+    pub fn root(&self) -> Node<'_, 'de>
+        ensures { node_data result ≡ table_data self.now.root.value }
+    {
         Node {
             tree: self,
             spot: Spot::Table(&self.root),
@@ -336,7 +343,9 @@ impl<'t, 'de> Node<'t, 'de> {
     }
 
     /// A copy of the value.
-    pub fn to_value(self, alloc: Global) -> Result<Value, ReadError> {
+    pub fn to_value(self, alloc: Global) -> Result<Value, ReadError>
+        ensures { IfOk result (λ value. view value ≡ node_data self.entry) }
+    {
         match self.spot {
             Spot::Table(table) => Ok(Value::Table(table_of(alloc, table)?)),
             Spot::Item(item) => Ok(value_of(alloc, item)?),

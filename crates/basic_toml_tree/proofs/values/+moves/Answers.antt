@@ -13,7 +13,7 @@ use Rattle.basic_toml_tree.proofs.values.+moves.Goals as goal
 pub into_elements-into_value-requires : goal.into_elements-into_value-requires
 into_elements-into_value-requires t c =
     let start : c.into_iter-child-iterator.result.rest.items ≡ c.args.children.items =
-        search (rules, c.into_iter-child-iterator.ensures, c.into_iter-child-items.ensures.rest)
+    search (rules, c.into_iter-child-iterator.ensures, c.into_iter-child-items.ensures.rest)
     in
     let smaller = items_size-rest (map view c.loop-child.elements.items) child_data c.in-Some.child
     c.next.new.self.rest.items c.into_iter-child-iterator.result.rest.items
@@ -32,7 +32,7 @@ into_elements-loop-child-preserved t c =
 pub into_entries-into_value-requires : goal.into_entries-into_value-requires
 into_entries-into_value-requires t c =
     let start : c.into_iter-pair-iterator.result.rest.items ≡ c.args.pairs.items =
-        search (rules, c.into_iter-pair-iterator.ensures, c.into_iter-pair-items.ensures.rest)
+    search (rules, c.into_iter-pair-iterator.ensures, c.into_iter-pair-items.ensures.rest)
     in
     let smaller = members_size-rest (map value_pair c.loop-pair.moved.items) child_pair c.in-Some.pair
     c.next.new.self.rest.items c.into_iter-pair-iterator.result.rest.items
@@ -70,7 +70,7 @@ into_table-returns t c =
 pub into_tables-into_table-requires : goal.into_tables-into_table-requires
 into_tables-into_table-requires t c =
     let start : c.into_iter-table-iterator.result.rest.items ≡ c.args.tables.items =
-        search (rules, c.into_iter-table-iterator.ensures, c.into_iter-table-items.ensures.rest)
+    search (rules, c.into_iter-table-iterator.ensures, c.into_iter-table-items.ensures.rest)
     in
     let smaller = items_size-rest (map view c.loop-table.elements.items) table_data c.in-Some.table
     c.next.new.self.rest.items c.into_iter-table-iterator.result.rest.items
