@@ -1,10 +1,12 @@
 -- The data of items, their parts, and how large these are.
 use Rattle.std.proofs.Common.{◌≡◌, ℕ, zero, suc, ◌+◌, ◌<◌, ◌≤◌, List, [], ◌∷◌, ◌++◌, length, get_or, ap, arith, refl}
 use Rattle.std.proofs.Common.{sym, ◌∙◌, map, take, rules, Vec, Box, Global, string_bytes}
+use Rattle.std.proofs.Common.{Option, Some, None, true, false, cond}
+use Rattle.std.specs.Str.{bytes_eq}
 use Rattle.std.proofs.lemmas.List.{take_more, map-append}
 use Rattle.basic_toml_value.specs.Data.{Data, Items, item, no_items, items_of, Members, no_members, member, members_of}
 use Rattle.basic_toml_value.specs.Entries.{seen, texts_of}
-use Rattle.basic_toml_value.specs.Pairs.{keys_of}
+use Rattle.basic_toml_value.specs.Pairs.{keys_of, value_at}
 use Rattle.basic_toml_value.specs.View.{view, entries}
 use Rattle.basic_toml_value.specs.declared.pairs.Pair.{Pair}
 use Rattle.basic_toml_value.specs.declared.value.Value as values
@@ -12,6 +14,7 @@ use Rattle.basic_toml_value.proofs.Sizes.{data_size, items_size, members_size}
 use Rattle.basic_toml_tree.specs.declared.item.Item.{the_lemmas, Tables}
 use Rattle.basic_toml_tree.specs.declared.item.Child.{Child, out-Child}
 use Rattle.basic_toml_tree.specs.declared.item.Table.{Table, out-Table}
+use Rattle.basic_toml_tree.specs.Nodes.{data_among, data_at}
 use Rattle.basic_toml_tree.specs.Data.{data_of, child_data, table_data, child_pair, value_pair}
 
 some_size : (members : Members) → 2 ≤ members_size members
@@ -144,3 +147,28 @@ pub tables_whole : (elements next : List values.Value) (before : List Table) (v 
     → map view next ≡ map table_data before ++ table_data latest ∷ []
 tables_whole elements next before v latest next_is same equal =
     rw (next_is, map-append view elements (v ∷ []), same, equal) refl
+
+-- the data at a key of a table is that of its child there
+unfoldable among : Option Child → Option Data
+among None = None
+among (Some c) = Some (child_data c)
+
+data_among-mapped : (ps : List (List ℕ × Child)) (key : List ℕ)
+    → data_among (members_of (map (λ p. (p.0, child_data p.1)) ps)) key ≡ among (value_at ps key)
+unfolding among
+data_among-mapped [] key = refl
+data_among-mapped (p ∷ ps) key =
+    elim (bytes_eq key p.0) as (λ b. cond b (Some (child_data p.1)) (data_among (members_of (map (λ p. (p.0, child_data p.1)) ps)) key)
+    ≡ among (cond b (Some p.1) (value_at ps key))) [ true ↦ refl | false ↦ data_among-mapped ps key ]
+
+pub data_at_found : (t : Table) (key : List ℕ) (c : Child) → value_at (out-Table t).entries key ≡ Some c
+    → data_at (table_data t) key ≡ Some (child_data c)
+unfolding among
+data_at_found t key c found =
+    ap (λ d. data_at d key) (table_members t) ∙ data_among-mapped (out-Table t).entries key ∙ ap among found
+
+pub data_at_absent : (t : Table) (key : List ℕ) → value_at (out-Table t).entries key ≡ None
+    → data_at (table_data t) key ≡ None
+unfolding among
+data_at_absent t key absent =
+    ap (λ d. data_at d key) (table_members t) ∙ data_among-mapped (out-Table t).entries key ∙ ap among absent

@@ -7,6 +7,7 @@ use Rattle.basic_toml_value.specs.declared.pairs.Pair.{Pair}
 use Rattle.basic_toml_value.specs.Entries.{pair_seen, seen, texts_of}
 use Rattle.basic_toml_value.specs.Keys.{is_among}
 use Rattle.basic_toml_value.specs.Pairs.{keys_of, has_key}
+use Rattle.basic_toml_value.proofs.SeenPairs.{value_at-found, value_at-absent}
 use Rattle.basic_toml_value.proofs.DistinctKeys.{slice_get-last, is_among_at}
 use Rattle.basic_toml_tree.specs.Keyed.{with_value, values_of, EntersKey}
 
@@ -98,4 +99,4 @@ module _ {V : Type 0} where
   stands_within (p ∷ ps) zero key at = omega arith
   stands_within (p ∷ ps) (suc i) key at = let below : i < length ps = stands_within ps i key at in omega arith
 
-pub ruleset keys_seen = (keys_of-seen, has_key-seen, has_key-found)
+pub ruleset keys_seen = (keys_of-seen, has_key-seen, has_key-found, value_at-found, value_at-absent)

@@ -28,8 +28,8 @@ impl<V> Model for Keyed<V> {
 }
 
 impl<V: Drop> Keyed<V> {
-    ghost use Rattle.std.specs.Prelude.{◌≡◌, ◌<◌, [], ◌∷◌, ◌++◌, length, IfOk, IsTrue, MatchOption, false, slice_get, Some};
-    ghost use Rattle.basic_toml_value.specs.Pairs.{keys_of, has_key};
+    ghost use Rattle.std.specs.Prelude.{◌≡◌, ◌<◌, [], ◌∷◌, ◌++◌, length, IfOk, IsTrue, MatchOption, None, slice_get, Some};
+    ghost use Rattle.basic_toml_value.specs.Pairs.{keys_of, value_at};
     ghost use Rattle.basic_toml_value.specs.Entries.{seen, texts_of};
     ghost use Rattle.basic_toml_value.specs.Index.{IsIndex};
     ghost use Rattle.basic_toml_tree.specs.Keyed.{EntersKey, with_value, values_of};
@@ -51,14 +51,14 @@ impl<V: Drop> Keyed<V> {
         self.entries.len()
     }
 
-    /// The position of a key.
+    /// The pair of a key.
     #[tactic(auto, using(crate::proofs::KeysSeen::keys_seen))]
-    pub fn position(&self, key: &str) -> Option<usize>
-        ensures { MatchOption result (has_key self.now key.now ≡ false)
-            (λ position. slice_get (keys_of self.now) position ≡ Some key.now) }
+    pub fn get(&self, key: &str) -> Option<&Pair<V>>
+        ensures { MatchOption result (value_at self.now key.now ≡ None)
+            (λ pair. value_at self.now key.now ≡ Some pair.now.value) }
     {
         match self.index.search(&self.entries, key) {
-            Found::At(position) => Some(position),
+            Found::At(position) => Some(&self.entries[position]),
             Found::Absent(_) => None,
         }
     }

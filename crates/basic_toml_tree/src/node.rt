@@ -1,11 +1,12 @@
 //! The nodes of a tree.
 
-ghost use Rattle.std.specs.Prelude.{◌≡◌, ◌<◌, IsSome, IfOk};
-ghost use Rattle.std.specs.Option.{ForSome};
+ghost use Rattle.std.specs.Prelude.{◌≡◌, ◌<◌, false, Some, None, IsSome, IfOk, MatchOption};
+ghost use Rattle.std.specs.Option.{option_copied};
+ghost use Rattle.std.specs.Cow.{cow_str_bytes};
 ghost use Rattle.basic_toml_value.specs.Data.{table as table_of_members};
 ghost use Rattle.basic_toml_value.specs.View.{view, entries};
-ghost use Rattle.basic_toml_tree.specs.Data.{table_data};
-ghost use Rattle.basic_toml_tree.specs.Nodes.{node_data};
+ghost use Rattle.basic_toml_tree.specs.Data.{table_data, child_data};
+ghost use Rattle.basic_toml_tree.specs.Nodes.{node_data, integer_in, boolean_in, float_in, string_in, is_table, data_at};
 
 use crate::item::{Child, Item, Table};
 use crate::tree::Tree;
@@ -89,7 +90,9 @@ fn header_len(tree: &Tree<'_>, section: usize) -> usize {
 
 impl<'t, 'de> Node<'t, 'de> {
     /// The number, if it is an integer.
-    pub fn as_integer(self) -> Option<i64> {
+    pub fn as_integer(self) -> Option<i64>
+        ensures { result ≡ integer_in (node_data self.entry) }
+    {
         match self.spot {
             Spot::Item(Item::Integer(number)) => Some(*number),
             _ => None,
@@ -97,7 +100,9 @@ impl<'t, 'de> Node<'t, 'de> {
     }
 
     /// The truth value, if it is one.
-    pub fn as_bool(self) -> Option<bool> {
+    pub fn as_bool(self) -> Option<bool>
+        ensures { result ≡ boolean_in (node_data self.entry) }
+    {
         match self.spot {
             Spot::Item(Item::Boolean(truth)) => Some(*truth),
             _ => None,
@@ -105,7 +110,9 @@ impl<'t, 'de> Node<'t, 'de> {
     }
 
     /// The float, if it is one.
-    pub fn as_float(self) -> Option<&'t Float> {
+    pub fn as_float(self) -> Option<&'t Float>
+        ensures { option_copied result ≡ float_in (node_data self.entry) }
+    {
         match self.spot {
             Spot::Item(Item::Float(float)) => Some(float),
             _ => None,
@@ -113,18 +120,25 @@ impl<'t, 'de> Node<'t, 'de> {
     }
 
     /// The text, if it is a string: borrowed from the text that was read, where it can be.
-    pub fn text(self) -> Option<&'t CowStr<'de>> {
+    pub fn text(self) -> Option<&'t CowStr<'de>>
+        ensures { MatchOption result (string_in (node_data self.entry) ≡ None)
+            (λ text. string_in (node_data self.entry) ≡ Some (cow_str_bytes text.now)) }
+    {
         match self.spot {
             Spot::Item(Item::String(text)) => Some(text),
             _ => None,
         }
     }
 
-    // The table here, with whether a header made it.
-    fn table(self) -> Option<&'t Table<'de>> {
+    // The table here.
+    fn table(self) -> Option<&'t Table<'de>>
+        ensures { MatchOption result (is_table (node_data self.entry) ≡ false)
+            (λ table. node_data self.entry ≡ table_data table.now) }
+    {
         match self.spot {
             Spot::Table(table) => Some(table),
             Spot::Item(Item::Inline(table)) => Some(table),
+            Spot::Item(Item::Table(table)) => Some(table),
             _ => None,
         }
     }
@@ -192,7 +206,9 @@ impl<'t, 'de> Node<'t, 'de> {
     }
 
     // A node below this table at a key.
-    fn below(self, table: &'t Table<'de>, key: &'t str, child: &'t Child<'de>) -> Node<'t, 'de> {
+    fn below(self, table: &'t Table<'de>, key: &'t str, child: &'t Child<'de>) -> Node<'t, 'de>
+        ensures { node_data result ≡ child_data child.now }
+    {
         let count = self.count.saturating_add(1);
         let outer = if self.is_made() {
             None
@@ -233,7 +249,9 @@ impl<'t, 'de> Node<'t, 'de> {
     }
 
     // The same node, with the header that made it, if one did.
-    fn settled(self) -> Node<'t, 'de> {
+    fn settled(self) -> Node<'t, 'de>
+        ensures { node_data result ≡ node_data self.entry }
+    {
         if !self.is_made() {
             return self;
         }
@@ -289,18 +307,17 @@ impl<'t, 'de> Node<'t, 'de> {
     }
 
     /// The value at a key, if it is a table that has the key.
-    pub fn get(self, key: &str) -> Option<Node<'t, 'de>> {
+    pub fn get(self, key: &str) -> Option<Node<'t, 'de>>
+        ensures { MatchOption result (data_at (node_data self.entry) key.now ≡ None)
+            (λ node. data_at (node_data self.entry) key.now ≡ Some (node_data node)) }
+    {
         let Some(table) = self.table() else {
             return None;
         };
-        let Some(position) = table.entries.position(key) else {
+        let Some(pair) = table.entries.get(key) else {
             return None;
         };
-        Some(self.below(
-            table,
-            table.entries.key(position),
-            table.entries.value(position),
-        ))
+        Some(self.below(table, pair.key.as_str(), &pair.value))
     }
 
     /// Its elements in order, if it is an array.
@@ -353,7 +370,10 @@ impl<'t, 'de> Node<'t, 'de> {
     }
 
     /// A copy of the table, if it is one.
-    pub fn to_table(self, alloc: Global) -> Result<Option<values::Table>, AllocError> {
+    pub fn to_table(self, alloc: Global) -> Result<Option<values::Table>, AllocError>
+        ensures { IfOk result (λ copy. MatchOption copy (is_table (node_data self.entry) ≡ false)
+            (λ table. table_of_members (entries table) ≡ node_data self.entry)) }
+    {
         match self.table() {
             Some(table) => Ok(Some(table_of(alloc, table)?)),
             None => Ok(None),
