@@ -1,5 +1,5 @@
 -- The data that an item stands for.
-use Rattle.std.specs.Prelude.{ℕ, List, [], ◌∷◌, ◌++◌, map, string_bytes}
+use Rattle.std.specs.Prelude.{ℕ, List, [], ◌∷◌, ◌++◌, string_bytes}
 use Rattle.std.specs.Cow.{cow_str_bytes}
 use Rattle.basic_toml_value.specs.Data.{Data, no_items, items_of, members_of}
 use Rattle.basic_toml_value.specs.View.{view}

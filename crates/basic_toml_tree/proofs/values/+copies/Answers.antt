@@ -1,8 +1,7 @@
-use Rattle.std.proofs.Common.{◌≡◌, ap, arith, sym, ◌∙◌, refl, ◌++◌, ◌∷◌, [], map}
+use Rattle.std.proofs.Common.{ap, arith, sym, ◌∙◌, refl, map}
 use Rattle.basic_toml_value.specs.Data.{Data, items_of, members_of}
 use Rattle.basic_toml_value.specs.View.{view, entries}
 use Rattle.basic_toml_value.specs.Entries.{texts_of}
-use Rattle.basic_toml_value.specs.Pairs.{keys_of}
 use Rattle.basic_toml_value.proofs.Sizes.{data_size, items_size}
 use Rattle.basic_toml_tree.specs.Data.{data_of, child_data, table_data, child_pair, value_pair}
 use Rattle.basic_toml_tree.proofs.ItemData.{items_size-at, items_size-front, items_size-last, members_size-at}

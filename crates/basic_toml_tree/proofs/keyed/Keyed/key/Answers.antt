@@ -1,4 +1,4 @@
-use Rattle.std.proofs.Common.{◌≡◌, ◌<◌, ◌∙◌, length, sym, ap, subst, ℕ, Some}
+use Rattle.std.proofs.Common.{◌<◌, ◌∙◌, length, sym, ap, subst, ℕ, Some}
 use Rattle.std.specs.List.{slice_get}
 use Rattle.basic_toml_value.specs.Pairs.{keys_of}
 use Rattle.basic_toml_tree.proofs.KeysSeen.{key_at, length-seen}

@@ -1,7 +1,5 @@
-use Rattle.std.proofs.Common.{◌<◌, ◌∙◌, length, sym, ap, subst, List, ℕ, Some}
+use Rattle.std.proofs.Common.{◌<◌, ◌∙◌, length, sym, ap, subst, ℕ, Some}
 use Rattle.std.specs.List.{slice_get}
-use Rattle.basic_toml_value.specs.Entries.{seen}
-use Rattle.basic_toml_value.specs.Index.{IsIndex}
 use Rattle.basic_toml_tree.specs.Keyed.{with_value, values_of}
 use Rattle.basic_toml_tree.proofs.KeysSeen.{seen-set, texts_of-set, length-seen, length-with_value, value_at_position}
 use Rattle.basic_toml_tree.proofs.keyed.Keyed.replace.Goals as goal
