@@ -1,5 +1,5 @@
 -- What contracts see of a `ReadError`, and what a fault of a token becomes.
-use Rattle.std.specs.Prelude.{[], map, Option, Some, None, Vec, String, string_bytes}
+use Rattle.std.specs.Prelude.{ℕ, [], map, Option, Some, None, Vec, String, string_bytes}
 use Rattle.std.specs.declared.alloc.Global.{Global}
 use Rattle.basic_toml_tokens.specs.declared.error.Error.{Error}
 use Rattle.basic_toml_tokens.specs.declared.error.Error.TheVariants as tokens
@@ -42,6 +42,10 @@ fault_of e = record { kind = kind_of e.kind; offset = e.offset; key_path = keys_
 
 abbrev pub want_of_memory : Fault
 want_of_memory = record { kind = fault.out_of_memory; offset = None; key_path = [] }
+
+-- a fault within some keys
+abbrev pub fault_within : FaultKind → ℕ → KeyTexts → Fault
+fault_within kind offset keys = record { kind = kind; offset = Some offset; key_path = keys }
 
 -- a fault of a token keeps its kind and its offset
 abbrev pub token_fault : Error → Fault

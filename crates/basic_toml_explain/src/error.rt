@@ -1,6 +1,6 @@
 //! Why a text is not read.
 ghost use Rattle.std.specs.Prelude.{◌≡◌, map, string_bytes};
-ghost use Rattle.basic_toml_explain.specs.Error.{kind_of};
+ghost use Rattle.basic_toml_explain.specs.Error.{kind_of, fault_within};
 
 use std::alloc::AllocError;
 use std::marker::Model;
@@ -39,13 +39,13 @@ pub enum ReadErrorKind {
     NumberInvalid,
     /// A bare word where a value is wanted.
     UnquotedString,
-    /// A dotted key that goes on from a row of the same section or inline table. No call answers it yet.
+    /// A dotted key that goes on from a row of the same section or inline table.
     DottedKeyInvalidType,
-    /// The second occurrence of this key. No call answers it yet.
+    /// The second occurrence of this key.
     DuplicateKey(String),
-    /// The second header of this path, its keys joined by periods. No call answers it yet.
+    /// The second header of this path, its keys joined by periods.
     DuplicateTable(String),
-    /// An array of tables at a table. No call answers it yet.
+    /// An array of tables at a table.
     RedefineAsArray,
     /// A key or a bracket within 128 others.
     NestedTooDeeply,
@@ -91,8 +91,7 @@ impl ReadError {
         self.offset
     }
 
-    /// The keys that lead to it: those of the section, and the first key of the row. No call answers any yet: errors of
-    /// clashes come with the resolver.
+    /// The keys that lead to it: those of the section, and the first key of the row. Errors of clashes alone have any.
     pub fn key_path(&self) -> &[String]
         ensures { map string_bytes result.now ≡ self.now.key_path }
     {
@@ -102,8 +101,8 @@ impl ReadError {
         }
     }
 
-    /// An error of the grammar.
-    pub(crate) fn at(offset: usize, kind: ReadErrorKind) -> ReadError
+    /// An error that stands at an offset, without a key path.
+    pub fn at(offset: usize, kind: ReadErrorKind) -> ReadError
         ensures { result ≡ fault_at (kind_of kind) offset }
     {
         ReadError {
@@ -111,6 +110,15 @@ impl ReadError {
             offset: Some(offset),
             key_path: None,
         }
+    }
+
+    /// An error that stands at an offset, within these keys.
+    pub fn within(offset: usize, kind: ReadErrorKind, keys: Vec<String>) -> ReadError
+        ensures { result ≡ fault_within (kind_of kind) offset (map string_bytes keys.items) }
+    {
+        let mut error = ReadError::at(offset, kind);
+        error.key_path = Some(keys);
+        error
     }
 }
 

@@ -16,4 +16,4 @@ mod word;
 
 pub use basic_toml_explain::{ReadError, ReadErrorKind};
 pub use reader::sections;
-pub use section::Section;
+pub use section::{Element, Raw, Row, Section};

@@ -1,6 +1,6 @@
 //! The section list of a text.
-ghost use Rattle.std.specs.Prelude.{◌≡◌};
-ghost use Rattle.basic_toml_read.specs.SectionView.{section_of};
+ghost use Rattle.std.specs.Prelude.{◌≡◌, not, is_some};
+ghost use Rattle.basic_toml_read.specs.SectionView.{section_of, lined_of};
 
 use basic_toml_value::Float;
 use std::borrow::CowStr;
@@ -8,44 +8,69 @@ use std::borrow::CowStr;
 /// A value as it is written.
 #[cycle(raws)]
 #[derive(Drop)]
-pub(crate) enum Raw<'de> {
+pub enum Raw<'de> {
     /// No value: the next row goes on after a period.
     Dot,
+    /// A whole number.
     Integer(i64),
+    /// A float, as its canonical text.
     Float(Float),
+    /// `true` or `false`.
     Boolean(bool),
+    /// A string without its delimiters, escapes resolved.
     String(CowStr<'de>),
+    /// The elements of an array.
     Array(Vec<Element<'de>>),
+    /// The rows of an inline table.
     Inline(Vec<Row<'de>>),
 }
 
 /// An element of an array, and the offset of its value.
 #[cycle(raws)]
 #[derive(Drop)]
-pub(crate) struct Element<'de> {
+pub struct Element<'de> {
+    /// The byte offset of the value.
     pub offset: usize,
+    /// The value.
     pub value: Raw<'de>,
 }
 
 /// A key of a row with its offset, and after the last of them the value, which begins at `start`.
 #[cycle(raws)]
 #[derive(Drop)]
-pub(crate) struct Row<'de> {
+pub struct Row<'de> {
+    /// The key.
     pub key: CowStr<'de>,
+    /// The byte offset of the key.
     pub offset: usize,
+    /// The byte offset of the value, after the last key.
     pub start: usize,
+    /// The value, and `Raw::Dot` before the last key.
     pub value: Raw<'de>,
 }
 
-/// A header with its rows, or the rows before the first header. Its rows are for the resolver to come.
+impl<'de> Row<'de> {
+    /// Whether the next row goes on after a period.
+    pub fn is_dot(&self) -> bool
+        ensures { result ≡ not (is_some (lined_of self.now).value) }
+    {
+        matches!(self.value, Raw::Dot)
+    }
+}
+
+/// A header with its rows, or the rows before the first header.
 #[derive(Drop)]
 pub struct Section<'de> {
-    pub(crate) at: usize,
-    pub(crate) is_array: bool,
-    pub(crate) header: Vec<CowStr<'de>>,
-    /// Where the keys of the header begin.
-    pub(crate) offsets: Vec<usize>,
-    pub(crate) rows: Vec<Row<'de>>,
+    /// The byte offset of the header's first bracket, and 0 where there is no header.
+    pub at: usize,
+    /// Whether the header has double brackets.
+    pub is_array: bool,
+    /// The keys of the header.
+    pub header: Vec<CowStr<'de>>,
+    /// The byte offsets of these keys.
+    pub offsets: Vec<usize>,
+    /// The rows, each key of a row for itself.
+    pub rows: Vec<Row<'de>>,
 }
 
 impl<'de> Section<'de> {

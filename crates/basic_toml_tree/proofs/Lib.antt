@@ -1,0 +1,3 @@
+pub mod HeadersNamed
+pub mod ItemData
+pub mod KeysSeen

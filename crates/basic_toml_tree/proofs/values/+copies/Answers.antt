@@ -1,0 +1,90 @@
+use Rattle.std.proofs.Common.{ap, arith, sym, ◌∙◌, refl, map}
+use Rattle.basic_toml_value.specs.Data.{Data, items_of, members_of}
+use Rattle.basic_toml_value.specs.View.{view, entries}
+use Rattle.basic_toml_value.specs.Entries.{texts_of}
+use Rattle.basic_toml_value.proofs.Sizes.{data_size, items_size}
+use Rattle.basic_toml_tree.specs.Data.{data_of, child_data, table_data, child_pair, value_pair}
+use Rattle.basic_toml_tree.proofs.ItemData.{items_size-at, items_size-front, items_size-last, members_size-at}
+use Rattle.basic_toml_tree.proofs.ItemData.{mapped_more, child_item, table_of_pairs, tables_data, table_seen}
+use Rattle.basic_toml_tree.proofs.ItemData.{array_seen, entries_seen, keys_copied, tables_whole}
+use Rattle.basic_toml_tree.proofs.values.+copies.Goals as goal
+
+pub elements_of-value_of-requires : goal.elements_of-value_of-requires
+elements_of-value_of-requires t c =
+    let smaller = items_size-at child_data c.args.children.now c.loop-child.child-index c.child-item.result
+    c.loop-child-test.true c.child-item.is in
+    let same = child_item c.child-item.result in
+    (omega (arith, ap data_size same), tt)
+
+pub elements_of-loop-child-preserved : goal.elements_of-loop-child-preserved
+elements_of-loop-child-preserved t c =
+    mapped_more view child_data c.loop-child.elements.items c.push.new.self.items c.args.children.now
+    c.loop-child.child-index c.in_ok-value_of.field-0 c.child-item.result c.loop-child-test.true c.child-item.is
+    c.in_ok-push.ensures.items c.loop-child.invariant
+    (c.in_ok-value_of.ensures ∙ sym (child_item c.child-item.result))
+
+pub entries_of-value_of-requires : goal.entries_of-value_of-requires
+entries_of-value_of-requires t c =
+    let smaller = members_size-at child_pair c.args.pairs.now c.loop-pair.pair-index c.pair-item.result
+    c.loop-pair-test.true c.pair-item.is in
+    let same = child_item c.pair-item.result.value in
+    (omega (arith, ap data_size same), tt)
+
+pub entries_of-loop-pair-preserved : goal.entries_of-loop-pair-preserved
+entries_of-loop-pair-preserved t c =
+    mapped_more value_pair child_pair c.loop-pair.copies.items c.push.new.self.items c.args.pairs.now
+    c.loop-pair.pair-index (record { key = c.in_ok-key.key; value = c.in_ok-value.value }) c.pair-item.result
+    c.loop-pair-test.true c.pair-item.is c.in_ok-push.ensures.items c.loop-pair.invariant
+    (rw (c.in_ok-key.ensures.cases, c.in_ok-value.ensures, child_item c.pair-item.result.value) refl)
+
+pub table_of-entries_of-requires : goal.table_of-entries_of-requires
+table_of-entries_of-requires t c =
+    let same = table_of_pairs c.args.table.now c.pairs.result.now c.pairs.ensures in
+    (omega (arith, ap data_size same), tt)
+
+pub table_of-from_parts-requires : goal.table_of-from_parts-requires
+table_of-from_parts-requires t c =
+    let same = keys_copied c.in_ok-copies.copies.items c.pairs.result.now _ c.in_ok-copies.ensures c.pairs.ensures in
+    c.in_ok-index.ensures (texts_of c.in_ok-copies.copies.items) (rw same at c.index.ensures)
+
+pub table_of-returns : goal.table_of-returns
+table_of-returns t c =
+    ap (λ ps. Data.table (entries ps)) c.from_parts.ensures
+    ∙ ap Data.table (entries_seen c.in_ok-copies.copies.items)
+    ∙ ap (λ ps. Data.table (members_of ps)) c.in_ok-copies.ensures
+    ∙ sym (table_of_pairs c.args.table.now c.pairs.result.now c.pairs.ensures)
+
+pub tables_of-table_of-requires : goal.tables_of-table_of-requires
+tables_of-table_of-requires t c =
+    let smaller = items_size-at table_data c.args.tables.now c.loop-table.table-index c.table-item.result
+    c.loop-table-test.true c.table-item.is in
+    (omega arith, tt)
+
+pub tables_of-loop-table-preserved : goal.tables_of-loop-table-preserved
+tables_of-loop-table-preserved t c =
+    mapped_more view table_data c.loop-table.elements.items c.push.new.self.items c.args.tables.now
+    c.loop-table.table-index _ c.table-item.result c.loop-table-test.true c.table-item.is
+    c.in_ok-push.ensures.items c.loop-table.invariant
+    (table_seen _ ∙ c.in_ok-table_of.ensures)
+
+pub value_of-tables_of-requires : goal.value_of-tables_of-requires
+value_of-tables_of-requires t c =
+    let front = items_size-front (map table_data c.in-Tables.before.items) (table_data c.in-Tables.latest.value) in
+    let same = ap data_of c.in-Tables.is ∙ tables_data c.in-Tables.before c.in-Tables.latest in
+    let slice = ap (λ ts. items_size (items_of (map table_data ts))) c.as_slice-in-Tables.ensures.value in
+    (omega (arith, ap data_size same), tt)
+
+pub value_of-table_of-requires-in-Tables : goal.value_of-table_of-requires-in-Tables
+value_of-table_of-requires-in-Tables t c =
+    let last = items_size-last (map table_data c.in-Tables.before.items) (table_data c.in-Tables.latest.value) in
+    let same = ap data_of c.in-Tables.is ∙ tables_data c.in-Tables.before c.in-Tables.latest in
+    (omega (arith, ap data_size same, ap (λ t. data_size (table_data t)) c.deref-in-Tables.ensures), tt)
+
+pub value_of-returns-in_ok-push-in-Tables : goal.value_of-returns-in_ok-push-in-Tables
+value_of-returns-in_ok-push-in-Tables t c =
+    array_seen c.push.new.self
+    ∙ ap (λ ds. Data.array (items_of ds)) (tables_whole c.in_ok-elements-in-Tables.elements.items c.push.new.self.items
+    c.in-Tables.before.items _ c.in-Tables.latest.value c.in_ok-push-in-Tables.ensures.items
+    (c.in_ok-elements-in-Tables.ensures ∙ ap (map table_data) c.as_slice-in-Tables.ensures.value)
+    (table_seen _ ∙ c.in_ok-table_of-in-Tables.ensures ∙ ap table_data c.deref-in-Tables.ensures))
+    ∙ sym (ap data_of c.in-Tables.is ∙ tables_data c.in-Tables.before c.in-Tables.latest)

@@ -1,0 +1,107 @@
+use Rattle.std.proofs.Common.{◌≡◌, ap, arith, sym, ◌∙◌, refl, ◌++◌, map, rules, subst, List, ℕ}
+use Rattle.basic_toml_value.specs.Data.{Data, items_of, members_of}
+use Rattle.basic_toml_value.specs.View.{view, entries}
+use Rattle.basic_toml_value.specs.Index.{IsIndex}
+use Rattle.basic_toml_value.proofs.Sizes.{data_size, items_size, members_size}
+use Rattle.basic_toml_tree.specs.Data.{data_of, child_data, table_data, child_pair, value_pair}
+use Rattle.basic_toml_tree.proofs.ItemData.{items_size-rest, items_size-front, items_size-last, members_size-rest}
+use Rattle.basic_toml_tree.proofs.ItemData.{mapped_next, child_item, table_of_pairs, tables_data, table_seen}
+use Rattle.basic_toml_tree.proofs.ItemData.{array_seen, entries_seen, keys_copied, tables_whole}
+use Rattle.basic_toml_tree.proofs.KeysSeen.{keys_of-seen}
+use Rattle.basic_toml_tree.proofs.values.+moves.Goals as goal
+
+pub into_elements-into_value-requires : goal.into_elements-into_value-requires
+into_elements-into_value-requires t c =
+    let start : c.into_iter-child-iterator.result.rest.items ≡ c.args.children.items =
+    search (rules, c.into_iter-child-iterator.ensures, c.into_iter-child-items.ensures.rest)
+    in
+    let smaller = items_size-rest (map view c.loop-child.elements.items) child_data c.in-Some.child
+    c.next.new.self.rest.items c.into_iter-child-iterator.result.rest.items
+    (ap (λ l. map view c.loop-child.elements.items ++ map child_data l) (sym c.in-Some.ensures.steps.0)
+    ∙ c.loop-child.invariant) in
+    let same = child_item c.in-Some.child in
+    (omega (arith, ap data_size same, ap (λ l. items_size (items_of (map child_data l))) start), tt)
+
+pub into_elements-loop-child-preserved : goal.into_elements-loop-child-preserved
+into_elements-loop-child-preserved t c =
+    mapped_next view child_data c.loop-child.elements.items c.push.new.self.items c.loop-child.child-iterator.rest.items
+    c.next.new.self.rest.items c.into_iter-child-iterator.result.rest.items c.in_ok-into_value.field-0 c.in-Some.child
+    c.in-Some.ensures.steps.0 c.in_ok-push.ensures.items c.loop-child.invariant
+    (c.in_ok-into_value.ensures ∙ sym (child_item c.in-Some.child))
+
+pub into_entries-into_value-requires : goal.into_entries-into_value-requires
+into_entries-into_value-requires t c =
+    let start : c.into_iter-pair-iterator.result.rest.items ≡ c.args.pairs.items =
+    search (rules, c.into_iter-pair-iterator.ensures, c.into_iter-pair-items.ensures.rest)
+    in
+    let smaller = members_size-rest (map value_pair c.loop-pair.moved.items) child_pair c.in-Some.pair
+    c.next.new.self.rest.items c.into_iter-pair-iterator.result.rest.items
+    (ap (λ l. map value_pair c.loop-pair.moved.items ++ map child_pair l) (sym c.in-Some.ensures.steps.0)
+    ∙ c.loop-pair.invariant) in
+    let same = child_item c.in-Some.pair.value in
+    (omega (arith, ap data_size same, ap (λ l. members_size (members_of (map child_pair l))) start), tt)
+
+pub into_entries-loop-pair-preserved : goal.into_entries-loop-pair-preserved
+into_entries-loop-pair-preserved t c =
+    mapped_next value_pair child_pair c.loop-pair.moved.items c.push.new.self.items c.loop-pair.pair-iterator.rest.items
+    c.next.new.self.rest.items c.into_iter-pair-iterator.result.rest.items
+    (record { key = c.in-Some.pair.key; value = c.in_ok-value.value }) c.in-Some.pair
+    c.in-Some.ensures.steps.0 c.in_ok-push.ensures.items c.loop-pair.invariant
+    (rw (c.in_ok-value.ensures, child_item c.in-Some.pair.value) refl)
+
+pub into_table-into_entries-requires : goal.into_table-into_entries-requires
+into_table-into_entries-requires t c =
+    let same = table_of_pairs c.args.table c.into_parts-pairs.result.0.items c.into_parts-pairs.ensures.pairs in
+    (omega (arith, ap data_size same), tt)
+
+pub into_table-from_parts-requires : goal.into_table-from_parts-requires
+into_table-from_parts-requires t c =
+    let same = keys_copied c.in_ok-moved.moved.items c.into_parts-pairs.result.0.items _ c.in_ok-moved.ensures refl in
+    let keys = keys_of-seen c.into_parts-pairs.result.0.items in
+    subst (λ (ks : List (List ℕ)). IsIndex ks c.into_parts-pairs.result.1) (sym keys ∙ same) c.into_parts-pairs.ensures.index
+
+pub into_table-returns : goal.into_table-returns
+into_table-returns t c =
+    ap (λ ps. Data.table (entries ps)) c.from_parts.ensures
+    ∙ ap Data.table (entries_seen c.in_ok-moved.moved.items)
+    ∙ ap (λ ps. Data.table (members_of ps)) c.in_ok-moved.ensures
+    ∙ sym (table_of_pairs c.args.table c.into_parts-pairs.result.0.items c.into_parts-pairs.ensures.pairs)
+
+pub into_tables-into_table-requires : goal.into_tables-into_table-requires
+into_tables-into_table-requires t c =
+    let start : c.into_iter-table-iterator.result.rest.items ≡ c.args.tables.items =
+    search (rules, c.into_iter-table-iterator.ensures, c.into_iter-table-items.ensures.rest)
+    in
+    let smaller = items_size-rest (map view c.loop-table.elements.items) table_data c.in-Some.table
+    c.next.new.self.rest.items c.into_iter-table-iterator.result.rest.items
+    (ap (λ l. map view c.loop-table.elements.items ++ map table_data l) (sym c.in-Some.ensures.steps.0)
+    ∙ c.loop-table.invariant) in
+    (omega (arith, ap (λ l. items_size (items_of (map table_data l))) start), tt)
+
+pub into_tables-loop-table-preserved : goal.into_tables-loop-table-preserved
+into_tables-loop-table-preserved t c =
+    mapped_next view table_data c.loop-table.elements.items c.push.new.self.items c.loop-table.table-iterator.rest.items
+    c.next.new.self.rest.items c.into_iter-table-iterator.result.rest.items _ c.in-Some.table
+    c.in-Some.ensures.steps.0 c.in_ok-push.ensures.items c.loop-table.invariant
+    (table_seen _ ∙ c.in_ok-into_table.ensures)
+
+pub into_value-into_tables-requires : goal.into_value-into_tables-requires
+into_value-into_tables-requires t c =
+    let front = items_size-front (map table_data c.in-Tables.before.items) (table_data c.in-Tables.latest.value) in
+    let same = ap data_of c.in-Tables.is ∙ tables_data c.in-Tables.before c.in-Tables.latest in
+    (omega (arith, ap data_size same), tt)
+
+pub into_value-into_table-requires-in-Tables : goal.into_value-into_table-requires-in-Tables
+into_value-into_table-requires-in-Tables t c =
+    let last = items_size-last (map table_data c.in-Tables.before.items) (table_data c.in-Tables.latest.value) in
+    let same = ap data_of c.in-Tables.is ∙ tables_data c.in-Tables.before c.in-Tables.latest in
+    (omega (arith, ap data_size same, ap (λ t. data_size (table_data t)) c.into_inner-in-Tables.ensures), tt)
+
+pub into_value-returns-in_ok-push-in-Tables : goal.into_value-returns-in_ok-push-in-Tables
+into_value-returns-in_ok-push-in-Tables t c =
+    array_seen c.push.new.self
+    ∙ ap (λ ds. Data.array (items_of ds)) (tables_whole c.in_ok-elements-in-Tables.elements.items c.push.new.self.items
+    c.in-Tables.before.items _ c.in-Tables.latest.value c.in_ok-push-in-Tables.ensures.items
+    c.in_ok-elements-in-Tables.ensures
+    (table_seen _ ∙ c.in_ok-into_table-in-Tables.ensures ∙ ap table_data c.into_inner-in-Tables.ensures))
+    ∙ sym (ap data_of c.in-Tables.is ∙ tables_data c.in-Tables.before c.in-Tables.latest)

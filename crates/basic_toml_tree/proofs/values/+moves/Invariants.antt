@@ -1,0 +1,37 @@
+use Rattle.std.proofs.Common.{◌≡◌, ◌+◌, ◌*◌, ◌++◌, map}
+use Rattle.basic_toml_value.specs.Data.{items_of, members_of}
+use Rattle.basic_toml_value.specs.View.{view}
+use Rattle.basic_toml_value.proofs.Sizes.{data_size, items_size, members_size}
+use Rattle.basic_toml_tree.specs.Data.{data_of, child_data, table_data, child_pair, value_pair}
+use Rattle.basic_toml_tree.proofs.values.+moves.Given as goal
+
+abbrev pub decreases-into_value : goal.decreases-into_value
+decreases-into_value l = 2 * data_size (data_of l.item) + 1
+
+abbrev pub decreases-into_elements : goal.decreases-into_elements
+decreases-into_elements l = 2 * items_size (items_of (map child_data l.children.items))
+
+abbrev pub decreases-into_tables : goal.decreases-into_tables
+decreases-into_tables l = 2 * items_size (items_of (map table_data l.tables.items))
+
+abbrev pub decreases-into_entries : goal.decreases-into_entries
+decreases-into_entries l = 2 * members_size (members_of (map child_pair l.pairs.items))
+
+abbrev pub decreases-into_table : goal.decreases-into_table
+decreases-into_table l = 2 * data_size (table_data l.table)
+
+-- what was passed is moved, in order, and the rest is left
+abbrev pub invariant-into_elements-loop-child : goal.invariant-into_elements-loop-child
+invariant-into_elements-loop-child l =
+    map view l.elements.items ++ map child_data l.child-iterator.rest.items
+    ≡ map child_data l.initial.child-iterator.rest.items
+
+abbrev pub invariant-into_tables-loop-table : goal.invariant-into_tables-loop-table
+invariant-into_tables-loop-table l =
+    map view l.elements.items ++ map table_data l.table-iterator.rest.items
+    ≡ map table_data l.initial.table-iterator.rest.items
+
+abbrev pub invariant-into_entries-loop-pair : goal.invariant-into_entries-loop-pair
+invariant-into_entries-loop-pair l =
+    map value_pair l.moved.items ++ map child_pair l.pair-iterator.rest.items
+    ≡ map child_pair l.initial.pair-iterator.rest.items

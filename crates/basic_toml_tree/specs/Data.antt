@@ -1,0 +1,49 @@
+-- The data that an item stands for.
+use Rattle.std.specs.Prelude.{ℕ, List, [], ◌∷◌, ◌++◌, string_bytes}
+use Rattle.std.specs.Cow.{cow_str_bytes}
+use Rattle.basic_toml_value.specs.Data.{Data, no_items, items_of, members_of}
+use Rattle.basic_toml_value.specs.View.{view}
+use Rattle.basic_toml_value.specs.declared.pairs.Pair.{Pair}
+use Rattle.basic_toml_value.specs.declared.value.Value.{Value}
+use Rattle.basic_toml_tree.specs.declared.item.Item.{fold-Item}
+use Rattle.basic_toml_tree.specs.declared.item.Item as items
+use Rattle.basic_toml_tree.specs.declared.item.Item.TheOpen.{Item-F, Child-F, Table-F}
+use Rattle.basic_toml_tree.specs.declared.item.Child as children
+use Rattle.basic_toml_tree.specs.declared.item.Child.{fold-Child}
+use Rattle.basic_toml_tree.specs.declared.item.Table as tables
+use Rattle.basic_toml_tree.specs.declared.item.Table.{fold-Table}
+
+-- one level, the parts seen already; where nothing stands yet, any data serves
+abbrev pub item_step : Item-F Data Data Data → Data
+item_step Item-F.Nothing = Data.array no_items
+item_step (Item-F.Integer z) = Data.integer z
+item_step (Item-F.Float text) = Data.float text
+item_step (Item-F.Boolean b) = Data.boolean b
+item_step (Item-F.String text) = Data.string (cow_str_bytes text)
+item_step (Item-F.Array children) = Data.array (items_of children.items)
+item_step (Item-F.Inline table) = table.value
+item_step (Item-F.Table table) = table.value
+item_step (Item-F.Tables before latest) =
+    Data.array (items_of (before.items ++ latest.value ∷ []))
+
+abbrev pub child_step : Child-F Data Data Data → Data
+child_step c = c.item
+
+abbrev pub table_step : Table-F Data Data Data → Data
+table_step t = Data.table (members_of t.entries)
+
+abbrev pub data_of : items.Item → Data
+data_of = fold-Item Data Data Data item_step child_step table_step
+
+abbrev pub child_data : children.Child → Data
+child_data = fold-Child Data Data Data item_step child_step table_step
+
+abbrev pub table_data : tables.Table → Data
+table_data = fold-Table Data Data Data item_step child_step table_step
+
+-- a key with the data at it
+abbrev pub child_pair : Pair children.Child → List ℕ × Data
+child_pair pair = (string_bytes pair.key, child_data pair.value)
+
+abbrev pub value_pair : Pair Value → List ℕ × Data
+value_pair pair = (string_bytes pair.key, view pair.value)

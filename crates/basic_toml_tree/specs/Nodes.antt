@@ -1,0 +1,45 @@
+-- The data of a node.
+use Rattle.std.specs.Prelude.{ℕ, ℤ, Bool, true, false, List, Option, Some, None, cond}
+use Rattle.std.specs.Str.{bytes_eq}
+use Rattle.basic_toml_value.specs.Data.{Data, Members, no_members, member}
+use Rattle.basic_toml_tree.specs.Data.{data_of, table_data}
+use Rattle.basic_toml_tree.specs.declared.node.Node.{Node}
+use Rattle.basic_toml_tree.specs.declared.node.Spot.{Spot}
+use Rattle.basic_toml_tree.specs.declared.node.Spot.TheVariants as spots
+
+abbrev pub spot_data : Spot → Data
+spot_data (spots.Table table) = table_data table.now
+spot_data (spots.Item item) = data_of item.now
+
+abbrev pub node_data : Node → Data
+node_data node = spot_data node.spot
+
+-- what the data is, where it is of a kind
+abbrev pub integer_in : Data → Option ℤ
+integer_in (Data.integer z) = Some z
+integer_in _ = None
+
+abbrev pub boolean_in : Data → Option Bool
+boolean_in (Data.boolean b) = Some b
+boolean_in _ = None
+
+abbrev pub float_in : Data → Option (List ℕ)
+float_in (Data.float text) = Some text
+float_in _ = None
+
+abbrev pub string_in : Data → Option (List ℕ)
+string_in (Data.string text) = Some text
+string_in _ = None
+
+-- whether it is a table, and the data at a key of it
+abbrev pub is_table : Data → Bool
+is_table (Data.table _) = true
+is_table _ = false
+
+abbrev pub data_among : Members → List ℕ → Option Data
+data_among no_members key = None
+data_among (member k d members) key = cond (bytes_eq key k) (Some d) (data_among members key)
+
+abbrev pub data_at : Data → List ℕ → Option Data
+data_at (Data.table members) key = data_among members key
+data_at _ key = None

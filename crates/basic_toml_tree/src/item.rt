@@ -1,0 +1,84 @@
+//! What stands at a key or a number while the tree grows, and when it is grown.
+
+use crate::keyed::Keyed;
+use basic_toml_value::Float;
+use std::alloc::{AllocError, Global};
+use std::borrow::CowStr;
+
+/// How deep a document is at most.
+pub(crate) const LIMIT: usize = 128;
+
+/// What stands at a key or a number.
+#[cycle(items)]
+#[derive(Drop)]
+pub(crate) enum Item<'de> {
+    /// Nothing yet: something is about to stand here.
+    Nothing,
+    Integer(i64),
+    Float(Float),
+    Boolean(bool),
+    String(CowStr<'de>),
+    Array(Vec<Child<'de>>),
+    /// An inline table.
+    Inline(Box<Table<'de>>),
+    /// A table of headers or of dotted keys.
+    Table(Box<Table<'de>>),
+    /// The tables of an array of tables: those before the latest, and the latest.
+    Tables(Vec<Table<'de>>, Box<Table<'de>>),
+}
+
+/// An item, and where it comes from.
+#[cycle(items)]
+#[derive(Drop)]
+pub(crate) struct Child<'de> {
+    /// The byte offset of the value; of a dotted table, that of the first value whose row made it.
+    pub start: usize,
+    /// The number of the section whose row or header first mentioned it.
+    pub section: usize,
+    pub item: Item<'de>,
+}
+
+/// A table that grows: what was said of it, and its entries.
+#[cycle(items)]
+#[derive(Drop)]
+pub(crate) struct Table<'de> {
+    /// Whether a header passes through it.
+    pub passed: bool,
+    /// Whether a header names it.
+    pub named: bool,
+    /// Whether the dots of a row extend it.
+    pub dotted: bool,
+    /// The number of a section whose header names it or passes through it, if there is one.
+    pub section: usize,
+    pub entries: Keyed<Child<'de>>,
+}
+
+impl<'de> Child<'de> {
+    /// Where nothing stands yet.
+    pub fn nothing() -> Child<'de> {
+        Child {
+            start: 0,
+            section: 0,
+            item: Item::Nothing,
+        }
+    }
+}
+
+impl<'de> Table<'de> {
+    /// A table without entries, of which nothing is said yet.
+    pub fn new(alloc: Global) -> Result<Box<Table<'de>>, AllocError> {
+        let table = Table {
+            passed: false,
+            named: false,
+            dotted: false,
+            section: 0,
+            entries: Keyed::new(alloc),
+        };
+        Ok(Box::new(alloc, table)?)
+    }
+
+    /// Whether a header names it or passes through it.
+    pub fn is_made(&self) -> bool {
+        self.passed || self.named
+    }
+}

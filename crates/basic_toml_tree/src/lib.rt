@@ -1,0 +1,17 @@
+//! From the sections of a text to the tree of its document.
+#![tactic(auto)]
+
+mod clash;
+mod crossed;
+mod headers;
+mod item;
+mod keyed;
+mod node;
+mod rows;
+#[cfg(test)]
+mod tests;
+mod tree;
+mod values;
+
+pub use node::{Elements, Entries, Node};
+pub use tree::{Tree, resolve};

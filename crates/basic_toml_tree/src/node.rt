@@ -1,0 +1,423 @@
+//! The nodes of a tree.
+
+ghost use Rattle.std.specs.Prelude.{◌≡◌, ◌<◌, false, Some, None, IsSome, IfOk, MatchOption};
+ghost use Rattle.std.specs.Option.{option_copied};
+ghost use Rattle.std.specs.Cow.{cow_str_bytes};
+ghost use Rattle.basic_toml_value.specs.Data.{table as table_of_members};
+ghost use Rattle.basic_toml_value.specs.View.{view, entries};
+ghost use Rattle.basic_toml_tree.specs.Data.{table_data, child_data};
+ghost use Rattle.basic_toml_tree.specs.Nodes.{node_data, integer_in, boolean_in, float_in, string_in, is_table, data_at};
+
+use crate::item::{Child, Item, Table};
+use crate::tree::Tree;
+use crate::values::{table_of, value_of};
+use basic_toml_read::ReadError;
+use basic_toml_value as values;
+use basic_toml_value::{Float, Value};
+use std::alloc::{AllocError, Global};
+use std::borrow::CowStr;
+
+// What a node is.
+#[derive(Clone, Copy)]
+enum Spot<'t, 'de> {
+    // a table of headers or of dotted keys
+    Table(&'t Table<'de>),
+    Item(&'t Item<'de>),
+}
+
+// Which keys lead to a node: the first of a header, or those of a header and then the first key of a row.
+#[derive(Clone, Copy)]
+enum Trail<'t> {
+    Header(usize),
+    Row(usize, &'t str),
+}
+
+/// A node of a tree: a value, and where it comes from.
+#[derive(Clone, Copy)]
+pub struct Node<'t, 'de> {
+    tree: &'t Tree<'de>,
+    spot: Spot<'t, 'de>,
+    // where a value begins, and the first value of a dotted table
+    start: usize,
+    // the beginning of the nearest inline or dotted table around it; with none the last section
+    outer: Option<usize>,
+    // how many keys lead to it, numbers of elements apart
+    count: usize,
+    trail: Trail<'t>,
+}
+
+impl<'de> Tree<'de> {
+    /// The table of the whole document.
+    pub fn root(&self) -> Node<'_, 'de>
+        ensures { node_data result ≡ table_data self.now.root.value }
+    {
+        Node {
+            tree: self,
+            spot: Spot::Table(&self.root),
+            start: 0,
+            outer: None,
+            count: 0,
+            trail: Trail::Header(0),
+        }
+    }
+
+    // The offset of the last section.
+    fn last_at(&self) -> Option<usize> {
+        match self.sections.last() {
+            Some(section) => Some(section.at),
+            None => None,
+        }
+    }
+}
+
+// The key of a row that has so many keys of its section before it.
+fn first_key<'t, 'de>(tree: &'t Tree<'de>, section: usize, count: usize) -> Option<&'t str> {
+    match tree.sections.get(section) {
+        Some(section) => match section.header.get(count) {
+            Some(key) => Some(key.as_str()),
+            None => None,
+        },
+        None => None,
+    }
+}
+
+fn header_len(tree: &Tree<'_>, section: usize) -> usize {
+    match tree.sections.get(section) {
+        Some(section) => section.header.len(),
+        None => 0,
+    }
+}
+
+impl<'t, 'de> Node<'t, 'de> {
+    /// The number, if it is an integer.
+    pub fn as_integer(self) -> Option<i64>
+        ensures { result ≡ integer_in (node_data self.entry) }
+    {
+        match self.spot {
+            Spot::Item(Item::Integer(number)) => Some(*number),
+            _ => None,
+        }
+    }
+
+    /// The truth value, if it is one.
+    pub fn as_bool(self) -> Option<bool>
+        ensures { result ≡ boolean_in (node_data self.entry) }
+    {
+        match self.spot {
+            Spot::Item(Item::Boolean(truth)) => Some(*truth),
+            _ => None,
+        }
+    }
+
+    /// The float, if it is one.
+    pub fn as_float(self) -> Option<&'t Float>
+        ensures { option_copied result ≡ float_in (node_data self.entry) }
+    {
+        match self.spot {
+            Spot::Item(Item::Float(float)) => Some(float),
+            _ => None,
+        }
+    }
+
+    /// The text, if it is a string: borrowed from the text that was read, where it can be.
+    pub fn text(self) -> Option<&'t CowStr<'de>>
+        ensures { MatchOption result (string_in (node_data self.entry) ≡ None)
+            (λ text. string_in (node_data self.entry) ≡ Some (cow_str_bytes text.now)) }
+    {
+        match self.spot {
+            Spot::Item(Item::String(text)) => Some(text),
+            _ => None,
+        }
+    }
+
+    // The table here.
+    fn table(self) -> Option<&'t Table<'de>>
+        ensures { MatchOption result (is_table (node_data self.entry) ≡ false)
+            (λ table. node_data self.entry ≡ table_data table.now) }
+    {
+        match self.spot {
+            Spot::Table(table) => Some(table),
+            Spot::Item(Item::Inline(table)) => Some(table),
+            Spot::Item(Item::Table(table)) => Some(table),
+            _ => None,
+        }
+    }
+
+    // Whether headers made it: they name it, pass through it, or add elements to it.
+    fn is_made(self) -> bool {
+        match self.spot {
+            Spot::Table(table) => self.count == 0 || table.is_made(),
+            Spot::Item(Item::Tables(_, _)) => true,
+            _ => false,
+        }
+    }
+
+    /// The name of its kind: `integer`, `float`, `boolean`, `string`, `array`, `inline table`, `dotted table` or `table`.
+    pub fn type_name(self) -> &'static str {
+        match self.spot {
+            Spot::Table(_) => {
+                if self.is_made() {
+                    "table"
+                } else {
+                    "dotted table"
+                }
+            }
+            Spot::Item(item) => match item {
+                Item::Nothing => "dotted table",
+                Item::Integer(_) => "integer",
+                Item::Float(_) => "float",
+                Item::Boolean(_) => "boolean",
+                Item::String(_) => "string",
+                Item::Array(_) => "array",
+                Item::Inline(_) => "inline table",
+                Item::Table(_) => "dotted table",
+                Item::Tables(_, _) => "array",
+            },
+        }
+    }
+
+    /// The byte offset where it begins: that of a value, of the first value of a dotted table, and of the last section
+    /// where headers made it.
+    pub fn start(self) -> Option<usize> {
+        if self.is_made() {
+            self.tree.last_at()
+        } else {
+            Some(self.start)
+        }
+    }
+
+    /// The byte offset that names it in errors: where it begins, but for an array literal the outer place.
+    pub fn place(self) -> Option<usize> {
+        match self.spot {
+            Spot::Item(Item::Array(_)) => self.outer_place(),
+            _ => self.start(),
+        }
+    }
+
+    /// The byte offset of the nearest inline or dotted table around it, else that of the last section.
+    pub fn outer_place(self) -> Option<usize> {
+        if self.is_made() {
+            return self.tree.last_at();
+        }
+        match self.outer {
+            Some(outer) => Some(outer),
+            None => self.tree.last_at(),
+        }
+    }
+
+    // A node below this table at a key.
+    fn below(self, table: &'t Table<'de>, key: &'t str, child: &'t Child<'de>) -> Node<'t, 'de>
+        ensures { node_data result ≡ child_data child.now }
+    {
+        let count = self.count.saturating_add(1);
+        let outer = if self.is_made() {
+            None
+        } else {
+            Some(self.start)
+        };
+        let trail = if self.is_made() {
+            self.trail_below(table, key, child)
+        } else {
+            self.trail
+        };
+        let spot = match &child.item {
+            Item::Table(table) => Spot::Table(table),
+            item => Spot::Item(item),
+        };
+        let node = Node {
+            tree: self.tree,
+            spot,
+            start: child.start,
+            outer,
+            count,
+            trail,
+        };
+        node.settled()
+    }
+
+    // The keys that lead to what a row put below a table that headers made.
+    fn trail_below(self, table: &'t Table<'de>, key: &'t str, child: &'t Child<'de>) -> Trail<'t> {
+        let len = header_len(self.tree, child.section);
+        if len < self.count {
+            match first_key(self.tree, table.section, len) {
+                Some(first) => Trail::Row(child.section, first),
+                None => Trail::Row(child.section, key),
+            }
+        } else {
+            Trail::Row(child.section, key)
+        }
+    }
+
+    // The same node, with the header that made it, if one did.
+    fn settled(self) -> Node<'t, 'de>
+        ensures { node_data result ≡ node_data self.entry }
+    {
+        if !self.is_made() {
+            return self;
+        }
+        let section = match self.spot {
+            Spot::Table(table) => table.section,
+            Spot::Item(Item::Tables(_, latest)) => latest.section,
+            _ => 0,
+        };
+        Node {
+            trail: Trail::Header(section),
+            ..self
+        }
+    }
+
+    // A node among the elements of this array.
+    fn element(self, child: &'t Child<'de>) -> Node<'t, 'de> {
+        Node {
+            spot: Spot::Item(&child.item),
+            start: child.start,
+            ..self
+        }
+    }
+
+    fn element_table(self, table: &'t Table<'de>) -> Node<'t, 'de> {
+        let node = Node {
+            spot: Spot::Table(table),
+            ..self
+        };
+        node.settled()
+    }
+
+    // The element at a number, if this is an array that has it.
+    fn element_at(self, at: usize) -> Option<Node<'t, 'de>>
+        ensures { IsSome result → at < usize.MAX }
+    {
+        match self.spot {
+            Spot::Item(Item::Array(children)) => match children.get(at) {
+                Some(child) => Some(self.element(child)),
+                None => None,
+            },
+            Spot::Item(Item::Tables(before, latest)) => match before.get(at) {
+                Some(table) => Some(self.element_table(table)),
+                None => {
+                    if at == before.len() {
+                        Some(self.element_table(latest))
+                    } else {
+                        None
+                    }
+                }
+            },
+            _ => None,
+        }
+    }
+
+    /// The value at a key, if it is a table that has the key.
+    pub fn get(self, key: &str) -> Option<Node<'t, 'de>>
+        ensures { MatchOption result (data_at (node_data self.entry) key.now ≡ None)
+            (λ node. data_at (node_data self.entry) key.now ≡ Some (node_data node)) }
+    {
+        let Some(table) = self.table() else {
+            return None;
+        };
+        let Some(pair) = table.entries.get(key) else {
+            return None;
+        };
+        Some(self.below(table, pair.key.as_str(), &pair.value))
+    }
+
+    /// Its elements in order, if it is an array.
+    pub fn elements(self) -> Option<Elements<'t, 'de>> {
+        match self.spot {
+            Spot::Item(Item::Array(_)) => Some(Elements { array: self, at: 0 }),
+            Spot::Item(Item::Tables(_, _)) => Some(Elements { array: self, at: 0 }),
+            _ => None,
+        }
+    }
+
+    /// Its keys with their values in order, if it is a table.
+    pub fn entries(self) -> Option<Entries<'t, 'de>> {
+        match self.table() {
+            Some(table) => Some(Entries {
+                node: self,
+                table,
+                at: 0,
+            }),
+            None => None,
+        }
+    }
+
+    /// The keys that lead to it: those of the headers that made it, or those of its section and the first key of its row.
+    pub fn key_path(self, alloc: Global) -> Result<Vec<String>, AllocError> {
+        let (section, count) = match self.trail {
+            Trail::Header(section) => (section, self.count),
+            Trail::Row(section, _) => (section, header_len(self.tree, section)),
+        };
+        let mut path = Vec::new(alloc);
+        if let Some(section) = self.tree.sections.get(section) {
+            for key in section.header.iter().take(count) {
+                path.push(String::from_str(alloc, key.as_str())?)?;
+            }
+        }
+        if let Trail::Row(_, first) = self.trail {
+            path.push(String::from_str(alloc, first)?)?;
+        }
+        Ok(path)
+    }
+
+    /// A copy of the value.
+    pub fn to_value(self, alloc: Global) -> Result<Value, ReadError>
+        ensures { IfOk result (λ value. view value ≡ node_data self.entry) }
+    {
+        match self.spot {
+            Spot::Table(table) => Ok(Value::Table(table_of(alloc, table)?)),
+            Spot::Item(item) => Ok(value_of(alloc, item)?),
+        }
+    }
+
+    /// A copy of the table, if it is one.
+    pub fn to_table(self, alloc: Global) -> Result<Option<values::Table>, AllocError>
+        ensures { IfOk result (λ copy. MatchOption copy (is_table (node_data self.entry) ≡ false)
+            (λ table. table_of_members (entries table) ≡ node_data self.entry)) }
+    {
+        match self.table() {
+            Some(table) => Ok(Some(table_of(alloc, table)?)),
+            None => Ok(None),
+        }
+    }
+}
+
+/// The elements of an array in order.
+#[derive(Clone, Copy, Drop)]
+pub struct Elements<'t, 'de> {
+    array: Node<'t, 'de>,
+    at: usize,
+}
+
+impl<'t, 'de> Iterator for Elements<'t, 'de> {
+    type Item = Node<'t, 'de>;
+
+    fn next(&mut self) -> Option<Node<'t, 'de>> {
+        let at = self.at;
+        let node = self.array.element_at(at)?;
+        self.at = at + 1;
+        Some(node)
+    }
+}
+
+/// The keys of a table with their values in order.
+#[derive(Clone, Copy, Drop)]
+pub struct Entries<'t, 'de> {
+    node: Node<'t, 'de>,
+    table: &'t Table<'de>,
+    at: usize,
+}
+
+impl<'t, 'de> Iterator for Entries<'t, 'de> {
+    type Item = (&'t str, Node<'t, 'de>);
+
+    fn next(&mut self) -> Option<(&'t str, Node<'t, 'de>)> {
+        let at = self.at;
+        let table = self.table;
+        if at >= table.entries.len() {
+            return None;
+        }
+        self.at += 1;
+        let key = table.entries.key(at);
+        Some((key, self.node.below(table, key, table.entries.value(at))))
+    }
+}

@@ -1,0 +1,291 @@
+// Texts with their trees and clashes.
+use crate::{Node, resolve};
+use basic_toml_read::{ReadError, ReadErrorKind, Section, sections};
+use basic_toml_value::Value;
+use std::alloc::{AllocError, Global};
+use std::test::Fail;
+
+// A number, or `-` where there is none.
+fn push_offset(out: &mut String, offset: Option<usize>) -> Result<(), AllocError> {
+    match offset {
+        Some(offset) => write!(out, " {offset}"),
+        None => out.push_str(" -"),
+    }
+}
+
+// One line for each node: its path, type name, start, place, outer place and key path.
+fn push_node(
+    out: &mut String,
+    alloc: Global,
+    path: &str,
+    node: Node<'_, '_>,
+) -> Result<(), AllocError> {
+    out.push_str(path)?;
+    out.push_str(": ")?;
+    out.push_str(node.type_name())?;
+    push_offset(out, node.start())?;
+    push_offset(out, node.place())?;
+    push_offset(out, node.outer_place())?;
+    for key in node.key_path(alloc)?.iter() {
+        write!(out, " {key}")?;
+    }
+    out.push('\n')?;
+    if let Some(entries) = node.entries() {
+        for (key, below) in entries {
+            let path = format!(in alloc; "{path}.{key}")?;
+            push_node(out, alloc, path.as_str(), below)?;
+        }
+    }
+    if let Some(elements) = node.elements() {
+        for (number, below) in elements.enumerate() {
+            let path = format!(in alloc; "{path}[{number}]")?;
+            push_node(out, alloc, path.as_str(), below)?;
+        }
+    }
+    Ok(())
+}
+
+#[cycle(data)]
+fn push_value(out: &mut String, value: &Value) -> Result<(), AllocError> {
+    match value {
+        Value::Integer(number) => {
+            let number = *number;
+            write!(out, "{number}")
+        }
+        Value::Float(float) => out.push_str(float.as_str()),
+        Value::Boolean(truth) => {
+            let truth = *truth;
+            write!(out, "{truth}")
+        }
+        Value::String(text) => {
+            let text = text.as_str();
+            write!(out, "'{text}'")
+        }
+        Value::Array(values) => {
+            out.push('[')?;
+            for (at, value) in values.iter().enumerate() {
+                if at > 0 {
+                    out.push(' ')?;
+                }
+                push_value(out, value)?;
+            }
+            out.push(']')
+        }
+        Value::Table(table) => push_table(out, table),
+    }
+}
+
+#[cycle(data)]
+fn push_table(out: &mut String, table: &basic_toml_value::Table) -> Result<(), AllocError> {
+    out.push('{')?;
+    for (at, (key, value)) in table.iter().enumerate() {
+        if at > 0 {
+            out.push(' ')?;
+        }
+        write!(out, "{key}:")?;
+        push_value(out, value)?;
+    }
+    out.push('}')
+}
+
+fn push_kind(out: &mut String, kind: &ReadErrorKind) -> Result<(), AllocError> {
+    match kind {
+        ReadErrorKind::DottedKeyInvalidType => out.push_str("dotted"),
+        ReadErrorKind::DuplicateKey(key) => {
+            let key = key.as_str();
+            write!(out, "key {key}")
+        }
+        ReadErrorKind::DuplicateTable(name) => {
+            let name = name.as_str();
+            write!(out, "table {name}")
+        }
+        ReadErrorKind::RedefineAsArray => out.push_str("array"),
+        ReadErrorKind::NestedTooDeeply => out.push_str("deep"),
+        ReadErrorKind::OutOfMemory => out.push_str("memory"),
+        _ => out.push_str("grammar"),
+    }
+}
+
+fn push_error(out: &mut String, error: &ReadError) -> Result<(), AllocError> {
+    push_kind(out, error.kind())?;
+    push_offset(out, error.place())?;
+    for key in error.key_path() {
+        let key = key.as_str();
+        write!(out, " {key}")?;
+    }
+    Ok(())
+}
+
+// The tree of a text as a value, or its error.
+fn value_of(alloc: Global, text: &str) -> Result<String, AllocError> {
+    let mut out = String::new(alloc);
+    match sections(alloc, text) {
+        Ok(list) => match resolve(alloc, list) {
+            Ok(tree) => match tree.root().to_value(alloc) {
+                Ok(value) => {
+                    push_value(&mut out, &value)?;
+                    out.push(' ')?;
+                    push_table(&mut out, &tree.into_table(alloc)?)?;
+                }
+                Err(error) => push_error(&mut out, &error)?,
+            },
+            Err(error) => push_error(&mut out, &error)?,
+        },
+        Err(error) => push_error(&mut out, &error)?,
+    }
+    Ok(out)
+}
+
+// The nodes of a text, a line each.
+fn nodes_of(alloc: Global, text: &str) -> Result<String, AllocError> {
+    let mut out = String::new(alloc);
+    match sections(alloc, text) {
+        Ok(list) => match resolve(alloc, list) {
+            Ok(tree) => push_node(&mut out, alloc, "", tree.root())?,
+            Err(error) => push_error(&mut out, &error)?,
+        },
+        Err(error) => push_error(&mut out, &error)?,
+    }
+    Ok(out)
+}
+
+#[test]
+fn grows_trees(rt: HostRuntime) -> Result<(), Fail> {
+    let alloc = rt.alloc();
+    let cases = [
+        ("", "{}"),
+        ("a = 1\n", "{a:1}"),
+        ("x = {a.b = 1, a.c = 2}\n", "{x:{a:{b:1 c:2}}}"),
+        (
+            "x = [1, {y = [true]}, 'c', 1.50]\n",
+            "{x:[1 {y:[true]} 'c' 1.50]}",
+        ),
+        ("[b]\nx = 1\n[a.c]\n[a]\ny = 2\n", "{b:{x:1} a:{c:{} y:2}}"),
+        ("[a]\ny = 2\n[b]\nx = 1\n[a.c]\n", "{a:{y:2 c:{}} b:{x:1}}"),
+        (
+            "[[a.b]]\n[a.c]\n[[a.b]]\nx = 1\n",
+            "{a:{b:[{} {x:1}] c:{}}}",
+        ),
+        (
+            "[[a]]\n[[a.b]]\n[a.b.c]\n[x]\n[[a.b]]\n[a.b.c]\n[[a]]\n[[a.b]]\n",
+            "{a:[{b:[{c:{}} {c:{}}]} {b:[{}]}] x:{}}",
+        ),
+        ("a.b = 1\n[a.c]\n", "{a:{b:1 c:{}}}"),
+        ("a.b = 1\n[[a.c]]\n", "{a:{b:1 c:[{}]}}"),
+        ("[a.b.c]\n[a]\nb.d = 1\n", "{a:{b:{c:{} d:1}}}"),
+        ("[a]\nb.c = 1\nd = 2\nb.e = 3\n", "{a:{b:{c:1 e:3} d:2}}"),
+        (
+            "[[a]]\n[a.b]\n[[a]]\n[a.b]\nc = 1\n",
+            "{a:[{b:{}} {b:{c:1}}]}",
+        ),
+        (
+            "a=0\nb=1\nc=2\nd=3\ne=4\nf=5\ng=6\nh=7\ni=8\nj=9\nk=10\nl=11\nm=12\nn=13\no=14\np=15\nq=16\nr=17\ns=18\n",
+            "{a:0 b:1 c:2 d:3 e:4 f:5 g:6 h:7 i:8 j:9 k:10 l:11 m:12 n:13 o:14 p:15 q:16 r:17 s:18}",
+        ),
+    ];
+    for (text, wanted) in cases {
+        let twice = format!(in alloc; "{wanted} {wanted}")?;
+        assert_eq!(rt; value_of(alloc, text)?.as_str(), twice.as_str(), "{text}");
+    }
+    Ok(())
+}
+
+#[test]
+fn names_clashes(rt: HostRuntime) -> Result<(), Fail> {
+    let alloc = rt.alloc();
+    let cases = [
+        ("[a.b]\n[a]\nb = 1\n", "key b 10 a"),
+        ("[[a]]\nb = 1\n[[a.b]]\n[[a]]\n[[a.b]]\n", "key b 16 a"),
+        ("[[a]]\n[a]\n", "table a 6 a"),
+        ("[a]\n[[a]]\n", "table a 4 a"),
+        ("a = 1\na = 2\n[s]\nb = 1\nb.c = 2\n", "dotted 20"),
+        ("[[a]]\n[a.b.c]\n[[a.b]]\n", "array 14 a b"),
+        ("a.b = 1\n[a]\n", "key a 9"),
+        ("a.b = 1\n[a.b.c]\n", "key b 11 a"),
+        ("a.b.c = 1\n[[a.b]]\n", "key b 14 a"),
+        ("[a.b.c]\n[a]\nb.c = 1\n", "key c 14 a b"),
+        ("[a]\nb = {}\n[a.b]\n", "key b 14 a"),
+        ("[a.b.c]\n[a]\nb.d = 1\n[a.b]\n", "key b 23 a"),
+        ("a = 1\na = 2\n", "key a 6"),
+        ("a.b = 1\na.b = 2\n", "key b 10 a"),
+        ("[s]\na.b.c = 1\na.b.c = 2\n", "key c 18 s a"),
+        ("a.b = 1\na = 2\n", "key a 8"),
+        ("a = 1.5\na.b = 2", "dotted 6"),
+        ("a.b = 1\na = 2\na.c = 3\n", "dotted 12"),
+        ("x = {a = 1, a = 2}\n", "key a 12 x"),
+        ("[s]\nx.y = [{a.b = 1, a = 2}]\n", "key a 21 s x"),
+        ("x = {a = 1, a = 2, b = 1, b.c = 2}\n", "dotted 23"),
+        ("x = {a = 1, a = 2}\ny = 1\ny.z = 2\n", "dotted 23"),
+        ("[a.b]\n[[a]]\n", "array 6 a"),
+        ("[a.b]\n[a]\n[[a]]\n", "table a 10 a"),
+        ("[a]\n[a]\n", "table a 4 a"),
+        ("[a.'b c']\n[a.'b c']\n", "table a.b c 10 a b c"),
+        ("[a.a]\n[[a]]\n[a.a]\n", "array 6 a"),
+        ("a = []\n[[a]]\n", "key a 9"),
+        ("[[a.b]]\n[a]\nb.c = 1\n", "key b 12 a"),
+    ];
+    for (text, wanted) in cases {
+        assert_eq!(rt; value_of(alloc, text)?.as_str(), wanted, "{text}");
+    }
+    Ok(())
+}
+
+#[test]
+fn tells_where_nodes_come_from(rt: HostRuntime) -> Result<(), Fail> {
+    let alloc = rt.alloc();
+    let cases = [
+        ("", ": table - - -\n"),
+        ("a = 1\n", ": table 0 0 0\n.a: integer 4 4 0 a\n"),
+        (
+            "x = [1, {y = 2}]\n",
+            ": table 0 0 0\n.x: array 4 0 0 x\n.x[0]: integer 5 5 0 x\n.x[1]: inline table 8 8 0 x\n.x[1].y: integer 13 13 8 x\n",
+        ),
+        (
+            "[[p]]\nb = 'c'\n[[p]]\nd.e = 1.5\n",
+            ": table 14 14 14\n.p: array 14 14 14 p\n.p[0]: table 14 14 14 p\n.p[0].b: string 10 10 14 p b\n.p[1]: table 14 14 14 p\n.p[1].d: dotted table 28 28 14 p d\n.p[1].d.e: float 28 28 28 p d\n",
+        ),
+        (
+            "a.b = 1\n[a.c]\n",
+            ": table 8 8 8\n.a: table 8 8 8 a\n.a.b: integer 6 6 8 a\n.a.c: table 8 8 8 a c\n",
+        ),
+        (
+            "[a.b.c]\n[a]\nb.d.e = true\n",
+            ": table 8 8 8\n.a: table 8 8 8 a\n.a.b: table 8 8 8 a b\n.a.b.c: table 8 8 8 a b c\n.a.b.d: dotted table 20 20 8 a b\n.a.b.d.e: boolean 20 20 20 a b\n",
+        ),
+        (
+            "x = {a.b = {}, c = [[]]}\n",
+            ": table 0 0 0\n.x: inline table 4 4 0 x\n.x.a: dotted table 11 11 4 x\n.x.a.b: inline table 11 11 11 x\n.x.c: array 19 4 4 x\n.x.c[0]: array 20 4 4 x\n",
+        ),
+    ];
+    for (text, wanted) in cases {
+        assert_eq!(rt; nodes_of(alloc, text)?.as_str(), wanted, "{text}");
+    }
+    Ok(())
+}
+
+// Lines of array headers, each a key longer than the one before.
+fn staircase(alloc: Global, lines: usize) -> Result<String, AllocError> {
+    let mut text = String::new(alloc);
+    for line in 0..lines {
+        text.push_str("[[a")?;
+        for _ in 0..line {
+            text.push_str(".a")?;
+        }
+        text.push_str("]]\n")?;
+    }
+    Ok(text)
+}
+
+#[test]
+fn nests_up_to_a_limit(rt: HostRuntime) -> Result<(), Fail> {
+    let alloc = rt.alloc();
+    let accepted = staircase(alloc, 63)?;
+    assert!(rt;
+        !value_of(alloc, accepted.as_str())?
+            .as_str()
+            .starts_with("deep")
+    );
+    let refused = staircase(alloc, 64)?;
+    assert_eq!(rt; value_of(alloc, refused.as_str())?.as_str(), "deep 4284");
+    Ok(())
+}

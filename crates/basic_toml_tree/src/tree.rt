@@ -1,0 +1,35 @@
+//! From a section list to its tree.
+
+use crate::crossed::crossed_value;
+use crate::headers::enter_section;
+use crate::item::Table;
+use basic_toml_read::{ReadError, ReadErrorKind, Section};
+use std::alloc::Global;
+
+/// The tree of a section list.
+#[derive(Drop)]
+pub struct Tree<'de> {
+    /// The headers, whose rows have gone into the tree.
+    pub(crate) sections: Vec<Section<'de>>,
+    pub(crate) root: Box<Table<'de>>,
+}
+
+/// The tree of a section list, or a clash that stands in it.
+///
+/// `DottedKeyInvalidType` comes before every other clash. `NestedTooDeeply` comes where the tree is deeper than 128,
+/// at a section that makes it so, and `OutOfMemory` where memory is refused.
+pub fn resolve<'de>(alloc: Global, sections: Vec<Section<'de>>) -> Result<Tree<'de>, ReadError> {
+    if let Some(at) = crossed_value(alloc, sections.as_slice())? {
+        return Err(ReadError::at(at, ReadErrorKind::DottedKeyInvalidType));
+    }
+    let mut sections = sections;
+    let mut root = Table::new(alloc)?;
+    for number in 0..sections.len() {
+        let section = &mut sections[number];
+        root = match enter_section(alloc, root, section, number) {
+            Ok(root) => root,
+            Err(clash) => return Err(clash.error(alloc, section)),
+        };
+    }
+    Ok(Tree { sections, root })
+}

@@ -1,0 +1,153 @@
+//! Values of a tree: copies of them, and the table that the tree becomes.
+ghost use Rattle.std.specs.Prelude.{◌≡◌, IfOk, map};
+ghost use Rattle.basic_toml_value.specs.Data.{table as table_of_members};
+ghost use Rattle.basic_toml_value.specs.View.{view, entries};
+ghost use Rattle.basic_toml_tree.specs.Data.{data_of, child_data, table_data, child_pair, value_pair};
+
+use crate::item::{Child, Item, Table};
+use crate::tree::Tree;
+use basic_toml_value as values;
+use basic_toml_value::{Pair, Pairs, Value};
+use std::alloc::{AllocError, Global};
+
+/// A copy of an item.
+#[cycle(copies)]
+pub(crate) fn value_of(alloc: Global, item: &Item<'_>) -> Result<Value, AllocError>
+    ensures { IfOk result (λ value. view value ≡ data_of item.now) }
+{
+    match item {
+        Item::Nothing => Ok(Value::Array(Vec::new(alloc))),
+        Item::Integer(number) => Ok(Value::Integer(*number)),
+        Item::Float(float) => Ok(Value::Float(float.clone()?)),
+        Item::Boolean(truth) => Ok(Value::Boolean(*truth)),
+        Item::String(text) => Ok(Value::String(String::from_str(alloc, text.as_str())?)),
+        Item::Array(children) => Ok(Value::Array(elements_of(alloc, children.as_slice())?)),
+        Item::Inline(table) => Ok(Value::Table(table_of(alloc, table)?)),
+        Item::Table(table) => Ok(Value::Table(table_of(alloc, table)?)),
+        Item::Tables(before, latest) => {
+            let mut elements = tables_of(alloc, before.as_slice())?;
+            elements.push(Value::Table(table_of(alloc, latest)?))?;
+            Ok(Value::Array(elements))
+        }
+    }
+}
+
+#[cycle(copies)]
+fn elements_of(alloc: Global, children: &[Child<'_>]) -> Result<Vec<Value>, AllocError>
+    ensures { IfOk result (λ values. map view values.items ≡ map child_data children.now) }
+{
+    let mut elements = Vec::with_capacity(alloc, children.len())?;
+    for child in children {
+        elements.push(value_of(alloc, &child.item)?)?;
+    }
+    Ok(elements)
+}
+
+#[cycle(copies)]
+fn tables_of(alloc: Global, tables: &[Table<'_>]) -> Result<Vec<Value>, AllocError>
+    ensures { IfOk result (λ values. map view values.items ≡ map table_data tables.now) }
+{
+    let mut elements = Vec::with_capacity(alloc, tables.len())?;
+    for table in tables {
+        elements.push(Value::Table(table_of(alloc, table)?))?;
+    }
+    Ok(elements)
+}
+
+#[cycle(copies)]
+fn entries_of(alloc: Global, pairs: &[Pair<Child<'_>>]) -> Result<Vec<Pair<Value>>, AllocError>
+    ensures { IfOk result (λ copies. map value_pair copies.items ≡ map child_pair pairs.now) }
+{
+    let mut copies = Vec::with_capacity(alloc, pairs.len())?;
+    for pair in pairs {
+        let key = pair.key.clone()?;
+        let value = value_of(alloc, &pair.value.item)?;
+        copies.push(Pair { key, value })?;
+    }
+    Ok(copies)
+}
+
+/// A copy of a table.
+#[cycle(copies)]
+pub(crate) fn table_of(alloc: Global, table: &Table<'_>) -> Result<values::Table, AllocError>
+    ensures { IfOk result (λ copy. table_of_members (entries copy) ≡ table_data table.now) }
+{
+    let copies = entries_of(alloc, table.entries.pairs())?;
+    let index = table.entries.index().clone(alloc)?;
+    Ok(Pairs::from_parts(copies, index))
+}
+
+#[cycle(moves)]
+fn into_value(alloc: Global, item: Item<'_>) -> Result<Value, AllocError>
+    ensures { IfOk result (λ value. view value ≡ data_of item.entry) }
+{
+    match item {
+        Item::Nothing => Ok(Value::Array(Vec::new(alloc))),
+        Item::Integer(number) => Ok(Value::Integer(number)),
+        Item::Float(float) => Ok(Value::Float(float)),
+        Item::Boolean(truth) => Ok(Value::Boolean(truth)),
+        Item::String(text) => Ok(Value::String(text.into_owned(alloc)?)),
+        Item::Array(children) => Ok(Value::Array(into_elements(alloc, children)?)),
+        Item::Inline(table) => Ok(Value::Table(into_table(alloc, Box::into_inner(table))?)),
+        Item::Table(table) => Ok(Value::Table(into_table(alloc, Box::into_inner(table))?)),
+        Item::Tables(before, latest) => {
+            let mut elements = into_tables(alloc, before)?;
+            elements.push(Value::Table(into_table(alloc, Box::into_inner(latest))?))?;
+            Ok(Value::Array(elements))
+        }
+    }
+}
+
+#[cycle(moves)]
+fn into_elements(alloc: Global, children: Vec<Child<'_>>) -> Result<Vec<Value>, AllocError>
+    ensures { IfOk result (λ values. map view values.items ≡ map child_data children.entry.items) }
+{
+    let mut elements = Vec::with_capacity(alloc, children.len())?;
+    for child in children.into_iter() {
+        elements.push(into_value(alloc, child.item)?)?;
+    }
+    Ok(elements)
+}
+
+#[cycle(moves)]
+fn into_tables(alloc: Global, tables: Vec<Table<'_>>) -> Result<Vec<Value>, AllocError>
+    ensures { IfOk result (λ values. map view values.items ≡ map table_data tables.entry.items) }
+{
+    let mut elements = Vec::with_capacity(alloc, tables.len())?;
+    for table in tables.into_iter() {
+        elements.push(Value::Table(into_table(alloc, table)?))?;
+    }
+    Ok(elements)
+}
+
+#[cycle(moves)]
+fn into_entries(alloc: Global, pairs: Vec<Pair<Child<'_>>>) -> Result<Vec<Pair<Value>>, AllocError>
+    ensures { IfOk result (λ moved. map value_pair moved.items ≡ map child_pair pairs.entry.items) }
+{
+    let mut moved = Vec::with_capacity(alloc, pairs.len())?;
+    for pair in pairs.into_iter() {
+        let Pair { key, value } = pair;
+        let value = into_value(alloc, value.item)?;
+        moved.push(Pair { key, value })?;
+    }
+    Ok(moved)
+}
+
+#[cycle(moves)]
+fn into_table(alloc: Global, table: Table<'_>) -> Result<values::Table, AllocError>
+    ensures { IfOk result (λ moved. table_of_members (entries moved) ≡ table_data table.entry) }
+{
+    let (pairs, index) = table.entries.into_parts();
+    let moved = into_entries(alloc, pairs)?;
+    Ok(Pairs::from_parts(moved, index))
+}
+
+impl<'de> Tree<'de> {
+    /// The table of the document. Strings and keys are moved into it, and the tree's memory is given back on the way.
+    pub fn into_table(self, alloc: Global) -> Result<values::Table, AllocError>
+        ensures { IfOk result (λ moved. table_of_members (entries moved) ≡ table_data self.entry.root.value) }
+    {
+        let Tree { sections: _, root } = self;
+        into_table(alloc, Box::into_inner(root))
+    }
+}
