@@ -1,5 +1,5 @@
 // Texts with their trees and clashes.
-use crate::{Node, resolve};
+use crate::{Elements, Entries, Node, resolve};
 use basic_toml_read::{ReadError, ReadErrorKind, Section, sections};
 use basic_toml_value::Value;
 use std::alloc::{AllocError, Global};
@@ -13,13 +13,24 @@ fn push_offset(out: &mut String, offset: Option<usize>) -> Result<(), AllocError
     }
 }
 
-// One line for each node: its path, type name, start, place, outer place and key path.
+// More than the entries of a table or the elements of an array here.
+const MANY: usize = 40;
+
+// More than there are levels here.
+const LEVELS: usize = 300;
+
+// One line for each node: its path, type name, start, place, outer place and key path; so many levels of them.
+#[cycle(nodes)]
 fn push_node(
     out: &mut String,
     alloc: Global,
     path: &str,
     node: Node<'_, '_>,
+    levels: usize,
 ) -> Result<(), AllocError> {
+    if levels == 0 {
+        return Ok(());
+    }
     out.push_str(path)?;
     out.push_str(": ")?;
     out.push_str(node.type_name())?;
@@ -27,26 +38,66 @@ fn push_node(
     push_offset(out, node.place())?;
     push_offset(out, node.outer_place())?;
     for key in node.key_path(alloc)?.iter() {
+        let key = key.as_str();
         write!(out, " {key}")?;
     }
     out.push('\n')?;
     if let Some(entries) = node.entries() {
-        for (key, below) in entries {
-            let path = format!(in alloc; "{path}.{key}")?;
-            push_node(out, alloc, path.as_str(), below)?;
-        }
+        push_entries(out, alloc, path, entries, levels - 1, MANY)?;
     }
     if let Some(elements) = node.elements() {
-        for (number, below) in elements.enumerate() {
-            let path = format!(in alloc; "{path}[{number}]")?;
-            push_node(out, alloc, path.as_str(), below)?;
-        }
+        push_elements(out, alloc, path, elements, levels - 1, MANY)?;
+    }
+    Ok(())
+}
+
+#[cycle(nodes)]
+fn push_entries(
+    out: &mut String,
+    alloc: Global,
+    path: &str,
+    entries: Entries<'_, '_>,
+    levels: usize,
+    left: usize,
+) -> Result<(), AllocError> {
+    let mut entries = entries;
+    if left == 0 {
+        return Ok(());
+    }
+    if let Some((key, below)) = entries.next() {
+        let at = format!(in alloc; "{path}.{key}")?;
+        push_node(out, alloc, at.as_str(), below, levels)?;
+        push_entries(out, alloc, path, entries, levels, left - 1)?;
+    }
+    Ok(())
+}
+
+#[cycle(nodes)]
+fn push_elements(
+    out: &mut String,
+    alloc: Global,
+    path: &str,
+    elements: Elements<'_, '_>,
+    levels: usize,
+    left: usize,
+) -> Result<(), AllocError> {
+    let mut elements = elements;
+    if left == 0 {
+        return Ok(());
+    }
+    if let Some(below) = elements.next() {
+        let at = format!(in alloc; "{path}[]")?;
+        push_node(out, alloc, at.as_str(), below, levels)?;
+        push_elements(out, alloc, path, elements, levels, left - 1)?;
     }
     Ok(())
 }
 
 #[cycle(data)]
-fn push_value(out: &mut String, value: &Value) -> Result<(), AllocError> {
+fn push_value(out: &mut String, value: &Value, levels: usize) -> Result<(), AllocError> {
+    if levels == 0 {
+        return Ok(());
+    }
     match value {
         Value::Integer(number) => {
             let number = *number;
@@ -67,23 +118,30 @@ fn push_value(out: &mut String, value: &Value) -> Result<(), AllocError> {
                 if at > 0 {
                     out.push(' ')?;
                 }
-                push_value(out, value)?;
+                push_value(out, value, levels - 1)?;
             }
             out.push(']')
         }
-        Value::Table(table) => push_table(out, table),
+        Value::Table(table) => push_table(out, table, levels - 1),
     }
 }
 
 #[cycle(data)]
-fn push_table(out: &mut String, table: &basic_toml_value::Table) -> Result<(), AllocError> {
+fn push_table(
+    out: &mut String,
+    table: &basic_toml_value::Table,
+    levels: usize,
+) -> Result<(), AllocError> {
+    if levels == 0 {
+        return Ok(());
+    }
     out.push('{')?;
     for (at, (key, value)) in table.iter().enumerate() {
         if at > 0 {
             out.push(' ')?;
         }
         write!(out, "{key}:")?;
-        push_value(out, value)?;
+        push_value(out, value, levels - 1)?;
     }
     out.push('}')
 }
@@ -123,9 +181,9 @@ fn value_of(alloc: Global, text: &str) -> Result<String, AllocError> {
         Ok(list) => match resolve(alloc, list) {
             Ok(tree) => match tree.root().to_value(alloc) {
                 Ok(value) => {
-                    push_value(&mut out, &value)?;
+                    push_value(&mut out, &value, LEVELS)?;
                     out.push(' ')?;
-                    push_table(&mut out, &tree.into_table(alloc)?)?;
+                    push_table(&mut out, &tree.into_table(alloc)?, LEVELS)?;
                 }
                 Err(error) => push_error(&mut out, &error)?,
             },
@@ -141,7 +199,7 @@ fn nodes_of(alloc: Global, text: &str) -> Result<String, AllocError> {
     let mut out = String::new(alloc);
     match sections(alloc, text) {
         Ok(list) => match resolve(alloc, list) {
-            Ok(tree) => push_node(&mut out, alloc, "", tree.root())?,
+            Ok(tree) => push_node(&mut out, alloc, "", tree.root(), 9)?,
             Err(error) => push_error(&mut out, &error)?,
         },
         Err(error) => push_error(&mut out, &error)?,
@@ -238,11 +296,11 @@ fn tells_where_nodes_come_from(rt: HostRuntime) -> Result<(), Fail> {
         ("a = 1\n", ": table 0 0 0\n.a: integer 4 4 0 a\n"),
         (
             "x = [1, {y = 2}]\n",
-            ": table 0 0 0\n.x: array 4 0 0 x\n.x[0]: integer 5 5 0 x\n.x[1]: inline table 8 8 0 x\n.x[1].y: integer 13 13 8 x\n",
+            ": table 0 0 0\n.x: array 4 0 0 x\n.x[]: integer 5 5 0 x\n.x[]: inline table 8 8 0 x\n.x[].y: integer 13 13 8 x\n",
         ),
         (
             "[[p]]\nb = 'c'\n[[p]]\nd.e = 1.5\n",
-            ": table 14 14 14\n.p: array 14 14 14 p\n.p[0]: table 14 14 14 p\n.p[0].b: string 10 10 14 p b\n.p[1]: table 14 14 14 p\n.p[1].d: dotted table 28 28 14 p d\n.p[1].d.e: float 28 28 28 p d\n",
+            ": table 14 14 14\n.p: array 14 14 14 p\n.p[]: table 14 14 14 p\n.p[].b: string 10 10 14 p b\n.p[]: table 14 14 14 p\n.p[].d: dotted table 28 28 14 p d\n.p[].d.e: float 28 28 28 p d\n",
         ),
         (
             "a.b = 1\n[a.c]\n",
@@ -254,7 +312,7 @@ fn tells_where_nodes_come_from(rt: HostRuntime) -> Result<(), Fail> {
         ),
         (
             "x = {a.b = {}, c = [[]]}\n",
-            ": table 0 0 0\n.x: inline table 4 4 0 x\n.x.a: dotted table 11 11 4 x\n.x.a.b: inline table 11 11 11 x\n.x.c: array 19 4 4 x\n.x.c[0]: array 20 4 4 x\n",
+            ": table 0 0 0\n.x: inline table 4 4 0 x\n.x.a: dotted table 11 11 4 x\n.x.a.b: inline table 11 11 11 x\n.x.c: array 19 4 4 x\n.x.c[]: array 20 4 4 x\n",
         ),
     ];
     for (text, wanted) in cases {
