@@ -1,5 +1,5 @@
-//! From a text to its section list ([`sections`]), or to an error that the text allows. The step from sections to the
-//! tree of the document is to come.
+//! From a text to its section list ([`sections`]), or to an error that the text allows. `basic_toml_tree` goes
+//! on from there to the tree of the document.
 #![tactic(auto)]
 
 mod front;

@@ -152,7 +152,8 @@ impl<'t, 'de> Node<'t, 'de> {
         }
     }
 
-    /// The name of its kind: `integer`, `float`, `boolean`, `string`, `array`, `inline table`, `dotted table` or `table`.
+    /// The name of its kind: `integer`, `float`, `boolean`, `string`, `array`, `inline table`, `dotted table` or
+    /// `table`.
     pub fn type_name(self) -> &'static str {
         match self.spot {
             Spot::Table(_) => {
@@ -341,7 +342,8 @@ impl<'t, 'de> Node<'t, 'de> {
         }
     }
 
-    /// The keys that lead to it: those of the headers that made it, or those of its section and the first key of its row.
+    /// The keys that lead to it: those of the headers that made it, or those of its section and the first key of its
+    /// row.
     pub fn key_path(self, alloc: Global) -> Result<Vec<String>, AllocError> {
         let (section, count) = match self.trail {
             Trail::Header(section) => (section, self.count),

@@ -14,7 +14,12 @@ pub struct Tree<'de> {
     pub(crate) root: Box<Table<'de>>,
 }
 
-/// The tree of a section list, or a clash that stands in it.
+/// The tree of a section list, or a clash that stands in it (TOML v0.5.0, "Table" and "Array of Tables").
+///
+/// That it accepts exactly the lists in which nothing clashes, and which tree and which clash it answers, is tested and
+/// not yet proved.
+///
+/// # Errors
 ///
 /// `DottedKeyInvalidType` comes before every other clash. `NestedTooDeeply` comes where the tree is deeper than 128,
 /// at a section that makes it so, and `OutOfMemory` where memory is refused.
