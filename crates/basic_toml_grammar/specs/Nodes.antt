@@ -54,7 +54,11 @@ value_node keys outer at v =
 
 abbrev pub dotted_node : KeyTexts → Option ℕ → ℕ → Node
 dotted_node keys outer at = record {
-  type_name = codes "dotted table"; start = Some at; offset = Some at; outer_offset = outer; key_path = keys
+  type_name = codes "dotted table";
+  start = Some at;
+  offset = Some at;
+  outer_offset = outer;
+  key_path = keys;
 }
 
 -- where the dotted table at this path begins: at the value of the first row whose path goes on from it
