@@ -1,21 +1,16 @@
 -- Where `NestedTooDeeply` stands, own. In a text: at the first key or bracket above the limit, where the level of a
 -- key or a bracket is that in some text of the grammar that has the same bytes up to there, and there the same
--- character. In a section list: at a section one of whose mentions makes the tree deeper than the limit, since the
--- numbers of array elements count too.
-use Rattle.std.specs.Prelude.{◌≡◌, ℕ, suc, ◌+◌, ◌==◌, ◌||◌, nat_lt, Bool, if◌then◌else◌, List, [], ◌∷◌, length}
+-- character. In a section list: at a section with a key or a bracket above the limit in the tree, where the numbers of
+-- array elements count too.
+use Rattle.std.specs.Prelude.{◌≡◌, ℕ, suc, max, ◌==◌, ◌||◌, nat_lt, Bool, if◌then◌else◌, List, [], ◌∷◌, length}
 use Rattle.std.specs.Prelude.{Option, Some, None}
-use Rattle.std.specs.List.{list_any}
 use Rattle.std.specs.Str.{IsUtf8}
 use Rattle.basic_toml_tokens.specs.Ascii as ascii
-use Rattle.basic_toml_value.specs.Data.{Data}
 use Rattle.basic_toml_tokens.specs.Text.{Text, folded}
 use Rattle.basic_toml_grammar.specs.Sections.{Section}
 use Rattle.basic_toml_grammar.specs.IndexedPath.{Located}
-use Rattle.basic_toml_grammar.specs.Tree.{Mention}
-use Rattle.basic_toml_grammar.specs.Mentions.{section_mentions}
-use Rattle.basic_toml_grammar.specs.Depth.{depth}
 use Rattle.basic_toml_grammar.specs.Grammar.{IsSectionList}
-use Rattle.basic_toml_grammar.specs.Levels.{deep_offsets}
+use Rattle.basic_toml_grammar.specs.Levels.{rows_level, deep_offsets}
 
 -- the texts are the same up to an offset, which stands in both
 pub data AgreeTo (p : ℕ) : Text → Text → Type 0 where
@@ -49,18 +44,14 @@ abbrev pub before : ℕ → Text → Text
 before p [] = []
 before p (x ∷ text) = if x.0 == p then [] else x ∷ before p text
 
--- how deep a mention makes the tree: a table here counts one
-abbrev pub mention_depth : Mention → ℕ
-mention_depth m = length m.path + end_depth m.value
-  where
-    end_depth : Option Data → ℕ
-    end_depth None = 1
-    end_depth (Some d) = depth d
-
-abbrev pub is_deep : ℕ → Located → Bool
-is_deep limit l = list_any (λ m. nat_lt limit (mention_depth m)) (section_mentions l.path l.section.rows)
+-- The highest level of a section in the tree, where each step of its path counts one, numbers too.
+abbrev pub tree_level : Located → ℕ
+tree_level l =
+    let level = suc (length l.path) in
+    max level (rows_level level l.section.rows)
 
 -- the offsets of sections that make the tree too deep
 abbrev pub deep_sections : ℕ → List Located → List ℕ
 deep_sections limit [] = []
-deep_sections limit (l ∷ ls) = if is_deep limit l then l.section.at ∷ deep_sections limit ls else deep_sections limit ls
+deep_sections limit (l ∷ ls) =
+    if nat_lt limit (tree_level l) then l.section.at ∷ deep_sections limit ls else deep_sections limit ls
