@@ -7,6 +7,7 @@ pub mod MarksFit
 pub mod SectionMarksFit
 pub mod WalkTakesMarks
 pub mod EnteringAccepts
+pub mod RowsThatOverlapAreRefused
 pub mod OrderIsFree
 pub mod WorkedDocuments
 pub mod WorkedWrongReadings
