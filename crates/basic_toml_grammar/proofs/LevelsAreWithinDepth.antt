@@ -22,7 +22,8 @@ use Rattle.basic_toml_grammar.specs.Grammar.{and_more, IsFields, none, some, IsF
 use Rattle.basic_toml_grammar.specs.Grammar.{assigned, IsRows, over, header_next, empty_line, row_line, IsSections}
 use Rattle.basic_toml_grammar.specs.Grammar.{no_more, section, with_root, IsSectionListBy, number_value, word_value}
 use Rattle.basic_toml_grammar.specs.Grammar.{is_wordlike}
-use Rattle.basic_toml_grammar.specs.Entering.{all_keyed}
+use Rattle.basic_toml_grammar.specs.Entering.{all_keyed, has_key, keyed_within, value_keyed, elements_keyed}
+use Rattle.basic_toml_grammar.specs.Entering.{all_keyed_within}
 use Rattle.basic_toml_value.specs.Numbers.{integer_of, float_of}
 use Rattle.basic_toml_grammar.specs.Document.{has_clash, tree_of_sections}
 use Rattle.basic_toml_grammar.proofs.AmongElements.{Among, first, next, among_left, among_right}
@@ -33,34 +34,11 @@ use Rattle.basic_toml_grammar.proofs.PeacefulSectionsDoNotOverlap.{RowOf, this, 
 use Rattle.basic_toml_grammar.proofs.MentionsDoNotOverlap.{rows_peace, mentions_peace}
 use Rattle.basic_toml_grammar.proofs.OldDocumentsStand.{some_keys, list_keyed}
 
--- each row has a key, in values too
-abbrev has_key : List Key → Bool
-has_key [] = false
-has_key (k ∷ keys) = true
-
-abbrev mutual
-  keyed_within : Rows → Bool
-  keyed_within no_rows = true
-  keyed_within (row keys at v rows) = (has_key keys && value_keyed v) && keyed_within rows
-
-  value_keyed : Raw → Bool
-  value_keyed (Raw.array es) = elements_keyed es
-  value_keyed (Raw.inline rows) = keyed_within rows
-  value_keyed _ = true
-
-  elements_keyed : Elements → Bool
-  elements_keyed no_elements = true
-  elements_keyed (element at v es) = value_keyed v && elements_keyed es
-
-abbrev all_keyed_within : List Section → Bool
-all_keyed_within [] = true
-all_keyed_within (s ∷ ss) = keyed_within s.rows && all_keyed_within ss
-
-length_steps : (ks : KeyTexts) → length (steps_of ks) ≡ length ks
+pub length_steps : (ks : KeyTexts) → length (steps_of ks) ≡ length ks
 length_steps [] = refl
 length_steps (k ∷ ks) = ap (λ n. suc n) (length_steps ks)
 
-length_texts : (keys : List Key) → length (texts keys) ≡ length keys
+pub length_texts : (keys : List Key) → length (texts keys) ≡ length keys
 length_texts [] = refl
 length_texts (k ∷ keys) = ap (λ n. suc n) (length_texts keys)
 
@@ -73,7 +51,7 @@ some_depth : (keys : List Key) → has_key keys ≡ true → 1 ≤ length (texts
 some_depth [] e = absurd (false≢true e)
 some_depth (k ∷ keys) e = omega arith
 
-inline_depth : (rs : Rows) → keyed_within rs ≡ true
+pub inline_depth : (rs : Rows) → keyed_within rs ≡ true
     → ((ks : KeyTexts) (d : Data) → RowOf ks d rs → length ks + depth d ≤ depth (tree_of (row_mentions [] rs)))
     → 1 ≤ depth (tree_of (row_mentions [] rs))
 inline_depth no_rows k h = omega arith
@@ -82,7 +60,7 @@ inline_depth (row keys at v rs) k h =
     let b : (has_key keys ≡ true) × (value_keyed v ≡ true) = and_parts _ _ a.0 in
     omega (arith, some_depth keys b.0, h (texts keys) (finished v) this)
 
-rows_reach : (rs : Rows) → rows_clash rs ≡ false → (ks : KeyTexts) (d : Data) → RowOf ks d rs
+pub rows_reach : (rs : Rows) → rows_clash rs ≡ false → (ks : KeyTexts) (d : Data) → RowOf ks d rs
     → length ks + depth d ≤ depth (tree_of (row_mentions [] rs))
 rows_reach rs e ks d x =
     let h : length (steps_of ks) + end_depth (Some d) ≤ depth (tree_of (row_mentions [] rs)) =
@@ -233,7 +211,7 @@ root_keys : (rs : Rows) (ss : List Section) → keyed_within rs ≡ true → all
 root_keys no_rows ss h k = k
 root_keys (row ks p v rs) ss h k = and_from _ _ h k
 
-list_keys : {comment : ℕ → Bool} {text : Text} {ss : List Section} → IsSectionListBy comment text ss
+pub list_keys : {comment : ℕ → Bool} {text : Text} {ss : List Section} → IsSectionListBy comment text ss
     → all_keyed_within ss ≡ true
 list_keys {comment = comment} g = ap all_keyed_within g.all ∙
     root_keys g.rows g.headed (rows_keys comment g.root) (sections_keys comment g.others)

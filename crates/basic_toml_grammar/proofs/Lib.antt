@@ -31,6 +31,7 @@ pub mod ReaderIsComplete
 pub mod OldDocumentsStand
 pub mod EveryClashIsNamed
 pub mod TreeIsAsDeepAsMentions
+pub mod TreeIsNoDeeperThanMentions
 pub mod PeacefulSectionsDoNotOverlap
 pub mod LatestElementsWereAdded
 pub mod MentionsDoNotOverlap

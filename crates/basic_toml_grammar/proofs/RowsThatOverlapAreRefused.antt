@@ -16,7 +16,7 @@ use Rattle.basic_toml_grammar.specs.Trie.{Trie, trie, Tries, no_tries, by, nothi
 use Rattle.basic_toml_grammar.specs.Trie.{at_step, find, below, put_row, put_rows}
 use Rattle.basic_toml_grammar.proofs.StepTestsDecide.{step_same, step_is}
 
--- rows of some value clash
+-- the rows of some inline table in a value clash
 abbrev pub values_clash : Rows → Bool
 values_clash no_rows = false
 values_clash (row keys at v rows) = value_clashes v || values_clash rows
@@ -26,7 +26,7 @@ abbrev pub stands_at : Trie → Path → Option Standing
 stands_at t [] = standing t
 stands_at t (s ∷ p) = stands_at (below s t) p
 
--- answers that are given
+-- what an answer that is given was made of
 pub then_given : {A B : Type 0} (o : Option A) (f : A → Option B) {y : B} → and_then o f ≡ Some y
     → (x : A) × (o ≡ Some x) × (f x ≡ Some y)
 then_given None f e = cc
@@ -96,7 +96,7 @@ step_stands s f (trie st v ts) u e =
     let (us, given, is) = map_given (λ ts. trie st v ts) (among s f ts) e in
     sym (ap standing is)
 
--- a value keeps standing, and so does something
+-- where a value stands it goes on standing, and where something does something does
 abbrev pub Keeps : Option Standing → Option Standing → Type 0
 Keeps s r = (s ≡ Some value → r ≡ Some value) × (is_some s ≡ true → is_some r ≡ true)
 
@@ -217,7 +217,8 @@ overlap_refused j (i ∷ js) k (l ∷ ks) v t u r o e =
     let there : RowIsHere (i ∷ js) (below (key k) t) = subst (λ s. RowIsHere (i ∷ js) (below s t)) same r.0 in
     let (y, marked, put) = then_given (mark_here dotted (below (key k) t)) (λ t. put_row (l ∷ ks) v t)
     (step_found (key k) (λ t. and_then (mark_here dotted t) (λ t. put_row (l ∷ ks) v t)) t u e) in
-    overlap_refused i js l ks v y (below (key k) u) (row_stays (i ∷ js) _ y (mark_keeps dotted _ y marked) there) more put
+    let still : RowIsHere (i ∷ js) y = row_stays (i ∷ js) _ y (mark_keeps dotted _ y marked) there in
+    overlap_refused i js l ks v y (below (key k) u) still more put
 
 none_overlaps : (j : List ℕ) (js : KeyTexts) (rows : Rows) (before after : Trie) → rows_keyed rows ≡ true
     → RowIsHere (j ∷ js) before → put_rows rows before ≡ Some after → any_overlaps (steps_of (j ∷ js)) rows ≡ false
@@ -226,11 +227,11 @@ none_overlaps j js (row [] at v rows) before after k r e = absurd (false≢true 
 none_overlaps j js (row (l ∷ keys) at v rows) before after k r e =
     let ks : KeyTexts = texts keys in
     let (t, put, rest) = then_given (put_row (l.text ∷ ks) (finished v) before) (λ t. put_rows rows t) e in
+    let still : RowIsHere (j ∷ js) t = row_stays (j ∷ js) before t (row_keeps (l.text ∷ ks) (finished v) before t put) r in
     or_from _ _ (is_false _ (λ o. overlap_refused j js l.text ks (finished v) before t r o put))
-    (none_overlaps j js rows t after k (row_stays (j ∷ js) before t (row_keeps (l.text ∷ ks) (finished v) before t put) r)
-    rest)
+    (none_overlaps j js rows t after k still rest)
 
--- so rows that are put do not overlap
+-- so rows that are put do not clash
 pub put_apart : (rows : Rows) (before after : Trie) → rows_keyed rows ≡ true → values_clash rows ≡ false
     → put_rows rows before ≡ Some after → rows_clash rows ≡ false
 put_apart no_rows before after k c e = refl

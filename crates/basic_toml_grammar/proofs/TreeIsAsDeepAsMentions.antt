@@ -37,7 +37,7 @@ pub data Peace : List Mention → Type 0 where
   none : Peace []
   more : {m : Mention} {ms : List Mention} → list_any (barred_by m) ms ≡ false → Peace ms → Peace (m ∷ ms)
 
-abbrev mention : Path → Option Data → Mention
+abbrev pub mention : Path → Option Data → Mention
 mention p v = record { path = p; value = v }
 
 abbrev pub end_depth : Option Data → ℕ

@@ -4,7 +4,8 @@
 use Rattle.std.specs.Prelude.{ℕ, zero, suc, Bool, true, false, ◌&&◌, if◌then◌else◌, List, [], ◌∷◌, ◌++◌, Option}
 use Rattle.std.specs.Prelude.{Some, None}
 use Rattle.basic_toml_value.specs.Data.{Data}
-use Rattle.basic_toml_grammar.specs.Sections.{KeyTexts, texts, Section, Rows, no_rows, row}
+use Rattle.basic_toml_grammar.specs.Sections.{Key, KeyTexts, texts, Section, Raw, Elements, no_elements, element}
+use Rattle.basic_toml_grammar.specs.Sections.{Rows, no_rows, row}
 use Rattle.basic_toml_grammar.specs.Steps.{key, number, Path}
 use Rattle.basic_toml_grammar.specs.RowClash.{rows_clash}
 use Rattle.basic_toml_grammar.specs.Mentions.{finished}
@@ -83,3 +84,26 @@ is_keyed s = rows_keyed s.rows && header_keyed s.is_array (texts s.header)
 abbrev pub all_keyed : List Section → Bool
 all_keyed [] = true
 all_keyed (s ∷ sections) = is_keyed s && all_keyed sections
+
+-- and each row of an inline table at any depth has a key
+abbrev pub has_key : List Key → Bool
+has_key [] = false
+has_key (k ∷ keys) = true
+
+abbrev mutual
+  pub keyed_within : Rows → Bool
+  keyed_within no_rows = true
+  keyed_within (row keys at v rows) = (has_key keys && value_keyed v) && keyed_within rows
+
+  pub value_keyed : Raw → Bool
+  value_keyed (Raw.array elements) = elements_keyed elements
+  value_keyed (Raw.inline rows) = keyed_within rows
+  value_keyed _ = true
+
+  pub elements_keyed : Elements → Bool
+  elements_keyed no_elements = true
+  elements_keyed (element at v elements) = value_keyed v && elements_keyed elements
+
+abbrev pub all_keyed_within : List Section → Bool
+all_keyed_within [] = true
+all_keyed_within (s ∷ sections) = keyed_within s.rows && all_keyed_within sections

@@ -50,6 +50,10 @@ tree_level l =
     let level = suc (length l.path) in
     max level (rows_level level l.section.rows)
 
+abbrev pub highest_tree_level : List Located → ℕ
+highest_tree_level [] = 0
+highest_tree_level (l ∷ ls) = max (tree_level l) (highest_tree_level ls)
+
 -- the offsets of sections that make the tree too deep
 abbrev pub deep_sections : ℕ → List Located → List ℕ
 deep_sections limit [] = []
