@@ -42,7 +42,7 @@ pub length_texts : (keys : List Key) → length (texts keys) ≡ length keys
 length_texts [] = refl
 length_texts (k ∷ keys) = ap (λ n. suc n) (length_texts keys)
 
-row_among : {ks : KeyTexts} {d : Data} {rs : Rows} (p : Path) → RowOf ks d rs
+pub row_among : {ks : KeyTexts} {d : Data} {rs : Rows} (p : Path) → RowOf ks d rs
     → Among (record { path = p ++ steps_of ks; value = Some d }) (row_mentions p rs)
 row_among p this = first
 row_among p (later x) = next (row_among p x)

@@ -36,6 +36,7 @@ pub mod PeacefulSectionsDoNotOverlap
 pub mod LatestElementsWereAdded
 pub mod MentionsDoNotOverlap
 pub mod LevelsAreWithinDepth
+pub mod DepthIsTheHighestLevel
 pub mod SameTrees
 pub mod SameMapsReordered
 pub mod Reorderings

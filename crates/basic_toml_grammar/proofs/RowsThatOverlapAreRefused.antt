@@ -227,7 +227,8 @@ none_overlaps j js (row [] at v rows) before after k r e = absurd (false≢true 
 none_overlaps j js (row (l ∷ keys) at v rows) before after k r e =
     let ks : KeyTexts = texts keys in
     let (t, put, rest) = then_given (put_row (l.text ∷ ks) (finished v) before) (λ t. put_rows rows t) e in
-    let still : RowIsHere (j ∷ js) t = row_stays (j ∷ js) before t (row_keeps (l.text ∷ ks) (finished v) before t put) r in
+    let kept : Kept before t = row_keeps (l.text ∷ ks) (finished v) before t put in
+    let still : RowIsHere (j ∷ js) t = row_stays (j ∷ js) before t kept r in
     or_from _ _ (is_false _ (λ o. overlap_refused j js l.text ks (finished v) before t r o put))
     (none_overlaps j js rows t after k still rest)
 

@@ -1,6 +1,6 @@
 -- No tree is deeper than its deepest mention, or than an empty table where nothing is mentioned.
 use Rattle.std.proofs.Common.{◌≡◌, ◌⊎◌, inl, inr, ℕ, suc, ◌+◌, ◌-◌, ◌≤◌, Bool, true, false, cond, List, [], ◌∷◌}
-use Rattle.std.proofs.Common.{length, refl, ap, sym, subst, arith, Option, Some, None}
+use Rattle.std.proofs.Common.{length, refl, sym, subst, arith, Option, Some, None}
 use Rattle.std.specs.Prelude.{max}
 use Rattle.std.specs.Option.{option_or}
 use Rattle.basic_toml_value.specs.Data.{Data}

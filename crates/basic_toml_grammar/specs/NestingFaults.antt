@@ -50,6 +50,7 @@ tree_level l =
     let level = suc (length l.path) in
     max level (rows_level level l.section.rows)
 
+-- and the highest of several
 abbrev pub highest_tree_level : List Located → ℕ
 highest_tree_level [] = 0
 highest_tree_level (l ∷ ls) = max (tree_level l) (highest_tree_level ls)
