@@ -42,4 +42,7 @@ pub mod SameSections
 pub mod OffsetsForgotten
 pub mod RespelledLaws
 pub mod WorkedChanges
+pub mod MarksInATrie
+pub mod ChangesByPath
+pub mod TrieIsEntering
 pub mod LawsHold
