@@ -1,6 +1,6 @@
 -- A change of what is at a path of a trie: it looks at what is there alone, two changes by one path are one, and a mark
 -- by a path is the mark there, where it fits.
-use Rattle.std.proofs.Common.{◌≡◌, Bool, true, false, cond, List, [], ◌∷◌, ◌++◌, Option, Some, None, refl, ap, sym, ◌∙◌}
+use Rattle.std.proofs.Common.{◌≡◌, Bool, true, false, cond, [], ◌∷◌, ◌++◌, Option, Some, None, refl, ap, ◌∙◌}
 use Rattle.std.specs.Prelude.{if◌then◌else◌, option_map}
 use Rattle.basic_toml_grammar.specs.Steps.{Step, Path, step_eq}
 use Rattle.basic_toml_grammar.specs.Marks.{MarkKind}

@@ -45,4 +45,6 @@ pub mod WorkedChanges
 pub mod MarksInATrie
 pub mod ChangesByPath
 pub mod TrieIsEntering
+pub mod SectionsInATrie
+pub mod RowsInATrie
 pub mod LawsHold

@@ -1,11 +1,10 @@
 -- The trie of some marks: what stands at each of its nodes is what stands there after the marks, and its values make
 -- the tree that the marks make.
-use Rattle.std.proofs.Common.{◌≡◌, Bool, true, false, cond, List, [], ◌∷◌, Option, Some, None, refl, ap, sym, ◌∙◌, subst}
+use Rattle.std.proofs.Common.{◌≡◌, Bool, true, false, cond, List, [], ◌∷◌, Some, refl, ap, sym, ◌∙◌, subst}
 use Rattle.std.specs.Prelude.{if◌then◌else◌}
 use Rattle.std.specs.Option.{option_or}
-use Rattle.basic_toml_value.specs.Data.{Data}
 use Rattle.basic_toml_grammar.specs.Steps.{Step, Path, step_eq, path_eq}
-use Rattle.basic_toml_grammar.specs.Growth.{Growth, grown, branch, no_branches, grow, grow_at}
+use Rattle.basic_toml_grammar.specs.Growth.{grown, branch, no_branches, grow, grow_at}
 use Rattle.basic_toml_grammar.specs.Marks.{MarkKind, Mark}
 use Rattle.basic_toml_grammar.specs.Standing.{taken, value_of, standing_at, growth_of}
 use Rattle.basic_toml_grammar.specs.Trie.{Trie, trie, Tries, no_tries, by, nothing, standing, find, below, bare, bare_tries}

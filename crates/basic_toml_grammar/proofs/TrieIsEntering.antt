@@ -13,10 +13,10 @@ use Rattle.basic_toml_grammar.specs.Standing.{fits, standing_at}
 use Rattle.basic_toml_grammar.specs.Entering.{and_then, take_mark, element_count, count_at, add_row, add_rows}
 use Rattle.basic_toml_grammar.specs.Entering.{add_table, by_element, add_element, enter, enter_all}
 use Rattle.basic_toml_grammar.specs.Entering as marked
-use Rattle.basic_toml_grammar.specs.Trie.{Trie, nothing, standing, mark_here, at_step, put_row, put_rows, put_table}
+use Rattle.basic_toml_grammar.specs.Trie.{Trie, nothing, mark_here, at_step, put_row, put_rows, put_table}
 use Rattle.basic_toml_grammar.specs.Trie.{count, go_on, put_element, walk, put_section, put_sections}
 use Rattle.basic_toml_grammar.proofs.MarksInATrie.{touch, trie_of, descend, standing_of}
-use Rattle.basic_toml_grammar.proofs.ChangesByPath.{at_path, then_then, then_some, then_alike, at_path_here}
+use Rattle.basic_toml_grammar.proofs.ChangesByPath.{at_path, then_then, then_some, at_path_here}
 use Rattle.basic_toml_grammar.proofs.ChangesByPath.{at_path_append, at_path_twice, mark_by}
 
 -- what is done to the marks at a path is done to their trie there
