@@ -45,4 +45,9 @@ pub mod SameSections
 pub mod OffsetsForgotten
 pub mod RespelledLaws
 pub mod WorkedChanges
+pub mod MarksInATrie
+pub mod ChangesByPath
+pub mod TrieIsEntering
+pub mod SectionsInATrie
+pub mod RowsInATrie
 pub mod LawsHold
