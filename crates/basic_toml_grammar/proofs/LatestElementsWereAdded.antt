@@ -1,5 +1,5 @@
 -- A section that goes by the latest element of an array stands after one that added it.
-use Rattle.std.proofs.Common.{◌≡◌, ◌⊎◌, inl, inr, ℕ, zero, suc, Bool, true, false, not, cond, List, [], ◌∷◌, ◌++◌}
+use Rattle.std.proofs.Common.{◌≡◌, ◌⊎◌, inl, inr, ℕ, zero, suc, Bool, true, false, cond, List, [], ◌∷◌, ◌++◌}
 use Rattle.std.proofs.Common.{refl, ap, sym, ◌∙◌, subst, append_assoc, Option, Some, None}
 use Rattle.std.specs.Prelude.{◌&&◌}
 use Rattle.std.specs.List.{list_any}
@@ -16,7 +16,7 @@ use Rattle.basic_toml_grammar.proofs.AmongElements.{Among, first, next}
 use Rattle.basic_toml_grammar.proofs.StepTestsDecide.{paths_are}
 use Rattle.basic_toml_grammar.proofs.WhatSectionsSay.{KeysSay, deeper, RowsSay, this_row, later_row, Says, rows_say}
 use Rattle.basic_toml_grammar.proofs.WhatSectionsSay.{adds, into, passes, goes_by, on}
-use Rattle.basic_toml_grammar.proofs.ClashIsCollision.{clash, apart, clash_with, collide_with}
+use Rattle.basic_toml_grammar.proofs.ClashIsCollision.{apart, clash_with, collide_with}
 use Rattle.basic_toml_grammar.proofs.PeacefulSectionsDoNotOverlap.{by_key, added_collides, Avoids}
 
 -- who goes by the latest element of an array goes after one that was added

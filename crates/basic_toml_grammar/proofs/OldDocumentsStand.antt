@@ -4,7 +4,6 @@ use Rattle.std.proofs.Common.{Some, None}
 use Rattle.std.specs.Prelude.{◌&&◌, ◌||◌, nat_le, if◌then◌else◌}
 use Rattle.std.proofs.lemmas.Bool.{and_parts, and_from}
 use Rattle.basic_toml_tokens.specs.Text.{Text, StartsWith, after_run, is_blank, is_comment, after_blanks}
-use Rattle.basic_toml_tokens.specs.Strings.{none, one}
 use Rattle.basic_toml_value.specs.Data.{Data}
 use Rattle.basic_toml_grammar.specs.Sections.{Key, texts, Raw, Elements, Rows, no_rows, row, Section}
 use Rattle.basic_toml_grammar.specs.RowClash.{has_row_clash}

@@ -5,8 +5,7 @@ use Rattle.std.proofs.lemmas.Bool.{false≢true}
 use Rattle.basic_toml_value.specs.Data.{Data}
 use Rattle.basic_toml_grammar.specs.Sections.{Key, KeyTexts, texts, Raw, Rows, row}
 use Rattle.basic_toml_grammar.specs.Steps.{Step, key, number, Path, step_eq, steps_of}
-use Rattle.basic_toml_grammar.specs.Mentions.{finished, mentions}
-use Rattle.basic_toml_grammar.specs.IndexedPath.{latest}
+use Rattle.basic_toml_grammar.specs.Mentions.{finished}
 use Rattle.basic_toml_grammar.specs.Marks.{MarkKind, passed, by_latest, named, added, dotted, valued, collide}
 use Rattle.basic_toml_grammar.proofs.StepTestsDecide.{step_is}
 use Rattle.basic_toml_grammar.proofs.WhatSectionsSay.{KeysSay, value_here, dots_here, deeper, RowsSay, this_row}

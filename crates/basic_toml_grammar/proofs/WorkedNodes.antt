@@ -6,7 +6,7 @@ use Rattle.basic_toml_grammar.specs.Steps.{key, number, Path}
 use Rattle.basic_toml_grammar.specs.Entering.{and_then}
 use Rattle.basic_toml_grammar.specs.Nodes.{Node, node_at}
 use Rattle.basic_toml_grammar.specs.Reader.{sections_of_bytes}
-use Rattle.basic_toml_grammar.proofs.WorkedDocuments.{a, b, c}
+use Rattle.basic_toml_grammar.proofs.WorkedDocuments.{a, b}
 
 abbrev node : List ℕ → Path → Option Node
 node bytes p = and_then (sections_of_bytes bytes) (λ sections. node_at sections p)

@@ -1,5 +1,5 @@
 -- Readings that are wrong: under each of them the row below would fail.
-use Rattle.std.proofs.Common.{◌≡◌, ℕ, List, [], ◌∷◌, Some, None, refl, codes}
+use Rattle.std.proofs.Common.{◌≡◌, [], ◌∷◌, Some, None, refl, codes}
 use Rattle.std.specs.Str.{chars}
 use Rattle.basic_toml_grammar.specs.Faults.{duplicate_key, duplicate_table, redefine_as_array}
 use Rattle.basic_toml_grammar.proofs.WorkedDocuments.{a, b, x, meaning, faults, fault, table, array}

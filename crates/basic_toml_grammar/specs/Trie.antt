@@ -2,7 +2,7 @@
 -- of first mention. A section is entered step by step from the root, and each step looks at one node alone. This is
 -- `Entering` with what the marks say of a path gathered at one node (law `trie_is_entering`): the form that the
 -- resolver goes by.
-use Rattle.std.specs.Prelude.{ℕ, zero, suc, ◌+◌, Bool, true, false, max, if◌then◌else◌, List, [], ◌∷◌, Option, Some}
+use Rattle.std.specs.Prelude.{ℕ, zero, suc, Bool, max, if◌then◌else◌, List, [], ◌∷◌, Option, Some}
 use Rattle.std.specs.Prelude.{None, option_map}
 use Rattle.std.specs.Option.{option_or}
 use Rattle.basic_toml_value.specs.Data.{Data}
