@@ -47,4 +47,5 @@ pub mod ChangesByPath
 pub mod TrieIsEntering
 pub mod SectionsInATrie
 pub mod RowsInATrie
+pub mod StepsArePaths
 pub mod LawsHold
