@@ -1,14 +1,14 @@
 -- The steps that lead to the table of a section in the trie of the sections before it are those of its indexed path, so
 -- its level there is its level in the tree.
-use Rattle.std.proofs.Common.{◌≡◌, ℕ, zero, suc, Bool, true, false, cond, List, [], ◌∷◌, ◌++◌, Option, Some, None, refl}
+use Rattle.std.proofs.Common.{◌≡◌, ℕ, zero, suc, Bool, true, false, cond, List, [], ◌∷◌, ◌++◌, Some, None, refl}
 use Rattle.std.proofs.Common.{ap, sym, ◌∙◌, subst, length}
 use Rattle.std.specs.Prelude.{max, if◌then◌else◌}
 use Rattle.basic_toml_grammar.specs.Sections.{KeyTexts, texts, Section}
 use Rattle.basic_toml_grammar.specs.Steps.{key, number, Path}
 use Rattle.basic_toml_grammar.specs.RowClash.{has_row_clash}
-use Rattle.basic_toml_grammar.specs.IndexedPath.{latest, Located, located_after, located_from, located}
+use Rattle.basic_toml_grammar.specs.IndexedPath.{latest, located_after, located_from, located}
 use Rattle.basic_toml_grammar.specs.Placed.{Placed, step_into, path_of, elements_at, target_from, element_from}
-use Rattle.basic_toml_grammar.specs.Placed.{placed_by, placed_after, placed_from}
+use Rattle.basic_toml_grammar.specs.Placed.{placed_after, placed_from}
 use Rattle.basic_toml_grammar.specs.Marks.{Mark, marks, all_marks}
 use Rattle.basic_toml_grammar.specs.Standing.{fits, standing_at, take_all}
 use Rattle.basic_toml_grammar.specs.Entering.{element_count, count_at, enter_all}
@@ -17,7 +17,7 @@ use Rattle.basic_toml_grammar.specs.Trie.{section_level_in}
 use Rattle.basic_toml_grammar.specs.Levels.{rows_level}
 use Rattle.basic_toml_grammar.specs.NestingFaults.{tree_level}
 use Rattle.basic_toml_grammar.proofs.WalkTakesMarks.{added_at, Sized, sized_more}
-use Rattle.basic_toml_grammar.proofs.EnteringAccepts.{offset_same, added_onto, onto-append, onto_marks, Counted}
+use Rattle.basic_toml_grammar.proofs.EnteringAccepts.{offset_same, added_onto, onto-append, onto_marks}
 use Rattle.basic_toml_grammar.proofs.EnteringAccepts.{enter_all_grows}
 use Rattle.basic_toml_grammar.proofs.PathsAgree.{offsets, path_is}
 use Rattle.basic_toml_grammar.proofs.MarksInATrie.{trie_of, descend, standing_of}
