@@ -1,7 +1,8 @@
 -- The steps that lead to the table of a section in the trie of the sections before it are those of its indexed path, so
 -- its level there is its level in the tree.
 use Rattle.std.proofs.Common.{◌≡◌, ℕ, zero, suc, Bool, true, false, cond, List, [], ◌∷◌, ◌++◌, Some, None, refl}
-use Rattle.std.proofs.Common.{ap, sym, ◌∙◌, subst, length}
+use Rattle.std.proofs.Common.{ap, sym, ◌∙◌, subst, length, reverse, append_assoc}
+use Rattle.std.proofs.lemmas.Grind.{reverse_onto}
 use Rattle.std.specs.Prelude.{max, if◌then◌else◌}
 use Rattle.basic_toml_grammar.specs.Sections.{KeyTexts, texts, Section}
 use Rattle.basic_toml_grammar.specs.Steps.{key, number, Path}
@@ -11,22 +12,32 @@ use Rattle.basic_toml_grammar.specs.Placed.{Placed, step_into, path_of, elements
 use Rattle.basic_toml_grammar.specs.Placed.{placed_after, placed_from}
 use Rattle.basic_toml_grammar.specs.Marks.{Mark, marks, all_marks}
 use Rattle.basic_toml_grammar.specs.Standing.{fits, standing_at, take_all}
-use Rattle.basic_toml_grammar.specs.Entering.{element_count, count_at, enter_all}
+use Rattle.basic_toml_grammar.specs.Entering.{and_then, element_count, count_at, enter_all}
 use Rattle.basic_toml_grammar.specs.Trie.{Trie, nothing, standing, below, count, put_sections, steps_on, steps_to}
-use Rattle.basic_toml_grammar.specs.Trie.{section_level_in}
+use Rattle.basic_toml_grammar.specs.Trie.{section_level_in, put_section}
 use Rattle.basic_toml_grammar.specs.Levels.{rows_level}
 use Rattle.basic_toml_grammar.specs.NestingFaults.{tree_level}
 use Rattle.basic_toml_grammar.proofs.WalkTakesMarks.{added_at, Sized, sized_more}
 use Rattle.basic_toml_grammar.proofs.EnteringAccepts.{offset_same, added_onto, onto-append, onto_marks}
 use Rattle.basic_toml_grammar.proofs.EnteringAccepts.{enter_all_grows}
-use Rattle.basic_toml_grammar.proofs.PathsAgree.{offsets, path_is}
+use Rattle.basic_toml_grammar.proofs.PathsAgree.{append_none, offsets, path_is}
 use Rattle.basic_toml_grammar.proofs.MarksInATrie.{trie_of, descend, standing_of}
+use Rattle.basic_toml_grammar.proofs.ChangesByPath.{then_then, then_alike}
 use Rattle.basic_toml_grammar.proofs.SectionsInATrie.{marks_put}
 
 -- sections the latest first, on these that stand so
-abbrev pub latest_first : List Section → List Section → List Section
+abbrev latest_first : List Section → List Section → List Section
 latest_first before [] = before
 latest_first before (s ∷ sections) = latest_first (s ∷ before) sections
+
+latest_onto : (before sections : List Section) → latest_first before sections ≡ reverse sections ++ before
+latest_onto before [] = refl
+latest_onto before (s ∷ sections) = latest_onto (s ∷ before) sections
+    ∙ sym (append_assoc (reverse sections) (s ∷ []) before)
+    ∙ ap (λ ss. ss ++ before) (sym (reverse_onto sections s []))
+
+latest_is_reversed : (sections : List Section) → latest_first [] sections ≡ reverse sections
+latest_is_reversed sections = latest_onto [] sections ∙ append_none (reverse sections)
 
 -- marks that were taken: what they count
 taken_counts : (ms st after : List Mark) → Sized st → take_all st ms ≡ Some after
@@ -127,7 +138,7 @@ steps_are st a cut (k ∷ l ∷ keys) =
 
 -- to a section that comes next
 pub steps_are_path : (earlier : List Section) (s : Section) (t : Trie) → put_sections earlier nothing ≡ Some t
-    → steps_to s.is_array (texts s.header) t ≡ length (located_after (latest_first [] earlier) s).path
+    → steps_to s.is_array (texts s.header) t ≡ length (located_after (reverse earlier) s).path
 steps_are_path earlier s t e =
     let r : (st : List Mark) × (enter_all earlier [] ≡ Some st) × (t ≡ trie_of st) = marks_put earlier t e in
     ap (λ t. steps_to s.is_array (texts s.header) t) r.2
@@ -135,15 +146,16 @@ steps_are_path earlier s t e =
     ∙ ap (λ l. length (path_of l))
     (offset_same (λ p. count_at r.0 p) (λ p. elements_at p (offsets (latest_first [] earlier)))
     (entered_count earlier r.0 r.1) s)
-    ∙ ap length (sym (path_is s (latest_first [] earlier)))
+    ∙ ap (λ before. length (path_of (placed_after (offsets before) s))) (latest_is_reversed earlier)
+    ∙ ap length (sym (path_is s (reverse earlier)))
 
 pub level_is_tree_level : (earlier : List Section) (s : Section) (t : Trie) → put_sections earlier nothing ≡ Some t
-    → section_level_in t s ≡ tree_level (located_after (latest_first [] earlier) s)
+    → section_level_in t s ≡ tree_level (located_after (reverse earlier) s)
 level_is_tree_level earlier s t e =
     ap (λ n. max (suc n) (rows_level (suc n) s.rows)) (steps_are_path earlier s t e)
 
 -- where a section stands among all
-pub at_section_from : (before earlier : List Section) (s : Section) (later : List Section)
+at_section_from : (before earlier : List Section) (s : Section) (later : List Section)
     → located_from before (earlier ++ s ∷ later)
     ≡ located_from before earlier ++ located_after (latest_first before earlier) s
     ∷ located_from (s ∷ latest_first before earlier) later
@@ -153,6 +165,17 @@ at_section_from before (e ∷ earlier) s later =
 
 pub at_section : (earlier : List Section) (s : Section) (later : List Section)
     → located (earlier ++ s ∷ later)
-    ≡ located earlier ++ located_after (latest_first [] earlier) s
-    ∷ located_from (s ∷ latest_first [] earlier) later
+    ≡ located earlier ++ located_after (reverse earlier) s ∷ located_from (s ∷ reverse earlier) later
 at_section earlier s later = at_section_from [] earlier s later
+    ∙ ap (λ before. located earlier ++ located_after before s ∷ located_from (s ∷ before) later)
+    (latest_is_reversed earlier)
+
+-- sections one after another
+pub put_append : (earlier later : List Section) (t : Trie)
+    → put_sections (earlier ++ later) t ≡ and_then (put_sections earlier t) (λ t. put_sections later t)
+put_append [] later t = refl
+put_append (s ∷ earlier) later t =
+    then_alike (λ t. put_sections (earlier ++ later) t)
+    (λ t. and_then (put_sections earlier t) (λ t. put_sections later t))
+    (put_append earlier later) (put_section s t)
+    ∙ sym (then_then (λ t. put_sections earlier t) (λ t. put_sections later t) (put_section s t))
