@@ -63,7 +63,8 @@ grow_then st (m ∷ ms) f g h k =
     go true e i = i e
     go false e i = refl
 
-pub onto-append : (q : Path) (ms ns : List Mark) (n : ℕ) → added_onto q (ms ++ ns) n ≡ added_onto q ns (added_onto q ms n)
+pub onto-append : (q : Path) (ms ns : List Mark) (n : ℕ)
+    → added_onto q (ms ++ ns) n ≡ added_onto q ns (added_onto q ms n)
 onto-append q [] ns n = refl
 onto-append q (m ∷ ms) ns n = onto-append q ms ns (if counts m.kind && path_eq m.path q then suc n else n)
 
@@ -142,7 +143,7 @@ onto_marks e rs (s ∷ t) (x ∷ q) n =
         ≡ (if adds_element e && path_eq (s ∷ t) (x ∷ q) then suc n else n)) (step_is s x d)
         (rw (step_same s) (onto_after s q (marks_from e rs t) n ∙ ih))
 
-abbrev pub Counted : List Mark → List Placed → Type 0
+abbrev Counted : List Mark → List Placed → Type 0
 Counted st before = (q : Path) → added_at st q ≡ elements_at q before
 
 pub enter_all_grows : (ss : List Section) (before : List Placed) (st : List Mark) → Sized st → Counted st before

@@ -1,4 +1,4 @@
--- Sections go into an empty trie exactly where nothing clashes, and the values of the trie are the tree of the sections.
+-- Sections go into an empty trie exactly where nothing clashes, and the values there are the tree of the sections.
 use Rattle.std.proofs.Common.{◌≡◌, List, [], Option, Some, None, refl, ap, sym, ◌∙◌, true}
 use Rattle.std.specs.Prelude.{◌||◌, not, is_some, option_map}
 use Rattle.basic_toml_grammar.specs.Sections.{Section}

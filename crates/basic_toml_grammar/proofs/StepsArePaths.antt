@@ -3,11 +3,11 @@
 use Rattle.std.proofs.Common.{◌≡◌, ℕ, zero, suc, Bool, true, false, cond, List, [], ◌∷◌, ◌++◌, Some, None, refl}
 use Rattle.std.proofs.Common.{ap, sym, ◌∙◌, subst, length, reverse, append_assoc}
 use Rattle.std.proofs.lemmas.Grind.{reverse_onto}
-use Rattle.std.specs.Prelude.{max, if◌then◌else◌}
+use Rattle.std.specs.Prelude.{max, nat_lt, if◌then◌else◌}
 use Rattle.basic_toml_grammar.specs.Sections.{KeyTexts, texts, Section}
 use Rattle.basic_toml_grammar.specs.Steps.{key, number, Path}
 use Rattle.basic_toml_grammar.specs.RowClash.{has_row_clash}
-use Rattle.basic_toml_grammar.specs.IndexedPath.{latest, located_after, located_from, located}
+use Rattle.basic_toml_grammar.specs.IndexedPath.{latest, Located, located_after, located_from, located}
 use Rattle.basic_toml_grammar.specs.Placed.{Placed, step_into, path_of, elements_at, target_from, element_from}
 use Rattle.basic_toml_grammar.specs.Placed.{placed_after, placed_from}
 use Rattle.basic_toml_grammar.specs.Marks.{Mark, marks, all_marks}
@@ -16,7 +16,7 @@ use Rattle.basic_toml_grammar.specs.Entering.{and_then, element_count, count_at,
 use Rattle.basic_toml_grammar.specs.Trie.{Trie, nothing, standing, below, count, put_sections, steps_on, steps_to}
 use Rattle.basic_toml_grammar.specs.Trie.{section_level_in, put_section}
 use Rattle.basic_toml_grammar.specs.Levels.{rows_level}
-use Rattle.basic_toml_grammar.specs.NestingFaults.{tree_level}
+use Rattle.basic_toml_grammar.specs.NestingFaults.{tree_level, deep_sections}
 use Rattle.basic_toml_grammar.proofs.WalkTakesMarks.{added_at, Sized, sized_more}
 use Rattle.basic_toml_grammar.proofs.EnteringAccepts.{offset_same, added_onto, onto-append, onto_marks}
 use Rattle.basic_toml_grammar.proofs.EnteringAccepts.{enter_all_grows}
@@ -179,3 +179,32 @@ put_append (s ∷ earlier) later t =
     (λ t. and_then (put_sections earlier t) (λ t. put_sections later t))
     (put_append earlier later) (put_section s t)
     ∙ sym (then_then (λ t. put_sections earlier t) (λ t. put_sections later t) (put_section s t))
+
+-- so it is too deep exactly where it is too deep there
+pub deep_append : (limit : ℕ) (ls ms : List Located)
+    → deep_sections limit (ls ++ ms) ≡ deep_sections limit ls ++ deep_sections limit ms
+deep_append limit [] ms = refl
+deep_append limit (l ∷ ls) ms = go (nat_lt limit (tree_level l)) (deep_append limit ls ms)
+  where
+    go : (b : Bool) → deep_sections limit (ls ++ ms) ≡ deep_sections limit ls ++ deep_sections limit ms
+        → (if b then l.section.at ∷ deep_sections limit (ls ++ ms) else deep_sections limit (ls ++ ms))
+        ≡ (if b then l.section.at ∷ deep_sections limit ls else deep_sections limit ls) ++ deep_sections limit ms
+    go true e = ap (λ ps. l.section.at ∷ ps) e
+    go false e = e
+
+pub deep_next : (limit : ℕ) (earlier : List Section) (s : Section) (later : List Section) (t : Trie)
+    → put_sections earlier nothing ≡ Some t
+    → deep_sections limit (located (earlier ++ s ∷ later))
+    ≡ deep_sections limit (located earlier)
+    ++ (if nat_lt limit (section_level_in t s)
+    then s.at ∷ deep_sections limit (located_from (s ∷ reverse earlier) later)
+    else deep_sections limit (located_from (s ∷ reverse earlier) later))
+deep_next limit earlier s later t e =
+    ap (λ ls. deep_sections limit ls) (at_section earlier s later)
+    ∙ deep_append limit (located earlier)
+    (located_after (reverse earlier) s ∷ located_from (s ∷ reverse earlier) later)
+    ∙ ap (λ n. deep_sections limit (located earlier) ++ (if nat_lt limit n then s.at ∷ rest else rest))
+    (sym (level_is_tree_level earlier s t e))
+  where
+    rest : List ℕ
+    rest = deep_sections limit (located_from (s ∷ reverse earlier) later)
