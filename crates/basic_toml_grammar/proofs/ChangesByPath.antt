@@ -6,8 +6,8 @@ use Rattle.basic_toml_grammar.specs.Steps.{Step, Path, step_eq}
 use Rattle.basic_toml_grammar.specs.Marks.{MarkKind}
 use Rattle.basic_toml_grammar.specs.Standing.{fits}
 use Rattle.basic_toml_grammar.specs.Entering.{and_then}
-use Rattle.basic_toml_grammar.specs.Trie.{Trie, trie, Tries, no_tries, by, nothing, standing, with_tries, mark_here, among}
-use Rattle.basic_toml_grammar.specs.Trie.{at_step, find, below}
+use Rattle.basic_toml_grammar.specs.Trie.{Trie, trie, Tries, no_tries, by, nothing, standing, with_tries, mark_here}
+use Rattle.basic_toml_grammar.specs.Trie.{among, at_step, find, below}
 use Rattle.basic_toml_grammar.proofs.StepTestsDecide.{step_same}
 use Rattle.basic_toml_grammar.proofs.MarksInATrie.{touched, touch, descend}
 
@@ -46,7 +46,8 @@ among_here : (s : Step) (f g : Trie → Option Trie) (ts : Tries) → f (find s 
 among_here s f g no_tries e = ap (λ o. option_map (λ t. by s t no_tries) o) e
 among_here s f g (by r t ts) e = go (step_eq r s) (among_here s f g ts) e
   where
-    go : (b : Bool) → (f (find s ts) ≡ g (find s ts) → among s f ts ≡ among s g ts) → f (cond b t (find s ts)) ≡ g (cond b t (find s ts))
+    go : (b : Bool) → (f (find s ts) ≡ g (find s ts) → among s f ts ≡ among s g ts)
+        → f (cond b t (find s ts)) ≡ g (cond b t (find s ts))
         → cond b (option_map (λ t. by r t ts) (f t)) (option_map (λ ts. by r t ts) (among s f ts))
         ≡ cond b (option_map (λ t. by r t ts) (g t)) (option_map (λ ts. by r t ts) (among s g ts))
     go true ih e = ap (λ o. option_map (λ t. by r t ts) o) e

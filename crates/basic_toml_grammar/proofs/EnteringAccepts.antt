@@ -43,7 +43,7 @@ offset_same f g h s = rw (
 ) refl
 
 -- how many elements marks add to the array at a path, beside n
-abbrev added_onto : Path → List Mark → ℕ → ℕ
+abbrev pub added_onto : Path → List Mark → ℕ → ℕ
 added_onto q [] n = n
 added_onto q (m ∷ ms) n = added_onto q ms (if counts m.kind && path_eq m.path q then suc n else n)
 
@@ -63,7 +63,8 @@ grow_then st (m ∷ ms) f g h k =
     go true e i = i e
     go false e i = refl
 
-onto-append : (q : Path) (ms ns : List Mark) (n : ℕ) → added_onto q (ms ++ ns) n ≡ added_onto q ns (added_onto q ms n)
+pub onto-append : (q : Path) (ms ns : List Mark) (n : ℕ)
+    → added_onto q (ms ++ ns) n ≡ added_onto q ns (added_onto q ms n)
 onto-append q [] ns n = refl
 onto-append q (m ∷ ms) ns n = onto-append q ms ns (if counts m.kind && path_eq m.path q then suc n else n)
 
@@ -118,7 +119,7 @@ passing_uncounted : (s : Step) → counts (passing s) ≡ false
 passing_uncounted (key k) = refl
 passing_uncounted (number n) = refl
 
-onto_marks : (e : Option ℕ) (rs : Rows) (t q : Path) (n : ℕ)
+pub onto_marks : (e : Option ℕ) (rs : Rows) (t q : Path) (n : ℕ)
     → added_onto q (marks_from e rs t) n ≡ (if adds_element e && path_eq t q then suc n else n)
 onto_marks None rs [] q n = onto_rows rs q n
 onto_marks (Some i) rs [] [] n = onto_after_root (number i) (mark [] named ∷ marks_of_rows rs) (suc n)

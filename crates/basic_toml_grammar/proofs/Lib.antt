@@ -50,4 +50,5 @@ pub mod ChangesByPath
 pub mod TrieIsEntering
 pub mod SectionsInATrie
 pub mod RowsInATrie
+pub mod StepsArePaths
 pub mod LawsHold

@@ -7,7 +7,8 @@ use Rattle.basic_toml_grammar.specs.Steps.{Step, Path, step_eq, path_eq}
 use Rattle.basic_toml_grammar.specs.Growth.{grown, branch, no_branches, grow, grow_at}
 use Rattle.basic_toml_grammar.specs.Marks.{MarkKind, Mark}
 use Rattle.basic_toml_grammar.specs.Standing.{taken, value_of, standing_at, growth_of}
-use Rattle.basic_toml_grammar.specs.Trie.{Trie, trie, Tries, no_tries, by, nothing, standing, find, below, bare, bare_tries}
+use Rattle.basic_toml_grammar.specs.Trie.{Trie, trie, Tries, no_tries, by, nothing, standing, find, below, bare}
+use Rattle.basic_toml_grammar.specs.Trie.{bare_tries}
 use Rattle.basic_toml_grammar.proofs.StepTestsDecide.{step_same, step_is}
 use Rattle.basic_toml_grammar.proofs.TreeIsGrouped.{shoots}
 

@@ -1,4 +1,4 @@
--- Sections go into an empty trie exactly where nothing clashes, and the values of the trie are the tree of the sections.
+-- Sections go into an empty trie exactly where nothing clashes, and the values there are the tree of the sections.
 use Rattle.std.proofs.Common.{◌≡◌, List, [], Option, Some, None, refl, ap, sym, ◌∙◌, true}
 use Rattle.std.specs.Prelude.{◌||◌, not, is_some, option_map}
 use Rattle.basic_toml_grammar.specs.Sections.{Section}
@@ -6,6 +6,7 @@ use Rattle.basic_toml_grammar.specs.RowClash.{has_row_clash}
 use Rattle.basic_toml_grammar.specs.Growth.{closed}
 use Rattle.basic_toml_grammar.specs.Document.{has_clash, tree_of_sections}
 use Rattle.basic_toml_grammar.specs.Marks.{Mark}
+use Rattle.basic_toml_grammar.specs.Standing.{growth_of}
 use Rattle.basic_toml_grammar.specs.Entering.{enter_all, all_keyed}
 use Rattle.basic_toml_grammar.specs.Trie.{Trie, nothing, put_sections, bare}
 use Rattle.basic_toml_grammar.proofs.ClashesAgree.{clashes_agree}
@@ -38,3 +39,12 @@ pub sections_data : (sections : List Section) (t : Trie) → put_sections sectio
 sections_data sections t e =
     let r : (st : List Mark) × (enter_all sections [] ≡ Some st) × (t ≡ trie_of st) = marks_put sections t e in
     ap (λ t. closed (bare t)) r.2 ∙ ap closed (bare_of r.0) ∙ tree_entered sections r.0 r.1
+
+-- the values of the trie are the tree that the marks make
+pub bare_is_growth : (sections : List Section)
+    → option_map bare (put_sections sections nothing) ≡ option_map growth_of (enter_all sections [])
+bare_is_growth sections = ap (λ o. option_map bare o) (trie_is_entering sections) ∙ go (enter_all sections [])
+  where
+    go : (o : Option (List Mark)) → option_map bare (option_map trie_of o) ≡ option_map growth_of o
+    go None = refl
+    go (Some st) = ap (λ g. Some g) (bare_of st)

@@ -120,8 +120,10 @@ element_is p rs = count_is p
 -- past a cut, and on by a key
 pass_is : (cut : Path) (k : List ℕ) (F : List Mark → Option (List Mark)) (f : Trie → Option Trie)
     → Is (cut ++ key k ∷ []) F f
-    → Is cut (λ st. and_then (take_mark cut passed st) F) (λ t. and_then (mark_here passed t) (λ t. at_step (key k) f t))
-pass_is cut k F f a = then_is cut (λ st. take_mark cut passed st) F (λ t. mark_here passed t) (λ t. at_step (key k) f t)
+    → Is cut (λ st. and_then (take_mark cut passed st) F)
+    (λ t. and_then (mark_here passed t) (λ t. at_step (key k) f t))
+pass_is cut k F f a =
+    then_is cut (λ st. take_mark cut passed st) F (λ t. mark_here passed t) (λ t. at_step (key k) f t)
     (takes_mark cut passed) (down_is cut (key k) F f a)
 
 -- THE WALK, from a cut on

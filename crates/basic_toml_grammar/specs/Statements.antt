@@ -1,13 +1,13 @@
 -- Laws about the definitions of reading. Each is proved as the contract of a function in `laws`.
 use Rattle.std.specs.Prelude.{◌≤◌, false, ◌≡◌, ◌↔◌, ℕ, Bool, true, not, is_some, codes, map, List, [], ◌∷◌, IsUtf8}
-use Rattle.std.specs.Prelude.{Some}
+use Rattle.std.specs.Prelude.{Some, option_map, reverse}
 use Rattle.std.specs.List.{list_any}
 use Rattle.basic_toml_tokens.specs.Text.{Text, folded}
 use Rattle.basic_toml_value.specs.Data.{Data}
 use Rattle.basic_toml_value.specs.SameMaps.{SameMaps}
 use Rattle.basic_toml_grammar.specs.Sections.{Section}
 use Rattle.basic_toml_grammar.specs.Steps.{Path}
-use Rattle.basic_toml_grammar.specs.IndexedPath.{located}
+use Rattle.basic_toml_grammar.specs.IndexedPath.{located_after, located}
 use Rattle.basic_toml_grammar.specs.SectionClash.{any_pair, sections_clash}
 use Rattle.basic_toml_grammar.specs.NamedClash.{clash_faults}
 use Rattle.basic_toml_grammar.specs.Tree.{Mention, IsTree}
@@ -16,12 +16,13 @@ use Rattle.basic_toml_grammar.specs.Placed.{Placed, path_of, placed, any_placed_
 use Rattle.basic_toml_grammar.specs.Marks.{Mark, hits}
 use Rattle.basic_toml_grammar.specs.Standing.{take_all, growth_of}
 use Rattle.basic_toml_grammar.specs.Entering.{all_keyed, enter_all}
+use Rattle.basic_toml_grammar.specs.Trie.{Trie, nothing, put_sections, section_level_in, bare}
 use Rattle.basic_toml_grammar.specs.Depth.{depth}
 use Rattle.basic_toml_grammar.specs.Levels.{highest_level}
 use Rattle.basic_toml_grammar.specs.Distinct.{is_distinct}
 use Rattle.basic_toml_grammar.specs.Document.{has_clash, tree_of_sections, IsDocument}
 use Rattle.basic_toml_grammar.specs.Grammar.{IsSectionListBy, IsSectionList}
-use Rattle.basic_toml_grammar.specs.NestingFaults.{IsTooDeepAt, openers, before}
+use Rattle.basic_toml_grammar.specs.NestingFaults.{IsTooDeepAt, openers, before, tree_level}
 use Rattle.basic_toml_grammar.specs.Reader.{section_list_of}
 use Rattle.basic_toml_grammar.specs.Respelled.{characters, with_returns, has_return, with_byte_order_mark}
 use Rattle.basic_toml_grammar.specs.Respelled.{has_byte_order_mark}
@@ -152,3 +153,13 @@ EnteringAccepts = (sections : List Section) → all_keyed sections ≡ true
 abbrev pub EnteringGrows : Type 0
 EnteringGrows = (sections : List Section) (marks : List Mark) → enter_all sections [] ≡ Some marks
     → closed (growth_of marks) ≡ tree_of_sections sections
+
+-- sections go into a trie exactly where they are entered, and leave it with the tree of the marks
+abbrev pub TrieIsEntering : Type 0
+TrieIsEntering = (sections : List Section)
+    → option_map bare (put_sections sections nothing) ≡ option_map growth_of (enter_all sections [])
+
+-- and the next section has there the level that it has in the tree
+abbrev pub TrieGivesLevels : Type 0
+TrieGivesLevels = (earlier : List Section) (s : Section) (t : Trie) → put_sections earlier nothing ≡ Some t
+    → section_level_in t s ≡ tree_level (located_after (reverse earlier) s)

@@ -1,6 +1,6 @@
 //! Laws about what a text means, each as the contract of a function that does nothing.
 
-ghost use Rattle.basic_toml_grammar.specs.Statements.{GrammarIsUnambiguous, GrammarIsRead, GrammarGivesKeys, LevelsAreWithinDepth, DeepOffsetsAreOpened, ShallowTextIsFree, TreeIsGrouped, KeysAreDistinct, ClashesAgree, PathsAgree, MarksFit, EveryClashIsNamed, OldDocumentsStand, OffsetsMeanNothing, ReturnsMeanNothing, ByteOrderMarkMeansNothing, OrderIsFree, PlainOrderIsFree, ReorderedMeansTheSame, PlainReorderedMeansTheSame, SameMapsAreAsDeep, EnteringAccepts, EnteringGrows};
+ghost use Rattle.basic_toml_grammar.specs.Statements.{GrammarIsUnambiguous, GrammarIsRead, GrammarGivesKeys, LevelsAreWithinDepth, DeepOffsetsAreOpened, ShallowTextIsFree, TreeIsGrouped, KeysAreDistinct, ClashesAgree, PathsAgree, MarksFit, EveryClashIsNamed, OldDocumentsStand, OffsetsMeanNothing, ReturnsMeanNothing, ByteOrderMarkMeansNothing, OrderIsFree, PlainOrderIsFree, ReorderedMeansTheSame, PlainReorderedMeansTheSame, SameMapsAreAsDeep, EnteringAccepts, EnteringGrows, TrieIsEntering, TrieGivesLevels};
 
 /// The grammar gives a text at most one section list.
 pub fn grammar_is_unambiguous()
@@ -129,4 +129,16 @@ pub fn entering_accepts()
 #[tactic(auto, using(crate::proofs::LawsHold::growing))]
 pub fn entering_grows()
     ensures { EnteringGrows }
+{}
+
+/// Sections go into a trie exactly where they are entered, and leave it with the same tree.
+#[tactic(auto, using(crate::proofs::LawsHold::as_trie))]
+pub fn trie_is_entering()
+    ensures { TrieIsEntering }
+{}
+
+/// The next section has in the trie the level that it has in the tree.
+#[tactic(auto, using(crate::proofs::LawsHold::levels_there))]
+pub fn trie_gives_levels()
+    ensures { TrieGivesLevels }
 {}

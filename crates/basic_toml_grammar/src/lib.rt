@@ -1,8 +1,8 @@
 //! What a TOML text means: its section list by the grammar, where nothing of it clashes, and the tree of its document.
 //!
 //! The definitions stand in `specs/`, in the order of `specs/Lib.antt`; nothing here reads a text. `laws` says what
-//! makes them believable. `Reader`, `Placed`, `Marks`, `Standing` and `Entering` are forms that only proofs go by: skip
-//! them, and `NumberFaults`, which retraces how a number is read; its offsets are carried by tests.
+//! makes them believable. `Reader`, `Placed`, `Marks`, `Standing`, `Entering` and `Trie` are forms that only proofs go
+//! by: skip them, and `NumberFaults`, which retraces how a number is read; its offsets are carried by tests.
 #![tactic(auto)]
 
 pub mod laws;
