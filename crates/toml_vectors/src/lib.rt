@@ -1,9 +1,16 @@
-//! Tables of worked texts, each of them one test, and callers of a tokenizer and of the writer.
+//! Tables of worked texts for tokens, numbers and the reader, each of them one test, and callers of a tokenizer.
 #![tactic(auto)]
 
 pub mod callers;
 #[cfg(test)]
 mod numbers;
 #[cfg(test)]
+mod scalars;
+#[cfg(test)]
+mod sections;
+#[cfg(test)]
+mod tables;
+#[cfg(test)]
 mod tokens;
-pub mod writers;
+#[cfg(test)]
+mod tree;
