@@ -1,5 +1,4 @@
-//! Tables of worked texts for tokens and numbers, and of keys in tables, each of them one test; and callers of a
-//! tokenizer.
+//! Worked texts of tokens and numbers, and worked tables of values, as tests; and callers of a tokenizer.
 #![tactic(auto)]
 
 pub mod callers;
