@@ -4,13 +4,9 @@
 
 mod front;
 mod header;
-#[cfg(test)]
-mod list_tests;
 mod reader;
 mod scalar;
 mod section;
-#[cfg(test)]
-mod tests;
 mod values;
 mod word;
 

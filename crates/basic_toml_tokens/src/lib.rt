@@ -15,8 +15,6 @@ mod scan;
 mod span;
 mod step;
 mod string;
-#[cfg(test)]
-mod tests;
 mod token;
 mod tokenizer;
 

@@ -8,8 +8,6 @@ mod item;
 mod keyed;
 mod node;
 mod rows;
-#[cfg(test)]
-mod tests;
 mod tree;
 mod values;
 

@@ -12,6 +12,3 @@ pub use index::{Found, Gap, Index, Texts};
 pub use numbers::{integer_of, is_digits, is_whole, split_part};
 pub use pairs::{Iter, Pair, Pairs, PushRefusal};
 pub use value::{Table, Value};
-
-#[cfg(test)]
-mod tests;

@@ -9,8 +9,6 @@ mod data;
 mod impls;
 pub mod laws;
 mod serializer;
-#[cfg(test)]
-mod tests;
 mod write;
 
 pub use basic_toml_emit::WriteError;

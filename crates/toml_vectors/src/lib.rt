@@ -1,9 +1,10 @@
-//! Tables of worked texts, each of them one test, and callers of a tokenizer and of the writer.
+//! Worked texts of tokens and numbers, and worked tables of values, as tests; and callers of a tokenizer.
 #![tactic(auto)]
 
 pub mod callers;
 #[cfg(test)]
 mod numbers;
 #[cfg(test)]
+mod tables;
+#[cfg(test)]
 mod tokens;
-pub mod writers;

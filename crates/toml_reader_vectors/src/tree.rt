@@ -1,6 +1,6 @@
 // Texts with their trees and clashes.
-use crate::{Elements, Entries, Node, resolve};
-use basic_toml_read::{ReadError, ReadErrorKind, Section, sections};
+use basic_toml_read::{ReadError, ReadErrorKind, sections};
+use basic_toml_tree::{Elements, Entries, Node, resolve};
 use basic_toml_value::Value;
 use std::alloc::{AllocError, Global};
 use std::test::Fail;

@@ -1,6 +1,5 @@
 // What each number gives, and each text that is none.
-use crate::section::{Raw, Section};
-use crate::{ReadError, ReadErrorKind, sections};
+use basic_toml_read::{Raw, ReadError, ReadErrorKind, Section, sections};
 use std::alloc::{AllocError, Global};
 use std::test::Fail;
 

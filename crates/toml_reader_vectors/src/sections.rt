@@ -1,6 +1,5 @@
 // What each text gives: its sections with their rows, or its error and where it stands.
-use crate::section::{Element, Raw, Row, Section};
-use crate::{ReadError, ReadErrorKind, sections};
+use basic_toml_read::{Element, Raw, ReadError, ReadErrorKind, Row, Section, sections};
 use std::alloc::{AllocError, Global};
 use std::borrow::CowStr;
 use std::test::Fail;

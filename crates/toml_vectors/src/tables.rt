@@ -1,5 +1,5 @@
-// What no clause says: that each call succeeds with ample memory.
-use crate::{Float, Index, Pair, PushRefusal, Table, Value};
+// Tables and their values, each call once: that it succeeds with ample memory.
+use basic_toml_value::{Float, Index, Pair, PushRefusal, Table, Value};
 use std::alloc::{AllocError, Global};
 use std::test::Fail;
 

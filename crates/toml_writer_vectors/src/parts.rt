@@ -1,10 +1,11 @@
+// Types whose calls the tests make, and what an answer shows.
 ghost use Rattle.std.specs.Prelude.{[], ◌∷◌, codes};
 ghost use Rattle.basic_toml_emit.specs.Error.{IsCustom};
 ghost use Rattle.basic_toml_emit.specs.Items.{a_scalar, open_table};
 ghost use Rattle.basic_toml_emit.specs.Written.{refused};
 ghost use Rattle.basic_toml_write.specs.Serializer.{GivesUpAfter};
 
-use crate::{Serialize, Serializer, WriteError};
+use basic_toml_write::{Serialize, Serializer, WriteError};
 use std::alloc::{AllocError, Global};
 
 // A part that makes no call.
@@ -13,7 +14,7 @@ pub struct Silent;
 impl Serialize for Silent {
     ghost calls = { λ _. [] };
 
-    #[tactic(auto, using(crate::proofs::OneCallIsSent::sends_nothing))]
+    #[tactic(auto, using(basic_toml_write::proofs::OneCallIsSent::sends_nothing))]
     fn serialize(&self, alloc: Global, ser: &mut Serializer) -> Result<(), WriteError> {
         let _ = alloc;
         let _ = ser;
@@ -29,7 +30,7 @@ impl Serialize for Halting {
 
     ghost gives_up = { λ _. GivesUpAfter (open_table ∷ []) (IsCustom (codes "no")) };
 
-    #[tactic(auto, using(crate::proofs::OneCallIsSent::sends_gave_up))]
+    #[tactic(auto, using(basic_toml_write::proofs::OneCallIsSent::sends_gave_up))]
     fn serialize(&self, alloc: Global, ser: &mut Serializer) -> Result<(), WriteError> {
         let _ = ser.serialize_map(None);
         Err(WriteError::custom(alloc, "no"))
@@ -42,7 +43,7 @@ pub struct Careless;
 impl Serialize for Careless {
     ghost calls = { λ _. a_scalar refused ∷ [] };
 
-    #[tactic(auto, using(crate::proofs::OneCallIsSent::sends_dropped))]
+    #[tactic(auto, using(basic_toml_write::proofs::OneCallIsSent::sends_dropped))]
     fn serialize(&self, alloc: Global, ser: &mut Serializer) -> Result<(), WriteError> {
         let _ = alloc;
         let _ = ser.serialize_unit();

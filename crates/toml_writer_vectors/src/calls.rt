@@ -1,6 +1,6 @@
 // Lists of calls, and what they come to.
-use super::parts::{Silent, text_or_fault};
-use crate::{Serializer, WriteError};
+use crate::parts::{Silent, text_or_fault};
+use basic_toml_write::{Serializer, WriteError};
 use std::alloc::{AllocError, Global};
 
 #[derive(Clone, Copy)]

@@ -1,7 +1,7 @@
 // Whole tables, which are laid out at once, and one that a rule refuses.
-use super::parts::text_or_fault;
-use crate::{WriteError, written};
+use crate::parts::text_or_fault;
 use basic_toml_value::{Table, Value};
+use basic_toml_write::{WriteError, written};
 use std::alloc::{AllocError, Global};
 
 fn put(alloc: Global, table: &mut Table, key: &str, value: Value) -> Result<(), AllocError> {

@@ -1,7 +1,7 @@
 // Types, and the calls that no list makes.
-use super::parts::{Careless, Halting, Silent, text_or_fault};
-use crate::{Serializer, WriteError, written};
+use crate::parts::{Careless, Halting, Silent, text_or_fault};
 use basic_toml_value::{Float, Table, Value};
+use basic_toml_write::{Serializer, WriteError, written};
 use std::alloc::{AllocError, Global};
 use std::collections::BTreeMap;
 

@@ -1,0 +1,9 @@
+//! Tables of worked texts for the reader, each of them one test: what they give, or the error and where it stands.
+#![tactic(auto)]
+
+#[cfg(test)]
+mod scalars;
+#[cfg(test)]
+mod sections;
+#[cfg(test)]
+mod tree;
