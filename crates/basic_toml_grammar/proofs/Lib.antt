@@ -8,6 +8,7 @@ pub mod SectionMarksFit
 pub mod WalkTakesMarks
 pub mod EnteringAccepts
 pub mod OrderIsFree
+pub mod WhatStands
 pub mod WorkedDocuments
 pub mod WorkedWrongReadings
 pub mod WorkedNumbers
