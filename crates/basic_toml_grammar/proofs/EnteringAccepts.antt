@@ -43,7 +43,7 @@ offset_same f g h s = rw (
 ) refl
 
 -- how many elements marks add to the array at a path, beside n
-abbrev added_onto : Path → List Mark → ℕ → ℕ
+abbrev pub added_onto : Path → List Mark → ℕ → ℕ
 added_onto q [] n = n
 added_onto q (m ∷ ms) n = added_onto q ms (if counts m.kind && path_eq m.path q then suc n else n)
 
@@ -118,7 +118,7 @@ passing_uncounted : (s : Step) → counts (passing s) ≡ false
 passing_uncounted (key k) = refl
 passing_uncounted (number n) = refl
 
-onto_marks : (e : Option ℕ) (rs : Rows) (t q : Path) (n : ℕ)
+pub onto_marks : (e : Option ℕ) (rs : Rows) (t q : Path) (n : ℕ)
     → added_onto q (marks_from e rs t) n ≡ (if adds_element e && path_eq t q then suc n else n)
 onto_marks None rs [] q n = onto_rows rs q n
 onto_marks (Some i) rs [] [] n = onto_after_root (number i) (mark [] named ∷ marks_of_rows rs) (suc n)

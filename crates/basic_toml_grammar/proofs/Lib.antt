@@ -17,6 +17,7 @@ pub mod WorkedNesting
 pub mod WorkedGrammar
 pub mod WorkedFaults
 pub mod PathsAgree
+pub mod EnteredSections
 pub mod ClashesAgree
 pub mod TreeIsGrouped
 pub mod RestsAreEnds
