@@ -18,6 +18,7 @@ pub mod WorkedGrammar
 pub mod WorkedFaults
 pub mod PathsAgree
 pub mod EnteredSections
+pub mod WhereHeadersStop
 pub mod ClashesAgree
 pub mod TreeIsGrouped
 pub mod RestsAreEnds

@@ -14,12 +14,12 @@ pub record Said (st : List Mark) (q : Path) (p n d : Bool) : Type 0 where
   pub passes : p ≡ true → Among (mark q passed) st
   pub names : n ≡ true → Among (mark q named) st
   pub dots : d ≡ true → Among (mark q dotted) st
-  pub some : n ≡ false → d ≡ false → Among (mark q passed) st
+  pub some : n ≡ false → d ≡ false → p ≡ true
 
 abbrev pub Shown : List Mark → Path → Option Standing → Type 0
 Shown st q None = Unit {0}
 Shown st q (Some value) = (v : Data) × Among (mark q (valued v)) st
-Shown st q (Some (array zero)) = Unit {0}
+Shown st q (Some (array zero)) = Among (mark q by_latest) st
 Shown st q (Some (array (suc n))) = Among (mark q added) st
 Shown st q (Some (table p n d)) = Said st q p n d
 
@@ -28,13 +28,13 @@ later_said m h = record {
   passes = λ e. next (h.passes e);
   names = λ e. next (h.names e);
   dots = λ e. next (h.dots e);
-  some = λ e f. next (h.some e f);
+  some = h.some;
 }
 
 later_shown : (st : List Mark) (q : Path) (m : Mark) (s : Option Standing) → Shown st q s → Shown (m ∷ st) q s
 later_shown st q m None h = tt
 later_shown st q m (Some value) h = (h.0, next h.1)
-later_shown st q m (Some (array zero)) h = tt
+later_shown st q m (Some (array zero)) h = next h
 later_shown st q m (Some (array (suc n))) h = next h
 later_shown st q m (Some (table p n d)) h = later_said m h
 
@@ -43,7 +43,7 @@ only_passed st q = record {
   passes = λ e. first;
   names = λ e. absurd (false≢true e);
   dots = λ e. absurd (false≢true e);
-  some = λ e f. first;
+  some = λ e f. refl;
 }
 
 only_named : (st : List Mark) (q : Path) → Said (mark q named ∷ st) q false true false
@@ -51,7 +51,7 @@ only_named st q = record {
   passes = λ e. absurd (false≢true e);
   names = λ e. first;
   dots = λ e. absurd (false≢true e);
-  some = λ e f. absurd (false≢true (cc));
+  some = λ e f. cc;
 }
 
 only_dotted : (st : List Mark) (q : Path) → Said (mark q dotted ∷ st) q false false true
@@ -59,7 +59,7 @@ only_dotted st q = record {
   passes = λ e. absurd (false≢true e);
   names = λ e. absurd (false≢true e);
   dots = λ e. first;
-  some = λ e f. absurd (false≢true (cc));
+  some = λ e f. cc;
 }
 
 taken_shown : (st : List Mark) (q : Path) (k : MarkKind) (s : Option Standing) → Shown st q s
@@ -68,7 +68,7 @@ taken_shown st q passed (Some (table p n d)) h = record {
   passes = λ e. first;
   names = λ e. next (h.names e);
   dots = λ e. next (h.dots e);
-  some = λ e f. first;
+  some = λ e f. refl;
 }
 taken_shown st q passed None h = only_passed st q
 taken_shown st q passed (Some (array n)) h = only_passed st q
@@ -77,7 +77,7 @@ taken_shown st q named (Some (table p n d)) h = record {
   passes = λ e. next (h.passes e);
   names = λ e. first;
   dots = λ e. next (h.dots e);
-  some = λ e f. absurd (false≢true (cc));
+  some = λ e f. cc;
 }
 taken_shown st q named None h = only_named st q
 taken_shown st q named (Some (array n)) h = only_named st q
@@ -86,7 +86,7 @@ taken_shown st q dotted (Some (table p n d)) h = record {
   passes = λ e. next (h.passes e);
   names = λ e. next (h.names e);
   dots = λ e. first;
-  some = λ e f. absurd (false≢true (cc));
+  some = λ e f. cc;
 }
 taken_shown st q dotted None h = only_dotted st q
 taken_shown st q dotted (Some (array n)) h = only_dotted st q
@@ -95,7 +95,7 @@ taken_shown st q added None h = first
 taken_shown st q added (Some (table p n d)) h = first
 taken_shown st q added (Some (array n)) h = first
 taken_shown st q added (Some value) h = first
-taken_shown st q by_latest None h = tt
+taken_shown st q by_latest None h = first
 taken_shown st q by_latest (Some s) h = later_shown st q (mark q by_latest) (Some s) h
 taken_shown st q (valued v) s h = (v, first)
 
