@@ -17,9 +17,12 @@ pub mod WorkedNesting
 pub mod WorkedGrammar
 pub mod WorkedFaults
 pub mod PathsAgree
+pub mod ClashesAgree
 pub mod EnteredSections
 pub mod WhereHeadersStop
-pub mod ClashesAgree
+pub mod WhatMarksTell
+pub mod FaultsOfPairs
+pub mod HeaderStopsAreNamed
 pub mod TreeIsGrouped
 pub mod RestsAreEnds
 pub mod EnteringGrows
