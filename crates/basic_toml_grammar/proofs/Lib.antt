@@ -23,6 +23,7 @@ pub mod WhereHeadersStop
 pub mod WhatMarksTell
 pub mod FaultsOfPairs
 pub mod HeaderStopsAreNamed
+pub mod WhereRowsStop
 pub mod TreeIsGrouped
 pub mod RestsAreEnds
 pub mod EnteringGrows

@@ -21,12 +21,12 @@ Role e t q added = (q ≡ t) × (adds_element e ≡ true)
 Role e t q passed = (is_cut q (t ++ step_into e) ≡ true) × (path_eq (t ++ step_into e) q ≡ false)
 Role e t q k = begins q (t ++ step_into e) ≡ true
 
-keys_row : {v : Data} {ks : KeyTexts} {q : Path} {k : MarkKind} → KeysSay v ks q k → is_header k ≡ false
+pub keys_row : {v : Data} {ks : KeyTexts} {q : Path} {k : MarkKind} → KeysSay v ks q k → is_header k ≡ false
 keys_row value_here = refl
 keys_row dots_here = refl
 keys_row (deeper y) = keys_row y
 
-rows_row : {rs : Rows} {q : Path} {k : MarkKind} → RowsSay rs q k → is_header k ≡ false
+pub rows_row : {rs : Rows} {q : Path} {k : MarkKind} → RowsSay rs q k → is_header k ≡ false
 rows_row (this_row y) = keys_row y
 rows_row (later_row y) = rows_row y
 
