@@ -24,6 +24,7 @@ pub mod WhatMarksTell
 pub mod FaultsOfPairs
 pub mod HeaderStopsAreNamed
 pub mod WhereRowsStop
+pub mod RepeatedRowsAreNamed
 pub mod TreeIsGrouped
 pub mod RestsAreEnds
 pub mod EnteringGrows
