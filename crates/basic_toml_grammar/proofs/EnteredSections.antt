@@ -39,16 +39,20 @@ pub record Past (b : List Section) (st : List Mark) : Type 0 where
   pub tells : Tells st
   pub counted : (q : Path) → added_at st q ≡ count_in b q
   pub made : {m : Mark} → Among m st → Made b m
+  pub kept : {i : Section} {e : List Section} {m : Mark} → Stood i e b → Among m (marks (placed_after (offsets e) i))
+      → Among m st
 
 record Ran (st ms after : List Mark) : Type 0 where
   sized : Sized after
   tells : Tells after
   added : (q : Path) → added_at after q ≡ added_onto q ms (added_at st q)
   made : {m : Mark} → Among m after → Among m st ⊎ Among m ms
+  stays : {m : Mark} → Among m st → Among m after
+  joins : {m : Mark} → Among m ms → Among m after
 
 ran : (st ms after : List Mark) → Sized st → Tells st → take_all st ms ≡ Some after → Ran st ms after
 ran st [] after h t e = let same : st ≡ after = cc in
-    rw (← same) (record { sized = h; tells = t; added = λ q. refl; made = λ a. inl a })
+    rw (← same) (record { sized = h; tells = t; added = λ q. refl; made = λ a. inl a; stays = λ a. a; joins = λ a. elim a [ ] })
 ran st (m ∷ ms) after h t e =
     go (fits m.kind (standing_at st m.path)) refl
     (λ f. ran (m ∷ st) ms after (sized_more m.path m.kind st h f) (tells_more m st t f)) e
@@ -59,8 +63,14 @@ ran st (m ∷ ms) after h t e =
       tells = r.tells;
       added = r.added;
       made = λ a. from (r.made a);
+      stays = λ a. r.stays (next a);
+      joins = λ a. join a;
     }
       where
+        join : {x : Mark} → Among x (m ∷ ms) → Among x after
+        join first = r.stays first
+        join (next a) = r.joins a
+
         from : {x : Mark} → Among x (m ∷ st) ⊎ Among x ms → Among x st ⊎ Among x (m ∷ ms)
         from (inl first) = inr first
         from (inl (next a)) = inl a
@@ -85,6 +95,13 @@ later_made h = record {
   keyed = h.keyed;
   marked = h.marked;
 }
+
+kept_one : {i : Section} {e : List Section} {s : Section} {b : List Section} (m : Mark) (st after : List Mark)
+    → Stood i e (s ∷ b) → (Stood i e b → Among m (marks (placed_after (offsets e) i)) → Among m st)
+    → (Among m st → Among m after) → (Among m (marks (placed_after (offsets b) s)) → Among m after)
+    → Among m (marks (placed_after (offsets e) i)) → Among m after
+kept_one m st after here f g h a = h a
+kept_one m st after (before x) f g h a = g (f x a)
 
 past_one : (s : Section) (b : List Section) (st after : List Mark) → Past b st → is_keyed s ≡ true
     → enter s st ≡ Some after → Past (s ∷ b) after
@@ -111,6 +128,7 @@ past_one s b st after h k e = go (rows_clash s.rows) (sym grown ∙ e)
       counted = λ q. r.added q ∙ onto_marks l.element l.rows l.target q (added_at st q) ∙
           ap (λ n. if adds_element l.element && path_eq l.target q then suc n else n) (h.counted q);
       made = λ a. from (r.made a);
+      kept = λ x a. kept_one _ st after x (λ y c. h.kept y c) (λ c. r.stays c) (λ c. r.joins c) a;
     }
 
     go : (c : Bool) → (if c then None else take_all st (marks l)) ≡ Some after → Past (s ∷ b) after
@@ -132,6 +150,7 @@ none_past = record {
   tells = tells_none;
   counted = λ q. refl;
   made = λ a. elim a [ ];
+  kept = λ x a. elim x [ ];
 }
 
 -- after a list that was entered

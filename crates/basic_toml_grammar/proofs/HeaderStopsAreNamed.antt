@@ -72,11 +72,11 @@ pub path_at : {i j : Located} {l m : Placed} (b : Bool) → Alike i l → Alike 
 path_at {i = i} {j = j} {l = l} {m = m} b x y c =
     ap (λ p. path_eq p (target j)) x.path ∙ ap (λ t. path_eq (path_of l) t) y.target ∙ c
 
-says_of : {b : List Section} {q : Path} {k : MarkKind} (m : Made b (mark q k))
+pub says_of : {b : List Section} {q : Path} {k : MarkKind} (m : Made b (mark q k))
     → Says (there m.earlier m.section).element m.section.rows (there m.earlier m.section).target q k
 says_of m = said (there m.earlier m.section).element m.section.rows (there m.earlier m.section).target m.marked
 
-found : {b : List Section} {s : Section} {f : Fault} {x : Mark} (m : Made b x)
+pub found : {b : List Section} {s : Section} {f : Fault} {x : Mark} (m : Made b x)
     → Among f (pair_faults (located_after m.earlier m.section) (located_after b s)) → PairFault b s f
 found m a = record { section = m.section; earlier = m.earlier; stood = m.stood; among = a }
 
@@ -172,7 +172,7 @@ on_dots b s q left k t c m =
         let e : length (keys_of q) + left ≡ length s.header = c in omega arith
 
 -- a dotted table at the path of a section stands at its target
-no_number : (p t q : Path) (e : Option ℕ) (ks : KeyTexts) → q ≡ t ++ step_into e → crosses p (steps_of ks) q ≡ true
+pub no_number : (p t q : Path) (e : Option ℕ) (ks : KeyTexts) → q ≡ t ++ step_into e → crosses p (steps_of ks) q ≡ true
     → q ≡ t
 no_number p t q None ks h c = h ∙ append_none t
 no_number p t q (Some n) ks h c =

@@ -6,7 +6,7 @@ use Rattle.basic_toml_grammar.specs.Statements.{GrammarIsUnambiguous, TreeIsGrou
 use Rattle.basic_toml_grammar.specs.Statements.{PathsAgree, MarksFit, EveryClashIsNamed, GrammarIsRead}
 use Rattle.basic_toml_grammar.specs.Statements.{GrammarGivesKeys, LevelsAreWithinDepth, DeepOffsetsAreOpened}
 use Rattle.basic_toml_grammar.specs.Statements.{ShallowTextIsFree, OldDocumentsStand, OrderIsFree, PlainOrderIsFree}
-use Rattle.basic_toml_grammar.specs.Statements.{EnteringAccepts, EnteringGrows}
+use Rattle.basic_toml_grammar.specs.Statements.{EnteringAccepts, EnteringGrows, StopsAreNamed}
 use Rattle.basic_toml_grammar.proofs.GrammarIsUnambiguous.{one_section_list}
 use Rattle.basic_toml_grammar.proofs.TreeIsGrouped.{tree_is_grouped}
 use Rattle.basic_toml_grammar.proofs.KeysAreDistinct.{keys_are_distinct}
@@ -22,6 +22,7 @@ use Rattle.basic_toml_grammar.proofs.ReaderIsComplete.{grammar_is_read}
 use Rattle.basic_toml_grammar.proofs.OrderIsFree.{order_free, plain_order_free}
 use Rattle.basic_toml_grammar.proofs.EnteringAccepts.{accepts}
 use Rattle.basic_toml_grammar.proofs.EnteringGrows.{tree_entered}
+use Rattle.basic_toml_grammar.proofs.StopsAreNamed.{stops_named}
 
 pub unambiguous : GrammarIsUnambiguous
 unambiguous comment text sections others x y = one_section_list x y
@@ -70,3 +71,6 @@ entering sections k = accepts sections k ∙ ap (λ b. not (has_row_clash sectio
 
 pub growing : EnteringGrows
 growing sections marks e = tree_entered sections marks e
+
+pub stopping : StopsAreNamed
+stopping earlier s later marks stop k y d e f = stops_named earlier s later marks stop k y d e f

@@ -25,6 +25,9 @@ pub mod FaultsOfPairs
 pub mod HeaderStopsAreNamed
 pub mod WhereRowsStop
 pub mod RepeatedRowsAreNamed
+pub mod RowsSeeBelow
+pub mod RowsOnHeadersAreNamed
+pub mod StopsAreNamed
 pub mod TreeIsGrouped
 pub mod RestsAreEnds
 pub mod EnteringGrows

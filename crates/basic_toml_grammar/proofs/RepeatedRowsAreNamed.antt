@@ -52,7 +52,7 @@ record ElementsRepeat (es : Elements) (x : Stop) : Type 0 where
   among : (keys : KeyTexts) → Among (key_fault at keys) (repeated_faults_among keys es)
 
 -- nothing is in two lists
-both_none : {A : Type 0} (xs ys : List A) → xs ++ ys ≡ [] → (xs ≡ []) × (ys ≡ [])
+pub both_none : {A : Type 0} (xs ys : List A) → xs ++ ys ≡ [] → (xs ≡ []) × (ys ≡ [])
 both_none [] ys e = (refl, e)
 both_none (x ∷ xs) ys e = cc
 

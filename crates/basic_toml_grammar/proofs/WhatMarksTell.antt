@@ -122,7 +122,7 @@ pub valued_at : {v w : Data} {ks : KeyTexts} {q : Path} → KeysSay v ks q (valu
 valued_at value_here = refl
 valued_at (deeper {k = k} y) = ap (λ p. key k ∷ p) (valued_at y)
 
-inner_short : (q p : Path) → is_inner q p ≡ true → is_short q p ≡ true
+pub inner_short : (q p : Path) → is_inner q p ≡ true → is_short q p ≡ true
 inner_short [] p h = absurd (false≢true h)
 inner_short (s ∷ q) p h = h
 
