@@ -1,18 +1,18 @@
 -- What stands after some sections were entered: the marks of each at its place, and no others.
-use Rattle.std.proofs.Common.{◌≡◌, ℕ, suc, Bool, true, false, cond, List, [], ◌∷◌, ◌++◌, Option, Some, None, refl}
+use Rattle.std.proofs.Common.{◌≡◌, suc, Bool, true, false, cond, List, [], ◌∷◌, Option, Some, None, refl}
 use Rattle.std.proofs.Common.{ap, sym, ◌∙◌, inl, inr}
 use Rattle.std.specs.Prelude.{◌&&◌, ◌⊎◌, if◌then◌else◌}
 use Rattle.std.proofs.lemmas.Bool.{and_parts}
 use Rattle.basic_toml_grammar.specs.Sections.{Section}
 use Rattle.basic_toml_grammar.specs.Steps.{Path, path_eq}
 use Rattle.basic_toml_grammar.specs.RowClash.{rows_clash}
-use Rattle.basic_toml_grammar.specs.Placed.{Placed, adds_element, placed_by, placed_after, elements_at}
+use Rattle.basic_toml_grammar.specs.Placed.{Placed, adds_element, placed_after, elements_at}
 use Rattle.basic_toml_grammar.specs.Marks.{Mark, marks}
 use Rattle.basic_toml_grammar.specs.Standing.{fits, standing_at, take_all}
 use Rattle.basic_toml_grammar.specs.Entering.{and_then, enter, enter_all, is_keyed, all_keyed}
 use Rattle.basic_toml_grammar.proofs.AmongElements.{Among, first, next}
 use Rattle.basic_toml_grammar.proofs.MarksFit.{Tells, tells_none, tells_more}
-use Rattle.basic_toml_grammar.proofs.WalkTakesMarks.{counts, added_at, Sized, sized_more, enter_grows}
+use Rattle.basic_toml_grammar.proofs.WalkTakesMarks.{added_at, Sized, sized_more, enter_grows}
 use Rattle.basic_toml_grammar.proofs.EnteringAccepts.{offset_same, added_onto, onto_marks}
 use Rattle.basic_toml_grammar.proofs.PathsAgree.{offsets, count_in}
 

@@ -1,5 +1,5 @@
 -- The faults of a section and an earlier one stand in the list of named clashes.
-use Rattle.std.proofs.Common.{◌≡◌, ℕ, zero, suc, Bool, true, false, List, [], ◌∷◌, ◌++◌, refl, ap, sym, ◌∙◌, subst}
+use Rattle.std.proofs.Common.{◌≡◌, suc, Bool, true, false, List, [], ◌∷◌, ◌++◌, refl, ap, sym, subst}
 use Rattle.std.proofs.Common.{inl, inr, arith, length}
 use Rattle.std.specs.Prelude.{◌⊎◌, ◌-◌, if◌then◌else◌, Contains}
 use Rattle.std.specs.List.{flat_map}

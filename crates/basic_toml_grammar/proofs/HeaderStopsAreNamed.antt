@@ -5,25 +5,25 @@ use Rattle.std.specs.Prelude.{◌-◌, ◌&&◌, if◌then◌else◌}
 use Rattle.std.proofs.lemmas.Bool.{false≢true, and_from}
 use Rattle.std.proofs.lemmas.List.{length-map, take_all}
 use Rattle.basic_toml_value.specs.Data.{Data}
-use Rattle.basic_toml_grammar.specs.Sections.{Key, KeyTexts, texts, Section}
-use Rattle.basic_toml_grammar.specs.Steps.{Step, key, number, Path, begins, path_eq, steps_of, keys_of}
+use Rattle.basic_toml_grammar.specs.Sections.{KeyTexts, texts, Section}
+use Rattle.basic_toml_grammar.specs.Steps.{number, Path, begins, path_eq, steps_of, keys_of}
 use Rattle.basic_toml_grammar.specs.IndexedPath.{Located, located_after}
-use Rattle.basic_toml_grammar.specs.SectionClash.{target, same_path, array_on_cut, row_on_path, row_crossed}
+use Rattle.basic_toml_grammar.specs.SectionClash.{target, array_on_cut, row_on_path, row_crossed}
 use Rattle.basic_toml_grammar.specs.Placed.{Placed, step_into, adds_element, path_of, placed_after, is_cut, crosses}
-use Rattle.basic_toml_grammar.specs.Marks.{MarkKind, passed, by_latest, named, added, dotted, valued, mark, Mark, marks}
+use Rattle.basic_toml_grammar.specs.Marks.{MarkKind, passed, by_latest, named, added, dotted, valued, mark, Mark}
 use Rattle.basic_toml_grammar.specs.Standing.{Standing, table, array, value, fits, standing_at}
 use Rattle.basic_toml_grammar.specs.Entering.{rows_keyed, header_keyed, is_keyed}
 use Rattle.basic_toml_grammar.specs.Faults.{Fault}
 use Rattle.basic_toml_grammar.specs.NamedClash.{nth_key, key_fault, table_fault, array_fault, pair_faults}
-use Rattle.basic_toml_grammar.specs.Stops.{Stop, at_header, is_named, is_passed, at_row, stop_fault, header_stop}
+use Rattle.basic_toml_grammar.specs.Stops.{Stop, at_header, stop_fault, header_stop}
 use Rattle.basic_toml_grammar.proofs.AmongElements.{Among}
 use Rattle.basic_toml_grammar.proofs.StepTestsDecide.{paths_same}
 use Rattle.basic_toml_grammar.proofs.WhatSectionsSay.{Says}
 use Rattle.basic_toml_grammar.proofs.MarksAreWhatIsSaid.{said}
 use Rattle.basic_toml_grammar.proofs.PathsAgree.{offsets, count_in, append_none, whole, keys-append, keys_cut}
 use Rattle.basic_toml_grammar.proofs.ClashesAgree.{crossed_is, Alike, alike}
-use Rattle.basic_toml_grammar.proofs.EnteredSections.{Stood, Made, Past}
-use Rattle.basic_toml_grammar.proofs.WhatStands.{Shown, Said, shown}
+use Rattle.basic_toml_grammar.proofs.EnteredSections.{Made, Past}
+use Rattle.basic_toml_grammar.proofs.WhatStands.{Shown, shown}
 use Rattle.basic_toml_grammar.proofs.WhereHeadersStop.{is_header, HeaderStop}
 use Rattle.basic_toml_grammar.proofs.WhatMarksTell.{Role, role, way, RowPart, row_part, valued_at, dotted_at}
 use Rattle.basic_toml_grammar.proofs.WhatMarksTell.{crosses_after, crosses_number, cut_same}

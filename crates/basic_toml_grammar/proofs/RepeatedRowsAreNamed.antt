@@ -1,31 +1,30 @@
 -- Where rows stop, a row before them in the same table is the cause, and the fault is one of repeated rows; or else it
 -- is a mark that stood before the rows.
-use Rattle.std.proofs.Common.{◌≡◌, ℕ, zero, suc, Bool, true, false, List, [], ◌∷◌, ◌++◌, refl, ap, sym, ◌∙◌, subst}
+use Rattle.std.proofs.Common.{◌≡◌, ℕ, Bool, true, false, List, [], ◌∷◌, ◌++◌, refl, ap, sym, ◌∙◌, subst}
 use Rattle.std.proofs.Common.{inl, inr, take}
-use Rattle.std.specs.Prelude.{◌⊎◌, ◌&&◌, not, if◌then◌else◌}
+use Rattle.std.specs.Prelude.{◌⊎◌, if◌then◌else◌}
 use Rattle.std.proofs.lemmas.Bool.{false≢true, and_parts}
 use Rattle.basic_toml_value.specs.Data.{Data}
 use Rattle.basic_toml_grammar.specs.Sections.{Key, KeyTexts, texts, Raw, Elements, no_elements, element, Rows}
 use Rattle.basic_toml_grammar.specs.Sections.{no_rows, row}
-use Rattle.basic_toml_grammar.specs.Steps.{Step, key, Path, step_eq, begins, properly_begins, steps_of}
+use Rattle.basic_toml_grammar.specs.Steps.{key, Path, step_eq, begins, properly_begins, steps_of}
 use Rattle.basic_toml_grammar.specs.Mentions.{finished}
 use Rattle.basic_toml_grammar.specs.Placed.{is_short, is_inner}
-use Rattle.basic_toml_grammar.specs.Marks.{MarkKind, named, added, dotted, valued, Mark, mark}
+use Rattle.basic_toml_grammar.specs.Marks.{MarkKind, Mark, mark}
 use Rattle.basic_toml_grammar.specs.Faults.{Fault}
 use Rattle.basic_toml_grammar.specs.NamedClash.{last_key, first_key, first_of_several, nth_key, dotted_fault, key_fault}
 use Rattle.basic_toml_grammar.specs.NamedClash.{extending_faults, dotted_faults, dotted_faults_in, dotted_faults_among}
 use Rattle.basic_toml_grammar.specs.NamedClash.{repeating_faults, repeated_faults, repeated_faults_in}
 use Rattle.basic_toml_grammar.specs.NamedClash.{repeated_faults_among}
-use Rattle.basic_toml_grammar.specs.Stops.{Stop, at_header, is_named, is_passed, at_row, held_stop, Outcome, goes_on}
+use Rattle.basic_toml_grammar.specs.Stops.{Stop, at_row, held_stop, Outcome, goes_on}
 use Rattle.basic_toml_grammar.specs.Stops.{stops, and_on, try_row, held, try_rows, try_value, try_elements}
 use Rattle.basic_toml_grammar.proofs.AmongElements.{Among, first, next, among_left, among_right}
-use Rattle.basic_toml_grammar.proofs.StepTestsDecide.{step_same, step_is}
+use Rattle.basic_toml_grammar.proofs.StepTestsDecide.{step_same}
 use Rattle.basic_toml_grammar.proofs.WhatSectionsSay.{KeysSay, value_here, dots_here, deeper}
 use Rattle.basic_toml_grammar.proofs.MarksFit.{Tells, tells_none}
 use Rattle.basic_toml_grammar.proofs.ClashesAgree.{turn_eq}
-use Rattle.basic_toml_grammar.proofs.WhereHeadersStop.{is_header}
 use Rattle.basic_toml_grammar.proofs.WhatMarksTell.{RowOf, this_one, a_later, keys_row, valued_at, dotted_at}
-use Rattle.basic_toml_grammar.proofs.WhereRowsStop.{keys_before, steps_to_key, AtEnd, Reason, names_it, adds_it}
+use Rattle.basic_toml_grammar.proofs.WhereRowsStop.{keys_before, steps_to_key, Reason, names_it, adds_it}
 use Rattle.basic_toml_grammar.proofs.WhereRowsStop.{ends_before, on_its_way, repeats_it, RowHit, row_hit, RowRan}
 use Rattle.basic_toml_grammar.proofs.WhereRowsStop.{row_ran}
 

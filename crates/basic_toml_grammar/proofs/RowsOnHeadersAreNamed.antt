@@ -6,29 +6,28 @@ use Rattle.std.specs.Prelude.{◌⊎◌, ◌-◌, ◌&&◌, not}
 use Rattle.std.proofs.lemmas.Bool.{false≢true, and_parts, and_from}
 use Rattle.std.proofs.lemmas.List.{length-map}
 use Rattle.basic_toml_value.specs.Data.{Data}
-use Rattle.basic_toml_grammar.specs.Sections.{Key, KeyTexts, texts, Rows, no_rows, row, Section}
-use Rattle.basic_toml_grammar.specs.Steps.{Step, key, number, Path, step_eq, begins, path_eq, steps_of, keys_of}
+use Rattle.basic_toml_grammar.specs.Sections.{Key, KeyTexts, texts, Rows, Section}
+use Rattle.basic_toml_grammar.specs.Steps.{Step, key, Path, step_eq, begins, steps_of, keys_of}
 use Rattle.basic_toml_grammar.specs.IndexedPath.{Located, located_after}
 use Rattle.basic_toml_grammar.specs.SectionClash.{target, row_on_path, row_crossed}
 use Rattle.basic_toml_grammar.specs.Placed.{Placed, step_into, path_of, is_short, is_inner, crosses}
-use Rattle.basic_toml_grammar.specs.Marks.{MarkKind, passed, by_latest, named, added, dotted, valued, collide, Mark, mark}
-use Rattle.basic_toml_grammar.specs.Marks.{hits, refuses, marks}
+use Rattle.basic_toml_grammar.specs.Marks.{MarkKind, named, added, dotted, valued, collide, Mark, mark}
+use Rattle.basic_toml_grammar.specs.Marks.{hits, refuses}
 use Rattle.basic_toml_grammar.specs.Standing.{fits, standing_at}
 use Rattle.basic_toml_grammar.specs.Entering.{rows_keyed, header_keyed, is_keyed}
-use Rattle.basic_toml_grammar.specs.Faults.{Fault}
 use Rattle.basic_toml_grammar.specs.NamedClash.{nth_key, key_fault, pair_faults, crossing_fault, row_faults}
 use Rattle.basic_toml_grammar.specs.Stops.{Stop, at_row, stop_fault}
 use Rattle.basic_toml_grammar.proofs.AmongElements.{Among}
 use Rattle.basic_toml_grammar.proofs.StepTestsDecide.{step_is, paths_same}
-use Rattle.basic_toml_grammar.proofs.WhatSectionsSay.{KeysSay, value_here, dots_here, deeper, RowsSay, this_row}
+use Rattle.basic_toml_grammar.proofs.WhatSectionsSay.{KeysSay, dots_here, deeper, RowsSay, this_row}
 use Rattle.basic_toml_grammar.proofs.WhatSectionsSay.{later_row, Says, names, rows_say, into, on}
 use Rattle.basic_toml_grammar.proofs.MarksAreWhatIsSaid.{here_any, marked}
 use Rattle.basic_toml_grammar.proofs.MarksFit.{Tells}
 use Rattle.basic_toml_grammar.proofs.PathsAgree.{append_none, keys-append}
 use Rattle.basic_toml_grammar.proofs.ClashesAgree.{crossed_is}
-use Rattle.basic_toml_grammar.proofs.EnteredSections.{Stood, Made, Past}
+use Rattle.basic_toml_grammar.proofs.EnteredSections.{Made, Past}
 use Rattle.basic_toml_grammar.proofs.WhereHeadersStop.{is_header}
-use Rattle.basic_toml_grammar.proofs.WhatMarksTell.{Role, role, way, RowOf, this_one, a_later, RowMark, RowPart}
+use Rattle.basic_toml_grammar.proofs.WhatMarksTell.{Role, role, way, RowOf, this_one, a_later, RowPart}
 use Rattle.basic_toml_grammar.proofs.WhatMarksTell.{row_part, valued_at, inner_short, dotted_at, crosses_after}
 use Rattle.basic_toml_grammar.proofs.FaultsOfPairs.{on_path_fault, crossed_fault, row_later_fault, PairFault}
 use Rattle.basic_toml_grammar.proofs.HeaderStopsAreNamed.{there, keys_steps, keys_all, header_length, target_length}

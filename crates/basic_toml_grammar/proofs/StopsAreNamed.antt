@@ -1,27 +1,25 @@
 -- What stops a section after those that were entered is named, where no row goes on from a value.
-use Rattle.std.proofs.Common.{◌≡◌, ℕ, Bool, true, false, List, [], ◌∷◌, ◌++◌, Option, Some, refl, ap, sym, ◌∙◌, subst}
+use Rattle.std.proofs.Common.{◌≡◌, true, List, [], ◌∷◌, ◌++◌, refl, sym, subst}
 use Rattle.std.proofs.Common.{inl, inr, length}
-use Rattle.std.specs.Prelude.{◌⊎◌, ◌&&◌}
-use Rattle.std.specs.List.{flat_map}
-use Rattle.basic_toml_grammar.specs.Sections.{KeyTexts, texts, Rows, Section}
+use Rattle.std.specs.Prelude.{◌⊎◌}
+use Rattle.basic_toml_grammar.specs.Sections.{texts, Section}
 use Rattle.basic_toml_grammar.specs.Steps.{Path}
-use Rattle.basic_toml_grammar.specs.Placed.{Placed, path_of, elements_at, placed_by}
+use Rattle.basic_toml_grammar.specs.Placed.{path_of, elements_at}
 use Rattle.basic_toml_grammar.specs.Marks.{named, Mark}
 use Rattle.basic_toml_grammar.specs.Standing.{fits, standing_at}
-use Rattle.basic_toml_grammar.specs.Entering.{enter_all, is_keyed, all_keyed}
 use Rattle.basic_toml_grammar.specs.NamedClash.{dotted_faults, repeated_faults_of, NamesClash}
-use Rattle.basic_toml_grammar.specs.Stops.{Stop, at_row, stop_fault, stops, try_rows, try_enter}
+use Rattle.basic_toml_grammar.specs.Stops.{Stop, stop_fault, stops, try_enter}
 use Rattle.basic_toml_grammar.specs.Statements.{StopsAreNamed}
 use Rattle.basic_toml_grammar.proofs.AmongElements.{Among}
 use Rattle.basic_toml_grammar.proofs.PathsAgree.{offsets}
 use Rattle.basic_toml_grammar.proofs.WalkTakesMarks.{added_at}
 use Rattle.basic_toml_grammar.proofs.EnteringAccepts.{offset_same}
 use Rattle.basic_toml_grammar.proofs.EnteredSections.{onto, Past, entered}
-use Rattle.basic_toml_grammar.proofs.WhereHeadersStop.{HeaderStop, RowsStop, WalkStop, walk_stops}
-use Rattle.basic_toml_grammar.proofs.FaultsOfPairs.{NoneDotted, PairFault, pair_named, repeat_named}
+use Rattle.basic_toml_grammar.proofs.WhereHeadersStop.{WalkStop, walk_stops}
+use Rattle.basic_toml_grammar.proofs.FaultsOfPairs.{NoneDotted, pair_named, repeat_named}
 use Rattle.basic_toml_grammar.proofs.HeaderStopsAreNamed.{there, header_named}
 use Rattle.basic_toml_grammar.proofs.WhereRowsStop.{RowHit}
-use Rattle.basic_toml_grammar.proofs.RepeatedRowsAreNamed.{faults_by, Repeats, both_none, rows_stop}
+use Rattle.basic_toml_grammar.proofs.RepeatedRowsAreNamed.{Repeats, both_none, rows_stop}
 use Rattle.basic_toml_grammar.proofs.RowsSeeBelow.{same_stop}
 use Rattle.basic_toml_grammar.proofs.RowsOnHeadersAreNamed.{keyed_rows, row_named}
 

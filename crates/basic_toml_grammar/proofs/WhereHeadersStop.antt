@@ -2,15 +2,15 @@
 use Rattle.std.proofs.Common.{◌≡◌, ℕ, zero, suc, ◌+◌, Bool, true, false, cond, List, [], ◌∷◌, ◌++◌, Option, Some, None}
 use Rattle.std.proofs.Common.{refl, ap, sym, ◌∙◌, subst, inl, inr, append_assoc, arith, length}
 use Rattle.std.specs.Prelude.{◌⊎◌, if◌then◌else◌}
-use Rattle.basic_toml_grammar.specs.Sections.{KeyTexts, texts, Rows, Section}
+use Rattle.basic_toml_grammar.specs.Sections.{KeyTexts, Rows}
 use Rattle.basic_toml_grammar.specs.Steps.{Step, key, number, Path, path_eq, keys_of}
 use Rattle.basic_toml_grammar.specs.IndexedPath.{latest}
-use Rattle.basic_toml_grammar.specs.Placed.{step_into, path_of, target_from, element_from, placed_by}
+use Rattle.basic_toml_grammar.specs.Placed.{step_into, target_from, element_from}
 use Rattle.basic_toml_grammar.specs.Marks.{MarkKind, passed, by_latest, named, added, dotted, valued, Mark, mark}
 use Rattle.basic_toml_grammar.specs.Standing.{Standing, fits, taken, standing_at}
 use Rattle.basic_toml_grammar.specs.Entering.{element_count, count_at}
 use Rattle.basic_toml_grammar.specs.Stops.{Stop, header_stop, Outcome, goes_on, stops, and_on, try_mark, try_rows}
-use Rattle.basic_toml_grammar.specs.Stops.{try_header, try_table, try_element, try_latest, try_walk, try_enter}
+use Rattle.basic_toml_grammar.specs.Stops.{try_header, try_table, try_element, try_latest, try_walk}
 use Rattle.basic_toml_grammar.proofs.StepTestsDecide.{step_same}
 use Rattle.basic_toml_grammar.proofs.WhatSectionsSay.{Says, names, adds, into, passes, goes_by, on}
 use Rattle.basic_toml_grammar.proofs.WalkTakesMarks.{added_at, Sized}

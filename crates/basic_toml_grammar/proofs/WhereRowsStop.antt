@@ -1,13 +1,12 @@
 -- A row stops at one of its keys, where a mark stood that does not go with it.
 use Rattle.std.proofs.Common.{◌≡◌, ℕ, zero, suc, ◌<◌, Bool, true, false, List, [], ◌∷◌, ◌++◌, Option, Some, None, refl}
 use Rattle.std.proofs.Common.{ap, sym, ◌∙◌, subst, inl, inr, append_assoc, arith, length, take}
-use Rattle.std.specs.Prelude.{◌⊎◌, ◌-◌, ◌&&◌, not, if◌then◌else◌}
-use Rattle.std.specs.List.{list_any}
+use Rattle.std.specs.Prelude.{◌⊎◌, ◌-◌, not, if◌then◌else◌}
 use Rattle.std.proofs.lemmas.Bool.{false≢true, and_from}
 use Rattle.basic_toml_value.specs.Data.{Data}
 use Rattle.basic_toml_grammar.specs.Sections.{Key, KeyTexts, texts, Rows}
-use Rattle.basic_toml_grammar.specs.Steps.{key, Path, path_eq, steps_of}
-use Rattle.basic_toml_grammar.specs.Marks.{MarkKind, passed, by_latest, named, added, dotted, valued, collide, Mark, mark}
+use Rattle.basic_toml_grammar.specs.Steps.{key, Path, steps_of}
+use Rattle.basic_toml_grammar.specs.Marks.{MarkKind, passed, by_latest, named, added, dotted, valued, Mark, mark}
 use Rattle.basic_toml_grammar.specs.Marks.{hits, refuses}
 use Rattle.basic_toml_grammar.specs.Standing.{Standing, table, array, value, fits, standing_at}
 use Rattle.basic_toml_grammar.specs.NamedClash.{nth_key, last_key, first_of_several}
