@@ -24,8 +24,10 @@ pub mod WhatMarksTell
 pub mod FaultsOfPairs
 pub mod HeaderStopsAreNamed
 pub mod WhereRowsStop
+pub mod RowsLeaveMarks
 pub mod RepeatedRowsAreNamed
 pub mod RowsSeeBelow
+pub mod EarlierRowsAreNotMet
 pub mod RowsOnHeadersAreNamed
 pub mod StopsAreNamed
 pub mod TreeIsGrouped

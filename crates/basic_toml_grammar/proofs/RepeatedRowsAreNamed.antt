@@ -25,8 +25,8 @@ use Rattle.basic_toml_grammar.proofs.MarksFit.{Tells, tells_none}
 use Rattle.basic_toml_grammar.proofs.ClashesAgree.{turn_eq}
 use Rattle.basic_toml_grammar.proofs.WhatMarksTell.{RowOf, this_one, a_later, keys_row, valued_at, dotted_at}
 use Rattle.basic_toml_grammar.proofs.WhereRowsStop.{keys_before, steps_to_key, Reason, names_it, adds_it}
-use Rattle.basic_toml_grammar.proofs.WhereRowsStop.{ends_before, on_its_way, repeats_it, RowHit, row_hit, RowRan}
-use Rattle.basic_toml_grammar.proofs.WhereRowsStop.{row_ran}
+use Rattle.basic_toml_grammar.proofs.WhereRowsStop.{ends_before, on_its_way, repeats_it, RowHit, row_hit}
+use Rattle.basic_toml_grammar.proofs.RowsLeaveMarks.{RowRan, row_ran}
 
 -- repeated faults, where a function tells the key path from the keys that the stop tells
 abbrev pub faults_by : (KeyTexts → KeyTexts) → Rows → List Fault

@@ -21,7 +21,8 @@ use Rattle.basic_toml_grammar.proofs.HeaderStopsAreNamed.{there, header_named}
 use Rattle.basic_toml_grammar.proofs.WhereRowsStop.{RowHit}
 use Rattle.basic_toml_grammar.proofs.RepeatedRowsAreNamed.{Repeats, both_none, rows_stop}
 use Rattle.basic_toml_grammar.proofs.RowsSeeBelow.{same_stop}
-use Rattle.basic_toml_grammar.proofs.RowsOnHeadersAreNamed.{keyed_rows, row_named}
+use Rattle.basic_toml_grammar.proofs.EarlierRowsAreNotMet.{keyed_rows}
+use Rattle.basic_toml_grammar.proofs.RowsOnHeadersAreNamed.{row_named}
 
 -- the rows of one section
 own_dotted : (ss : List Section) (s : Section) (later : List Section) → NoneDotted (ss ++ s ∷ later)
