@@ -215,12 +215,12 @@ crossed_is (s ∷ p) steps (u ∷ t) = any_after s u (λ b. p ++ b) t (inner_beg
     ap (λ b. step_eq s u && b) (crossed_is p steps t)
 
 -- a section by its cuts and by its target
-record Alike (l : Located) (p : Placed) : Type 0 where
-  path : l.path ≡ path_of p
-  target : target l ≡ p.target
-  array : l.section.is_array ≡ adds_element p.element
-  rows : l.section.rows ≡ p.rows
-  cuts : (t : Path) → list_any (λ c. path_eq c t) l.cuts ≡ is_cut t (path_of p)
+pub record Alike (l : Located) (p : Placed) : Type 0 where
+  pub path : l.path ≡ path_of p
+  pub target : target l ≡ p.target
+  pub array : l.section.is_array ≡ adds_element p.element
+  pub rows : l.section.rows ≡ p.rows
+  pub cuts : (t : Path) → list_any (λ c. path_eq c t) l.cuts ≡ is_cut t (path_of p)
 
 pub array_is : (count : Path → ℕ) (a : Bool) (keys : KeyTexts) → header_keyed a keys ≡ true
     → a ≡ adds_element (element_from count a [] keys)
@@ -228,7 +228,7 @@ array_is count false keys e = sym (adds_none count [] keys)
 array_is count true [] e = absurd (false≢true e)
 array_is count true (k ∷ keys) e = sym (adds_one count [] k keys)
 
-alike : (s : Section) (earlier : List Section) → header_keyed s.is_array (texts s.header) ≡ true
+pub alike : (s : Section) (earlier : List Section) → header_keyed s.is_array (texts s.header) ≡ true
     → Alike (located_after earlier s) (placed_after (offsets earlier) s)
 alike s earlier e = record {
   path = path_is s earlier;

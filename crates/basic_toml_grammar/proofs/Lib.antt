@@ -9,6 +9,7 @@ pub mod WalkTakesMarks
 pub mod EnteringAccepts
 pub mod RowsThatOverlapAreRefused
 pub mod OrderIsFree
+pub mod WhatStands
 pub mod WorkedDocuments
 pub mod WorkedWrongReadings
 pub mod WorkedNumbers
@@ -18,6 +19,18 @@ pub mod WorkedGrammar
 pub mod WorkedFaults
 pub mod PathsAgree
 pub mod ClashesAgree
+pub mod EnteredSections
+pub mod WhereHeadersStop
+pub mod WhatMarksTell
+pub mod FaultsOfPairs
+pub mod HeaderStopsAreNamed
+pub mod WhereRowsStop
+pub mod RowsLeaveMarks
+pub mod RepeatedRowsAreNamed
+pub mod RowsSeeBelow
+pub mod EarlierRowsAreNotMet
+pub mod RowsOnHeadersAreNamed
+pub mod StopsAreNamed
 pub mod TreeIsGrouped
 pub mod RestsAreEnds
 pub mod EnteringGrows

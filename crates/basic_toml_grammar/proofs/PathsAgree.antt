@@ -71,7 +71,7 @@ one_more count a p (k ∷ keys) zero h =
 one_more count a p (k ∷ keys) (suc l) h =
     one_more count a (p ++ key k ∷ latest (counted a keys (count (p ++ key k ∷ [])))) keys l (omega arith)
 
-keys-append : (p q : Path) → keys_of (p ++ q) ≡ keys_of p ++ keys_of q
+pub keys-append : (p q : Path) → keys_of (p ++ q) ≡ keys_of p ++ keys_of q
 keys-append [] q = refl
 keys-append (key k ∷ p) q = ap (λ ks. k ∷ ks) (keys-append p q)
 keys-append (number n ∷ p) q = keys-append p q

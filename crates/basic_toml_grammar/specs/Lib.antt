@@ -26,6 +26,7 @@ pub mod Placed
 pub mod Marks
 pub mod Standing
 pub mod Entering
+pub mod Stops
 pub mod Trie
 -- What the laws say
 pub mod OldRules

@@ -1,7 +1,7 @@
 -- Laws about the definitions of reading. Each is proved as the contract of a function in `laws`.
 use Rattle.std.specs.Prelude.{◌≤◌, false, ◌≡◌, ◌↔◌, ℕ, Bool, true, not, is_some, codes, map, List, [], ◌∷◌, IsUtf8}
-use Rattle.std.specs.Prelude.{Some, option_map, reverse}
-use Rattle.std.specs.List.{list_any}
+use Rattle.std.specs.Prelude.{Some, ◌++◌, option_map, reverse}
+use Rattle.std.specs.List.{list_any, flat_map}
 use Rattle.basic_toml_tokens.specs.Text.{Text, folded}
 use Rattle.basic_toml_value.specs.Data.{Data}
 use Rattle.basic_toml_value.specs.SameMaps.{SameMaps}
@@ -9,14 +9,15 @@ use Rattle.basic_toml_grammar.specs.Sections.{Section}
 use Rattle.basic_toml_grammar.specs.Steps.{Path}
 use Rattle.basic_toml_grammar.specs.IndexedPath.{located_after, located}
 use Rattle.basic_toml_grammar.specs.SectionClash.{any_pair, sections_clash}
-use Rattle.basic_toml_grammar.specs.NamedClash.{clash_faults}
+use Rattle.basic_toml_grammar.specs.NamedClash.{clash_faults, dotted_faults, NamesClash}
 use Rattle.basic_toml_grammar.specs.Tree.{Mention, IsTree}
 use Rattle.basic_toml_grammar.specs.Growth.{closed, tree_of}
 use Rattle.basic_toml_grammar.specs.Placed.{Placed, path_of, placed, any_placed_clash}
 use Rattle.basic_toml_grammar.specs.Marks.{Mark, hits}
 use Rattle.basic_toml_grammar.specs.Standing.{take_all, growth_of}
-use Rattle.basic_toml_grammar.specs.Entering.{all_keyed, enter_all}
+use Rattle.basic_toml_grammar.specs.Entering.{is_keyed, all_keyed, enter_all}
 use Rattle.basic_toml_grammar.specs.Trie.{Trie, nothing, put_sections, section_level_in, bare}
+use Rattle.basic_toml_grammar.specs.Stops.{Stop, stops, stop_fault, try_enter}
 use Rattle.basic_toml_grammar.specs.Depth.{depth}
 use Rattle.basic_toml_grammar.specs.Levels.{highest_level}
 use Rattle.basic_toml_grammar.specs.Distinct.{is_distinct}
@@ -163,3 +164,11 @@ TrieIsEntering = (sections : List Section)
 abbrev pub TrieGivesLevels : Type 0
 TrieGivesLevels = (earlier : List Section) (s : Section) (t : Trie) → put_sections earlier nothing ≡ Some t
     → section_level_in t s ≡ tree_level (located_after (reverse earlier) s)
+
+-- where no row goes on from a value, what stops a section after those that were entered is named
+abbrev pub StopsAreNamed : Type 0
+StopsAreNamed = (earlier : List Section) (s : Section) (later : List Section) (marks : List Mark) (stop : Stop)
+    → all_keyed earlier ≡ true → is_keyed s ≡ true
+    → flat_map (λ s. dotted_faults s.rows) (earlier ++ s ∷ later) ≡ []
+    → enter_all earlier [] ≡ Some marks → try_enter s marks ≡ stops stop
+    → NamesClash (earlier ++ s ∷ later) (stop_fault s stop)

@@ -1,6 +1,6 @@
 //! Laws about what a text means, each as the contract of a function that does nothing.
 
-ghost use Rattle.basic_toml_grammar.specs.Statements.{GrammarIsUnambiguous, GrammarIsRead, GrammarGivesKeys, LevelsAreWithinDepth, DeepOffsetsAreOpened, ShallowTextIsFree, TreeIsGrouped, KeysAreDistinct, ClashesAgree, PathsAgree, MarksFit, EveryClashIsNamed, OldDocumentsStand, OffsetsMeanNothing, ReturnsMeanNothing, ByteOrderMarkMeansNothing, OrderIsFree, PlainOrderIsFree, ReorderedMeansTheSame, PlainReorderedMeansTheSame, SameMapsAreAsDeep, EnteringAccepts, EnteringGrows, TrieIsEntering, TrieGivesLevels};
+ghost use Rattle.basic_toml_grammar.specs.Statements.{GrammarIsUnambiguous, GrammarIsRead, GrammarGivesKeys, LevelsAreWithinDepth, DeepOffsetsAreOpened, ShallowTextIsFree, TreeIsGrouped, KeysAreDistinct, ClashesAgree, PathsAgree, MarksFit, EveryClashIsNamed, OldDocumentsStand, OffsetsMeanNothing, ReturnsMeanNothing, ByteOrderMarkMeansNothing, OrderIsFree, PlainOrderIsFree, ReorderedMeansTheSame, PlainReorderedMeansTheSame, SameMapsAreAsDeep, EnteringAccepts, EnteringGrows, TrieIsEntering, TrieGivesLevels, StopsAreNamed};
 
 /// The grammar gives a text at most one section list.
 pub fn grammar_is_unambiguous()
@@ -141,4 +141,10 @@ pub fn trie_is_entering()
 #[tactic(auto, using(crate::proofs::LawsHold::levels_there))]
 pub fn trie_gives_levels()
     ensures { TrieGivesLevels }
+{}
+
+/// What stops a section after those that were entered is a clash that is named.
+#[tactic(auto, using(crate::proofs::LawsHold::stopping))]
+pub fn stops_are_named()
+    ensures { StopsAreNamed }
 {}
