@@ -1,6 +1,9 @@
 //! Rows: their values, and the tables that their keys lead through.
 
 ghost use Rattle.std.specs.Prelude.{◌≤◌};
+ghost use Rattle.basic_toml_read.specs.SectionView.{rows_view};
+ghost use Rattle.basic_toml_tree.specs.Item.{table_trie};
+ghost use Rattle.basic_toml_tree.specs.Rows.{EntersRows};
 
 use crate::clash::{Clash, texts_of};
 use crate::item::{Child, Item, LIMIT, Table};
@@ -184,6 +187,7 @@ pub(crate) fn enter_rows<'de>(
     level: usize,
 ) -> Result<Box<Table<'de>>, Clash>
     requires { level ≤ 128 }
+    ensures { EntersRows (rows_view rows.entry.items) level (table_trie table.entry.value) result }
 {
     let mut table = table;
     let mut keys = Vec::new(alloc);
