@@ -1,3 +1,4 @@
 pub mod HeadersNamed
 pub mod ItemData
+pub mod KeysInATrie
 pub mod KeysSeen

@@ -1,0 +1,100 @@
+-- A key that is entered among keys with their values, and what stands at it in the trie of these.
+use Rattle.std.proofs.Common.{◌≡◌, ℕ, suc, zero, true, false, List, [], ◌∷◌, ◌++◌, refl, sym, take, if◌then◌else◌}
+use Rattle.std.proofs.Common.{ap, ◌∙◌, arith, Option, Some, None, option_map, map, cond, elim}
+use Rattle.std.specs.List.{slice_get}
+use Rattle.std.specs.Str.{bytes_eq}
+use Rattle.std.proofs.lemmas.List.{map-append}
+use Rattle.std.proofs.lemmas.Slice.Eq.{bytes_eq-Decides}
+use Rattle.basic_toml_value.specs.Keys.{is_among}
+use Rattle.basic_toml_value.specs.Pairs.{keys_of, has_key}
+use Rattle.basic_toml_value.proofs.DistinctKeys.{bytes_eq-same, bytes_eq_other}
+use Rattle.basic_toml_grammar.specs.Steps as steps
+use Rattle.basic_toml_grammar.specs.Trie.{Trie, Tries, no_tries, by, nothing, among, find}
+use Rattle.basic_toml_tree.specs.Item.{by_keys}
+use Rattle.basic_toml_tree.specs.Keyed.{with_value, with_key, values_of, EntersKey}
+
+-- keys with their tries
+abbrev Pairs : Type 0
+Pairs = List (List ℕ × Trie)
+
+-- a key that is not the first one stands among the others
+differs : (k l : List ℕ) (ks : List (List ℕ)) → is_among (l ∷ ks) k ≡ false
+    → (bytes_eq l k ≡ false) × (is_among ks k ≡ false)
+differs k l ks absent = (bytes_eq_other k l (grind (arith, absent)), grind (arith, absent))
+
+-- a change at a key is one at its first position
+among_changed : (ps : Pairs) (i : ℕ) (k : List ℕ) (t u : Trie) (g : Trie → Option Trie)
+    → slice_get (keys_of ps) i ≡ Some k → is_among (take i (keys_of ps)) k ≡ false
+    → slice_get (values_of ps) i ≡ Some t → g t ≡ Some u
+    → among (steps.key k) g (by_keys ps) ≡ Some (by_keys (with_value ps i u))
+among_changed [] i k t u g at first there changed = absurd (cc)
+among_changed (p ∷ ps) zero k t u g at first there changed =
+    let same : p.0 ≡ k = cc in
+    let here : p.1 ≡ t = cc in
+    rw (same, bytes_eq-same k, here, changed) refl
+among_changed (p ∷ ps) (suc i) k t u g at first there changed =
+    let other = differs k p.0 (take i (keys_of ps)) first in
+    rw (other.0, among_changed ps i k t u g at other.1 there changed) refl
+
+among_refused : (ps : Pairs) (i : ℕ) (k : List ℕ) (t : Trie) (g : Trie → Option Trie)
+    → slice_get (keys_of ps) i ≡ Some k → is_among (take i (keys_of ps)) k ≡ false
+    → slice_get (values_of ps) i ≡ Some t → g t ≡ None → among (steps.key k) g (by_keys ps) ≡ None
+among_refused [] i k t g at first there refused = absurd (cc)
+among_refused (p ∷ ps) zero k t g at first there refused =
+    let same : p.0 ≡ k = cc in
+    let here : p.1 ≡ t = cc in
+    rw (same, bytes_eq-same k, here, refused) refl
+among_refused (p ∷ ps) (suc i) k t g at first there refused =
+    let other = differs k p.0 (take i (keys_of ps)) first in
+    rw (other.0, among_refused ps i k t g at other.1 there refused) refl
+
+found_first : (ps : Pairs) (i : ℕ) (k : List ℕ) (t : Trie)
+    → slice_get (keys_of ps) i ≡ Some k → is_among (take i (keys_of ps)) k ≡ false
+    → slice_get (values_of ps) i ≡ Some t → find (steps.key k) (by_keys ps) ≡ t
+found_first [] i k t at first there = absurd (cc)
+found_first (p ∷ ps) zero k t at first there =
+    let same : p.0 ≡ k = cc in
+    let here : p.1 ≡ t = cc in
+    rw (same, bytes_eq-same k, here) refl
+found_first (p ∷ ps) (suc i) k t at first there =
+    let other = differs k p.0 (take i (keys_of ps)) first in
+    rw (other.0) (found_first ps i k t at other.1 there)
+
+-- where nothing stands at a key that is put last, nothing is changed
+among_fresh : (ps : Pairs) (k : List ℕ) (g : Trie → Option Trie) → has_key ps k ≡ false
+    → among (steps.key k) g (by_keys (ps ++ (k, nothing) ∷ [])) ≡ among (steps.key k) g (by_keys ps)
+among_fresh [] k g absent = rw (bytes_eq-same k) refl
+among_fresh (p ∷ ps) k g absent =
+    let other = differs k p.0 (keys_of ps) absent in
+    rw (other.0, among_fresh ps k g other.1) refl
+
+find_fresh : (ps : Pairs) (k : List ℕ) → has_key ps k ≡ false
+    → find (steps.key k) (by_keys (ps ++ (k, nothing) ∷ [])) ≡ find (steps.key k) (by_keys ps)
+find_fresh [] k absent = rw (bytes_eq-same k) refl
+find_fresh (p ∷ ps) k absent =
+    let other = differs k p.0 (keys_of ps) absent in
+    rw (other.0, find_fresh ps k other.1) refl
+
+module _ {V : Type 0} (f : V → Trie) where
+  -- keys with the tries of their values
+  unfoldable pub tries_of : List (List ℕ × V) → Pairs
+  tries_of ps = map (λ p. (p.0, f p.1)) ps
+
+  keys_same : (ps : List (List ℕ × V)) → keys_of (tries_of ps) ≡ keys_of ps
+  unfolding tries_of
+  keys_same [] = refl
+  keys_same (p ∷ ps) = ap (λ ks. p.0 ∷ ks) (keys_same ps)
+
+  value_mapped : (ps : List (List ℕ × V)) (i : ℕ) (v : V) → slice_get (values_of ps) i ≡ Some v
+      → slice_get (values_of (tries_of ps)) i ≡ Some (f v)
+  unfolding tries_of
+  value_mapped [] i v at = absurd (cc)
+  value_mapped (p ∷ ps) zero v at = let same : p.1 ≡ v = cc in rw same refl
+  value_mapped (p ∷ ps) (suc i) v at = value_mapped ps i v at
+
+  with_mapped : (ps : List (List ℕ × V)) (i : ℕ) (v w : V)
+      → tries_of (with_value (with_value ps i v) i w) ≡ with_value (tries_of ps) i (f w)
+  unfolding tries_of
+  with_mapped [] i v w = refl
+  with_mapped (p ∷ ps) zero v w = refl
+  with_mapped (p ∷ ps) (suc i) v w = ap (λ ps. (p.0, f p.1) ∷ ps) (with_mapped ps i v w)
