@@ -1,17 +1,16 @@
 -- A key that is entered among keys with their values, and what stands at it in the trie of these.
 use Rattle.std.proofs.Common.{◌≡◌, ℕ, suc, zero, true, false, List, [], ◌∷◌, ◌++◌, refl, sym, take, if◌then◌else◌}
-use Rattle.std.proofs.Common.{ap, ◌∙◌, arith, Option, Some, None, option_map, map, cond, elim}
+use Rattle.std.proofs.Common.{ap, ◌∙◌, arith, Option, Some, None, map, Bool}
 use Rattle.std.specs.List.{slice_get}
 use Rattle.std.specs.Str.{bytes_eq}
 use Rattle.std.proofs.lemmas.List.{map-append}
-use Rattle.std.proofs.lemmas.Slice.Eq.{bytes_eq-Decides}
 use Rattle.basic_toml_value.specs.Keys.{is_among}
 use Rattle.basic_toml_value.specs.Pairs.{keys_of, has_key}
 use Rattle.basic_toml_value.proofs.DistinctKeys.{bytes_eq-same, bytes_eq_other}
 use Rattle.basic_toml_grammar.specs.Steps as steps
-use Rattle.basic_toml_grammar.specs.Trie.{Trie, Tries, no_tries, by, nothing, among, find}
+use Rattle.basic_toml_grammar.specs.Trie.{Trie, nothing, among, find}
 use Rattle.basic_toml_tree.specs.Item.{by_keys}
-use Rattle.basic_toml_tree.specs.Keyed.{with_value, with_key, values_of, EntersKey}
+use Rattle.basic_toml_tree.specs.Keyed.{with_value, values_of, EntersKey}
 
 -- keys with their tries
 abbrev Pairs : Type 0
@@ -98,3 +97,64 @@ module _ {V : Type 0} (f : V → Trie) where
   with_mapped [] i v w = refl
   with_mapped (p ∷ ps) zero v w = refl
   with_mapped (p ∷ ps) (suc i) v w = ap (λ ps. (p.0, f p.1) ∷ ps) (with_mapped ps i v w)
+
+  -- what is entered changes nothing yet
+  module _ (k : List ℕ) (fresh : V) (old new : List (List ℕ × V)) (position : ℕ) (is_nothing : f fresh ≡ nothing)
+      (entered : EntersKey k fresh old new position) where
+    last_nothing : tries_of (old ++ (k, fresh) ∷ []) ≡ tries_of old ++ (k, nothing) ∷ []
+    unfolding tries_of
+    last_nothing = map-append (λ p. (p.0, f p.1)) old ((k, fresh) ∷ []) ∙ ap (λ t. tries_of old ++ (k, t) ∷ []) is_nothing
+
+    among_entered : (g : Trie → Option Trie)
+        → among (steps.key k) g (by_keys (tries_of new)) ≡ among (steps.key k) g (by_keys (tries_of old))
+    among_entered g = ap (λ ps. among (steps.key k) g (by_keys (tries_of ps))) entered.pairs ∙ by_case (has_key old k) refl
+      where
+        by_case : (b : Bool) → has_key old k ≡ b
+            → among (steps.key k) g (by_keys (tries_of (if b then old else old ++ (k, fresh) ∷ [])))
+            ≡ among (steps.key k) g (by_keys (tries_of old))
+        by_case true there = refl
+        by_case false absent =
+            ap (λ ps. among (steps.key k) g (by_keys ps)) last_nothing
+            ∙ among_fresh (tries_of old) k g (ap (λ ks. is_among ks k) (keys_same old) ∙ absent)
+
+    find_entered : find (steps.key k) (by_keys (tries_of new)) ≡ find (steps.key k) (by_keys (tries_of old))
+    find_entered = ap (λ ps. find (steps.key k) (by_keys (tries_of ps))) entered.pairs ∙ by_case (has_key old k) refl
+      where
+        by_case : (b : Bool) → has_key old k ≡ b
+            → find (steps.key k) (by_keys (tries_of (if b then old else old ++ (k, fresh) ∷ [])))
+            ≡ find (steps.key k) (by_keys (tries_of old))
+        by_case true there = refl
+        by_case false absent =
+            ap (λ ps. find (steps.key k) (by_keys ps)) last_nothing
+            ∙ find_fresh (tries_of old) k (ap (λ ks. is_among ks k) (keys_same old) ∙ absent)
+
+    module _ (there : V) (stands : slice_get (values_of new) position ≡ Some there) where
+      at_mapped : slice_get (keys_of (tries_of new)) position ≡ Some k
+      at_mapped = ap (λ ks. slice_get ks position) (keys_same new) ∙ entered.at
+
+      first_mapped : is_among (take position (keys_of (tries_of new))) k ≡ false
+      first_mapped = ap (λ ks. is_among (take position ks) k) (keys_same new) ∙ entered.first
+
+      -- what stands at the key
+      pub stood_there : find (steps.key k) (by_keys (tries_of old)) ≡ f there
+      stood_there =
+          sym find_entered
+          ∙ found_first (tries_of new) position k (f there) at_mapped first_mapped (value_mapped new position there stands)
+
+      -- a change there gives the keys with what it gives
+      pub change_put : (g : Trie → Option Trie) (child : V) → g (f there) ≡ Some (f child)
+          → among (steps.key k) g (by_keys (tries_of old))
+          ≡ Some (by_keys (tries_of (with_value (with_value new position fresh) position child)))
+      change_put g child changed =
+          sym (among_entered g)
+          ∙ among_changed (tries_of new) position k (f there) (f child) g at_mapped first_mapped
+          (value_mapped new position there stands) changed
+          ∙ ap (λ ps. Some (by_keys ps)) (sym (with_mapped new position fresh child))
+
+      -- a change there that is refused
+      pub change_refused : (g : Trie → Option Trie) → g (f there) ≡ None
+          → among (steps.key k) g (by_keys (tries_of old)) ≡ None
+      change_refused g refused =
+          sym (among_entered g)
+          ∙ among_refused (tries_of new) position k (f there) g at_mapped first_mapped
+          (value_mapped new position there stands) refused

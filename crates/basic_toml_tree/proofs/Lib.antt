@@ -1,4 +1,5 @@
 pub mod HeadersNamed
 pub mod ItemData
+pub mod ItemTries
 pub mod KeysInATrie
 pub mod KeysSeen
