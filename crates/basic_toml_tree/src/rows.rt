@@ -1,9 +1,12 @@
 //! Rows: their values, and the tables that their keys lead through.
 
-ghost use Rattle.std.specs.Prelude.{◌≤◌};
+ghost use Rattle.std.specs.Prelude.{◌≡◌, ◌≤◌, [], ◌∷◌, ◌++◌, None, MatchOption};
+ghost use Rattle.basic_toml_value.specs.Data.{Data};
+ghost use Rattle.basic_toml_grammar.specs.Marks.{valued};
+ghost use Rattle.basic_toml_grammar.specs.Trie.{nothing, mark_here};
 ghost use Rattle.basic_toml_read.specs.SectionView.{rows_view};
-ghost use Rattle.basic_toml_tree.specs.Item.{table_trie};
-ghost use Rattle.basic_toml_tree.specs.Rows.{EntersRows};
+ghost use Rattle.basic_toml_tree.specs.Item.{leaf, child_trie, table_trie};
+ghost use Rattle.basic_toml_tree.specs.Rows.{EntersRow, EntersRows, Extends, key_texts};
 
 use crate::clash::{Clash, texts_of};
 use crate::item::{Child, Item, LIMIT, Table};
@@ -33,7 +36,10 @@ impl<T: Drop> From<AllocFailed<T>> for Met {
 }
 
 // What the last key of a row meets, where something stands.
-fn what_is_met(there: &Child<'_>, section: usize) -> Option<Met> {
+fn what_is_met(there: &Child<'_>, section: usize) -> Option<Met>
+    ensures { MatchOption result (child_trie there.now ≡ nothing)
+        (λ met. (d : Data) → mark_here (valued d) (child_trie there.now) ≡ None) }
+{
     match &there.item {
         Item::Nothing => None,
         Item::Table(table) => Some(if table.is_made() {
@@ -58,7 +64,10 @@ fn enter_row<'de>(
     keys: &[Row<'de>],
     last: &str,
     child: Child<'de>,
-) -> Result<Box<Table<'de>>, Met> {
+) -> Result<Box<Table<'de>>, Met>
+    ensures { (d : Data) → child_trie child.entry ≡ leaf d
+        → EntersRow (key_texts keys.entry.now ++ last.entry.now ∷ []) d (table_trie table.entry.value) result }
+{
     let mut table = table;
     match keys.split_first() {
         None => {
@@ -87,7 +96,10 @@ fn extended<'de>(
     keys: &[Row<'de>],
     last: &str,
     child: Child<'de>,
-) -> Result<Child<'de>, Met> {
+) -> Result<Child<'de>, Met>
+    ensures { (d : Data) → child_trie child.entry ≡ leaf d
+        → Extends (key_texts keys.entry.now ++ last.entry.now ∷ []) d (child_trie there.entry) result }
+{
     let Child {
         start,
         section,
