@@ -1,5 +1,5 @@
 -- A key that is entered among keys with their values, and what stands at it in the trie of these.
-use Rattle.std.proofs.Common.{◌≡◌, ℕ, suc, zero, true, false, List, [], ◌∷◌, ◌++◌, refl, sym, take, if◌then◌else◌}
+use Rattle.std.proofs.Common.{◌≡◌, ℕ, suc, zero, true, false, ◌||◌, List, [], ◌∷◌, ◌++◌, refl, sym, take, if◌then◌else◌}
 use Rattle.std.proofs.Common.{ap, ◌∙◌, arith, Option, Some, None, map, Bool}
 use Rattle.std.specs.List.{slice_get}
 use Rattle.std.specs.Str.{bytes_eq}
@@ -16,10 +16,16 @@ use Rattle.basic_toml_tree.specs.Keyed.{with_value, values_of, EntersKey}
 abbrev Pairs : Type 0
 Pairs = List (List ℕ × Trie)
 
--- a key that is not the first one stands among the others
+-- a key that is none of these
+neither : (a b : Bool) → (a || b) ≡ false → (a ≡ false) × (b ≡ false)
+neither true b e = absurd (cc)
+neither false b e = (refl, e)
+
 differs : (k l : List ℕ) (ks : List (List ℕ)) → is_among (l ∷ ks) k ≡ false
     → (bytes_eq l k ≡ false) × (is_among ks k ≡ false)
-differs k l ks absent = (bytes_eq_other k l (grind (arith, absent)), grind (arith, absent))
+differs k l ks absent =
+    let both = neither (bytes_eq k l) (is_among ks k) absent in
+    (bytes_eq_other l k both.0, both.1)
 
 -- a change at a key is one at its first position
 among_changed : (ps : Pairs) (i : ℕ) (k : List ℕ) (t u : Trie) (g : Trie → Option Trie)
@@ -74,6 +80,13 @@ find_fresh (p ∷ ps) k absent =
     let other = differs k p.0 (keys_of ps) absent in
     rw (other.0, find_fresh ps k other.1) refl
 
+-- of two values at a position the later one stays
+pub with_twice : {V : Type 0} (ps : List (List ℕ × V)) (i : ℕ) (v w : V)
+    → with_value (with_value ps i v) i w ≡ with_value ps i w
+with_twice [] i v w = refl
+with_twice (p ∷ ps) zero v w = refl
+with_twice (p ∷ ps) (suc i) v w = ap (λ ps. p ∷ ps) (with_twice ps i v w)
+
 module _ {V : Type 0} (f : V → Trie) where
   -- keys with the tries of their values
   unfoldable pub tries_of : List (List ℕ × V) → Pairs
@@ -91,12 +104,12 @@ module _ {V : Type 0} (f : V → Trie) where
   value_mapped (p ∷ ps) zero v at = let same : p.1 ≡ v = cc in rw same refl
   value_mapped (p ∷ ps) (suc i) v at = value_mapped ps i v at
 
-  with_mapped : (ps : List (List ℕ × V)) (i : ℕ) (v w : V)
-      → tries_of (with_value (with_value ps i v) i w) ≡ with_value (tries_of ps) i (f w)
+  with_mapped : (ps : List (List ℕ × V)) (i : ℕ) (v : V)
+      → tries_of (with_value ps i v) ≡ with_value (tries_of ps) i (f v)
   unfolding tries_of
-  with_mapped [] i v w = refl
-  with_mapped (p ∷ ps) zero v w = refl
-  with_mapped (p ∷ ps) (suc i) v w = ap (λ ps. (p.0, f p.1) ∷ ps) (with_mapped ps i v w)
+  with_mapped [] i v = refl
+  with_mapped (p ∷ ps) zero v = refl
+  with_mapped (p ∷ ps) (suc i) v = ap (λ ps. (p.0, f p.1) ∷ ps) (with_mapped ps i v)
 
   -- what is entered changes nothing yet
   module _ (k : List ℕ) (fresh : V) (old new : List (List ℕ × V)) (position : ℕ) (is_nothing : f fresh ≡ nothing)
@@ -141,15 +154,20 @@ module _ {V : Type 0} (f : V → Trie) where
           sym find_entered
           ∙ found_first (tries_of new) position k (f there) at_mapped first_mapped (value_mapped new position there stands)
 
-      -- a change there gives the keys with what it gives
-      pub change_put : (g : Trie → Option Trie) (child : V) → g (f there) ≡ Some (f child)
-          → among (steps.key k) g (by_keys (tries_of old))
-          ≡ Some (by_keys (tries_of (with_value (with_value new position fresh) position child)))
-      change_put g child changed =
+      -- a change there gives the keys with what it gives, also where the value is taken out first
+      pub change_put_once : (g : Trie → Option Trie) (child : V) → g (f there) ≡ Some (f child)
+          → among (steps.key k) g (by_keys (tries_of old)) ≡ Some (by_keys (tries_of (with_value new position child)))
+      change_put_once g child changed =
           sym (among_entered g)
           ∙ among_changed (tries_of new) position k (f there) (f child) g at_mapped first_mapped
           (value_mapped new position there stands) changed
-          ∙ ap (λ ps. Some (by_keys ps)) (sym (with_mapped new position fresh child))
+          ∙ ap (λ ps. Some (by_keys ps)) (sym (with_mapped new position child))
+
+      pub change_put : (g : Trie → Option Trie) (child v : V) → g (f there) ≡ Some (f child)
+          → among (steps.key k) g (by_keys (tries_of old))
+          ≡ Some (by_keys (tries_of (with_value (with_value new position v) position child)))
+      change_put g child v changed =
+          change_put_once g child changed ∙ ap (λ ps. Some (by_keys (tries_of ps))) (sym (with_twice new position v child))
 
       -- a change there that is refused
       pub change_refused : (g : Trie → Option Trie) → g (f there) ≡ None

@@ -3,3 +3,4 @@ pub mod ItemData
 pub mod ItemTries
 pub mod KeysInATrie
 pub mod KeysSeen
+pub mod RowsEntered

@@ -24,12 +24,22 @@ enum Met {
 }
 
 impl From<AllocError> for Met {
+    ghost use Rattle.std.specs.Prelude.{◌≡◌};
+    ghost use Rattle.basic_toml_tree.specs.declared.rows.Met.TheVariants.{Memory};
+
+    ghost from_gives = { λ _ met. met ≡ Memory };
+
     fn from(_error: AllocError) -> Met {
         Met::Memory
     }
 }
 
 impl<T: Drop> From<AllocFailed<T>> for Met {
+    ghost use Rattle.std.specs.Prelude.{◌≡◌};
+    ghost use Rattle.basic_toml_tree.specs.declared.rows.Met.TheVariants.{Memory};
+
+    ghost from_gives = { λ _ met. met ≡ Memory };
+
     fn from(_failed: AllocFailed<T>) -> Met {
         Met::Memory
     }
@@ -69,22 +79,18 @@ fn enter_row<'de>(
         → EntersRow (key_texts keys.entry.now ++ last.entry.now ∷ []) d (table_trie table.entry.value) result }
 {
     let mut table = table;
-    match keys.split_first() {
-        None => {
-            let position = table.entries.enter(last, Child::nothing())?;
-            let there = table.entries.replace(position, Child::nothing());
-            if let Some(met) = what_is_met(&there, child.section) {
-                return Err(met);
-            }
-            let _ = table.entries.replace(position, child);
+    let Some((row, rest)) = keys.split_first() else {
+        let position = table.entries.enter(last, Child::nothing())?;
+        if let Some(met) = what_is_met(table.entries.value(position), child.section) {
+            return Err(met);
         }
-        Some((row, rest)) => {
-            let position = table.entries.enter(row.key.as_str(), Child::nothing())?;
-            let there = table.entries.replace(position, Child::nothing());
-            let extended = extended(alloc, there, rest, last, child)?;
-            let _ = table.entries.replace(position, extended);
-        }
-    }
+        table.entries.put(position, child);
+        return Ok(table);
+    };
+    let position = table.entries.enter(row.key.as_str(), Child::nothing())?;
+    let there = table.entries.replace(position, Child::nothing());
+    let extended = extended(alloc, there, rest, last, child)?;
+    table.entries.put(position, extended);
     Ok(table)
 }
 
