@@ -1,5 +1,5 @@
 -- A row put into a table: its first key, and what that key leads to.
-use Rattle.std.proofs.Common.{◌≡◌, ℕ, List, [], ◌∷◌, ◌++◌, ap, ◌∙◌, refl, sym, Option, Some, None, Err, rules, length, arith}
+use Rattle.std.proofs.Common.{◌≡◌, ℕ, List, [], ◌∷◌, ◌++◌, ap, ◌∙◌, refl, sym, Option, Some, None, Err, rules, length, arith, Box, Global, subst}
 use Rattle.std.specs.List.{slice_get}
 use Rattle.std.specs.Cow.{cow_str_bytes}
 use Rattle.basic_toml_value.specs.Data.{Data}
@@ -20,6 +20,10 @@ use Rattle.basic_toml_tree.specs.Keyed.{with_value, values_of, EntersKey}
 use Rattle.basic_toml_tree.specs.Rows.{Enters, key_texts}
 use Rattle.basic_toml_tree.proofs.KeysInATrie.{tries_of, with_twice, change_put_once, change_refused}
 use Rattle.basic_toml_tree.proofs.ItemTries.{table_entries_trie, with_entries, entries_with, with_entries_twice, with_entries_trie}
+
+-- the trie of a table in its place
+abbrev pub boxed_trie : Box Table Global → Trie
+boxed_trie table = table_trie table.value
 
 -- what is met, and what another change meets
 pub is_met : {A : Type 0} (f : A → Trie) (changed : Option Trie) (met : Met) → changed ≡ None
@@ -127,3 +131,9 @@ stands_in before t new position there same stands =
     sym (ap (λ t. slice_get (values_of (out-Table t).entries) position) same
     ∙ ap (λ ps. slice_get (values_of ps) position) (entries_with before new))
     ∙ stands
+
+-- a key that is entered by another name
+pub entered_by : {k l : List ℕ} {fresh : Child} {old new : List (List ℕ × Child)} {position : ℕ} → k ≡ l
+    → EntersKey k fresh old new position → EntersKey l fresh old new position
+entered_by {fresh = fresh} {old = old} {new = new} {position = position} same entered =
+    subst (λ (k : List ℕ). EntersKey k fresh old new position) same entered
