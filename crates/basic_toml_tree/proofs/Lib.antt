@@ -4,3 +4,4 @@ pub mod ItemTries
 pub mod KeysInATrie
 pub mod KeysSeen
 pub mod RowsEntered
+pub mod RowsLeft

@@ -1,12 +1,14 @@
 //! Rows: their values, and the tables that their keys lead through.
 
-ghost use Rattle.std.specs.Prelude.{◌≡◌, ◌≤◌, [], ◌∷◌, ◌++◌, None, MatchOption};
+ghost use Rattle.std.specs.Prelude.{◌≡◌, ◌≤◌, [], ◌∷◌, ◌++◌, Some, None, MatchOption, IfOk, true, false};
 ghost use Rattle.basic_toml_value.specs.Data.{Data};
+ghost use Rattle.basic_toml_grammar.specs.Sections.{Raw as spec_raw};
 ghost use Rattle.basic_toml_grammar.specs.Marks.{valued};
 ghost use Rattle.basic_toml_grammar.specs.Trie.{nothing, mark_here};
-ghost use Rattle.basic_toml_read.specs.SectionView.{rows_view};
+ghost use Rattle.basic_toml_read.specs.SectionView.{raw_of, rows_view, elements_view};
 ghost use Rattle.basic_toml_tree.specs.Item.{leaf, child_trie, table_trie};
-ghost use Rattle.basic_toml_tree.specs.Rows.{EntersRow, EntersRows, Extends, key_texts};
+ghost use Rattle.basic_toml_tree.specs.Rows.{EntersRow, EntersRows, Extends, Finishes, FinishesAll, key_texts};
+ghost use Rattle.basic_toml_tree.specs.Rows.{all_dots, is_dot, reason, met_reason};
 
 use crate::clash::{Clash, texts_of};
 use crate::item::{Child, Item, LIMIT, Table};
@@ -148,7 +150,9 @@ fn row_clash(
     keys: &[Row<'_>],
     last: &str,
     offset: usize,
-) -> Result<Clash, AllocError> {
+) -> Result<Clash, AllocError>
+    ensures { IfOk result (λ clash. reason clash ≡ met_reason met) }
+{
     match met {
         Met::Memory => Ok(Clash::Memory),
         Met::Row => {
@@ -178,7 +182,9 @@ fn row_clash(
 }
 
 // The clash of a value as one of the row that holds it.
-fn held_by(alloc: Global, clash: Clash, keys: &[Row<'_>], last: &str) -> Result<Clash, AllocError> {
+fn held_by(alloc: Global, clash: Clash, keys: &[Row<'_>], last: &str) -> Result<Clash, AllocError>
+    ensures { IfOk result (λ held. reason held ≡ reason clash) }
+{
     match clash {
         Clash::Row {
             path: _path,
@@ -214,28 +220,43 @@ pub(crate) fn enter_rows<'de>(
             keys.push(row)?;
             continue;
         }
-        if keys.len() > LIMIT - level {
-            return Err(Clash::Deep);
-        }
-        let Row {
-            key,
-            offset,
-            start,
-            value,
-        } = row;
-        let child = match finished(alloc, value, start, section, level + keys.len()) {
-            Ok(child) => child,
-            Err(clash) => return Err(held_by(alloc, clash, keys.as_slice(), key.as_str())?),
-        };
-        table = match enter_row(alloc, table, keys.as_slice(), key.as_str(), child) {
-            Ok(table) => table,
-            Err(met) => {
-                return Err(row_clash(alloc, met, keys.as_slice(), key.as_str(), offset)?);
-            }
-        };
+        table = enter_value(alloc, table, keys.as_slice(), row, section, level)?;
         keys.clear();
     }
     Ok(table)
+}
+
+// Puts the row of some keys that periods follow, and of one with a value, into a table of a level.
+#[cycle(finishing)]
+fn enter_value<'de>(
+    alloc: Global,
+    table: Box<Table<'de>>,
+    keys: &[Row<'de>],
+    row: Row<'de>,
+    section: usize,
+    level: usize,
+) -> Result<Box<Table<'de>>, Clash>
+    requires level { level ≤ 128 }
+    requires keys { all_dots keys.now ≡ true }
+    requires row { is_dot row ≡ false }
+    ensures { EntersRows (rows_view (keys.entry.now ++ row.entry ∷ [])) level (table_trie table.entry.value) result }
+{
+    if keys.len() > LIMIT - level {
+        return Err(Clash::Deep);
+    }
+    let Row {
+        key,
+        offset,
+        start,
+        value,
+    } = row;
+    match finished(alloc, value, start, section, level + keys.len()) {
+        Err(clash) => Err(held_by(alloc, clash, keys, key.as_str())?),
+        Ok(child) => match enter_row(alloc, table, keys, key.as_str(), child) {
+            Ok(table) => Ok(table),
+            Err(met) => Err(row_clash(alloc, met, keys, key.as_str(), offset)?),
+        },
+    }
 }
 
 // The item of a value that begins at an offset, within a table or an array of a level.
@@ -248,6 +269,7 @@ fn finished<'de>(
     level: usize,
 ) -> Result<Child<'de>, Clash>
     requires { level ≤ 128 }
+    ensures { (v : spec_raw) → raw_of value.entry ≡ Some v → Finishes v level result }
 {
     let item = match value {
         Raw::Dot => Item::Nothing,
@@ -276,6 +298,7 @@ fn finished<'de>(
     })
 }
 
+// The items of the values of elements, within an array of a level.
 #[cycle(finishing)]
 fn finished_elements<'de>(
     alloc: Global,
@@ -284,10 +307,14 @@ fn finished_elements<'de>(
     level: usize,
 ) -> Result<Vec<Child<'de>>, Clash>
     requires { level ≤ 128 }
+    ensures { FinishesAll (elements_view elements.entry.items) level result }
 {
     let mut children = Vec::with_capacity(alloc, elements.len())?;
     for element in elements.into_iter() {
         let Element { offset, value } = element;
+        if matches!(value, Raw::Dot) {
+            continue;
+        }
         children.push(finished(alloc, value, offset, section, level)?)?;
     }
     Ok(children)
