@@ -5,3 +5,4 @@ pub mod KeysInATrie
 pub mod KeysSeen
 pub mod RowsEntered
 pub mod RowsLeft
+pub mod ValuesFinished

@@ -3,7 +3,7 @@
 ghost use Rattle.std.specs.Prelude.{◌≡◌, IfOk, Some, None, false};
 ghost use Rattle.basic_toml_grammar.specs.Standing.{table as table_standing};
 ghost use Rattle.basic_toml_grammar.specs.Trie.{trie, nothing, no_tries};
-ghost use Rattle.basic_toml_tree.specs.Item.{child_trie, table_trie};
+ghost use Rattle.basic_toml_tree.specs.Item.{item_trie, child_trie, table_trie};
 
 use crate::keyed::Keyed;
 use basic_toml_value::Float;
@@ -59,15 +59,22 @@ pub(crate) struct Table<'de> {
 }
 
 impl<'de> Child<'de> {
+    /// An item that comes from an offset and a section.
+    pub fn at(start: usize, section: usize, item: Item<'de>) -> Child<'de>
+        ensures { child_trie result ≡ item_trie item.entry }
+    {
+        Child {
+            start,
+            section,
+            item,
+        }
+    }
+
     /// Where nothing stands yet.
     pub fn nothing() -> Child<'de>
         ensures { child_trie result ≡ nothing }
     {
-        Child {
-            start: 0,
-            section: 0,
-            item: Item::Nothing,
-        }
+        Child::at(0, 0, Item::Nothing)
     }
 }
 

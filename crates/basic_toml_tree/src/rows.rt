@@ -1,6 +1,6 @@
 //! Rows: their values, and the tables that their keys lead through.
 
-ghost use Rattle.std.specs.Prelude.{◌≡◌, ◌≤◌, [], ◌∷◌, ◌++◌, Some, None, MatchOption, IfOk, true, false};
+ghost use Rattle.std.specs.Prelude.{◌≡◌, ◌≤◌, [], ◌∷◌, ◌++◌, Some, None, MatchOption, IfOk, not, is_some, true, false};
 ghost use Rattle.basic_toml_value.specs.Data.{Data};
 ghost use Rattle.basic_toml_grammar.specs.Sections.{Raw as spec_raw};
 ghost use Rattle.basic_toml_grammar.specs.Marks.{valued};
@@ -259,6 +259,13 @@ fn enter_value<'de>(
     }
 }
 
+// Whether a value only stands for the period after a key.
+fn is_dot_value(value: &Raw<'_>) -> bool
+    ensures { result ≡ not (is_some (raw_of value.now)) }
+{
+    matches!(value, Raw::Dot)
+}
+
 // The item of a value that begins at an offset, within a table or an array of a level.
 #[cycle(finishing)]
 fn finished<'de>(
@@ -271,31 +278,27 @@ fn finished<'de>(
     requires { level ≤ 128 }
     ensures { (v : spec_raw) → raw_of value.entry ≡ Some v → Finishes v level result }
 {
-    let item = match value {
-        Raw::Dot => Item::Nothing,
-        Raw::Integer(number) => Item::Integer(number),
-        Raw::Float(float) => Item::Float(float),
-        Raw::Boolean(truth) => Item::Boolean(truth),
-        Raw::String(text) => Item::String(text),
+    match value {
+        Raw::Dot => Ok(Child::at(start, section, Item::Nothing)),
+        Raw::Integer(number) => Ok(Child::at(start, section, Item::Integer(number))),
+        Raw::Float(float) => Ok(Child::at(start, section, Item::Float(float))),
+        Raw::Boolean(truth) => Ok(Child::at(start, section, Item::Boolean(truth))),
+        Raw::String(text) => Ok(Child::at(start, section, Item::String(text))),
         Raw::Array(elements) => {
             if level >= LIMIT {
                 return Err(Clash::Deep);
             }
-            Item::Array(finished_elements(alloc, elements, section, level + 1)?)
+            let children = finished_elements(alloc, elements, section, level + 1)?;
+            Ok(Child::at(start, section, Item::Array(children)))
         }
         Raw::Inline(rows) => {
             if level >= LIMIT {
                 return Err(Clash::Deep);
             }
-            let table = Table::new(alloc)?;
-            Item::Inline(enter_rows(alloc, table, rows, section, level + 1)?)
+            let table = enter_rows(alloc, Table::new(alloc)?, rows, section, level + 1)?;
+            Ok(Child::at(start, section, Item::Inline(table)))
         }
-    };
-    Ok(Child {
-        start,
-        section,
-        item,
-    })
+    }
 }
 
 // The items of the values of elements, within an array of a level.
@@ -312,7 +315,7 @@ fn finished_elements<'de>(
     let mut children = Vec::with_capacity(alloc, elements.len())?;
     for element in elements.into_iter() {
         let Element { offset, value } = element;
-        if matches!(value, Raw::Dot) {
+        if is_dot_value(&value) {
             continue;
         }
         children.push(finished(alloc, value, offset, section, level)?)?;
