@@ -113,3 +113,18 @@ finished_elements-returns t c =
     c.args.level ts (elements_view es)) (nothing_left _ none) c.loop-element.invariant in
     subst (λ (es : List Element). AreFinished (elements_view es) c.args.level ts) start
     (elements_done (elements_view c.into_iter-element-iterator.result.rest.items) c.args.level ts left)
+
+pub finished-returns-in_err-table-in-Inline : goal.finished-returns-in_err-table-in-Inline
+finished-returns-in_err-table-in-Inline t c = λ v seen.
+    let p = err_from_is_err_and c.from_residual-in_err-table-in-Inline.result
+    c.from_residual-in_err-table-in-Inline.ensures.1 in
+    rw (p.1, p.2) (inline_kept_out c.in-Inline.rows (Some (standings.table false false false))
+    (table_trie c.in_ok-new-in-Inline.field-0.value) c.args.level v c.in_err-table-in-Inline.field-0.0
+    (ap raw_of (sym c.in-Inline.is) ∙ seen) c.in_ok-new-in-Inline.ensures c.in_err-table-in-Inline.ensures)
+
+pub finished-returns-in_ok-table-in-Inline : goal.finished-returns-in_ok-table-in-Inline
+finished-returns-in_ok-table-in-Inline t c = λ v seen.
+    subst (λ (u : Trie). IsFinished v c.args.level u) (sym c.at-in-Inline.ensures)
+    (inline_finished c.in-Inline.rows c.in_ok-table-in-Inline.table (Some (standings.table false false false))
+    (table_trie c.in_ok-new-in-Inline.field-0.value) c.args.level v (ap raw_of (sym c.in-Inline.is) ∙ seen) (omega arith)
+    c.in_ok-new-in-Inline.ensures c.in_ok-table-in-Inline.ensures)
