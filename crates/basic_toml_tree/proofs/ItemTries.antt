@@ -1,5 +1,5 @@
 -- The tries of items, one level at a time.
-use Rattle.std.proofs.Common.{◌≡◌, ◌∙◌, List, ℕ, Some, None, ap, sym, rules}
+use Rattle.std.proofs.Common.{◌≡◌, List, ℕ, Some, None, rules}
 use Rattle.basic_toml_grammar.specs.Standing as standings
 use Rattle.basic_toml_grammar.specs.Trie.{trie, standing}
 use Rattle.basic_toml_tree.specs.declared.item.Item.{the_lemmas}

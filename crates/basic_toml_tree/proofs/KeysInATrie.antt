@@ -1,6 +1,6 @@
 -- A key that is entered among keys with their values, and what stands at it in the trie of these.
 use Rattle.std.proofs.Common.{◌≡◌, ℕ, suc, zero, true, false, ◌||◌, List, [], ◌∷◌, ◌++◌, refl, sym, take, if◌then◌else◌}
-use Rattle.std.proofs.Common.{ap, ◌∙◌, arith, Option, Some, None, map, Bool}
+use Rattle.std.proofs.Common.{ap, ◌∙◌, Option, Some, None, map, Bool}
 use Rattle.std.specs.List.{slice_get}
 use Rattle.std.specs.Str.{bytes_eq}
 use Rattle.std.proofs.lemmas.List.{map-append}

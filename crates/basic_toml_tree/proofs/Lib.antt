@@ -4,5 +4,8 @@ pub mod ItemTries
 pub mod KeysInATrie
 pub mod KeysSeen
 pub mod RowsEntered
+pub mod Reasons
 pub mod RowsLeft
-pub mod ValuesFinished
+pub mod RowValues
+pub mod InlineTables
+pub mod ElementsLeft

@@ -5,7 +5,7 @@ use Rattle.std.specs.Cow.{cow_str_bytes}
 use Rattle.basic_toml_value.specs.Data.{Data}
 use Rattle.basic_toml_grammar.specs.Sections.{KeyTexts}
 use Rattle.basic_toml_grammar.specs.Steps as steps
-use Rattle.basic_toml_grammar.specs.Marks.{dotted, valued}
+use Rattle.basic_toml_grammar.specs.Marks.{dotted}
 use Rattle.basic_toml_grammar.specs.Entering.{and_then}
 use Rattle.basic_toml_grammar.specs.Trie.{Trie, trie, nothing, standing, with_tries, mark_here, among, at_step, put_row}
 use Rattle.basic_toml_read.specs.SectionView.{lined_of}
@@ -15,7 +15,7 @@ use Rattle.basic_toml_tree.specs.declared.item.Child.{Child}
 use Rattle.basic_toml_tree.specs.declared.item.Table.{Table, out-Table}
 use Rattle.basic_toml_tree.specs.declared.rows.Met.{Met}
 use Rattle.basic_toml_tree.specs.declared.rows.Met.TheVariants as mets
-use Rattle.basic_toml_tree.specs.Item.{leaf, child_trie, table_trie, by_keys}
+use Rattle.basic_toml_tree.specs.Item.{child_trie, table_trie, by_keys}
 use Rattle.basic_toml_tree.specs.Keyed.{with_value, values_of, EntersKey}
 use Rattle.basic_toml_tree.specs.Rows.{Enters, key_texts}
 use Rattle.basic_toml_tree.proofs.KeysInATrie.{tries_of, with_twice, change_put_once, change_refused}

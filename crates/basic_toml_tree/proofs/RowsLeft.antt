@@ -1,24 +1,21 @@
--- Rows and elements that are left, and what all of them come to.
-use Rattle.std.proofs.Common.{◌≡◌, ◌≤◌, ◌<◌, ℕ, zero, suc, ◌+◌, ◌-◌, max, Bool, true, false, ◌||◌, ◌&&◌, ◌⊎◌, inl, inr, not, List, [], ◌∷◌, ◌++◌}
-use Rattle.std.proofs.Common.{length, map, Option, Some, None, is_some, subst, refl, sym, ap, ◌∙◌, arith, rules}
-use Rattle.std.specs.Bool.{⊤}
+-- Rows that are left, and what all rows come to.
+use Rattle.std.proofs.Common.{◌≡◌, ◌≤◌, ◌<◌, ℕ, Bool, true, false, ◌||◌, ◌&&◌, inl, inr, not, List, [], ◌∷◌, ◌++◌}
+use Rattle.std.proofs.Common.{length, map, Option, Some, None, is_some, subst, refl, sym, ap, ◌∙◌, arith}
 use Rattle.std.proofs.lemmas.List.{map-append}
-use Rattle.basic_toml_value.specs.Data.{Data, Items, no_items, item, items_of}
 use Rattle.basic_toml_value.specs.Nesting.{nesting_limit}
-use Rattle.basic_toml_grammar.specs.Sections.{Key, texts, Raw, Elements, no_elements, element, Rows, no_rows, row}
+use Rattle.basic_toml_grammar.specs.Sections.{Key, texts, Raw, Rows, no_rows, row}
 use Rattle.basic_toml_grammar.specs.Steps.{steps_of}
-use Rattle.basic_toml_grammar.specs.RowClash.{rows_clash, value_clashes, elements_clash, any_overlaps}
-use Rattle.basic_toml_grammar.specs.Levels.{rows_level, value_level, elements_level}
+use Rattle.basic_toml_grammar.specs.RowClash.{rows_clash, value_clashes, any_overlaps}
+use Rattle.basic_toml_grammar.specs.Levels.{rows_level}
 use Rattle.basic_toml_grammar.specs.Entering.{and_then, rows_keyed}
-use Rattle.basic_toml_grammar.specs.Mentions.{finished, finished_elements}
+use Rattle.basic_toml_grammar.specs.Mentions.{finished}
 use Rattle.basic_toml_grammar.specs.Trie.{Trie, put_row, put_rows}
 use Rattle.basic_toml_grammar.proofs.RowsThatOverlapAreRefused.{values_clash, put_apart}
-use Rattle.basic_toml_read.specs.SectionView.{Lined, lined_of, rows_from, rows_view, with_key, with_row}
+use Rattle.basic_toml_read.specs.SectionView.{lined_of, rows_view, with_key, with_row}
 use Rattle.basic_toml_read.specs.declared.section.Row as lines
-use Rattle.basic_toml_tree.specs.Item.{tree_data}
 use Rattle.basic_toml_tree.specs.Rows.{AreIn, AreKeptOut, is_dot, all_dots, key_texts, Reason, memory, deep, crossed, reason}
 use Rattle.basic_toml_tree.specs.declared.clash.Clash.{Clash}
-use Rattle.basic_toml_tree.specs.declared.clash.Clash.TheVariants.{Memory, Deep, Header, Named, Redefined, Row}
+use Rattle.basic_toml_tree.proofs.Reasons.{KeptFor, kept_for, for_kept}
 
 -- Keys that periods follow, and rows after them: putting these into the table as it is, is putting all rows into the
 -- table as it was.
@@ -29,18 +26,6 @@ pub record AreLeft (whole : Rows) (level : ℕ) (before : Trie) (keys rest : Lis
   pub values : values_clash whole ≡ values_clash (rows_view (keys ++ rest))
   pub fits : rows_level level (rows_view (keys ++ rest)) ≤ nesting_limit → rows_level level whole ≤ nesting_limit
   pub deep : nesting_limit < rows_level level (rows_view (keys ++ rest)) → nesting_limit < rows_level level whole
-
--- data before that of elements
-abbrev pub before_items : List Data → Items → Items
-before_items [] ds = ds
-before_items (d ∷ front) ds = item d (before_items front ds)
-
--- elements that are left after some tries
-pub record ElementsAreLeft (whole : Elements) (level : ℕ) (ts : List Trie) (rest : Elements) : Type 0 where
-  pub values : before_items (map tree_data ts) (finished_elements rest) ≡ finished_elements whole
-  pub clash : elements_clash whole ≡ elements_clash rest
-  pub fits : elements_level level rest ≤ nesting_limit → elements_level level whole ≤ nesting_limit
-  pub deep : nesting_limit < elements_level level rest → nesting_limit < elements_level level whole
 
 -- the keys of rows, each with its offset
 abbrev pub line_keys : List lines.Row → List Key
@@ -99,30 +84,6 @@ pub rows_are_keyed : (rows : List lines.Row) → rows_keyed (rows_view rows) ≡
 rows_are_keyed [] = refl
 rows_are_keyed (r ∷ rs) =
     keyed-with_row (lined_of r).key (lined_of r).start (lined_of r).value (rows_view rs) (rows_are_keyed rs)
-
--- what each reason says of rows
-abbrev pub KeptFor : Rows → ℕ → Trie → Reason → Type 0
-KeptFor rows level before memory = ⊤
-KeptFor rows level before deep = nesting_limit < rows_level level rows
-KeptFor rows level before crossed = (rows_clash rows ≡ true) ⊎ (put_rows rows before ≡ None)
-
-pub kept_for : (rows : Rows) (level : ℕ) (before : Trie) (clash : Clash) → KeptFor rows level before (reason clash)
-    → AreKeptOut rows level before clash
-kept_for rows level before Memory kept = kept
-kept_for rows level before Deep kept = kept
-kept_for rows level before (Header left) kept = kept
-kept_for rows level before Named kept = kept
-kept_for rows level before Redefined kept = kept
-kept_for rows level before (Row path key offset) kept = kept
-
-pub for_kept : (rows : Rows) (level : ℕ) (before : Trie) (clash : Clash) → AreKeptOut rows level before clash
-    → KeptFor rows level before (reason clash)
-for_kept rows level before Memory kept = kept
-for_kept rows level before Deep kept = kept
-for_kept rows level before (Header left) kept = kept
-for_kept rows level before Named kept = kept
-for_kept rows level before Redefined kept = kept
-for_kept rows level before (Row path key offset) kept = kept
 
 -- at first all rows are left
 pub all_left : (rows : List lines.Row) (level : ℕ) (before : Trie) → AreLeft (rows_view rows) level before [] rows before

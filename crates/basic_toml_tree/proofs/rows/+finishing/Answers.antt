@@ -1,23 +1,18 @@
-use Rattle.std.proofs.Common.{◌≡◌, ◌<◌, ◌≤◌, ◌+◌, [], ◌∷◌, ◌++◌, ap, ◌∙◌, sym, refl, rules, subst, arith, Some, None, List, ℕ, length, Err, map, false}
+use Rattle.std.proofs.Common.{◌≡◌, [], ◌∷◌, ◌++◌, ap, ◌∙◌, sym, subst, arith, Some, List, length, map, Bool, false}
 use Rattle.std.proofs.lemmas.Result.{err_from_is_err_and}
-use Rattle.basic_toml_grammar.specs.Sections.{Rows}
 use Rattle.basic_toml_grammar.specs.Trie.{Trie}
-use Rattle.basic_toml_read.specs.SectionView.{rows_view, elements_view, raw_of, lined_of}
-use Rattle.basic_toml_read.proofs.ViewsSeen.{dot_of}
+use Rattle.basic_toml_read.specs.SectionView.{rows_view, elements_view, raw_of}
 use Rattle.basic_toml_read.specs.declared.section.Row.{Row}
 use Rattle.basic_toml_read.specs.declared.section.Element.{Element}
-use Rattle.basic_toml_tree.specs.declared.item.Item as items
-use Rattle.basic_toml_tree.specs.declared.item.Item.{Item}
 use Rattle.basic_toml_tree.specs.declared.item.Child.{Child}
 use Rattle.basic_toml_grammar.specs.Standing as standings
-use Rattle.basic_toml_tree.specs.Item.{leaf, item_trie, child_trie, table_trie}
+use Rattle.basic_toml_tree.specs.Item.{child_trie, table_trie}
 use Rattle.basic_toml_tree.specs.Rows.{AreIn, AreKeptOut, IsFinished, AreFinished, key_texts}
 use Rattle.basic_toml_tree.proofs.RowsEntered.{boxed_trie, row_key}
-use Rattle.basic_toml_tree.proofs.RowsLeft.{AreLeft, ElementsAreLeft, has_value, row_entered, row_kept_out, none_left, nothing_left}
-use Rattle.basic_toml_tree.proofs.ValuesFinished.{last_deep, value_kept_out, value_put, value_met}
-use Rattle.basic_toml_tree.proofs.ValuesFinished.{child_rolled, integer_finished, float_finished, boolean_finished}
-use Rattle.basic_toml_tree.proofs.ValuesFinished.{string_finished, array_finished, inline_finished, inline_kept_out}
-use Rattle.basic_toml_tree.proofs.ValuesFinished.{element_passed, element_entered, element_unfinished, elements_done}
+use Rattle.basic_toml_tree.proofs.RowsLeft.{AreLeft, has_value, row_entered, row_kept_out, none_left, nothing_left}
+use Rattle.basic_toml_tree.proofs.RowValues.{last_deep, value_kept_out, value_put, value_met}
+use Rattle.basic_toml_tree.proofs.InlineTables.{inline_finished, inline_kept_out}
+use Rattle.basic_toml_tree.proofs.ElementsLeft.{ElementsAreLeft, element_entered, elements_done}
 use Rattle.basic_toml_tree.proofs.rows.+finishing.Goals as goal
 
 pub enter_rows-returns-in_err-table : goal.enter_rows-returns-in_err-table
@@ -93,7 +88,7 @@ enter_value-returns t c =
 
 pub finished_elements-loop-element-preserved : goal.finished_elements-loop-element-preserved
 finished_elements-loop-element-preserved t c =
-    let some = has_value (raw_of c.in-Some.element.value) (sym c.is_dot_value.ensures ∙ c.if-is_dot_value.false) in
+    let some = has_value (raw_of c.in-Some.element.value) (sym {A = Bool} c.is_dot_value.ensures ∙ c.if-is_dot_value.false) in
     let whole = elements_view c.into_iter-element-iterator.result.rest.items in
     let left = subst (λ (es : List Element). ElementsAreLeft whole c.args.level (map child_trie c.loop-element.children.items)
     (elements_view es)) c.in-Some.ensures.steps.0 c.loop-element.invariant in

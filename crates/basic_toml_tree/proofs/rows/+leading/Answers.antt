@@ -1,14 +1,12 @@
-use Rattle.std.proofs.Common.{◌≡◌, [], ◌∷◌, ◌++◌, ap, ◌∙◌, sym, refl, rules, subst, Some, None, List, ℕ}
+use Rattle.std.proofs.Common.{[], ◌∷◌, ◌++◌, ap, ◌∙◌, sym, Some}
 use Rattle.std.proofs.lemmas.Result.{err_from_is_err_and}
 use Rattle.std.specs.Cow.{cow_str_bytes}
 use Rattle.basic_toml_grammar.specs.Marks.{dotted, valued}
 use Rattle.basic_toml_grammar.specs.Entering.{and_then}
-use Rattle.basic_toml_grammar.specs.Trie.{Trie, mark_here, put_row}
-use Rattle.basic_toml_tree.specs.declared.item.Table.{out-Table}
-use Rattle.basic_toml_tree.specs.Item.{leaf, child_trie, table_trie}
-use Rattle.basic_toml_tree.specs.Keyed.{values_of}
+use Rattle.basic_toml_grammar.specs.Trie.{mark_here, put_row}
+use Rattle.basic_toml_tree.specs.Item.{child_trie, table_trie}
 use Rattle.basic_toml_tree.specs.Rows.{key_texts}
-use Rattle.basic_toml_tree.proofs.RowsEntered.{boxed_trie, is_met, is_met_on, entered_by, row_key, no_texts, first_text, row_on, step_put, step_put_back, step_refused, stands_in}
+use Rattle.basic_toml_tree.proofs.RowsEntered.{boxed_trie, is_met, is_met_on, entered_by, no_texts, first_text, row_on, step_put, step_put_back, step_refused, stands_in}
 use Rattle.basic_toml_tree.proofs.rows.+leading.Goals as goal
 
 pub enter_row-returns-in-Some-what_is_met : goal.enter_row-returns-in-Some-what_is_met
@@ -52,7 +50,7 @@ enter_row-returns-in_err-extended t c = λ d is_leaf.
     ∙ ap (λ t. put_row (key ∷ (rest ++ last ∷ [])) d (table_trie t)) (sym c.deref_mut-2.ensures.value)
     ∙ row_on key rest last d (table_trie c.deref_mut-2.result.now)
     ∙ step_refused c.deref_mut-2.result.now key c.nothing-2.result c.enter-2.new.self c.in_ok-position-2.position
-    c.nothing-2.ensures (entered_by c.as_str.ensures.value c.in_ok-position-2.ensures.entered) c.replace-there.result stands
+    c.nothing-2.ensures (entered_by {new = c.enter-2.new.self} c.as_str.ensures.value c.in_ok-position-2.ensures.entered) c.replace-there.result stands
     (λ t. and_then (mark_here dotted t) (λ t. put_row (rest ++ last ∷ []) d t)) refused))
 
 pub enter_row-returns : goal.enter_row-returns
@@ -67,7 +65,7 @@ enter_row-returns t c = λ d is_leaf.
     ∙ ap (λ t. put_row (key ∷ (rest ++ last ∷ [])) d (table_trie t)) (sym c.deref_mut-2.ensures.value)
     ∙ row_on key rest last d (table_trie c.deref_mut-2.result.now)
     ∙ step_put_back c.deref_mut-2.result.now key c.nothing-2.result c.enter-2.new.self c.in_ok-position-2.position
-    c.nothing-2.ensures (entered_by c.as_str.ensures.value c.in_ok-position-2.ensures.entered) c.replace-there.result stands
+    c.nothing-2.ensures (entered_by {new = c.enter-2.new.self} c.as_str.ensures.value c.in_ok-position-2.ensures.entered) c.replace-there.result stands
     (λ t. and_then (mark_here dotted t) (λ t. put_row (rest ++ last ∷ []) d t))
     c.in_ok-extended.extended c.nothing-3.result c.deref_mut-3.result.now c.deref_mut-4.result.now
     c.replace-there.new.self c.put-2.new.self (c.in_ok-extended.ensures d is_leaf)
