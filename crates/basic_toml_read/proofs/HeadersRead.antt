@@ -68,15 +68,14 @@ pub record HeaderSoFar (bytes : List ℕ) (at offset level : ℕ) (keys : List (
 pub header_start : (bytes : List ℕ) (at : ℕ) (keys : List (CowStr Global)) (offsets : List ℕ) → keys ≡ []
     → offsets ≡ [] → IsCharBoundary bytes at → HeaderSoFar bytes at at 2 keys offsets
 header_start bytes at keys offsets k p b = record {
-  told = subst (λ (front : List Key). KeysTold bytes at 2 at 2 front)
-      (sym (ap (λ (l : List ℕ). keys_with l (map cow_str_bytes keys)) p ∙ none (map cow_str_bytes keys)))
+  told = subst (λ (front : List Key). KeysTold bytes at 2 at 2 front) (sym none)
       (told_start bytes at 2 (omega arith) b);
   same = omega (arith, ap length k, ap length p);
 }
   where
-    none : (ts : List (List ℕ)) → keys_with [] ts ≡ []
-    none [] = refl
-    none (t ∷ ts) = refl
+    none : keys_with offsets (map cow_str_bytes keys) ≡ []
+    none = ap (λ (l : List ℕ). keys_with l (map cow_str_bytes keys)) p ∙
+        ap (λ (l : List (CowStr Global)). keys_with [] (map cow_str_bytes l)) k
 
 -- the level of the last key
 level_of : (n : ℕ) → 2 + n - 1 ≡ n + 1

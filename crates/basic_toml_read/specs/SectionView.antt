@@ -74,10 +74,11 @@ elements_view es = elements_from (map placed_of es)
 abbrev pub rows_view : List rows.Row → Rows
 rows_view rs = rows_from (map lined_of rs)
 
--- the keys of a header, each with its offset
+-- the keys of a header, each with its offset, and with 0 past the last offset
 abbrev pub keys_with : List ℕ → List (List ℕ) → List Key
 keys_with (p ∷ offsets) (text ∷ texts) = record { offset = p; text = text } ∷ keys_with offsets texts
-keys_with _ _ = []
+keys_with [] (text ∷ texts) = record { offset = 0; text = text } ∷ keys_with [] texts
+keys_with offsets [] = []
 
 abbrev pub section_of : code.Section → Section
 section_of s = record {

@@ -1,3 +1,11 @@
 pub mod HeadersNamed
 pub mod ItemData
+pub mod ItemTries
+pub mod KeysInATrie
 pub mod KeysSeen
+pub mod RowsEntered
+pub mod Reasons
+pub mod RowsLeft
+pub mod RowValues
+pub mod InlineTables
+pub mod ElementsLeft

@@ -1,7 +1,7 @@
 -- The data that an item stands for.
 use Rattle.std.specs.Prelude.{ℕ, List, [], ◌∷◌, ◌++◌, string_bytes}
 use Rattle.std.specs.Cow.{cow_str_bytes}
-use Rattle.basic_toml_value.specs.Data.{Data, no_items, items_of, members_of}
+use Rattle.basic_toml_value.specs.Data.{Data, no_members, items_of, members_of}
 use Rattle.basic_toml_value.specs.View.{view}
 use Rattle.basic_toml_value.specs.declared.pairs.Pair.{Pair}
 use Rattle.basic_toml_value.specs.declared.value.Value.{Value}
@@ -13,9 +13,9 @@ use Rattle.basic_toml_tree.specs.declared.item.Child.{fold-Child}
 use Rattle.basic_toml_tree.specs.declared.item.Table as tables
 use Rattle.basic_toml_tree.specs.declared.item.Table.{fold-Table}
 
--- one level, the parts seen already; where nothing stands yet, any data serves
+-- one level, the parts seen already; where nothing stands yet, the empty table, as in `Growth.closed`
 abbrev pub item_step : Item-F Data Data Data → Data
-item_step Item-F.Nothing = Data.array no_items
+item_step Item-F.Nothing = Data.table no_members
 item_step (Item-F.Integer z) = Data.integer z
 item_step (Item-F.Float text) = Data.float text
 item_step (Item-F.Boolean b) = Data.boolean b

@@ -1,5 +1,9 @@
 pub mod Keyed
+pub mod Item
 pub mod Data
 pub mod Nodes
+pub mod Rows
+pub mod Headers
 pub mod Clash
+pub mod Resolve
 pub mod formers

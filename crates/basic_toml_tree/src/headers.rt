@@ -1,6 +1,10 @@
 //! Sections: the way of a header through the tree, and the table that it names.
 
-ghost use Rattle.std.specs.Prelude.{◌≤◌};
+ghost use Rattle.std.specs.Prelude.{◌≤◌, false, [], map};
+ghost use Rattle.std.specs.Cow.{cow_str_bytes};
+ghost use Rattle.basic_toml_read.specs.SectionView.{rows_view};
+ghost use Rattle.basic_toml_tree.specs.Item.{table_trie};
+ghost use Rattle.basic_toml_tree.specs.Headers.{EntersHeader};
 
 use crate::clash::Clash;
 use crate::item::{Child, Item, LIMIT, Table};
@@ -39,6 +43,7 @@ fn open<'de>(
     level: usize,
 ) -> Result<Box<Table<'de>>, Clash>
     requires { level ≤ 130 }
+    ensures { EntersHeader false (rows_view rows.entry.items) [] level (table_trie table.entry.value) result }
 {
     let mut table = table;
     if level > LIMIT {
@@ -67,6 +72,8 @@ fn enter_header<'de>(
     level: usize,
 ) -> Result<Box<Table<'de>>, Clash>
     requires { level ≤ 130 }
+    ensures { EntersHeader is_array (rows_view rows.entry.items) (map cow_str_bytes keys.now) level
+        (table_trie table.entry.value) result }
 {
     match keys.split_first() {
         None => open(alloc, table, rows, number, level),

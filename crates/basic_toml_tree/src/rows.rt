@@ -1,6 +1,14 @@
 //! Rows: their values, and the tables that their keys lead through.
 
-ghost use Rattle.std.specs.Prelude.{◌≤◌};
+ghost use Rattle.std.specs.Prelude.{◌≡◌, ◌≤◌, [], ◌∷◌, ◌++◌, Some, None, MatchOption, IfOk, not, is_some, true, false};
+ghost use Rattle.basic_toml_value.specs.Data.{Data};
+ghost use Rattle.basic_toml_grammar.specs.Sections.{Raw as spec_raw};
+ghost use Rattle.basic_toml_grammar.specs.Marks.{valued};
+ghost use Rattle.basic_toml_grammar.specs.Trie.{nothing, mark_here};
+ghost use Rattle.basic_toml_read.specs.SectionView.{raw_of, rows_view, elements_view};
+ghost use Rattle.basic_toml_tree.specs.Item.{leaf, child_trie, table_trie};
+ghost use Rattle.basic_toml_tree.specs.Rows.{EntersRow, EntersRows, Extends, Finishes, FinishesAll, key_texts};
+ghost use Rattle.basic_toml_tree.specs.Rows.{all_dots, is_dot, reason, met_reason};
 
 use crate::clash::{Clash, texts_of};
 use crate::item::{Child, Item, LIMIT, Table};
@@ -18,19 +26,32 @@ enum Met {
 }
 
 impl From<AllocError> for Met {
+    ghost use Rattle.std.specs.Prelude.{◌≡◌};
+    ghost use Rattle.basic_toml_tree.specs.declared.rows.Met.TheVariants.{Memory};
+
+    ghost from_gives = { λ _ met. met ≡ Memory };
+
     fn from(_error: AllocError) -> Met {
         Met::Memory
     }
 }
 
 impl<T: Drop> From<AllocFailed<T>> for Met {
+    ghost use Rattle.std.specs.Prelude.{◌≡◌};
+    ghost use Rattle.basic_toml_tree.specs.declared.rows.Met.TheVariants.{Memory};
+
+    ghost from_gives = { λ _ met. met ≡ Memory };
+
     fn from(_failed: AllocFailed<T>) -> Met {
         Met::Memory
     }
 }
 
 // What the last key of a row meets, where something stands.
-fn what_is_met(there: &Child<'_>, section: usize) -> Option<Met> {
+fn what_is_met(there: &Child<'_>, section: usize) -> Option<Met>
+    ensures { MatchOption result (child_trie there.now ≡ nothing)
+        (λ met. (d : Data) → mark_here (valued d) (child_trie there.now) ≡ None) }
+{
     match &there.item {
         Item::Nothing => None,
         Item::Table(table) => Some(if table.is_made() {
@@ -55,24 +76,23 @@ fn enter_row<'de>(
     keys: &[Row<'de>],
     last: &str,
     child: Child<'de>,
-) -> Result<Box<Table<'de>>, Met> {
+) -> Result<Box<Table<'de>>, Met>
+    ensures { (d : Data) → child_trie child.entry ≡ leaf d
+        → EntersRow (key_texts keys.entry.now ++ last.entry.now ∷ []) d (table_trie table.entry.value) result }
+{
     let mut table = table;
-    match keys.split_first() {
-        None => {
-            let position = table.entries.enter(last, Child::nothing())?;
-            let there = table.entries.replace(position, Child::nothing());
-            if let Some(met) = what_is_met(&there, child.section) {
-                return Err(met);
-            }
-            let _ = table.entries.replace(position, child);
+    let Some((row, rest)) = keys.split_first() else {
+        let position = table.entries.enter(last, Child::nothing())?;
+        if let Some(met) = what_is_met(table.entries.value(position), child.section) {
+            return Err(met);
         }
-        Some((row, rest)) => {
-            let position = table.entries.enter(row.key.as_str(), Child::nothing())?;
-            let there = table.entries.replace(position, Child::nothing());
-            let extended = extended(alloc, there, rest, last, child)?;
-            let _ = table.entries.replace(position, extended);
-        }
-    }
+        table.entries.put(position, child);
+        return Ok(table);
+    };
+    let position = table.entries.enter(row.key.as_str(), Child::nothing())?;
+    let there = table.entries.replace(position, Child::nothing());
+    let extended = extended(alloc, there, rest, last, child)?;
+    table.entries.put(position, extended);
     Ok(table)
 }
 
@@ -84,7 +104,10 @@ fn extended<'de>(
     keys: &[Row<'de>],
     last: &str,
     child: Child<'de>,
-) -> Result<Child<'de>, Met> {
+) -> Result<Child<'de>, Met>
+    ensures { (d : Data) → child_trie child.entry ≡ leaf d
+        → Extends (key_texts keys.entry.now ++ last.entry.now ∷ []) d (child_trie there.entry) result }
+{
     let Child {
         start,
         section,
@@ -127,7 +150,9 @@ fn row_clash(
     keys: &[Row<'_>],
     last: &str,
     offset: usize,
-) -> Result<Clash, AllocError> {
+) -> Result<Clash, AllocError>
+    ensures { IfOk result (λ clash. reason clash ≡ met_reason met) }
+{
     match met {
         Met::Memory => Ok(Clash::Memory),
         Met::Row => {
@@ -157,7 +182,9 @@ fn row_clash(
 }
 
 // The clash of a value as one of the row that holds it.
-fn held_by(alloc: Global, clash: Clash, keys: &[Row<'_>], last: &str) -> Result<Clash, AllocError> {
+fn held_by(alloc: Global, clash: Clash, keys: &[Row<'_>], last: &str) -> Result<Clash, AllocError>
+    ensures { IfOk result (λ held. reason held ≡ reason clash) }
+{
     match clash {
         Clash::Row {
             path: _path,
@@ -184,6 +211,7 @@ pub(crate) fn enter_rows<'de>(
     level: usize,
 ) -> Result<Box<Table<'de>>, Clash>
     requires { level ≤ 128 }
+    ensures { EntersRows (rows_view rows.entry.items) level (table_trie table.entry.value) result }
 {
     let mut table = table;
     let mut keys = Vec::new(alloc);
@@ -192,28 +220,50 @@ pub(crate) fn enter_rows<'de>(
             keys.push(row)?;
             continue;
         }
-        if keys.len() > LIMIT - level {
-            return Err(Clash::Deep);
-        }
-        let Row {
-            key,
-            offset,
-            start,
-            value,
-        } = row;
-        let child = match finished(alloc, value, start, section, level + keys.len()) {
-            Ok(child) => child,
-            Err(clash) => return Err(held_by(alloc, clash, keys.as_slice(), key.as_str())?),
-        };
-        table = match enter_row(alloc, table, keys.as_slice(), key.as_str(), child) {
-            Ok(table) => table,
-            Err(met) => {
-                return Err(row_clash(alloc, met, keys.as_slice(), key.as_str(), offset)?);
-            }
-        };
+        table = enter_value(alloc, table, keys.as_slice(), row, section, level)?;
         keys.clear();
     }
     Ok(table)
+}
+
+// Puts the row of some keys that periods follow, and of one with a value, into a table of a level.
+#[cycle(finishing)]
+fn enter_value<'de>(
+    alloc: Global,
+    table: Box<Table<'de>>,
+    keys: &[Row<'de>],
+    row: Row<'de>,
+    section: usize,
+    level: usize,
+) -> Result<Box<Table<'de>>, Clash>
+    requires level { level ≤ 128 }
+    requires keys { all_dots keys.now ≡ true }
+    requires row { is_dot row ≡ false }
+    ensures { EntersRows (rows_view (keys.entry.now ++ row.entry ∷ [])) level (table_trie table.entry.value) result }
+{
+    if keys.len() > LIMIT - level {
+        return Err(Clash::Deep);
+    }
+    let Row {
+        key,
+        offset,
+        start,
+        value,
+    } = row;
+    match finished(alloc, value, start, section, level + keys.len()) {
+        Err(clash) => Err(held_by(alloc, clash, keys, key.as_str())?),
+        Ok(child) => match enter_row(alloc, table, keys, key.as_str(), child) {
+            Ok(table) => Ok(table),
+            Err(met) => Err(row_clash(alloc, met, keys, key.as_str(), offset)?),
+        },
+    }
+}
+
+// Whether a value only stands for the period after a key.
+fn is_dot_value(value: &Raw<'_>) -> bool
+    ensures { result ≡ not (is_some (raw_of value.now)) }
+{
+    matches!(value, Raw::Dot)
 }
 
 // The item of a value that begins at an offset, within a table or an array of a level.
@@ -226,34 +276,32 @@ fn finished<'de>(
     level: usize,
 ) -> Result<Child<'de>, Clash>
     requires { level ≤ 128 }
+    ensures { (v : spec_raw) → raw_of value.entry ≡ Some v → Finishes v level result }
 {
-    let item = match value {
-        Raw::Dot => Item::Nothing,
-        Raw::Integer(number) => Item::Integer(number),
-        Raw::Float(float) => Item::Float(float),
-        Raw::Boolean(truth) => Item::Boolean(truth),
-        Raw::String(text) => Item::String(text),
+    match value {
+        Raw::Dot => Ok(Child::at(start, section, Item::Nothing)),
+        Raw::Integer(number) => Ok(Child::at(start, section, Item::Integer(number))),
+        Raw::Float(float) => Ok(Child::at(start, section, Item::Float(float))),
+        Raw::Boolean(truth) => Ok(Child::at(start, section, Item::Boolean(truth))),
+        Raw::String(text) => Ok(Child::at(start, section, Item::String(text))),
         Raw::Array(elements) => {
             if level >= LIMIT {
                 return Err(Clash::Deep);
             }
-            Item::Array(finished_elements(alloc, elements, section, level + 1)?)
+            let children = finished_elements(alloc, elements, section, level + 1)?;
+            Ok(Child::at(start, section, Item::Array(children)))
         }
         Raw::Inline(rows) => {
             if level >= LIMIT {
                 return Err(Clash::Deep);
             }
-            let table = Table::new(alloc)?;
-            Item::Inline(enter_rows(alloc, table, rows, section, level + 1)?)
+            let table = enter_rows(alloc, Table::new(alloc)?, rows, section, level + 1)?;
+            Ok(Child::at(start, section, Item::Inline(table)))
         }
-    };
-    Ok(Child {
-        start,
-        section,
-        item,
-    })
+    }
 }
 
+// The items of the values of elements, within an array of a level.
 #[cycle(finishing)]
 fn finished_elements<'de>(
     alloc: Global,
@@ -262,10 +310,14 @@ fn finished_elements<'de>(
     level: usize,
 ) -> Result<Vec<Child<'de>>, Clash>
     requires { level ≤ 128 }
+    ensures { FinishesAll (elements_view elements.entry.items) level result }
 {
     let mut children = Vec::with_capacity(alloc, elements.len())?;
     for element in elements.into_iter() {
         let Element { offset, value } = element;
+        if is_dot_value(&value) {
+            continue;
+        }
         children.push(finished(alloc, value, offset, section, level)?)?;
     }
     Ok(children)

@@ -1,4 +1,5 @@
 //! From a section list to its tree.
+ghost use Rattle.basic_toml_tree.specs.Resolve.{Resolves};
 
 use crate::crossed::crossed_value;
 use crate::headers::enter_section;
@@ -23,7 +24,9 @@ pub struct Tree<'de> {
 ///
 /// `DottedKeyInvalidType` comes before every other clash. `NestedTooDeeply` comes where the tree is deeper than 128,
 /// at a section that makes it so, and `OutOfMemory` where memory is refused.
-pub fn resolve<'de>(alloc: Global, sections: Vec<Section<'de>>) -> Result<Tree<'de>, ReadError> {
+pub fn resolve<'de>(alloc: Global, sections: Vec<Section<'de>>) -> Result<Tree<'de>, ReadError>
+    ensures { Resolves sections.entry.items result }
+{
     if let Some(at) = crossed_value(alloc, sections.as_slice())? {
         return Err(ReadError::at(at, ReadErrorKind::DottedKeyInvalidType));
     }

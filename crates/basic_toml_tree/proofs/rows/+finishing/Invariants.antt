@@ -1,11 +1,29 @@
-use Rattle.std.proofs.Common.{◌+◌, ◌-◌, ◌*◌}
+use Rattle.std.proofs.Common.{◌+◌, ◌-◌, ◌*◌, map}
+use Rattle.basic_toml_read.specs.SectionView.{rows_view, elements_view}
+use Rattle.basic_toml_tree.specs.Item.{child_trie, table_trie}
+use Rattle.basic_toml_tree.proofs.RowsLeft.{AreLeft}
+use Rattle.basic_toml_tree.proofs.ElementsLeft.{ElementsAreLeft}
 use Rattle.basic_toml_tree.proofs.rows.+finishing.Given as goal
 
 abbrev pub decreases-enter_rows : goal.decreases-enter_rows
-decreases-enter_rows l = 2 * (128 - l.level) + 1
+decreases-enter_rows l = 3 * (128 - l.level) + 2
+
+abbrev pub decreases-enter_value : goal.decreases-enter_value
+decreases-enter_value l = 3 * (128 - l.level) + 1
 
 abbrev pub decreases-finished : goal.decreases-finished
-decreases-finished l = 2 * (128 - l.level)
+decreases-finished l = 3 * (128 - l.level)
 
 abbrev pub decreases-finished_elements : goal.decreases-finished_elements
-decreases-finished_elements l = 2 * (128 - l.level) + 1
+decreases-finished_elements l = 3 * (128 - l.level) + 1
+
+-- what the rows that are left put into the table as it is, all put into it as it was
+abbrev pub invariant-enter_rows-loop-row : goal.invariant-enter_rows-loop-row
+invariant-enter_rows-loop-row l =
+    AreLeft (rows_view l.initial.row-iterator.rest.items) l.level (table_trie l.initial.table.value) l.keys.items
+    l.row-iterator.rest.items (table_trie l.table.value)
+
+abbrev pub invariant-finished_elements-loop-element : goal.invariant-finished_elements-loop-element
+invariant-finished_elements-loop-element l =
+    ElementsAreLeft (elements_view l.initial.element-iterator.rest.items) l.level (map child_trie l.children.items)
+    (elements_view l.element-iterator.rest.items)
