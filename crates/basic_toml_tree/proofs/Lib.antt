@@ -1,3 +1,9 @@
+pub mod FaultsGathered
 pub mod HeadersNamed
 pub mod ItemData
+pub mod KeysChanged
 pub mod KeysSeen
+pub mod RowIsFollowed
+pub mod RowsGoOn
+pub mod RowsOfKeys
+pub mod TrailGrows
