@@ -1,9 +1,8 @@
 -- What stands at a key, where keys are entered and values are changed.
 use Rattle.std.proofs.Common.{◌≡◌, ◌⊎◌, inl, inr, ℕ, suc, zero, true, false, List, [], ◌∷◌, ◌++◌, refl, sym, take}
-use Rattle.std.proofs.Common.{ap, ◌∙◌, arith, Option, Some, None, option_map, map, if◌then◌else◌, Bool}
+use Rattle.std.proofs.Common.{ap, ◌∙◌, arith, Some, None, option_map, map, if◌then◌else◌, Bool}
 use Rattle.std.specs.List.{slice_get}
 use Rattle.std.specs.Str.{bytes_eq}
-use Rattle.std.proofs.lemmas.Slice.Eq.{bytes_eq-Decides}
 use Rattle.basic_toml_value.specs.Keys.{is_among}
 use Rattle.basic_toml_value.specs.Pairs.{keys_of, has_key, value_at}
 use Rattle.basic_toml_value.proofs.DistinctKeys.{bytes_eq-same}

@@ -1,6 +1,7 @@
 -- The next row of the code's rows is followed, or goes on from a value.
-use Rattle.std.proofs.Common.{◌≡◌, ℕ, suc, ◌+◌, ◌-◌, ◌<◌, ◌≤◌, true, List, sym, ap, ◌∙◌, take, drop, map, length, get_or}
-use Rattle.std.proofs.Common.{Some, None, Err, is_some, arith, subst}
+use Rattle.std.proofs.Common.{◌≡◌, ℕ, suc, ◌+◌, ◌-◌, ◌<◌, ◌≤◌, true, List, sym, ap, ◌∙◌, take, drop, map}
+use Rattle.std.proofs.Common.{length, get_or}
+use Rattle.std.proofs.Common.{None, Err, is_some, arith, subst}
 use Rattle.std.specs.List.{AllWithin}
 use Rattle.basic_toml_grammar.specs.Sections.{Key, KeyTexts, texts, Raw, Rows, row}
 use Rattle.basic_toml_read.specs.declared.section.Row.{Row, out-Row}

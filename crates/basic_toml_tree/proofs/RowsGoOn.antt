@@ -1,12 +1,11 @@
 -- The faults of rows that go on from earlier rows' values, row by row.
-use Rattle.std.proofs.Common.{◌≡◌, ◌⊎◌, inl, inr, ℕ, suc, zero, true, false, not, List, [], ◌∷◌, ◌++◌, refl, sym, ap, ◌∙◌}
-use Rattle.std.proofs.Common.{Some, None, Bool, cond, if◌then◌else◌, subst, arith}
+use Rattle.std.proofs.Common.{◌≡◌, ◌⊎◌, inl, inr, ℕ, zero, true, false, not, List, [], ◌∷◌, ◌++◌, refl, sym, ap, ◌∙◌}
+use Rattle.std.proofs.Common.{Some, None, Bool, cond, subst, arith}
 use Rattle.std.specs.Prelude.{◌&&◌, Contains}
 use Rattle.std.specs.Str.{bytes_eq}
-use Rattle.std.proofs.lemmas.Bool.{and_parts}
 use Rattle.std.proofs.lemmas.Slice.Eq.{bytes_eq-Decides}
 use Rattle.std.proofs.lemmas.List.Elements.{Contains-append_left, Contains-append_right, Contains-append_cases}
-use Rattle.basic_toml_value.proofs.DistinctKeys.{bytes_eq-same, bytes_eq_other}
+use Rattle.basic_toml_value.proofs.DistinctKeys.{bytes_eq-same}
 use Rattle.basic_toml_grammar.specs.Sections.{Key, KeyTexts, texts, Raw, Rows, no_rows, row}
 use Rattle.basic_toml_grammar.specs.Steps.{Path, begins, properly_begins, steps_of}
 use Rattle.basic_toml_grammar.specs.Faults.{Fault}
@@ -108,8 +107,8 @@ extending_none s t p (row keys at value rows) none =
     go true none rest = absurd (cc)
     go false none rest = rest none
 
--- Some of all rows have been followed, and these are left. Each fault of a followed row before them is one of all, as is
--- each of their own, and where there are none, all have none.
+-- Some of all rows have been followed, and these are left. Each fault of a followed row before them is one of all, as
+-- is each of their own, and where there are none, all have none.
 pub record Reached (all left : Rows) (ends : Ends) : Type 0 where
   pub told : (p : KeyTexts) (s : ℕ) → ends p ≡ Some s → (f : Fault)
       → Contains (extending_faults s (steps_of p) left) f → Contains (faults_between all) f
@@ -144,7 +143,8 @@ module _ (all left : Rows) (ends after : Ends) (keys : List Key) (at : ℕ) (val
   front = extending_faults at (steps_of path) left
 
   -- the next row goes on from no value
-  pub row_followed : Reached all (row keys at value left) ends → Follows ends after (texts keys) at → Reached all left after
+  pub row_followed : Reached all (row keys at value left) ends → Follows ends after (texts keys) at
+      → Reached all left after
   row_followed reached follows = record { told = told; own = own; none = none }
     where
       own : (f : Fault) → Contains (faults_between left) f → Contains (faults_between all) f

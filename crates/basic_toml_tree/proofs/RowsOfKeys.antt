@@ -1,5 +1,6 @@
 -- The rows that keys and values stand for, and where a row ends among them.
-use Rattle.std.proofs.Common.{◌≡◌, ℕ, suc, zero, ◌+◌, ◌<◌, ◌≤◌, true, false, List, [], ◌∷◌, ◌++◌, refl, sym, ap, ◌∙◌, take, drop}
+use Rattle.std.proofs.Common.{◌≡◌, ℕ, suc, zero, ◌+◌, ◌<◌, ◌≤◌, true, false, List, [], ◌∷◌, ◌++◌, refl, sym, ap}
+use Rattle.std.proofs.Common.{◌∙◌, take, drop}
 use Rattle.std.proofs.Common.{Some, None, is_some, All, map, arith, length, get_or, Bool, Option, subst, rules}
 use Rattle.std.specs.List.{flat_map}
 use Rattle.std.specs.Prelude.{◌&&◌, not}
@@ -11,10 +12,11 @@ use Rattle.std.specs.Cow.{cow_str_bytes}
 use Rattle.basic_toml_read.specs.declared.section.Raw.{the_lemmas}
 use Rattle.basic_toml_read.specs.declared.section.Element.{Element, out-Element}
 use Rattle.basic_toml_read.specs.declared.section.Row.{Row, out-Row}
-use Rattle.basic_toml_grammar.specs.Sections.{Key, texts, Raw, Rows, no_rows, row, Elements, no_elements, element}
+use Rattle.basic_toml_grammar.specs.Sections.{Key, texts, Raw, Rows, no_rows, row}
 use Rattle.basic_toml_grammar.specs.Steps.{key, properly_begins}
 use Rattle.basic_toml_grammar.specs.NamedClash.{extending_faults, dotted_faults_among}
-use Rattle.basic_toml_read.specs.SectionView.{Lined, Placed, with_key, with_row, rows_from, with_element, elements_from}
+use Rattle.basic_toml_read.specs.SectionView.{Lined, Placed, with_key, with_row, rows_from, with_element}
+use Rattle.basic_toml_read.specs.SectionView.{elements_from}
 use Rattle.basic_toml_read.specs.SectionView.{raw_of, placed_of, lined_of, elements_view, rows_view}
 use Rattle.basic_toml_tree.specs.Crossed.{faults_between, faults_in}
 use Rattle.basic_toml_tree.specs.Trail.{path_of}
@@ -141,7 +143,8 @@ pub lined_is : (r : Row) → lined_of r ≡ record {
 }
 lined_is r = search (rules, the_lemmas)
 
-pub placed_is : (e : Element) → placed_of e ≡ record { offset = (out-Element e).offset; value = raw_of (out-Element e).value }
+pub placed_is : (e : Element)
+    → placed_of e ≡ record { offset = (out-Element e).offset; value = raw_of (out-Element e).value }
 placed_is e = search (rules, the_lemmas)
 
 pub row_values : (rs : List Row) → value_faults (rows_view rs) ≡ flat_map (λ r. faults_in (lined_of r).value) rs

@@ -1,6 +1,7 @@
 //! Rows that go on from a value: the clash that comes before all others.
 
-ghost use Rattle.std.specs.Prelude.{◌≡◌, ◌≤◌, ◌<◌, All, List, ℕ, None, false, IfNone, IfOk, IfSome, is_some, length, true};
+ghost use Rattle.std.specs.Prelude.{◌≡◌, ◌≤◌, ◌<◌, All, List, ℕ, None, false, IfNone, IfOk, IfSome, is_some};
+ghost use Rattle.std.specs.Prelude.{length, true};
 ghost use Rattle.std.specs.List.{AllWithin, HoldsAt};
 ghost use Rattle.std.specs.Option.{ForSome};
 ghost use Rattle.basic_toml_grammar.specs.NamedClash.{dotted_faults, dotted_faults_among};
@@ -98,7 +99,7 @@ fn has_dots(rows: &[Row<'_>]) -> bool
     false
 }
 
-// Looks for a row that goes on from the value of one before it.
+// Looks for a row that goes on from the value of one before it. Where each row has one key, none does.
 fn look_between(alloc: Global, rows: &[Row<'_>]) -> Result<(), Crossed>
     ensures { Looks (faults_between (rows_view rows.now)) result }
 {

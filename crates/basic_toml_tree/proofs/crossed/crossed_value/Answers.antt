@@ -17,7 +17,8 @@ returns-in-Err-At-clause-some c =
     subst (λ (e : Crossed). Looks (dotted_faults (rows_view c.as_slice.result.now)) (Err e)) c.in-Err-At.field-0-is
     c.in-Err-At.ensures in
     let there : Contains (dotted_faults (rows_view c.section-item.result.rows.items)) (dotted_fault at) =
-    subst (λ (rs : List Row). Contains (dotted_faults (rows_view rs)) (dotted_fault at)) c.as_slice.ensures.value here in
+    subst (λ (rs : List Row). Contains (dotted_faults (rows_view rs)) (dotted_fault at)) c.as_slice.ensures.value
+    here in
     let among : Contains (crossed_faults c.args.sections.now) (dotted_fault at) =
     subst (λ (fs : List Fault). Contains fs (dotted_fault at))
     (sym (flat_map-map (λ s. dotted_faults s.rows) section_of c.args.sections.now))

@@ -20,9 +20,10 @@ returns-in_err-trail c =
     let p = err_from_is_err_and c.from_residual.result c.from_residual.ensures.1 in
     let within = c.in-Some.ensures.within c.in-Some.last refl in
     rw (p.1, p.2)
-    (stopped c.args.rows.now c.loop-last.first c.in-Some.last c.index-rows-last.result c.loop-last.trail within.0 within.1
-    c.index-rows-last.is c.in-Some.ensures.dots
-    (subst (λ (r : Row). is_some (lined_of r).value ≡ true) (sym c.index-rows-last.is) (c.in-Some.ensures.last c.index-rows-last.result))
+    (stopped c.args.rows.now c.loop-last.first c.in-Some.last c.index-rows-last.result c.loop-last.trail within.0
+    within.1 c.index-rows-last.is c.in-Some.ensures.dots
+    (subst (λ (r : Row). is_some (lined_of r).value ≡ true) (sym c.index-rows-last.is)
+    (c.in-Some.ensures.last c.index-rows-last.result))
     c.loop-last.invariant.reached c.in_err-trail.field-0.0 c.in_err-trail.ensures)
 
 pub loop-last-preserved : goal.loop-last-preserved
@@ -30,13 +31,14 @@ loop-last-preserved c =
     let within = c.in-Some.ensures.within c.in-Some.last refl in
     record {
       within = omega (arith, within.1);
-      reached = gone_on c.args.rows.now c.loop-last.first c.in-Some.last c.index-rows-last.result c.loop-last.trail within.0
-          within.1 c.index-rows-last.is c.in-Some.ensures.dots
+      reached = gone_on c.args.rows.now c.loop-last.first c.in-Some.last c.index-rows-last.result c.loop-last.trail
+          within.0 within.1 c.index-rows-last.is c.in-Some.ensures.dots
           (subst (λ (r : Row). is_some (lined_of r).value ≡ true) (sym c.index-rows-last.is)
           (c.in-Some.ensures.last c.index-rows-last.result))
           c.loop-last.invariant.reached c.in_ok-trail.trail
           (subst (λ (r : Row). Follows (ends_of c.loop-last.trail) (ends_of c.in_ok-trail.trail)
-          (path_of (take (c.in-Some.last + 1 - c.loop-last.first) (drop c.loop-last.first c.args.rows.now))) (out-Row r).start)
+          (path_of (take (c.in-Some.last + 1 - c.loop-last.first) (drop c.loop-last.first c.args.rows.now)))
+          (out-Row r).start)
           (sym c.index-rows-last.is) c.in_ok-trail.ensures);
     }
 
