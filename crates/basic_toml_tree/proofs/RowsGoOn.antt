@@ -95,7 +95,7 @@ keys_left (l ∷ p) (k ∷ path) properly = go (bytes_eq l k) refl properly (key
         (more.0, more.1, ap (λ m. m ∷ path) (sym key) ∙ ap (λ q. l ∷ q) more.2)
     go false other left deeper = absurd (cc)
 
--- whether a value begins at a place does not depend on the place
+-- whether rows go on from a value does not depend on where it begins
 extending_none : (s t : ℕ) (p : Path) (rows : Rows) → extending_faults s p rows ≡ [] → extending_faults t p rows ≡ []
 extending_none s t p no_rows none = refl
 extending_none s t p (row keys at value rows) none =
@@ -188,12 +188,7 @@ module _ (all left : Rows) (ends after : Ends) (keys : List Key) (at : ℕ) (val
       → Contains (faults_between all) (dotted_fault start)
   row_goes_on reached start goes =
       reached.told goes.front start goes.there (dotted_fault start)
-      (first goes)
+      (rw begun (first_contained (dotted_fault start) (extending_faults start (steps_of goes.front) left)))
     where
       begun : properly_begins (steps_of goes.front) (steps_of path) ≡ true
       begun = rw (goes.parts) (goes_on goes.front goes.k goes.rest)
-
-      first : GoesOnFrom ends (texts keys) start
-          → Contains (extending_faults start (steps_of goes.front) (row keys at value left)) (dotted_fault start)
-      first _ = rw begun
-          (first_contained (dotted_fault start) (extending_faults start (steps_of goes.front) left))

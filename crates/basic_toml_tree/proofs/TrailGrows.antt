@@ -36,48 +36,6 @@ ends_at_key t k path =
     ap (λ e. e (k ∷ path)) (trail_ends t)
     ∙ ap (λ o. ends_below o path) (value_at-map ends_of (out-Trail t).below k)
 
--- a row that ends here
-pub follows_here : (before after : Ends) (start : ℕ)
-    → ((k : List ℕ) (p : KeyTexts) → after (k ∷ p) ≡ before (k ∷ p))
-    → ((before [] ≡ None) × (after [] ≡ Some start)) ⊎ ((s : ℕ) × (before [] ≡ Some s) × (after [] ≡ Some s))
-    → Follows before after [] start
-follows_here before after start below (inl here) = record {
-  free = free_here;
-  kept = kept;
-  stands = (start, here.1);
-  told = told;
-}
-  where
-    free_here : (front rest : KeyTexts) (k : List ℕ) → [] ≡ front ++ k ∷ rest → before front ≡ None
-    free_here [] rest k parts = absurd (cc)
-    free_here (l ∷ front) rest k parts = absurd (cc)
-
-    kept : (p : KeyTexts) (s : ℕ) → before p ≡ Some s → after p ≡ Some s
-    kept [] s at = absurd (cc)
-    kept (k ∷ p) s at = below k p ∙ at
-
-    told : (p : KeyTexts) (s : ℕ) → after p ≡ Some s → (before p ≡ Some s) ⊎ ((p ≡ []) × (s ≡ start))
-    told [] s at = let same : s ≡ start = cc in inr (refl, same)
-    told (k ∷ p) s at = inl (sym (below k p) ∙ at)
-follows_here before after start below (inr (t, was, is)) = record {
-  free = free_here;
-  kept = kept;
-  stands = (t, is);
-  told = told;
-}
-  where
-    free_here : (front rest : KeyTexts) (k : List ℕ) → [] ≡ front ++ k ∷ rest → before front ≡ None
-    free_here [] rest k parts = absurd (cc)
-    free_here (l ∷ front) rest k parts = absurd (cc)
-
-    kept : (p : KeyTexts) (s : ℕ) → before p ≡ Some s → after p ≡ Some s
-    kept [] s at = is ∙ sym was ∙ at
-    kept (k ∷ p) s at = below k p ∙ at
-
-    told : (p : KeyTexts) (s : ℕ) → after p ≡ Some s → (before p ≡ Some s) ⊎ ((p ≡ []) × (s ≡ start))
-    told [] s at = inl (was ∙ sym is ∙ at)
-    told (k ∷ p) s at = inl (sym (below k p) ∙ at)
-
 -- a row that goes on by a key
 module _ (before after there gone : Ends) (k : List ℕ) (at_none : before [] ≡ None) (still_none : after [] ≡ None)
     (was : (p : KeyTexts) → before (k ∷ p) ≡ there p) (is : (p : KeyTexts) → after (k ∷ p) ≡ gone p)
