@@ -1,3 +1,4 @@
+pub mod CrossedClash
 pub mod FaultsGathered
 pub mod HeadersNamed
 pub mod ItemData
