@@ -116,13 +116,6 @@ pub record Reached (all left : Rows) (ends : Ends) : Type 0 where
   pub none : ((p : KeyTexts) (s : ℕ) → ends p ≡ Some s → extending_faults s (steps_of p) left ≡ [])
       → faults_between left ≡ [] → faults_between all ≡ []
 
-pub none_followed : (all : Rows) (ends : Ends) → ((p : KeyTexts) → ends p ≡ None) → Reached all all ends
-none_followed all ends nowhere = record {
-  told = λ p s there f fault. let never : ends p ≡ None = nowhere p in absurd (cc);
-  own = λ f fault. fault;
-  none = λ clear empty. empty;
-}
-
 pub all_followed : (all : Rows) (ends : Ends) → Reached all no_rows ends → faults_between all ≡ []
 all_followed all ends reached = reached.none (λ p s there. refl) refl
 
