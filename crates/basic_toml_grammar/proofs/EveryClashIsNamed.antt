@@ -134,7 +134,7 @@ mutual
       ∙ ap (λ b. any_fault (dotted_faults_in v ++ dotted_faults_among es) || b)
       (sym (any-append (repeated_faults_in ks v) (repeated_faults_among ks es)))
 
-all_rows_named : (sections : List Section)
+pub all_rows_named : (sections : List Section)
     → has_row_clash sections
     ≡ (any_fault (flat_map (λ s. dotted_faults s.rows) sections) || any_fault
     (flat_map repeated_faults_of sections))

@@ -43,6 +43,7 @@ pub mod ReaderIsSound
 pub mod ReaderIsComplete
 pub mod OldDocumentsStand
 pub mod EveryClashIsNamed
+pub mod DottedFaultsClash
 pub mod TreeIsAsDeepAsMentions
 pub mod TreeIsNoDeeperThanMentions
 pub mod PeacefulSectionsDoNotOverlap

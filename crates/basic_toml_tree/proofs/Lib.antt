@@ -1,3 +1,5 @@
+pub mod CrossedClash
+pub mod FaultsGathered
 pub mod HeadersNamed
 pub mod ItemData
 pub mod ItemTries
@@ -9,3 +11,8 @@ pub mod RowsLeft
 pub mod RowValues
 pub mod InlineTables
 pub mod ElementsLeft
+pub mod KeysChanged
+pub mod RowIsFollowed
+pub mod RowsGoOn
+pub mod RowsOfKeys
+pub mod TrailGrows

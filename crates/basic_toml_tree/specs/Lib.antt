@@ -5,5 +5,7 @@ pub mod Nodes
 pub mod Rows
 pub mod Headers
 pub mod Clash
+pub mod Trail
+pub mod Crossed
 pub mod Resolve
 pub mod formers

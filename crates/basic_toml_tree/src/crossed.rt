@@ -1,7 +1,14 @@
 //! Rows that go on from a value: the clash that comes before all others.
 
-ghost use Rattle.std.specs.Prelude.{◌≤◌, ◌<◌, length};
+ghost use Rattle.std.specs.Prelude.{◌≡◌, ◌≤◌, ◌<◌, All, List, ℕ, None, false, IfNone, IfOk, IfSome, is_some};
+ghost use Rattle.std.specs.Prelude.{length, true};
+ghost use Rattle.std.specs.List.{AllWithin, HoldsAt};
 ghost use Rattle.std.specs.Option.{ForSome};
+ghost use Rattle.basic_toml_grammar.specs.NamedClash.{dotted_faults, dotted_faults_among};
+ghost use Rattle.basic_toml_read.specs.SectionView.{elements_view, lined_of, raw_of, rows_view};
+ghost use Rattle.basic_toml_tree.specs.Crossed.{faults_between, faults_in, IsCrossed, Looks, NoneIsCrossed};
+ghost use Rattle.basic_toml_tree.specs.Trail.{FollowsTo, ends_of, path_of};
+ghost use Rattle.basic_toml_tree.specs.declared.crossed.Crossed.TheVariants.{Memory};
 
 use crate::keyed::Keyed;
 use basic_toml_read::{Element, Raw, Row, Section};
@@ -24,13 +31,17 @@ enum Crossed {
 }
 
 impl From<AllocError> for Crossed {
+    ghost from_gives = { λ _ e. e ≡ Memory };
+
     fn from(_error: AllocError) -> Crossed {
         Crossed::Memory
     }
 }
 
 impl Trail {
-    fn new(alloc: Global) -> Trail {
+    fn new(alloc: Global) -> Trail
+        ensures { (path : List (List ℕ)) → ends_of result path ≡ None }
+    {
         Trail {
             end: None,
             below: Keyed::new(alloc),
@@ -39,30 +50,35 @@ impl Trail {
 }
 
 // Goes by the keys of a row that are left; the row's value begins at `start`.
-fn follow(alloc: Global, trail: Trail, keys: &[Row<'_>], start: usize) -> Result<Trail, Crossed> {
-    let mut trail = trail;
+fn follow(alloc: Global, trail: Trail, keys: &[Row<'_>], start: usize) -> Result<Trail, Crossed>
+    ensures { FollowsTo trail (path_of keys.now) start result }
+{
+    let Trail { end, below } = trail;
     match keys.split_first() {
-        None => {
-            if trail.end.is_none() {
-                trail.end = Some(start);
-            }
-        }
+        None => Ok(Trail {
+            end: Some(end.unwrap_or(start)),
+            below,
+        }),
         Some((row, rest)) => {
-            if let Some(end) = trail.end {
+            if let Some(end) = end {
                 return Err(Crossed::At(end));
             }
-            let position = trail.below.enter(row.key.as_str(), Trail::new(alloc))?;
-            let there = trail.below.replace(position, Trail::new(alloc));
+            let mut below = below;
+            let position = below.enter(row.key.as_str(), Trail::new(alloc))?;
+            let there = below.replace(position, Trail::new(alloc));
             let gone = follow(alloc, there, rest, start)?;
-            let _ = trail.below.replace(position, gone);
+            let _ = below.replace(position, gone);
+            Ok(Trail { end: None, below })
         }
     }
-    Ok(trail)
 }
 
 // The number of the last key of the row that begins at a key.
 fn last_key(rows: &[Row<'_>], first: usize) -> Option<usize>
-    ensures { ForSome result (λ last. (first ≤ last) × (last < length rows.now)) }
+    ensures within { ForSome result (λ last. (first ≤ last) × (last < length rows.now)) }
+    ensures dots { IfSome result (λ last. AllWithin (λ r. (lined_of r).value ≡ None) rows.now first last) }
+    ensures last { IfSome result (λ last. HoldsAt (λ r. is_some (lined_of r).value ≡ true) rows.now last) }
+    ensures none { IfNone result (AllWithin (λ r. (lined_of r).value ≡ None) rows.now first (length rows.now)) }
 {
     for at in first..rows.len() {
         if !rows[at].is_dot() {
@@ -72,7 +88,9 @@ fn last_key(rows: &[Row<'_>], first: usize) -> Option<usize>
     None
 }
 
-fn has_dots(rows: &[Row<'_>]) -> bool {
+fn has_dots(rows: &[Row<'_>]) -> bool
+    ensures { result ≡ false → All (λ r. is_some (lined_of r).value ≡ true) rows.now }
+{
     for row in rows {
         if row.is_dot() {
             return true;
@@ -81,17 +99,28 @@ fn has_dots(rows: &[Row<'_>]) -> bool {
     false
 }
 
-#[cycle(looking)]
-fn look_through(alloc: Global, rows: &[Row<'_>]) -> Result<(), Crossed> {
-    if has_dots(rows) {
-        let mut trail = Trail::new(alloc);
-        let mut first = 0;
-        while let Some(last) = last_key(rows, first) {
-            let start = rows[last].start;
-            trail = follow(alloc, trail, &rows[first..last + 1], start)?;
-            first = last + 1;
-        }
+// Looks for a row that goes on from the value of one before it. Where each row has one key, none does.
+fn look_between(alloc: Global, rows: &[Row<'_>]) -> Result<(), Crossed>
+    ensures { Looks (faults_between (rows_view rows.now)) result }
+{
+    if !has_dots(rows) {
+        return Ok(());
     }
+    let mut trail = Trail::new(alloc);
+    let mut first = 0;
+    while let Some(last) = last_key(rows, first) {
+        let start = rows[last].start;
+        trail = follow(alloc, trail, &rows[first..last + 1], start)?;
+        first = last + 1;
+    }
+    Ok(())
+}
+
+#[cycle(looking)]
+fn look_through(alloc: Global, rows: &[Row<'_>]) -> Result<(), Crossed>
+    ensures { Looks (dotted_faults (rows_view rows.now)) result }
+{
+    look_between(alloc, rows)?;
     for row in rows {
         look_into(alloc, &row.value)?;
     }
@@ -99,7 +128,9 @@ fn look_through(alloc: Global, rows: &[Row<'_>]) -> Result<(), Crossed> {
 }
 
 #[cycle(looking)]
-fn look_into(alloc: Global, value: &Raw<'_>) -> Result<(), Crossed> {
+fn look_into(alloc: Global, value: &Raw<'_>) -> Result<(), Crossed>
+    ensures { Looks (faults_in (raw_of value.now)) result }
+{
     match value {
         Raw::Array(elements) => look_among(alloc, elements.as_slice()),
         Raw::Inline(rows) => look_through(alloc, rows.as_slice()),
@@ -108,7 +139,9 @@ fn look_into(alloc: Global, value: &Raw<'_>) -> Result<(), Crossed> {
 }
 
 #[cycle(looking)]
-fn look_among(alloc: Global, elements: &[Element<'_>]) -> Result<(), Crossed> {
+fn look_among(alloc: Global, elements: &[Element<'_>]) -> Result<(), Crossed>
+    ensures { Looks (dotted_faults_among (elements_view elements.now)) result }
+{
     for element in elements {
         look_into(alloc, &element.value)?;
     }
@@ -119,7 +152,10 @@ fn look_among(alloc: Global, elements: &[Element<'_>]) -> Result<(), Crossed> {
 pub(crate) fn crossed_value(
     alloc: Global,
     sections: &[Section<'_>],
-) -> Result<Option<usize>, AllocError> {
+) -> Result<Option<usize>, AllocError>
+    ensures none { IfOk result (λ found. IfNone found (NoneIsCrossed sections.now)) }
+    ensures some { IfOk result (λ found. IfSome found (λ at. IsCrossed sections.now at)) }
+{
     for section in sections {
         match look_through(alloc, section.rows.as_slice()) {
             Ok(()) => {}

@@ -1,8 +1,13 @@
-use Rattle.std.proofs.Common.{◌≤◌, ◌-◌, length}
+use Rattle.std.proofs.Common.{◌≡◌, take, []}
+use Rattle.std.specs.List.{flat_map}
+use Rattle.basic_toml_read.specs.SectionView.{lined_of, placed_of}
+use Rattle.basic_toml_tree.specs.Crossed.{faults_in}
 use Rattle.basic_toml_tree.proofs.crossed.+looking.Given as goal
 
-abbrev pub invariant-look_through-loop-last : goal.invariant-look_through-loop-last
-invariant-look_through-loop-last l = l.first ≤ length l.rows
+-- no fault lies in the values passed
+abbrev pub invariant-look_through-loop-row : goal.invariant-look_through-loop-row
+invariant-look_through-loop-row l = flat_map (λ r. faults_in (lined_of r).value) (take l.row-index l.rows) ≡ []
 
-abbrev pub decreases-look_through-loop-last : goal.decreases-look_through-loop-last
-decreases-look_through-loop-last l = length l.rows - l.first
+abbrev pub invariant-look_among-loop-element : goal.invariant-look_among-loop-element
+invariant-look_among-loop-element l =
+    flat_map (λ e. faults_in (placed_of e).value) (take l.element-index l.elements) ≡ []
