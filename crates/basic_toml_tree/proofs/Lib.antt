@@ -4,4 +4,7 @@ pub mod HeadersNamed
 pub mod ItemData
 pub mod KeysSeen
 pub mod LatestInATrie
+pub mod RowsHaveKeys
+pub mod SectionsEntered
+pub mod SectionsResolved
 pub mod TrieData
