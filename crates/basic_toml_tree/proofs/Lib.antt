@@ -1,5 +1,7 @@
 pub mod CrossedClash
 pub mod FaultsGathered
+pub mod HeadersEntered
+pub mod HeadersInATrie
 pub mod HeadersNamed
 pub mod ItemData
 pub mod ItemTries
@@ -16,3 +18,8 @@ pub mod RowIsFollowed
 pub mod RowsGoOn
 pub mod RowsOfKeys
 pub mod TrailGrows
+pub mod LatestInATrie
+pub mod RowsHaveKeys
+pub mod SectionsEntered
+pub mod SectionsResolved
+pub mod TrieData

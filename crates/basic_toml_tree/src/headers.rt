@@ -1,16 +1,19 @@
 //! Sections: the way of a header through the tree, and the table that it names.
 
-ghost use Rattle.std.specs.Prelude.{◌≤◌, false, [], map};
+ghost use Rattle.std.specs.Prelude.{◌≡◌, ◌≤◌, ◌<◌, ◌+◌, false, [], length, map, IfOk};
 ghost use Rattle.std.specs.Cow.{cow_str_bytes};
+ghost use Rattle.basic_toml_grammar.specs.Trie.{put_element};
 ghost use Rattle.basic_toml_read.specs.SectionView.{rows_view};
-ghost use Rattle.basic_toml_tree.specs.Item.{table_trie};
-ghost use Rattle.basic_toml_tree.specs.Headers.{EntersHeader};
+ghost use Rattle.basic_toml_tree.specs.declared.item.Table.{out-Table};
+ghost use Rattle.basic_toml_tree.specs.Item.{table_trie, child_trie};
+ghost use Rattle.basic_toml_tree.specs.Headers.{EntersHeader, EntersChild, Passes, PutsBack};
+ghost use Rattle.basic_toml_tree.specs.Headers.{entered_by, steps_by, entered_at, steps_at};
 
 use crate::clash::Clash;
 use crate::item::{Child, Item, LIMIT, Table};
 use crate::rows::enter_rows;
 use basic_toml_read::{Row, Section};
-use std::alloc::Global;
+use std::alloc::{AllocError, Global};
 use std::borrow::CowStr;
 use std::mem;
 
@@ -20,7 +23,11 @@ pub(crate) fn enter_section<'de>(
     root: Box<Table<'de>>,
     section: &mut Section<'de>,
     number: usize,
-) -> Result<Box<Table<'de>>, Clash> {
+) -> Result<Box<Table<'de>>, Clash>
+    ensures entered { EntersHeader section.old.is_array (rows_view section.old.rows.items)
+        (map cow_str_bytes section.old.header.items) 1 (table_trie root.entry.value) result }
+    ensures at { section.new.at ≡ section.old.at }
+{
     let rows = mem::replace(&mut section.rows, Vec::new(alloc));
     let is_array = section.is_array;
     enter_header(
@@ -78,23 +85,62 @@ fn enter_header<'de>(
     match keys.split_first() {
         None => open(alloc, table, rows, number, level),
         Some((key, rest)) => {
-            let mut table = table;
             if level > LIMIT {
                 return Err(Clash::Deep);
             }
-            table.passed = true;
-            table.section = number;
-            let position = table.entries.enter(key.as_str(), Child::nothing())?;
-            let there = table.entries.replace(position, Child::nothing());
-            let child = if is_array && rest.is_empty() {
-                add_element(alloc, there, rows, number, level)?
-            } else {
-                enter_child(alloc, there, rest, is_array, rows, number, level)?
-            };
-            let _ = table.entries.replace(position, child);
+            let mut table = table;
+            let (position, there) = pass(&mut table, key.as_str(), number)?;
+            let child = enter_at(alloc, there, rest, is_array, rows, number, level)?;
+            put_back(&mut table, position, child);
             Ok(table)
         }
     }
+}
+
+// Passes through a table by a key: takes out what stands there, and answers its position too.
+fn pass<'de>(
+    table: &mut Table<'de>,
+    key: &str,
+    number: usize,
+) -> Result<(usize, Child<'de>), AllocError>
+    ensures { IfOk result (λ out. Passes key.now table.old table.new out.0 out.1) }
+{
+    let position = table.entries.enter(key, Child::nothing())?;
+    let there = table.entries.replace(position, Child::nothing());
+    table.passed = true;
+    table.section = number;
+    Ok((position, there))
+}
+
+// Puts a child in its place.
+fn put_back<'de>(table: &mut Table<'de>, position: usize, child: Child<'de>)
+    requires { position < length (out-Table table.old).entries }
+    ensures { PutsBack table.old position child.entry table.new }
+{
+    table.entries.put(position, child);
+}
+
+// What stands at a key in a table of a level, with the section in it whose header goes on by the keys that are left.
+#[cycle(walk)]
+fn enter_at<'de>(
+    alloc: Global,
+    there: Child<'de>,
+    rest: &[CowStr<'de>],
+    is_array: bool,
+    rows: Vec<Row<'de>>,
+    number: usize,
+    level: usize,
+) -> Result<Child<'de>, Clash>
+    requires { level ≤ 128 }
+    ensures { let rows = rows_view rows.entry.items in
+        let keys = map cow_str_bytes rest.now in
+        EntersChild (entered_at is_array rows keys (child_trie there.entry)) rows
+        (level + steps_at is_array keys (child_trie there.entry)) result }
+{
+    if is_array && rest.is_empty() {
+        return add_element(alloc, there, rows, number, level);
+    }
+    enter_child(alloc, there, rest, is_array, rows, number, level)
 }
 
 // The array of tables in a table of a level, with one more element.
@@ -106,6 +152,8 @@ fn add_element<'de>(
     level: usize,
 ) -> Result<Child<'de>, Clash>
     requires { level ≤ 128 }
+    ensures { let rows = rows_view rows.entry.items in
+        EntersChild (put_element rows (child_trie there.entry)) rows (level + 2) result }
 {
     let Child {
         start,
@@ -151,6 +199,10 @@ fn enter_child<'de>(
     level: usize,
 ) -> Result<Child<'de>, Clash>
     requires { level ≤ 128 }
+    ensures { let rows = rows_view rows.entry.items in
+        let keys = map cow_str_bytes rest.now in
+        EntersChild (entered_by is_array rows keys (child_trie there.entry)) rows
+        (level + steps_by is_array keys (child_trie there.entry)) result }
 {
     let Child {
         start,

@@ -2,7 +2,10 @@ use Rattle.std.proofs.Common.{◌+◌, ◌*◌, length}
 use Rattle.basic_toml_tree.proofs.headers.+walk.Given as goal
 
 abbrev pub decreases-enter_header : goal.decreases-enter_header
-decreases-enter_header l = 2 * length l.keys.now
+decreases-enter_header l = 3 * length l.keys.now
+
+abbrev pub decreases-enter_at : goal.decreases-enter_at
+decreases-enter_at l = 3 * length l.rest.now + 2
 
 abbrev pub decreases-enter_child : goal.decreases-enter_child
-decreases-enter_child l = 2 * length l.rest.now + 1
+decreases-enter_child l = 3 * length l.rest.now + 1

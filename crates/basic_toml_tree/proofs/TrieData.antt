@@ -1,0 +1,166 @@
+-- The data of an item's trie is that of the item.
+use Rattle.std.proofs.Common.{◌≡◌, ℕ, suc, List, [], ◌∷◌, ◌++◌, map, Some, None, Option, refl, ap, sym, ◌∙◌, subst, rules}
+use Rattle.std.proofs.Common.{length}
+use Rattle.std.specs.Prelude.{⊤}
+use Rattle.std.proofs.lemmas.List.{map-append}
+use Rattle.basic_toml_value.specs.Data.{Data, item, items_of, member, members_of}
+use Rattle.basic_toml_grammar.specs.Standing.{Standing, table, array}
+use Rattle.basic_toml_grammar.specs.Growth as growth
+use Rattle.basic_toml_grammar.specs.Trie.{Trie, trie, bare_tries}
+use Rattle.basic_toml_tree.specs.declared.item.Item.{Item, the_lemmas}
+use Rattle.basic_toml_tree.specs.declared.item.Item as items
+use Rattle.basic_toml_tree.specs.declared.item.Item.TheOpen.{Item-F, Child-F, Table-F}
+use Rattle.basic_toml_tree.specs.declared.item.Item.TheViews.{roll-Item, roll-Child, roll-Table}
+use Rattle.basic_toml_tree.specs.declared.item.Item.TheFolds.{ind-Table, map-Item}
+use Rattle.basic_toml_tree.specs.declared.item.Child.{Child}
+use Rattle.basic_toml_tree.specs.declared.item.Table.{Table}
+use Rattle.basic_toml_tree.specs.Item.{item_trie, child_trie, table_trie, tree_data, leaf, by_keys, by_numbers}
+use Rattle.basic_toml_tree.specs.Data.{data_of, child_data, table_data}
+
+-- the data at keys and at numbers
+members_keys : (ps : List (List ℕ × Trie))
+    → growth.members_of (bare_tries (by_keys ps)) ≡ members_of (map (λ p. (p.0, tree_data p.1)) ps)
+members_keys [] = refl
+members_keys (p ∷ ps) = ap (λ ms. member p.0 (tree_data p.1) ms) (members_keys ps)
+
+keys_data : (s : Option Standing) (ps : List (List ℕ × Trie))
+    → tree_data (trie s None (by_keys ps)) ≡ Data.table (members_of (map (λ p. (p.0, tree_data p.1)) ps))
+keys_data s [] = refl
+keys_data s (p ∷ ps) = ap Data.table (members_keys (p ∷ ps))
+
+items_numbers : (n : ℕ) (ts : List Trie)
+    → growth.items_of (bare_tries (by_numbers n ts)) ≡ items_of (map tree_data ts)
+items_numbers n [] = refl
+items_numbers n (t ∷ ts) = ap (λ ds. item (tree_data t) ds) (items_numbers (suc n) ts)
+
+numbers_data : (s : Option Standing) (n : ℕ) (before : List Trie) (t : Trie)
+    → tree_data (trie s None (by_numbers n (before ++ t ∷ [])))
+    ≡ Data.array (items_of (map tree_data (before ++ t ∷ [])))
+numbers_data s n [] t = refl
+numbers_data s n (b ∷ before) t = ap Data.array (items_numbers n (b ∷ (before ++ t ∷ [])))
+
+-- what is to be shown of an item, a child and a table
+abbrev OfItem : Item → Type 0
+OfItem i = tree_data (item_trie i) ≡ data_of i
+
+abbrev OfChild : Child → Type 0
+OfChild c = tree_data (child_trie c) ≡ child_data c
+
+abbrev OfTable : Table → Type 0
+OfTable t = tree_data (table_trie t) ≡ table_data t
+
+children_agree : (cs : List ((c : Child) × OfChild c))
+    → map tree_data (map child_trie (map (λ e. e.0) cs)) ≡ map child_data (map (λ e. e.0) cs)
+children_agree [] = refl
+children_agree (e ∷ es) = rw (e.1, children_agree es) refl
+
+tables_agree : (ts : List ((t : Table) × OfTable t))
+    → map tree_data (map table_trie (map (λ e. e.0) ts)) ≡ map table_data (map (λ e. e.0) ts)
+tables_agree [] = refl
+tables_agree (e ∷ es) = rw (e.1, tables_agree es) refl
+
+abbrev tries_of_entries : List (List ℕ × Child) → List (List ℕ × Data)
+tries_of_entries ps =
+    map (λ (p : List ℕ × Trie). (p.0, tree_data p.1)) (map (λ (p : List ℕ × Child). (p.0, child_trie p.1)) ps)
+
+abbrev data_of_entries : List (List ℕ × Child) → List (List ℕ × Data)
+data_of_entries ps = map (λ (p : List ℕ × Child). (p.0, child_data p.1)) ps
+
+entries_agree : (ps : List (List ℕ × ((c : Child) × OfChild c)))
+    → tries_of_entries (map (λ p. (p.0, p.1.0)) ps) ≡ data_of_entries (map (λ p. (p.0, p.1.0)) ps)
+entries_agree [] = refl
+entries_agree (p ∷ ps) = rw (p.1.1, entries_agree ps) refl
+
+-- that the parts of an item agree
+abbrev Agree : Item-F Item Child Table → Type 0
+Agree (Item-F.Array children) =
+    map tree_data (map child_trie children.items) ≡ map child_data children.items
+Agree (Item-F.Inline t) = OfTable t.value
+Agree (Item-F.Table t) = OfTable t.value
+Agree (Item-F.Tables before latest) =
+    (map tree_data (map table_trie before.items) ≡ map table_data before.items) × OfTable latest.value
+Agree _ = ⊤
+
+item_agrees : (x : Item-F Item Child Table) → Agree x → OfItem (roll-Item x)
+item_agrees Item-F.Nothing agree = search (rules, the_lemmas)
+item_agrees (Item-F.Integer z) agree = search (rules, the_lemmas)
+item_agrees (Item-F.Float text) agree = search (rules, the_lemmas)
+item_agrees (Item-F.Boolean b) agree = search (rules, the_lemmas)
+item_agrees (Item-F.String text) agree = search (rules, the_lemmas)
+item_agrees (Item-F.Array children) agree =
+    let a : item_trie (roll-Item (Item-F.Array children))
+    ≡ leaf (Data.array (items_of (map tree_data (map child_trie children.items)))) = search (rules, the_lemmas) in
+    let b : data_of (roll-Item (Item-F.Array children)) ≡ Data.array (items_of (map child_data children.items)) =
+    search (rules, the_lemmas) in
+    ap tree_data a ∙ ap (λ ds. Data.array (items_of ds)) agree ∙ sym b
+item_agrees (Item-F.Inline t) agree =
+    let a : item_trie (roll-Item (Item-F.Inline t)) ≡ leaf (tree_data (table_trie t.value)) =
+    search (rules, the_lemmas) in
+    let b : data_of (roll-Item (Item-F.Inline t)) ≡ table_data t.value = search (rules, the_lemmas) in
+    ap tree_data a ∙ agree ∙ sym b
+item_agrees (Item-F.Table t) agree =
+    let a : item_trie (roll-Item (Item-F.Table t)) ≡ table_trie t.value = search (rules, the_lemmas) in
+    let b : data_of (roll-Item (Item-F.Table t)) ≡ table_data t.value = search (rules, the_lemmas) in
+    ap tree_data a ∙ agree ∙ sym b
+item_agrees (Item-F.Tables before latest) agree =
+    let ts : List Trie = map table_trie before.items in
+    let s : Option Standing = Some (array (suc (length (map table_trie before.items)))) in
+    let a : item_trie (roll-Item (Item-F.Tables before latest))
+    ≡ trie (Some (array (suc (length (map table_trie before.items))))) None
+    (by_numbers 0 (map table_trie before.items ++ table_trie latest.value ∷ [])) = search (rules, the_lemmas) in
+    let b : data_of (roll-Item (Item-F.Tables before latest))
+    ≡ Data.array (items_of (map table_data before.items ++ table_data latest.value ∷ [])) =
+    search (rules, the_lemmas) in
+    let both : map tree_data (map table_trie before.items) ++ tree_data (table_trie latest.value) ∷ []
+    ≡ map table_data before.items ++ table_data latest.value ∷ [] = rw (agree.0, agree.1) refl in
+    ap tree_data a
+    ∙ numbers_data s 0 ts (table_trie latest.value)
+    ∙ ap (λ ds. Data.array (items_of ds)) (map-append tree_data ts (table_trie latest.value ∷ []) ∙ both)
+    ∙ sym b
+
+child_agrees : (x : Child-F Item Child Table) → OfItem x.item → OfChild (roll-Child x)
+child_agrees x agree =
+    let a : child_trie (roll-Child x) ≡ item_trie x.item = search (rules, the_lemmas) in
+    let b : child_data (roll-Child x) ≡ data_of x.item = search (rules, the_lemmas) in
+    ap tree_data a ∙ agree ∙ sym b
+
+table_agrees : (x : Table-F Item Child Table) → tries_of_entries x.entries ≡ data_of_entries x.entries
+    → OfTable (roll-Table x)
+table_agrees x agree =
+    let s : Option Standing = Some (table x.passed x.named x.dotted) in
+    let ps : List (List ℕ × Trie) = map (λ (p : List ℕ × Child). (p.0, child_trie p.1)) x.entries in
+    let a : table_trie (roll-Table x)
+    ≡ trie (Some (table x.passed x.named x.dotted)) None
+    (by_keys (map (λ (p : List ℕ × Child). (p.0, child_trie p.1)) x.entries)) = search (rules, the_lemmas) in
+    let b : table_data (roll-Table x) ≡ Data.table (members_of (data_of_entries x.entries)) =
+    search (rules, the_lemmas) in
+    ap tree_data a ∙ keys_data s ps ∙ ap (λ ds. Data.table (members_of ds)) agree ∙ sym b
+
+-- an item whose parts come with what is to be shown of them
+abbrev Item1 : Type 0
+Item1 = (i : Item) × OfItem i
+
+abbrev Child1 : Type 0
+Child1 = (c : Child) × OfChild c
+
+abbrev Table1 : Type 0
+Table1 = (t : Table) × OfTable t
+
+parts_agree : (y : Item-F Item1 Child1 Table1)
+    → Agree (map-Item Item1 Child1 Table1 Item Child Table (λ e. e.0) (λ e. e.0) (λ e. e.0) y)
+parts_agree Item-F.Nothing = tt
+parts_agree (Item-F.Integer z) = tt
+parts_agree (Item-F.Float text) = tt
+parts_agree (Item-F.Boolean b) = tt
+parts_agree (Item-F.String text) = tt
+parts_agree (Item-F.Array es) = children_agree es.items
+parts_agree (Item-F.Inline e) = e.value.1
+parts_agree (Item-F.Table e) = e.value.1
+parts_agree (Item-F.Tables before latest) = (tables_agree before.items, latest.value.1)
+
+pub table_trie_data : (t : Table) → tree_data (table_trie t) ≡ table_data t
+table_trie_data =
+    ind-Table OfItem OfChild OfTable (λ x y is. item_agrees x (subst Agree is (parts_agree y)))
+    (λ x y is. child_agrees x (subst (λ z. OfItem z.item) is y.item.1))
+    (λ x y is. table_agrees x
+    (subst (λ z. tries_of_entries z.entries ≡ data_of_entries z.entries) is (entries_agree y.entries)))

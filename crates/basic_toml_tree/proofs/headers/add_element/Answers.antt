@@ -1,0 +1,52 @@
+use Rattle.std.proofs.Common.{◌≡◌, [], ◌∷◌, ◌++◌, ◌+◌, ap, sym, ◌∙◌, arith, map, option_map, refl}
+use Rattle.basic_toml_grammar.specs.Trie.{put_element, put_table}
+use Rattle.basic_toml_read.specs.SectionView.{rows_view}
+use Rattle.basic_toml_tree.specs.declared.item.Item.TheViews.{roll-Child}
+use Rattle.basic_toml_tree.specs.declared.item.Item.{Tables}
+use Rattle.basic_toml_tree.specs.Item.{child_trie, table_trie}
+use Rattle.basic_toml_tree.specs.Headers.{EntersChild}
+use Rattle.basic_toml_tree.proofs.HeadersInATrie.{array_of, fresh}
+use Rattle.basic_toml_tree.proofs.HeadersEntered.{first_element, next_element, element_in, element_out, failed}
+use Rattle.basic_toml_tree.proofs.headers.add_element.Goals as goal
+use Rattle.basic_toml_tree.proofs.headers.add_element.Goals.{in-Nothing, in-Tables+in_ok-push-in-Tables}
+
+pub returns-in_err-latest : goal.returns-in_err-latest
+returns-in_err-latest c =
+    let rows = rows_view c.args.rows.items in
+    let puts : put_element (rows_view c.args.rows.items) (child_trie c.args.there)
+    ≡ option_map (λ u. array_of (map table_trie c.match-item.before.items) u)
+    (put_table (rows_view c.args.rows.items) fresh) =
+    elim c.match-item.branch [
+      | in-Nothing w ↦ first_element rows c.args.there c.match-item.before.items w.in-Nothing.is
+          (ap (λ b. b.items) w.before-is ∙ w.new-before.ensures.items)
+      | in-Tables+in_ok-push-in-Tables w ↦ next_element rows c.args.there w.in-Tables.before w.in-Tables.latest
+          c.match-item.before.items w.in-Tables.is
+          (ap (λ b. b.items) w.before-is ∙ w.in_ok-push-in-Tables.ensures.items
+          ∙ ap (λ t. w.in-Tables.before.items ++ t ∷ []) w.into_inner.ensures)
+    ] in
+    failed (EntersChild (put_element rows (child_trie c.args.there)) rows (c.args.level + 2))
+    c.from_residual-in_err-latest.result c.in_err-latest.field-0.0 c.from_residual-in_err-latest.ensures.1
+    (element_out c.in_err-latest.field-0.0 rows c.args.level (table_trie c.in_ok-table.table.value) c.args.there
+    c.match-item.before.items c.in_ok-table.ensures puts c.in_err-latest.ensures)
+
+pub returns : goal.returns
+returns c =
+    let rows = rows_view c.args.rows.items in
+    let puts : put_element (rows_view c.args.rows.items) (child_trie c.args.there)
+    ≡ option_map (λ u. array_of (map table_trie c.match-item.before.items) u)
+    (put_table (rows_view c.args.rows.items) fresh) =
+    elim c.match-item.branch [
+      | in-Nothing w ↦ first_element rows c.args.there c.match-item.before.items w.in-Nothing.is
+          (ap (λ b. b.items) w.before-is ∙ w.new-before.ensures.items)
+      | in-Tables+in_ok-push-in-Tables w ↦ next_element rows c.args.there w.in-Tables.before w.in-Tables.latest
+          c.match-item.before.items w.in-Tables.is
+          (ap (λ b. b.items) w.before-is ∙ w.in_ok-push-in-Tables.ensures.items
+          ∙ ap (λ t. w.in-Tables.before.items ++ t ∷ []) w.into_inner.ensures)
+    ] in
+    element_in rows c.args.level (table_trie c.in_ok-table.table.value) c.args.there
+    (roll-Child (record {
+      start = c.args.there.start;
+      section = c.args.there.section;
+      item = Tables c.match-item.before c.in_ok-latest.latest;
+    })) c.match-item.before
+    c.in_ok-latest.latest c.in_ok-table.ensures puts refl c.in_ok-latest.ensures

@@ -1,0 +1,44 @@
+use Rattle.std.proofs.Common.{◌<◌, ◌≤◌, ◌≢◌, ◌≡◌, ◌+◌, length, arith, rules, set}
+use Rattle.std.proofs.lemmas.List.{length-set, get_or-set_other}
+use Rattle.basic_toml_tree.specs.Item.{table_trie}
+use Rattle.basic_toml_tree.proofs.SectionsResolved.{want_of, goes_on_from_a_value, kept_out, goes_on, resolved}
+use Rattle.basic_toml_tree.proofs.tree.resolve.Goals as goal
+
+pub returns-in_err-at : goal.returns-in_err-at
+returns-in_err-at c = want_of c.args.sections.items c.from_residual.result c.from_residual.ensures.1
+
+pub returns-in-Some : goal.returns-in-Some
+returns-in-Some c = λ keyed.
+    goes_on_from_a_value c.as_slice.result.now c.args.sections.items c.in_ok-at.field-0 c.in-Some.at c.at.result
+    c.as_slice.ensures.value c.in-Some.is c.in_ok-at.ensures.some
+
+pub returns-in_err-root : goal.returns-in_err-root
+returns-in_err-root c =
+    want_of c.args.sections.items c.from_residual-in_err-root.result c.from_residual-in_err-root.ensures.1
+
+pub returns-in-Err : goal.returns-in-Err
+returns-in-Err c = λ keyed.
+    let within : c.loop-number.number < length c.loop-number.sections.items =
+    omega (arith, c.len-number-end.ensures, c.loop-number-test.true, c.loop-number.invariant.count) in
+    kept_out c.args.sections.items c.loop-number.sections.items c.loop-number.number
+    (table_trie c.loop-number.root.value) c.loop-number.invariant c.index_mut-section.result.now within
+    (search (rules, c.index_mut-section.ensures.value)) keyed c.in-Err.clash c.error.result c.in-Err.ensures.entered
+    c.enter_section.new.section c.enter_section.ensures.at c.error.ensures
+
+pub loop-number-preserved : goal.loop-number-preserved
+loop-number-preserved c =
+    let now = c.loop-number.sections.items in
+    let n = c.loop-number.number in
+    let next = c.enter_section.new.section in
+    let within : c.loop-number.number < length c.loop-number.sections.items =
+    omega (arith, c.len-number-end.ensures, c.loop-number-test.true, c.loop-number.invariant.count) in
+    goes_on c.args.sections.items now n (table_trie c.loop-number.root.value) c.loop-number.invariant
+    c.index_mut-section.result.now within (search (rules, c.index_mut-section.ensures.value)) (set now n next)
+    (table_trie c.in-Ok.root.value) c.in-Ok.ensures.entered (length-set now n next)
+    (λ k d past. get_or-set_other now n k next d (omega (arith, past)))
+
+pub returns : goal.returns
+returns c = λ keyed.
+    resolved c.args.sections.items c.loop-number.sections.items c.loop-number.number
+    (record { sections = c.loop-number.sections; root = c.loop-number.root }) c.loop-number.invariant
+    (omega (arith, c.len-number-end.ensures, c.loop-number-test.false)) keyed
