@@ -1,15 +1,19 @@
 -- Keys with their values in memory, and what is seen of them.
 use Rattle.std.proofs.Common.{◌≡◌, ℕ, suc, zero, ◌<◌, true, false, List, [], ◌∷◌, ◌++◌, length, refl, sym}
-use Rattle.std.proofs.Common.{ap, ◌∙◌, arith, Some, get_or, string_bytes}
+use Rattle.std.proofs.Common.{ap, ◌∙◌, arith, Some, get_or, string_bytes, take, IsTrue}
 use Rattle.std.specs.List.{slice_get, slice_set}
 use Rattle.std.proofs.lemmas.List.{map-append}
 use Rattle.basic_toml_value.specs.declared.pairs.Pair.{Pair}
 use Rattle.basic_toml_value.specs.Entries.{pair_seen, seen, texts_of}
-use Rattle.basic_toml_value.specs.Keys.{is_among}
+use Rattle.basic_toml_value.specs.Keys.{is_among, are_distinct}
 use Rattle.basic_toml_value.specs.Pairs.{keys_of, has_key}
 use Rattle.basic_toml_value.proofs.SeenPairs.{value_at-found, value_at-absent}
-use Rattle.basic_toml_value.proofs.DistinctKeys.{slice_get-last, is_among_at}
+use Rattle.basic_toml_value.proofs.DistinctKeys.{slice_get-last, is_among_at, is_among-before}
 use Rattle.basic_toml_tree.specs.Keyed.{with_value, values_of, EntersKey}
+
+take-front : (keys : List (List ℕ)) (key : List ℕ) → take (length keys) (keys ++ key ∷ []) ≡ keys
+take-front [] key = refl
+take-front (k ∷ ks) key = ap (λ ks. k ∷ ks) (take-front ks key)
 
 module _ {V : Type 0} where
   pub keys_of-seen : (pairs : List (Pair V)) → keys_of (seen pairs) ≡ texts_of pairs
@@ -25,10 +29,12 @@ module _ {V : Type 0} where
 
   -- a key that is found is entered
   pub entered_found : (pairs : List (Pair V)) (old : List (List ℕ × V)) (i : ℕ) (key : List ℕ) (v : V)
-      → seen pairs ≡ old → slice_get (texts_of pairs) i ≡ Some key → EntersKey key v old old i
-  entered_found pairs old i key v same found =
+      → seen pairs ≡ old → IsTrue (are_distinct (texts_of pairs)) → slice_get (texts_of pairs) i ≡ Some key
+      → EntersKey key v old old i
+  entered_found pairs old i key v same distinct found =
       let there : has_key old key ≡ true = rw (← same) (has_key-found pairs i key found) in record {
         at = rw (← same) (rw (keys_of-seen pairs) found);
+        first = rw (← same) (rw (keys_of-seen pairs) (is_among-before (texts_of pairs) i key distinct found));
         pairs = rw there refl;
       }
 
@@ -51,6 +57,8 @@ module _ {V : Type 0} where
       let none : has_key old key ≡ false = rw (← same) (has_key-seen pairs key ∙ absent) in record {
         at = rw (keys_of-seen (pairs ++ pair ∷ []), texts_of-push pairs pair, at_key, ← length-texts pairs)
             (slice_get-last (texts_of pairs) key);
+        first = rw (keys_of-seen (pairs ++ pair ∷ []), texts_of-push pairs pair, ← length-texts pairs)
+            (rw (take-front (texts_of pairs) (string_bytes pair.key)) absent);
         pairs = rw (none, seen-push pairs pair, same, at_key, at_value) refl;
       }
 

@@ -1,3 +1,6 @@
 pub mod HeadersNamed
 pub mod ItemData
+pub mod ItemTries
+pub mod KeysInATrie
 pub mod KeysSeen
+pub mod RowsEntered

@@ -29,12 +29,22 @@ pub(crate) enum Clash {
 }
 
 impl From<AllocError> for Clash {
+    ghost use Rattle.std.specs.Prelude.{◌≡◌};
+    ghost use Rattle.basic_toml_tree.specs.declared.clash.Clash.TheVariants.{Memory};
+
+    ghost from_gives = { λ _ clash. clash ≡ Memory };
+
     fn from(_error: AllocError) -> Clash {
         Clash::Memory
     }
 }
 
 impl<T: Drop> From<AllocFailed<T>> for Clash {
+    ghost use Rattle.std.specs.Prelude.{◌≡◌};
+    ghost use Rattle.basic_toml_tree.specs.declared.clash.Clash.TheVariants.{Memory};
+
+    ghost from_gives = { λ _ clash. clash ≡ Memory };
+
     fn from(_failed: AllocFailed<T>) -> Clash {
         Clash::Memory
     }

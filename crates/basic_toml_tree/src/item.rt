@@ -1,5 +1,10 @@
 //! What stands at a key or a number while the tree grows, and when it is grown.
 
+ghost use Rattle.std.specs.Prelude.{◌≡◌, IfOk, Some, None, false};
+ghost use Rattle.basic_toml_grammar.specs.Standing.{table as table_standing};
+ghost use Rattle.basic_toml_grammar.specs.Trie.{trie, nothing, no_tries};
+ghost use Rattle.basic_toml_tree.specs.Item.{child_trie, table_trie};
+
 use crate::keyed::Keyed;
 use basic_toml_value::Float;
 use std::alloc::{AllocError, Global};
@@ -55,7 +60,9 @@ pub(crate) struct Table<'de> {
 
 impl<'de> Child<'de> {
     /// Where nothing stands yet.
-    pub fn nothing() -> Child<'de> {
+    pub fn nothing() -> Child<'de>
+        ensures { child_trie result ≡ nothing }
+    {
         Child {
             start: 0,
             section: 0,
@@ -66,7 +73,9 @@ impl<'de> Child<'de> {
 
 impl<'de> Table<'de> {
     /// A table without entries, of which nothing is said yet.
-    pub fn new(alloc: Global) -> Result<Box<Table<'de>>, AllocError> {
+    pub fn new(alloc: Global) -> Result<Box<Table<'de>>, AllocError>
+        ensures { IfOk result (λ table. table_trie table.value ≡ trie (Some (table_standing false false false)) None no_tries) }
+    {
         let table = Table {
             passed: false,
             named: false,

@@ -96,6 +96,7 @@ impl<V: Drop> Keyed<V> {
     /// The value at a position.
     pub fn value(&self, position: usize) -> &V
         requires { position < length self.now }
+        ensures { slice_get (values_of self.now) position ≡ Some result.now }
     {
         &self.entries[position].value
     }
@@ -108,6 +109,15 @@ impl<V: Drop> Keyed<V> {
         ensures value { slice_get (values_of self.old) position ≡ Some result }
     {
         mem::replace(&mut self.entries[position].value, value)
+    }
+
+    /// Puts a value in the place of the one at a position.
+    pub fn put(&mut self, position: usize, value: V)
+        requires { position < length self.old }
+        ensures changed { self.new ≡ with_value self.old position value }
+        ensures count { length self.new ≡ length self.old }
+    {
+        let _ = self.replace(position, value);
     }
 
     /// The pairs in order.

@@ -1,9 +1,12 @@
 //! Rows: their values, and the tables that their keys lead through.
 
-ghost use Rattle.std.specs.Prelude.{◌≤◌};
+ghost use Rattle.std.specs.Prelude.{◌≡◌, ◌≤◌, [], ◌∷◌, ◌++◌, None, MatchOption};
+ghost use Rattle.basic_toml_value.specs.Data.{Data};
+ghost use Rattle.basic_toml_grammar.specs.Marks.{valued};
+ghost use Rattle.basic_toml_grammar.specs.Trie.{nothing, mark_here};
 ghost use Rattle.basic_toml_read.specs.SectionView.{rows_view};
-ghost use Rattle.basic_toml_tree.specs.Item.{table_trie};
-ghost use Rattle.basic_toml_tree.specs.Rows.{EntersRows};
+ghost use Rattle.basic_toml_tree.specs.Item.{leaf, child_trie, table_trie};
+ghost use Rattle.basic_toml_tree.specs.Rows.{EntersRow, EntersRows, Extends, key_texts};
 
 use crate::clash::{Clash, texts_of};
 use crate::item::{Child, Item, LIMIT, Table};
@@ -21,19 +24,32 @@ enum Met {
 }
 
 impl From<AllocError> for Met {
+    ghost use Rattle.std.specs.Prelude.{◌≡◌};
+    ghost use Rattle.basic_toml_tree.specs.declared.rows.Met.TheVariants.{Memory};
+
+    ghost from_gives = { λ _ met. met ≡ Memory };
+
     fn from(_error: AllocError) -> Met {
         Met::Memory
     }
 }
 
 impl<T: Drop> From<AllocFailed<T>> for Met {
+    ghost use Rattle.std.specs.Prelude.{◌≡◌};
+    ghost use Rattle.basic_toml_tree.specs.declared.rows.Met.TheVariants.{Memory};
+
+    ghost from_gives = { λ _ met. met ≡ Memory };
+
     fn from(_failed: AllocFailed<T>) -> Met {
         Met::Memory
     }
 }
 
 // What the last key of a row meets, where something stands.
-fn what_is_met(there: &Child<'_>, section: usize) -> Option<Met> {
+fn what_is_met(there: &Child<'_>, section: usize) -> Option<Met>
+    ensures { MatchOption result (child_trie there.now ≡ nothing)
+        (λ met. (d : Data) → mark_here (valued d) (child_trie there.now) ≡ None) }
+{
     match &there.item {
         Item::Nothing => None,
         Item::Table(table) => Some(if table.is_made() {
@@ -58,24 +74,23 @@ fn enter_row<'de>(
     keys: &[Row<'de>],
     last: &str,
     child: Child<'de>,
-) -> Result<Box<Table<'de>>, Met> {
+) -> Result<Box<Table<'de>>, Met>
+    ensures { (d : Data) → child_trie child.entry ≡ leaf d
+        → EntersRow (key_texts keys.entry.now ++ last.entry.now ∷ []) d (table_trie table.entry.value) result }
+{
     let mut table = table;
-    match keys.split_first() {
-        None => {
-            let position = table.entries.enter(last, Child::nothing())?;
-            let there = table.entries.replace(position, Child::nothing());
-            if let Some(met) = what_is_met(&there, child.section) {
-                return Err(met);
-            }
-            let _ = table.entries.replace(position, child);
+    let Some((row, rest)) = keys.split_first() else {
+        let position = table.entries.enter(last, Child::nothing())?;
+        if let Some(met) = what_is_met(table.entries.value(position), child.section) {
+            return Err(met);
         }
-        Some((row, rest)) => {
-            let position = table.entries.enter(row.key.as_str(), Child::nothing())?;
-            let there = table.entries.replace(position, Child::nothing());
-            let extended = extended(alloc, there, rest, last, child)?;
-            let _ = table.entries.replace(position, extended);
-        }
-    }
+        table.entries.put(position, child);
+        return Ok(table);
+    };
+    let position = table.entries.enter(row.key.as_str(), Child::nothing())?;
+    let there = table.entries.replace(position, Child::nothing());
+    let extended = extended(alloc, there, rest, last, child)?;
+    table.entries.put(position, extended);
     Ok(table)
 }
 
@@ -87,7 +102,10 @@ fn extended<'de>(
     keys: &[Row<'de>],
     last: &str,
     child: Child<'de>,
-) -> Result<Child<'de>, Met> {
+) -> Result<Child<'de>, Met>
+    ensures { (d : Data) → child_trie child.entry ≡ leaf d
+        → Extends (key_texts keys.entry.now ++ last.entry.now ∷ []) d (child_trie there.entry) result }
+{
     let Child {
         start,
         section,

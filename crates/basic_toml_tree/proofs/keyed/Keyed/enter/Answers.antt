@@ -5,7 +5,7 @@ use Rattle.basic_toml_tree.proofs.keyed.Keyed.enter.Goals as goal
 pub returns-in-At-clause-entered : goal.returns-in-At-clause-entered
 returns-in-At-clause-entered g c =
     entered_found c.self.inside.entries.items c.args.self.now c.in-At.position c.args.key.now c.args.value
-    c.self.view_is c.in-At.ensures.found
+    c.self.view_is c.self.invariant.distinct c.in-At.ensures.found
 
 pub returns-in-At-clause-within : goal.returns-in-At-clause-within
 returns-in-At-clause-within g c = stands_within _ _ c.args.key.now (returns-in-At-clause-entered g c).at

@@ -1,0 +1,44 @@
+-- The tries of items, one level at a time.
+use Rattle.std.proofs.Common.{◌≡◌, ◌∙◌, List, ℕ, Some, None, ap, sym, rules}
+use Rattle.basic_toml_grammar.specs.Standing as standings
+use Rattle.basic_toml_grammar.specs.Trie.{trie, standing}
+use Rattle.basic_toml_tree.specs.declared.item.Item.{the_lemmas}
+use Rattle.basic_toml_tree.specs.declared.item.Child.{Child, out-Child}
+use Rattle.basic_toml_tree.specs.declared.item.Table.{Table, out-Table, roll-Table}
+use Rattle.basic_toml_tree.specs.Item.{item_trie, child_trie, table_trie, by_keys}
+use Rattle.basic_toml_tree.proofs.KeysInATrie.{tries_of}
+
+-- the trie of a child is that of its item
+pub child_item_trie : (c : Child) → child_trie c ≡ item_trie (out-Child c).item
+child_item_trie c = search (rules, the_lemmas)
+
+-- the trie of a table has what is said of it, and the tries of its entries by their keys
+pub table_entries_trie : (t : Table)
+    → table_trie t
+    ≡ trie (Some (standings.table (out-Table t).passed (out-Table t).named (out-Table t).dotted)) None
+    (by_keys (tries_of child_trie (out-Table t).entries))
+unfolding tries_of
+table_entries_trie t = search (rules, the_lemmas)
+
+-- a table with other entries
+abbrev pub with_entries : Table → List (List ℕ × Child) → Table
+with_entries t ps = roll-Table (record {
+  passed = (out-Table t).passed;
+  named = (out-Table t).named;
+  dotted = (out-Table t).dotted;
+  section = (out-Table t).section;
+  entries = ps
+})
+
+pub entries_with : (t : Table) (ps : List (List ℕ × Child)) → (out-Table (with_entries t ps)).entries ≡ ps
+entries_with t ps = search (rules, the_lemmas)
+
+-- other entries after other ones
+pub with_entries_twice : (t : Table) (qs ps : List (List ℕ × Child))
+    → with_entries (with_entries t qs) ps ≡ with_entries t ps
+with_entries_twice t qs ps = search (rules, the_lemmas)
+
+pub with_entries_trie : (t : Table) (ps : List (List ℕ × Child))
+    → table_trie (with_entries t ps) ≡ trie (standing (table_trie t)) None (by_keys (tries_of child_trie ps))
+unfolding tries_of
+with_entries_trie t ps = search (rules, the_lemmas)
