@@ -27,7 +27,7 @@ with_entries t ps = roll-Table (record {
   named = (out-Table t).named;
   dotted = (out-Table t).dotted;
   section = (out-Table t).section;
-  entries = ps
+  entries = ps;
 })
 
 pub entries_with : (t : Table) (ps : List (List ℕ × Child)) → (out-Table (with_entries t ps)).entries ≡ ps

@@ -3,4 +3,5 @@ pub mod ItemData
 pub mod ItemTries
 pub mod KeysInATrie
 pub mod KeysSeen
+pub mod NodesInOrder
 pub mod RowsEntered

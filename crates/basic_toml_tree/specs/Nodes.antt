@@ -1,8 +1,10 @@
 -- The data of a node.
-use Rattle.std.specs.Prelude.{ℕ, ℤ, Bool, true, false, List, [], ◌∷◌, Option, Some, None, cond, drop, map, Bor}
+use Rattle.std.specs.Prelude.{ℕ, ℤ, Bool, true, false, List, [], ◌∷◌, Option, Some, None, cond, drop}
+use Rattle.std.specs.Borrow.{Bor}
 use Rattle.std.specs.Str.{bytes_eq}
 use Rattle.basic_toml_value.specs.Data.{Data, Items, no_items, item, Members, no_members, member}
-use Rattle.basic_toml_tree.specs.Data.{data_of, child_data, table_data}
+use Rattle.basic_toml_tree.specs.Data.{data_of, table_data}
+use Rattle.basic_toml_tree.specs.declared.item.Table.{Table}
 use Rattle.basic_toml_tree.specs.declared.node.Node.{Node}
 use Rattle.basic_toml_tree.specs.declared.node.Elements.{Elements}
 use Rattle.basic_toml_tree.specs.declared.node.Entries.{Entries}
@@ -11,7 +13,7 @@ use Rattle.basic_toml_tree.specs.declared.node.Spot.TheVariants as spots
 
 abbrev pub spot_data : Spot → Data
 spot_data (spots.Table table) = table_data table.now
-spot_data (spots.Item item) = data_of item.now
+spot_data (spots.Item found) = data_of found.now
 
 abbrev pub node_data : Node → Data
 node_data node = spot_data node.spot
@@ -37,6 +39,11 @@ string_in _ = None
 abbrev pub is_table : Data → Bool
 is_table (Data.table _) = true
 is_table _ = false
+
+-- the data of a table, and of one in which nothing stands
+abbrev pub maybe_table : Option (Bor Table) → Data
+maybe_table None = Data.table no_members
+maybe_table (Some found) = table_data found.now
 
 abbrev pub is_array : Data → Bool
 is_array (Data.array _) = true
@@ -72,7 +79,7 @@ abbrev pub elements_left : Elements → List Data
 elements_left e = drop e.at (elements_in (node_data e.array))
 
 abbrev pub entries_left : Entries → List (List ℕ × Data)
-entries_left e = drop e.at (entries_in (table_data e.table.now))
+entries_left e = drop e.at (entries_in (maybe_table e.table))
 
 -- a key with the data at it
 abbrev pub key_and_data : Bor (List ℕ) × Node → List ℕ × Data

@@ -6,7 +6,7 @@ ghost use Rattle.std.specs.Cow.{cow_str_bytes};
 ghost use Rattle.basic_toml_value.specs.Data.{table as table_of_members};
 ghost use Rattle.basic_toml_value.specs.View.{view, entries};
 ghost use Rattle.basic_toml_tree.specs.Data.{table_data, child_data};
-ghost use Rattle.basic_toml_tree.specs.Nodes.{node_data, integer_in, boolean_in, float_in, string_in, is_table, is_array, data_at};
+ghost use Rattle.basic_toml_tree.specs.Nodes.{node_data, integer_in, boolean_in, float_in, string_in, is_table, is_array, maybe_table, data_at};
 ghost use Rattle.basic_toml_tree.specs.Nodes.{elements_in, entries_in, elements_left, entries_left};
 
 use crate::item::{Child, Item, Table};
@@ -131,16 +131,19 @@ impl<'t, 'de> Node<'t, 'de> {
         }
     }
 
-    // The table here.
-    fn table(self) -> Option<&'t Table<'de>>
+    // The table here, and none for one in which nothing stands yet.
+    fn as_table(self) -> Option<Option<&'t Table<'de>>>
         ensures { MatchOption result (is_table (node_data self.entry) ≡ false)
-            (λ table. node_data self.entry ≡ table_data table.now) }
+            (λ table. node_data self.entry ≡ maybe_table table) }
     {
         match self.spot {
-            Spot::Table(table) => Some(table),
-            Spot::Item(Item::Inline(table)) => Some(table),
-            Spot::Item(Item::Table(table)) => Some(table),
-            _ => None,
+            Spot::Table(table) => Some(Some(table)),
+            Spot::Item(item) => match item {
+                Item::Inline(table) => Some(Some(table)),
+                Item::Table(table) => Some(Some(table)),
+                Item::Nothing => Some(None),
+                _ => None,
+            },
         }
     }
 
@@ -319,7 +322,7 @@ impl<'t, 'de> Node<'t, 'de> {
         ensures { MatchOption result (data_at (node_data self.entry) key.now ≡ None)
             (λ node. data_at (node_data self.entry) key.now ≡ Some (node_data node)) }
     {
-        let Some(table) = self.table() else {
+        let Some(Some(table)) = self.as_table() else {
             return None;
         };
         let Some(pair) = table.entries.get(key) else {
@@ -347,7 +350,7 @@ impl<'t, 'de> Node<'t, 'de> {
             (λ entries. IsTrue (is_table (node_data self.entry))
             × (entries_left entries ≡ entries_in (node_data self.entry))) }
     {
-        match self.table() {
+        match self.as_table() {
             Some(table) => Some(Entries {
                 node: self,
                 table,
@@ -391,8 +394,9 @@ impl<'t, 'de> Node<'t, 'de> {
         ensures { IfOk result (λ copy. MatchOption copy (is_table (node_data self.entry) ≡ false)
             (λ table. table_of_members (entries table) ≡ node_data self.entry)) }
     {
-        match self.table() {
-            Some(table) => Ok(Some(table_of(alloc, table)?)),
+        match self.as_table() {
+            Some(Some(table)) => Ok(Some(table_of(alloc, table)?)),
+            Some(None) => Ok(Some(values::Table::new(alloc))),
             None => Ok(None),
         }
     }
@@ -427,7 +431,8 @@ impl<'t, 'de> Iterator for Elements<'t, 'de> {
 #[derive(Clone, Copy, Drop)]
 pub struct Entries<'t, 'de> {
     node: Node<'t, 'de>,
-    table: &'t Table<'de>,
+    // none where nothing stands
+    table: Option<&'t Table<'de>>,
     at: usize,
 }
 
@@ -443,7 +448,9 @@ impl<'t, 'de> Iterator for Entries<'t, 'de> {
 
     fn next(&mut self) -> Option<(&'t str, Node<'t, 'de>)> {
         let at = self.at;
-        let table = self.table;
+        let Some(table) = self.table else {
+            return None;
+        };
         if at >= table.entries.len() {
             return None;
         }
