@@ -7,6 +7,7 @@ pub mod ItemData
 pub mod ItemTries
 pub mod KeysInATrie
 pub mod KeysSeen
+pub mod NodesInOrder
 pub mod RowsEntered
 pub mod Reasons
 pub mod RowsLeft

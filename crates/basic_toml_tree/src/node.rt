@@ -1,12 +1,13 @@
 //! The nodes of a tree.
 
-ghost use Rattle.std.specs.Prelude.{◌≡◌, ◌<◌, false, Some, None, IsSome, IfOk, MatchOption};
+ghost use Rattle.std.specs.Prelude.{◌≡◌, ◌<◌, ◌≤◌, false, Some, None, IsSome, IsTrue, IfOk, MatchOption, length, slice_get};
 ghost use Rattle.std.specs.Option.{option_copied};
 ghost use Rattle.std.specs.Cow.{cow_str_bytes};
 ghost use Rattle.basic_toml_value.specs.Data.{table as table_of_members};
 ghost use Rattle.basic_toml_value.specs.View.{view, entries};
 ghost use Rattle.basic_toml_tree.specs.Data.{table_data, child_data};
-ghost use Rattle.basic_toml_tree.specs.Nodes.{node_data, integer_in, boolean_in, float_in, string_in, is_table, data_at};
+ghost use Rattle.basic_toml_tree.specs.Nodes.{node_data, integer_in, boolean_in, float_in, string_in, is_table, is_array, maybe_table, data_at};
+ghost use Rattle.basic_toml_tree.specs.Nodes.{elements_in, entries_in, elements_left, entries_left};
 
 use crate::item::{Child, Item, Table};
 use crate::tree::Tree;
@@ -130,16 +131,19 @@ impl<'t, 'de> Node<'t, 'de> {
         }
     }
 
-    // The table here.
-    fn table(self) -> Option<&'t Table<'de>>
+    // The table here, and none for one in which nothing stands yet.
+    fn as_table(self) -> Option<Option<&'t Table<'de>>>
         ensures { MatchOption result (is_table (node_data self.entry) ≡ false)
-            (λ table. node_data self.entry ≡ table_data table.now) }
+            (λ table. node_data self.entry ≡ maybe_table table) }
     {
         match self.spot {
-            Spot::Table(table) => Some(table),
-            Spot::Item(Item::Inline(table)) => Some(table),
-            Spot::Item(Item::Table(table)) => Some(table),
-            _ => None,
+            Spot::Table(table) => Some(Some(table)),
+            Spot::Item(item) => match item {
+                Item::Inline(table) => Some(Some(table)),
+                Item::Table(table) => Some(Some(table)),
+                Item::Nothing => Some(None),
+                _ => None,
+            },
         }
     }
 
@@ -268,7 +272,9 @@ impl<'t, 'de> Node<'t, 'de> {
     }
 
     // A node among the elements of this array.
-    fn element(self, child: &'t Child<'de>) -> Node<'t, 'de> {
+    fn element(self, child: &'t Child<'de>) -> Node<'t, 'de>
+        ensures { node_data result ≡ child_data child.now }
+    {
         Node {
             spot: Spot::Item(&child.item),
             start: child.start,
@@ -276,7 +282,9 @@ impl<'t, 'de> Node<'t, 'de> {
         }
     }
 
-    fn element_table(self, table: &'t Table<'de>) -> Node<'t, 'de> {
+    fn element_table(self, table: &'t Table<'de>) -> Node<'t, 'de>
+        ensures { node_data result ≡ table_data table.now }
+    {
         let node = Node {
             spot: Spot::Table(table),
             ..self
@@ -286,7 +294,9 @@ impl<'t, 'de> Node<'t, 'de> {
 
     // The element at a number, if this is an array that has it.
     fn element_at(self, at: usize) -> Option<Node<'t, 'de>>
-        ensures { IsSome result → at < usize.MAX }
+        ensures within { IsSome result → at < usize.MAX }
+        ensures data { MatchOption result (length (elements_in (node_data self.entry)) ≤ at)
+            (λ node. slice_get (elements_in (node_data self.entry)) at ≡ Some (node_data node)) }
     {
         match self.spot {
             Spot::Item(Item::Array(children)) => match children.get(at) {
@@ -312,7 +322,7 @@ impl<'t, 'de> Node<'t, 'de> {
         ensures { MatchOption result (data_at (node_data self.entry) key.now ≡ None)
             (λ node. data_at (node_data self.entry) key.now ≡ Some (node_data node)) }
     {
-        let Some(table) = self.table() else {
+        let Some(Some(table)) = self.as_table() else {
             return None;
         };
         let Some(pair) = table.entries.get(key) else {
@@ -322,7 +332,11 @@ impl<'t, 'de> Node<'t, 'de> {
     }
 
     /// Its elements in order, if it is an array.
-    pub fn elements(self) -> Option<Elements<'t, 'de>> {
+    pub fn elements(self) -> Option<Elements<'t, 'de>>
+        ensures { MatchOption result (is_array (node_data self.entry) ≡ false)
+            (λ elements. IsTrue (is_array (node_data self.entry))
+            × (elements_left elements ≡ elements_in (node_data self.entry))) }
+    {
         match self.spot {
             Spot::Item(Item::Array(_)) => Some(Elements { array: self, at: 0 }),
             Spot::Item(Item::Tables(_, _)) => Some(Elements { array: self, at: 0 }),
@@ -331,8 +345,12 @@ impl<'t, 'de> Node<'t, 'de> {
     }
 
     /// Its keys with their values in order, if it is a table.
-    pub fn entries(self) -> Option<Entries<'t, 'de>> {
-        match self.table() {
+    pub fn entries(self) -> Option<Entries<'t, 'de>>
+        ensures { MatchOption result (is_table (node_data self.entry) ≡ false)
+            (λ entries. IsTrue (is_table (node_data self.entry))
+            × (entries_left entries ≡ entries_in (node_data self.entry))) }
+    {
+        match self.as_table() {
             Some(table) => Some(Entries {
                 node: self,
                 table,
@@ -376,8 +394,9 @@ impl<'t, 'de> Node<'t, 'de> {
         ensures { IfOk result (λ copy. MatchOption copy (is_table (node_data self.entry) ≡ false)
             (λ table. table_of_members (entries table) ≡ node_data self.entry)) }
     {
-        match self.table() {
-            Some(table) => Ok(Some(table_of(alloc, table)?)),
+        match self.as_table() {
+            Some(Some(table)) => Ok(Some(table_of(alloc, table)?)),
+            Some(None) => Ok(Some(values::Table::new(alloc))),
             None => Ok(None),
         }
     }
@@ -391,6 +410,13 @@ pub struct Elements<'t, 'de> {
 }
 
 impl<'t, 'de> Iterator for Elements<'t, 'de> {
+    ghost use Rattle.std.specs.Iterator.{YieldsFirstBy, item_count};
+    ghost use Rattle.basic_toml_tree.specs.Nodes.{node_data, elements_left};
+
+    ghost next_gives = { YieldsFirstBy node_data elements_left };
+
+    ghost remaining = { item_count elements_left };
+
     type Item = Node<'t, 'de>;
 
     fn next(&mut self) -> Option<Node<'t, 'de>> {
@@ -405,16 +431,26 @@ impl<'t, 'de> Iterator for Elements<'t, 'de> {
 #[derive(Clone, Copy, Drop)]
 pub struct Entries<'t, 'de> {
     node: Node<'t, 'de>,
-    table: &'t Table<'de>,
+    // none where nothing stands
+    table: Option<&'t Table<'de>>,
     at: usize,
 }
 
 impl<'t, 'de> Iterator for Entries<'t, 'de> {
+    ghost use Rattle.std.specs.Iterator.{YieldsFirstBy, item_count};
+    ghost use Rattle.basic_toml_tree.specs.Nodes.{key_and_data, entries_left};
+
+    ghost next_gives = { YieldsFirstBy key_and_data entries_left };
+
+    ghost remaining = { item_count entries_left };
+
     type Item = (&'t str, Node<'t, 'de>);
 
     fn next(&mut self) -> Option<(&'t str, Node<'t, 'de>)> {
         let at = self.at;
-        let table = self.table;
+        let Some(table) = self.table else {
+            return None;
+        };
         if at >= table.entries.len() {
             return None;
         }

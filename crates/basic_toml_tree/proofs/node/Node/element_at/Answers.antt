@@ -1,0 +1,78 @@
+use Rattle.std.proofs.Common.{◌≡◌, ◌∷◌, [], ◌++◌, length, map, Some, ap, sym, ◌∙◌, arith, subst, rules, length-append}
+use Rattle.std.specs.Prelude.{slice_get}
+use Rattle.basic_toml_tree.specs.declared.item.Item.{Array, Tables}
+use Rattle.basic_toml_tree.specs.Data.{data_of, child_data, table_data}
+use Rattle.basic_toml_tree.specs.Nodes.{node_data, elements_in}
+use Rattle.basic_toml_tree.proofs.NodesInOrder.{array_elements, tables_elements, mapped_read, mapped_length, front_read}
+use Rattle.basic_toml_tree.proofs.NodesInOrder.{last_read}
+use Rattle.basic_toml_tree.proofs.node.Node.element_at.Goals as goal
+
+pub returns-in-Some-clause-data : goal.returns-in-Some-clause-data
+returns-in-Some-clause-data c =
+    let here : node_data c.args.self ≡ data_of (Array c.in-Item-Array.children) = search (rules) in
+    let read = c.in-Some.ensures.lookup in
+    ap (λ d. slice_get (elements_in d) c.args.at) here
+    ∙ ap (λ ds. slice_get ds c.args.at) (array_elements c.in-Item-Array.children)
+    ∙ ap (λ xs. slice_get (map child_data xs) c.args.at) (sym c.deref.ensures.value)
+    ∙ mapped_read child_data c.deref.result.now c.args.at c.in-Some.child.now read.3.0 read.1
+    ∙ ap Some (sym c.element.ensures)
+
+pub returns-in-None-clause-data : goal.returns-in-None-clause-data
+returns-in-None-clause-data c =
+    let here : node_data c.args.self ≡ data_of (Array c.in-Item-Array.children) = search (rules) in
+    let past = c.in-None.ensures.lookup.3 in
+    let long : length (elements_in (node_data c.args.self)) ≡ length c.deref.result.now =
+    ap (λ d. length (elements_in d)) here ∙ ap length (array_elements c.in-Item-Array.children)
+    ∙ mapped_length child_data c.in-Item-Array.children.items ∙ ap length (sym c.deref.ensures.value) in
+    omega (arith, past, long)
+
+pub returns-in-Some-get-clause-data : goal.returns-in-Some-get-clause-data
+returns-in-Some-get-clause-data c =
+    let before = c.in-Item-Tables.before in
+    let latest = c.in-Item-Tables.latest in
+    let here : node_data c.args.self ≡ data_of (Tables c.in-Item-Tables.before c.in-Item-Tables.latest) = search (rules) in
+    let read = c.in-Some-get.ensures.lookup in
+    ap (λ d. slice_get (elements_in d) c.args.at) here
+    ∙ ap (λ ds. slice_get ds c.args.at) (tables_elements before latest)
+    ∙ front_read (map table_data before.items) (table_data latest.value ∷ []) c.args.at
+    (table_data c.in-Some-get.table.now)
+    (ap (λ xs. slice_get (map table_data xs) c.args.at) (sym c.deref-in-Item-Tables.ensures.value)
+    ∙ mapped_read table_data c.deref-in-Item-Tables.result.now c.args.at c.in-Some-get.table.now
+    read.3.0 read.1)
+    ∙ ap Some (sym c.element_table.ensures)
+
+pub returns-then-at-len-clause-data : goal.returns-then-at-len-clause-data
+returns-then-at-len-clause-data c =
+    let before = c.in-Item-Tables.before in
+    let latest = c.in-Item-Tables.latest in
+    let here : node_data c.args.self ≡ data_of (Tables c.in-Item-Tables.before c.in-Item-Tables.latest) = search (rules) in
+    let at : c.args.at ≡ length (map table_data c.in-Item-Tables.before.items) =
+    c.if-at-len.true ∙ c.len.ensures ∙ sym c.deref-in-Item-Tables.ensures.len
+    ∙ ap length c.deref-in-Item-Tables.ensures.value
+    ∙ sym (mapped_length table_data c.in-Item-Tables.before.items) in
+    ap (λ d. slice_get (elements_in d) c.args.at) here
+    ∙ ap (λ ds. slice_get ds c.args.at) (tables_elements before latest)
+    ∙ ap (λ i. slice_get (map table_data before.items ++ table_data latest.value ∷ []) i) at
+    ∙ last_read (map table_data before.items) (table_data latest.value)
+    ∙ ap (λ t. Some (table_data t)) (sym c.deref-then-at-len.ensures)
+    ∙ ap Some (sym c.element_table-then-at-len.ensures)
+
+pub returns-else-at-len-clause-data : goal.returns-else-at-len-clause-data
+returns-else-at-len-clause-data c =
+    let here : node_data c.args.self ≡ data_of (Tables c.in-Item-Tables.before c.in-Item-Tables.latest) = search (rules) in
+    let past = c.in-None-get.ensures.lookup.3 in
+    let long : length (elements_in (node_data c.args.self))
+    ≡ length (map table_data c.in-Item-Tables.before.items ++ table_data c.in-Item-Tables.latest.value ∷ []) =
+    ap (λ d. length (elements_in d)) here
+    ∙ ap length (tables_elements c.in-Item-Tables.before c.in-Item-Tables.latest) in
+    omega (
+      arith,
+      past,
+      long,
+      length-append (map table_data c.in-Item-Tables.before.items) (table_data c.in-Item-Tables.latest.value ∷ []),
+      mapped_length table_data c.in-Item-Tables.before.items,
+      ap length c.deref-in-Item-Tables.ensures.value,
+      c.deref-in-Item-Tables.ensures.len,
+      c.len.ensures,
+      c.if-at-len.false,
+    )
