@@ -7,6 +7,7 @@ use Rattle.basic_toml_grammar.specs.Statements.{PathsAgree, MarksFit, EveryClash
 use Rattle.basic_toml_grammar.specs.Statements.{GrammarGivesKeys, LevelsAreWithinDepth, DeepOffsetsAreOpened}
 use Rattle.basic_toml_grammar.specs.Statements.{ShallowTextIsFree, OldDocumentsStand, OrderIsFree, PlainOrderIsFree}
 use Rattle.basic_toml_grammar.specs.Statements.{EnteringAccepts, EnteringGrows, StopsAreNamed}
+use Rattle.basic_toml_grammar.specs.Statements.{TrieStopsAreNamed}
 use Rattle.basic_toml_grammar.proofs.GrammarIsUnambiguous.{one_section_list}
 use Rattle.basic_toml_grammar.proofs.TreeIsGrouped.{tree_is_grouped}
 use Rattle.basic_toml_grammar.proofs.KeysAreDistinct.{keys_are_distinct}
@@ -23,6 +24,7 @@ use Rattle.basic_toml_grammar.proofs.OrderIsFree.{order_free, plain_order_free}
 use Rattle.basic_toml_grammar.proofs.EnteringAccepts.{accepts}
 use Rattle.basic_toml_grammar.proofs.EnteringGrows.{tree_entered}
 use Rattle.basic_toml_grammar.proofs.StopsAreNamed.{stops_named}
+use Rattle.basic_toml_grammar.proofs.TrieStopsAreNamed.{trie_stops_named}
 
 pub unambiguous : GrammarIsUnambiguous
 unambiguous comment text sections others x y = one_section_list x y
@@ -74,3 +76,6 @@ growing sections marks e = tree_entered sections marks e
 
 pub stopping : StopsAreNamed
 stopping earlier s later marks stop k y d e f = stops_named earlier s later marks stop k y d e f
+
+pub trie_stopping : TrieStopsAreNamed
+trie_stopping earlier s later t stop k y d e f = trie_stops_named earlier s later t stop k y d e f

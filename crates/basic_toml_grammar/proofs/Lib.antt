@@ -55,4 +55,9 @@ pub mod SameSections
 pub mod OffsetsForgotten
 pub mod RespelledLaws
 pub mod WorkedChanges
+pub mod MarksInATrie
+pub mod ChangesByPath
+pub mod TrieIsEntering
+pub mod StopsByPath
+pub mod TrieStopsAreNamed
 pub mod LawsHold
