@@ -2,7 +2,6 @@
 use Rattle.std.proofs.Common.{◌≡◌, ℕ, zero, suc, Bool, true, false, List, [], ◌∷◌, ◌++◌, Option, Some, None, refl, ap}
 use Rattle.std.proofs.Common.{sym, ◌∙◌, subst, length}
 use Rattle.std.specs.Prelude.{if◌then◌else◌, option_map}
-use Rattle.std.specs.List.{flat_map}
 use Rattle.basic_toml_value.specs.Data.{Data}
 use Rattle.basic_toml_grammar.specs.Sections.{Key, KeyTexts, texts, Raw, Elements, no_elements, element, Rows}
 use Rattle.basic_toml_grammar.specs.Sections.{no_rows, row, Section}
@@ -10,13 +9,12 @@ use Rattle.basic_toml_grammar.specs.Steps.{Step, key, number, Path}
 use Rattle.basic_toml_grammar.specs.Mentions.{finished}
 use Rattle.basic_toml_grammar.specs.Marks.{MarkKind, passed, by_latest, named, added, dotted, valued, Mark, mark}
 use Rattle.basic_toml_grammar.specs.Standing.{Standing, fits, standing_at}
-use Rattle.basic_toml_grammar.specs.NamedClash.{last_key, dotted_faults, NamesClash}
-use Rattle.basic_toml_grammar.specs.Entering.{element_count, count_at, enter_all, is_keyed, all_keyed}
-use Rattle.basic_toml_grammar.specs.Trie.{Trie, nothing, count, put_sections}
-use Rattle.basic_toml_grammar.specs.Stops.{Stop, at_row, header_stop, last_stop, held_stop, Outcome, goes_on, stops}
+use Rattle.basic_toml_grammar.specs.NamedClash.{last_key}
+use Rattle.basic_toml_grammar.specs.Entering.{element_count, count_at, enter_all}
+use Rattle.basic_toml_grammar.specs.Trie.{Trie, nothing, count}
+use Rattle.basic_toml_grammar.specs.Stops.{Stop, at_row, header_stop, last_stop, Outcome, goes_on, stops}
 use Rattle.basic_toml_grammar.specs.Stops.{and_on, held, try_mark, try_row, try_rows, try_value, try_elements}
 use Rattle.basic_toml_grammar.specs.Stops.{try_header, try_table, try_element, try_latest, try_walk, try_enter}
-use Rattle.basic_toml_grammar.specs.Stops.{stop_fault}
 use Rattle.basic_toml_grammar.specs.TrieStops.{outcome_map, try_here, try_step, try_put_row, try_put_rows}
 use Rattle.basic_toml_grammar.specs.TrieStops.{try_put_value, try_put_elements, try_put_table, try_put_element}
 use Rattle.basic_toml_grammar.specs.TrieStops.{try_go_on, try_by_keys, try_put_section}

@@ -1,6 +1,6 @@
 -- What stops a section that is put into a trie, own: the steps of `Trie`, where each names what stands at its node as
 -- `Stops` does at its path. What stops is the same (law `trie_stops_are_named`).
-use Rattle.std.specs.Prelude.{ℕ, zero, suc, Bool, true, false, if◌then◌else◌, List, [], ◌∷◌, ◌++◌, Option, Some, length}
+use Rattle.std.specs.Prelude.{ℕ, zero, suc, Bool, if◌then◌else◌, List, [], ◌∷◌, ◌++◌, Option, Some, length}
 use Rattle.std.specs.Option.{option_or}
 use Rattle.basic_toml_value.specs.Data.{Data}
 use Rattle.basic_toml_grammar.specs.Sections.{Key, KeyTexts, texts, Raw, Elements, no_elements, element, Rows}
