@@ -1,6 +1,6 @@
 -- A section list clashes exactly where it allows a clash fault.
-use Rattle.std.proofs.Common.{◌≡◌, ℕ, Bool, true, false, not, cond, List, [], ◌∷◌, ◌++◌, refl, ap, sym, ◌∙◌, length}
-use Rattle.std.specs.Prelude.{◌&&◌, ◌||◌, ◌-◌, if◌then◌else◌}
+use Rattle.std.proofs.Common.{◌≡◌, ℕ, Bool, true, false, not, cond, List, [], ◌∷◌, ◌++◌, ◌<◌, arith, refl, ap, sym, ◌∙◌, length}
+use Rattle.std.specs.Prelude.{◌&&◌, ◌||◌, ◌-◌, if◌then◌else◌, Contains}
 use Rattle.std.specs.List.{list_any, flat_map}
 use Rattle.std.proofs.lemmas.List.Folds.{list_any-append}
 use Rattle.basic_toml_grammar.specs.Sections.{Key, KeyTexts, texts, Raw, Elements, no_elements, element, Rows}
@@ -18,6 +18,7 @@ use Rattle.basic_toml_grammar.specs.NamedClash.{repeated_faults_in, repeated_fau
 use Rattle.basic_toml_grammar.specs.NamedClash.{first_key, first_of_several, dotted_fault, key_fault, last_key}
 use Rattle.basic_toml_grammar.specs.NamedClash.{table_fault, array_fault, path_faults, cut_faults, crossing_fault}
 use Rattle.basic_toml_grammar.specs.NamedClash.{row_faults, pair_faults, section_faults, first_of_two, clash_faults}
+use Rattle.basic_toml_grammar.specs.NamedClash.{NamesClash}
 
 abbrev any_fault : List Fault → Bool
 any_fault faults = list_any (λ f. true) faults
@@ -255,3 +256,11 @@ every_clash_named sections =
 
     pairs : List Fault
     pairs = section_faults (located sections)
+
+-- a clash that is named stands
+pub named_clashes : (sections : List Section) (f : Fault) → NamesClash sections f → has_clash sections ≡ true
+named_clashes sections f c = sym (every_clash_named sections) ∙ some (clash_faults sections) c
+  where
+    some : (fs : List Fault) → Contains fs f → list_any (λ g. true) fs ≡ true
+    some [] c = let h : c.0 < 0 = c.1 in absurd (omega arith)
+    some (g ∷ fs) c = refl

@@ -7,7 +7,7 @@ use Rattle.basic_toml_grammar.specs.Statements.{PathsAgree, MarksFit, EveryClash
 use Rattle.basic_toml_grammar.specs.Statements.{GrammarGivesKeys, LevelsAreWithinDepth, DeepOffsetsAreOpened}
 use Rattle.basic_toml_grammar.specs.Statements.{ShallowTextIsFree, OldDocumentsStand, OrderIsFree, PlainOrderIsFree}
 use Rattle.basic_toml_grammar.specs.Statements.{EnteringAccepts, EnteringGrows, TrieIsEntering, TrieGivesLevels}
-use Rattle.basic_toml_grammar.specs.Statements.{StopsAreNamed}
+use Rattle.basic_toml_grammar.specs.Statements.{StopsAreNamed, TrieStopsAreNamed}
 use Rattle.basic_toml_grammar.proofs.GrammarIsUnambiguous.{one_section_list}
 use Rattle.basic_toml_grammar.proofs.TreeIsGrouped.{tree_is_grouped}
 use Rattle.basic_toml_grammar.proofs.KeysAreDistinct.{keys_are_distinct}
@@ -26,6 +26,7 @@ use Rattle.basic_toml_grammar.proofs.EnteringGrows.{tree_entered}
 use Rattle.basic_toml_grammar.proofs.SectionsInATrie.{bare_is_growth}
 use Rattle.basic_toml_grammar.proofs.StepsArePaths.{level_is_tree_level}
 use Rattle.basic_toml_grammar.proofs.StopsAreNamed.{stops_named}
+use Rattle.basic_toml_grammar.proofs.TrieStopsAreNamed.{trie_stops_named}
 
 pub unambiguous : GrammarIsUnambiguous
 unambiguous comment text sections others x y = one_section_list x y
@@ -83,3 +84,6 @@ levels_there earlier s t e = level_is_tree_level earlier s t e
 
 pub stopping : StopsAreNamed
 stopping earlier s later marks stop k y d e f = stops_named earlier s later marks stop k y d e f
+
+pub trie_stopping : TrieStopsAreNamed
+trie_stopping earlier s later t stop k y d e f = trie_stops_named earlier s later t stop k y d e f

@@ -65,4 +65,6 @@ pub mod TrieIsEntering
 pub mod SectionsInATrie
 pub mod RowsInATrie
 pub mod StepsArePaths
+pub mod StopsByPath
+pub mod TrieStopsAreNamed
 pub mod LawsHold

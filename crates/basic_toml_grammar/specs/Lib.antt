@@ -28,6 +28,7 @@ pub mod Standing
 pub mod Entering
 pub mod Stops
 pub mod Trie
+pub mod TrieStops
 -- What the laws say
 pub mod OldRules
 pub mod Respelled

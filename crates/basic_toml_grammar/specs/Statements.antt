@@ -18,6 +18,8 @@ use Rattle.basic_toml_grammar.specs.Standing.{take_all, growth_of}
 use Rattle.basic_toml_grammar.specs.Entering.{is_keyed, all_keyed, enter_all}
 use Rattle.basic_toml_grammar.specs.Trie.{Trie, nothing, put_sections, section_level_in, bare}
 use Rattle.basic_toml_grammar.specs.Stops.{Stop, stops, stop_fault, try_enter}
+use Rattle.basic_toml_grammar.specs.Trie.{Trie, nothing, put_sections}
+use Rattle.basic_toml_grammar.specs.TrieStops.{try_put_section}
 use Rattle.basic_toml_grammar.specs.Depth.{depth}
 use Rattle.basic_toml_grammar.specs.Levels.{highest_level}
 use Rattle.basic_toml_grammar.specs.Distinct.{is_distinct}
@@ -171,4 +173,12 @@ StopsAreNamed = (earlier : List Section) (s : Section) (later : List Section) (m
     → all_keyed earlier ≡ true → is_keyed s ≡ true
     → flat_map (λ s. dotted_faults s.rows) (earlier ++ s ∷ later) ≡ []
     → enter_all earlier [] ≡ Some marks → try_enter s marks ≡ stops stop
+    → NamesClash (earlier ++ s ∷ later) (stop_fault s stop)
+
+-- and so is what stops one that is put into a trie
+abbrev pub TrieStopsAreNamed : Type 0
+TrieStopsAreNamed = (earlier : List Section) (s : Section) (later : List Section) (t : Trie) (stop : Stop)
+    → all_keyed earlier ≡ true → is_keyed s ≡ true
+    → flat_map (λ s. dotted_faults s.rows) (earlier ++ s ∷ later) ≡ []
+    → put_sections earlier nothing ≡ Some t → try_put_section s t ≡ stops stop
     → NamesClash (earlier ++ s ∷ later) (stop_fault s stop)

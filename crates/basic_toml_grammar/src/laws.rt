@@ -1,6 +1,6 @@
 //! Laws about what a text means, each as the contract of a function that does nothing.
 
-ghost use Rattle.basic_toml_grammar.specs.Statements.{GrammarIsUnambiguous, GrammarIsRead, GrammarGivesKeys, LevelsAreWithinDepth, DeepOffsetsAreOpened, ShallowTextIsFree, TreeIsGrouped, KeysAreDistinct, ClashesAgree, PathsAgree, MarksFit, EveryClashIsNamed, OldDocumentsStand, OffsetsMeanNothing, ReturnsMeanNothing, ByteOrderMarkMeansNothing, OrderIsFree, PlainOrderIsFree, ReorderedMeansTheSame, PlainReorderedMeansTheSame, SameMapsAreAsDeep, EnteringAccepts, EnteringGrows, TrieIsEntering, TrieGivesLevels, StopsAreNamed};
+ghost use Rattle.basic_toml_grammar.specs.Statements.{GrammarIsUnambiguous, GrammarIsRead, GrammarGivesKeys, LevelsAreWithinDepth, DeepOffsetsAreOpened, ShallowTextIsFree, TreeIsGrouped, KeysAreDistinct, ClashesAgree, PathsAgree, MarksFit, EveryClashIsNamed, OldDocumentsStand, OffsetsMeanNothing, ReturnsMeanNothing, ByteOrderMarkMeansNothing, OrderIsFree, PlainOrderIsFree, ReorderedMeansTheSame, PlainReorderedMeansTheSame, SameMapsAreAsDeep, EnteringAccepts, EnteringGrows, TrieIsEntering, TrieGivesLevels, StopsAreNamed, TrieStopsAreNamed};
 
 /// The grammar gives a text at most one section list.
 pub fn grammar_is_unambiguous()
@@ -147,4 +147,10 @@ pub fn trie_gives_levels()
 #[tactic(auto, using(crate::proofs::LawsHold::stopping))]
 pub fn stops_are_named()
     ensures { StopsAreNamed }
+{}
+
+/// So is what stops a section that is put into a trie.
+#[tactic(auto, using(crate::proofs::LawsHold::trie_stopping))]
+pub fn trie_stops_are_named()
+    ensures { TrieStopsAreNamed }
 {}
