@@ -38,7 +38,8 @@ element_seen : (e : elements.Element) (rest : List elements.Element) (v : Raw)
 element_seen e rest v some =
     ap (λ v. with_element (placed_of e).offset v (elements_view rest)) (element_value e ∙ some)
 
-one_more : (ds : List Data) (d : Data) (rest : Items) → before_items (ds ++ d ∷ []) rest ≡ before_items ds (item d rest)
+one_more : (ds : List Data) (d : Data) (rest : Items) → before_items (ds ++ d ∷ []) rest
+    ≡ before_items ds (item d rest)
 one_more [] d rest = refl
 one_more (e ∷ ds) d rest = ap (λ is. item e is) (one_more ds d rest)
 
@@ -51,7 +52,8 @@ pub element_entered : (whole : Elements) (level : ℕ) (children : List Child) (
 element_entered whole level children child e rest v some left done =
     let seen = element_seen e rest v some in
     let was = subst (λ (es : Elements). ElementsAreLeft whole level (map child_trie children) es) seen left in
-    let datas : map tree_data (map child_trie (children ++ child ∷ [])) ≡ map tree_data (map child_trie children) ++ finished v ∷ []
+    let datas : map tree_data (map child_trie (children ++ child ∷ []))
+    ≡ map tree_data (map child_trie children) ++ finished v ∷ []
     = ap (map tree_data) (map-append child_trie children (child ∷ []))
     ∙ map-append tree_data (map child_trie children) (child_trie child ∷ [])
     ∙ ap (λ t. map tree_data (map child_trie children) ++ tree_data t ∷ []) done.value in

@@ -32,11 +32,13 @@ pub inline_finished : (rs : Vec lines.Row Global) (table : Box Table Global) (s 
     → before ≡ trie s None no_tries → AreIn (rows_view rs.items) (level + 1) before (table_trie table.value)
     → IsFinished v level (item_trie (items.Inline table))
 inline_finished rs table s before level v seen low empty done =
-    let is : item_trie (items.Inline table) ≡ leaf (tree_data (table_trie table.value)) = search (rules, items.the_lemmas) in
+    let is : item_trie (items.Inline table) ≡ leaf (tree_data (table_trie table.value)) =
+    search (rules, items.the_lemmas) in
     let fits = done.fits in
     finished_is v (Raw.inline (rows_view rs.items)) level (item_trie (items.Inline table)) (sym (inline_of rs) ∙ seen)
     (record {
-      value = is ∙ ap leaf (inline_data (rows_view rs.items) s (table_trie table.value) (rows_are_keyed rs.items) done.apart
+      value = is ∙ ap leaf (inline_data (rows_view rs.items) s (table_trie table.value) (rows_are_keyed rs.items)
+          done.apart
           (ap (λ t. put_rows (rows_view rs.items) t) (sym empty) ∙ done.put));
       apart = done.apart;
       fits = omega arith;

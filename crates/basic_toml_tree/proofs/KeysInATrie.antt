@@ -1,5 +1,6 @@
 -- A key that is entered among keys with their values, and what stands at it in the trie of these.
-use Rattle.std.proofs.Common.{◌≡◌, ℕ, suc, zero, true, false, ◌||◌, List, [], ◌∷◌, ◌++◌, refl, sym, take, if◌then◌else◌}
+use Rattle.std.proofs.Common.{◌≡◌, ℕ, suc, zero, true, false, ◌||◌, List, [], ◌∷◌, ◌++◌, refl, sym, take}
+use Rattle.std.proofs.Common.{if◌then◌else◌}
 use Rattle.std.proofs.Common.{ap, ◌∙◌, Option, Some, None, map, Bool}
 use Rattle.std.specs.List.{slice_get}
 use Rattle.std.specs.Str.{bytes_eq}
@@ -116,11 +117,13 @@ module _ {V : Type 0} (f : V → Trie) where
       (entered : EntersKey k fresh old new position) where
     last_nothing : tries_of (old ++ (k, fresh) ∷ []) ≡ tries_of old ++ (k, nothing) ∷ []
     unfolding tries_of
-    last_nothing = map-append (λ p. (p.0, f p.1)) old ((k, fresh) ∷ []) ∙ ap (λ t. tries_of old ++ (k, t) ∷ []) is_nothing
+    last_nothing = map-append (λ p. (p.0, f p.1)) old ((k, fresh) ∷ [])
+        ∙ ap (λ t. tries_of old ++ (k, t) ∷ []) is_nothing
 
     among_entered : (g : Trie → Option Trie)
         → among (steps.key k) g (by_keys (tries_of new)) ≡ among (steps.key k) g (by_keys (tries_of old))
-    among_entered g = ap (λ ps. among (steps.key k) g (by_keys (tries_of ps))) entered.pairs ∙ by_case (has_key old k) refl
+    among_entered g =
+        ap (λ ps. among (steps.key k) g (by_keys (tries_of ps))) entered.pairs ∙ by_case (has_key old k) refl
       where
         by_case : (b : Bool) → has_key old k ≡ b
             → among (steps.key k) g (by_keys (tries_of (if b then old else old ++ (k, fresh) ∷ [])))
@@ -152,7 +155,8 @@ module _ {V : Type 0} (f : V → Trie) where
       pub stood_there : find (steps.key k) (by_keys (tries_of old)) ≡ f there
       stood_there =
           sym find_entered
-          ∙ found_first (tries_of new) position k (f there) at_mapped first_mapped (value_mapped new position there stands)
+          ∙ found_first (tries_of new) position k (f there) at_mapped first_mapped (value_mapped new position
+          there stands)
 
       -- a change there gives the keys with what it gives, also where the value is taken out first
       pub change_put_once : (g : Trie → Option Trie) (child : V) → g (f there) ≡ Some (f child)
@@ -167,7 +171,8 @@ module _ {V : Type 0} (f : V → Trie) where
           → among (steps.key k) g (by_keys (tries_of old))
           ≡ Some (by_keys (tries_of (with_value (with_value new position v) position child)))
       change_put g child v changed =
-          change_put_once g child changed ∙ ap (λ ps. Some (by_keys (tries_of ps))) (sym (with_twice new position v child))
+          change_put_once g child changed
+          ∙ ap (λ ps. Some (by_keys (tries_of ps))) (sym (with_twice new position v child))
 
       -- a change there that is refused
       pub change_refused : (g : Trie → Option Trie) → g (f there) ≡ None

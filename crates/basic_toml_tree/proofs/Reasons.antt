@@ -1,7 +1,5 @@
 -- Why something is kept out of the tree, apart from where: what each reason says.
-use Rattle.std.proofs.Common.{◌⊎◌}
-use Rattle.std.proofs.Common.{◌≡◌, ◌<◌, ℕ, true, inr}
-use Rattle.std.proofs.Common.{Option, None, Err}
+use Rattle.std.proofs.Common.{◌≡◌, ◌<◌, ◌⊎◌, ℕ, true, inr, Option, None, Err}
 use Rattle.std.specs.Bool.{⊤}
 use Rattle.basic_toml_value.specs.Nesting.{nesting_limit}
 use Rattle.basic_toml_grammar.specs.Sections.{Raw, Rows}
@@ -63,7 +61,8 @@ unfinished_for v level Named u = u
 unfinished_for v level Redefined u = u
 unfinished_for v level (Row path key offset) u = u
 
-pub kept_for_met : {A : Type 0} (f : A → Trie) (changed : Option Trie) (rows : Rows) (level : ℕ) (before : Trie) (met : Met)
+pub kept_for_met : {A : Type 0} (f : A → Trie) (changed : Option Trie) (rows : Rows) (level : ℕ) (before : Trie)
+    (met : Met)
     → Enters f changed (Err met) → (changed ≡ None → put_rows rows before ≡ None)
     → KeptFor rows level before (met_reason met)
 kept_for_met f changed rows level before mets.Memory entered on = tt

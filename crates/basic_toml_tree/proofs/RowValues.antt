@@ -14,7 +14,8 @@ use Rattle.basic_toml_read.specs.declared.section.Row as lines
 use Rattle.basic_toml_tree.specs.declared.clash.Clash.{Clash}
 use Rattle.basic_toml_tree.specs.declared.rows.Met.{Met}
 use Rattle.basic_toml_tree.specs.Item.{leaf}
-use Rattle.basic_toml_tree.specs.Rows.{AreIn, AreKeptOut, is_dot, all_dots, key_texts, Reason, memory, deep, crossed, reason}
+use Rattle.basic_toml_tree.specs.Rows.{AreIn, AreKeptOut, is_dot, all_dots, key_texts, Reason, memory, deep, crossed}
+use Rattle.basic_toml_tree.specs.Rows.{reason}
 use Rattle.basic_toml_tree.specs.Rows.{met_reason, Enters, IsFinished, IsUnfinished}
 use Rattle.basic_toml_tree.proofs.Reasons.{KeptFor, kept_for, UnfinishedFor, for_unfinished, kept_for_met}
 use Rattle.basic_toml_tree.proofs.RowsLeft.{line_keys, line_texts, line_view, has_value, clash_alone, then_same}
@@ -64,7 +65,8 @@ module _ (keys : List lines.Row) (r : lines.Row) (level : ℕ) (before : Trie) (
       → ((v : Raw) → raw_of (lines.out-Row r).value ≡ Some v → IsUnfinished v (level + length keys) clash)
       → AreKeptOut (rows_view (keys ++ r ∷ [])) level before held
   value_kept_out clash held same unfinished =
-      kept_for (rows_view (keys ++ r ∷ [])) level before held (subst (λ (why : Reason). KeptFor (rows_view (keys ++ r ∷ [])) level before why) (sym same)
+      kept_for (rows_view (keys ++ r ∷ [])) level before held (subst
+      (λ (why : Reason). KeptFor (rows_view (keys ++ r ∷ [])) level before why) (sym same)
       (subst (λ (rs : Rows). KeptFor rs level before (reason clash)) (sym one)
       (kept_by_value ks (lined_of r).start w.0 level (level + length keys) before (reason clash) last_level
       (for_unfinished w.0 (level + length keys) clash (unfinished w.0 seen)))))
@@ -97,11 +99,13 @@ module _ (keys : List lines.Row) (r : lines.Row) (level : ℕ) (before : Trie) (
         }
 
     -- something is met
-    pub value_met : (child : Trie) {A : Type 0} (f : A → Trie) (met : Met) (clash : Clash) → reason clash ≡ met_reason met
+    pub value_met : (child : Trie) {A : Type 0} (f : A → Trie) (met : Met) (clash : Clash)
+        → reason clash ≡ met_reason met
         → ((v : Raw) → raw_of (lines.out-Row r).value ≡ Some v → IsFinished v (level + length keys) child)
         → ((d : Data) → child ≡ leaf d → Enters f (put_row texts_are d before) (Err met))
         → AreKeptOut (rows_view (keys ++ r ∷ [])) level before clash
     value_met child f met clash same done entered =
-        kept_for (rows_view (keys ++ r ∷ [])) level before clash (subst (λ (why : Reason). KeptFor (rows_view (keys ++ r ∷ [])) level before why) (sym same)
+        kept_for (rows_view (keys ++ r ∷ [])) level before clash (subst
+        (λ (why : Reason). KeptFor (rows_view (keys ++ r ∷ [])) level before why) (sym same)
         (kept_for_met f (put_row texts_are (finished w.0) before) (rows_view (keys ++ r ∷ [])) level before met
         (entered (finished w.0) (done w.0 seen).value) (λ none. put_one ∙ none)))

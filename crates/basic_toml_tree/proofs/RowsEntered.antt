@@ -1,5 +1,6 @@
 -- A row put into a table: its first key, and what that key leads to.
-use Rattle.std.proofs.Common.{◌≡◌, ℕ, List, [], ◌∷◌, ◌++◌, ap, ◌∙◌, refl, sym, Option, Some, None, Err, rules, length, arith, Box, Global, subst}
+use Rattle.std.proofs.Common.{◌≡◌, ℕ, List, [], ◌∷◌, ◌++◌, ap, ◌∙◌, refl, sym, Option, Some, None, Err, rules, length}
+use Rattle.std.proofs.Common.{arith, Box, Global, subst}
 use Rattle.std.specs.List.{slice_get}
 use Rattle.std.specs.Cow.{cow_str_bytes}
 use Rattle.basic_toml_value.specs.Data.{Data}
@@ -7,7 +8,8 @@ use Rattle.basic_toml_grammar.specs.Sections.{KeyTexts}
 use Rattle.basic_toml_grammar.specs.Steps as steps
 use Rattle.basic_toml_grammar.specs.Marks.{dotted}
 use Rattle.basic_toml_grammar.specs.Entering.{and_then}
-use Rattle.basic_toml_grammar.specs.Trie.{Trie, trie, nothing, standing, with_tries, mark_here, among, at_step, put_row}
+use Rattle.basic_toml_grammar.specs.Trie.{Trie, trie, nothing, standing, with_tries, mark_here, among, at_step}
+use Rattle.basic_toml_grammar.specs.Trie.{put_row}
 use Rattle.basic_toml_read.specs.SectionView.{lined_of}
 use Rattle.basic_toml_read.specs.declared.section.Raw.{the_lemmas}
 use Rattle.basic_toml_read.specs.declared.section.Row.{Row, out-Row}
@@ -19,7 +21,8 @@ use Rattle.basic_toml_tree.specs.Item.{child_trie, table_trie, by_keys}
 use Rattle.basic_toml_tree.specs.Keyed.{with_value, values_of, EntersKey}
 use Rattle.basic_toml_tree.specs.Rows.{Enters, key_texts}
 use Rattle.basic_toml_tree.proofs.KeysInATrie.{tries_of, with_twice, change_put_once, change_refused}
-use Rattle.basic_toml_tree.proofs.ItemTries.{table_entries_trie, with_entries, entries_with, with_entries_twice, with_entries_trie}
+use Rattle.basic_toml_tree.proofs.ItemTries.{table_entries_trie, with_entries, entries_with, with_entries_twice}
+use Rattle.basic_toml_tree.proofs.ItemTries.{with_entries_trie}
 
 -- the trie of a table in its place
 abbrev pub boxed_trie : Box Table Global → Trie
@@ -77,7 +80,8 @@ module _ (before : Table) (k : List ℕ) (fresh : Child) (new : List (List ℕ �
   put_after g child ps changed same =
       at_key g
       ∙ ap (with_tries (standing (table_trie before)) None)
-      (change_put_once child_trie k fresh (out-Table before).entries new position is_nothing entered there stands g child
+      (change_put_once child_trie k fresh (out-Table before).entries new position is_nothing entered there stands g
+      child
       changed)
       ∙ ap (λ ts. Some (trie (standing (table_trie before)) None ts)) (sym same)
 
@@ -121,7 +125,8 @@ module _ (before : Table) (k : List ℕ) (fresh : Child) (new : List (List ℕ �
   step_refused g refused =
       at_key g
       ∙ ap (with_tries (standing (table_trie before)) None)
-      (change_refused child_trie k fresh (out-Table before).entries new position is_nothing entered there stands g refused)
+      (change_refused child_trie k fresh (out-Table before).entries new position is_nothing entered there stands g
+      refused)
 
 -- what stands at a position of the entries of a table
 pub stands_in : (before t : Table) (new : List (List ℕ × Child)) (position : ℕ) (there : Child)

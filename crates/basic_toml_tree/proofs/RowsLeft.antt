@@ -13,7 +13,8 @@ use Rattle.basic_toml_grammar.specs.Trie.{Trie, put_row, put_rows}
 use Rattle.basic_toml_grammar.proofs.RowsThatOverlapAreRefused.{values_clash, put_apart}
 use Rattle.basic_toml_read.specs.SectionView.{lined_of, rows_view, with_key, with_row}
 use Rattle.basic_toml_read.specs.declared.section.Row as lines
-use Rattle.basic_toml_tree.specs.Rows.{AreIn, AreKeptOut, is_dot, all_dots, key_texts, Reason, memory, deep, crossed, reason}
+use Rattle.basic_toml_tree.specs.Rows.{AreIn, AreKeptOut, is_dot, all_dots, key_texts, Reason, memory, deep, crossed}
+use Rattle.basic_toml_tree.specs.Rows.{reason}
 use Rattle.basic_toml_tree.specs.declared.clash.Clash.{Clash}
 use Rattle.basic_toml_tree.proofs.Reasons.{KeptFor, kept_for, for_kept}
 
@@ -63,7 +64,8 @@ dots_alone (k ∷ keys) dots =
     rw (no_value (lined_of k).value d.0) (ap (with_key (lined_of k).key) (dots_alone keys d.1))
 
 -- the row of such keys, and of one with a value
-pub line_view : (keys : List lines.Row) (r : lines.Row) (rest : List lines.Row) (v : Raw) → all_dots keys ≡ true → (lined_of r).value ≡ Some v
+pub line_view : (keys : List lines.Row) (r : lines.Row) (rest : List lines.Row) (v : Raw) → all_dots keys ≡ true
+    → (lined_of r).value ≡ Some v
     → rows_view (keys ++ r ∷ rest)
     ≡ row (line_keys keys ++ (lined_of r).key ∷ []) (lined_of r).start v (rows_view rest)
 line_view keys r rest v dots valued =
@@ -86,7 +88,8 @@ rows_are_keyed (r ∷ rs) =
     keyed-with_row (lined_of r).key (lined_of r).start (lined_of r).value (rows_view rs) (rows_are_keyed rs)
 
 -- at first all rows are left
-pub all_left : (rows : List lines.Row) (level : ℕ) (before : Trie) → AreLeft (rows_view rows) level before [] rows before
+pub all_left : (rows : List lines.Row) (level : ℕ) (before : Trie)
+    → AreLeft (rows_view rows) level before [] rows before
 all_left rows level before = record {
   dots = refl;
   put = refl;
@@ -162,7 +165,8 @@ pub then_same : {A : Type 0} (o : Option A) → and_then o (λ x. Some x) ≡ o
 then_same None = refl
 then_same (Some x) = refl
 
-module _ (whole : Rows) (level : ℕ) (before : Trie) (keys : List lines.Row) (r : lines.Row) (rest : List lines.Row) (now : Trie)
+module _ (whole : Rows) (level : ℕ) (before : Trie) (keys : List lines.Row) (r : lines.Row) (rest : List lines.Row)
+    (now : Trie)
     (left : AreLeft whole level before keys (r ∷ rest) now) (valued : is_dot r ≡ false) where
   -- after a row that is in the table the rows after it are left
   pub row_entered : (after : Trie) → AreIn (rows_view (keys ++ r ∷ [])) level now after
@@ -171,7 +175,8 @@ module _ (whole : Rows) (level : ℕ) (before : Trie) (keys : List lines.Row) (r
       let w = has_value (lined_of r).value valued in
       let ks = line_keys keys ++ (lined_of r).key ∷ [] in
       let at = (lined_of r).start in
-      let all : rows_view (keys ++ r ∷ rest) ≡ row ks at w.0 (rows_view rest) = line_view keys r rest w.0 left.dots w.1 in
+      let all : rows_view (keys ++ r ∷ rest) ≡ row ks at w.0 (rows_view rest) =
+      line_view keys r rest w.0 left.dots w.1 in
       let one : rows_view (keys ++ r ∷ []) ≡ row ks at w.0 no_rows = line_view keys r [] w.0 left.dots w.1 in
       let is_put : put_row (texts ks) (finished w.0) now ≡ Some after =
       sym (then_same (put_row (texts ks) (finished w.0) now)) ∙ ap (λ rs. put_rows rs now) (sym one) ∙ entered.put in
@@ -179,7 +184,8 @@ module _ (whole : Rows) (level : ℕ) (before : Trie) (keys : List lines.Row) (r
       let low = subst (λ (rs : Rows). rows_level level rs ≤ nesting_limit) one entered.fits in
       record {
         dots = refl;
-        put = left.put ∙ ap (λ rs. put_rows rs now) all ∙ ap (λ o. and_then o (λ t. put_rows (rows_view rest) t)) is_put;
+        put = left.put ∙ ap (λ rs. put_rows rs now) all ∙ ap (λ o. and_then o (λ t. put_rows (rows_view rest) t))
+            is_put;
         clash = λ c. left.clash (ap rows_clash all ∙ clash_after ks at w.0 (rows_view rest) c);
         values = left.values ∙ ap values_clash all ∙ ap (λ b. b || values_clash (rows_view rest)) free;
         fits = λ f. left.fits (subst (λ (rs : Rows). rows_level level rs ≤ nesting_limit) (sym all)
@@ -191,7 +197,9 @@ module _ (whole : Rows) (level : ℕ) (before : Trie) (keys : List lines.Row) (r
   -- a row that is kept out keeps all rows out
   pub row_kept_out : (clash : Clash) → AreKeptOut (rows_view (keys ++ r ∷ [])) level now clash
       → AreKeptOut whole level before clash
-  row_kept_out clash kept = kept_for whole level before clash (go (reason clash) (for_kept (rows_view (keys ++ r ∷ [])) level now clash kept))
+  row_kept_out clash kept =
+      kept_for whole level before clash (go (reason clash)
+      (for_kept (rows_view (keys ++ r ∷ [])) level now clash kept))
     where
       w : (w : Raw) × ((lined_of r).value ≡ Some w)
       w = has_value (lined_of r).value valued

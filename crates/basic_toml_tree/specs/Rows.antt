@@ -1,5 +1,6 @@
 -- How rows are put into a table, and what keeps them out.
-use Rattle.std.specs.Prelude.{◌≡◌, ◌⊎◌, ⊤, ◌≤◌, ◌<◌, ℕ, List, true, false, Option, Some, None, Result, Ok, Err, Box, Vec, map}
+use Rattle.std.specs.Prelude.{◌≡◌, ◌⊎◌, ⊤, ◌≤◌, ◌<◌, ℕ, List, true, false, Option, Some, None, Result, Ok, Err, Box}
+use Rattle.std.specs.Prelude.{Vec, map}
 use Rattle.std.specs.Prelude.{Bool, not, is_some}
 use Rattle.std.specs.List.{list_all}
 use Rattle.std.specs.declared.alloc.Global.{Global}

@@ -81,7 +81,8 @@ impl<'de> Child<'de> {
 impl<'de> Table<'de> {
     /// A table without entries, of which nothing is said yet.
     pub fn new(alloc: Global) -> Result<Box<Table<'de>>, AllocError>
-        ensures { IfOk result (λ table. table_trie table.value ≡ trie (Some (table_standing false false false)) None no_tries) }
+        ensures { IfOk result (λ table. table_trie table.value
+            ≡ trie (Some (table_standing false false false)) None no_tries) }
     {
         let table = Table {
             passed: false,

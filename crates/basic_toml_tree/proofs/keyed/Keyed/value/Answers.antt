@@ -7,7 +7,8 @@ use Rattle.basic_toml_tree.proofs.keyed.Keyed.value.Goals as goal
 pub returns : goal.returns
 returns g c =
     let within : c.args.position < length c.self.inside.entries.items =
-    subst (λ (n : ℕ). c.args.position < n) (ap length (sym c.self.view_is) ∙ length-seen c.self.inside.entries.items) c.requires
+    subst (λ (n : ℕ). c.args.position < n) (ap length (sym c.self.view_is)
+    ∙ length-seen c.self.inside.entries.items) c.requires
     in
     ap (λ ps. slice_get (values_of ps) c.args.position) (sym c.self.view_is)
     ∙ value_at_position c.self.inside.entries.items c.args.position c.index.result.now within c.index.ensures
