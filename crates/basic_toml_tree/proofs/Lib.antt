@@ -7,4 +7,5 @@ pub mod LatestInATrie
 pub mod RowsHaveKeys
 pub mod SectionsEntered
 pub mod SectionsResolved
+pub mod TablesOpened
 pub mod TrieData
