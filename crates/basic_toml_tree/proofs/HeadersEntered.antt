@@ -116,7 +116,8 @@ pub holds_tables : (c : Child) (b : Vec Table Global) (latest : Box Table Global
 holds_tables c b latest is = child_item_trie c ∙ ap item_trie is ∙ tables_trie b latest
 
 -- a value bars a header
-pub value_bars : (a : Bool) (rows : Rows) (keys : KeyTexts) (c : Child) (d : Data) → item_trie (out-Child c).item ≡ leaf d
+pub value_bars : (a : Bool) (rows : Rows) (keys : KeyTexts) (c : Child) (d : Data)
+    → item_trie (out-Child c).item ≡ leaf d
     → entered_by a rows keys (child_trie c) ≡ None
 value_bars a rows keys c d is =
     ap (entered_by a rows keys) (child_item_trie c ∙ is) ∙ walk_barred a rows keys (Some d) no_tries
@@ -135,18 +136,23 @@ other_bars a rows keys c i is no_nothing no_table no_tables = go (out-Item i) re
 
     go : (x : Item-F items.Item Child Table) → out-Item i ≡ x → entered_by a rows keys (child_trie c) ≡ None
     go Item-F.Nothing e = absurd (no_nothing (made Item-F.Nothing e ∙ search (rules, the_lemmas)))
-    go (Item-F.Integer z) e = is_leaf (Data.integer z) (ap item_trie (made (Item-F.Integer z) e) ∙ search (rules, the_lemmas))
-    go (Item-F.Float text) e = is_leaf (Data.float text) (ap item_trie (made (Item-F.Float text) e) ∙ search (rules, the_lemmas))
-    go (Item-F.Boolean b) e = is_leaf (Data.boolean b) (ap item_trie (made (Item-F.Boolean b) e) ∙ search (rules, the_lemmas))
+    go (Item-F.Integer z) e = is_leaf (Data.integer z) (ap item_trie (made (Item-F.Integer z) e)
+        ∙ search (rules, the_lemmas))
+    go (Item-F.Float text) e = is_leaf (Data.float text) (ap item_trie (made (Item-F.Float text) e)
+        ∙ search (rules, the_lemmas))
+    go (Item-F.Boolean b) e = is_leaf (Data.boolean b) (ap item_trie (made (Item-F.Boolean b) e)
+        ∙ search (rules, the_lemmas))
     go (Item-F.String text) e =
-        is_leaf (Data.string (cow_str_bytes text)) (ap item_trie (made (Item-F.String text) e) ∙ search (rules, the_lemmas))
+        is_leaf (Data.string (cow_str_bytes text)) (ap item_trie (made (Item-F.String text) e)
+        ∙ search (rules, the_lemmas))
     go (Item-F.Array children) e =
         is_leaf (Data.array (items_of (map tree_data (map child_trie children.items))))
         (ap item_trie (made (Item-F.Array children) e) ∙ search (rules, the_lemmas))
     go (Item-F.Inline t) e =
         is_leaf (tree_data (table_trie t.value)) (ap item_trie (made (Item-F.Inline t) e) ∙ search (rules, the_lemmas))
     go (Item-F.Table t) e = absurd (no_table t (made (Item-F.Table t) e ∙ search (rules, the_lemmas)))
-    go (Item-F.Tables b latest) e = absurd (no_tables b latest (made (Item-F.Tables b latest) e ∙ search (rules, the_lemmas)))
+    go (Item-F.Tables b latest) e = absurd (no_tables b latest (made (Item-F.Tables b latest) e
+        ∙ search (rules, the_lemmas)))
 
 -- a change at a key of a table that a header passes
 module _ (a : Bool) (rows : Rows) (k : List ℕ) (keys whole : KeyTexts) (level : ℕ) (t : Table) (blank : Child)
@@ -178,7 +184,8 @@ module _ (a : Bool) (rows : Rows) (k : List ℕ) (keys whole : KeyTexts) (level 
       (child_trie child)
       → IsIn (walk a rows whole (table_trie t)) rows (level + steps_to a whole (table_trie t)) (table_trie u)
   header_in u other child passed named dotted entries is =
-      let after : made true (out-Table t).named (out-Table t).dotted (by_keys (tries_of child_trie (out-Table u).entries))
+      let after : made true (out-Table t).named (out-Table t).dotted (by_keys (tries_of child_trie (out-Table
+      u).entries))
       ≡ table_trie u = rw (table_entries_trie u, passed, named, dotted) refl in
       is_in (entered_at a rows keys (child_trie there)) (walk a rows whole (table_trie t)) rows
       (level + steps_at a keys (child_trie there)) (level + steps_to a whole (table_trie t)) (child_trie child)
