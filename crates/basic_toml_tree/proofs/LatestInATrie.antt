@@ -13,7 +13,8 @@ nat_eq-other : (n m : ℕ) → n < m → nat_eq n m ≡ false
 nat_eq-other n m less = grind arith
 
 module _ {A B C : Type 0} where
-  pub mapped_twice : (f : B → C) (h : A → B) (x : Option A) → option_map f (option_map h x) ≡ option_map (λ a. f (h a)) x
+  pub mapped_twice : (f : B → C) (h : A → B) (x : Option A)
+      → option_map f (option_map h x) ≡ option_map (λ a. f (h a)) x
   mapped_twice f h None = refl
   mapped_twice f h (Some a) = refl
 

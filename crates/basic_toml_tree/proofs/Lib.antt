@@ -23,4 +23,5 @@ pub mod LatestInATrie
 pub mod RowsHaveKeys
 pub mod SectionsEntered
 pub mod SectionsResolved
+pub mod TablesOpened
 pub mod TrieData

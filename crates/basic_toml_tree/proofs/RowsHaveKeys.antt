@@ -65,12 +65,14 @@ Parts _ = ⊤
 raw_kept : (x : Raw-F Raw Element Row) → Parts x → OfRaw (roll-Raw x)
 raw_kept Raw-F.Dot parts = let a : raw_of (roll-Raw Raw-F.Dot) ≡ None = search (rules, the_lemmas) in ap kept a
 raw_kept (Raw-F.Integer z) parts =
-    let a : raw_of (roll-Raw (Raw-F.Integer z)) ≡ Some (sections.Raw.integer z) = search (rules, the_lemmas) in ap kept a
+    let a : raw_of (roll-Raw (Raw-F.Integer z)) ≡ Some (sections.Raw.integer z)
+    = search (rules, the_lemmas) in ap kept a
 raw_kept (Raw-F.Float text) parts =
     let a : raw_of (roll-Raw (Raw-F.Float text)) ≡ Some (sections.Raw.float text) = search (rules, the_lemmas) in
     ap kept a
 raw_kept (Raw-F.Boolean b) parts =
-    let a : raw_of (roll-Raw (Raw-F.Boolean b)) ≡ Some (sections.Raw.boolean b) = search (rules, the_lemmas) in ap kept a
+    let a : raw_of (roll-Raw (Raw-F.Boolean b)) ≡ Some (sections.Raw.boolean b)
+    = search (rules, the_lemmas) in ap kept a
 raw_kept (Raw-F.String text) parts =
     let a : raw_of (roll-Raw (Raw-F.String text)) ≡ Some (sections.Raw.string (cow_str_bytes text)) =
     search (rules, the_lemmas) in ap kept a

@@ -1,5 +1,6 @@
 -- The sections of a list entered one after another: what the tree is then, and what it says of one that is not entered.
-use Rattle.std.proofs.Common.{◌≡◌, ◌⊎◌, inl, inr, ℕ, zero, suc, ◌+◌, ◌<◌, ◌≤◌, max, Bool, true, false, not, cond, List, []}
+use Rattle.std.proofs.Common.{◌≡◌, ◌⊎◌, inl, inr, ℕ, zero, suc, ◌+◌, ◌<◌, ◌≤◌, max, Bool, true, false, not, cond}
+use Rattle.std.proofs.Common.{List, []}
 use Rattle.std.proofs.Common.{◌∷◌, ◌++◌, Option, Some, None, is_some, if◌then◌else◌, refl, ap, sym, ◌∙◌, subst, arith}
 use Rattle.std.proofs.Common.{nat_lt, map, length, take, drop, get_or, reverse}
 use Rattle.std.specs.List.{Contains}
@@ -91,7 +92,8 @@ none_deep : (limit : ℕ) (ls : List Located) (l : Located) → deep_sections li
 none_deep limit [] l none shallow =
     let test : nat_lt limit (tree_level l) ≡ false = grind arith in rw test refl
 none_deep limit (k ∷ ls) l none shallow =
-    one_not_deep (nat_lt limit (tree_level k)) k.section.at (deep_sections limit ls) (deep_sections limit (ls ++ l ∷ []))
+    one_not_deep (nat_lt limit (tree_level k)) k.section.at (deep_sections limit ls) (deep_sections limit (ls ++ l ∷
+    []))
     (λ e. none_deep limit ls l e shallow) none
 
 -- What is known after some sections: the tree, and that none of them is too deep.

@@ -1,6 +1,8 @@
 -- The sections of the code entered one after another, each of which gives its rows away.
-use Rattle.std.proofs.Common.{◌≡◌, ◌⊎◌, inl, inr, ℕ, suc, zero, ◌+◌, ◌<◌, ◌≤◌, true, false, List, [], ◌∷◌, ◌++◌, refl, ap}
-use Rattle.std.proofs.Common.{sym, ◌∙◌, subst, arith, map, length, take, drop, get_or, rules, ◌||◌, Bool, Option, Some, None, Result, Ok, Err}
+use Rattle.std.proofs.Common.{◌≡◌, ◌⊎◌, inl, inr, ℕ, suc, zero, ◌+◌, ◌<◌, ◌≤◌, true, false, List, [], ◌∷◌, ◌++◌, refl}
+use Rattle.std.proofs.Common.{ap}
+use Rattle.std.proofs.Common.{sym, ◌∙◌, subst, arith, map, length, take, drop, get_or, rules, ◌||◌, Bool, Option}
+use Rattle.std.proofs.Common.{Some, None, Result, Ok, Err}
 use Rattle.std.proofs.Common.{IsErrAnd}
 use Rattle.std.specs.Cow.{cow_str_bytes}
 use Rattle.std.specs.List.{Contains}
@@ -32,7 +34,8 @@ use Rattle.basic_toml_tree.proofs.HeadersInATrie.{fresh}
 use Rattle.basic_toml_grammar.proofs.DottedFaultsClash.{dotted_faults_clash}
 use Rattle.basic_toml_tree.proofs.RowsHaveKeys.{sections_have_keys}
 use Rattle.basic_toml_tree.proofs.TrieData.{table_trie_data}
-use Rattle.basic_toml_tree.proofs.SectionsEntered.{Entered, Stands, one_more, too_deep, has_a_clash, whole_tree, no_clash}
+use Rattle.basic_toml_tree.proofs.SectionsEntered.{Entered, Stands, one_more, too_deep, has_a_clash, whole_tree}
+use Rattle.basic_toml_tree.proofs.SectionsEntered.{no_clash}
 use Rattle.basic_toml_tree.proofs.SectionsEntered.{fits_all, split_at}
 
 -- What is known after so many sections: those before are entered, and those that are left are as they were.

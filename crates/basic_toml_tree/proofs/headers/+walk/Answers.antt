@@ -1,14 +1,13 @@
-use Rattle.std.proofs.Common.{◌≡◌, ◌≤◌, ◌∷◌, ◌+◌, length, suc, ap, sym, ◌∙◌, arith, rules, map, refl, inr, true, false, List, ℕ}
+use Rattle.std.proofs.Common.{◌≡◌, ◌≤◌, ◌∷◌, ◌+◌, length, suc, ap, sym, ◌∙◌, arith, map, refl, inr}
 use Rattle.std.specs.Cow.{cow_str_bytes}
 use Rattle.basic_toml_grammar.specs.Trie.{walk, steps_to}
 use Rattle.basic_toml_read.specs.SectionView.{rows_view}
 use Rattle.basic_toml_tree.specs.declared.item.Item.TheViews.{roll-Child}
-use Rattle.basic_toml_tree.specs.declared.item.Item.{Tables}
-use Rattle.basic_toml_tree.specs.declared.item.Item as items
 use Rattle.basic_toml_tree.specs.Item.{child_trie, table_trie}
-use Rattle.basic_toml_tree.specs.Headers.{EntersHeader, EntersChild, entered_by, steps_by, entered_at, steps_at}
-use Rattle.basic_toml_tree.proofs.HeadersInATrie.{array_of, fresh}
-use Rattle.basic_toml_tree.proofs.HeadersEntered.{failed, no_array, not_last, child_in, child_out, same_mapped, holds_table}
+use Rattle.basic_toml_tree.specs.Headers.{EntersHeader, EntersChild, entered_by, steps_by}
+use Rattle.basic_toml_tree.proofs.HeadersInATrie.{array_of}
+use Rattle.basic_toml_tree.proofs.HeadersEntered.{failed, no_array, not_last, child_in, child_out, same_mapped}
+use Rattle.basic_toml_tree.proofs.HeadersEntered.{holds_table}
 use Rattle.basic_toml_tree.proofs.HeadersEntered.{holds_tables, other_bars, passed_in, passed_out, into_fresh}
 use Rattle.basic_toml_tree.proofs.HeadersEntered.{into_table, into_latest, steps_into_fresh, steps_into_table}
 use Rattle.basic_toml_tree.proofs.HeadersEntered.{steps_into_latest}
@@ -26,7 +25,8 @@ enter_at-returns t c =
     elim c.else-is_array.branch [
       | enter_at-else-is_array-via-then-is_array+else-is_empty w ↦
           let some : 1 ≤ length c.args.rest.now = grind (arith, w.is_empty.ensures, w.if-is_empty.false) in
-          not_last c.args.is_array rows c.args.rest.now c.args.level there c.enter_child.result some c.enter_child.ensures
+          not_last c.args.is_array rows c.args.rest.now c.args.level there c.enter_child.result some
+          c.enter_child.ensures
       | enter_at-else-is_array-via-else-is_array w ↦
           no_array c.args.is_array rows (map cow_str_bytes c.args.rest.now) c.args.level there c.enter_child.result
           w.if-is_array.false c.enter_child.ensures

@@ -1,4 +1,4 @@
-use Rattle.std.proofs.Common.{◌≡◌, [], ◌∷◌, ◌++◌, ◌+◌, ap, sym, ◌∙◌, arith, map, option_map, refl}
+use Rattle.std.proofs.Common.{◌≡◌, [], ◌∷◌, ◌++◌, ◌+◌, ap, ◌∙◌, map, option_map, refl}
 use Rattle.basic_toml_grammar.specs.Trie.{put_element, put_table}
 use Rattle.basic_toml_read.specs.SectionView.{rows_view}
 use Rattle.basic_toml_tree.specs.declared.item.Item.TheViews.{roll-Child}
@@ -6,7 +6,8 @@ use Rattle.basic_toml_tree.specs.declared.item.Item.{Tables}
 use Rattle.basic_toml_tree.specs.Item.{child_trie, table_trie}
 use Rattle.basic_toml_tree.specs.Headers.{EntersChild}
 use Rattle.basic_toml_tree.proofs.HeadersInATrie.{array_of, fresh}
-use Rattle.basic_toml_tree.proofs.HeadersEntered.{first_element, next_element, element_in, element_out, failed}
+use Rattle.basic_toml_tree.proofs.HeadersEntered.{failed}
+use Rattle.basic_toml_tree.proofs.TablesOpened.{first_element, next_element, element_in, element_out}
 use Rattle.basic_toml_tree.proofs.headers.add_element.Goals as goal
 use Rattle.basic_toml_tree.proofs.headers.add_element.Goals.{in-Nothing, in-Tables+in_ok-push-in-Tables}
 

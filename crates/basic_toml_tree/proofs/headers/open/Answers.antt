@@ -1,7 +1,7 @@
 use Rattle.std.proofs.Common.{ap, sym, ◌∙◌, arith}
 use Rattle.basic_toml_tree.specs.declared.item.Table.{out-Table}
 use Rattle.basic_toml_read.specs.SectionView.{rows_view}
-use Rattle.basic_toml_tree.proofs.HeadersEntered.{open_named}
+use Rattle.basic_toml_tree.proofs.TablesOpened.{open_named}
 use Rattle.basic_toml_tree.proofs.headers.open.Goals as goal
 
 pub returns : goal.returns

@@ -16,5 +16,6 @@ returns c = record {
   other = c.nothing-2.result;
   left = search (rules, the_lemmas, c.replace-there.ensures.changed);
   within =
-      simp out-roll-Table (omega (arith, simp out-roll-Table at c.replace-there.ensures.count, c.in_ok-position.ensures.within));
+      simp out-roll-Table
+      (omega (arith, simp out-roll-Table at c.replace-there.ensures.count, c.in_ok-position.ensures.within));
 }

@@ -1,4 +1,4 @@
-use Rattle.std.proofs.Common.{rules, arith}
+use Rattle.std.proofs.Common.{rules}
 use Rattle.basic_toml_tree.specs.declared.item.Item.{the_lemmas}
 use Rattle.basic_toml_tree.proofs.headers.put_back.Goals as goal
 
