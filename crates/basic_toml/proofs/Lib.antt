@@ -11,3 +11,4 @@ pub mod WorkedErrorTexts
 pub mod TableHoldsDocument
 pub mod TextHasOneMeaning
 pub mod TextOf
+pub mod KeysJoined

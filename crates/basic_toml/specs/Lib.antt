@@ -3,7 +3,9 @@ pub mod Fault
 pub mod FaultText
 pub mod Error
 pub mod KindView
+pub mod KeyPath
 pub mod WriteFaults
+pub mod ReadFaults
 pub mod PlainRows
 pub mod PlainReading
 pub mod PlainView

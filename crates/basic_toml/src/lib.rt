@@ -5,6 +5,8 @@
 
 mod de;
 mod error;
+mod key_path;
+mod kind;
 pub mod laws;
 mod line_column;
 mod node;

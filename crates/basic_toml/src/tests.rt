@@ -1,4 +1,5 @@
 mod memory;
+mod messages;
 mod writing;
 
 use super::*;

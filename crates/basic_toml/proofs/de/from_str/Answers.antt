@@ -4,7 +4,7 @@ use Rattle.basic_toml.specs.Document.{keys_of, IsFirstRepeat}
 use Rattle.basic_toml.specs.PlainReading.{rows_of}
 use Rattle.basic_toml.specs.PlainView.{row_view, rows_view}
 use Rattle.basic_toml.specs.declared.plain.Row.{Row}
-use Rattle.basic_toml.proofs.ReadingLaws.{unread, repeated, row-in_text, refused, given_from}
+use Rattle.basic_toml.proofs.ReadingLaws.{unread, repeated, refused, given_from}
 use Rattle.basic_toml.proofs.de.from_str.Goals as goal
 
 -- what `first_repeat` found in the rows of a vector
@@ -21,13 +21,6 @@ pub returns-in_default : goal.returns-in_default
 returns-in_default g c =
     refused _ _ _ (unread c.args.s.now c.custom.result (sym c.in_ok-rows.ensures ∙
     ap (option_map rows_view) c.in_default.is) c.custom.ensures)
-
-pub duplicate_key-requires : goal.duplicate_key-requires
-duplicate_key-requires g c =
-    let read : rows_of c.args.s.now ≡ Some (rows_view c.in-Some.rows) = sym c.in_ok-rows.ensures ∙
-    ap (option_map rows_view) c.in-Some.is in
-    let found = found_in _ c.in-Some.rows.items _ c.as_slice.ensures.value c.in_ok-row.ensures in
-    row-in_text c.args.s.now (rows_view c.in-Some.rows) (row_view c.in-Some-2.row) read (rw c.in-Some-2.is at found)
 
 pub returns-in-Some-2 : goal.returns-in-Some-2
 returns-in-Some-2 g c =
