@@ -1,12 +1,11 @@
 //! What can go wrong.
 ghost use Rattle.std.specs.Prelude.{◌≡◌, ◌≤◌, Some, IsTrue, ◌↔◌, ◌⊎◌, IfOk, [], length};
-ghost use Rattle.basic_toml.specs.LineColumn.{line_at, column_at};
 ghost use Rattle.basic_toml.specs.KindView.{kind_of};
 
 use crate::key_path::{KeyPath, copied};
 use crate::kind::ErrorKind;
 use crate::line_column::{column_at, line_at};
-use basic_toml_read::{ReadError, ReadErrorKind};
+use basic_toml_read::ReadError;
 use basic_toml_write::WriteError;
 use std::alloc::{AllocError, Global};
 use std::fmt;
@@ -58,7 +57,7 @@ impl fmt::Display for Error {
 }
 
 impl Error {
-    ghost use Rattle.basic_toml.specs.Fault.{duplicate_key, custom, not_text, out_of_memory, without_offset, want_of_memory};
+    ghost use Rattle.basic_toml.specs.Fault.{custom, not_text, out_of_memory, without_offset, want_of_memory};
     ghost use Rattle.basic_toml.specs.ReadFaults.{fault_in};
 
     /// The line and the column where the error stands, both from 0, if it has an offset; a column counts bytes.
@@ -100,26 +99,6 @@ impl Error {
             key_path: Some(key_path),
             line_column,
         })
-    }
-
-    /// The later of two equal keys stands at a byte offset of the text.
-    pub(crate) fn duplicate_key(alloc: Global, text: &str, offset: usize, key: &str) -> Error
-        ensures { (result ≡ want_of_memory)
-            ⊎ (result ≡ record {
-              kind = duplicate_key key.now;
-              key_path = [];
-              line_column =
-                  Some (line_at text.now offset, column_at text.now offset);
-            }) }
-    {
-        match String::from_str(alloc, key) {
-            Ok(key) => Error::in_text(
-                alloc,
-                text,
-                &ReadError::at(offset, ReadErrorKind::DuplicateKey(key)),
-            ),
-            Err(e) => Error::from(e),
-        }
     }
 
     pub(crate) fn custom(alloc: Global, message: &str) -> Error
