@@ -27,7 +27,7 @@ fn texts_that_are_read(rt: HostRuntime) -> Result<(), Fail> {
         let table: Table = from_str(rt.alloc(), text)?;
         assert_eq!(rt; to_string(rt.alloc(), &table)?.as_str(), written);
         let again: Table = from_str(rt.alloc(), written)?;
-        assert!(rt; again == table, "at {written}");
+        assert_eq!(rt; to_string(rt.alloc(), &again)?.as_str(), written);
     }
     Ok(())
 }
