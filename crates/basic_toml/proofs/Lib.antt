@@ -3,3 +3,4 @@ pub mod WorkedErrorTexts
 pub mod TextOf
 pub mod KeysJoined
 pub mod TextHasOneDocument
+pub mod RefusedTextsHaveNoDocument

@@ -24,6 +24,7 @@ use Rattle.basic_toml_tree.specs.Resolve.{Resolves, IsResolved, IsUnresolved}
 use Rattle.basic_toml.specs.Fault.{Fault, want_of_memory}
 use Rattle.basic_toml.specs.ReadFaults.{fault_in}
 use Rattle.basic_toml.specs.Reading.{IsTextFault, outside, deep, deep_tree, clash, OnlyMemory, ReadsText, value_read}
+use Rattle.basic_toml.proofs.RefusedTextsHaveNoDocument.{refused_has_no_document}
 use Rattle.basic_toml.specs.Reading.{no_memory, no_document, not_taken, GivesTree, AnswersTree}
 
 -- the tree of a section list is its document, where nothing clashes and it fits
@@ -82,7 +83,8 @@ module _ {T : Type 0} (takes : Data → Type 0) (reads : Data → T → Type 0) 
   pub unread : (fault : Fault) → AnswersTree text (Err fault) → ReadsText takes reads text (Err fault)
   unread fault (inl memory) = subst (λ (f : Fault). ReadsText takes reads text (Err f)) (sym memory) no_memory
   unread fault (inr (error, why, same)) =
-      subst (λ (f : Fault). ReadsText takes reads text (Err f)) (sym same) (no_document why)
+      subst (λ (f : Fault). ReadsText takes reads text (Err f)) (sym same)
+      (no_document (λ tree document. refused_has_no_document text error tree why document) why)
 
   document_read : (d : Data) (members : Members) (result : Result T Fault) → d ≡ table members
       → IsDocument (folded text) d → IfOk result (reads d) → IfErr result (OnlyMemory (takes d) (reads d))

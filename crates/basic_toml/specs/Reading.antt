@@ -50,7 +50,8 @@ pub data ReadsText {T : Type 0} (takes : Data → Type 0) (reads : Data → T �
   value_read : {members : Members} {value : T} → IsDocument (folded text) (table members)
       → reads (table members) value → ReadsText takes reads text (Ok value)
   no_memory : ReadsText takes reads text (Err want_of_memory)
-  no_document : {error : read.Fault} → IsTextFault text error → ReadsText takes reads text (Err (fault_in text error))
+  no_document : {error : read.Fault} → ((tree : Data) → IsDocument (folded text) tree → ⊥)
+      → IsTextFault text error → ReadsText takes reads text (Err (fault_in text error))
   not_taken : {members : Members} {fault : Fault} → IsDocument (folded text) (table members)
       → OnlyMemory (takes (table members)) (reads (table members)) fault → ReadsText takes reads text (Err fault)
 

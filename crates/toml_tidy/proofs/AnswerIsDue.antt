@@ -76,7 +76,7 @@ module _ {T : Type 0} (takes : Data → Type 0) (entries : T → Members) where
       → fault.kind ≢ out_of_memory → ReadsText takes reads_table input (Err fault)
       → IsDue input 1 (fault_text fault ++ codes "\n")
   text_refused input _ taken utf8 kind no_memory = absurd (kind refl)
-  text_refused input _ taken utf8 kind (no_document why) = refused utf8 why
+  text_refused input _ taken utf8 kind (no_document none why) = refused utf8 why
   text_refused input fault taken utf8 kind (not_taken {members = members} document only) =
       absurd (kind (ap (λ (f : Fault). f.kind) (only.taken (taken members))))
 
