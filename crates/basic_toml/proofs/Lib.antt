@@ -1,13 +1,6 @@
-pub mod Runs
-pub mod PlainLines
-pub mod PlainLaws
-pub mod WrittenIntegers
-pub mod PlainTexts
-pub mod ReadBack
-pub mod Repeats
-pub mod ReadingLaws
-pub mod Written
+pub mod ReadingEnds
 pub mod WorkedErrorTexts
-pub mod TableHoldsDocument
-pub mod TextHasOneMeaning
 pub mod TextOf
+pub mod KeysJoined
+pub mod TextHasOneDocument
+pub mod RefusedTextsHaveNoDocument

@@ -14,8 +14,7 @@ use Rattle.basic_toml_write.specs.Trees.{tree_of, written_of}
 use Rattle.basic_toml_write.proofs.LawsHold.{spells_at_most_one, data_is_spelled, kept_has_same_text}
 use Rattle.basic_toml_write.proofs.LawsHold.{kept_has_same_depth}
 use Rattle.basic_toml_round_trip.proofs.LawsHold.{read_back, written_again}
-use Rattle.basic_toml.specs.Ser.{IsTextOf, HoldsData, MeansKept, ReadsBack}
-use Rattle.basic_toml.proofs.Written.{means_table}
+use Rattle.basic_toml.specs.Ser.{IsTextOf, HoldsData, MeansKept}
 
 module _ (calls : List Item) where
   module _ (text : List ℕ) (t : IsTextOf calls text) where
@@ -28,12 +27,6 @@ module _ (calls : List Item) where
           supported = subst (λ (v : Written). is_unsupported nesting_limit v ≡ false) same t.supported;
           laid_out = t.laid_out ∙ ap layout same;
         }
-
-    text_reads_back : ReadsBack calls text
-    text_reads_back w spelled plain =
-        let same : t.value ≡ w = spells_at_most_one calls t.value w t.spelled spelled in
-        means_table w text (subst (λ (v : Written). is_unsupported nesting_limit v ≡ false) same t.supported)
-        (t.laid_out ∙ ap layout same) plain
 
     text_means : MeansKept calls text
     text_means = record {
@@ -58,10 +51,5 @@ module _ (calls : List Item) where
   means_kept (Ok s) t = text_means (string_bytes s) t
   means_kept (Err e) t = tt
 
-  pub reads_back : {E : Type 0} (r : Result (String Global) E) → IfOk r (λ s. IsTextOf calls (string_bytes s))
-      → IfOk r (λ s. ReadsBack calls (string_bytes s))
-  reads_back (Ok s) t = text_reads_back (string_bytes s) t
-  reads_back (Err e) t = tt
-
 -- what `to_string` promises beside what its calls come to
-pub ruleset promised = (holds_data, means_kept, reads_back, spells_at_most_one, kept_has_same_text, kept_has_same_depth)
+pub ruleset promised = (holds_data, means_kept, spells_at_most_one, kept_has_same_text, kept_has_same_depth)

@@ -1,12 +1,17 @@
 -- What contracts see of an `Error`.
-use Rattle.std.specs.Prelude.{[], ◌<◌, ◌^◌, ◌+◌}
+use Rattle.std.specs.Prelude.{ℕ, List, [], map, Option, Some, None, Vec, String, string_bytes, ◌<◌, ◌^◌, ◌+◌}
 use Rattle.std.specs.Option.{ForSome}
+use Rattle.std.specs.declared.alloc.Global.{Global}
 use Rattle.basic_toml.specs.Fault.{Fault}
 use Rattle.basic_toml.specs.KindView.{kind_of}
 use Rattle.basic_toml.specs.declared.error.Error.TheInside.{Inside}
 
+abbrev pub keys_of : Option (Vec (String Global) Global) → List (List ℕ)
+keys_of None = []
+keys_of (Some keys) = map string_bytes keys.items
+
 abbrev pub fault_of : Inside → Fault
-fault_of e = record { kind = kind_of e.kind; key_path = []; line_column = e.line_column }
+fault_of e = record { kind = kind_of e.kind; key_path = keys_of e.key_path; line_column = e.line_column }
 
 -- line and column leave room for counting from 1
 abbrev pub HasSmallNumbers : Inside → Type 0

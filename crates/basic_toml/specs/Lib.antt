@@ -3,14 +3,10 @@ pub mod Fault
 pub mod FaultText
 pub mod Error
 pub mod KindView
+pub mod KeyPath
 pub mod WriteFaults
-pub mod PlainRows
-pub mod PlainReading
-pub mod PlainView
-pub mod Document
-pub mod PlainTables
-pub mod Node
-pub mod De
+pub mod ReadFaults
+pub mod Reading
 pub mod TypeReads
 pub mod Ser
 pub mod tokens
@@ -21,6 +17,9 @@ pub use Rattle.basic_toml_value.specs.Nesting
 pub use Rattle.basic_toml_value.specs.Numbers
 pub use Rattle.basic_toml_value.specs.Pairs
 pub use Rattle.basic_toml_value.specs.View
+pub use Rattle.basic_toml_grammar.specs.Document
+pub use Rattle.basic_toml_grammar.specs.Faults
+pub use Rattle.basic_toml_tree.specs.Nodes
 pub use Rattle.basic_toml_emit.specs.Calls
 pub use Rattle.basic_toml_emit.specs.Depth
 pub use Rattle.basic_toml_emit.specs.Items

@@ -1,5 +1,5 @@
 -- How writing a value ends, and what its text means. (own)
-use Rattle.std.specs.Prelude.{◌≡◌, ◌⊎◌, ℕ, List, Result, Ok, Err, IfOk, IfErr, MatchResult, false, true, string_bytes}
+use Rattle.std.specs.Prelude.{◌≡◌, ◌⊎◌, ℕ, List, Result, Ok, Err, IfOk, IfErr, MatchResult, false, string_bytes}
 use Rattle.std.specs.Prelude.{String}
 use Rattle.std.specs.declared.alloc.Global.{Global}
 use Rattle.basic_toml_tokens.specs.Text.{folded}
@@ -21,7 +21,6 @@ use Rattle.basic_toml_emit.specs.Calls.{outcome}
 use Rattle.basic_toml_emit.specs.declared.error.WriteError.{WriteError}
 use Rattle.basic_toml.specs.Fault as fault
 use Rattle.basic_toml.specs.Fault.{Fault, FaultKind, without_offset, want_of_memory}
-use Rattle.basic_toml.specs.PlainTables.{is_plain, IsReadBack}
 use Rattle.basic_toml.specs.WriteFaults.{write_kind}
 
 abbrev pub fault_kind : rules.CallFault → FaultKind
@@ -79,7 +78,3 @@ HoldsData calls text = (d : Data) → calls ≡ data_calls d → IsDataText d te
 pub record MeansKept (calls : List Item) (text : List ℕ) : Type 0 where
   pub document : (w : Written) → Spells calls w → IsDocument (folded text) (tree_of (kept w))
   pub again : (tree : Data) → IsDocument (folded text) tree → outcome nesting_limit (data_calls tree) ≡ Ok text
-
--- where what is kept of the value that the calls spell is a table of plain rows, the text means that table
-abbrev pub ReadsBack : List Item → List ℕ → Type 0
-ReadsBack calls text = (w : Written) → Spells calls w → is_plain (tree_of w) ≡ true → IsReadBack (tree_of w) text

@@ -11,6 +11,7 @@ use Rattle.basic_toml_value.specs.Data.{Data, integer, float, boolean, string, a
 use Rattle.basic_toml_value.specs.Data.{Members, no_members, member}
 use Rattle.basic_toml_value.specs.View.{view, entries}
 use Rattle.basic_toml_value.specs.declared.value.Value.{Value}
+use Rattle.basic_toml_tree.specs.Nodes.{is_table}
 
 -- u8 to u64: an integer from 0 on and below 2^bits
 abbrev pub unsigned_reads : ℕ → Data → ℕ → Type 0
@@ -40,9 +41,12 @@ cow_reads d s = d ≡ string (cow_str_bytes s)
 abbrev pub float_reads : Data → List ℕ → Type 0
 float_reads d text = d ≡ float text
 
--- Table: a table
+-- Table: a table, and every one
 abbrev pub table_reads : Data → List (List ℕ × Value) → Type 0
 table_reads d t = d ≡ table (entries t)
+
+abbrev pub table_takes : Data → Type 0
+table_takes d = is_table d ≡ true
 
 -- Value: anything
 abbrev pub value_reads : Data → Value → Type 0

@@ -1,19 +1,16 @@
 //! Reading texts.
 ghost use Rattle.std.specs.Prelude.{◌≡◌, IfOk, IfErr, IsUtf8};
-ghost use Rattle.basic_toml_value.specs.Data.{table};
-ghost use Rattle.basic_toml_value.specs.View.{view, entries};
-ghost use Rattle.basic_toml.specs.Fault.{not_text, want_of_memory};
-ghost use Rattle.basic_toml.specs.Node.{data_at};
-ghost use Rattle.basic_toml.specs.PlainView.{value_view};
-ghost use Rattle.basic_toml.specs.De.{ReadsText, OnlyMemory};
-ghost use Rattle.basic_toml.specs.TypeReads.{table_reads};
+ghost use Rattle.basic_toml_tree.specs.Data.{table_data};
+ghost use Rattle.basic_toml_tree.specs.Nodes.{node_data};
+ghost use Rattle.basic_toml.specs.Fault.{not_text};
+ghost use Rattle.basic_toml.specs.Reading.{OnlyMemory, ReadsText, GivesTree, AnswersTree};
+ghost use Rattle.basic_toml.specs.TypeReads.{table_reads, table_takes};
 
 use crate::Error;
-use crate::node::Node;
-use crate::plain::{Scalar, rows_of};
-use crate::repeat::first_repeat;
-use basic_toml_value::{Table, Value};
-use std::alloc::{AllocError, Global};
+use basic_toml_read::{ReadError, sections};
+use basic_toml_tree::{Node, Tree, resolve};
+use basic_toml_value::Table;
+use std::alloc::Global;
 
 /// A type that can be read from a text.
 pub trait Deserialize<'de>: Sized {
@@ -22,82 +19,72 @@ pub trait Deserialize<'de>: Sized {
     // Which values are read from which data.
     ghost reads: { Data → Self → Type 0 };
 
+    // From which data a value is read, memory aside.
+    ghost takes: { Data → Type 0 };
+
     /// Reads a value from a node; an error, other than want of memory, only where the type reads nothing from it.
     fn deserialize(alloc: Global, node: Node<'_, 'de>) -> Result<Self, Error>
-        ensures ok { IfOk result (λ value. reads (data_at node.entry) value) }
-        ensures err { IfErr result (OnlyMemory (reads (data_at node.entry))) };
-}
+        ensures ok { IfOk result (λ value. reads (node_data node.entry) value) }
+        ensures err { IfErr result (OnlyMemory (takes (node_data node.entry)) (reads (node_data node.entry))) };
 
-impl<'t> Scalar<'t> {
-    fn to_value(self, alloc: Global) -> Result<Value, AllocError>
-        ensures { IfOk result (λ value. view value ≡ value_view self.entry) }
-    {
-        match self {
-            Scalar::Integer(n) => Ok(Value::Integer(n)),
-            Scalar::Boolean(b) => Ok(Value::Boolean(b)),
-            Scalar::String(text) => Ok(Value::String(String::from_str(alloc, text)?)),
-        }
-    }
-}
-
-impl<'t, 'de> Node<'t, 'de> {
-    /// A copy of the value. The only error is that memory was refused.
-    pub fn to_value(self, alloc: Global) -> Result<Value, Error>
-        ensures value { IfOk result (λ value. view value ≡ data_at self.entry) }
-        ensures memory { IfErr result (λ e. e ≡ want_of_memory) }
-    {
-        Ok(Value::Table(self.to_table(alloc)?))
-    }
-
-    fn to_table(self, alloc: Global) -> Result<Table, AllocError>
-        ensures { IfOk result (λ t. table (entries t) ≡ data_at self.entry) }
-    {
-        let mut table = Table::new(alloc);
-        for row in self.rows {
-            let key = String::from_str(alloc, row.key)?;
-            let value = row.value.to_value(alloc)?;
-            if table.push_new(key, value).is_err() {
-                return Err(AllocError);
-            }
-        }
-        Ok(table)
-    }
+    /// Reads a value from the whole of a tree, which it may use up. A type that has no use for the tree reads itself
+    /// from its root: `Self::deserialize(alloc, tree.root())`.
+    fn from_tree(alloc: Global, tree: Tree<'de>) -> Result<Self, Error>
+        ensures ok { IfOk result (λ value. reads (table_data tree.entry.root.value) value) }
+        ensures err { IfErr result (OnlyMemory (takes (table_data tree.entry.root.value))
+            (reads (table_data tree.entry.root.value))) };
 }
 
 impl<'de> Deserialize<'de> for Table {
     ghost reads = { table_reads };
 
+    ghost takes = { table_takes };
+
     fn deserialize(alloc: Global, node: Node<'_, 'de>) -> Result<Table, Error> {
-        Ok(node.to_table(alloc)?)
+        match node.to_table(alloc)? {
+            Some(table) => Ok(table),
+            None => Err(Error::custom(alloc, "invalid type, expected a map")),
+        }
+    }
+
+    fn from_tree(alloc: Global, tree: Tree<'de>) -> Result<Table, Error> {
+        Ok(tree.into_table(alloc)?)
     }
 }
 
-/// Reads a value from a text.
-///
-/// Today a text is read where it holds nothing but blank lines and rows of a bare key, `=` and a decimal integer,
-/// `true`, `false` or a string of printable ASCII characters without quotes and backslash. (TOML v0.5.0, "Key/Value
-/// Pair")
+/// Reads a value from a text (TOML v0.5.0, without dates and times).
 ///
 /// # Errors
 ///
-/// `` duplicate key: `k` `` at the later key where two rows have one key, and `not read yet` for any other text. Where
-/// a type reads nothing from the table, its own error; and `out of memory` where a growth was refused.
-#[tactic(auto, using(crate::proofs::ReadingLaws::given, crate::proofs::ReadingLaws::refused))]
+/// Where the text has no document: an error of the grammar; where its rows and sections clash, an error of a clash;
+/// `nested too deeply` where it is nested more than 128 deep. Where a type reads nothing from the document, the type's
+/// own error; and `out of memory` where a growth was refused.
+#[tactic(auto, using(crate::proofs::ReadingEnds::ends))]
 pub fn from_str<'de, T: Deserialize<'de>>(alloc: Global, s: &'de str) -> Result<T, Error>
-    ensures { ReadsText T.reads s.now result }
+    ensures { ReadsText T.takes T.reads s.now result }
 {
-    let Some(rows) = rows_of(alloc, s)? else {
-        return Err(Error::custom(alloc, "not read yet"));
-    };
-    match first_repeat(alloc, rows.as_slice())? {
-        Some(row) => Err(Error::duplicate_key(alloc, s, row.offset, row.key)),
-        None => T::deserialize(
-            alloc,
-            Node {
-                rows: rows.as_slice(),
-            },
-        ),
+    let tree = tree_of(alloc, s)?;
+    T::from_tree(alloc, tree)
+}
+
+// The tree of a text's document, or its error with line and column.
+#[tactic(auto, using(crate::proofs::ReadingEnds::with_lines))]
+fn tree_of<'de>(alloc: Global, text: &'de str) -> Result<Tree<'de>, Error>
+    ensures { AnswersTree text.now result }
+{
+    match tree_in(alloc, text) {
+        Ok(tree) => Ok(tree),
+        Err(error) => Err(Error::in_text(alloc, text, &error)),
     }
+}
+
+// The tree of a text's document, or why there is none.
+#[tactic(auto, using(crate::proofs::ReadingEnds::tree_given))]
+fn tree_in<'de>(alloc: Global, text: &'de str) -> Result<Tree<'de>, ReadError>
+    ensures { GivesTree text.now result }
+{
+    let sections = sections(alloc, text)?;
+    resolve(alloc, sections)
 }
 
 /// Reads a value from bytes, as [`from_str`] does where they are UTF-8.
@@ -106,7 +93,7 @@ pub fn from_str<'de, T: Deserialize<'de>>(alloc: Global, s: &'de str) -> Result<
 ///
 /// `input is not valid UTF-8` where they are not, and the errors of [`from_str`].
 pub fn from_slice<'de, T: Deserialize<'de>>(alloc: Global, bytes: &'de [u8]) -> Result<T, Error>
-    ensures text { IsUtf8 bytes.now → ReadsText T.reads bytes.now result }
+    ensures text { IsUtf8 bytes.now → ReadsText T.takes T.reads bytes.now result }
     ensures other { ¬ IsUtf8 bytes.now → result ≡ Err not_text }
 {
     match simdutf8::compat::from_utf8(bytes) {

@@ -1,58 +1,26 @@
 //! What can go wrong.
-ghost use Rattle.std.specs.Prelude.{◌≡◌, ◌≤◌, Some, None, IsTrue, ◌↔◌, ◌⊎◌, [], length};
-ghost use Rattle.basic_toml.specs.LineColumn.{line_at, column_at};
+ghost use Rattle.std.specs.Prelude.{◌≡◌, ◌≤◌, Some, IsTrue, ◌↔◌, ◌⊎◌, IfOk, [], length};
+ghost use Rattle.basic_toml.specs.KindView.{kind_of};
 
+use crate::key_path::{KeyPath, copied};
+use crate::kind::ErrorKind;
 use crate::line_column::{column_at, line_at};
+use basic_toml_read::ReadError;
 use basic_toml_write::WriteError;
 use std::alloc::{AllocError, Global};
 use std::fmt;
 use std::marker::Model;
 
-#[derive(Debug, Drop)]
-enum ErrorKind {
-    DuplicateKey(String),
-    Custom(String),
-    NotUtf8,
-    UnsupportedType,
-    KeyNotString,
-    ValueAfterTable,
-    UnsupportedNone,
-    CallOrder,
-    NestedTooDeeply,
-    OutOfMemory,
-}
-
-impl fmt::Display for ErrorKind {
-    ghost use Rattle.std.specs.Prelude.{Some};
-    ghost use Rattle.basic_toml.specs.FaultText.{message};
-    ghost use Rattle.basic_toml.specs.KindView.{kind_of};
-
-    ghost output = { λ kind. Some (message (kind_of kind)) };
-
-    fn fmt<W: fmt::Write>(&self, f: &mut fmt::Formatter<W>) -> fmt::Result {
-        match self {
-            ErrorKind::DuplicateKey(key) => write!(f, "duplicate key: `{key}`"),
-            ErrorKind::Custom(message) => write!(f, "{message}"),
-            ErrorKind::NotUtf8 => write!(f, "input is not valid UTF-8"),
-            ErrorKind::UnsupportedType => write!(f, "unsupported Rust type"),
-            ErrorKind::KeyNotString => write!(f, "map key was not a string"),
-            ErrorKind::ValueAfterTable => write!(f, "values must be emitted before tables"),
-            ErrorKind::UnsupportedNone => write!(f, "unsupported None value"),
-            ErrorKind::CallOrder => write!(f, "serializer calls out of order"),
-            ErrorKind::NestedTooDeeply => write!(f, "nested too deeply"),
-            ErrorKind::OutOfMemory => write!(f, "out of memory"),
-        }
-    }
-}
-
 /// Why a text was not read, or a value not written.
 ///
-/// It is `not read yet`, a repeated key, bytes that are not UTF-8, an error of the writer, a message of a type's own,
-/// or want of memory. Its text says what is wrong and, where it has an offset, at which line and column, counted from
-/// 1.
+/// It is an error of reading, bytes that are not UTF-8, an error of the writer, a message of a type's own, or want of
+/// memory. Its text says what is wrong, then the keys that lead there, if there are any, and where it has an offset at
+/// which line and column, counted from 1.
 #[derive(Debug, Drop)]
 pub struct Error {
     kind: ErrorKind,
+    // `None` where there are no keys
+    key_path: Option<Vec<String>>,
     line_column: Option<(usize, usize)>,
 }
 
@@ -71,7 +39,6 @@ impl Model for Error {
 impl std::error::Error for Error {}
 
 impl fmt::Display for Error {
-    ghost use Rattle.std.specs.Prelude.{Some};
     ghost use Rattle.basic_toml.specs.FaultText.{fault_text};
 
     ghost output = { λ e. Some (fault_text e) };
@@ -79,6 +46,9 @@ impl fmt::Display for Error {
     fn fmt<W: fmt::Write>(&self, f: &mut fmt::Formatter<W>) -> fmt::Result {
         let kind = &self.kind;
         write!(f, "{kind}")?;
+        if let Some(keys) = &self.key_path {
+            write!(f, "{}", KeyPath(keys.as_slice()))?;
+        }
         if let Some((line, column)) = self.line_column {
             write!(f, " at line {} column {}", line + 1, column + 1)?;
         }
@@ -87,7 +57,8 @@ impl fmt::Display for Error {
 }
 
 impl Error {
-    ghost use Rattle.basic_toml.specs.Fault.{duplicate_key, custom, not_text, out_of_memory, without_offset, want_of_memory};
+    ghost use Rattle.basic_toml.specs.Fault.{custom, not_text, out_of_memory, without_offset, want_of_memory};
+    ghost use Rattle.basic_toml.specs.ReadFaults.{fault_in};
 
     /// The line and the column where the error stands, both from 0, if it has an offset; a column counts bytes.
     pub fn line_col(&self) -> Option<(usize, usize)>
@@ -103,34 +74,38 @@ impl Error {
         matches!(self.kind, ErrorKind::OutOfMemory)
     }
 
-    /// The later of two equal keys stands at a byte offset of the text.
-    pub(crate) fn duplicate_key(alloc: Global, text: &str, offset: usize, key: &str) -> Error
-        requires { offset ≤ length text.now }
-        ensures { (result ≡ want_of_memory)
-            ⊎ (result ≡ record {
-              kind = duplicate_key key.now;
-              key_path = [];
-              line_column =
-                  Some (line_at text.now offset, column_at text.now offset);
-            }) }
+    /// An error of reading this text, with the line and the column of its offset; want of memory where its words cannot
+    /// be copied.
+    pub(crate) fn in_text(alloc: Global, text: &str, error: &ReadError) -> Error
+        ensures { (result ≡ want_of_memory) ⊎ (result ≡ fault_in text.now error.now) }
     {
-        match String::from_str(alloc, key) {
-            Ok(key) => Error {
-                kind: ErrorKind::DuplicateKey(key),
-                line_column: Some((line_at(text, offset), column_at(text, offset))),
-            },
+        match Error::copied(alloc, text, error) {
+            Ok(error) => error,
             Err(e) => Error::from(e),
         }
+    }
+
+    fn copied(alloc: Global, text: &str, error: &ReadError) -> Result<Error, AllocError>
+        ensures { IfOk result (λ copy. copy ≡ fault_in text.now error.now) }
+    {
+        let kind = ErrorKind::of_reading(alloc, error.kind())?;
+        let key_path = copied(alloc, error.key_path())?;
+        let line_column = match error.place() {
+            Some(offset) => Some((line_at(text, offset), column_at(text, offset))),
+            None => None,
+        };
+        Ok(Error {
+            kind,
+            key_path: Some(key_path),
+            line_column,
+        })
     }
 
     pub(crate) fn custom(alloc: Global, message: &str) -> Error
         ensures { (result ≡ want_of_memory) ⊎ (result ≡ without_offset (custom message.now)) }
     {
         match String::from_str(alloc, message) {
-            Ok(message) => Error {
-                kind: ErrorKind::Custom(message),
-                line_column: None,
-            },
+            Ok(message) => Error::without_offset(ErrorKind::Custom(message)),
             Err(e) => Error::from(e),
         }
     }
@@ -138,8 +113,15 @@ impl Error {
     pub(crate) fn not_utf8() -> Error
         ensures { result ≡ not_text }
     {
+        Error::without_offset(ErrorKind::NotUtf8)
+    }
+
+    fn without_offset(kind: ErrorKind) -> Error
+        ensures { result ≡ without_offset (kind_of kind) }
+    {
         Error {
-            kind: ErrorKind::NotUtf8,
+            kind,
+            key_path: None,
             line_column: None,
         }
     }
@@ -151,10 +133,7 @@ impl From<AllocError> for Error {
     ghost from_gives = { λ _ e. e ≡ want_of_memory };
 
     fn from(_e: AllocError) -> Error {
-        Error {
-            kind: ErrorKind::OutOfMemory,
-            line_column: None,
-        }
+        Error::without_offset(ErrorKind::OutOfMemory)
     }
 }
 
@@ -165,20 +144,6 @@ impl From<WriteError> for Error {
     ghost from_gives = { λ fault e. e ≡ without_offset (write_kind fault) };
 
     fn from(fault: WriteError) -> Error {
-        let kind = match fault {
-            WriteError::UnsupportedType => ErrorKind::UnsupportedType,
-            WriteError::KeyNotString => ErrorKind::KeyNotString,
-            WriteError::ValueAfterTable => ErrorKind::ValueAfterTable,
-            WriteError::UnsupportedNone => ErrorKind::UnsupportedNone,
-            WriteError::Custom(message) => ErrorKind::Custom(message),
-            WriteError::DuplicateKey(key) => ErrorKind::DuplicateKey(key),
-            WriteError::CallOrder => ErrorKind::CallOrder,
-            WriteError::NestedTooDeeply => ErrorKind::NestedTooDeeply,
-            WriteError::OutOfMemory => ErrorKind::OutOfMemory,
-        };
-        Error {
-            kind,
-            line_column: None,
-        }
+        Error::without_offset(ErrorKind::from(fault))
     }
 }

@@ -1,15 +1,14 @@
 //! A TOML reader and writer: text or bytes in, a [`Table`] out, and back.
 //!
-//! Today [`from_str`] reads plain rows alone; [`to_string`] writes every value.
+//! [`from_str`] reads every text of TOML v0.5.0 without dates and times; [`to_string`] writes every value.
 #![tactic(auto)]
 
 mod de;
 mod error;
+mod key_path;
+mod kind;
 pub mod laws;
 mod line_column;
-mod node;
-mod plain;
-mod repeat;
 mod ser;
 #[cfg(test)]
 mod tests;
@@ -19,9 +18,9 @@ pub mod tokens {
     pub use basic_toml_tokens::{Error, Span, Token, Tokenizer};
 }
 
+pub use basic_toml_tree::{Elements, Entries, Node, Tree};
 pub use basic_toml_value::{Float, PushRefusal, Table, Value, float_of, integer_of};
 pub use basic_toml_write::{Serialize, Serializer, WriteError};
 pub use de::{Deserialize, from_slice, from_str};
 pub use error::Error;
-pub use node::Node;
 pub use ser::to_string;

@@ -1,7 +1,7 @@
 //! Writing values.
 ghost use Rattle.std.specs.Prelude.{IfOk, string_bytes};
 ghost use Rattle.basic_toml_write.specs.Statements.{SpellsAtMostOne, KeptHasSameText, KeptHasSameDepth};
-ghost use Rattle.basic_toml.specs.Ser.{Writes, HoldsData, MeansKept, ReadsBack};
+ghost use Rattle.basic_toml.specs.Ser.{Writes, HoldsData, MeansKept};
 
 use crate::Error;
 use basic_toml_write::{Serialize, written};
@@ -22,7 +22,6 @@ pub fn to_string<T: Serialize>(alloc: Global, value: &T) -> Result<String, Error
     ensures written { Writes (T.calls value.now) (T.gives_up value.now) result }
     ensures of_data { IfOk result (λ s. HoldsData (T.calls value.now) (string_bytes s)) }
     ensures means { IfOk result (λ s. MeansKept (T.calls value.now) (string_bytes s)) }
-    ensures read_back { IfOk result (λ s. ReadsBack (T.calls value.now) (string_bytes s)) }
 
     // The calls spell at most one value, and what is kept of a value has its text and its depth.
     ensures unique { SpellsAtMostOne (T.calls value.now) }

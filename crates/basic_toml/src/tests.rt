@@ -1,25 +1,34 @@
 mod memory;
+mod messages;
+mod reading;
 mod writing;
 
 use super::*;
 use std::alloc::{AllocError, Global};
 use std::test::Fail;
 
-/// A value of any kind.
+/// A table that is read from nodes alone.
 #[derive(Drop)]
-struct Any {
-    value: Value,
+struct Held {
+    table: Table,
 }
 
-impl<'de> Deserialize<'de> for Any {
-    ghost use Rattle.basic_toml.specs.TypeReads.{value_reads};
+impl<'de> Deserialize<'de> for Held {
+    ghost use Rattle.basic_toml.specs.TypeReads.{table_reads, table_takes};
 
-    ghost reads = { λ d any. value_reads d any.value };
+    ghost reads = { λ d held. table_reads d held.table };
 
-    fn deserialize(alloc: Global, node: Node<'_, 'de>) -> Result<Any, Error> {
-        Ok(Any {
-            value: node.to_value(alloc)?,
-        })
+    ghost takes = { table_takes };
+
+    fn deserialize(alloc: Global, node: Node<'_, 'de>) -> Result<Held, Error> {
+        match node.to_table(alloc)? {
+            Some(table) => Ok(Held { table }),
+            None => Err(Error::from(WriteError::UnsupportedType)),
+        }
+    }
+
+    fn from_tree(alloc: Global, tree: Tree<'de>) -> Result<Held, Error> {
+        Held::deserialize(alloc, tree.root())
     }
 }
 
@@ -32,11 +41,8 @@ fn reads_and_writes(rt: HostRuntime) -> Result<(), Fail> {
     ] {
         let table: Table = from_str(rt.alloc(), text)?;
         assert_eq!(rt; to_string(rt.alloc(), &table)?.as_str(), written);
-        let again: Any = from_slice(rt.alloc(), written.as_bytes())?;
-        let Value::Table(same) = again.value else {
-            return Err(Fail::new("no table"));
-        };
-        assert_eq!(rt; to_string(rt.alloc(), &same)?.as_str(), written);
+        let again: Held = from_slice(rt.alloc(), written.as_bytes())?;
+        assert_eq!(rt; to_string(rt.alloc(), &again.table)?.as_str(), written);
     }
     Ok(())
 }
@@ -57,9 +63,9 @@ fn faults(rt: HostRuntime) -> Result<(), Fail> {
             false,
         ),
         (
-            from_str::<Table>(rt.alloc(), "a = [1]\n").err(),
-            "not read yet",
-            None,
+            from_str::<Table>(rt.alloc(), "a = [1\n").err(),
+            "expected a right bracket, found eof at line 2 column 1",
+            Some((1, 0)),
             false,
         ),
         (

@@ -12,7 +12,8 @@ use Rattle.basic_toml.specs.Nesting.{nesting_limit}
 use Rattle.basic_toml.specs.Fault.{Fault, out_of_memory, want_of_memory, not_text}
 use Rattle.basic_toml.specs.FaultText.{fault_text}
 use Rattle.basic_toml.specs.Items.{Item, field}
-use Rattle.basic_toml.specs.De.{ReadsText}
+use Rattle.basic_toml.specs.Reading.{ReadsText, value_read, no_memory, no_document, not_taken}
+use Rattle.basic_toml.specs.tokens.Text.{folded}
 use Rattle.basic_toml.specs.Impls.{data_calls, members_calls}
 use Rattle.basic_toml.specs.Ser.{IsDataText, IsFirstFault}
 use Rattle.toml_tidy.specs.Run.{IsDue, tidied, refused, not_utf8, unwritable, AppendsFront, Ends, done, not_answered}
@@ -34,20 +35,23 @@ pairs_calls view [] = refl
 pairs_calls view (p ∷ pairs) =
     ap (λ (is : List Item). field p.0 ∷ (data_calls (view p.1) ++ is)) (pairs_calls view pairs)
 
--- a type T that is read from tables, and shows its members
-module _ {T : Type 0} (entries : T → Members) where
+-- a type T that is read from tables, all of which it takes, and shows its members
+module _ {T : Type 0} (takes : Data → Type 0) (entries : T → Members) where
   abbrev reads_table : Data → T → Type 0
   reads_table d t = d ≡ table (entries t)
 
-  read_as : (input : List ℕ) (t : T) → (IsUtf8 input → ReadsText reads_table input (Ok t))
-      → ((IsUtf8 input → ⊥) → Ok t ≡ Err not_text) → IsUtf8 input × IsDocument input (entries t)
+  document_of_value : (input : List ℕ) (t : T) → ReadsText takes reads_table input (Ok t)
+      → IsDocument (folded input) (table (entries t))
+  document_of_value input t (value_read document same) = subst (IsDocument (folded input)) same document
+
+  read_as : (input : List ℕ) (t : T) → (IsUtf8 input → ReadsText takes reads_table input (Ok t))
+      → ((IsUtf8 input → ⊥) → Ok t ≡ Err not_text) → IsUtf8 input × IsDocument (folded input) (table (entries t))
   read_as input t text other = elim (utf8_or_not input) [
-    | inl utf8 ↦ (let (members, document, same) = (text utf8).found in let equal : members ≡ entries t = cc in
-        (utf8, subst (IsDocument input) equal document))
+    | inl utf8 ↦ (utf8, document_of_value input t (text utf8))
     | inr not ↦ absurd (let wrong : Ok t ≡ Err not_text = other not in cc)
   ]
 
-  pub tidied_due : (input text : List ℕ) (t : T) → (IsUtf8 input → ReadsText reads_table input (Ok t))
+  pub tidied_due : (input text : List ℕ) (t : T) → (IsUtf8 input → ReadsText takes reads_table input (Ok t))
       → ((IsUtf8 input → ⊥) → Ok t ≡ Err not_text)
       → IsDataText (table (entries t)) text → IsDue input 0 text
   tidied_due input text t answers other is =
@@ -55,7 +59,7 @@ module _ {T : Type 0} (entries : T → Members) where
       subst (IsDue input 0) (sym is.laid_out) (tidied utf8 document is.supported)
 
   pub unwritable_due : (input text : List ℕ) (t : T) (fault : Fault) (calls : List Item) (own : Type 0)
-      → (IsUtf8 input → ReadsText reads_table input (Ok t)) → ((IsUtf8 input → ⊥) → Ok t ≡ Err not_text)
+      → (IsUtf8 input → ReadsText takes reads_table input (Ok t)) → ((IsUtf8 input → ⊥) → Ok t ≡ Err not_text)
       → calls ≡ data_calls (table (entries t)) → (own → ⊥) → (fault ≡ want_of_memory)
       ⊎ (own ⊎ IsFirstFault calls fault) → fault.kind ≢ out_of_memory → text ≡ fault_text fault ++ codes "\n"
       → IsDue input 2 text
@@ -67,23 +71,24 @@ module _ {T : Type 0} (entries : T → Members) where
       subst (IsDue input 2) (sym (subst (λ (f : Fault). text ≡ fault_text f ++ codes "\n") r.named e))
       (unwritable utf8 document (subst (λ (is : List Item). outcome nesting_limit is ≡ Err r.error) made r.met))
 
-  pub refused_due : (input text : List ℕ) (fault : Fault)
-      → ((members : Members) → IsDocument input members → (t : T) × reads_table (table members) t)
-      → (IsUtf8 input → ReadsText reads_table input (Err fault))
+  -- an error that is no want of memory is one of a text without a document, since every table is taken
+  text_refused : (input : List ℕ) (fault : Fault) → ((members : Members) → takes (table members)) → IsUtf8 input
+      → fault.kind ≢ out_of_memory → ReadsText takes reads_table input (Err fault)
+      → IsDue input 1 (fault_text fault ++ codes "\n")
+  text_refused input _ taken utf8 kind no_memory = absurd (kind refl)
+  text_refused input _ taken utf8 kind (no_document none why) = refused utf8 why
+  text_refused input fault taken utf8 kind (not_taken {members = members} document only) =
+      absurd (kind (ap (λ (f : Fault). f.kind) (only.taken (taken members))))
+
+  pub refused_due : (input text : List ℕ) (fault : Fault) → ((members : Members) → takes (table members))
+      → (IsUtf8 input → ReadsText takes reads_table input (Err fault))
       → ((IsUtf8 input → ⊥) → ◌≡◌ {A = Result T Fault} (Err fault) (Err not_text))
       → fault.kind ≢ out_of_memory → text ≡ fault_text fault ++ codes "\n" → IsDue input 1 text
-  refused_due input text fault held answers other kind e = subst (IsDue input 1) (sym e) (elim (utf8_or_not input) [
-    | inl utf8 ↦ elim ((answers utf8).fault (λ members document. let (t, is_read) = held members document in
-        not_memory ((answers utf8).only members document t is_read))) [
-          | inl memory ↦ absurd (not_memory memory)
-          | inr fault_is ↦ refused utf8 fault_is
-        ]
+  refused_due input text fault taken answers other kind e = subst (IsDue input 1) (sym e) (elim (utf8_or_not input) [
+    | inl utf8 ↦ text_refused input fault taken utf8 kind (answers utf8)
     | inr not ↦ (let is : fault ≡ not_text = cc (other not) in
         subst (λ (f : Fault). IsDue input 1 (fault_text f ++ codes "\n")) (sym is) (not_utf8 not))
   ])
-    where
-      not_memory : fault ≡ want_of_memory → ⊥
-      not_memory memory = kind (ap (λ (f : Fault). f.kind) memory)
 
 -- how a run ends, from what each step of it answered; a reader that does not tell its bytes promises nothing
 module _ (remaining old new : Option (List ℕ)) where

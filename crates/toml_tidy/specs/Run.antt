@@ -4,28 +4,33 @@ use Rattle.std.specs.Io.KnownBytes.{Appends, Keeps}
 use Rattle.basic_toml.specs.Calls.{outcome}
 use Rattle.basic_toml.specs.Data.{Members, table}
 use Rattle.basic_toml.specs.Nesting.{nesting_limit}
-use Rattle.basic_toml.specs.Document.{IsDocument, IsTextFault}
+use Rattle.basic_toml.specs.Document.{IsDocument}
 use Rattle.basic_toml.specs.Fault.{Fault, without_offset, not_text}
+use Rattle.basic_toml.specs.Faults as read
 use Rattle.basic_toml.specs.FaultText.{fault_text}
 use Rattle.basic_toml.specs.Layout.{layout}
+use Rattle.basic_toml.specs.ReadFaults.{fault_in}
+use Rattle.basic_toml.specs.Reading.{IsTextFault}
 use Rattle.basic_toml.specs.Rules.{CallFault}
 use Rattle.basic_toml.specs.Shapes.{is_unsupported}
 use Rattle.basic_toml.specs.Trees.{written_of}
 use Rattle.basic_toml.specs.Impls.{data_calls}
 use Rattle.basic_toml.specs.Ser.{fault_kind}
+use Rattle.basic_toml.specs.tokens.Text.{folded}
 
 abbrev pub line : Fault → List ℕ
 line fault = fault_text fault ++ codes "\n"
 
--- the status, and the text to write
+-- The status, and the text to write: the layout of the document, where no unsupported shape occurs in it; the first
+-- error that the calls of the document meet; an error of a text without a document, with its line and its column; or
+-- that the bytes are no text.
 pub data IsDue (input : List ℕ) : ℕ → List ℕ → Type 0 where
-  tidied : {members : Members} → IsUtf8 input → IsDocument input members
+  tidied : {members : Members} → IsUtf8 input → IsDocument (folded input) (table members)
       → is_unsupported nesting_limit (written_of (table members)) ≡ false
       → IsDue input 0 (layout (written_of (table members)))
-  refused : {fault : Fault} → IsUtf8 input → IsTextFault input fault → IsDue input 1 (line fault)
+  refused : {error : read.Fault} → IsUtf8 input → IsTextFault input error → IsDue input 1 (line (fault_in input error))
   not_utf8 : (IsUtf8 input → ⊥) → IsDue input 1 (line not_text)
-  -- the first error that the calls of the table meet
-  unwritable : {members : Members} {error : CallFault} → IsUtf8 input → IsDocument input members
+  unwritable : {members : Members} {error : CallFault} → IsUtf8 input → IsDocument (folded input) (table members)
       → outcome nesting_limit (data_calls (table members)) ≡ Err error
       → IsDue input 2 (line (without_offset (fault_kind error)))
 

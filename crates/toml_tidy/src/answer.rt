@@ -1,5 +1,5 @@
 //! What is due for the bytes of a text.
-ghost use Rattle.std.specs.Prelude.{◌≡◌, ◌≢◌, ◌<◌, ◌^◌, ◌++◌, IfOk, length, string_bytes, codes};
+ghost use Rattle.std.specs.Prelude.{◌≡◌, ◌≢◌, ◌++◌, IfOk, string_bytes, codes};
 ghost use Rattle.basic_toml.specs.Fault.{out_of_memory};
 ghost use Rattle.basic_toml.specs.FaultText.{fault_text};
 ghost use Rattle.toml_tidy.specs.Run.{IsDue};
@@ -13,9 +13,8 @@ const REFUSED: u8 = 1;
 
 const NOT_WRITTEN: u8 = 2;
 
-/// The status and the text due, for bytes that fit into memory.
+/// The status and the text due.
 pub fn answer(alloc: Global, input: &[u8]) -> Result<(u8, String), AllocError>
-    requires { length input.now < 2 ^ 63 }
     ensures { IfOk result (λ due. IsDue input.now due.0 (string_bytes due.1)) }
 {
     match from_slice::<Table>(alloc, input) {

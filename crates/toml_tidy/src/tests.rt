@@ -62,7 +62,17 @@ fn runs(rt: HostRuntime) -> Result<(), Fail> {
             1,
             "duplicate key: `a` at line 2 column 1\n",
         ),
-        (b"a = [1]\n".as_slice(), 1, "not read yet\n"),
+        (b"[b.c]\ny = 0x1F\n[b]\n".as_slice(), 0, "[b.c]\ny = 31\n"),
+        (
+            b"a = {x = 1}\nb = 2\n".as_slice(),
+            2,
+            "values must be emitted before tables\n",
+        ),
+        (
+            b"a = 01".as_slice(),
+            1,
+            "invalid number at line 1 column 6\n",
+        ),
         (b"a\xff".as_slice(), 1, "input is not valid UTF-8\n"),
     ] {
         let mut reader = input;
@@ -115,7 +125,7 @@ impl Write for Full {
 
 #[test]
 fn fails_where_no_byte_is_taken(rt: HostRuntime) {
-    for (input, status) in [(b"a = 7".as_slice(), 3), (b"a = [1]", 3), (b"", 0)] {
+    for (input, status) in [(b"a = 7".as_slice(), 3), (b"a = [1", 3), (b"", 0)] {
         let mut reader = input;
         assert_eq!(rt; run(rt.alloc(), &mut reader, &mut Full), status);
     }

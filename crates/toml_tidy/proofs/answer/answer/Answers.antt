@@ -1,27 +1,26 @@
-use Rattle.std.proofs.Common.{List, [], ◌∷◌, ◌++◌, ap}
+use Rattle.std.proofs.Common.{List, [], ◌∷◌, ◌++◌, ap, refl}
 use Rattle.basic_toml.specs.Items.{Item, open_table, close}
 use Rattle.basic_toml.specs.Data.{table}
 use Rattle.basic_toml.specs.View.{view, entries}
-use Rattle.basic_toml.proofs.TableHoldsDocument.{document_held}
+use Rattle.basic_toml.specs.TypeReads.{table_takes}
 use Rattle.toml_tidy.proofs.AnswerIsDue.{pairs_calls, tidied_due, unwritable_due, refused_due}
 use Rattle.toml_tidy.proofs.answer.answer.Goals as goal
 
 pub returns-in-Ok-to_string : goal.returns-in-Ok-to_string
 returns-in-Ok-to_string c =
     let made = ap (λ (is : List Item). open_table ∷ (is ++ (close ∷ []))) (pairs_calls view c.in-Ok.table) in
-    tidied_due entries c.args.input.now _ c.in-Ok.table c.in-Ok.ensures.text c.in-Ok.ensures.other
+    tidied_due table_takes entries c.args.input.now _ c.in-Ok.table c.in-Ok.ensures.text c.in-Ok.ensures.other
     (c.in-Ok-to_string.ensures.of_data (table (entries c.in-Ok.table)) made)
 
 pub returns-in-Ok : goal.returns-in-Ok
 returns-in-Ok c =
     let made = ap (λ (is : List Item). open_table ∷ (is ++ (close ∷ []))) (pairs_calls view c.in-Ok.table) in
-    unwritable_due entries c.args.input.now _ c.in-Ok.table c.in-Err-to_string.fault _ _ c.in-Ok.ensures.text
-    c.in-Ok.ensures.other made (λ own. own.met.allowed)
+    unwritable_due table_takes entries c.args.input.now _ c.in-Ok.table c.in-Err-to_string.fault _ _
+    c.in-Ok.ensures.text c.in-Ok.ensures.other made (λ own. own.met.allowed)
     c.in-Err-to_string.ensures.written.refused
     c.in_ok-line_of-in-Err-to_string.ensures.fault c.in_ok-line_of-in-Err-to_string.ensures.line
 
 pub returns : goal.returns
 returns c =
-    refused_due entries c.args.input.now _ c.in-Err.fault
-    (λ members document. document_held c.args.input.now members c.requires document) c.in-Err.ensures.text
+    refused_due table_takes entries c.args.input.now _ c.in-Err.fault (λ members. refl) c.in-Err.ensures.text
     c.in-Err.ensures.other c.in_ok-line_of-in-Err.ensures.fault c.in_ok-line_of-in-Err.ensures.line

@@ -1,0 +1,106 @@
+-- How reading ends, from what the section list, the tree and the type answered.
+use Rattle.std.proofs.Common.{◌≡◌, ◌⊎◌, inl, inr, ℕ, ◌≤◌, false, List, map, refl, sym, ap, subst, Result, Ok, Err}
+use Rattle.std.proofs.Common.{Some, IfOk, IfErr, rules, ◌∙◌}
+use Rattle.std.proofs.lemmas.Bool.{le-leb}
+use Rattle.basic_toml_tokens.specs.Text.{folded}
+use Rattle.basic_toml_value.specs.Data.{Data, table, Members, members_of}
+use Rattle.basic_toml_value.specs.Nesting.{nesting_limit}
+use Rattle.basic_toml_grammar.specs.Sections.{Section}
+use Rattle.basic_toml_grammar.specs.Grammar.{IsSectionList}
+use Rattle.basic_toml_grammar.specs.Depth.{depth}
+use Rattle.basic_toml_grammar.specs.Document.{has_clash, tree_of_sections, document_of, IsDocument}
+use Rattle.basic_toml_grammar.specs.Faults as read
+use Rattle.basic_toml_grammar.proofs.LawsHold.{keyed}
+use Rattle.basic_toml_explain.specs.Error as explain
+use Rattle.basic_toml_read.specs.declared.section.Section as code
+use Rattle.basic_toml_read.specs.SectionView.{section_of}
+use Rattle.basic_toml_read.specs.SectionsAnswer as answer
+use Rattle.basic_toml_read.specs.SectionsAnswer.{IsRefused}
+use Rattle.basic_toml_tree.specs.declared.item.Table.{Table, the_lemmas, out-Table}
+use Rattle.basic_toml_tree.specs.declared.tree.Tree.{Tree}
+use Rattle.basic_toml_tree.specs.Data.{table_data, child_data}
+use Rattle.basic_toml_tree.specs.Resolve as resolve
+use Rattle.basic_toml_tree.specs.Resolve.{Resolves, IsResolved, IsUnresolved}
+use Rattle.basic_toml.specs.Fault.{Fault, want_of_memory}
+use Rattle.basic_toml.specs.ReadFaults.{fault_in}
+use Rattle.basic_toml.specs.Reading.{IsTextFault, outside, deep, deep_tree, clash, OnlyMemory, ReadsText, value_read}
+use Rattle.basic_toml.proofs.RefusedTextsHaveNoDocument.{refused_has_no_document}
+use Rattle.basic_toml.specs.Reading.{no_memory, no_document, not_taken, GivesTree, AnswersTree}
+
+-- the tree of a section list is its document, where nothing clashes and it fits
+document_found : (sections : List Section) (tree : Data) → has_clash sections ≡ false
+    → depth (tree_of_sections sections) ≤ nesting_limit → tree ≡ tree_of_sections sections
+    → document_of sections ≡ Some tree
+document_found sections tree peace fits grown =
+    rw (peace, le-leb (depth (tree_of_sections sections)) nesting_limit fits) (ap (λ (d : Data). Some d) (sym grown))
+
+-- why there is no section list
+not_listed : (text : List ℕ) (error : read.Fault) → IsRefused text error
+    → (error ≡ explain.want_of_memory) ⊎ IsTextFault text error
+not_listed text _ (answer.memory more) = inl refl
+not_listed text _ (answer.deep passes opened) = inr (deep (record { passes = passes; opened = opened }))
+not_listed text _ (answer.outside allowed) = inr (outside allowed)
+
+-- why there is no tree
+not_resolved : (text : List ℕ) (sections : List Section) (error : read.Fault) → IsSectionList (folded text) sections
+    → IsUnresolved sections error → (error ≡ explain.want_of_memory) ⊎ IsTextFault text error
+not_resolved text sections _ grammar resolve.memory = inl refl
+not_resolved text sections _ grammar (resolve.deep there) = inr (deep_tree grammar there)
+not_resolved text sections _ grammar (resolve.clash clashes) = inr (clash grammar clashes)
+
+pub refused : (text : List ℕ) (error : read.Fault) → IsRefused text error → GivesTree text (Err error)
+refused text error why = not_listed text error why
+
+pub resolved : (text : List ℕ) (list : List code.Section) (result : Result Tree read.Fault)
+    → IsSectionList (folded text) (map section_of list) → Resolves list result → GivesTree text result
+resolved text list (Ok tree) grammar is =
+    let there : IsResolved (map section_of list) tree = is (keyed (folded text) (map section_of list) grammar) in
+    record {
+      sections = map section_of list;
+      grammar = grammar;
+      means = document_found (map section_of list) (table_data tree.root.value) there.clash there.fits there.grown;
+    }
+resolved text list (Err error) grammar why =
+    not_resolved text (map section_of list) error grammar (why (keyed (folded text) (map section_of list) grammar))
+
+pub ruleset tree_given = (refused, resolved)
+
+-- the error with its line and its column
+pub located_error : (text : List ℕ) (error : read.Fault) (fault : Fault) → GivesTree text (Err error)
+    → (fault ≡ want_of_memory) ⊎ (fault ≡ fault_in text error) → AnswersTree text (Err fault)
+located_error text error fault why (inl memory) = inl memory
+located_error text error fault (inl memory) (inr same) = inl (same ∙ ap (fault_in text) memory)
+located_error text error fault (inr why) (inr same) = inr (error, why, same)
+
+pub ruleset with_lines = (located_error)
+
+-- a tree stands for a table
+root_is_table : (t : Table) → (members : Members) × (table_data t ≡ table members)
+root_is_table t =
+    (members_of (map (λ p. (p.0, child_data p.1)) (out-Table t).entries), search (rules, the_lemmas))
+
+module _ {T : Type 0} (takes : Data → Type 0) (reads : Data → T → Type 0) (text : List ℕ) where
+  pub unread : (fault : Fault) → AnswersTree text (Err fault) → ReadsText takes reads text (Err fault)
+  unread fault (inl memory) = subst (λ (f : Fault). ReadsText takes reads text (Err f)) (sym memory) no_memory
+  unread fault (inr (error, why, same)) =
+      subst (λ (f : Fault). ReadsText takes reads text (Err f)) (sym same)
+      (no_document (λ tree document. refused_has_no_document text error tree why document) why)
+
+  document_read : (d : Data) (members : Members) (result : Result T Fault) → d ≡ table members
+      → IsDocument (folded text) d → IfOk result (reads d) → IfErr result (OnlyMemory (takes d) (reads d))
+      → ReadsText takes reads text result
+  document_read d ms (Ok value) same document ok err =
+      value_read (subst (IsDocument (folded text)) same document) (subst (λ (x : Data). reads x value) same ok)
+  document_read d ms (Err fault) same document ok err =
+      not_taken (subst (IsDocument (folded text)) same document)
+      (subst (λ (x : Data). OnlyMemory (takes x) (reads x) fault) same err)
+
+  pub tree_read : (tree : Tree) (result : Result T Fault) → AnswersTree text (Ok tree)
+      → IfOk result (reads (table_data tree.root.value))
+      → IfErr result (OnlyMemory (takes (table_data tree.root.value)) (reads (table_data tree.root.value)))
+      → ReadsText takes reads text result
+  tree_read tree result document ok err =
+      let (members, same) = root_is_table tree.root.value in
+      document_read (table_data tree.root.value) members result same document ok err
+
+pub ruleset ends = (unread, tree_read)

@@ -1,0 +1,67 @@
+-- How reading a text as a type ends. (own)
+-- A type's `reads` says which of its values are read from which data, and its `takes` from which data it reads a value,
+-- memory aside.
+use Rattle.std.specs.Prelude.{◌≡◌, ◌⊎◌, ◌≤◌, ◌<◌, ◌+◌, ℕ, true, List, Result, Ok, Err, Contains}
+use Rattle.basic_toml_tokens.specs.Text.{folded, text_at}
+use Rattle.basic_toml_value.specs.Data.{Data, table, Members}
+use Rattle.basic_toml_value.specs.Nesting.{nesting_limit}
+use Rattle.basic_toml_grammar.specs.Sections.{Section}
+use Rattle.basic_toml_grammar.specs.Grammar.{IsSectionList}
+use Rattle.basic_toml_grammar.specs.IndexedPath.{located}
+use Rattle.basic_toml_grammar.specs.Levels.{highest_level}
+use Rattle.basic_toml_grammar.specs.NestingFaults.{openers, deep_sections}
+use Rattle.basic_toml_grammar.specs.Document.{has_clash, IsDocument}
+use Rattle.basic_toml_grammar.specs.Faults as read
+use Rattle.basic_toml_grammar.specs.GrammarFaults.{fault_at, AllowsGrammarFault}
+use Rattle.basic_toml_explain.specs.Error as explain
+use Rattle.basic_toml_tree.specs.declared.tree.Tree.{Tree}
+use Rattle.basic_toml_tree.specs.Data.{table_data}
+use Rattle.basic_toml.specs.Fault.{Fault, want_of_memory}
+use Rattle.basic_toml.specs.ReadFaults.{fault_in}
+
+-- each section list of the text passes the limit, and as many signs that lead deeper as the limit stand before the
+-- offset
+pub record IsNestedTooDeeply (text : List ℕ) (offset : ℕ) : Type 0 where
+  pub passes : (sections : List Section) → IsSectionList (folded text) sections
+      → nesting_limit < highest_level sections
+  pub opened : nesting_limit + openers (text_at text offset) ≤ openers (folded text)
+
+-- Why a text has no document: it has no section list, and the grammar allows the error; or its section list passes the
+-- limit, by its levels, or by a section of its tree; or something in its section list clashes.
+pub data IsTextFault (text : List ℕ) : read.Fault → Type 0 where
+  outside : {error : read.Fault} → AllowsGrammarFault text error → IsTextFault text error
+  deep : {offset : ℕ} → IsNestedTooDeeply text offset → IsTextFault text (fault_at read.nested_too_deeply offset)
+  deep_tree : {sections : List Section} {offset : ℕ} → IsSectionList (folded text) sections
+      → Contains (deep_sections nesting_limit (located sections)) offset
+      → IsTextFault text (fault_at read.nested_too_deeply offset)
+  clash : {sections : List Section} {error : read.Fault} → IsSectionList (folded text) sections
+      → has_clash sections ≡ true → IsTextFault text error
+
+-- the fault of a type that reads nothing: want of memory wherever the type takes the data, and wherever there is a
+-- value to read
+pub record OnlyMemory {T : Type 0} (Takes : Type 0) (IsRead : T → Type 0) (fault : Fault) : Type 0 where
+  pub taken : Takes → fault ≡ want_of_memory
+  pub held : (value : T) → IsRead value → fault ≡ want_of_memory
+
+-- A value that the type reads from the document; or want of memory; or the error of a text without a document, with
+-- the line and the column of its offset; or a fault of the type, which reads nothing from the document.
+pub data ReadsText {T : Type 0} (takes : Data → Type 0) (reads : Data → T → Type 0) (text : List ℕ)
+    : Result T Fault → Type 0 where
+  value_read : {members : Members} {value : T} → IsDocument (folded text) (table members)
+      → reads (table members) value → ReadsText takes reads text (Ok value)
+  no_memory : ReadsText takes reads text (Err want_of_memory)
+  no_document : {error : read.Fault} → ((tree : Data) → IsDocument (folded text) tree → ⊥)
+      → IsTextFault text error → ReadsText takes reads text (Err (fault_in text error))
+  not_taken : {members : Members} {fault : Fault} → IsDocument (folded text) (table members)
+      → OnlyMemory (takes (table members)) (reads (table members)) fault → ReadsText takes reads text (Err fault)
+
+-- on the way: the tree of the document, or why there is none
+abbrev pub GivesTree : List ℕ → Result Tree read.Fault → Type 0
+GivesTree text (Ok tree) = IsDocument (folded text) (table_data tree.root.value)
+GivesTree text (Err error) = (error ≡ explain.want_of_memory) ⊎ IsTextFault text error
+
+-- the same, the error with its line and its column
+abbrev pub AnswersTree : List ℕ → Result Tree Fault → Type 0
+AnswersTree text (Ok tree) = IsDocument (folded text) (table_data tree.root.value)
+AnswersTree text (Err fault) = (fault ≡ want_of_memory)
+    ⊎ ((error : read.Fault) × IsTextFault text error × (fault ≡ fault_in text error))
