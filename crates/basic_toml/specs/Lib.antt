@@ -9,6 +9,7 @@ pub mod ReadFaults
 pub mod Reading
 pub mod TypeReads
 pub mod Ser
+pub mod ReadBack
 pub mod tokens
 pub use Rattle.basic_toml_value.specs.Data
 pub use Rattle.basic_toml_value.specs.Equal

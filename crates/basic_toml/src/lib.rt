@@ -9,6 +9,7 @@ mod key_path;
 mod kind;
 pub mod laws;
 mod line_column;
+mod read_back;
 mod ser;
 #[cfg(test)]
 mod tests;
@@ -23,4 +24,5 @@ pub use basic_toml_value::{Float, PushRefusal, Table, Value, float_of, integer_o
 pub use basic_toml_write::{Serialize, Serializer, WriteError};
 pub use de::{Deserialize, from_slice, from_str};
 pub use error::Error;
+pub use read_back::round_trip;
 pub use ser::to_string;

@@ -1,0 +1,20 @@
+//! Writing a value and reading it back.
+ghost use Rattle.basic_toml.specs.ReadBack.{RoundTrips};
+
+use crate::{Error, from_str, to_string};
+use basic_toml_value::Table;
+use basic_toml_write::Serialize;
+use std::alloc::Global;
+
+/// Writes a value and reads its text back into a [`Table`]: exactly what was written, absent options left out.
+///
+/// # Errors
+///
+/// Those of [`to_string`]. Reading back meets none but want of memory.
+#[tactic(auto, using(crate::proofs::TextIsReadBack::round_trips))]
+pub fn round_trip<T: Serialize>(alloc: Global, value: &T) -> Result<Table, Error>
+    ensures { RoundTrips (T.calls value.now) (T.gives_up value.now) result }
+{
+    let text = to_string(alloc, value)?;
+    from_str(alloc, text.as_str())
+}
