@@ -6,10 +6,10 @@ use Rattle.std.specs.Str.{bytes_eq}
 use Rattle.std.proofs.lemmas.Bool.{and_parts}
 use Rattle.std.proofs.lemmas.Bool.Decides.{nat_tests}
 use Rattle.basic_toml_value.specs.Keys.{are_distinct, is_among}
-use Rattle.basic_toml_emit.specs.Written as w
-use Rattle.basic_toml_emit.specs.Texts as texts
-use Rattle.basic_toml_write.specs.Trees.{tree_of, entry_trees, scalar_tree}
-use Rattle.basic_toml_emit.specs.Layout.{layout, entries_text, row_start}
+use Rattle.basic_toml_layout.specs.Written as w
+use Rattle.basic_toml_layout.specs.Texts as texts
+use Rattle.basic_toml_layout.specs.Trees.{tree_of, entry_trees, scalar_tree}
+use Rattle.basic_toml_layout.specs.Layout.{layout, entries_text, row_start}
 use Rattle.basic_toml_value.specs.Nesting.{nesting_limit}
 use Rattle.basic_toml_emit.specs.Depth.{depth}
 use Rattle.basic_toml_write.specs.Shapes.{has_key, repeats_key, has_late_row, is_bad_table, entry_has_bad, has_bad}

@@ -32,9 +32,3 @@ table_sent ps = ap (λ z. open_table ∷ (z ++ (close ∷ []))) (members_sent ps
 pub any_never : {A : Type 0} (opening : Item) (prefix : A → Item) (calls : A → List Item) (xs : List A)
     (sent : List Item) (e : WriteError) → AnyGivesUp opening prefix calls (λ x. NoFault) xs sent e → NoFault sent e
 any_never opening prefix calls xs sent e h = h.gives_up.allowed
-
-pub view-Array : (v : Vec Value Global) → view (Array v) ≡ array (items_of (map view v.items))
-view-Array v = search (rules, the_lemmas)
-
-pub view-Table : (ps : List (List ℕ × Value)) → view (Table ps) ≡ table (entries ps)
-view-Table ps = search (rules, the_lemmas)
