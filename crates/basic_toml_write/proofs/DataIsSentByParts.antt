@@ -1,10 +1,9 @@
 -- The items of a tree of data, by those of its parts.
-use Rattle.std.proofs.Common.{◌≡◌, ℕ, List, [], ◌∷◌, ◌++◌, map, refl, ap, rules, Vec, Global}
+use Rattle.std.proofs.Common.{◌≡◌, ℕ, List, [], ◌∷◌, ◌++◌, map, refl, ap}
 use Rattle.std.specs.List.{flat_map}
 use Rattle.basic_toml_value.specs.Data.{array, table, items_of}
 use Rattle.basic_toml_value.specs.View.{view, entries}
-use Rattle.basic_toml_value.specs.declared.value.Value.{Value, the_lemmas}
-use Rattle.basic_toml_value.specs.declared.value.Value.TheVariants.{Array, Table}
+use Rattle.basic_toml_value.specs.declared.value.Value.{Value}
 use Rattle.basic_toml_emit.specs.Items.{Item, element_prefix, field, open_array, open_table, close}
 use Rattle.basic_toml_emit.specs.declared.error.WriteError.{WriteError}
 use Rattle.basic_toml_write.specs.Serializer.{NoFault}
