@@ -1,10 +1,10 @@
 -- What a call records.
+use Rattle.basic_toml_layout.specs.Scalar.{scalar_of}
 use Rattle.basic_toml_emit.specs.Items as i
 use Rattle.basic_toml_emit.specs.declared.call.Call.{Call}
 use Rattle.basic_toml_emit.specs.declared.call.Call.TheVariants.{Scalar as AScalar, Absent, OpenArray, OpenTable}
 use Rattle.basic_toml_emit.specs.declared.call.Call.TheVariants.{Close, Key, Field, SomePrefix, ValuePrefix}
 use Rattle.basic_toml_emit.specs.declared.call.Call.TheVariants.{ElementPrefix}
-use Rattle.basic_toml_layout.specs.Scalar.{scalar_of}
 
 abbrev pub item_of : Call → i.Item
 item_of (AScalar l) = i.a_scalar (scalar_of l)

@@ -13,7 +13,7 @@ pub use sections::{begins_with_table, is_section};
 use std::alloc::{AllocError, Global};
 use text::write_entries;
 
-// The text of a table that is the whole value.
+/// The text of a table that is the whole value.
 pub fn laid_out(alloc: Global, table: &Table) -> Result<String, AllocError>
     ensures { IfOk result (λ text. string_bytes text ≡ layout (written_of (d.table (entries table.now)))) }
 {

@@ -5,7 +5,7 @@ ghost use Rattle.basic_toml_layout.specs.Sections as f;
 
 use basic_toml_value::Value;
 
-// An array whose first element is a table is one section for each element.
+/// An array whose first element is a table is one section for each element.
 pub fn begins_with_table(values: &[Value]) -> bool
     ensures { result ≡ f.begins_with_table (items_view values.now) }
 {
@@ -15,7 +15,7 @@ pub fn begins_with_table(values: &[Value]) -> bool
     }
 }
 
-// Whether an entry is no row.
+/// Whether an entry is no row.
 pub fn is_section(value: &Value) -> bool
     ensures { result ≡ f.is_section (view value.now) }
 {
