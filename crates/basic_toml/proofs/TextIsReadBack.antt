@@ -7,11 +7,11 @@ use Rattle.basic_toml_value.specs.View.{entries}
 use Rattle.basic_toml_value.specs.declared.value.Value.{Value}
 use Rattle.basic_toml_grammar.specs.Document.{IsDocument}
 use Rattle.basic_toml_emit.specs.Items.{Item}
-use Rattle.basic_toml_emit.specs.Written.{Written}
+use Rattle.basic_toml_layout.specs.Written.{Written}
 use Rattle.basic_toml_emit.specs.declared.error.WriteError.{WriteError}
 use Rattle.basic_toml_write.specs.Kept.{kept}
 use Rattle.basic_toml_write.specs.Spelling.{Spells}
-use Rattle.basic_toml_write.specs.Trees.{tree_of}
+use Rattle.basic_toml_layout.specs.Trees.{tree_of}
 use Rattle.basic_toml.specs.Fault.{Fault, want_of_memory}
 use Rattle.basic_toml.specs.Reading.{ReadsText, value_read, no_memory, no_document, not_taken}
 use Rattle.basic_toml.specs.ReadBack.{RoundTrips}

@@ -5,12 +5,12 @@ use Rattle.basic_toml_tokens.specs.Text.{folded}
 use Rattle.basic_toml_grammar.specs.Document.{IsDocument}
 use Rattle.basic_toml_emit.specs.Items.{Item}
 use Rattle.basic_toml_value.specs.Nesting.{nesting_limit}
-use Rattle.basic_toml_emit.specs.Layout.{layout}
-use Rattle.basic_toml_emit.specs.Written.{Written}
+use Rattle.basic_toml_layout.specs.Layout.{layout}
+use Rattle.basic_toml_layout.specs.Written.{Written}
 use Rattle.basic_toml_write.specs.Shapes.{is_unsupported}
 use Rattle.basic_toml_write.specs.Spelling.{Spells}
 use Rattle.basic_toml_write.specs.Kept.{kept}
-use Rattle.basic_toml_write.specs.Trees.{tree_of, written_of}
+use Rattle.basic_toml_layout.specs.Trees.{tree_of, written_of}
 use Rattle.basic_toml_write.proofs.LawsHold.{spells_at_most_one, data_is_spelled, kept_has_same_text}
 use Rattle.basic_toml_write.proofs.LawsHold.{kept_has_same_depth}
 use Rattle.basic_toml_round_trip.proofs.LawsHold.{read_back, written_again}

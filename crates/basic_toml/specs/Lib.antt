@@ -24,13 +24,13 @@ pub use Rattle.basic_toml_tree.specs.Nodes
 pub use Rattle.basic_toml_emit.specs.Calls
 pub use Rattle.basic_toml_emit.specs.Depth
 pub use Rattle.basic_toml_emit.specs.Items
-pub use Rattle.basic_toml_emit.specs.Layout
+pub use Rattle.basic_toml_layout.specs.Layout
 pub use Rattle.basic_toml_emit.specs.Rules
-pub use Rattle.basic_toml_emit.specs.Written
+pub use Rattle.basic_toml_layout.specs.Written
 pub use Rattle.basic_toml_write.specs.Kept
 pub use Rattle.basic_toml_write.specs.Serializer
 pub use Rattle.basic_toml_write.specs.Shapes
 pub use Rattle.basic_toml_write.specs.Spelling
-pub use Rattle.basic_toml_write.specs.Trees
+pub use Rattle.basic_toml_layout.specs.Trees
 pub use Rattle.basic_toml_write.specs.Write
 pub use Rattle.basic_toml_write.specs.Impls

@@ -5,12 +5,12 @@ use Rattle.basic_toml_value.specs.Nesting.{nesting_limit}
 use Rattle.basic_toml_value.specs.View.{entries}
 use Rattle.basic_toml_value.specs.declared.value.Value.{Value}
 use Rattle.basic_toml_emit.specs.Items.{Item}
-use Rattle.basic_toml_emit.specs.Written.{Written}
+use Rattle.basic_toml_layout.specs.Written.{Written}
 use Rattle.basic_toml_emit.specs.declared.error.WriteError.{WriteError}
 use Rattle.basic_toml_write.specs.Kept.{kept}
 use Rattle.basic_toml_write.specs.Shapes.{is_unsupported}
 use Rattle.basic_toml_write.specs.Spelling.{Spells}
-use Rattle.basic_toml_write.specs.Trees.{tree_of}
+use Rattle.basic_toml_layout.specs.Trees.{tree_of}
 use Rattle.basic_toml.specs.Fault.{Fault, want_of_memory}
 use Rattle.basic_toml.specs.Ser.{IsFirstFault, IsOwnFault}
 

@@ -5,15 +5,15 @@ use Rattle.std.specs.declared.alloc.Global.{Global}
 use Rattle.basic_toml_tokens.specs.Text.{folded}
 use Rattle.basic_toml_value.specs.Data.{Data}
 use Rattle.basic_toml_grammar.specs.Document.{IsDocument}
-use Rattle.basic_toml_emit.specs.Written.{Written}
+use Rattle.basic_toml_layout.specs.Written.{Written}
 use Rattle.basic_toml_write.specs.Recordable.{AreRecordable}
 use Rattle.basic_toml_write.specs.Kept.{kept}
-use Rattle.basic_toml_write.specs.Trees.{tree_of, written_of}
+use Rattle.basic_toml_layout.specs.Trees.{tree_of, written_of}
 use Rattle.basic_toml_write.specs.Impls.{data_calls}
 use Rattle.basic_toml_emit.specs.Items.{Item}
 use Rattle.basic_toml_write.specs.Spelling.{Spells}
 use Rattle.basic_toml_write.specs.Write.{IsOwnError}
-use Rattle.basic_toml_emit.specs.Layout.{layout}
+use Rattle.basic_toml_layout.specs.Layout.{layout}
 use Rattle.basic_toml_value.specs.Nesting.{nesting_limit}
 use Rattle.basic_toml_write.specs.Shapes.{is_unsupported}
 use Rattle.basic_toml_emit.specs.Rules as rules

@@ -4,7 +4,7 @@ use Rattle.std.proofs.Common.{take, slice_set, slice_index_or, ◌+◌, ◌-◌,
 use Rattle.std.proofs.Common.{◌∙◌, ap, arith, append-nil, cond, add-one, Bool, true, false}
 use Rattle.basic_toml_emit.specs.Open as o
 use Rattle.basic_toml_emit.specs.Calls as c
-use Rattle.basic_toml_emit.specs.Texts.{joined, written_key}
+use Rattle.basic_toml_layout.specs.Texts.{joined, written_key}
 use Rattle.basic_toml_emit.specs.Frames.{frames_onto, frames_of, frame_of, stage_of, path_part, first_after}
 use Rattle.basic_toml_emit.specs.declared.frames.Stage.{Stage}
 use Rattle.basic_toml_emit.specs.declared.frames.Stage.TheVariants.{NoKey, KeyPlace, KeySet}

@@ -1,7 +1,5 @@
 pub mod KeyIsAdded
 pub mod Greatest
-pub mod Classes
-pub mod QuotedUpToEscape
 pub mod Naming
 pub mod FramesOfStack
 pub mod Taking

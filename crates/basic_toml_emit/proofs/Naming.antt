@@ -1,9 +1,9 @@
 -- Names in a text that is cut after those that are kept.
-use Rattle.std.proofs.Common.{◌≡◌, ℕ, zero, suc, ◌-◌, ◌<◌, ◌≤◌, List, [], ◌∷◌, ◌++◌, length, get_or, take, drop, map}
-use Rattle.std.proofs.Common.{refl, sym, ◌∙◌, ap, subst, arith, Some, unwrap_or, inl, inr, length-append}
+use Rattle.std.proofs.Common.{◌≡◌, ℕ, suc, ◌-◌, ◌<◌, ◌≤◌, List, [], ◌∷◌, ◌++◌, length, get_or, take, drop, map}
+use Rattle.std.proofs.Common.{refl, sym, ◌∙◌, ap, subst, arith, unwrap_or, inl, inr, length-append}
 use Rattle.std.proofs.Common.{slice_index_or, Bool, true, false, append-nil}
-use Rattle.std.specs.Prelude.{slice_range, if◌then◌else◌}
-use Rattle.std.specs.List.{All, slice_index}
+use Rattle.std.specs.Prelude.{if◌then◌else◌}
+use Rattle.std.specs.List.{All}
 use Rattle.std.specs.Str.{IsUtf8, IsCharBoundary}
 use Rattle.std.proofs.lemmas.List.{get_or-take, get_or_append_left, take-append-le, take-take, length-take-le}
 use Rattle.std.proofs.lemmas.Slice.{between_is}

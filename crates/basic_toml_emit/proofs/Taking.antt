@@ -2,14 +2,13 @@
 use Rattle.std.proofs.Common.{◌≡◌, ℕ, Bool, true, false, List, [], ◌∷◌, ◌++◌, Ok, length, refl, sym, ◌∙◌, ap}
 use Rattle.std.proofs.Common.{append_assoc}
 use Rattle.std.specs.Prelude.{◌&&◌, nat_le}
-use Rattle.basic_toml_emit.specs.Written.{Scalar, is_refused, is_bytes}
+use Rattle.basic_toml_layout.specs.Written.{Scalar, is_refused, is_bytes}
 use Rattle.basic_toml_emit.specs.Items.{a_scalar}
 use Rattle.basic_toml_value.specs.Nesting.{nesting_limit}
-use Rattle.basic_toml_emit.specs.Texts.{written_scalar}
-use Rattle.basic_toml_emit.specs.Layout.{row_start}
-use Rattle.basic_toml_emit.specs.Open.{Frame, a_table, an_array, no_key, key_place, key_set, state, with_key, settled}
+use Rattle.basic_toml_layout.specs.Texts.{written_scalar}
+use Rattle.basic_toml_emit.specs.Open.{Frame, a_table, an_array, no_key, key_place, key_set, state}
 use Rattle.basic_toml_emit.specs.Rules.{place_of, at_value, holds_section, is_too_deep}
-use Rattle.basic_toml_emit.specs.Calls.{after, header_text, with_row}
+use Rattle.basic_toml_emit.specs.Calls.{after, with_row}
 use Rattle.basic_toml_emit.specs.Changes.{with_entry, holds_key, value_start}
 
 pub row_taken : (t t' t'' t''' : List ℕ) (fs fs' fs'' : List Frame) (d d' : Bool) (v : Scalar) → d' ≡ d

@@ -4,10 +4,10 @@
 use Rattle.std.specs.Prelude.{ℕ, Bool, true, false, List, [], ◌∷◌, ◌++◌, Option, Some, is_some, unwrap_or, Result}
 use Rattle.std.specs.Prelude.{Ok, Err}
 use Rattle.basic_toml_tokens.specs.Ascii as ascii
-use Rattle.basic_toml_emit.specs.Written.{Scalar, text}
+use Rattle.basic_toml_layout.specs.Written.{Scalar, text}
 use Rattle.basic_toml_emit.specs.Items.{Item, a_scalar, an_absent, open_array, open_table, close, key, field}
-use Rattle.basic_toml_emit.specs.Texts.{written_scalar, comma}
-use Rattle.basic_toml_emit.specs.Layout.{table_header, element_header, row_start}
+use Rattle.basic_toml_layout.specs.Texts.{written_scalar, comma}
+use Rattle.basic_toml_layout.specs.Layout.{table_header, element_header, row_start}
 use Rattle.basic_toml_emit.specs.Open.{Header, settled, due, Stage, no_key, key_place, key_set, ElementKind, unknown}
 use Rattle.basic_toml_emit.specs.Open.{tables, others, PresentKeys, with_key, Frame, a_table, an_array, new_table}
 use Rattle.basic_toml_emit.specs.Open.{State, state, fresh}

@@ -1,6 +1,6 @@
 -- What a step changes in the open frames.
 use Rattle.std.specs.Prelude.{ℕ, List, [], ◌∷◌, ◌++◌, Bool, false, Some, is_some}
-use Rattle.basic_toml_emit.specs.Layout.{row_start}
+use Rattle.basic_toml_layout.specs.Layout.{row_start}
 use Rattle.basic_toml_emit.specs.Calls.{last_key, header_text}
 use Rattle.basic_toml_emit.specs.Open.{Stage, no_key, key_set, with_key, Frame, a_table}
 

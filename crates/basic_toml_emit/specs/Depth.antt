@@ -2,8 +2,8 @@
 -- an array or a table counts one more than its deepest member, and 1 where it is empty. A written value has a depth of
 -- at most the nesting limit.
 use Rattle.std.specs.Prelude.{ℕ, suc, max}
-use Rattle.basic_toml_emit.specs.Written.{Scalar, bytes, Written, scalar, absent, array, table, Elements}
-use Rattle.basic_toml_emit.specs.Written.{no_elements, element, Entries, no_entries, entry}
+use Rattle.basic_toml_layout.specs.Written.{Scalar, bytes, Written, scalar, absent, array, table, Elements}
+use Rattle.basic_toml_layout.specs.Written.{no_elements, element, Entries, no_entries, entry}
 
 abbrev pub scalar_depth : Scalar → ℕ
 scalar_depth (bytes _) = 1

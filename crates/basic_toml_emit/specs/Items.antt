@@ -2,7 +2,7 @@
 -- A call of a scalar, a text or an array of bytes is one item with its value. Calls that are given a part are a prefix,
 -- and then the items of the part; `serialize_newtype_struct` is the items of its part alone.
 use Rattle.std.specs.Prelude.{ℕ, List}
-use Rattle.basic_toml_emit.specs.Written.{Scalar}
+use Rattle.basic_toml_layout.specs.Written.{Scalar}
 
 pub data Item : Type 0 where
   a_scalar : Scalar → Item

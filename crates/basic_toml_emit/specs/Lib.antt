@@ -1,7 +1,4 @@
-pub mod Written
 pub mod Items
-pub mod Texts
-pub mod Layout
 pub mod Depth
 pub mod Open
 pub mod Rules
@@ -12,6 +9,6 @@ pub mod Names
 pub mod Kept
 pub mod Keys
 pub mod PresentKeys
-pub mod Scalar
+pub mod Recorded
 pub mod Frames
 pub mod Emitter

@@ -1,7 +1,7 @@
 -- Which error a call answers (own): the first rule that applies, in the order of `rules` below.
 -- An error that was answered before comes before all of them, and want of memory after.
 use Rattle.std.specs.Prelude.{ℕ, Bool, true, false, not, ◌&&◌, nat_le, List, [], ◌∷◌, length, Result, Err}
-use Rattle.basic_toml_emit.specs.Written.{text, is_refused, is_bytes}
+use Rattle.basic_toml_layout.specs.Written.{text, is_refused, is_bytes}
 use Rattle.basic_toml_emit.specs.Items.{Item, a_scalar, an_absent, open_array, open_table, close, key, field}
 use Rattle.basic_toml_emit.specs.Items.{some_prefix, value_prefix, element_prefix}
 use Rattle.basic_toml_emit.specs.Open.{no_key, key_place, key_set, unknown, tables, others, Frame, a_table, an_array}

@@ -1,5 +1,5 @@
 //! What a call records.
-use crate::scalar::Scalar;
+use basic_toml_layout::Scalar;
 
 /// What a call records as one item. A call that is given a part records a prefix before it.
 #[derive(Clone, Copy)]

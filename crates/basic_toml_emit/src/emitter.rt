@@ -2,7 +2,8 @@
 ghost use Rattle.std.specs.Prelude.{◌≡◌, ◌&&◌, true, [], Result, if◌then◌else◌, string_bytes};
 ghost use Rattle.basic_toml_emit.specs.declared.fault.Fault.TheVariants.{CallOrder};
 ghost use Rattle.basic_toml_emit.specs.Items.{a_scalar, an_absent, open_array, open_table, close, key, field, some_prefix, value_prefix, element_prefix};
-ghost use Rattle.basic_toml_emit.specs.Scalar.{item_of, scalar_of};
+ghost use Rattle.basic_toml_layout.specs.Scalar.{scalar_of};
+ghost use Rattle.basic_toml_emit.specs.Recorded.{item_of};
 ghost use Rattle.basic_toml_emit.specs.Open.{State, state, fresh};
 ghost use Rattle.basic_toml_emit.specs.Calls as c;
 ghost use Rattle.basic_toml_emit.specs.Rules.{CallFault, key_of};
@@ -18,7 +19,7 @@ use crate::call::Call;
 use crate::fault::Fault;
 use crate::frames::{Frame, Header, innermost, is_nothing_open, key_set, new_table, put};
 use crate::keys::Keys;
-use crate::scalar::Scalar;
+use basic_toml_layout::Scalar;
 use std::alloc::Global;
 
 /// The text so far, and the arrays and tables that are open in it.

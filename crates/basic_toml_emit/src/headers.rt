@@ -1,12 +1,12 @@
 //! Headers, and what stands before a row's value.
 ghost use Rattle.std.specs.Prelude.{◌≡◌, ◌++◌, IfOk, string_bytes};
 ghost use Rattle.basic_toml_emit.specs.Calls as c;
-ghost use Rattle.basic_toml_emit.specs.Texts.{joined};
-ghost use Rattle.basic_toml_emit.specs.Layout.{element_header, row_start};
+ghost use Rattle.basic_toml_layout.specs.Texts.{joined};
+ghost use Rattle.basic_toml_layout.specs.Layout.{element_header, row_start};
 ghost use Rattle.basic_toml_emit.specs.Frames.{frames_of, frame_of, header_of, path_part, first_after};
 
 use crate::frames::{Frame, Header};
-use crate::text::write_key;
+use basic_toml_layout::write_key;
 use std::alloc::AllocError;
 
 // The key that a frame adds to a path; whether the path is still empty.

@@ -12,12 +12,9 @@ mod frames;
 mod headers;
 mod keys;
 mod names;
-mod scalar;
-mod text;
 
+pub use basic_toml_layout::{Scalar, write_key};
 pub use call::Call;
 pub use emitter::Emitter;
 pub use error::WriteError;
 pub use frames::NESTING_LIMIT;
-pub use scalar::Scalar;
-pub use text::write_key;

@@ -3,10 +3,10 @@ use Rattle.std.specs.Prelude.{ℕ, Bool, List, [], ◌∷◌, ◌++◌, map}
 use Rattle.std.specs.Str.{chars}
 use Rattle.basic_toml_value.specs.Data as d
 use Rattle.basic_toml_value.specs.Data.{Data, Items, no_items, item, Members, no_members, member}
-use Rattle.basic_toml_emit.specs.Texts.{written_key, joined}
-use Rattle.basic_toml_emit.specs.Layout.{row_start, written, written_elements, more_elements, entries_text}
-use Rattle.basic_toml_emit.specs.Layout.{sections_text}
-use Rattle.basic_toml_write.specs.Trees.{written_of, elements_of, entries_of}
+use Rattle.basic_toml_layout.specs.Texts.{written_key, joined}
+use Rattle.basic_toml_layout.specs.Layout.{row_start, written, written_elements, more_elements, entries_text}
+use Rattle.basic_toml_layout.specs.Layout.{sections_text}
+use Rattle.basic_toml_layout.specs.Trees.{written_of, elements_of, entries_of}
 use Rattle.basic_toml_grammar.specs.Sections.{KeyTexts}
 
 abbrev mutual

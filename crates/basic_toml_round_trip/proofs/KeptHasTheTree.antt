@@ -2,13 +2,13 @@
 use Rattle.std.proofs.Common.{◌≡◌, ℕ, suc, max, List, [], ◌∷◌, refl, ap, ◌∙◌, pos}
 use Rattle.basic_toml_value.specs.Data as d
 use Rattle.basic_toml_value.specs.Data.{Data, Items, no_items, item, Members, no_members, member}
-use Rattle.basic_toml_emit.specs.Written as w
-use Rattle.basic_toml_emit.specs.Written.{Scalar, Written, scalar, absent, array, table, Elements, no_elements}
-use Rattle.basic_toml_emit.specs.Written.{element, Entries, no_entries, entry}
+use Rattle.basic_toml_layout.specs.Written as w
+use Rattle.basic_toml_layout.specs.Written.{Scalar, Written, scalar, absent, array, table, Elements, no_elements}
+use Rattle.basic_toml_layout.specs.Written.{element, Entries, no_entries, entry}
 use Rattle.basic_toml_emit.specs.Depth as written
 use Rattle.basic_toml_write.specs.Kept.{kept, kept_scalar, kept_elements, kept_entries, number_elements}
-use Rattle.basic_toml_write.specs.Trees.{number_items, scalar_tree, tree_of, element_trees, entry_trees, written_of}
-use Rattle.basic_toml_write.specs.Trees.{elements_of, entries_of}
+use Rattle.basic_toml_layout.specs.Trees.{number_items, scalar_tree, tree_of, element_trees, entry_trees, written_of}
+use Rattle.basic_toml_layout.specs.Trees.{elements_of, entries_of}
 use Rattle.basic_toml_grammar.specs.Depth.{depth, depth_of_items, depth_of_members}
 
 numbers_kept : (ns : List ℕ) → element_trees (number_elements ns) ≡ number_items ns

@@ -8,7 +8,7 @@ use Rattle.std.proofs.lemmas.Bool.{false≢true, and_parts, cond_both}
 use Rattle.std.proofs.lemmas.Bool.Decides.{nat_tests}
 use Rattle.std.proofs.lemmas.Str.{encodes-IsAscii, encodes-chars}
 use Rattle.basic_toml_tokens.specs.Text.{Text, StartsWith, run, after_run, is_blank, is_keylike, after_blanks}
-use Rattle.basic_toml_emit.specs.Texts.{is_bare, is_bare_key}
+use Rattle.basic_toml_layout.specs.Texts.{is_bare, is_bare_key}
 use Rattle.basic_toml_grammar.specs.Sections.{Key, KeyTexts}
 use Rattle.basic_toml_grammar.specs.Grammar.{IsKey, bare, quoted, IsKeys, one, more}
 use Rattle.basic_toml_round_trip.proofs.SectionsOfTable.{unplaced, backwards}

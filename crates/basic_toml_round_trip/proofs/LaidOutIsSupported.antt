@@ -6,12 +6,12 @@ use Rattle.std.proofs.lemmas.Bool.{or_from, and_right}
 use Rattle.std.proofs.lemmas.Bool.Decides.{nat_tests}
 use Rattle.basic_toml_value.specs.Data as d
 use Rattle.basic_toml_value.specs.Data.{Data, Items, no_items, item, Members}
-use Rattle.basic_toml_emit.specs.Written as w
-use Rattle.basic_toml_emit.specs.Written.{Elements, array, table, Entries, entry, is_refused}
+use Rattle.basic_toml_layout.specs.Written as w
+use Rattle.basic_toml_layout.specs.Written.{Elements, array, table, Entries, entry, is_refused}
 use Rattle.basic_toml_write.specs.Shapes.{holds_table, holds_other, holds_array_with_table, holds_absent}
 use Rattle.basic_toml_write.specs.Shapes.{has_late_row, has_key, repeats_key, has_bad, element_has_bad}
 use Rattle.basic_toml_write.specs.Shapes.{entry_has_bad}
-use Rattle.basic_toml_write.specs.Trees.{written_of, elements_of, entries_of}
+use Rattle.basic_toml_layout.specs.Trees.{written_of, elements_of, entries_of}
 use Rattle.basic_toml_grammar.specs.Sections.{KeyTexts}
 use Rattle.basic_toml_round_trip.proofs.IntegersAreReadBack.{fits}
 use Rattle.basic_toml_round_trip.proofs.LaidOut.{IsInRow, AreInRow, IsNone, Laid, a_row, then_parts, Parts, no_parts}

@@ -5,14 +5,14 @@ use Rattle.std.specs.Prelude.{nat_le, nat_lt, if◌then◌else◌}
 use Rattle.std.proofs.lemmas.Bool.{or_parts, or_from, true≢false, leb-true}
 use Rattle.basic_toml_tokens.specs.Text.{Text, folded, is_comment}
 use Rattle.basic_toml_value.specs.Data.{Data}
-use Rattle.basic_toml_emit.specs.Written.{Written, scalar, absent, array, table}
-use Rattle.basic_toml_emit.specs.Layout.{layout}
+use Rattle.basic_toml_layout.specs.Written.{Written, scalar, absent, array, table}
+use Rattle.basic_toml_layout.specs.Layout.{layout}
 use Rattle.basic_toml_emit.specs.Depth as written
 use Rattle.basic_toml_value.specs.Nesting.{nesting_limit}
 use Rattle.basic_toml_emit.specs.Calls.{outcome}
 use Rattle.basic_toml_write.specs.Kept.{kept}
 use Rattle.basic_toml_write.specs.Shapes.{has_bad, is_unsupported}
-use Rattle.basic_toml_write.specs.Trees.{tree_of, written_of}
+use Rattle.basic_toml_layout.specs.Trees.{tree_of, written_of}
 use Rattle.basic_toml_write.specs.Impls.{data_calls}
 use Rattle.basic_toml_write.proofs.KeptHasSameLayout.{depth-kept}
 use Rattle.basic_toml_write.proofs.OutcomeIsLayout.{outcome-layout}

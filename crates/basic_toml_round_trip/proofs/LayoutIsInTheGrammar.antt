@@ -4,8 +4,8 @@ use Rattle.std.proofs.Common.{append_assoc, append-nil, refl}
 use Rattle.std.specs.Str.{chars}
 use Rattle.basic_toml_tokens.specs.Text.{Text, is_comment, after_blanks}
 use Rattle.basic_toml_value.specs.Data.{Items, Members}
-use Rattle.basic_toml_emit.specs.Layout.{is_header_due, table_header, element_header}
-use Rattle.basic_toml_write.specs.Trees.{written_of, entries_of}
+use Rattle.basic_toml_layout.specs.Layout.{is_header_due, table_header, element_header}
+use Rattle.basic_toml_layout.specs.Trees.{written_of, entries_of}
 use Rattle.basic_toml_grammar.specs.Sections.{Key, KeyTexts, Raw, Rows, no_rows, row, Section}
 use Rattle.basic_toml_grammar.specs.Grammar as g
 use Rattle.basic_toml_grammar.specs.Grammar.{IsRow, IsRows, IsHeader, IsSections, with_root, IsSectionList}

@@ -8,10 +8,10 @@ use Rattle.std.proofs.lemmas.Bool.Decides.{nat_tests}
 use Rattle.std.proofs.lemmas.Str.{encodes-chars, chars-IsAscii}
 use Rattle.basic_toml_value.specs.Data as d
 use Rattle.basic_toml_value.specs.Data.{Data, Items, no_items, item, Members}
-use Rattle.basic_toml_emit.specs.Texts.{quoted, is_bare, is_bare_key, written_key, joined, comma}
-use Rattle.basic_toml_emit.specs.Layout.{is_header_due, blank_line, table_header, element_header, row_start, written}
-use Rattle.basic_toml_emit.specs.Layout.{written_elements, more_elements, sections_text, entries_text}
-use Rattle.basic_toml_write.specs.Trees.{written_of, elements_of, entries_of}
+use Rattle.basic_toml_layout.specs.Texts.{quoted, is_bare, is_bare_key, written_key, joined, comma}
+use Rattle.basic_toml_layout.specs.Layout.{is_header_due, blank_line, table_header, element_header, row_start, written}
+use Rattle.basic_toml_layout.specs.Layout.{written_elements, more_elements, sections_text, entries_text}
+use Rattle.basic_toml_layout.specs.Trees.{written_of, elements_of, entries_of}
 use Rattle.basic_toml_grammar.specs.Sections.{KeyTexts, Raw}
 use Rattle.basic_toml_grammar.specs.Grammar.{is_wordlike}
 use Rattle.basic_toml_round_trip.proofs.LaidOut.{IsInRow, AreInRow, Laid, a_row, then_parts, Parts, no_parts}

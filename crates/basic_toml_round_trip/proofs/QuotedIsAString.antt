@@ -9,7 +9,7 @@ use lib.Utf8.{low_scalar}
 use Rattle.basic_toml_tokens.specs.Text.{Text, run}
 use Rattle.basic_toml_tokens.specs.Strings.{Quotes, count_of, is_content, letter_value, is_hex, hex_value, Pieces}
 use Rattle.basic_toml_tokens.specs.Strings.{none, piece, IsPiece, content, letter, unicode, one, one_line, IsString}
-use Rattle.basic_toml_emit.specs.Texts.{upper_digit, is_control, escape, quoted_byte, quoted_bytes, quoted}
+use Rattle.basic_toml_layout.specs.Texts.{upper_digit, is_control, escape, quoted_byte, quoted_bytes, quoted}
 use Rattle.basic_toml_round_trip.proofs.CharactersInFront.{onto, onto-append}
 
 -- what the layout opens

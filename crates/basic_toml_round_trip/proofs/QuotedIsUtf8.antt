@@ -11,7 +11,7 @@ use Rattle.std.proofs.lemmas.List.Folds.{list_all-append, list_any-append}
 use Rattle.std.proofs.lemmas.Str.{encode_ascii, inside_one, encodes-append, encodes-chars, scalars-chars, chars-encodes}
 use lib.Utf8.{scalar as code_point, scalars, encode, encodes, low_scalar}
 use Rattle.basic_toml_tokens.specs.Text.{folded_from}
-use Rattle.basic_toml_emit.specs.Texts.{quoted_byte, quoted_bytes, quoted}
+use Rattle.basic_toml_layout.specs.Texts.{quoted_byte, quoted_bytes, quoted}
 use Rattle.basic_toml_grammar.specs.Respelled.{characters, has_return}
 
 -- a character, and no carriage return

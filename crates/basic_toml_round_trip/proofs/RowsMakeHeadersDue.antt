@@ -3,9 +3,9 @@ use Rattle.std.proofs.Common.{◌≡◌, ℕ, Bool, true, List, [], ◌∷◌, �
 use Rattle.std.specs.Str.{chars}
 use Rattle.basic_toml_value.specs.Data as d
 use Rattle.basic_toml_value.specs.Data.{Data, Items, no_items, item, Members}
-use Rattle.basic_toml_emit.specs.Written.{Written, scalar, absent, array, table, no_elements, element, Entries, entry}
-use Rattle.basic_toml_emit.specs.Layout.{row, form, is_header_due, row_start, written, entries_text}
-use Rattle.basic_toml_write.specs.Trees.{written_of, entries_of}
+use Rattle.basic_toml_layout.specs.Written.{Written, scalar, absent, array, table, no_elements, element, Entries, entry}
+use Rattle.basic_toml_layout.specs.Layout.{row, form, is_header_due, row_start, written, entries_text}
+use Rattle.basic_toml_layout.specs.Trees.{written_of, entries_of}
 use Rattle.basic_toml_grammar.specs.Sections.{KeyTexts}
 use Rattle.basic_toml_round_trip.proofs.LaidOut.{IsInRow, Laid, a_row, then_parts, no_parts, a_table, an_array}
 use Rattle.basic_toml_round_trip.proofs.SectionsOfTable.{has_header}

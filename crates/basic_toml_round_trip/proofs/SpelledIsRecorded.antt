@@ -2,8 +2,8 @@
 use Rattle.std.proofs.Common.{List, ◌∷◌}
 use Rattle.std.specs.Str.{IsUtf8}
 use Rattle.std.proofs.lemmas.List.Elements.{All-head, All-tail}
-use Rattle.basic_toml_emit.specs.Written.{text, Written, scalar, absent, array, table, Elements, no_elements}
-use Rattle.basic_toml_emit.specs.Written.{element, Entries, no_entries, entry}
+use Rattle.basic_toml_layout.specs.Written.{text, Written, scalar, absent, array, table, Elements, no_elements}
+use Rattle.basic_toml_layout.specs.Written.{element, Entries, no_entries, entry}
 use Rattle.basic_toml_emit.specs.Items.{Item, a_scalar, an_absent, open_array, open_table, close, key, field}
 use Rattle.basic_toml_emit.specs.Items.{some_prefix, value_prefix, element_prefix}
 use Rattle.basic_toml_write.specs.Recordable.{IsRecordableScalar, IsRecordable, AreRecordable}

@@ -3,11 +3,11 @@ use Rattle.std.proofs.Common.{◌≡◌, ℕ, Bool, true, false, ◌||◌, List,
 use Rattle.std.specs.Str.{bytes_eq, IsUtf8}
 use Rattle.std.proofs.lemmas.Bool.{or_parts, true≢false}
 use Rattle.basic_toml_value.specs.Data.{Data, Members, member}
-use Rattle.basic_toml_emit.specs.Written.{scalar, absent, array, table, Elements, no_elements, element, Entries}
-use Rattle.basic_toml_emit.specs.Written.{no_entries, entry, is_refused}
+use Rattle.basic_toml_layout.specs.Written.{scalar, absent, array, table, Elements, no_elements, element, Entries}
+use Rattle.basic_toml_layout.specs.Written.{no_entries, entry, is_refused}
 use Rattle.basic_toml_write.specs.Shapes.{holds_other, holds_absent, holds_array_with_table, has_late_row, has_key}
 use Rattle.basic_toml_write.specs.Shapes.{repeats_key, is_bad_table, has_bad, element_has_bad, entry_has_bad}
-use Rattle.basic_toml_write.specs.Trees.{scalar_tree, tree_of, element_trees, entry_trees}
+use Rattle.basic_toml_layout.specs.Trees.{scalar_tree, tree_of, element_trees, entry_trees}
 use Rattle.basic_toml_grammar.specs.Sections.{KeyTexts}
 use Rattle.basic_toml_round_trip.proofs.LaidOut.{IsInRow, IsNew, Laid, a_row, then_parts, Parts, no_parts, a_table}
 use Rattle.basic_toml_round_trip.proofs.LaidOut.{an_array, Nodes, no_nodes, a_node}

@@ -5,14 +5,14 @@ use Rattle.std.proofs.lemmas.Bool.{or_parts, true≢false, lt-ltb}
 use Rattle.std.proofs.lemmas.Bool.Decides.{nat_tests}
 use Rattle.std.proofs.lemmas.Int.{ints}
 use Rattle.std.proofs.lemmas.List.Elements.{All-head, All-tail}
-use Rattle.basic_toml_emit.specs.Written as w
-use Rattle.basic_toml_emit.specs.Written.{Scalar, Written, scalar, absent, array, table, Elements, no_elements}
-use Rattle.basic_toml_emit.specs.Written.{element, Entries, no_entries, entry, is_refused}
-use Rattle.basic_toml_emit.specs.Layout.{row, form}
+use Rattle.basic_toml_layout.specs.Written as w
+use Rattle.basic_toml_layout.specs.Written.{Scalar, Written, scalar, absent, array, table, Elements, no_elements}
+use Rattle.basic_toml_layout.specs.Written.{element, Entries, no_entries, entry, is_refused}
+use Rattle.basic_toml_layout.specs.Layout.{row, form}
 use Rattle.basic_toml_write.specs.Recordable.{IsRecordableScalar}
 use Rattle.basic_toml_write.specs.Shapes.{holds_table, holds_other, holds_absent, holds_array_with_table}
 use Rattle.basic_toml_write.specs.Shapes.{is_bad_array, has_bad, element_has_bad}
-use Rattle.basic_toml_write.specs.Trees.{number_items, scalar_tree, tree_of, element_trees}
+use Rattle.basic_toml_layout.specs.Trees.{number_items, scalar_tree, tree_of, element_trees}
 use Rattle.basic_toml_round_trip.proofs.IntegersAreReadBack.{fits}
 use Rattle.basic_toml_round_trip.proofs.LaidOut.{IsInRow, AreInRow}
 use Rattle.basic_toml_round_trip.proofs.SpelledIsRecorded.{AreRecorded}

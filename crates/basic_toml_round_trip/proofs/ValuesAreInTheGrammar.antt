@@ -7,7 +7,7 @@ use Rattle.std.proofs.lemmas.Str.{encodes-chars}
 use Rattle.basic_toml_tokens.specs.Text.{Text, is_blank, is_comment}
 use Rattle.basic_toml_value.specs.Data as d
 use Rattle.basic_toml_value.specs.Data.{Data, Items, no_items, item}
-use Rattle.basic_toml_emit.specs.Texts.{quoted}
+use Rattle.basic_toml_layout.specs.Texts.{quoted}
 use Rattle.basic_toml_grammar.specs.Sections as s
 use Rattle.basic_toml_grammar.specs.Sections.{Raw}
 use Rattle.basic_toml_grammar.specs.Grammar as g

@@ -9,10 +9,10 @@ use lib.Utf8.{encode, scalars}
 use Rattle.basic_toml_tokens.specs.Text.{folded}
 use Rattle.basic_toml_value.specs.Data as d
 use Rattle.basic_toml_value.specs.Data.{Data, items_of, members_of}
-use Rattle.basic_toml_emit.specs.Written.{float, text, bytes, Written, scalar, absent, array, table, no_elements}
-use Rattle.basic_toml_emit.specs.Written.{element, no_entries, entry}
+use Rattle.basic_toml_layout.specs.Written.{float, text, bytes, Written, scalar, absent, array, table, no_elements}
+use Rattle.basic_toml_layout.specs.Written.{element, no_entries, entry}
 use Rattle.basic_toml_emit.specs.Items.{Item, a_scalar, an_absent, open_array, open_table, close, field, some_prefix}
-use Rattle.basic_toml_emit.specs.Layout.{layout}
+use Rattle.basic_toml_layout.specs.Layout.{layout}
 use Rattle.basic_toml_write.specs.Spelling.{one_scalar, none, an_array, a_table, array_end, member, table_end}
 use Rattle.basic_toml_write.specs.Spelling.{by_field, bare, with_some, Spells, root}
 use Rattle.basic_toml_write.specs.Recordable.{IsRecordable, AreRecordable}

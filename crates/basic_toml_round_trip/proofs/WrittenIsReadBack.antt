@@ -6,13 +6,13 @@ use Rattle.std.proofs.lemmas.Bool.{or_parts, true≢false, ltb-false}
 use Rattle.basic_toml_tokens.specs.Text.{first_of, folded, folded_from, text_at}
 use Rattle.basic_toml_value.specs.Data as d
 use Rattle.basic_toml_value.specs.Data.{Data, Members}
-use Rattle.basic_toml_emit.specs.Written.{Written, scalar, absent, array, table}
-use Rattle.basic_toml_emit.specs.Layout.{layout}
+use Rattle.basic_toml_layout.specs.Written.{Written, scalar, absent, array, table}
+use Rattle.basic_toml_layout.specs.Layout.{layout}
 use Rattle.basic_toml_emit.specs.Depth as written
 use Rattle.basic_toml_value.specs.Nesting.{nesting_limit}
 use Rattle.basic_toml_write.specs.Kept.{kept}
 use Rattle.basic_toml_write.specs.Shapes.{has_bad, is_unsupported}
-use Rattle.basic_toml_write.specs.Trees.{tree_of, written_of}
+use Rattle.basic_toml_layout.specs.Trees.{tree_of, written_of}
 use Rattle.basic_toml_write.proofs.KeptHasSameLayout.{layout-kept, depth-kept}
 use Rattle.basic_toml_write.proofs.TreesAreKept.{written-tree_kept}
 use Rattle.basic_toml_grammar.specs.Depth.{depth}

@@ -8,15 +8,15 @@ use Rattle.basic_toml_grammar.specs.Levels.{highest_level}
 use Rattle.basic_toml_value.specs.Nesting.{nesting_limit}
 use Rattle.basic_toml_grammar.specs.Document.{IsDocument}
 use Rattle.basic_toml_grammar.specs.Respelled.{with_returns, with_byte_order_mark}
-use Rattle.basic_toml_emit.specs.Written.{Written}
+use Rattle.basic_toml_layout.specs.Written.{Written}
 use Rattle.basic_toml_emit.specs.Items.{Item}
-use Rattle.basic_toml_emit.specs.Layout.{layout}
+use Rattle.basic_toml_layout.specs.Layout.{layout}
 use Rattle.basic_toml_emit.specs.Calls.{outcome}
 use Rattle.basic_toml_write.specs.Spelling.{Spells}
 use Rattle.basic_toml_write.specs.Recordable.{AreRecordable}
 use Rattle.basic_toml_write.specs.Shapes.{is_unsupported}
 use Rattle.basic_toml_write.specs.Kept.{kept}
-use Rattle.basic_toml_write.specs.Trees.{tree_of, written_of}
+use Rattle.basic_toml_layout.specs.Trees.{tree_of, written_of}
 use Rattle.basic_toml_write.specs.Impls.{data_calls}
 
 -- for each written value that calls spell, by items that can be recorded, and in which no unsupported shape occurs

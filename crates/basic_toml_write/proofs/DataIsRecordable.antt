@@ -9,12 +9,12 @@ use Rattle.basic_toml_value.specs.View.{view, entries, items_view}
 use Rattle.basic_toml_value.specs.declared.pairs.Pair.{Pair}
 use Rattle.basic_toml_value.specs.declared.value.Value.{Value, the_lemmas}
 use Rattle.basic_toml_value.specs.declared.value.Value.TheVariants.{Integer as Whole, String as Text}
-use Rattle.basic_toml_emit.specs.Written as w
-use Rattle.basic_toml_emit.specs.Written.{text}
+use Rattle.basic_toml_layout.specs.Written as w
+use Rattle.basic_toml_layout.specs.Written.{text}
 use Rattle.basic_toml_emit.specs.Items.{Item, a_scalar, open_array, open_table, close, field, element_prefix}
 use Rattle.basic_toml_write.specs.Impls.{data_calls, items_calls, members_calls}
 use Rattle.basic_toml_write.specs.Recordable.{IsRecordableScalar, IsRecordable, AreRecordable}
-use Rattle.basic_toml_write.proofs.DataIsLaidOut.{drop_at}
+use Rattle.basic_toml_layout.proofs.DataIsLaidOut.{drop_at}
 
 pub recordable_one : (i : Item) → IsRecordable i → AreRecordable (i ∷ [])
 recordable_one i can = All-cons IsRecordable i [] can (All-nil IsRecordable)

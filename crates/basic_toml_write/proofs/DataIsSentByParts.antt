@@ -1,10 +1,9 @@
 -- The items of a tree of data, by those of its parts.
-use Rattle.std.proofs.Common.{◌≡◌, ℕ, List, [], ◌∷◌, ◌++◌, map, refl, ap, rules, Vec, Global}
+use Rattle.std.proofs.Common.{◌≡◌, ℕ, List, [], ◌∷◌, ◌++◌, map, refl, ap}
 use Rattle.std.specs.List.{flat_map}
 use Rattle.basic_toml_value.specs.Data.{array, table, items_of}
 use Rattle.basic_toml_value.specs.View.{view, entries}
-use Rattle.basic_toml_value.specs.declared.value.Value.{Value, the_lemmas}
-use Rattle.basic_toml_value.specs.declared.value.Value.TheVariants.{Array, Table}
+use Rattle.basic_toml_value.specs.declared.value.Value.{Value}
 use Rattle.basic_toml_emit.specs.Items.{Item, element_prefix, field, open_array, open_table, close}
 use Rattle.basic_toml_emit.specs.declared.error.WriteError.{WriteError}
 use Rattle.basic_toml_write.specs.Serializer.{NoFault}
@@ -32,9 +31,3 @@ table_sent ps = ap (λ z. open_table ∷ (z ++ (close ∷ []))) (members_sent ps
 pub any_never : {A : Type 0} (opening : Item) (prefix : A → Item) (calls : A → List Item) (xs : List A)
     (sent : List Item) (e : WriteError) → AnyGivesUp opening prefix calls (λ x. NoFault) xs sent e → NoFault sent e
 any_never opening prefix calls xs sent e h = h.gives_up.allowed
-
-pub view-Array : (v : Vec Value Global) → view (Array v) ≡ array (items_of (map view v.items))
-view-Array v = search (rules, the_lemmas)
-
-pub view-Table : (ps : List (List ℕ × Value)) → view (Table ps) ≡ table (entries ps)
-view-Table ps = search (rules, the_lemmas)

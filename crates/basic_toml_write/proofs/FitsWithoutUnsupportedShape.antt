@@ -2,10 +2,10 @@
 use Rattle.std.proofs.Common.{◌≡◌, ℕ, suc, ◌+◌, ◌≤◌, ◌<◌, List, refl, sym, ◌∙◌, Bool, true, false, cond, arith}
 use Rattle.std.specs.Prelude.{◌||◌, ◌&&◌, bytes_eq}
 use Rattle.std.proofs.lemmas.Bool.{or_parts, or_from, leb-false, lt-leb, ltb-false, le-ltb, true≢false, and_left}
-use Rattle.basic_toml_emit.specs.Written.{Scalar, integer, boolean, float, text, other_text, bytes, refused, Written}
-use Rattle.basic_toml_emit.specs.Written.{scalar, absent, array, table, Elements, no_elements, element, Entries}
-use Rattle.basic_toml_emit.specs.Written.{no_entries, entry, is_absent, is_table}
-use Rattle.basic_toml_emit.specs.Layout.{form}
+use Rattle.basic_toml_layout.specs.Written.{Scalar, integer, boolean, float, text, other_text, bytes, refused, Written}
+use Rattle.basic_toml_layout.specs.Written.{scalar, absent, array, table, Elements, no_elements, element, Entries}
+use Rattle.basic_toml_layout.specs.Written.{no_entries, entry, is_absent, is_table}
+use Rattle.basic_toml_layout.specs.Layout.{form}
 use Rattle.basic_toml_emit.specs.Open.{PresentKeys, no_keys, with_key}
 use Rattle.basic_toml_emit.specs.Depth.{scalar_depth, depth, elements_depth, entries_depth}
 use Rattle.basic_toml_write.specs.Shapes.{holds_table, holds_other, holds_absent, is_array_with_table}

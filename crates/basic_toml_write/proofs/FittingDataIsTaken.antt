@@ -7,14 +7,15 @@ use Rattle.basic_toml_value.specs.Data.{Data, integer, float, boolean, string, a
 use Rattle.basic_toml_value.specs.Data.{Members, no_members, member}
 use Rattle.basic_toml_value.specs.Keys.{is_among, are_distinct}
 use Rattle.basic_toml_value.specs.Nesting.{nesting_limit}
-use Rattle.basic_toml_emit.specs.Written as w
-use Rattle.basic_toml_emit.specs.Layout.{form, layout}
+use Rattle.basic_toml_layout.specs.Written as w
+use Rattle.basic_toml_layout.specs.Layout.{form, layout}
 use Rattle.basic_toml_emit.specs.Open.{state, fresh, PresentKeys, no_keys, with_key}
 use Rattle.basic_toml_emit.specs.Calls.{run}
 use Rattle.basic_toml_write.specs.Impls.{data_calls}
 use Rattle.basic_toml_write.specs.Shapes.{then_after}
-use Rattle.basic_toml_write.specs.Trees.{written_of, elements_of, entries_of}
-use Rattle.basic_toml_write.specs.DataFits.{member_keys, may_open, begins_with_table, is_section, fits_in_row}
+use Rattle.basic_toml_layout.specs.Trees.{written_of, elements_of, entries_of}
+use Rattle.basic_toml_layout.specs.Sections.{begins_with_table, is_section}
+use Rattle.basic_toml_write.specs.DataFits.{member_keys, may_open, fits_in_row}
 use Rattle.basic_toml_write.specs.DataFits.{items_fit_in_row, members_fit, entry_fits, tables_fit, is_fitting_table}
 use Rattle.basic_toml_write.specs.DataFits.{table_fits}
 use Rattle.basic_toml_write.proofs.ValuesThatFit.{FitsValue, FitsOthers, FitsTables, FitsArray, FitsEntry, FitsEntries}

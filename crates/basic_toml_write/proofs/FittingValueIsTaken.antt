@@ -3,16 +3,16 @@ use Rattle.std.proofs.Common.{◌≡◌, suc, List, [], ◌∷◌, ◌++◌, ref
 use Rattle.std.proofs.Common.{Ok, Option, Some, None, length}
 use Rattle.std.specs.Prelude.{nat_le, is_some}
 use Rattle.std.proofs.lemmas.List.{append_assoc, append-nil}
-use Rattle.basic_toml_emit.specs.Written.{Scalar, Written, scalar, absent, array, table, Elements, no_elements}
-use Rattle.basic_toml_emit.specs.Written.{element, Entries, entry}
+use Rattle.basic_toml_layout.specs.Written.{Scalar, Written, scalar, absent, array, table, Elements, no_elements}
+use Rattle.basic_toml_layout.specs.Written.{element, Entries, entry}
 use Rattle.basic_toml_emit.specs.Items.{Item, a_scalar, open_array, open_table, close}
 use Rattle.basic_toml_write.specs.Spelling.{IsValue, one_scalar, none, an_array, a_table, AreElements, array_end}
 use Rattle.basic_toml_write.specs.Spelling.{a_some, an_element, member, AreEntries, table_end, by_key, by_field}
 use Rattle.basic_toml_write.specs.Spelling.{IsPrefixed, bare, with_some, with_value, Spells, root, root_some}
-use Rattle.basic_toml_emit.specs.Texts.{written_scalar, comma}
-use Rattle.basic_toml_emit.specs.Layout.{written, written_elements, more_elements, element_header, entry_text}
-use Rattle.basic_toml_emit.specs.Layout.{array_text, sections_text, entries_text, is_header_due, form, Form, row}
-use Rattle.basic_toml_emit.specs.Layout.{layout}
+use Rattle.basic_toml_layout.specs.Texts.{written_scalar, comma}
+use Rattle.basic_toml_layout.specs.Layout.{written, written_elements, more_elements, element_header, entry_text}
+use Rattle.basic_toml_layout.specs.Layout.{array_text, sections_text, entries_text, is_header_due, form, Form, row}
+use Rattle.basic_toml_layout.specs.Layout.{layout}
 use Rattle.basic_toml_write.specs.Shapes.{then_after}
 use Rattle.basic_toml_emit.specs.Open as o
 use Rattle.basic_toml_emit.specs.Open.{State, state, Frame, Header, settled, due, Stage, no_key, key_place, key_set}

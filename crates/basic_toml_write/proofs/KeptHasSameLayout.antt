@@ -2,13 +2,13 @@
 use Rattle.std.proofs.Common.{◌≡◌, ℕ, suc, List, [], ◌∷◌, ◌++◌, refl, sym, ◌∙◌, ap, cond, Bool, true, false, max, arith}
 use Rattle.std.proofs.lemmas.List.{append_assoc}
 use Rattle.std.specs.Prelude.{decimal}
-use Rattle.basic_toml_emit.specs.Written.{integer, boolean, float, text, other_text, bytes, refused, Written, scalar}
-use Rattle.basic_toml_emit.specs.Written.{absent, array, table, Elements, no_elements, element, Entries, no_entries}
-use Rattle.basic_toml_emit.specs.Written.{entry}
-use Rattle.basic_toml_emit.specs.Texts.{written_scalar, written_numbers, more_numbers, comma}
-use Rattle.basic_toml_emit.specs.Layout.{layout, written, written_elements, more_elements, entry_text, array_text}
-use Rattle.basic_toml_emit.specs.Layout.{sections_text, entries_text, is_header_due, element_header, table_header}
-use Rattle.basic_toml_emit.specs.Layout.{row_start}
+use Rattle.basic_toml_layout.specs.Written.{integer, boolean, float, text, other_text, bytes, refused, Written, scalar}
+use Rattle.basic_toml_layout.specs.Written.{absent, array, table, Elements, no_elements, element, Entries, no_entries}
+use Rattle.basic_toml_layout.specs.Written.{entry}
+use Rattle.basic_toml_layout.specs.Texts.{written_scalar, written_numbers, more_numbers, comma}
+use Rattle.basic_toml_layout.specs.Layout.{layout, written, written_elements, more_elements, entry_text, array_text}
+use Rattle.basic_toml_layout.specs.Layout.{sections_text, entries_text, is_header_due, element_header, table_header}
+use Rattle.basic_toml_layout.specs.Layout.{row_start}
 use Rattle.basic_toml_emit.specs.Depth.{depth, elements_depth, entries_depth}
 use Rattle.basic_toml_write.specs.Kept.{kept, kept_elements, kept_entries, number_elements}
 

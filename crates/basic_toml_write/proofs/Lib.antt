@@ -12,7 +12,6 @@ pub mod FinishHandsOut
 pub mod PartsAreSent
 pub mod DataIsSentByParts
 pub mod TablesFit
-pub mod DataIsLaidOut
 pub mod DataIsRecordable
 pub mod FittingDataIsTaken
 pub mod TableIsLaidOut

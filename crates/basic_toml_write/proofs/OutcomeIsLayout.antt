@@ -1,10 +1,10 @@
 -- A list of items comes to a text exactly where it spells a written value without an unsupported shape, and the text
 -- is its layout.
 use Rattle.std.proofs.Common.{◌≡◌, ℕ, List, [], ◌∷◌, sym, ◌∙◌, ap, Bool, true, false, Result, Ok, Err}
-use Rattle.basic_toml_emit.specs.Written.{Written}
+use Rattle.basic_toml_layout.specs.Written.{Written}
 use Rattle.basic_toml_emit.specs.Items.{Item}
 use Rattle.basic_toml_write.specs.Spelling.{Spells}
-use Rattle.basic_toml_emit.specs.Layout.{layout}
+use Rattle.basic_toml_layout.specs.Layout.{layout}
 use Rattle.basic_toml_write.specs.Shapes.{is_unsupported}
 use Rattle.basic_toml_emit.specs.Open.{State, state, Frame, fresh}
 use Rattle.basic_toml_emit.specs.Rules.{CallFault}

@@ -2,7 +2,7 @@
 use Rattle.std.proofs.Common.{◌≡◌, ℕ, List, [], ◌∷◌, ◌++◌, refl, sym, ◌∙◌, ap, subst, Bool, true, false, Option}
 use Rattle.std.proofs.Common.{Some, None, Result, Ok, Err, inl, inr, ◌⊎◌, MatchResult}
 use Rattle.std.specs.Prelude.{⊤, is_some}
-use Rattle.basic_toml_emit.specs.Written.{Scalar, Written, Elements, Entries, is_refused}
+use Rattle.basic_toml_layout.specs.Written.{Scalar, Written, Elements, Entries, is_refused}
 use Rattle.basic_toml_emit.specs.Items.{Item, a_scalar, open_array, open_table, close}
 use Rattle.basic_toml_write.specs.Spelling.{IsValue, one_scalar, none, an_array, a_table, AreElements, array_end}
 use Rattle.basic_toml_write.specs.Spelling.{a_some, an_element, member, AreEntries, table_end, by_key, by_field}

@@ -1,6 +1,6 @@
 -- A list of items spells at most one written value.
 use Rattle.std.proofs.Common.{◌≡◌, List, refl, sym, ap, subst}
-use Rattle.basic_toml_emit.specs.Written.{Written, array, table, Elements, element, Entries, entry}
+use Rattle.basic_toml_layout.specs.Written.{Written, array, table, Elements, element, Entries, entry}
 use Rattle.basic_toml_emit.specs.Items.{Item}
 use Rattle.basic_toml_write.specs.Spelling.{IsValue, one_scalar, none, an_array, a_table, AreElements, array_end}
 use Rattle.basic_toml_write.specs.Spelling.{a_some, an_element, member, AreEntries, table_end, by_key, by_field}

@@ -7,7 +7,7 @@ use Rattle.std.proofs.lemmas.List.Elements.{All-append}
 use Rattle.basic_toml_value.specs.Data.{Members, table}
 use Rattle.basic_toml_value.specs.Nesting.{nesting_limit}
 use Rattle.basic_toml_emit.specs.Items.{Item}
-use Rattle.basic_toml_emit.specs.Layout.{layout}
+use Rattle.basic_toml_layout.specs.Layout.{layout}
 use Rattle.basic_toml_emit.specs.Open.{state, fresh}
 use Rattle.basic_toml_emit.specs.Calls.{run, on_ok}
 use Rattle.basic_toml_emit.specs.Emitter.{state_of}
@@ -16,7 +16,7 @@ use Rattle.basic_toml_emit.specs.declared.error.WriteError.TheVariants.{OutOfMem
 use Rattle.basic_toml_write.specs.Again.{IsSame, IsAgain}
 use Rattle.basic_toml_write.specs.Impls.{data_calls, members_calls}
 use Rattle.basic_toml_write.specs.Recordable.{IsRecordable, AreRecordable}
-use Rattle.basic_toml_write.specs.Trees.{written_of}
+use Rattle.basic_toml_layout.specs.Trees.{written_of}
 use Rattle.basic_toml_write.specs.DataFits.{table_fits}
 use Rattle.basic_toml_write.specs.Serializer.{ran, NoFault, Sends, Refused}
 use Rattle.basic_toml_write.specs.declared.serializer.Serializer.{Serializer}

@@ -2,8 +2,8 @@
 use Rattle.std.proofs.Common.{◌≡◌, zero, suc, List, [], ◌∷◌, refl, sym, ◌∙◌, subst, Bool, true, false, ℕ, Option}
 use Rattle.std.proofs.Common.{Some, None, Result, Ok, Err, length, ◌≤◌, arith}
 use Rattle.std.specs.Prelude.{⊤, is_some}
-use Rattle.basic_toml_emit.specs.Written.{integer, boolean, text, Written, scalar, absent, array, table, Elements}
-use Rattle.basic_toml_emit.specs.Written.{no_elements, element, Entries, no_entries, entry, is_refused}
+use Rattle.basic_toml_layout.specs.Written.{integer, boolean, text, Written, scalar, absent, array, table, Elements}
+use Rattle.basic_toml_layout.specs.Written.{no_elements, element, Entries, no_entries, entry, is_refused}
 use Rattle.basic_toml_emit.specs.Items.{Item, a_scalar, an_absent, open_array, open_table, close, key, field}
 use Rattle.basic_toml_emit.specs.Items.{some_prefix, value_prefix, element_prefix}
 use Rattle.basic_toml_write.specs.Spelling.{one_scalar, none, an_array, a_table, AreElements, array_end, a_some}

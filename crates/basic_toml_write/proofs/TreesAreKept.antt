@@ -3,17 +3,17 @@ use Rattle.std.proofs.Common.{◌≡◌, ℕ, List, [], ◌∷◌, ◌++◌, ref
 use Rattle.std.specs.Prelude.{pos}
 use Rattle.std.proofs.lemmas.Bool.{or_parts, true≢false}
 use Rattle.basic_toml_value.specs.Data as d
-use Rattle.basic_toml_emit.specs.Written.{integer, boolean, float, text, other_text, bytes, refused, Written, scalar}
-use Rattle.basic_toml_emit.specs.Written.{absent, array, table, Elements, no_elements, element, Entries, no_entries}
-use Rattle.basic_toml_emit.specs.Written.{entry, is_absent}
+use Rattle.basic_toml_layout.specs.Written.{integer, boolean, float, text, other_text, bytes, refused, Written, scalar}
+use Rattle.basic_toml_layout.specs.Written.{absent, array, table, Elements, no_elements, element, Entries, no_entries}
+use Rattle.basic_toml_layout.specs.Written.{entry, is_absent}
 use Rattle.basic_toml_emit.specs.Items.{Item, close}
 use Rattle.basic_toml_write.specs.Spelling.{IsValue, one_scalar, an_array, a_table, AreElements, array_end}
 use Rattle.basic_toml_write.specs.Spelling.{an_element, member, AreEntries, table_end, by_field, bare, Spells, root}
 use Rattle.basic_toml_write.specs.Impls.{data_calls, items_calls, members_calls}
 use Rattle.basic_toml_write.specs.Kept.{kept, kept_elements, kept_entries, number_elements}
 use Rattle.basic_toml_write.specs.Shapes.{holds_absent, has_bad, element_has_bad, entry_has_bad, is_unsupported}
-use Rattle.basic_toml_write.specs.Trees.{number_items, tree_of, element_trees, entry_trees, written_of, elements_of}
-use Rattle.basic_toml_write.specs.Trees.{entries_of}
+use Rattle.basic_toml_layout.specs.Trees.{number_items, tree_of, element_trees, entry_trees, written_of, elements_of}
+use Rattle.basic_toml_layout.specs.Trees.{entries_of}
 
 ap2 : {A B C : Type 0} (f : A → B → C) {a a' : A} {b b' : B} → a ≡ a' → b ≡ b' → f a b ≡ f a' b'
 ap2 f p q = λ i. f (p i) (q i)

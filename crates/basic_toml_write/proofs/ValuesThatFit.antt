@@ -1,9 +1,9 @@
 -- A written value in which every item finds its place, by the same recursion as the calls: the positive form of 'no
 -- unsupported shape'.
 use Rattle.std.specs.Prelude.{ℕ, suc, ◌≡◌, Bool, false, ◌&&◌, nat_le, List, ⊤}
-use Rattle.basic_toml_emit.specs.Written.{Scalar, Written, scalar, absent, array, table, Elements, no_elements}
-use Rattle.basic_toml_emit.specs.Written.{element, Entries, no_entries, entry, is_refused, is_bytes}
-use Rattle.basic_toml_emit.specs.Layout.{form}
+use Rattle.basic_toml_layout.specs.Written.{Scalar, Written, scalar, absent, array, table, Elements, no_elements}
+use Rattle.basic_toml_layout.specs.Written.{element, Entries, no_entries, entry, is_refused, is_bytes}
+use Rattle.basic_toml_layout.specs.Layout.{form}
 use Rattle.basic_toml_emit.specs.Open.{PresentKeys, no_keys, with_key}
 use Rattle.basic_toml_write.specs.Shapes.{then_after}
 

@@ -2,11 +2,11 @@
 use Rattle.std.proofs.Common.{◌≡◌, ℕ, suc, zero, List, [], ◌∷◌, ◌++◌, refl, true, false, Ok, Err}
 use Rattle.std.specs.Prelude.{codes, pos, negsuc}
 use Rattle.std.specs.Fmt.{digits}
-use Rattle.basic_toml_emit.specs.Written.{integer, text, other_text, bytes, refused, Written, scalar, absent, array}
-use Rattle.basic_toml_emit.specs.Written.{table, Elements, no_elements, element, Entries, no_entries, entry}
+use Rattle.basic_toml_layout.specs.Written.{integer, text, other_text, bytes, refused, Written, scalar, absent, array}
+use Rattle.basic_toml_layout.specs.Written.{table, Elements, no_elements, element, Entries, no_entries, entry}
 use Rattle.basic_toml_emit.specs.Items.{Item, a_scalar, an_absent, open_array, open_table, close, key, field}
 use Rattle.basic_toml_emit.specs.Items.{some_prefix, value_prefix, element_prefix}
-use Rattle.basic_toml_emit.specs.Layout.{layout}
+use Rattle.basic_toml_layout.specs.Layout.{layout}
 use Rattle.basic_toml_value.specs.Nesting.{nesting_limit}
 use Rattle.basic_toml_write.specs.Kept.{kept}
 use Rattle.basic_toml_write.specs.Shapes.{is_unsupported}

@@ -4,8 +4,9 @@ use Rattle.std.specs.Prelude.{ℕ, ◌+◌, Bool, true, false, not, ◌&&◌, �
 use Rattle.basic_toml_value.specs.Data.{Data, integer, array, table, Items, no_items, item, Members, no_members, member}
 use Rattle.basic_toml_value.specs.Keys.{are_distinct}
 use Rattle.basic_toml_value.specs.Nesting.{nesting_limit}
-use Rattle.basic_toml_emit.specs.Written as w
-use Rattle.basic_toml_emit.specs.Written.{is_refused}
+use Rattle.basic_toml_layout.specs.Sections.{begins_with_table, is_section}
+use Rattle.basic_toml_layout.specs.Written as w
+use Rattle.basic_toml_layout.specs.Written.{is_refused}
 
 abbrev pub member_keys : Members → List (List ℕ)
 member_keys no_members = []
@@ -13,17 +14,6 @@ member_keys (member k x ms) = k ∷ member_keys ms
 
 abbrev pub may_open : ℕ → Bool
 may_open around = nat_lt around nesting_limit
-
--- an array whose first element is a table is one section for each element
-abbrev pub begins_with_table : Items → Bool
-begins_with_table (item (table ms) xs) = true
-begins_with_table _ = false
-
--- whether an entry is no row
-abbrev pub is_section : Data → Bool
-is_section (table ms) = true
-is_section (array xs) = begins_with_table xs
-is_section _ = false
 
 abbrev mutual
   -- a value within a row

@@ -1,8 +1,8 @@
 -- What is kept of a written value (own): the absent entries of its tables are left out, at every depth; texts of
 -- either kind count as strings, and bytes as an array of integers.
 use Rattle.std.specs.Prelude.{ℕ, pos, List, [], ◌∷◌}
-use Rattle.basic_toml_emit.specs.Written.{Scalar, integer, text, other_text, bytes, Written, scalar, absent, array}
-use Rattle.basic_toml_emit.specs.Written.{table, Elements, no_elements, element, Entries, no_entries, entry}
+use Rattle.basic_toml_layout.specs.Written.{Scalar, integer, text, other_text, bytes, Written, scalar, absent, array}
+use Rattle.basic_toml_layout.specs.Written.{table, Elements, no_elements, element, Entries, no_entries, entry}
 
 abbrev pub number_elements : List ℕ → Elements
 number_elements [] = no_elements

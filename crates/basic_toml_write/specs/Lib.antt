@@ -1,12 +1,10 @@
 pub mod Spelling
 pub mod Kept
 pub mod Shapes
-pub mod Trees
 pub mod Recordable
 pub mod Again
 pub mod Serializer
 pub mod Impls
 pub mod DataFits
-pub mod DataText
 pub mod Write
 pub mod Statements

@@ -3,7 +3,7 @@
 use Rattle.std.specs.Prelude.{◌≡◌, ◌<◌, List, All, Some, ◌⊎◌, ⊤, IsUtf8, FitsSigned}
 use Rattle.std.specs.Int.{FitsUnsigned, w64}
 use Rattle.basic_toml_value.specs.Numbers.{float_of}
-use Rattle.basic_toml_emit.specs.Written.{Scalar, integer, float, text, other_text, bytes}
+use Rattle.basic_toml_layout.specs.Written.{Scalar, integer, float, text, other_text, bytes}
 use Rattle.basic_toml_emit.specs.Items.{Item, a_scalar, field}
 
 abbrev pub IsRecordableScalar : Scalar → Type 0

@@ -5,9 +5,9 @@
 -- a refused kind, or an integer above 9223372036854775807, stands anywhere;
 -- the value is deeper than the nesting limit.
 use Rattle.std.specs.Prelude.{ℕ, Bool, true, false, not, ◌&&◌, ◌||◌, nat_lt, bytes_eq, List}
-use Rattle.basic_toml_emit.specs.Written.{Written, scalar, absent, array, table, Elements, no_elements, element}
-use Rattle.basic_toml_emit.specs.Written.{Entries, no_entries, entry, is_absent, is_table, is_refused}
-use Rattle.basic_toml_emit.specs.Layout.{Form, row, section, sections, form}
+use Rattle.basic_toml_layout.specs.Written.{Written, scalar, absent, array, table, Elements, no_elements, element}
+use Rattle.basic_toml_layout.specs.Written.{Entries, no_entries, entry, is_absent, is_table, is_refused}
+use Rattle.basic_toml_layout.specs.Layout.{Form, row, section, sections, form}
 use Rattle.basic_toml_emit.specs.Depth.{depth}
 
 abbrev pub holds_table : Elements → Bool

@@ -5,8 +5,8 @@
 -- a table is open table, entries, end;
 -- an entry is key and a text, or field; then some-prefixes and value-prefixes in any order; then a value.
 use Rattle.std.specs.Prelude.{ℕ, List, [], ◌∷◌}
-use Rattle.basic_toml_emit.specs.Written.{Scalar, text, Written, scalar, absent, array, table, Elements, no_elements}
-use Rattle.basic_toml_emit.specs.Written.{element, Entries, no_entries, entry}
+use Rattle.basic_toml_layout.specs.Written.{Scalar, text, Written, scalar, absent, array, table, Elements, no_elements}
+use Rattle.basic_toml_layout.specs.Written.{element, Entries, no_entries, entry}
 use Rattle.basic_toml_emit.specs.Items.{Item, a_scalar, an_absent, open_array, open_table, close, key, field}
 use Rattle.basic_toml_emit.specs.Items.{some_prefix, value_prefix, element_prefix}
 

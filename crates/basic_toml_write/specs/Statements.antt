@@ -1,15 +1,15 @@
 -- Laws about the definitions of writing. Each is proved as the contract of a function in `laws`.
 use Rattle.std.specs.Prelude.{◌≡◌, false, List, Contains, codes}
 use Rattle.basic_toml_value.specs.Data.{Data}
-use Rattle.basic_toml_emit.specs.Written.{Written, float}
+use Rattle.basic_toml_layout.specs.Written.{Written, float}
 use Rattle.basic_toml_emit.specs.Items.{Item, a_scalar}
-use Rattle.basic_toml_emit.specs.Layout.{layout}
+use Rattle.basic_toml_layout.specs.Layout.{layout}
 use Rattle.basic_toml_value.specs.Nesting.{nesting_limit}
 use Rattle.basic_toml_emit.specs.Depth.{depth}
 use Rattle.basic_toml_write.specs.Spelling.{Spells}
 use Rattle.basic_toml_write.specs.Kept.{kept}
 use Rattle.basic_toml_write.specs.Shapes.{is_unsupported}
-use Rattle.basic_toml_write.specs.Trees.{tree_of, written_of}
+use Rattle.basic_toml_layout.specs.Trees.{tree_of, written_of}
 use Rattle.basic_toml_write.specs.Impls.{data_calls}
 use Rattle.basic_toml_write.specs.Write.{ComesInOrder}
 use Rattle.basic_toml_write.specs.Serializer.{HasRecorded}

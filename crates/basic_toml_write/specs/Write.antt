@@ -1,12 +1,12 @@
 -- What the text of a value is, by the items that it spells (own).
 use Rattle.std.specs.Prelude.{◌≡◌, List, Result, Ok, IsOk, MatchResult, ◌⊎◌, ⊤, false, string_bytes, String}
 use Rattle.std.specs.declared.alloc.Global.{Global}
-use Rattle.basic_toml_emit.specs.Written.{Written}
+use Rattle.basic_toml_layout.specs.Written.{Written}
 use Rattle.basic_toml_emit.specs.Items.{Item}
 use Rattle.basic_toml_write.specs.Recordable.{AreRecordable}
 use Rattle.basic_toml_write.specs.Spelling.{Spells}
 use Rattle.basic_toml_write.specs.Serializer.{ran}
-use Rattle.basic_toml_emit.specs.Layout.{layout}
+use Rattle.basic_toml_layout.specs.Layout.{layout}
 use Rattle.basic_toml_value.specs.Nesting.{nesting_limit}
 use Rattle.basic_toml_write.specs.Shapes.{is_unsupported}
 use Rattle.basic_toml_emit.specs.Rules.{CallFault, key_not_string, call_order}

@@ -1,6 +1,6 @@
 //! The calls of each type.
 ghost use Rattle.std.specs.Prelude.{◌≡◌, ℕ, List, [], ◌∷◌, ◌++◌, pos, string_bytes, encode_utf8};
-ghost use Rattle.basic_toml_emit.specs.Written as w;
+ghost use Rattle.basic_toml_layout.specs.Written as w;
 ghost use Rattle.basic_toml_write.specs.Serializer.{Sends};
 ghost use Rattle.basic_toml_write.specs.Impls.{data_calls, scalar_calls, option_calls, OptionGivesUp, array_calls, ArrayGivesUp, table_calls, TableGivesUp, map_calls, MapGivesUp};
 ghost use Rattle.basic_toml_value.specs.View.{view};

@@ -5,7 +5,7 @@
 #![tactic(auto)]
 
 mod again;
-mod data;
+mod fits;
 mod impls;
 pub mod laws;
 mod serializer;

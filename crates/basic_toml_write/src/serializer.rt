@@ -1,12 +1,13 @@
 //! The serializer.
 ghost use Rattle.std.specs.Prelude.{◌≡◌, ℕ, List, [], ◌∷◌, ◌++◌, pos, OnOk, IfErr, MatchOption, None, Err, is_some, ⊤, encode_utf8};
 ghost use Rattle.basic_toml_emit.specs.Items.{Item, a_scalar, an_absent, open_array, open_table, close, key, field, some_prefix, value_prefix, element_prefix};
-ghost use Rattle.basic_toml_emit.specs.Written as w;
-ghost use Rattle.basic_toml_emit.specs.Scalar.{item_of};
+ghost use Rattle.basic_toml_layout.specs.Written as w;
+ghost use Rattle.basic_toml_emit.specs.Recorded.{item_of};
 
 use crate::again::{again, twice};
-use crate::data::{laid_out, table_fits};
+use crate::fits::table_fits;
 use basic_toml_emit::{Call, Emitter, Scalar, WriteError};
+use basic_toml_layout::laid_out;
 use basic_toml_value::{Float, Table};
 use std::alloc::Global;
 

@@ -2,7 +2,7 @@
 ghost use Rattle.std.specs.Prelude.{[], ◌∷◌, ◌++◌, ◌⊎◌, codes};
 ghost use Rattle.basic_toml_emit.specs.Error.{IsCustom};
 ghost use Rattle.basic_toml_emit.specs.Items.{a_scalar, open_table, close, field};
-ghost use Rattle.basic_toml_emit.specs.Written.{refused};
+ghost use Rattle.basic_toml_layout.specs.Written.{refused};
 ghost use Rattle.basic_toml_write.specs.Serializer.{GivesUpAfter, PartGivesUp};
 
 use crate::{Serialize, Serializer, Table, Value, WriteError, to_string};

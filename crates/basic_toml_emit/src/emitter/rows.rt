@@ -1,10 +1,11 @@
 //! Scalars, and arrays that hold no table.
-ghost use Rattle.std.specs.Prelude.{◌≡◌, ◌⊎◌, ◌∷◌, true, IfOk, IfErr};
+ghost use Rattle.std.specs.Prelude.{◌≡◌, ◌⊎◌, ◌∷◌, true, false, IfOk, IfErr, MatchOption};
 ghost use Rattle.basic_toml_emit.specs.declared.fault.Fault.TheVariants.{OutOfMemory, DuplicateKey, ValueAfterTable};
 ghost use Rattle.basic_toml_emit.specs.Items.{a_scalar, open_array, close};
-ghost use Rattle.basic_toml_emit.specs.Scalar.{scalar_of};
+ghost use Rattle.basic_toml_layout.specs.Written as w;
+ghost use Rattle.basic_toml_layout.specs.Scalar.{scalar_of};
 ghost use Rattle.basic_toml_emit.specs.Open.{an_array};
-ghost use Rattle.basic_toml_emit.specs.Rules.{is_in_table, place_of, at_key, at_value, holds_section};
+ghost use Rattle.basic_toml_emit.specs.Rules.{is_text, is_in_table, place_of, at_key, at_value, holds_section};
 ghost use Rattle.basic_toml_emit.specs.Frames.{frames_of, kind_of};
 ghost use Rattle.basic_toml_emit.specs.Changes.{outer, holds_key, has_entry};
 
@@ -14,7 +15,18 @@ use crate::frames::{
     ElementKind, Frame, Stage, enter_key, innermost, is_full, leave, put, set_key, settle,
 };
 use crate::headers::{write_header, write_row_start};
-use crate::scalar::Scalar;
+use basic_toml_layout::Scalar;
+
+// The text of a key.
+fn key<'a>(scalar: Scalar<'a>) -> Option<&'a str>
+    ensures { MatchOption result (is_text (a_scalar (scalar_of scalar.entry)) ≡ false)
+        (λ k. scalar_of scalar.entry ≡ w.text k.now) }
+{
+    match scalar {
+        Scalar::Text(text) => Some(text),
+        _ => None,
+    }
+}
 
 impl Emitter {
     ghost use Rattle.basic_toml_emit.specs.Emitter.{Takes, Enters, StartsValue, StartsRow, StartsElements, EndsRow};
@@ -39,7 +51,7 @@ impl Emitter {
         requires { place_of (frames_of self.old.frames.items) self.old.is_done ≡ at_key }
         ensures { Takes (a_scalar (scalar_of scalar.entry)) self.old self.new result }
     {
-        let Some(key) = scalar.key() else {
+        let Some(key) = key(scalar) else {
             return Err(Fault::KeyNotString);
         };
         set_key(&mut self.frames, key)?;

@@ -1,6 +1,5 @@
 use Rattle.std.proofs.Common.{◌∙◌, refl, sym, ap, not, arith}
 use Rattle.basic_toml_emit.specs.Changes.{with_entry, holds_key}
-use Rattle.basic_toml_emit.specs.Frames.{frames_of}
 use Rattle.basic_toml_emit.proofs.FramesOfStack.{innermost_at_end, frames_changed, frames_kept, if_ok_at}
 use Rattle.basic_toml_emit.proofs.frames.enter_key.Goals as goal
 

@@ -1,7 +1,7 @@
 use Rattle.std.proofs.Common.{◌++◌, string_bytes, take, sym, ap, ◌∙◌, append_assoc}
 use Rattle.basic_toml_emit.specs.Frames.{frame_of, frames_of, path_part, first_after}
 use Rattle.basic_toml_emit.specs.Calls.{path}
-use Rattle.basic_toml_emit.specs.Texts.{joined}
+use Rattle.basic_toml_layout.specs.Texts.{joined}
 use Rattle.basic_toml_emit.proofs.FramesOfStack.{is_first, path_more, first_more}
 use Rattle.basic_toml_emit.proofs.headers.write_path.Goals as goal
 

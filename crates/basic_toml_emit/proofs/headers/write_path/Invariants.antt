@@ -1,5 +1,5 @@
 use Rattle.std.proofs.Common.{◌≡◌, ◌++◌, string_bytes, take}
-use Rattle.basic_toml_emit.specs.Texts.{joined}
+use Rattle.basic_toml_layout.specs.Texts.{joined}
 use Rattle.basic_toml_emit.specs.Calls.{path}
 use Rattle.basic_toml_emit.specs.Frames.{frames_of}
 use Rattle.basic_toml_emit.proofs.FramesOfStack.{is_first}

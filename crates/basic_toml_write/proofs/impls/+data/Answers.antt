@@ -4,7 +4,8 @@ use Rattle.basic_toml_emit.specs.Items.{Item, open_array, open_table}
 use Rattle.basic_toml_write.specs.Serializer.{NoFault, Sends}
 use Rattle.basic_toml_write.specs.Impls.{data_calls, array_calls, ArrayGivesUp, table_calls, TableGivesUp}
 use Rattle.basic_toml_write.proofs.ListsAreSentInTurn.{sends_widen}
-use Rattle.basic_toml_write.proofs.DataIsSentByParts.{array_sent, table_sent, any_never, view-Array, view-Table}
+use Rattle.basic_toml_layout.proofs.ViewsOfValues.{view-Array, view-Table}
+use Rattle.basic_toml_write.proofs.DataIsSentByParts.{array_sent, table_sent, any_never}
 use Rattle.basic_toml_write.proofs.impls.+data.Goals as goal
 
 pub ValueSerialize::serialize-returns-in-Array : goal.ValueSerialize::serialize-returns-in-Array

@@ -2,7 +2,7 @@ use Rattle.std.proofs.Common.{◌≡◌, ◌++◌, sym, ap, ◌∙◌, arith, st
 use Rattle.std.specs.Prelude.{nat_le}
 use Rattle.basic_toml_value.specs.Nesting.{nesting_limit}
 use Rattle.basic_toml_emit.specs.Items.{a_scalar}
-use Rattle.basic_toml_emit.specs.Scalar.{scalar_of}
+use Rattle.basic_toml_layout.specs.Scalar.{scalar_of}
 use Rattle.basic_toml_emit.specs.Rules.{is_too_deep}
 use Rattle.basic_toml_emit.specs.Frames.{frames_of}
 use Rattle.basic_toml_emit.specs.Changes.{value_start}

@@ -1,5 +1,4 @@
-use Rattle.std.proofs.Common.{◌≡◌, ◌≤◌, ℕ, List, Option, None, MatchOption, IsTrue, length, sym, ◌∙◌, subst, arith}
-use Rattle.basic_toml_value.specs.Keys.{are_distinct}
+use Rattle.std.proofs.Common.{◌≡◌, ◌≤◌, ℕ, List, Option, None, MatchOption, length, sym, ◌∙◌, subst, arith}
 use Rattle.basic_toml_value.specs.Index.{IsIndex}
 use Rattle.basic_toml_value.specs.declared.index.Index.{Index}
 use Rattle.basic_toml_emit.specs.Kept.{kept_of}

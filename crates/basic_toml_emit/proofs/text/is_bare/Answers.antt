@@ -1,9 +1,0 @@
-use Rattle.std.proofs.Common.{refl, arith}
-use Rattle.basic_toml_emit.specs.declared.text.TheConstants.{CLASSES}
-use Rattle.basic_toml_emit.specs.Texts.{is_bare}
-use Rattle.basic_toml_emit.proofs.Classes.{agree_below, from_classes}
-use Rattle.basic_toml_emit.proofs.text.is_bare.Goals as goal
-
-pub returns : goal.returns
-unfolding agree_below
-returns c = from_classes CLASSES 98 is_bare c.args.byte (omega arith) refl

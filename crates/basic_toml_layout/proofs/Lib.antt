@@ -1,0 +1,4 @@
+pub mod Classes
+pub mod QuotedUpToEscape
+pub mod ViewsOfValues
+pub mod DataIsLaidOut

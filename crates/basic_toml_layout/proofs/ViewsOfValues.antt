@@ -1,0 +1,12 @@
+-- The views of arrays and tables, by those of their parts.
+use Rattle.std.proofs.Common.{◌≡◌, ℕ, List, map, rules, Vec, Global}
+use Rattle.basic_toml_value.specs.Data.{array, table, items_of}
+use Rattle.basic_toml_value.specs.View.{view, entries}
+use Rattle.basic_toml_value.specs.declared.value.Value.{Value, the_lemmas}
+use Rattle.basic_toml_value.specs.declared.value.Value.TheVariants.{Array, Table}
+
+pub view-Array : (v : Vec Value Global) → view (Array v) ≡ array (items_of (map view v.items))
+view-Array v = search (rules, the_lemmas)
+
+pub view-Table : (ps : List (List ℕ × Value)) → view (Table ps) ≡ table (entries ps)
+view-Table ps = search (rules, the_lemmas)
