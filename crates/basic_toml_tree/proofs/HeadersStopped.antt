@@ -1,37 +1,33 @@
 -- What stops a header on its way through tables is what its steps name.
-use Rattle.std.proofs.Common.{◌≡◌, ℕ, zero, suc, ◌+◌, ◌<◌, Bool, true, false, cond, List, [], ◌∷◌, ◌++◌, length, map}
-use Rattle.std.proofs.Common.{Option, Some, None, refl, ap, sym, ◌∙◌, subst, arith, nat_eq, Vec, Box, Global, Result, Ok}
+use Rattle.std.proofs.Common.{◌≡◌, ℕ, suc, ◌+◌, ◌<◌, Bool, true, false, cond, List, [], ◌∷◌, ◌++◌, length, map}
+use Rattle.std.proofs.Common.{Some, None, refl, ap, sym, ◌∙◌, subst, arith, nat_eq, Vec, Box, Global, Result, Ok}
 use Rattle.std.proofs.Common.{Err}
-use Rattle.std.specs.Prelude.{IfErr, ⊤}
+use Rattle.std.specs.Prelude.{IfErr}
 use Rattle.std.specs.Cow.{cow_str_bytes}
 use Rattle.std.specs.declared.borrow.CowStr.{CowStr}
-use Rattle.std.specs.List.{slice_get}
 use Rattle.basic_toml_value.specs.Data.{Data}
 use Rattle.basic_toml_grammar.specs.Sections.{KeyTexts, Rows}
 use Rattle.basic_toml_grammar.specs.Steps.{Step, key, number, step_eq}
 use Rattle.basic_toml_grammar.specs.Standing as standing
 use Rattle.basic_toml_grammar.specs.Trie.{Trie, trie, Tries, no_tries, by, nothing, find}
-use Rattle.basic_toml_grammar.specs.Stops.{Stop, at_header, is_named, is_passed, Outcome, goes_on, stops}
-use Rattle.basic_toml_grammar.specs.TrieStops.{outcome_map, try_among, try_by_keys, try_put_rows, try_put_table}
+use Rattle.basic_toml_grammar.specs.Stops.{Stop, at_header, Outcome, stops}
+use Rattle.basic_toml_grammar.specs.TrieStops.{outcome_map, try_among, try_by_keys, try_put_table}
 use Rattle.basic_toml_grammar.specs.TrieStops.{try_put_element}
 use Rattle.basic_toml_tree.specs.declared.clash.Clash.{Clash}
 use Rattle.basic_toml_tree.specs.declared.clash.Clash.TheVariants.{Memory, Deep, Header, Named, Redefined, Row}
 use Rattle.basic_toml_tree.specs.declared.item.Item.{Nothing, Tables}
 use Rattle.basic_toml_tree.specs.declared.item.Item as items
-use Rattle.basic_toml_tree.specs.declared.item.Item.TheViews.{roll-Table, out-roll-Table}
 use Rattle.basic_toml_tree.specs.declared.item.Child.{Child, out-Child}
 use Rattle.basic_toml_tree.specs.declared.item.Table.{Table, out-Table}
 use Rattle.basic_toml_tree.specs.Item.{item_trie, child_trie, table_trie, by_keys, by_numbers, leaf}
-use Rattle.basic_toml_tree.specs.Keyed.{EntersKey, values_of}
-use Rattle.basic_toml_tree.specs.Clash.{IsStop, NamesStop}
+use Rattle.basic_toml_tree.specs.Clash.{NamesStop}
 use Rattle.basic_toml_tree.specs.Headers.{tried_by, tried_at, Passes}
 use Rattle.basic_toml_tree.proofs.KeysInATrie.{tries_of, stood_there}
 use Rattle.basic_toml_tree.proofs.ItemTries.{child_item_trie, table_entries_trie}
 use Rattle.basic_toml_tree.proofs.HeadersNamed.{texts_count}
 use Rattle.basic_toml_tree.proofs.LatestInATrie.{find_latest}
 use Rattle.basic_toml_tree.proofs.HeadersInATrie.{made, fresh, array_of}
-use Rattle.basic_toml_tree.proofs.TablesOpened.{tables_trie, nothing_trie, table_item_trie, named_fields}
-use Rattle.basic_toml_tree.proofs.TablesOpened.{numbered_fields}
+use Rattle.basic_toml_tree.proofs.TablesOpened.{tables_trie, nothing_trie, table_item_trie}
 
 -- what stops a step stops the whole
 pub stopped : {A B : Type 0} (clash : Clash) (o : Outcome A) (p : Outcome B)

@@ -1,7 +1,7 @@
 -- The sections of the code entered one after another, each of which gives its rows away.
-use Rattle.std.proofs.Common.{◌≡◌, ◌⊎◌, inl, inr, ℕ, suc, zero, ◌+◌, ◌<◌, ◌≤◌, true, false, List, [], ◌∷◌, ◌++◌, refl}
+use Rattle.std.proofs.Common.{◌≡◌, inl, inr, ℕ, suc, ◌+◌, ◌<◌, ◌≤◌, true, List, [], ◌∷◌, ◌++◌, refl}
 use Rattle.std.proofs.Common.{ap}
-use Rattle.std.proofs.Common.{sym, ◌∙◌, subst, arith, map, length, take, drop, get_or, rules, ◌||◌, Bool, Option}
+use Rattle.std.proofs.Common.{sym, ◌∙◌, subst, arith, map, length, take, drop, get_or, Option}
 use Rattle.std.proofs.Common.{Some, None, Result, Ok, Err}
 use Rattle.std.proofs.Common.{IsErrAnd}
 use Rattle.std.specs.Cow.{cow_str_bytes}
@@ -9,18 +9,14 @@ use Rattle.std.specs.List.{Contains}
 use Rattle.std.specs.Prelude.{IfSome, IfNone}
 use Rattle.std.proofs.lemmas.List.{map-append, take_more, take_all}
 use Rattle.basic_toml_value.specs.Nesting.{nesting_limit}
-use Rattle.basic_toml_grammar.specs.Sections.{Section, Key, texts, KeyTexts}
-use Rattle.basic_toml_grammar.specs.RowClash.{rows_clash, has_row_clash}
-use Rattle.basic_toml_grammar.specs.SectionClash.{sections_clash}
 use Rattle.basic_toml_grammar.specs.IndexedPath.{located}
-use Rattle.basic_toml_grammar.specs.Document.{has_clash, tree_of_sections}
 use Rattle.basic_toml_grammar.specs.Entering.{all_keyed}
 use Rattle.basic_toml_grammar.specs.Faults.{Fault}
 use Rattle.basic_toml_grammar.specs.NestingFaults.{deep_sections}
 use Rattle.basic_toml_grammar.specs.Trie.{Trie, walk, steps_to}
 use Rattle.basic_toml_explain.specs.Error.{want_of_memory}
 use Rattle.basic_toml_read.specs.declared.section.Section as code
-use Rattle.basic_toml_read.specs.SectionView.{section_of, rows_view, keys_with}
+use Rattle.basic_toml_read.specs.SectionView.{section_of, rows_view}
 use Rattle.basic_toml_tree.specs.declared.clash.Clash.{Clash}
 use Rattle.basic_toml_tree.specs.declared.clash.Clash.TheVariants.{Memory, Deep, Header, Named, Redefined, Row}
 use Rattle.basic_toml_tree.specs.Clash.{IsFaultOf, NamesClash, NamesStop}
@@ -38,10 +34,9 @@ use Rattle.basic_toml_tree.proofs.SectionsStopped.{section_stops, same_fault, fi
 use Rattle.basic_toml_tree.specs.Resolve.{Resolves, IsResolved, IsUnresolved, memory, deep, clash}
 use Rattle.basic_toml_tree.proofs.HeadersInATrie.{fresh}
 use Rattle.basic_toml_tree.proofs.HeadersNamed.{header_is}
-use Rattle.basic_toml_grammar.proofs.DottedFaultsClash.{dotted_faults_clash}
 use Rattle.basic_toml_tree.proofs.RowsHaveKeys.{sections_have_keys}
 use Rattle.basic_toml_tree.proofs.TrieData.{table_trie_data}
-use Rattle.basic_toml_tree.proofs.SectionsEntered.{Entered, Stands, one_more, too_deep, has_a_clash, whole_tree}
+use Rattle.basic_toml_tree.proofs.SectionsEntered.{Entered, one_more, too_deep, whole_tree}
 use Rattle.basic_toml_tree.proofs.SectionsEntered.{no_clash}
 use Rattle.basic_toml_tree.proofs.SectionsEntered.{fits_all, split_at}
 
