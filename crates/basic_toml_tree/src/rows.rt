@@ -215,8 +215,8 @@ pub(crate) fn enter_rows<'de>(
 ) -> Result<Box<Table<'de>>, Clash>
     requires { level ≤ 128 }
     ensures entered { EntersRows (rows_view rows.entry.items) level (table_trie table.entry.value) result }
-    ensures named { let tried = try_put_rows (rows_view rows.entry.items) (table_trie table.entry.value) in
-        IfErr result (λ clash. NamesStop tried clash) }
+    ensures named { IfErr result (λ clash.
+        NamesStop (try_put_rows (rows_view rows.entry.items) (table_trie table.entry.value)) clash) }
 {
     let mut table = table;
     let mut keys = Vec::new(alloc);
