@@ -115,26 +115,20 @@ pub holds_tables : (c : Child) (b : Vec Table Global) (latest : Box Table Global
     → child_trie c ≡ array_of (map table_trie b.items) (table_trie latest.value)
 holds_tables c b latest is = child_item_trie c ∙ ap item_trie is ∙ tables_trie b latest
 
--- a value bars a header
-pub value_bars : (a : Bool) (rows : Rows) (keys : KeyTexts) (c : Child) (d : Data)
-    → item_trie (out-Child c).item ≡ leaf d
-    → entered_by a rows keys (child_trie c) ≡ None
-value_bars a rows keys c d is =
-    ap (entered_by a rows keys) (child_item_trie c ∙ is) ∙ walk_barred a rows keys (Some d) no_tries
-
-pub other_bars : (a : Bool) (rows : Rows) (keys : KeyTexts) (c : Child) (i : items.Item) → (out-Child c).item ≡ i
+-- what is none of these is a value, which bars a header
+pub other_is_leaf : (c : Child) (i : items.Item) → (out-Child c).item ≡ i
     → (i ≡ Nothing → ⊥) → ((t : Box Table Global) → i ≡ items.Table t → ⊥)
     → ((b : Vec Table Global) (latest : Box Table Global) → i ≡ Tables b latest → ⊥)
-    → entered_by a rows keys (child_trie c) ≡ None
-other_bars a rows keys c i is no_nothing no_table no_tables = go (out-Item i) refl
+    → (d : Data) × (item_trie (out-Child c).item ≡ leaf d)
+other_is_leaf c i is no_nothing no_table no_tables = go (out-Item i) refl
   where
     made : (x : Item-F items.Item Child Table) → out-Item i ≡ x → i ≡ roll-Item x
     made x e = sym (roll-out-Item i) ∙ ap roll-Item e
 
-    is_leaf : (d : Data) → item_trie i ≡ leaf d → entered_by a rows keys (child_trie c) ≡ None
-    is_leaf d e = value_bars a rows keys c d (ap item_trie is ∙ e)
+    is_leaf : (d : Data) → item_trie i ≡ leaf d → (d : Data) × (item_trie (out-Child c).item ≡ leaf d)
+    is_leaf d e = (d, ap item_trie is ∙ e)
 
-    go : (x : Item-F items.Item Child Table) → out-Item i ≡ x → entered_by a rows keys (child_trie c) ≡ None
+    go : (x : Item-F items.Item Child Table) → out-Item i ≡ x → (d : Data) × (item_trie (out-Child c).item ≡ leaf d)
     go Item-F.Nothing e = absurd (no_nothing (made Item-F.Nothing e ∙ search (rules, the_lemmas)))
     go (Item-F.Integer z) e = is_leaf (Data.integer z) (ap item_trie (made (Item-F.Integer z) e)
         ∙ search (rules, the_lemmas))
@@ -153,6 +147,20 @@ other_bars a rows keys c i is no_nothing no_table no_tables = go (out-Item i) re
     go (Item-F.Table t) e = absurd (no_table t (made (Item-F.Table t) e ∙ search (rules, the_lemmas)))
     go (Item-F.Tables b latest) e = absurd (no_tables b latest (made (Item-F.Tables b latest) e
         ∙ search (rules, the_lemmas)))
+
+pub value_bars : (a : Bool) (rows : Rows) (keys : KeyTexts) (c : Child) (d : Data)
+    → item_trie (out-Child c).item ≡ leaf d
+    → entered_by a rows keys (child_trie c) ≡ None
+value_bars a rows keys c d is =
+    ap (entered_by a rows keys) (child_item_trie c ∙ is) ∙ walk_barred a rows keys (Some d) no_tries
+
+pub other_bars : (a : Bool) (rows : Rows) (keys : KeyTexts) (c : Child) (i : items.Item) → (out-Child c).item ≡ i
+    → (i ≡ Nothing → ⊥) → ((t : Box Table Global) → i ≡ items.Table t → ⊥)
+    → ((b : Vec Table Global) (latest : Box Table Global) → i ≡ Tables b latest → ⊥)
+    → entered_by a rows keys (child_trie c) ≡ None
+other_bars a rows keys c i is no_nothing no_table no_tables =
+    let seen = other_is_leaf c i is no_nothing no_table no_tables in
+    value_bars a rows keys c seen.0 seen.1
 
 -- a change at a key of a table that a header passes
 module _ (a : Bool) (rows : Rows) (k : List ℕ) (keys whole : KeyTexts) (level : ℕ) (t : Table) (blank : Child)

@@ -3,6 +3,7 @@ pub mod FaultsGathered
 pub mod HeadersEntered
 pub mod HeadersInATrie
 pub mod HeadersNamed
+pub mod HeadersStopped
 pub mod ItemData
 pub mod ItemTries
 pub mod KeysInATrie
@@ -23,5 +24,6 @@ pub mod LatestInATrie
 pub mod RowsHaveKeys
 pub mod SectionsEntered
 pub mod SectionsResolved
+pub mod SectionsStopped
 pub mod TablesOpened
 pub mod TrieData

@@ -1,13 +1,12 @@
 -- The sections of a list entered one after another: what the tree is then, and what it says of one that is not entered.
-use Rattle.std.proofs.Common.{◌≡◌, ◌⊎◌, inl, inr, ℕ, zero, suc, ◌+◌, ◌<◌, ◌≤◌, max, Bool, true, false, not, cond}
+use Rattle.std.proofs.Common.{◌≡◌, ◌⊎◌, inl, inr, ℕ, zero, suc, ◌+◌, ◌<◌, ◌≤◌, max, Bool, true, false, not}
 use Rattle.std.proofs.Common.{List, []}
 use Rattle.std.proofs.Common.{◌∷◌, ◌++◌, Option, Some, None, is_some, if◌then◌else◌, refl, ap, sym, ◌∙◌, subst, arith}
 use Rattle.std.proofs.Common.{nat_lt, map, length, take, drop, get_or, reverse}
 use Rattle.std.specs.List.{Contains}
-use Rattle.std.proofs.lemmas.List.Elements.{Contains-append_left, Contains-append_right}
-use Rattle.std.proofs.lemmas.List.{map-append, take-append-drop}
+use Rattle.std.proofs.lemmas.List.Elements.{Contains-append_right}
 use Rattle.basic_toml_value.specs.Nesting.{nesting_limit}
-use Rattle.basic_toml_grammar.specs.Sections.{Section, texts, KeyTexts, Rows}
+use Rattle.basic_toml_grammar.specs.Sections.{Section, texts, KeyTexts}
 use Rattle.basic_toml_grammar.specs.Levels.{rows_level}
 use Rattle.basic_toml_grammar.specs.RowClash.{rows_clash}
 use Rattle.basic_toml_grammar.specs.IndexedPath.{Located, located, located_after}
@@ -18,8 +17,7 @@ use Rattle.basic_toml_grammar.specs.Growth.{closed}
 use Rattle.basic_toml_grammar.specs.NestingFaults.{tree_level, deep_sections}
 use Rattle.basic_toml_grammar.specs.Trie.{Trie, nothing, bare, walk, steps_to, put_section, put_sections}
 use Rattle.basic_toml_grammar.specs.Trie.{section_level_in}
-use Rattle.basic_toml_tree.specs.declared.clash.Clash.{Clash}
-use Rattle.basic_toml_tree.specs.declared.clash.Clash.TheVariants.{Memory, Deep, Header, Named, Redefined, Row}
+use Rattle.basic_toml_tree.specs.declared.clash.Clash.TheVariants.{Deep}
 use Rattle.basic_toml_tree.specs.Headers.{IsIn, IsKeptOut}
 use Rattle.basic_toml_tree.proofs.HeadersInATrie.{fresh, walk_fresh, steps_fresh}
 use Rattle.basic_toml_grammar.proofs.SectionsInATrie.{sections_put, sections_data}
@@ -131,27 +129,6 @@ module _ (earlier : List Section) (s : Section) (keys : KeyTexts) (t : Trie) (sa
       subst (λ n. nesting_limit < n) (level_there earlier s t entered.stands) deep in
       subst (λ ls. Contains (deep_sections nesting_limit ls) s.at) (sym (at_section earlier s later))
       (deep_among nesting_limit (located earlier) (located_after (reverse earlier) s) _ there)
-
-  pub has_a_clash : (later : List Section) → all_keyed (earlier ++ s ∷ later) ≡ true
-      → ((rows_clash s.rows ≡ true) ⊎ (walk s.is_array s.rows keys t ≡ None))
-      → has_clash (earlier ++ s ∷ later) ≡ true
-  has_a_clash later keyed barred =
-      let put : put_section s t ≡ None = none barred in
-      let all : put_sections (earlier ++ s ∷ later) nothing ≡ None =
-      taken earlier s later t entered.stands ∙ ap (λ o. and_then o (λ t. put_sections later t)) put in
-      clashes (has_clash (earlier ++ s ∷ later)) (sym (ap is_some all) ∙ sections_put (earlier ++ s ∷ later) keyed)
-    where
-      none : ((rows_clash s.rows ≡ true) ⊎ (walk s.is_array s.rows keys t ≡ None)) → put_section s t ≡ None
-      none (inl clash) = rw clash refl
-      none (inr walked) = go (rows_clash s.rows)
-        where
-          go : (b : Bool) → (if b then None else walk s.is_array s.rows (texts s.header) t) ≡ None
-          go true = refl
-          go false = rw same walked
-
-      clashes : (b : Bool) → false ≡ not b → b ≡ true
-      clashes true e = refl
-      clashes false e = cc
 
 -- the tree at the end
 pub whole_tree : (sections : List Section) (t : Trie) → Entered sections t → closed (bare t) ≡ tree_of_sections sections

@@ -1,40 +1,42 @@
 -- The sections of the code entered one after another, each of which gives its rows away.
-use Rattle.std.proofs.Common.{◌≡◌, ◌⊎◌, inl, inr, ℕ, suc, zero, ◌+◌, ◌<◌, ◌≤◌, true, false, List, [], ◌∷◌, ◌++◌, refl}
+use Rattle.std.proofs.Common.{◌≡◌, inl, inr, ℕ, suc, ◌+◌, ◌<◌, ◌≤◌, true, List, [], ◌∷◌, ◌++◌, refl}
 use Rattle.std.proofs.Common.{ap}
-use Rattle.std.proofs.Common.{sym, ◌∙◌, subst, arith, map, length, take, drop, get_or, rules, ◌||◌, Bool, Option}
+use Rattle.std.proofs.Common.{sym, ◌∙◌, subst, arith, map, length, take, drop, get_or, Option}
 use Rattle.std.proofs.Common.{Some, None, Result, Ok, Err}
 use Rattle.std.proofs.Common.{IsErrAnd}
 use Rattle.std.specs.Cow.{cow_str_bytes}
 use Rattle.std.specs.List.{Contains}
-use Rattle.std.specs.Option.{IfSome}
+use Rattle.std.specs.Prelude.{IfSome, IfNone}
 use Rattle.std.proofs.lemmas.List.{map-append, take_more, take_all}
 use Rattle.basic_toml_value.specs.Nesting.{nesting_limit}
-use Rattle.basic_toml_grammar.specs.Sections.{Section, Key, texts, KeyTexts}
-use Rattle.basic_toml_grammar.specs.RowClash.{rows_clash, has_row_clash}
-use Rattle.basic_toml_grammar.specs.SectionClash.{sections_clash}
 use Rattle.basic_toml_grammar.specs.IndexedPath.{located}
-use Rattle.basic_toml_grammar.specs.Document.{has_clash, tree_of_sections}
 use Rattle.basic_toml_grammar.specs.Entering.{all_keyed}
 use Rattle.basic_toml_grammar.specs.Faults.{Fault}
 use Rattle.basic_toml_grammar.specs.NestingFaults.{deep_sections}
 use Rattle.basic_toml_grammar.specs.Trie.{Trie, walk, steps_to}
 use Rattle.basic_toml_explain.specs.Error.{want_of_memory}
 use Rattle.basic_toml_read.specs.declared.section.Section as code
-use Rattle.basic_toml_read.specs.SectionView.{section_of, rows_view, keys_with}
+use Rattle.basic_toml_read.specs.SectionView.{section_of, rows_view}
 use Rattle.basic_toml_tree.specs.declared.clash.Clash.{Clash}
 use Rattle.basic_toml_tree.specs.declared.clash.Clash.TheVariants.{Memory, Deep, Header, Named, Redefined, Row}
-use Rattle.basic_toml_tree.specs.Clash.{IsFaultOf, NamesClash}
+use Rattle.basic_toml_tree.specs.Clash.{IsFaultOf, NamesClash, NamesStop}
 use Rattle.basic_toml_tree.specs.Headers.{IsIn, IsKeptOut}
 use Rattle.basic_toml_tree.specs.declared.tree.Tree.{Tree}
-use Rattle.basic_toml_tree.specs.Crossed.{IsCrossed}
+use Rattle.basic_toml_tree.specs.Crossed.{IsCrossed, NoneIsCrossed, crossed_faults}
 use Rattle.basic_toml_tree.specs.Item.{table_trie}
-use Rattle.basic_toml_grammar.specs.NamedClash.{dotted_fault}
+use Rattle.basic_toml_grammar.specs.NamedClash as grammar
+use Rattle.basic_toml_grammar.specs.NamedClash.{dotted_fault, dotted_faults, repeated_faults_of, section_faults}
+use Rattle.basic_toml_grammar.specs.Stops.{Stop, at_header, is_named, is_passed, at_row, stops, stop_fault}
+use Rattle.basic_toml_grammar.specs.TrieStops.{try_by_keys}
+use Rattle.std.specs.List.{flat_map}
+use Rattle.std.specs.Prelude.{string_bytes}
+use Rattle.basic_toml_tree.proofs.SectionsStopped.{section_stops, same_fault, first_contained}
 use Rattle.basic_toml_tree.specs.Resolve.{Resolves, IsResolved, IsUnresolved, memory, deep, clash}
 use Rattle.basic_toml_tree.proofs.HeadersInATrie.{fresh}
-use Rattle.basic_toml_grammar.proofs.DottedFaultsClash.{dotted_faults_clash}
+use Rattle.basic_toml_tree.proofs.HeadersNamed.{header_is}
 use Rattle.basic_toml_tree.proofs.RowsHaveKeys.{sections_have_keys}
 use Rattle.basic_toml_tree.proofs.TrieData.{table_trie_data}
-use Rattle.basic_toml_tree.proofs.SectionsEntered.{Entered, Stands, one_more, too_deep, has_a_clash, whole_tree}
+use Rattle.basic_toml_tree.proofs.SectionsEntered.{Entered, one_more, too_deep, whole_tree}
 use Rattle.basic_toml_tree.proofs.SectionsEntered.{no_clash}
 use Rattle.basic_toml_tree.proofs.SectionsEntered.{fits_all, split_at}
 
@@ -50,16 +52,6 @@ begins old t is = record {
   count = refl;
   left = λ k d within. refl;
 }
-
--- the texts of a section's header
-texts_with : (offsets : List ℕ) (keys : KeyTexts) → texts (keys_with offsets keys) ≡ keys
-texts_with [] [] = refl
-texts_with (p ∷ offsets) [] = refl
-texts_with [] (k ∷ keys) = ap (λ ks. k ∷ ks) (texts_with [] keys)
-texts_with (p ∷ offsets) (k ∷ keys) = ap (λ ks. k ∷ ks) (texts_with offsets keys)
-
-pub header_is : (s : code.Section) → texts (section_of s).header ≡ map cow_str_bytes s.header.items
-header_is s = texts_with s.offsets.items (map cow_str_bytes s.header.items)
 
 -- the list, split at the next section
 module _ (old now : List code.Section) (n : ℕ) (t : Trie) (goes : Goes old now n t) (s : code.Section)
@@ -90,38 +82,58 @@ module _ (old now : List code.Section) (n : ℕ) (t : Trie) (goes : Goes old now
   }
 
   -- a section that is not entered, and its fault
-  module _ (keyed : all_keyed (map section_of old) ≡ true) where
-    barred : (fault : Fault)
-        → ((rows_clash (rows_view s.rows.items) ≡ true)
-        ⊎ (walk s.is_array (rows_view s.rows.items) (map cow_str_bytes s.header.items) t ≡ None))
+  module _ (keyed : all_keyed (map section_of old) ≡ true) (none : NoneIsCrossed old) where
+    stop_named : (x : Stop)
+        → try_by_keys s.is_array (rows_view s.rows.items) (map cow_str_bytes s.header.items) t ≡ stops x
+        → grammar.NamesClash (map section_of old) (stop_fault (section_of s) x)
+    stop_named x tried =
+        subst (λ ss. grammar.NamesClash ss (stop_fault (section_of s) x)) (sym split)
+        (section_stops (map section_of (take n old)) (section_of s) (map cow_str_bytes s.header.items) t (header_is s)
+        goes.entered.stands (map section_of (drop (suc n) old)) (subst (λ ss. all_keyed ss ≡ true) split keyed)
+        (subst (λ ss. flat_map (λ s. dotted_faults s.rows) ss ≡ []) split none) x tried)
+
+    barred : (fault : Fault) (now : code.Section) (x y : Stop) → now.at ≡ s.at → now.header ≡ s.header
+        → now.offsets ≡ s.offsets → fault ≡ stop_fault (section_of now) x → y ≡ x
+        → try_by_keys s.is_array (rows_view s.rows.items) (map cow_str_bytes s.header.items) t ≡ stops y
         → IsUnresolved (map section_of old) fault
-    barred fault out =
-        clash (subst (λ ss. has_clash ss ≡ true) (sym split)
-        (has_a_clash (map section_of (take n old)) (section_of s) (map cow_str_bytes s.header.items) t (header_is s)
-        goes.entered (map section_of (drop (suc n) old)) (subst (λ ss. all_keyed ss ≡ true) split keyed) out))
+    barred fault now x y at header offsets is same tried =
+        let keys : (section_of now).header ≡ (section_of s).header = rw (header, offsets) refl in
+        clash (subst (λ f. grammar.NamesClash (map section_of old) f)
+        (sym (is ∙ same_fault (section_of now) (section_of s) keys at x)) (stop_named x (tried ∙ ap stops same)))
 
     named : (c : Clash) (fault : Fault)
         → IsKeptOut (walk s.is_array (rows_view s.rows.items) (map cow_str_bytes s.header.items) t)
         (rows_view s.rows.items) (1 + steps_to s.is_array (map cow_str_bytes s.header.items) t) c
-        → (now : code.Section) → now.at ≡ s.at → IsFaultOf now c fault → IsUnresolved (map section_of old) fault
-    named Memory fault out now same is = subst (λ f. IsUnresolved (map section_of old) f) (sym is) memory
-    named Deep fault out now same is =
+        → NamesStop (try_by_keys s.is_array (rows_view s.rows.items) (map cow_str_bytes s.header.items) t) c
+        → (now : code.Section) → now.at ≡ s.at → now.header ≡ s.header → now.offsets ≡ s.offsets
+        → IsFaultOf now c fault → IsUnresolved (map section_of old) fault
+    named Memory fault out stop now same header offsets is =
+        subst (λ f. IsUnresolved (map section_of old) f) (sym is) memory
+    named Deep fault out stop now same header offsets is =
         let there : Contains (deep_sections nesting_limit (located (map section_of old))) s.at =
         subst (λ ss. Contains (deep_sections nesting_limit (located ss)) s.at) (sym split)
         (too_deep (map section_of (take n old)) (section_of s) (map cow_str_bytes s.header.items) t (header_is s)
         goes.entered (map section_of (drop (suc n) old)) out) in
         subst (λ f. IsUnresolved (map section_of old) f) (sym is) (rw same (deep there))
-    named (Header k) fault out now same is = barred fault out
-    named Named fault out now same is = barred fault out
-    named Redefined fault out now same is = barred fault out
-    named (Row path key offset) fault out now same is = barred fault out
+    named (Header k) fault out stop now same header offsets is =
+        barred fault now (at_header k) stop.0 same header offsets is stop.1.0 stop.1.1
+    named Named fault out stop now same header offsets is =
+        barred fault now is_named stop.0 same header offsets is stop.1.0 stop.1.1
+    named Redefined fault out stop now same header offsets is =
+        barred fault now is_passed stop.0 same header offsets is stop.1.0 stop.1.1
+    named (Row path key offset) fault out stop now same header offsets is =
+        barred fault now (at_row (map string_bytes path.items) (record { offset = offset; text = string_bytes key }))
+        stop.0 same header offsets is stop.1.0 stop.1.1
 
     pub kept_out : (c : Clash) (fault : Fault)
         → IsKeptOut (walk s.is_array (rows_view s.rows.items) (map cow_str_bytes s.header.items) t)
         (rows_view s.rows.items) (1 + steps_to s.is_array (map cow_str_bytes s.header.items) t) c
-        → (now : code.Section) → now.at ≡ s.at → NamesClash now c fault → IsUnresolved (map section_of old) fault
-    kept_out c fault out now same (inl is) = subst (λ f. IsUnresolved (map section_of old) f) (sym is) memory
-    kept_out c fault out now same (inr is) = named c fault out now same is
+        → NamesStop (try_by_keys s.is_array (rows_view s.rows.items) (map cow_str_bytes s.header.items) t) c
+        → (now : code.Section) → now.at ≡ s.at → now.header ≡ s.header → now.offsets ≡ s.offsets
+        → NamesClash now c fault → IsUnresolved (map section_of old) fault
+    kept_out c fault out stop now same header offsets (inl is) =
+        subst (λ f. IsUnresolved (map section_of old) f) (sym is) memory
+    kept_out c fault out stop now same header offsets (inr is) = named c fault out stop now same header offsets is
 
 -- what is answered where memory is refused, where a row goes on from a value, and at the end
 pub want_of : (ss : List code.Section) (r : Result Tree Fault) → IsErrAnd r (λ f. f ≡ want_of_memory) → Resolves ss r
@@ -129,12 +141,23 @@ want_of ss (Ok tree) is = absurd is
 want_of ss (Err fault) is = λ keyed. subst (λ (f : Fault). IsUnresolved (map section_of ss) f) (sym is) memory
 
 pub goes_on_from_a_value : (slice ss : List code.Section) (o : Option ℕ) (at : ℕ) (fault : Fault) → slice ≡ ss
-    → o ≡ Some at → IfSome o (λ at. IsCrossed slice at) → IsUnresolved (map section_of ss) fault
-goes_on_from_a_value slice ss None at fault same is there = cc
-goes_on_from_a_value slice ss (Some b) at fault same is there =
+    → o ≡ Some at → IfSome o (λ at. IsCrossed slice at) → fault ≡ dotted_fault at
+    → IsUnresolved (map section_of ss) fault
+goes_on_from_a_value slice ss None at fault same is there named = cc
+goes_on_from_a_value slice ss (Some b) at fault same is there named =
     let faults = subst (λ (ss : List code.Section). IsCrossed ss b) same there in
-    clash (ap (λ c. c || sections_clash (map section_of ss))
-    (dotted_faults_clash (map section_of ss) (dotted_fault b) faults))
+    let this : dotted_fault b ≡ fault = ap dotted_fault (some_same is) ∙ sym named in
+    clash (subst (λ f. grammar.NamesClash (map section_of ss) f) this
+    (first_contained (crossed_faults ss) (flat_map repeated_faults_of (map section_of ss)
+    ++ section_faults (located (map section_of ss))) (dotted_fault b) faults))
+  where
+    some_same : Some b ≡ Some at → b ≡ at
+    some_same e = cc
+
+pub none_crossed : (slice : List code.Section) (o : Option ℕ) → ((at : ℕ) → o ≡ Some at → ⊥)
+    → IfNone o (NoneIsCrossed slice) → NoneIsCrossed slice
+none_crossed slice None other none = none
+none_crossed slice (Some at) other none = absurd (other at refl)
 
 pub resolved : (old now : List code.Section) (n : ℕ) (tree : Tree) → Goes old now n (table_trie tree.root.value)
     → length old ≤ n → all_keyed (map section_of old) ≡ true → IsResolved (map section_of old) tree

@@ -8,6 +8,8 @@ use Rattle.basic_toml_grammar.specs.Sections.{KeyTexts, Rows}
 use Rattle.basic_toml_grammar.specs.RowClash.{rows_clash}
 use Rattle.basic_toml_grammar.specs.Levels.{rows_level}
 use Rattle.basic_toml_grammar.specs.Trie.{Trie, nothing, walk, steps_to, steps_on, go_on, count, put_element}
+use Rattle.basic_toml_grammar.specs.Stops.{Outcome}
+use Rattle.basic_toml_grammar.specs.TrieStops.{try_go_on, try_by_keys, try_put_element}
 use Rattle.basic_toml_tree.specs.declared.item.Table.{Table, out-Table}
 use Rattle.basic_toml_tree.specs.declared.item.Child.{Child}
 use Rattle.basic_toml_tree.specs.declared.clash.Clash.{Clash}
@@ -58,6 +60,14 @@ entered_at is_array rows keys t = entered_by is_array rows keys t
 abbrev pub steps_at : Bool → KeyTexts → Trie → ℕ
 steps_at true [] t = 2
 steps_at is_array keys t = steps_by is_array keys t
+
+-- the same steps, each of which names what stops it
+abbrev pub tried_by : Bool → Rows → KeyTexts → Trie → Outcome Trie
+tried_by is_array rows keys t = try_go_on (λ t. try_by_keys is_array rows keys t) (length keys) (count t) t
+
+abbrev pub tried_at : Bool → Rows → KeyTexts → Trie → Outcome Trie
+tried_at true rows [] t = try_put_element rows t
+tried_at is_array rows keys t = tried_by is_array rows keys t
 
 -- A table that a header passes by a key: the key is there, at this position, and what stands at it is taken out.
 pub record Passes (key : List ℕ) (old new : Table) (position : ℕ) (there : Child) : Type 0 where

@@ -8,6 +8,7 @@ use Rattle.basic_toml_grammar.specs.Document.{has_clash, tree_of_sections}
 use Rattle.basic_toml_grammar.specs.Entering.{all_keyed}
 use Rattle.basic_toml_grammar.specs.Faults.{Fault, nested_too_deeply}
 use Rattle.basic_toml_grammar.specs.GrammarFaults.{fault_at}
+use Rattle.basic_toml_grammar.specs.NamedClash.{NamesClash}
 use Rattle.basic_toml_grammar.specs.NestingFaults.{deep_sections}
 use Rattle.basic_toml_explain.specs.Error.{want_of_memory}
 use Rattle.basic_toml_read.specs.declared.section.Section as code
@@ -21,12 +22,12 @@ pub record IsResolved (sections : List Section) (tree : Tree) : Type 0 where
   pub fits : depth (tree_of_sections sections) ≤ nesting_limit
   pub grown : table_data tree.root.value ≡ tree_of_sections sections
 
--- Why a list has no tree: memory was refused, a section makes the tree too deep, or something clashes.
+-- Why a list has no tree: memory was refused, a section makes the tree too deep, or it names a clash that stands.
 pub data IsUnresolved (sections : List Section) : Fault → Type 0 where
   memory : IsUnresolved sections want_of_memory
   deep : {offset : ℕ} → Contains (deep_sections nesting_limit (located sections)) offset
       → IsUnresolved sections (fault_at nested_too_deeply offset)
-  clash : {fault : Fault} → has_clash sections ≡ true → IsUnresolved sections fault
+  clash : {fault : Fault} → NamesClash sections fault → IsUnresolved sections fault
 
 -- of a list whose rows and array headers have keys
 abbrev pub Resolves : List code.Section → Result Tree Fault → Type 0

@@ -1,8 +1,13 @@
 //! Why a section is not entered, and the error that names it.
 
-ghost use Rattle.std.specs.Prelude.{◌≡◌, ◌-◌, [], IfOk, length, map, string_bytes, slice_index_or};
+ghost use Rattle.std.specs.Prelude.{◌≡◌, [], IfOk, map, string_bytes, slice_index_or};
 ghost use Rattle.std.specs.Cow.{cow_str_bytes};
-ghost use Rattle.basic_toml_tree.specs.Clash.{header_texts, header_fault, IsFaultOf, NamesClash};
+ghost use Rattle.std.specs.List.{join_with_byte};
+ghost use Rattle.basic_toml_tokens.specs.Ascii.{period};
+ghost use Rattle.basic_toml_grammar.specs.NamedClash.{nth_key};
+ghost use Rattle.basic_toml_grammar.specs.Stops.{at_header, stop_fault};
+ghost use Rattle.basic_toml_read.specs.SectionView.{section_of};
+ghost use Rattle.basic_toml_tree.specs.Clash.{IsFaultOf, NamesClash};
 
 use basic_toml_read::{ReadError, ReadErrorKind, Row, Section};
 use std::alloc::{AllocError, AllocFailed, Global};
@@ -74,14 +79,16 @@ fn key_texts(alloc: Global, keys: &[CowStr<'_>]) -> Result<Vec<String>, AllocErr
     Ok(texts)
 }
 
-// The keys of a header, joined by periods.
-fn joined(alloc: Global, section: &Section<'_>) -> Result<String, AllocError> {
+// Keys, joined by periods.
+fn joined(alloc: Global, keys: &[CowStr<'_>]) -> Result<String, AllocError>
+    ensures { IfOk result (λ name. string_bytes name ≡ join_with_byte period (map cow_str_bytes keys.now)) }
+{
     let mut name = String::new(alloc);
-    for (at, key) in section.header.iter().enumerate() {
+    for at in 0..keys.len() {
         if at > 0 {
             name.push('.')?;
         }
-        name.push_str(key.as_str())?;
+        name.push_str(keys[at].as_str())?;
     }
     Ok(name)
 }
@@ -107,14 +114,25 @@ fn offset_or(offsets: &[usize], number: usize, other: usize) -> usize
     }
 }
 
+// The offset of the key of a header at a number, and 0 past the end.
+fn key_offset(section: &Section<'_>, number: usize) -> usize
+    ensures { result ≡ (nth_key number (section_of section.now).header).offset }
+{
+    if number < section.header.len() {
+        offset_or(section.offsets.as_slice(), number, 0)
+    } else {
+        0
+    }
+}
+
 // A key of a header stands before it.
 fn header_key(alloc: Global, section: &Section<'_>, left: usize) -> Result<ReadError, AllocError>
-    ensures { IfOk result (λ error. error ≡ header_fault section.now (length (header_texts section.now) - left)) }
+    ensures { IfOk result (λ error. error ≡ stop_fault (section_of section.now) (at_header left)) }
 {
     let keys = section.header.as_slice();
     let number = keys.len().saturating_sub(left);
     let key = key_text(alloc, keys, number)?;
-    let offset = offset_or(section.offsets.as_slice(), number, section.at);
+    let offset = key_offset(section, number);
     let path = key_texts(alloc, &keys[..number])?;
     Ok(ReadError::within(offset, ReadErrorKind::DuplicateKey(key), path))
 }
@@ -130,7 +148,7 @@ impl Clash {
             Clash::Deep => Ok(ReadError::at(at, ReadErrorKind::NestedTooDeeply)),
             Clash::Header(left) => header_key(alloc, section, left),
             Clash::Named => {
-                let name = joined(alloc, section)?;
+                let name = joined(alloc, keys)?;
                 let path = key_texts(alloc, keys)?;
                 Ok(ReadError::within(at, ReadErrorKind::DuplicateTable(name), path))
             }

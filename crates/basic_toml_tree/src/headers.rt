@@ -1,13 +1,15 @@
 //! Sections: the way of a header through the tree, and the table that it names.
 
-ghost use Rattle.std.specs.Prelude.{◌≡◌, ◌≤◌, ◌<◌, ◌+◌, false, [], length, map, IfOk};
+ghost use Rattle.std.specs.Prelude.{◌≡◌, ◌≤◌, ◌<◌, ◌+◌, false, [], length, map, IfOk, IfErr};
 ghost use Rattle.std.specs.Cow.{cow_str_bytes};
 ghost use Rattle.basic_toml_grammar.specs.Trie.{put_element};
+ghost use Rattle.basic_toml_grammar.specs.TrieStops.{try_by_keys, try_put_table, try_put_element};
 ghost use Rattle.basic_toml_read.specs.SectionView.{rows_view};
 ghost use Rattle.basic_toml_tree.specs.declared.item.Table.{out-Table};
+ghost use Rattle.basic_toml_tree.specs.Clash.{NamesStop};
 ghost use Rattle.basic_toml_tree.specs.Item.{table_trie, child_trie};
 ghost use Rattle.basic_toml_tree.specs.Headers.{EntersHeader, EntersChild, Passes, PutsBack};
-ghost use Rattle.basic_toml_tree.specs.Headers.{entered_by, steps_by, entered_at, steps_at};
+ghost use Rattle.basic_toml_tree.specs.Headers.{entered_by, steps_by, entered_at, steps_at, tried_by, tried_at};
 
 use crate::clash::Clash;
 use crate::item::{Child, Item, LIMIT, Table};
@@ -26,7 +28,13 @@ pub(crate) fn enter_section<'de>(
 ) -> Result<Box<Table<'de>>, Clash>
     ensures entered { EntersHeader section.old.is_array (rows_view section.old.rows.items)
         (map cow_str_bytes section.old.header.items) 1 (table_trie root.entry.value) result }
+    ensures named { let keys = map cow_str_bytes section.old.header.items in
+        let tried = try_by_keys section.old.is_array (rows_view section.old.rows.items) keys
+        (table_trie root.entry.value) in
+        IfErr result (λ clash. NamesStop tried clash) }
     ensures at { section.new.at ≡ section.old.at }
+    ensures header { section.new.header ≡ section.old.header }
+    ensures offsets { section.new.offsets ≡ section.old.offsets }
 {
     let rows = mem::replace(&mut section.rows, Vec::new(alloc));
     let is_array = section.is_array;
@@ -50,7 +58,9 @@ fn open<'de>(
     level: usize,
 ) -> Result<Box<Table<'de>>, Clash>
     requires { level ≤ 130 }
-    ensures { EntersHeader false (rows_view rows.entry.items) [] level (table_trie table.entry.value) result }
+    ensures entered { EntersHeader false (rows_view rows.entry.items) [] level (table_trie table.entry.value) result }
+    ensures named { let tried = try_put_table (rows_view rows.entry.items) (table_trie table.entry.value) in
+        IfErr result (λ clash. NamesStop tried clash) }
 {
     let mut table = table;
     if level > LIMIT {
@@ -79,8 +89,11 @@ fn enter_header<'de>(
     level: usize,
 ) -> Result<Box<Table<'de>>, Clash>
     requires { level ≤ 130 }
-    ensures { EntersHeader is_array (rows_view rows.entry.items) (map cow_str_bytes keys.now) level
+    ensures entered { EntersHeader is_array (rows_view rows.entry.items) (map cow_str_bytes keys.now) level
         (table_trie table.entry.value) result }
+    ensures named { let keys = map cow_str_bytes keys.now in
+        let tried = try_by_keys is_array (rows_view rows.entry.items) keys (table_trie table.entry.value) in
+        IfErr result (λ clash. NamesStop tried clash) }
 {
     match keys.split_first() {
         None => open(alloc, table, rows, number, level),
@@ -132,10 +145,13 @@ fn enter_at<'de>(
     level: usize,
 ) -> Result<Child<'de>, Clash>
     requires { level ≤ 128 }
-    ensures { let rows = rows_view rows.entry.items in
+    ensures entered { let rows = rows_view rows.entry.items in
         let keys = map cow_str_bytes rest.now in
         EntersChild (entered_at is_array rows keys (child_trie there.entry)) rows
         (level + steps_at is_array keys (child_trie there.entry)) result }
+    ensures named { let tried = tried_at is_array (rows_view rows.entry.items) (map cow_str_bytes rest.now)
+        (child_trie there.entry) in
+        IfErr result (λ clash. NamesStop tried clash) }
 {
     if is_array && rest.is_empty() {
         return add_element(alloc, there, rows, number, level);
@@ -152,8 +168,10 @@ fn add_element<'de>(
     level: usize,
 ) -> Result<Child<'de>, Clash>
     requires { level ≤ 128 }
-    ensures { let rows = rows_view rows.entry.items in
+    ensures entered { let rows = rows_view rows.entry.items in
         EntersChild (put_element rows (child_trie there.entry)) rows (level + 2) result }
+    ensures named { let tried = try_put_element (rows_view rows.entry.items) (child_trie there.entry) in
+        IfErr result (λ clash. NamesStop tried clash) }
 {
     let Child {
         start,
@@ -199,10 +217,13 @@ fn enter_child<'de>(
     level: usize,
 ) -> Result<Child<'de>, Clash>
     requires { level ≤ 128 }
-    ensures { let rows = rows_view rows.entry.items in
+    ensures entered { let rows = rows_view rows.entry.items in
         let keys = map cow_str_bytes rest.now in
         EntersChild (entered_by is_array rows keys (child_trie there.entry)) rows
         (level + steps_by is_array keys (child_trie there.entry)) result }
+    ensures named { let tried = tried_by is_array (rows_view rows.entry.items) (map cow_str_bytes rest.now)
+        (child_trie there.entry) in
+        IfErr result (λ clash. NamesStop tried clash) }
 {
     let Child {
         start,

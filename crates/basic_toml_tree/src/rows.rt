@@ -1,11 +1,14 @@
 //! Rows: their values, and the tables that their keys lead through.
 
-ghost use Rattle.std.specs.Prelude.{◌≡◌, ◌≤◌, [], ◌∷◌, ◌++◌, Some, None, MatchOption, IfOk, not, is_some, true, false};
+ghost use Rattle.std.specs.Prelude.{◌≡◌, ◌≤◌, [], ◌∷◌, ◌++◌, Some, None, MatchOption, IfOk, IfErr, not, is_some, true};
+ghost use Rattle.std.specs.Prelude.{false};
 ghost use Rattle.basic_toml_value.specs.Data.{Data};
 ghost use Rattle.basic_toml_grammar.specs.Sections.{Raw as spec_raw};
 ghost use Rattle.basic_toml_grammar.specs.Marks.{valued};
 ghost use Rattle.basic_toml_grammar.specs.Trie.{nothing, mark_here};
+ghost use Rattle.basic_toml_grammar.specs.TrieStops.{try_put_rows};
 ghost use Rattle.basic_toml_read.specs.SectionView.{raw_of, rows_view, elements_view};
+ghost use Rattle.basic_toml_tree.specs.Clash.{NamesStop};
 ghost use Rattle.basic_toml_tree.specs.Item.{leaf, child_trie, table_trie};
 ghost use Rattle.basic_toml_tree.specs.Rows.{EntersRow, EntersRows, Extends, Finishes, FinishesAll, key_texts};
 ghost use Rattle.basic_toml_tree.specs.Rows.{all_dots, is_dot, reason, met_reason};
@@ -211,7 +214,9 @@ pub(crate) fn enter_rows<'de>(
     level: usize,
 ) -> Result<Box<Table<'de>>, Clash>
     requires { level ≤ 128 }
-    ensures { EntersRows (rows_view rows.entry.items) level (table_trie table.entry.value) result }
+    ensures entered { EntersRows (rows_view rows.entry.items) level (table_trie table.entry.value) result }
+    ensures named { IfErr result (λ clash.
+        NamesStop (try_put_rows (rows_view rows.entry.items) (table_trie table.entry.value)) clash) }
 {
     let mut table = table;
     let mut keys = Vec::new(alloc);

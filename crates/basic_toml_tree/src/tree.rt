@@ -18,8 +18,7 @@ pub struct Tree<'de> {
 /// The tree of a section list, or a clash that stands in it (TOML v0.5.0, "Table" and "Array of Tables").
 ///
 /// Memory apart, it accepts exactly the lists in which nothing clashes and whose tree is no deeper than 128, and
-/// answers
-/// the tree of their mentions. Which clash it answers is tested and not yet proved.
+/// answers the tree of their mentions. The error names a clash that stands in the list.
 ///
 /// # Errors
 ///

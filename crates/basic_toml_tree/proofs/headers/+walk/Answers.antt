@@ -1,16 +1,22 @@
 use Rattle.std.proofs.Common.{◌≡◌, ◌≤◌, ◌∷◌, ◌+◌, length, suc, ap, sym, ◌∙◌, arith, map, refl, inr}
+use Rattle.std.specs.Prelude.{IfErr}
 use Rattle.std.specs.Cow.{cow_str_bytes}
 use Rattle.basic_toml_grammar.specs.Trie.{walk, steps_to}
+use Rattle.basic_toml_grammar.specs.TrieStops.{try_by_keys}
 use Rattle.basic_toml_read.specs.SectionView.{rows_view}
 use Rattle.basic_toml_tree.specs.declared.item.Item.TheViews.{roll-Child}
+use Rattle.basic_toml_tree.specs.Clash.{NamesStop}
 use Rattle.basic_toml_tree.specs.Item.{child_trie, table_trie}
-use Rattle.basic_toml_tree.specs.Headers.{EntersHeader, EntersChild, entered_by, steps_by}
+use Rattle.basic_toml_tree.specs.Headers.{EntersHeader, EntersChild, entered_by, steps_by, tried_by, tried_at}
 use Rattle.basic_toml_tree.proofs.HeadersInATrie.{array_of}
 use Rattle.basic_toml_tree.proofs.HeadersEntered.{failed, no_array, not_last, child_in, child_out, same_mapped}
 use Rattle.basic_toml_tree.proofs.HeadersEntered.{holds_table}
 use Rattle.basic_toml_tree.proofs.HeadersEntered.{holds_tables, other_bars, passed_in, passed_out, into_fresh}
 use Rattle.basic_toml_tree.proofs.HeadersEntered.{into_table, into_latest, steps_into_fresh, steps_into_table}
 use Rattle.basic_toml_tree.proofs.HeadersEntered.{steps_into_latest}
+use Rattle.basic_toml_tree.proofs.HeadersEntered.{other_is_leaf}
+use Rattle.basic_toml_tree.proofs.HeadersStopped.{stopped, same_stops, tried_into_fresh, stopped_in_latest}
+use Rattle.basic_toml_tree.proofs.HeadersStopped.{value_stopped, passed_stops}
 use Rattle.basic_toml_tree.proofs.headers.+walk.Goals as goal
 use Rattle.basic_toml_tree.proofs.headers.+walk.Goals.{enter_child-in-Nothing+in_ok-table-in-Nothing+in_ok-enter_header-in-Nothing}
 use Rattle.basic_toml_tree.proofs.headers.+walk.Goals.{enter_at-else-is_array-via-then-is_array+else-is_empty}
@@ -18,22 +24,22 @@ use Rattle.basic_toml_tree.proofs.headers.+walk.Goals.{enter_at-else-is_array-vi
 use Rattle.basic_toml_tree.proofs.headers.+walk.Goals.{enter_child-in-Table+in_ok-enter_header-in-Table}
 use Rattle.basic_toml_tree.proofs.headers.+walk.Goals.{enter_child-in-Tables+in_ok-latest-in-Tables}
 
-pub enter_at-returns : goal.enter_at-returns
-enter_at-returns t c =
+pub enter_at-returns-clause-entered : goal.enter_at-returns-clause-entered
+enter_at-returns-clause-entered t c =
     let rows = rows_view c.args.rows.items in
     let there = child_trie c.args.there in
     elim c.else-is_array.branch [
       | enter_at-else-is_array-via-then-is_array+else-is_empty w ↦
           let some : 1 ≤ length c.args.rest.now = grind (arith, w.is_empty.ensures, w.if-is_empty.false) in
           not_last c.args.is_array rows c.args.rest.now c.args.level there c.enter_child.result some
-          c.enter_child.ensures
+          c.enter_child.ensures.entered
       | enter_at-else-is_array-via-else-is_array w ↦
           no_array c.args.is_array rows (map cow_str_bytes c.args.rest.now) c.args.level there c.enter_child.result
-          w.if-is_array.false c.enter_child.ensures
+          w.if-is_array.false c.enter_child.ensures.entered
     ]
 
-pub enter_child-returns-in_err-enter_header-in-Nothing : goal.enter_child-returns-in_err-enter_header-in-Nothing
-enter_child-returns-in_err-enter_header-in-Nothing t c =
+pub enter_child-returns-in_err-enter_header-in-Nothing-clause-entered : goal.enter_child-returns-in_err-enter_header-in-Nothing-clause-entered
+enter_child-returns-in_err-enter_header-in-Nothing-clause-entered t c =
     let a = c.args.is_array in
     let rows = rows_view c.args.rows.items in
     let keys = map cow_str_bytes c.args.rest.now in
@@ -48,10 +54,10 @@ enter_child-returns-in_err-enter_header-in-Nothing t c =
     (child_out (entered_by a rows keys there) rows c.args.level ((c.args.level + 1) + steps_to a keys new)
     (steps_by a keys there) (walk a rows keys new) clash (λ t. t)
     (same_mapped _ _ (into_fresh a rows keys c.args.there new c.in-Nothing.is c.in_ok-table-in-Nothing.ensures))
-    (omega (arith, steps)) c.in_err-enter_header-in-Nothing.ensures)
+    (omega (arith, steps)) c.in_err-enter_header-in-Nothing.ensures.entered)
 
-pub enter_child-returns-in_err-latest-in-Tables : goal.enter_child-returns-in_err-latest-in-Tables
-enter_child-returns-in_err-latest-in-Tables t c =
+pub enter_child-returns-in_err-latest-in-Tables-clause-entered : goal.enter_child-returns-in_err-latest-in-Tables-clause-entered
+enter_child-returns-in_err-latest-in-Tables-clause-entered t c =
     let a = c.args.is_array in
     let rows = rows_view c.args.rows.items in
     let keys = map cow_str_bytes c.args.rest.now in
@@ -67,15 +73,15 @@ enter_child-returns-in_err-latest-in-Tables t c =
     (steps_by a keys there) (walk a rows keys old) clash
     (λ u. array_of (map table_trie c.in-Tables.before.items) u)
     (into_latest a rows keys c.args.there c.in-Tables.before c.in-Tables.latest c.in-Tables.is)
-    (omega (arith, steps)) c.in_err-latest-in-Tables.ensures)
+    (omega (arith, steps)) c.in_err-latest-in-Tables.ensures.entered)
 
-pub enter_child-returns-in_default : goal.enter_child-returns-in_default
-enter_child-returns-in_default t c =
+pub enter_child-returns-in_default-clause-entered : goal.enter_child-returns-in_default-clause-entered
+enter_child-returns-in_default-clause-entered t c =
     inr (other_bars c.args.is_array (rows_view c.args.rows.items) (map cow_str_bytes c.args.rest.now) c.args.there
     c.args.there.item refl c.in_default.not-Nothing c.in_default.not-Table c.in_default.not-Tables)
 
-pub enter_child-returns : goal.enter_child-returns
-enter_child-returns t c =
+pub enter_child-returns-clause-entered : goal.enter_child-returns-clause-entered
+enter_child-returns-clause-entered t c =
     let a = c.args.is_array in
     let rows = rows_view c.args.rows.items in
     let keys = map cow_str_bytes c.args.rest.now in
@@ -93,7 +99,7 @@ enter_child-returns t c =
           child_in (entered_by a rows keys there) rows c.args.level ((c.args.level + 1) + steps_to a keys new)
           (steps_by a keys there) (walk a rows keys new) _ child (λ t. t)
           (same_mapped _ _ (into_fresh a rows keys c.args.there new w.in-Nothing.is w.in_ok-table-in-Nothing.ensures))
-          (omega (arith, steps)) w.in_ok-enter_header-in-Nothing.ensures (holds_table child _ w.item-is)
+          (omega (arith, steps)) w.in_ok-enter_header-in-Nothing.ensures.entered (holds_table child _ w.item-is)
       | enter_child-in-Table+in_ok-enter_header-in-Table w ↦
           let old = table_trie w.in-Table.table.value in
           let steps : steps_by a keys there ≡ suc (steps_to a keys old) =
@@ -101,7 +107,7 @@ enter_child-returns t c =
           child_in (entered_by a rows keys there) rows c.args.level ((c.args.level + 1) + steps_to a keys old)
           (steps_by a keys there) (walk a rows keys old) _ child (λ t. t)
           (same_mapped _ _ (into_table a rows keys c.args.there w.in-Table.table w.in-Table.is))
-          (omega (arith, steps)) w.in_ok-enter_header-in-Table.ensures (holds_table child _ w.item-is)
+          (omega (arith, steps)) w.in_ok-enter_header-in-Table.ensures.entered (holds_table child _ w.item-is)
       | enter_child-in-Tables+in_ok-latest-in-Tables w ↦
           let old = table_trie w.in-Tables.latest.value in
           let steps : steps_by a keys there ≡ suc (suc (steps_to a keys old)) =
@@ -110,12 +116,12 @@ enter_child-returns t c =
           (steps_by a keys there) (walk a rows keys old) _ child
           (λ u. array_of (map table_trie w.in-Tables.before.items) u)
           (into_latest a rows keys c.args.there w.in-Tables.before w.in-Tables.latest w.in-Tables.is)
-          (omega (arith, steps)) w.in_ok-latest-in-Tables.ensures
+          (omega (arith, steps)) w.in_ok-latest-in-Tables.ensures.entered
           (holds_tables child w.in-Tables.before _ w.item-is)
     ]
 
-pub enter_header-returns-in_err-child-in-Some : goal.enter_header-returns-in_err-child-in-Some
-enter_header-returns-in_err-child-in-Some t c =
+pub enter_header-returns-in_err-child-in-Some-clause-entered : goal.enter_header-returns-in_err-child-in-Some-clause-entered
+enter_header-returns-in_err-child-in-Some-clause-entered t c =
     let a = c.args.is_array in
     let rows = rows_view c.args.rows.items in
     let k = c.as_str.result.now in
@@ -128,10 +134,10 @@ enter_header-returns-in_err-child-in-Some t c =
     c.from_residual-in_err-child-in-Some.result clash c.from_residual-in_err-child-in-Some.ensures.1
     (passed_out a rows k keys whole c.args.level c.args.table.value c.deref_mut.result.now c.pass.new.table
     c.in_ok-position-in-Some.position c.in_ok-position-in-Some.there clash is_whole c.deref_mut.ensures.value
-    c.in_ok-position-in-Some.ensures c.in_err-child-in-Some.ensures)
+    c.in_ok-position-in-Some.ensures c.in_err-child-in-Some.ensures.entered)
 
-pub enter_header-returns-in_ok-child-in-Some : goal.enter_header-returns-in_ok-child-in-Some
-enter_header-returns-in_ok-child-in-Some t c =
+pub enter_header-returns-in_ok-child-in-Some-clause-entered : goal.enter_header-returns-in_ok-child-in-Some-clause-entered
+enter_header-returns-in_ok-child-in-Some-clause-entered t c =
     let a = c.args.is_array in
     let rows = rows_view c.args.rows.items in
     let k = c.as_str.result.now in
@@ -143,4 +149,59 @@ enter_header-returns-in_ok-child-in-Some t c =
     c.deref_mut-in-Some.result.now c.put_back.new.table c.in_ok-position-in-Some.position
     c.in_ok-position-in-Some.there c.in_ok-child-in-Some.child is_whole c.deref_mut.ensures.value
     c.in_ok-position-in-Some.ensures c.deref_mut-in-Some.ensures.value c.put_back.ensures
-    c.in_ok-child-in-Some.ensures
+    c.in_ok-child-in-Some.ensures.entered
+
+pub enter_child-returns-in_err-enter_header-in-Nothing-clause-named :
+    goal.enter_child-returns-in_err-enter_header-in-Nothing-clause-named
+enter_child-returns-in_err-enter_header-in-Nothing-clause-named t c =
+    let a = c.args.is_array in
+    let rows = rows_view c.args.rows.items in
+    let keys = map cow_str_bytes c.args.rest.now in
+    let new = table_trie c.in_ok-table-in-Nothing.table.value in
+    let clash = c.in_err-enter_header-in-Nothing.field-0.0 in
+    failed (λ r. IfErr r (λ clash. NamesStop (tried_by a rows keys (child_trie c.args.there)) clash))
+    c.from_residual-in_err-enter_header-in-Nothing.result clash
+    c.from_residual-in_err-enter_header-in-Nothing.ensures.1
+    (stopped clash (try_by_keys a rows keys new) (tried_by a rows keys (child_trie c.args.there))
+    (same_stops (try_by_keys a rows keys new) (tried_by a rows keys (child_trie c.args.there))
+    (tried_into_fresh a rows keys c.args.there new c.in-Nothing.is c.in_ok-table-in-Nothing.ensures))
+    c.in_err-enter_header-in-Nothing.ensures.named)
+
+pub enter_child-returns-in_err-latest-in-Tables-clause-named :
+    goal.enter_child-returns-in_err-latest-in-Tables-clause-named
+enter_child-returns-in_err-latest-in-Tables-clause-named t c =
+    let a = c.args.is_array in
+    let rows = rows_view c.args.rows.items in
+    let keys = map cow_str_bytes c.args.rest.now in
+    let clash = c.in_err-latest-in-Tables.field-0.0 in
+    failed (λ r. IfErr r (λ clash. NamesStop (tried_by a rows keys (child_trie c.args.there)) clash))
+    c.from_residual-in_err-latest-in-Tables.result clash c.from_residual-in_err-latest-in-Tables.ensures.1
+    (stopped clash (try_by_keys a rows keys (table_trie c.in-Tables.latest.value))
+    (tried_by a rows keys (child_trie c.args.there))
+    (stopped_in_latest a rows keys c.args.there c.in-Tables.before c.in-Tables.latest c.in-Tables.is)
+    c.in_err-latest-in-Tables.ensures.named)
+
+pub enter_child-returns-in_default-clause-named : goal.enter_child-returns-in_default-clause-named
+enter_child-returns-in_default-clause-named t c =
+    let seen = other_is_leaf c.args.there c.args.there.item refl c.in_default.not-Nothing c.in_default.not-Table
+    c.in_default.not-Tables in
+    value_stopped c.args.is_array (rows_view c.args.rows.items) c.args.rest.now c.args.there seen.0 seen.1
+
+pub enter_header-returns-in_err-child-in-Some-clause-named : goal.enter_header-returns-in_err-child-in-Some-clause-named
+enter_header-returns-in_err-child-in-Some-clause-named t c =
+    let a = c.args.is_array in
+    let rows = rows_view c.args.rows.items in
+    let k = c.as_str.result.now in
+    let keys = map cow_str_bytes c.in-Some.rest.now in
+    let whole = map cow_str_bytes c.args.keys.now in
+    let is_whole : whole ≡ k ∷ keys =
+    ap (map cow_str_bytes) c.in-Some.ensures.cases.0 ∙ ap (λ k. k ∷ keys) (sym c.as_str.ensures.value) in
+    let clash = c.in_err-child-in-Some.field-0.0 in
+    let there = child_trie c.in_ok-position-in-Some.there in
+    failed (λ r. IfErr r (λ clash. NamesStop (try_by_keys a rows whole (table_trie c.args.table.value)) clash))
+    c.from_residual-in_err-child-in-Some.result clash c.from_residual-in_err-child-in-Some.ensures.1
+    (stopped clash (tried_at a rows keys there) (try_by_keys a rows whole (table_trie c.args.table.value))
+    (passed_stops a rows k keys whole c.args.table.value c.deref_mut.result.now c.pass.new.table
+    c.in_ok-position-in-Some.position c.in_ok-position-in-Some.there is_whole c.deref_mut.ensures.value
+    c.in_ok-position-in-Some.ensures)
+    c.in_err-child-in-Some.ensures.named)

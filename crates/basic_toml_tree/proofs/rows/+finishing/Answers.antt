@@ -15,8 +15,8 @@ use Rattle.basic_toml_tree.proofs.InlineTables.{inline_finished, inline_kept_out
 use Rattle.basic_toml_tree.proofs.ElementsLeft.{ElementsAreLeft, element_entered, elements_done}
 use Rattle.basic_toml_tree.proofs.rows.+finishing.Goals as goal
 
-pub enter_rows-returns-in_err-table : goal.enter_rows-returns-in_err-table
-enter_rows-returns-in_err-table t c =
+pub enter_rows-returns-in_err-table-clause-entered : goal.enter_rows-returns-in_err-table-clause-entered
+enter_rows-returns-in_err-table-clause-entered t c =
     let p = err_from_is_err_and c.from_residual-in_err-table.result c.from_residual-in_err-table.ensures.1 in
     let start : c.into_iter-row-iterator.result.rest.items ≡ c.args.rows.items =
     ap (λ i. i.rest.items) c.into_iter-row-iterator.ensures.into_iter_gives ∙ c.into_iter-row-items.ensures.rest in
@@ -36,8 +36,8 @@ enter_rows-returns-in_err-table t c =
     (row_kept_out (rows_view c.into_iter-row-iterator.result.rest.items) c.args.level before keys row rest now left
     (sym c.is_dot.ensures ∙ c.if-is_dot.false) c.in_err-table.field-0.0 kept))
 
-pub enter_rows-returns : goal.enter_rows-returns
-enter_rows-returns t c =
+pub enter_rows-returns-clause-entered : goal.enter_rows-returns-clause-entered
+enter_rows-returns-clause-entered t c =
     let start : c.into_iter-row-iterator.result.rest.items ≡ c.args.rows.items =
     ap (λ i. i.rest.items) c.into_iter-row-iterator.ensures.into_iter_gives ∙ c.into_iter-row-items.ensures.rest in
     let before = table_trie c.args.table.value in
@@ -129,7 +129,7 @@ finished-returns-in_err-table-in-Inline t c = λ v seen.
     c.from_residual-in_err-table-in-Inline.ensures.1 in
     rw (p.1, p.2) (inline_kept_out c.in-Inline.rows (Some (standings.table false false false))
     (table_trie c.in_ok-new-in-Inline.field-0.value) c.args.level v c.in_err-table-in-Inline.field-0.0
-    (ap raw_of (sym c.in-Inline.is) ∙ seen) c.in_ok-new-in-Inline.ensures c.in_err-table-in-Inline.ensures)
+    (ap raw_of (sym c.in-Inline.is) ∙ seen) c.in_ok-new-in-Inline.ensures c.in_err-table-in-Inline.ensures.entered)
 
 pub finished-returns-in_ok-table-in-Inline : goal.finished-returns-in_ok-table-in-Inline
 finished-returns-in_ok-table-in-Inline t c = λ v seen.
@@ -137,4 +137,4 @@ finished-returns-in_ok-table-in-Inline t c = λ v seen.
     (inline_finished c.in-Inline.rows c.in_ok-table-in-Inline.table (Some (standings.table false false false))
     (table_trie c.in_ok-new-in-Inline.field-0.value) c.args.level v (ap raw_of (sym c.in-Inline.is)
     ∙ seen) (omega arith)
-    c.in_ok-new-in-Inline.ensures c.in_ok-table-in-Inline.ensures)
+    c.in_ok-new-in-Inline.ensures c.in_ok-table-in-Inline.ensures.entered)

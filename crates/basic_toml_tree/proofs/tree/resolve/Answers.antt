@@ -1,7 +1,9 @@
-use Rattle.std.proofs.Common.{◌<◌, length, arith, rules, set}
+use Rattle.std.proofs.Common.{◌<◌, length, arith, rules, set, List, subst}
 use Rattle.std.proofs.lemmas.List.{length-set, get_or-set_other}
+use Rattle.basic_toml_read.specs.declared.section.Section.{Section}
+use Rattle.basic_toml_tree.specs.Crossed.{NoneIsCrossed}
 use Rattle.basic_toml_tree.specs.Item.{table_trie}
-use Rattle.basic_toml_tree.proofs.SectionsResolved.{want_of, goes_on_from_a_value, kept_out, goes_on, resolved}
+use Rattle.basic_toml_tree.proofs.SectionsResolved.{want_of, goes_on_from_a_value, kept_out, none_crossed, goes_on, resolved}
 use Rattle.basic_toml_tree.proofs.tree.resolve.Goals as goal
 
 pub returns-in_err-at : goal.returns-in_err-at
@@ -10,7 +12,7 @@ returns-in_err-at c = want_of c.args.sections.items c.from_residual.result c.fro
 pub returns-in-Some : goal.returns-in-Some
 returns-in-Some c = λ keyed.
     goes_on_from_a_value c.as_slice.result.now c.args.sections.items c.in_ok-at.field-0 c.in-Some.at c.at.result
-    c.as_slice.ensures.value c.in-Some.is c.in_ok-at.ensures.some
+    c.as_slice.ensures.value c.in-Some.is c.in_ok-at.ensures.some c.at.ensures
 
 pub returns-in_err-root : goal.returns-in_err-root
 returns-in_err-root c =
@@ -22,8 +24,11 @@ returns-in-Err c = λ keyed.
     omega (arith, c.len-number-end.ensures, c.loop-number-test.true, c.loop-number.invariant.count) in
     kept_out c.args.sections.items c.loop-number.sections.items c.loop-number.number
     (table_trie c.loop-number.root.value) c.loop-number.invariant c.index_mut-section.result.now within
-    (search (rules, c.index_mut-section.ensures.value)) keyed c.in-Err.clash c.error.result c.in-Err.ensures.entered
-    c.enter_section.new.section c.enter_section.ensures.at c.error.ensures
+    (search (rules, c.index_mut-section.ensures.value)) keyed
+    (subst (λ (ss : List Section). NoneIsCrossed ss) c.as_slice.ensures.value
+    (none_crossed c.as_slice.result.now c.in_ok-at.field-0 c.in_default.not-Some c.in_ok-at.ensures.none)) c.in-Err.clash c.error.result
+    c.in-Err.ensures.entered c.in-Err.ensures.named c.enter_section.new.section c.enter_section.ensures.at
+    c.enter_section.ensures.header c.enter_section.ensures.offsets c.error.ensures
 
 pub loop-number-preserved : goal.loop-number-preserved
 loop-number-preserved c =

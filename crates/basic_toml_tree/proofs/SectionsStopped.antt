@@ -1,0 +1,66 @@
+-- What stops a section that is put into the tree after others is named in their list.
+use Rattle.std.proofs.Common.{◌≡◌, inl, inr, true, false, Bool, List, [], ◌∷◌, ◌++◌, refl, ap, sym, ◌∙◌, subst, arith, ◌<◌}
+use Rattle.std.specs.Prelude.{◌&&◌, Contains}
+use Rattle.std.specs.List.{flat_map}
+use Rattle.basic_toml_grammar.specs.Sections.{Section, texts, KeyTexts}
+use Rattle.basic_toml_grammar.specs.Entering.{is_keyed, all_keyed}
+use Rattle.basic_toml_grammar.specs.Faults.{Fault}
+use Rattle.basic_toml_grammar.specs.NamedClash.{NamesClash, dotted_faults, first_of_two}
+use Rattle.basic_toml_grammar.specs.Stops.{Stop, at_header, is_named, is_passed, at_row, stops, stop_fault}
+use Rattle.basic_toml_grammar.specs.TrieStops.{try_by_keys}
+use Rattle.basic_toml_grammar.specs.Trie.{Trie, nothing}
+use Rattle.basic_toml_grammar.proofs.TrieStopsAreNamed.{trie_stops_named}
+use Rattle.basic_toml_tree.proofs.SectionsEntered.{Stands}
+use Rattle.basic_toml_tree.proofs.HeadersStopped.{tried_fresh}
+
+-- the first sections of a list with keys, and the next one
+keyed_before : (earlier : List Section) (s : Section) (later : List Section)
+    → all_keyed (earlier ++ s ∷ later) ≡ true → all_keyed earlier ≡ true
+keyed_before [] s later keyed = refl
+keyed_before (r ∷ earlier) s later keyed = go (is_keyed r) (keyed_before earlier s later) keyed
+  where
+    go : (b : Bool) → (all_keyed (earlier ++ s ∷ later) ≡ true → all_keyed earlier ≡ true)
+        → (b && all_keyed (earlier ++ s ∷ later)) ≡ true → (b && all_keyed earlier) ≡ true
+    go true more keyed = more keyed
+    go false more keyed = cc
+
+keyed_here : (earlier : List Section) (s : Section) (later : List Section)
+    → all_keyed (earlier ++ s ∷ later) ≡ true → is_keyed s ≡ true
+keyed_here [] s later keyed = go (is_keyed s) keyed
+  where
+    go : (b : Bool) → (b && all_keyed later) ≡ true → b ≡ true
+    go true keyed = refl
+    go false keyed = cc
+keyed_here (r ∷ earlier) s later keyed = go (is_keyed r) (keyed_here earlier s later) keyed
+  where
+    go : (b : Bool) → (all_keyed (earlier ++ s ∷ later) ≡ true → is_keyed s ≡ true)
+        → (b && all_keyed (earlier ++ s ∷ later)) ≡ true → is_keyed s ≡ true
+    go true more keyed = more keyed
+    go false more keyed = cc
+
+pub section_stops : (earlier : List Section) (s : Section) (keys : KeyTexts) (t : Trie) → texts s.header ≡ keys
+    → Stands earlier t → (later : List Section) → all_keyed (earlier ++ s ∷ later) ≡ true
+    → flat_map (λ s. dotted_faults s.rows) (earlier ++ s ∷ later) ≡ [] → (x : Stop)
+    → try_by_keys s.is_array s.rows keys t ≡ stops x → NamesClash (earlier ++ s ∷ later) (stop_fault s x)
+section_stops earlier s keys t same (inl put) later keyed none x e =
+    trie_stops_named earlier s later t x (keyed_before earlier s later keyed) (keyed_here earlier s later keyed) none put
+    (ap (λ ks. try_by_keys s.is_array s.rows ks t) same ∙ e)
+section_stops earlier s keys t same (inr first) later keyed none x e =
+    subst (λ ss. NamesClash (ss ++ s ∷ later) (stop_fault s x)) (sym first.0)
+    (trie_stops_named [] s later nothing x refl (keyed_here earlier s later keyed)
+    (subst (λ ss. flat_map (λ s. dotted_faults s.rows) (ss ++ s ∷ later) ≡ []) first.0 none) refl
+    (sym (tried_fresh s.is_array s.rows (texts s.header))
+    ∙ ap (λ t. try_by_keys s.is_array s.rows (texts s.header) t) (sym first.1)
+    ∙ ap (λ ks. try_by_keys s.is_array s.rows ks t) same ∙ e))
+
+-- the fault of a stop is told by the header and the offset
+pub same_fault : (r s : Section) → r.header ≡ s.header → r.at ≡ s.at → (x : Stop) → stop_fault r x ≡ stop_fault s x
+same_fault r s header at (at_header left) = rw header refl
+same_fault r s header at is_named = rw (header, at) refl
+same_fault r s header at is_passed = rw (header, at) refl
+same_fault r s header at (at_row keys k) = rw header refl
+
+-- the first faults come first
+pub first_contained : (a b : List Fault) (f : Fault) → Contains a f → Contains (first_of_two a b) f
+first_contained [] b f c = let h : c.0 < 0 = c.1 in absurd (omega arith)
+first_contained (g ∷ a) b f c = c
