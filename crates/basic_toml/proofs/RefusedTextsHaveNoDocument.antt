@@ -13,6 +13,7 @@ use Rattle.basic_toml_grammar.specs.NestingFaults.{deep_sections}
 use Rattle.basic_toml_grammar.specs.Document.{has_clash, tree_of_sections, document_of, IsDocument}
 use Rattle.basic_toml_grammar.specs.Faults as read
 use Rattle.basic_toml_grammar.proofs.LawsHold.{unambiguous, within, keyed}
+use Rattle.basic_toml_grammar.proofs.EveryClashIsNamed.{named_clashes}
 use Rattle.basic_toml_grammar.proofs.LevelsAreWithinDepth.{list_keys}
 use Rattle.basic_toml_grammar.proofs.DepthIsTheHighestLevel.{deep_where_one_is}
 use Rattle.basic_toml.specs.Reading.{IsTextFault, outside, deep, deep_tree, clash}
@@ -48,8 +49,9 @@ refused_has_no_document text _ tree (deep_tree {sections = sections} {offset = o
     deep_where_one_is nesting_limit offset d.sections (keyed (folded text) d.sections d.grammar)
     (list_keys d.grammar) peaceful inside in
     absurd (omega arith)
-refused_has_no_document text error tree (clash {sections = sections} grammar clashes) d =
+refused_has_no_document text error tree (clash {sections = sections} grammar names) d =
     let (peaceful, fits) = peaceful_and_fits d.sections tree d.means in
     let same : sections ≡ d.sections = unambiguous _ (folded text) sections d.sections grammar d.grammar in
-    let met : has_clash d.sections ≡ true = subst (λ (ss : List Section). has_clash ss ≡ true) same clashes in
+    let met : has_clash d.sections ≡ true = subst (λ (ss : List Section). has_clash ss ≡ true) same
+    (named_clashes sections error names) in
     absurd (false≢true (sym peaceful ∙ met))

@@ -1,7 +1,7 @@
 -- How reading a text as a type ends. (own)
 -- A type's `reads` says which of its values are read from which data, and its `takes` from which data it reads a value,
 -- memory aside.
-use Rattle.std.specs.Prelude.{◌≡◌, ◌⊎◌, ◌≤◌, ◌<◌, ◌+◌, ℕ, true, List, Result, Ok, Err, Contains}
+use Rattle.std.specs.Prelude.{◌≡◌, ◌⊎◌, ◌≤◌, ◌<◌, ◌+◌, ℕ, List, Result, Ok, Err, Contains}
 use Rattle.basic_toml_tokens.specs.Text.{folded, text_at}
 use Rattle.basic_toml_value.specs.Data.{Data, table, Members}
 use Rattle.basic_toml_value.specs.Nesting.{nesting_limit}
@@ -10,7 +10,8 @@ use Rattle.basic_toml_grammar.specs.Grammar.{IsSectionList}
 use Rattle.basic_toml_grammar.specs.IndexedPath.{located}
 use Rattle.basic_toml_grammar.specs.Levels.{highest_level}
 use Rattle.basic_toml_grammar.specs.NestingFaults.{openers, deep_sections}
-use Rattle.basic_toml_grammar.specs.Document.{has_clash, IsDocument}
+use Rattle.basic_toml_grammar.specs.Document.{IsDocument}
+use Rattle.basic_toml_grammar.specs.NamedClash.{NamesClash}
 use Rattle.basic_toml_grammar.specs.Faults as read
 use Rattle.basic_toml_grammar.specs.GrammarFaults.{fault_at, AllowsGrammarFault}
 use Rattle.basic_toml_explain.specs.Error as explain
@@ -27,7 +28,7 @@ pub record IsNestedTooDeeply (text : List ℕ) (offset : ℕ) : Type 0 where
   pub opened : nesting_limit + openers (text_at text offset) ≤ openers (folded text)
 
 -- Why a text has no document: it has no section list, and the grammar allows the error; or its section list passes the
--- limit, by its levels, or by a section of its tree; or something in its section list clashes.
+-- limit, by its levels, or by a section of its tree; or the error names a clash that stands in its section list.
 pub data IsTextFault (text : List ℕ) : read.Fault → Type 0 where
   outside : {error : read.Fault} → AllowsGrammarFault text error → IsTextFault text error
   deep : {offset : ℕ} → IsNestedTooDeeply text offset → IsTextFault text (fault_at read.nested_too_deeply offset)
@@ -35,7 +36,7 @@ pub data IsTextFault (text : List ℕ) : read.Fault → Type 0 where
       → Contains (deep_sections nesting_limit (located sections)) offset
       → IsTextFault text (fault_at read.nested_too_deeply offset)
   clash : {sections : List Section} {error : read.Fault} → IsSectionList (folded text) sections
-      → has_clash sections ≡ true → IsTextFault text error
+      → NamesClash sections error → IsTextFault text error
 
 -- the fault of a type that reads nothing: want of memory wherever the type takes the data, and wherever there is a
 -- value to read
