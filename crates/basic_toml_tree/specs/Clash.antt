@@ -1,9 +1,10 @@
 -- The error that names the clash of a section.
-use Rattle.std.specs.Prelude.{◌≡◌, ◌⊎◌, ℕ, ◌-◌, List, [], ◌++◌, length, map, take, slice_index_or, string_bytes}
+use Rattle.std.specs.Prelude.{◌≡◌, ◌⊎◌, ⊤, ℕ, ◌-◌, List, [], ◌++◌, length, map, take, slice_index_or, string_bytes}
 use Rattle.std.specs.Cow.{cow_str_bytes}
 use Rattle.basic_toml_grammar.specs.Sections.{KeyTexts}
 use Rattle.basic_toml_grammar.specs.Faults.{Fault, duplicate_key, duplicate_table, redefine_as_array, nested_too_deeply}
 use Rattle.basic_toml_grammar.specs.GrammarFaults.{fault_at}
+use Rattle.basic_toml_grammar.specs.Stops.{Stop, at_header, is_named, is_passed, at_row, Outcome, stops}
 use Rattle.basic_toml_explain.specs.Error.{want_of_memory, fault_within}
 use Rattle.basic_toml_read.specs.declared.section.Section.{Section}
 use Rattle.basic_toml_tree.specs.declared.clash.Clash.{Clash}
@@ -30,3 +31,19 @@ IsFaultOf s (Row path key offset) fault =
 
 abbrev pub NamesClash : Section → Clash → Fault → Type 0
 NamesClash s clash fault = (fault ≡ want_of_memory) ⊎ IsFaultOf s clash fault
+
+-- the clash that a stop is
+abbrev pub IsStop : Clash → Stop → Type 0
+IsStop Memory stop = ⊥
+IsStop Deep stop = ⊥
+IsStop (Header left) stop = stop ≡ at_header left
+IsStop Named stop = stop ≡ is_named
+IsStop Redefined stop = stop ≡ is_passed
+IsStop (Row path key offset) stop =
+    stop ≡ at_row (map string_bytes path.items) (record { offset = offset; text = string_bytes key })
+
+-- memory and depth apart, the clash is what stops
+abbrev pub NamesStop : {A : Type 0} → Outcome A → Clash → Type 0
+NamesStop o Memory = ⊤
+NamesStop o Deep = ⊤
+NamesStop o clash = (stop : Stop) × (IsStop clash stop × (o ≡ stops stop))
