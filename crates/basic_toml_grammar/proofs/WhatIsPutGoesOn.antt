@@ -149,3 +149,30 @@ mutual
       let a = both (value_keyed v) (elements_keyed es) k in
       let d = neither (value_clashes v) (elements_clash es) c in
       two_go (try_put_value v) (try_put_elements es) (value_goes v a.0 d.0) (elements_go es a.1 d.1)
+
+-- what stops keyed rows does not depend on what stands above them
+row_aside : (k : Key) (ks : List Key) (d : Data) (s : Option Standing) (v : Option Data) (ts : Tries)
+    → (o : Outcome Tries)
+    × ((u : Option Standing) (w : Option Data)
+    → try_put_row [] (k ∷ ks) d (trie u w ts) ≡ outcome_map (λ ts. trie u w ts) o)
+row_aside k [] d s v ts = (try_among (key k.text) (λ t. try_here (valued d) (last_stop [] k) t) ts, λ u w. refl)
+row_aside k (l ∷ ks) d s v ts =
+    (try_among (key k.text)
+    (λ t. and_on (try_here dotted (λ m. at_row [] k) t) (λ t. try_put_row (k.text ∷ []) (l ∷ ks) d t)) ts, λ u w. refl)
+
+pub rows_aside : (rows : Rows) (s u : Option Standing) (v w : Option Data) (ts : Tries) (x : Stop)
+    → rows_keyed rows ≡ true → try_put_rows rows (trie s v ts) ≡ stops x → try_put_rows rows (trie u w ts) ≡ stops x
+rows_aside no_rows s u v w ts x keyed stop = absurd (cc)
+rows_aside (row [] at v rows) s u a w ts x keyed stop = absurd (cc)
+rows_aside (row (k ∷ ks) at v rows) s u a w ts x keyed stop =
+    let o = row_aside k ks (finished v) s a ts in
+    rw (o.1 u w) (go (held (k ∷ ks) (try_put_value v)) o.0 (λ ts. rows_aside rows s u a w ts x keyed)
+    (rw (← o.1 s a) stop))
+  where
+    go : (h : Outcome Trie) (o : Outcome Tries)
+        → ((ts : Tries) → try_put_rows rows (trie s a ts) ≡ stops x → try_put_rows rows (trie u w ts) ≡ stops x)
+        → and_on h (λ _. and_on (outcome_map (λ ts. trie s a ts) o) (λ t. try_put_rows rows t)) ≡ stops x
+        → and_on h (λ _. and_on (outcome_map (λ ts. trie u w ts) o) (λ t. try_put_rows rows t)) ≡ stops x
+    go (stops y) o more stop = stop
+    go (goes_on t) (stops y) more stop = stop
+    go (goes_on t) (goes_on ts) more stop = more ts stop

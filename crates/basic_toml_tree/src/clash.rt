@@ -1,7 +1,8 @@
 //! Why a section is not entered, and the error that names it.
 
-ghost use Rattle.std.specs.Prelude.{◌≡◌, ◌-◌, [], IfOk, length, map, string_bytes, slice_index_or};
+ghost use Rattle.std.specs.Prelude.{◌≡◌, ◌-◌, [], IfOk, length, map, string_bytes, take, slice_index_or};
 ghost use Rattle.std.specs.Cow.{cow_str_bytes};
+ghost use Rattle.basic_toml_tree.specs.Trail.{path_of};
 ghost use Rattle.basic_toml_tree.specs.Clash.{header_texts, header_fault, IsFaultOf, NamesClash};
 
 use basic_toml_read::{ReadError, ReadErrorKind, Row, Section};
@@ -55,9 +56,18 @@ pub(crate) fn texts_of(
     alloc: Global,
     keys: &[Row<'_>],
     count: usize,
-) -> Result<Vec<String>, AllocError> {
+) -> Result<Vec<String>, AllocError>
+    ensures { IfOk result (λ texts. map string_bytes texts.items ≡ path_of (take count keys.now)) }
+{
+    all_texts(alloc, &keys[..count.min(keys.len())])
+}
+
+// The texts of keys.
+fn all_texts(alloc: Global, keys: &[Row<'_>]) -> Result<Vec<String>, AllocError>
+    ensures { IfOk result (λ texts. map string_bytes texts.items ≡ path_of keys.now) }
+{
     let mut texts = Vec::new(alloc);
-    for row in keys.iter().take(count) {
+    for row in keys {
         texts.push(String::from_str(alloc, row.key.as_str())?)?;
     }
     Ok(texts)

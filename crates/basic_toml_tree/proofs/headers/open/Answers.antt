@@ -10,4 +10,4 @@ returns c =
     (rows_view c.args.rows.items) c.args.level c.enter_rows.result
     (ap (λ t. (out-Table t).named) (sym c.deref-2.ensures) ∙ c.if-deref-2.false)
     (ap (λ t. (out-Table t).dotted) (sym c.deref.ensures) ∙ c.if-deref.false)
-    c.deref_mut.ensures.value c.deref_mut-2.ensures.value (omega arith) c.enter_rows.ensures
+    c.deref_mut.ensures.value c.deref_mut-2.ensures.value (omega arith) c.enter_rows.ensures.entered
