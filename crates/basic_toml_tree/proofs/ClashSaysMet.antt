@@ -1,20 +1,17 @@
 -- The clash that is answered for a row says what was met, or what stops its value.
 use Rattle.std.proofs.Common.{◌≡◌, ◌<◌, ◌≤◌, get_or, ℕ, suc, zero, ◌+◌, ◌-◌, List, [], ◌∷◌, ◌++◌, refl, sym, ap, ◌∙◌, Some, None, length}
-use Rattle.std.proofs.Common.{take, map, Vec, Global, String, string_bytes, arith, subst, rules}
+use Rattle.std.proofs.Common.{take, map, Vec, Global, String, string_bytes, arith, rules}
 use Rattle.std.specs.List.{slice_get}
 use Rattle.basic_toml_grammar.specs.Sections.{Key, KeyTexts, texts}
 use Rattle.basic_toml_grammar.specs.Trie.{Trie}
-use Rattle.basic_toml_grammar.specs.NamedClash.{first_key}
-use Rattle.basic_toml_grammar.specs.Stops.{Stop, at_row, Outcome, stops, held, held_stop}
+use Rattle.basic_toml_grammar.specs.Stops.{at_row, Outcome}
 use Rattle.basic_toml_read.specs.declared.section.Raw.{the_lemmas}
 use Rattle.basic_toml_read.specs.declared.section.Row.{Row, out-Row}
 use Rattle.basic_toml_read.specs.SectionView.{lined_of}
-use Rattle.basic_toml_tree.specs.declared.clash.Clash.{Clash}
 use Rattle.basic_toml_tree.specs.declared.clash.Clash.TheVariants as clashes
 use Rattle.basic_toml_tree.specs.declared.rows.Met.TheVariants as mets
 use Rattle.basic_toml_tree.specs.Trail.{path_of}
-use Rattle.basic_toml_tree.specs.Clash.{NamesStop, IsStop}
-use Rattle.basic_toml_tree.specs.RowStops.{line_keys, key_at, StopsAtKey, SaysMet, SaysHeld}
+use Rattle.basic_toml_tree.specs.RowStops.{line_keys, key_at, StopsAtKey, SaysMet}
 
 same_row : {p q : KeyTexts} {n m : ℕ} {t u : List ℕ} → p ≡ q → n ≡ m → t ≡ u
     → at_row p (key_at n t) ≡ at_row q (key_at m u)

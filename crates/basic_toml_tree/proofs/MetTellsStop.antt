@@ -1,7 +1,6 @@
 -- What a row meets tells what stops it, key by key.
 use Rattle.std.proofs.Common.{◌≡◌, ℕ, suc, ◌+◌, Bool, true, false, ◌||◌, List, [], ◌∷◌, ◌++◌, refl, sym, ap, ◌∙◌}
 use Rattle.std.proofs.Common.{Option, Some, None, length, take, map, Box, Vec, Global, subst, arith}
-use Rattle.std.proofs.lemmas.List.{map-append}
 use Rattle.std.proofs.Common.{cond}
 use Rattle.std.specs.Option.{option_or}
 use Rattle.std.specs.List.{slice_get}
@@ -10,13 +9,12 @@ use Rattle.basic_toml_grammar.specs.Sections.{Key, KeyTexts, texts}
 use Rattle.basic_toml_grammar.specs.Steps as steps
 use Rattle.basic_toml_grammar.specs.Marks.{dotted, valued}
 use Rattle.basic_toml_grammar.specs.Standing as standings
-use Rattle.basic_toml_grammar.specs.Trie.{Trie, trie, Tries, no_tries, nothing, find, below, mark_here}
+use Rattle.basic_toml_grammar.specs.Trie.{Trie, trie, Tries, no_tries, nothing, below, mark_here}
 use Rattle.basic_toml_grammar.specs.Stops.{Stop, at_row, last_stop, Outcome, goes_on, stops, and_on}
 use Rattle.basic_toml_grammar.specs.TrieStops.{try_here, try_step, try_put_row}
 use Rattle.basic_toml_grammar.proofs.StopsByPath.{path_here, path_stop}
-use Rattle.basic_toml_grammar.proofs.WhatIsPutGoesOn.{goes, left_of, left_here}
+use Rattle.basic_toml_grammar.proofs.WhatIsPutGoesOn.{goes, left_here}
 use Rattle.basic_toml_read.specs.declared.section.Row.{Row}
-use Rattle.basic_toml_read.specs.SectionView.{lined_of}
 use Rattle.basic_toml_tree.specs.declared.item.Item as items
 use Rattle.basic_toml_tree.specs.declared.item.Child.{Child, out-Child}
 use Rattle.basic_toml_tree.specs.declared.item.Item.TheOpen.{Table-F}

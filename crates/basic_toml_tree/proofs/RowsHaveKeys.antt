@@ -5,7 +5,7 @@ use Rattle.std.specs.Prelude.{⊤, ◌&&◌}
 use Rattle.std.specs.Cow.{cow_str_bytes}
 use Rattle.basic_toml_grammar.specs.Sections.{Key, Elements, Rows, no_rows, row}
 use Rattle.basic_toml_grammar.specs.Sections as sections
-use Rattle.basic_toml_read.specs.declared.section.Raw.{Raw, ind-Raw, map-Raw, roll-Raw, the_lemmas}
+use Rattle.basic_toml_read.specs.declared.section.Raw.{Raw, map-Raw, roll-Raw, the_lemmas}
 use Rattle.basic_toml_read.specs.declared.section.Raw.TheOpen.{Raw-F, Element-F, Row-F}
 use Rattle.basic_toml_read.specs.declared.section.Element.{Element, roll-Element, ind-Element}
 use Rattle.basic_toml_read.specs.declared.section.Row.{Row, ind-Row, roll-Row}

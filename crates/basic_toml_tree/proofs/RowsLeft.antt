@@ -1,6 +1,6 @@
 -- Rows that are left, and what all rows come to.
 use Rattle.std.proofs.Common.{◌≡◌, ◌≤◌, ◌<◌, ℕ, Bool, true, false, ◌||◌, ◌&&◌, inl, inr, not, List, [], ◌∷◌, ◌++◌}
-use Rattle.std.proofs.Common.{length, map, Option, Some, None, is_some, subst, refl, sym, ap, ◌∙◌, arith}
+use Rattle.std.proofs.Common.{length, Option, Some, None, is_some, subst, refl, sym, ap, ◌∙◌, arith}
 use Rattle.std.proofs.lemmas.List.{map-append}
 use Rattle.basic_toml_value.specs.Nesting.{nesting_limit}
 use Rattle.basic_toml_grammar.specs.Sections.{Key, texts, Raw, Rows, no_rows, row}

@@ -1,10 +1,10 @@
 -- Which stop the clash of a row is, and what the last key or another one meets.
-use Rattle.std.specs.Prelude.{◌≡◌, ⊤, ℕ, suc, List, [], ◌∷◌, ◌++◌, Option, Some, Result, Ok, Err, map, length, take}
+use Rattle.std.specs.Prelude.{◌≡◌, ⊤, ℕ, suc, List, [], ◌∷◌, ◌++◌, map, length, take}
 use Rattle.basic_toml_value.specs.Data.{Data}
-use Rattle.basic_toml_grammar.specs.Sections.{Key, KeyTexts, texts, Raw}
+use Rattle.basic_toml_grammar.specs.Sections.{Key, KeyTexts, texts}
 use Rattle.basic_toml_grammar.specs.Marks.{dotted, valued}
 use Rattle.basic_toml_grammar.specs.Trie.{Trie}
-use Rattle.basic_toml_grammar.specs.Stops.{Stop, at_row, last_stop, Outcome, stops, and_on, held}
+use Rattle.basic_toml_grammar.specs.Stops.{at_row, last_stop, Outcome, stops, and_on, held}
 use Rattle.basic_toml_grammar.specs.TrieStops.{try_here, try_put_row}
 use Rattle.basic_toml_read.specs.declared.section.Row.{Row}
 use Rattle.basic_toml_read.specs.SectionView.{lined_of}

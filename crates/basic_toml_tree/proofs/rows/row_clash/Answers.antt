@@ -14,7 +14,9 @@ returns-in_ok-key-in-Some-clause-named c =
     (clashes.Row path key c.in-Some.row.now.offset)) (sym c.in-Header.is)
     (key_said c.args.keys.now c.args.offset c.args.last.now c.in-Header.left c.saturating_sub-number.result
     c.saturating_sub-number.ensures path key c.in_ok-path-in-Header.ensures c.in-Some.row.now
-    c.in-Some.row.now.offset (row_offset c.in-Some.row.now) (row_at c.args.keys.now c.saturating_sub-number.result c.in-Some.row.now c.in-Some.ensures.lookup.3.0 c.in-Some.ensures.lookup.1)
+    c.in-Some.row.now.offset (row_offset c.in-Some.row.now)
+    (row_at c.args.keys.now c.saturating_sub-number.result c.in-Some.row.now c.in-Some.ensures.lookup.3.0
+    c.in-Some.ensures.lookup.1)
     (c.in_ok-key-in-Some.ensures.ok ∙ c.as_str.ensures.value ∙ sym (row_key c.in-Some.row.now)))
 
 pub returns-in_ok-key-in-None-clause-named : goal.returns-in_ok-key-in-None-clause-named
@@ -24,5 +26,6 @@ returns-in_ok-key-in-None-clause-named c =
     subst (λ (met : Met). SaysMet (line_keys c.args.keys.now) (key_at c.args.offset c.args.last.now) met
     (clashes.Row path key c.args.offset)) (sym c.in-Header.is)
     (last_said c.args.keys.now c.args.offset c.args.last.now c.in-Header.left c.saturating_sub-number.result
-    c.saturating_sub-number.ensures path key c.in_ok-path-in-Header.ensures (none_at c.args.keys.now c.saturating_sub-number.result c.in-None.ensures.lookup.3)
+    c.saturating_sub-number.ensures path key c.in_ok-path-in-Header.ensures
+    (none_at c.args.keys.now c.saturating_sub-number.result c.in-None.ensures.lookup.3)
     c.in_ok-key-in-None.ensures.ok)
