@@ -67,4 +67,5 @@ pub mod RowsInATrie
 pub mod StepsArePaths
 pub mod StopsByPath
 pub mod TrieStopsAreNamed
+pub mod WhatIsPutGoesOn
 pub mod LawsHold

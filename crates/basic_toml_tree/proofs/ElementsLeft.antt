@@ -1,6 +1,6 @@
 -- Elements that are left, and what all elements of an array come to.
 use Rattle.std.proofs.Common.{◌≡◌, ◌≤◌, ◌<◌, ℕ, ◌||◌, List, []}
-use Rattle.std.proofs.Common.{◌∷◌, ◌++◌, map, Some, refl, sym, ap, ◌∙◌, arith, rules, subst}
+use Rattle.std.proofs.Common.{◌∷◌, ◌++◌, map, Some, None, refl, sym, ap, ◌∙◌, arith, rules, subst}
 use Rattle.std.proofs.lemmas.List.{map-append}
 use Rattle.basic_toml_value.specs.Data.{Data, Items, no_items, item, items_of}
 use Rattle.basic_toml_value.specs.Nesting.{nesting_limit}
@@ -15,6 +15,13 @@ use Rattle.basic_toml_read.specs.declared.section.Element as elements
 use Rattle.basic_toml_tree.specs.declared.item.Child.{Child}
 use Rattle.basic_toml_tree.specs.Item.{tree_data, child_trie}
 use Rattle.basic_toml_tree.specs.Rows.{IsFinished, AreFinished}
+use Rattle.basic_toml_grammar.specs.Stops.{and_on}
+use Rattle.basic_toml_grammar.specs.TrieStops.{try_put_value, try_put_elements}
+use Rattle.basic_toml_grammar.proofs.WhatIsPutGoesOn.{value_goes}
+use Rattle.basic_toml_tree.specs.declared.clash.Clash.{Clash}
+use Rattle.basic_toml_tree.specs.Clash.{NamesStop}
+use Rattle.basic_toml_tree.proofs.RowsHaveKeys.{kept, every_element}
+use Rattle.basic_toml_tree.proofs.RowsLeft.{stopped_then}
 
 -- data before that of elements
 abbrev pub before_items : List Data → Items → Items
@@ -25,6 +32,7 @@ before_items (d ∷ front) ds = item d (before_items front ds)
 pub record ElementsAreLeft (whole : Elements) (level : ℕ) (ts : List Trie) (rest : Elements) : Type 0 where
   pub values : before_items (map tree_data ts) (finished_elements rest) ≡ finished_elements whole
   pub clash : elements_clash whole ≡ elements_clash rest
+  pub tried : try_put_elements whole ≡ try_put_elements rest
   pub fits : elements_level level rest ≤ nesting_limit → elements_level level whole ≤ nesting_limit
   pub deep : nesting_limit < elements_level level rest → nesting_limit < elements_level level whole
 
@@ -64,6 +72,8 @@ element_entered whole level children child e rest v some left done =
           ∙ one_more (map tree_data (map child_trie children)) (finished v) (finished_elements others)
           ∙ was.values;
       clash = was.clash ∙ ap (λ b. b || elements_clash others) done.apart;
+      tried = was.tried ∙ ap (λ o. and_on o (λ _. try_put_elements others))
+          (value_goes v (sym (ap kept (element_value e ∙ some)) ∙ every_element e) done.apart).1;
       fits = λ f. was.fits (omega arith);
       deep = λ d. was.deep (omega arith);
     }
@@ -80,3 +90,19 @@ elements_done whole level ts left = record {
     all_before : (ds : List Data) → before_items ds no_items ≡ items_of ds
     all_before [] = refl
     all_before (d ∷ ds) = ap (λ is. item d is) (all_before ds)
+
+-- what stops the next element stops all
+pub element_stopped : (whole : Elements) (level : ℕ) (ts : List Trie) (e : elements.Element)
+    (rest : List elements.Element) (v : Raw) (clash : Clash) → raw_of (elements.out-Element e).value ≡ Some v
+    → ElementsAreLeft whole level ts (elements_view (e ∷ rest)) → NamesStop (try_put_value v) clash
+    → NamesStop (try_put_elements whole) clash
+element_stopped whole level ts e rest v clash some left named =
+    stopped_then (try_put_value v) (try_put_elements whole) (λ _. try_put_elements (elements_view rest)) clash
+    (left.tried ∙ ap (λ es. try_put_elements es) (element_seen e rest v some)) named
+
+-- what only stands for a period is none
+pub element_skipped : (e : elements.Element) (rest : List elements.Element) → raw_of (elements.out-Element e).value
+    ≡ None
+    → elements_view (e ∷ rest) ≡ elements_view rest
+element_skipped e rest none =
+    ap (λ v. with_element (placed_of e).offset v (elements_view rest)) (element_value e ∙ none)

@@ -19,6 +19,12 @@ use Rattle.basic_toml_tree.specs.Item.{leaf, tree_data, item_trie, table_trie}
 use Rattle.basic_toml_tree.specs.Rows.{AreIn, AreKeptOut, Reason, memory, deep, crossed, reason}
 use Rattle.basic_toml_tree.specs.Rows.{IsFinished, IsUnfinished}
 use Rattle.basic_toml_tree.proofs.Reasons.{KeptFor, for_kept, UnfinishedFor, unfinished_for}
+use Rattle.basic_toml_grammar.specs.Trie.{nothing}
+use Rattle.basic_toml_grammar.specs.Stops.{Stop, stops}
+use Rattle.basic_toml_grammar.specs.TrieStops.{try_put_rows, try_put_value}
+use Rattle.basic_toml_grammar.proofs.WhatIsPutGoesOn.{rows_aside}
+use Rattle.basic_toml_tree.specs.declared.clash.Clash.TheVariants as clashes
+use Rattle.basic_toml_tree.specs.Clash.{NamesStop}
 use Rattle.basic_toml_tree.proofs.RowsLeft.{rows_are_keyed}
 
 same_some : {A : Type 0} {a b : A} → Some a ≡ Some b → a ≡ b
@@ -69,3 +75,24 @@ inline_kept_out rs s before level v clash seen empty kept =
     go crossed (inr none) =
         refused_clash (rows_view rs.items) s (rows_are_keyed rs.items)
         (ap (λ t. put_rows (rows_view rs.items) t) (sym empty) ∙ none) (rows_clash (rows_view rs.items)) refl
+
+-- what stops the rows of an empty table stops those of an inline table
+pub inline_stopped : (rs : Vec lines.Row Global) (s : Option standings.Standing) (before : Trie) (v : Raw)
+    (clash : Clash) → raw_of (raws.Inline rs) ≡ Some v → before ≡ trie s None no_tries
+    → NamesStop (try_put_rows (rows_view rs.items) before) clash → NamesStop (try_put_value v) clash
+inline_stopped rs s before v clash seen empty named =
+    subst (λ (v : Raw). NamesStop (try_put_value v) clash) (same_some (sym (inline_of rs) ∙ seen))
+    (go clash (subst (λ (t : Trie). NamesStop (try_put_rows (rows_view rs.items) t) clash) empty named))
+  where
+    aside : (x : Stop) → try_put_rows (rows_view rs.items) (trie s None no_tries) ≡ stops x
+        → try_put_rows (rows_view rs.items) nothing ≡ stops x
+    aside x stop = rows_aside (rows_view rs.items) s None None None no_tries x (rows_are_keyed rs.items) stop
+
+    go : (clash : Clash) → NamesStop (try_put_rows (rows_view rs.items) (trie s None no_tries)) clash
+        → NamesStop (try_put_rows (rows_view rs.items) nothing) clash
+    go clashes.Memory named = tt
+    go clashes.Deep named = tt
+    go (clashes.Header left) named = (named.0, (named.1.0, aside named.0 named.1.1))
+    go clashes.Named named = (named.0, (named.1.0, aside named.0 named.1.1))
+    go clashes.Redefined named = (named.0, (named.1.0, aside named.0 named.1.1))
+    go (clashes.Row path key offset) named = (named.0, (named.1.0, aside named.0 named.1.1))

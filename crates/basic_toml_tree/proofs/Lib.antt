@@ -10,6 +10,8 @@ pub mod KeysInATrie
 pub mod KeysSeen
 pub mod NodesInOrder
 pub mod RowsEntered
+pub mod MetTellsStop
+pub mod ClashSaysMet
 pub mod Reasons
 pub mod RowsLeft
 pub mod RowValues

@@ -18,7 +18,13 @@ use Rattle.basic_toml_tree.specs.Rows.{AreIn, AreKeptOut, is_dot, all_dots, key_
 use Rattle.basic_toml_tree.specs.Rows.{reason}
 use Rattle.basic_toml_tree.specs.Rows.{met_reason, Enters, IsFinished, IsUnfinished}
 use Rattle.basic_toml_tree.proofs.Reasons.{KeptFor, kept_for, UnfinishedFor, for_unfinished, kept_for_met}
-use Rattle.basic_toml_tree.proofs.RowsLeft.{line_keys, line_texts, line_view, has_value, clash_alone, then_same}
+use Rattle.basic_toml_grammar.specs.Stops.{goes_on, and_on, held}
+use Rattle.basic_toml_grammar.specs.TrieStops.{try_put_row, try_put_rows, try_put_value}
+use Rattle.basic_toml_grammar.proofs.WhatIsPutGoesOn.{value_goes}
+use Rattle.basic_toml_tree.specs.Clash.{NamesStop}
+use Rattle.basic_toml_tree.specs.RowStops.{line_keys, key_at, TellsRow, SaysMet, SaysHeld}
+use Rattle.basic_toml_tree.proofs.RowsHaveKeys.{kept, every_row}
+use Rattle.basic_toml_tree.proofs.RowsLeft.{line_texts, line_view, has_value, clash_alone, then_same, stopped_then}
 
 kept_by_value : (ks : List Key) (at : ℕ) (v : Raw) (level last : ℕ) (before : Trie) (why : Reason)
     → last ≡ level + length ks - 1 → UnfinishedFor v last why → KeptFor (row ks at v no_rows) level before why
@@ -28,6 +34,9 @@ kept_by_value ks at v level last before deep is_last u =
     subst (λ (l : ℕ). nesting_limit < value_level l v) is_last u in
     omega arith
 kept_by_value ks at v level last before crossed is_last u = inl (clash_alone ks at v ∙ u)
+
+same_key : {n m : ℕ} {t u : List ℕ} → n ≡ m → t ≡ u → key_at n t ≡ key_at m u
+same_key a b = cc
 
 -- the value of a row
 pub row_value : (r : lines.Row) → (lined_of r).value ≡ raw_of (lines.out-Row r).value
@@ -70,6 +79,35 @@ module _ (keys : List lines.Row) (r : lines.Row) (level : ℕ) (before : Trie) (
       (subst (λ (rs : Rows). KeptFor rs level before (reason clash)) (sym one)
       (kept_by_value ks (lined_of r).start w.0 level (level + length keys) before (reason clash) last_level
       (for_unfinished w.0 (level + length keys) clash (unfinished w.0 seen)))))
+
+  -- what stops its value stops it
+  pub value_stopped : (clash outer : Clash) → SaysHeld ks clash outer
+      → ((v : Raw) → raw_of (lines.out-Row r).value ≡ Some v → NamesStop (try_put_value v) clash)
+      → NamesStop (try_put_rows (rows_view (keys ++ r ∷ [])) before) outer
+  value_stopped clash outer says named =
+      stopped_then (held ks (try_put_value w.0)) (try_put_rows (rows_view (keys ++ r ∷ [])) before)
+      (λ _. and_on (try_put_row [] ks (finished w.0) before) (λ t. goes_on t)) outer
+      (ap (λ rs. try_put_rows rs before) one) (says (try_put_value w.0) (named w.0 seen))
+
+  -- and what is met
+  pub met_stopped : (child : Trie) (met : Met) (clash : Clash) (a b : List ℕ) (offset : ℕ)
+      → a ≡ (lined_of r).key.text → b ≡ (lined_of r).key.text → offset ≡ (lined_of r).key.offset
+      → SaysMet (line_keys keys) (key_at offset b) met clash
+      → ((v : Raw) → raw_of (lines.out-Row r).value ≡ Some v → IsFinished v (level + length keys) child)
+      → ((d : Data) → child ≡ leaf d → TellsRow (line_keys keys) a d before met)
+      → NamesStop (try_put_rows (rows_view (keys ++ r ∷ [])) before) clash
+  met_stopped child met clash a b offset is_a is_b is_offset says done tells =
+      let f = done w.0 seen in
+      let g = value_goes w.0 (sym (ap kept w.1) ∙ every_row r) f.apart in
+      let k : key_at offset b ≡ (lined_of r).key = same_key is_offset is_b in
+      let told = subst (λ (l : List ℕ). TellsRow (line_keys keys) l (finished w.0) before met) is_a
+      (tells (finished w.0) f.value) in
+      stopped_then (try_put_row [] ks (finished w.0) before) (try_put_rows (rows_view (keys ++ r ∷ [])) before)
+      (λ t. goes_on t) clash
+      (ap (λ rs. try_put_rows rs before) one
+      ∙ ap (λ o. and_on (held ks o) (λ _. and_on (try_put_row [] ks (finished w.0) before) (λ t. goes_on t))) g.1)
+      (subst (λ (k : Key). SaysMet (line_keys keys) k met clash) k says
+      (try_put_row [] ks (finished w.0) before) (told [] (lined_of r).key.offset))
 
   module _ (texts_are : KeyTexts) (is_texts : texts_are ≡ key_texts keys ++ (lined_of r).key.text ∷ []) where
     same_texts : texts ks ≡ texts_are

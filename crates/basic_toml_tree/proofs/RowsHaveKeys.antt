@@ -5,9 +5,9 @@ use Rattle.std.specs.Prelude.{⊤, ◌&&◌}
 use Rattle.std.specs.Cow.{cow_str_bytes}
 use Rattle.basic_toml_grammar.specs.Sections.{Key, Elements, Rows, no_rows, row}
 use Rattle.basic_toml_grammar.specs.Sections as sections
-use Rattle.basic_toml_read.specs.declared.section.Raw.{Raw, ind-Raw, map-Raw, roll-Raw, the_lemmas}
+use Rattle.basic_toml_read.specs.declared.section.Raw.{Raw, map-Raw, roll-Raw, the_lemmas}
 use Rattle.basic_toml_read.specs.declared.section.Raw.TheOpen.{Raw-F, Element-F, Row-F}
-use Rattle.basic_toml_read.specs.declared.section.Element.{Element, roll-Element}
+use Rattle.basic_toml_read.specs.declared.section.Element.{Element, roll-Element, ind-Element}
 use Rattle.basic_toml_read.specs.declared.section.Row.{Row, ind-Row, roll-Row}
 use Rattle.basic_toml_read.specs.declared.section.Section as code
 use Rattle.basic_toml_read.specs.SectionView.{raw_of, placed_of, lined_of, elements_from, rows_from, with_element}
@@ -15,17 +15,17 @@ use Rattle.basic_toml_read.specs.SectionView.{with_row, rows_view, section_of}
 use Rattle.basic_toml_grammar.specs.Entering.{has_key, keyed_within, value_keyed, elements_keyed, all_keyed_within}
 
 -- a value, where there is one, has keys at every depth
-abbrev kept : Option sections.Raw → Bool
+abbrev pub kept : Option sections.Raw → Bool
 kept None = true
 kept (Some v) = value_keyed v
 
-abbrev OfRaw : Raw → Type 0
+abbrev pub OfRaw : Raw → Type 0
 OfRaw v = kept (raw_of v) ≡ true
 
-abbrev OfElement : Element → Type 0
+abbrev pub OfElement : Element → Type 0
 OfElement e = kept (placed_of e).value ≡ true
 
-abbrev OfRow : Row → Type 0
+abbrev pub OfRow : Row → Type 0
 OfRow r = kept (lined_of r).value ≡ true
 
 one_more_element : (p : ℕ) (o : Option sections.Raw) (es : Elements) → kept o ≡ true → elements_keyed es ≡ true
@@ -110,13 +110,19 @@ parts_kept (Raw-F.String text) = tt
 parts_kept (Raw-F.Array es) = elements_kept es.items
 parts_kept (Raw-F.Inline rs) = rows_kept rs.items
 
-every_row : (r : Row) → OfRow r
+pub every_row : (r : Row) → OfRow r
 every_row =
     ind-Row OfRaw OfElement OfRow (λ x y is. raw_kept x (subst Parts is (parts_kept y)))
     (λ x y is. element_kept x (subst (λ z. OfRaw z.value) is y.value.1))
     (λ x y is. row_kept x (subst (λ z. OfRaw z.value) is y.value.1))
 
-rows_have_keys : (rs : List Row) → keyed_within (rows_view rs) ≡ true
+pub every_element : (e : Element) → OfElement e
+every_element =
+    ind-Element OfRaw OfElement OfRow (λ x y is. raw_kept x (subst Parts is (parts_kept y)))
+    (λ x y is. element_kept x (subst (λ z. OfRaw z.value) is y.value.1))
+    (λ x y is. row_kept x (subst (λ z. OfRaw z.value) is y.value.1))
+
+pub rows_have_keys : (rs : List Row) → keyed_within (rows_view rs) ≡ true
 rows_have_keys [] = refl
 rows_have_keys (r ∷ rs) =
     one_more_row (lined_of r).key (lined_of r).start (lined_of r).value (rows_view rs) (every_row r) (rows_have_keys rs)

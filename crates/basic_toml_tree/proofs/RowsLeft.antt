@@ -1,6 +1,6 @@
 -- Rows that are left, and what all rows come to.
 use Rattle.std.proofs.Common.{◌≡◌, ◌≤◌, ◌<◌, ℕ, Bool, true, false, ◌||◌, ◌&&◌, inl, inr, not, List, [], ◌∷◌, ◌++◌}
-use Rattle.std.proofs.Common.{length, map, Option, Some, None, is_some, subst, refl, sym, ap, ◌∙◌, arith}
+use Rattle.std.proofs.Common.{length, Option, Some, None, is_some, subst, refl, sym, ap, ◌∙◌, arith}
 use Rattle.std.proofs.lemmas.List.{map-append}
 use Rattle.basic_toml_value.specs.Nesting.{nesting_limit}
 use Rattle.basic_toml_grammar.specs.Sections.{Key, texts, Raw, Rows, no_rows, row}
@@ -15,6 +15,13 @@ use Rattle.basic_toml_read.specs.SectionView.{lined_of, rows_view, with_key, wit
 use Rattle.basic_toml_read.specs.declared.section.Row as lines
 use Rattle.basic_toml_tree.specs.Rows.{AreIn, AreKeptOut, is_dot, all_dots, key_texts, Reason, memory, deep, crossed}
 use Rattle.basic_toml_tree.specs.Rows.{reason}
+use Rattle.basic_toml_grammar.specs.Stops.{Outcome, goes_on, stops, and_on, held}
+use Rattle.basic_toml_grammar.specs.TrieStops.{try_put_row, try_put_rows, try_put_value}
+use Rattle.basic_toml_grammar.proofs.WhatIsPutGoesOn.{rows_go}
+use Rattle.basic_toml_tree.specs.Clash.{NamesStop}
+use Rattle.basic_toml_tree.proofs.RowsHaveKeys.{rows_have_keys}
+use Rattle.basic_toml_tree.specs.declared.clash.Clash.TheVariants.{Memory, Deep, Header, Named, Redefined, Row}
+use Rattle.basic_toml_tree.specs.RowStops.{line_keys}
 use Rattle.basic_toml_tree.specs.declared.clash.Clash.{Clash}
 use Rattle.basic_toml_tree.proofs.Reasons.{KeptFor, kept_for, for_kept}
 
@@ -23,14 +30,11 @@ use Rattle.basic_toml_tree.proofs.Reasons.{KeptFor, kept_for, for_kept}
 pub record AreLeft (whole : Rows) (level : ℕ) (before : Trie) (keys rest : List lines.Row) (now : Trie) : Type 0 where
   pub dots : all_dots keys ≡ true
   pub put : put_rows whole before ≡ put_rows (rows_view (keys ++ rest)) now
+  pub tried : try_put_rows whole before ≡ try_put_rows (rows_view (keys ++ rest)) now
   pub clash : rows_clash (rows_view (keys ++ rest)) ≡ true → rows_clash whole ≡ true
   pub values : values_clash whole ≡ values_clash (rows_view (keys ++ rest))
   pub fits : rows_level level (rows_view (keys ++ rest)) ≤ nesting_limit → rows_level level whole ≤ nesting_limit
   pub deep : nesting_limit < rows_level level (rows_view (keys ++ rest)) → nesting_limit < rows_level level whole
-
--- the keys of rows, each with its offset
-abbrev pub line_keys : List lines.Row → List Key
-line_keys rows = map (λ r. (lined_of r).key) rows
 
 key_texts-line : (rows : List lines.Row) → texts (line_keys rows) ≡ key_texts rows
 key_texts-line [] = refl
@@ -93,6 +97,7 @@ pub all_left : (rows : List lines.Row) (level : ℕ) (before : Trie)
 all_left rows level before = record {
   dots = refl;
   put = refl;
+  tried = refl;
   clash = λ c. c;
   values = refl;
   fits = λ f. f;
@@ -165,6 +170,33 @@ pub then_same : {A : Type 0} (o : Option A) → and_then o (λ x. Some x) ≡ o
 then_same None = refl
 then_same (Some x) = refl
 
+-- a row that is tried, and those after it
+one_then : (ks : List Key) (at : ℕ) (v : Raw) (rows : Rows) (t : Trie)
+    → try_put_rows (row ks at v rows) t
+    ≡ and_on (try_put_rows (row ks at v no_rows) t) (λ t. try_put_rows rows t)
+one_then ks at v rows t = go (held ks (try_put_value v))
+  where
+    again : (o : Outcome Trie) → and_on o (λ t. try_put_rows rows t)
+        ≡ and_on (and_on o (λ t. goes_on t)) (λ t. try_put_rows rows t)
+    again (stops x) = refl
+    again (goes_on u) = refl
+
+    go : (o : Outcome Trie)
+        → and_on o (λ _. and_on (try_put_row [] ks (finished v) t) (λ t. try_put_rows rows t))
+        ≡ and_on (and_on o (λ _. and_on (try_put_row [] ks (finished v) t) (λ t. goes_on t)))
+        (λ t. try_put_rows rows t)
+    go (stops x) = refl
+    go (goes_on u) = again (try_put_row [] ks (finished v) t)
+
+pub stopped_then : {A : Type 0} (o : Outcome A) (p : Outcome Trie) (f : A → Outcome Trie) (clash : Clash) → p ≡ and_on o f
+    → NamesStop o clash → NamesStop p clash
+stopped_then o p f Memory is named = tt
+stopped_then o p f Deep is named = tt
+stopped_then o p f (Header left) is named = (named.0, (named.1.0, is ∙ ap (λ o. and_on o f) named.1.1))
+stopped_then o p f Named is named = (named.0, (named.1.0, is ∙ ap (λ o. and_on o f) named.1.1))
+stopped_then o p f Redefined is named = (named.0, (named.1.0, is ∙ ap (λ o. and_on o f) named.1.1))
+stopped_then o p f (Row path key offset) is named = (named.0, (named.1.0, is ∙ ap (λ o. and_on o f) named.1.1))
+
 module _ (whole : Rows) (level : ℕ) (before : Trie) (keys : List lines.Row) (r : lines.Row) (rest : List lines.Row)
     (now : Trie)
     (left : AreLeft whole level before keys (r ∷ rest) now) (valued : is_dot r ≡ false) where
@@ -182,7 +214,13 @@ module _ (whole : Rows) (level : ℕ) (before : Trie) (keys : List lines.Row) (r
       sym (then_same (put_row (texts ks) (finished w.0) now)) ∙ ap (λ rs. put_rows rs now) (sym one) ∙ entered.put in
       let free : value_clashes w.0 ≡ false = sym (clash_alone ks at w.0) ∙ ap rows_clash (sym one) ∙ entered.apart in
       let low = subst (λ (rs : Rows). rows_level level rs ≤ nesting_limit) one entered.fits in
+      let gone : try_put_rows (rows_view (keys ++ r ∷ [])) now ≡ goes_on after =
+      rows_go (rows_view (keys ++ r ∷ [])) now after (rows_have_keys (keys ++ r ∷ [])) entered.apart entered.put in
       record {
+        tried = left.tried ∙ ap (λ rs. try_put_rows rs now) all
+            ∙ one_then ks at w.0 (rows_view rest) now
+            ∙ ap (λ o. and_on o (λ t. try_put_rows (rows_view rest) t))
+            (ap (λ rs. try_put_rows rs now) (sym one) ∙ gone);
         dots = refl;
         put = left.put ∙ ap (λ rs. put_rows rs now) all ∙ ap (λ o. and_then o (λ t. put_rows (rows_view rest) t))
             is_put;
@@ -230,3 +268,18 @@ module _ (whole : Rows) (level : ℕ) (before : Trie) (keys : List lines.Row) (r
           ∙ clash_more ks (lined_of r).start w.0 (rows_view rest) (sym (clash_alone ks (lined_of r).start w.0)
           ∙ ap rows_clash (sym one) ∙ c)))
       go crossed (inr none) = inr (left.put ∙ refused none)
+
+  -- and what stops it stops all rows
+  pub row_stopped : (clash : Clash) → NamesStop (try_put_rows (rows_view (keys ++ r ∷ [])) now) clash
+      → NamesStop (try_put_rows whole before) clash
+  row_stopped clash named =
+      let w = has_value (lined_of r).value valued in
+      let ks = line_keys keys ++ (lined_of r).key ∷ [] in
+      let at = (lined_of r).start in
+      stopped_then (try_put_rows (rows_view (keys ++ r ∷ [])) now) (try_put_rows whole before)
+      (λ t. try_put_rows (rows_view rest) t) clash
+      (left.tried ∙ ap (λ rs. try_put_rows rs now) (line_view keys r rest w.0 left.dots w.1)
+      ∙ one_then ks at w.0 (rows_view rest) now
+      ∙ ap (λ rs. and_on (try_put_rows rs now) (λ t. try_put_rows (rows_view rest) t))
+      (sym (line_view keys r [] w.0 left.dots w.1)))
+      named

@@ -3,6 +3,7 @@ pub mod Item
 pub mod Data
 pub mod Nodes
 pub mod Rows
+pub mod RowStops
 pub mod Headers
 pub mod Clash
 pub mod Trail

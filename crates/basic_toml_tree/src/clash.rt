@@ -1,12 +1,13 @@
 //! Why a section is not entered, and the error that names it.
 
-ghost use Rattle.std.specs.Prelude.{◌≡◌, [], IfOk, map, string_bytes, slice_index_or};
+ghost use Rattle.std.specs.Prelude.{◌≡◌, [], IfOk, map, string_bytes, take, slice_index_or};
 ghost use Rattle.std.specs.Cow.{cow_str_bytes};
 ghost use Rattle.std.specs.List.{join_with_byte};
 ghost use Rattle.basic_toml_tokens.specs.Ascii.{period};
 ghost use Rattle.basic_toml_grammar.specs.NamedClash.{nth_key};
 ghost use Rattle.basic_toml_grammar.specs.Stops.{at_header, stop_fault};
 ghost use Rattle.basic_toml_read.specs.SectionView.{section_of};
+ghost use Rattle.basic_toml_tree.specs.Trail.{path_of};
 ghost use Rattle.basic_toml_tree.specs.Clash.{IsFaultOf, NamesClash};
 
 use basic_toml_read::{ReadError, ReadErrorKind, Row, Section};
@@ -60,9 +61,18 @@ pub(crate) fn texts_of(
     alloc: Global,
     keys: &[Row<'_>],
     count: usize,
-) -> Result<Vec<String>, AllocError> {
+) -> Result<Vec<String>, AllocError>
+    ensures { IfOk result (λ texts. map string_bytes texts.items ≡ path_of (take count keys.now)) }
+{
+    all_texts(alloc, &keys[..count.min(keys.len())])
+}
+
+// The texts of keys.
+fn all_texts(alloc: Global, keys: &[Row<'_>]) -> Result<Vec<String>, AllocError>
+    ensures { IfOk result (λ texts. map string_bytes texts.items ≡ path_of keys.now) }
+{
     let mut texts = Vec::new(alloc);
-    for row in keys.iter().take(count) {
+    for row in keys {
         texts.push(String::from_str(alloc, row.key.as_str())?)?;
     }
     Ok(texts)

@@ -1,8 +1,9 @@
 //! What stands at a key or a number while the tree grows, and when it is grown.
 
-ghost use Rattle.std.specs.Prelude.{◌≡◌, IfOk, Some, None, false};
+ghost use Rattle.std.specs.Prelude.{◌≡◌, ◌||◌, IfOk, Some, None, false};
 ghost use Rattle.basic_toml_grammar.specs.Standing.{table as table_standing};
 ghost use Rattle.basic_toml_grammar.specs.Trie.{trie, nothing, no_tries};
+ghost use Rattle.basic_toml_tree.specs.declared.item.Table.{out-Table};
 ghost use Rattle.basic_toml_tree.specs.Item.{item_trie, child_trie, table_trie};
 
 use crate::keyed::Keyed;
@@ -95,7 +96,9 @@ impl<'de> Table<'de> {
     }
 
     /// Whether a header names it or passes through it.
-    pub fn is_made(&self) -> bool {
+    pub fn is_made(&self) -> bool
+        ensures { result ≡ ((out-Table self.now).passed || (out-Table self.now).named) }
+    {
         self.passed || self.named
     }
 }

@@ -1,16 +1,17 @@
 //! Rows: their values, and the tables that their keys lead through.
 
-ghost use Rattle.std.specs.Prelude.{◌≡◌, ◌≤◌, [], ◌∷◌, ◌++◌, Some, None, MatchOption, IfOk, IfErr, not, is_some, true};
-ghost use Rattle.std.specs.Prelude.{false};
+ghost use Rattle.std.specs.Prelude.{◌≡◌, ◌≤◌, [], ◌∷◌, ◌++◌, Some, None, MatchOption, IfOk, IfErr, IfSome, ℕ, not, is_some, true, false};
 ghost use Rattle.basic_toml_value.specs.Data.{Data};
 ghost use Rattle.basic_toml_grammar.specs.Sections.{Raw as spec_raw};
 ghost use Rattle.basic_toml_grammar.specs.Marks.{valued};
 ghost use Rattle.basic_toml_grammar.specs.Trie.{nothing, mark_here};
-ghost use Rattle.basic_toml_grammar.specs.TrieStops.{try_put_rows};
+ghost use Rattle.basic_toml_grammar.specs.TrieStops.{try_put_rows, try_put_value, try_put_elements};
 ghost use Rattle.basic_toml_read.specs.SectionView.{raw_of, rows_view, elements_view};
-ghost use Rattle.basic_toml_tree.specs.Clash.{NamesStop};
 ghost use Rattle.basic_toml_tree.specs.Item.{leaf, child_trie, table_trie};
 ghost use Rattle.basic_toml_tree.specs.Rows.{EntersRow, EntersRows, Extends, Finishes, FinishesAll, key_texts};
+ghost use Rattle.basic_toml_tree.specs.Clash.{NamesStop};
+ghost use Rattle.basic_toml_tree.specs.RowStops.{line_keys, key_at, TellsLast, TellsRow, TellsExtended, SaysMet};
+ghost use Rattle.basic_toml_tree.specs.RowStops.{SaysHeld};
 ghost use Rattle.basic_toml_tree.specs.Rows.{all_dots, is_dot, reason, met_reason};
 
 use crate::clash::{Clash, texts_of};
@@ -51,9 +52,10 @@ impl<T: Drop> From<AllocFailed<T>> for Met {
 }
 
 // What the last key of a row meets, where something stands.
-fn what_is_met(there: &Child<'_>, section: usize) -> Option<Met>
-    ensures { MatchOption result (child_trie there.now ≡ nothing)
+fn what_is_met(there: &Child<'_>) -> Option<Met>
+    ensures stands { MatchOption result (child_trie there.now ≡ nothing)
         (λ met. (d : Data) → mark_here (valued d) (child_trie there.now) ≡ None) }
+    ensures named { IfSome result (λ met. TellsLast (child_trie there.now) met) }
 {
     match &there.item {
         Item::Nothing => None,
@@ -63,11 +65,7 @@ fn what_is_met(there: &Child<'_>, section: usize) -> Option<Met>
             Met::Row
         }),
         Item::Tables(_, _) => Some(Met::Header(1)),
-        _ => Some(if there.section == section {
-            Met::Row
-        } else {
-            Met::Header(1)
-        }),
+        _ => Some(Met::Row),
     }
 }
 
@@ -80,13 +78,15 @@ fn enter_row<'de>(
     last: &str,
     child: Child<'de>,
 ) -> Result<Box<Table<'de>>, Met>
-    ensures { (d : Data) → child_trie child.entry ≡ leaf d
+    ensures entered { (d : Data) → child_trie child.entry ≡ leaf d
         → EntersRow (key_texts keys.entry.now ++ last.entry.now ∷ []) d (table_trie table.entry.value) result }
+    ensures named { IfErr result (λ met. (d : Data) → child_trie child.entry ≡ leaf d
+        → TellsRow (line_keys keys.entry.now) last.entry.now d (table_trie table.entry.value) met) }
 {
     let mut table = table;
     let Some((row, rest)) = keys.split_first() else {
         let position = table.entries.enter(last, Child::nothing())?;
-        if let Some(met) = what_is_met(table.entries.value(position), child.section) {
+        if let Some(met) = what_is_met(table.entries.value(position)) {
             return Err(met);
         }
         table.entries.put(position, child);
@@ -108,8 +108,10 @@ fn extended<'de>(
     last: &str,
     child: Child<'de>,
 ) -> Result<Child<'de>, Met>
-    ensures { (d : Data) → child_trie child.entry ≡ leaf d
+    ensures entered { (d : Data) → child_trie child.entry ≡ leaf d
         → Extends (key_texts keys.entry.now ++ last.entry.now ∷ []) d (child_trie there.entry) result }
+    ensures named { IfErr result (λ met. (d : Data) → child_trie child.entry ≡ leaf d
+        → TellsExtended (line_keys keys.entry.now) last.entry.now d (child_trie there.entry) met) }
 {
     let Child {
         start,
@@ -154,7 +156,8 @@ fn row_clash(
     last: &str,
     offset: usize,
 ) -> Result<Clash, AllocError>
-    ensures { IfOk result (λ clash. reason clash ≡ met_reason met) }
+    ensures same { IfOk result (λ clash. reason clash ≡ met_reason met) }
+    ensures named { IfOk result (λ clash. SaysMet (line_keys keys.now) (key_at offset last.now) met clash) }
 {
     match met {
         Met::Memory => Ok(Clash::Memory),
@@ -186,7 +189,9 @@ fn row_clash(
 
 // The clash of a value as one of the row that holds it.
 fn held_by(alloc: Global, clash: Clash, keys: &[Row<'_>], last: &str) -> Result<Clash, AllocError>
-    ensures { IfOk result (λ held. reason held ≡ reason clash) }
+    ensures same { IfOk result (λ held. reason held ≡ reason clash) }
+    ensures named { (offset : ℕ)
+        → IfOk result (λ held. SaysHeld (line_keys keys.now ++ key_at offset last.now ∷ []) clash held) }
 {
     match clash {
         Clash::Row {
@@ -244,7 +249,9 @@ fn enter_value<'de>(
     requires level { level ≤ 128 }
     requires keys { all_dots keys.now ≡ true }
     requires row { is_dot row ≡ false }
-    ensures { EntersRows (rows_view (keys.entry.now ++ row.entry ∷ [])) level (table_trie table.entry.value) result }
+    ensures entered { EntersRows (rows_view (keys.entry.now ++ row.entry ∷ [])) level (table_trie table.entry.value) result }
+    ensures named { IfErr result (λ clash.
+        NamesStop (try_put_rows (rows_view (keys.entry.now ++ row.entry ∷ [])) (table_trie table.entry.value)) clash) }
 {
     if keys.len() > LIMIT - level {
         return Err(Clash::Deep);
@@ -281,7 +288,9 @@ fn finished<'de>(
     level: usize,
 ) -> Result<Child<'de>, Clash>
     requires { level ≤ 128 }
-    ensures { (v : spec_raw) → raw_of value.entry ≡ Some v → Finishes v level result }
+    ensures finished { (v : spec_raw) → raw_of value.entry ≡ Some v → Finishes v level result }
+    ensures named { IfErr result (λ clash. (v : spec_raw) → raw_of value.entry ≡ Some v
+        → NamesStop (try_put_value v) clash) }
 {
     match value {
         Raw::Dot => Ok(Child::at(start, section, Item::Nothing)),
@@ -315,7 +324,8 @@ fn finished_elements<'de>(
     level: usize,
 ) -> Result<Vec<Child<'de>>, Clash>
     requires { level ≤ 128 }
-    ensures { FinishesAll (elements_view elements.entry.items) level result }
+    ensures finished { FinishesAll (elements_view elements.entry.items) level result }
+    ensures named { IfErr result (λ clash. NamesStop (try_put_elements (elements_view elements.entry.items)) clash) }
 {
     let mut children = Vec::with_capacity(alloc, elements.len())?;
     for element in elements.into_iter() {

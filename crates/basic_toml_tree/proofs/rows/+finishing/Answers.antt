@@ -1,4 +1,4 @@
-use Rattle.std.proofs.Common.{◌≡◌, [], ◌∷◌, ◌++◌, ap, ◌∙◌, sym, subst, arith, Some, List, length, map, Bool, false}
+use Rattle.std.proofs.Common.{◌≡◌, [], ◌∷◌, ◌++◌, ap, ◌∙◌, sym, subst, arith, Some, List, length, map, Bool, false, ℕ}
 use Rattle.std.proofs.lemmas.Result.{err_from_is_err_and}
 use Rattle.basic_toml_grammar.specs.Trie.{Trie}
 use Rattle.basic_toml_read.specs.SectionView.{rows_view, elements_view, raw_of}
@@ -10,6 +10,16 @@ use Rattle.basic_toml_tree.specs.Item.{child_trie, table_trie}
 use Rattle.basic_toml_tree.specs.Rows.{AreIn, AreKeptOut, IsFinished, AreFinished, key_texts}
 use Rattle.basic_toml_tree.proofs.RowsEntered.{boxed_trie, row_key}
 use Rattle.basic_toml_tree.proofs.RowsLeft.{AreLeft, has_value, row_entered, row_kept_out, none_left, nothing_left}
+use Rattle.basic_toml_tree.proofs.RowsLeft.{row_stopped, no_value}
+use Rattle.basic_toml_tree.proofs.RowValues.{value_stopped, met_stopped}
+use Rattle.basic_toml_tree.proofs.InlineTables.{inline_stopped}
+use Rattle.basic_toml_tree.proofs.ElementsLeft.{element_stopped, element_skipped}
+use Rattle.basic_toml_grammar.specs.Sections.{Elements}
+use Rattle.basic_toml_tree.proofs.ClashSaysMet.{row_offset}
+use Rattle.basic_toml_tree.specs.Clash.{NamesStop}
+use Rattle.basic_toml_tree.specs.RowStops.{line_keys, key_at, SaysHeld}
+use Rattle.basic_toml_read.specs.SectionView.{lined_of}
+use Rattle.basic_toml_grammar.specs.TrieStops.{try_put_rows, try_put_elements}
 use Rattle.basic_toml_tree.proofs.RowValues.{last_deep, value_kept_out, value_put, value_met}
 use Rattle.basic_toml_tree.proofs.InlineTables.{inline_finished, inline_kept_out}
 use Rattle.basic_toml_tree.proofs.ElementsLeft.{ElementsAreLeft, element_entered, elements_done}
@@ -30,7 +40,7 @@ enter_rows-returns-in_err-table-clause-entered t c =
     c.in-Some.ensures.steps.0 c.loop-row.invariant in
     let kept = subst (λ (ks : List Row). AreKeptOut (rows_view (ks ++ row ∷ [])) c.args.level now
     c.in_err-table.field-0.0)
-    c.as_slice.ensures.value c.in_err-table.ensures in
+    c.as_slice.ensures.value c.in_err-table.ensures.entered in
     rw (p.1, p.2) (subst (λ (rows : List Row). AreKeptOut (rows_view rows) c.args.level before
     c.in_err-table.field-0.0) start
     (row_kept_out (rows_view c.into_iter-row-iterator.result.rest.items) c.args.level before keys row rest now left
@@ -62,37 +72,37 @@ enter_rows-loop-row-preserved t c =
     let left = subst (λ (rows : List Row). AreLeft whole c.args.level before keys rows now) c.in-Some.ensures.steps.0
     c.loop-row.invariant in
     let entered = subst (λ (ks : List Row). AreIn (rows_view (ks ++ row ∷ [])) c.args.level now after)
-    c.as_slice.ensures.value c.in_ok-table.ensures in
+    c.as_slice.ensures.value c.in_ok-table.ensures.entered in
     subst (λ (ks : List Row). AreLeft whole c.args.level before ks rest after) (sym c.clear.ensures.items)
     (row_entered whole c.args.level before keys row rest now left (sym c.is_dot.ensures
     ∙ c.if-is_dot.false) after entered)
 
-pub enter_value-returns-then-keys-level : goal.enter_value-returns-then-keys-level
-enter_value-returns-then-keys-level t c =
+pub enter_value-returns-then-keys-level-clause-entered : goal.enter_value-returns-then-keys-level-clause-entered
+enter_value-returns-then-keys-level-clause-entered t c =
     last_deep c.args.keys.now c.args.row c.args.level (table_trie c.args.table.value) c.requires.keys c.requires.row
     (omega arith)
 
-pub enter_value-returns-in-Err : goal.enter_value-returns-in-Err
-enter_value-returns-in-Err t c =
+pub enter_value-returns-in-Err-clause-entered : goal.enter_value-returns-in-Err-clause-entered
+enter_value-returns-in-Err-clause-entered t c =
     value_kept_out c.args.keys.now c.args.row c.args.level (table_trie c.args.table.value) c.requires.keys
     c.requires.row
-    c.in-Err.clash c.in_ok-held_by-in-Err.field-0 c.in_ok-held_by-in-Err.ensures c.in-Err.ensures
+    c.in-Err.clash c.in_ok-held_by-in-Err.field-0 c.in_ok-held_by-in-Err.ensures.same c.in-Err.ensures.finished
 
-pub enter_value-returns-in-Ok-enter_row : goal.enter_value-returns-in-Ok-enter_row
-enter_value-returns-in-Ok-enter_row t c =
+pub enter_value-returns-in-Ok-enter_row-clause-entered : goal.enter_value-returns-in-Ok-enter_row-clause-entered
+enter_value-returns-in-Ok-enter_row-clause-entered t c =
     value_put c.args.keys.now c.args.row c.args.level (table_trie c.args.table.value) c.requires.keys c.requires.row
     (key_texts c.args.keys.now ++ c.as_str-in-Ok.result.now ∷ [])
     (ap (λ k. key_texts c.args.keys.now ++ k ∷ []) (c.as_str-in-Ok.ensures.value ∙ sym (row_key c.args.row)))
-    (child_trie c.in-Ok.child) (table_trie c.in-Ok-enter_row.table.value) c.in-Ok.ensures (omega arith)
-    c.in-Ok-enter_row.ensures
+    (child_trie c.in-Ok.child) (table_trie c.in-Ok-enter_row.table.value) c.in-Ok.ensures.finished (omega arith)
+    c.in-Ok-enter_row.ensures.entered
 
-pub enter_value-returns : goal.enter_value-returns
-enter_value-returns t c =
+pub enter_value-returns-clause-entered : goal.enter_value-returns-clause-entered
+enter_value-returns-clause-entered t c =
     value_met c.args.keys.now c.args.row c.args.level (table_trie c.args.table.value) c.requires.keys c.requires.row
     (key_texts c.args.keys.now ++ c.as_str-in-Ok.result.now ∷ [])
     (ap (λ k. key_texts c.args.keys.now ++ k ∷ []) (c.as_str-in-Ok.ensures.value ∙ sym (row_key c.args.row)))
     (child_trie c.in-Ok.child) boxed_trie c.in-Err-enter_row.met c.in_ok-row_clash-in-Err-enter_row.field-0
-    c.in_ok-row_clash-in-Err-enter_row.ensures c.in-Ok.ensures c.in-Err-enter_row.ensures
+    c.in_ok-row_clash-in-Err-enter_row.ensures.same c.in-Ok.ensures.finished c.in-Err-enter_row.ensures.entered
 
 pub finished_elements-loop-element-preserved : goal.finished_elements-loop-element-preserved
 finished_elements-loop-element-preserved t c =
@@ -104,13 +114,13 @@ finished_elements-loop-element-preserved t c =
     (elements_view es)) c.in-Some.ensures.steps.0 c.loop-element.invariant in
     let entered = element_entered whole c.args.level c.loop-element.children.items c.in_ok-finished.field-0
     c.in-Some.element
-    c.next.new.self.rest.items some.0 some.1 left (c.in_ok-finished.ensures some.0 some.1) in
+    c.next.new.self.rest.items some.0 some.1 left (c.in_ok-finished.ensures.finished some.0 some.1) in
     subst (λ (cs : List Child). ElementsAreLeft whole c.args.level (map child_trie cs) (elements_view
     c.next.new.self.rest.items))
     (sym c.in_ok-push.ensures.items) entered
 
-pub finished_elements-returns : goal.finished_elements-returns
-finished_elements-returns t c =
+pub finished_elements-returns-clause-finished : goal.finished_elements-returns-clause-finished
+finished_elements-returns-clause-finished t c =
     let start : c.into_iter-element-iterator.result.rest.items ≡ c.args.elements.items =
     ap (λ i. i.rest.items) c.into_iter-element-iterator.ensures.into_iter_gives
     ∙ c.into_iter-element-items.ensures.rest in
@@ -123,18 +133,98 @@ finished_elements-returns t c =
     subst (λ (es : List Element). AreFinished (elements_view es) c.args.level ts) start
     (elements_done (elements_view c.into_iter-element-iterator.result.rest.items) c.args.level ts left)
 
-pub finished-returns-in_err-table-in-Inline : goal.finished-returns-in_err-table-in-Inline
-finished-returns-in_err-table-in-Inline t c = λ v seen.
+pub finished-returns-in_err-table-in-Inline-clause-finished : goal.finished-returns-in_err-table-in-Inline-clause-finished
+finished-returns-in_err-table-in-Inline-clause-finished t c = λ v seen.
     let p = err_from_is_err_and c.from_residual-in_err-table-in-Inline.result
     c.from_residual-in_err-table-in-Inline.ensures.1 in
     rw (p.1, p.2) (inline_kept_out c.in-Inline.rows (Some (standings.table false false false))
     (table_trie c.in_ok-new-in-Inline.field-0.value) c.args.level v c.in_err-table-in-Inline.field-0.0
     (ap raw_of (sym c.in-Inline.is) ∙ seen) c.in_ok-new-in-Inline.ensures c.in_err-table-in-Inline.ensures.entered)
 
-pub finished-returns-in_ok-table-in-Inline : goal.finished-returns-in_ok-table-in-Inline
-finished-returns-in_ok-table-in-Inline t c = λ v seen.
+pub finished-returns-in_ok-table-in-Inline-clause-finished : goal.finished-returns-in_ok-table-in-Inline-clause-finished
+finished-returns-in_ok-table-in-Inline-clause-finished t c = λ v seen.
     subst (λ (u : Trie). IsFinished v c.args.level u) (sym c.at-in-Inline.ensures)
     (inline_finished c.in-Inline.rows c.in_ok-table-in-Inline.table (Some (standings.table false false false))
     (table_trie c.in_ok-new-in-Inline.field-0.value) c.args.level v (ap raw_of (sym c.in-Inline.is)
     ∙ seen) (omega arith)
     c.in_ok-new-in-Inline.ensures c.in_ok-table-in-Inline.ensures.entered)
+
+pub enter_rows-returns-in_err-table-clause-named : goal.enter_rows-returns-in_err-table-clause-named
+enter_rows-returns-in_err-table-clause-named t c =
+    let p = err_from_is_err_and c.from_residual-in_err-table.result c.from_residual-in_err-table.ensures.1 in
+    let start : c.into_iter-row-iterator.result.rest.items ≡ c.args.rows.items =
+    ap (λ i. i.rest.items) c.into_iter-row-iterator.ensures.into_iter_gives ∙ c.into_iter-row-items.ensures.rest in
+    let before = table_trie c.args.table.value in
+    let now = table_trie c.loop-row.table.value in
+    let keys = c.loop-row.keys.items in
+    let rest = c.next.new.self.rest.items in
+    let row = c.in-Some.row in
+    let clash = c.in_err-table.field-0.0 in
+    let whole = rows_view c.into_iter-row-iterator.result.rest.items in
+    let left = subst (λ (rows : List Row). AreLeft whole c.args.level before keys rows now)
+    c.in-Some.ensures.steps.0 c.loop-row.invariant in
+    let named = subst (λ (ks : List Row). NamesStop (try_put_rows (rows_view (ks ++ row ∷ [])) now) clash)
+    c.as_slice.ensures.value c.in_err-table.ensures.named in
+    rw (p.1, p.2) (subst (λ (rows : List Row). NamesStop (try_put_rows (rows_view rows) before) clash) start
+    (row_stopped whole c.args.level before keys row rest now left
+    (sym c.is_dot.ensures ∙ c.if-is_dot.false) clash named))
+
+pub enter_value-returns-in-Err-clause-named : goal.enter_value-returns-in-Err-clause-named
+enter_value-returns-in-Err-clause-named t c =
+    value_stopped c.args.keys.now c.args.row c.args.level (table_trie c.args.table.value) c.requires.keys
+    c.requires.row
+    c.in-Err.clash c.in_ok-held_by-in-Err.field-0
+    (subst (λ (l : List ℕ). SaysHeld (line_keys c.args.keys.now ++ key_at (lined_of c.args.row).key.offset l ∷ [])
+    c.in-Err.clash c.in_ok-held_by-in-Err.field-0)
+    (c.as_str.ensures.value ∙ sym (row_key c.args.row))
+    (c.in_ok-held_by-in-Err.ensures.named (lined_of c.args.row).key.offset))
+    c.in-Err.ensures.named
+
+pub enter_value-returns-clause-named : goal.enter_value-returns-clause-named
+enter_value-returns-clause-named t c =
+    met_stopped c.args.keys.now c.args.row c.args.level (table_trie c.args.table.value) c.requires.keys
+    c.requires.row
+    (child_trie c.in-Ok.child) c.in-Err-enter_row.met c.in_ok-row_clash-in-Err-enter_row.field-0
+    c.as_str-in-Ok.result.now c.as_str-in-Err-enter_row.result.now c.args.row.offset
+    (c.as_str-in-Ok.ensures.value ∙ sym (row_key c.args.row))
+    (c.as_str-in-Err-enter_row.ensures.value ∙ sym (row_key c.args.row))
+    (row_offset c.args.row)
+    c.in_ok-row_clash-in-Err-enter_row.ensures.named c.in-Ok.ensures.finished c.in-Err-enter_row.ensures.named
+
+pub finished-returns-in_err-table-in-Inline-clause-named : goal.finished-returns-in_err-table-in-Inline-clause-named
+finished-returns-in_err-table-in-Inline-clause-named t c =
+    let p = err_from_is_err_and c.from_residual-in_err-table-in-Inline.result
+    c.from_residual-in_err-table-in-Inline.ensures.1 in
+    rw (p.1, p.2) (λ v seen. inline_stopped c.in-Inline.rows (Some (standings.table false false false))
+    (table_trie c.in_ok-new-in-Inline.field-0.value) v c.in_err-table-in-Inline.field-0.0
+    (ap raw_of (sym c.in-Inline.is) ∙ seen) c.in_ok-new-in-Inline.ensures c.in_err-table-in-Inline.ensures.named)
+
+pub finished_elements-returns-in_err-finished-clause-named :
+    goal.finished_elements-returns-in_err-finished-clause-named
+finished_elements-returns-in_err-finished-clause-named t c =
+    let p = err_from_is_err_and c.from_residual-in_err-finished.result c.from_residual-in_err-finished.ensures.1 in
+    let start : c.into_iter-element-iterator.result.rest.items ≡ c.args.elements.items =
+    ap (λ i. i.rest.items) c.into_iter-element-iterator.ensures.into_iter_gives
+    ∙ c.into_iter-element-items.ensures.rest in
+    let some = has_value (raw_of c.in-Some.element.value) (sym {A = Bool} c.is_dot_value.ensures
+    ∙ c.if-is_dot_value.false) in
+    let clash = c.in_err-finished.field-0.0 in
+    let whole = elements_view c.into_iter-element-iterator.result.rest.items in
+    let ts = map child_trie c.loop-element.children.items in
+    let left = subst (λ (es : List Element). ElementsAreLeft whole c.args.level ts (elements_view es))
+    c.in-Some.ensures.steps.0 c.loop-element.invariant in
+    rw (p.1, p.2) (subst (λ (es : List Element). NamesStop (try_put_elements (elements_view es)) clash) start
+    (element_stopped whole c.args.level ts c.in-Some.element c.next.new.self.rest.items some.0 clash some.1 left
+    (c.in_err-finished.ensures.named some.0 some.1)))
+
+pub finished_elements-loop-element-preserved-then-is_dot_value :
+    goal.finished_elements-loop-element-preserved-then-is_dot_value
+finished_elements-loop-element-preserved-then-is_dot_value t c =
+    let whole = elements_view c.into_iter-element-iterator.result.rest.items in
+    let ts = map child_trie c.loop-element.children.items in
+    let left = subst (λ (es : List Element). ElementsAreLeft whole c.args.level ts (elements_view es))
+    c.in-Some.ensures.steps.0 c.loop-element.invariant in
+    let none = no_value (raw_of c.in-Some.element.value) (sym {A = Bool} c.is_dot_value.ensures
+    ∙ c.if-is_dot_value.true) in
+    subst (λ (es : Elements). ElementsAreLeft whole c.args.level ts es)
+    (element_skipped c.in-Some.element c.next.new.self.rest.items none) left
