@@ -1,5 +1,6 @@
 -- The clash that is answered for a row says what was met, or what stops its value.
-use Rattle.std.proofs.Common.{◌≡◌, ◌<◌, ◌≤◌, get_or, ℕ, suc, zero, ◌+◌, ◌-◌, List, [], ◌∷◌, ◌++◌, refl, sym, ap, ◌∙◌, Some, None, length}
+use Rattle.std.proofs.Common.{◌≡◌, ◌<◌, ◌≤◌, get_or, ℕ, suc, zero, ◌+◌, ◌-◌, List, [], ◌∷◌, ◌++◌, refl, sym}
+use Rattle.std.proofs.Common.{ap, ◌∙◌, Some, None, length}
 use Rattle.std.proofs.Common.{take, map, Vec, Global, String, string_bytes, arith, rules}
 use Rattle.std.specs.List.{slice_get}
 use Rattle.basic_toml_grammar.specs.Sections.{Key, KeyTexts, texts}
@@ -82,7 +83,8 @@ count_front rows k front there rest parts =
     after (f ∷ front) = let h = after front in omega arith
 
 module _ (rows : List Row) (offset : ℕ) (last : List ℕ) (left number : ℕ) (is_number : number ≡ length rows + 1 - left)
-    (path : Vec (String Global) Global) (key : String Global) (is_path : map string_bytes path.items ≡ path_of (take number rows)) where
+    (path : Vec (String Global) Global) (key : String Global)
+    (is_path : map string_bytes path.items ≡ path_of (take number rows)) where
   abbrev MetKey : Outcome Trie → Type 0
   MetKey o = StopsAtKey [] (line_keys rows ++ key_at offset last ∷ []) left o
 
@@ -92,7 +94,8 @@ module _ (rows : List Row) (offset : ℕ) (last : List ℕ) (left number : ℕ) 
       let c = m.count in
       omega arith
 
-  pub key_said : (r : Row) (at_key : ℕ) → at_key ≡ (lined_of r).key.offset → slice_get rows number ≡ Some r → string_bytes key ≡ (lined_of r).key.text
+  pub key_said : (r : Row) (at_key : ℕ) → at_key ≡ (lined_of r).key.offset → slice_get rows number ≡ Some r
+      → string_bytes key ≡ (lined_of r).key.text
       → SaysMet (line_keys rows) (key_at offset last) (mets.Header left)
       (clashes.Row path key at_key)
   key_said r at_key is_offset at is_key = λ o told.
@@ -102,7 +105,8 @@ module _ (rows : List Row) (offset : ℕ) (last : List ℕ) (left number : ℕ) 
         at_row (texts told.front) told.there,
         (
           ap (λ k. at_row (texts told.front) k) there
-              ∙ same_row (k.before ∙ ap (λ n. path_of (take n rows)) (sym n) ∙ sym is_path) (sym is_offset) (sym is_key),
+              ∙ same_row (k.before ∙ ap (λ n. path_of (take n rows)) (sym n) ∙ sym is_path) (sym is_offset)
+              (sym is_key),
           told.stop,
         ),
       )

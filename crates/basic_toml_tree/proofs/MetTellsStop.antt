@@ -172,7 +172,8 @@ stopped_here : (before : KeyTexts) (first : Key) (t : Trie) → mark_here dotted
     → try_here dotted (λ m. at_row before first) t ≡ stops (at_row before first)
 stopped_here before first (trie s v ts) none = go (standings.fits dotted s) none
   where
-    go : (b : Bool) → cond b (Some (trie (Some (standings.taken dotted s)) (option_or v (standings.value_of dotted)) ts))
+    go : (b : Bool)
+        → cond b (Some (trie (Some (standings.taken dotted s)) (option_or v (standings.value_of dotted)) ts))
         None ≡ None
         → cond b (goes_on (trie (Some (standings.taken dotted s)) (option_or v (standings.value_of dotted)) ts))
         (stops (at_row before first)) ≡ stops (at_row before first)
@@ -206,7 +207,8 @@ dotted_trie : (t : Table) → table_trie (roll-Table (dotted_fields t))
 dotted_trie t =
     let is : out-Table (roll-Table (dotted_fields t)) ≡ dotted_fields t = out-roll-Table (dotted_fields t) in
     table_entries_trie (roll-Table (dotted_fields t))
-    ∙ ap (λ o. trie (Some (standings.table o.passed o.named o.dotted)) None (by_keys (tries_of child_trie o.entries))) is
+    ∙ ap (λ o. trie (Some (standings.table o.passed o.named o.dotted)) None
+    (by_keys (tries_of child_trie o.entries))) is
 
 fresh_dotted : (p n d : Bool) (ts : Tries) → trie (Some (standings.table p n d)) None ts
     ≡ trie (Some (standings.table false false false)) None no_tries

@@ -188,7 +188,9 @@ one_then ks at v rows t = go (held ks (try_put_value v))
     go (stops x) = refl
     go (goes_on u) = again (try_put_row [] ks (finished v) t)
 
-pub stopped_then : {A : Type 0} (o : Outcome A) (p : Outcome Trie) (f : A → Outcome Trie) (clash : Clash) → p ≡ and_on o f
+-- what stops a step stops what goes on from it
+pub stopped_then : {A : Type 0} (o : Outcome A) (p : Outcome Trie) (f : A → Outcome Trie) (clash : Clash)
+    → p ≡ and_on o f
     → NamesStop o clash → NamesStop p clash
 stopped_then o p f Memory is named = tt
 stopped_then o p f Deep is named = tt

@@ -133,7 +133,8 @@ finished_elements-returns-clause-finished t c =
     subst (λ (es : List Element). AreFinished (elements_view es) c.args.level ts) start
     (elements_done (elements_view c.into_iter-element-iterator.result.rest.items) c.args.level ts left)
 
-pub finished-returns-in_err-table-in-Inline-clause-finished : goal.finished-returns-in_err-table-in-Inline-clause-finished
+pub finished-returns-in_err-table-in-Inline-clause-finished :
+    goal.finished-returns-in_err-table-in-Inline-clause-finished
 finished-returns-in_err-table-in-Inline-clause-finished t c = λ v seen.
     let p = err_from_is_err_and c.from_residual-in_err-table-in-Inline.result
     c.from_residual-in_err-table-in-Inline.ensures.1 in
