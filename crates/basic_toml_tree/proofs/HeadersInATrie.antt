@@ -1,18 +1,17 @@
 -- The way of a header through a trie, a node at a time: what it gives, on which level it ends, and what bars it.
-use Rattle.std.proofs.Common.{◌≡◌, ◌⊎◌, inl, inr, ℕ, zero, suc, ◌+◌, ◌<◌, ◌≤◌, Bool, true, false, List, [], ◌∷◌, ◌++◌}
-use Rattle.std.proofs.Common.{length, map, Option, Some, None, refl, ap, sym, ◌∙◌, arith, option_map}
+use Rattle.std.proofs.Common.{◌≡◌, inl, inr, ℕ, suc, ◌≤◌, Bool, true, false, List, [], ◌∷◌, ◌++◌}
+use Rattle.std.proofs.Common.{length, Option, Some, None, refl, ap, sym, ◌∙◌, arith, option_map}
 use Rattle.std.proofs.Common.{length-append}
 use Rattle.basic_toml_value.specs.Nesting.{nesting_limit}
 use Rattle.basic_toml_value.specs.Data.{Data}
 use Rattle.basic_toml_grammar.specs.Sections.{KeyTexts, Rows}
-use Rattle.basic_toml_grammar.specs.Levels.{rows_level}
 use Rattle.basic_toml_grammar.specs.Steps.{key, number}
 use Rattle.basic_toml_grammar.specs.Standing as standing
 use Rattle.basic_toml_grammar.specs.Trie.{Trie, trie, Tries, no_tries, nothing, walk, steps_to, put_rows, put_table}
 use Rattle.basic_toml_grammar.specs.Trie.{put_element, among, find, by, with_tries}
 use Rattle.basic_toml_tree.specs.declared.clash.Clash.{Clash}
 use Rattle.basic_toml_tree.specs.declared.clash.Clash.TheVariants.{Memory, Deep, Header, Named, Redefined, Row}
-use Rattle.basic_toml_tree.specs.Item.{by_keys, by_numbers}
+use Rattle.basic_toml_tree.specs.Item.{by_numbers}
 use Rattle.basic_toml_tree.specs.Rows.{AreIn, AreKeptOut}
 use Rattle.basic_toml_tree.specs.Headers.{IsIn, IsKeptOut, entered_by, steps_by, entered_at, steps_at}
 use Rattle.basic_toml_tree.proofs.LatestInATrie.{mapped_twice, among_latest, find_latest, among_next}

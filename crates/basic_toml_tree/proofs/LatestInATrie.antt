@@ -1,5 +1,5 @@
 -- The tables of an array of tables in its trie: what is at the latest number, and at the next one.
-use Rattle.std.proofs.Common.{◌≡◌, ℕ, zero, suc, ◌+◌, ◌<◌, List, [], ◌∷◌, ◌++◌, length, Option, Some, None, true}
+use Rattle.std.proofs.Common.{◌≡◌, ℕ, suc, ◌+◌, ◌<◌, List, [], ◌∷◌, ◌++◌, length, Option, Some, None, true}
 use Rattle.std.proofs.Common.{false}
 use Rattle.std.proofs.Common.{refl, arith, nat_eq, option_map}
 use Rattle.basic_toml_grammar.specs.Steps.{number}

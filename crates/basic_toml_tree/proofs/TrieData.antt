@@ -9,7 +9,6 @@ use Rattle.basic_toml_grammar.specs.Standing.{Standing, table, array}
 use Rattle.basic_toml_grammar.specs.Growth as growth
 use Rattle.basic_toml_grammar.specs.Trie.{Trie, trie, bare_tries}
 use Rattle.basic_toml_tree.specs.declared.item.Item.{Item, the_lemmas}
-use Rattle.basic_toml_tree.specs.declared.item.Item as items
 use Rattle.basic_toml_tree.specs.declared.item.Item.TheOpen.{Item-F, Child-F, Table-F}
 use Rattle.basic_toml_tree.specs.declared.item.Item.TheViews.{roll-Item, roll-Child, roll-Table}
 use Rattle.basic_toml_tree.specs.declared.item.Item.TheFolds.{ind-Table, map-Item}

@@ -1,4 +1,4 @@
-use Rattle.std.proofs.Common.{◌≡◌, ◌∷◌, ◌+◌, Some, arith, ap, length, drop}
+use Rattle.std.proofs.Common.{◌≡◌, ◌∷◌, ◌+◌, arith, ap, length, drop}
 use Rattle.basic_toml_tree.specs.Nodes.{node_data, elements_in, elements_left}
 use Rattle.basic_toml_tree.proofs.NodesInOrder.{drop_next, progress}
 use Rattle.basic_toml_tree.proofs.node.ElementsIterator.next.Goals as goal

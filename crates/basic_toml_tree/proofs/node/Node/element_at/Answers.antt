@@ -1,4 +1,4 @@
-use Rattle.std.proofs.Common.{◌≡◌, ◌∷◌, [], ◌++◌, length, map, Some, ap, sym, ◌∙◌, arith, subst, rules, length-append}
+use Rattle.std.proofs.Common.{◌≡◌, ◌∷◌, [], ◌++◌, length, map, Some, ap, sym, ◌∙◌, arith, rules, length-append}
 use Rattle.std.specs.Prelude.{slice_get}
 use Rattle.basic_toml_tree.specs.declared.item.Item.{Array, Tables}
 use Rattle.basic_toml_tree.specs.Data.{data_of, child_data, table_data}
