@@ -156,9 +156,11 @@ row_aside : (k : Key) (ks : List Key) (d : Data) (s : Option Standing) (v : Opti
     × ((u : Option Standing) (w : Option Data)
     → try_put_row [] (k ∷ ks) d (trie u w ts) ≡ outcome_map (λ ts. trie u w ts) o)
 row_aside k [] d s v ts = (try_among (key k.text) (λ t. try_here (valued d) (last_stop [] k) t) ts, λ u w. refl)
-row_aside k (l ∷ ks) d s v ts =
-    (try_among (key k.text)
-    (λ t. and_on (try_here dotted (λ m. at_row [] k) t) (λ t. try_put_row (k.text ∷ []) (l ∷ ks) d t)) ts, λ u w. refl)
+row_aside k (l ∷ ks) d s v ts = (
+  try_among (key k.text)
+      (λ t. and_on (try_here dotted (λ m. at_row [] k) t) (λ t. try_put_row (k.text ∷ []) (l ∷ ks) d t)) ts,
+  λ u w. refl,
+)
 
 pub rows_aside : (rows : Rows) (s u : Option Standing) (v w : Option Data) (ts : Tries) (x : Stop)
     → rows_keyed rows ≡ true → try_put_rows rows (trie s v ts) ≡ stops x → try_put_rows rows (trie u w ts) ≡ stops x
