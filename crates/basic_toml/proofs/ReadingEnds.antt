@@ -22,10 +22,10 @@ use Rattle.basic_toml_tree.specs.Data.{table_data, child_data}
 use Rattle.basic_toml_tree.specs.Resolve as resolve
 use Rattle.basic_toml_tree.specs.Resolve.{Resolves, IsResolved, IsUnresolved}
 use Rattle.basic_toml.specs.Fault.{Fault, want_of_memory}
-use Rattle.basic_toml.specs.ReadFaults.{fault_in}
-use Rattle.basic_toml.specs.Reading.{IsTextFault, outside, deep, deep_tree, clash, OnlyMemory, ReadsText, value_read}
+use Rattle.basic_toml.specs.ReadFaults.{fault_in, lined}
+use Rattle.basic_toml.specs.Reading.{IsTextFault, outside, deep, deep_tree, clash, OnlyMemory, IsLined, ReadsText}
 use Rattle.basic_toml.proofs.RefusedTextsHaveNoDocument.{refused_has_no_document}
-use Rattle.basic_toml.specs.Reading.{no_memory, no_document, not_taken, GivesTree, AnswersTree}
+use Rattle.basic_toml.specs.Reading.{value_read, no_memory, no_document, not_taken, GivesTree, AnswersTree}
 
 -- the tree of a section list is its document, where nothing clashes and it fits
 document_found : (sections : List Section) (tree : Data) → has_clash sections ≡ false
@@ -38,7 +38,7 @@ document_found sections tree peace fits grown =
 not_listed : (text : List ℕ) (error : read.Fault) → IsRefused text error
     → (error ≡ explain.want_of_memory) ⊎ IsTextFault text error
 not_listed text _ (answer.memory more) = inl refl
-not_listed text _ (answer.deep passes opened) = inr (deep (record { passes = passes; opened = opened }))
+not_listed text _ (answer.deep passes first) = inr (deep (record { passes = passes; first = first }))
 not_listed text _ (answer.outside allowed) = inr (outside allowed)
 
 -- why there is no tree
@@ -74,6 +74,13 @@ located_error text error fault (inr why) (inr same) = inr (error, why, same)
 
 pub ruleset with_lines = (located_error)
 
+-- the error of a type with its line and its column
+pub lined_error : {T : Type 0} (takes : Type 0) (reads : T → Type 0) (text : List ℕ) (own fault : Fault)
+    → OnlyMemory takes reads own → fault ≡ lined text own → IsLined takes reads text fault
+lined_error takes reads text own fault only same = (own, only, same)
+
+pub ruleset read_lined = (lined_error)
+
 -- a tree stands for a table
 root_is_table : (t : Table) → (members : Members) × (table_data t ≡ table members)
 root_is_table t =
@@ -87,17 +94,17 @@ module _ {T : Type 0} (takes : Data → Type 0) (reads : Data → T → Type 0) 
       (no_document (λ tree document. refused_has_no_document text error tree why document) why)
 
   document_read : (d : Data) (members : Members) (result : Result T Fault) → d ≡ table members
-      → IsDocument (folded text) d → IfOk result (reads d) → IfErr result (OnlyMemory (takes d) (reads d))
+      → IsDocument (folded text) d → IfOk result (reads d) → IfErr result (IsLined (takes d) (reads d) text)
       → ReadsText takes reads text result
   document_read d ms (Ok value) same document ok err =
       value_read (subst (IsDocument (folded text)) same document) (subst (λ (x : Data). reads x value) same ok)
   document_read d ms (Err fault) same document ok err =
       not_taken (subst (IsDocument (folded text)) same document)
-      (subst (λ (x : Data). OnlyMemory (takes x) (reads x) fault) same err)
+      (subst (λ (x : Data). IsLined (takes x) (reads x) text fault) same err)
 
   pub tree_read : (tree : Tree) (result : Result T Fault) → AnswersTree text (Ok tree)
       → IfOk result (reads (table_data tree.root.value))
-      → IfErr result (OnlyMemory (takes (table_data tree.root.value)) (reads (table_data tree.root.value)))
+      → IfErr result (IsLined (takes (table_data tree.root.value)) (reads (table_data tree.root.value)) text)
       → ReadsText takes reads text result
   tree_read tree result document ok err =
       let (members, same) = root_is_table tree.root.value in

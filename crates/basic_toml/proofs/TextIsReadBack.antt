@@ -1,5 +1,5 @@
 -- What a text that was written is read as.
-use Rattle.std.proofs.Common.{◌≡◌, inl, inr, ℕ, List, refl, sym, ◌∙◌, Result, Ok, Err, string_bytes}
+use Rattle.std.proofs.Common.{◌≡◌, inl, inr, ℕ, List, refl, sym, ap, ◌∙◌, Result, Ok, Err, string_bytes}
 use Rattle.std.proofs.Common.{String, Global}
 use Rattle.basic_toml_tokens.specs.Text.{folded}
 use Rattle.basic_toml_value.specs.Data.{Data}
@@ -8,12 +8,13 @@ use Rattle.basic_toml_value.specs.declared.value.Value.{Value}
 use Rattle.basic_toml_grammar.specs.Document.{IsDocument}
 use Rattle.basic_toml_emit.specs.Items.{Item}
 use Rattle.basic_toml_layout.specs.Written.{Written}
-use Rattle.basic_toml_emit.specs.declared.error.WriteError.{WriteError}
+use Rattle.basic_toml_write.specs.declared.error.WriteError.{WriteError}
 use Rattle.basic_toml_write.specs.Kept.{kept}
 use Rattle.basic_toml_write.specs.Spelling.{Spells}
 use Rattle.basic_toml_layout.specs.Trees.{tree_of}
 use Rattle.basic_toml.specs.Fault.{Fault, want_of_memory}
 use Rattle.basic_toml.specs.Reading.{ReadsText, value_read, no_memory, no_document, not_taken}
+use Rattle.basic_toml.specs.ReadFaults.{lined}
 use Rattle.basic_toml.specs.ReadBack.{RoundTrips}
 use Rattle.basic_toml.specs.Ser.{Writes, MeansKept, IsTextOf}
 use Rattle.basic_toml.specs.TypeReads.{table_reads, table_takes}
@@ -30,7 +31,7 @@ only_memory : (text : List ℕ) (tree : Data) → IsDocument (folded text) tree 
     → ReadsText table_takes table_reads text (Err fault) → fault ≡ want_of_memory
 only_memory text tree means _ no_memory = refl
 only_memory text tree means _ (no_document none because) = absurd (none tree means)
-only_memory text tree means fault (not_taken document only) = only.taken refl
+only_memory text tree means fault (not_taken document (own, only, same)) = same ∙ ap (lined text) (only.taken refl)
 
 module _ (calls : List Item) (gives_up : List Item → WriteError → Type 0) where
   pub read_back : (s : String Global) (result : Result (List (List ℕ × Value)) Fault) → Writes calls gives_up (Ok s)

@@ -18,30 +18,30 @@ delete : escaped 127 ≡ codes "\\u{7f}"
 unfolding digits
 delete = refl
 
-e_acute : fault_text (record { kind = unexpected 0xE9; key_path = []; line_column = Some (0, 0) })
+e_acute : fault_text (record { kind = unexpected 0xE9; key_path = []; offset = Some 0; line_column = Some (0, 0) })
     ≡ codes "unexpected character found: `\\u{e9}` at line 1 column 1"
 unfolding digits
 e_acute = refl
 
-carriage_return : fault_text (record { kind = unexpected 13; key_path = []; line_column = Some (0, 5) })
+carriage_return : fault_text (record { kind = unexpected 13; key_path = []; offset = Some 5; line_column = Some (0, 5) })
     ≡ codes "unexpected character found: `\\r` at line 1 column 6"
 unfolding digits
 carriage_return = refl
 
 key_and_offset : fault_text
-    (record { kind = duplicate_key (codes "b"); key_path = codes "a" ∷ []; line_column = Some (1, 11) })
+    (record { kind = duplicate_key (codes "b"); key_path = codes "a" ∷ []; offset = Some 18; line_column = Some (1, 11) })
     ≡ codes "duplicate key: `b` for key `a` at line 2 column 12"
 unfolding digits
 key_and_offset = refl
 
 long_key_path : fault_text
-    (record { kind = duplicate_table (codes "a.b"); key_path = codes "a" ∷ codes "b" ∷ []; line_column = Some (1, 0) })
+    (record { kind = duplicate_table (codes "a.b"); key_path = codes "a" ∷ codes "b" ∷ []; offset = Some 8; line_column = Some (1, 0) })
     ≡ codes "redefinition of table `a.b` for key `a.b` at line 2 column 1"
 unfolding digits
 long_key_path = refl
 
 what_was_found : fault_text
-    (record { kind = wanted (codes "an equals") (codes "eof"); key_path = []; line_column = Some (0, 2) })
+    (record { kind = wanted (codes "an equals") (codes "eof"); key_path = []; offset = Some 2; line_column = Some (0, 2) })
     ≡ codes "expected an equals, found eof at line 1 column 3"
 unfolding digits
 what_was_found = refl

@@ -11,7 +11,12 @@ keys_of None = []
 keys_of (Some keys) = map string_bytes keys.items
 
 abbrev pub fault_of : Inside → Fault
-fault_of e = record { kind = kind_of e.kind; key_path = keys_of e.key_path; line_column = e.line_column }
+fault_of e = record {
+  kind = kind_of e.kind;
+  key_path = keys_of e.key_path;
+  offset = e.offset;
+  line_column = e.line_column;
+}
 
 -- line and column leave room for counting from 1
 abbrev pub HasSmallNumbers : Inside → Type 0

@@ -38,11 +38,12 @@ pub data FaultKind : Type 0 where
 pub record Fault : Type 0 where
   pub kind : FaultKind
   pub key_path : List (List ℕ)
+  pub offset : Option ℕ
   pub line_column : Option (ℕ × ℕ)
 
 -- a fault with no key path and no offset
 abbrev pub without_offset : FaultKind → Fault
-without_offset kind = record { kind = kind; key_path = []; line_column = None }
+without_offset kind = record { kind = kind; key_path = []; offset = None; line_column = None }
 
 -- a growth was refused
 abbrev pub want_of_memory : Fault

@@ -7,7 +7,10 @@ pub mod KeyPath
 pub mod WriteFaults
 pub mod ReadFaults
 pub mod Reading
+pub mod FieldKeys
 pub mod TypeReads
+pub mod NodeFaults
+pub mod FieldFaults
 pub mod Ser
 pub mod ReadBack
 pub mod tokens

@@ -6,7 +6,7 @@ use Rattle.basic_toml_value.specs.View.{entries}
 use Rattle.basic_toml_value.specs.declared.value.Value.{Value}
 use Rattle.basic_toml_emit.specs.Items.{Item}
 use Rattle.basic_toml_layout.specs.Written.{Written}
-use Rattle.basic_toml_emit.specs.declared.error.WriteError.{WriteError}
+use Rattle.basic_toml_write.specs.declared.error.WriteError.{WriteError}
 use Rattle.basic_toml_write.specs.Kept.{kept}
 use Rattle.basic_toml_write.specs.Shapes.{is_unsupported}
 use Rattle.basic_toml_write.specs.Spelling.{Spells}

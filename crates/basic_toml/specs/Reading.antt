@@ -1,15 +1,15 @@
 -- How reading a text as a type ends. (own)
 -- A type's `reads` says which of its values are read from which data, and its `takes` from which data it reads a value,
 -- memory aside.
-use Rattle.std.specs.Prelude.{◌≡◌, ◌⊎◌, ◌≤◌, ◌<◌, ◌+◌, ℕ, List, Result, Ok, Err, Contains}
-use Rattle.basic_toml_tokens.specs.Text.{folded, text_at}
+use Rattle.std.specs.Prelude.{◌≡◌, ◌⊎◌, ◌<◌, ℕ, List, Result, Ok, Err, IfOk, IfErr, Contains}
+use Rattle.basic_toml_tokens.specs.Text.{folded}
 use Rattle.basic_toml_value.specs.Data.{Data, table, Members}
 use Rattle.basic_toml_value.specs.Nesting.{nesting_limit}
 use Rattle.basic_toml_grammar.specs.Sections.{Section}
 use Rattle.basic_toml_grammar.specs.Grammar.{IsSectionList}
 use Rattle.basic_toml_grammar.specs.IndexedPath.{located}
 use Rattle.basic_toml_grammar.specs.Levels.{highest_level}
-use Rattle.basic_toml_grammar.specs.NestingFaults.{openers, deep_sections}
+use Rattle.basic_toml_grammar.specs.NestingFaults.{IsTooDeepAt, deep_sections}
 use Rattle.basic_toml_grammar.specs.Document.{IsDocument}
 use Rattle.basic_toml_grammar.specs.NamedClash.{NamesClash}
 use Rattle.basic_toml_grammar.specs.Faults as read
@@ -18,14 +18,13 @@ use Rattle.basic_toml_explain.specs.Error as explain
 use Rattle.basic_toml_tree.specs.declared.tree.Tree.{Tree}
 use Rattle.basic_toml_tree.specs.Data.{table_data}
 use Rattle.basic_toml.specs.Fault.{Fault, want_of_memory}
-use Rattle.basic_toml.specs.ReadFaults.{fault_in}
+use Rattle.basic_toml.specs.ReadFaults.{fault_in, lined}
 
--- each section list of the text passes the limit, and as many signs that lead deeper as the limit stand before the
--- offset
+-- each section list of the text passes the limit, and the first key or bracket above it stands at the offset
 pub record IsNestedTooDeeply (text : List ℕ) (offset : ℕ) : Type 0 where
   pub passes : (sections : List Section) → IsSectionList (folded text) sections
       → nesting_limit < highest_level sections
-  pub opened : nesting_limit + openers (text_at text offset) ≤ openers (folded text)
+  pub first : IsTooDeepAt nesting_limit (folded text) offset
 
 -- Why a text has no document: it has no section list, and the grammar allows the error; or its section list passes the
 -- limit, by its levels, or by a section of its tree; or the error names a clash that stands in its section list.
@@ -44,8 +43,13 @@ pub record OnlyMemory {T : Type 0} (Takes : Type 0) (IsRead : T → Type 0) (fau
   pub taken : Takes → fault ≡ want_of_memory
   pub held : (value : T) → IsRead value → fault ≡ want_of_memory
 
+-- such a fault, with the line and the column of its offset in the text
+abbrev pub IsLined : {T : Type 0} → Type 0 → (T → Type 0) → List ℕ → Fault → Type 0
+IsLined Takes IsRead text fault = (own : Fault) × OnlyMemory Takes IsRead own × (fault ≡ lined text own)
+
 -- A value that the type reads from the document; or want of memory; or the error of a text without a document, with
--- the line and the column of its offset; or a fault of the type, which reads nothing from the document.
+-- the line and the column of its offset; or a fault of the type, which reads nothing from the document, with the line
+-- and the column of its offset.
 pub data ReadsText {T : Type 0} (takes : Data → Type 0) (reads : Data → T → Type 0) (text : List ℕ)
     : Result T Fault → Type 0 where
   value_read : {members : Members} {value : T} → IsDocument (folded text) (table members)
@@ -54,7 +58,11 @@ pub data ReadsText {T : Type 0} (takes : Data → Type 0) (reads : Data → T �
   no_document : {error : read.Fault} → ((tree : Data) → IsDocument (folded text) tree → ⊥)
       → IsTextFault text error → ReadsText takes reads text (Err (fault_in text error))
   not_taken : {members : Members} {fault : Fault} → IsDocument (folded text) (table members)
-      → OnlyMemory (takes (table members)) (reads (table members)) fault → ReadsText takes reads text (Err fault)
+      → IsLined (takes (table members)) (reads (table members)) text fault → ReadsText takes reads text (Err fault)
+
+-- what a type answers to data: a value that it reads from it; or an error, want of memory wherever it takes the data
+abbrev pub ReadsData : {T : Type 0} → (Data → Type 0) → (Data → T → Type 0) → Data → Result T Fault → Type 0
+ReadsData takes reads d result = IfOk result (reads d) × IfErr result (OnlyMemory (takes d) (reads d))
 
 -- on the way: the tree of the document, or why there is none
 abbrev pub GivesTree : List ℕ → Result Tree read.Fault → Type 0

@@ -18,7 +18,7 @@ use Rattle.basic_toml_value.specs.Nesting.{nesting_limit}
 use Rattle.basic_toml_write.specs.Shapes.{is_unsupported}
 use Rattle.basic_toml_emit.specs.Rules as rules
 use Rattle.basic_toml_emit.specs.Calls.{outcome}
-use Rattle.basic_toml_emit.specs.declared.error.WriteError.{WriteError}
+use Rattle.basic_toml_write.specs.declared.error.WriteError.{WriteError}
 use Rattle.basic_toml.specs.Fault as fault
 use Rattle.basic_toml.specs.Fault.{Fault, FaultKind, without_offset, want_of_memory}
 use Rattle.basic_toml.specs.WriteFaults.{write_kind}

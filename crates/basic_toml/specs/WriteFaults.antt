@@ -1,8 +1,8 @@
 -- The fault that an error of the writer is, or a type's own fault.
 use Rattle.std.specs.Prelude.{string_bytes}
 use Rattle.basic_toml.specs.Fault as fault
-use Rattle.basic_toml_emit.specs.declared.error.WriteError.{WriteError}
-use Rattle.basic_toml_emit.specs.declared.error.WriteError.TheVariants as write
+use Rattle.basic_toml_write.specs.declared.error.WriteError.{WriteError}
+use Rattle.basic_toml_write.specs.declared.error.WriteError.TheVariants as write
 
 abbrev pub write_kind : WriteError → fault.FaultKind
 write_kind write.UnsupportedType = fault.unsupported_type

@@ -1,9 +1,14 @@
 //! Reading texts.
-ghost use Rattle.std.specs.Prelude.{◌≡◌, IfOk, IfErr, IsUtf8};
+ghost use Rattle.std.specs.Prelude.{◌≡◌, IfOk, IfErr, IsUtf8, true, false};
+ghost use Rattle.basic_toml_tokens.specs.Text.{folded};
+ghost use Rattle.basic_toml_value.specs.Data.{Data};
+ghost use Rattle.basic_toml_grammar.specs.Document.{IsDocument};
+ghost use Rattle.basic_toml_grammar.specs.OldRules.{has_no_delete, WasDocument};
+ghost use Rattle.basic_toml_grammar.specs.Respelled.{with_returns, has_return, with_byte_order_mark, has_byte_order_mark};
 ghost use Rattle.basic_toml_tree.specs.Data.{table_data};
 ghost use Rattle.basic_toml_tree.specs.Nodes.{node_data};
 ghost use Rattle.basic_toml.specs.Fault.{not_text};
-ghost use Rattle.basic_toml.specs.Reading.{OnlyMemory, ReadsText, GivesTree, AnswersTree};
+ghost use Rattle.basic_toml.specs.Reading.{OnlyMemory, IsLined, ReadsText, ReadsData, GivesTree, AnswersTree};
 ghost use Rattle.basic_toml.specs.TypeReads.{table_reads, table_takes};
 
 use crate::Error;
@@ -14,13 +19,12 @@ use std::alloc::Global;
 
 /// A type that can be read from a text.
 pub trait Deserialize<'de>: Sized {
-    ghost use Rattle.basic_toml_value.specs.Data.{Data};
-
     // Which values are read from which data.
     ghost reads: { Data → Self → Type 0 };
 
-    // From which data a value is read, memory aside.
-    ghost takes: { Data → Type 0 };
+    // From which data a value is read, memory aside. A type that leaves it out reads a value wherever there is one by
+    // `reads`.
+    ghost takes: { Data → Type 0 } = { λ _. ⊥ };
 
     /// Reads a value from a node; an error, other than want of memory, only where the type reads nothing from it.
     fn deserialize(alloc: Global, node: Node<'_, 'de>) -> Result<Self, Error>
@@ -43,7 +47,7 @@ impl<'de> Deserialize<'de> for Table {
     fn deserialize(alloc: Global, node: Node<'_, 'de>) -> Result<Table, Error> {
         match node.to_table(alloc)? {
             Some(table) => Ok(table),
-            None => Err(Error::custom(alloc, "invalid type, expected a map")),
+            None => Err(Error::invalid_type(alloc, node, "a map")),
         }
     }
 
@@ -59,12 +63,46 @@ impl<'de> Deserialize<'de> for Table {
 /// Where the text has no document: an error of the grammar; where its rows and sections clash, an error of a clash;
 /// `nested too deeply` where it is nested more than 128 deep. Where a type reads nothing from the document, the type's
 /// own error; and `out of memory` where a growth was refused.
-#[tactic(auto, using(crate::proofs::ReadingEnds::ends))]
+///
+/// # Other spellings
+///
+/// What is read stays the same where each LF is written CR LF, and where one U+FEFF stands in front; and a text without
+/// U+007F reads as the document that it had by the older rules.
 pub fn from_str<'de, T: Deserialize<'de>>(alloc: Global, s: &'de str) -> Result<T, Error>
-    ensures { ReadsText T.takes T.reads s.now result }
+    ensures read { ReadsText T.takes T.reads s.now result }
+    ensures line_feeds { has_return s.now ≡ false → (tree : Data) → IsDocument (folded (with_returns s.now)) tree
+        → ReadsData T.takes T.reads tree result }
+    ensures mark { has_byte_order_mark s.now ≡ false → (tree : Data)
+        → IsDocument (folded (with_byte_order_mark s.now)) tree → ReadsData T.takes T.reads tree result }
+    ensures older_rules { has_no_delete (folded s.now) ≡ true → (tree : Data) → WasDocument (folded s.now) tree
+        → ReadsData T.takes T.reads tree result }
 {
-    let tree = tree_of(alloc, s)?;
-    T::from_tree(alloc, tree)
+    read_text(alloc, s)
+}
+
+#[tactic(auto, using(crate::proofs::ReadingEnds::ends))]
+fn read_text<'de, T: Deserialize<'de>>(alloc: Global, text: &'de str) -> Result<T, Error>
+    ensures { ReadsText T.takes T.reads text.now result }
+{
+    let tree = tree_of(alloc, text)?;
+    read_tree(alloc, tree, text)
+}
+
+// What a type reads from the tree of a text; its error with the line and the column of its offset.
+#[tactic(auto, using(crate::proofs::ReadingEnds::read_lined))]
+fn read_tree<'de, T: Deserialize<'de>>(
+    alloc: Global,
+    tree: Tree<'de>,
+    text: &str,
+) -> Result<T, Error>
+    ensures ok { IfOk result (λ value. T.reads (table_data tree.entry.root.value) value) }
+    ensures err { IfErr result (IsLined (T.takes (table_data tree.entry.root.value))
+        (T.reads (table_data tree.entry.root.value)) text.now) }
+{
+    match T::from_tree(alloc, tree) {
+        Ok(value) => Ok(value),
+        Err(error) => Err(error.with_line(text)),
+    }
 }
 
 // The tree of a text's document, or its error with line and column.

@@ -5,7 +5,7 @@ use Rattle.basic_toml_emit.specs.Rules.{call_order}
 use Rattle.basic_toml_emit.specs.Calls.{hand_out, is_nothing_open}
 use Rattle.basic_toml_emit.specs.Frames.{frames_of}
 use Rattle.basic_toml_emit.specs.Emitter.{HandsOut}
-use Rattle.basic_toml_emit.specs.declared.error.WriteError.TheVariants.{CallOrder}
+use Rattle.basic_toml_emit.specs.declared.error.EmitError.TheVariants.{CallOrder}
 use Rattle.basic_toml_emit.specs.declared.emitter.Emitter.{Emitter}
 
 hand_out-whole : (t : List ℕ) (fs : List o.Frame) (d : Bool) → (d && is_nothing_open fs) ≡ true → hand_out t fs d ≡ Ok t
@@ -21,9 +21,9 @@ hand_out-other t [] false e = refl
 hand_out-other t (f ∷ fs) d e = refl
 
 pub hands_out_whole : (e : Emitter) → (e.is_done && is_nothing_open (frames_of e.frames.items)) ≡ true
-    → HandsOut e (Ok e.text)
+    → HandsOut CallOrder e (Ok e.text)
 hands_out_whole e whole = hand_out-whole (string_bytes e.text) (frames_of e.frames.items) e.is_done whole
 
 pub hands_out_nothing : (e : Emitter) → (e.is_done && is_nothing_open (frames_of e.frames.items)) ≡ false
-    → HandsOut e (Err CallOrder)
+    → HandsOut CallOrder e (Err CallOrder)
 hands_out_nothing e other = (refl, hand_out-other (string_bytes e.text) (frames_of e.frames.items) e.is_done other)

@@ -44,19 +44,25 @@ nothing_open_yes fs e = ap c.is_nothing_open (no_frames fs e)
 pub nothing_open_no : (fs : List Frame) → 0 < length fs → c.is_nothing_open (frames_of fs) ≡ false
 nothing_open_no fs e = something_open (frames_of fs) (omega (arith, frames_length fs))
 
+-- what an emitter at the start holds
+pub fresh_leaves : (t : List ℕ) (fs : List Frame) (d : Bool) → o.state t (frames_of fs) d ≡ o.fresh
+    → (t ≡ []) × (length fs ≡ 0) × (d ≡ false)
+fresh_leaves t fs d e =
+    (ap (λ s. s.text) e, sym (frames_length fs) ∙ ap (λ s. length s.open_frames) e, ap (λ s. s.is_done) e)
+
 pub length_with_row : (fs : List o.Frame) → length (c.with_row fs) ≡ length fs
 length_with_row [] = refl
-length_with_row (o.a_table h s w p l ∷ fs) = refl
+length_with_row (o.a_table s t ∷ fs) = refl
 length_with_row (o.an_array k later ∷ fs) = refl
 
 pub path_with_sections : (fs : List o.Frame) → c.path (c.with_sections fs) ≡ c.path fs
 path_with_sections [] = refl
-path_with_sections (o.a_table h s w p l ∷ fs) = refl
+path_with_sections (o.a_table s t ∷ fs) = refl
 path_with_sections (o.an_array k later ∷ fs) = refl
 
 pub array_end_with_row : (fs : List o.Frame) → c.array_end (c.with_row fs) ≡ c.array_end fs
 array_end_with_row [] = refl
-array_end_with_row (o.a_table h s w p l ∷ fs) = refl
+array_end_with_row (o.a_table s t ∷ fs) = refl
 array_end_with_row (o.an_array k later ∷ fs) = refl
 
 joined_more : (k : List ℕ) (ks : List (List ℕ)) → joined (k ∷ ks) ≡ joined ks
@@ -76,11 +82,11 @@ frames_take fs i d lt e = frames_push (take i fs) (take (suc i) fs) d (take_step
 
 path_next : (f : o.Frame) (fs : List o.Frame) → joined (c.path (f ∷ fs)) ≡ joined (c.path fs)
     ++ path_part (is_first (c.path fs)) f
-path_next (o.a_table h s w p l) fs = joined_more (c.last_key l) (c.path fs)
+path_next (o.a_table s t) fs = joined_more (c.last_key t.last) (c.path fs)
 path_next (o.an_array k later) fs = sym (append-nil (joined (c.path fs)))
 
 first_next : (f : o.Frame) (fs : List o.Frame) → is_first (c.path (f ∷ fs)) ≡ first_after (is_first (c.path fs)) f
-first_next (o.a_table h s w p l) fs = refl
+first_next (o.a_table s t) fs = refl
 first_next (o.an_array k later) fs = refl
 
 pub path_more : (fs : List Frame) (i : ℕ) (d : Frame) → i < length fs → d ≡ get_or fs i d

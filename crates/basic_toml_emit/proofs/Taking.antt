@@ -20,13 +20,13 @@ row_taken t t' t'' t''' [] fs' fs'' true d' v done place refused deep new entere
     absurd (cc)
 row_taken t t' t'' t''' [] fs' fs'' false d' v done place refused deep new entered late start row scalar end =
     absurd (cc)
-row_taken t t' t'' t''' (a_table h no_key w p l ∷ fs) fs' fs'' d d' v done place refused deep new entered late start
+row_taken t t' t'' t''' (a_table no_key table ∷ fs) fs' fs'' d d' v done place refused deep new entered late start
     row scalar end = absurd (cc)
-row_taken t t' t'' t''' (a_table h key_place w p l ∷ fs) fs' fs'' d d' v done place refused deep new entered late
+row_taken t t' t'' t''' (a_table key_place table ∷ fs) fs' fs'' d d' v done place refused deep new entered late
     start row scalar end = absurd (cc)
-row_taken t t' t'' t''' (a_table h (key_set k) w p l ∷ fs) fs' fs'' d d' v done place refused deep new entered late
+row_taken t t' t'' t''' (a_table (key_set k) table ∷ fs) fs' fs'' d d' v done place refused deep new entered late
     start row scalar end =
-    let in_time : w ≡ false = sym (ap holds_section entered) ∙ late in
+    let in_time : table.holds_section ≡ false = sym (ap holds_section entered) ∙ late in
     rw (done, refused, new, deep, end, scalar, start, row, entered, in_time) (simp append_assoc)
 row_taken t t' t'' t''' (an_array kind later ∷ fs) fs' fs'' d d' v done place refused deep new entered late start row
     scalar end = absurd (cc)

@@ -7,24 +7,17 @@ use Rattle.basic_toml_emit.specs.Open.{State, state, an_array, tables, others}
 use Rattle.basic_toml_emit.specs.Rules.{call_order, holds_section, is_in_array, key_of}
 use Rattle.basic_toml_emit.specs.Calls.{after, finished, path, array_start, array_end, with_row, with_sections}
 use Rattle.basic_toml_emit.specs.Changes.{outer, with_entry, holds_key, value_start}
-use Rattle.basic_toml_emit.specs.Error.{Names, Meets}
+use Rattle.basic_toml_emit.specs.Error.{Meets}
 use Rattle.basic_toml_emit.specs.Frames.{frames_of}
-use Rattle.basic_toml_emit.specs.declared.error.WriteError.{WriteError}
-use Rattle.basic_toml_emit.specs.declared.error.WriteError.TheVariants.{CallOrder}
-use Rattle.basic_toml_emit.specs.declared.fault.Fault.{Fault}
+use Rattle.basic_toml_emit.specs.declared.error.EmitError.{EmitError}
 use Rattle.basic_toml_emit.specs.declared.emitter.Emitter.{Emitter}
 
 abbrev pub state_of : Emitter → State
 state_of e = state (string_bytes e.text) (frames_of e.frames.items) e.is_done
 
 -- An item is taken, or this is the error due.
-abbrev pub Steps : Item → Emitter → Emitter → Result (Unit {0}) WriteError → Type 0
+abbrev pub Steps : Item → Emitter → Emitter → Result (Unit {0}) EmitError → Type 0
 Steps i old new r = MatchResult r (λ _. after nesting_limit (state_of old) i ≡ Ok (state_of new))
-    (λ e. Names e (after nesting_limit (state_of old) i))
-
--- the same with a fault within the emitter
-abbrev pub Takes : Item → Emitter → Emitter → Result (Unit {0}) Fault → Type 0
-Takes i old new r = MatchResult r (λ _. after nesting_limit (state_of old) i ≡ Ok (state_of new))
     (λ e. Meets e (key_of (frames_of new.frames.items)) (after nesting_limit (state_of old) i))
 
 -- the key that is set is counted among those of present entries
@@ -41,9 +34,9 @@ pub record StartsValue (old new : Emitter) : Type 0 where
   pub frames_are : frames_of new.frames.items ≡ with_row (frames_of old.frames.items)
   pub done_is : new.is_done ≡ old.is_done
 
--- the text, where the items made a whole table
-abbrev pub HandsOut : Emitter → Result (String Global) WriteError → Type 0
-HandsOut e r = MatchResult r (λ t. finished (state_of e) ≡ Ok (string_bytes t)) (λ x. (x ≡ CallOrder)
+-- the text, where the items made a whole table; else this error
+abbrev pub HandsOut : {E : Type 0} → E → Emitter → Result (String Global) E → Type 0
+HandsOut error e r = MatchResult r (λ t. finished (state_of e) ≡ Ok (string_bytes t)) (λ x. (x ≡ error)
     × (finished (state_of e) ≡ Err call_order))
 
 -- the frames below an array are made ready for its first element that is no table, or for its end

@@ -1,38 +1,16 @@
--- The faults of a writer and the rules that they name.
-use Rattle.std.specs.Prelude.{ℕ, ◌≡◌, List, Result, Err, string_bytes, ⊤}
+-- The errors of an emitter and the rules that they name.
+use Rattle.std.specs.Prelude.{ℕ, ◌≡◌, List, Result, Err, ⊤}
 use Rattle.basic_toml_emit.specs.Rules as r
-use Rattle.basic_toml_emit.specs.declared.error.WriteError.{WriteError}
-use Rattle.basic_toml_emit.specs.declared.fault.Fault.{Fault}
-use Rattle.basic_toml_emit.specs.declared.fault.Fault.TheVariants as f
-use Rattle.basic_toml_emit.specs.declared.error.WriteError.TheVariants.{UnsupportedType, KeyNotString}
-use Rattle.basic_toml_emit.specs.declared.error.WriteError.TheVariants.{ValueAfterTable, UnsupportedNone, Custom}
-use Rattle.basic_toml_emit.specs.declared.error.WriteError.TheVariants.{DuplicateKey, CallOrder, NestedTooDeeply}
-use Rattle.basic_toml_emit.specs.declared.error.WriteError.TheVariants.{OutOfMemory}
+use Rattle.basic_toml_emit.specs.declared.error.EmitError.{EmitError}
+use Rattle.basic_toml_emit.specs.declared.error.EmitError.TheVariants as e
 
--- The fault names the error that was met. Want of memory may come at any time; a type's own fault is no error.
-abbrev pub Names : {A : Type 0} → WriteError → Result A r.CallFault → Type 0
-Names UnsupportedType x = x ≡ Err r.unsupported_type
-Names KeyNotString x = x ≡ Err r.key_not_string
-Names ValueAfterTable x = x ≡ Err r.value_after_table
-Names UnsupportedNone x = x ≡ Err r.unsupported_none
-Names (Custom _) x = ⊥
-Names (DuplicateKey k) x = x ≡ Err (r.duplicate_key (string_bytes k))
-Names CallOrder x = x ≡ Err r.call_order
-Names NestedTooDeeply x = x ≡ Err r.nested_too_deeply
-Names OutOfMemory x = ⊤
-
--- The same of a fault within the emitter, where this key is set.
-abbrev pub Meets : {A : Type 0} → Fault → List ℕ → Result A r.CallFault → Type 0
-Meets f.UnsupportedType k x = x ≡ Err r.unsupported_type
-Meets f.KeyNotString k x = x ≡ Err r.key_not_string
-Meets f.ValueAfterTable k x = x ≡ Err r.value_after_table
-Meets f.UnsupportedNone k x = x ≡ Err r.unsupported_none
-Meets f.DuplicateKey k x = x ≡ Err (r.duplicate_key k)
-Meets f.CallOrder k x = x ≡ Err r.call_order
-Meets f.NestedTooDeeply k x = x ≡ Err r.nested_too_deeply
-Meets f.OutOfMemory k x = ⊤
-
--- a type's own fault with this message, or want of memory
-abbrev pub IsCustom : List ℕ → WriteError → Type 0
-IsCustom message (Custom t) = string_bytes t ≡ message
-IsCustom message e = e ≡ OutOfMemory
+-- The error is that of the rule that was met, where this key is set. Want of memory may come at any time.
+abbrev pub Meets : {A : Type 0} → EmitError → List ℕ → Result A r.CallFault → Type 0
+Meets e.UnsupportedType k x = x ≡ Err r.unsupported_type
+Meets e.KeyNotString k x = x ≡ Err r.key_not_string
+Meets e.ValueAfterTable k x = x ≡ Err r.value_after_table
+Meets e.UnsupportedNone k x = x ≡ Err r.unsupported_none
+Meets e.DuplicateKey k x = x ≡ Err (r.duplicate_key k)
+Meets e.CallOrder k x = x ≡ Err r.call_order
+Meets e.NestedTooDeeply k x = x ≡ Err r.nested_too_deeply
+Meets e.OutOfMemory k x = ⊤

@@ -11,6 +11,7 @@ use Rattle.basic_toml_emit.specs.declared.frames.Stage.{Stage}
 use Rattle.basic_toml_emit.specs.declared.frames.Stage.TheVariants.{NoKey, KeyPlace, KeySet}
 use Rattle.basic_toml_emit.specs.declared.frames.ElementKind.{ElementKind}
 use Rattle.basic_toml_emit.specs.declared.frames.ElementKind.TheVariants.{Unknown, Tables, Others}
+use Rattle.basic_toml_emit.specs.declared.frames.TableFrame.{TableFrame}
 use Rattle.basic_toml_emit.specs.declared.frames.Frame.{Frame}
 use Rattle.basic_toml_emit.specs.declared.frames.Frame.TheVariants.{Table, Array}
 
@@ -29,9 +30,16 @@ kind_of Unknown = o.unknown
 kind_of Tables = o.tables
 kind_of Others = o.others
 
+abbrev pub table_of : TableFrame → o.OpenTable
+table_of f = record {
+  header = header_of f.header;
+  holds_section = f.holds_section;
+  keys = keys_of f.keys.value;
+  last = last_of f.keys.value;
+}
+
 abbrev pub frame_of : Frame → o.Frame
-frame_of (Table f) = o.a_table (header_of f.header) (stage_of f.stage (pending_of f.keys.value)) f.holds_section
-    (keys_of f.keys.value) (last_of f.keys.value)
+frame_of (Table f) = o.a_table (stage_of f.stage (pending_of f.keys.value)) (table_of f)
 frame_of (Array kind later) = o.an_array (kind_of kind) later
 
 abbrev pub frames_onto : List Frame → List o.Frame → List o.Frame
@@ -44,9 +52,9 @@ frames_of fs = frames_onto fs []
 
 -- what a frame adds to the text of a path
 abbrev pub path_part : Bool → o.Frame → List ℕ
-path_part first (o.a_table _ _ _ _ l) = cond first [] (ascii.period ∷ []) ++ written_key (last_key l)
+path_part first (o.a_table _ t) = cond first [] (ascii.period ∷ []) ++ written_key (last_key t.last)
 path_part first (o.an_array _ _) = []
 
 abbrev pub first_after : Bool → o.Frame → Bool
-first_after first (o.a_table _ _ _ _ _) = false
+first_after first (o.a_table _ _) = false
 first_after first (o.an_array _ _) = first

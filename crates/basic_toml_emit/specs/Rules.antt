@@ -17,9 +17,9 @@ pub data Place : Type 0 where
 abbrev pub place_of : List Frame → Bool → Place
 place_of [] false = at_start
 place_of [] true = at_end
-place_of (a_table _ no_key _ _ _ ∷ _) _ = in_table
-place_of (a_table _ key_place _ _ _ ∷ _) _ = at_key
-place_of (a_table _ (key_set _) _ _ _ ∷ _) _ = at_value
+place_of (a_table no_key _ ∷ _) _ = in_table
+place_of (a_table key_place _ ∷ _) _ = at_key
+place_of (a_table (key_set _) _ ∷ _) _ = at_value
 place_of (an_array _ _ ∷ _) _ = in_array
 
 abbrev pub is_text : Item → Bool
@@ -75,7 +75,7 @@ is_absent_outside in_array an_absent = true
 is_absent_outside _ _ = false
 
 abbrev pub is_in_table : List Frame → Bool
-is_in_table (a_table _ _ _ _ _ ∷ _) = true
+is_in_table (a_table _ _ ∷ _) = true
 is_in_table _ = false
 
 abbrev pub is_in_array : List Frame → Bool
@@ -93,22 +93,22 @@ is_misfit _ i = false
 
 -- a present entry whose key has a present entry already
 abbrev pub is_repeated : List Frame → Item → Bool
-is_repeated (a_table _ (key_set k) _ present _ ∷ _) i = is_present i && present k
+is_repeated (a_table (key_set k) t ∷ _) i = is_present i && t.keys k
 is_repeated _ i = false
 
 abbrev pub key_of : List Frame → List ℕ
-key_of (a_table _ (key_set k) _ _ _ ∷ _) = k
+key_of (a_table (key_set k) _ ∷ _) = k
 key_of _ = []
 
 -- a table or a non-empty array of tables was written in the innermost table
 abbrev pub holds_section : List Frame → Bool
-holds_section (a_table _ _ written _ _ ∷ _) = written
+holds_section (a_table _ t ∷ _) = t.holds_section
 holds_section _ = false
 
 -- A row after a section of its table; an array is a row from its first element that is no table, or from its end where
 -- it is empty.
 abbrev pub is_late_row : List Frame → Item → Bool
-is_late_row (a_table _ (key_set _) written _ _ ∷ _) (a_scalar _) = written
+is_late_row (a_table (key_set _) t ∷ _) (a_scalar _) = t.holds_section
 is_late_row (an_array unknown _ ∷ fs) (a_scalar _) = holds_section fs
 is_late_row (an_array unknown _ ∷ fs) open_array = holds_section fs
 is_late_row (an_array unknown _ ∷ fs) close = holds_section fs

@@ -1,22 +1,20 @@
 //! The emitter.
-ghost use Rattle.std.specs.Prelude.{◌≡◌, ◌&&◌, true, [], Result, if◌then◌else◌, string_bytes};
-ghost use Rattle.basic_toml_emit.specs.declared.fault.Fault.TheVariants.{CallOrder};
+ghost use Rattle.std.specs.Prelude.{◌≡◌, ◌&&◌, true, false, [], if◌then◌else◌, string_bytes};
+ghost use Rattle.basic_toml_emit.specs.declared.error.EmitError.TheVariants.{CallOrder};
 ghost use Rattle.basic_toml_emit.specs.Items.{a_scalar, an_absent, open_array, open_table, close, key, field, some_prefix, value_prefix, element_prefix};
 ghost use Rattle.basic_toml_layout.specs.Scalar.{scalar_of};
 ghost use Rattle.basic_toml_emit.specs.Recorded.{item_of};
-ghost use Rattle.basic_toml_emit.specs.Open.{State, state, fresh};
+ghost use Rattle.basic_toml_emit.specs.Open.{state, fresh};
 ghost use Rattle.basic_toml_emit.specs.Calls as c;
-ghost use Rattle.basic_toml_emit.specs.Rules.{CallFault, key_of};
-ghost use Rattle.basic_toml_emit.specs.Error.{Meets, Names};
+ghost use Rattle.basic_toml_emit.specs.Rules.{key_of};
 ghost use Rattle.basic_toml_emit.specs.Frames.{frames_of};
 
 mod prefixes;
 mod rows;
 mod sections;
 
-use crate::WriteError;
 use crate::call::Call;
-use crate::fault::Fault;
+use crate::error::EmitError;
 use crate::frames::{Frame, Header, innermost, is_nothing_open, key_set, new_table, put};
 use crate::keys::Keys;
 use basic_toml_layout::Scalar;
@@ -36,7 +34,7 @@ pub struct Emitter {
 }
 
 impl Emitter {
-    ghost use Rattle.basic_toml_emit.specs.Emitter.{state_of, Steps, Takes, HandsOut};
+    ghost use Rattle.basic_toml_emit.specs.Emitter.{state_of, Steps, HandsOut};
 
     /// An emitter that has taken nothing. Takes no memory.
     pub fn new(alloc: Global) -> Emitter
@@ -65,47 +63,18 @@ impl Emitter {
     }
 
     /// Whether nothing was taken yet, or nothing that left a trace.
-    #[tactic(auto, using(crate::proofs::FramesOfStack::nothing_open_yes))]
+    #[tactic(auto, using(crate::proofs::FramesOfStack::nothing_open_yes, crate::proofs::FramesOfStack::fresh_leaves))]
     pub fn is_fresh(&self) -> bool
-        ensures { result ≡ true → state_of self.now ≡ fresh }
+        ensures yes { result ≡ true → state_of self.now ≡ fresh }
+        ensures no { result ≡ false → state_of self.now ≡ fresh → ⊥ }
     {
         !self.is_done && self.frames.is_empty() && self.text.is_empty()
     }
 
     /// Takes what a call records, or answers the error that is due.
     #[inline(always)]
-    pub fn step(&mut self, call: Call<'_>) -> Result<(), WriteError>
+    pub fn step(&mut self, call: Call<'_>) -> Result<(), EmitError>
         ensures { Steps (item_of call.entry) self.old self.new result }
-    {
-        match self.take(call) {
-            Ok(()) => Ok(()),
-            Err(error) => Err(self.named(error)),
-        }
-    }
-
-    // An error that was met, with what it owns.
-    fn named(&self, error: Fault) -> WriteError
-        ensures { (x : Result State CallFault) → Meets error (key_of (frames_of self.now.frames.items)) x
-            → Names result x }
-    {
-        match error {
-            Fault::UnsupportedType => WriteError::UnsupportedType,
-            Fault::KeyNotString => WriteError::KeyNotString,
-            Fault::ValueAfterTable => WriteError::ValueAfterTable,
-            Fault::UnsupportedNone => WriteError::UnsupportedNone,
-            Fault::DuplicateKey => match String::from_str(self.alloc, key_set(&self.frames)) {
-                Ok(key) => WriteError::DuplicateKey(key),
-                Err(_) => WriteError::OutOfMemory,
-            },
-            Fault::CallOrder => WriteError::CallOrder,
-            Fault::NestedTooDeeply => WriteError::NestedTooDeeply,
-            Fault::OutOfMemory => WriteError::OutOfMemory,
-        }
-    }
-
-    #[inline(always)]
-    fn take(&mut self, call: Call<'_>) -> Result<(), Fault>
-        ensures { Takes (item_of call.entry) self.old self.new result }
     {
         match call {
             Call::Scalar(scalar) => self.scalar(scalar),
@@ -121,15 +90,22 @@ impl Emitter {
         }
     }
 
+    /// The key that is set in the innermost table, or the empty text.
+    pub fn key_set(&self) -> &str
+        ensures { result.now ≡ key_of (frames_of self.now.frames.items) }
+    {
+        key_set(&self.frames)
+    }
+
     /// The text, where the items made a whole table; else `CallOrder`. Takes no memory.
     #[tactic(auto, using(crate::proofs::FinishHandsOut::hands_out_whole, crate::proofs::FinishHandsOut::hands_out_nothing))]
-    pub fn finish(self) -> Result<String, WriteError>
-        ensures { HandsOut self result }
+    pub fn finish(self) -> Result<String, EmitError>
+        ensures { HandsOut CallOrder self result }
     {
         if self.is_whole() {
             Ok(self.text)
         } else {
-            Err(WriteError::CallOrder)
+            Err(EmitError::CallOrder)
         }
     }
 
@@ -141,11 +117,11 @@ impl Emitter {
     }
 
     // The error of a value that finds nothing open.
-    fn outside(&self, error: Fault) -> Fault
+    fn outside(&self, error: EmitError) -> EmitError
         ensures { result ≡ (if self.now.is_done then CallOrder else error) }
     {
         if self.is_done {
-            Fault::CallOrder
+            EmitError::CallOrder
         } else {
             error
         }
@@ -153,11 +129,11 @@ impl Emitter {
 
     // A value without parts of its own; at a key, the text of the key.
     #[inline(always)]
-    fn scalar(&mut self, scalar: Scalar<'_>) -> Result<(), Fault>
-        ensures { Takes (a_scalar (scalar_of scalar.entry)) self.old self.new result }
+    fn scalar(&mut self, scalar: Scalar<'_>) -> Result<(), EmitError>
+        ensures { Steps (a_scalar (scalar_of scalar.entry)) self.old self.new result }
     {
         match innermost(&self.frames) {
-            None => Err(self.outside(Fault::UnsupportedType)),
+            None => Err(self.outside(EmitError::UnsupportedType)),
             Some((Frame::Table(_), _)) => self.scalar_in_table(scalar),
             Some((Frame::Array { kind, later }, _)) => {
                 let (kind, later) = (*kind, *later);
@@ -166,13 +142,13 @@ impl Emitter {
         }
     }
 
-    fn open_table(&mut self) -> Result<(), Fault>
-        ensures { Takes open_table self.old self.new result }
+    fn open_table(&mut self) -> Result<(), EmitError>
+        ensures { Steps open_table self.old self.new result }
     {
         match innermost(&self.frames) {
             None => {
                 if self.is_done {
-                    return Err(Fault::CallOrder);
+                    return Err(EmitError::CallOrder);
                 }
                 let table = new_table(self.alloc, &mut self.spare, Header::Settled)?;
                 put(&mut self.frames, table)?;
@@ -186,11 +162,11 @@ impl Emitter {
         }
     }
 
-    fn open_array(&mut self) -> Result<(), Fault>
-        ensures { Takes open_array self.old self.new result }
+    fn open_array(&mut self) -> Result<(), EmitError>
+        ensures { Steps open_array self.old self.new result }
     {
         match innermost(&self.frames) {
-            None => Err(self.outside(Fault::UnsupportedType)),
+            None => Err(self.outside(EmitError::UnsupportedType)),
             Some((Frame::Table(_), _)) => self.open_array_in_table(),
             Some((Frame::Array { kind, later }, _)) => {
                 let (kind, later) = (*kind, *later);
@@ -200,11 +176,11 @@ impl Emitter {
     }
 
     // Closes the innermost array or table.
-    fn close(&mut self) -> Result<(), Fault>
-        ensures { Takes close self.old self.new result }
+    fn close(&mut self) -> Result<(), EmitError>
+        ensures { Steps close self.old self.new result }
     {
         match innermost(&self.frames) {
-            None => Err(Fault::CallOrder),
+            None => Err(EmitError::CallOrder),
             Some((Frame::Table(_), _)) => self.close_table(),
             Some((Frame::Array { kind, later }, _)) => {
                 let (kind, later) = (*kind, *later);

@@ -1,12 +1,14 @@
-//! Why a value is not written.
-use std::alloc::{AllocError, Global};
+//! Why an item is not taken.
+ghost use Rattle.std.specs.Prelude.{◌≡◌};
+ghost use Rattle.basic_toml_emit.specs.declared.error.EmitError.TheVariants.{OutOfMemory};
 
-/// Why a value was not written. No error has an offset.
-#[derive(Debug, Drop)]
-pub enum WriteError {
-    /// A kind of value that the text has no form for where it stands: a root that is no table, a table and a non-table
-    /// in one array, a table in an array of an array, a unit, a variant that holds data, an integer above
-    /// 9223372036854775807.
+use std::alloc::AllocError;
+
+/// Why an item is not taken. It owns no text, so that answers stay small on their way: a repeated key is the one that
+/// is set, [`Emitter::key_set`](crate::Emitter::key_set).
+#[derive(Clone, Copy)]
+pub enum EmitError {
+    /// A kind of value that the text has no form for where it stands.
     UnsupportedType,
     /// A key that is not a text.
     KeyNotString,
@@ -14,11 +16,9 @@ pub enum WriteError {
     ValueAfterTable,
     /// An absent option at the root or in an array.
     UnsupportedNone,
-    /// A type's own error, with its message.
-    Custom(String),
-    /// A second present entry under this key of one table.
-    DuplicateKey(String),
-    /// A call that may not stand where it came.
+    /// A second present entry under the key that is set.
+    DuplicateKey,
+    /// An item that may not stand where it came.
     CallOrder,
     /// An array or a table within 128 others.
     NestedTooDeeply,
@@ -26,27 +26,10 @@ pub enum WriteError {
     OutOfMemory,
 }
 
-impl From<AllocError> for WriteError {
-    ghost use Rattle.std.specs.Prelude.{◌≡◌};
-    ghost use Rattle.basic_toml_emit.specs.declared.error.WriteError.TheVariants.{OutOfMemory};
-
+impl From<AllocError> for EmitError {
     ghost from_gives = { λ _ e. e ≡ OutOfMemory };
 
-    fn from(_error: AllocError) -> WriteError {
-        WriteError::OutOfMemory
-    }
-}
-
-impl WriteError {
-    ghost use Rattle.basic_toml_emit.specs.Error.{IsCustom};
-
-    /// A type's own error. `OutOfMemory` where the message finds no memory.
-    pub fn custom(alloc: Global, message: &str) -> WriteError
-        ensures { IsCustom message.now result }
-    {
-        match String::from_str(alloc, message) {
-            Ok(copy) => WriteError::Custom(copy),
-            Err(_) => WriteError::OutOfMemory,
-        }
+    fn from(_error: AllocError) -> EmitError {
+        EmitError::OutOfMemory
     }
 }

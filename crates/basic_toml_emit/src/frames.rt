@@ -7,7 +7,7 @@ ghost use Rattle.basic_toml_emit.specs.Open as o;
 ghost use Rattle.basic_toml_emit.specs.Calls as c;
 ghost use Rattle.basic_toml_emit.specs.Rules.{key_of};
 ghost use Rattle.basic_toml_emit.specs.Changes.{outer, with_stage, with_entry, holds_key};
-ghost use Rattle.basic_toml_emit.specs.Frames.{frames_of, frame_of, header_of, stage_of};
+ghost use Rattle.basic_toml_emit.specs.Frames.{frames_of, frame_of, header_of, stage_of, kind_of};
 
 use crate::keys::Keys;
 use std::alloc::{AllocError, Global};
@@ -124,6 +124,14 @@ pub fn put(frames: &mut Vec<Frame>, frame: Frame) -> Result<(), AllocError>
         Ok(()) => Ok(()),
         Err(_) => Err(AllocError),
     }
+}
+
+// Opens an array with such elements.
+pub fn put_array(frames: &mut Vec<Frame>, kind: ElementKind, later: bool) -> Result<(), AllocError>
+    ensures { IfOk result (λ _. frames_of frames.new.items ≡ o.an_array (kind_of kind) later
+        ∷ frames_of frames.old.items) }
+{
+    put(frames, Frame::Array { kind, later })
 }
 
 // The innermost frame, and those around it.

@@ -7,7 +7,6 @@
 mod call;
 mod emitter;
 mod error;
-mod fault;
 mod frames;
 mod headers;
 mod keys;
@@ -16,5 +15,5 @@ mod names;
 pub use basic_toml_layout::{Scalar, write_key};
 pub use call::Call;
 pub use emitter::Emitter;
-pub use error::WriteError;
+pub use error::EmitError;
 pub use frames::NESTING_LIMIT;

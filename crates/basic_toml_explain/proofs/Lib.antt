@@ -1,3 +1,4 @@
+pub mod RefusedAfterComment
 pub mod TakenTokenStands
 pub mod NumberFaultIsFound
 pub mod FaultlessNumberHasValue

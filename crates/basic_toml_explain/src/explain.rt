@@ -1,5 +1,5 @@
 //! What stands where reading stops.
-ghost use Rattle.std.specs.Prelude.{◌≡◌, None, [], codes};
+ghost use Rattle.std.specs.Prelude.{◌≡◌, None, [], codes, IfSome};
 ghost use Rattle.std.specs.Str.{IsCharBoundary};
 ghost use Rattle.basic_toml_tokens.specs.Text.{text_at, folded, run};
 ghost use Rattle.basic_toml_grammar.specs.Faults as kinds;
@@ -14,7 +14,7 @@ use crate::cursor::Cursor;
 use crate::number::number;
 use crate::stop::{End, Stop, Why};
 use crate::{ReadError, ReadErrorKind};
-use basic_toml_tokens::{Error, token_at};
+use basic_toml_tokens::{Error, Token, token_at};
 use std::alloc::Global;
 
 // What is wanted after a value.
@@ -46,6 +46,20 @@ fn wanted_at(at: usize, expected: &'static str, found: &'static str) -> ReadErro
     ReadError::at(at, ReadErrorKind::Wanted { expected, found })
 }
 
+// The error of what follows the comment at an offset, if one stands there and that is refused.
+fn after_comment(alloc: Global, text: &str, at: usize) -> Option<ReadError>
+    requires boundary { IsCharBoundary text.now at }
+    requires before { IsAt (folded text.now) precedes_key (text_at text.now at) }
+    ensures { IfSome result (IsDue text.now) }
+{
+    if let Ok(Some((Token::Comment(_), end))) = token_at(alloc, text, at) {
+        if let Err(refusal) = token_at(alloc, text, end) {
+            return Some(ReadError::from(refusal.error));
+        }
+    }
+    None
+}
+
 // No key stands at an offset.
 fn no_key(alloc: Global, text: &str, at: usize) -> ReadError
     requires boundary { IsCharBoundary text.now at }
@@ -53,6 +67,9 @@ fn no_key(alloc: Global, text: &str, at: usize) -> ReadError
     requires none { key_at (text_at text.now at) ≡ None }
     ensures { IsDue text.now result }
 {
+    if let Some(error) = after_comment(alloc, text, at) {
+        return error;
+    }
     match Cursor::at(text, at).key(alloc) {
         Ok(_) => wanted(alloc, text, at, "a table key"),
         Err(error) => error,

@@ -55,6 +55,12 @@ pub mod SameTrees
 pub mod SameMapsReordered
 pub mod Reorderings
 pub mod SameChars
+pub mod AnotherEnd
+pub mod StringsCarried
+pub mod GrammarCarried
+pub mod NothingAboveTheLimit
+pub mod DeepValuesCompleted
+pub mod DeepTextsCompleted
 pub mod SameSections
 pub mod OffsetsForgotten
 pub mod RespelledLaws
@@ -68,4 +74,5 @@ pub mod StepsArePaths
 pub mod StopsByPath
 pub mod TrieStopsAreNamed
 pub mod WhatIsPutGoesOn
+pub mod DeepStopsAreTooDeep
 pub mod LawsHold

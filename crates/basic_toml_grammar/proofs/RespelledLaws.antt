@@ -85,11 +85,11 @@ feeds_folded p q (c ∷ cs) h = go (c == 10) refl (λ p q. feeds_folded p q cs (
         rw no (more (ih (p + len_utf8 c) (q + len_utf8 c)))
 
 -- the folded text of some characters, after one U+FEFF
-abbrev folded_chars : List ℕ → Text
+abbrev pub folded_chars : List ℕ → Text
 folded_chars [] = []
 folded_chars (c ∷ cs) = cond (c == 0xFEFF) (folded_from false 3 cs) (folded_from false 0 (c ∷ cs))
 
-chars_folded : (cs : List ℕ) → scalars cs ≡ true → folded (encode_utf8_all cs) ≡ folded_chars cs
+pub chars_folded : (cs : List ℕ) → scalars cs ≡ true → folded (encode_utf8_all cs) ≡ folded_chars cs
 unfolding encode
 chars_folded [] u = rw (chars-nil, chars-nil) refl
 chars_folded (c ∷ cs) u = rw (chars-encodes (c ∷ cs) u) (go (c == 0xFEFF) refl)

@@ -22,6 +22,7 @@ pub mod NamedClash
 pub mod Nodes
 -- Forms that only proofs go by: skip them
 pub mod Reader
+pub mod DeepStops
 pub mod Placed
 pub mod Marks
 pub mod Standing

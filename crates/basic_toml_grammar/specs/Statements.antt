@@ -26,6 +26,7 @@ use Rattle.basic_toml_grammar.specs.Distinct.{is_distinct}
 use Rattle.basic_toml_grammar.specs.Document.{has_clash, tree_of_sections, IsDocument}
 use Rattle.basic_toml_grammar.specs.Grammar.{IsSectionListBy, IsSectionList}
 use Rattle.basic_toml_grammar.specs.NestingFaults.{IsTooDeepAt, openers, before, tree_level}
+use Rattle.basic_toml_grammar.specs.DeepStops.{DeepStop}
 use Rattle.basic_toml_grammar.specs.Reader.{section_list_of}
 use Rattle.basic_toml_grammar.specs.Respelled.{characters, with_returns, has_return, with_byte_order_mark}
 use Rattle.basic_toml_grammar.specs.Respelled.{has_byte_order_mark}
@@ -103,6 +104,11 @@ DeepOffsetsAreOpened = (limit p : ℕ) (text : Text) → IsTooDeepAt limit text 
 -- so at a limit of 4 nothing is too deep in `a = !`, which is refused for another fault
 abbrev pub ShallowTextIsFree : Type 0
 ShallowTextIsFree = (p : ℕ) → IsTooDeepAt 4 (folded (codes "a = !")) p → ⊥
+
+-- what the reader goes by: where it meets a key or a bracket above the limit, that one is too deep
+abbrev pub DeepStopsAreTooDeep : Type 0
+DeepStopsAreTooDeep = (limit p : ℕ) (bytes : List ℕ) → IsUtf8 bytes → DeepStop limit (folded bytes) p
+    → IsTooDeepAt limit (folded bytes) p
 
 -- the same elements in another order, by exchanging neighbours
 pub data Reordered (A : Type 0) : List A → List A → Type 0 where

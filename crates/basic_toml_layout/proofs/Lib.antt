@@ -1,4 +1,3 @@
-pub mod Classes
 pub mod QuotedUpToEscape
 pub mod ViewsOfValues
 pub mod DataIsLaidOut

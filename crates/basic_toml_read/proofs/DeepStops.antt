@@ -1,153 +1,130 @@
--- A level above the limit comes only behind as many characters that lead deeper.
-use Rattle.std.proofs.Common.{◌≡◌, ◌≤◌, ◌+◌, ℕ, suc, List, length, refl, ap, subst, arith}
-use Rattle.std.proofs.Common.{true, Some, Result, Ok, Err, length-append, [], ◌∷◌}
+-- A level above the limit is met only at a key or a bracket that is too deep.
+use Rattle.std.proofs.Common.{◌≡◌, ◌≤◌, ◌<◌, ◌+◌, ◌-◌, ℕ, suc, List, length, refl, sym, subst, arith}
+use Rattle.std.proofs.Common.{Some, Result, Ok, Err, length-append, [], ◌∷◌, ◌++◌}
 use Rattle.std.specs.Result.{IsErrAnd}
 use Rattle.std.specs.Cow.{cow_str_bytes}
 use Rattle.basic_toml_tokens.specs.Text.{Text, text_at, is_comment, after_blanks}
 use Rattle.basic_toml_tokens.specs.Punctuation.{IsPunctuationEnd}
-use Rattle.basic_toml_grammar.specs.Grammar.{after_comment_by, after_gap}
-use Rattle.basic_toml_grammar.specs.NestingFaults.{leads_deeper, openers}
+use Rattle.basic_toml_grammar.specs.Sections.{Key}
+use Rattle.basic_toml_grammar.specs.Grammar.{after_gap, IsKeys}
+use Rattle.basic_toml_grammar.specs.DeepStops.{DeepKeys, DeepRow, value, DeepValue, array, inline, DeepArray}
+use Rattle.basic_toml_grammar.specs.DeepStops.{DeepElements, elements, DeepInline, DeepFields, fields, DeepHeader}
+use Rattle.basic_toml_grammar.specs.DeepStops.{table, array_of_tables}
 use Rattle.basic_toml_grammar.specs.Reader.{char_at}
+use Rattle.basic_toml_grammar.proofs.ReaderIsSound.{sign_read, keys_read}
 use Rattle.basic_toml_explain.specs.declared.stop.Stop.{Stop}
 use Rattle.basic_toml_explain.specs.declared.stop.Why.{Why}
 use Rattle.basic_toml_explain.specs.declared.stop.Why.TheVariants.{Deep}
-use Rattle.basic_toml_read.specs.declared.header.Header.{Header}
 use Rattle.basic_toml_read.specs.declared.scalar.Valued.{Valued}
 use Rattle.basic_toml_read.specs.declared.values.Gathered.{Gathered}
 use Rattle.basic_toml_read.specs.declared.values.LastKey.{LastKey}
 use Rattle.basic_toml_read.specs.AtPlace.{Leaves}
-use Rattle.basic_toml_read.specs.Gathers.{IsLastKey}
-use Rattle.basic_toml_read.specs.Lists.{IsHeaderRead, EndsLineAt}
-use Rattle.basic_toml_read.specs.StopsAt.{MissesString, MissesWord, ReadsStringAt, ReadsWordAt}
-use Rattle.basic_toml_read.specs.StopsReached.{DeepFrom, DeepWithin}
-use Rattle.basic_toml_read.proofs.HeadersRead.{header_length}
+use Rattle.basic_toml_read.specs.FrontOf.{keys_of}
+use Rattle.basic_toml_read.specs.Gathers.{RaisesTo, IsLastKey}
+use Rattle.basic_toml_read.specs.StopsAt.{MissesKey, MissesString, MissesWord, ReadsStringAt, ReadsWordAt}
+use Rattle.basic_toml_read.specs.StopsReached.{IfDeep}
+use Rattle.basic_toml_read.proofs.DeepFurtherOn.{sign_after}
 use Rattle.basic_toml_read.proofs.KeysTold.{stopped}
-use Rattle.basic_toml_read.proofs.LeftAfter.{sign_there}
-use Rattle.basic_toml_read.proofs.Sinking.{blanks_sink, gap_sinks, line_sinks, end_sinks, sign_sinks}
-use Rattle.basic_toml_read.proofs.Sinking.{keys_sink, header_sinks}
 
 -- a stop further on
-pub deep_on : {A : Type 0} (bytes : List ℕ) (at at' level level' : ℕ) (stop : Stop) (result : Result A Stop)
-    → IsErrAnd result (λ s. s ≡ stop)
-    → level' + openers (text_at bytes at') ≤ level + openers (text_at bytes at)
-    → ((n : ℕ) → level' + openers (text_at bytes at') ≤ suc n → stop.why ≡ Deep
-    → 128 + openers (text_at bytes stop.at) ≤ n) → DeepFrom bytes at level result
-deep_on bytes at at' level level' stop result e less s =
-    stopped (λ r. DeepFrom bytes at level r) result stop e (λ n h. s n (omega arith))
+pub deep_on : {A : Type 0} (Inner Outer : ℕ → Type 0) (stop : Stop) (result : Result A Stop)
+    → IsErrAnd result (λ s. s ≡ stop) → ((p : ℕ) → Inner p → Outer p) → (stop.why ≡ Deep → Inner stop.at)
+    → IfDeep Outer result
+deep_on Inner Outer stop result e f s = stopped (λ r. IfDeep Outer r) result stop e (λ d. f stop.at (s d))
+
+-- a result further on
+pub deep_result : {A : Type 0} (Inner Outer : ℕ → Type 0) (result : Result A Stop) → ((p : ℕ) → Inner p → Outer p)
+    → IfDeep Inner result → IfDeep Outer result
+deep_result Inner Outer (Ok x) f s = tt
+deep_result Inner Outer (Err stop) f s = λ d. f stop.at (s d)
 
 -- a stop for another reason
-pub shallow : {A : Type 0} (bytes : List ℕ) (at level : ℕ) (stop : Stop) (result : Result A Stop)
-    → IsErrAnd result (λ s. s ≡ stop) → (stop.why ≡ Deep → ⊥) → DeepFrom bytes at level result
-shallow bytes at level stop result e other =
-    stopped (λ r. DeepFrom bytes at level r) result stop e (λ n h d. absurd (other d))
+pub shallow : {A : Type 0} (Outer : ℕ → Type 0) (stop : Stop) (result : Result A Stop)
+    → IsErrAnd result (λ s. s ≡ stop) → (stop.why ≡ Deep → ⊥) → IfDeep Outer result
+shallow Outer stop result e other = stopped (λ r. IfDeep Outer r) result stop e (λ d. absurd (other d))
 
--- no scalar stops for its level
+-- a key or a bracket at an offset
+pub raised : {A : Type 0} (Outer : ℕ → Type 0) (level at : ℕ) (stop : Stop) (result : Result A Stop)
+    → IsErrAnd result (λ s. s ≡ stop) → RaisesTo level at (Err stop) → (128 < level → Outer at) → IfDeep Outer result
+raised Outer level at stop result e r f =
+    stopped (λ r. IfDeep Outer r) result stop e (λ d. subst (λ (s : Stop). Outer s.at) (sym r.1) (f r.0))
+
+-- no key and no scalar stops for its level
+pub no_key_deep : (w : Why) (text : Text) → MissesKey w text → w ≡ Deep → ⊥
+no_key_deep w text m e = subst (λ (w : Why). MissesKey w text) e m
+
 pub no_string_deep : (w : Why) (text : Text) → MissesString w text → w ≡ Deep → ⊥
 no_string_deep w text m e = subst (λ (w : Why). MissesString w text) e m
 
 pub no_word_deep : (w : Why) (text : Text) → MissesWord w text → w ≡ Deep → ⊥
 no_word_deep w text m e = subst (λ (w : Why). MissesWord w text) e m
 
--- what is left at offsets
-pub blanks_left : (bytes : List ℕ) (at next : ℕ) → Leaves bytes at next (after_blanks (text_at bytes at))
-    → openers (text_at bytes next) ≤ openers (text_at bytes at)
-blanks_left bytes at next l = omega (arith, ap openers l.left, blanks_sink (text_at bytes at))
+pub string_shallow : (bytes : List ℕ) (at : ℕ) (Outer : ℕ → Type 0) (result : Result Valued Stop)
+    → ReadsStringAt bytes at result → IfDeep Outer result
+string_shallow bytes at Outer (Ok v) r = tt
+string_shallow bytes at Outer (Err stop) r = λ d. absurd (no_string_deep stop.why (text_at bytes at) r.0 d)
 
-pub gap_left : (bytes : List ℕ) (at next : ℕ) → Leaves bytes at next (after_gap is_comment (text_at bytes at))
-    → openers (text_at bytes next) ≤ openers (text_at bytes at)
-gap_left bytes at next l = omega (arith, ap openers l.left, gap_sinks (text_at bytes at))
+pub word_shallow : (bytes : List ℕ) (at : ℕ) (Outer : ℕ → Type 0) (result : Result Valued Stop)
+    → ReadsWordAt bytes at result → IfDeep Outer result
+word_shallow bytes at Outer (Ok v) r = tt
+word_shallow bytes at Outer (Err stop) r = λ d. absurd (no_word_deep stop.why (text_at bytes at) r.0 d)
 
--- after the keys of a row
-pub last_key_left : (bytes : List ℕ) (at level : ℕ) (old new : Gathered) (last : LastKey)
-    → IsLastKey bytes at level old new last
-    → last.level + openers (text_at bytes last.end) ≤ level + openers (text_at bytes at)
-last_key_left bytes at level old new last k =
+-- from the keys of a header to the header
+pub header_keys_deep : (bytes : List ℕ) (at inner start : ℕ)
+    → char_at 91 (text_at bytes at) ≡ Some (at, text_at bytes inner)
+    → Leaves bytes inner start (after_blanks (text_at bytes inner)) → (p : ℕ) → DeepKeys 128 2 (text_at bytes start) p
+    → DeepHeader 128 (text_at bytes at) p
+header_keys_deep bytes at inner start sign left p d =
+    table (sign_read 91 (text_at bytes at) (at, text_at bytes inner) sign)
+    (subst (λ (t : Text). DeepKeys 128 2 t p) left.left d)
+
+pub array_keys_deep : (bytes : List ℕ) (at inner first start : ℕ)
+    → char_at 91 (text_at bytes at) ≡ Some (at, text_at bytes inner) → IsPunctuationEnd 91 bytes inner (Some first)
+    → Leaves bytes first start (after_blanks (text_at bytes first)) → (p : ℕ) → DeepKeys 128 2 (text_at bytes start) p
+    → DeepHeader 128 (text_at bytes at) p
+array_keys_deep bytes at inner first start sign two left p d =
+    array_of_tables (sign_read 91 (text_at bytes at) (at, text_at bytes inner) sign)
+    (sign_after bytes inner first 91 refl two) (subst (λ (t : Text). DeepKeys 128 2 t p) left.left d)
+
+-- from a value to its row
+keys_there : (text : Text) (r : List Key × Text) → keys_of text ≡ Some r → IsKeys text r.0 r.1
+unfolding keys_of
+keys_there text r e = keys_read (suc (length text)) text r e
+
+pub value_deep : (bytes : List ℕ) (at level : ℕ) (old new : Gathered) (last : LastKey) (next start : ℕ)
+    → IsLastKey bytes at level old new last → IsPunctuationEnd 61 bytes last.end (Some next)
+    → Leaves bytes next start (after_blanks (text_at bytes next)) → (p : ℕ)
+    → DeepValue 128 last.level (text_at bytes start) p → DeepRow 128 level (text_at bytes at) p
+value_deep bytes at level old new last next start k sign left p d =
+    let keys : List Key = k.front ++ (record { offset = last.offset; text = cow_str_bytes last.key } ∷ []) in
+    let same : last.level ≡ level + length keys - 1 =
     omega (
       arith,
       k.level_is,
-      ap openers k.after,
-      blanks_sink k.mid,
-      keys_sink (text_at bytes at) k.mid k.is,
       length-append k.front (record { offset = last.offset; text = cow_str_bytes last.key } ∷ []),
-    )
+    ) in
+    value (keys_there (text_at bytes at) (keys, k.mid) k.is) (omega (arith, same, k.limit))
+    (sign_after bytes last.end next 61 k.after sign)
+    (subst (λ (t : Text). DeepValue 128 (level + length keys - 1) t p) left.left
+    (subst (λ (l : ℕ). DeepValue 128 l (text_at bytes start) p) same d))
 
-pub header_left : (bytes : List ℕ) (at : ℕ) (h : Header) → IsHeaderRead bytes at h
-    → length h.keys.items + openers (text_at bytes h.end) ≤ openers (text_at bytes at)
-header_left bytes at h r =
-    omega (arith, header_sinks (text_at bytes at) _ r.is, header_length h.offsets.items h.keys.items r.same)
+-- from what stands after a bracket to the value
+pub array_deep : (bytes : List ℕ) (at next level : ℕ) → IsPunctuationEnd 91 bytes at (Some next) → (p : ℕ)
+    → DeepArray 128 (level + 1) at (text_at bytes next) p → DeepValue 128 level (text_at bytes at) p
+array_deep bytes at next level sign p d = array (sign_after bytes at next 91 refl sign) d
 
-pub line_left : (bytes : List ℕ) (at next : ℕ) → EndsLineAt bytes at (Ok next)
-    → openers (text_at bytes next) ≤ openers (text_at bytes at)
-line_left bytes at next e =
-    omega (
-      arith,
-      end_sinks (after_comment_by is_comment (after_blanks (text_at bytes at))) (text_at bytes next) e.0,
-      line_sinks (text_at bytes at),
-    )
+pub inline_deep : (bytes : List ℕ) (at next level : ℕ) → IsPunctuationEnd 123 bytes at (Some next) → (p : ℕ)
+    → DeepInline 128 (level + 1) at (text_at bytes next) p → DeepValue 128 level (text_at bytes at) p
+inline_deep bytes at next level sign p d = inline (sign_after bytes at next 123 refl sign) d
 
--- over the brackets of a header, and a sign that leads deeper
-pub sign_left : (bytes : List ℕ) (at next c : ℕ) → IsPunctuationEnd c bytes at (Some next) → leads_deeper c ≡ true
-    → openers (text_at bytes at) ≡ suc (openers (text_at bytes next))
-sign_left bytes at next c s d = sign_sinks c (text_at bytes at) (at, text_at bytes next) (sign_there s.0) d
+pub elements_deep : (bytes : List ℕ) (offset at start level : ℕ) → level ≤ 128
+    → Leaves bytes at start (after_gap is_comment (text_at bytes at)) → (p : ℕ)
+    → DeepElements 128 level (text_at bytes start) p → DeepArray 128 level offset (text_at bytes at) p
+elements_deep bytes offset at start level h left p d =
+    elements h (subst (λ (t : Text). DeepElements 128 level t p) left.left d)
 
-pub to_keys_left : (bytes : List ℕ) (at inner start : ℕ) → char_at 91 (text_at bytes at) ≡ Some (at, text_at bytes inner)
-    → Leaves bytes inner start (after_blanks (text_at bytes inner))
-    → 2 + openers (text_at bytes start) ≤ 1 + openers (text_at bytes at)
-to_keys_left bytes at inner start sign left =
-    omega (
-      arith,
-      sign_sinks 91 (text_at bytes at) (at, text_at bytes inner) sign refl,
-      blanks_left bytes inner start left,
-    )
-
-pub to_array_keys_left : (bytes : List ℕ) (at inner first start : ℕ)
-    → char_at 91 (text_at bytes at) ≡ Some (at, text_at bytes inner) → IsPunctuationEnd 91 bytes inner (Some first)
-    → Leaves bytes first start (after_blanks (text_at bytes first))
-    → 2 + openers (text_at bytes start) ≤ 1 + openers (text_at bytes at)
-to_array_keys_left bytes at inner first start sign two left =
-    omega (
-      arith,
-      sign_sinks 91 (text_at bytes at) (at, text_at bytes inner) sign refl,
-      sign_left bytes inner first 91 two refl,
-      blanks_left bytes first start left,
-    )
-
--- what is read of a bracket
-pub within_value : {A : Type 0} (bytes : List ℕ) (at next level c : ℕ) (result : Result A Stop)
-    → IsPunctuationEnd c bytes at (Some next) → leads_deeper c ≡ true
-    → DeepWithin bytes at next (level + 1) result → DeepFrom bytes at (level + 1) result
-within_value bytes at next level c result s d f = λ n h. f n h (omega (arith, sign_left bytes at next c s d))
-
--- after a row's keys and its sign
-pub to_value_left : (bytes : List ℕ) (at level : ℕ) (old new : Gathered) (last : LastKey) (next start : ℕ)
-    → IsLastKey bytes at level old new last → IsPunctuationEnd 61 bytes last.end (Some next)
-    → Leaves bytes next start (after_blanks (text_at bytes next))
-    → last.level + 1 + openers (text_at bytes start) ≤ level + openers (text_at bytes at)
-to_value_left bytes at level old new last next start k sign left =
-    omega (
-      arith,
-      last_key_left bytes at level old new last k,
-      sign_left bytes last.end next 61 sign refl,
-      blanks_left bytes next start left,
-    )
-
--- scalars stop for other reasons
-pub string_shallow : (bytes : List ℕ) (at level : ℕ) (result : Result Valued Stop) → ReadsStringAt bytes at result
-    → DeepFrom bytes at level result
-string_shallow bytes at level (Ok v) r = λ n h. tt
-string_shallow bytes at level (Err stop) r =
-    λ n h d. absurd (no_string_deep stop.why (text_at bytes at) r.0 d)
-
-pub word_shallow : (bytes : List ℕ) (at level : ℕ) (result : Result Valued Stop) → ReadsWordAt bytes at result
-    → DeepFrom bytes at level result
-word_shallow bytes at level (Ok v) r = λ n h. tt
-word_shallow bytes at level (Err stop) r = λ n h d. absurd (no_word_deep stop.why (text_at bytes at) r.0 d)
-
--- a stop within brackets
-pub deep_within : {A : Type 0} (bytes : List ℕ) (offset at level at' level' : ℕ) (stop : Stop) (result : Result A Stop)
-    → IsErrAnd result (λ s. s ≡ stop)
-    → level' + openers (text_at bytes at') ≤ level + 1 + openers (text_at bytes at)
-    → ((n : ℕ) → level' + openers (text_at bytes at') ≤ suc n → stop.why ≡ Deep
-    → 128 + openers (text_at bytes stop.at) ≤ n) → DeepWithin bytes offset at level result
-deep_within bytes offset at level at' level' stop result e less s =
-    stopped (λ r. DeepWithin bytes offset at level r) result stop e (λ n g h. s n (omega arith))
+pub fields_deep : (bytes : List ℕ) (offset at start level : ℕ) → level ≤ 128
+    → Leaves bytes at start (after_blanks (text_at bytes at)) → (p : ℕ)
+    → DeepFields 128 level (text_at bytes start) p → DeepInline 128 level offset (text_at bytes at) p
+fields_deep bytes offset at start level h left p d =
+    fields h (subst (λ (t : Text). DeepFields 128 level t p) left.left d)

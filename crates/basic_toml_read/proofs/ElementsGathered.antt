@@ -26,8 +26,8 @@ use Rattle.basic_toml_grammar.proofs.ReaderIsSound.{found_some}
 use Rattle.basic_toml_grammar.proofs.ReaderIsComplete.{gap}
 use Rattle.basic_toml_explain.specs.StopPlaces.{before_value}
 use Rattle.basic_toml_read.proofs.Carried.{Carries, stays, then_on, over_element}
-use Rattle.basic_toml_grammar.specs.NestingFaults.{openers}
-use Rattle.basic_toml_read.proofs.Sinking.{value_sinks, gap_sinks, other_sinks}
+use Rattle.basic_toml_grammar.specs.DeepStops.{DeepElements}
+use Rattle.basic_toml_read.proofs.DeepFurtherOn.{past_element}
 use Rattle.basic_toml_read.proofs.EnoughSteps.{elements_is}
 use Rattle.basic_toml_read.proofs.LeftAfter.{sign_there, sign_missing}
 use Rattle.basic_toml_read.proofs.ViewsSeen.{element_seen}
@@ -98,7 +98,7 @@ pub record ElementsSoFar (bytes : List ℕ) (start level at : ℕ) (old new : Ga
   pub boundary : IsCharBoundary bytes at
   pub forward : start ≤ at
   pub carries : Carries before_value (text_at bytes start) before_value (text_at bytes at)
-  pub sinks : openers (text_at bytes at) ≤ openers (text_at bytes start)
+  pub leads : (p : ℕ) → DeepElements 128 level (text_at bytes at) p → DeepElements 128 level (text_at bytes start) p
 
 pub elements_start : (bytes : List ℕ) (start level : ℕ) (old : Gathered) → IsCharBoundary bytes start
     → ElementsSoFar bytes start level start old old
@@ -111,7 +111,7 @@ elements_start bytes start level old b = record {
   boundary = b;
   forward = omega arith;
   carries = stays;
-  sinks = omega arith;
+  leads = λ p d. d;
 }
 
 -- what stands after a value that is read
@@ -257,16 +257,9 @@ module _ (bytes : List ℕ) (start level at : ℕ) (old new : Gathered) (s : Ele
             (over_element bytes at after next at'
             (record { offset = v.offset; value = r.found.raw; rest = text_at bytes v.end }) v.end r.found.is refl left
             sign later);
-        sinks = omega (
-          arith,
-          s.sinks,
-          value_sinks (text_at bytes at) _ r.found.is,
-          ap openers left.left,
-          gap_sinks (text_at bytes v.end),
-          other_sinks 44 (text_at bytes after) (after, text_at bytes next) (sign_there sign.0),
-          ap openers later.left,
-          gap_sinks (text_at bytes next),
-        );
+        leads = λ p d. s.leads p (past_element bytes at v.end after next at' level
+            (record { offset = v.offset; value = r.found.raw; rest = text_at bytes v.end }) r.found.is refl r.limit
+            left sign later p d);
       }
 
       last_on : IsPunctuationEnd 44 bytes after None → elements_of (text_at bytes start)

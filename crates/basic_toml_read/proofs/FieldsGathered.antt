@@ -23,8 +23,8 @@ use Rattle.basic_toml_grammar.proofs.StringsAreRead.{then_some}
 use Rattle.basic_toml_grammar.proofs.ReaderIsSound.{found_some}
 use Rattle.basic_toml_grammar.specs.GrammarFaults.{precedes_key}
 use Rattle.basic_toml_read.proofs.Carried.{Carries, stays, then_on, over_field}
-use Rattle.basic_toml_grammar.specs.NestingFaults.{openers}
-use Rattle.basic_toml_read.proofs.Sinking.{row_sinks, blanks_sink, other_sinks}
+use Rattle.basic_toml_grammar.specs.DeepStops.{DeepFields}
+use Rattle.basic_toml_read.proofs.DeepFurtherOn.{past_field}
 use Rattle.basic_toml_read.proofs.EnoughSteps.{fields_is, fields_on_is}
 use Rattle.basic_toml_read.proofs.LeftAfter.{sign_there, sign_missing}
 use Rattle.basic_toml_read.proofs.KeysTold.{misses_then}
@@ -104,7 +104,7 @@ pub record FieldsSoFar (bytes : List ℕ) (start level at : ℕ) (old new : Gath
   pub boundary : IsCharBoundary bytes at
   pub forward : start ≤ at
   pub carries : Carries precedes_key (text_at bytes start) precedes_key (text_at bytes at)
-  pub sinks : openers (text_at bytes at) ≤ openers (text_at bytes start)
+  pub leads : (p : ℕ) → DeepFields 128 level (text_at bytes at) p → DeepFields 128 level (text_at bytes start) p
 
 no_brace : (bytes : List ℕ) (start : ℕ) → IsPunctuationEnd 125 bytes start None
     → fields_of (text_at bytes start) ≡ fields_on_of (text_at bytes start)
@@ -124,7 +124,7 @@ fields_start bytes start level old b sign = record {
   boundary = b;
   forward = omega arith;
   carries = stays;
-  sinks = omega arith;
+  leads = λ p d. d;
 }
 
 pub fields_none : (bytes : List ℕ) (start level end : ℕ) (old : Gathered) → IsPunctuationEnd 125 bytes start (Some end)
@@ -246,17 +246,8 @@ module _ (bytes : List ℕ) (start level at : ℕ) (old new : Gathered) (s : Fie
       boundary = later.boundary;
       forward = omega (arith, s.forward, r.later, left.forward, sign.2, later.forward);
       carries = then_on s.carries (over_field bytes at after next at' r.found end r.is r.rest left sign later);
-      sinks = omega (
-        arith,
-        s.sinks,
-        row_sinks (text_at bytes at) r.found r.is,
-        ap openers r.rest,
-        ap openers left.left,
-        blanks_sink (text_at bytes end),
-        other_sinks 44 (text_at bytes after) (after, text_at bytes next) (sign_there sign.0),
-        ap openers later.left,
-        blanks_sink (text_at bytes next),
-      );
+      leads = λ p d. s.leads p (past_field bytes at end after next at' level r.found r.is r.rest r.limit left sign
+          later p d);
     }
 
     last_on : IsPunctuationEnd 44 bytes after None → fields_of (text_at bytes start)

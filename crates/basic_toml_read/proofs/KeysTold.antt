@@ -21,8 +21,8 @@ use Rattle.basic_toml_grammar.proofs.StringsAreRead.{then_some}
 use Rattle.basic_toml_grammar.proofs.ReaderIsSound.{found_some}
 use Rattle.basic_toml_grammar.specs.GrammarFaults.{precedes_key}
 use Rattle.basic_toml_read.proofs.Carried.{Carries, stays, then_on, over_period}
-use Rattle.basic_toml_grammar.specs.NestingFaults.{openers}
-use Rattle.basic_toml_read.proofs.Sinking.{key_sinks, blanks_sink, sign_sinks}
+use Rattle.basic_toml_grammar.specs.DeepStops.{DeepKeys}
+use Rattle.basic_toml_read.proofs.DeepFurtherOn.{deep_key_there, past_key}
 use Rattle.basic_toml_read.proofs.EnoughSteps.{keys_is}
 use Rattle.basic_toml_read.proofs.LeftAfter.{sign_there, sign_missing}
 
@@ -80,7 +80,7 @@ pub record KeysTold (bytes : List ℕ) (at first offset level : ℕ) (front : Li
   pub boundary : IsCharBoundary bytes offset
   pub forward : at ≤ offset
   pub carries : Carries precedes_key (text_at bytes at) precedes_key (text_at bytes offset)
-  pub sinks : level + openers (text_at bytes offset) ≤ first + openers (text_at bytes at)
+  pub leads : (p : ℕ) → DeepKeys 128 level (text_at bytes offset) p → DeepKeys 128 first (text_at bytes at) p
 
 pub told_start : (bytes : List ℕ) (at first : ℕ) → first ≤ 128 → IsCharBoundary bytes at
     → KeysTold bytes at first at first []
@@ -93,7 +93,7 @@ told_start bytes at first low b =
           b;
       forward = omega arith;
       carries = stays;
-      sinks = omega arith;
+      leads = λ p d. d;
     }
 
 module _ (bytes : List ℕ) (at first offset level : ℕ) (front : List Key)
@@ -141,6 +141,11 @@ module _ (bytes : List ℕ) (at first offset level : ℕ) (front : List Key)
             | inr h ↦ (let there : k.0 ∷ [] ≡ keys.0 = cc in omega (arith, ap length there))
           ]
 
+  -- such a key is too deep
+  pub key_is_deep : (k : Keyed) → ReadsKeyAt bytes offset (Ok k) → 128 < level
+      → DeepKeys 128 first (text_at bytes at) offset
+  key_is_deep k key h = s.leads offset (deep_key_there level (text_at bytes offset) (text_at bytes k.end) h key.0)
+
   module _ (k : Keyed) (key : ReadsKeyAt bytes offset (Ok k)) (end : ℕ)
       (blanks : Leaves bytes k.end end (after_blanks (text_at bytes k.end))) (high : level ≤ 128) where
     here : Key
@@ -166,16 +171,8 @@ module _ (bytes : List ℕ) (at first offset level : ℕ) (front : List Key)
           boundary = after.boundary;
           forward = omega (arith, s.forward, key.2, blanks.forward, after.forward, sign.2);
           carries = then_on s.carries (over_period bytes offset k.end end next offset' key.0 blanks sign after);
-          sinks = omega (
-            arith,
-            s.sinks,
-            key_sinks (text_at bytes offset) (text_at bytes k.end) key.0,
-            ap openers blanks.left,
-            blanks_sink (text_at bytes k.end),
-            sign_sinks 46 (text_at bytes end) (end, text_at bytes next) (sign_there sign.0) refl,
-            ap openers after.left,
-            blanks_sink (text_at bytes next),
-          );
+          leads = λ p d. s.leads p
+              (past_key bytes offset k.end end next offset' level high key.0 blanks sign after p d);
         }
 
     -- no period

@@ -16,5 +16,5 @@ pub mod Reaching
 pub mod Carried
 pub mod StopsStand
 pub mod ListIsAnswered
-pub mod Sinking
+pub mod DeepFurtherOn
 pub mod DeepStops

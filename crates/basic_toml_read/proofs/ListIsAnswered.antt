@@ -1,12 +1,14 @@
 -- What `sections` answers: the list that is read, or why there is none.
-use Rattle.std.proofs.Common.{inl, inr, ◌≡◌, ◌<◌, ◌≤◌, ◌+◌, ℕ, List, refl, sym, ◌∙◌, subst, Some, None, Ok, Vec, Global}
-use Rattle.basic_toml_tokens.specs.Text.{text_at, folded}
+use Rattle.std.proofs.Common.{inl, inr, ◌≡◌, ◌<◌, ℕ, List, refl, sym, ◌∙◌, subst, Some, None, Ok, Vec, Global}
+use Rattle.std.specs.Prelude.{IsUtf8}
+use Rattle.basic_toml_tokens.specs.Text.{folded}
 use Rattle.basic_toml_grammar.specs.Faults.{Fault}
 use Rattle.basic_toml_grammar.specs.Levels.{highest_level}
-use Rattle.basic_toml_grammar.specs.NestingFaults.{openers}
+use Rattle.basic_toml_grammar.specs.DeepStops.{DeepStop}
 use Rattle.basic_toml_grammar.specs.Reader.{section_list_of}
 use Rattle.basic_toml_grammar.proofs.ReaderIsComplete.{list_found}
 use Rattle.basic_toml_grammar.proofs.ReaderIsSound.{list_read}
+use Rattle.basic_toml_grammar.proofs.DeepStopsAreTooDeep.{deep_stops_are_too_deep}
 use Rattle.basic_toml_explain.specs.declared.stop.Why.{Why}
 use Rattle.basic_toml_explain.specs.declared.stop.Why.TheVariants.{Memory, Deep}
 use Rattle.basic_toml_explain.specs.Explain.{IsDue, ExplainsWhy}
@@ -28,11 +30,12 @@ of_grammar bytes fault more none (inr s) = outside (record {
   stands = s;
 })
 
-pub stop_answered : (bytes : List ℕ) (w : Why) (at : ℕ) (fault : Fault) → HoldsMore (folded bytes)
-    → (w ≡ Deep → 128 + openers (text_at bytes at) ≤ openers (folded bytes))
+pub stop_answered : (bytes : List ℕ) (w : Why) (at : ℕ) (fault : Fault) → IsUtf8 bytes → HoldsMore (folded bytes)
+    → (w ≡ Deep → DeepStop 128 (folded bytes) at)
     → Misses w (section_list_of (folded bytes)) (λ sections. 128 < highest_level sections)
     → ExplainsWhy bytes w at fault → IsRefused bytes fault
-stop_answered bytes Memory at fault more low m e = subst (IsRefused bytes) (sym e) (memory more)
-stop_answered bytes Deep at fault more low m e =
-    subst (IsRefused bytes) (sym e) (deep (λ sections g. m sections (list_found (folded bytes) sections g)) (low refl))
-stop_answered bytes _ at fault more low m e = of_grammar bytes fault more m e
+stop_answered bytes Memory at fault u more low m e = subst (IsRefused bytes) (sym e) (memory more)
+stop_answered bytes Deep at fault u more low m e =
+    subst (IsRefused bytes) (sym e) (deep (λ sections g. m sections (list_found (folded bytes) sections g))
+    (deep_stops_are_too_deep 128 at bytes u (low refl)))
+stop_answered bytes _ at fault u more low m e = of_grammar bytes fault more m e

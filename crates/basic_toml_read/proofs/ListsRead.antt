@@ -1,7 +1,7 @@
 -- The sections of a text, one by one.
 use Rattle.std.proofs.Common.{◌≡◌, ℕ, ◌+◌, ◌-◌, ◌<◌, ◌≤◌, max, false, List, [], ◌∷◌, ◌++◌, length, map, refl, ap}
 use Rattle.std.proofs.Common.{sym, ◌∙◌, arith, append_assoc, append-nil, Option, Some, None, Ok, Err, Vec, Global}
-use Rattle.std.proofs.Common.{drop, take, inl, subst, Result, IfErr}
+use Rattle.std.proofs.Common.{drop, take, inl, subst, suc, ◌*◌, Result, IfErr}
 use Rattle.std.proofs.lemmas.List.{map-append}
 use Rattle.std.specs.Cow.{cow_str_bytes}
 use Rattle.basic_toml_tokens.specs.Text.{Text, text_at, folded, start_of, after_blanks}
@@ -29,9 +29,10 @@ use Rattle.basic_toml_grammar.specs.GrammarFaults.{Reached, at_start}
 use Rattle.basic_toml_explain.specs.StopPlaces.{after_value, anywhere, IsAt}
 use Rattle.basic_toml_read.specs.StopsReached.{LineAt, NextStands}
 use Rattle.basic_toml_read.proofs.Carried.{line_at, header_here, line_after}
-use Rattle.basic_toml_grammar.specs.NestingFaults.{openers}
-use Rattle.basic_toml_read.specs.StopsReached.{SinksTo}
-use Rattle.basic_toml_read.proofs.Sinking.{header_sinks, line_sinks, end_sinks}
+use Rattle.basic_toml_grammar.specs.Grammar.{IsRows, IsHeader}
+use Rattle.basic_toml_grammar.specs.DeepStops as deep
+use Rattle.basic_toml_grammar.specs.DeepStops.{DeepRows, DeepSection, DeepSections, DeepStop}
+use Rattle.basic_toml_grammar.proofs.ReaderIsSound.{rows_read, header_read, line_end_read}
 use Rattle.basic_toml_read.proofs.EnoughSteps.{list_is, sections_is, sections_is_none}
 use Rattle.basic_toml_read.proofs.HeadersRead.{header_length}
 use Rattle.basic_toml_read.proofs.KeysTold.{misses_then, misses_none}
@@ -71,9 +72,14 @@ root_level : (rs : Rows) → (rows_level 1 rs ≤ highest_level (with_root rs []
 root_level no_rows = (omega arith, omega arith)
 root_level (row keys p v rs) = (omega arith, omega arith)
 
-sinks_on : (bytes : List ℕ) (m n : ℕ) (next : Option ℕ) → SinksTo bytes m next → m ≤ n → SinksTo bytes n next
-sinks_on bytes m n None s h = tt
-sinks_on bytes m n (Some at) s h = omega arith
+rows_here : (text : Text) (r : Rows × Text) → rows_of text ≡ Some r → IsRows is_comment text r.0 r.1
+unfolding rows_of
+rows_here text r e = rows_read (4 * length text + 3) text r e
+
+header_there : (text : Text) (h : reader.Headed) → header_of text ≡ Some h
+    → IsHeader text h.offset h.keys h.is_array h.rest
+unfolding header_of
+header_there text h e = header_read (suc (length text)) text h e
 
 pub some_none : {A : Type 0} (x : A) → Some x ≡ None → ⊥
 some_none x e = cc
@@ -92,7 +98,7 @@ pub record ListSoFar (bytes : List ℕ) (next : Option ℕ) (gathered : Gathered
   pub limit : highest_level (map section_of list) ≤ 128
   pub reached : NextStands (folded bytes) bytes next
   pub gaps : IsGap (folded bytes) → next ≡ None
-  pub sinks : SinksTo bytes (openers (folded bytes)) next
+  pub leads : (p : ℕ) → DeepSections 128 rest p → DeepStop 128 (folded bytes) p
 
 -- the rows before the first header
 module _ (bytes : List ℕ) (start : ℕ) (start_is : start ≡ start_of bytes) where
@@ -160,7 +166,9 @@ module _ (bytes : List ℕ) (start : ℕ) (start_is : start ≡ start_of bytes) 
     limit = omega (arith, ap highest_level same, (root_level (rows_view r.added)).1, r.limit);
     reached = r.reached (folded bytes) list_begins;
     gaps = λ g. (gap_passed old mid next passed g).0;
-    sinks = subst (λ (n : ℕ). SinksTo bytes (openers (text_at bytes n)) next) start_is r.sinks;
+    leads = λ p d. deep.headed
+        (subst (λ (n : ℕ). IsRows is_comment (text_at bytes n) (rows_view r.added) r.rest) start_is
+        (rows_here (text_at bytes start) (rows_view r.added, r.rest) r.is)) r.limit d;
   }
     where
       items : mid.rows.items ≡ r.added
@@ -269,6 +277,15 @@ module _ (bytes : List ℕ) (at : ℕ) where
       unfolding keys_here
       level_here = header_length h.offsets.items h.keys.items read.same
 
+      -- rows that are too deep
+      pub rows_are_deep : (p : ℕ) → DeepRows 128 (length h.keys.items + 1) (text_at bytes line) p
+          → DeepSection 128 (text_at bytes at) p
+      unfolding keys_here
+      rows_are_deep p d =
+          deep.rows (header_there (text_at bytes at) _ read.is) (omega (arith, read.limit, level_here))
+          (line_end_read (text_at bytes h.end) (text_at bytes line) ended.0)
+          (subst (λ (n : ℕ). DeepRows 128 (n + 1) (text_at bytes line) p) (sym level_here) d)
+
       pub rows_missing : (w : Why)
           → Misses w (rows_of (text_at bytes line)) (λ r. 128 < rows_level (length h.keys.items + 1) r.0)
           → Misses w (and_then (header_of (text_at bytes at)) sections_from) (λ sections. 128 < highest_level sections)
@@ -313,12 +330,23 @@ module _ (bytes : List ℕ) (at : ℕ) where
             ends = r.ends;
             from = further next r.from;
             reached = λ whole a. r.reached whole (line_begins whole a);
-            sinks = sinks_on bytes (openers (text_at bytes line)) (openers (text_at bytes at)) next r.sinks (omega (
-              arith,
-              header_sinks (text_at bytes at) _ read.is,
-              line_sinks (text_at bytes h.end),
-              end_sinks (after_comment_by is_comment (after_blanks (text_at bytes h.end))) (text_at bytes line) ended.0,
-            ));
+            leads = λ text here p d. deep.later_section
+                (subst (λ (t : Text). IsHeader t h.at keys_here h.is_array (text_at bytes h.end)) here
+                (header_there (text_at bytes at) (record {
+                  offset = h.at;
+                  keys = keys_here;
+                  is_array = h.is_array;
+                  rest = text_at bytes h.end;
+                }) read.is))
+                (line_end_read (text_at bytes h.end) (text_at bytes line) ended.0)
+                (rows_here (text_at bytes line) (rows_view r.added, r.rest) r.is)
+                (omega (
+                  arith,
+                  r.limit,
+                  read.limit,
+                  level_here,
+                  ap (λ n. rows_level (n + 1) (rows_view r.added)) level_here,
+                )) d;
             none = rest_is;
             limit = omega (
               arith,
@@ -333,6 +361,14 @@ module _ (bytes : List ℕ) (at : ℕ) where
           further : (next : Option ℕ) → IsFrom line next → IsFrom (at + 1) next
           further None h' = tt
           further (Some p) h' = omega (arith, read.later, ended.2)
+
+-- a section that is too deep
+pub section_is_deep : (bytes : List ℕ) (at : ℕ) (gathered : Gathered) (list : List code.Section)
+    → ListSoFar bytes (Some at) gathered list → (p : ℕ) → DeepSection 128 (text_at bytes at) p
+    → DeepStop 128 (folded bytes) p
+section_is_deep bytes at gathered list s p d =
+    let (x, line, is, here, b) = s.ends in
+    s.leads p (deep.this_section (subst (λ (t : Text). DeepSection 128 t p) here d))
 
 -- a section more
 pub list_more : (bytes : List ℕ) (at : ℕ) (next : Option ℕ) (old new : Gathered)
@@ -355,7 +391,7 @@ list_more bytes at next old new before after s r = record {
   );
   reached = r.reached (folded bytes) s.reached.0;
   gaps = λ g. let e = s.gaps g in cc;
-  sinks = sinks_on bytes (openers (text_at bytes at)) (openers (folded bytes)) next r.sinks s.sinks;
+  leads = λ p d. s.leads p (r.leads s.rest (let (x, line, is, here, b) = s.ends in here) p d);
 }
   where
     same : map section_of before.items ++ section_of r.made ∷ [] ≡ map section_of after.items

@@ -1,6 +1,7 @@
 -- The rows of a section, line by line.
 use Rattle.std.proofs.Common.{◌⊎◌, inl, inr, ◌≡◌, ℕ, ◌<◌, ◌≤◌, List, [], ◌∷◌, ◌++◌, length, refl, ap, sym, ◌∙◌}
-use Rattle.std.proofs.Common.{arith, append_assoc, append-nil, true, false, Option, Some, None, is_some, Ok, Err}
+use Rattle.std.proofs.Common.{subst, ◌+◌, ◌*◌, arith, append_assoc, append-nil, true, false, Option, Some, None}
+use Rattle.std.proofs.Common.{is_some, Ok, Err}
 use Rattle.std.specs.Str.{IsUtf8, IsCharBoundary}
 use Rattle.basic_toml_tokens.specs.Text.{Text, text_at, is_comment, after_blanks}
 use Rattle.basic_toml_tokens.specs.Punctuation.{IsPunctuationEnd}
@@ -13,7 +14,7 @@ use Rattle.basic_toml_explain.specs.declared.stop.Why.TheVariants as why
 use Rattle.basic_toml_read.specs.declared.values.Gathered.{Gathered}
 use Rattle.basic_toml_grammar.specs.Sections.{Key, Raw, Rows, no_rows, row}
 use Rattle.basic_toml_grammar.specs.Entering.{and_then}
-use Rattle.basic_toml_grammar.specs.Grammar.{after_comment_by, after_gap}
+use Rattle.basic_toml_grammar.specs.Grammar.{after_comment_by, after_gap, IsRow}
 use Rattle.basic_toml_grammar.specs.Levels.{rows_level}
 use Rattle.basic_toml_grammar.specs.Reader as reader
 use Rattle.basic_toml_grammar.specs.Reader.{char_at, if_found, end_of, line_end_at}
@@ -28,8 +29,8 @@ use Rattle.basic_toml_grammar.specs.GrammarFaults.{precedes_key}
 use Rattle.basic_toml_explain.specs.StopPlaces.{after_value, anywhere, IsAt}
 use Rattle.basic_toml_read.specs.StopsReached.{LineAt}
 use Rattle.basic_toml_read.proofs.Carried.{moved, blanks_at, line_at, row_here, any_at, line_after}
-use Rattle.basic_toml_grammar.specs.NestingFaults.{openers}
-use Rattle.basic_toml_read.proofs.Sinking.{row_sinks, blanks_sink, line_sinks, end_sinks}
+use Rattle.basic_toml_grammar.specs.DeepStops.{DeepRows, this_row, after_empty, later_row, DeepRow}
+use Rattle.basic_toml_grammar.proofs.ReaderIsSound.{row_read, line_end_read}
 use Rattle.basic_toml_read.proofs.EnoughSteps.{rows_is, rows_is_none}
 use Rattle.basic_toml_read.proofs.LeftAfter.{sign_there, sign_missing, gap_past_line, gap_over, gap_ends_line, gap_has_no_bracket}
 use Rattle.basic_toml_read.proofs.KeysTold.{misses_then, misses_none}
@@ -52,7 +53,7 @@ pub record RowsSoFar (bytes : List ℕ) (start level at : ℕ) (old new : Gather
   pub forward : start ≤ at
   pub lines : (whole : Text) → LineAt whole (text_at bytes start) → LineAt whole (text_at bytes at)
   pub gaps : IsGap (text_at bytes start) → IsGap (text_at bytes at) × (new.rows.items ≡ old.rows.items)
-  pub sinks : openers (text_at bytes at) ≤ openers (text_at bytes start)
+  pub leads : (p : ℕ) → DeepRows 128 level (text_at bytes at) p → DeepRows 128 level (text_at bytes start) p
 
 pub rows_start : (bytes : List ℕ) (start level : ℕ) (old : Gathered) → IsCharBoundary bytes start
     → RowsSoFar bytes start level start old old
@@ -68,7 +69,7 @@ rows_start bytes start level old b = record {
   forward = omega arith;
   lines = λ whole a. a;
   gaps = λ g. (g, refl);
-  sinks = omega arith;
+  leads = λ p d. d;
 }
 
 some_first : (a b : Rows × Text) → Some a ≡ Some b → a.0 ≡ b.0
@@ -79,6 +80,11 @@ joined_some : (front : Rows) (keys : List Key) (p : ℕ) (v : Raw) → joined_ro
 unfolding joined_rows
 joined_some no_rows keys p v e = cc
 joined_some (row ks q w front) keys p v e = cc
+
+row_there : (text : Text) (r : reader.Assigned) → row_of text ≡ Some r
+    → IsRow is_comment text r.keys r.offset r.value r.rest
+unfolding row_of
+row_there text r e = row_read (4 * length text + 1) text r e
 
 module _ (bytes : List ℕ) (start level at : ℕ) (old new : Gathered) (s : RowsSoFar bytes start level at old new) where
   -- the end of the text
@@ -97,7 +103,6 @@ module _ (bytes : List ℕ) (start level at : ℕ) (old new : Gathered) (s : Row
     ends = refl;
     from = tt;
     reached = λ whole a. tt;
-    sinks = tt;
   }
 
   -- a line
@@ -116,6 +121,10 @@ module _ (bytes : List ℕ) (start level at : ℕ) (old new : Gathered) (s : Row
         → LineAt whole (text_at bytes start) → IsAt whole after_value (text_at bytes after)
     row_ended new' after r whole a =
         moved r.rest (row_here (text_at bytes front) r.found (row_begins whole a) r.is)
+
+    -- a row that is too deep
+    pub row_is_deep : (p : ℕ) → DeepRow 128 level (text_at bytes front) p → DeepRows 128 level (text_at bytes start) p
+    row_is_deep p d = s.leads p (this_row (subst (λ (t : Text). DeepRow 128 level t p) blanks.left d))
 
     row_on : reader.Assigned → Option (Rows × Text)
     row_on r = and_then (line_end_at r.rest)
@@ -155,7 +164,6 @@ module _ (bytes : List ℕ) (start level at : ℕ) (old new : Gathered) (s : Row
         moved (sym blanks.left) (blanks_at (text_at bytes at) (line_any (s.lines whole a))),
         λ none. let z : None ≡ Some (front, text_at bytes next) = sym none ∙ sign_there sign.0 in cc,
       );
-      sinks = omega (arith, s.sinks, ap openers blanks.left, blanks_sink (text_at bytes at));
     }
 
     -- a header is no gap
@@ -197,13 +205,8 @@ module _ (bytes : List ℕ) (start level at : ℕ) (old new : Gathered) (s : Row
             (moved (sym (comment.left ∙ ap (after_comment_by is_comment) blanks.left))
             (line_at (text_at bytes at) (line_any (s.lines whole a)))) e.0;
         gaps = λ g. (gap_over (text_at bytes end) (text_at bytes next) e.0 (gap_here g), (s.gaps g).1);
-        sinks = omega (
-          arith,
-          s.sinks,
-          end_sinks (text_at bytes end) (text_at bytes next) e.0,
-          ap openers (comment.left ∙ ap (after_comment_by is_comment) blanks.left),
-          line_sinks (text_at bytes at),
-        );
+        leads = λ p d. s.leads p (subst (λ (t : Text). DeepRows 128 level t p) (sym line_is)
+            (after_empty (line_end_read (x ∷ line) (text_at bytes next) (ends_by ∙ e.0)) d));
       }
 
       module _ (goes_on : EndsAt bytes end None) where
@@ -298,16 +301,12 @@ module _ (bytes : List ℕ) (start level at : ℕ) (old new : Gathered) (s : Row
                 lines = λ whole a. line_after (after_comment_by is_comment (after_blanks (text_at bytes after)))
                     (text_at bytes next) (line_at (text_at bytes after) (row_ended new' after r whole a)) e.0;
                 gaps = λ g. absurd (rows_no_gap g);
-                sinks = omega (
-                  arith,
-                  s.sinks,
-                  ap openers blanks.left,
-                  blanks_sink (text_at bytes at),
-                  row_sinks (text_at bytes front) r.found r.is,
-                  ap openers r.rest,
-                  line_sinks (text_at bytes after),
-                  end_sinks (after_comment_by is_comment (after_blanks (text_at bytes after))) (text_at bytes next) e.0,
-                );
+                leads = λ p d. s.leads p (later_row
+                    (subst (λ (t : Text). IsRow is_comment t r.found.keys r.found.offset r.found.value
+                    (text_at bytes after)) blanks.left
+                    (subst (λ (t : Text). IsRow is_comment (text_at bytes front) r.found.keys r.found.offset
+                    r.found.value t) r.rest (row_there (text_at bytes front) r.found r.is))) r.limit
+                    (line_end_read (text_at bytes after) (text_at bytes next) e.0) d);
               }
 
 -- a line takes at least one character

@@ -19,11 +19,11 @@ use Rattle.basic_toml_grammar.specs.Reader as reader
 use Rattle.basic_toml_grammar.specs.Reader.{char_at, line_end_at, section_list_of}
 use Rattle.basic_toml_read.specs.FrontOf.{keys_of, header_of, rows_of, sections_of}
 use Rattle.basic_toml_grammar.specs.Entering.{and_then}
-use Rattle.basic_toml_grammar.specs.NestingFaults.{openers}
+use Rattle.basic_toml_grammar.specs.DeepStops.{DeepSections}
 use Rattle.basic_toml_read.specs.SectionView.{rows_view, keys_with, section_of}
 use Rattle.basic_toml_read.specs.StopsAt.{Misses}
 use Rattle.basic_toml_explain.specs.StopPlaces.{anywhere, IsAt}
-use Rattle.basic_toml_read.specs.StopsReached.{LineAt, NextStands, SinksTo}
+use Rattle.basic_toml_read.specs.StopsReached.{LineAt, NextStands}
 
 pub record AreHeaderKeys (bytes : List ℕ) (at : ℕ) (found : HeaderKeys) : Type 0 where
   pub mid : Text
@@ -84,7 +84,6 @@ pub record AreRowsRead (bytes : List ℕ) (start level : ℕ) (old new : Gathere
   pub ends : NextAt bytes rest next
   pub from : IsFrom start next
   pub reached : (whole : Text) → LineAt whole (text_at bytes start) → NextStands whole bytes next
-  pub sinks : SinksTo bytes (openers (text_at bytes start)) next
 
 abbrev pub ReadsRows : List ℕ → ℕ → ℕ → Gathered → Gathered → Result (Option ℕ) Stop → Type 0
 ReadsRows bytes start level old new (Ok next) = AreRowsRead bytes start level old new next
@@ -127,7 +126,8 @@ pub record IsSectionRead (bytes : List ℕ) (at : ℕ) (new : Gathered) (before 
   pub ends : NextAt bytes rest next
   pub from : IsFrom (at + 1) next
   pub reached : (whole : Text) → IsAt whole anywhere (text_at bytes at) → NextStands whole bytes next
-  pub sinks : SinksTo bytes (openers (text_at bytes at)) next
+  pub leads : (text : Text) → text_at bytes at ≡ after_blanks text → (p : ℕ) → DeepSections 128 rest p
+      → DeepSections 128 text p
   pub none : new.rows.items ≡ []
   pub limit : section_level (section_of made) ≤ 128
 

@@ -1,7 +1,7 @@
 -- What `sections` answers.
-use Rattle.std.specs.Prelude.{◌≤◌, ◌<◌, ◌+◌, ℕ, List, map, Result, Ok, Err, Vec}
+use Rattle.std.specs.Prelude.{◌≤◌, ◌<◌, ℕ, List, map, Result, Ok, Err, Vec}
 use Rattle.std.specs.declared.alloc.Global.{Global}
-use Rattle.basic_toml_tokens.specs.Text.{Text, text_at, folded}
+use Rattle.basic_toml_tokens.specs.Text.{Text, folded}
 use Rattle.basic_toml_value.specs.Nesting.{nesting_limit}
 use Rattle.basic_toml_read.specs.declared.section.Section as code
 use Rattle.basic_toml_grammar.specs.Sections.{Section}
@@ -10,7 +10,7 @@ use Rattle.basic_toml_explain.specs.Error.{want_of_memory}
 use Rattle.basic_toml_grammar.specs.GrammarFaults.{fault_at, AllowsGrammarFault}
 use Rattle.basic_toml_grammar.specs.Grammar.{IsSectionList}
 use Rattle.basic_toml_grammar.specs.Levels.{highest_level}
-use Rattle.basic_toml_grammar.specs.NestingFaults.{openers}
+use Rattle.basic_toml_grammar.specs.NestingFaults.{IsTooDeepAt}
 use Rattle.basic_toml_read.specs.Lists.{IsGap}
 use Rattle.basic_toml_read.specs.SectionView.{section_of}
 
@@ -19,13 +19,13 @@ abbrev pub HoldsMore : Text → Type 0
 HoldsMore text = IsGap text → ⊥
 
 -- Why a text has no section list within the limit: memory was refused, where the text is more than blanks, comments
--- and line feeds; or each list that it has passes the limit, and the fault is of nesting, behind as many signs that
--- lead deeper as the limit; or the fault is one that the grammar allows.
+-- and line feeds; or each list that it has passes the limit, and the fault is of nesting, at the first key or bracket
+-- above the limit; or the fault is one that the grammar allows.
 pub data IsRefused (bytes : List ℕ) : Fault → Type 0 where
   memory : HoldsMore (folded bytes) → IsRefused bytes want_of_memory
   deep : {offset : ℕ} → ((sections : List Section) → IsSectionList (folded bytes) sections
       → nesting_limit < highest_level sections)
-      → nesting_limit + openers (text_at bytes offset) ≤ openers (folded bytes)
+      → IsTooDeepAt nesting_limit (folded bytes) offset
       → IsRefused bytes (fault_at nested_too_deeply offset)
   outside : {fault : Fault} → AllowsGrammarFault bytes fault → IsRefused bytes fault
 

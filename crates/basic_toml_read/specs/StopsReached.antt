@@ -1,10 +1,9 @@
 -- What is known of a stop: that it stands, where what begins at an offset is reached after such a token.
-use Rattle.std.specs.Prelude.{◌⊎◌, ◌≡◌, ◌≤◌, ◌+◌, ℕ, suc, List, [], Option, Some, None, Result, Ok, Err}
+use Rattle.std.specs.Prelude.{◌⊎◌, ◌≡◌, ℕ, List, [], Option, Some, None, Result, Ok, Err}
 use Rattle.basic_toml_tokens.specs.Ascii as ascii
 use Rattle.basic_toml_tokens.specs.Text.{Text, text_at}
 use Rattle.basic_toml_grammar.specs.Reader.{char_at}
 use Rattle.basic_toml_grammar.specs.GrammarFaults.{precedes_key}
-use Rattle.basic_toml_grammar.specs.NestingFaults.{openers}
 use Rattle.basic_toml_explain.specs.declared.stop.Stop.{Stop}
 use Rattle.basic_toml_explain.specs.declared.stop.Why.TheVariants.{Deep}
 use Rattle.basic_toml_explain.specs.StopPlaces.{Fits, anywhere, IsAt, StopStands}
@@ -17,24 +16,10 @@ IfStops start bytes (Err stop) = StopStands start bytes stop.why stop.at
 abbrev pub StandsFrom : {A : Type 0} → Fits → List ℕ → ℕ → Result A Stop → Type 0
 StandsFrom fits bytes at result = (start : Text) → IsAt start fits (text_at bytes at) → IfStops start bytes result
 
--- a level above the limit comes only where as many characters that lead deeper stand before it, of n in the text
-abbrev pub IfDeep : {A : Type 0} → List ℕ → ℕ → Result A Stop → Type 0
-IfDeep bytes n (Ok x) = Unit {0}
-IfDeep bytes n (Err stop) = stop.why ≡ Deep → 128 + openers (text_at bytes stop.at) ≤ n
-
--- where as many stand before an offset as lead to its level
-abbrev pub DeepFrom : {A : Type 0} → List ℕ → ℕ → ℕ → Result A Stop → Type 0
-DeepFrom bytes at level result = (n : ℕ) → level + openers (text_at bytes at) ≤ suc n → IfDeep bytes n result
-
--- the same from a bracket on, and from after it
-abbrev pub DeepWithin : {A : Type 0} → List ℕ → ℕ → ℕ → ℕ → Result A Stop → Type 0
-DeepWithin bytes offset at level result = (n : ℕ) → level + openers (text_at bytes offset) ≤ suc n
-    → level + 1 + openers (text_at bytes at) ≤ suc n → IfDeep bytes n result
-
--- the bracket of the next header, if there is one, with at most as many signs from there on
-abbrev pub SinksTo : List ℕ → ℕ → Option ℕ → Type 0
-SinksTo bytes n None = Unit {0}
-SinksTo bytes n (Some at) = openers (text_at bytes at) ≤ n
+-- a stop for a level above the limit comes only at such an offset
+abbrev pub IfDeep : {A : Type 0} → (ℕ → Type 0) → Result A Stop → Type 0
+IfDeep IsDeep (Ok x) = Unit {0}
+IfDeep IsDeep (Err stop) = stop.why ≡ Deep → IsDeep stop.at
 
 -- a header stands there
 abbrev pub HeaderStands : {A : Type 0} → List ℕ → ℕ → Result A Stop → Type 0

@@ -1,11 +1,11 @@
 //! From a text to its section list.
 ghost use Rattle.std.specs.Prelude.{IfErr, ◌≡◌, ◌≤◌, []};
 ghost use Rattle.std.specs.Str.{IsCharBoundary};
-ghost use Rattle.basic_toml_tokens.specs.Text.{folded};
+ghost use Rattle.basic_toml_tokens.specs.Text.{text_at, folded};
 ghost use Rattle.basic_toml_explain.specs.Stop.{StopsInside};
 ghost use Rattle.basic_toml_explain.specs.StopPlaces.{after_value};
-ghost use Rattle.basic_toml_read.specs.StopsReached.{IfStops, StandsFrom, HeaderStands, LinesStand, IfDeep, DeepFrom};
-ghost use Rattle.basic_toml_grammar.specs.NestingFaults.{openers};
+ghost use Rattle.basic_toml_read.specs.StopsReached.{IfStops, StandsFrom, HeaderStands, LinesStand, IfDeep};
+ghost use Rattle.basic_toml_grammar.specs.DeepStops.{DeepRows, DeepSection, DeepStop};
 ghost use Rattle.basic_toml_read.specs.SectionsAnswer.{AnswersSections, HoldsMore};
 ghost use Rattle.basic_toml_read.specs.Lists.{EndsLineAt, ReadsRows, PassesGaps, TakesRoot, ReadsSection, ReadsList};
 
@@ -44,7 +44,7 @@ impl<'de> Gathered<'de> {
         ensures inside { IfErr result (λ stop. StopsInside text.now stop) }
         ensures stands { LinesStand text.now start result }
         ensures gaps { PassesGaps text.now start self.old self.new result }
-        ensures deep { DeepFrom text.now start level result }
+        ensures deep { IfDeep (DeepRows 128 level (text_at text.now start)) result }
     {
         let mut at = start;
         while at < text.len() {
@@ -96,7 +96,7 @@ impl<'de> Gathered<'de> {
         ensures read { ReadsSection text.now at self.new sections.old sections.new result }
         ensures inside { IfErr result (λ stop. StopsInside text.now stop) }
         ensures stands { HeaderStands text.now at result }
-        ensures deep { DeepFrom text.now at 1 result }
+        ensures deep { IfDeep (DeepSection 128 (text_at text.now at)) result }
     {
         let header = header_at(self.alloc, text, at)?;
         let line = next_line(text, header.end)?;
@@ -119,7 +119,7 @@ pub(crate) fn list<'de>(alloc: Global, text: &'de str) -> Result<Vec<Section<'de
     ensures inside { IfErr result (λ stop. StopsInside text.now stop) }
     ensures stands { IfStops (folded text.now) text.now result }
     ensures more { IfErr result (λ _. HoldsMore (folded text.now)) }
-    ensures deep { IfDeep text.now (openers (folded text.now)) result }
+    ensures deep { IfDeep (DeepStop 128 (folded text.now)) result }
 {
     let mut gathered = Gathered {
         alloc,

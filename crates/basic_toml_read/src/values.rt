@@ -3,7 +3,9 @@ ghost use Rattle.std.specs.Prelude.{IfErr, ◌≡◌, ◌≤◌, ◌+◌, true, 
 ghost use Rattle.std.specs.Str.{IsCharBoundary};
 ghost use Rattle.basic_toml_explain.specs.Stop.{StopsInside};
 ghost use Rattle.basic_toml_explain.specs.StopPlaces.{before_value};
-ghost use Rattle.basic_toml_read.specs.StopsReached.{StandsFrom, DeepFrom, DeepWithin};
+ghost use Rattle.basic_toml_read.specs.StopsReached.{StandsFrom, IfDeep};
+ghost use Rattle.basic_toml_tokens.specs.Text.{text_at};
+ghost use Rattle.basic_toml_grammar.specs.DeepStops.{DeepKeys, DeepRow, DeepValue, DeepArray, DeepElements, DeepInline, DeepFields};
 ghost use Rattle.basic_toml_grammar.specs.GrammarFaults.{precedes_key};
 ghost use Rattle.basic_toml_tokens.specs.Punctuation.{is_lone};
 ghost use Rattle.basic_toml_read.specs.Gathers.{RaisesTo, ClosesAt, ReadsKeys, ReadsRow, ReadsValue, ReadsElements, ReadsArray, ReadsFields, ReadsInline};
@@ -77,7 +79,7 @@ impl<'de> Gathered<'de> {
         ensures read { ReadsKeys text.now at first self.old self.new result }
         ensures inside { IfErr result (λ stop. StopsInside text.now stop) }
         ensures stands { StandsFrom precedes_key text.now at result }
-        ensures deep { DeepFrom text.now at first result }
+        ensures deep { IfDeep (DeepKeys 128 first (text_at text.now at)) result }
     {
         let mut offset = at;
         let mut level = first;
@@ -123,7 +125,7 @@ impl<'de> Gathered<'de> {
         ensures read { ReadsRow text.now at level self.old self.new result }
         ensures inside { IfErr result (λ stop. StopsInside text.now stop) }
         ensures stands { StandsFrom precedes_key text.now at result }
-        ensures deep { DeepFrom text.now at level result }
+        ensures deep { IfDeep (DeepRow 128 level (text_at text.now at)) result }
     {
         let last = self.keys(text, at, level)?;
         let Some(next) = after_punctuation(text, last.end, b'=') else {
@@ -156,7 +158,7 @@ impl<'de> Gathered<'de> {
         ensures read { ReadsValue text.now at level self.old self.new result }
         ensures inside { IfErr result (λ stop. StopsInside text.now stop) }
         ensures stands { StandsFrom before_value text.now at result }
-        ensures deep { DeepFrom text.now at (level + 1) result }
+        ensures deep { IfDeep (DeepValue 128 level (text_at text.now at)) result }
     {
         if let Some(next) = after_punctuation(text, at, b'[') {
             return self.array(text, at, next, level + 1);
@@ -185,7 +187,7 @@ impl<'de> Gathered<'de> {
         ensures read { ReadsArray text.now offset at level self.old self.new result }
         ensures inside { IfErr result (λ stop. StopsInside text.now stop) }
         ensures stands { StandsFrom before_value text.now at result }
-        ensures deep { DeepWithin text.now offset at level result }
+        ensures deep { IfDeep (DeepArray 128 level offset (text_at text.now at)) result }
     {
         raise(level, offset)?;
         let from = self.elements.len();
@@ -205,7 +207,7 @@ impl<'de> Gathered<'de> {
         ensures read { ReadsElements text.now start level self.old self.new result }
         ensures inside { IfErr result (λ stop. StopsInside text.now stop) }
         ensures stands { StandsFrom before_value text.now start result }
-        ensures deep { DeepFrom text.now start (level + 1) result }
+        ensures deep { IfDeep (DeepElements 128 level (text_at text.now start)) result }
     {
         let mut at = start;
         loop {
@@ -240,7 +242,7 @@ impl<'de> Gathered<'de> {
         ensures read { ReadsInline text.now offset at level self.old self.new result }
         ensures inside { IfErr result (λ stop. StopsInside text.now stop) }
         ensures stands { StandsFrom precedes_key text.now at result }
-        ensures deep { DeepWithin text.now offset at level result }
+        ensures deep { IfDeep (DeepInline 128 level offset (text_at text.now at)) result }
     {
         raise(level, offset)?;
         let from = self.rows.len();
@@ -260,7 +262,7 @@ impl<'de> Gathered<'de> {
         ensures read { ReadsFields text.now start level self.old self.new result }
         ensures inside { IfErr result (λ stop. StopsInside text.now stop) }
         ensures stands { StandsFrom precedes_key text.now start result }
-        ensures deep { DeepFrom text.now start level result }
+        ensures deep { IfDeep (DeepFields 128 level (text_at text.now start)) result }
     {
         if let Some(end) = after_punctuation(text, start, b'}') {
             return Ok(end);

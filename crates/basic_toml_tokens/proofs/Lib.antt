@@ -3,7 +3,6 @@ pub mod TokenIsUnique
 pub mod StepIsTheFold
 pub mod RunsAreFound
 pub mod ClassesAreTests
-pub mod ClassesByTable
 pub mod DelimitersAreCounted
 pub mod SpacesAreRuns
 pub mod TextBetweenOffsets

@@ -29,3 +29,7 @@ pub mod SectionsResolved
 pub mod SectionsStopped
 pub mod TablesOpened
 pub mod TrieData
+pub mod LastSection
+pub mod HeadersMake
+pub mod NodesStand
+pub mod MadeNodes

@@ -1,10 +1,12 @@
 -- The elements of an array and the entries of a table, one after another.
 use Rattle.std.proofs.Common.{◌≡◌, ℕ, zero, suc, ◌+◌, ◌<◌, ◌≤◌, List, [], ◌∷◌, ◌++◌, length, drop, map, Some, refl, ap}
-use Rattle.std.proofs.Common.{◌∙◌, sym, arith, get_or, rules, Vec, Box, Global}
+use Rattle.std.proofs.Common.{◌∙◌, sym, arith, get_or, rules, IsTrue, Vec, Box, Global}
 use Rattle.std.specs.Prelude.{slice_get}
 use Rattle.std.specs.Iterator.{MakesProgress, item_count}
 use Rattle.std.specs.declared.iter.Iterator.{can_next-default}
-use Rattle.basic_toml_value.specs.Data.{Data, items_of, members_of}
+use Rattle.basic_toml_value.specs.Data.{Data, no_members, items_of, members_of}
+use Rattle.basic_toml_value.specs.Keys.{are_distinct}
+use Rattle.basic_toml_value.specs.Pairs.{keys_of}
 use Rattle.basic_toml_tree.specs.declared.item.Item.{the_lemmas, Array, Tables}
 use Rattle.basic_toml_tree.specs.declared.item.Child.{Child}
 use Rattle.basic_toml_tree.specs.declared.item.Table.{Table, out-Table}
@@ -94,6 +96,21 @@ pub table_entries : (t : Table)
     → entries_in (table_data t) ≡ map (λ p. (p.0, child_data p.1)) (out-Table t).entries
 table_entries t =
     ap entries_in (table_members t) ∙ paired-members (map (λ p. (p.0, child_data p.1)) (out-Table t).entries)
+
+keys-mapped : (ps : List (List ℕ × Child)) → keys_of {V = Data} (map (λ p. (p.0, child_data p.1)) ps) ≡ keys_of ps
+keys-mapped [] = refl
+keys-mapped (p ∷ ps) = ap (λ ks. p.0 ∷ ks) (keys-mapped ps)
+
+-- the keys of a table differ, as those of its entries do
+pub distinct_keys : (d : Data) (t : Table) → d ≡ table_data t → IsTrue (are_distinct (keys_of (out-Table t).entries))
+    → IsTrue (are_distinct (keys_of (entries_in d)))
+distinct_keys d t same distinct =
+    rw (same, table_entries t, keys-mapped (out-Table t).entries) distinct
+
+pub no_keys : (d : Data) → d ≡ Data.table no_members → IsTrue (are_distinct (keys_of (entries_in d)))
+no_keys d same = rw same refl
+
+pub ruleset table_keys = (distinct_keys, no_keys)
 
 -- an iterator that has fewer items left makes progress
 pub progress : {S A D : Type 0} (rest : S → List D) (s t : S) (x : A) → length (rest t) < length (rest s)

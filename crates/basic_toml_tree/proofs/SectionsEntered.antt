@@ -19,6 +19,7 @@ use Rattle.basic_toml_grammar.specs.Trie.{Trie, nothing, bare, walk, steps_to, p
 use Rattle.basic_toml_grammar.specs.Trie.{section_level_in}
 use Rattle.basic_toml_tree.specs.declared.clash.Clash.TheVariants.{Deep}
 use Rattle.basic_toml_tree.specs.Headers.{IsIn, IsKeptOut}
+use Rattle.basic_toml_tree.specs.Resolve.{Stands}
 use Rattle.basic_toml_tree.proofs.HeadersInATrie.{fresh, walk_fresh, steps_fresh}
 use Rattle.basic_toml_grammar.proofs.SectionsInATrie.{sections_put, sections_data}
 use Rattle.basic_toml_grammar.proofs.StepsArePaths.{level_is_tree_level, at_section}
@@ -45,10 +46,6 @@ fresh_section s =
 
 fresh_level : (s : Section) → section_level_in fresh s ≡ section_level_in nothing s
 fresh_level s = ap (λ n. max (suc n) (rows_level (suc n) s.rows)) (steps_fresh s.is_array (texts s.header))
-
--- the tree after some sections, or none
-abbrev pub Stands : List Section → Trie → Type 0
-Stands earlier t = (put_sections earlier nothing ≡ Some t) ⊎ ((earlier ≡ []) × (t ≡ fresh))
 
 -- one more section is taken as the tree takes it
 taken : (earlier : List Section) (s : Section) (later : List Section) (t : Trie) → Stands earlier t

@@ -1,7 +1,7 @@
 -- The sections of the code entered one after another, each of which gives its rows away.
 use Rattle.std.proofs.Common.{◌≡◌, inl, inr, ℕ, suc, ◌+◌, ◌<◌, ◌≤◌, true, List, [], ◌∷◌, ◌++◌, refl}
 use Rattle.std.proofs.Common.{ap}
-use Rattle.std.proofs.Common.{sym, ◌∙◌, subst, arith, map, length, take, drop, get_or, Option}
+use Rattle.std.proofs.Common.{sym, ◌∙◌, subst, arith, map, length, take, drop, get_or, set, zero, Option}
 use Rattle.std.proofs.Common.{Some, None, Result, Ok, Err}
 use Rattle.std.proofs.Common.{IsErrAnd}
 use Rattle.std.specs.Cow.{cow_str_bytes}
@@ -31,7 +31,8 @@ use Rattle.basic_toml_grammar.specs.TrieStops.{try_by_keys}
 use Rattle.std.specs.List.{flat_map}
 use Rattle.std.specs.Prelude.{string_bytes}
 use Rattle.basic_toml_tree.proofs.SectionsStopped.{section_stops, same_fault, first_contained}
-use Rattle.basic_toml_tree.specs.Resolve.{Resolves, IsResolved, IsUnresolved, memory, deep, clash}
+use Rattle.basic_toml_grammar.specs.Sections.{Key}
+use Rattle.basic_toml_tree.specs.Resolve.{Resolves, IsResolved, IsUnresolved, memory, deep, clash, head}
 use Rattle.basic_toml_tree.proofs.HeadersInATrie.{fresh}
 use Rattle.basic_toml_tree.proofs.HeadersNamed.{header_is}
 use Rattle.basic_toml_tree.proofs.RowsHaveKeys.{sections_have_keys}
@@ -45,13 +46,36 @@ pub record Goes (old now : List code.Section) (n : ℕ) (t : Trie) : Type 0 wher
   pub entered : Entered (map section_of (take n old)) t
   pub count : length now ≡ length old
   pub left : (k : ℕ) (d : code.Section) → n ≤ k → get_or now k d ≡ get_or old k d
+  pub heads : map head (map section_of now) ≡ map head (map section_of old)
 
 pub begins : (old : List code.Section) (t : Trie) → t ≡ fresh → Goes old old 0 t
 begins old t is = record {
   entered = record { stands = inr (refl, is); shallow = refl };
   count = refl;
   left = λ k d within. refl;
+  heads = refl;
 }
+
+-- a section that only gives its rows away leaves the headers as they are
+abbrev head_of : code.Section → ℕ × List Key
+head_of s = head (section_of s)
+
+heads_mapped : (ss : List code.Section) → map head (map section_of ss) ≡ map head_of ss
+heads_mapped [] = refl
+heads_mapped (s ∷ ss) = ap (λ hs. head_of s ∷ hs) (heads_mapped ss)
+
+heads_set : (ss : List code.Section) (n : ℕ) (s d : code.Section) → head_of s ≡ head_of (get_or ss n d)
+    → map head_of (set ss n s) ≡ map head_of ss
+heads_set [] n s d same = refl
+heads_set (t ∷ ss) zero s d same = ap (λ h. h ∷ map head_of ss) same
+heads_set (t ∷ ss) (suc n) s d same = ap (λ hs. head_of t ∷ hs) (heads_set ss n s d same)
+
+pub heads_kept : (ss : List code.Section) (n : ℕ) (was s : code.Section) → was ≡ get_or ss n was → s.at ≡ was.at
+    → s.header ≡ was.header → s.offsets ≡ was.offsets
+    → map head (map section_of (set ss n s)) ≡ map head (map section_of ss)
+heads_kept ss n was s is at header offsets =
+    let same : head_of s ≡ head_of was = rw (at, header, offsets) refl in
+    heads_mapped (set ss n s) ∙ heads_set ss n s was (same ∙ ap head_of is) ∙ sym (heads_mapped ss)
 
 -- the list, split at the next section
 module _ (old now : List code.Section) (n : ℕ) (t : Trie) (goes : Goes old now n t) (s : code.Section)
@@ -71,14 +95,15 @@ module _ (old now : List code.Section) (n : ℕ) (t : Trie) (goes : Goes old now
       → IsIn (walk s.is_array (rows_view s.rows.items) (map cow_str_bytes s.header.items) t) (rows_view s.rows.items)
       (1 + steps_to s.is_array (map cow_str_bytes s.header.items) t) u
       → length next ≡ length now → ((k : ℕ) (d : code.Section) → n + 1 ≤ k → get_or next k d ≡ get_or now k d)
-      → Goes old next (n + 1) u
-  goes_on next u is_in count same = record {
+      → map head (map section_of next) ≡ map head (map section_of now) → Goes old next (n + 1) u
+  goes_on next u is_in count same heads = record {
     entered =
         subst (λ ss. Entered ss u) (sym more)
         (one_more (map section_of (take n old)) (section_of s) (map cow_str_bytes s.header.items) t (header_is s)
         goes.entered u is_in);
     count = count ∙ goes.count;
     left = λ k d past. same k d past ∙ goes.left k d (omega (arith, past));
+    heads = heads ∙ goes.heads;
   }
 
   -- a section that is not entered, and its fault
@@ -159,9 +184,10 @@ pub none_crossed : (slice : List code.Section) (o : Option ℕ) → ((at : ℕ) 
 none_crossed slice None other none = none
 none_crossed slice (Some at) other none = absurd (other at refl)
 
-pub resolved : (old now : List code.Section) (n : ℕ) (tree : Tree) → Goes old now n (table_trie tree.root.value)
+pub resolved : (old : List code.Section) (n : ℕ) (tree : Tree)
+    → Goes old tree.sections.items n (table_trie tree.root.value)
     → length old ≤ n → all_keyed (map section_of old) ≡ true → IsResolved (map section_of old) tree
-resolved old now n tree goes past keyed =
+resolved old n tree goes past keyed =
     let all : take n old ≡ old = take_all n old past in
     let t = table_trie tree.root.value in
     let entered = subst (λ (ss : List code.Section). Entered (map section_of ss) (table_trie tree.root.value)) all
@@ -170,4 +196,6 @@ resolved old now n tree goes past keyed =
       clash = no_clash (map section_of old) t keyed entered;
       fits = fits_all (map section_of old) t keyed (sections_have_keys old) entered;
       grown = sym (table_trie_data tree.root.value) ∙ whole_tree (map section_of old) t entered;
+      stands = entered.stands;
+      heads = goes.heads;
     }

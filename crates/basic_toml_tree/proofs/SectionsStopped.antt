@@ -10,7 +10,7 @@ use Rattle.basic_toml_grammar.specs.Stops.{Stop, at_header, is_named, is_passed,
 use Rattle.basic_toml_grammar.specs.TrieStops.{try_by_keys}
 use Rattle.basic_toml_grammar.specs.Trie.{Trie, nothing}
 use Rattle.basic_toml_grammar.proofs.TrieStopsAreNamed.{trie_stops_named}
-use Rattle.basic_toml_tree.proofs.SectionsEntered.{Stands}
+use Rattle.basic_toml_tree.specs.Resolve.{Stands}
 use Rattle.basic_toml_tree.proofs.HeadersStopped.{tried_fresh}
 
 -- the first sections of a list with keys, and the next one

@@ -2,6 +2,7 @@ pub mod Keyed
 pub mod Item
 pub mod Data
 pub mod Nodes
+pub mod Origin
 pub mod Rows
 pub mod RowStops
 pub mod Headers
@@ -9,4 +10,5 @@ pub mod Clash
 pub mod Trail
 pub mod Crossed
 pub mod Resolve
+pub mod Stands
 pub mod formers

@@ -1,7 +1,9 @@
 -- What `resolve` answers.
-use Rattle.std.specs.Prelude.{◌≡◌, ◌≤◌, ℕ, List, map, Contains, true, false, Result, Ok, Err}
+use Rattle.std.specs.Prelude.{◌≡◌, ◌⊎◌, ◌≤◌, ℕ, List, [], map, Contains, true, false, Some, None, Result, Ok, Err}
 use Rattle.basic_toml_value.specs.Nesting.{nesting_limit}
-use Rattle.basic_toml_grammar.specs.Sections.{Section}
+use Rattle.basic_toml_grammar.specs.Sections.{Key, Section}
+use Rattle.basic_toml_grammar.specs.Standing as standing
+use Rattle.basic_toml_grammar.specs.Trie.{Trie, trie, nothing, no_tries, put_sections}
 use Rattle.basic_toml_grammar.specs.IndexedPath.{located}
 use Rattle.basic_toml_grammar.specs.Depth.{depth}
 use Rattle.basic_toml_grammar.specs.Document.{has_clash, tree_of_sections}
@@ -15,12 +17,27 @@ use Rattle.basic_toml_read.specs.declared.section.Section as code
 use Rattle.basic_toml_read.specs.SectionView.{section_of}
 use Rattle.basic_toml_tree.specs.declared.tree.Tree.{Tree}
 use Rattle.basic_toml_tree.specs.Data.{table_data}
+use Rattle.basic_toml_tree.specs.Item.{table_trie}
 
--- Nothing clashes, the tree fits the limit, and this is it.
+-- a trie in which nothing stands but the root
+abbrev pub only_root : Trie
+only_root = trie (Some (standing.table false false false)) None no_tries
+
+-- the trie that sections are put into, which begins with a root
+abbrev pub Stands : List Section → Trie → Type 0
+Stands sections t = (put_sections sections nothing ≡ Some t) ⊎ ((sections ≡ []) × (t ≡ only_root))
+
+-- where a section begins, and the keys of its header
+abbrev pub head : Section → ℕ × List Key
+head s = (s.at, s.header)
+
+-- Nothing clashes, the tree fits the limit, and this is it. It keeps the headers, and what is said of each path.
 pub record IsResolved (sections : List Section) (tree : Tree) : Type 0 where
   pub clash : has_clash sections ≡ false
   pub fits : depth (tree_of_sections sections) ≤ nesting_limit
   pub grown : table_data tree.root.value ≡ tree_of_sections sections
+  pub stands : Stands sections (table_trie tree.root.value)
+  pub heads : map head (map section_of tree.sections.items) ≡ map head sections
 
 -- Why a list has no tree: memory was refused, a section makes the tree too deep, or it names a clash that stands.
 pub data IsUnresolved (sections : List Section) : Fault → Type 0 where

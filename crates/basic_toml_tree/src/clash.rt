@@ -79,7 +79,7 @@ fn all_texts(alloc: Global, keys: &[Row<'_>]) -> Result<Vec<String>, AllocError>
 }
 
 // Copies of the texts of keys.
-fn key_texts(alloc: Global, keys: &[CowStr<'_>]) -> Result<Vec<String>, AllocError>
+pub(crate) fn key_texts(alloc: Global, keys: &[CowStr<'_>]) -> Result<Vec<String>, AllocError>
     ensures { IfOk result (λ texts. map string_bytes texts.items ≡ map cow_str_bytes keys.now) }
 {
     let mut texts = Vec::new(alloc);

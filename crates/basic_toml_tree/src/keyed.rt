@@ -29,6 +29,7 @@ impl<V> Model for Keyed<V> {
 
 impl<V: Drop> Keyed<V> {
     ghost use Rattle.std.specs.Prelude.{◌≡◌, ◌<◌, [], ◌∷◌, ◌++◌, length, IfOk, IsTrue, MatchOption, None, slice_get, Some};
+    ghost use Rattle.basic_toml_value.specs.Keys.{are_distinct};
     ghost use Rattle.basic_toml_value.specs.Pairs.{keys_of, value_at};
     ghost use Rattle.basic_toml_value.specs.Entries.{seen, texts_of};
     ghost use Rattle.basic_toml_value.specs.Index.{IsIndex};
@@ -118,6 +119,14 @@ impl<V: Drop> Keyed<V> {
         ensures count { length self.new ≡ length self.old }
     {
         let _ = self.replace(position, value);
+    }
+
+    /// No key stands twice.
+    #[tactic(auto, using(crate::proofs::KeysSeen::keys_seen))]
+    pub fn keys_differ(&self)
+        ensures { IsTrue (are_distinct (keys_of self.now)) }
+    {
+        let _ = &self.index;
     }
 
     /// The pairs in order.

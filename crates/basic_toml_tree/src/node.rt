@@ -1,14 +1,26 @@
 //! The nodes of a tree.
 
-ghost use Rattle.std.specs.Prelude.{◌≡◌, ◌<◌, ◌≤◌, false, Some, None, IsSome, IsTrue, IfOk, MatchOption, length, slice_get};
+ghost use Rattle.std.specs.Prelude.{◌≡◌, ◌<◌, ◌≤◌, false, true, [], List, Some, None, IsSome, IfSome, IsTrue, IfOk, IfErr};
+ghost use Rattle.std.specs.Prelude.{MatchOption, length, map, slice_get, string_bytes};
+ghost use Rattle.basic_toml_explain.specs.Error.{want_of_memory};
 ghost use Rattle.std.specs.Option.{option_copied};
 ghost use Rattle.std.specs.Cow.{cow_str_bytes};
 ghost use Rattle.basic_toml_value.specs.Data.{table as table_of_members};
+ghost use Rattle.basic_toml_value.specs.Keys.{are_distinct};
+ghost use Rattle.basic_toml_value.specs.Pairs.{keys_of as table_keys};
 ghost use Rattle.basic_toml_value.specs.View.{view, entries};
 ghost use Rattle.basic_toml_tree.specs.Data.{table_data, child_data};
 ghost use Rattle.basic_toml_tree.specs.Nodes.{node_data, integer_in, boolean_in, float_in, string_in, is_table, is_array, maybe_table, data_at};
 ghost use Rattle.basic_toml_tree.specs.Nodes.{elements_in, entries_in, elements_left, entries_left};
+ghost use Rattle.basic_toml_grammar.specs.Sections.{Section};
+ghost use Rattle.basic_toml_grammar.specs.Steps.{Path};
+ghost use Rattle.basic_toml_grammar.specs.IndexedPath.{located};
+ghost use Rattle.basic_toml_grammar.specs.Nodes.{is_made as made_by_headers};
+ghost use Rattle.basic_toml_tree.specs.Item.{child_trie};
+ghost use Rattle.basic_toml_tree.specs.Stands.{StandsAt, HoldsTable, IsNodeAt, Foretold, IsBelow, IsBeside, IsTableBeside, AtKey, AtNumber};
+ghost use Rattle.basic_toml_tree.specs.Origin.{is_made, spot_is_made, spot_name, last_at, name_of, start_of, outer_of, offset_of, header_of, keys_of};
 
+use crate::clash::key_texts;
 use crate::item::{Child, Item, Table};
 use crate::tree::Tree;
 use crate::values::{table_of, value_of};
@@ -50,7 +62,8 @@ pub struct Node<'t, 'de> {
 impl<'de> Tree<'de> {
     /// The table of the whole document.
     pub fn root(&self) -> Node<'_, 'de>
-        ensures { node_data result ≡ table_data self.now.root.value }
+        ensures data { node_data result ≡ table_data self.now.root.value }
+        ensures stands { StandsAt self.now [] result }
     {
         Node {
             tree: self,
@@ -63,7 +76,10 @@ impl<'de> Tree<'de> {
     }
 
     // The offset of the last section.
-    fn last_at(&self) -> Option<usize> {
+    #[tactic(auto, using(crate::proofs::LastSection::last_is_last, crate::proofs::LastSection::none_is_last))]
+    fn last_at(&self) -> Option<usize>
+        ensures { result ≡ last_at self.now }
+    {
         match self.sections.last() {
             Some(section) => Some(section.at),
             None => None,
@@ -82,10 +98,59 @@ fn first_key<'t, 'de>(tree: &'t Tree<'de>, section: usize, count: usize) -> Opti
     }
 }
 
+// Copies of the keys of a section's header.
+fn header_texts(alloc: Global, tree: &Tree<'_>, section: usize) -> Result<Vec<String>, AllocError>
+    ensures { IfOk result (λ texts. map string_bytes texts.items ≡ header_of (slice_get tree.now.sections.items section)) }
+{
+    match tree.sections.get(section) {
+        Some(section) => key_texts(alloc, section.header.as_slice()),
+        None => Ok(Vec::new(alloc)),
+    }
+}
+
 fn header_len(tree: &Tree<'_>, section: usize) -> usize {
     match tree.sections.get(section) {
         Some(section) => section.header.len(),
         None => 0,
+    }
+}
+
+impl<'t, 'de> Spot<'t, 'de> {
+    // Whether headers made it, where so many keys lead to it.
+    fn is_made(self, count: usize) -> bool
+        ensures { result ≡ spot_is_made count self.entry }
+    {
+        match self {
+            Spot::Table(table) => count == 0 || table.is_made(),
+            Spot::Item(Item::Tables(_, _)) => true,
+            _ => false,
+        }
+    }
+
+    // What it is called, where so many keys lead to it.
+    fn type_name(self, count: usize) -> &'static str
+        ensures { result.now ≡ spot_name count self.entry }
+    {
+        match self {
+            Spot::Table(_) => {
+                if self.is_made(count) {
+                    "table"
+                } else {
+                    "dotted table"
+                }
+            }
+            Spot::Item(item) => match item {
+                Item::Nothing => "dotted table",
+                Item::Integer(_) => "integer",
+                Item::Float(_) => "float",
+                Item::Boolean(_) => "boolean",
+                Item::String(_) => "string",
+                Item::Array(_) => "array",
+                Item::Inline(_) => "inline table",
+                Item::Table(_) => "dotted table",
+                Item::Tables(_, _) => "array",
+            },
+        }
     }
 }
 
@@ -133,8 +198,9 @@ impl<'t, 'de> Node<'t, 'de> {
 
     // The table here, and none for one in which nothing stands yet.
     fn as_table(self) -> Option<Option<&'t Table<'de>>>
-        ensures { MatchOption result (is_table (node_data self.entry) ≡ false)
+        ensures data { MatchOption result (is_table (node_data self.entry) ≡ false)
             (λ table. node_data self.entry ≡ maybe_table table) }
+        ensures table { IfSome result (λ found. IfSome found (λ table. HoldsTable self.entry.spot table.now)) }
     {
         match self.spot {
             Spot::Table(table) => Some(Some(table)),
@@ -147,43 +213,42 @@ impl<'t, 'de> Node<'t, 'de> {
         }
     }
 
-    // Whether headers made it: they name it, pass through it, or add elements to it.
-    fn is_made(self) -> bool {
-        match self.spot {
-            Spot::Table(table) => self.count == 0 || table.is_made(),
-            Spot::Item(Item::Tables(_, _)) => true,
-            _ => false,
-        }
+    /// Whether it is a table.
+    pub fn is_table(self) -> bool
+        ensures { result ≡ is_table (node_data self.entry) }
+    {
+        self.as_table().is_some()
+    }
+
+    /// Whether headers made it: they name it, pass through it, or add elements to it.
+    #[tactic(auto, using(crate::proofs::MadeNodes::made_told))]
+    pub fn is_made(self) -> bool
+        ensures is { result ≡ is_made self.entry }
+        ensures foretold { (sections : List Section) (p : Path) → IsNodeAt sections p self.entry
+            → made_by_headers (located sections) p ≡ true → result ≡ true }
+    {
+        self.spot.is_made(self.count)
     }
 
     /// The name of its kind: `integer`, `float`, `boolean`, `string`, `array`, `inline table`, `dotted table` or
     /// `table`.
-    pub fn type_name(self) -> &'static str {
-        match self.spot {
-            Spot::Table(_) => {
-                if self.is_made() {
-                    "table"
-                } else {
-                    "dotted table"
-                }
-            }
-            Spot::Item(item) => match item {
-                Item::Nothing => "dotted table",
-                Item::Integer(_) => "integer",
-                Item::Float(_) => "float",
-                Item::Boolean(_) => "boolean",
-                Item::String(_) => "string",
-                Item::Array(_) => "array",
-                Item::Inline(_) => "inline table",
-                Item::Table(_) => "dotted table",
-                Item::Tables(_, _) => "array",
-            },
-        }
+    #[tactic(auto, unfolding(crate::specs::Origin::name_of), using(crate::proofs::MadeNodes::name_told))]
+    pub fn type_name(self) -> &'static str
+        ensures is { result.now ≡ name_of self.entry }
+        ensures foretold { (sections : List Section) (p : Path)
+            → Foretold sections p self.entry (λ node. result.now ≡ node.type_name) }
+    {
+        self.spot.type_name(self.count)
     }
 
     /// The byte offset where it begins: that of a value, of the first value of a dotted table, and of the last section
     /// where headers made it.
-    pub fn start(self) -> Option<usize> {
+    #[tactic(auto, unfolding(crate::specs::Origin::start_of), using(crate::proofs::MadeNodes::start_told))]
+    pub fn start(self) -> Option<usize>
+        ensures is { result ≡ start_of self.entry }
+        ensures foretold { (sections : List Section) (p : Path)
+            → Foretold sections p self.entry (λ node. result ≡ node.start) }
+    {
         if self.is_made() {
             self.tree.last_at()
         } else {
@@ -192,7 +257,12 @@ impl<'t, 'de> Node<'t, 'de> {
     }
 
     /// The byte offset that names it in errors: where it begins, but for an array literal the outer place.
-    pub fn place(self) -> Option<usize> {
+    #[tactic(auto, unfolding(crate::specs::Origin::offset_of, crate::specs::Origin::start_of, crate::specs::Origin::outer_of))]
+    pub fn place(self) -> Option<usize>
+        ensures is { result ≡ offset_of self.entry }
+        ensures foretold { (sections : List Section) (p : Path)
+            → Foretold sections p self.entry (λ node. result ≡ node.offset) }
+    {
         match self.spot {
             Spot::Item(Item::Array(_)) => self.outer_place(),
             _ => self.start(),
@@ -200,7 +270,12 @@ impl<'t, 'de> Node<'t, 'de> {
     }
 
     /// The byte offset of the nearest inline or dotted table around it, else that of the last section.
-    pub fn outer_place(self) -> Option<usize> {
+    #[tactic(auto, unfolding(crate::specs::Origin::outer_of))]
+    pub fn outer_place(self) -> Option<usize>
+        ensures is { result ≡ outer_of self.entry }
+        ensures foretold { (sections : List Section) (p : Path)
+            → Foretold sections p self.entry (λ node. result ≡ node.outer_offset) }
+    {
         if self.is_made() {
             return self.tree.last_at();
         }
@@ -212,7 +287,8 @@ impl<'t, 'de> Node<'t, 'de> {
 
     // A node below this table at a key.
     fn below(self, table: &'t Table<'de>, key: &'t str, child: &'t Child<'de>) -> Node<'t, 'de>
-        ensures { node_data result ≡ child_data child.now }
+        ensures data { node_data result ≡ child_data child.now }
+        ensures below { IsBelow self.entry (child_trie child.now) result }
     {
         let count = self.count.saturating_add(1);
         let outer = if self.is_made() {
@@ -255,7 +331,8 @@ impl<'t, 'de> Node<'t, 'de> {
 
     // The same node, with the header that made it, if one did.
     fn settled(self) -> Node<'t, 'de>
-        ensures { node_data result ≡ node_data self.entry }
+        ensures data { node_data result ≡ node_data self.entry }
+        ensures beside { IsBeside self.entry self.entry.spot result }
     {
         if !self.is_made() {
             return self;
@@ -273,7 +350,8 @@ impl<'t, 'de> Node<'t, 'de> {
 
     // A node among the elements of this array.
     fn element(self, child: &'t Child<'de>) -> Node<'t, 'de>
-        ensures { node_data result ≡ child_data child.now }
+        ensures data { node_data result ≡ child_data child.now }
+        ensures beside { IsBeside self.entry result.spot result }
     {
         Node {
             spot: Spot::Item(&child.item),
@@ -283,7 +361,8 @@ impl<'t, 'de> Node<'t, 'de> {
     }
 
     fn element_table(self, table: &'t Table<'de>) -> Node<'t, 'de>
-        ensures { node_data result ≡ table_data table.now }
+        ensures data { node_data result ≡ table_data table.now }
+        ensures beside { IsTableBeside self.entry table.entry result }
     {
         let node = Node {
             spot: Spot::Table(table),
@@ -297,6 +376,7 @@ impl<'t, 'de> Node<'t, 'de> {
         ensures within { IsSome result → at < usize.MAX }
         ensures data { MatchOption result (length (elements_in (node_data self.entry)) ≤ at)
             (λ node. slice_get (elements_in (node_data self.entry)) at ≡ Some (node_data node)) }
+        ensures stands { IfSome result (λ node. AtNumber self.entry at node) }
     {
         match self.spot {
             Spot::Item(Item::Array(children)) => match children.get(at) {
@@ -319,8 +399,9 @@ impl<'t, 'de> Node<'t, 'de> {
 
     /// The value at a key, if it is a table that has the key.
     pub fn get(self, key: &str) -> Option<Node<'t, 'de>>
-        ensures { MatchOption result (data_at (node_data self.entry) key.now ≡ None)
+        ensures data { MatchOption result (data_at (node_data self.entry) key.now ≡ None)
             (λ node. data_at (node_data self.entry) key.now ≡ Some (node_data node)) }
+        ensures stands { IfSome result (λ node. AtKey self.entry key.now node) }
     {
         let Some(Some(table)) = self.as_table() else {
             return None;
@@ -344,44 +425,57 @@ impl<'t, 'de> Node<'t, 'de> {
         }
     }
 
-    /// Its keys with their values in order, if it is a table.
+    /// Its keys with their values in order, each key once, if it is a table.
+    #[tactic(auto, using(crate::proofs::NodesInOrder::table_keys))]
     pub fn entries(self) -> Option<Entries<'t, 'de>>
-        ensures { MatchOption result (is_table (node_data self.entry) ≡ false)
+        ensures entries { MatchOption result (is_table (node_data self.entry) ≡ false)
             (λ entries. IsTrue (is_table (node_data self.entry))
             × (entries_left entries ≡ entries_in (node_data self.entry))) }
+        ensures distinct { IfSome result (λ _. IsTrue (are_distinct (table_keys (entries_in (node_data self.entry))))) }
     {
         match self.as_table() {
-            Some(table) => Some(Entries {
-                node: self,
-                table,
-                at: 0,
-            }),
+            Some(table) => {
+                if let Some(table) = table {
+                    table.entries.keys_differ();
+                }
+                Some(Entries {
+                    node: self,
+                    table,
+                    at: 0,
+                })
+            }
             None => None,
         }
     }
 
     /// The keys that lead to it: those of the headers that made it, or those of its section and the first key of its
     /// row.
-    pub fn key_path(self, alloc: Global) -> Result<Vec<String>, AllocError> {
-        let (section, count) = match self.trail {
-            Trail::Header(section) => (section, self.count),
-            Trail::Row(section, _) => (section, header_len(self.tree, section)),
-        };
-        let mut path = Vec::new(alloc);
-        if let Some(section) = self.tree.sections.get(section) {
-            for key in section.header.iter().take(count) {
-                path.push(String::from_str(alloc, key.as_str())?)?;
+    #[tactic(auto, unfolding(crate::specs::Origin::keys_of))]
+    pub fn key_path(self, alloc: Global) -> Result<Vec<String>, AllocError>
+        ensures { IfOk result (λ path. map string_bytes path.items ≡ keys_of self.entry) }
+    {
+        match self.trail {
+            Trail::Header(section) => {
+                let mut path = header_texts(alloc, self.tree, section)?;
+                path.truncate(self.count);
+                Ok(path)
+            }
+            Trail::Row(section, first) => {
+                let mut path = header_texts(alloc, self.tree, section)?;
+                path.push(String::from_str(alloc, first)?)?;
+                Ok(path)
             }
         }
-        if let Trail::Row(_, first) = self.trail {
-            path.push(String::from_str(alloc, first)?)?;
-        }
-        Ok(path)
     }
 
     /// A copy of the value.
+    ///
+    /// # Errors
+    ///
+    /// `OutOfMemory` where a growth was refused.
     pub fn to_value(self, alloc: Global) -> Result<Value, ReadError>
-        ensures { IfOk result (λ value. view value ≡ node_data self.entry) }
+        ensures ok { IfOk result (λ value. view value ≡ node_data self.entry) }
+        ensures err { IfErr result (λ e. e ≡ want_of_memory) }
     {
         match self.spot {
             Spot::Table(table) => Ok(Value::Table(table_of(alloc, table)?)),

@@ -87,14 +87,15 @@ fn value_of(radix: u32, digits: &[u8]) -> Option<u64>
     Some(value)
 }
 
-/// Whether these are decimal digits with single underscores between them.
+/// Whether these are decimal digits with single underscores between them. Public for `basic_toml_explain`, which tells
+/// the parts of a number where it breaks.
 pub fn is_digits(digits: &[u8]) -> bool
     ensures { result ≡ spec.is_digits 10 digits.now }
 {
     value_of(10, digits).is_some()
 }
 
-/// Whether the text is a whole part: `0`, or digits that begin with another digit.
+/// Whether the text is a whole part: `0`, or digits that begin with another digit. Public for `basic_toml_explain`.
 pub fn is_whole(digits: &[u8]) -> bool
     ensures { result ≡ spec.is_whole digits.now }
 {
@@ -147,7 +148,8 @@ fn is_exponent(text: &[u8]) -> bool
     }
 }
 
-/// The decimal digits and underscores that the text begins with, and what stands after them.
+/// The decimal digits and underscores that the text begins with, and what stands after them. Public for
+/// `basic_toml_explain`.
 pub fn split_part(text: &[u8]) -> (&[u8], &[u8])
     ensures part { result.0.now ≡ spec.part_of text.now }
     ensures rest { result.1.now ≡ spec.after_part text.now }

@@ -5,18 +5,18 @@ use Rattle.std.specs.declared.alloc.Global.{Global}
 use Rattle.basic_toml_emit.specs.Items.{Item}
 use Rattle.basic_toml_value.specs.Nesting.{nesting_limit}
 use Rattle.basic_toml_emit.specs.Calls.{on_ok, finished, outcome}
-use Rattle.basic_toml_emit.specs.Error.{Names}
+use Rattle.basic_toml_write.specs.Error.{Names}
 use Rattle.basic_toml_write.specs.Recordable.{AreRecordable}
 use Rattle.basic_toml_write.specs.Serializer.{ran, HasRecorded, error_of, NoFault, GaveUp, Sends, Settles, Finishes}
 use Rattle.basic_toml_write.specs.Write.{WritesOut}
 use Rattle.basic_toml_emit.specs.Emitter.{HandsOut}
 use Rattle.basic_toml_write.proofs.ListsAreSentInTurn.{GoesAt}
 use Rattle.basic_toml_write.proofs.FinishHandsOut.{Ends, ends}
-use Rattle.basic_toml_emit.specs.declared.error.WriteError.{WriteError}
-use Rattle.basic_toml_emit.specs.declared.error.WriteError.TheVariants.{UnsupportedType, KeyNotString}
-use Rattle.basic_toml_emit.specs.declared.error.WriteError.TheVariants.{ValueAfterTable, UnsupportedNone, Custom}
-use Rattle.basic_toml_emit.specs.declared.error.WriteError.TheVariants.{DuplicateKey, CallOrder, NestedTooDeeply}
-use Rattle.basic_toml_emit.specs.declared.error.WriteError.TheVariants.{OutOfMemory}
+use Rattle.basic_toml_write.specs.declared.error.WriteError.{WriteError}
+use Rattle.basic_toml_write.specs.declared.error.WriteError.TheVariants.{UnsupportedType, KeyNotString}
+use Rattle.basic_toml_write.specs.declared.error.WriteError.TheVariants.{ValueAfterTable, UnsupportedNone, Custom}
+use Rattle.basic_toml_write.specs.declared.error.WriteError.TheVariants.{DuplicateKey, CallOrder, NestedTooDeeply}
+use Rattle.basic_toml_write.specs.declared.error.WriteError.TheVariants.{OutOfMemory}
 use Rattle.basic_toml_write.specs.declared.serializer.Serializer.{Serializer}
 
 -- an error of a list is that of its outcome
@@ -33,7 +33,7 @@ refuses_outcome OutOfMemory is h = tt
 
 -- `Finishes`, by the error that was kept
 abbrev FinishesAt : Serializer → Result (String Global) WriteError → Option WriteError → Type 0
-FinishesAt s r o = MatchOption o (HandsOut s.emitter r) (λ e. r ≡ Err e)
+FinishesAt s r o = MatchOption o (HandsOut CallOrder s.emitter r) (λ e. r ≡ Err e)
 
 -- `Settles`, by the error that was kept
 abbrev SettlesAt : Serializer → Result (Unit {0}) WriteError → Result (String Global) WriteError → Option WriteError

@@ -5,7 +5,7 @@ use Rattle.basic_toml_value.specs.Data.{array, table, items_of}
 use Rattle.basic_toml_value.specs.View.{view, entries}
 use Rattle.basic_toml_value.specs.declared.value.Value.{Value}
 use Rattle.basic_toml_emit.specs.Items.{Item, element_prefix, field, open_array, open_table, close}
-use Rattle.basic_toml_emit.specs.declared.error.WriteError.{WriteError}
+use Rattle.basic_toml_write.specs.declared.error.WriteError.{WriteError}
 use Rattle.basic_toml_write.specs.Serializer.{NoFault}
 use Rattle.basic_toml_write.specs.Impls.{AnyGivesUp, data_calls, items_calls, members_calls, array_calls, table_calls}
 

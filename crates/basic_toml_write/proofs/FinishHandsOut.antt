@@ -7,8 +7,8 @@ use Rattle.basic_toml_emit.specs.Rules.{call_order}
 use Rattle.basic_toml_emit.specs.Calls.{on_ok, finished, outcome}
 use Rattle.basic_toml_emit.specs.Emitter.{state_of, HandsOut}
 use Rattle.basic_toml_write.specs.Serializer.{HasRecorded}
-use Rattle.basic_toml_emit.specs.declared.error.WriteError.{WriteError}
-use Rattle.basic_toml_emit.specs.declared.error.WriteError.TheVariants.{CallOrder}
+use Rattle.basic_toml_write.specs.declared.error.WriteError.{WriteError}
+use Rattle.basic_toml_write.specs.declared.error.WriteError.TheVariants.{CallOrder}
 use Rattle.basic_toml_write.specs.declared.serializer.Serializer.{Serializer}
 
 outcome_of : (s : Serializer) (is : List Item) → HasRecorded s is
@@ -21,6 +21,6 @@ Ends is r = MatchResult r (λ t. outcome nesting_limit is ≡ Ok (string_bytes t
     × (outcome nesting_limit is ≡ Err call_order))
 
 pub ends : (s : Serializer) (is : List Item) (r : Result (String Global) WriteError) → HasRecorded s is
-    → HandsOut s.emitter r → Ends is r
+    → HandsOut CallOrder s.emitter r → Ends is r
 ends s is (Ok t) h out = outcome_of s is h ∙ out
 ends s is (Err e) h out = (out.0, outcome_of s is h ∙ out.1)

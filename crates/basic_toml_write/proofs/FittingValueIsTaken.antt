@@ -1,6 +1,6 @@
 -- The items of a written value that fits are all taken, and leave its text.
 use Rattle.std.proofs.Common.{◌≡◌, suc, List, [], ◌∷◌, ◌++◌, refl, sym, ◌∙◌, ap, subst, Bool, true, false, cond, ℕ}
-use Rattle.std.proofs.Common.{Ok, Option, Some, None, length}
+use Rattle.std.proofs.Common.{Ok, length}
 use Rattle.std.specs.Prelude.{nat_le, is_some}
 use Rattle.std.proofs.lemmas.List.{append_assoc, append-nil}
 use Rattle.basic_toml_layout.specs.Written.{Scalar, Written, scalar, absent, array, table, Elements, no_elements}
@@ -15,9 +15,9 @@ use Rattle.basic_toml_layout.specs.Layout.{array_text, sections_text, entries_te
 use Rattle.basic_toml_layout.specs.Layout.{layout}
 use Rattle.basic_toml_write.specs.Shapes.{then_after}
 use Rattle.basic_toml_emit.specs.Open as o
-use Rattle.basic_toml_emit.specs.Open.{State, state, Frame, Header, settled, due, Stage, no_key, key_place, key_set}
-use Rattle.basic_toml_emit.specs.Open.{ElementKind, unknown, tables, others, PresentKeys, no_keys, with_key}
-use Rattle.basic_toml_emit.specs.Open.{new_table, fresh}
+use Rattle.basic_toml_emit.specs.Open.{State, state, Frame, Header, settled, due, no_key, key_set}
+use Rattle.basic_toml_emit.specs.Open.{unknown, tables, others, OpenTable, empty_table, entered}
+use Rattle.basic_toml_emit.specs.Open.{with_settled, with_section, new_table, fresh}
 use Rattle.basic_toml_emit.specs.Rules.{holds_section}
 use Rattle.basic_toml_emit.specs.Calls as m
 use Rattle.basic_toml_emit.specs.Calls.{run, on_ok, after, path, header_text, array_start, with_row, with_sections}
@@ -27,12 +27,12 @@ use Rattle.basic_toml_write.proofs.ValuesThatFit.{FitsEntries, Fits}
 
 with_row-length : (fs : List Frame) → length (with_row fs) ≡ length fs
 with_row-length [] = refl
-with_row-length (o.a_table h s w p k ∷ fs) = refl
+with_row-length (o.a_table s w ∷ fs) = refl
 with_row-length (o.an_array c l ∷ fs) = refl
 
 array_end-with_row : (fs : List Frame) → m.array_end (with_row fs) ≡ m.array_end fs
 array_end-with_row [] = refl
-array_end-with_row (o.a_table h s w p k ∷ fs) = refl
+array_end-with_row (o.a_table s w ∷ fs) = refl
 array_end-with_row (o.an_array c l ∷ fs) = refl
 
 -- the header that is written before or after the entries of a table
@@ -48,12 +48,16 @@ abbrev pub before : Header → List Frame → Form → List ℕ
 before h fs row = header_text h fs
 before h fs _ = []
 
+-- a table after an entry that is present
+abbrev pub after_present : List ℕ → Written → OpenTable → OpenTable
+after_present k v w = record (with_settled (entered k w)) { holds_section = then_after w.holds_section (form v) }
+
 -- the state after an entry
-abbrev pub after_entry : List ℕ → Header → Bool → PresentKeys → Option (List ℕ) → List ℕ → List Frame → Written → State
-after_entry t h w p l k fs absent = state t (o.a_table h no_key w p l ∷ fs) false
-after_entry t h w p l k fs v =
-    state (t ++ (before h fs (form v) ++ entry_text (path fs) k (is_some l) v))
-    (o.a_table settled no_key (then_after w (form v)) (with_key k p) (Some k) ∷ fs) false
+abbrev pub after_entry : List ℕ → OpenTable → List ℕ → List Frame → Written → State
+after_entry t w k fs absent = state t (o.a_table no_key w ∷ fs) false
+after_entry t w k fs v =
+    state (t ++ (before w.header fs (form v) ++ entry_text (path fs) k (is_some w.last) v))
+    (o.a_table no_key (after_present k v w) ∷ fs) false
 
 module _ (limit : ℕ) where
   at_text : (fs : List Frame) (d : Bool) (rest : List Item) (a b : List ℕ) → a ≡ b
@@ -91,36 +95,36 @@ module _ (limit : ℕ) where
       false) is
   open_table_more t later fs is f = rw f refl
 
-  open_table_first : (t : List ℕ) (later : Bool) (h : Header) (w : Bool) (p : PresentKeys) (k : List ℕ)
+  open_table_first : (t : List ℕ) (later : Bool) (k : List ℕ) (w : OpenTable)
       (fs : List Frame) (is : List Item) → nat_le limit (suc (suc (length fs))) ≡ false
-      → run limit (state t (o.an_array unknown later ∷ o.a_table h no_key w p (Some k) ∷ fs) false) (open_table ∷ is)
+      → run limit (state t (o.an_array unknown later ∷ o.a_table no_key (entered k w) ∷ fs) false) (open_table ∷ is)
       ≡ run limit (state (t ++ element_header later (k ∷ path fs)) (new_table settled ∷ o.an_array tables later
-      ∷ o.a_table settled no_key true p (Some k) ∷ fs) false) is
-  open_table_first t later h w p k fs is f = rw f refl
+      ∷ o.a_table no_key (with_section (entered k w)) ∷ fs) false) is
+  open_table_first t later k w fs is f = rw f refl
 
   open_table_root : (is : List Item) → nat_le limit 0 ≡ false
       → run limit fresh (open_table ∷ is) ≡ run limit (state [] (new_table settled ∷ []) false) is
   open_table_root is f = rw f refl
 
-  scalar_entry : (x : Scalar) (t : List ℕ) (h : Header) (w : Bool) (p : PresentKeys) (l : Option (List ℕ))
-      (k : List ℕ) (fs : List Frame) (rest : List Item) → FitsEntry limit (suc (length fs)) w p k (scalar x)
-      → run limit (state t (o.a_table h (key_set k) w p l ∷ fs) false) (a_scalar x ∷ rest)
-      ≡ run limit (after_entry t h w p l k fs (scalar x)) rest
-  scalar_entry x t h w p l k fs rest f = rw (f.0, f.1, f.2, f.3) refl
+  scalar_entry : (x : Scalar) (t : List ℕ) (w : OpenTable) (k : List ℕ) (fs : List Frame) (rest : List Item)
+      → FitsEntry limit (suc (length fs)) w.holds_section w.keys k (scalar x)
+      → run limit (state t (o.a_table (key_set k) w ∷ fs) false) (a_scalar x ∷ rest)
+      ≡ run limit (after_entry t w k fs (scalar x)) rest
+  scalar_entry x t w k fs rest f = rw (f.0, f.1, f.2, f.3) refl
 
-  open_array_entry : (t : List ℕ) (h : Header) (w : Bool) (p : PresentKeys) (l : Option (List ℕ)) (k : List ℕ)
-      (fs : List Frame) (is : List Item) → p k ≡ false → nat_le limit (suc (length fs)) ≡ false
-      → run limit (state t (o.a_table h (key_set k) w p l ∷ fs) false) (open_array ∷ is)
-      ≡ run limit (state t (o.an_array unknown (is_some l) ∷ o.a_table h no_key w (with_key k p) (Some k) ∷ fs) false)
+  open_array_entry : (t : List ℕ) (w : OpenTable) (k : List ℕ)
+      (fs : List Frame) (is : List Item) → w.keys k ≡ false → nat_le limit (suc (length fs)) ≡ false
+      → run limit (state t (o.a_table (key_set k) w ∷ fs) false) (open_array ∷ is)
+      ≡ run limit (state t (o.an_array unknown (is_some w.last) ∷ o.a_table no_key (entered k w) ∷ fs) false)
       is
-  open_array_entry t h w p l k fs is f g = rw (f, g) refl
+  open_array_entry t w k fs is f g = rw (f, g) refl
 
-  open_table_entry : (t : List ℕ) (h : Header) (w : Bool) (p : PresentKeys) (l : Option (List ℕ)) (k : List ℕ)
-      (fs : List Frame) (is : List Item) → p k ≡ false → nat_le limit (suc (length fs)) ≡ false
-      → run limit (state t (o.a_table h (key_set k) w p l ∷ fs) false) (open_table ∷ is)
-      ≡ run limit (state t (new_table (due (is_some l)) ∷ o.a_table settled no_key true (with_key k p) (Some k) ∷ fs)
+  open_table_entry : (t : List ℕ) (w : OpenTable) (k : List ℕ)
+      (fs : List Frame) (is : List Item) → w.keys k ≡ false → nat_le limit (suc (length fs)) ≡ false
+      → run limit (state t (o.a_table (key_set k) w ∷ fs) false) (open_table ∷ is)
+      ≡ run limit (state t (new_table (due (is_some w.last)) ∷ o.a_table no_key (with_section (entered k w)) ∷ fs)
       false) is
-  open_table_entry t h w p l k fs is f g = rw (f, g) refl
+  open_table_entry t w k fs is f g = rw (f, g) refl
 
   close_first : (t : List ℕ) (later : Bool) (fs : List Frame) (is : List Item) → holds_section fs ≡ false
       → run limit (state t (o.an_array unknown later ∷ fs) false) (close ∷ is)
@@ -136,48 +140,47 @@ module _ (limit : ℕ) where
   fine_below2 fs es f = subst (λ n. FitsOthers limit (suc (suc n)) es) (sym (with_row-length fs)) f
 
   -- an entry that is present, and then the rest of the table
-  present_next : (mid rest : List Item) (es : Entries) (early it t : List ℕ) (w : Bool) (p : PresentKeys) (k : List ℕ)
-      (fs : List Frame)
-      → run limit (state (t ++ (early ++ it)) (o.a_table settled no_key w (with_key k p) (Some k) ∷ fs) false) mid
+  present_next : (mid rest : List Item) (es : Entries) (early it t : List ℕ) (w : OpenTable) (fs : List Frame)
+      → run limit (state (t ++ (early ++ it)) (o.a_table no_key w ∷ fs) false) mid
       ≡ run limit (state ((t ++ (early ++ it)) ++ (pending settled fs es ++ entries_text (path fs) (true) es)) fs
       (is_nothing_open fs)) rest
-      → run limit (state (t ++ (early ++ it)) (o.a_table settled no_key w (with_key k p) (Some k) ∷ fs) false) mid
+      → run limit (state (t ++ (early ++ it)) (o.a_table no_key w ∷ fs) false) mid
       ≡ run limit (state (t ++ (early ++ (it ++ entries_text (path fs) true es))) fs (is_nothing_open fs)) rest
-  present_next mid rest es early it t w p k fs ih = ih ∙
+  present_next mid rest es early it t w fs ih = ih ∙
       at_text fs (is_nothing_open fs) rest _ _ (rw (cond-nothing (is_header_due es)) (simp append_assoc))
 
-  fine_entry : (n : ℕ) (w : Bool) (p : PresentKeys) (k : List ℕ) (v : Written) (es : Entries)
-      → FitsEntries limit n w p (entry k v es) → FitsEntry limit n w p k v
-  fine_entry n w p k absent es f = tt
-  fine_entry n w p k (scalar l) es f = f.0
-  fine_entry n w p k (array x) es f = f.0
-  fine_entry n w p k (table x) es f = f.0
+  fine_entry : (n : ℕ) (w : OpenTable) (k : List ℕ) (v : Written) (es : Entries)
+      → FitsEntries limit n w.holds_section w.keys (entry k v es) → FitsEntry limit n w.holds_section w.keys k v
+  fine_entry n w k absent es f = tt
+  fine_entry n w k (scalar l) es f = f.0
+  fine_entry n w k (array x) es f = f.0
+  fine_entry n w k (table x) es f = f.0
 
   -- an entry, and then the rest of the table
-  entry_next : (mid rest : List Item) (es : Entries) (t : List ℕ) (h : Header) (w : Bool) (p : PresentKeys)
-      (l : Option (List ℕ)) (k : List ℕ) (fs : List Frame) (v : Written)
-      → FitsEntries limit (suc (length fs)) w p (entry k v es)
-      → ((t' : List ℕ) (h' : Header) (w' : Bool) (p' : PresentKeys) (l' : Option (List ℕ))
-      → FitsEntries limit (suc (length fs)) w' p' es
-      → run limit (state t' (o.a_table h' no_key w' p' l' ∷ fs) false) mid
-      ≡ run limit (state (t' ++ (pending h' fs es ++ entries_text (path fs) (is_some l') es)) fs
+  entry_next : (mid rest : List Item) (es : Entries) (t : List ℕ) (w : OpenTable) (k : List ℕ) (fs : List Frame)
+      (v : Written)
+      → FitsEntries limit (suc (length fs)) w.holds_section w.keys (entry k v es)
+      → ((t' : List ℕ) (w' : OpenTable)
+      → FitsEntries limit (suc (length fs)) w'.holds_section w'.keys es
+      → run limit (state t' (o.a_table no_key w' ∷ fs) false) mid
+      ≡ run limit (state (t' ++ (pending w'.header fs es ++ entries_text (path fs) (is_some w'.last) es)) fs
       (is_nothing_open fs)) rest)
-      → run limit (after_entry t h w p l k fs v) mid
-      ≡ run limit (state (t ++ (pending h fs (entry k v es) ++ entries_text (path fs) (is_some l) (entry k v es)))
-      fs (is_nothing_open fs)) rest
-  entry_next mid rest es t h w p l k fs absent f ih = ih t h w p l f
-  entry_next mid rest es t h w p l k fs (scalar x) f ih =
-      present_next mid rest es _ _ t w p k fs (ih _ settled _ _ (Some k) f.1)
-  entry_next mid rest es t h w p l k fs (array no_elements) f ih =
-      present_next mid rest es _ _ t w p k fs (ih _ settled _ _ (Some k) f.1)
-  entry_next mid rest es t h w p l k fs (array (element (table x) y)) f ih =
-      present_next mid rest es [] (array_text (path fs) k (is_some l) (element (table x) y)) t true p k fs
-      (ih _ settled _ _ (Some k) f.1)
-  entry_next mid rest es t h w p l k fs (array (element x y)) f ih =
-      present_next mid rest es _ _ t w p k fs (ih _ settled _ _ (Some k) f.1)
-  entry_next mid rest es t h w p l k fs (table x) f ih =
-      present_next mid rest es [] (entry_text (path fs) k (is_some l) (table x)) t true p k fs
-      (ih _ settled _ _ (Some k) f.1)
+      → run limit (after_entry t w k fs v) mid
+      ≡ run limit (state (t ++ (pending w.header fs (entry k v es)
+      ++ entries_text (path fs) (is_some w.last) (entry k v es))) fs (is_nothing_open fs)) rest
+  entry_next mid rest es t w k fs absent f ih = ih t w f
+  entry_next mid rest es t w k fs (scalar x) f ih =
+      present_next mid rest es _ _ t _ fs (ih _ (after_present k (scalar x) w) f.1)
+  entry_next mid rest es t w k fs (array no_elements) f ih =
+      present_next mid rest es _ _ t _ fs (ih _ (after_present k (array no_elements) w) f.1)
+  entry_next mid rest es t w k fs (array (element (table x) y)) f ih =
+      present_next mid rest es [] (array_text (path fs) k (is_some w.last) (element (table x) y)) t _ fs
+      (ih _ (after_present k (array (element (table x) y)) w) f.1)
+  entry_next mid rest es t w k fs (array (element x y)) f ih =
+      present_next mid rest es _ _ t _ fs (ih _ (after_present k (array (element x y)) w) f.1)
+  entry_next mid rest es t w k fs (table x) f ih =
+      present_next mid rest es [] (entry_text (path fs) k (is_some w.last) (table x)) t _ fs
+      (ih _ (after_present k (table x) w) f.1)
 
   mutual
     pub in_more : {is mid : List Item} {v : Written} → IsValue is v mid
@@ -237,7 +240,7 @@ module _ (limit : ℕ) where
     more_sections (member (an_array d) ms) t later fs f = absurd f
     more_sections (member {rest = rest} {es = es} (a_table {is = is} {rest = mid} {es = rs} d) ms) t later fs f =
         open_table_more t later fs is f.0
-        ∙ (rows d (t ++ element_header true (path fs)) settled false no_keys None (o.an_array tables later ∷ fs) f.1
+        ∙ (rows d (t ++ element_header true (path fs)) (empty_table settled) (o.an_array tables later ∷ fs) f.1
         ∙ (at_text (o.an_array tables later ∷ fs) false mid _ _
         (ap (λ z. (t ++ element_header true (path fs)) ++ (z ++ entries_text (path fs) false rs))
         (cond-nothing (is_header_due rs)))
@@ -245,72 +248,72 @@ module _ (limit : ℕ) where
         ∙ at_text fs false rest _ _ (simp append_assoc))))
 
     pub entry_array : {is rest : List Item} {es : Elements} → AreElements is es rest
-        → (t : List ℕ) (h : Header) (w : Bool) (p : PresentKeys) (l : Option (List ℕ)) (k : List ℕ) (fs : List Frame)
-        → FitsArray limit (suc (suc (length fs))) w es
-        → run limit (state t (o.an_array unknown (is_some l) ∷ o.a_table h no_key w (with_key k p) (Some k) ∷ fs)
-        false) is ≡ run limit (after_entry t h w p l k fs (array es)) rest
-    entry_array (array_end {rest = rest}) t h w p l k fs f =
-        close_first t (is_some l) (o.a_table h no_key w (with_key k p) (Some k) ∷ fs) rest f ∙
-        at_text (o.a_table settled no_key w (with_key k p) (Some k) ∷ fs) false rest _ _ (simp append_assoc)
-    entry_array (a_some ms) t h w p l k fs f = entry_array ms t h w p l k fs f
-    entry_array (an_element ms) t h w p l k fs f = entry_array ms t h w p l k fs f
-    entry_array (member none ms) t h w p l k fs f = absurd f.1
-    entry_array (member {rest = rest} (one_scalar {l = x} {rest = mid}) ms) t h w p l k fs f =
-        scalar_first x t (is_some l) (o.a_table h no_key w (with_key k p) (Some k) ∷ fs) mid f.0 f.1
-        ∙ (more_values ms (t ++ (array_start (o.a_table h no_key w (with_key k p) (Some k) ∷ fs) ++ written_scalar x))
-        (is_some l) (o.a_table settled no_key w (with_key k p) (Some k) ∷ fs) f.2
-        ∙ at_text (o.a_table settled no_key w (with_key k p) (Some k) ∷ fs) false rest _ _ (simp append_assoc))
-    entry_array (member {rest = rest} (an_array {rest = mid} {es = x} d) ms) t h w p l k fs f =
-        in_first (an_array d) t (is_some l) (o.a_table h no_key w (with_key k p) (Some k) ∷ fs) f.0 f.1
-        ∙ (more_values ms (t ++ (array_start (o.a_table h no_key w (with_key k p) (Some k) ∷ fs)
-        ++ written (array x))) (is_some l) (o.a_table settled no_key w (with_key k p) (Some k) ∷ fs) f.2
-        ∙ at_text (o.a_table settled no_key w (with_key k p) (Some k) ∷ fs) false rest _ _ (simp append_assoc))
-    entry_array (member {rest = rest} (a_table {is = is} {rest = mid} {es = rs} d) ms) t h w p l k fs f =
-        open_table_first t (is_some l) h w (with_key k p) k fs is f.0
-        ∙ (rows d (t ++ element_header (is_some l) (k ∷ path fs)) settled false no_keys None
-        (o.an_array tables (is_some l) ∷ o.a_table settled no_key true (with_key k p) (Some k) ∷ fs) f.1
-        ∙ (at_text (o.an_array tables (is_some l) ∷ o.a_table settled no_key true (with_key k p) (Some k) ∷ fs) false
-        mid _ _ (ap (λ z. (t ++ element_header (is_some l) (k ∷ path fs))
+        → (t : List ℕ) (w : OpenTable) (k : List ℕ) (fs : List Frame)
+        → FitsArray limit (suc (suc (length fs))) w.holds_section es
+        → run limit (state t (o.an_array unknown (is_some w.last) ∷ o.a_table no_key (entered k w) ∷ fs)
+        false) is ≡ run limit (after_entry t w k fs (array es)) rest
+    entry_array (array_end {rest = rest}) t w k fs f =
+        close_first t (is_some w.last) (o.a_table no_key (entered k w) ∷ fs) rest f ∙
+        at_text (o.a_table no_key (with_settled (entered k w)) ∷ fs) false rest _ _ (simp append_assoc)
+    entry_array (a_some ms) t w k fs f = entry_array ms t w k fs f
+    entry_array (an_element ms) t w k fs f = entry_array ms t w k fs f
+    entry_array (member none ms) t w k fs f = absurd f.1
+    entry_array (member {rest = rest} (one_scalar {l = x} {rest = mid}) ms) t w k fs f =
+        scalar_first x t (is_some w.last) (o.a_table no_key (entered k w) ∷ fs) mid f.0 f.1
+        ∙ (more_values ms (t ++ (array_start (o.a_table no_key (entered k w) ∷ fs) ++ written_scalar x))
+        (is_some w.last) (o.a_table no_key (with_settled (entered k w)) ∷ fs) f.2
+        ∙ at_text (o.a_table no_key (with_settled (entered k w)) ∷ fs) false rest _ _ (simp append_assoc))
+    entry_array (member {rest = rest} (an_array {rest = mid} {es = x} d) ms) t w k fs f =
+        in_first (an_array d) t (is_some w.last) (o.a_table no_key (entered k w) ∷ fs) f.0 f.1
+        ∙ (more_values ms (t ++ (array_start (o.a_table no_key (entered k w) ∷ fs)
+        ++ written (array x))) (is_some w.last) (o.a_table no_key (with_settled (entered k w)) ∷ fs) f.2
+        ∙ at_text (o.a_table no_key (with_settled (entered k w)) ∷ fs) false rest _ _ (simp append_assoc))
+    entry_array (member {rest = rest} (a_table {is = is} {rest = mid} {es = rs} d) ms) t w k fs f =
+        open_table_first t (is_some w.last) k w fs is f.0
+        ∙ (rows d (t ++ element_header (is_some w.last) (k ∷ path fs)) (empty_table settled)
+        (o.an_array tables (is_some w.last) ∷ o.a_table no_key (with_section (entered k w)) ∷ fs) f.1
+        ∙ (at_text (o.an_array tables (is_some w.last) ∷ o.a_table no_key (with_section (entered k w)) ∷ fs) false
+        mid _ _ (ap (λ z. (t ++ element_header (is_some w.last) (k ∷ path fs))
         ++ (z ++ entries_text (k ∷ path fs) false rs)) (cond-nothing (is_header_due rs)))
-        ∙ (more_sections ms ((t ++ element_header (is_some l) (k ∷ path fs)) ++ entries_text (k ∷ path fs) false rs)
-        (is_some l) (o.a_table settled no_key true (with_key k p) (Some k) ∷ fs) f.2
-        ∙ at_text (o.a_table settled no_key true (with_key k p) (Some k) ∷ fs) false rest _ _ (simp append_assoc))))
+        ∙ (more_sections ms ((t ++ element_header (is_some w.last) (k ∷ path fs))
+        ++ entries_text (k ∷ path fs) false rs) (is_some w.last) (o.a_table no_key (with_section (entered k w)) ∷ fs) f.2
+        ∙ at_text (o.a_table no_key (with_section (entered k w)) ∷ fs) false rest _ _ (simp append_assoc))))
 
     pub entry_value : {is rest : List Item} {v : Written} → IsValue is v rest
-        → (t : List ℕ) (h : Header) (w : Bool) (p : PresentKeys) (l : Option (List ℕ)) (k : List ℕ) (fs : List Frame)
-        → FitsEntry limit (suc (length fs)) w p k v
-        → run limit (state t (o.a_table h (key_set k) w p l ∷ fs) false) is
-        ≡ run limit (after_entry t h w p l k fs v) rest
-    entry_value (one_scalar {l = x} {rest = rest}) t h w p l k fs f = scalar_entry x t h w p l k fs rest f
-    entry_value none t h w p l k fs f = refl
-    entry_value (an_array {is = is} ms) t h w p l k fs f = open_array_entry t h w p l k fs is f.0 f.1 ∙
-        entry_array ms t h w p l k fs f.2
-    entry_value (a_table {is = is} rs) t h w p l k fs f = open_table_entry t h w p l k fs is f.0 f.1 ∙
-        rows rs t (due (is_some l)) false no_keys None (o.a_table settled no_key true (with_key k p) (Some k) ∷ fs) f.2
+        → (t : List ℕ) (w : OpenTable) (k : List ℕ) (fs : List Frame)
+        → FitsEntry limit (suc (length fs)) w.holds_section w.keys k v
+        → run limit (state t (o.a_table (key_set k) w ∷ fs) false) is
+        ≡ run limit (after_entry t w k fs v) rest
+    entry_value (one_scalar {l = x} {rest = rest}) t w k fs f = scalar_entry x t w k fs rest f
+    entry_value none t w k fs f = refl
+    entry_value (an_array {is = is} ms) t w k fs f = open_array_entry t w k fs is f.0 f.1 ∙
+        entry_array ms t w k fs f.2
+    entry_value (a_table {is = is} rs) t w k fs f = open_table_entry t w k fs is f.0 f.1 ∙
+        rows rs t (empty_table (due (is_some w.last))) (o.a_table no_key (with_section (entered k w)) ∷ fs) f.2
 
     pub marked : {is rest : List Item} {v : Written} → IsPrefixed is v rest
-        → (t : List ℕ) (h : Header) (w : Bool) (p : PresentKeys) (l : Option (List ℕ)) (k : List ℕ) (fs : List Frame)
-        → FitsEntry limit (suc (length fs)) w p k v
-        → run limit (state t (o.a_table h (key_set k) w p l ∷ fs) false) is
-        ≡ run limit (after_entry t h w p l k fs v) rest
-    marked (bare d) t h w p l k fs f = entry_value d t h w p l k fs f
-    marked (with_some d) t h w p l k fs f = marked d t h w p l k fs f
-    marked (with_value d) t h w p l k fs f = marked d t h w p l k fs f
+        → (t : List ℕ) (w : OpenTable) (k : List ℕ) (fs : List Frame)
+        → FitsEntry limit (suc (length fs)) w.holds_section w.keys k v
+        → run limit (state t (o.a_table (key_set k) w ∷ fs) false) is
+        ≡ run limit (after_entry t w k fs v) rest
+    marked (bare d) t w k fs f = entry_value d t w k fs f
+    marked (with_some d) t w k fs f = marked d t w k fs f
+    marked (with_value d) t w k fs f = marked d t w k fs f
 
     pub rows : {is rest : List Item} {es : Entries} → AreEntries is es rest
-        → (t : List ℕ) (h : Header) (w : Bool) (p : PresentKeys) (l : Option (List ℕ)) (fs : List Frame)
-        → FitsEntries limit (suc (length fs)) w p es
-        → run limit (state t (o.a_table h no_key w p l ∷ fs) false) is
-        ≡ run limit (state (t ++ (pending h fs es ++ entries_text (path fs) (is_some l) es)) fs (is_nothing_open fs))
-        rest
-    rows (table_end {rest = rest}) t h w p l fs f =
-        at_text fs (is_nothing_open fs) rest _ _ (ap (λ z. t ++ z) (sym (append-nil (header_text h fs))))
-    rows (by_key {mid = mid} {rest = rest} {k = k} {v = v} {es = es} d rs) t h w p l fs f =
-        marked d t h w p l k fs (fine_entry (suc (length fs)) w p k v es f) ∙
-        entry_next mid rest es t h w p l k fs v f (λ t' h' w' p' l' f'. rows rs t' h' w' p' l' fs f')
-    rows (by_field {mid = mid} {rest = rest} {k = k} {v = v} {es = es} d rs) t h w p l fs f =
-        marked d t h w p l k fs (fine_entry (suc (length fs)) w p k v es f) ∙
-        entry_next mid rest es t h w p l k fs v f (λ t' h' w' p' l' f'. rows rs t' h' w' p' l' fs f')
+        → (t : List ℕ) (w : OpenTable) (fs : List Frame)
+        → FitsEntries limit (suc (length fs)) w.holds_section w.keys es
+        → run limit (state t (o.a_table no_key w ∷ fs) false) is
+        ≡ run limit (state (t ++ (pending w.header fs es ++ entries_text (path fs) (is_some w.last) es)) fs
+        (is_nothing_open fs)) rest
+    rows (table_end {rest = rest}) t w fs f =
+        at_text fs (is_nothing_open fs) rest _ _ (ap (λ z. t ++ z) (sym (append-nil (header_text w.header fs))))
+    rows (by_key {mid = mid} {rest = rest} {k = k} {v = v} {es = es} d rs) t w fs f =
+        marked d t w k fs (fine_entry (suc (length fs)) w k v es f) ∙
+        entry_next mid rest es t w k fs v f (λ t' w' f'. rows rs t' w' fs f')
+    rows (by_field {mid = mid} {rest = rest} {k = k} {v = v} {es = es} d rs) t w fs f =
+        marked d t w k fs (fine_entry (suc (length fs)) w k v es f) ∙
+        entry_next mid rest es t w k fs v f (λ t' w' f'. rows rs t' w' fs f')
 
   pub spelled : {is : List Item} {w : Written} → Spells is w → Fits limit w
       → run limit fresh is ≡ Ok (state (layout w) [] true)
@@ -319,5 +322,5 @@ module _ (limit : ℕ) where
   spelled (root none) f = absurd f
   spelled (root (an_array d)) f = absurd f
   spelled (root (a_table {is = is} {es = es} d)) f = open_table_root is f.0 ∙
-      (rows d [] settled false no_keys None [] f.1 ∙
+      (rows d [] (empty_table settled) [] f.1 ∙
       at_text [] true [] _ _ (ap (λ z. z ++ entries_text [] false es) (cond-nothing (is_header_due es))))

@@ -2,13 +2,13 @@
 use Rattle.std.proofs.Common.{◌≡◌, ap, ◌∙◌, subst, Result, Err}
 use Rattle.basic_toml_emit.specs.Open.{State}
 use Rattle.basic_toml_emit.specs.Rules.{CallFault, duplicate_key}
-use Rattle.basic_toml_emit.specs.Error.{Names}
+use Rattle.basic_toml_write.specs.Error.{Names}
 use Rattle.basic_toml_write.specs.Again.{IsSame, IsAgain}
-use Rattle.basic_toml_emit.specs.declared.error.WriteError.{WriteError}
-use Rattle.basic_toml_emit.specs.declared.error.WriteError.TheVariants.{UnsupportedType, KeyNotString}
-use Rattle.basic_toml_emit.specs.declared.error.WriteError.TheVariants.{ValueAfterTable, UnsupportedNone, Custom}
-use Rattle.basic_toml_emit.specs.declared.error.WriteError.TheVariants.{DuplicateKey, CallOrder, NestedTooDeeply}
-use Rattle.basic_toml_emit.specs.declared.error.WriteError.TheVariants.{OutOfMemory}
+use Rattle.basic_toml_write.specs.declared.error.WriteError.{WriteError}
+use Rattle.basic_toml_write.specs.declared.error.WriteError.TheVariants.{UnsupportedType, KeyNotString}
+use Rattle.basic_toml_write.specs.declared.error.WriteError.TheVariants.{ValueAfterTable, UnsupportedNone, Custom}
+use Rattle.basic_toml_write.specs.declared.error.WriteError.TheVariants.{DuplicateKey, CallOrder, NestedTooDeeply}
+use Rattle.basic_toml_write.specs.declared.error.WriteError.TheVariants.{OutOfMemory}
 
 -- a list that is refused stays refused
 pub refuses_later : (x : WriteError) (r r' : Result State CallFault) → ((e : CallFault) → r ≡ Err e → r' ≡ Err e)

@@ -1,3 +1,4 @@
+pub mod RecordIsSent
 pub mod ValuesThatFit
 pub mod FittingValueIsTaken
 pub mod TakenListSpells

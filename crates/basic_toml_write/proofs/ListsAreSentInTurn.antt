@@ -9,14 +9,14 @@ use Rattle.basic_toml_value.specs.Nesting.{nesting_limit}
 use Rattle.basic_toml_emit.specs.Open.{State, fresh}
 use Rattle.basic_toml_emit.specs.Rules.{CallFault}
 use Rattle.basic_toml_emit.specs.Calls.{run, on_ok, after}
-use Rattle.basic_toml_emit.specs.Error.{Names}
+use Rattle.basic_toml_write.specs.Error.{Names}
 use Rattle.basic_toml_write.specs.Again.{IsSame, IsAgain}
 use Rattle.basic_toml_emit.specs.Emitter.{state_of}
 use Rattle.basic_toml_write.specs.Serializer.{ran, HasRecorded, error_of, NoFault, PartGivesUp, GaveUp}
 use Rattle.basic_toml_write.specs.Serializer.{Goes, Sends, AnswersError, Refused, Takes, Passes}
 use Rattle.basic_toml_write.proofs.KeptErrorIsAnswered.{refuses_later, refuses_again}
-use Rattle.basic_toml_emit.specs.declared.error.WriteError.{WriteError}
-use Rattle.basic_toml_emit.specs.declared.error.WriteError.TheVariants.{OutOfMemory}
+use Rattle.basic_toml_write.specs.declared.error.WriteError.{WriteError}
+use Rattle.basic_toml_write.specs.declared.error.WriteError.TheVariants.{OutOfMemory}
 use Rattle.basic_toml_write.specs.declared.serializer.Serializer.{Serializer}
 
 -- what a call answers

@@ -4,7 +4,7 @@ use Rattle.std.proofs.Common.{append-nil}
 use Rattle.basic_toml_emit.specs.Items.{Item}
 use Rattle.basic_toml_write.specs.Serializer.{HasRecorded, error_of, NoFault, GivesUpAfter, Sends, Takes}
 use Rattle.basic_toml_write.proofs.ListsAreSentInTurn.{GoesAt}
-use Rattle.basic_toml_emit.specs.declared.error.WriteError.{WriteError}
+use Rattle.basic_toml_write.specs.declared.error.WriteError.{WriteError}
 use Rattle.basic_toml_write.specs.declared.serializer.Serializer.{Serializer}
 
 -- nothing was sent

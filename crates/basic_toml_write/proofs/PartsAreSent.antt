@@ -11,7 +11,7 @@ use Rattle.basic_toml_emit.specs.Items.{Item, close}
 use Rattle.basic_toml_write.specs.Serializer.{NoFault, PartGivesUp, Sends, Takes, Passes}
 use Rattle.basic_toml_write.specs.Impls.{AnyGivesUp}
 use Rattle.basic_toml_write.proofs.ListsAreSentInTurn.{part_after, sends_then, sends_cut, sends_never}
-use Rattle.basic_toml_emit.specs.declared.error.WriteError.{WriteError}
+use Rattle.basic_toml_write.specs.declared.error.WriteError.{WriteError}
 use Rattle.basic_toml_write.specs.declared.serializer.Serializer.{Serializer}
 
 pub take_all : {A : Type 0} (xs : List A) (n : ℕ) → length xs ≤ n → take n xs ≡ xs

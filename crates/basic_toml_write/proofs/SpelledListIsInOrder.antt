@@ -1,6 +1,6 @@
 -- From a list that spells a written value, want of order and a key that is no text do not come.
-use Rattle.std.proofs.Common.{◌≡◌, ℕ, List, [], ◌∷◌, ◌++◌, refl, sym, ◌∙◌, ap, subst, Bool, true, false, Option}
-use Rattle.std.proofs.Common.{Some, None, Result, Ok, Err, inl, inr, ◌⊎◌, MatchResult}
+use Rattle.std.proofs.Common.{◌≡◌, ℕ, List, [], ◌∷◌, ◌++◌, refl, sym, ◌∙◌, ap, subst, Bool, true, false}
+use Rattle.std.proofs.Common.{Result, Ok, Err, inl, inr, ◌⊎◌, MatchResult}
 use Rattle.std.specs.Prelude.{⊤, is_some}
 use Rattle.basic_toml_layout.specs.Written.{Scalar, Written, Elements, Entries, is_refused}
 use Rattle.basic_toml_emit.specs.Items.{Item, a_scalar, open_array, open_table, close}
@@ -9,7 +9,8 @@ use Rattle.basic_toml_write.specs.Spelling.{a_some, an_element, member, AreEntri
 use Rattle.basic_toml_write.specs.Spelling.{IsPrefixed, bare, with_some, with_value, Spells, root, root_some}
 use Rattle.basic_toml_emit.specs.Open as o
 use Rattle.basic_toml_emit.specs.Open.{State, state, Frame, Header, settled, due, ElementKind, unknown, tables}
-use Rattle.basic_toml_emit.specs.Open.{others, no_key, key_set, PresentKeys, no_keys, with_key, new_table, fresh}
+use Rattle.basic_toml_emit.specs.Open.{others, no_key, key_set, OpenTable, empty_table, entered, fresh}
+use Rattle.basic_toml_emit.specs.Open.{with_settled, with_section}
 use Rattle.basic_toml_emit.specs.Rules.{CallFault, unsupported_type, value_after_table, unsupported_none}
 use Rattle.basic_toml_emit.specs.Rules.{nested_too_deeply, duplicate_key, refuse_if, first_fault, Rule, Place}
 use Rattle.basic_toml_emit.specs.Rules.{place_of, may_stand, is_no_text_at_key, is_refused_kind, is_absent_outside}
@@ -22,33 +23,33 @@ use Rattle.basic_toml_emit.specs.Calls.{is_nothing_open, outcome, finished}
 -- what an array may change of the frame that it stands on
 abbrev Below : List Frame → Type 0
 Below [] = ⊤
-Below (o.a_table h s w p k ∷ fs) = Header × Bool
+Below (o.a_table s w ∷ fs) = Header × Bool
 Below (o.an_array c l ∷ fs) = ElementKind × Bool
 
 abbrev below : (fs : List Frame) → Below fs → List Frame
 below [] x = []
-below (o.a_table h s w p k ∷ fs) x = o.a_table x.0 s x.1 p k ∷ fs
+below (o.a_table s w ∷ fs) x = o.a_table s (record w { header = x.0; holds_section = x.1 }) ∷ fs
 below (o.an_array c l ∷ fs) x = o.an_array x.0 x.1 ∷ fs
 
 same_below : (fs : List Frame) → (x : Below fs) × (below fs x ≡ fs)
 same_below [] = (tt, refl)
-same_below (o.a_table h s w p k ∷ fs) = ((h, w), refl)
+same_below (o.a_table s w ∷ fs) = ((w.header, w.holds_section), refl)
 same_below (o.an_array c l ∷ fs) = ((c, l), refl)
 
 row_below : (fs : List Frame) → (x : Below fs) × (below fs x ≡ with_row fs)
 row_below [] = (tt, refl)
-row_below (o.a_table h s w p k ∷ fs) = ((settled, w), refl)
+row_below (o.a_table s w ∷ fs) = ((settled, w.holds_section), refl)
 row_below (o.an_array c l ∷ fs) = ((c, l), refl)
 
 sections_below : (fs : List Frame) → (x : Below fs) × (below fs x ≡ with_sections fs)
 sections_below [] = (tt, refl)
-sections_below (o.a_table h s w p k ∷ fs) = ((settled, true), refl)
+sections_below (o.a_table s w ∷ fs) = ((settled, true), refl)
 sections_below (o.an_array c l ∷ fs) = ((c, l), refl)
 
 below_below : (fs : List Frame) (x : Below fs) (y : Below (below fs x)) → (z : Below fs)
     × (below fs z ≡ below (below fs x) y)
 below_below [] x y = (tt, refl)
-below_below (o.a_table h s w p k ∷ fs) x y = (y, refl)
+below_below (o.a_table s w ∷ fs) x y = (y, refl)
 below_below (o.an_array c l ∷ fs) x y = (y, refl)
 
 abbrev AreFair : List Rule → Type 0
@@ -106,8 +107,8 @@ module _ (limit : ℕ) where
   goes_at st su r rest (inr a) k = inr ((k a.0).0, a.1 ∙ ap (λ s. run limit s rest) (k a.0).1)
 
   -- a table with no key; an array; what an array leaves
-  abbrev keyless : List Frame → (List ℕ × Header × Bool × PresentKeys × Option (List ℕ)) → State
-  keyless fs x = state x.0 (o.a_table x.1 no_key x.2 x.3 x.4 ∷ fs) false
+  abbrev keyless : List Frame → (List ℕ × OpenTable) → State
+  keyless fs x = state x.0 (o.a_table no_key x.1 ∷ fs) false
 
   abbrev in_array : (fs : List Frame) → (List ℕ × ElementKind × Bool × Below fs) → State
   in_array fs x = state x.0 (o.an_array x.1 x.2 ∷ below fs x.3) false
@@ -156,7 +157,7 @@ module _ (limit : ℕ) where
     element_goes (an_array ms) t tables l fs = inl (unsupported_type, tt, refl)
     element_goes (a_table {is = is} {rest = rest} rs) t unknown l fs =
         take (in_array fs) t (o.an_array unknown l ∷ fs) false open_table is rest refl refl
-        (goes_at _ _ _ rest (rows_go rs _ settled false no_keys None (o.an_array tables l ∷ with_sections fs))
+        (goes_at _ _ _ rest (rows_go rs _ (empty_table settled) (o.an_array tables l ∷ with_sections fs))
         (λ x. (
           (x, tables, l, (sections_below fs).0),
           ap (λ g. state x (o.an_array tables l ∷ g) false) (sym (sections_below fs).1),
@@ -164,7 +165,7 @@ module _ (limit : ℕ) where
     element_goes (a_table rs) t others l fs = inl (unsupported_type, tt, refl)
     element_goes (a_table {is = is} {rest = rest} rs) t tables l fs =
         take (in_array fs) t (o.an_array tables l ∷ fs) false open_table is rest refl refl
-        (goes_at _ _ _ rest (rows_go rs _ settled false no_keys None (o.an_array tables l ∷ fs))
+        (goes_at _ _ _ rest (rows_go rs _ (empty_table settled) (o.an_array tables l ∷ fs))
         (λ x. (
           (x, tables, l, (same_below fs).0),
           ap (λ g. state x (o.an_array tables l ∷ g) false) (sym (same_below fs).1),
@@ -198,39 +199,39 @@ module _ (limit : ℕ) where
         below_below fs x.3 y.1 in ((y.0, z.0), ap (λ g. state y.0 g false) (sym z.1))))
 
     value_goes : {is rest : List Item} {v : Written} → IsValue is v rest
-        → (t : List ℕ) (h : Header) (k : List ℕ) (w : Bool) (p : PresentKeys) (l : Option (List ℕ)) (fs : List Frame)
-        → Goes (keyless fs) (run limit (state t (o.a_table h (key_set k) w p l ∷ fs) false) is) rest
-    value_goes (one_scalar {l = x} {rest = rest}) t h k w p l fs =
-        take (keyless fs) t (o.a_table h (key_set k) w p l ∷ fs) false (a_scalar x) rest rest refl refl
-        (inr ((_, settled, w, with_key k p, Some k), refl))
-    value_goes none t h k w p l fs = inr ((t, h, w, p, l), refl)
-    value_goes (an_array {is = is} {rest = rest} ms) t h k w p l fs =
-        take (keyless fs) t (o.a_table h (key_set k) w p l ∷ fs) false open_array is rest refl refl
-        (goes_at _ _ _ rest (members_go ms _ unknown (is_some l) (o.a_table h no_key w (with_key k p) (Some k) ∷ fs))
-        (λ x. ((x.0, x.1.0, x.1.1, with_key k p, Some k), refl)))
-    value_goes (a_table {is = is} {rest = rest} rs) t h k w p l fs =
-        take (keyless fs) t (o.a_table h (key_set k) w p l ∷ fs) false open_table is rest refl refl
-        (goes_at _ _ _ rest (rows_go rs _ (due (is_some l)) false no_keys None
-        (o.a_table settled no_key true (with_key k p) (Some k) ∷ fs))
-        (λ x. ((x, settled, true, with_key k p, Some k), refl)))
+        → (t : List ℕ) (k : List ℕ) (w : OpenTable) (fs : List Frame)
+        → Goes (keyless fs) (run limit (state t (o.a_table (key_set k) w ∷ fs) false) is) rest
+    value_goes (one_scalar {l = x} {rest = rest}) t k w fs =
+        take (keyless fs) t (o.a_table (key_set k) w ∷ fs) false (a_scalar x) rest rest refl refl
+        (inr ((_, with_settled (entered k w)), refl))
+    value_goes none t k w fs = inr ((t, w), refl)
+    value_goes (an_array {is = is} {rest = rest} ms) t k w fs =
+        take (keyless fs) t (o.a_table (key_set k) w ∷ fs) false open_array is rest refl refl
+        (goes_at _ _ _ rest (members_go ms _ unknown (is_some w.last) (o.a_table no_key (entered k w) ∷ fs))
+        (λ x. ((x.0, record (entered k w) { header = x.1.0; holds_section = x.1.1 }), refl)))
+    value_goes (a_table {is = is} {rest = rest} rs) t k w fs =
+        take (keyless fs) t (o.a_table (key_set k) w ∷ fs) false open_table is rest refl refl
+        (goes_at _ _ _ rest (rows_go rs _ (empty_table (due (is_some w.last)))
+        (o.a_table no_key (with_section (entered k w)) ∷ fs))
+        (λ x. ((x, with_section (entered k w)), refl)))
 
     marked_goes : {is rest : List Item} {v : Written} → IsPrefixed is v rest
-        → (t : List ℕ) (h : Header) (k : List ℕ) (w : Bool) (p : PresentKeys) (l : Option (List ℕ)) (fs : List Frame)
-        → Goes (keyless fs) (run limit (state t (o.a_table h (key_set k) w p l ∷ fs) false) is) rest
-    marked_goes (bare d) t h k w p l fs = value_goes d t h k w p l fs
-    marked_goes (with_some d) t h k w p l fs = marked_goes d t h k w p l fs
-    marked_goes (with_value d) t h k w p l fs = marked_goes d t h k w p l fs
+        → (t : List ℕ) (k : List ℕ) (w : OpenTable) (fs : List Frame)
+        → Goes (keyless fs) (run limit (state t (o.a_table (key_set k) w ∷ fs) false) is) rest
+    marked_goes (bare d) t k w fs = value_goes d t k w fs
+    marked_goes (with_some d) t k w fs = marked_goes d t k w fs
+    marked_goes (with_value d) t k w fs = marked_goes d t k w fs
 
     rows_go : {is rest : List Item} {es : Entries} → AreEntries is es rest
-        → (t : List ℕ) (h : Header) (w : Bool) (p : PresentKeys) (l : Option (List ℕ)) (fs : List Frame)
-        → Goes (ended fs) (run limit (state t (o.a_table h no_key w p l ∷ fs) false) is) rest
-    rows_go table_end t h w p l fs = inr (_, refl)
-    rows_go (by_key {mid = mid} {rest = rest} {k = k} d rs) t h w p l fs =
-        goes_on (keyless fs) (ended fs) _ mid rest (marked_goes d t h k w p l fs)
-        (λ x. rows_go rs x.0 x.1 x.2 x.3 x.4 fs)
-    rows_go (by_field {mid = mid} {rest = rest} {k = k} d rs) t h w p l fs =
-        goes_on (keyless fs) (ended fs) _ mid rest (marked_goes d t h k w p l fs)
-        (λ x. rows_go rs x.0 x.1 x.2 x.3 x.4 fs)
+        → (t : List ℕ) (w : OpenTable) (fs : List Frame)
+        → Goes (ended fs) (run limit (state t (o.a_table no_key w ∷ fs) false) is) rest
+    rows_go table_end t w fs = inr (_, refl)
+    rows_go (by_key {mid = mid} {rest = rest} {k = k} d rs) t w fs =
+        goes_on (keyless fs) (ended fs) _ mid rest (marked_goes d t k w fs)
+        (λ x. rows_go rs x.0 x.1 fs)
+    rows_go (by_field {mid = mid} {rest = rest} {k = k} d rs) t w fs =
+        goes_on (keyless fs) (ended fs) _ mid rest (marked_goes d t k w fs)
+        (λ x. rows_go rs x.0 x.1 fs)
 
   -- a scalar at the root is refused as it is, or for where it stands
   unfit_scalar : (x : Scalar) → MatchResult (outcome limit (a_scalar x ∷ [])) (λ _. ⊤) IsFair
@@ -257,4 +258,4 @@ module _ (limit : ℕ) where
   ordered (root (an_array d)) = tt
   ordered (root (a_table {is = is} d)) =
       comes (run limit fresh (open_table ∷ is))
-      (take (ended []) [] [] false open_table is [] refl refl (rows_go d [] settled false no_keys None []))
+      (take (ended []) [] [] false open_table is [] refl refl (rows_go d [] (empty_table settled) []))

@@ -11,8 +11,8 @@ use Rattle.basic_toml_layout.specs.Layout.{layout}
 use Rattle.basic_toml_emit.specs.Open.{state, fresh}
 use Rattle.basic_toml_emit.specs.Calls.{run, on_ok}
 use Rattle.basic_toml_emit.specs.Emitter.{state_of}
-use Rattle.basic_toml_emit.specs.declared.error.WriteError.{WriteError}
-use Rattle.basic_toml_emit.specs.declared.error.WriteError.TheVariants.{OutOfMemory}
+use Rattle.basic_toml_write.specs.declared.error.WriteError.{WriteError}
+use Rattle.basic_toml_write.specs.declared.error.WriteError.TheVariants.{OutOfMemory}
 use Rattle.basic_toml_write.specs.Again.{IsSame, IsAgain}
 use Rattle.basic_toml_write.specs.Impls.{data_calls, members_calls}
 use Rattle.basic_toml_write.specs.Recordable.{IsRecordable, AreRecordable}

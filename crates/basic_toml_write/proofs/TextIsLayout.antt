@@ -5,14 +5,14 @@ use Rattle.basic_toml_emit.specs.Items.{Item}
 use Rattle.basic_toml_layout.specs.Layout.{layout}
 use Rattle.basic_toml_value.specs.Nesting.{nesting_limit}
 use Rattle.basic_toml_emit.specs.Rules.{CallFault}
-use Rattle.basic_toml_emit.specs.Error.{Names}
+use Rattle.basic_toml_write.specs.Error.{Names}
 use Rattle.basic_toml_write.specs.Write.{WritesOut, IsLayout, Succeeds}
 use Rattle.basic_toml_write.proofs.OutcomeIsLayout.{outcome-layout, layout-outcome}
-use Rattle.basic_toml_emit.specs.declared.error.WriteError.{WriteError}
-use Rattle.basic_toml_emit.specs.declared.error.WriteError.TheVariants.{UnsupportedType, KeyNotString}
-use Rattle.basic_toml_emit.specs.declared.error.WriteError.TheVariants.{ValueAfterTable, UnsupportedNone, Custom}
-use Rattle.basic_toml_emit.specs.declared.error.WriteError.TheVariants.{DuplicateKey, CallOrder, NestedTooDeeply}
-use Rattle.basic_toml_emit.specs.declared.error.WriteError.TheVariants.{OutOfMemory}
+use Rattle.basic_toml_write.specs.declared.error.WriteError.{WriteError}
+use Rattle.basic_toml_write.specs.declared.error.WriteError.TheVariants.{UnsupportedType, KeyNotString}
+use Rattle.basic_toml_write.specs.declared.error.WriteError.TheVariants.{ValueAfterTable, UnsupportedNone, Custom}
+use Rattle.basic_toml_write.specs.declared.error.WriteError.TheVariants.{DuplicateKey, CallOrder, NestedTooDeeply}
+use Rattle.basic_toml_write.specs.declared.error.WriteError.TheVariants.{OutOfMemory}
 
 pub is_layout : (is : List Item) (G : List Item → WriteError → Type 0) (r : Result (String Global) WriteError) → WritesOut is G r
     → IsLayout is r

@@ -1,7 +1,7 @@
 -- An error that is answered, and one that is answered once more.
 use Rattle.std.specs.Prelude.{◌≡◌, string_bytes}
-use Rattle.basic_toml_emit.specs.declared.error.WriteError.{WriteError}
-use Rattle.basic_toml_emit.specs.declared.error.WriteError.TheVariants.{Custom, DuplicateKey, OutOfMemory}
+use Rattle.basic_toml_write.specs.declared.error.WriteError.{WriteError}
+use Rattle.basic_toml_write.specs.declared.error.WriteError.TheVariants.{Custom, DuplicateKey, OutOfMemory}
 
 -- the same error
 abbrev pub IsSame : WriteError → WriteError → Type 0

@@ -5,7 +5,7 @@ use Rattle.std.specs.List.{flat_map}
 use Rattle.std.specs.declared.alloc.Global.{Global}
 use Rattle.basic_toml_value.specs.Data as d
 use Rattle.basic_toml_layout.specs.Written as w
-use Rattle.basic_toml_emit.specs.declared.error.WriteError.{WriteError}
+use Rattle.basic_toml_write.specs.declared.error.WriteError.{WriteError}
 use Rattle.basic_toml_emit.specs.Items.{Item, a_scalar, an_absent, open_array, open_table, close, field, some_prefix}
 use Rattle.basic_toml_emit.specs.Items.{element_prefix}
 use Rattle.basic_toml_write.specs.Serializer.{NoFault, PartGivesUp}

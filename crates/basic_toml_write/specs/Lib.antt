@@ -2,6 +2,7 @@ pub mod Spelling
 pub mod Kept
 pub mod Shapes
 pub mod Recordable
+pub mod Error
 pub mod Again
 pub mod Serializer
 pub mod Impls

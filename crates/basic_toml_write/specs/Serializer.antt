@@ -10,12 +10,12 @@ use Rattle.basic_toml_value.specs.Nesting.{nesting_limit}
 use Rattle.basic_toml_emit.specs.Open.{State, fresh}
 use Rattle.basic_toml_emit.specs.Rules.{CallFault}
 use Rattle.basic_toml_emit.specs.Calls.{run}
-use Rattle.basic_toml_emit.specs.Error.{Names}
+use Rattle.basic_toml_write.specs.Error.{Names}
 use Rattle.basic_toml_write.specs.Recordable.{AreRecordable}
 use Rattle.basic_toml_write.specs.Again.{IsSame, IsAgain}
 use Rattle.basic_toml_emit.specs.Emitter.{state_of, HandsOut}
-use Rattle.basic_toml_emit.specs.declared.error.WriteError.{WriteError}
-use Rattle.basic_toml_emit.specs.declared.error.WriteError.TheVariants.{OutOfMemory}
+use Rattle.basic_toml_write.specs.declared.error.WriteError.{WriteError}
+use Rattle.basic_toml_write.specs.declared.error.WriteError.TheVariants.{CallOrder, OutOfMemory}
 use Rattle.basic_toml_write.specs.declared.serializer.Serializer.{Serializer}
 
 -- what a list of items comes to, from the start
@@ -99,7 +99,7 @@ pub record Passes (ahead is : List Item) (gives_up : List Item → WriteError �
 
 -- the error that was kept, or else the text, where what was taken is a whole table
 abbrev pub Finishes : Serializer → Result (String Global) WriteError → Type 0
-Finishes s r = MatchOption (error_of s) (HandsOut s.emitter r) (λ e. r ≡ Err e)
+Finishes s r = MatchOption (error_of s) (HandsOut CallOrder s.emitter r) (λ e. r ≡ Err e)
 
 -- The error that was met, whatever the type answered; else the type's own error; else what is handed out.
 abbrev pub Settles : Serializer → Result (Unit {0}) WriteError → Result (String Global) WriteError → Type 0

@@ -11,9 +11,9 @@ use Rattle.basic_toml_value.specs.Nesting.{nesting_limit}
 use Rattle.basic_toml_write.specs.Shapes.{is_unsupported}
 use Rattle.basic_toml_emit.specs.Rules.{CallFault, key_not_string, call_order}
 use Rattle.basic_toml_emit.specs.Calls.{outcome}
-use Rattle.basic_toml_emit.specs.Error.{Names}
-use Rattle.basic_toml_emit.specs.declared.error.WriteError.{WriteError}
-use Rattle.basic_toml_emit.specs.declared.error.WriteError.TheVariants.{OutOfMemory}
+use Rattle.basic_toml_write.specs.Error.{Names}
+use Rattle.basic_toml_write.specs.declared.error.WriteError.{WriteError}
+use Rattle.basic_toml_write.specs.declared.error.WriteError.TheVariants.{OutOfMemory}
 
 -- an error of the type's own, with which it may give up after items of which none is refused
 pub record IsOwnError (gives_up : List Item → WriteError → Type 0) (e : WriteError) : Type 0 where

@@ -1,7 +1,7 @@
 //! An error that is answered once more.
 ghost use Rattle.basic_toml_write.specs.Again.{IsSame, IsAgain};
 
-use basic_toml_emit::WriteError;
+use crate::WriteError;
 use std::alloc::Global;
 
 // The same error once more. `OutOfMemory` where the key finds no memory, and for a type's own, which is never kept.

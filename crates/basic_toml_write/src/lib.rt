@@ -5,12 +5,15 @@
 #![tactic(auto)]
 
 mod again;
+mod error;
 mod fits;
 mod impls;
 pub mod laws;
+mod serialize;
 mod serializer;
 mod write;
 
-pub use basic_toml_emit::WriteError;
-pub use serializer::{Serialize, Serializer};
+pub use error::WriteError;
+pub use serialize::Serialize;
+pub use serializer::Serializer;
 pub use write::written;

@@ -1,12 +1,16 @@
 //! The serializer.
-ghost use Rattle.std.specs.Prelude.{◌≡◌, ℕ, List, [], ◌∷◌, ◌++◌, pos, OnOk, IfErr, MatchOption, None, Err, is_some, ⊤, encode_utf8};
+ghost use Rattle.std.specs.Prelude.{◌≡◌, ℕ, List, [], ◌∷◌, ◌++◌, Result, pos, OnOk, IfErr, MatchOption, None, Err, is_some, ⊤, encode_utf8};
 ghost use Rattle.basic_toml_emit.specs.Items.{Item, a_scalar, an_absent, open_array, open_table, close, key, field, some_prefix, value_prefix, element_prefix};
 ghost use Rattle.basic_toml_layout.specs.Written as w;
 ghost use Rattle.basic_toml_emit.specs.Recorded.{item_of};
+ghost use Rattle.basic_toml_emit.specs.Emitter.{HandsOut};
+ghost use Rattle.basic_toml_write.specs.declared.error.WriteError.TheVariants.{CallOrder};
 
 use crate::again::{again, twice};
+use crate::error::named;
 use crate::fits::table_fits;
-use basic_toml_emit::{Call, Emitter, Scalar, WriteError};
+use crate::{Serialize, WriteError};
+use basic_toml_emit::{Call, EmitError, Emitter, Scalar};
 use basic_toml_layout::laid_out;
 use basic_toml_value::{Float, Table};
 use std::alloc::Global;
@@ -41,7 +45,11 @@ pub struct Serializer {
 }
 
 impl Serializer {
-    ghost use Rattle.basic_toml_emit.specs.Emitter.{Steps};
+    ghost use Rattle.basic_toml_emit.specs.Emitter.{state_of, Steps};
+    ghost use Rattle.basic_toml_emit.specs.Error.{Meets};
+    ghost use Rattle.basic_toml_emit.specs.Open.{State};
+    ghost use Rattle.basic_toml_emit.specs.Rules.{CallFault, key_of};
+    ghost use Rattle.basic_toml_write.specs.Error.{Names};
     ghost use Rattle.basic_toml_write.specs.Recordable.{IsRecordable};
     ghost use Rattle.basic_toml_value.specs.Data as d;
     ghost use Rattle.basic_toml_value.specs.View.{entries};
@@ -91,16 +99,24 @@ impl Serializer {
         Err(answer)
     }
 
+    // An error of the emitter, with what it owns.
+    fn named(&self, error: EmitError) -> WriteError
+        ensures { (x : Result State CallFault) → Meets error (key_of (state_of self.now.emitter).open_frames) x
+            → Names result x }
+    {
+        named(error, &self.emitter, self.alloc)
+    }
+
     // The answer of a step; an error is kept.
     #[inline(always)]
     #[tactic(auto, using(crate::proofs::ListsAreSentInTurn::takes_ok, crate::proofs::ListsAreSentInTurn::takes_err))]
-    fn keep(&mut self, answer: Result<(), WriteError>) -> Result<(), WriteError>
+    fn keep(&mut self, answer: Result<(), EmitError>) -> Result<(), WriteError>
         ensures { (i : Item) (before : Serializer) → IsRecordable i → before.error ≡ None → self.old.error ≡ None
             → Steps i before.emitter self.old.emitter answer → Takes (i ∷ []) before self.new result }
     {
         match answer {
             Ok(()) => Ok(()),
-            Err(error) => self.refuse(error),
+            Err(error) => self.refuse(self.named(error)),
         }
     }
 
@@ -446,39 +462,17 @@ impl Serializer {
         } = self;
         match error {
             Some(error) => Err(error),
-            None => emitter.finish(),
+            None => handed_out(emitter),
         }
     }
 }
 
-/// A value that tells itself to a [`Serializer`].
-///
-/// The ghost member `calls` names the items that the value sends. A type that may give up with an error of its own
-/// names in `gives_up` after which of them, and with which error: an error of the serializer goes before it.
-///
-/// ```text
-/// impl Serialize for Server {
-///     ghost calls = { λ s. open_table ∷ (field (codes "port") ∷ a_scalar (integer (pos s.port)) ∷ close ∷ []) };
-///
-///     fn serialize(&self, _alloc: Global, ser: &mut Serializer) -> Result<(), WriteError> {
-///         ser.serialize_struct("Server", 1)?;
-///         ser.serialize_field("port", &self.port)?;
-///         ser.end()
-///     }
-/// }
-/// ```
-pub trait Serialize {
-    ghost use Rattle.basic_toml_emit.specs.declared.error.WriteError.{WriteError};
-    ghost use Rattle.basic_toml_emit.specs.Items.{Item};
-    ghost use Rattle.basic_toml_write.specs.Serializer.{Sends, NoFault};
-
-    // The items that a value spells.
-    ghost calls: { Self → List Item };
-
-    // After which of its items, a beginning of what it sends, a value may give up, and with which errors of its own.
-    ghost gives_up: { Self → List Item → WriteError → Type 0 } = { λ _. NoFault };
-
-    /// Makes the calls of the value on `ser`. An error of the type's own is made by [`WriteError::custom`].
-    fn serialize(&self, alloc: Global, ser: &mut Serializer) -> Result<(), WriteError>
-        ensures { Sends (calls self.now) (gives_up self.now) ser.old ser.new result };
+// The text of what was emitted, where it is a whole table; else `CallOrder`.
+fn handed_out(emitter: Emitter) -> Result<String, WriteError>
+    ensures { HandsOut CallOrder emitter result }
+{
+    match emitter.finish() {
+        Ok(text) => Ok(text),
+        Err(_) => Err(WriteError::CallOrder),
+    }
 }

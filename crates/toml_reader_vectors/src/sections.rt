@@ -202,6 +202,8 @@ fn names_faults_of_the_grammar(rt: HostRuntime) -> Result<(), Fail> {
         ("0=0r=false", "2 number"),
         ("a = 1 \u{feff}", "6 unexpected"),
         ("a = 1 # \u{7f}", "8 unexpected"),
+        ("# \u{7f}", "2 unexpected"),
+        ("\t# \u{7f}# x\n", "3 unexpected"),
     ];
     for (text, want) in cases {
         assert_eq!(rt; shown(rt.alloc(), text)?.as_str(), want, "at {text}");

@@ -12,6 +12,7 @@ use Rattle.basic_toml.specs.Nesting.{nesting_limit}
 use Rattle.basic_toml.specs.Fault.{Fault, out_of_memory, want_of_memory, not_text}
 use Rattle.basic_toml.specs.FaultText.{fault_text}
 use Rattle.basic_toml.specs.Items.{Item, field}
+use Rattle.basic_toml.specs.ReadFaults.{lined}
 use Rattle.basic_toml.specs.Reading.{ReadsText, value_read, no_memory, no_document, not_taken}
 use Rattle.basic_toml.specs.tokens.Text.{folded}
 use Rattle.basic_toml.specs.Impls.{data_calls, members_calls}
@@ -77,8 +78,8 @@ module _ {T : Type 0} (takes : Data → Type 0) (entries : T → Members) where
       → IsDue input 1 (fault_text fault ++ codes "\n")
   text_refused input _ taken utf8 kind no_memory = absurd (kind refl)
   text_refused input _ taken utf8 kind (no_document none why) = refused utf8 why
-  text_refused input fault taken utf8 kind (not_taken {members = members} document only) =
-      absurd (kind (ap (λ (f : Fault). f.kind) (only.taken (taken members))))
+  text_refused input fault taken utf8 kind (not_taken {members = members} document (own, only, same)) =
+      absurd (kind (ap (λ (f : Fault). f.kind) (same ∙ ap (lined input) (only.taken (taken members)))))
 
   pub refused_due : (input text : List ℕ) (fault : Fault) → ((members : Members) → takes (table members))
       → (IsUtf8 input → ReadsText takes reads_table input (Err fault))

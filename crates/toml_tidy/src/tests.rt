@@ -1,11 +1,14 @@
+mod texts;
+
 use super::run;
 use std::io::{self, Read, Write};
 use std::test::Fail;
 
-/// Gives its bytes in small parts, and fails once, after some calls.
+/// Gives at most so many bytes at a call, and fails once, after some calls.
 #[derive(Drop)]
 struct Source {
     left: &'static [u8],
+    most: usize,
     calls_before_fault: usize,
 }
 
@@ -16,28 +19,33 @@ impl Read for Source {
             return Err(io::Error::from(io::ErrorKind::Interrupted));
         }
         self.calls_before_fault -= 1;
-        let n = self.left.len().min(buf.len()).min(5);
+        let n = self.left.len().min(buf.len()).min(self.most);
         buf[..n].copy_from_slice(&self.left[..n]);
         self.left = &self.left[n..];
         Ok(n)
     }
 }
 
-/// Takes bytes in small parts, and fails once, after some calls.
+/// Takes at most so many bytes at a call, and once, after some calls, none: by an error, or as if there were no room.
 #[derive(Drop)]
 struct Sink {
     bytes: Vec<u8>,
+    most: usize,
     calls_before_fault: usize,
+    is_interrupted: bool,
 }
 
 impl Write for Sink {
     fn write(&mut self, buf: &[u8]) -> io::Result<usize> {
         if self.calls_before_fault == 0 {
             self.calls_before_fault = usize::MAX;
-            return Err(io::Error::from(io::ErrorKind::Interrupted));
+            if self.is_interrupted {
+                return Err(io::Error::from(io::ErrorKind::Interrupted));
+            }
+            return Ok(0);
         }
         self.calls_before_fault -= 1;
-        let n = buf.len().min(5);
+        let n = buf.len().min(self.most);
         self.bytes.extend_from_slice(&buf[..n])?;
         Ok(n)
     }
@@ -84,26 +92,49 @@ fn runs(rt: HostRuntime) -> Result<(), Fail> {
     Ok(())
 }
 
-// Six calls read the 23 bytes and their end, and five write them.
+// One call more reads than there are parts: it sees the end.
 #[test]
 fn fails_at_each_call(rt: HostRuntime) -> Result<(), Fail> {
-    let text = b"a = 7\nb = true\nc = \"x\"\n".as_slice();
-    for reads in 0..7usize {
-        for writes in 0..6usize {
-            let mut reader = Source {
-                left: text,
-                calls_before_fault: reads,
-            };
-            let mut writer = Sink {
-                bytes: Vec::new(rt.alloc()),
-                calls_before_fault: writes,
-            };
-            let ended = run(rt.alloc(), &mut reader, &mut writer);
-            let taken = if reads < 6 { 0 } else { 5 * writes };
-            let status = if taken < text.len() { 3 } else { 0 };
-            assert_eq!(rt; ended, status, "at read {reads} and write {writes}");
-            assert_eq!(rt; writer.bytes.len(), taken.min(text.len()));
-            assert!(rt; text.starts_with(writer.bytes.as_slice()));
+    for (input, due, text) in [
+        (b"a = 7\nb = [true]".as_slice(), 0, "a = 7\nb = [true]\n"),
+        (
+            b"a = 01".as_slice(),
+            1,
+            "invalid number at line 1 column 6\n",
+        ),
+        (
+            b"a = {x = 1}\nb = 2\n".as_slice(),
+            2,
+            "values must be emitted before tables\n",
+        ),
+    ] {
+        for (most, is_interrupted) in [(1, true), (1, false), (5, true), (5, false), (64, true)] {
+            for reads in 0..40usize {
+                for writes in 0..40usize {
+                    let mut reader = Source {
+                        left: input,
+                        most,
+                        calls_before_fault: reads,
+                    };
+                    let mut writer = Sink {
+                        bytes: Vec::new(rt.alloc()),
+                        most,
+                        calls_before_fault: writes,
+                        is_interrupted,
+                    };
+                    let ended = run(rt.alloc(), &mut reader, &mut writer);
+                    let is_read = reads > input.len().div_ceil(most);
+                    let taken = if is_read {
+                        writes.saturating_mul(most)
+                    } else {
+                        0
+                    };
+                    let status = if taken < text.len() { 3 } else { due };
+                    assert_eq!(rt; ended, status, "{text} at {reads} and {writes} of {most}");
+                    assert_eq!(rt; writer.bytes.len(), taken.min(text.len()));
+                    assert!(rt; text.as_bytes().starts_with(writer.bytes.as_slice()));
+                }
+            }
         }
     }
     Ok(())

@@ -3,8 +3,8 @@ use Rattle.std.proofs.Common.{◌≡◌, ℕ, List, [], ◌∷◌, codes, sym, �
 use Rattle.std.proofs.Common.{string_bytes, String}
 use Rattle.std.specs.Prelude.{IsOk, OnOk}
 use Rattle.std.specs.declared.alloc.Global.{Global}
-use Rattle.basic_toml_emit.specs.Error.{IsCustom}
-use Rattle.basic_toml_emit.specs.declared.error.WriteError.{WriteError}
+use Rattle.basic_toml_write.specs.Error.{IsCustom}
+use Rattle.basic_toml_write.specs.declared.error.WriteError.{WriteError}
 use Rattle.basic_toml_write.proofs.OutcomeIsLayout.{outcome-layout}
 use Rattle.basic_toml.specs.Fault.{Fault, want_of_memory, without_offset, unsupported_type}
 use Rattle.basic_toml.specs.Items.{Item, a_scalar}

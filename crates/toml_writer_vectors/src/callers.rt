@@ -1,7 +1,7 @@
 //! Types that give up, and callers of `to_string`, proved by its contract alone.
 ghost use Rattle.std.specs.Prelude.{◌≡◌, ◌⊎◌, List, [], ◌∷◌, codes, Err, IfErr, OnOk};
-ghost use Rattle.basic_toml_emit.specs.Error.{IsCustom};
-ghost use Rattle.basic_toml_emit.specs.declared.error.WriteError.{WriteError};
+ghost use Rattle.basic_toml_write.specs.Error.{IsCustom};
+ghost use Rattle.basic_toml_write.specs.declared.error.WriteError.{WriteError};
 ghost use Rattle.basic_toml.specs.Fault.{want_of_memory, without_offset, unsupported_type};
 ghost use Rattle.basic_toml.specs.Items.{Item, a_scalar};
 ghost use Rattle.basic_toml.specs.Ser.{IsFirstFault};

@@ -1,6 +1,6 @@
 // Types whose calls the tests make, and what an answer shows.
 ghost use Rattle.std.specs.Prelude.{[], ◌∷◌, codes};
-ghost use Rattle.basic_toml_emit.specs.Error.{IsCustom};
+ghost use Rattle.basic_toml_write.specs.Error.{IsCustom};
 ghost use Rattle.basic_toml_emit.specs.Items.{a_scalar, open_table};
 ghost use Rattle.basic_toml_layout.specs.Written.{refused};
 ghost use Rattle.basic_toml_write.specs.Serializer.{GivesUpAfter};

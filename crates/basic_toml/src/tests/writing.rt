@@ -1,6 +1,6 @@
 // What `to_string` answers for tables, and for types that make odd calls.
 ghost use Rattle.std.specs.Prelude.{[], ◌∷◌, ◌++◌, ◌⊎◌, codes};
-ghost use Rattle.basic_toml_emit.specs.Error.{IsCustom};
+ghost use Rattle.basic_toml_write.specs.Error.{IsCustom};
 ghost use Rattle.basic_toml_emit.specs.Items.{a_scalar, open_table, close, field};
 ghost use Rattle.basic_toml_layout.specs.Written.{refused};
 ghost use Rattle.basic_toml_write.specs.Serializer.{GivesUpAfter, PartGivesUp};

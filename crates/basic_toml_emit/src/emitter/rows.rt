@@ -1,6 +1,6 @@
 //! Scalars, and arrays that hold no table.
 ghost use Rattle.std.specs.Prelude.{◌≡◌, ◌⊎◌, ◌∷◌, true, false, IfOk, IfErr, MatchOption};
-ghost use Rattle.basic_toml_emit.specs.declared.fault.Fault.TheVariants.{OutOfMemory, DuplicateKey, ValueAfterTable};
+ghost use Rattle.basic_toml_emit.specs.declared.error.EmitError.TheVariants.{OutOfMemory, DuplicateKey, ValueAfterTable};
 ghost use Rattle.basic_toml_emit.specs.Items.{a_scalar, open_array, close};
 ghost use Rattle.basic_toml_layout.specs.Written as w;
 ghost use Rattle.basic_toml_layout.specs.Scalar.{scalar_of};
@@ -10,9 +10,9 @@ ghost use Rattle.basic_toml_emit.specs.Frames.{frames_of, kind_of};
 ghost use Rattle.basic_toml_emit.specs.Changes.{outer, holds_key, has_entry};
 
 use super::Emitter;
-use crate::fault::Fault;
+use crate::error::EmitError;
 use crate::frames::{
-    ElementKind, Frame, Stage, enter_key, innermost, is_full, leave, put, set_key, settle,
+    ElementKind, Frame, Stage, enter_key, innermost, is_full, leave, put_array, set_key, settle,
 };
 use crate::headers::{write_header, write_row_start};
 use basic_toml_layout::Scalar;
@@ -29,30 +29,30 @@ fn key<'a>(scalar: Scalar<'a>) -> Option<&'a str>
 }
 
 impl Emitter {
-    ghost use Rattle.basic_toml_emit.specs.Emitter.{Takes, Enters, StartsValue, StartsRow, StartsElements, EndsRow};
+    ghost use Rattle.basic_toml_emit.specs.Emitter.{Steps, Enters, StartsValue, StartsRow, StartsElements, EndsRow};
 
     #[inline(always)]
-    pub(super) fn scalar_in_table(&mut self, scalar: Scalar<'_>) -> Result<(), Fault>
+    pub(super) fn scalar_in_table(&mut self, scalar: Scalar<'_>) -> Result<(), EmitError>
         requires { is_in_table (frames_of self.old.frames.items) ≡ true }
-        ensures { Takes (a_scalar (scalar_of scalar.entry)) self.old self.new result }
+        ensures { Steps (a_scalar (scalar_of scalar.entry)) self.old self.new result }
     {
         let Some((Frame::Table(table), _)) = innermost(&self.frames) else {
-            return Err(Fault::CallOrder);
+            return Err(EmitError::CallOrder);
         };
         match table.stage {
-            Stage::NoKey => Err(Fault::CallOrder),
+            Stage::NoKey => Err(EmitError::CallOrder),
             Stage::KeyPlace => self.scalar_at_key(scalar),
             Stage::KeySet => self.scalar_at_value(scalar),
         }
     }
 
     // Sets a key.
-    fn scalar_at_key(&mut self, scalar: Scalar<'_>) -> Result<(), Fault>
+    fn scalar_at_key(&mut self, scalar: Scalar<'_>) -> Result<(), EmitError>
         requires { place_of (frames_of self.old.frames.items) self.old.is_done ≡ at_key }
-        ensures { Takes (a_scalar (scalar_of scalar.entry)) self.old self.new result }
+        ensures { Steps (a_scalar (scalar_of scalar.entry)) self.old self.new result }
     {
         let Some(key) = key(scalar) else {
-            return Err(Fault::KeyNotString);
+            return Err(EmitError::KeyNotString);
         };
         set_key(&mut self.frames, key)?;
         Ok(())
@@ -60,18 +60,18 @@ impl Emitter {
 
     // Writes a row.
     #[inline(always)]
-    fn scalar_at_value(&mut self, scalar: Scalar<'_>) -> Result<(), Fault>
+    fn scalar_at_value(&mut self, scalar: Scalar<'_>) -> Result<(), EmitError>
         requires { place_of (frames_of self.old.frames.items) self.old.is_done ≡ at_value }
-        ensures { Takes (a_scalar (scalar_of scalar.entry)) self.old self.new result }
+        ensures { Steps (a_scalar (scalar_of scalar.entry)) self.old self.new result }
     {
         if scalar.is_refused() {
-            return Err(Fault::UnsupportedType);
+            return Err(EmitError::UnsupportedType);
         }
         let is_full = is_full(&self.frames);
         self.enter()?;
         self.start_value()?;
         if scalar.is_bytes() && is_full {
-            return Err(Fault::NestedTooDeeply);
+            return Err(EmitError::NestedTooDeeply);
         }
         scalar.write(&mut self.text)?;
         self.text.push('\n')?;
@@ -79,7 +79,7 @@ impl Emitter {
     }
 
     // Counts the key that is set among those of present entries.
-    pub(super) fn enter(&mut self) -> Result<(), Fault>
+    pub(super) fn enter(&mut self) -> Result<(), EmitError>
         ensures ok { IfOk result (λ _. Enters self.old self.new) }
         ensures err { IfErr result (λ e. (e ≡ OutOfMemory) ⊎ (e ≡ DuplicateKey)
             × (holds_key (frames_of self.old.frames.items) ≡ true)
@@ -88,19 +88,19 @@ impl Emitter {
         if enter_key(&mut self.frames)? {
             Ok(())
         } else {
-            Err(Fault::DuplicateKey)
+            Err(EmitError::DuplicateKey)
         }
     }
 
     // Writes what stands before the value of the key that was entered last in the innermost frame, a table.
-    fn start_value(&mut self) -> Result<(), Fault>
+    fn start_value(&mut self) -> Result<(), EmitError>
         ensures ok { IfOk result (λ _. StartsValue self.old self.new) }
         ensures err { IfErr result (λ e. (e ≡ OutOfMemory) ⊎ (e ≡ ValueAfterTable)
             × (holds_section (frames_of self.old.frames.items) ≡ true)) }
     {
         if let Some((Frame::Table(table), outer)) = innermost(&self.frames) {
             if table.holds_section {
-                return Err(Fault::ValueAfterTable);
+                return Err(EmitError::ValueAfterTable);
             }
             write_header(&mut self.text, outer, table.header)?;
             write_row_start(&mut self.text, table.keys.last())?;
@@ -114,59 +114,53 @@ impl Emitter {
         kind: ElementKind,
         later: bool,
         scalar: Scalar<'_>,
-    ) -> Result<(), Fault>
+    ) -> Result<(), EmitError>
         requires { frames_of self.old.frames.items ≡ an_array (kind_of kind) later
             ∷ outer (frames_of self.old.frames.items) }
-        ensures { Takes (a_scalar (scalar_of scalar.entry)) self.old self.new result }
+        ensures { Steps (a_scalar (scalar_of scalar.entry)) self.old self.new result }
     {
         if scalar.is_refused() {
-            return Err(Fault::UnsupportedType);
+            return Err(EmitError::UnsupportedType);
         }
         let is_full = is_full(&self.frames);
         match kind {
-            ElementKind::Tables => return Err(Fault::UnsupportedType),
+            ElementKind::Tables => return Err(EmitError::UnsupportedType),
             ElementKind::Unknown => self.start_elements(later)?,
             ElementKind::Others => self.text.push_str(", ")?,
         }
         if scalar.is_bytes() && is_full {
-            return Err(Fault::NestedTooDeeply);
+            return Err(EmitError::NestedTooDeeply);
         }
         scalar.write(&mut self.text)?;
         Ok(())
     }
 
-    pub(super) fn open_array_in_table(&mut self) -> Result<(), Fault>
+    pub(super) fn open_array_in_table(&mut self) -> Result<(), EmitError>
         requires { is_in_table (frames_of self.old.frames.items) ≡ true }
-        ensures { Takes open_array self.old self.new result }
+        ensures { Steps open_array self.old self.new result }
     {
         let Some((Frame::Table(table), _)) = innermost(&self.frames) else {
-            return Err(Fault::CallOrder);
+            return Err(EmitError::CallOrder);
         };
         let later = !table.keys.is_empty();
         match table.stage {
-            Stage::NoKey => Err(Fault::CallOrder),
-            Stage::KeyPlace => Err(Fault::KeyNotString),
+            Stage::NoKey => Err(EmitError::CallOrder),
+            Stage::KeyPlace => Err(EmitError::KeyNotString),
             Stage::KeySet => self.open_array_at_value(later),
         }
     }
 
-    fn open_array_at_value(&mut self, later: bool) -> Result<(), Fault>
+    fn open_array_at_value(&mut self, later: bool) -> Result<(), EmitError>
         requires place { place_of (frames_of self.old.frames.items) self.old.is_done ≡ at_value }
         requires later { later ≡ has_entry (frames_of self.old.frames.items) }
-        ensures { Takes open_array self.old self.new result }
+        ensures { Steps open_array self.old self.new result }
     {
         let is_full = is_full(&self.frames);
         self.enter()?;
         if is_full {
-            return Err(Fault::NestedTooDeeply);
+            return Err(EmitError::NestedTooDeeply);
         }
-        put(
-            &mut self.frames,
-            Frame::Array {
-                kind: ElementKind::Unknown,
-                later,
-            },
-        )?;
+        put_array(&mut self.frames, ElementKind::Unknown, later)?;
         Ok(())
     }
 
@@ -174,35 +168,29 @@ impl Emitter {
         &mut self,
         kind: ElementKind,
         later: bool,
-    ) -> Result<(), Fault>
+    ) -> Result<(), EmitError>
         requires { frames_of self.old.frames.items ≡ an_array (kind_of kind) later
             ∷ outer (frames_of self.old.frames.items) }
-        ensures { Takes open_array self.old self.new result }
+        ensures { Steps open_array self.old self.new result }
     {
         let is_full = is_full(&self.frames);
         match kind {
-            ElementKind::Tables => return Err(Fault::UnsupportedType),
+            ElementKind::Tables => return Err(EmitError::UnsupportedType),
             ElementKind::Unknown => self.start_elements(later)?,
             ElementKind::Others => self.text.push_str(", ")?,
         }
         if is_full {
-            return Err(Fault::NestedTooDeeply);
+            return Err(EmitError::NestedTooDeeply);
         }
-        put(
-            &mut self.frames,
-            Frame::Array {
-                kind: ElementKind::Unknown,
-                later,
-            },
-        )?;
+        put_array(&mut self.frames, ElementKind::Unknown, later)?;
         Ok(())
     }
 
     #[tactic(auto, using(crate::proofs::FramesOfStack::array_end_with_row))]
-    pub(super) fn close_array(&mut self, kind: ElementKind, later: bool) -> Result<(), Fault>
+    pub(super) fn close_array(&mut self, kind: ElementKind, later: bool) -> Result<(), EmitError>
         requires { frames_of self.old.frames.items ≡ an_array (kind_of kind) later
             ∷ outer (frames_of self.old.frames.items) }
-        ensures { Takes close self.old self.new result }
+        ensures { Steps close self.old self.new result }
     {
         let _ = later;
         leave(&mut self.frames, &mut self.spare);
@@ -217,25 +205,19 @@ impl Emitter {
     }
 
     // Writes what stands before the first element of the innermost array, which is no table.
-    fn start_elements(&mut self, later: bool) -> Result<(), Fault>
+    fn start_elements(&mut self, later: bool) -> Result<(), EmitError>
         ensures ok { IfOk result (λ _. StartsElements later self.old self.new) }
         ensures err { IfErr result (λ e. (e ≡ OutOfMemory) ⊎ (e ≡ ValueAfterTable)
             × (holds_section (outer (frames_of self.old.frames.items)) ≡ true)) }
     {
         leave(&mut self.frames, &mut self.spare);
         self.start_row()?;
-        put(
-            &mut self.frames,
-            Frame::Array {
-                kind: ElementKind::Others,
-                later,
-            },
-        )?;
+        put_array(&mut self.frames, ElementKind::Others, later)?;
         Ok(())
     }
 
     // Writes what stands before the elements of an array that stands in the innermost frame, and holds no table.
-    fn start_row(&mut self) -> Result<(), Fault>
+    fn start_row(&mut self) -> Result<(), EmitError>
         ensures ok { IfOk result (λ _. StartsRow self.old self.new) }
         ensures err { IfErr result (λ e. (e ≡ OutOfMemory) ⊎ (e ≡ ValueAfterTable)
             × (holds_section (frames_of self.old.frames.items) ≡ true)) }
@@ -246,7 +228,7 @@ impl Emitter {
     }
 
     // Writes what stands after them.
-    fn end_row(&mut self) -> Result<(), Fault>
+    fn end_row(&mut self) -> Result<(), EmitError>
         ensures ok { IfOk result (λ _. EndsRow self.old self.new) }
         ensures err { IfErr result (λ e. e ≡ OutOfMemory) }
     {

@@ -1,6 +1,6 @@
 //! Tables, and arrays of them.
 ghost use Rattle.std.specs.Prelude.{◌≡◌, ◌⊎◌, ◌∷◌, true, IfOk, IfErr};
-ghost use Rattle.basic_toml_emit.specs.declared.fault.Fault.TheVariants.{OutOfMemory, UnsupportedType};
+ghost use Rattle.basic_toml_emit.specs.declared.error.EmitError.TheVariants.{OutOfMemory, UnsupportedType};
 ghost use Rattle.basic_toml_emit.specs.Items.{open_table, close};
 ghost use Rattle.basic_toml_emit.specs.Open.{an_array};
 ghost use Rattle.basic_toml_emit.specs.Rules.{is_in_table, is_in_array, place_of, at_value};
@@ -8,40 +8,40 @@ ghost use Rattle.basic_toml_emit.specs.Frames.{frames_of, kind_of};
 ghost use Rattle.basic_toml_emit.specs.Changes.{outer, has_entry};
 
 use super::Emitter;
-use crate::fault::Fault;
+use crate::error::EmitError;
 use crate::frames::{
     ElementKind, Frame, Header, Stage, hold_section, innermost, is_full, is_nothing_open, leave,
-    new_table, put,
+    new_table, put, put_array,
 };
 use crate::headers::{write_element_header, write_header};
 
 impl Emitter {
-    ghost use Rattle.basic_toml_emit.specs.Emitter.{Takes, StartsSections};
+    ghost use Rattle.basic_toml_emit.specs.Emitter.{Steps, StartsSections};
 
-    pub(super) fn open_table_in_table(&mut self) -> Result<(), Fault>
+    pub(super) fn open_table_in_table(&mut self) -> Result<(), EmitError>
         requires { is_in_table (frames_of self.old.frames.items) ≡ true }
-        ensures { Takes open_table self.old self.new result }
+        ensures { Steps open_table self.old self.new result }
     {
         let Some((Frame::Table(table), _)) = innermost(&self.frames) else {
-            return Err(Fault::CallOrder);
+            return Err(EmitError::CallOrder);
         };
         let later = !table.keys.is_empty();
         match table.stage {
-            Stage::NoKey => Err(Fault::CallOrder),
-            Stage::KeyPlace => Err(Fault::KeyNotString),
+            Stage::NoKey => Err(EmitError::CallOrder),
+            Stage::KeyPlace => Err(EmitError::KeyNotString),
             Stage::KeySet => self.open_table_at_value(later),
         }
     }
 
-    fn open_table_at_value(&mut self, later: bool) -> Result<(), Fault>
+    fn open_table_at_value(&mut self, later: bool) -> Result<(), EmitError>
         requires place { place_of (frames_of self.old.frames.items) self.old.is_done ≡ at_value }
         requires later { later ≡ has_entry (frames_of self.old.frames.items) }
-        ensures { Takes open_table self.old self.new result }
+        ensures { Steps open_table self.old self.new result }
     {
         let is_full = is_full(&self.frames);
         self.enter()?;
         if is_full {
-            return Err(Fault::NestedTooDeeply);
+            return Err(EmitError::NestedTooDeeply);
         }
         hold_section(&mut self.frames);
         let table = new_table(self.alloc, &mut self.spare, Header::Due { later })?;
@@ -53,19 +53,19 @@ impl Emitter {
         &mut self,
         kind: ElementKind,
         later: bool,
-    ) -> Result<(), Fault>
+    ) -> Result<(), EmitError>
         requires { frames_of self.old.frames.items ≡ an_array (kind_of kind) later
             ∷ outer (frames_of self.old.frames.items) }
-        ensures { Takes open_table self.old self.new result }
+        ensures { Steps open_table self.old self.new result }
     {
         let is_full = is_full(&self.frames);
         match kind {
-            ElementKind::Others => return Err(Fault::UnsupportedType),
+            ElementKind::Others => return Err(EmitError::UnsupportedType),
             ElementKind::Unknown => self.start_sections(later)?,
             ElementKind::Tables => {}
         }
         if is_full {
-            return Err(Fault::NestedTooDeeply);
+            return Err(EmitError::NestedTooDeeply);
         }
         let is_after = later || kind == ElementKind::Tables;
         write_element_header(&mut self.text, &self.frames, is_after)?;
@@ -74,12 +74,12 @@ impl Emitter {
         Ok(())
     }
 
-    pub(super) fn close_table(&mut self) -> Result<(), Fault>
+    pub(super) fn close_table(&mut self) -> Result<(), EmitError>
         requires { is_in_table (frames_of self.old.frames.items) ≡ true }
-        ensures { Takes close self.old self.new result }
+        ensures { Steps close self.old self.new result }
     {
         let Some((Frame::Table(table), outer)) = innermost(&self.frames) else {
-            return Err(Fault::CallOrder);
+            return Err(EmitError::CallOrder);
         };
         match table.stage {
             Stage::NoKey => {
@@ -88,30 +88,24 @@ impl Emitter {
                 self.is_done = is_nothing_open(&self.frames);
                 Ok(())
             }
-            Stage::KeyPlace => Err(Fault::CallOrder),
-            Stage::KeySet => Err(Fault::CallOrder),
+            Stage::KeyPlace => Err(EmitError::CallOrder),
+            Stage::KeySet => Err(EmitError::CallOrder),
         }
     }
 
     // From its first table on, the innermost array is one section for each element of the table that it stands in.
     #[tactic(auto, using(crate::proofs::FramesOfStack::path_with_sections))]
-    fn start_sections(&mut self, later: bool) -> Result<(), Fault>
+    fn start_sections(&mut self, later: bool) -> Result<(), EmitError>
         ensures ok { IfOk result (λ _. StartsSections later self.old self.new) }
         ensures err { IfErr result (λ e. (e ≡ OutOfMemory) ⊎ (e ≡ UnsupportedType)
             × (is_in_array (outer (frames_of self.old.frames.items)) ≡ true)) }
     {
         leave(&mut self.frames, &mut self.spare);
         if let Some((Frame::Array { .. }, _)) = innermost(&self.frames) {
-            return Err(Fault::UnsupportedType);
+            return Err(EmitError::UnsupportedType);
         }
         hold_section(&mut self.frames);
-        put(
-            &mut self.frames,
-            Frame::Array {
-                kind: ElementKind::Tables,
-                later,
-            },
-        )?;
+        put_array(&mut self.frames, ElementKind::Tables, later)?;
         Ok(())
     }
 }

@@ -7,4 +7,4 @@ use Rattle.basic_toml.proofs.read_back.round_trip.Goals as goal
 pub returns : goal.returns
 returns g c =
     read_back _ _ c.in_ok-text.text c.from_str.result c.in_ok-text.ensures.written c.in_ok-text.ensures.means
-    (subst (λ bytes. ReadsText table_takes table_reads bytes c.from_str.result) c.as_str.ensures.value c.from_str.ensures)
+    (subst (λ bytes. ReadsText table_takes table_reads bytes c.from_str.result) c.as_str.ensures.value c.from_str.ensures.read)

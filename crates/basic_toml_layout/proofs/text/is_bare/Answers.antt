@@ -1,9 +1,9 @@
 use Rattle.std.proofs.Common.{refl, arith}
+use Rattle.std.specs.Prelude.{nat_eq, get_or}
+use Rattle.std.proofs.lemmas.Bool.{agree_below_at}
 use Rattle.basic_toml_layout.specs.declared.text.TheConstants.{CLASSES}
 use Rattle.basic_toml_layout.specs.Texts.{is_bare}
-use Rattle.basic_toml_layout.proofs.Classes.{agree_below, from_classes}
 use Rattle.basic_toml_layout.proofs.text.is_bare.Goals as goal
 
 pub returns : goal.returns
-unfolding agree_below
-returns c = from_classes CLASSES 98 is_bare c.args.byte (omega arith) refl
+returns c = agree_below_at (λ b. nat_eq (get_or CLASSES b 0) 98) is_bare 256 c.args.byte refl (omega arith)

@@ -8,7 +8,8 @@ use Rattle.basic_toml_read.proofs.HeadersRead.{two_unclosed, two_half_closed, tw
 use Rattle.basic_toml_read.proofs.Carried.{then_on}
 use Rattle.basic_toml_read.proofs.StopsStand.{header_stop, no_bracket_there, to_keys, to_array_keys, after_header_keys}
 use Rattle.basic_toml_read.proofs.StopsStand.{after_bracket}
-use Rattle.basic_toml_read.proofs.DeepStops.{deep_on, to_keys_left, to_array_keys_left}
+use Rattle.basic_toml_grammar.specs.DeepStops.{DeepKeys, DeepHeader}
+use Rattle.basic_toml_read.proofs.DeepStops.{deep_on, header_keys_deep, array_keys_deep}
 use Rattle.basic_toml_read.proofs.header.header_at.Goals as goal
 
 pub returns-in_err-inner-clause-read : goal.returns-in_err-inner-clause-read
@@ -139,14 +140,18 @@ returns-in_err-end-in-Some-clause-stands c =
 -- levels
 pub returns-in_err-keys-in-None-clause-deep : goal.returns-in_err-keys-in-None-clause-deep
 returns-in_err-keys-in-None-clause-deep c =
-    deep_on c.args.text.now c.args.at c.after_blanks.result 1 2 c.in_err-keys-in-None.field-0.0
+    let text = c.args.text.now in
+    deep_on (DeepKeys 128 2 (text_at text c.after_blanks.result)) (DeepHeader 128 (text_at text c.args.at))
+    c.in_err-keys-in-None.field-0.0
     c.from_residual-in_err-keys-in-None.result c.from_residual-in_err-keys-in-None.ensures.1
-    (to_keys_left c.args.text.now c.args.at c.in_ok-inner.inner c.after_blanks.result c.in_ok-inner.ensures.read.0
+    (header_keys_deep text c.args.at c.in_ok-inner.inner c.after_blanks.result c.in_ok-inner.ensures.read.0
     c.after_blanks.ensures) c.in_err-keys-in-None.ensures.deep
 
 pub returns-in_err-keys-in-Some-clause-deep : goal.returns-in_err-keys-in-Some-clause-deep
 returns-in_err-keys-in-Some-clause-deep c =
-    deep_on c.args.text.now c.args.at c.after_blanks-in-Some.result 1 2 c.in_err-keys-in-Some.field-0.0
+    let text = c.args.text.now in
+    deep_on (DeepKeys 128 2 (text_at text c.after_blanks-in-Some.result)) (DeepHeader 128 (text_at text c.args.at))
+    c.in_err-keys-in-Some.field-0.0
     c.from_residual-in_err-keys-in-Some.result c.from_residual-in_err-keys-in-Some.ensures.1
-    (to_array_keys_left c.args.text.now c.args.at c.in_ok-inner.inner c.in-Some.first c.after_blanks-in-Some.result
+    (array_keys_deep text c.args.at c.in_ok-inner.inner c.in-Some.first c.after_blanks-in-Some.result
     c.in_ok-inner.ensures.read.0 c.in-Some.ensures c.after_blanks-in-Some.ensures) c.in_err-keys-in-Some.ensures.deep

@@ -1,4 +1,4 @@
-use Rattle.std.proofs.Common.{ℕ, Option, subst, ap, ◌∙◌, arith}
+use Rattle.std.proofs.Common.{ℕ, Option, subst, ◌∙◌}
 use Rattle.basic_toml_read.specs.Lists.{ReadsList}
 use Rattle.basic_toml_read.proofs.KeysTold.{stopped}
 use Rattle.basic_toml_read.proofs.ListsRead.{ListSoFar, root_missing, root_there, list_more, list_missing, falls}
@@ -7,9 +7,10 @@ use Rattle.basic_toml_tokens.specs.Text.{folded}
 use Rattle.basic_toml_read.proofs.StopsStand.{list_stop}
 use Rattle.basic_toml_read.proofs.ListsRead.{list_begins, gap_stopped, gap_passed, if_err, some_none}
 use Rattle.basic_toml_read.specs.SectionsAnswer.{HoldsMore}
-use Rattle.basic_toml_grammar.specs.NestingFaults.{openers}
 use Rattle.basic_toml_tokens.specs.Text.{text_at}
-use Rattle.basic_toml_read.specs.StopsReached.{IfDeep}
+use Rattle.basic_toml_grammar.specs.DeepStops.{DeepRows, DeepSection, DeepStop, root}
+use Rattle.basic_toml_read.proofs.ListsRead.{section_is_deep}
+use Rattle.basic_toml_read.proofs.DeepStops.{deep_on, shallow}
 use Rattle.basic_toml_read.proofs.reader.list.Goals as goal
 
 pub returns-in_err-bracket-clause-read : goal.returns-in_err-bracket-clause-read
@@ -97,23 +98,22 @@ returns-in_err-bracket-2-clause-more c =
 pub returns-in_err-bracket-clause-deep : goal.returns-in_err-bracket-clause-deep
 returns-in_err-bracket-clause-deep c =
     let text = c.args.text.now in
-    stopped (λ r. IfDeep text (openers (folded text)) r) c.from_residual.result c.in_err-bracket.field-0.0
-    c.from_residual.ensures.1
-    (c.in_err-bracket.ensures.deep (openers (folded text))
-    (omega (arith, ap (λ (n : ℕ). openers (text_at text n)) c.start.ensures.offset)))
+    deep_on (DeepRows 128 1 (text_at text c.start.result)) (DeepStop 128 (folded text)) c.in_err-bracket.field-0.0
+    c.from_residual.result c.from_residual.ensures.1
+    (λ p d. root (subst (λ (n : ℕ). DeepRows 128 1 (text_at text n) p) c.start.ensures.offset d))
+    c.in_err-bracket.ensures.deep
 
 pub returns-in_err-root-clause-deep : goal.returns-in_err-root-clause-deep
 returns-in_err-root-clause-deep c =
-    let text = c.args.text.now in
     let w = c.in_err-root.ensures.0 in
-    stopped (λ r. IfDeep text (openers (folded text)) r) c.from_residual-in_err-root.result
-    c.in_err-root.field-0.0 c.from_residual-in_err-root.ensures.1 (λ e. cc)
+    shallow (DeepStop 128 (folded c.args.text.now)) c.in_err-root.field-0.0 c.from_residual-in_err-root.result
+    c.from_residual-in_err-root.ensures.1 (λ e. cc)
 
 pub returns-in_err-bracket-2-clause-deep : goal.returns-in_err-bracket-2-clause-deep
 returns-in_err-bracket-2-clause-deep c =
     let text = c.args.text.now in
-    let s = subst (λ (o : Option ℕ). ListSoFar c.args.text.now o c.loop-bracket.gathered
-    c.loop-bracket.sections.items) c.in-Some.is c.loop-bracket.invariant in
-    stopped (λ r. IfDeep text (openers (folded text)) r) c.from_residual-in_err-bracket-2.result
-    c.in_err-bracket-2.field-0.0 c.from_residual-in_err-bracket-2.ensures.1
-    (c.in_err-bracket-2.ensures.deep (openers (folded text)) (omega (arith, s.sinks)))
+    deep_on (DeepSection 128 (text_at text c.in-Some.at)) (DeepStop 128 (folded text)) c.in_err-bracket-2.field-0.0
+    c.from_residual-in_err-bracket-2.result c.from_residual-in_err-bracket-2.ensures.1
+    (section_is_deep text c.in-Some.at c.loop-bracket.gathered c.loop-bracket.sections.items
+    (subst (λ (o : Option ℕ). ListSoFar text o c.loop-bracket.gathered c.loop-bracket.sections.items) c.in-Some.is
+    c.loop-bracket.invariant)) c.in_err-bracket-2.ensures.deep

@@ -5,5 +5,5 @@ pub returns-in-Ok : goal.returns-in-Ok
 returns-in-Ok c = list_answered c.args.text.now c.in-Ok.sections c.in-Ok.ensures.read
 
 pub returns-in-Err : goal.returns-in-Err
-returns-in-Err c = stop_answered c.args.text.now c.in-Err.stop.why c.in-Err.stop.at c.explain.result
+returns-in-Err c = stop_answered c.args.text.now c.in-Err.stop.why c.in-Err.stop.at c.explain.result c.utf8.text
     c.in-Err.ensures.more c.in-Err.ensures.deep c.in-Err.ensures.read c.explain.ensures

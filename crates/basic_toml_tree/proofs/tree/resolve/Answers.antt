@@ -4,6 +4,7 @@ use Rattle.basic_toml_read.specs.declared.section.Section.{Section}
 use Rattle.basic_toml_tree.specs.Crossed.{NoneIsCrossed}
 use Rattle.basic_toml_tree.specs.Item.{table_trie}
 use Rattle.basic_toml_tree.proofs.SectionsResolved.{want_of, goes_on_from_a_value, kept_out, none_crossed, goes_on, resolved}
+use Rattle.basic_toml_tree.proofs.SectionsResolved.{heads_kept}
 use Rattle.basic_toml_tree.proofs.tree.resolve.Goals as goal
 
 pub returns-in_err-at : goal.returns-in_err-at
@@ -41,9 +42,11 @@ loop-number-preserved c =
     c.index_mut-section.result.now within (search (rules, c.index_mut-section.ensures.value)) (set now n next)
     (table_trie c.in-Ok.root.value) c.in-Ok.ensures.entered (length-set now n next)
     (λ k d past. get_or-set_other now n k next d (omega (arith, past)))
+    (heads_kept now n c.index_mut-section.result.now next (search (rules, c.index_mut-section.ensures.value))
+    c.enter_section.ensures.at c.enter_section.ensures.header c.enter_section.ensures.offsets)
 
 pub returns : goal.returns
 returns c = λ keyed.
-    resolved c.args.sections.items c.loop-number.sections.items c.loop-number.number
+    resolved c.args.sections.items c.loop-number.number
     (record { sections = c.loop-number.sections; root = c.loop-number.root }) c.loop-number.invariant
     (omega (arith, c.len-number-end.ensures, c.loop-number-test.false)) keyed

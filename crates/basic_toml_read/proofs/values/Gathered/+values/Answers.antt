@@ -17,7 +17,12 @@ use Rattle.basic_toml_read.proofs.LeftAfter.{sign_there}
 use Rattle.basic_toml_read.proofs.StopsStand.{result_on, stop_on, over_a_sign, over_the_blanks, over_the_gap}
 use Rattle.basic_toml_read.proofs.StopsStand.{bracket_or_stop, brace_or_stop, after_last_key, no_equals_there}
 use Rattle.basic_toml_read.proofs.StopsStand.{after_equals, string_stops, word_stops, after_element, after_field}
-use Rattle.basic_toml_read.proofs.DeepStops.{deep_on, deep_within, within_value, to_value_left, blanks_left, gap_left}
+use Rattle.basic_toml_grammar.specs.DeepStops.{DeepKeys, DeepRow, keys, DeepValue, DeepArray}
+use Rattle.basic_toml_grammar.specs.DeepStops.{DeepElements, this_element}
+use Rattle.basic_toml_grammar.specs.DeepStops.{this_bracket, DeepInline, this_brace, DeepFields, this_field}
+use Rattle.basic_toml_read.proofs.DeepStops.{deep_on, raised, deep_result, string_shallow, word_shallow}
+use Rattle.basic_toml_read.proofs.DeepStops.{value_deep, array_deep}
+use Rattle.basic_toml_read.proofs.DeepStops.{inline_deep, elements_deep, fields_deep}
 use Rattle.basic_toml_read.proofs.values.Gathered.+values.Goals as goal
 
 pub elements-loop-end-init : goal.elements-loop-end-init
@@ -249,51 +254,88 @@ inline-returns-in_err-end-clause-stands t c =
     c.in_err-end.ensures.stands
 
 -- levels
+pub array-returns-in_err-raise-clause-deep : goal.array-returns-in_err-raise-clause-deep
+array-returns-in_err-raise-clause-deep t c =
+    raised (DeepArray 128 c.args.level c.args.offset (text_at c.args.text.now c.args.at)) c.args.level c.args.offset
+    c.in_err-raise.field-0.0 c.from_residual.result c.from_residual.ensures.1 c.in_err-raise.ensures
+    (λ h. this_bracket h)
+
+pub inline-returns-in_err-raise-clause-deep : goal.inline-returns-in_err-raise-clause-deep
+inline-returns-in_err-raise-clause-deep t c =
+    raised (DeepInline 128 c.args.level c.args.offset (text_at c.args.text.now c.args.at)) c.args.level c.args.offset
+    c.in_err-raise.field-0.0 c.from_residual.result c.from_residual.ensures.1 c.in_err-raise.ensures
+    (λ h. this_brace h)
+
 pub array-returns-in_err-end-clause-deep : goal.array-returns-in_err-end-clause-deep
 array-returns-in_err-end-clause-deep t c =
-    deep_within c.args.text.now c.args.offset c.args.at c.args.level c.after_gap.result (c.args.level + 1)
-    c.in_err-end.field-0.0 c.from_residual-in_err-end.result c.from_residual-in_err-end.ensures.1
-    (omega (arith, gap_left c.args.text.now c.args.at c.after_gap.result c.after_gap.ensures))
-    c.in_err-end.ensures.deep
+    let text = c.args.text.now in
+    deep_on (DeepElements 128 c.args.level (text_at text c.after_gap.result))
+    (DeepArray 128 c.args.level c.args.offset (text_at text c.args.at)) c.in_err-end.field-0.0
+    c.from_residual-in_err-end.result c.from_residual-in_err-end.ensures.1
+    (elements_deep text c.args.offset c.args.at c.after_gap.result c.args.level c.in_ok-raise.ensures
+    c.after_gap.ensures) c.in_err-end.ensures.deep
 
 pub inline-returns-in_err-end-clause-deep : goal.inline-returns-in_err-end-clause-deep
 inline-returns-in_err-end-clause-deep t c =
-    deep_within c.args.text.now c.args.offset c.args.at c.args.level c.after_blanks.result c.args.level
-    c.in_err-end.field-0.0 c.from_residual-in_err-end.result c.from_residual-in_err-end.ensures.1
-    (omega (arith, blanks_left c.args.text.now c.args.at c.after_blanks.result c.after_blanks.ensures))
-    c.in_err-end.ensures.deep
+    let text = c.args.text.now in
+    deep_on (DeepFields 128 c.args.level (text_at text c.after_blanks.result))
+    (DeepInline 128 c.args.level c.args.offset (text_at text c.args.at)) c.in_err-end.field-0.0
+    c.from_residual-in_err-end.result c.from_residual-in_err-end.ensures.1
+    (fields_deep text c.args.offset c.args.at c.after_blanks.result c.args.level c.in_ok-raise.ensures
+    c.after_blanks.ensures) c.in_err-end.ensures.deep
 
 pub elements-returns-in_err-valued-clause-deep : goal.elements-returns-in_err-valued-clause-deep
 elements-returns-in_err-valued-clause-deep t c =
-    deep_on c.args.text.now c.args.start c.loop-end.at (c.args.level + 1) (c.args.level + 1)
-    c.in_err-valued.field-0.0 c.from_residual.result c.from_residual.ensures.1
-    (omega (arith, c.loop-end.invariant.sinks)) c.in_err-valued.ensures.deep
+    let text = c.args.text.now in
+    deep_on (DeepValue 128 c.args.level (text_at text c.loop-end.at))
+    (DeepElements 128 c.args.level (text_at text c.args.start)) c.in_err-valued.field-0.0 c.from_residual.result
+    c.from_residual.ensures.1 (λ p d. c.loop-end.invariant.leads p (this_element d)) c.in_err-valued.ensures.deep
 
 pub fields-returns-in_err-row-clause-deep : goal.fields-returns-in_err-row-clause-deep
 fields-returns-in_err-row-clause-deep t c =
-    deep_on c.args.text.now c.args.start c.loop-after.at c.args.level c.args.level c.in_err-row.field-0.0
-    c.from_residual.result c.from_residual.ensures.1 (omega (arith, c.loop-after.invariant.sinks))
-    c.in_err-row.ensures.deep
+    let text = c.args.text.now in
+    deep_on (DeepRow 128 c.args.level (text_at text c.loop-after.at))
+    (DeepFields 128 c.args.level (text_at text c.args.start)) c.in_err-row.field-0.0 c.from_residual.result
+    c.from_residual.ensures.1 (λ p d. c.loop-after.invariant.leads p (this_field d)) c.in_err-row.ensures.deep
 
 pub row-returns-in_err-last-clause-deep : goal.row-returns-in_err-last-clause-deep
 row-returns-in_err-last-clause-deep t c =
-    deep_on c.args.text.now c.args.at c.args.at c.args.level c.args.level c.in_err-last.field-0.0
-    c.from_residual.result c.from_residual.ensures.1 (omega arith) c.in_err-last.ensures.deep
+    let text = c.args.text.now in
+    deep_on (DeepKeys 128 c.args.level (text_at text c.args.at)) (DeepRow 128 c.args.level (text_at text c.args.at))
+    c.in_err-last.field-0.0 c.from_residual.result c.from_residual.ensures.1 (λ p d. keys d)
+    c.in_err-last.ensures.deep
 
 pub row-returns-in_err-valued-clause-deep : goal.row-returns-in_err-valued-clause-deep
 row-returns-in_err-valued-clause-deep t c =
     let k = c.in_ok-last in
-    deep_on c.args.text.now c.args.at c.after_blanks.result c.args.level (k.last.level + 1)
-    c.in_err-valued.field-0.0 c.from_residual-in_err-valued.result c.from_residual-in_err-valued.ensures.1
-    (to_value_left c.args.text.now c.args.at c.args.level c.args.self.now c.keys.new.self k.last c.in-Some.next
+    let text = c.args.text.now in
+    deep_on (DeepValue 128 k.last.level (text_at text c.after_blanks.result))
+    (DeepRow 128 c.args.level (text_at text c.args.at)) c.in_err-valued.field-0.0
+    c.from_residual-in_err-valued.result c.from_residual-in_err-valued.ensures.1
+    (value_deep text c.args.at c.args.level c.args.self.now c.keys.new.self k.last c.in-Some.next
     c.after_blanks.result k.ensures.read c.in-Some.ensures c.after_blanks.ensures) c.in_err-valued.ensures.deep
 
 pub value-returns-in-Some-clause-deep : goal.value-returns-in-Some-clause-deep
 value-returns-in-Some-clause-deep t c =
-    within_value c.args.text.now c.args.at c.in-Some.next c.args.level 91 c.array.result c.in-Some.ensures refl
-    c.array.ensures.deep
+    let text = c.args.text.now in
+    deep_result (DeepArray 128 (c.args.level + 1) c.args.at (text_at text c.in-Some.next))
+    (DeepValue 128 c.args.level (text_at text c.args.at)) c.array.result
+    (array_deep text c.args.at c.in-Some.next c.args.level c.in-Some.ensures) c.array.ensures.deep
 
 pub value-returns-in-Some-after_punctuation-clause-deep : goal.value-returns-in-Some-after_punctuation-clause-deep
 value-returns-in-Some-after_punctuation-clause-deep t c =
     let s = c.in-Some-after_punctuation in
-    within_value c.args.text.now c.args.at s.next c.args.level 123 c.inline.result s.ensures refl c.inline.ensures.deep
+    let text = c.args.text.now in
+    deep_result (DeepInline 128 (c.args.level + 1) c.args.at (text_at text s.next))
+    (DeepValue 128 c.args.level (text_at text c.args.at)) c.inline.result
+    (inline_deep text c.args.at s.next c.args.level s.ensures) c.inline.ensures.deep
+
+pub value-returns-then-begins_string-clause-deep : goal.value-returns-then-begins_string-clause-deep
+value-returns-then-begins_string-clause-deep t c =
+    string_shallow c.args.text.now c.args.at (DeepValue 128 c.args.level (text_at c.args.text.now c.args.at))
+    c.string_value_at.result c.string_value_at.ensures.read
+
+pub value-returns-clause-deep : goal.value-returns-clause-deep
+value-returns-clause-deep t c =
+    word_shallow c.args.text.now c.args.at (DeepValue 128 c.args.level (text_at c.args.text.now c.args.at))
+    c.word_at.result c.word_at.ensures.read

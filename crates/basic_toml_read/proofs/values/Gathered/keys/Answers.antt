@@ -1,10 +1,12 @@
-use Rattle.std.proofs.Common.{◌≡◌, refl, subst}
-use Rattle.std.specs.Result.{IsErrAnd}
-use Rattle.basic_toml_explain.specs.declared.stop.Why.TheVariants.{Deep}
+use Rattle.std.proofs.Common.{refl, sym, subst, Err}
+use Rattle.basic_toml_explain.specs.declared.stop.Stop.{Stop}
 use Rattle.basic_toml_read.specs.Gathers.{ReadsKeys}
 use Rattle.basic_toml_read.proofs.ViewsSeen.{dot_before}
-use Rattle.basic_toml_read.proofs.KeysTold.{stopped, keys_missing, keys_deep}
+use Rattle.basic_toml_read.proofs.KeysTold.{stopped, keys_missing, keys_deep, key_is_deep}
 use Rattle.basic_toml_read.proofs.KeysGathered.{keys_start, keys_more, keys_last}
+use Rattle.basic_toml_tokens.specs.Text.{text_at}
+use Rattle.basic_toml_grammar.specs.DeepStops.{DeepKeys}
+use Rattle.basic_toml_read.proofs.DeepStops.{raised, shallow, no_key_deep}
 use Rattle.basic_toml_read.proofs.values.Gathered.keys.Goals as goal
 
 pub loop-keyed-init : goal.loop-keyed-init
@@ -21,12 +23,11 @@ returns-in_err-keyed-clause-read c =
 
 pub returns-in_err-raise-clause-read : goal.returns-in_err-raise-clause-read
 returns-in_err-raise-clause-read c =
-    stopped (ReadsKeys c.args.text.now c.args.at c.args.first c.args.self.now c.loop-keyed.self)
-    c.from_residual-in_err-raise.result (record { at = c.loop-keyed.offset; why = Deep })
-    (subst (λ stop. IsErrAnd c.from_residual-in_err-raise.result (λ s. s ≡ stop)) c.in_err-raise.ensures.1
-    c.from_residual-in_err-raise.ensures.1)
+    let reads = ReadsKeys c.args.text.now c.args.at c.args.first c.args.self.now c.loop-keyed.self in
+    stopped reads c.from_residual-in_err-raise.result c.in_err-raise.field-0.0 c.from_residual-in_err-raise.ensures.1
+    (subst (λ (stop : Stop). reads (Err stop)) (sym c.in_err-raise.ensures.1)
     (keys_deep c.args.text.now c.args.at c.args.first c.loop-keyed.offset c.loop-keyed.level
-    c.loop-keyed.invariant.front c.loop-keyed.invariant.keys c.in_err-raise.ensures.0)
+    c.loop-keyed.invariant.front c.loop-keyed.invariant.keys c.in_err-raise.ensures.0))
 
 pub loop-keyed-preserved : goal.loop-keyed-preserved
 loop-keyed-preserved c =
@@ -45,3 +46,19 @@ returns-in-None-clause-read c =
     c.loop-keyed.self c.loop-keyed.invariant
     c.in_ok-keyed.keyed c.in_ok-keyed.ensures.read c.after_blanks-end.result c.after_blanks-end.ensures
     c.in_ok-raise.ensures c.in-None.ensures
+
+-- levels
+pub returns-in_err-keyed-clause-deep : goal.returns-in_err-keyed-clause-deep
+returns-in_err-keyed-clause-deep c =
+    let stop = c.in_err-keyed.field-0.0 in
+    shallow (DeepKeys 128 c.args.first (text_at c.args.text.now c.args.at)) stop c.from_residual.result
+    c.from_residual.ensures.1
+    (no_key_deep stop.why (text_at c.args.text.now c.loop-keyed.offset) c.in_err-keyed.ensures.read.0)
+
+pub returns-in_err-raise-clause-deep : goal.returns-in_err-raise-clause-deep
+returns-in_err-raise-clause-deep c =
+    raised (DeepKeys 128 c.args.first (text_at c.args.text.now c.args.at)) c.loop-keyed.level c.loop-keyed.offset
+    c.in_err-raise.field-0.0 c.from_residual-in_err-raise.result c.from_residual-in_err-raise.ensures.1
+    c.in_err-raise.ensures
+    (key_is_deep c.args.text.now c.args.at c.args.first c.loop-keyed.offset c.loop-keyed.level
+    c.loop-keyed.invariant.front c.loop-keyed.invariant.keys c.in_ok-keyed.keyed c.in_ok-keyed.ensures.read)

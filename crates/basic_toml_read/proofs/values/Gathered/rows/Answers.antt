@@ -5,7 +5,10 @@ use Rattle.basic_toml_read.proofs.RowsRead.{rows_start, rows_over, rows_bracket,
 use Rattle.basic_toml_read.proofs.RowsRead.{rows_unended, rows_more, line_later, some_line, sign_stands, sign_lacks}
 use Rattle.basic_toml_read.proofs.StopsStand.{line_stop_on}
 use Rattle.basic_toml_read.proofs.RowsRead.{row_begins, row_ended, bracket_no_gap, rows_no_gap}
-use Rattle.basic_toml_read.proofs.DeepStops.{deep_on, shallow, blanks_left}
+use Rattle.basic_toml_tokens.specs.Text.{text_at}
+use Rattle.basic_toml_grammar.specs.DeepStops.{DeepRow, DeepRows}
+use Rattle.basic_toml_read.proofs.RowsRead.{row_is_deep}
+use Rattle.basic_toml_read.proofs.DeepStops.{deep_on, shallow}
 use Rattle.basic_toml_read.proofs.values.Gathered.rows.Goals as goal
 
 pub loop-at-init : goal.loop-at-init
@@ -130,16 +133,17 @@ returns-in_err-at-in-None-clause-stands c =
 -- levels
 pub returns-in_err-end-in-None-clause-deep : goal.returns-in_err-end-in-None-clause-deep
 returns-in_err-end-in-None-clause-deep c =
-    deep_on c.args.text.now c.args.start c.after_blanks-front.result c.args.level c.args.level
-    c.in_err-end-in-None.field-0.0 c.from_residual.result c.from_residual.ensures.1
-    (omega (
-      arith,
-      c.loop-at.invariant.sinks,
-      blanks_left c.args.text.now c.loop-at.at c.after_blanks-front.result c.after_blanks-front.ensures,
-    )) c.in_err-end-in-None.ensures.deep
+    let i = c.loop-at.invariant in
+    let l = some_line c.args.text.now c.loop-at.at c.utf8.text i.boundary c.loop-at-test.true in
+    let text = c.args.text.now in
+    deep_on (DeepRow 128 c.args.level (text_at text c.after_blanks-front.result))
+    (DeepRows 128 c.args.level (text_at text c.args.start)) c.in_err-end-in-None.field-0.0 c.from_residual.result
+    c.from_residual.ensures.1
+    (row_is_deep text c.args.start c.args.level c.loop-at.at c.args.self.now c.loop-at.self i l.0 l.1 l.2
+    c.after_blanks-front.result c.after_blanks-front.ensures) c.in_err-end-in-None.ensures.deep
 
 pub returns-in_err-at-in-None-clause-deep : goal.returns-in_err-at-in-None-clause-deep
 returns-in_err-at-in-None-clause-deep c =
     let w = c.in_err-at-in-None.ensures.read.1 in
-    shallow c.args.text.now c.args.start c.args.level c.in_err-at-in-None.field-0.0
+    shallow (DeepRows 128 c.args.level (text_at c.args.text.now c.args.start)) c.in_err-at-in-None.field-0.0
     c.from_residual-in_err-at-in-None.result c.from_residual-in_err-at-in-None.ensures.1 (λ e. cc)

@@ -8,7 +8,9 @@ use Rattle.basic_toml_read.proofs.KeysTold.{stopped}
 use Rattle.basic_toml_read.proofs.ListsRead.{rows_missing, section_there}
 use Rattle.basic_toml_read.proofs.StopsStand.{header_result}
 use Rattle.basic_toml_read.proofs.ListsRead.{header_ended, line_begins}
-use Rattle.basic_toml_read.proofs.DeepStops.{deep_on, shallow, header_left, line_left}
+use Rattle.basic_toml_grammar.specs.DeepStops.{DeepRows, DeepHeader, DeepSection, header}
+use Rattle.basic_toml_read.proofs.ListsRead.{rows_are_deep}
+use Rattle.basic_toml_read.proofs.DeepStops.{deep_on, shallow}
 use Rattle.basic_toml_read.proofs.values.Gathered.section.Goals as goal
 
 pub returns-in_err-next-clause-read : goal.returns-in_err-next-clause-read
@@ -55,24 +57,25 @@ returns-in_err-next-clause-stands c =
 -- levels
 pub returns-in_err-header-clause-deep : goal.returns-in_err-header-clause-deep
 returns-in_err-header-clause-deep c =
-    deep_on c.args.text.now c.args.at c.args.at 1 1 c.in_err-header.field-0.0 c.from_residual.result
-    c.from_residual.ensures.1 (omega arith) c.in_err-header.ensures.deep
+    let text = c.args.text.now in
+    deep_on (DeepHeader 128 (text_at text c.args.at)) (DeepSection 128 (text_at text c.args.at))
+    c.in_err-header.field-0.0 c.from_residual.result c.from_residual.ensures.1 (λ p d. header d)
+    c.in_err-header.ensures.deep
 
 pub returns-in_err-line-clause-deep : goal.returns-in_err-line-clause-deep
 returns-in_err-line-clause-deep c =
     let w = c.in_err-line.ensures.read.1 in
-    shallow c.args.text.now c.args.at 1 c.in_err-line.field-0.0 c.from_residual-in_err-line.result
-    c.from_residual-in_err-line.ensures.1 (λ e. cc)
+    shallow (DeepSection 128 (text_at c.args.text.now c.args.at)) c.in_err-line.field-0.0
+    c.from_residual-in_err-line.result c.from_residual-in_err-line.ensures.1 (λ e. cc)
 
 pub returns-in_err-next-clause-deep : goal.returns-in_err-next-clause-deep
 returns-in_err-next-clause-deep c =
     let h = c.in_ok-header.header in
+    let text = c.args.text.now in
     let counted : c.len.result ≡ length h.keys.items = omega (arith, c.len.ensures, h.keys.ok.0) in
-    deep_on c.args.text.now c.args.at c.in_ok-line.line 1 (c.len.result + 1) c.in_err-next.field-0.0
+    deep_on (DeepRows 128 (length h.keys.items + 1) (text_at text c.in_ok-line.line))
+    (DeepSection 128 (text_at text c.args.at)) c.in_err-next.field-0.0
     c.from_residual-in_err-next.result c.from_residual-in_err-next.ensures.1
-    (omega (
-      arith,
-      counted,
-      header_left c.args.text.now c.args.at h c.in_ok-header.ensures.read,
-      line_left c.args.text.now h.end c.in_ok-line.line c.in_ok-line.ensures.read,
-    )) c.in_err-next.ensures.deep
+    (rows_are_deep text c.args.at h c.in_ok-header.ensures.read c.in_ok-line.line c.in_ok-line.ensures.read)
+    (λ d. subst (λ (n : ℕ). DeepRows 128 (n + 1) (text_at text c.in_ok-line.line) c.in_err-next.field-0.0.at) counted
+    (c.in_err-next.ensures.deep d))

@@ -30,7 +30,7 @@ first c =
     ∙ ap (λ l. slice_get l c.args.self.now.at) (table_entries c.in-Some.table.now)
     ∙ pair_read child_data (out-Table c.in-Some.table.now).entries c.args.self.now.at c.key-key.result.now
     c.value.result.now c.key-key.ensures c.value.ensures
-    ∙ ap (λ d. Some (c.key-key.result.now, d)) (sym c.below.ensures))
+    ∙ ap (λ d. Some (c.key-key.result.now, d)) (sym c.below.ensures.«data»))
 
 pub returns-clause-steps : goal.returns-clause-steps
 returns-clause-steps c = first c

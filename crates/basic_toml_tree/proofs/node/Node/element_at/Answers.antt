@@ -5,6 +5,9 @@ use Rattle.basic_toml_tree.specs.Data.{data_of, child_data, table_data}
 use Rattle.basic_toml_tree.specs.Nodes.{node_data, elements_in}
 use Rattle.basic_toml_tree.proofs.NodesInOrder.{array_elements, tables_elements, mapped_read, mapped_length, front_read}
 use Rattle.basic_toml_tree.proofs.NodesInOrder.{last_read}
+use Rattle.basic_toml_tree.specs.declared.node.Spot.TheVariants as spots
+use Rattle.basic_toml_tree.specs.Item.{table_trie}
+use Rattle.basic_toml_tree.proofs.NodesStand.{literal_stands, tables_stand}
 use Rattle.basic_toml_tree.proofs.node.Node.element_at.Goals as goal
 
 pub returns-in-Some-clause-data : goal.returns-in-Some-clause-data
@@ -15,7 +18,7 @@ returns-in-Some-clause-data c =
     ∙ ap (λ ds. slice_get ds c.args.at) (array_elements c.in-Item-Array.children)
     ∙ ap (λ xs. slice_get (map child_data xs) c.args.at) (sym c.deref.ensures.value)
     ∙ mapped_read child_data c.deref.result.now c.args.at c.in-Some.child.now read.3.0 read.1
-    ∙ ap Some (sym c.element.ensures)
+    ∙ ap Some (sym c.element.ensures.«data»)
 
 pub returns-in-None-clause-data : goal.returns-in-None-clause-data
 returns-in-None-clause-data c =
@@ -39,7 +42,7 @@ returns-in-Some-get-clause-data c =
     (ap (λ xs. slice_get (map table_data xs) c.args.at) (sym c.deref-in-Item-Tables.ensures.value)
     ∙ mapped_read table_data c.deref-in-Item-Tables.result.now c.args.at c.in-Some-get.table.now
     read.3.0 read.1)
-    ∙ ap Some (sym c.element_table.ensures)
+    ∙ ap Some (sym c.element_table.ensures.«data»)
 
 pub returns-then-at-len-clause-data : goal.returns-then-at-len-clause-data
 returns-then-at-len-clause-data c =
@@ -55,7 +58,7 @@ returns-then-at-len-clause-data c =
     ∙ ap (λ i. slice_get (map table_data before.items ++ table_data latest.value ∷ []) i) at
     ∙ last_read (map table_data before.items) (table_data latest.value)
     ∙ ap (λ t. Some (table_data t)) (sym c.deref-then-at-len.ensures)
-    ∙ ap Some (sym c.element_table-then-at-len.ensures)
+    ∙ ap Some (sym c.element_table-then-at-len.ensures.«data»)
 
 pub returns-else-at-len-clause-data : goal.returns-else-at-len-clause-data
 returns-else-at-len-clause-data c =
@@ -76,3 +79,44 @@ returns-else-at-len-clause-data c =
       c.len.ensures,
       c.if-at-len.false,
     )
+
+-- where they stand
+pub returns-in-Some-clause-stands : goal.returns-in-Some-clause-stands
+returns-in-Some-clause-stands c =
+    let at : c.args.self.spot ≡ spots.Item c.in-Item-Array.field-0 = search (rules) in
+    let is : c.in-Item-Array.field-0.now ≡ Array c.in-Item-Array.children = search (rules) in
+    literal_stands c.args.self c.element.result c.args.at c.in-Item-Array.field-0 at c.in-Item-Array.children
+    c.element.result.spot is c.element.ensures.beside
+
+pub returns-in-Some-get-clause-stands : goal.returns-in-Some-get-clause-stands
+returns-in-Some-get-clause-stands c =
+    let before = c.in-Item-Tables.before in
+    let latest = c.in-Item-Tables.latest in
+    let at : c.args.self.spot ≡ spots.Item c.in-Item-Tables.field-0 = search (rules) in
+    let is : c.in-Item-Tables.field-0.now ≡ Tables c.in-Item-Tables.before c.in-Item-Tables.latest = search (rules) in
+    let read = c.in-Some-get.ensures.lookup in
+    tables_stand c.args.self c.element_table.result c.args.at c.in-Item-Tables.field-0 at before latest
+    c.in-Some-get.table is
+    (front_read (map table_trie before.items) (table_trie latest.value ∷ []) c.args.at
+    (table_trie c.in-Some-get.table.now)
+    (ap (λ xs. slice_get (map table_trie xs) c.args.at) (sym c.deref-in-Item-Tables.ensures.value)
+    ∙ mapped_read table_trie c.deref-in-Item-Tables.result.now c.args.at c.in-Some-get.table.now
+    read.3.0 read.1))
+    c.element_table.ensures.beside
+
+pub returns-then-at-len-clause-stands : goal.returns-then-at-len-clause-stands
+returns-then-at-len-clause-stands c =
+    let before = c.in-Item-Tables.before in
+    let latest = c.in-Item-Tables.latest in
+    let at : c.args.self.spot ≡ spots.Item c.in-Item-Tables.field-0 = search (rules) in
+    let is : c.in-Item-Tables.field-0.now ≡ Tables c.in-Item-Tables.before c.in-Item-Tables.latest = search (rules) in
+    let last : c.args.at ≡ length (map table_trie c.in-Item-Tables.before.items) =
+    c.if-at-len.true ∙ c.len.ensures ∙ sym c.deref-in-Item-Tables.ensures.len
+    ∙ ap length c.deref-in-Item-Tables.ensures.value
+    ∙ sym (mapped_length table_trie c.in-Item-Tables.before.items) in
+    tables_stand c.args.self c.element_table-then-at-len.result c.args.at c.in-Item-Tables.field-0 at before latest
+    c.deref-then-at-len.result is
+    (ap (λ i. slice_get (map table_trie before.items ++ table_trie latest.value ∷ []) i) last
+    ∙ last_read (map table_trie before.items) (table_trie latest.value)
+    ∙ ap (λ t. Some (table_trie t)) (sym c.deref-then-at-len.ensures))
+    c.element_table-then-at-len.ensures.beside

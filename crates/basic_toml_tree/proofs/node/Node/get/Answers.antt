@@ -2,17 +2,23 @@ use Rattle.std.proofs.Common.{◌≡◌, Some, ap, sym, ◌∙◌, rules}
 use Rattle.basic_toml_tree.specs.Data.{table_data}
 use Rattle.basic_toml_tree.specs.Nodes.{node_data, data_at}
 use Rattle.basic_toml_tree.proofs.ItemData.{data_at_found, data_at_absent}
+use Rattle.basic_toml_tree.proofs.NodesStand.{key_stands}
 use Rattle.basic_toml_tree.proofs.node.Node.get.Goals as goal
 
-pub returns-in_default-get : goal.returns-in_default-get
-returns-in_default-get c =
+pub returns-in_default-get-clause-data : goal.returns-in_default-get-clause-data
+returns-in_default-get-clause-data c =
     let here : node_data c.args.self ≡ table_data c.in-Some-Some.table.now = search (rules) in
     ap (λ d. data_at d c.args.key.now) here
     ∙ data_at_absent c.in-Some-Some.table.now c.args.key.now c.in_default-get.ensures
 
-pub returns : goal.returns
-returns c =
+pub returns-clause-data : goal.returns-clause-data
+returns-clause-data c =
     let here : node_data c.args.self ≡ table_data c.in-Some-Some.table.now = search (rules) in
     ap (λ d. data_at d c.args.key.now) here
     ∙ data_at_found c.in-Some-Some.table.now c.args.key.now c.in-Some.pair.now.value c.in-Some.ensures
-    ∙ ap Some (sym c.below.ensures)
+    ∙ ap Some (sym c.below.ensures.«data»)
+
+pub returns-clause-stands : goal.returns-clause-stands
+returns-clause-stands c =
+    key_stands c.args.self c.below.result c.in-Some-Some.table.now c.args.key.now c.in-Some.pair.now.value (search (rules))
+    c.in-Some.ensures c.below.ensures.below

@@ -9,6 +9,6 @@ returns-in-Ok c =
     let fits : c.table_fits.result ≡ true = search (rules, tests) in
     let fresh : c.is_fresh.result ≡ true = search (rules, tests) in
     let none = none_if c.args.self.now.error (sym c.has_refused.ensures ∙ c.if-has_refused.false) in
-    sends_laid (entries c.args.table.now) c.args.self.now _ none none (c.is_fresh.ensures fresh)
+    sends_laid (entries c.args.table.now) c.args.self.now _ none none (c.is_fresh.ensures.yes fresh)
     (c.with_whole.ensures ∙ ap (λ z. state z [] true) c.in-Ok.ensures) (sym c.table_fits.ensures.fits ∙ fits)
     (c.table_fits.ensures.recordable fits)

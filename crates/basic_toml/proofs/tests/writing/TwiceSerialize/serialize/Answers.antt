@@ -1,7 +1,7 @@
 use Rattle.std.proofs.Common.{List, [], ◌∷◌, ◌++◌, codes, ◌⊎◌, inl, inr, Result, Ok, Err}
 use Rattle.std.proofs.lemmas.Result.{err_from_is_err_and}
 use Rattle.basic_toml_emit.specs.Items.{Item, open_table, close, field}
-use Rattle.basic_toml_emit.specs.declared.error.WriteError.{WriteError}
+use Rattle.basic_toml_write.specs.declared.error.WriteError.{WriteError}
 use Rattle.basic_toml_write.specs.Serializer.{NoFault, PartGivesUp, Sends, Takes, Passes}
 use Rattle.basic_toml_write.specs.declared.serializer.Serializer.{Serializer}
 use Rattle.basic_toml_write.proofs.ListsAreSentInTurn.{part_after, sends_then, sends_cut, sends_never}

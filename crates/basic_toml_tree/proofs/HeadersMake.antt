@@ -1,0 +1,412 @@
+-- What headers make, by the trie of the sections: a table that a header names or passes through, and an array.
+use Rattle.std.proofs.Common.{◌≡◌, ◌⊎◌, inl, inr, ℕ, zero, suc, Bool, true, false, cond, List, [], ◌∷◌, ◌++◌, refl, ap}
+use Rattle.std.proofs.Common.{sym, ◌∙◌, subst, map, length, drop, Option, Some, None}
+use Rattle.std.specs.Prelude.{◌&&◌, ◌||◌, if◌then◌else◌}
+use Rattle.std.specs.List.{list_any}
+use Rattle.std.proofs.lemmas.Bool.{false≢true, and_parts, and_from, or_cases, or_left, or_right}
+use Rattle.basic_toml_grammar.specs.Sections.{Rows, Section}
+use Rattle.basic_toml_grammar.specs.Steps.{Step, key, number, Path, step_eq, begins, path_eq}
+use Rattle.basic_toml_grammar.specs.RowClash.{has_row_clash}
+use Rattle.basic_toml_grammar.specs.IndexedPath.{located}
+use Rattle.basic_toml_grammar.specs.Placed.{Placed, step_into, adds_element, path_of, placed}
+use Rattle.basic_toml_grammar.specs.Marks.{MarkKind, passed, by_latest, named, added, dotted, valued, Mark, mark}
+use Rattle.basic_toml_grammar.specs.Marks.{marks, all_marks}
+use Rattle.basic_toml_grammar.specs.Nodes.{is_number, is_made, is_array}
+use Rattle.basic_toml_grammar.specs.Standing.{Standing, table, array, value, fits, taken, standing_at, take_all}
+use Rattle.basic_toml_grammar.specs.Entering.{enter_all}
+use Rattle.basic_toml_grammar.proofs.AmongElements.{Among, first, next, among_left, among_right, among_either}
+use Rattle.basic_toml_grammar.proofs.EnteringAccepts.{enter_all_grows}
+use Rattle.basic_toml_grammar.proofs.LatestElementsWereAdded.{Added, latest_added}
+use Rattle.basic_toml_grammar.proofs.MarksAreWhatIsSaid.{marked, said, same_truth}
+use Rattle.basic_toml_grammar.proofs.PathsAgree.{paths_agree}
+use Rattle.basic_toml_grammar.proofs.StepTestsDecide.{step_is, begins_itself, paths_are, paths_same}
+use Rattle.basic_toml_grammar.proofs.WhatMarksTell.{role, way}
+use Rattle.basic_toml_grammar.proofs.WhatSectionsSay.{Says, names, adds, into, passes, goes_by, on}
+use Rattle.basic_toml_grammar.proofs.WhatStands.{Shown, shown}
+use Rattle.basic_toml_grammar.proofs.WhereHeadersStop.{is_header}
+
+-- whether headers made what stands somewhere, and whether it is an array of tables
+abbrev pub stands_made : Option Standing → Bool
+stands_made (Some (table p n d)) = p || n
+stands_made (Some (array n)) = true
+stands_made _ = false
+
+abbrev pub stands_array : Option Standing → Bool
+stands_array (Some (array n)) = true
+stands_array _ = false
+
+-- what a mark leaves, whatever comes later
+abbrev keeps : MarkKind → Option Standing → Bool
+keeps by_latest o = true
+keeps passed (Some (table p n d)) = p
+keeps named (Some (table p n d)) = n
+keeps dotted (Some (table p n d)) = d
+keeps added (Some (array (suc n))) = true
+keeps (valued v) (Some value) = true
+keeps k o = false
+
+kept_table : (k m : MarkKind) (p n d : Bool) → fits m (Some (table p n d)) ≡ true → keeps k (Some (table p n d)) ≡ true
+    → keeps k (Some (taken m (Some (table p n d)))) ≡ true
+kept_table by_latest m p n d f h = refl
+kept_table added m p n d f h = absurd (false≢true h)
+kept_table (valued v) m p n d f h = absurd (false≢true h)
+kept_table passed passed p n d f h = refl
+kept_table passed named p n d f h = h
+kept_table passed dotted p n d f h = h
+kept_table passed by_latest p n d f h = h
+kept_table passed added p n d f h = absurd (false≢true f)
+kept_table passed (valued v) p n d f h = absurd (false≢true f)
+kept_table named passed p n d f h = h
+kept_table named named p n d f h = refl
+kept_table named dotted p n d f h = h
+kept_table named by_latest p n d f h = h
+kept_table named added p n d f h = absurd (false≢true f)
+kept_table named (valued v) p n d f h = absurd (false≢true f)
+kept_table dotted passed p n d f h = h
+kept_table dotted named p n d f h = h
+kept_table dotted dotted p n d f h = refl
+kept_table dotted by_latest p n d f h = h
+kept_table dotted added p n d f h = absurd (false≢true f)
+kept_table dotted (valued v) p n d f h = absurd (false≢true f)
+
+kept_array : (k m : MarkKind) (n : ℕ) → fits m (Some (array n)) ≡ true → keeps k (Some (array n)) ≡ true
+    → keeps k (Some (taken m (Some (array n)))) ≡ true
+kept_array by_latest m n f h = refl
+kept_array passed m n f h = absurd (false≢true h)
+kept_array named m n f h = absurd (false≢true h)
+kept_array dotted m n f h = absurd (false≢true h)
+kept_array (valued v) m n f h = absurd (false≢true h)
+kept_array added m zero f h = absurd (false≢true h)
+kept_array added added (suc n) f h = refl
+kept_array added by_latest (suc n) f h = refl
+kept_array added passed (suc n) f h = absurd (false≢true f)
+kept_array added named (suc n) f h = absurd (false≢true f)
+kept_array added dotted (suc n) f h = absurd (false≢true f)
+kept_array added (valued v) (suc n) f h = absurd (false≢true f)
+
+no_value : (m : MarkKind) → fits m (Some value) ≡ false
+no_value passed = refl
+no_value by_latest = refl
+no_value named = refl
+no_value added = refl
+no_value dotted = refl
+no_value (valued v) = refl
+
+none_kept : (k : MarkKind) (s : Standing) → keeps k None ≡ true → keeps k (Some s) ≡ true
+none_kept by_latest s h = refl
+none_kept passed s h = absurd (false≢true h)
+none_kept named s h = absurd (false≢true h)
+none_kept added s h = absurd (false≢true h)
+none_kept dotted s h = absurd (false≢true h)
+none_kept (valued v) s h = absurd (false≢true h)
+
+kept_on : (k m : MarkKind) (o : Option Standing) → fits m o ≡ true → keeps k o ≡ true → keeps k (Some (taken m o)) ≡ true
+kept_on k m None f h = none_kept k (taken m None) h
+kept_on k m (Some (table p n d)) f h = kept_table k m p n d f h
+kept_on k m (Some (array n)) f h = kept_array k m n f h
+kept_on k m (Some value) f h = absurd (false≢true (sym (no_value m) ∙ f))
+
+kept_new : (k : MarkKind) (o : Option Standing) → keeps k (Some (taken k o)) ≡ true
+kept_new by_latest o = refl
+kept_new passed None = refl
+kept_new passed (Some (table p n d)) = refl
+kept_new passed (Some (array n)) = refl
+kept_new passed (Some value) = refl
+kept_new named None = refl
+kept_new named (Some (table p n d)) = refl
+kept_new named (Some (array n)) = refl
+kept_new named (Some value) = refl
+kept_new dotted None = refl
+kept_new dotted (Some (table p n d)) = refl
+kept_new dotted (Some (array n)) = refl
+kept_new dotted (Some value) = refl
+kept_new added None = refl
+kept_new added (Some (table p n d)) = refl
+kept_new added (Some (array n)) = refl
+kept_new added (Some value) = refl
+kept_new (valued v) o = refl
+
+abbrev Keeps : List Mark → Type 0
+Keeps st = (p : Path) (k : MarkKind) → Among (mark p k) st → keeps k (standing_at st p) ≡ true
+
+keeps_more : (m : Mark) (st : List Mark) → Keeps st → fits m.kind (standing_at st m.path) ≡ true → Keeps (m ∷ st)
+keeps_more m st h f p k first = rw (paths_same p) (kept_new k (standing_at st p))
+keeps_more m st h f p k (next a) = go (path_eq m.path p) refl
+  where
+    go : (b : Bool) → path_eq m.path p ≡ b
+        → keeps k (if b then Some (taken m.kind (standing_at st p)) else standing_at st p) ≡ true
+    go false e = h p k a
+    go true e =
+        let here : fits m.kind (standing_at st p) ≡ true =
+        subst (λ q. fits m.kind (standing_at st q) ≡ true) (paths_are m.path p e) f in
+        kept_on k m.kind (standing_at st p) here (h p k a)
+
+-- marks that were taken: they are kept, and there are no others
+record Ran (st ms after : List Mark) : Type 0 where
+  keep : Keeps after
+  stays : {m : Mark} → Among m st → Among m after
+  joins : {m : Mark} → Among m ms → Among m after
+  made : {m : Mark} → Among m after → Among m st ⊎ Among m ms
+
+ran : (st ms after : List Mark) → Keeps st → take_all st ms ≡ Some after → Ran st ms after
+ran st [] after h e = let same : st ≡ after = cc in
+    rw (← same) (record { keep = h; stays = λ a. a; joins = λ a. elim a [ ]; made = λ a. inl a })
+ran st (m ∷ ms) after h e =
+    go (fits m.kind (standing_at st m.path)) refl (λ f. ran (m ∷ st) ms after (keeps_more m st h f)) e
+  where
+    more : Ran (m ∷ st) ms after → Ran st (m ∷ ms) after
+    more r = record { keep = r.keep; stays = λ a. r.stays (next a); joins = λ a. join a; made = λ a. from (r.made a) }
+      where
+        join : {x : Mark} → Among x (m ∷ ms) → Among x after
+        join first = r.stays first
+        join (next a) = r.joins a
+
+        from : {x : Mark} → Among x (m ∷ st) ⊎ Among x ms → Among x st ⊎ Among x (m ∷ ms)
+        from (inl first) = inr first
+        from (inl (next a)) = inl a
+        from (inr a) = inr (next a)
+
+    go : (b : Bool) → fits m.kind (standing_at st m.path) ≡ b
+        → (fits m.kind (standing_at st m.path) ≡ true → take_all (m ∷ st) ms ≡ Some after → Ran (m ∷ st) ms after)
+        → cond b (take_all (m ∷ st) ms) None ≡ Some after → Ran st (m ∷ ms) after
+    go true f ih e = more (ih f e)
+    go false f ih e = cc
+
+-- the section that a mark is of
+among_one : {m : Mark} (ls : List Placed) → Among m (all_marks ls) → (l : Placed) × Among l ls × Among m (marks l)
+among_one [] a = elim a [ ]
+among_one {m = m} (l ∷ ls) a = go (among_one ls) (among_either (marks l) (all_marks ls) a)
+  where
+    go : (Among m (all_marks ls) → (l : Placed) × Among l ls × Among m (marks l))
+        → Among m (marks l) ⊎ Among m (all_marks ls) → (x : Placed) × Among x (l ∷ ls) × Among m (marks x)
+    go ih (inl a) = (l, first, a)
+    go ih (inr a) = let r = ih a in (r.0, next r.1, r.2)
+
+among_all : {l : Placed} {m : Mark} (ls : List Placed) → Among l ls → Among m (marks l) → Among m (all_marks ls)
+among_all [] b a = elim b [ ]
+among_all (l ∷ ls) first a = among_left (all_marks ls) a
+among_all (k ∷ ls) (next b) a = among_right (marks k) (among_all ls b a)
+
+any_of : {A : Type 0} (f : A → Bool) (xs : List A) → list_any f xs ≡ true → (x : A) × Among x xs × (f x ≡ true)
+any_of f [] e = absurd (false≢true e)
+any_of {A = A} f (x ∷ xs) e = go (any_of f xs) (or_cases _ _ e)
+  where
+    go : (list_any f xs ≡ true → (y : A) × Among y xs × (f y ≡ true)) → (f x ≡ true) ⊎ (list_any f xs ≡ true)
+        → (y : A) × Among y (x ∷ xs) × (f y ≡ true)
+    go ih (inl h) = (x, first, h)
+    go ih (inr h) = let r = ih h in (r.0, next r.1, r.2)
+
+of_any : {A : Type 0} {x : A} {xs : List A} (f : A → Bool) → Among x xs → f x ≡ true → list_any f xs ≡ true
+of_any f first e = or_left _ _ e
+of_any f (next a) e = or_right _ _ (of_any f a e)
+
+-- what a header says on its way: at each beginning of its path something, and before a number of an array
+record SaysSome (e : Option ℕ) (rs : Rows) (t q : Path) : Type 0 where
+  kind : MarkKind
+  says : Says e rs t q kind
+  header : is_header kind ≡ true
+
+way_said : (e : Option ℕ) (rs : Rows) (t q : Path) → begins q (t ++ step_into e) ≡ true → SaysSome e rs t q
+way_said None rs [] [] b = record { kind = named; says = names; header = refl }
+way_said None rs [] (s ∷ q) b = absurd (false≢true b)
+way_said (Some n) rs [] [] b = record { kind = added; says = adds; header = refl }
+way_said (Some n) rs [] (s ∷ []) b =
+    let same : s ≡ number n = step_is s (number n) (and_parts _ _ b).0 in
+    rw same (record { kind = named; says = into names; header = refl })
+way_said (Some n) rs [] (s ∷ r ∷ q) b = absurd (false≢true (and_parts _ _ b).1)
+way_said e rs (key k ∷ t) [] b = record { kind = passed; says = passes; header = refl }
+way_said e rs (number n ∷ t) [] b = record { kind = by_latest; says = goes_by; header = refl }
+way_said e rs (s ∷ t) (r ∷ q) b =
+    let both = and_parts (step_eq r s) (begins q (t ++ step_into e)) b in
+    let same : r ≡ s = step_is r s both.0 in
+    let x = way_said e rs t q both.1 in
+    rw same (record { kind = x.kind; says = on x.says; header = x.header })
+
+abbrev goes_into : Path → Path → Bool
+goes_into q path = begins q path && is_number (drop (length q) path)
+
+number_said : (e : Option ℕ) (rs : Rows) (t q : Path) → goes_into q (t ++ step_into e) ≡ true
+    → Says e rs t q added ⊎ Says e rs t q by_latest
+number_said None rs [] [] b = absurd (false≢true b)
+number_said None rs [] (s ∷ q) b = absurd (false≢true b)
+number_said (Some n) rs [] [] b = inl adds
+number_said (Some n) rs [] (s ∷ []) b = absurd (false≢true (and_parts _ _ b).1)
+number_said (Some n) rs [] (s ∷ r ∷ q) b = absurd (false≢true (and_parts _ _ (and_parts _ _ b).0).1)
+number_said e rs (key k ∷ t) [] b = absurd (false≢true b)
+number_said e rs (number n ∷ t) [] b = inr goes_by
+number_said e rs (s ∷ t) (r ∷ q) b =
+    let two = and_parts (begins (r ∷ q) (s ∷ t ++ step_into e)) (is_number (drop (length q) (t ++ step_into e))) b in
+    let both = and_parts (step_eq r s) (begins q (t ++ step_into e)) two.0 in
+    let same : r ≡ s = step_is r s both.0 in
+    further same (number_said e rs t q (and_from _ _ both.1 two.1))
+  where
+    further : r ≡ s → Says e rs t q added ⊎ Says e rs t q by_latest
+        → Says e rs (s ∷ t) (r ∷ q) added ⊎ Says e rs (s ∷ t) (r ∷ q) by_latest
+    further same (inl x) = rw same (inl (on x))
+    further same (inr x) = rw same (inr (on x))
+
+says_added : (n : ℕ) (rs : Rows) (t : Path) → Says (Some n) rs t t added
+says_added n rs [] = adds
+says_added n rs (s ∷ t) = on (says_added n rs t)
+
+element_there : (p : Path) (n : ℕ) → goes_into p (p ++ number n ∷ []) ≡ true
+element_there p n = rw (begins_itself p (number n ∷ [])) (go p)
+  where
+    go : (p : Path) → is_number (drop (length p) (p ++ number n ∷ [])) ≡ true
+    go [] = refl
+    go (s ∷ p) = go p
+
+mapped_any : {A B : Type 0} (f : B → Bool) (g : A → B) (xs : List A)
+    → list_any f (map g xs) ≡ list_any (λ x. f (g x)) xs
+mapped_any f g [] = refl
+mapped_any f g (x ∷ xs) = ap (λ b. f (g x) || b) (mapped_any f g xs)
+
+same_paths : (f : Path → Bool) (ss : List Section)
+    → list_any (λ l. f l.path) (located ss) ≡ list_any (λ l. f (path_of l)) (placed ss)
+same_paths f ss =
+    sym (mapped_any f (λ l. l.path) (located ss)) ∙ ap (list_any f) (paths_agree ss) ∙ mapped_any f path_of (placed ss)
+
+-- a list of sections that was entered
+module _ (ss : List Section) (st : List Mark) (e : enter_all ss [] ≡ Some st) where
+  all_taken : take_all [] (all_marks (placed ss)) ≡ Some st
+  all_taken = go (has_row_clash ss) (sym (enter_all_grows ss [] [] (λ p. refl) (λ p. refl)) ∙ e)
+    where
+      go : (b : Bool) → (if b then None else take_all [] (all_marks (placed ss))) ≡ Some st
+          → take_all [] (all_marks (placed ss)) ≡ Some st
+      go true h = cc
+      go false h = h
+
+  run : Ran [] (all_marks (placed ss)) st
+  run = ran [] (all_marks (placed ss)) st (λ p k a. elim a [ ]) all_taken
+
+  kept : {p : Path} {k : MarkKind} (l : Placed) → Among l (placed ss) → Says l.element l.rows l.target p k
+      → keeps k (standing_at st p) ≡ true
+  kept {p = p} {k = k} l a says =
+      run.keep p k (run.joins (among_all (placed ss) a (marked l.element l.rows l.target says)))
+
+  record Saying (p : Path) (k : MarkKind) : Type 0 where
+    place : Placed
+    among : Among place (placed ss)
+    says : Says place.element place.rows place.target p k
+
+  saying : {p : Path} {k : MarkKind} → Among (mark p k) st → Saying p k
+  saying {p = p} {k = k} a = go (run.made a)
+    where
+      go : Among (mark p k) [] ⊎ Among (mark p k) (all_marks (placed ss)) → Saying p k
+      go (inl a) = elim a [ ]
+      go (inr a) = let r = among_one (placed ss) a in
+          record { place = r.0; among = r.1; says = said r.0.element r.0.rows r.0.target r.2 }
+
+  added_there : {p : Path} → Saying p by_latest → Added (placed ss) p
+  added_there {p = p} x = latest_added (placed ss) [] ss (λ k a. elim a [ ]) (λ k a. a) x.place x.among p x.says
+
+  array_kept : {p : Path} → Added (placed ss) p → keeps added (standing_at st p) ≡ true
+  array_kept {p = p} k =
+      let here : Says k.0.element k.0.rows k.0.target p added =
+      rw (k.3, k.4) (says_added k.1 k.0.rows p) in
+      kept k.0 k.2 here
+
+  array_stands : (o : Option Standing) → keeps added o ≡ true → stands_array o ≡ true
+  array_stands (Some (array n)) h = refl
+  array_stands None h = absurd (false≢true h)
+  array_stands (Some value) h = absurd (false≢true h)
+  array_stands (Some (table p n d)) h = absurd (false≢true h)
+
+  array_made : (o : Option Standing) → stands_array o ≡ true → stands_made o ≡ true
+  array_made (Some (array n)) h = refl
+  array_made None h = absurd (false≢true h)
+  array_made (Some value) h = absurd (false≢true h)
+  array_made (Some (table p n d)) h = absurd (false≢true h)
+
+  passed_made : (o : Option Standing) → keeps passed o ≡ true → stands_made o ≡ true
+  passed_made (Some (array n)) h = refl
+  passed_made None h = absurd (false≢true h)
+  passed_made (Some value) h = absurd (false≢true h)
+  passed_made (Some (table p n d)) h = or_left p n h
+
+  named_made : (o : Option Standing) → keeps named o ≡ true → stands_made o ≡ true
+  named_made (Some (array n)) h = refl
+  named_made None h = absurd (false≢true h)
+  named_made (Some value) h = absurd (false≢true h)
+  named_made (Some (table p n d)) h = or_right p n h
+
+  header_made : {p : Path} (k : MarkKind) → is_header k ≡ true → (l : Placed) → Among l (placed ss)
+      → Says l.element l.rows l.target p k → stands_made (standing_at st p) ≡ true
+  header_made {p = p} passed h l a says = passed_made (standing_at st p) (kept l a says)
+  header_made {p = p} named h l a says = named_made (standing_at st p) (kept l a says)
+  header_made {p = p} added h l a says =
+      array_made (standing_at st p) (array_stands (standing_at st p) (kept l a says))
+  header_made {p = p} by_latest h l a says =
+      array_made (standing_at st p) (array_stands (standing_at st p)
+      (array_kept (added_there (record { place = l; among = a; says = says }))))
+  header_made dotted h l a says = absurd (false≢true h)
+  header_made (valued v) h l a says = absurd (false≢true h)
+
+  on_the_way : {p : Path} (k : MarkKind) → is_header k ≡ true → Saying p k
+      → list_any (λ l. begins p (path_of l)) (placed ss) ≡ true
+  on_the_way {p = p} k h x =
+      of_any (λ l. begins p (path_of l)) x.among
+      (way x.place.element x.place.target p k (role x.says h))
+
+  made_forth : (p : Path) → list_any (λ l. begins p (path_of l)) (placed ss) ≡ true
+      → stands_made (standing_at st p) ≡ true
+  made_forth p h =
+      let l = any_of (λ l. begins p (path_of l)) (placed ss) h in
+      let x = way_said l.0.element l.0.rows l.0.target p l.2 in
+      header_made x.kind x.header l.0 l.1 x.says
+
+  made_back : (p : Path) (o : Option Standing) → Shown st p o → stands_made o ≡ true
+      → list_any (λ l. begins p (path_of l)) (placed ss) ≡ true
+  made_back p None shows h = absurd (false≢true h)
+  made_back p (Some value) shows h = absurd (false≢true h)
+  made_back p (Some (array zero)) shows h = on_the_way by_latest refl (saying shows)
+  made_back p (Some (array (suc n))) shows h = on_the_way added refl (saying shows)
+  made_back p (Some (table q n d)) shows h = go (or_cases q n h)
+    where
+      go : (q ≡ true) ⊎ (n ≡ true) → list_any (λ l. begins p (path_of l)) (placed ss) ≡ true
+      go (inl e) = on_the_way passed refl (saying (shows.passes e))
+      go (inr e) = on_the_way named refl (saying (shows.names e))
+
+  pub made_is : (s : Step) (p : Path) → is_made (located ss) (s ∷ p) ≡ stands_made (standing_at st (s ∷ p))
+  made_is s p =
+      same_paths (begins (s ∷ p)) ss
+      ∙ same_truth _ _ (made_forth (s ∷ p)) (made_back (s ∷ p) (standing_at st (s ∷ p)) (shown st (s ∷ p)))
+
+  array_forth : (p : Path) → list_any (λ l. goes_into p (path_of l)) (placed ss) ≡ true
+      → stands_array (standing_at st p) ≡ true
+  array_forth p h =
+      let l = any_of (λ l. goes_into p (path_of l)) (placed ss) h in
+      array_stands (standing_at st p) (go l.0 l.1 (number_said l.0.element l.0.rows l.0.target p l.2))
+    where
+      go : (l : Placed) → Among l (placed ss)
+          → Says l.element l.rows l.target p added ⊎ Says l.element l.rows l.target p by_latest
+          → keeps added (standing_at st p) ≡ true
+      go l a (inl says) = kept l a says
+      go l a (inr says) = array_kept (added_there (record { place = l; among = a; says = says }))
+
+  added_into : {p : Path} → Added (placed ss) p → list_any (λ l. goes_into p (path_of l)) (placed ss) ≡ true
+  added_into {p = p} k =
+      of_any (λ l. goes_into p (path_of l)) k.2 (rw (k.3, k.4) (element_there p k.1))
+
+  adds_some : (e : Option ℕ) → adds_element e ≡ true → (n : ℕ) × (e ≡ Some n)
+  adds_some None h = absurd (false≢true h)
+  adds_some (Some n) h = (n, refl)
+
+  added_said : {p : Path} → Saying p added → Added (placed ss) p
+  added_said x =
+      let r = role x.says refl in
+      let n = adds_some x.place.element r.1 in
+      (x.place, n.0, x.among, n.1, sym r.0)
+
+  array_back : (p : Path) (o : Option Standing) → Shown st p o → stands_array o ≡ true
+      → list_any (λ l. goes_into p (path_of l)) (placed ss) ≡ true
+  array_back p None shows h = absurd (false≢true h)
+  array_back p (Some value) shows h = absurd (false≢true h)
+  array_back p (Some (table q n d)) shows h = absurd (false≢true h)
+  array_back p (Some (array zero)) shows h = added_into (added_there (saying shows))
+  array_back p (Some (array (suc n))) shows h = added_into (added_said (saying shows))
+
+  pub array_is : (p : Path) → is_array (located ss) p ≡ stands_array (standing_at st p)
+  array_is p =
+      same_paths (goes_into p) ss
+      ∙ same_truth _ _ (array_forth p) (array_back p (standing_at st p) (shown st p))

@@ -1,0 +1,245 @@
+-- What headers made, as the tree has it and as the section list foretells it.
+use Rattle.std.proofs.Common.{◌≡◌, ◌⊎◌, inl, inr, ◌==◌, ℕ, Bool, true, false, List, [], ◌∷◌, Option, Some, None, refl, ap}
+use Rattle.std.proofs.Common.{sym, ◌∙◌, subst, map, codes, rules}
+use Rattle.std.specs.Prelude.{◌||◌, if◌then◌else◌}
+use Rattle.std.specs.Borrow.{Bor}
+use Rattle.std.proofs.lemmas.Bool.{false≢true, or_left, or_right}
+use Rattle.basic_toml_grammar.specs.Sections.{Section}
+use Rattle.basic_toml_grammar.specs.Steps.{Step, Path}
+use Rattle.basic_toml_grammar.specs.IndexedPath.{located}
+use Rattle.basic_toml_grammar.specs.Standing.{Standing, table, array, value}
+use Rattle.basic_toml_grammar.specs.Trie.{Trie, trie, nothing, standing, below}
+use Rattle.basic_toml_grammar.specs.Nodes as grammar
+use Rattle.basic_toml_grammar.proofs.MarksInATrie.{descend, standing_of}
+use Rattle.basic_toml_grammar.proofs.SectionsInATrie.{marks_put}
+use Rattle.basic_toml_read.specs.SectionView.{section_of}
+use Rattle.basic_toml_tree.specs.declared.item.Item.{Item, out-Item, the_lemmas}
+use Rattle.basic_toml_tree.specs.declared.item.Item.TheOpen.{Item-F}
+use Rattle.basic_toml_tree.specs.declared.item.Item.TheViews.{roll-Item}
+use Rattle.basic_toml_tree.specs.declared.item.Child.{Child}
+use Rattle.basic_toml_tree.specs.declared.item.Table.{Table, out-Table}
+use Rattle.basic_toml_tree.specs.declared.node.Node.{Node}
+use Rattle.basic_toml_tree.specs.declared.node.Spot.{Spot}
+use Rattle.basic_toml_tree.specs.declared.node.Spot.TheVariants as spots
+use Rattle.basic_toml_tree.specs.Item.{item_trie, table_trie}
+use Rattle.basic_toml_tree.specs.Origin.{spot_is_made, is_made, spot_name, name_of, holds_tables, item_name, last_at}
+use Rattle.basic_toml_tree.specs.Origin.{start_of, outer_of, offset_of, is_array_literal}
+use Rattle.basic_toml_tree.specs.Resolve.{Stands, only_root, head}
+use Rattle.basic_toml_tree.specs.Stands.{trie_at, tree_trie, spot_trie, wraps_table, is_wrapper, is_root, IsNodeAt}
+use Rattle.basic_toml_tree.specs.Stands.{Foretold}
+use Rattle.basic_toml_tree.proofs.HeadersMake.{stands_made, stands_array, made_is, array_is}
+use Rattle.basic_toml_tree.proofs.ItemTries.{table_entries_trie}
+use Rattle.basic_toml_tree.proofs.NodesStand.{shape, tells_table}
+
+same_way : (p : Path) (t : Trie) → trie_at p t ≡ descend p t
+same_way [] t = refl
+same_way (s ∷ p) t = same_way p (below s t)
+
+none_below : (p : Path) → trie_at p nothing ≡ nothing
+none_below [] = refl
+none_below (s ∷ p) = none_below p
+
+-- what the trie of sections tells of a path
+pub made_in_trie : (sections : List Section) (t : Trie) → Stands sections t → (s : Step) (p : Path)
+    → grammar.is_made (located sections) (s ∷ p) ≡ stands_made (standing (trie_at (s ∷ p) t))
+made_in_trie sections t (inl put) s p =
+    let st = marks_put sections t put in
+    made_is sections st.0 st.1 s p
+    ∙ ap stands_made (sym (standing_of st.0 (s ∷ p)))
+    ∙ ap (λ t. stands_made (standing (descend (s ∷ p) t))) (sym st.2)
+    ∙ ap (λ t. stands_made (standing t)) (sym (same_way (s ∷ p) t))
+made_in_trie sections t (inr none) s p =
+    ap (λ ss. grammar.is_made (located ss) (s ∷ p)) none.0
+    ∙ sym (ap (λ t. stands_made (standing (trie_at (s ∷ p) t))) none.1
+    ∙ ap (λ t. stands_made (standing t)) (none_below p))
+
+pub array_in_trie : (sections : List Section) (t : Trie) → Stands sections t → (p : Path)
+    → grammar.is_array (located sections) p ≡ stands_array (standing (trie_at p t))
+array_in_trie sections t (inl put) p =
+    let st = marks_put sections t put in
+    array_is sections st.0 st.1 p
+    ∙ ap stands_array (sym (standing_of st.0 p))
+    ∙ ap (λ t. stands_array (standing (descend p t))) (sym st.2)
+    ∙ ap (λ t. stands_array (standing t)) (sym (same_way p t))
+array_in_trie sections t (inr none) p =
+    ap (λ ss. grammar.is_array (located ss) p) none.0
+    ∙ sym (ap (λ t. stands_array (standing (trie_at p t))) none.1 ∙ go p)
+  where
+    go : (p : Path) → stands_array (standing (trie_at p only_root)) ≡ false
+    go [] = refl
+    go (s ∷ p) = ap (λ t. stands_array (standing t)) (none_below p)
+
+-- what stands where an item is
+abbrev item_standing : Item-F Item Child Table → Option Standing → Type 0
+item_standing Item-F.Nothing o = o ≡ None
+item_standing (Item-F.Table t) o = o ≡ standing (table_trie t.value)
+item_standing (Item-F.Tables before latest) o = stands_array o ≡ true
+item_standing _ o = o ≡ Some value
+
+stands_item : (x : Item-F Item Child Table) → item_standing x (standing (item_trie (roll-Item x)))
+stands_item Item-F.Nothing = search (rules, the_lemmas)
+stands_item (Item-F.Integer z) = search (rules, the_lemmas)
+stands_item (Item-F.Float z) = search (rules, the_lemmas)
+stands_item (Item-F.Boolean z) = search (rules, the_lemmas)
+stands_item (Item-F.String z) = search (rules, the_lemmas)
+stands_item (Item-F.Array z) = search (rules, the_lemmas)
+stands_item (Item-F.Inline z) = search (rules, the_lemmas)
+stands_item (Item-F.Table t) = search (rules, the_lemmas)
+stands_item (Item-F.Tables before latest) = search (rules, the_lemmas)
+
+abbrev made_name : Bool → List ℕ
+made_name b = if b then codes "array" else codes "table"
+
+-- that headers made what is here, its name, and that it is no array literal
+record IsMade (count : ℕ) (spot : Spot) : Type 0 where
+  made : spot_is_made count spot ≡ true
+  name : spot_name count spot ≡ made_name (stands_array (standing (spot_trie spot)))
+
+item_made : (count : ℕ) (b : Bor Item) (x : Item-F Item Child Table) (o : Option Standing) → out-Item b.now ≡ x
+    → item_standing x o → standing (item_trie b.now) ≡ o → is_wrapper x ≡ false → stands_made o ≡ true
+    → IsMade count (spots.Item b)
+item_made count b (Item-F.Tables before latest) o is stands same own made = record {
+  made = ap holds_tables is;
+  name = ap item_name is ∙ sym (ap (λ o. made_name (stands_array o)) same ∙ ap made_name stands);
+}
+item_made count b Item-F.Nothing o is stands same own made = absurd (false≢true (sym (ap stands_made stands) ∙ made))
+item_made count b (Item-F.Table t) o is stands same own made = cc
+item_made count b (Item-F.Integer z) o is stands same own made = absurd (false≢true (sym (ap stands_made stands) ∙ made))
+item_made count b (Item-F.Float z) o is stands same own made = absurd (false≢true (sym (ap stands_made stands) ∙ made))
+item_made count b (Item-F.Boolean z) o is stands same own made = absurd (false≢true (sym (ap stands_made stands) ∙ made))
+item_made count b (Item-F.String z) o is stands same own made = absurd (false≢true (sym (ap stands_made stands) ∙ made))
+item_made count b (Item-F.Array z) o is stands same own made = absurd (false≢true (sym (ap stands_made stands) ∙ made))
+item_made count b (Item-F.Inline z) o is stands same own made = absurd (false≢true (sym (ap stands_made stands) ∙ made))
+
+standing_here : (i : Item) → item_standing (out-Item i) (standing (item_trie i))
+standing_here i = subst (λ j. item_standing (out-Item i) (standing (item_trie j))) (sym (shape i (out-Item i) refl))
+    (stands_item (out-Item i))
+
+table_made : (count : ℕ) (b : Bor Table) → ((count == 0) || stands_made (standing (table_trie b.now))) ≡ true
+    → IsMade count (spots.Table b)
+table_made count b made =
+    let stands = ap standing (table_entries_trie b.now) in
+    let here : spot_is_made count (spots.Table b) ≡ true =
+    sym (ap (λ o. (count == 0) || stands_made o) stands) ∙ made in
+    record {
+      made = here;
+      name = rw here (sym (ap (λ o. made_name (stands_array o)) stands));
+    }
+
+-- what stands as made, and the root
+spot_made : (count : ℕ) (spot : Spot) → wraps_table spot ≡ false → stands_made (standing (spot_trie spot)) ≡ true
+    → IsMade count spot
+spot_made count (spots.Table b) own made = table_made count b (or_right _ _ made)
+spot_made count (spots.Item b) own made =
+    item_made count b (out-Item b.now) (standing (item_trie b.now)) refl (standing_here b.now) refl own made
+
+not_table : (x : Item-F Item Child Table) (o : Option Standing) → item_standing x o → is_wrapper x ≡ false
+    → (p n d : Bool) → o ≡ Some (table p n d) → ⊥
+not_table Item-F.Nothing o stands own p n d is = absurd (cc)
+not_table (Item-F.Integer z) o stands own p n d is = absurd (cc)
+not_table (Item-F.Float z) o stands own p n d is = absurd (cc)
+not_table (Item-F.Boolean z) o stands own p n d is = absurd (cc)
+not_table (Item-F.String z) o stands own p n d is = absurd (cc)
+not_table (Item-F.Array z) o stands own p n d is = absurd (cc)
+not_table (Item-F.Inline z) o stands own p n d is = absurd (cc)
+not_table (Item-F.Table t) o stands own p n d is = absurd (cc)
+not_table (Item-F.Tables before latest) o stands own p n d is = absurd (false≢true (sym (ap stands_array is) ∙ stands))
+
+root_made : (count : ℕ) (spot : Spot) (t : Table) → wraps_table spot ≡ false → (count == 0) ≡ true
+    → spot_trie spot ≡ table_trie t → IsMade count spot
+root_made count (spots.Table b) t own none same = table_made count b (or_left _ _ none)
+root_made count (spots.Item b) t own none same =
+    absurd (not_table (out-Item b.now) (standing (item_trie b.now)) (standing_here b.now) own
+    (out-Table t).passed (out-Table t).named (out-Table t).dotted
+    (ap standing same ∙ ap standing (table_entries_trie t)))
+
+-- a node that headers made
+module _ (sections : List Section) (node : Node) where
+  abbrev told : Path → Type 0
+  told p = IsMade node.count node.spot
+      × (stands_array (standing (spot_trie node.spot)) ≡ grammar.is_array (located sections) p)
+
+  is_told : (p : Path) → IsNodeAt sections p node → grammar.is_made (located sections) p ≡ true → told p
+  is_told p is made = go p is.stands.there made is.stands.root
+    where
+      t : Trie
+      t = tree_trie node.tree.now
+
+      arrays : (p : Path) → spot_trie node.spot ≡ trie_at p t
+          → stands_array (standing (spot_trie node.spot)) ≡ grammar.is_array (located sections) p
+      arrays p same =
+          ap (λ t. stands_array (standing t)) same ∙ sym (array_in_trie sections t is.resolved.stands p)
+
+      go : (p : Path) → (trie_at p t ≡ nothing) ⊎ ((spot_trie node.spot ≡ trie_at p t) × (wraps_table node.spot ≡ false))
+          → grammar.is_made (located sections) p ≡ true → (node.count == 0) ≡ is_root p → told p
+      go [] (inl none) made root =
+          let table : tells_table (table_trie node.tree.now.root.value) ≡ true =
+          ap tells_table (table_entries_trie node.tree.now.root.value) in
+          absurd (false≢true (sym (ap tells_table none) ∙ table))
+      go [] (inr there) made root =
+          (root_made node.count node.spot node.tree.now.root.value there.1 root there.0, arrays [] there.0)
+      go (s ∷ p) (inl none) made root =
+          absurd (false≢true (sym (made_in_trie sections t is.resolved.stands s p
+          ∙ ap (λ t. stands_made (standing t)) none) ∙ made))
+      go (s ∷ p) (inr there) made root = (
+        spot_made node.count node.spot there.1
+            (ap (λ t. stands_made (standing t)) there.0 ∙ sym (made_in_trie sections t is.resolved.stands s p) ∙ made),
+        arrays (s ∷ p) there.0,
+      )
+
+last_heads : (xs ys : List Section) → map head xs ≡ map head ys → grammar.last_at xs ≡ grammar.last_at ys
+last_heads [] [] same = refl
+last_heads [] (y ∷ ys) same = absurd (cc)
+last_heads (x ∷ xs) [] same = absurd (cc)
+last_heads (x ∷ []) (y ∷ []) same = let one : head x ≡ head y = cc in ap (λ h. Some h.0) one
+last_heads (x ∷ []) (y ∷ z ∷ ys) same = absurd (cc)
+last_heads (x ∷ w ∷ xs) (y ∷ []) same = absurd (cc)
+last_heads (x ∷ w ∷ xs) (y ∷ z ∷ ys) same =
+    let rest : map head (w ∷ xs) ≡ map head (z ∷ ys) = cc in last_heads (w ∷ xs) (z ∷ ys) rest
+
+foretold : (sections : List Section) (p : Path) (node : Node) (P : grammar.Node → Type 0)
+    → (IsNodeAt sections p node → grammar.is_made (located sections) p ≡ true
+    → P (grammar.made_node (located sections) (grammar.last_at sections) p))
+    → Foretold sections p node P
+foretold sections p node P told is made = rw made (told is made)
+
+last_same : (sections : List Section) (p : Path) (node : Node) → IsNodeAt sections p node
+    → last_at node.tree.now ≡ grammar.last_at sections
+last_same sections p node is = last_heads (map section_of node.tree.now.sections.items) sections is.resolved.heads
+
+-- its name, where it begins, the offset around it and the one that names it are as they are foretold
+pub name_told : (name : List ℕ) (node : Node) → name ≡ name_of node → (sections : List Section) (p : Path)
+    → Foretold sections p node (λ found. name ≡ found.type_name)
+unfolding name_of
+name_told name node same sections p = foretold sections p node (λ found. name ≡ found.type_name)
+    (λ is made. let told = is_told sections node p is made in same ∙ told.0.name ∙ ap made_name told.1)
+
+pub start_told : (start : Option ℕ) (node : Node) → start ≡ start_of node → (sections : List Section) (p : Path)
+    → Foretold sections p node (λ found. start ≡ found.start)
+unfolding start_of
+start_told start node same sections p = foretold sections p node (λ found. start ≡ found.start)
+    (λ is made. let told = is_told sections node p is made in
+    same ∙ ap (λ b. if b then last_at node.tree.now else Some node.start) told.0.made
+    ∙ last_same sections p node is)
+
+pub outer_told : (outer : Option ℕ) (node : Node) → outer ≡ outer_of node → (sections : List Section) (p : Path)
+    → Foretold sections p node (λ found. outer ≡ found.outer_offset)
+unfolding outer_of
+outer_told outer node same sections p = foretold sections p node (λ found. outer ≡ found.outer_offset)
+    (λ is made. let told = is_told sections node p is made in
+    same ∙ rw (told.0.made) (last_same sections p node is))
+
+pub offset_told : (offset : Option ℕ) (node : Node) → offset ≡ offset_of node → (sections : List Section) (p : Path)
+    → Foretold sections p node (λ found. offset ≡ found.offset)
+unfolding offset_of start_of outer_of
+offset_told offset node same sections p = foretold sections p node (λ found. offset ≡ found.offset)
+    (λ is made. let told = is_told sections node p is made in
+    same ∙ rw (told.0.made) (go (is_array_literal node.spot) ∙ last_same sections p node is))
+  where
+    go : (b : Bool) → (if b then last_at node.tree.now else last_at node.tree.now) ≡ last_at node.tree.now
+    go true = refl
+    go false = refl
+
+pub made_told : (made : Bool) (node : Node) → made ≡ is_made node → (sections : List Section) (p : Path)
+    → IsNodeAt sections p node → grammar.is_made (located sections) p ≡ true → made ≡ true
+made_told made node same sections p is there = same ∙ (is_told sections node p is there).0.made

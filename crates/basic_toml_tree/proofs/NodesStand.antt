@@ -1,0 +1,197 @@
+-- A node below another one stands at the path of that one and one more step.
+use Rattle.std.proofs.Common.{◌≡◌, ◌⊎◌, inl, inr, ◌==◌, ℕ, zero, suc, ◌+◌, Bool, true, false, cond, List, [], ◌∷◌}
+use Rattle.std.proofs.Common.{◌++◌, Some, None, refl, ap, sym, ◌∙◌, arith, map, length, rules, Vec, Box, Global}
+use Rattle.std.specs.Prelude.{slice_get, nat_eq}
+use Rattle.std.specs.Str.{bytes_eq}
+use Rattle.std.proofs.lemmas.Slice.Eq.{bytes_eq-Decides}
+use Rattle.std.specs.Borrow.{Bor}
+use Rattle.basic_toml_value.specs.Data.{Data, items_of}
+use Rattle.basic_toml_value.specs.Pairs.{value_at}
+use Rattle.basic_toml_value.proofs.DistinctKeys.{bytes_eq-same, bytes_eq_other}
+use Rattle.basic_toml_grammar.specs.Steps.{Step, key, number, Path}
+use Rattle.basic_toml_grammar.specs.Standing as standing
+use Rattle.basic_toml_grammar.specs.Trie.{Trie, trie, nothing, below, find, by}
+use Rattle.basic_toml_tree.specs.declared.item.Item.{Item, out-Item, the_lemmas, Array, Tables}
+use Rattle.basic_toml_tree.specs.declared.item.Item.TheOpen.{Item-F}
+use Rattle.basic_toml_tree.specs.declared.item.Item.TheViews.{roll-Item}
+use Rattle.basic_toml_tree.specs.declared.item.Child.{Child}
+use Rattle.basic_toml_tree.specs.declared.item.Table.{Table, out-Table}
+use Rattle.basic_toml_tree.specs.declared.tree.Tree.{Tree}
+use Rattle.basic_toml_tree.specs.declared.node.Node.{Node}
+use Rattle.basic_toml_tree.specs.declared.node.Spot.{Spot}
+use Rattle.basic_toml_tree.specs.declared.node.Spot.TheVariants as spots
+use Rattle.basic_toml_tree.specs.Item.{item_trie, child_trie, table_trie, by_keys, by_numbers, leaf, tree_data}
+use Rattle.basic_toml_tree.specs.Stands.{trie_at, tree_trie, spot_trie, wraps_table, HoldsTable, IsBelow, is_root}
+use Rattle.basic_toml_tree.specs.Stands.{StandsAt, StandsOn, IsBeside, is_wrapper, ItemHolds}
+use Rattle.basic_toml_tree.proofs.ItemTries.{table_entries_trie}
+use Rattle.basic_toml_tree.proofs.KeysInATrie.{tries_of}
+
+at_more : (p : Path) (s : Step) (t : Trie) → trie_at (p ++ s ∷ []) t ≡ below s (trie_at p t)
+at_more [] s t = refl
+at_more (r ∷ p) s t = at_more p s (below r t)
+
+no_root : (p : Path) (s : Step) → is_root (p ++ s ∷ []) ≡ false
+no_root [] s = refl
+no_root (r ∷ p) s = refl
+
+-- what is at a key of a table
+find_key : (ps : List (List ℕ × Child)) (k : List ℕ) (c : Child) → value_at ps k ≡ Some c
+    → find (key k) (by_keys (tries_of child_trie ps)) ≡ child_trie c
+unfolding tries_of
+find_key [] k c found = absurd (cc)
+find_key (p ∷ ps) k c found = go (find_key ps k c) (bytes_eq k p.0) refl found
+  where
+    go : (value_at ps k ≡ Some c → find (key k) (by_keys (tries_of child_trie ps)) ≡ child_trie c) → (b : Bool)
+        → bytes_eq k p.0 ≡ b → cond b (Some p.1) (value_at ps k) ≡ Some c
+        → find (key k) (by (key p.0) (child_trie p.1) (by_keys (tries_of child_trie ps))) ≡ child_trie c
+    go ih true e found =
+        let same : k ≡ p.0 = (bytes_eq-Decides k p.0).0 e in
+        let this : p.1 ≡ c = cc in
+        rw (same, bytes_eq-same p.0) (ap child_trie this)
+    go ih false e found = rw (bytes_eq_other p.0 k e) (ih found)
+
+find_number : (k n m : ℕ) (ts : List Trie) (u : Trie) → m ≡ k + n → slice_get ts n ≡ Some u
+    → find (number m) (by_numbers k ts) ≡ u
+find_number k n m [] u is found = absurd (cc)
+find_number k zero m (t ∷ ts) u is found =
+    let same : nat_eq k m ≡ true = grind (arith, is) in
+    let this : t ≡ u = cc in
+    rw same this
+find_number k (suc n) m (t ∷ ts) u is found =
+    let other : nat_eq k m ≡ false = grind (arith, is) in
+    rw other (find_number (suc k) n m ts u (omega (arith, is)) found)
+
+table_below : (t : Table) (k : List ℕ) (c : Child) → value_at (out-Table t).entries k ≡ Some c
+    → below (key k) (table_trie t) ≡ child_trie c
+table_below t k c found = ap (below (key k)) (table_entries_trie t) ∙ find_key (out-Table t).entries k c found
+
+-- an item, as it is made
+pub shape : (i : Item) (x : Item-F Item Child Table) → out-Item i ≡ x → i ≡ roll-Item x
+shape i x is = let whole : roll-Item (out-Item i) ≡ i = search (rules, the_lemmas) in sym whole ∙ ap roll-Item is
+
+array_trie : (children : Vec Child Global) → (d : Data) × (item_trie (Array children) ≡ leaf d)
+array_trie children =
+    (Data.array (items_of (map tree_data (map child_trie children.items))), search (rules, the_lemmas))
+
+inline_trie : (t : Box Table Global) → (d : Data) × (item_trie (roll-Item (Item-F.Inline t)) ≡ leaf d)
+inline_trie t = (tree_data (table_trie t.value), search (rules, the_lemmas))
+
+tables_trie : (before : Vec Table Global) (latest : Box Table Global)
+    → item_trie (Tables before latest)
+    ≡ trie (Some (standing.array (suc (length (map table_trie before.items))))) None
+    (by_numbers 0 (map table_trie before.items ++ table_trie latest.value ∷ []))
+tables_trie before latest = search (rules, the_lemmas)
+
+abbrev NothingOr : Step → Trie → Trie → Type 0
+NothingOr s from t = (below s from ≡ nothing) ⊎ (t ≡ below s from)
+
+-- at a key of a table, and of a value that a row gives, of which the trie tells nothing more
+item_below : (i : Item) (x : Item-F Item Child Table) (t : Table) (k : List ℕ) (u : Trie) → out-Item i ≡ x
+    → is_wrapper x ≡ false → ItemHolds x t → NothingOr (key k) (item_trie i) u
+item_below i (Item-F.Inline table) t k u is own holds =
+    let leaf = inline_trie table in
+    inl (ap (λ i. below (key k) (item_trie i)) (shape i (Item-F.Inline table) is) ∙ ap (below (key k)) leaf.1)
+item_below i (Item-F.Table table) t k u is own holds = cc
+item_below i Item-F.Nothing t k u is own holds = absurd holds
+item_below i (Item-F.Integer z) t k u is own holds = absurd holds
+item_below i (Item-F.Float z) t k u is own holds = absurd holds
+item_below i (Item-F.Boolean z) t k u is own holds = absurd holds
+item_below i (Item-F.String z) t k u is own holds = absurd holds
+item_below i (Item-F.Array z) t k u is own holds = absurd holds
+item_below i (Item-F.Tables z y) t k u is own holds = absurd holds
+
+spot_below : (spot : Spot) (t : Table) (k : List ℕ) (c : Child) → HoldsTable spot t → wraps_table spot ≡ false
+    → value_at (out-Table t).entries k ≡ Some c → NothingOr (key k) (spot_trie spot) (child_trie c)
+spot_below (spots.Table table) t k c holds own found =
+    let same : t ≡ table.now = holds in
+    inr (sym (ap (λ t. below (key k) (table_trie t)) (sym same) ∙ table_below t k c found))
+spot_below (spots.Item item) t k c holds own found =
+    item_below item.now (out-Item item.now) t k (child_trie c) refl own holds
+
+-- one step on from a node
+module _ (from node : Node) (s : Step) (same : node.tree ≡ from.tree)
+    (more : wraps_table from.spot ≡ false → (below s (spot_trie from.spot) ≡ nothing)
+    ⊎ ((spot_trie node.spot ≡ below s (spot_trie from.spot)) × (wraps_table node.spot ≡ false)))
+    (tree : Tree) (p : Path) (stands : StandsAt tree p from) where
+  further : (trie_at (p ++ s ∷ []) (tree_trie tree) ≡ nothing)
+      ⊎ ((spot_trie node.spot ≡ trie_at (p ++ s ∷ []) (tree_trie tree)) × (wraps_table node.spot ≡ false))
+  further = go stands.there
+    where
+      here : Trie
+      here = trie_at p (tree_trie tree)
+
+      step : (below s (spot_trie from.spot) ≡ nothing)
+          ⊎ ((spot_trie node.spot ≡ below s (spot_trie from.spot)) × (wraps_table node.spot ≡ false))
+          → spot_trie from.spot ≡ here → (trie_at (p ++ s ∷ []) (tree_trie tree) ≡ nothing)
+          ⊎ ((spot_trie node.spot ≡ trie_at (p ++ s ∷ []) (tree_trie tree)) × (wraps_table node.spot ≡ false))
+      step (inl none) is = inl (at_more p s (tree_trie tree) ∙ ap (below s) (sym is) ∙ none)
+      step (inr there) is = inr (there.0 ∙ ap (below s) is ∙ sym (at_more p s (tree_trie tree)), there.1)
+
+      go : (here ≡ nothing) ⊎ ((spot_trie from.spot ≡ here) × (wraps_table from.spot ≡ false))
+          → (trie_at (p ++ s ∷ []) (tree_trie tree) ≡ nothing)
+          ⊎ ((spot_trie node.spot ≡ trie_at (p ++ s ∷ []) (tree_trie tree)) × (wraps_table node.spot ≡ false))
+      go (inl none) = inl (at_more p s (tree_trie tree) ∙ ap (below s) none)
+      go (inr there) = step (more there.1) there.0
+
+  stands_on : (node.count == 0) ≡ false → StandsAt tree (p ++ s ∷ []) node
+  stands_on counted = record {
+    within = ap (λ t. t.now) same ∙ stands.within;
+    root = counted ∙ sym (no_root p s);
+    there = further;
+  }
+
+pub key_stands : (from node : Node) (t : Table) (k : List ℕ) (c : Child) → HoldsTable from.spot t
+    → value_at (out-Table t).entries k ≡ Some c → IsBelow from (child_trie c) node → StandsOn from (key k) node
+key_stands from node t k c holds found is tree p stands =
+    stands_on from node (key k) is.tree (λ own. go (spot_below from.spot t k c holds own found)) tree p stands is.count
+  where
+    go : NothingOr (key k) (spot_trie from.spot) (child_trie c) → (below (key k) (spot_trie from.spot) ≡ nothing)
+        ⊎ ((spot_trie node.spot ≡ below (key k) (spot_trie from.spot)) × (wraps_table node.spot ≡ false))
+    go (inl none) = inl none
+    go (inr same) = inr (is.trie ∙ same, is.own)
+
+-- an array is no root
+abbrev pub tells_table : Trie → Bool
+tells_table (trie (Some (standing.table p n d)) v ts) = true
+tells_table _ = false
+
+no_array_root : (from : Node) (tree : Tree) (p : Path) → StandsAt tree p from
+    → tells_table (spot_trie from.spot) ≡ false → is_root p ≡ false
+no_array_root from tree (s ∷ p) stands array = refl
+no_array_root from tree [] stands array = go stands.there
+  where
+    root : tells_table (tree_trie tree) ≡ true
+    root = ap tells_table (table_entries_trie tree.root.value)
+
+    go : (tree_trie tree ≡ nothing) ⊎ ((spot_trie from.spot ≡ tree_trie tree) × (wraps_table from.spot ≡ false))
+        → true ≡ false
+    go (inl none) = sym root ∙ ap tells_table none
+    go (inr there) = sym root ∙ ap tells_table (sym there.0) ∙ array
+
+-- the trie of an item
+array_spot : (from : Node) (b : Bor Item) (i : Item) → from.spot ≡ spots.Item b → b.now ≡ i
+    → spot_trie from.spot ≡ item_trie i
+array_spot from b i at is = ap spot_trie at ∙ ap item_trie is
+
+module _ (from node : Node) (n : ℕ) (b : Bor Item) (at : from.spot ≡ spots.Item b) where
+  pub literal_stands : (children : Vec Child Global) (spot : Spot) → b.now ≡ Array children
+      → IsBeside from spot node → StandsOn from (number n) node
+  literal_stands children spot is beside tree p stands =
+      let d = array_trie children in
+      let here : spot_trie from.spot ≡ leaf d.0 = array_spot from b (Array children) at is ∙ d.1 in
+      stands_on from node (number n) beside.tree (λ own. inl (ap (below (number n)) here)) tree p stands
+      (ap (λ c. c == 0) beside.count ∙ stands.root ∙ no_array_root from tree p stands (ap tells_table here))
+
+  pub tables_stand : (before : Vec Table Global) (latest : Box Table Global) (t : Bor Table)
+      → b.now ≡ Tables before latest
+      → slice_get (map table_trie before.items ++ table_trie latest.value ∷ []) n ≡ Some (table_trie t.now)
+      → IsBeside from (spots.Table t) node → StandsOn from (number n) node
+  tables_stand before latest t is found beside tree p stands =
+      let here = array_spot from b (Tables before latest) at is ∙ tables_trie before latest in
+      let there : spot_trie node.spot ≡ below (number n) (spot_trie from.spot) =
+      ap spot_trie beside.spot
+      ∙ sym (ap (below (number n)) here
+      ∙ find_number 0 n n (map table_trie before.items ++ table_trie latest.value ∷ []) (table_trie t.now) (omega arith)
+      found) in
+      stands_on from node (number n) beside.tree (λ own. inr (there, ap wraps_table beside.spot)) tree p stands
+      (ap (λ c. c == 0) beside.count ∙ stands.root ∙ no_array_root from tree p stands (ap tells_table here))

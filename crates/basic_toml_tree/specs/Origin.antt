@@ -1,0 +1,85 @@
+-- Where a node comes from, as the tree keeps it: what made it, where it begins, and which keys lead to it.
+use Rattle.std.specs.Prelude.{ℕ, Bool, true, false, ◌&&◌, ◌||◌, ◌==◌, nat_lt, if◌then◌else◌, List, [], ◌∷◌, ◌++◌, codes, take}
+use Rattle.std.specs.Prelude.{map, length, slice_get, Option, Some, None, option_map}
+use Rattle.std.specs.Option.{option_or}
+use Rattle.std.specs.Cow.{cow_str_bytes}
+use Rattle.basic_toml_grammar.specs.Sections.{KeyTexts}
+use Rattle.basic_toml_grammar.specs.Nodes as grammar
+use Rattle.basic_toml_read.specs.declared.section.Section as code
+use Rattle.basic_toml_read.specs.SectionView.{section_of}
+use Rattle.basic_toml_tree.specs.declared.item.Item.{Item, out-Item}
+use Rattle.basic_toml_tree.specs.declared.item.Item.TheOpen.{Item-F}
+use Rattle.basic_toml_tree.specs.declared.item.Child.{Child}
+use Rattle.basic_toml_tree.specs.declared.item.Table.{Table, out-Table}
+use Rattle.basic_toml_tree.specs.declared.tree.Tree.{Tree}
+use Rattle.basic_toml_tree.specs.declared.node.Node.{Node}
+use Rattle.basic_toml_tree.specs.declared.node.Spot.{Spot}
+use Rattle.basic_toml_tree.specs.declared.node.Spot.TheVariants as spots
+use Rattle.basic_toml_tree.specs.declared.node.Trail.{Trail}
+use Rattle.basic_toml_tree.specs.declared.node.Trail.TheVariants as trails
+
+abbrev pub table_is_made : Table → Bool
+table_is_made table = (out-Table table).passed || (out-Table table).named
+
+abbrev pub holds_tables : Item-F Item Child Table → Bool
+holds_tables (Item-F.Tables before latest) = true
+holds_tables _ = false
+
+-- whether headers made what stands here; the root, to which no key leads, always
+abbrev pub spot_is_made : ℕ → Spot → Bool
+spot_is_made count (spots.Table table) = (count == 0) || table_is_made table.now
+spot_is_made count (spots.Item found) = holds_tables (out-Item found.now)
+
+abbrev pub is_made : Node → Bool
+is_made node = spot_is_made node.count node.spot
+
+-- the offset of the last section
+abbrev pub last_at : Tree → Option ℕ
+last_at tree = grammar.last_at (map section_of tree.sections.items)
+
+abbrev pub item_name : Item-F Item Child Table → List ℕ
+item_name Item-F.Nothing = codes "dotted table"
+item_name (Item-F.Integer _) = codes "integer"
+item_name (Item-F.Float _) = codes "float"
+item_name (Item-F.Boolean _) = codes "boolean"
+item_name (Item-F.String _) = codes "string"
+item_name (Item-F.Array _) = codes "array"
+item_name (Item-F.Inline _) = codes "inline table"
+item_name (Item-F.Table _) = codes "dotted table"
+item_name (Item-F.Tables _ _) = codes "array"
+
+abbrev pub spot_name : ℕ → Spot → List ℕ
+spot_name count (spots.Table table) = if spot_is_made count (spots.Table table) then codes "table" else codes "dotted table"
+spot_name count (spots.Item found) = item_name (out-Item found.now)
+
+-- what a node is called
+unfoldable pub name_of : Node → List ℕ
+name_of node = spot_name node.count node.spot
+
+-- where it begins
+unfoldable pub start_of : Node → Option ℕ
+start_of node = if is_made node then last_at node.tree.now else Some node.start
+
+-- where the nearest inline or dotted table around it begins, else the last section
+unfoldable pub outer_of : Node → Option ℕ
+outer_of node = if is_made node then last_at node.tree.now else option_or node.outer (last_at node.tree.now)
+
+abbrev pub is_array_literal : Spot → Bool
+is_array_literal (spots.Item found) = elim (out-Item found.now) [ Item-F.Array _ ↦ true | _ ↦ false ]
+is_array_literal _ = false
+
+-- the offset that names it in errors
+unfoldable pub offset_of : Node → Option ℕ
+offset_of node = if is_array_literal node.spot then outer_of node else start_of node
+
+abbrev pub header_of : Option code.Section → KeyTexts
+header_of None = []
+header_of (Some section) = map cow_str_bytes section.header.items
+
+abbrev pub trail_keys : List code.Section → ℕ → Trail → KeyTexts
+trail_keys sections count (trails.Header section) = take count (header_of (slice_get sections section))
+trail_keys sections count (trails.Row section first) = header_of (slice_get sections section) ++ first.now ∷ []
+
+-- the keys that lead to it
+unfoldable pub keys_of : Node → KeyTexts
+keys_of node = trail_keys node.tree.now.sections.items node.count node.trail

@@ -1,0 +1,100 @@
+-- Where a node stands in its tree, by its path, and what is foretold of it by the section list.
+use Rattle.std.specs.Prelude.{◌≡◌, ◌⊎◌, ◌==◌, ℕ, Bool, true, false, List, [], ◌∷◌, ◌++◌}
+use Rattle.std.specs.Borrow.{Bor}
+use Rattle.std.specs.Option.{IfSome}
+use Rattle.basic_toml_grammar.specs.Sections.{Section}
+use Rattle.basic_toml_grammar.specs.Steps.{Step, key, number, Path}
+use Rattle.basic_toml_grammar.specs.IndexedPath.{located}
+use Rattle.basic_toml_grammar.specs.Entering.{all_keyed}
+use Rattle.basic_toml_grammar.specs.Nodes as grammar
+use Rattle.basic_toml_grammar.specs.Trie.{Trie, nothing, below}
+use Rattle.basic_toml_tree.specs.declared.item.Item.{Item, out-Item}
+use Rattle.basic_toml_tree.specs.declared.item.Item.TheOpen.{Item-F}
+use Rattle.basic_toml_tree.specs.declared.item.Child.{Child}
+use Rattle.basic_toml_tree.specs.declared.item.Table.{Table}
+use Rattle.basic_toml_tree.specs.declared.tree.Tree.{Tree}
+use Rattle.basic_toml_tree.specs.declared.node.Node.{Node}
+use Rattle.basic_toml_tree.specs.declared.node.Spot.{Spot}
+use Rattle.basic_toml_tree.specs.declared.node.Spot.TheVariants as spots
+use Rattle.basic_toml_tree.specs.Item.{item_trie, table_trie}
+use Rattle.basic_toml_tree.specs.Resolve.{IsResolved}
+
+-- what is at a path of a trie
+abbrev pub trie_at : Path → Trie → Trie
+trie_at [] t = t
+trie_at (s ∷ p) t = trie_at p (below s t)
+
+abbrev pub tree_trie : Tree → Trie
+tree_trie tree = table_trie tree.root.value
+
+abbrev pub spot_trie : Spot → Trie
+spot_trie (spots.Table table) = table_trie table.now
+spot_trie (spots.Item found) = item_trie found.now
+
+-- an item that holds a table of headers or of dotted keys, which stands for itself
+abbrev pub is_wrapper : Item-F Item Child Table → Bool
+is_wrapper (Item-F.Table table) = true
+is_wrapper _ = false
+
+abbrev pub wraps_table : Spot → Bool
+wraps_table (spots.Table table) = false
+wraps_table (spots.Item found) = is_wrapper (out-Item found.now)
+
+-- the table of a spot, which it is, or which its item holds
+abbrev pub ItemHolds : Item-F Item Child Table → Table → Type 0
+ItemHolds (Item-F.Table table) found = found ≡ table.value
+ItemHolds (Item-F.Inline table) found = found ≡ table.value
+ItemHolds _ found = ⊥
+
+abbrev pub HoldsTable : Spot → Table → Type 0
+HoldsTable (spots.Table table) found = found ≡ table.now
+HoldsTable (spots.Item item) found = ItemHolds (out-Item item.now) found
+
+-- a node in the tree of another one, below it, with this trie
+pub record IsBelow (from : Node) (t : Trie) (node : Node) : Type 0 where
+  pub tree : node.tree ≡ from.tree
+  pub count : (node.count == 0) ≡ false
+  pub trie : spot_trie node.spot ≡ t
+  pub own : wraps_table node.spot ≡ false
+
+-- a node in the tree of another one, with as many keys that lead to it
+pub record IsBeside (from : Node) (here : Spot) (node : Node) : Type 0 where
+  pub tree : node.tree ≡ from.tree
+  pub count : node.count ≡ from.count
+  pub spot : node.spot ≡ here
+
+abbrev pub is_root : Path → Bool
+is_root [] = true
+is_root (s ∷ p) = false
+
+-- A node of a tree stands at a path. Below a value that a row gives nothing more is in the trie.
+pub record StandsAt (tree : Tree) (p : Path) (node : Node) : Type 0 where
+  pub within : node.tree.now ≡ tree
+  pub root : (node.count == 0) ≡ is_root p
+  pub there : (trie_at p (tree_trie tree) ≡ nothing)
+      ⊎ ((spot_trie node.spot ≡ trie_at p (tree_trie tree)) × (wraps_table node.spot ≡ false))
+
+-- where the one stands at a path, the other stands there and one step further
+abbrev pub StandsOn : Node → Step → Node → Type 0
+StandsOn from s node = (tree : Tree) (p : Path) → StandsAt tree p from → StandsAt tree (p ++ s ∷ []) node
+
+abbrev pub AtKey : Node → List ℕ → Node → Type 0
+AtKey from k node = StandsOn from (key k) node
+
+abbrev pub AtNumber : Node → ℕ → Node → Type 0
+AtNumber from n node = StandsOn from (number n) node
+
+-- a node of a table, beside this one
+abbrev pub IsTableBeside : Node → Bor Table → Node → Type 0
+IsTableBeside from table node = IsBeside from (spots.Table table) node
+
+-- the node stands at this path of the tree of a section list, whose rows and array headers have keys
+pub record IsNodeAt (sections : List Section) (p : Path) (node : Node) : Type 0 where
+  pub resolved : IsResolved sections node.tree.now
+  pub keyed : all_keyed sections ≡ true
+  pub stands : StandsAt node.tree.now p node
+
+-- what is said of the node by the section list alone, where headers made it
+abbrev pub Foretold : List Section → Path → Node → (grammar.Node → Type 0) → Type 0
+Foretold sections p node says =
+    IsNodeAt sections p node → grammar.is_made (located sections) p ≡ true → IfSome (grammar.node_at sections p) says

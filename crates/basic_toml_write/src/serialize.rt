@@ -1,0 +1,37 @@
+//! What can be written.
+ghost use Rattle.std.specs.Prelude.{List};
+
+use crate::{Serializer, WriteError};
+use std::alloc::Global;
+
+/// A value that tells itself to a [`Serializer`].
+///
+/// The ghost member `calls` names the items that the value sends. A type that may give up with an error of its own
+/// names in `gives_up` after which of them, and with which error: an error of the serializer goes before it.
+///
+/// ```text
+/// impl Serialize for Server {
+///     ghost calls = { λ s. open_table ∷ (field (codes "port") ∷ a_scalar (integer (pos s.port)) ∷ close ∷ []) };
+///
+///     fn serialize(&self, _alloc: Global, ser: &mut Serializer) -> Result<(), WriteError> {
+///         ser.serialize_struct("Server", 1)?;
+///         ser.serialize_field("port", &self.port)?;
+///         ser.end()
+///     }
+/// }
+/// ```
+pub trait Serialize {
+    ghost use Rattle.basic_toml_write.specs.declared.error.WriteError.{WriteError};
+    ghost use Rattle.basic_toml_emit.specs.Items.{Item};
+    ghost use Rattle.basic_toml_write.specs.Serializer.{Sends, NoFault};
+
+    // The items that a value spells.
+    ghost calls: { Self → List Item };
+
+    // After which of its items, a beginning of what it sends, a value may give up, and with which errors of its own.
+    ghost gives_up: { Self → List Item → WriteError → Type 0 } = { λ _. NoFault };
+
+    /// Makes the calls of the value on `ser`. An error of the type's own is made by [`WriteError::custom`].
+    fn serialize(&self, alloc: Global, ser: &mut Serializer) -> Result<(), WriteError>
+        ensures { Sends (calls self.now) (gives_up self.now) ser.old ser.new result };
+}

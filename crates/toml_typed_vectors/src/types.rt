@@ -1,0 +1,217 @@
+//! Types as a caller writes them: records, records in records, lists, choices, newtypes that refuse, strict records and
+//! records that borrow. None takes a proof file.
+ghost use Rattle.std.specs.Prelude.{◌≡◌, ◌≢◌, ◌∷◌, [], codes, string_bytes};
+ghost use Rattle.basic_toml.specs.FieldKeys.{key_of};
+ghost use Rattle.basic_toml.specs.TypeReads.{HasOnly, IsVariant, array_reads, field_reads, optional_reads};
+
+use basic_toml::{
+    Deserialize, Error, Float, Node, Tree, only_fields, read_elements, read_field, read_optional,
+    variant,
+};
+use std::alloc::Global;
+use std::borrow::CowStr;
+
+/// A record of a text and a list of records.
+#[derive(Drop)]
+pub struct Parent<T> {
+    pub p_a: String,
+    pub p_b: Vec<T>,
+}
+
+impl<'de, T: Deserialize<'de> + Drop> Deserialize<'de> for Parent<T> {
+    ghost reads = { λ d p.
+        field_reads ⟦<String as Deserialize<'static>>⟧.reads (key_of "p_a") d p.p_a
+        × field_reads (array_reads T.reads) (key_of "p_b") d p.p_b };
+
+    fn deserialize(alloc: Global, node: Node<'_, 'de>) -> Result<Parent<T>, Error> {
+        Ok(Parent {
+            p_a: read_field(alloc, node, "p_a")?,
+            p_b: read_field(alloc, node, "p_b")?,
+        })
+    }
+
+    fn from_tree(alloc: Global, tree: Tree<'de>) -> Result<Parent<T>, Error> {
+        Self::deserialize(alloc, tree.root())
+    }
+}
+
+/// A record that passes over what it does not know.
+#[derive(Drop)]
+pub struct Child {
+    pub c_a: String,
+    pub c_b: String,
+}
+
+impl<'de> Deserialize<'de> for Child {
+    ghost reads = { λ d c.
+        field_reads ⟦<String as Deserialize<'static>>⟧.reads (key_of "c_a") d c.c_a
+        × field_reads ⟦<String as Deserialize<'static>>⟧.reads (key_of "c_b") d c.c_b };
+
+    fn deserialize(alloc: Global, node: Node<'_, 'de>) -> Result<Child, Error> {
+        Ok(Child {
+            c_a: read_field(alloc, node, "c_a")?,
+            c_b: read_field(alloc, node, "c_b")?,
+        })
+    }
+
+    fn from_tree(alloc: Global, tree: Tree<'de>) -> Result<Child, Error> {
+        Child::deserialize(alloc, tree.root())
+    }
+}
+
+/// A record that refuses what it does not know.
+#[derive(Drop)]
+pub struct Strict {
+    pub c_a: String,
+    pub c_b: String,
+}
+
+impl<'de> Deserialize<'de> for Strict {
+    ghost reads = { λ d c.
+        HasOnly (key_of "c_a" ∷ key_of "c_b" ∷ []) d
+        × field_reads ⟦<String as Deserialize<'static>>⟧.reads (key_of "c_a") d c.c_a
+        × field_reads ⟦<String as Deserialize<'static>>⟧.reads (key_of "c_b") d c.c_b };
+
+    fn deserialize(alloc: Global, node: Node<'_, 'de>) -> Result<Strict, Error> {
+        only_fields(alloc, node, &["c_a", "c_b"])?;
+        Ok(Strict {
+            c_a: read_field(alloc, node, "c_a")?,
+            c_b: read_field(alloc, node, "c_b")?,
+        })
+    }
+
+    fn from_tree(alloc: Global, tree: Tree<'de>) -> Result<Strict, Error> {
+        Strict::deserialize(alloc, tree.root())
+    }
+}
+
+/// A text that is no star.
+#[derive(Drop)]
+pub struct Lowercase(pub String);
+
+impl<'de> Deserialize<'de> for Lowercase {
+    ghost reads = { λ d w. ⟦<String as Deserialize<'static>>⟧.reads d w.0 × (string_bytes w.0 ≢ codes "*") };
+
+    fn deserialize(alloc: Global, node: Node<'_, 'de>) -> Result<Lowercase, Error> {
+        let text = String::deserialize(alloc, node)?;
+        if text.as_str() == "*" {
+            return Err(Error::invalid_value(alloc, node, "all lowercase"));
+        }
+        Ok(Lowercase(text))
+    }
+
+    fn from_tree(alloc: Global, tree: Tree<'de>) -> Result<Lowercase, Error> {
+        Lowercase::deserialize(alloc, tree.root())
+    }
+}
+
+/// A record with a field that refuses.
+#[derive(Drop)]
+pub struct Lower {
+    pub c_a: String,
+    pub c_b: Lowercase,
+}
+
+impl<'de> Deserialize<'de> for Lower {
+    ghost reads = { λ d c.
+        field_reads ⟦<String as Deserialize<'static>>⟧.reads (key_of "c_a") d c.c_a
+        × field_reads ⟦<Lowercase as Deserialize<'static>>⟧.reads (key_of "c_b") d c.c_b };
+
+    fn deserialize(alloc: Global, node: Node<'_, 'de>) -> Result<Lower, Error> {
+        Ok(Lower {
+            c_a: read_field(alloc, node, "c_a")?,
+            c_b: read_field(alloc, node, "c_b")?,
+        })
+    }
+
+    fn from_tree(alloc: Global, tree: Tree<'de>) -> Result<Lower, Error> {
+        Lower::deserialize(alloc, tree.root())
+    }
+}
+
+/// A text that is not empty.
+#[derive(Drop)]
+pub struct NonEmpty(pub String);
+
+impl<'de> Deserialize<'de> for NonEmpty {
+    ghost reads = { λ d w. ⟦<String as Deserialize<'static>>⟧.reads d w.0 × (string_bytes w.0 ≢ []) };
+
+    fn deserialize(alloc: Global, node: Node<'_, 'de>) -> Result<NonEmpty, Error> {
+        let text = String::deserialize(alloc, node)?;
+        if text.is_empty() {
+            return Err(Error::invalid_length(alloc, node, 0, "a non-empty string"));
+        }
+        Ok(NonEmpty(text))
+    }
+
+    fn from_tree(alloc: Global, tree: Tree<'de>) -> Result<NonEmpty, Error> {
+        NonEmpty::deserialize(alloc, tree.root())
+    }
+}
+
+/// A choice of three.
+#[derive(Debug, Clone, Copy, PartialEq, Eq)]
+pub enum Color {
+    Red,
+    Green,
+    Blue,
+}
+
+impl<'de> Deserialize<'de> for Color {
+    ghost use Rattle.toml_typed_vectors.specs.declared.types.Color.TheVariants.{Red, Green, Blue};
+
+    ghost reads = { λ d c.
+        IsVariant (key_of "red" ∷ key_of "green" ∷ key_of "blue" ∷ []) d (elim c [ Red ↦ 0 | Green ↦ 1 | Blue ↦ 2 ]) };
+
+    fn deserialize(alloc: Global, node: Node<'_, 'de>) -> Result<Color, Error> {
+        match variant(alloc, node, &["red", "green", "blue"])? {
+            0 => Ok(Color::Red),
+            1 => Ok(Color::Green),
+            _ => Ok(Color::Blue),
+        }
+    }
+
+    fn from_tree(alloc: Global, tree: Tree<'de>) -> Result<Color, Error> {
+        Color::deserialize(alloc, tree.root())
+    }
+}
+
+/// A record that borrows its title from the text, where it can.
+#[derive(Drop)]
+pub struct Title<'de> {
+    pub title: CowStr<'de>,
+    pub rate: Option<Float>,
+}
+
+impl<'de> Deserialize<'de> for Title<'de> {
+    ghost reads = { λ d t.
+        field_reads ⟦<CowStr<'static> as Deserialize<'static>>⟧.reads (key_of "title") d t.title
+        × optional_reads ⟦<Float as Deserialize<'static>>⟧.reads (key_of "rate") d t.rate };
+
+    fn deserialize(alloc: Global, node: Node<'_, 'de>) -> Result<Title<'de>, Error> {
+        Ok(Title {
+            title: read_field(alloc, node, "title")?,
+            rate: read_optional(alloc, node, "rate")?,
+        })
+    }
+
+    fn from_tree(alloc: Global, tree: Tree<'de>) -> Result<Title<'de>, Error> {
+        Self::deserialize(alloc, tree.root())
+    }
+}
+
+/// A list in a type of its own.
+#[derive(Drop)]
+pub struct Steps(pub Vec<u8>);
+
+impl<'de> Deserialize<'de> for Steps {
+    ghost reads = { λ d s. array_reads ⟦<u8 as Deserialize<'static>>⟧.reads d s.0 };
+
+    fn deserialize(alloc: Global, node: Node<'_, 'de>) -> Result<Steps, Error> {
+        Ok(Steps(read_elements(alloc, node)?))
+    }
+
+    fn from_tree(alloc: Global, tree: Tree<'de>) -> Result<Steps, Error> {
+        Steps::deserialize(alloc, tree.root())
+    }
+}

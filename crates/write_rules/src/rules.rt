@@ -1,0 +1,64 @@
+//! Rules for a checker, as a caller's own types write them.
+ghost use Rattle.std.specs.Prelude.{◌∷◌, ◌++◌, [], codes, pos, string_bytes};
+ghost use Rattle.basic_toml.specs.Items.{a_scalar, open_table, field, close};
+ghost use Rattle.basic_toml.specs.Written as written;
+ghost use Rattle.basic_toml.specs.ReadBack.{RoundTrips};
+
+use basic_toml::{Error, Serialize, Serializer, Table, WriteError, round_trip, to_string};
+use std::alloc::Global;
+
+/// What a checker looks for, and how long a match may be at most.
+#[derive(Drop)]
+pub struct Rule {
+    pub pattern: String,
+    pub limit: u32,
+}
+
+impl Serialize for Rule {
+    ghost calls = { λ r.
+        open_table
+        ∷ field (codes "pattern") ∷ a_scalar (written.text (string_bytes r.pattern))
+        ∷ field (codes "limit") ∷ a_scalar (written.integer (pos r.limit))
+        ∷ close ∷ [] };
+
+    fn serialize(&self, _alloc: Global, ser: &mut Serializer) -> Result<(), WriteError> {
+        ser.serialize_struct("Rule", 2)?;
+        ser.serialize_field("pattern", &self.pattern)?;
+        ser.serialize_field("limit", &self.limit)?;
+        ser.end()
+    }
+}
+
+/// A file of rules.
+#[derive(Drop)]
+pub struct RuleFile {
+    pub title: String,
+    pub rules: Vec<Rule>,
+}
+
+impl Serialize for RuleFile {
+    ghost calls = { λ f.
+        open_table
+        ∷ field (codes "title") ∷ a_scalar (written.text (string_bytes f.title))
+        ∷ field (codes "rule") ∷ ⟦<Vec<Rule> as Serialize>⟧.calls f.rules
+        ++ (close ∷ []) };
+
+    fn serialize(&self, _alloc: Global, ser: &mut Serializer) -> Result<(), WriteError> {
+        ser.serialize_struct("RuleFile", 2)?;
+        ser.serialize_field("title", &self.title)?;
+        ser.serialize_field("rule", &self.rules)?;
+        ser.end()
+    }
+}
+
+/// The text of a file of rules.
+pub fn text_of(alloc: Global, file: &RuleFile) -> Result<String, Error> {
+    to_string(alloc, file)
+}
+
+/// What a reader of that text finds: exactly what was written.
+pub fn read_again(alloc: Global, file: &RuleFile) -> Result<Table, Error>
+    ensures { RoundTrips (⟦<RuleFile as Serialize>⟧.calls file.now) (⟦<RuleFile as Serialize>⟧.gives_up file.now) result }
+{
+    round_trip(alloc, file)
+}
