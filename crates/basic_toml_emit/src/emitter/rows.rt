@@ -7,8 +7,8 @@ ghost use Rattle.basic_toml_layout.specs.Scalar.{scalar_of};
 ghost use Rattle.basic_toml_emit.specs.Open.{an_array};
 ghost use Rattle.basic_toml_emit.specs.Rules.{is_text, is_in_table, place_of, at_key, at_value, holds_section};
 ghost use Rattle.basic_toml_emit.specs.Frames.{frames_of, kind_of};
-ghost use Rattle.basic_toml_emit.specs.Changes.{outer, holds_key, has_entry};
-ghost use Rattle.basic_toml_emit.specs.Emitter.{Steps, Enters, StartsValue, StartsRow, StartsElements, EndsRow};
+ghost use Rattle.basic_toml_emit.specs.Changes.{outer, holds_key};
+ghost use Rattle.basic_toml_emit.specs.Emitter.{Steps, Enters, EntersPart, StartsValue, StartsRow, StartsElements, EndsRow};
 
 use super::Emitter;
 use crate::error::EmitError;
@@ -76,25 +76,6 @@ fn scalar_at_value(emitter: &mut Emitter, scalar: Scalar<'_>) -> Result<(), Emit
     Ok(())
 }
 
-// Whether an entry stands before the value whose key is set in the innermost table; where none is set, the error of an
-// array or a table that is opened there.
-pub(super) fn is_later_value(emitter: &Emitter) -> Result<bool, EmitError>
-    requires { is_in_table (frames_of emitter.now.frames.items) ≡ true }
-    ensures place { IfOk result (λ _. place_of (frames_of emitter.now.frames.items) emitter.now.is_done ≡ at_value) }
-    ensures later { IfOk result (λ later. later ≡ has_entry (frames_of emitter.now.frames.items)) }
-    ensures array { IfErr result (λ e. Steps open_array emitter.now emitter.now (Err e)) }
-    ensures table { IfErr result (λ e. Steps open_table emitter.now emitter.now (Err e)) }
-{
-    let Some((Frame::Table(table), _)) = innermost(&emitter.frames) else {
-        return Err(EmitError::CallOrder);
-    };
-    match table.stage {
-        Stage::NoKey => Err(EmitError::CallOrder),
-        Stage::KeyPlace => Err(EmitError::KeyNotString),
-        Stage::KeySet => Ok(!table.keys.is_empty()),
-    }
-}
-
 // Counts the key that is set among those of present entries.
 pub(super) fn enter(emitter: &mut Emitter) -> Result<(), EmitError>
     ensures ok { IfOk result (λ _. Enters emitter.old emitter.new) }
@@ -107,6 +88,31 @@ pub(super) fn enter(emitter: &mut Emitter) -> Result<(), EmitError>
     } else {
         Err(EmitError::DuplicateKey)
     }
+}
+
+// Counts the key of an array or a table that is opened, and answers whether an entry stands before it; or the error that
+// is due.
+pub(super) fn enter_part(emitter: &mut Emitter) -> Result<bool, EmitError>
+    requires { is_in_table (frames_of emitter.old.frames.items) ≡ true }
+    ensures ok { IfOk result (λ later. EntersPart later emitter.old emitter.new) }
+    ensures array { IfErr result (λ e. Steps open_array emitter.old emitter.new (Err e)) }
+    ensures table { IfErr result (λ e. Steps open_table emitter.old emitter.new (Err e)) }
+{
+    let Some((Frame::Table(table), _)) = innermost(&emitter.frames) else {
+        return Err(EmitError::CallOrder);
+    };
+    let later = !table.keys.is_empty();
+    match table.stage {
+        Stage::NoKey => return Err(EmitError::CallOrder),
+        Stage::KeyPlace => return Err(EmitError::KeyNotString),
+        Stage::KeySet => {}
+    }
+    let is_full = is_full(&emitter.frames);
+    enter(emitter)?;
+    if is_full {
+        return Err(EmitError::NestedTooDeeply);
+    }
+    Ok(later)
 }
 
 // Writes what stands before the value of the key that was entered last in the innermost frame, a table.
@@ -156,20 +162,7 @@ pub(super) fn open_array_in_table(emitter: &mut Emitter) -> Result<(), EmitError
     requires { is_in_table (frames_of emitter.old.frames.items) ≡ true }
     ensures { Steps open_array emitter.old emitter.new result }
 {
-    let later = is_later_value(emitter)?;
-    open_array_at_value(emitter, later)
-}
-
-fn open_array_at_value(emitter: &mut Emitter, later: bool) -> Result<(), EmitError>
-    requires place { place_of (frames_of emitter.old.frames.items) emitter.old.is_done ≡ at_value }
-    requires later { later ≡ has_entry (frames_of emitter.old.frames.items) }
-    ensures { Steps open_array emitter.old emitter.new result }
-{
-    let is_full = is_full(&emitter.frames);
-    enter(emitter)?;
-    if is_full {
-        return Err(EmitError::NestedTooDeeply);
-    }
+    let later = enter_part(emitter)?;
     put_array(&mut emitter.frames, ElementKind::Unknown, later)?;
     Ok(())
 }

@@ -3,13 +3,13 @@ ghost use Rattle.std.specs.Prelude.{◌≡◌, ◌⊎◌, ◌∷◌, true, IfOk,
 ghost use Rattle.basic_toml_emit.specs.declared.error.EmitError.TheVariants.{OutOfMemory, UnsupportedType};
 ghost use Rattle.basic_toml_emit.specs.Items.{open_table, close};
 ghost use Rattle.basic_toml_emit.specs.Open.{an_array};
-ghost use Rattle.basic_toml_emit.specs.Rules.{is_in_table, is_in_array, place_of, at_value};
+ghost use Rattle.basic_toml_emit.specs.Rules.{is_in_table, is_in_array};
 ghost use Rattle.basic_toml_emit.specs.Frames.{frames_of, kind_of};
-ghost use Rattle.basic_toml_emit.specs.Changes.{outer, has_entry};
+ghost use Rattle.basic_toml_emit.specs.Changes.{outer};
 ghost use Rattle.basic_toml_emit.specs.Emitter.{Steps, StartsSections};
 
 use super::Emitter;
-use super::rows::{enter, is_later_value};
+use super::rows::enter_part;
 use crate::error::EmitError;
 use crate::frames::{
     ElementKind, Frame, Header, Stage, hold_section, innermost, is_full, is_nothing_open, leave,
@@ -21,20 +21,7 @@ pub(super) fn open_table_in_table(emitter: &mut Emitter) -> Result<(), EmitError
     requires { is_in_table (frames_of emitter.old.frames.items) ≡ true }
     ensures { Steps open_table emitter.old emitter.new result }
 {
-    let later = is_later_value(emitter)?;
-    open_table_at_value(emitter, later)
-}
-
-fn open_table_at_value(emitter: &mut Emitter, later: bool) -> Result<(), EmitError>
-    requires place { place_of (frames_of emitter.old.frames.items) emitter.old.is_done ≡ at_value }
-    requires later { later ≡ has_entry (frames_of emitter.old.frames.items) }
-    ensures { Steps open_table emitter.old emitter.new result }
-{
-    let is_full = is_full(&emitter.frames);
-    enter(emitter)?;
-    if is_full {
-        return Err(EmitError::NestedTooDeeply);
-    }
+    let later = enter_part(emitter)?;
     hold_section(&mut emitter.frames);
     let table = new_table(emitter.alloc, &mut emitter.spare, Header::Due { later })?;
     put(&mut emitter.frames, table)?;
