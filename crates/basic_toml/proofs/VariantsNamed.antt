@@ -5,9 +5,9 @@ use Rattle.std.specs.List.{position, position_or_len}
 use Rattle.std.specs.Str.{bytes_eq}
 use Rattle.std.proofs.lemmas.List.Quantifiers.{position-Some}
 use Rattle.basic_toml_value.specs.Keys.{is_among}
-use Rattle.basic_toml_value.specs.Data.{Data}
+use Rattle.basic_toml_value.specs.Data.{Data, string_in}
 use Rattle.basic_toml_tree.specs.declared.node.Node.{Node}
-use Rattle.basic_toml_tree.specs.Nodes.{node_data, is_table, string_in, entries_in}
+use Rattle.basic_toml_tree.specs.Nodes.{node_data, is_table, entries_in}
 use Rattle.basic_toml_tree.specs.Origin.{is_made, name_of}
 use Rattle.basic_toml.specs.Fault.{Fault, custom, wanted, want_of_memory}
 use Rattle.basic_toml.specs.FieldKeys.{position_among}

@@ -2,9 +2,9 @@
 use Rattle.std.specs.Prelude.{◌≡◌, ℕ, List, [], ◌∷◌, Option, Some, None, true, false, codes, if◌then◌else◌, IsTrue, MatchOption}
 use Rattle.std.specs.Prelude.{Result, Ok, Err}
 use Rattle.basic_toml_value.specs.Keys.{is_among}
-use Rattle.basic_toml_value.specs.Data.{Data}
+use Rattle.basic_toml_value.specs.Data.{Data, string_in}
 use Rattle.basic_toml_tree.specs.declared.node.Node.{Node}
-use Rattle.basic_toml_tree.specs.Nodes.{node_data, is_table, data_at, entries_in, string_in}
+use Rattle.basic_toml_tree.specs.Nodes.{node_data, is_table, data_at, entries_in}
 use Rattle.basic_toml_tree.specs.Origin.{is_made, name_of}
 use Rattle.basic_toml.specs.FieldKeys.{text_number, child_at}
 use Rattle.basic_toml.specs.Fault.{Fault, custom, wanted, want_of_memory}

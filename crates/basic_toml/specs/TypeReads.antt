@@ -7,9 +7,10 @@ use Rattle.std.specs.Cow.{cow_str_bytes}
 use Rattle.std.specs.declared.alloc.Global.{Global}
 use Rattle.std.specs.declared.borrow.CowStr.{CowStr}
 use Rattle.basic_toml_value.specs.Data.{Data, integer, float, boolean, string, array, table}
+use Rattle.basic_toml_value.specs.Data.{boolean_in, float_in, string_in}
 use Rattle.basic_toml_value.specs.View.{view, entries}
 use Rattle.basic_toml_value.specs.declared.value.Value.{Value}
-use Rattle.basic_toml_tree.specs.Nodes.{is_table, boolean_in, float_in, string_in, listed, paired, data_among}
+use Rattle.basic_toml_tree.specs.Nodes.{is_table, listed, paired, data_among}
 use Rattle.basic_toml.specs.FieldKeys.{child_at, position_among, are_listed}
 
 -- u8 to u64: an integer from 0 on and below 2^bits

@@ -1,6 +1,7 @@
 //! The types that are read as they stand: numbers, truth values, strings, and whatever stands there.
 ghost use Rattle.std.specs.Prelude.{◌≡◌, MatchResult, Some, None};
-ghost use Rattle.basic_toml_tree.specs.Nodes.{node_data, integer_in};
+ghost use Rattle.basic_toml_value.specs.Data.{integer_in};
+ghost use Rattle.basic_toml_tree.specs.Nodes.{node_data};
 ghost use Rattle.basic_toml.specs.NodeFaults.{IsFault, fault_at, type_message};
 ghost use Rattle.basic_toml.specs.Fault.{custom};
 ghost use Rattle.basic_toml.specs.TypeReads.{signed_reads, signed_takes, unsigned_reads, unsigned_takes, bool_reads, bool_takes};

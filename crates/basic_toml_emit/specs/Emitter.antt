@@ -1,12 +1,12 @@
 -- What an emitter is at, and what it does with one item.
-use Rattle.std.specs.Prelude.{◌≡◌, Bool, false, ◌∷◌, ◌++◌, Result, Ok, Err, MatchResult, String, string_bytes}
+use Rattle.std.specs.Prelude.{◌≡◌, Bool, false, ◌∷◌, ◌++◌, Result, Ok, Err, MatchResult, String, length, nat_le, string_bytes}
 use Rattle.std.specs.declared.alloc.Global.{Global}
 use Rattle.basic_toml_emit.specs.Items.{Item}
 use Rattle.basic_toml_value.specs.Nesting.{nesting_limit}
 use Rattle.basic_toml_emit.specs.Open.{State, state, an_array, tables, others}
-use Rattle.basic_toml_emit.specs.Rules.{call_order, holds_section, is_in_array, key_of}
+use Rattle.basic_toml_emit.specs.Rules.{call_order, holds_section, is_in_array, key_of, place_of, at_value}
 use Rattle.basic_toml_emit.specs.Calls.{after, finished, path, array_start, array_end, with_row, with_sections}
-use Rattle.basic_toml_emit.specs.Changes.{outer, with_entry, holds_key, value_start}
+use Rattle.basic_toml_emit.specs.Changes.{outer, with_entry, holds_key, has_entry, value_start}
 use Rattle.basic_toml_emit.specs.Error.{Meets}
 use Rattle.basic_toml_emit.specs.Frames.{frames_of}
 use Rattle.basic_toml_emit.specs.declared.error.EmitError.{EmitError}
@@ -26,6 +26,13 @@ pub record Enters (old new : Emitter) : Type 0 where
   pub text_is : string_bytes new.text ≡ string_bytes old.text
   pub frames_are : frames_of new.frames.items ≡ with_entry (frames_of old.frames.items)
   pub done_is : new.is_done ≡ old.is_done
+
+-- the key of an array or a table is counted so, where there is room for one more, after another entry or as the first
+pub record EntersPart (later : Bool) (old new : Emitter) : Type 0 where
+  pub is_at_value : place_of (frames_of old.frames.items) old.is_done ≡ at_value
+  pub later_is : later ≡ has_entry (frames_of old.frames.items)
+  pub room : nat_le nesting_limit (length (frames_of old.frames.items)) ≡ false
+  pub enters : Enters old new
 
 -- what stands before the value of an entry is written
 pub record StartsValue (old new : Emitter) : Type 0 where

@@ -78,15 +78,15 @@ impl Emitter {
     {
         match call {
             Call::Scalar(scalar) => self.scalar(scalar),
-            Call::Absent => self.absent(),
+            Call::Absent => prefixes::absent(self),
             Call::OpenArray => self.open_array(),
             Call::OpenTable => self.open_table(),
             Call::Close => self.close(),
-            Call::Key => self.key(),
-            Call::Field(name) => self.field(name),
-            Call::SomePrefix => self.some_prefix(),
-            Call::ValuePrefix => self.value_prefix(),
-            Call::ElementPrefix => self.element_prefix(),
+            Call::Key => prefixes::key(self),
+            Call::Field(name) => prefixes::field(self, name),
+            Call::SomePrefix => prefixes::some_prefix(self),
+            Call::ValuePrefix => prefixes::value_prefix(self),
+            Call::ElementPrefix => prefixes::element_prefix(self),
         }
     }
 
@@ -134,10 +134,10 @@ impl Emitter {
     {
         match innermost(&self.frames) {
             None => Err(self.outside(EmitError::UnsupportedType)),
-            Some((Frame::Table(_), _)) => self.scalar_in_table(scalar),
+            Some((Frame::Table(_), _)) => rows::scalar_in_table(self, scalar),
             Some((Frame::Array { kind, later }, _)) => {
                 let (kind, later) = (*kind, *later);
-                self.scalar_in_array(kind, later, scalar)
+                rows::scalar_in_array(self, kind, later, scalar)
             }
         }
     }
@@ -154,10 +154,10 @@ impl Emitter {
                 put(&mut self.frames, table)?;
                 Ok(())
             }
-            Some((Frame::Table(_), _)) => self.open_table_in_table(),
+            Some((Frame::Table(_), _)) => sections::open_table_in_table(self),
             Some((Frame::Array { kind, later }, _)) => {
                 let (kind, later) = (*kind, *later);
-                self.open_table_in_array(kind, later)
+                sections::open_table_in_array(self, kind, later)
             }
         }
     }
@@ -167,10 +167,10 @@ impl Emitter {
     {
         match innermost(&self.frames) {
             None => Err(self.outside(EmitError::UnsupportedType)),
-            Some((Frame::Table(_), _)) => self.open_array_in_table(),
+            Some((Frame::Table(_), _)) => rows::open_array_in_table(self),
             Some((Frame::Array { kind, later }, _)) => {
                 let (kind, later) = (*kind, *later);
-                self.open_array_in_array(kind, later)
+                rows::open_array_in_array(self, kind, later)
             }
         }
     }
@@ -181,10 +181,10 @@ impl Emitter {
     {
         match innermost(&self.frames) {
             None => Err(EmitError::CallOrder),
-            Some((Frame::Table(_), _)) => self.close_table(),
+            Some((Frame::Table(_), _)) => sections::close_table(self),
             Some((Frame::Array { kind, later }, _)) => {
                 let (kind, later) = (*kind, *later);
-                self.close_array(kind, later)
+                rows::close_array(self, kind, later)
             }
         }
     }

@@ -1,5 +1,5 @@
 -- The data of a node.
-use Rattle.std.specs.Prelude.{ℕ, ℤ, Bool, true, false, List, [], ◌∷◌, Option, Some, None, cond, drop}
+use Rattle.std.specs.Prelude.{ℕ, Bool, true, false, List, [], ◌∷◌, Option, Some, None, cond, drop}
 use Rattle.std.specs.Borrow.{Bor}
 use Rattle.std.specs.Str.{bytes_eq}
 use Rattle.basic_toml_value.specs.Data.{Data, Items, no_items, item, Members, no_members, member}
@@ -17,23 +17,6 @@ spot_data (spots.Item found) = data_of found.now
 
 abbrev pub node_data : Node → Data
 node_data node = spot_data node.spot
-
--- what the data is, where it is of a kind
-abbrev pub integer_in : Data → Option ℤ
-integer_in (Data.integer z) = Some z
-integer_in _ = None
-
-abbrev pub boolean_in : Data → Option Bool
-boolean_in (Data.boolean b) = Some b
-boolean_in _ = None
-
-abbrev pub float_in : Data → Option (List ℕ)
-float_in (Data.float text) = Some text
-float_in _ = None
-
-abbrev pub string_in : Data → Option (List ℕ)
-string_in (Data.string text) = Some text
-string_in _ = None
 
 -- whether it is a table, and the data at a key of it
 abbrev pub is_table : Data → Bool

@@ -5,12 +5,12 @@ ghost use Rattle.std.specs.Prelude.{MatchOption, length, map, slice_get, string_
 ghost use Rattle.basic_toml_explain.specs.Error.{want_of_memory};
 ghost use Rattle.std.specs.Option.{option_copied};
 ghost use Rattle.std.specs.Cow.{cow_str_bytes};
-ghost use Rattle.basic_toml_value.specs.Data.{table as table_of_members};
+ghost use Rattle.basic_toml_value.specs.Data.{table as table_of_members, integer_in, boolean_in, float_in, string_in};
 ghost use Rattle.basic_toml_value.specs.Keys.{are_distinct};
 ghost use Rattle.basic_toml_value.specs.Pairs.{keys_of as table_keys};
 ghost use Rattle.basic_toml_value.specs.View.{view, entries};
 ghost use Rattle.basic_toml_tree.specs.Data.{table_data, child_data};
-ghost use Rattle.basic_toml_tree.specs.Nodes.{node_data, integer_in, boolean_in, float_in, string_in, is_table, is_array, maybe_table, data_at};
+ghost use Rattle.basic_toml_tree.specs.Nodes.{node_data, is_table, is_array, maybe_table, data_at};
 ghost use Rattle.basic_toml_tree.specs.Nodes.{elements_in, entries_in, elements_left, entries_left};
 ghost use Rattle.basic_toml_grammar.specs.Sections.{Section};
 ghost use Rattle.basic_toml_grammar.specs.Steps.{Path};

@@ -45,6 +45,8 @@ impl<V> Texts for Vec<Pair<V>> {
 }
 
 /// Keys with their values, in order, each key once.
+///
+/// `for (key, value) in &pairs` goes over them in that order, as `iter` does.
 #[derive(Drop)]
 pub struct Pairs<V> {
     entries: Vec<Pair<V>>,
@@ -216,10 +218,24 @@ fn put<V>(
 impl<V: fmt::Debug> fmt::Debug for Pairs<V> {
     fn fmt<W: fmt::Write>(&self, f: &mut fmt::Formatter<W>) -> fmt::Result {
         let mut out = f.debug_map();
-        for (key, value) in self.iter() {
+        for (key, value) in self {
             out.entry(&key, value);
         }
         out.finish()
+    }
+}
+
+impl<'t, V> IntoIterator for &'t Pairs<V> {
+    ghost use Rattle.basic_toml_value.specs.Iter.{rest};
+
+    type Item = (&'t str, &'t V);
+
+    type IntoIter = Iter<'t, V>;
+
+    ghost into_iter_gives = { λ pairs it. (rest it ≡ pairs.now) × IsTrue (are_distinct (keys_of pairs.now)) };
+
+    fn into_iter(self) -> Iter<'t, V> {
+        self.iter()
     }
 }
 

@@ -1,7 +1,9 @@
 //! Values, and tables of them.
-ghost use Rattle.std.specs.Prelude.{◌≡◌, ◌&&◌, IfOk, length, map, string_bytes};
+ghost use Rattle.std.specs.Prelude.{◌≡◌, ◌&&◌, IfOk, length, map, option_map, string_bytes};
+ghost use Rattle.std.specs.Option.{option_copied};
 ghost use Rattle.std.specs.Ordering.{on};
 ghost use Rattle.std.specs.Str.{bytes_eq};
+ghost use Rattle.basic_toml_value.specs.Data.{integer_in, float_in, boolean_in, string_in, array_in, table_in};
 ghost use Rattle.basic_toml_value.specs.Entries.{seen, texts_of};
 ghost use Rattle.basic_toml_value.specs.Equal.{data_eq, items_eq, members_eq};
 ghost use Rattle.basic_toml_value.specs.View.{view, entries, items_view};
@@ -13,7 +15,15 @@ use std::alloc::{AllocError, Global};
 /// A table: keys with their values, in order, each key once.
 pub type Table = Pairs<Value>;
 
-/// A TOML value.
+/// A TOML value: a value of a row, or what a header leads to (TOML v0.5.0, without "Offset Date-Time" to "Local Time").
+///
+/// Where one kind is wanted and each other stands for nothing, `as_integer` and its like answer it:
+///
+/// ```text
+/// fn port_of(settings: &Table) -> Option<i64> {
+///     settings.get("port")?.as_integer()
+/// }
+/// ```
 #[derive(Debug, Drop)]
 pub enum Value {
     /// A whole number.
@@ -46,6 +56,66 @@ impl Value {
                 Ok(Value::Array(copies))
             }
             Value::Table(table) => Ok(Value::Table(table.clone()?)),
+        }
+    }
+
+    /// The number, if it is an integer.
+    pub fn as_integer(&self) -> Option<i64>
+        ensures { result ≡ integer_in (view self.now) }
+    {
+        match self {
+            Value::Integer(number) => Some(*number),
+            _ => None,
+        }
+    }
+
+    /// The float, if it is one; `Float::as_str` is its text.
+    pub fn as_float(&self) -> Option<&Float>
+        ensures { option_copied result ≡ float_in (view self.now) }
+    {
+        match self {
+            Value::Float(float) => Some(float),
+            _ => None,
+        }
+    }
+
+    /// The truth value, if it is one.
+    pub fn as_bool(&self) -> Option<bool>
+        ensures { result ≡ boolean_in (view self.now) }
+    {
+        match self {
+            Value::Boolean(truth) => Some(*truth),
+            _ => None,
+        }
+    }
+
+    /// The text, if it is a string.
+    pub fn as_str(&self) -> Option<&str>
+        ensures { option_copied result ≡ string_in (view self.now) }
+    {
+        match self {
+            Value::String(text) => Some(text.as_str()),
+            _ => None,
+        }
+    }
+
+    /// The elements in order, if it is an array.
+    pub fn as_array(&self) -> Option<&[Value]>
+        ensures { option_map (λ values. items_view values.now) result ≡ array_in (view self.now) }
+    {
+        match self {
+            Value::Array(values) => Some(values.as_slice()),
+            _ => None,
+        }
+    }
+
+    /// The table, if it is one.
+    pub fn as_table(&self) -> Option<&Table>
+        ensures { option_map (λ table. entries table.now) result ≡ table_in (view self.now) }
+    {
+        match self {
+            Value::Table(table) => Some(table),
+            _ => None,
         }
     }
 }

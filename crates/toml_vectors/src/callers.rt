@@ -1,8 +1,12 @@
-//! Callers of a tokenizer, proved by its contracts alone.
-ghost use Rattle.std.specs.Prelude.{◌≡◌, [], drop};
+//! Callers of a tokenizer and of a table, proved by their contracts alone.
+ghost use Rattle.std.specs.Prelude.{◌≡◌, [], codes, drop, option_and_then};
 ghost use Rattle.basic_toml_tokens.specs.Reading.{text_of};
+ghost use Rattle.basic_toml_value.specs.Data.{integer_in};
+ghost use Rattle.basic_toml_value.specs.Pairs.{value_at};
+ghost use Rattle.basic_toml_value.specs.View.{view};
 
 use basic_toml_tokens::{Error, Span, Token, Tokenizer};
+use basic_toml_value::Table;
 use std::alloc::Global;
 
 /// The text from where the tokenizer stands.
@@ -24,4 +28,11 @@ pub fn next_at_the_end<'a>(
     ensures { result ≡ Ok None }
 {
     tokens.next(alloc)
+}
+
+/// The integer at `port`, if one stands there.
+pub fn port_of(settings: &Table) -> Option<i64>
+    ensures { result ≡ option_and_then (λ value. integer_in (view value)) (value_at settings.now (codes "port")) }
+{
+    settings.get("port")?.as_integer()
 }

@@ -1,4 +1,4 @@
-//! Worked texts of tokens and numbers, and worked tables of values, as tests; and callers of a tokenizer.
+//! Worked texts of tokens and numbers, and worked tables of values, as tests; and callers of a tokenizer and a table.
 #![tactic(auto)]
 
 pub mod callers;

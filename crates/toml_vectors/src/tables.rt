@@ -13,7 +13,7 @@ fn keeps_pairs_in_order(rt: HostRuntime) -> Result<(), Fail> {
     }
     assert_eq!(rt; table.len(), 2000);
     let mut next: u32 = 0;
-    for (key, value) in table.iter() {
+    for (key, value) in &table {
         assert!(rt; *value == Value::Integer(next as i64));
         assert!(rt;
             table
@@ -114,5 +114,39 @@ fn makes_tables_of_parts(rt: HostRuntime) -> Result<(), Fail> {
     let key = String::from_str(rt.alloc(), "b")?;
     assert!(rt; table.push(key, Value::Boolean(true)).is_ok());
     assert_eq!(rt; table.len(), 2);
+    Ok(())
+}
+
+#[test]
+fn answers_the_kind_that_is_asked(rt: HostRuntime) -> Result<(), Fail> {
+    let text = Value::String(String::from_str(rt.alloc(), "a")?);
+    assert_eq!(rt; text.as_str(), Some("a"));
+    assert!(rt; text.as_array().is_none());
+    assert!(rt; text.as_table().is_none());
+    assert_eq!(rt; Value::Integer(7).as_integer(), Some(7));
+    assert_eq!(rt; Value::Integer(7).as_str(), None);
+    assert_eq!(rt; Value::Boolean(false).as_bool(), Some(false));
+    assert_eq!(rt; Value::Boolean(false).as_integer(), None);
+    if let Some(float) = Float::parse(rt.alloc(), "1.5")? {
+        let value = Value::Float(float);
+        assert_eq!(rt; value.as_float().map(|float| float.as_str()), Some("1.5"));
+        assert!(rt; value.as_str().is_none());
+    }
+    let mut elements = Vec::new(rt.alloc());
+    elements.push(text)?;
+    let array = Value::Array(elements);
+    assert_eq!(rt; array.as_array().map(|elements| elements.len()), Some(1));
+    let mut table = Table::new(rt.alloc());
+    assert!(rt;
+        table
+            .push_new(String::from_str(rt.alloc(), "x")?, array)
+            .is_ok()
+    );
+    let value = Value::Table(table);
+    assert!(rt;
+        value
+            .as_table()
+            .is_some_and(|table| table.get("x").is_some())
+    );
     Ok(())
 }

@@ -1,110 +1,107 @@
 //! Keys, absent options, and the prefixes before a part.
 ghost use Rattle.basic_toml_emit.specs.Items.{an_absent, key, field, some_prefix, value_prefix, element_prefix};
+ghost use Rattle.basic_toml_emit.specs.Emitter.{Steps};
 
 use super::Emitter;
 use crate::error::EmitError;
 use crate::frames::{Frame, Stage, innermost, set_key, set_stage};
 
-impl Emitter {
-    ghost use Rattle.basic_toml_emit.specs.Emitter.{Steps};
-
-    // Enters the key place.
-    pub(super) fn key(&mut self) -> Result<(), EmitError>
-        ensures { Steps key self.old self.new result }
-    {
-        match innermost(&self.frames) {
-            None => Err(EmitError::CallOrder),
-            Some((Frame::Table(table), _)) => match table.stage {
-                Stage::NoKey => {
-                    set_stage(&mut self.frames, Stage::KeyPlace);
-                    Ok(())
-                }
-                Stage::KeyPlace => Err(EmitError::CallOrder),
-                Stage::KeySet => Err(EmitError::CallOrder),
-            },
-            Some((Frame::Array { .. }, _)) => Err(EmitError::CallOrder),
-        }
-    }
-
-    // Sets a key.
-    pub(super) fn field(&mut self, name: &str) -> Result<(), EmitError>
-        ensures { Steps (field name.now) self.old self.new result }
-    {
-        match innermost(&self.frames) {
-            None => Err(EmitError::CallOrder),
-            Some((Frame::Table(table), _)) => match table.stage {
-                Stage::NoKey => {
-                    set_key(&mut self.frames, name)?;
-                    Ok(())
-                }
-                Stage::KeyPlace => Err(EmitError::CallOrder),
-                Stage::KeySet => Err(EmitError::CallOrder),
-            },
-            Some((Frame::Array { .. }, _)) => Err(EmitError::CallOrder),
-        }
-    }
-
-    // An absent option: an entry that is left out.
-    pub(super) fn absent(&mut self) -> Result<(), EmitError>
-        ensures { Steps an_absent self.old self.new result }
-    {
-        match innermost(&self.frames) {
-            None => Err(self.outside(EmitError::UnsupportedNone)),
-            Some((Frame::Table(table), _)) => match table.stage {
-                Stage::NoKey => Err(EmitError::CallOrder),
-                Stage::KeyPlace => Err(EmitError::KeyNotString),
-                Stage::KeySet => {
-                    set_stage(&mut self.frames, Stage::NoKey);
-                    Ok(())
-                }
-            },
-            Some((Frame::Array { .. }, _)) => Err(EmitError::UnsupportedNone),
-        }
-    }
-
-    // The prefix of an option that is there.
-    pub(super) fn some_prefix(&mut self) -> Result<(), EmitError>
-        ensures { Steps some_prefix self.old self.new result }
-    {
-        match innermost(&self.frames) {
-            None => {
-                if self.is_done {
-                    return Err(EmitError::CallOrder);
-                }
+// Enters the key place.
+pub(super) fn key(emitter: &mut Emitter) -> Result<(), EmitError>
+    ensures { Steps key emitter.old emitter.new result }
+{
+    match innermost(&emitter.frames) {
+        None => Err(EmitError::CallOrder),
+        Some((Frame::Table(table), _)) => match table.stage {
+            Stage::NoKey => {
+                set_stage(&mut emitter.frames, Stage::KeyPlace);
                 Ok(())
             }
-            Some((Frame::Table(table), _)) => match table.stage {
-                Stage::NoKey => Err(EmitError::CallOrder),
-                Stage::KeyPlace => Err(EmitError::KeyNotString),
-                Stage::KeySet => Ok(()),
-            },
-            Some((Frame::Array { .. }, _)) => Ok(()),
-        }
+            Stage::KeyPlace => Err(EmitError::CallOrder),
+            Stage::KeySet => Err(EmitError::CallOrder),
+        },
+        Some((Frame::Array { .. }, _)) => Err(EmitError::CallOrder),
     }
+}
 
-    // The prefix of a value that follows a key.
-    pub(super) fn value_prefix(&mut self) -> Result<(), EmitError>
-        ensures { Steps value_prefix self.old self.new result }
-    {
-        match innermost(&self.frames) {
-            None => Err(EmitError::CallOrder),
-            Some((Frame::Table(table), _)) => match table.stage {
-                Stage::NoKey => Err(EmitError::CallOrder),
-                Stage::KeyPlace => Err(EmitError::CallOrder),
-                Stage::KeySet => Ok(()),
-            },
-            Some((Frame::Array { .. }, _)) => Err(EmitError::CallOrder),
-        }
+// Sets a key.
+pub(super) fn field(emitter: &mut Emitter, name: &str) -> Result<(), EmitError>
+    ensures { Steps (field name.now) emitter.old emitter.new result }
+{
+    match innermost(&emitter.frames) {
+        None => Err(EmitError::CallOrder),
+        Some((Frame::Table(table), _)) => match table.stage {
+            Stage::NoKey => {
+                set_key(&mut emitter.frames, name)?;
+                Ok(())
+            }
+            Stage::KeyPlace => Err(EmitError::CallOrder),
+            Stage::KeySet => Err(EmitError::CallOrder),
+        },
+        Some((Frame::Array { .. }, _)) => Err(EmitError::CallOrder),
     }
+}
 
-    // The prefix of an element.
-    pub(super) fn element_prefix(&mut self) -> Result<(), EmitError>
-        ensures { Steps element_prefix self.old self.new result }
-    {
-        match innermost(&self.frames) {
-            None => Err(EmitError::CallOrder),
-            Some((Frame::Table(_), _)) => Err(EmitError::CallOrder),
-            Some((Frame::Array { .. }, _)) => Ok(()),
+// An absent option: an entry that is left out.
+pub(super) fn absent(emitter: &mut Emitter) -> Result<(), EmitError>
+    ensures { Steps an_absent emitter.old emitter.new result }
+{
+    match innermost(&emitter.frames) {
+        None => Err(emitter.outside(EmitError::UnsupportedNone)),
+        Some((Frame::Table(table), _)) => match table.stage {
+            Stage::NoKey => Err(EmitError::CallOrder),
+            Stage::KeyPlace => Err(EmitError::KeyNotString),
+            Stage::KeySet => {
+                set_stage(&mut emitter.frames, Stage::NoKey);
+                Ok(())
+            }
+        },
+        Some((Frame::Array { .. }, _)) => Err(EmitError::UnsupportedNone),
+    }
+}
+
+// The prefix of an option that is there.
+pub(super) fn some_prefix(emitter: &mut Emitter) -> Result<(), EmitError>
+    ensures { Steps some_prefix emitter.old emitter.new result }
+{
+    match innermost(&emitter.frames) {
+        None => {
+            if emitter.is_done {
+                return Err(EmitError::CallOrder);
+            }
+            Ok(())
         }
+        Some((Frame::Table(table), _)) => match table.stage {
+            Stage::NoKey => Err(EmitError::CallOrder),
+            Stage::KeyPlace => Err(EmitError::KeyNotString),
+            Stage::KeySet => Ok(()),
+        },
+        Some((Frame::Array { .. }, _)) => Ok(()),
+    }
+}
+
+// The prefix of a value that follows a key.
+pub(super) fn value_prefix(emitter: &mut Emitter) -> Result<(), EmitError>
+    ensures { Steps value_prefix emitter.old emitter.new result }
+{
+    match innermost(&emitter.frames) {
+        None => Err(EmitError::CallOrder),
+        Some((Frame::Table(table), _)) => match table.stage {
+            Stage::NoKey => Err(EmitError::CallOrder),
+            Stage::KeyPlace => Err(EmitError::CallOrder),
+            Stage::KeySet => Ok(()),
+        },
+        Some((Frame::Array { .. }, _)) => Err(EmitError::CallOrder),
+    }
+}
+
+// The prefix of an element.
+pub(super) fn element_prefix(emitter: &mut Emitter) -> Result<(), EmitError>
+    ensures { Steps element_prefix emitter.old emitter.new result }
+{
+    match innermost(&emitter.frames) {
+        None => Err(EmitError::CallOrder),
+        Some((Frame::Table(_), _)) => Err(EmitError::CallOrder),
+        Some((Frame::Array { .. }, _)) => Ok(()),
     }
 }

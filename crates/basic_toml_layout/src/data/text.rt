@@ -9,7 +9,7 @@ ghost use Rattle.basic_toml_value.specs.View.{view, entries, items_view};
 ghost use Rattle.basic_toml_layout.specs.Layout.{written, written_elements, row_start, table_header, element_header, is_header_due, entry_text, array_text, entries_text};
 ghost use Rattle.basic_toml_layout.specs.Texts.{joined};
 ghost use Rattle.basic_toml_layout.specs.Trees.{written_of, elements_of, entries_of};
-ghost use Rattle.basic_toml_layout.specs.DataText.{section_text, element_text, elements_text, part_text, Extends};
+ghost use Rattle.basic_toml_layout.specs.DataText.{section_text, element_text, elements_text, part_text, Extends, GoesOn};
 
 use super::sections::{begins_with_table, is_section};
 use crate::scalar::Scalar;
@@ -77,8 +77,7 @@ fn is_header_due(pairs: &[Pair<Value>]) -> bool
 
 // A header between brackets.
 fn write_header(text: &mut String, path: &str, is_later: bool) -> Result<(), AllocError>
-    ensures { (keys : List (List ℕ)) → joined keys ≡ path.now
-        → IfOk result (λ _. string_bytes text.new ≡ string_bytes text.old ++ table_header is_later keys) }
+    ensures { GoesOn path.now (string_bytes text.old) (string_bytes text.new) (table_header is_later) result }
 {
     if is_later {
         text.push('\n')?;
@@ -89,8 +88,7 @@ fn write_header(text: &mut String, path: &str, is_later: bool) -> Result<(), All
 }
 
 fn write_element_header(text: &mut String, path: &str, is_later: bool) -> Result<(), AllocError>
-    ensures { (keys : List (List ℕ)) → joined keys ≡ path.now
-        → IfOk result (λ _. string_bytes text.new ≡ string_bytes text.old ++ element_header is_later keys) }
+    ensures { GoesOn path.now (string_bytes text.old) (string_bytes text.new) (element_header is_later) result }
 {
     if is_later {
         text.push('\n')?;
@@ -119,9 +117,8 @@ pub fn write_entries(
     path: &mut String,
     pairs: &[Pair<Value>],
 ) -> Result<(), AllocError>
-    ensures text { (keys : List (List ℕ)) → joined keys ≡ string_bytes path.old
-        → IfOk result (λ _. string_bytes text.new ≡ string_bytes text.old
-        ++ entries_text keys false (entries_of (entries (seen pairs.now)))) }
+    ensures text { GoesOn (string_bytes path.old) (string_bytes text.old) (string_bytes text.new)
+        (λ keys. entries_text keys false (entries_of (entries (seen pairs.now)))) result }
     ensures path { IfOk result (λ _. string_bytes path.new ≡ string_bytes path.old) }
 {
     let mut is_later = false;
@@ -139,9 +136,8 @@ fn write_entry(
     is_later: bool,
     pair: &Pair<Value>,
 ) -> Result<(), AllocError>
-    ensures text { (keys : List (List ℕ)) → joined keys ≡ string_bytes path.old
-        → IfOk result (λ _. string_bytes text.new ≡ string_bytes text.old
-        ++ entry_text keys (string_bytes pair.now.key) is_later (written_of (view pair.now.value))) }
+    ensures text { GoesOn (string_bytes path.old) (string_bytes text.old) (string_bytes text.new)
+        (λ keys. entry_text keys (string_bytes pair.now.key) is_later (written_of (view pair.now.value))) result }
     ensures path { IfOk result (λ _. string_bytes path.new ≡ string_bytes path.old) }
 {
     if !is_section(&pair.value) {
@@ -162,9 +158,8 @@ fn write_part(
     is_later: bool,
     value: &Value,
 ) -> Result<(), AllocError>
-    ensures text { (keys : List (List ℕ)) → joined keys ≡ string_bytes path.old
-        → IfOk result (λ _. string_bytes text.new ≡ string_bytes text.old
-        ++ part_text keys is_later (written_of (view value.now))) }
+    ensures text { GoesOn (string_bytes path.old) (string_bytes text.old) (string_bytes text.new)
+        (λ keys. part_text keys is_later (written_of (view value.now))) result }
     ensures path { IfOk result (λ _. string_bytes path.new ≡ string_bytes path.old) }
 {
     match value {
@@ -181,9 +176,8 @@ fn write_section(
     is_later: bool,
     table: &Table,
 ) -> Result<(), AllocError>
-    ensures text { (keys : List (List ℕ)) → joined keys ≡ string_bytes path.old
-        → IfOk result (λ _. string_bytes text.new ≡ string_bytes text.old
-        ++ section_text keys is_later (entries_of (entries table.now))) }
+    ensures text { GoesOn (string_bytes path.old) (string_bytes text.old) (string_bytes text.new)
+        (λ keys. section_text keys is_later (entries_of (entries table.now))) result }
     ensures path { IfOk result (λ _. string_bytes path.new ≡ string_bytes path.old) }
 {
     let pairs = table.entries();
@@ -201,9 +195,8 @@ fn write_sections(
     is_later: bool,
     values: &[Value],
 ) -> Result<(), AllocError>
-    ensures text { (keys : List (List ℕ)) → joined keys ≡ string_bytes path.old
-        → IfOk result (λ _. string_bytes text.new ≡ string_bytes text.old
-        ++ elements_text keys is_later (elements_of (items_view values.now))) }
+    ensures text { GoesOn (string_bytes path.old) (string_bytes text.old) (string_bytes text.new)
+        (λ keys. elements_text keys is_later (elements_of (items_view values.now))) result }
     ensures path { IfOk result (λ _. string_bytes path.new ≡ string_bytes path.old) }
 {
     let mut is_after = is_later;
@@ -221,9 +214,8 @@ fn write_element(
     is_later: bool,
     value: &Value,
 ) -> Result<(), AllocError>
-    ensures text { (keys : List (List ℕ)) → joined keys ≡ string_bytes path.old
-        → IfOk result (λ _. string_bytes text.new ≡ string_bytes text.old
-        ++ element_text keys is_later (written_of (view value.now))) }
+    ensures text { GoesOn (string_bytes path.old) (string_bytes text.old) (string_bytes text.new)
+        (λ keys. element_text keys is_later (written_of (view value.now))) result }
     ensures path { IfOk result (λ _. string_bytes path.new ≡ string_bytes path.old) }
 {
     match value {

@@ -1,5 +1,6 @@
 use Rattle.std.proofs.Common.{◌≡◌, Some, sym, ap, ◌∙◌}
-use Rattle.basic_toml_tree.specs.Nodes.{node_data, string_in}
+use Rattle.basic_toml_value.specs.Data.{string_in}
+use Rattle.basic_toml_tree.specs.Nodes.{node_data}
 use Rattle.basic_toml.proofs.NamesListed.{numbers_of}
 use Rattle.basic_toml.proofs.VariantsNamed.{variant_found, variant_unnamed, variant_is_had, variant_unknown}
 use Rattle.basic_toml.proofs.fields.variant.Goals as goal

@@ -7,13 +7,13 @@ use Rattle.basic_toml_emit.specs.Rules.{is_too_deep}
 use Rattle.basic_toml_emit.specs.Frames.{frames_of}
 use Rattle.basic_toml_emit.specs.Changes.{value_start}
 use Rattle.basic_toml_emit.proofs.Taking.{row_taken, fits_with_room, fits_alone}
-use Rattle.basic_toml_emit.proofs.emitter.Emitter.scalar_at_value.Goals as goal
-use Rattle.basic_toml_emit.proofs.emitter.Emitter.scalar_at_value.Goals.{else-is_bytes-via-then-is_bytes+else-is_full}
-use Rattle.basic_toml_emit.proofs.emitter.Emitter.scalar_at_value.Goals.{else-is_bytes-via-else-is_bytes}
+use Rattle.basic_toml_emit.proofs.emitter.rows.scalar_at_value.Goals as goal
+use Rattle.basic_toml_emit.proofs.emitter.rows.scalar_at_value.Goals.{else-is_bytes-via-then-is_bytes+else-is_full}
+use Rattle.basic_toml_emit.proofs.emitter.rows.scalar_at_value.Goals.{else-is_bytes-via-else-is_bytes}
 
 pub returns : goal.returns
 returns c =
-    let old = c.args.self.now in
+    let old = c.args.emitter.now in
     let entered = c.in_ok-enter.ensures.ok in
     let started = c.in_ok-start_value.ensures.ok in
     let fits : is_too_deep nesting_limit (frames_of old.frames.items) (a_scalar (scalar_of c.args.scalar)) ≡ false =
@@ -29,6 +29,6 @@ returns c =
     row_taken (string_bytes old.text) _ _ _ (frames_of old.frames.items) _ _ old.is_done _ (scalar_of c.args.scalar)
     (started.done_is ∙ entered.done_is) c.requires (sym c.is_refused.ensures ∙ c.if-is_refused.false) fits
     entered.is_new entered.frames_are started.in_time
-    (started.text_is ∙ ap (λ t. t ++ value_start (frames_of c.enter.new.self.frames.items)) entered.text_is)
+    (started.text_is ∙ ap (λ t. t ++ value_start (frames_of c.enter.new.emitter.frames.items)) entered.text_is)
     started.frames_are c.in_ok-write.ensures (c.in_ok-push.ensures.bytes ∙
     ap (λ end. string_bytes c.write.new.text ++ end) (c.in_ok-push.ensures.ascii (omega arith)))
