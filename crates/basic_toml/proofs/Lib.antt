@@ -1,16 +1,6 @@
 pub mod ReadingEnds
-pub mod WorkedErrorTexts
 pub mod TextOf
 pub mod TextIsReadBack
-pub mod KeysJoined
 pub mod TextHasOneDocument
 pub mod RefusedTextsHaveNoDocument
-pub mod EscapedQuotes
 pub mod RespelledTextIsRead
-pub mod ArraysRead
-pub mod MapsRead
-pub mod TextNumbers
-pub mod FieldsFound
-pub mod FieldFaultsNamed
-pub mod NamesListed
-pub mod VariantsNamed

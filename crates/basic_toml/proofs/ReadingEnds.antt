@@ -21,8 +21,8 @@ use Rattle.basic_toml_tree.specs.declared.tree.Tree.{Tree}
 use Rattle.basic_toml_tree.specs.Data.{table_data, child_data}
 use Rattle.basic_toml_tree.specs.Resolve as resolve
 use Rattle.basic_toml_tree.specs.Resolve.{Resolves, IsResolved, IsUnresolved}
-use Rattle.basic_toml.specs.Fault.{Fault, want_of_memory}
-use Rattle.basic_toml.specs.ReadFaults.{fault_in, lined}
+use Rattle.basic_toml_error.specs.Fault.{Fault, want_of_memory}
+use Rattle.basic_toml_error.specs.ReadFaults.{fault_in, lined}
 use Rattle.basic_toml.specs.Reading.{IsTextFault, outside, deep, deep_tree, clash, OnlyMemory, IsLined, ReadsText}
 use Rattle.basic_toml.proofs.RefusedTextsHaveNoDocument.{refused_has_no_document}
 use Rattle.basic_toml.specs.Reading.{value_read, no_memory, no_document, not_taken, GivesTree, AnswersTree}

@@ -12,12 +12,12 @@ use Rattle.basic_toml_write.specs.declared.error.WriteError.{WriteError}
 use Rattle.basic_toml_write.specs.Kept.{kept}
 use Rattle.basic_toml_write.specs.Spelling.{Spells}
 use Rattle.basic_toml_layout.specs.Trees.{tree_of}
-use Rattle.basic_toml.specs.Fault.{Fault, want_of_memory}
+use Rattle.basic_toml_error.specs.Fault.{Fault, want_of_memory}
 use Rattle.basic_toml.specs.Reading.{ReadsText, value_read, no_memory, no_document, not_taken}
-use Rattle.basic_toml.specs.ReadFaults.{lined}
+use Rattle.basic_toml_error.specs.ReadFaults.{lined}
 use Rattle.basic_toml.specs.ReadBack.{RoundTrips}
 use Rattle.basic_toml.specs.Ser.{Writes, MeansKept, IsTextOf}
-use Rattle.basic_toml.specs.TypeReads.{table_reads, table_takes}
+use Rattle.basic_toml_typed.specs.TypeReads.{table_reads, table_takes}
 use Rattle.basic_toml.proofs.TextHasOneDocument.{one_document}
 
 -- the table that is read is the tree of the document

@@ -11,7 +11,7 @@ use Rattle.basic_toml_write.specs.Kept.{kept}
 use Rattle.basic_toml_write.specs.Shapes.{is_unsupported}
 use Rattle.basic_toml_write.specs.Spelling.{Spells}
 use Rattle.basic_toml_layout.specs.Trees.{tree_of}
-use Rattle.basic_toml.specs.Fault.{Fault, want_of_memory}
+use Rattle.basic_toml_error.specs.Fault.{Fault, want_of_memory}
 use Rattle.basic_toml.specs.Ser.{IsFirstFault, IsOwnFault}
 
 -- the calls spell a value in which no unsupported shape occurs, and the table is what is kept of it

@@ -1,7 +1,5 @@
--- How reading a text as a type ends. (own)
--- A type's `reads` says which of its values are read from which data, and its `takes` from which data it reads a value,
--- memory aside.
-use Rattle.std.specs.Prelude.{◌≡◌, ◌⊎◌, ◌<◌, ℕ, List, Result, Ok, Err, IfOk, IfErr, Contains}
+-- How reading a text as a type ends, by what the type answers to data (`TypeAnswers`). (own)
+use Rattle.std.specs.Prelude.{◌≡◌, ◌⊎◌, ◌<◌, ℕ, List, Result, Ok, Err, Contains}
 use Rattle.basic_toml_tokens.specs.Text.{folded}
 use Rattle.basic_toml_value.specs.Data.{Data, table, Members}
 use Rattle.basic_toml_value.specs.Nesting.{nesting_limit}
@@ -17,8 +15,9 @@ use Rattle.basic_toml_grammar.specs.GrammarFaults.{fault_at, AllowsGrammarFault}
 use Rattle.basic_toml_explain.specs.Error as explain
 use Rattle.basic_toml_tree.specs.declared.tree.Tree.{Tree}
 use Rattle.basic_toml_tree.specs.Data.{table_data}
-use Rattle.basic_toml.specs.Fault.{Fault, want_of_memory}
-use Rattle.basic_toml.specs.ReadFaults.{fault_in, lined}
+use Rattle.basic_toml_error.specs.Fault.{Fault, want_of_memory}
+use Rattle.basic_toml_error.specs.ReadFaults.{fault_in, lined}
+pub use Rattle.basic_toml_typed.specs.TypeAnswers.{OnlyMemory, ReadsData}
 
 -- each section list of the text passes the limit, and the first key or bracket above it stands at the offset
 pub record IsNestedTooDeeply (text : List ℕ) (offset : ℕ) : Type 0 where
@@ -37,13 +36,7 @@ pub data IsTextFault (text : List ℕ) : read.Fault → Type 0 where
   clash : {sections : List Section} {error : read.Fault} → IsSectionList (folded text) sections
       → NamesClash sections error → IsTextFault text error
 
--- the fault of a type that reads nothing: want of memory wherever the type takes the data, and wherever there is a
--- value to read
-pub record OnlyMemory {T : Type 0} (Takes : Type 0) (IsRead : T → Type 0) (fault : Fault) : Type 0 where
-  pub taken : Takes → fault ≡ want_of_memory
-  pub held : (value : T) → IsRead value → fault ≡ want_of_memory
-
--- such a fault, with the line and the column of its offset in the text
+-- a fault of a type that reads nothing, with the line and the column of its offset in the text
 abbrev pub IsLined : {T : Type 0} → Type 0 → (T → Type 0) → List ℕ → Fault → Type 0
 IsLined Takes IsRead text fault = (own : Fault) × OnlyMemory Takes IsRead own × (fault ≡ lined text own)
 
@@ -59,10 +52,6 @@ pub data ReadsText {T : Type 0} (takes : Data → Type 0) (reads : Data → T �
       → IsTextFault text error → ReadsText takes reads text (Err (fault_in text error))
   not_taken : {members : Members} {fault : Fault} → IsDocument (folded text) (table members)
       → IsLined (takes (table members)) (reads (table members)) text fault → ReadsText takes reads text (Err fault)
-
--- what a type answers to data: a value that it reads from it; or an error, want of memory wherever it takes the data
-abbrev pub ReadsData : {T : Type 0} → (Data → Type 0) → (Data → T → Type 0) → Data → Result T Fault → Type 0
-ReadsData takes reads d result = IfOk result (reads d) × IfErr result (OnlyMemory (takes d) (reads d))
 
 -- on the way: the tree of the document, or why there is none
 abbrev pub GivesTree : List ℕ → Result Tree read.Fault → Type 0

@@ -19,9 +19,9 @@ use Rattle.basic_toml_write.specs.Shapes.{is_unsupported}
 use Rattle.basic_toml_emit.specs.Rules as rules
 use Rattle.basic_toml_emit.specs.Calls.{outcome}
 use Rattle.basic_toml_write.specs.declared.error.WriteError.{WriteError}
-use Rattle.basic_toml.specs.Fault as fault
-use Rattle.basic_toml.specs.Fault.{Fault, FaultKind, without_offset, want_of_memory}
-use Rattle.basic_toml.specs.WriteFaults.{write_kind}
+use Rattle.basic_toml_error.specs.Fault as fault
+use Rattle.basic_toml_error.specs.Fault.{Fault, FaultKind, without_offset, want_of_memory}
+use Rattle.basic_toml_error.specs.WriteFaults.{write_kind}
 
 abbrev pub fault_kind : rules.CallFault → FaultKind
 fault_kind rules.unsupported_type = fault.unsupported_type

@@ -6,55 +6,13 @@ ghost use Rattle.basic_toml_grammar.specs.Document.{IsDocument};
 ghost use Rattle.basic_toml_grammar.specs.OldRules.{has_no_delete, WasDocument};
 ghost use Rattle.basic_toml_grammar.specs.Respelled.{with_returns, has_return, with_byte_order_mark, has_byte_order_mark};
 ghost use Rattle.basic_toml_tree.specs.Data.{table_data};
-ghost use Rattle.basic_toml_tree.specs.Nodes.{node_data};
-ghost use Rattle.basic_toml.specs.Fault.{not_text};
-ghost use Rattle.basic_toml.specs.Reading.{OnlyMemory, IsLined, ReadsText, ReadsData, GivesTree, AnswersTree};
-ghost use Rattle.basic_toml.specs.TypeReads.{table_reads, table_takes};
+ghost use Rattle.basic_toml_error.specs.Fault.{not_text};
+ghost use Rattle.basic_toml.specs.Reading.{IsLined, ReadsText, ReadsData, GivesTree, AnswersTree};
 
-use crate::Error;
+use crate::{Deserialize, Error};
 use basic_toml_read::{ReadError, sections};
-use basic_toml_tree::{Node, Tree, resolve};
-use basic_toml_value::Table;
+use basic_toml_tree::{Tree, resolve};
 use std::alloc::Global;
-
-/// A type that can be read from a text.
-pub trait Deserialize<'de>: Sized {
-    // Which values are read from which data.
-    ghost reads: { Data → Self → Type 0 };
-
-    // From which data a value is read, memory aside. A type that leaves it out reads a value wherever there is one by
-    // `reads`.
-    ghost takes: { Data → Type 0 } = { λ _. ⊥ };
-
-    /// Reads a value from a node; an error, other than want of memory, only where the type reads nothing from it.
-    fn deserialize(alloc: Global, node: Node<'_, 'de>) -> Result<Self, Error>
-        ensures ok { IfOk result (λ value. reads (node_data node.entry) value) }
-        ensures err { IfErr result (OnlyMemory (takes (node_data node.entry)) (reads (node_data node.entry))) };
-
-    /// Reads a value from the whole of a tree, which it may use up. A type that has no use for the tree reads itself
-    /// from its root: `Self::deserialize(alloc, tree.root())`.
-    fn from_tree(alloc: Global, tree: Tree<'de>) -> Result<Self, Error>
-        ensures ok { IfOk result (λ value. reads (table_data tree.entry.root.value) value) }
-        ensures err { IfErr result (OnlyMemory (takes (table_data tree.entry.root.value))
-            (reads (table_data tree.entry.root.value))) };
-}
-
-impl<'de> Deserialize<'de> for Table {
-    ghost reads = { table_reads };
-
-    ghost takes = { table_takes };
-
-    fn deserialize(alloc: Global, node: Node<'_, 'de>) -> Result<Table, Error> {
-        match node.to_table(alloc)? {
-            Some(table) => Ok(table),
-            None => Err(Error::invalid_type(alloc, node, "a map")),
-        }
-    }
-
-    fn from_tree(alloc: Global, tree: Tree<'de>) -> Result<Table, Error> {
-        Ok(tree.into_table(alloc)?)
-    }
-}
 
 /// Reads a value from a text (TOML v0.5.0, without dates and times).
 ///

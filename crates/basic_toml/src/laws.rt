@@ -5,7 +5,8 @@ ghost use Rattle.basic_toml_value.specs.Data.{Data};
 ghost use Rattle.basic_toml_grammar.specs.Document.{IsDocument};
 ghost use Rattle.basic_toml_grammar.specs.Faults as read;
 ghost use Rattle.basic_toml.specs.Reading.{IsTextFault};
-ghost use Rattle.basic_toml.specs.FieldKeys.{text_number};
+
+pub use basic_toml_typed::laws::text_numbers_differ;
 
 /// A text has at most one document.
 pub fn texts_have_one_document()
@@ -18,9 +19,4 @@ pub fn texts_have_one_document()
 pub fn refused_texts_have_no_document()
     ensures { (text : List ℕ) (error : read.Fault) (tree : Data) → IsTextFault text error
         → IsDocument (folded text) tree → ⊥ }
-{}
-
-/// No two texts have one number, by which types name their fields.
-pub fn text_numbers_differ()
-    ensures { (text other : List ℕ) → text_number text ≡ text_number other → text ≡ other }
 {}

@@ -3,18 +3,10 @@
 //! [`from_str`] reads every text of TOML v0.5.0 without dates and times; [`to_string`] writes every value.
 #![tactic(auto)]
 
-mod collections;
 mod de;
-mod error;
-mod fields;
-mod key_path;
-mod kind;
 pub mod laws;
-mod line_column;
-mod message;
 mod read_back;
 mod ser;
-mod targets;
 #[cfg(test)]
 mod tests;
 
@@ -23,13 +15,13 @@ pub mod tokens {
     pub use basic_toml_tokens::{Error, Span, Token, Tokenizer};
 }
 
+pub use basic_toml_error::{Error, line_col};
 pub use basic_toml_tree::{Elements, Entries, Node, Tree};
+pub use basic_toml_typed::{
+    Deserialize, only_fields, read_elements, read_field, read_optional, variant,
+};
 pub use basic_toml_value::{Float, PushRefusal, Table, Value, float_of, integer_of};
 pub use basic_toml_write::{Serialize, Serializer, WriteError};
-pub use collections::read_elements;
-pub use de::{Deserialize, from_slice, from_str};
-pub use error::Error;
-pub use fields::{only_fields, read_field, read_optional, variant};
-pub use line_column::line_col;
+pub use de::{from_slice, from_str};
 pub use read_back::round_trip;
 pub use ser::to_string;

@@ -14,7 +14,7 @@ struct Held {
 }
 
 impl<'de> Deserialize<'de> for Held {
-    ghost use Rattle.basic_toml.specs.TypeReads.{table_reads, table_takes};
+    ghost use Rattle.basic_toml_typed.specs.TypeReads.{table_reads, table_takes};
 
     ghost reads = { λ d held. table_reads d held.table };
 

@@ -1,6 +1,6 @@
 use Rattle.std.proofs.Common.{subst}
 use Rattle.basic_toml.specs.Reading.{ReadsText}
-use Rattle.basic_toml.specs.TypeReads.{table_reads, table_takes}
+use Rattle.basic_toml_typed.specs.TypeReads.{table_reads, table_takes}
 use Rattle.basic_toml.proofs.TextIsReadBack.{read_back}
 use Rattle.basic_toml.proofs.read_back.round_trip.Goals as goal
 

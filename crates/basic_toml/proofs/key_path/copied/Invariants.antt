@@ -1,6 +1,0 @@
-use Rattle.std.proofs.Common.{◌≡◌, map, take, string_bytes}
-use Rattle.basic_toml.proofs.key_path.copied.Given as goal
-
--- the keys passed are copied, in order
-abbrev pub invariant-loop-key : goal.invariant-loop-key
-invariant-loop-key l = map string_bytes l.copy.items ≡ map string_bytes (take l.key-index l.keys)

@@ -1,0 +1,3 @@
+pub mod WorkedErrorTexts
+pub mod KeysJoined
+pub mod EscapedQuotes

@@ -1,0 +1,50 @@
+-- The texts of faults, on rows.
+use Rattle.std.proofs.Common.{◌≡◌, [], ◌∷◌, codes, refl, Some}
+use Rattle.std.specs.Fmt.{digits}
+use Rattle.basic_toml_error.specs.Fault.{unexpected, duplicate_table, duplicate_key, wanted, not_text}
+use Rattle.basic_toml_error.specs.FaultText.{escaped, fault_text}
+
+tab : escaped 9 ≡ 92 ∷ 116 ∷ []
+tab = refl
+
+quote : escaped 39 ≡ 92 ∷ 39 ∷ []
+quote = refl
+
+backslash : escaped 92 ≡ 92 ∷ 92 ∷ []
+backslash = refl
+
+-- U+007F and é are shown by their numbers
+delete : escaped 127 ≡ codes "\\u{7f}"
+unfolding digits
+delete = refl
+
+e_acute : fault_text (record { kind = unexpected 0xE9; key_path = []; offset = Some 0; line_column = Some (0, 0) })
+    ≡ codes "unexpected character found: `\\u{e9}` at line 1 column 1"
+unfolding digits
+e_acute = refl
+
+carriage_return : fault_text (record { kind = unexpected 13; key_path = []; offset = Some 5; line_column = Some (0, 5) })
+    ≡ codes "unexpected character found: `\\r` at line 1 column 6"
+unfolding digits
+carriage_return = refl
+
+key_and_offset : fault_text
+    (record { kind = duplicate_key (codes "b"); key_path = codes "a" ∷ []; offset = Some 18; line_column = Some (1, 11) })
+    ≡ codes "duplicate key: `b` for key `a` at line 2 column 12"
+unfolding digits
+key_and_offset = refl
+
+long_key_path : fault_text
+    (record { kind = duplicate_table (codes "a.b"); key_path = codes "a" ∷ codes "b" ∷ []; offset = Some 8; line_column = Some (1, 0) })
+    ≡ codes "redefinition of table `a.b` for key `a.b` at line 2 column 1"
+unfolding digits
+long_key_path = refl
+
+what_was_found : fault_text
+    (record { kind = wanted (codes "an equals") (codes "eof"); key_path = []; offset = Some 2; line_column = Some (0, 2) })
+    ≡ codes "expected an equals, found eof at line 1 column 3"
+unfolding digits
+what_was_found = refl
+
+no_offset : fault_text not_text ≡ codes "input is not valid UTF-8"
+no_offset = refl

@@ -1,0 +1,9 @@
+pub mod LineColumn
+pub mod Fault
+pub mod FaultText
+pub mod Error
+pub mod KindView
+pub mod KeyPath
+pub mod WriteFaults
+pub mod ReadFaults
+pub mod NodeFaults

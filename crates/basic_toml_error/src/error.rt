@@ -1,0 +1,265 @@
+//! What can go wrong.
+ghost use Rattle.std.specs.Prelude.{◌≡◌, ◌≤◌, Some, IsTrue, ◌↔◌, ◌⊎◌, IfOk, IfErr, [], codes, map, length, string_bytes};
+ghost use Rattle.basic_toml_error.specs.KindView.{kind_of};
+
+use crate::key_path::{KeyPath, copied};
+use crate::kind::ErrorKind;
+use crate::line_column::line_column_of;
+use crate::message::{
+    length_message, missing_message, type_message, unknown_field_message, unknown_variant_message,
+    value_message, wanted,
+};
+use basic_toml_explain::ReadError;
+use basic_toml_tree::Node;
+use basic_toml_write::WriteError;
+use std::alloc::{AllocError, Global};
+use std::fmt;
+use std::marker::Model;
+
+/// Why a text was not read, or a value not written.
+///
+/// It is an error of reading, bytes that are not UTF-8, an error of the writer, a message of a type's own, or want of
+/// memory. Its text says what is wrong, then the keys that lead there, if there are any, and where it has an offset at
+/// which line and column, counted from 1.
+#[derive(Debug, Drop)]
+pub struct Error {
+    kind: ErrorKind,
+    // `None` where there are no keys
+    key_path: Option<Vec<String>>,
+    // the byte offset where it stands, in the text from which line and column come
+    offset: Option<usize>,
+    line_column: Option<(usize, usize)>,
+}
+
+impl Model for Error {
+    ghost use Rattle.basic_toml_error.specs.Fault.{Fault};
+
+    ghost Value = { Fault };
+
+    ghost use Rattle.basic_toml_error.specs.Error.{fault_of, HasSmallNumbers};
+
+    ghost view = { fault_of };
+
+    ghost invariant = { HasSmallNumbers };
+}
+
+impl std::error::Error for Error {}
+
+impl fmt::Display for Error {
+    ghost use Rattle.basic_toml_error.specs.FaultText.{fault_text};
+
+    ghost output = { λ e. Some (fault_text e) };
+
+    fn fmt<W: fmt::Write>(&self, f: &mut fmt::Formatter<W>) -> fmt::Result {
+        let kind = &self.kind;
+        write!(f, "{kind}")?;
+        if let Some(keys) = &self.key_path {
+            write!(f, "{}", KeyPath(keys.as_slice()))?;
+        }
+        if let Some((line, column)) = self.line_column {
+            write!(f, " at line {} column {}", line + 1, column + 1)?;
+        }
+        Ok(())
+    }
+}
+
+impl Error {
+    ghost use Rattle.basic_toml_tree.specs.Nodes.{node_data};
+    ghost use Rattle.basic_toml_tree.specs.Origin.{name_of};
+    ghost use Rattle.basic_toml_error.specs.Fault.{custom, wanted, not_text, out_of_memory, without_offset, want_of_memory};
+    ghost use Rattle.basic_toml_error.specs.ReadFaults.{fault_in, lined};
+    ghost use Rattle.basic_toml_error.specs.NodeFaults.{IsFault, fault_within, fault_at, fault_around, fault_at_start};
+    ghost use Rattle.basic_toml_error.specs.NodeFaults.{type_message, value_message, length_message, missing_message};
+    ghost use Rattle.basic_toml_error.specs.NodeFaults.{unknown_field_message, unknown_variant_message};
+
+    /// The line and the column where the error stands, both from 0, if it has an offset; a column counts bytes.
+    pub fn line_col(&self) -> Option<(usize, usize)>
+        ensures { result ≡ self.now.line_column }
+    {
+        self.line_column
+    }
+
+    /// Whether a growth was refused memory.
+    pub fn is_out_of_memory(&self) -> bool
+        ensures { IsTrue result ↔ (self.now.kind ≡ out_of_memory) }
+    {
+        matches!(self.kind, ErrorKind::OutOfMemory)
+    }
+
+    /// An error of reading this text, with the line and the column of its offset; want of memory where its words cannot
+    /// be copied.
+    pub fn in_text(alloc: Global, text: &str, error: &ReadError) -> Error
+        ensures { (result ≡ want_of_memory) ⊎ (result ≡ fault_in text.now error.now) }
+    {
+        match Error::copied(alloc, text, error) {
+            Ok(error) => error,
+            Err(e) => Error::from(e),
+        }
+    }
+
+    fn copied(alloc: Global, text: &str, error: &ReadError) -> Result<Error, AllocError>
+        ensures { IfOk result (λ copy. copy ≡ fault_in text.now error.now) }
+    {
+        let kind = ErrorKind::of_reading(alloc, error.kind())?;
+        let key_path = copied(alloc, error.key_path())?;
+        Ok(Error {
+            kind,
+            key_path: Some(key_path),
+            offset: error.place(),
+            line_column: line_column_of(text, error.place()),
+        })
+    }
+
+    /// The same error with the line and the column of its offset in this text, if it has none yet.
+    pub fn with_line(self, text: &str) -> Error
+        ensures { result ≡ lined text.now self }
+    {
+        let mut error = self;
+        if error.line_column.is_none() {
+            error.line_column = line_column_of(text, error.offset);
+        }
+        error
+    }
+
+    /// `invalid type: .., expected ..`: what a node holds is not of the type that was expected.
+    pub fn invalid_type(alloc: Global, node: Node<'_, '_>, expected: &str) -> Error
+        ensures { IsFault result (fault_at node.entry (custom (type_message (node_data node.entry) expected.now))) }
+    {
+        Error::told(alloc, node, type_message(alloc, node, expected))
+    }
+
+    /// `invalid value: .., expected ..`: what a node holds is of the type, and not a value of it.
+    pub fn invalid_value(alloc: Global, node: Node<'_, '_>, expected: &str) -> Error
+        ensures { IsFault result (fault_at node.entry (custom (value_message (node_data node.entry) expected.now))) }
+    {
+        Error::told(alloc, node, value_message(alloc, node, expected))
+    }
+
+    /// `invalid length .., expected ..`: what a node holds has another length than was expected.
+    pub fn invalid_length(alloc: Global, node: Node<'_, '_>, length: usize, expected: &str) -> Error
+        ensures { IsFault result (fault_at node.entry (custom (length_message length expected.now))) }
+    {
+        Error::told(alloc, node, length_message(alloc, length, expected))
+    }
+
+    /// ``missing field `..` ``: a table lacks a key.
+    pub fn missing_field(alloc: Global, node: Node<'_, '_>, field: &str) -> Error
+        ensures { IsFault result (fault_at node.entry (custom (missing_message field.now))) }
+    {
+        Error::told(alloc, node, missing_message(alloc, field))
+    }
+
+    /// ``unknown field `..`, expected ..``: a table has a key that is not among the fields.
+    pub fn unknown_field(alloc: Global, node: Node<'_, '_>, field: &str, fields: &[&str]) -> Error
+        ensures { IsFault result
+            (fault_at node.entry (custom (unknown_field_message field.now (map (λ f. f.now) fields.now)))) }
+    {
+        Error::told(alloc, node, unknown_field_message(alloc, field, fields))
+    }
+
+    /// An error with a message of one's own.
+    pub fn custom(alloc: Global, node: Node<'_, '_>, message: &str) -> Error
+        ensures { IsFault result (fault_at node.entry (custom message.now)) }
+    {
+        Error::told(alloc, node, String::from_str(alloc, message))
+    }
+
+    /// ``unknown variant `..`, expected ..``: a string is none of the variants. It stands at the table around the node.
+    #[tactic(auto, unfolding(crate::specs::NodeFaults::fault_around))]
+    pub fn unknown_variant(
+        alloc: Global,
+        node: Node<'_, '_>,
+        name: &str,
+        variants: &[&str],
+    ) -> Error
+        ensures { IsFault result
+            (fault_around node.entry (custom (unknown_variant_message name.now (map (λ v. v.now) variants.now)))) }
+    {
+        match unknown_variant_message(alloc, name, variants) {
+            Ok(message) => Error::placed(
+                alloc,
+                node,
+                node.outer_place(),
+                ErrorKind::Custom(message),
+            ),
+            Err(e) => Error::from(e),
+        }
+    }
+
+    /// `expected string, found ..`: a literal is no string. It stands where the node begins.
+    #[tactic(auto, unfolding(crate::specs::NodeFaults::fault_at_start))]
+    pub fn wanted_string(alloc: Global, node: Node<'_, '_>) -> Error
+        ensures { IsFault result (fault_at_start node.entry (wanted (codes "string") (name_of node.entry))) }
+    {
+        match wanted(alloc, "string", node.type_name()) {
+            Ok(kind) => Error::placed(alloc, node, node.start(), kind),
+            Err(e) => Error::from(e),
+        }
+    }
+
+    // A message at a node; want of memory where there is none.
+    #[tactic(auto, unfolding(crate::specs::NodeFaults::fault_at))]
+    fn told(alloc: Global, node: Node<'_, '_>, message: Result<String, AllocError>) -> Error
+        ensures { IfOk message (λ text. IsFault result (fault_at node.entry (custom (string_bytes text))))
+            × IfErr message (λ _. result ≡ want_of_memory) }
+    {
+        match message {
+            Ok(message) => Error::placed(alloc, node, node.place(), ErrorKind::Custom(message)),
+            Err(e) => Error::from(e),
+        }
+    }
+
+    // An error within the keys of a node.
+    fn placed(alloc: Global, node: Node<'_, '_>, offset: Option<usize>, kind: ErrorKind) -> Error
+        ensures { IsFault result (fault_within node.entry offset (kind_of kind)) }
+    {
+        match node.key_path(alloc) {
+            Ok(keys) => Error {
+                kind,
+                key_path: Some(keys),
+                offset,
+                line_column: None,
+            },
+            Err(e) => Error::from(e),
+        }
+    }
+
+    /// `input is not valid UTF-8`, without an offset.
+    pub fn not_utf8() -> Error
+        ensures { result ≡ not_text }
+    {
+        Error::without_offset(ErrorKind::NotUtf8)
+    }
+
+    fn without_offset(kind: ErrorKind) -> Error
+        ensures { result ≡ without_offset (kind_of kind) }
+    {
+        Error {
+            kind,
+            key_path: None,
+            offset: None,
+            line_column: None,
+        }
+    }
+}
+
+impl From<AllocError> for Error {
+    ghost use Rattle.basic_toml_error.specs.Fault.{want_of_memory};
+
+    ghost from_gives = { λ _ e. e ≡ want_of_memory };
+
+    fn from(_e: AllocError) -> Error {
+        Error::without_offset(ErrorKind::OutOfMemory)
+    }
+}
+
+impl From<WriteError> for Error {
+    ghost use Rattle.basic_toml_error.specs.Fault.{without_offset};
+    ghost use Rattle.basic_toml_error.specs.WriteFaults.{write_kind};
+
+    ghost from_gives = { λ fault e. e ≡ without_offset (write_kind fault) };
+
+    fn from(fault: WriteError) -> Error {
+        Error::without_offset(ErrorKind::from(fault))
+    }
+}

@@ -1,0 +1,102 @@
+-- Which variant a string names, and why one names none.
+use Rattle.std.proofs.Common.{◌≡◌, ℕ, ◌+◌, ◌<◌, Bool, true, false, List, [], ◌∷◌, length, refl, sym, ◌∙◌, ap, codes}
+use Rattle.std.proofs.Common.{Option, Some, None, is_some, IsSome, arith, Bor, subst, map}
+use Rattle.std.specs.List.{position, position_or_len}
+use Rattle.std.specs.Str.{bytes_eq}
+use Rattle.std.proofs.lemmas.List.Quantifiers.{position-Some}
+use Rattle.basic_toml_value.specs.Keys.{is_among}
+use Rattle.basic_toml_value.specs.Data.{Data, string_in}
+use Rattle.basic_toml_tree.specs.declared.node.Node.{Node}
+use Rattle.basic_toml_tree.specs.Nodes.{node_data, is_table, entries_in}
+use Rattle.basic_toml_tree.specs.Origin.{is_made, name_of}
+use Rattle.basic_toml_error.specs.Fault.{Fault, custom, wanted, want_of_memory}
+use Rattle.basic_toml_typed.specs.FieldKeys.{position_among}
+use Rattle.basic_toml_typed.specs.FieldFaults.{first_other, OnlyFault, VariantFault}
+use Rattle.basic_toml_typed.specs.FieldFaults as faults
+use Rattle.basic_toml_error.specs.NodeFaults.{IsFault, fault_at, fault_around, fault_at_start, type_message}
+use Rattle.basic_toml_error.specs.NodeFaults.{unknown_field_message, unknown_variant_message}
+use Rattle.basic_toml_typed.specs.TypeReads.{IsVariant, HasVariant}
+use Rattle.basic_toml_typed.proofs.NamesListed.{numbers_of, texts_of, position_is_by_numbers, position_is_among}
+use Rattle.basic_toml_typed.proofs.FieldFaultsNamed.{made_or_memory}
+
+pub variant_found : (names : List (Bor (List ℕ))) (d : Data) (text : List ℕ) (p : ℕ) → string_in d ≡ Some text
+    → Some p ≡ position (λ name. bytes_eq name.now text) names → IsVariant (numbers_of names) d p
+unfolding IsVariant
+variant_found names (Data.string t) text p e at =
+    let same : t ≡ text = cc in
+    rw same (sym (position_is_by_numbers names text) ∙ sym at)
+variant_found names (Data.table _) text p e at = absurd (cc)
+variant_found names (Data.integer _) text p e at = absurd (cc)
+variant_found names (Data.float _) text p e at = absurd (cc)
+variant_found names (Data.boolean _) text p e at = absurd (cc)
+variant_found names (Data.array _) text p e at = absurd (cc)
+
+pub variant_within : (names : List (Bor (List ℕ))) (text : List ℕ) (p : ℕ)
+    → Some p ≡ position (λ name. bytes_eq name.now text) names → p < length names
+variant_within (name ∷ names) text p at = (position-Some (λ n. bytes_eq n.now text) (name ∷ names) p name (sym at)).0
+variant_within [] text p at = absurd (cc)
+
+pub variant_unnamed : (names : List (Bor (List ℕ))) (d : Data) (text : List ℕ) → string_in d ≡ Some text
+    → None ≡ position (λ name. bytes_eq name.now text) names → HasVariant (numbers_of names) d → ⊥
+unfolding HasVariant
+variant_unnamed names (Data.string t) text e at has =
+    let same : t ≡ text = cc in
+    let none : position_among (numbers_of names) t ≡ None = rw same (sym (position_is_by_numbers names text) ∙ sym at) in
+    let never : false ≡ true = sym (ap is_some none) ∙ has in absurd (cc)
+variant_unnamed names (Data.table _) text e at has = has
+variant_unnamed names (Data.integer _) text e at has = has
+variant_unnamed names (Data.float _) text e at has = has
+variant_unnamed names (Data.boolean _) text e at has = has
+variant_unnamed names (Data.array _) text e at has = has
+
+pub no_string_unnamed : (names : List ℕ) (d : Data) → string_in d ≡ None → HasVariant names d → ⊥
+unfolding HasVariant
+no_string_unnamed names (Data.string t) e has = absurd (cc)
+no_string_unnamed names (Data.table _) e has = has
+no_string_unnamed names (Data.integer _) e has = has
+no_string_unnamed names (Data.float _) e has = has
+no_string_unnamed names (Data.boolean _) e has = has
+no_string_unnamed names (Data.array _) e has = has
+
+pub variant_is_had : (names : List ℕ) (d : Data) (p : ℕ) → IsVariant names d p → HasVariant names d
+unfolding IsVariant HasVariant
+variant_is_had names (Data.string t) p is = ap is_some is
+variant_is_had names (Data.table _) p is = is
+variant_is_had names (Data.integer _) p is = is
+variant_is_had names (Data.float _) p is = is
+variant_is_had names (Data.boolean _) p is = is
+variant_is_had names (Data.array _) p is = is
+
+module _ (names : List (Bor (List ℕ))) (node : Node) (fault : Fault) where
+  pub variant_no_string : string_in (node_data node) ≡ None → is_made node ≡ false
+      → IsFault fault (fault_at_start node (wanted (codes "string") (name_of node)))
+      → VariantFault node (texts_of names) fault
+  variant_no_string none literal made = made_or_memory (VariantFault node (texts_of names)) fault _ made
+      faults.VariantFault.no_memory (faults.VariantFault.no_string none literal)
+
+  pub variant_made : string_in (node_data node) ≡ None → is_made node ≡ true
+      → IsFault fault (fault_at node (custom (type_message (node_data node) (codes "a string"))))
+      → VariantFault node (texts_of names) fault
+  variant_made none by made = made_or_memory (VariantFault node (texts_of names)) fault _ made
+      faults.VariantFault.no_memory (faults.VariantFault.made none by)
+
+  pub variant_unknown : (text : List ℕ) → string_in (node_data node) ≡ Some text
+      → None ≡ position (λ name. bytes_eq name.now text) names
+      → IsFault fault (fault_around node (custom (unknown_variant_message text (texts_of names))))
+      → VariantFault node (texts_of names) fault
+  variant_unknown text some at made =
+      let other : is_among (texts_of names) text ≡ false = sym (position_is_among names text) ∙ ap is_some (sym at) in
+      made_or_memory (VariantFault node (texts_of names)) fault _ made
+      faults.VariantFault.no_memory (faults.VariantFault.unknown some other)
+
+  pub only_no_table : is_table (node_data node) ≡ false
+      → IsFault fault (fault_at node (custom (type_message (node_data node) (codes "a map"))))
+      → OnlyFault node (texts_of names) fault
+  only_no_table absent made = made_or_memory (OnlyFault node (texts_of names)) fault _ made
+      faults.OnlyFault.no_memory (faults.OnlyFault.no_table absent)
+
+  pub only_unknown : (key : List ℕ) → first_other (texts_of names) (entries_in (node_data node)) ≡ Some key
+      → IsFault fault (fault_at node (custom (unknown_field_message key (texts_of names))))
+      → OnlyFault node (texts_of names) fault
+  only_unknown key some made = made_or_memory (OnlyFault node (texts_of names)) fault _ made
+      faults.OnlyFault.no_memory (faults.OnlyFault.unknown some)

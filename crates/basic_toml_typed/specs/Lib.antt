@@ -1,0 +1,4 @@
+pub mod FieldKeys
+pub mod TypeAnswers
+pub mod TypeReads
+pub mod FieldFaults
