@@ -9,6 +9,7 @@ pub mod ItemTries
 pub mod KeysInATrie
 pub mod KeysSeen
 pub mod NodesInOrder
+pub mod OrderIsFree
 pub mod RowsEntered
 pub mod MetTellsStop
 pub mod ClashSaysMet

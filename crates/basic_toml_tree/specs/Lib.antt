@@ -10,5 +10,6 @@ pub mod Clash
 pub mod Trail
 pub mod Crossed
 pub mod Resolve
+pub mod Order
 pub mod Stands
 pub mod formers

@@ -1,97 +1,20 @@
 // Texts with their trees and clashes.
 use basic_toml_read::{ReadError, ReadErrorKind, sections};
-use basic_toml_tree::{Elements, Entries, Node, resolve};
+use basic_toml_tree::resolve;
 use basic_toml_value::Value;
 use std::alloc::{AllocError, Global};
 use std::test::Fail;
 
 // A number, or `-` where there is none.
-fn push_offset(out: &mut String, offset: Option<usize>) -> Result<(), AllocError> {
+pub(crate) fn push_offset(out: &mut String, offset: Option<usize>) -> Result<(), AllocError> {
     match offset {
         Some(offset) => write!(out, " {offset}"),
         None => out.push_str(" -"),
     }
 }
 
-// More than the entries of a table or the elements of an array here.
-const MANY: usize = 40;
-
 // More than there are levels here.
 const LEVELS: usize = 300;
-
-// One line for each node: its path, type name, start, place, outer place and key path; so many levels of them.
-#[cycle(nodes)]
-fn push_node(
-    out: &mut String,
-    alloc: Global,
-    path: &str,
-    node: Node<'_, '_>,
-    levels: usize,
-) -> Result<(), AllocError> {
-    if levels == 0 {
-        return Ok(());
-    }
-    out.push_str(path)?;
-    out.push_str(": ")?;
-    out.push_str(node.type_name())?;
-    push_offset(out, node.start())?;
-    push_offset(out, node.place())?;
-    push_offset(out, node.outer_place())?;
-    for key in node.key_path(alloc)?.iter() {
-        let key = key.as_str();
-        write!(out, " {key}")?;
-    }
-    out.push('\n')?;
-    if let Some(entries) = node.entries() {
-        push_entries(out, alloc, path, entries, levels - 1, MANY)?;
-    }
-    if let Some(elements) = node.elements() {
-        push_elements(out, alloc, path, elements, levels - 1, MANY)?;
-    }
-    Ok(())
-}
-
-#[cycle(nodes)]
-fn push_entries(
-    out: &mut String,
-    alloc: Global,
-    path: &str,
-    entries: Entries<'_, '_>,
-    levels: usize,
-    left: usize,
-) -> Result<(), AllocError> {
-    let mut entries = entries;
-    if left == 0 {
-        return Ok(());
-    }
-    if let Some((key, below)) = entries.next() {
-        let at = format!(in alloc; "{path}.{key}")?;
-        push_node(out, alloc, at.as_str(), below, levels)?;
-        push_entries(out, alloc, path, entries, levels, left - 1)?;
-    }
-    Ok(())
-}
-
-#[cycle(nodes)]
-fn push_elements(
-    out: &mut String,
-    alloc: Global,
-    path: &str,
-    elements: Elements<'_, '_>,
-    levels: usize,
-    left: usize,
-) -> Result<(), AllocError> {
-    let mut elements = elements;
-    if left == 0 {
-        return Ok(());
-    }
-    if let Some(below) = elements.next() {
-        let at = format!(in alloc; "{path}[]")?;
-        push_node(out, alloc, at.as_str(), below, levels)?;
-        push_elements(out, alloc, path, elements, levels, left - 1)?;
-    }
-    Ok(())
-}
 
 #[cycle(data)]
 fn push_value(out: &mut String, value: &Value, levels: usize) -> Result<(), AllocError> {
@@ -194,19 +117,6 @@ fn value_of(alloc: Global, text: &str) -> Result<String, AllocError> {
     Ok(out)
 }
 
-// The nodes of a text, a line each.
-fn nodes_of(alloc: Global, text: &str) -> Result<String, AllocError> {
-    let mut out = String::new(alloc);
-    match sections(alloc, text) {
-        Ok(list) => match resolve(alloc, list) {
-            Ok(tree) => push_node(&mut out, alloc, "", tree.root(), 9)?,
-            Err(error) => push_error(&mut out, &error)?,
-        },
-        Err(error) => push_error(&mut out, &error)?,
-    }
-    Ok(out)
-}
-
 #[test]
 fn grows_trees(rt: HostRuntime) -> Result<(), Fail> {
     let alloc = rt.alloc();
@@ -284,39 +194,6 @@ fn names_clashes(rt: HostRuntime) -> Result<(), Fail> {
     ];
     for (text, wanted) in cases {
         assert_eq!(rt; value_of(alloc, text)?.as_str(), wanted, "{text}");
-    }
-    Ok(())
-}
-
-#[test]
-fn tells_where_nodes_come_from(rt: HostRuntime) -> Result<(), Fail> {
-    let alloc = rt.alloc();
-    let cases = [
-        ("", ": table - - -\n"),
-        ("a = 1\n", ": table 0 0 0\n.a: integer 4 4 0 a\n"),
-        (
-            "x = [1, {y = 2}]\n",
-            ": table 0 0 0\n.x: array 4 0 0 x\n.x[]: integer 5 5 0 x\n.x[]: inline table 8 8 0 x\n.x[].y: integer 13 13 8 x\n",
-        ),
-        (
-            "[[p]]\nb = 'c'\n[[p]]\nd.e = 1.5\n",
-            ": table 14 14 14\n.p: array 14 14 14 p\n.p[]: table 14 14 14 p\n.p[].b: string 10 10 14 p b\n.p[]: table 14 14 14 p\n.p[].d: dotted table 28 28 14 p d\n.p[].d.e: float 28 28 28 p d\n",
-        ),
-        (
-            "a.b = 1\n[a.c]\n",
-            ": table 8 8 8\n.a: table 8 8 8 a\n.a.b: integer 6 6 8 a\n.a.c: table 8 8 8 a c\n",
-        ),
-        (
-            "[a.b.c]\n[a]\nb.d.e = true\n",
-            ": table 8 8 8\n.a: table 8 8 8 a\n.a.b: table 8 8 8 a b\n.a.b.c: table 8 8 8 a b c\n.a.b.d: dotted table 20 20 8 a b\n.a.b.d.e: boolean 20 20 20 a b\n",
-        ),
-        (
-            "x = {a.b = {}, c = [[]]}\n",
-            ": table 0 0 0\n.x: inline table 4 4 0 x\n.x.a: dotted table 11 11 4 x\n.x.a.b: inline table 11 11 11 x\n.x.c: array 19 4 4 x\n.x.c[]: array 20 4 4 x\n",
-        ),
-    ];
-    for (text, wanted) in cases {
-        assert_eq!(rt; nodes_of(alloc, text)?.as_str(), wanted, "{text}");
     }
     Ok(())
 }

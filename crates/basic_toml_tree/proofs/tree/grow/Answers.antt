@@ -5,7 +5,7 @@ use Rattle.basic_toml_tree.specs.Crossed.{NoneIsCrossed}
 use Rattle.basic_toml_tree.specs.Item.{table_trie}
 use Rattle.basic_toml_tree.proofs.SectionsResolved.{want_of, goes_on_from_a_value, kept_out, none_crossed, goes_on, resolved}
 use Rattle.basic_toml_tree.proofs.SectionsResolved.{heads_kept}
-use Rattle.basic_toml_tree.proofs.tree.resolve.Goals as goal
+use Rattle.basic_toml_tree.proofs.tree.grow.Goals as goal
 
 pub returns-in_err-at : goal.returns-in_err-at
 returns-in_err-at c = want_of c.args.sections.items c.from_residual.result c.from_residual.ensures.1

@@ -1,0 +1,92 @@
+-- What is answered to a list holds of it in each other order.
+use Rattle.std.proofs.Common.{◌≡◌, ◌⊎◌, inl, inr, ℕ, ◌<◌, ◌≤◌, Bool, true, false, List, map, refl, sym, ap, ◌∙◌, subst}
+use Rattle.std.proofs.Common.{arith, Some, None, Option, Result, Ok, Err}
+use Rattle.std.specs.Prelude.{nat_le, not, ◌||◌, if◌then◌else◌, IsSomeAnd, Contains}
+use Rattle.std.proofs.lemmas.Bool.{le-leb, false≢true}
+use Rattle.basic_toml_value.specs.Data.{Data}
+use Rattle.basic_toml_value.specs.Nesting.{nesting_limit}
+use Rattle.basic_toml_value.specs.SameMaps.{SameMaps}
+use Rattle.basic_toml_grammar.specs.Sections.{Section}
+use Rattle.basic_toml_grammar.specs.IndexedPath.{located}
+use Rattle.basic_toml_grammar.specs.Depth.{depth}
+use Rattle.basic_toml_grammar.specs.Document.{has_clash, tree_of_sections, document_of}
+use Rattle.basic_toml_grammar.specs.Entering.{all_keyed, all_keyed_within}
+use Rattle.basic_toml_grammar.specs.Faults.{Fault, nested_too_deeply}
+use Rattle.basic_toml_grammar.specs.GrammarFaults.{fault_at}
+use Rattle.basic_toml_grammar.specs.NestingFaults.{deep_sections}
+use Rattle.basic_toml_grammar.specs.Statements.{MeanTheSame}
+use Rattle.basic_toml_grammar.proofs.DepthIsTheHighestLevel.{deep_where_one_is}
+use Rattle.basic_toml_grammar.proofs.EveryClashIsNamed.{named_clashes}
+use Rattle.basic_toml_grammar.proofs.Reorderings.{reordered_means_the_same, plain_reordered_means_the_same}
+use Rattle.basic_toml_grammar.proofs.Reorderings.{same_maps_are_as_deep}
+use Rattle.basic_toml_read.specs.declared.section.Section as code
+use Rattle.basic_toml_read.specs.SectionView.{section_of}
+use Rattle.basic_toml_tree.specs.declared.tree.Tree.{Tree}
+use Rattle.basic_toml_tree.specs.Data.{table_data}
+use Rattle.basic_toml_tree.specs.Order.{IsReordering, IsRefusedToo, IsAnswerToo, ResolvesInAnyOrder}
+use Rattle.basic_toml_tree.specs.Resolve.{Resolves, IsResolved, IsUnresolved, memory, deep, clash}
+use Rattle.basic_toml_tree.proofs.RowsHaveKeys.{sections_have_keys}
+
+-- where sections clash, and where their tree is too deep, they have no document
+clash_has_none : (sections : List Section) → has_clash sections ≡ true → document_of sections ≡ None
+clash_has_none sections met = rw met refl
+
+deep_has_none : (sections : List Section) → nesting_limit < depth (tree_of_sections sections)
+    → document_of sections ≡ None
+deep_has_none sections over = go (has_clash sections) (nat_le (depth (tree_of_sections sections)) nesting_limit) refl
+  where
+    go : (b c : Bool) → nat_le (depth (tree_of_sections sections)) nesting_limit ≡ c
+        → ◌≡◌ {A = Option Data} (if b || not c then None else Some (tree_of_sections sections)) None
+    go true c is = refl
+    go false false is = refl
+    go false true is =
+        let fits : depth (tree_of_sections sections) ≤ nesting_limit = grind (arith, is) in absurd (omega arith)
+
+-- sections, with keys and without, that mean the same as others
+module _ (sections others : List Section) (same : MeanTheSame sections others) where
+  tree_too : (tree : Tree) → IsResolved sections tree → IsAnswerToo sections (Ok tree) others
+  tree_too tree is =
+      let maps = same.maps is.clash in
+      let peace : has_clash others ≡ false = sym same.clash ∙ is.clash in
+      let fits : depth (tree_of_sections others) ≤ nesting_limit =
+      subst (λ (n : ℕ). n ≤ nesting_limit) (same_maps_are_as_deep _ _ maps) is.fits in
+      rw (peace, le-leb (depth (tree_of_sections others)) nesting_limit fits)
+      (subst (λ (d : Data). SameMaps d (tree_of_sections others)) (sym is.grown) maps)
+
+  clash_too : (fault : Fault) → has_clash sections ≡ true → IsRefusedToo sections fault others
+  clash_too fault met =
+      let there : has_clash others ≡ true = sym same.clash ∙ met in
+      record { none = clash_has_none others there; clash = λ names. there }
+
+  too_deep_too : (fault : Fault) → (b : Bool) → has_clash sections ≡ b
+      → (b ≡ false → nesting_limit < depth (tree_of_sections sections)) → IsRefusedToo sections fault others
+  too_deep_too fault true met over = clash_too fault met
+  too_deep_too fault false peace over =
+      let there : nesting_limit < depth (tree_of_sections others) =
+      subst (λ (n : ℕ). nesting_limit < n) (same_maps_are_as_deep _ _ (same.maps peace)) (over refl) in
+      record {
+        none = deep_has_none others there;
+        clash = λ names. sym same.clash ∙ named_clashes sections fault names;
+      }
+
+  none_too : all_keyed sections ≡ true → all_keyed_within sections ≡ true → (fault : Fault)
+      → IsUnresolved sections fault → IsAnswerToo sections (Err fault) others
+  none_too keyed within _ memory = inl refl
+  none_too keyed within _ (deep {offset = offset} there) =
+      inr (too_deep_too (fault_at nested_too_deeply offset) (has_clash sections) refl
+      (λ peace. deep_where_one_is nesting_limit offset sections keyed within peace there))
+  none_too keyed within fault (clash names) = inr (clash_too fault (named_clashes sections fault names))
+
+mean_the_same : (sections others : List Section) → all_keyed sections ≡ true → IsReordering sections others
+    → MeanTheSame sections others
+mean_the_same sections others keyed (inl paths) = reordered_means_the_same sections others keyed paths
+mean_the_same sections others keyed (inr plain) =
+    plain_reordered_means_the_same sections others keyed plain.0 plain.1
+
+pub in_any_order : (list : List code.Section) (result : Result Tree Fault) → Resolves list result
+    → ResolvesInAnyOrder list result
+in_any_order list (Ok tree) is keyed others order =
+    tree_too (map section_of list) others (mean_the_same (map section_of list) others keyed order) tree (is keyed)
+in_any_order list (Err fault) is keyed others order =
+    none_too (map section_of list) others (mean_the_same (map section_of list) others keyed order) keyed
+    (sections_have_keys list) fault (is keyed)
