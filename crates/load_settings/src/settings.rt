@@ -1,6 +1,7 @@
 //! Settings with defaults.
 ghost use Rattle.std.specs.Prelude.{◌≡◌, ◌∷◌, [], Option, unwrap_or, false};
 ghost use Rattle.basic_toml.specs.FieldKeys.{key_of};
+ghost use Rattle.basic_toml.specs.Reading.{ReadsText};
 ghost use Rattle.basic_toml.specs.TypeReads.{HasOnly, field_reads, optional_reads};
 
 use basic_toml::{
@@ -47,6 +48,8 @@ impl<'de> Deserialize<'de> for Settings {
 /// # Errors
 ///
 /// Those of [`from_str`]: a key that is none of the three is an error, with its line and column.
-pub fn load(alloc: Global, text: &str) -> Result<Settings, Error> {
+pub fn load(alloc: Global, text: &str) -> Result<Settings, Error>
+    ensures { ReadsText ⟦<Settings as Deserialize<'static>>⟧.takes ⟦<Settings as Deserialize<'static>>⟧.reads text.now result }
+{
     from_str(alloc, text)
 }

@@ -1,6 +1,7 @@
 //! What a `Cargo.toml` says of a package.
 ghost use Rattle.std.specs.Prelude.{◌≡◌, Option, unwrap_or, false};
 ghost use Rattle.basic_toml.specs.FieldKeys.{key_of};
+ghost use Rattle.basic_toml.specs.Reading.{ReadsText};
 ghost use Rattle.basic_toml.specs.TypeReads.{field_reads, optional_reads};
 
 use basic_toml::{Deserialize, Error, Node, Tree, from_str, read_field, read_optional};
@@ -124,6 +125,12 @@ impl<'de> Deserialize<'de> for Detail {
 }
 
 /// The manifest that a text holds.
-pub fn manifest_of(alloc: Global, text: &str) -> Result<Manifest, Error> {
+///
+/// # Errors
+///
+/// Those of [`from_str`]: a `package` without a name or a version is an error, with its line and column.
+pub fn manifest_of(alloc: Global, text: &str) -> Result<Manifest, Error>
+    ensures { ReadsText ⟦<Manifest as Deserialize<'static>>⟧.takes ⟦<Manifest as Deserialize<'static>>⟧.reads text.now result }
+{
     from_str(alloc, text)
 }

@@ -3,6 +3,7 @@ ghost use Rattle.std.specs.Prelude.{◌∷◌, ◌++◌, [], codes, pos, string_
 ghost use Rattle.basic_toml.specs.Items.{a_scalar, open_table, field, close};
 ghost use Rattle.basic_toml.specs.Written as written;
 ghost use Rattle.basic_toml.specs.ReadBack.{RoundTrips};
+ghost use Rattle.basic_toml.specs.Ser.{Writes};
 
 use basic_toml::{Error, Serialize, Serializer, Table, WriteError, round_trip, to_string};
 use std::alloc::Global;
@@ -52,7 +53,13 @@ impl Serialize for RuleFile {
 }
 
 /// The text of a file of rules.
-pub fn text_of(alloc: Global, file: &RuleFile) -> Result<String, Error> {
+///
+/// # Errors
+///
+/// Those of [`to_string`].
+pub fn text_of(alloc: Global, file: &RuleFile) -> Result<String, Error>
+    ensures { Writes (⟦<RuleFile as Serialize>⟧.calls file.now) (⟦<RuleFile as Serialize>⟧.gives_up file.now) result }
+{
     to_string(alloc, file)
 }
 
