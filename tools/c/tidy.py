@@ -2,7 +2,8 @@
 """tidy.py LIBRARY: as the program of tidy.c, in Python, by the shared library."""
 import sys
 
-import basic_toml
+sys.dont_write_bytecode = True
+import basic_toml  # noqa: E402
 
 
 def main():
