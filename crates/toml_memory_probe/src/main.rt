@@ -1,7 +1,8 @@
 //! Makes calls on a text and prints what each answers; what it does itself takes no memory.
 //!
-//! The first line of standard input says which calls, and the others are the text: `tokens`, `reading`, `writing`,
-//! `pushing` (of the text's lines as keys) or `calling`. `tools/refused-memory` runs it while memory is refused.
+//! The first line of standard input says which calls, and the others are the text: `tokens`, `reading`, `typed`,
+//! `writing`, `pushing` (of the text's lines as keys) or `calling`. `tools/refused-memory` runs it while memory is
+//! refused.
 #![tactic(auto)]
 
 mod calling;
@@ -9,6 +10,7 @@ mod pushing;
 mod show;
 mod texts;
 mod tokens;
+mod typed;
 
 use std::io::{self, Read};
 use std::str;
@@ -30,6 +32,7 @@ fn main(rt: HostRuntime) -> io::Result<()> {
     match which {
         "tokens" => tokens::each(&rt, rt.alloc(), text),
         "reading" => texts::reading(&rt, rt.alloc(), text),
+        "typed" => typed::each(&rt, rt.alloc(), text),
         "writing" => texts::writing(&rt, rt.alloc(), text),
         "pushing" => pushing::each(&rt, rt.alloc(), text),
         "calling" => calling::each(&rt, rt.alloc()),

@@ -1,2 +1,2 @@
 pub mod FrontIsAppended
-pub mod AnswerIsDue
+pub mod RunEnds

@@ -1,38 +1,13 @@
--- What the program answers to the bytes that it reads, and how a run ends. (own)
-use Rattle.std.specs.Prelude.{◌≡◌, ℕ, IsUtf8, false, List, ◌++◌, take, codes, Option, Err}
+-- What the program writes for the bytes that it reads, and how a run ends. (own)
+use Rattle.std.specs.Prelude.{ℕ, suc, List, ◌++◌, take, codes, Option}
 use Rattle.std.specs.Io.KnownBytes.{Appends, Keeps}
-use Rattle.basic_toml.specs.Calls.{outcome}
-use Rattle.basic_toml.specs.Data.{Members, table}
-use Rattle.basic_toml.specs.Nesting.{nesting_limit}
-use Rattle.basic_toml.specs.Document.{IsDocument}
-use Rattle.basic_toml.specs.Fault.{Fault, without_offset, not_text}
-use Rattle.basic_toml.specs.Faults as read
-use Rattle.basic_toml.specs.FaultText.{fault_text}
-use Rattle.basic_toml.specs.Layout.{layout}
-use Rattle.basic_toml.specs.ReadFaults.{fault_in}
-use Rattle.basic_toml.specs.Reading.{IsTextFault}
-use Rattle.basic_toml.specs.Rules.{CallFault}
-use Rattle.basic_toml.specs.Shapes.{is_unsupported}
-use Rattle.basic_toml.specs.Trees.{written_of}
-use Rattle.basic_toml.specs.Impls.{data_calls}
-use Rattle.basic_toml.specs.Ser.{fault_kind}
-use Rattle.basic_toml.specs.tokens.Text.{folded}
+use Rattle.toml_answer.specs.Due as answer
 
-abbrev pub line : Fault → List ℕ
-line fault = fault_text fault ++ codes "\n"
-
--- The status, and the text to write: the layout of the document, where no unsupported shape occurs in it; the first
--- error that the calls of the document meet; an error of a text without a document, with its line and its column; or
--- that the bytes are no text.
+-- The status, and the text to write: the text that is due, with a line feed behind an error.
 pub data IsDue (input : List ℕ) : ℕ → List ℕ → Type 0 where
-  tidied : {members : Members} → IsUtf8 input → IsDocument (folded input) (table members)
-      → is_unsupported nesting_limit (written_of (table members)) ≡ false
-      → IsDue input 0 (layout (written_of (table members)))
-  refused : {error : read.Fault} → IsUtf8 input → IsTextFault input error → IsDue input 1 (line (fault_in input error))
-  not_utf8 : (IsUtf8 input → ⊥) → IsDue input 1 (line not_text)
-  unwritable : {members : Members} {error : CallFault} → IsUtf8 input → IsDocument (folded input) (table members)
-      → outcome nesting_limit (data_calls (table members)) ≡ Err error
-      → IsDue input 2 (line (without_offset (fault_kind error)))
+  tidied : {text : List ℕ} {place : Option (ℕ × ℕ)} → answer.IsDue input 0 text place → IsDue input 0 text
+  error : {status : ℕ} {text : List ℕ} {place : Option (ℕ × ℕ)} → answer.IsDue input (suc status) text place
+      → IsDue input (suc status) (text ++ codes "\n")
 
 -- a front of the text was written
 abbrev pub AppendsFront : Option (List ℕ) → Option (List ℕ) → List ℕ → Type 0

@@ -1,4 +1,4 @@
-use Rattle.toml_tidy.proofs.AnswerIsDue.{unanswered, all_written, front_written}
+use Rattle.toml_tidy.proofs.RunEnds.{unanswered, all_written, front_written}
 use Rattle.toml_tidy.proofs.run.Goals as goal
 
 pub returns-in_default : goal.returns-in_default

@@ -1,10 +1,8 @@
 -- What is due, from what reading and writing answered.
 use Rattle.std.proofs.Common.{◌≡◌, ◌≢◌, ◌⊎◌, inl, inr, ℕ, Bool, true, false, List, [], ◌∷◌, ◌++◌, map, flat_map}
-use Rattle.std.proofs.Common.{IsUtf8, codes, refl, ap, sym, ◌∙◌, subst, Result, Ok, Err, Option, Some, None, IfSome}
+use Rattle.std.proofs.Common.{IsUtf8, refl, ap, sym, ◌∙◌, subst, Result, Ok, Err, None, IfOk, string_bytes}
 use Rattle.std.specs.Str.{is_utf8}
 use Rattle.std.proofs.lemmas.Str.{IsUtf8-from_is_utf8, is_utf8-from_IsUtf8}
-use Rattle.std.specs.Io.KnownBytes.{Appends}
-use Rattle.std.proofs.KnownBytes.{Keeps-refl}
 use Rattle.basic_toml.specs.Data.{Data, Members, members_of, table}
 use Rattle.basic_toml.specs.Document.{IsDocument}
 use Rattle.basic_toml.specs.Calls.{outcome}
@@ -17,8 +15,8 @@ use Rattle.basic_toml.specs.Reading.{ReadsText, value_read, no_memory, no_docume
 use Rattle.basic_toml.specs.tokens.Text.{folded}
 use Rattle.basic_toml.specs.Impls.{data_calls, members_calls}
 use Rattle.basic_toml.specs.Ser.{IsDataText, IsFirstFault}
-use Rattle.toml_tidy.specs.Run.{IsDue, tidied, refused, not_utf8, unwritable, AppendsFront, Ends, done, not_answered}
-use Rattle.toml_tidy.specs.Run.{not_written_all}
+use Rattle.toml_answer.specs.declared.Answer.{Answer}
+use Rattle.toml_answer.specs.Due.{IsDue, tidied, refused, not_utf8, unwritable}
 
 -- bytes are UTF-8, or are not
 utf8_or_not : (bytes : List ℕ) → IsUtf8 bytes ⊎ (IsUtf8 bytes → ⊥)
@@ -35,6 +33,18 @@ pub pairs_calls : {V : Type 0} (view : V → Data) (pairs : List (List ℕ × V)
 pairs_calls view [] = refl
 pairs_calls view (p ∷ pairs) =
     ap (λ (is : List Item). field p.0 ∷ (data_calls (view p.1) ++ is)) (pairs_calls view pairs)
+
+-- an error that was told is due where it is no want of memory
+pub told_due : {E : Type 0} (input : List ℕ) (status : ℕ) (fault : Fault) (result : Result Answer E)
+    → IfOk result (λ a. a.status ≡ status) → IfOk result (λ a. string_bytes a.text ≡ fault_text fault)
+    → IfOk result (λ a. a.line_col ≡ fault.line_column) → IfOk result (λ a. fault.kind ≢ out_of_memory)
+    → (fault.kind ≢ out_of_memory → IsDue input status (fault_text fault) fault.line_column)
+    → IfOk result (λ a. IsDue input a.status (string_bytes a.text) a.line_col)
+told_due input status fault (Ok a) is says stands kind due =
+    subst (λ (n : ℕ). IsDue input n (string_bytes a.text) a.line_col) (sym is)
+    (subst (λ (t : List ℕ). IsDue input status t a.line_col) (sym says)
+    (subst (IsDue input status (fault_text fault)) (sym stands) (due kind)))
+told_due input status fault (Err e) is says stands kind due = tt
 
 -- a type T that is read from tables, all of which it takes, and shows its members
 module _ {T : Type 0} (takes : Data → Type 0) (entries : T → Members) where
@@ -54,68 +64,40 @@ module _ {T : Type 0} (takes : Data → Type 0) (entries : T → Members) where
 
   pub tidied_due : (input text : List ℕ) (t : T) → (IsUtf8 input → ReadsText takes reads_table input (Ok t))
       → ((IsUtf8 input → ⊥) → Ok t ≡ Err not_text)
-      → IsDataText (table (entries t)) text → IsDue input 0 text
+      → IsDataText (table (entries t)) text → IsDue input 0 text None
   tidied_due input text t answers other is =
       let (utf8, document) = read_as input t answers other in
-      subst (IsDue input 0) (sym is.laid_out) (tidied utf8 document is.supported)
+      subst (λ (s : List ℕ). IsDue input 0 s None) (sym is.laid_out) (tidied utf8 document is.supported)
 
-  pub unwritable_due : (input text : List ℕ) (t : T) (fault : Fault) (calls : List Item) (own : Type 0)
+  -- an error of writing, that is no want of memory and none of the type's own, is the first that the calls meet
+  pub unwritable_due : (input : List ℕ) (t : T) (fault : Fault) (calls : List Item) (own : Type 0)
       → (IsUtf8 input → ReadsText takes reads_table input (Ok t)) → ((IsUtf8 input → ⊥) → Ok t ≡ Err not_text)
       → calls ≡ data_calls (table (entries t)) → (own → ⊥) → (fault ≡ want_of_memory)
-      ⊎ (own ⊎ IsFirstFault calls fault) → fault.kind ≢ out_of_memory → text ≡ fault_text fault ++ codes "\n"
-      → IsDue input 2 text
-  unwritable_due input text t fault calls own answers other made never (inl memory) kind e =
+      ⊎ (own ⊎ IsFirstFault calls fault) → fault.kind ≢ out_of_memory
+      → IsDue input 2 (fault_text fault) fault.line_column
+  unwritable_due input t fault calls own answers other made never (inl memory) kind =
       absurd (kind (ap (λ (f : Fault). f.kind) memory))
-  unwritable_due input text t fault calls own answers other made never (inr (inl up)) kind e = absurd (never up)
-  unwritable_due input text t fault calls own answers other made never (inr (inr r)) kind e =
+  unwritable_due input t fault calls own answers other made never (inr (inl up)) kind = absurd (never up)
+  unwritable_due input t fault calls own answers other made never (inr (inr r)) kind =
       let (utf8, document) = read_as input t answers other in
-      subst (IsDue input 2) (sym (subst (λ (f : Fault). text ≡ fault_text f ++ codes "\n") r.named e))
+      subst (λ (f : Fault). IsDue input 2 (fault_text f) f.line_column) (sym r.named)
       (unwritable utf8 document (subst (λ (is : List Item). outcome nesting_limit is ≡ Err r.error) made r.met))
 
   -- an error that is no want of memory is one of a text without a document, since every table is taken
   text_refused : (input : List ℕ) (fault : Fault) → ((members : Members) → takes (table members)) → IsUtf8 input
       → fault.kind ≢ out_of_memory → ReadsText takes reads_table input (Err fault)
-      → IsDue input 1 (fault_text fault ++ codes "\n")
+      → IsDue input 1 (fault_text fault) fault.line_column
   text_refused input _ taken utf8 kind no_memory = absurd (kind refl)
   text_refused input _ taken utf8 kind (no_document none why) = refused utf8 why
   text_refused input fault taken utf8 kind (not_taken {members = members} document (own, only, same)) =
       absurd (kind (ap (λ (f : Fault). f.kind) (same ∙ ap (lined input) (only.taken (taken members)))))
 
-  pub refused_due : (input text : List ℕ) (fault : Fault) → ((members : Members) → takes (table members))
+  pub refused_due : (input : List ℕ) (fault : Fault) → ((members : Members) → takes (table members))
       → (IsUtf8 input → ReadsText takes reads_table input (Err fault))
       → ((IsUtf8 input → ⊥) → ◌≡◌ {A = Result T Fault} (Err fault) (Err not_text))
-      → fault.kind ≢ out_of_memory → text ≡ fault_text fault ++ codes "\n" → IsDue input 1 text
-  refused_due input text fault taken answers other kind e = subst (IsDue input 1) (sym e) (elim (utf8_or_not input) [
+      → fault.kind ≢ out_of_memory → IsDue input 1 (fault_text fault) fault.line_column
+  refused_due input fault taken answers other kind = elim (utf8_or_not input) [
     | inl utf8 ↦ text_refused input fault taken utf8 kind (answers utf8)
     | inr not ↦ (let is : fault ≡ not_text = cc (other not) in
-        subst (λ (f : Fault). IsDue input 1 (fault_text f ++ codes "\n")) (sym is) (not_utf8 not))
-  ])
-
--- how a run ends, from what each step of it answered; a reader that does not tell its bytes promises nothing
-module _ (remaining old new : Option (List ℕ)) where
-  pub unanswered : IfSome remaining (λ input. Ends input old old 3)
-  unanswered = go remaining
-    where
-      go : (o : Option (List ℕ)) → IfSome o (λ input. Ends input old old 3)
-      go None = tt
-      go (Some input) = not_answered (Keeps-refl old)
-
-  pub all_written : (items bytes text piece : List ℕ) (status : ℕ) → IfSome remaining (λ left. items ≡ left)
-      → bytes ≡ items → IsDue bytes status text → piece ≡ text → Appends old new piece
-      → IfSome remaining (λ input. Ends input old new status)
-  all_written items bytes text piece status read same due whole appends = go remaining read
-    where
-      go : (o : Option (List ℕ)) → IfSome o (λ left. items ≡ left) → IfSome o (λ input. Ends input old new status)
-      go None all = tt
-      go (Some input) all = subst (λ (b : List ℕ). Ends b old new status) (same ∙ all)
-          (done due (subst (Appends old new) whole appends))
-
-  pub front_written : (items bytes text piece : List ℕ) (status : ℕ) → IfSome remaining (λ left. items ≡ left)
-      → bytes ≡ items → IsDue bytes status text → piece ≡ text → AppendsFront old new piece
-      → IfSome remaining (λ input. Ends input old new 3)
-  front_written items bytes text piece status read same due whole front = go remaining read
-    where
-      go : (o : Option (List ℕ)) → IfSome o (λ left. items ≡ left) → IfSome o (λ input. Ends input old new 3)
-      go None all = tt
-      go (Some input) all = subst (λ (b : List ℕ). Ends b old new 3) (same ∙ all)
-          (not_written_all due (subst (AppendsFront old new) whole front))
+        subst (λ (f : Fault). IsDue input 1 (fault_text f) f.line_column) (sym is) (not_utf8 not))
+  ]

@@ -1,0 +1,20 @@
+-- What a call gives to its caller: an answer, and text in memory of the caller's. (own)
+use Rattle.std.specs.Prelude.{◌≡◌, ℕ, true, false, List, ◌++◌, take, drop, length, Option, Some, None}
+use Rattle.toml_answer.specs.Due.{IsDue}
+use Rattle.toml_c.specs.declared.TomlAnswer.{TomlAnswer}
+
+-- memory with as much of a text at its front as it has room for, and behind it what was there
+abbrev pub with_front : {A : Type 0} → List A → List A → List A
+with_front memory text = take (length memory) text ++ drop (length text) memory
+
+-- a status, the length of a text, and a line and a column
+abbrev pub answered : ℕ → ℕ → Option (ℕ × ℕ) → TomlAnswer
+answered status n None = record { status = status; has_place = false; line = 0; column = 0; length = n }
+answered status n (Some p) = record { status = status; has_place = true; line = p.0; column = p.1; length = n }
+
+-- What is due for the bytes, and as much of its text as there is room for; or, where memory was refused, the memory as
+-- it was.
+pub data Tidies (input old new : List ℕ) : TomlAnswer → Type 0 where
+  due : {status : ℕ} {text : List ℕ} {place : Option (ℕ × ℕ)} → IsDue input status text place
+      → new ≡ with_front old text → Tidies input old new (answered status (length text) place)
+  no_memory : new ≡ old → Tidies input old new (answered 3 0 None)
