@@ -17,7 +17,7 @@ pub type Table = Pairs<Value>;
 
 /// A TOML value: a value of a row, or what a header leads to (TOML v0.5.0, without "Offset Date-Time" to "Local Time").
 ///
-/// Where one kind is wanted and each other stands for nothing, `as_integer` and its like answer it:
+/// `as_integer` and its like answer what it holds where it is of that kind, and `None` elsewhere:
 ///
 /// ```text
 /// fn port_of(settings: &Table) -> Option<i64> {
