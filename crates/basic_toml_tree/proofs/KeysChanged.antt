@@ -10,7 +10,7 @@ use Rattle.basic_toml_tree.specs.Keyed.{with_value, values_of, EntersKey}
 
 module _ {V : Type 0} where
   -- what stands at the first position of a key
-  first_at : (ps : List (List ℕ × V)) (i : ℕ) (k : List ℕ) (v : V)
+  pub first_at : (ps : List (List ℕ × V)) (i : ℕ) (k : List ℕ) (v : V)
       → slice_get (keys_of ps) i ≡ Some k → is_among (take i (keys_of ps)) k ≡ false
       → slice_get (values_of ps) i ≡ Some v → value_at ps k ≡ Some v
   first_at [] i k v at first there = absurd (cc)

@@ -1,13 +1,14 @@
 -- A node below another one stands at the path of that one and one more step.
 use Rattle.std.proofs.Common.{◌≡◌, ◌⊎◌, inl, inr, ◌==◌, ℕ, zero, suc, ◌+◌, Bool, true, false, cond, List, [], ◌∷◌}
-use Rattle.std.proofs.Common.{◌++◌, Some, None, refl, ap, sym, ◌∙◌, arith, map, length, rules, Vec, Box, Global}
+use Rattle.std.proofs.Common.{◌++◌, Some, None, refl, ap, sym, ◌∙◌, arith, map, length, rules, Vec, Box, Global, IsTrue}
 use Rattle.std.specs.Prelude.{slice_get, nat_eq}
 use Rattle.std.specs.Str.{bytes_eq}
 use Rattle.std.proofs.lemmas.Slice.Eq.{bytes_eq-Decides}
 use Rattle.std.specs.Borrow.{Bor}
 use Rattle.basic_toml_value.specs.Data.{Data, items_of}
-use Rattle.basic_toml_value.specs.Pairs.{value_at}
-use Rattle.basic_toml_value.proofs.DistinctKeys.{bytes_eq-same, bytes_eq_other}
+use Rattle.basic_toml_value.specs.Keys.{are_distinct}
+use Rattle.basic_toml_value.specs.Pairs.{keys_of, value_at}
+use Rattle.basic_toml_value.proofs.DistinctKeys.{bytes_eq-same, bytes_eq_other, is_among-before}
 use Rattle.basic_toml_grammar.specs.Steps.{Step, key, number, Path}
 use Rattle.basic_toml_grammar.specs.Standing as standing
 use Rattle.basic_toml_grammar.specs.Trie.{Trie, trie, nothing, below, find, by}
@@ -20,10 +21,12 @@ use Rattle.basic_toml_tree.specs.declared.tree.Tree.{Tree}
 use Rattle.basic_toml_tree.specs.declared.node.Node.{Node}
 use Rattle.basic_toml_tree.specs.declared.node.Spot.{Spot}
 use Rattle.basic_toml_tree.specs.declared.node.Spot.TheVariants as spots
+use Rattle.basic_toml_tree.specs.Keyed.{values_of}
 use Rattle.basic_toml_tree.specs.Item.{item_trie, child_trie, table_trie, by_keys, by_numbers, leaf, tree_data}
 use Rattle.basic_toml_tree.specs.Stands.{trie_at, tree_trie, spot_trie, wraps_table, HoldsTable, IsBelow, is_root}
 use Rattle.basic_toml_tree.specs.Stands.{StandsAt, StandsOn, IsBeside, is_wrapper, ItemHolds}
 use Rattle.basic_toml_tree.proofs.ItemTries.{table_entries_trie}
+use Rattle.basic_toml_tree.proofs.KeysChanged.{first_at}
 use Rattle.basic_toml_tree.proofs.KeysInATrie.{tries_of}
 
 at_more : (p : Path) (s : Step) (t : Trie) → trie_at (p ++ s ∷ []) t ≡ below s (trie_at p t)
@@ -149,6 +152,15 @@ key_stands from node t k c holds found is tree p stands =
         ⊎ ((spot_trie node.spot ≡ below (key k) (spot_trie from.spot)) × (wraps_table node.spot ≡ false))
     go (inl none) = inl none
     go (inr same) = inr (is.trie ∙ same, is.own)
+
+-- the key and the value at a position of a table
+pub entry_stands : (from node : Node) (t : Table) (i : ℕ) (k : List ℕ) (c : Child) → HoldsTable from.spot t
+    → IsTrue (are_distinct (keys_of (out-Table t).entries)) → slice_get (keys_of (out-Table t).entries) i ≡ Some k
+    → slice_get (values_of (out-Table t).entries) i ≡ Some c → IsBelow from (child_trie c) node
+    → StandsOn from (key k) node
+entry_stands from node t i k c holds distinct at value is =
+    key_stands from node t k c holds
+    (first_at (out-Table t).entries i k c at (is_among-before (keys_of (out-Table t).entries) i k distinct at) value) is
 
 -- an array is no root
 abbrev pub tells_table : Trie → Bool

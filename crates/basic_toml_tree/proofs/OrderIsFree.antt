@@ -1,19 +1,17 @@
 -- What is answered to a list holds of it in each other order.
-use Rattle.std.proofs.Common.{◌≡◌, ◌⊎◌, inl, inr, ℕ, ◌<◌, ◌≤◌, Bool, true, false, List, map, refl, sym, ap, ◌∙◌, subst}
+use Rattle.std.proofs.Common.{◌≡◌, inl, inr, ℕ, ◌<◌, ◌≤◌, Bool, true, false, List, map, refl, sym, ◌∙◌, subst}
 use Rattle.std.proofs.Common.{arith, Some, None, Option, Result, Ok, Err}
-use Rattle.std.specs.Prelude.{nat_le, not, ◌||◌, if◌then◌else◌, IsSomeAnd, Contains}
-use Rattle.std.proofs.lemmas.Bool.{le-leb, false≢true}
+use Rattle.std.specs.Prelude.{nat_le, not, ◌||◌, if◌then◌else◌}
+use Rattle.std.proofs.lemmas.Bool.{le-leb}
 use Rattle.basic_toml_value.specs.Data.{Data}
 use Rattle.basic_toml_value.specs.Nesting.{nesting_limit}
 use Rattle.basic_toml_value.specs.SameMaps.{SameMaps}
 use Rattle.basic_toml_grammar.specs.Sections.{Section}
-use Rattle.basic_toml_grammar.specs.IndexedPath.{located}
 use Rattle.basic_toml_grammar.specs.Depth.{depth}
 use Rattle.basic_toml_grammar.specs.Document.{has_clash, tree_of_sections, document_of}
 use Rattle.basic_toml_grammar.specs.Entering.{all_keyed, all_keyed_within}
 use Rattle.basic_toml_grammar.specs.Faults.{Fault, nested_too_deeply}
 use Rattle.basic_toml_grammar.specs.GrammarFaults.{fault_at}
-use Rattle.basic_toml_grammar.specs.NestingFaults.{deep_sections}
 use Rattle.basic_toml_grammar.specs.Statements.{MeanTheSame}
 use Rattle.basic_toml_grammar.proofs.DepthIsTheHighestLevel.{deep_where_one_is}
 use Rattle.basic_toml_grammar.proofs.EveryClashIsNamed.{named_clashes}
@@ -22,7 +20,6 @@ use Rattle.basic_toml_grammar.proofs.Reorderings.{same_maps_are_as_deep}
 use Rattle.basic_toml_read.specs.declared.section.Section as code
 use Rattle.basic_toml_read.specs.SectionView.{section_of}
 use Rattle.basic_toml_tree.specs.declared.tree.Tree.{Tree}
-use Rattle.basic_toml_tree.specs.Data.{table_data}
 use Rattle.basic_toml_tree.specs.Order.{IsReordering, IsRefusedToo, IsAnswerToo, ResolvesInAnyOrder}
 use Rattle.basic_toml_tree.specs.Resolve.{Resolves, IsResolved, IsUnresolved, memory, deep, clash}
 use Rattle.basic_toml_tree.proofs.RowsHaveKeys.{sections_have_keys}

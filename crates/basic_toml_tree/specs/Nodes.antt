@@ -6,8 +6,8 @@ use Rattle.basic_toml_value.specs.Data.{Data, Items, no_items, item, Members, no
 use Rattle.basic_toml_tree.specs.Data.{data_of, table_data}
 use Rattle.basic_toml_tree.specs.declared.item.Table.{Table}
 use Rattle.basic_toml_tree.specs.declared.node.Node.{Node}
-use Rattle.basic_toml_tree.specs.declared.node.Elements.{Elements}
-use Rattle.basic_toml_tree.specs.declared.node.Entries.{Entries}
+use Rattle.basic_toml_tree.specs.declared.entries.Elements.{Elements}
+use Rattle.basic_toml_tree.specs.declared.entries.Entries.{Entries}
 use Rattle.basic_toml_tree.specs.declared.node.Spot.{Spot}
 use Rattle.basic_toml_tree.specs.declared.node.Spot.TheVariants as spots
 
@@ -62,7 +62,7 @@ abbrev pub elements_left : Elements → List Data
 elements_left e = drop e.at (elements_in (node_data e.array))
 
 abbrev pub entries_left : Entries → List (List ℕ × Data)
-entries_left e = drop e.at (entries_in (maybe_table e.table))
+entries_left e = drop e.at (entries_in (node_data e.table))
 
 -- a key with the data at it
 abbrev pub key_and_data : Bor (List ℕ) × Node → List ℕ × Data

@@ -1,6 +1,7 @@
 -- Where a node stands in its tree, by its path, and what is foretold of it by the section list.
-use Rattle.std.specs.Prelude.{◌≡◌, ◌⊎◌, ◌==◌, ℕ, Bool, true, false, List, [], ◌∷◌, ◌++◌}
+use Rattle.std.specs.Prelude.{◌≡◌, ◌⊎◌, ◌==◌, ◌+◌, ℕ, Bool, true, false, List, [], ◌∷◌, ◌++◌, Option}
 use Rattle.std.specs.Borrow.{Bor}
+use Rattle.std.specs.Iterator.{YieldsFirstBy}
 use Rattle.std.specs.Option.{IfSome}
 use Rattle.basic_toml_grammar.specs.Sections.{Section}
 use Rattle.basic_toml_grammar.specs.Steps.{Step, key, number, Path}
@@ -14,9 +15,12 @@ use Rattle.basic_toml_tree.specs.declared.item.Child.{Child}
 use Rattle.basic_toml_tree.specs.declared.item.Table.{Table}
 use Rattle.basic_toml_tree.specs.declared.tree.Tree.{Tree}
 use Rattle.basic_toml_tree.specs.declared.node.Node.{Node}
+use Rattle.basic_toml_tree.specs.declared.entries.Elements.{Elements}
+use Rattle.basic_toml_tree.specs.declared.entries.Entries.{Entries}
 use Rattle.basic_toml_tree.specs.declared.node.Spot.{Spot}
 use Rattle.basic_toml_tree.specs.declared.node.Spot.TheVariants as spots
 use Rattle.basic_toml_tree.specs.Item.{item_trie, table_trie}
+use Rattle.basic_toml_tree.specs.Nodes.{node_data, elements_left, key_and_data, entries_left}
 use Rattle.basic_toml_tree.specs.Resolve.{IsResolved}
 
 -- what is at a path of a trie
@@ -83,6 +87,24 @@ AtKey from k node = StandsOn from (key k) node
 
 abbrev pub AtNumber : Node → ℕ → Node → Type 0
 AtNumber from n node = StandsOn from (number n) node
+
+-- the elements of an array from its first on
+abbrev pub BeginsIn : Node → Elements → Type 0
+BeginsIn array elements = (elements.array ≡ array) × (elements.at ≡ 0)
+
+-- An element comes first of those that are left, and stands at its number in the array; the next stands at the next.
+abbrev pub GivesElement : Elements → Option Node → Elements → Type 0
+GivesElement before result after =
+    YieldsFirstBy node_data elements_left before result after
+    × IfSome result (λ node. AtNumber before.array before.at node × (after.at ≡ before.at + 1))
+    × (after.array ≡ before.array)
+
+-- An entry comes first of those that are left, and its node stands at its key in the table.
+abbrev pub GivesEntry : Entries → Option (Bor (List ℕ) × Node) → Entries → Type 0
+GivesEntry before result after =
+    YieldsFirstBy key_and_data entries_left before result after
+    × IfSome result (λ entry. AtKey before.table entry.0.now entry.1)
+    × (after.table ≡ before.table)
 
 -- a node of a table, beside this one
 abbrev pub IsTableBeside : Node → Bor Table → Node → Type 0

@@ -3,13 +3,16 @@
 
 mod clash;
 mod crossed;
+mod entries;
 mod headers;
 mod item;
 mod keyed;
 mod node;
+mod origin;
 mod rows;
 mod tree;
 mod values;
 
-pub use node::{Elements, Entries, Node};
+pub use entries::{Elements, Entries};
+pub use node::Node;
 pub use tree::{Tree, resolve};

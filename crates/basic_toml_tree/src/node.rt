@@ -1,26 +1,21 @@
 //! The nodes of a tree.
 
-ghost use Rattle.std.specs.Prelude.{◌≡◌, ◌<◌, ◌≤◌, false, true, [], List, Some, None, IsSome, IfSome, IsTrue, IfOk, IfErr};
-ghost use Rattle.std.specs.Prelude.{MatchOption, length, map, slice_get, string_bytes};
-ghost use Rattle.basic_toml_explain.specs.Error.{want_of_memory};
+ghost use Rattle.std.specs.Prelude.{◌≡◌, ◌<◌, ◌≤◌, false, [], Some, None, IsSome, IfSome, IsTrue, IfOk, IfErr};
+ghost use Rattle.std.specs.Prelude.{MatchOption, length, slice_get};
 ghost use Rattle.std.specs.Option.{option_copied};
 ghost use Rattle.std.specs.Cow.{cow_str_bytes};
 ghost use Rattle.basic_toml_value.specs.Data.{table as table_of_members, integer_in, boolean_in, float_in, string_in};
 ghost use Rattle.basic_toml_value.specs.Keys.{are_distinct};
-ghost use Rattle.basic_toml_value.specs.Pairs.{keys_of as table_keys};
+ghost use Rattle.basic_toml_value.specs.Pairs.{keys_of};
 ghost use Rattle.basic_toml_value.specs.View.{view, entries};
+ghost use Rattle.basic_toml_explain.specs.Error.{want_of_memory};
+ghost use Rattle.basic_toml_tree.specs.Item.{child_trie};
 ghost use Rattle.basic_toml_tree.specs.Data.{table_data, child_data};
 ghost use Rattle.basic_toml_tree.specs.Nodes.{node_data, is_table, is_array, maybe_table, data_at};
 ghost use Rattle.basic_toml_tree.specs.Nodes.{elements_in, entries_in, elements_left, entries_left};
-ghost use Rattle.basic_toml_grammar.specs.Sections.{Section};
-ghost use Rattle.basic_toml_grammar.specs.Steps.{Path};
-ghost use Rattle.basic_toml_grammar.specs.IndexedPath.{located};
-ghost use Rattle.basic_toml_grammar.specs.Nodes.{is_made as made_by_headers};
-ghost use Rattle.basic_toml_tree.specs.Item.{child_trie};
-ghost use Rattle.basic_toml_tree.specs.Stands.{StandsAt, HoldsTable, IsNodeAt, Foretold, IsBelow, IsBeside, IsTableBeside, AtKey, AtNumber};
-ghost use Rattle.basic_toml_tree.specs.Origin.{is_made, spot_is_made, spot_name, last_at, name_of, start_of, outer_of, offset_of, header_of, keys_of};
+ghost use Rattle.basic_toml_tree.specs.Stands.{StandsAt, HoldsTable, IsBelow, IsBeside, IsTableBeside, AtKey, AtNumber, BeginsIn};
 
-use crate::clash::key_texts;
+use crate::entries::{Elements, Entries};
 use crate::item::{Child, Item, Table};
 use crate::tree::Tree;
 use crate::values::{table_of, value_of};
@@ -32,7 +27,7 @@ use std::borrow::CowStr;
 
 // What a node is.
 #[derive(Clone, Copy)]
-enum Spot<'t, 'de> {
+pub(crate) enum Spot<'t, 'de> {
     // a table of headers or of dotted keys
     Table(&'t Table<'de>),
     Item(&'t Item<'de>),
@@ -40,7 +35,7 @@ enum Spot<'t, 'de> {
 
 // Which keys lead to a node: the first of a header, or those of a header and then the first key of a row.
 #[derive(Clone, Copy)]
-enum Trail<'t> {
+pub(crate) enum Trail<'t> {
     Header(usize),
     Row(usize, &'t str),
 }
@@ -48,15 +43,15 @@ enum Trail<'t> {
 /// A node of a tree: a value, and where it comes from.
 #[derive(Clone, Copy)]
 pub struct Node<'t, 'de> {
-    tree: &'t Tree<'de>,
-    spot: Spot<'t, 'de>,
+    pub(crate) tree: &'t Tree<'de>,
+    pub(crate) spot: Spot<'t, 'de>,
     // where a value begins, and the first value of a dotted table
-    start: usize,
+    pub(crate) start: usize,
     // the beginning of the nearest inline or dotted table around it; with none the last section
-    outer: Option<usize>,
+    pub(crate) outer: Option<usize>,
     // how many keys lead to it, numbers of elements apart
-    count: usize,
-    trail: Trail<'t>,
+    pub(crate) count: usize,
+    pub(crate) trail: Trail<'t>,
 }
 
 impl<'de> Tree<'de> {
@@ -74,17 +69,6 @@ impl<'de> Tree<'de> {
             trail: Trail::Header(0),
         }
     }
-
-    // The offset of the last section.
-    #[tactic(auto, using(crate::proofs::LastSection::last_is_last, crate::proofs::LastSection::none_is_last))]
-    fn last_at(&self) -> Option<usize>
-        ensures { result ≡ last_at self.now }
-    {
-        match self.sections.last() {
-            Some(section) => Some(section.at),
-            None => None,
-        }
-    }
 }
 
 // The key of a row that has so many keys of its section before it.
@@ -98,59 +82,10 @@ fn first_key<'t, 'de>(tree: &'t Tree<'de>, section: usize, count: usize) -> Opti
     }
 }
 
-// Copies of the keys of a section's header.
-fn header_texts(alloc: Global, tree: &Tree<'_>, section: usize) -> Result<Vec<String>, AllocError>
-    ensures { IfOk result (λ texts. map string_bytes texts.items ≡ header_of (slice_get tree.now.sections.items section)) }
-{
-    match tree.sections.get(section) {
-        Some(section) => key_texts(alloc, section.header.as_slice()),
-        None => Ok(Vec::new(alloc)),
-    }
-}
-
 fn header_len(tree: &Tree<'_>, section: usize) -> usize {
     match tree.sections.get(section) {
         Some(section) => section.header.len(),
         None => 0,
-    }
-}
-
-impl<'t, 'de> Spot<'t, 'de> {
-    // Whether headers made it, where so many keys lead to it.
-    fn is_made(self, count: usize) -> bool
-        ensures { result ≡ spot_is_made count self.entry }
-    {
-        match self {
-            Spot::Table(table) => count == 0 || table.is_made(),
-            Spot::Item(Item::Tables(_, _)) => true,
-            _ => false,
-        }
-    }
-
-    // What it is called, where so many keys lead to it.
-    fn type_name(self, count: usize) -> &'static str
-        ensures { result.now ≡ spot_name count self.entry }
-    {
-        match self {
-            Spot::Table(_) => {
-                if self.is_made(count) {
-                    "table"
-                } else {
-                    "dotted table"
-                }
-            }
-            Spot::Item(item) => match item {
-                Item::Nothing => "dotted table",
-                Item::Integer(_) => "integer",
-                Item::Float(_) => "float",
-                Item::Boolean(_) => "boolean",
-                Item::String(_) => "string",
-                Item::Array(_) => "array",
-                Item::Inline(_) => "inline table",
-                Item::Table(_) => "dotted table",
-                Item::Tables(_, _) => "array",
-            },
-        }
     }
 }
 
@@ -197,7 +132,7 @@ impl<'t, 'de> Node<'t, 'de> {
     }
 
     // The table here, and none for one in which nothing stands yet.
-    fn as_table(self) -> Option<Option<&'t Table<'de>>>
+    pub(crate) fn as_table(self) -> Option<Option<&'t Table<'de>>>
         ensures data { MatchOption result (is_table (node_data self.entry) ≡ false)
             (λ table. node_data self.entry ≡ maybe_table table) }
         ensures table { IfSome result (λ found. IfSome found (λ table. HoldsTable self.entry.spot table.now)) }
@@ -220,73 +155,13 @@ impl<'t, 'de> Node<'t, 'de> {
         self.as_table().is_some()
     }
 
-    /// Whether headers made it: they name it, pass through it, or add elements to it.
-    #[tactic(auto, using(crate::proofs::MadeNodes::made_told))]
-    pub fn is_made(self) -> bool
-        ensures is { result ≡ is_made self.entry }
-        ensures foretold { (sections : List Section) (p : Path) → IsNodeAt sections p self.entry
-            → made_by_headers (located sections) p ≡ true → result ≡ true }
-    {
-        self.spot.is_made(self.count)
-    }
-
-    /// The name of its kind: `integer`, `float`, `boolean`, `string`, `array`, `inline table`, `dotted table` or
-    /// `table`.
-    #[tactic(auto, unfolding(crate::specs::Origin::name_of), using(crate::proofs::MadeNodes::name_told))]
-    pub fn type_name(self) -> &'static str
-        ensures is { result.now ≡ name_of self.entry }
-        ensures foretold { (sections : List Section) (p : Path)
-            → Foretold sections p self.entry (λ node. result.now ≡ node.type_name) }
-    {
-        self.spot.type_name(self.count)
-    }
-
-    /// The byte offset where it begins: that of a value, of the first value of a dotted table, and of the last section
-    /// where headers made it.
-    #[tactic(auto, unfolding(crate::specs::Origin::start_of), using(crate::proofs::MadeNodes::start_told))]
-    pub fn start(self) -> Option<usize>
-        ensures is { result ≡ start_of self.entry }
-        ensures foretold { (sections : List Section) (p : Path)
-            → Foretold sections p self.entry (λ node. result ≡ node.start) }
-    {
-        if self.is_made() {
-            self.tree.last_at()
-        } else {
-            Some(self.start)
-        }
-    }
-
-    /// The byte offset that names it in errors: where it begins, but for an array literal the outer place.
-    #[tactic(auto, unfolding(crate::specs::Origin::offset_of, crate::specs::Origin::start_of, crate::specs::Origin::outer_of))]
-    pub fn place(self) -> Option<usize>
-        ensures is { result ≡ offset_of self.entry }
-        ensures foretold { (sections : List Section) (p : Path)
-            → Foretold sections p self.entry (λ node. result ≡ node.offset) }
-    {
-        match self.spot {
-            Spot::Item(Item::Array(_)) => self.outer_place(),
-            _ => self.start(),
-        }
-    }
-
-    /// The byte offset of the nearest inline or dotted table around it, else that of the last section.
-    #[tactic(auto, unfolding(crate::specs::Origin::outer_of))]
-    pub fn outer_place(self) -> Option<usize>
-        ensures is { result ≡ outer_of self.entry }
-        ensures foretold { (sections : List Section) (p : Path)
-            → Foretold sections p self.entry (λ node. result ≡ node.outer_offset) }
-    {
-        if self.is_made() {
-            return self.tree.last_at();
-        }
-        match self.outer {
-            Some(outer) => Some(outer),
-            None => self.tree.last_at(),
-        }
-    }
-
     // A node below this table at a key.
-    fn below(self, table: &'t Table<'de>, key: &'t str, child: &'t Child<'de>) -> Node<'t, 'de>
+    pub(crate) fn below(
+        self,
+        table: &'t Table<'de>,
+        key: &'t str,
+        child: &'t Child<'de>,
+    ) -> Node<'t, 'de>
         ensures data { node_data result ≡ child_data child.now }
         ensures below { IsBelow self.entry (child_trie child.now) result }
     {
@@ -372,7 +247,7 @@ impl<'t, 'de> Node<'t, 'de> {
     }
 
     // The element at a number, if this is an array that has it.
-    fn element_at(self, at: usize) -> Option<Node<'t, 'de>>
+    pub(crate) fn element_at(self, at: usize) -> Option<Node<'t, 'de>>
         ensures within { IsSome result → at < usize.MAX }
         ensures data { MatchOption result (length (elements_in (node_data self.entry)) ≤ at)
             (λ node. slice_get (elements_in (node_data self.entry)) at ≡ Some (node_data node)) }
@@ -414,9 +289,10 @@ impl<'t, 'de> Node<'t, 'de> {
 
     /// Its elements in order, if it is an array.
     pub fn elements(self) -> Option<Elements<'t, 'de>>
-        ensures { MatchOption result (is_array (node_data self.entry) ≡ false)
+        ensures elements { MatchOption result (is_array (node_data self.entry) ≡ false)
             (λ elements. IsTrue (is_array (node_data self.entry))
             × (elements_left elements ≡ elements_in (node_data self.entry))) }
+        ensures stand { IfSome result (BeginsIn self.entry) }
     {
         match self.spot {
             Spot::Item(Item::Array(_)) => Some(Elements { array: self, at: 0 }),
@@ -431,40 +307,17 @@ impl<'t, 'de> Node<'t, 'de> {
         ensures entries { MatchOption result (is_table (node_data self.entry) ≡ false)
             (λ entries. IsTrue (is_table (node_data self.entry))
             × (entries_left entries ≡ entries_in (node_data self.entry))) }
-        ensures distinct { IfSome result (λ _. IsTrue (are_distinct (table_keys (entries_in (node_data self.entry))))) }
+        ensures distinct { IfSome result (λ _. IsTrue (are_distinct (keys_of (entries_in (node_data self.entry))))) }
+        ensures stand { IfSome result (λ entries. entries.table ≡ self.entry) }
     {
         match self.as_table() {
             Some(table) => {
                 if let Some(table) = table {
                     table.entries.keys_differ();
                 }
-                Some(Entries {
-                    node: self,
-                    table,
-                    at: 0,
-                })
+                Some(Entries { table: self, at: 0 })
             }
             None => None,
-        }
-    }
-
-    /// The keys that lead to it: those of the headers that made it, or those of its section and the first key of its
-    /// row.
-    #[tactic(auto, unfolding(crate::specs::Origin::keys_of))]
-    pub fn key_path(self, alloc: Global) -> Result<Vec<String>, AllocError>
-        ensures { IfOk result (λ path. map string_bytes path.items ≡ keys_of self.entry) }
-    {
-        match self.trail {
-            Trail::Header(section) => {
-                let mut path = header_texts(alloc, self.tree, section)?;
-                path.truncate(self.count);
-                Ok(path)
-            }
-            Trail::Row(section, first) => {
-                let mut path = header_texts(alloc, self.tree, section)?;
-                path.push(String::from_str(alloc, first)?)?;
-                Ok(path)
-            }
         }
     }
 
@@ -493,63 +346,5 @@ impl<'t, 'de> Node<'t, 'de> {
             Some(None) => Ok(Some(values::Table::new(alloc))),
             None => Ok(None),
         }
-    }
-}
-
-/// The elements of an array in order.
-#[derive(Clone, Copy, Drop)]
-pub struct Elements<'t, 'de> {
-    array: Node<'t, 'de>,
-    at: usize,
-}
-
-impl<'t, 'de> Iterator for Elements<'t, 'de> {
-    ghost use Rattle.std.specs.Iterator.{YieldsFirstBy, item_count};
-    ghost use Rattle.basic_toml_tree.specs.Nodes.{node_data, elements_left};
-
-    ghost next_gives = { YieldsFirstBy node_data elements_left };
-
-    ghost remaining = { item_count elements_left };
-
-    type Item = Node<'t, 'de>;
-
-    fn next(&mut self) -> Option<Node<'t, 'de>> {
-        let at = self.at;
-        let node = self.array.element_at(at)?;
-        self.at = at + 1;
-        Some(node)
-    }
-}
-
-/// The keys of a table with their values in order.
-#[derive(Clone, Copy, Drop)]
-pub struct Entries<'t, 'de> {
-    node: Node<'t, 'de>,
-    // none where nothing stands
-    table: Option<&'t Table<'de>>,
-    at: usize,
-}
-
-impl<'t, 'de> Iterator for Entries<'t, 'de> {
-    ghost use Rattle.std.specs.Iterator.{YieldsFirstBy, item_count};
-    ghost use Rattle.basic_toml_tree.specs.Nodes.{key_and_data, entries_left};
-
-    ghost next_gives = { YieldsFirstBy key_and_data entries_left };
-
-    ghost remaining = { item_count entries_left };
-
-    type Item = (&'t str, Node<'t, 'de>);
-
-    fn next(&mut self) -> Option<(&'t str, Node<'t, 'de>)> {
-        let at = self.at;
-        let Some(table) = self.table else {
-            return None;
-        };
-        if at >= table.entries.len() {
-            return None;
-        }
-        self.at += 1;
-        let key = table.entries.key(at);
-        Some((key, self.node.below(table, key, table.entries.value(at))))
     }
 }

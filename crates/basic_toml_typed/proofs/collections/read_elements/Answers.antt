@@ -8,11 +8,11 @@ use Rattle.basic_toml_typed.proofs.collections.read_elements.Goals as goal
 pub returns-in_err-deserialize-clause-err : goal.returns-in_err-deserialize-clause-err
 returns-in_err-deserialize-clause-err g c =
     let refused = element_refused g.T.Deserialize.takes g.T.Deserialize.reads (node_data c.args.node) _ _ _ _ _
-    c.loop-element.invariant c.in-Some-element.ensures.steps c.in_err-deserialize.ensures.err in
+    c.loop-element.invariant c.in-Some-element.ensures.steps.0 c.in_err-deserialize.ensures.err in
     search (rules, refused)
 
 pub loop-element-preserved : goal.loop-element-preserved
 loop-element-preserved g c =
     let read = one_read g.T.Deserialize.takes g.T.Deserialize.reads _ _ _ _ _ c.in_ok-deserialize.field-0
-    c.loop-element.invariant c.in-Some-element.ensures.steps c.in_ok-deserialize.ensures.ok in
+    c.loop-element.invariant c.in-Some-element.ensures.steps.0 c.in_ok-deserialize.ensures.ok in
     rw c.in-Ok.ensures.items read

@@ -1,12 +1,15 @@
-use Rattle.std.proofs.Common.{◌≡◌, ◌∷◌, ◌+◌, arith, ap, length, drop}
+use Rattle.std.proofs.Common.{◌≡◌, ◌∷◌, ◌+◌, arith, ap, length, drop, refl}
 use Rattle.basic_toml_tree.specs.Nodes.{node_data, elements_in, elements_left}
 use Rattle.basic_toml_tree.proofs.NodesInOrder.{drop_next, progress}
-use Rattle.basic_toml_tree.proofs.node.ElementsIterator.next.Goals as goal
+use Rattle.basic_toml_tree.proofs.entries.ElementsIterator.next.Goals as goal
 
 pub returns-clause-steps : goal.returns-clause-steps
-returns-clause-steps c =
-    drop_next (elements_in (node_data c.args.self.now.array)) c.args.self.now.at (node_data c.in_ok-node.node)
-    c.in_ok-node.ensures.«data»
+returns-clause-steps c = (
+  drop_next (elements_in (node_data c.args.self.now.array)) c.args.self.now.at (node_data c.in_ok-node.node)
+      c.in_ok-node.ensures.«data»,
+  (c.in_ok-node.ensures.stands, refl),
+  refl,
+)
 
 pub returns-clause-goes : goal.returns-clause-goes
 returns-clause-goes c =
