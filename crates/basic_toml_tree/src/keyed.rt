@@ -45,6 +45,16 @@ impl<V: Drop> Keyed<V> {
         }
     }
 
+    /// No keys, with room for some.
+    pub fn with_capacity(alloc: Global, capacity: usize) -> Result<Keyed<V>, AllocError>
+        ensures { IfOk result (λ keyed. keyed ≡ []) }
+    {
+        Ok(Keyed {
+            entries: Vec::with_capacity(alloc, capacity)?,
+            index: Index::none(),
+        })
+    }
+
     /// How many keys there are.
     pub fn len(&self) -> usize
         ensures { result ≡ length self.now }
