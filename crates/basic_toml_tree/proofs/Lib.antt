@@ -20,6 +20,7 @@ pub mod InlineTables
 pub mod ElementsLeft
 pub mod KeysChanged
 pub mod RowIsFollowed
+pub mod RowsGetNoLonger
 pub mod RowsGoOn
 pub mod RowsOfKeys
 pub mod TrailGrows

@@ -76,10 +76,10 @@ pub goes_on : (front : KeyTexts) (k : List ℕ) (rest : KeyTexts)
 goes_on [] k rest = refl
 goes_on (l ∷ front) k rest = rw (bytes_eq-same l) (goes_on front k rest)
 
-abbrev KeysLeft : KeyTexts → KeyTexts → Type 0
+abbrev pub KeysLeft : KeyTexts → KeyTexts → Type 0
 KeysLeft p path = (k : List ℕ) × (rest : KeyTexts) × (path ≡ p ++ k ∷ rest)
 
-keys_left : (p path : KeyTexts) → properly_begins (steps_of p) (steps_of path) ≡ true → KeysLeft p path
+pub keys_left : (p path : KeyTexts) → properly_begins (steps_of p) (steps_of path) ≡ true → KeysLeft p path
 keys_left [] [] properly = absurd (cc)
 keys_left [] (k ∷ path) properly = (k, path, refl)
 keys_left (l ∷ p) [] properly = absurd (cc)

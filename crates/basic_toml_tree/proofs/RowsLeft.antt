@@ -122,6 +122,12 @@ none_left rows keys level before now left =
       fits = left.fits low;
     }
 
+-- and where there are none, nothing is put
+pub no_rows_left : (rows : List lines.Row) (level : ℕ) (t : Trie) → length rows ≡ 0 → AreIn (rows_view rows) level t t
+no_rows_left rows level t none =
+    subst (λ (rows : List lines.Row). AreIn (rows_view rows) level t t) (sym (nothing_left rows none))
+    (none_left [] [] level t t (all_left [] level t))
+
 pub has_value : (v : Option Raw) → not (is_some v) ≡ false → (w : Raw) × (v ≡ Some w)
 has_value None dot = absurd (cc)
 has_value (Some w) dot = (w, refl)

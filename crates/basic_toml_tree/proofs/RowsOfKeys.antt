@@ -1,24 +1,19 @@
 -- The rows that keys and values stand for, and where a row ends among them.
-use Rattle.std.proofs.Common.{◌≡◌, ℕ, suc, zero, ◌+◌, ◌<◌, ◌≤◌, true, false, List, [], ◌∷◌, ◌++◌, refl, sym, ap}
+use Rattle.std.proofs.Common.{◌≡◌, ℕ, suc, zero, ◌+◌, ◌<◌, ◌≤◌, true, List, [], ◌∷◌, ◌++◌, refl, ap}
 use Rattle.std.proofs.Common.{◌∙◌, take, drop}
-use Rattle.std.proofs.Common.{Some, None, is_some, All, map, arith, length, get_or, Bool, Option, subst, rules}
+use Rattle.std.proofs.Common.{Some, None, is_some, map, arith, length, get_or, Option, subst, rules}
 use Rattle.std.specs.List.{flat_map}
-use Rattle.std.specs.Prelude.{◌&&◌, not}
-use Rattle.std.specs.Str.{bytes_eq}
-use Rattle.std.proofs.lemmas.Slice.Eq.{bytes_eq-Decides}
-use Rattle.std.proofs.lemmas.List.Elements.{All-head, All-tail}
 use Rattle.std.proofs.lemmas.List.Folds.{flat_map-map}
 use Rattle.std.specs.Cow.{cow_str_bytes}
 use Rattle.basic_toml_read.specs.declared.section.Raw.{the_lemmas}
 use Rattle.basic_toml_read.specs.declared.section.Element.{Element, out-Element}
 use Rattle.basic_toml_read.specs.declared.section.Row.{Row, out-Row}
 use Rattle.basic_toml_grammar.specs.Sections.{Key, texts, Raw, Rows, no_rows, row}
-use Rattle.basic_toml_grammar.specs.Steps.{key, properly_begins}
-use Rattle.basic_toml_grammar.specs.NamedClash.{extending_faults, dotted_faults_among}
+use Rattle.basic_toml_grammar.specs.NamedClash.{dotted_faults_among}
 use Rattle.basic_toml_read.specs.SectionView.{Lined, Placed, with_key, with_row, rows_from, with_element}
 use Rattle.basic_toml_read.specs.SectionView.{elements_from}
 use Rattle.basic_toml_read.specs.SectionView.{raw_of, placed_of, lined_of, elements_view, rows_view}
-use Rattle.basic_toml_tree.specs.Crossed.{faults_between, faults_in}
+use Rattle.basic_toml_tree.specs.Crossed.{faults_in}
 use Rattle.basic_toml_tree.specs.Trail.{path_of}
 use Rattle.basic_toml_tree.proofs.RowsGoOn.{value_faults}
 
@@ -47,49 +42,6 @@ values_of_elements (e ∷ es) = go e.value (values_of_elements es)
         ≡ faults_in value ++ flat_map (λ e. faults_in e.value) es
     go None same = same
     go (Some v) same = ap (λ fs. faults_in (Some v) ++ fs) same
-
-bytes_eq-turned : (k l : List ℕ) → bytes_eq k l ≡ bytes_eq l k
-bytes_eq-turned k l = go (bytes_eq k l) (bytes_eq l k) refl refl
-  where
-    go : (a b : Bool) → bytes_eq k l ≡ a → bytes_eq l k ≡ b → a ≡ b
-    go true true e f = refl
-    go false false e f = refl
-    go true false e f = sym ((bytes_eq-Decides l k).1 (sym ((bytes_eq-Decides k l).0 e))) ∙ f
-    go false true e f = sym e ∙ (bytes_eq-Decides k l).1 (sym ((bytes_eq-Decides l k).0 f))
-
-single_apart : (k l : List ℕ) → properly_begins (key k ∷ []) (key l ∷ []) ≡ false
-single_apart k l = go (bytes_eq k l) (bytes_eq l k) (bytes_eq-turned k l)
-  where
-    go : (a b : Bool) → a ≡ b → ((a && true) && not (b && true)) ≡ false
-    go true true same = refl
-    go false b same = refl
-    go true false same = absurd (cc)
-
--- rows of one key go on from no other
-none_on : (at : ℕ) (k : List ℕ) (ls : List Lined) → All (λ l. is_some l.value ≡ true) ls
-    → extending_faults at (key k ∷ []) (rows_from ls) ≡ []
-none_on at k [] single = refl
-none_on at k (l ∷ ls) single =
-    go l.value (All-head (λ l. is_some l.value ≡ true) l ls single)
-    (none_on at k ls (All-tail (λ l. is_some l.value ≡ true) l ls single))
-  where
-    go : (value : Option Raw) → is_some value ≡ true → extending_faults at (key k ∷ []) (rows_from ls) ≡ []
-        → extending_faults at (key k ∷ []) (with_row l.key l.start value (rows_from ls)) ≡ []
-    go None is rest = absurd (cc)
-    go (Some v) is rest = rw (single_apart k l.key.text) rest
-
-pub none_between_single : (ls : List Lined) → All (λ l. is_some l.value ≡ true) ls → faults_between (rows_from ls) ≡ []
-none_between_single [] single = refl
-none_between_single (l ∷ ls) single =
-    let rest = All-tail (λ l. is_some l.value ≡ true) l ls single in
-    go l.value (All-head (λ l. is_some l.value ≡ true) l ls single) (none_on l.start l.key.text ls rest)
-    (none_between_single ls rest)
-  where
-    go : (value : Option Raw) → is_some value ≡ true
-        → extending_faults l.start (key l.key.text ∷ []) (rows_from ls) ≡ [] → faults_between (rows_from ls) ≡ []
-        → faults_between (with_row l.key l.start value (rows_from ls)) ≡ []
-    go None is here later = absurd (cc)
-    go (Some v) is here later = rw (here, later) refl
 
 -- rows as they stand somewhere
 module _ {A : Type 0} (f : A → Lined) where

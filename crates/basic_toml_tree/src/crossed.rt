@@ -1,6 +1,6 @@
 //! Rows that go on from a value: the clash that comes before all others.
 
-ghost use Rattle.std.specs.Prelude.{◌≡◌, ◌≤◌, ◌<◌, All, List, ℕ, None, false, IfNone, IfOk, IfSome, is_some};
+ghost use Rattle.std.specs.Prelude.{◌≡◌, ◌≤◌, ◌<◌, [], List, ℕ, None, false, IfNone, IfOk, IfSome, is_some};
 ghost use Rattle.std.specs.Prelude.{length, true};
 ghost use Rattle.std.specs.List.{AllWithin, HoldsAt};
 ghost use Rattle.std.specs.Option.{ForSome};
@@ -88,22 +88,31 @@ fn last_key(rows: &[Row<'_>], first: usize) -> Option<usize>
     None
 }
 
-fn has_dots(rows: &[Row<'_>]) -> bool
-    ensures { result ≡ false → All (λ r. is_some (lined_of r).value ≡ true) rows.now }
+// Whether some row has more keys than the one before it.
+fn has_longer(rows: &[Row<'_>]) -> bool
+    ensures { result ≡ false → faults_between (rows_view rows.now) ≡ [] }
 {
+    let mut most = usize::MAX;
+    let mut keys = 0;
     for row in rows {
-        if row.is_dot() {
+        keys += 1;
+        if keys > most {
             return true;
         }
+        if row.is_dot() {
+            continue;
+        }
+        most = keys;
+        keys = 0;
     }
     false
 }
 
-// Looks for a row that goes on from the value of one before it. Where each row has one key, none does.
+// Looks for a row that goes on from the value of one before it. It has more keys than that one.
 fn look_between(alloc: Global, rows: &[Row<'_>]) -> Result<(), Crossed>
     ensures { Looks (faults_between (rows_view rows.now)) result }
 {
-    if !has_dots(rows) {
+    if !has_longer(rows) {
         return Ok(());
     }
     let mut trail = Trail::new(alloc);

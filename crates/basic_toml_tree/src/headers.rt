@@ -13,7 +13,7 @@ ghost use Rattle.basic_toml_tree.specs.Headers.{entered_by, steps_by, entered_at
 
 use crate::clash::Clash;
 use crate::item::{Child, Item, LIMIT, Table};
-use crate::rows::enter_rows;
+use crate::rows::{enter_rows, room_for};
 use basic_toml_read::{Row, Section};
 use std::alloc::{AllocError, Global};
 use std::borrow::CowStr;
@@ -196,13 +196,18 @@ fn add_element<'de>(
         }
         _other => return Err(Clash::Header(1)),
     };
-    let table = Table::new(alloc)?;
+    let table = Table::new(alloc, room_for(rows.as_slice()))?;
     let latest = open(alloc, table, rows, number, level + 2)?;
     Ok(Child {
         start,
         section,
         item: Item::Tables(before, latest),
     })
+}
+
+// The room that a table wants where a header goes on by the keys that are left.
+fn room_below(rest: &[CowStr<'_>], rows: &[Row<'_>]) -> usize {
+    if rest.is_empty() { room_for(rows) } else { 1 }
 }
 
 // Goes on from what stands at a key in a table of a level by the keys that are left after it.
@@ -232,7 +237,7 @@ fn enter_child<'de>(
     } = there;
     let item = match item {
         Item::Nothing => {
-            let table = Table::new(alloc)?;
+            let table = Table::new(alloc, room_below(rest, rows.as_slice()))?;
             Item::Table(enter_header(alloc, table, rest, is_array, rows, number, level + 1)?)
         }
         Item::Table(table) => Item::Table(enter_header(

@@ -1,9 +1,23 @@
 //! Keys with their values, in order, each key once: what a table grows in.
 
+ghost use Rattle.std.specs.Prelude.{◌≡◌, ◌<◌, OnOk, vec_capacity, vec_len};
+
 use basic_toml_value::{Found, Index, Pair};
 use std::alloc::{AllocError, Global};
 use std::marker::Model;
 use std::mem;
+
+// Makes room for one more pair: twice the room where none is left.
+fn make_room<V>(pairs: &mut Vec<Pair<V>>) -> Result<(), AllocError>
+    ensures items { pairs.new.items ≡ pairs.old.items }
+    ensures room { OnOk result (vec_len pairs.new < vec_capacity pairs.new) }
+{
+    let count = pairs.len();
+    if count < pairs.capacity() {
+        return Ok(());
+    }
+    pairs.try_reserve_exact(count.max(1))
+}
 
 /// Keys with their values, in order, each key once.
 #[derive(Drop)]
@@ -45,6 +59,16 @@ impl<V: Drop> Keyed<V> {
         }
     }
 
+    /// No keys, with room for some.
+    pub fn with_capacity(alloc: Global, capacity: usize) -> Result<Keyed<V>, AllocError>
+        ensures { IfOk result (λ keyed. keyed ≡ []) }
+    {
+        Ok(Keyed {
+            entries: Vec::with_capacity(alloc, capacity)?,
+            index: Index::none(),
+        })
+    }
+
     /// How many keys there are.
     pub fn len(&self) -> usize
         ensures { result ≡ length self.now }
@@ -75,7 +99,7 @@ impl<V: Drop> Keyed<V> {
                 let alloc = *self.entries.allocator();
                 let position = self.entries.len();
                 let key = String::from_str(alloc, key)?;
-                self.entries.try_reserve(1)?;
+                make_room(&mut self.entries)?;
                 self.index.insert(alloc, &self.entries, key.as_str(), gap)?;
                 match self.entries.push(Pair { key, value }) {
                     Ok(()) => Ok(position),

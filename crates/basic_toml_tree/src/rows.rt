@@ -121,7 +121,7 @@ fn extended<'de>(
     } = there;
     match item {
         Item::Nothing => {
-            let mut table = Table::new(alloc)?;
+            let mut table = Table::new(alloc, 1)?;
             table.dotted = true;
             let start = child.start;
             let section = child.section;
@@ -210,6 +210,17 @@ fn held_by(alloc: Global, clash: Clash, keys: &[Row<'_>], last: &str) -> Result<
     }
 }
 
+/// The room that the rows of a table want: no row makes more than one entry of it.
+pub(crate) fn room_for(rows: &[Row<'_>]) -> usize {
+    let mut room = 0;
+    for row in rows {
+        if !row.is_dot() {
+            room += 1;
+        }
+    }
+    room
+}
+
 /// Puts rows into a table of a level, in order.
 #[cycle(finishing)]
 pub(crate) fn enter_rows<'de>(
@@ -224,6 +235,9 @@ pub(crate) fn enter_rows<'de>(
     ensures named { IfErr result (λ clash.
         NamesStop (try_put_rows (rows_view rows.entry.items) (table_trie table.entry.value)) clash) }
 {
+    if rows.is_empty() {
+        return Ok(table);
+    }
     let mut table = table;
     let mut keys = Vec::new(alloc);
     for row in rows.into_iter() {
@@ -311,7 +325,8 @@ fn finished<'de>(
             if level >= LIMIT {
                 return Err(Clash::Deep);
             }
-            let table = enter_rows(alloc, Table::new(alloc)?, rows, section, level + 1)?;
+            let room = room_for(rows.as_slice());
+            let table = enter_rows(alloc, Table::new(alloc, room)?, rows, section, level + 1)?;
             Ok(Child::at(start, section, Item::Inline(table)))
         }
     }

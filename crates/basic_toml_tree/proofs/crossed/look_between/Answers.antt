@@ -1,5 +1,4 @@
-use Rattle.std.proofs.Common.{◌≡◌, ◌+◌, ◌-◌, true, refl, sym, is_some, map, arith, subst, take, drop}
-use Rattle.std.proofs.lemmas.List.Elements.{All-map}
+use Rattle.std.proofs.Common.{◌≡◌, ◌+◌, ◌-◌, true, refl, sym, is_some, arith, subst, take, drop}
 use Rattle.std.proofs.lemmas.Result.{err_from_is_err_and}
 use Rattle.basic_toml_grammar.specs.Sections.{Rows}
 use Rattle.basic_toml_read.specs.declared.section.Row.{Row, out-Row}
@@ -7,13 +6,8 @@ use Rattle.basic_toml_read.specs.SectionView.{lined_of, rows_view}
 use Rattle.basic_toml_tree.specs.Trail.{ends_of, path_of, Follows}
 use Rattle.basic_toml_tree.proofs.RowIsFollowed.{gone_on, stopped}
 use Rattle.basic_toml_tree.proofs.RowsGoOn.{Reached, all_followed}
-use Rattle.basic_toml_tree.proofs.RowsOfKeys.{none_between_single, no_row}
+use Rattle.basic_toml_tree.proofs.RowsOfKeys.{no_row}
 use Rattle.basic_toml_tree.proofs.crossed.look_between.Goals as goal
-
-pub returns-then-not-has_dots : goal.returns-then-not-has_dots
-returns-then-not-has_dots c =
-    none_between_single (map lined_of c.args.rows.now)
-    (All-map (λ l. is_some l.value ≡ true) lined_of c.args.rows.now (c.if-not-has_dots.ensures refl))
 
 pub returns-in_err-trail : goal.returns-in_err-trail
 returns-in_err-trail c =

@@ -10,7 +10,7 @@ use Rattle.basic_toml_tree.specs.Item.{child_trie, table_trie}
 use Rattle.basic_toml_tree.specs.Rows.{AreIn, AreKeptOut, IsFinished, AreFinished, key_texts}
 use Rattle.basic_toml_tree.proofs.RowsEntered.{boxed_trie, row_key}
 use Rattle.basic_toml_tree.proofs.RowsLeft.{AreLeft, has_value, row_entered, row_kept_out, none_left, nothing_left}
-use Rattle.basic_toml_tree.proofs.RowsLeft.{row_stopped, no_value}
+use Rattle.basic_toml_tree.proofs.RowsLeft.{row_stopped, no_value, no_rows_left}
 use Rattle.basic_toml_tree.proofs.RowValues.{value_stopped, met_stopped}
 use Rattle.basic_toml_tree.proofs.InlineTables.{inline_stopped}
 use Rattle.basic_toml_tree.proofs.ElementsLeft.{element_stopped, element_skipped}
@@ -24,6 +24,11 @@ use Rattle.basic_toml_tree.proofs.RowValues.{last_deep, value_kept_out, value_pu
 use Rattle.basic_toml_tree.proofs.InlineTables.{inline_finished, inline_kept_out}
 use Rattle.basic_toml_tree.proofs.ElementsLeft.{ElementsAreLeft, element_entered, elements_done}
 use Rattle.basic_toml_tree.proofs.rows.+finishing.Goals as goal
+
+pub enter_rows-returns-then-is_empty-clause-entered : goal.enter_rows-returns-then-is_empty-clause-entered
+enter_rows-returns-then-is_empty-clause-entered t c =
+    let none : length c.args.rows.items ≡ 0 = grind (arith, c.is_empty.ensures, c.if-is_empty.true, c.args.rows.ok.0) in
+    no_rows_left c.args.rows.items c.args.level (table_trie c.args.table.value) none
 
 pub enter_rows-returns-in_err-table-clause-entered : goal.enter_rows-returns-in_err-table-clause-entered
 enter_rows-returns-in_err-table-clause-entered t c =

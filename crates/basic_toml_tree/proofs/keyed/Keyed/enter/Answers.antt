@@ -17,7 +17,7 @@ returns-in-Ok-clause-entered g c =
     c.self.view_is c.in-Absent.ensures.absent c.in_ok-key-in-Absent.ensures.ok refl in
     rw (
       c.in-Ok.ensures.items,
-      c.in_ok-try_reserve-in-Absent.ensures.items,
+      c.in_ok-make_room-in-Absent.ensures.items,
       c.len-position.ensures,
       c.self.inside.entries.ok.0,
     ) last
