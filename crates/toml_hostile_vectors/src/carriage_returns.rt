@@ -64,7 +64,7 @@ fn a_carriage_return_is_half_of_a_line_end(rt: HostRuntime) -> Result<(), Fail> 
 }
 
 // The text with CR LF for each LF.
-pub fn with_crlf(alloc: Global, text: &str) -> Result<String, AllocError> {
+pub(crate) fn with_crlf(alloc: Global, text: &str) -> Result<String, AllocError> {
     let mut long = String::new(alloc);
     for c in text.chars() {
         if c == '\n' {

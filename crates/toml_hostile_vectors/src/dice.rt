@@ -1,11 +1,11 @@
 // Numbers that look random and are the same at each run.
 #[derive(Drop)]
-pub struct Dice {
+pub(crate) struct Dice {
     state: u64,
 }
 
 impl Dice {
-    pub fn new(seed: u64) -> Dice {
+    pub(crate) fn new(seed: u64) -> Dice {
         Dice { state: seed }
     }
 
@@ -19,20 +19,20 @@ impl Dice {
     }
 
     // A number below the limit; 0 where that is 0.
-    pub fn below(&mut self, limit: usize) -> usize {
+    pub(crate) fn below(&mut self, limit: usize) -> usize {
         self.roll() % limit.max(1)
     }
 
-    pub fn byte(&mut self) -> u8 {
+    pub(crate) fn byte(&mut self) -> u8 {
         (self.roll() % 256) as u8
     }
 
     // Once in so many times.
-    pub fn is_one_in(&mut self, times: usize) -> bool {
+    pub(crate) fn is_one_in(&mut self, times: usize) -> bool {
         self.below(times) == 0
     }
 
-    pub fn pick(&mut self, parts: &[&'static str]) -> &'static str {
+    pub(crate) fn pick(&mut self, parts: &[&'static str]) -> &'static str {
         let at = self.below(parts.len());
         parts.get(at).copied().unwrap_or("")
     }

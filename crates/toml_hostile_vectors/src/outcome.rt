@@ -3,7 +3,7 @@ use basic_toml::{Error, Table, from_str, to_string};
 use std::alloc::{AllocError, Global};
 
 // The text that is written of its table, or its error.
-pub fn outcome(alloc: Global, text: &str) -> Result<String, AllocError> {
+pub(crate) fn outcome(alloc: Global, text: &str) -> Result<String, AllocError> {
     match written_again(alloc, text) {
         Ok(written) => Ok(written),
         Err(error) => format!(in alloc; "{error}"),
@@ -16,7 +16,7 @@ fn written_again(alloc: Global, text: &str) -> Result<String, Error> {
 }
 
 // Whether a text has this line and column, both from 0, its end included; a column counts bytes.
-pub fn is_within(text: &[u8], (line, column): (usize, usize)) -> bool {
+pub(crate) fn is_within(text: &[u8], (line, column): (usize, usize)) -> bool {
     let mut lines_left = line;
     let mut columns_left = column;
     for byte in text {

@@ -264,7 +264,7 @@ impl<'d> Sentence<'d> {
 }
 
 // A text of some lines; of three one has no fault that is put in, and one has many.
-pub fn random_text(alloc: Global, dice: &mut Dice) -> Result<String, AllocError> {
+pub(crate) fn random_text(alloc: Global, dice: &mut Dice) -> Result<String, AllocError> {
     let pieces_a_fault = match dice.below(3) {
         0 => usize::MAX,
         1 => 100,

@@ -5,7 +5,7 @@ use std::io;
 
 /// Makes calls of each kind up to the first that is refused, and shows the text or the error; and after an error what
 /// the calls after it answer.
-pub fn each(rt: &impl Print, alloc: Global) -> io::Result<()> {
+pub(crate) fn each(rt: &impl Print, alloc: Global) -> io::Result<()> {
     let Ok(Some(float)) = Float::parse(alloc, "+1.5e3") else {
         return println!(rt; "float: out of memory");
     };

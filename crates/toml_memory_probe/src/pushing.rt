@@ -6,7 +6,7 @@ use std::io;
 
 /// Pushes each line of a text as a key, and shows the table. What is refused memory is tried once more, and where that is
 /// refused too, the lines after it are left out.
-pub fn each(rt: &impl Print, alloc: Global, text: &str) -> io::Result<()> {
+pub(crate) fn each(rt: &impl Print, alloc: Global, text: &str) -> io::Result<()> {
     let mut table = Table::new(alloc);
     for line in text.lines() {
         let Some(key) = key_of(rt, alloc, line)? else {

@@ -6,13 +6,13 @@ use std::io;
 const LEVELS: usize = 300;
 
 /// A table, piece by piece.
-pub fn show_table(rt: &impl Print, table: &Table) -> io::Result<()> {
+pub(crate) fn show_table(rt: &impl Print, table: &Table) -> io::Result<()> {
     members(rt, table, LEVELS)?;
     println!(rt; "")
 }
 
 /// An error's text, whether it is want of memory, and where it stands.
-pub fn show_error(rt: &impl Print, error: &Error) -> io::Result<()> {
+pub(crate) fn show_error(rt: &impl Print, error: &Error) -> io::Result<()> {
     let is_out_of_memory = error.is_out_of_memory();
     let place = error.line_col();
     println!(rt; "error, {error}, {is_out_of_memory}, {place:?}")

@@ -5,7 +5,7 @@ use std::alloc::Global;
 use std::io;
 
 /// Reads a text into a table.
-pub fn reading(rt: &impl Print, alloc: Global, text: &str) -> io::Result<()> {
+pub(crate) fn reading(rt: &impl Print, alloc: Global, text: &str) -> io::Result<()> {
     print!(rt; "read: ")?;
     match from_str::<Table>(alloc, text) {
         Ok(table) => show_table(rt, &table),
@@ -14,7 +14,7 @@ pub fn reading(rt: &impl Print, alloc: Global, text: &str) -> io::Result<()> {
 }
 
 /// Reads a text, writes its table, copies it, and writes and reads it back.
-pub fn writing(rt: &impl Print, alloc: Global, text: &str) -> io::Result<()> {
+pub(crate) fn writing(rt: &impl Print, alloc: Global, text: &str) -> io::Result<()> {
     let table: Table = match from_str(alloc, text) {
         Ok(table) => table,
         Err(error) => {

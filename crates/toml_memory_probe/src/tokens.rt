@@ -8,7 +8,7 @@ const MANY: usize = 1000;
 
 /// Each call that can take memory, at each token in turn: what it answers, and where the tokenizer then stands. A call
 /// of `next` that is refused memory is made once more.
-pub fn each(rt: &impl Print, alloc: Global, text: &str) -> io::Result<()> {
+pub(crate) fn each(rt: &impl Print, alloc: Global, text: &str) -> io::Result<()> {
     let mut tokens = Tokenizer::new(text);
     let mut was_refused = false;
     for _ in 0..MANY {
