@@ -6,9 +6,9 @@ use std::collections::BTreeMap;
 use std::test::Fail;
 
 // The text of the error of a type, or that it was read.
-fn told<T: Deserialize<'static> + Drop>(
+fn told<'de, T: Deserialize<'de> + Drop>(
     alloc: Global,
-    text: &'static str,
+    text: &'de str,
 ) -> Result<String, AllocError> {
     match from_str::<T>(alloc, text) {
         Ok(_) => String::from_str(alloc, "read"),

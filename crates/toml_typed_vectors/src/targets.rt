@@ -33,7 +33,7 @@ fn told_of<T: Drop>(
 }
 
 // What the type tells at each kind of node, and at the root; each on a line.
-fn told<T: Deserialize<'static> + Drop>(alloc: Global) -> Result<String, AllocError> {
+fn told<'de, T: Deserialize<'de> + Drop>(alloc: Global) -> Result<String, AllocError> {
     let mut lines = String::new(alloc);
     for text in TEXTS {
         let line = told_of(alloc, from_str::<BTreeMap<String, T>>(alloc, text))?;

@@ -7,9 +7,9 @@ use std::fmt;
 use std::test::Fail;
 
 // The value at the only key of a text, or the error.
-fn shown<T: Deserialize<'static> + Drop + fmt::Display>(
+fn shown<'de, T: Deserialize<'de> + Drop + fmt::Display>(
     alloc: Global,
-    text: &'static str,
+    text: &'de str,
 ) -> Result<String, AllocError> {
     let map: Result<BTreeMap<String, T>, Error> = from_str(alloc, text);
     match map {
