@@ -3,6 +3,7 @@ pub mod Kept
 pub mod Shapes
 pub mod Recordable
 pub mod Error
+pub mod ErrorText
 pub mod Again
 pub mod Serializer
 pub mod Impls

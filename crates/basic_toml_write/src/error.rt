@@ -8,8 +8,11 @@ ghost use Rattle.basic_toml_write.specs.Error.{Names};
 
 use basic_toml_emit::{EmitError, Emitter};
 use std::alloc::{AllocError, Global};
+use std::fmt;
 
 /// Why a value was not written. No error has an offset.
+///
+/// Its text is the message of the `Error` that it becomes: ``duplicate key: `a` `` for `DuplicateKey("a")`.
 #[derive(Debug, Drop)]
 pub enum WriteError {
     /// A kind of value that the text has no form for where it stands: a root that is no table, a table and a non-table
@@ -32,6 +35,29 @@ pub enum WriteError {
     NestedTooDeeply,
     /// Memory that was refused.
     OutOfMemory,
+}
+
+impl std::error::Error for WriteError {}
+
+impl fmt::Display for WriteError {
+    ghost use Rattle.std.specs.Prelude.{Some};
+    ghost use Rattle.basic_toml_write.specs.ErrorText.{error_text};
+
+    ghost output = { λ error. Some (error_text error) };
+
+    fn fmt<W: fmt::Write>(&self, f: &mut fmt::Formatter<W>) -> fmt::Result {
+        match self {
+            WriteError::UnsupportedType => write!(f, "unsupported Rust type"),
+            WriteError::KeyNotString => write!(f, "map key was not a string"),
+            WriteError::ValueAfterTable => write!(f, "values must be emitted before tables"),
+            WriteError::UnsupportedNone => write!(f, "unsupported None value"),
+            WriteError::Custom(message) => write!(f, "{message}"),
+            WriteError::DuplicateKey(key) => write!(f, "duplicate key: `{key}`"),
+            WriteError::CallOrder => write!(f, "serializer calls out of order"),
+            WriteError::NestedTooDeeply => write!(f, "nested too deeply"),
+            WriteError::OutOfMemory => write!(f, "out of memory"),
+        }
+    }
 }
 
 impl From<AllocError> for WriteError {
