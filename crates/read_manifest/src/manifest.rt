@@ -128,9 +128,10 @@ impl<'de> Deserialize<'de> for Detail {
 ///
 /// # Errors
 ///
-/// Those of [`from_str`]: a `package` without a name or a version is an error, with its line and column.
+/// Those of [`from_str`]; a `package` without a name or a version is an error.
 pub fn manifest_of(alloc: Global, text: &str) -> Result<Manifest, Error>
-    ensures { ReadsText ⟦<Manifest as Deserialize<'static>>⟧.takes ⟦<Manifest as Deserialize<'static>>⟧.reads text.now result }
+    ensures { ReadsText ⟦<Manifest as Deserialize<'static>>⟧.takes ⟦<Manifest as Deserialize<'static>>⟧.reads text.now
+        result }
 {
     from_str(alloc, text)
 }
