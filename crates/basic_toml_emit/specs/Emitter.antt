@@ -1,5 +1,6 @@
 -- What an emitter is at, and what it does with one item.
-use Rattle.std.specs.Prelude.{◌≡◌, Bool, false, ◌∷◌, ◌++◌, Result, Ok, Err, MatchResult, String, length, nat_le, string_bytes}
+use Rattle.std.specs.Prelude.{◌≡◌, Bool, false, ◌∷◌, ◌++◌, Result, Ok, Err, MatchResult, String, length, nat_le}
+use Rattle.std.specs.Prelude.{string_bytes}
 use Rattle.std.specs.declared.alloc.Global.{Global}
 use Rattle.basic_toml_emit.specs.Items.{Item}
 use Rattle.basic_toml_value.specs.Nesting.{nesting_limit}

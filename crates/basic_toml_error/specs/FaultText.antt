@@ -1,9 +1,12 @@
 -- The text of a fault: its message; then its key path, where it has one, with periods between the keys; then its line
--- and column, counted from 1, where it has an offset. (own)
+-- and column, counted from 1, where it has an offset. The message of an error of the writer is the text of that error.
+-- (own)
 use Rattle.std.specs.Prelude.{ℕ, ◌+◌, ◌&&◌, ◌||◌, ◌==◌, nat_le, if◌then◌else◌, false, List, [], ◌∷◌, ◌++◌, codes}
 use Rattle.std.specs.Prelude.{decimal, Option, Some, None}
 use Rattle.std.specs.Fmt.{digits}
 use Rattle.basic_toml_tokens.specs.Ascii as ascii
+use Rattle.basic_toml_write.specs.declared.error.WriteError.TheVariants as write
+use Rattle.basic_toml_write.specs.ErrorText.{error_text, repeated_text}
 use Rattle.basic_toml_error.specs.Fault as fault
 
 -- A character as a fault shows it: after a backslash, or as its number between braces, where it does not print.
@@ -35,17 +38,17 @@ message fault.number_invalid = codes "invalid number"
 message fault.unquoted_string = codes "invalid TOML value, did you mean to use a quoted string?"
 message fault.not_utf8 = codes "input is not valid UTF-8"
 message fault.dotted_key_invalid_type = codes "dotted key attempted to extend non-table type"
-message (fault.duplicate_key key) = codes "duplicate key: " ++ quoted key
+message (fault.duplicate_key key) = repeated_text key
 message (fault.duplicate_table name) = codes "redefinition of table " ++ quoted name
 message fault.redefine_as_array = codes "table redefined as array"
-message fault.unsupported_type = codes "unsupported Rust type"
-message fault.key_not_string = codes "map key was not a string"
-message fault.value_after_table = codes "values must be emitted before tables"
-message fault.unsupported_none = codes "unsupported None value"
-message fault.call_order = codes "serializer calls out of order"
+message fault.unsupported_type = error_text write.UnsupportedType
+message fault.key_not_string = error_text write.KeyNotString
+message fault.value_after_table = error_text write.ValueAfterTable
+message fault.unsupported_none = error_text write.UnsupportedNone
+message fault.call_order = error_text write.CallOrder
 message (fault.custom text) = text
-message fault.nested_too_deeply = codes "nested too deeply"
-message fault.out_of_memory = codes "out of memory"
+message fault.nested_too_deeply = error_text write.NestedTooDeeply
+message fault.out_of_memory = error_text write.OutOfMemory
 
 abbrev pub joined : List (List ℕ) → List ℕ
 joined [] = []

@@ -168,13 +168,13 @@ impl fmt::Display for ErrorKind {
             ErrorKind::RedefineAsArray => write!(f, "table redefined as array"),
             ErrorKind::Custom(message) => write!(f, "{message}"),
             ErrorKind::NotUtf8 => write!(f, "input is not valid UTF-8"),
-            ErrorKind::UnsupportedType => write!(f, "unsupported Rust type"),
-            ErrorKind::KeyNotString => write!(f, "map key was not a string"),
-            ErrorKind::ValueAfterTable => write!(f, "values must be emitted before tables"),
-            ErrorKind::UnsupportedNone => write!(f, "unsupported None value"),
-            ErrorKind::CallOrder => write!(f, "serializer calls out of order"),
-            ErrorKind::NestedTooDeeply => write!(f, "nested too deeply"),
-            ErrorKind::OutOfMemory => write!(f, "out of memory"),
+            ErrorKind::UnsupportedType => write!(f, "{}", WriteError::UnsupportedType),
+            ErrorKind::KeyNotString => write!(f, "{}", WriteError::KeyNotString),
+            ErrorKind::ValueAfterTable => write!(f, "{}", WriteError::ValueAfterTable),
+            ErrorKind::UnsupportedNone => write!(f, "{}", WriteError::UnsupportedNone),
+            ErrorKind::CallOrder => write!(f, "{}", WriteError::CallOrder),
+            ErrorKind::NestedTooDeeply => write!(f, "{}", WriteError::NestedTooDeeply),
+            ErrorKind::OutOfMemory => write!(f, "{}", WriteError::OutOfMemory),
         }
     }
 }

@@ -90,8 +90,8 @@ pub(super) fn enter(emitter: &mut Emitter) -> Result<(), EmitError>
     }
 }
 
-// Counts the key of an array or a table that is opened, and answers whether an entry stands before it; or the error that
-// is due.
+// Counts the key of an array or a table that is opened, and answers whether an entry stands before it; or the error
+// that is due.
 pub(super) fn enter_part(emitter: &mut Emitter) -> Result<bool, EmitError>
     requires { is_in_table (frames_of emitter.old.frames.items) ≡ true }
     ensures ok { IfOk result (λ later. EntersPart later emitter.old emitter.new) }
