@@ -35,6 +35,7 @@ struct HeaderKeys<'de> {
 }
 
 // The keys of a header, the first of which has level 2.
+#[inline(always)]
 fn header_keys<'de>(alloc: Global, text: &'de str, at: usize) -> Result<HeaderKeys<'de>, Stop>
     requires { IsCharBoundary text.now at }
     ensures read { ReadsHeaderKeys text.now at result }

@@ -1,11 +1,12 @@
 -- The digits that a loop has read, and the number so far.
 use Rattle.std.proofs.Common.{◌≡◌, ℕ, ◌+◌, ◌*◌, ◌^◌, ◌-◌, ◌<◌, ◌≤◌, min, Bool, true, false, not, ◌&&◌, ◌==◌}
 use Rattle.std.proofs.Common.{if◌then◌else◌, List, [], ◌∷◌, length, drop, get_or, filter, Option, Some, None, refl}
-use Rattle.std.proofs.Common.{◌∙◌, ◌⊎◌, inl, inr, arith}
+use Rattle.std.proofs.Common.{◌∙◌, ◌⊎◌, inl, inr, arith, ap, sym}
 use Rattle.std.proofs.lemmas.List.{at_drop_more, at_drop_all}
 use Rattle.std.proofs.lemmas.Bool.Decides.{nat_tests}
-use Rattle.std.proofs.Math.Nat.{min-eq_left, min-eq_right, le-mul_of_pos_right}
-use Rattle.std.proofs.lemmas.Bool.{cases_Bool, cases_lt}
+use Rattle.std.proofs.lemmas.Grind.{pow_more}
+use Rattle.std.proofs.Math.Nat.{min-eq_left, min-eq_right, le-mul_of_pos_right, pow-le-pow_right}
+use Rattle.std.proofs.lemmas.Bool.{cases_Bool, cases_lt, lt-ltb}
 use Rattle.std.specs.Char.{is_digit, digit_value}
 use Rattle.std.specs.Str.Parse.{digits_value_after}
 use Rattle.basic_toml_value.specs.Numbers.{underscore, goes_on}
@@ -96,3 +97,49 @@ read_from-is radix false value (c ∷ cs) positive small =
         | inr differs ↦ rw differs refl
       ])
     ]
+
+-- decimal digits alone, of which up to 19 write less than 2 ^ 64
+pub decimal_grows : (number digit k : ℕ) → number < 10 ^ k → digit < 10 → number * 10 + digit < 10 ^ (k + 1)
+decimal_grows number digit k small below = omega (arith, pow_more 10 k)
+
+pub decimal_fits : (number digit k : ℕ) → k < 19 → number < 10 ^ k → digit < 10 → number * 10 + digit < 2 ^ 64
+decimal_fits number digit k few small below =
+    omega (
+      arith,
+      decimal_grows number digit k small below,
+      pow-le-pow_right {n = 10} (omega arith) {i = k + 1} {j = 19} (omega arith),
+    )
+
+pub digit_read : (value : ℕ) (cs : List ℕ) (i digit : ℕ) → i < length cs → i < 19 → value < 10 ^ i
+    → digit_value (get_or cs i 0) < 10 → digit ≡ digit_value (get_or cs i 0) → digit < 10
+    → read_from 10 (i == 0) value (drop i cs) ≡ read_from 10 true 0 cs
+    → read_from 10 (i + 1 == 0) (value * 10 + digit) (drop (i + 1) cs) ≡ read_from 10 true 0 cs
+digit_read value cs i digit within few small decimal is below so =
+    let fits : value * 10 + digit < 2 ^ 64 = decimal_fits value digit i few small below in
+    let yes : is_digit (get_or cs i 0) 10 ≡ true = lt-ltb (digit_value (get_or cs i 0)) 10 decimal in
+    let later : (i + 1 == 0) ≡ false = grind (arith, nat_tests) in
+    let whole : min (value * 10) most ≡ value * 10 = min-eq_left (omega (arith, fits)) in
+    let kept : with_digit 10 value (get_or cs i 0) ≡ value * 10 + digit =
+    ap (λ (d : ℕ). min (min (value * 10) most + d) most) (sym is) ∙ ap (λ (n : ℕ). min (n + digit) most) whole ∙
+    min-eq_left (omega (arith, fits)) in
+    let front : read_from 10 (i == 0) value (drop i cs)
+    ≡ read_from 10 false (with_digit 10 value (get_or cs i 0)) (drop (i + 1) cs) =
+    at_drop_more (read_from 10 (i == 0) value) cs i 0 within ∙ rw yes in
+    ap (λ (b : Bool). read_from 10 b (value * 10 + digit) (drop (i + 1) cs)) later ∙
+    ap (λ (n : ℕ). read_from 10 false n (drop (i + 1) cs)) (sym kept) ∙ sym front ∙ so
+
+pub other_stops : (value : ℕ) (cs : List ℕ) (i : ℕ) → i < length cs → is_digit (get_or cs i 0) 10 ≡ false
+    → (get_or cs i 0 == underscore) ≡ false → read_from 10 (i == 0) value (drop i cs) ≡ read_from 10 true 0 cs
+    → None ≡ (if goes_on 10 true cs then Some (min (digits_value_after 10 0 (without_underscores cs)) most) else None)
+other_stops value cs i within no_digit differs so =
+    sym (read_from-stops 10 (i == 0) value cs i within no_digit
+    (ap (λ (b : Bool). b && not (i == 0)) differs)) ∙ so ∙ read_from-is 10 true 0 cs (omega arith) (omega arith)
+
+pub all_digits : (value : ℕ) (cs : List ℕ) (i : ℕ) → length cs ≤ i → 0 < length cs
+    → read_from 10 (i == 0) value (drop i cs) ≡ read_from 10 true 0 cs
+    → Some value
+    ≡ (if goes_on 10 true cs then Some (min (digits_value_after 10 0 (without_underscores cs)) most) else None)
+all_digits value cs i past some so =
+    let later : (i == 0) ≡ false = grind (arith, nat_tests) in
+    sym (read_from-ends 10 (i == 0) value cs i past ∙ ap (λ (b : Bool). if b then None else Some value) later) ∙
+    so ∙ read_from-is 10 true 0 cs (omega arith) (omega arith)

@@ -6,6 +6,7 @@ ghost use Rattle.basic_toml_value.specs.Numbers as spec;
 /// and no sign, with single underscores between digits (TOML v0.5.0, "Integer").
 ///
 /// `None` where the text is no such integer, or the number lies outside `i64`.
+#[inline(always)]
 pub fn integer_of(text: &str) -> Option<i64>
     ensures { result ≡ spec.integer_of text.now }
 {
@@ -20,15 +21,25 @@ pub fn integer_of(text: &str) -> Option<i64>
     }
 }
 
+#[inline(always)]
 fn decimal(negative: bool, digits: &[u8]) -> Option<i64>
     ensures { result ≡ spec.decimal negative digits.now }
 {
-    if !is_whole(digits) {
-        return None;
-    }
-    match value_of(10, digits) {
+    match whole_value(digits) {
         Some(value) => signed(negative, value),
         None => None,
+    }
+}
+
+// The number that a whole part writes, or the greatest `u64` where it is greater; `None` where this is none.
+fn whole_value(digits: &[u8]) -> Option<u64>
+    ensures { result ≡ (if spec.is_whole digits.now then Some
+        (min (spec.value_in 10 digits.now) (2 ^ 64 - 1)) else None) }
+{
+    match digits {
+        [b'0'] => Some(0),
+        [b'0', ..] => None,
+        _ => decimal_value(digits),
     }
 }
 
@@ -83,6 +94,25 @@ fn value_of(radix: u32, digits: &[u8]) -> Option<u64>
     }
     if must_follow {
         return None;
+    }
+    Some(value)
+}
+
+// The same as `value_of` in radix 10, and faster for up to 19 bytes that are all digits.
+fn decimal_value(digits: &[u8]) -> Option<u64>
+    ensures { result ≡ (if spec.is_digits 10 digits.now then Some
+        (min (spec.value_in 10 digits.now) (2 ^ 64 - 1)) else None) }
+{
+    if digits.is_empty() || digits.len() > 19 {
+        return value_of(10, digits);
+    }
+    let mut value: u64 = 0;
+    for byte in digits {
+        match (*byte as char).to_digit(10) {
+            Some(digit) => value = value * 10 + digit as u64,
+            None if *byte == b'_' => return value_of(10, digits),
+            None => return None,
+        }
     }
     Some(value)
 }
