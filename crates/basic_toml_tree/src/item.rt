@@ -3,6 +3,7 @@
 ghost use Rattle.std.specs.Prelude.{◌≡◌, ◌||◌, IfOk, Some, None, false};
 ghost use Rattle.basic_toml_grammar.specs.Standing.{table as table_standing};
 ghost use Rattle.basic_toml_grammar.specs.Trie.{trie, nothing, no_tries};
+ghost use Rattle.basic_toml_tree.specs.declared.item.Child.{out-Child};
 ghost use Rattle.basic_toml_tree.specs.declared.item.Table.{out-Table};
 ghost use Rattle.basic_toml_tree.specs.Item.{item_trie, child_trie, table_trie};
 
@@ -62,7 +63,9 @@ pub(crate) struct Table<'de> {
 impl<'de> Child<'de> {
     /// An item that comes from an offset and a section.
     pub fn at(start: usize, section: usize, item: Item<'de>) -> Child<'de>
-        ensures { child_trie result ≡ item_trie item.entry }
+        ensures trie { child_trie result ≡ item_trie item.entry }
+        ensures start { (out-Child result).start ≡ start }
+        ensures section { (out-Child result).section ≡ section }
     {
         Child {
             start,

@@ -149,7 +149,7 @@ finished-returns-in_err-table-in-Inline-clause-finished t c = λ v seen.
 
 pub finished-returns-in_ok-table-in-Inline-clause-finished : goal.finished-returns-in_ok-table-in-Inline-clause-finished
 finished-returns-in_ok-table-in-Inline-clause-finished t c = λ v seen.
-    subst (λ (u : Trie). IsFinished v c.args.level u) (sym c.at-in-Inline.ensures)
+    subst (λ (u : Trie). IsFinished v c.args.level u) (sym c.at-in-Inline.ensures.trie)
     (inline_finished c.in-Inline.rows c.in_ok-table-in-Inline.table (Some (standings.table false false false))
     (table_trie c.in_ok-new-in-Inline.field-0.value) c.args.level v (ap raw_of (sym c.in-Inline.is)
     ∙ seen) (omega arith)
