@@ -7,16 +7,15 @@ use std::alloc::{AllocError, Global};
 use std::marker::Model;
 use std::mem;
 
-// Makes room for one more pair: twice the room where none is left.
+// Makes room for one more pair. The first has room for itself alone, since many tables hold no other.
 fn make_room<V>(pairs: &mut Vec<Pair<V>>) -> Result<(), AllocError>
     ensures items { pairs.new.items ≡ pairs.old.items }
     ensures room { OnOk result (vec_len pairs.new < vec_capacity pairs.new) }
 {
-    let count = pairs.len();
-    if count < pairs.capacity() {
-        return Ok(());
+    if pairs.is_empty() {
+        return pairs.try_reserve_exact(1);
     }
-    pairs.try_reserve_exact(count.max(1))
+    pairs.try_reserve(1)
 }
 
 /// Keys with their values, in order, each key once.
