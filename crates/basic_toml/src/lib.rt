@@ -1,6 +1,16 @@
-//! A TOML reader and writer: text or bytes in, a [`Table`] out, and back.
+//! A TOML reader and writer: text or bytes in, a [`Table`] or a value of a caller's own type out, and back.
 //!
-//! [`from_str`] reads every text of TOML v0.5.0 without dates and times; [`to_string`] writes every value.
+//! [`from_str`] reads every text of TOML v0.5.0 without dates and times, [`to_string`] writes every value that has a
+//! text, and [`round_trip`] reads that back. This is the crate to depend on: it stands on all the others, passes on
+//! their public names, and adds typed reading, and errors with a line and a column.
+//!
+//! ```text
+//! let settings: Table = from_str(alloc, "port = 80\n")?;
+//! let port = settings.get("port"); // Some(Value::Integer(80))
+//! let text = to_string(alloc, &settings)?; // port = 80
+//! ```
+//!
+//! The programs `load_settings`, `read_manifest`, `check_keys` and `write_rules` call it.
 #![tactic(auto)]
 
 mod de;

@@ -1,4 +1,7 @@
 //! Which error a text gets where reading stopped.
+//!
+//! `basic_toml_read` says where reading stopped and what it wanted there; [`error_at`] reads the text anew from there,
+//! by tokens, and answers the [`ReadError`]: what it is, its byte offset and the keys that lead to it.
 #![tactic(auto)]
 
 mod cursor;

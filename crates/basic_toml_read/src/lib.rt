@@ -1,5 +1,7 @@
 //! From a text to its section list ([`sections`]), or to an error that the text allows. `basic_toml_tree` goes
 //! on from there to the tree of the document.
+//!
+//! It stands on the tokens, and on `basic_toml_explain` for its errors.
 #![tactic(auto)]
 
 mod front;

@@ -1,8 +1,18 @@
-//! The tokens of a TOML text (v0.5.0, without dates and times).
+//! The tokens of a TOML text (v0.5.0, without dates and times). The lowest crate: it stands on no other, and the reader
+//! takes its tokens from here.
 //!
-//! A `Tokenizer` stands at an offset of a text and takes one `Token` after another, with the `Span`
-//! where it stands, or answers the `Error` that stands there. Values of strings borrow the text
+//! A [`Tokenizer`] stands at an offset of a text and takes one [`Token`] after another, with the [`Span`]
+//! where it stands, or answers the [`Error`] that stands there. Values of strings borrow the text
 //! where they can.
+//!
+//! ```text
+//! let mut tokens = Tokenizer::new("a = 'b'");
+//! while let Some((span, token)) = tokens.next(alloc)? {
+//!     // 0..1 Keylike("a"), 1..2 Whitespace(" "), 2..3 Equals, 3..4 Whitespace(" "), 4..7 String { val: "b", .. }
+//! }
+//! ```
+//!
+//! The program `check_keys` goes through a text so.
 #![tactic(auto)]
 
 mod class;

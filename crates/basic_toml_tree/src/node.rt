@@ -337,6 +337,10 @@ impl<'t, 'de> Node<'t, 'de> {
     }
 
     /// A copy of the table, if it is one.
+    ///
+    /// # Errors
+    ///
+    /// `AllocError` where a growth was refused.
     pub fn to_table(self, alloc: Global) -> Result<Option<values::Table>, AllocError>
         ensures { IfOk result (λ copy. MatchOption copy (is_table (node_data self.entry) ≡ false)
             (λ table. table_of_members (entries table) ≡ node_data self.entry)) }

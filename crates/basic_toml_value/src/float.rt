@@ -34,7 +34,11 @@ impl Float {
     /// The float that a text writes, with a sign or not: a decimal whole part, then a fraction, an exponent, or both;
     /// or `inf` or `nan` (TOML v0.5.0, "Float"). `None` exactly where the text is no float.
     ///
-    /// The only error is that memory for the text was refused.
+    /// `+1_0.50e3` is `10.50E3`, `-inf` is itself, and `1.` and `01.0` are none.
+    ///
+    /// # Errors
+    ///
+    /// `AllocError` where memory for the text was refused.
     pub fn parse(alloc: Global, text: &str) -> Result<Option<Float>, AllocError>
         ensures { IfOk result (λ found. found ≡ float_of text.now) }
     {

@@ -1,4 +1,15 @@
-//! The values that a TOML text holds: floats, values, tables with an index of their keys, and the texts of numbers.
+//! The values that a TOML text holds: floats, values, tables with an index of their keys, and the texts of numbers. It
+//! stands on no other crate; the reader gives its values, and the writer takes them.
+//!
+//! ```text
+//! let mut table = Table::new(alloc);
+//! table.push(String::from_str(alloc, "port")?, Value::Integer(80)); // Ok(()); the same key again: KeyPresent
+//! table.get("port"); // Some(&Value::Integer(80))
+//! integer_of("0x50"); // Some(80)
+//! Float::parse(alloc, "+1.50e3")?; // 1.50E3, as text
+//! ```
+//!
+//! `toml_vectors` has such calls as tests.
 #![tactic(auto)]
 
 mod float;

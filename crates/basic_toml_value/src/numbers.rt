@@ -5,7 +5,8 @@ ghost use Rattle.basic_toml_value.specs.Numbers as spec;
 /// The number of an integer: decimal with an optional sign and no leading zero, or `0x`, `0o` or `0b` with digits
 /// and no sign, with single underscores between digits (TOML v0.5.0, "Integer").
 ///
-/// `None` where the text is no such integer, or the number lies outside `i64`.
+/// `None` where the text is no such integer, or the number lies outside `i64`: `1_000` is 1000 and `0x1F` is 31;
+/// `01`, `1__0` and `-0x1` are none.
 #[inline(always)]
 pub fn integer_of(text: &str) -> Option<i64>
     ensures { result ≡ spec.integer_of text.now }

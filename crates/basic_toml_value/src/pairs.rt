@@ -119,7 +119,10 @@ impl<V> Pairs<V> {
 
     /// Puts a pair last, unless its key is there.
     ///
-    /// A push that fails hands the pair back and leaves the table as it was.
+    /// # Errors
+    ///
+    /// `KeyPresent` where the key is there, and `OutOfMemory` where a growth was refused. A push that fails hands the
+    /// pair back and leaves the table as it was.
     #[tactic(auto, using(crate::proofs::SeenPairs::seen_pairs))]
     pub fn push(&mut self, key: String, value: V) -> Result<(), (PushRefusal, String, V)>
         ensures ok { OnOk result (self.new ≡ self.old ++ (string_bytes key, value) ∷ []) }

@@ -1,7 +1,19 @@
 //! From the calls that a value makes to TOML text.
 //!
 //! A type that implements [`Serialize`] tells its value to a [`Serializer`] by calls; the serializer appends to its
-//! text as the calls come, and hands the text out where they spell a whole table.
+//! text as the calls come, by `basic_toml_emit`, and hands the text out where they spell a whole table. `to_string` of
+//! `basic_toml` calls it.
+//!
+//! ```text
+//! fn serialize(&self, _alloc: Global, ser: &mut Serializer) -> Result<(), WriteError> {
+//!     ser.serialize_struct("Rule", 2)?;
+//!     ser.serialize_field("pattern", &self.pattern)?;
+//!     ser.serialize_field("limit", &self.limit)?;
+//!     ser.end()
+//! }
+//! ```
+//!
+//! This is from the program `write_rules`, which has the ghost line and the proof beside it.
 #![tactic(auto)]
 
 mod again;

@@ -3,34 +3,29 @@
 #![tactic(auto)]
 
 mod keys;
+mod rows;
 
-ghost use Rattle.std.specs.Prelude.{◌≡◌, ◌+◌};
-ghost use Rattle.basic_toml.specs.LineColumn.{line_at, column_at};
-
-use basic_toml::line_col;
-use keys::{Finding, Trouble, check};
+use keys::{Trouble, check};
 use std::io;
 
 fn main(rt: HostRuntime) -> io::Result<()> {
     let text = io::read_to_string(rt.alloc(), rt.reader())?;
-    let text = text.as_str();
-    let Ok(findings) = check(rt.alloc(), text) else {
+    let Ok(findings) = check(rt.alloc(), text.as_str()) else {
         return println!(rt; "this is no TOML");
     };
     for finding in &findings {
-        let (line, column) = line_col(text, finding.offset);
         println!(rt;
             "settings.toml:{}:{}: {}",
-            line + 1,
-            column + 1,
-            message(finding)
+            finding.line,
+            finding.column,
+            message(finding.trouble)
         )?;
     }
     Ok(())
 }
 
-fn message(finding: &Finding) -> &'static str {
-    match finding.trouble {
+fn message(trouble: Trouble) -> &'static str {
+    match trouble {
         Trouble::Duplicate => "this key stands in its section already",
         Trouble::TooLong => "this key is longer than 32 bytes",
     }

@@ -1,0 +1,2 @@
+pub mod KeysAreRemembered
+pub mod FindingsSoFar
