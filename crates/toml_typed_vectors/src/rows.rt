@@ -1,7 +1,5 @@
 // Texts that types of a caller's own read, or the errors that they answer.
-use crate::types::{
-    Child, Color, Listener, Lower, NonEmpty, Parent, Service, Steps, Strict, Title,
-};
+use crate::types::{Child, Color, Lower, NonEmpty, Parent, Steps, Strict, Title};
 use basic_toml::{Deserialize, Error, Value, from_str};
 use std::alloc::{AllocError, Global};
 use std::collections::BTreeMap;
@@ -171,45 +169,5 @@ fn as_deep_as_can_be(rt: HostRuntime) -> Result<(), Fail> {
     }
     let read: BTreeMap<String, Value> = from_str(alloc, text.as_str())?;
     assert_eq!(rt; read.len(), 1);
-    Ok(())
-}
-
-#[test]
-fn services(rt: HostRuntime) -> Result<(), Fail> {
-    let text = "name = 'a'\nenabled = true\npriority = -1\noffset = -2\nlevel = -3\nbalance = -4\n\
-                retries = 1\nport = 2\nbacklog = 3\ntimeout = 4\nratio = 0.5\ntags = ['x', 'y']\n\
-                limits.memory = 5\ncolor = 'blue'\nlog = 'z'\n";
-    let service: Service = from_str(rt.alloc(), text)?;
-    assert_eq!(rt;
-        (service.priority, service.balance, service.port),
-        (-1, -4, 2)
-    );
-    assert_eq!(rt; service.limits.get("memory"), Some(&5));
-    assert_eq!(rt; service.tags.len(), 2);
-    assert!(rt; service.log.is_some() && service.note.is_none());
-    for (text, answer) in [
-        ("name = 'a'\n", "missing field `enabled` at line 1 column 1"),
-        (
-            "name = 'a'\nenabled = true\npriority = 128\n",
-            "invalid value: integer `128`, expected i8 for key `priority` at line 3 column 12",
-        ),
-    ] {
-        assert_eq!(rt; told::<Service>(rt.alloc(), text)?.as_str(), answer);
-    }
-    Ok(())
-}
-
-#[test]
-fn records_that_refuse(rt: HostRuntime) -> Result<(), Fail> {
-    for (text, answer) in [
-        ("host = 'a'\nport = 1\n", "read"),
-        (
-            "host = 'a'\nport = 0\n",
-            "invalid value: integer `0`, expected a port above 0 for key `port` at line 2 column 8",
-        ),
-        ("port = 0\n", "missing field `host` at line 1 column 1"),
-    ] {
-        assert_eq!(rt; told::<Listener>(rt.alloc(), text)?.as_str(), answer);
-    }
     Ok(())
 }
