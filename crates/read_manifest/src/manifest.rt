@@ -79,7 +79,7 @@ impl<'de> Deserialize<'de> for Dependency {
       | Detailed detail ↦ ⟦<Detail as Deserialize<'static>>⟧.reads d detail
     ] };
 
-    #[tactic(auto, unfolding(basic_toml::specs::TypeReads::optional_reads))]
+    #[tactic(auto, unfolding(basic_toml_typed::specs::TypeReads::optional_reads))]
     fn deserialize(alloc: Global, node: Node<'_, 'de>) -> Result<Dependency, Error> {
         if node.is_table() {
             Ok(Dependency::Detailed(Detail::deserialize(alloc, node)?))
