@@ -18,7 +18,7 @@ use Rattle.basic_toml_grammar.specs.Entering.{header_keyed, is_keyed, all_keyed,
 use Rattle.basic_toml_grammar.proofs.StepTestsDecide.{step_same, step_is}
 use Rattle.basic_toml_grammar.proofs.MarksAreWhatIsSaid.{same_truth}
 use Rattle.basic_toml_grammar.proofs.PathsAgree.{offsets, count_in, counted, cut_from, append_none, whole, cuts_are}
-use Rattle.basic_toml_grammar.proofs.PathsAgree.{adds_none, adds_one, counts_are, path_is, target_is, whole}
+use Rattle.basic_toml_grammar.proofs.PathsAgree.{adds_none, adds_one, counts_are, path_is, target_is}
 
 -- all cuts from one on, the shortest first
 abbrev cuts_from : (Path → ℕ) → Bool → Path → KeyTexts → List Path

@@ -14,7 +14,7 @@ use Rattle.basic_toml_grammar.specs.Levels.{deep_keys, deep_in, deep_among, deep
 use Rattle.basic_toml_grammar.specs.NestingFaults.{first_offset}
 use Rattle.basic_toml_grammar.specs.DeepStops as deep
 use Rattle.basic_toml_grammar.specs.DeepStops.{DeepKeys, DeepValue, DeepArray, DeepInline, DeepElements, DeepFields}
-use Rattle.basic_toml_grammar.specs.DeepStops.{DeepRow, DeepRows, DeepHeader, DeepSection, DeepSections, DeepStop}
+use Rattle.basic_toml_grammar.specs.DeepStops.{DeepRow}
 use Rattle.basic_toml_grammar.proofs.AnotherEnd.{placed, Cut, at_cut, past, run_carried}
 use Rattle.basic_toml_grammar.proofs.AnotherEnd.{gap_carried}
 use Rattle.basic_toml_grammar.proofs.GrammarCarried.{key_carried, keys_carried, sign_among_blanks, sign_among_gaps}

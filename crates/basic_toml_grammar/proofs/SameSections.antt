@@ -3,7 +3,7 @@ use Rattle.std.proofs.Common.{◌≡◌, ℕ, zero, suc, ◌+◌, ◌*◌, ◌==
 use Rattle.std.proofs.Common.{refl, ap, Option, Some, None, encode_utf8_all}
 use Rattle.std.specs.Prelude.{ℤ, nat_lt}
 use Rattle.basic_toml_tokens.specs.Text.{Text, run, after_run, is_blank, is_keylike, is_comment}
-use Rattle.basic_toml_tokens.specs.Strings.{is_quote, count_of, after_feed}
+use Rattle.basic_toml_tokens.specs.Strings.{is_quote, count_of}
 use Rattle.basic_toml_tokens.specs.Strings as strings
 use Rattle.basic_toml_tokens.specs.BodyFront as front
 use Rattle.basic_toml_grammar.specs.Sections.{Key, texts, Raw, Elements, no_elements, element, Rows, no_rows, row}

@@ -18,7 +18,6 @@ use Rattle.basic_toml_grammar.specs.Standing.{take_all, growth_of}
 use Rattle.basic_toml_grammar.specs.Entering.{is_keyed, all_keyed, enter_all}
 use Rattle.basic_toml_grammar.specs.Trie.{Trie, nothing, put_sections, section_level_in, bare}
 use Rattle.basic_toml_grammar.specs.Stops.{Stop, stops, stop_fault, try_enter}
-use Rattle.basic_toml_grammar.specs.Trie.{Trie, nothing, put_sections}
 use Rattle.basic_toml_grammar.specs.TrieStops.{try_put_section}
 use Rattle.basic_toml_grammar.specs.Depth.{depth}
 use Rattle.basic_toml_grammar.specs.Levels.{highest_level}

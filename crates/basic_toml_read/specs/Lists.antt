@@ -16,7 +16,7 @@ use Rattle.basic_toml_grammar.specs.Grammar.{after_gap}
 use Rattle.basic_toml_grammar.specs.Sections.{no_rows, Section}
 use Rattle.basic_toml_grammar.specs.Levels.{rows_level, section_level, highest_level}
 use Rattle.basic_toml_grammar.specs.Reader as reader
-use Rattle.basic_toml_grammar.specs.Reader.{char_at, line_end_at, section_list_of}
+use Rattle.basic_toml_grammar.specs.Reader.{line_end_at, section_list_of}
 use Rattle.basic_toml_read.specs.FrontOf.{keys_of, header_of, rows_of, sections_of}
 use Rattle.basic_toml_grammar.specs.Entering.{and_then}
 use Rattle.basic_toml_grammar.specs.DeepStops.{DeepSections}

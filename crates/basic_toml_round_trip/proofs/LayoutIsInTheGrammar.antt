@@ -8,7 +8,7 @@ use Rattle.basic_toml_layout.specs.Layout.{is_header_due, table_header, element_
 use Rattle.basic_toml_layout.specs.Trees.{written_of, entries_of}
 use Rattle.basic_toml_grammar.specs.Sections.{Key, KeyTexts, Raw, Rows, no_rows, row, Section}
 use Rattle.basic_toml_grammar.specs.Grammar as g
-use Rattle.basic_toml_grammar.specs.Grammar.{IsRow, IsRows, IsHeader, IsSections, with_root, IsSectionList}
+use Rattle.basic_toml_grammar.specs.Grammar.{IsRow, IsRows, IsHeader, IsSections, IsSectionList}
 use Rattle.basic_toml_round_trip.proofs.LaidOut.{Laid, a_row, then_parts, Parts, no_parts, a_table, an_array, Nodes}
 use Rattle.basic_toml_round_trip.proofs.LaidOut.{no_nodes, a_node}
 use Rattle.basic_toml_round_trip.proofs.SectionsOfTable.{has_header, rows, backwards, section_of, inner_sections}

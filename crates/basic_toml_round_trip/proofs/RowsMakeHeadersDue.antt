@@ -2,7 +2,7 @@
 use Rattle.std.proofs.Common.{◌≡◌, ℕ, Bool, true, List, [], ◌∷◌, ◌++◌, refl, ap, ◌∙◌, append_assoc}
 use Rattle.std.specs.Str.{chars}
 use Rattle.basic_toml_value.specs.Data as d
-use Rattle.basic_toml_value.specs.Data.{Data, Items, no_items, item, Members}
+use Rattle.basic_toml_value.specs.Data.{Data, no_items, item, Members}
 use Rattle.basic_toml_layout.specs.Written.{Written, scalar, absent, array, table, no_elements, element, Entries, entry}
 use Rattle.basic_toml_layout.specs.Layout.{row, form, is_header_due, row_start, written, entries_text}
 use Rattle.basic_toml_layout.specs.Trees.{written_of, entries_of}

@@ -1,7 +1,7 @@
 -- The section list of a laid-out table, with no offsets but those of floats, and where its sections stand below it.
 use Rattle.std.specs.Prelude.{ℕ, suc, ◌==◌, position, Bool, true, false, cond, List, [], ◌∷◌, ◌++◌, Option, Some, None}
 use Rattle.basic_toml_value.specs.Data as d
-use Rattle.basic_toml_value.specs.Data.{Data, Items, no_items, item, Members, no_members, member}
+use Rattle.basic_toml_value.specs.Data.{Data, Items, no_items, item, Members}
 use Rattle.basic_toml_grammar.specs.Sections as s
 use Rattle.basic_toml_grammar.specs.Sections.{Key, KeyTexts, Raw, Rows, no_rows, row, Section}
 use Rattle.basic_toml_grammar.specs.Steps.{Step, key, number}

@@ -7,7 +7,7 @@ use Rattle.std.proofs.lemmas.Int.{ints}
 use Rattle.std.proofs.lemmas.List.Elements.{All-head, All-tail}
 use Rattle.basic_toml_layout.specs.Written as w
 use Rattle.basic_toml_layout.specs.Written.{Scalar, Written, scalar, absent, array, table, Elements, no_elements}
-use Rattle.basic_toml_layout.specs.Written.{element, Entries, no_entries, entry, is_refused}
+use Rattle.basic_toml_layout.specs.Written.{element, is_refused}
 use Rattle.basic_toml_layout.specs.Layout.{row, form}
 use Rattle.basic_toml_write.specs.Recordable.{IsRecordableScalar}
 use Rattle.basic_toml_write.specs.Shapes.{holds_table, holds_other, holds_absent, holds_array_with_table}
