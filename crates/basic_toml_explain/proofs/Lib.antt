@@ -7,4 +7,4 @@ pub mod WordStopIsDue
 pub mod PlusWordIsNone
 pub mod KeyIsRead
 pub mod StopsAreAllowed
-pub mod Explained
+pub mod ErrorsAreAllowed

@@ -9,10 +9,10 @@ use Rattle.basic_toml_tokens.specs.Text.{Text, first_of, folded_from, folded}
 use Rattle.basic_toml_grammar.specs.NestingFaults.{AgreeTo, here, further}
 use Rattle.basic_toml_grammar.specs.Grammar.{IsSectionList}
 use Rattle.basic_toml_grammar.specs.Statements.{DeepStopsAreTooDeep}
-use Rattle.basic_toml_grammar.proofs.AnotherEnd.{placed, Cut, at_cut, past, nothing_cut}
+use Rattle.basic_toml_grammar.proofs.EndChangesNothing.{placed, Cut, at_cut, past, nothing_cut}
 use Rattle.basic_toml_grammar.proofs.DeepValuesCompleted.{AreVisible}
 use Rattle.basic_toml_grammar.proofs.DeepTextsCompleted.{list_done}
-use Rattle.basic_toml_grammar.proofs.RespelledLaws.{folded_chars, chars_folded}
+use Rattle.basic_toml_grammar.proofs.RespelledMeanTheSame.{folded_chars, chars_folded}
 
 agree : {p : ℕ} {total : List ℕ} {text other : Text} → Cut p total text other → AgreeTo p text other
 agree (at_cut e) = here

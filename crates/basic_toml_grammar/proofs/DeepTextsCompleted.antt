@@ -11,7 +11,7 @@ use Rattle.basic_toml_grammar.specs.Levels.{rows_level, deep_keys, deep_in, deep
 use Rattle.basic_toml_grammar.specs.NestingFaults.{first_offset}
 use Rattle.basic_toml_grammar.specs.DeepStops as deep
 use Rattle.basic_toml_grammar.specs.DeepStops.{DeepRows, DeepHeader, DeepSection, DeepSections, DeepStop}
-use Rattle.basic_toml_grammar.proofs.AnotherEnd.{first_same, sign_carried, run_carried}
+use Rattle.basic_toml_grammar.proofs.EndChangesNothing.{first_same, sign_carried, run_carried}
 use Rattle.basic_toml_grammar.proofs.GrammarCarried.{row_carried, line_carried, rows_carried, header_carried}
 use Rattle.basic_toml_grammar.proofs.NothingAboveTheLimit.{no_deep_keys, no_deep_rows, no_deep_row, no_deep_section}
 use Rattle.basic_toml_grammar.proofs.DeepValuesCompleted.{Goes, first_left, first_right, keys_done, row_done}

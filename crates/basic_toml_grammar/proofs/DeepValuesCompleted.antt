@@ -15,8 +15,8 @@ use Rattle.basic_toml_grammar.specs.NestingFaults.{first_offset}
 use Rattle.basic_toml_grammar.specs.DeepStops as deep
 use Rattle.basic_toml_grammar.specs.DeepStops.{DeepKeys, DeepValue, DeepArray, DeepInline, DeepElements, DeepFields}
 use Rattle.basic_toml_grammar.specs.DeepStops.{DeepRow}
-use Rattle.basic_toml_grammar.proofs.AnotherEnd.{placed, Cut, at_cut, past, run_carried}
-use Rattle.basic_toml_grammar.proofs.AnotherEnd.{gap_carried}
+use Rattle.basic_toml_grammar.proofs.EndChangesNothing.{placed, Cut, at_cut, past, run_carried}
+use Rattle.basic_toml_grammar.proofs.EndChangesNothing.{gap_carried}
 use Rattle.basic_toml_grammar.proofs.GrammarCarried.{key_carried, keys_carried, sign_among_blanks, sign_among_gaps}
 use Rattle.basic_toml_grammar.proofs.GrammarCarried.{value_carried, row_carried}
 use Rattle.basic_toml_grammar.proofs.StringsCarried.{one_more, no_delimiter}

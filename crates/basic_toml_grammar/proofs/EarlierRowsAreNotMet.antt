@@ -19,10 +19,10 @@ use Rattle.basic_toml_grammar.proofs.WhatSectionsSay.{later_row, Says, names, ro
 use Rattle.basic_toml_grammar.proofs.MarksAreWhatIsSaid.{here_any, marked}
 use Rattle.basic_toml_grammar.proofs.MarksFit.{Tells}
 use Rattle.basic_toml_grammar.proofs.PathsAgree.{append_none}
-use Rattle.basic_toml_grammar.proofs.EnteredSections.{Made, Past}
+use Rattle.basic_toml_grammar.proofs.SectionsLeaveMarks.{Made, Past}
 use Rattle.basic_toml_grammar.proofs.WhereHeadersStop.{is_header}
-use Rattle.basic_toml_grammar.proofs.WhatMarksTell.{RowOf, this_one, a_later, RowPart}
-use Rattle.basic_toml_grammar.proofs.WhatMarksTell.{row_part}
+use Rattle.basic_toml_grammar.proofs.MarksTellPlaces.{RowOf, this_one, a_later, RowPart}
+use Rattle.basic_toml_grammar.proofs.MarksTellPlaces.{row_part}
 use Rattle.basic_toml_grammar.proofs.HeaderStopsAreNamed.{there}
 use Rattle.basic_toml_grammar.proofs.HeaderStopsAreNamed.{says_of}
 use Rattle.basic_toml_grammar.proofs.WhereRowsStop.{steps_to_key}

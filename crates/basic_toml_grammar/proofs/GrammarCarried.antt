@@ -10,9 +10,9 @@ use Rattle.basic_toml_grammar.specs.Grammar.{IsElements, close, last, and_more, 
 use Rattle.basic_toml_grammar.specs.Grammar.{last_row, more_rows, IsRow, assigned, EndsLine, at_feed, at_end, IsRows}
 use Rattle.basic_toml_grammar.specs.Grammar.{over, header_next, empty_line, row_line, IsHeader, table}
 use Rattle.basic_toml_grammar.specs.Grammar.{array_of_tables, to_period}
-use Rattle.basic_toml_grammar.proofs.AnotherEnd.{Cut, Carried, nothing_cut, starts, first_same, sign_carried}
-use Rattle.basic_toml_grammar.proofs.AnotherEnd.{run_carried, comment_carried, gap_carried, Spaced, spaced_carried}
-use Rattle.basic_toml_grammar.proofs.AnotherEnd.{over_blanks, over_gap}
+use Rattle.basic_toml_grammar.proofs.EndChangesNothing.{Cut, Carried, nothing_cut, starts, first_same, sign_carried}
+use Rattle.basic_toml_grammar.proofs.EndChangesNothing.{run_carried, comment_carried, gap_carried, Spaced}
+use Rattle.basic_toml_grammar.proofs.EndChangesNothing.{spaced_carried, over_blanks, over_gap}
 use Rattle.basic_toml_grammar.proofs.StringsCarried.{string_carried}
 
 -- the offset of a word's value goes by the word

@@ -22,13 +22,13 @@ use Rattle.basic_toml_grammar.proofs.WhatSectionsSay.{Says}
 use Rattle.basic_toml_grammar.proofs.MarksAreWhatIsSaid.{said}
 use Rattle.basic_toml_grammar.proofs.PathsAgree.{offsets, count_in, append_none, whole, keys-append, keys_cut}
 use Rattle.basic_toml_grammar.proofs.ClashesAgree.{crossed_is, Alike, alike}
-use Rattle.basic_toml_grammar.proofs.EnteredSections.{Made, Past}
-use Rattle.basic_toml_grammar.proofs.WhatStands.{Shown, shown}
+use Rattle.basic_toml_grammar.proofs.SectionsLeaveMarks.{Made, Past}
+use Rattle.basic_toml_grammar.proofs.WhatStandsWasMarked.{Shown, shown}
 use Rattle.basic_toml_grammar.proofs.WhereHeadersStop.{is_header, HeaderStop}
-use Rattle.basic_toml_grammar.proofs.WhatMarksTell.{Role, role, way, RowPart, row_part, valued_at, dotted_at}
-use Rattle.basic_toml_grammar.proofs.WhatMarksTell.{crosses_after, crosses_number, cut_same}
-use Rattle.basic_toml_grammar.proofs.FaultsOfPairs.{same_path_fault, array_later_fault, array_before_fault}
-use Rattle.basic_toml_grammar.proofs.FaultsOfPairs.{on_path_fault, crossed_fault, row_before_fault, PairFault}
+use Rattle.basic_toml_grammar.proofs.MarksTellPlaces.{Role, role, way, RowPart, row_part, valued_at, dotted_at}
+use Rattle.basic_toml_grammar.proofs.MarksTellPlaces.{crosses_after, crosses_number, cut_same}
+use Rattle.basic_toml_grammar.proofs.PairsAreNamed.{same_path_fault, array_later_fault, array_before_fault}
+use Rattle.basic_toml_grammar.proofs.PairsAreNamed.{on_path_fault, crossed_fault, row_before_fault, PairFault}
 
 -- a section at its place
 abbrev pub there : List Section → Section → Placed

@@ -9,7 +9,7 @@ pub mod WalkTakesMarks
 pub mod EnteringAccepts
 pub mod RowsThatOverlapAreRefused
 pub mod OrderIsFree
-pub mod WhatStands
+pub mod WhatStandsWasMarked
 pub mod WorkedDocuments
 pub mod WorkedWrongReadings
 pub mod WorkedNumbers
@@ -19,10 +19,10 @@ pub mod WorkedGrammar
 pub mod WorkedFaults
 pub mod PathsAgree
 pub mod ClashesAgree
-pub mod EnteredSections
+pub mod SectionsLeaveMarks
 pub mod WhereHeadersStop
-pub mod WhatMarksTell
-pub mod FaultsOfPairs
+pub mod MarksTellPlaces
+pub mod PairsAreNamed
 pub mod HeaderStopsAreNamed
 pub mod WhereRowsStop
 pub mod RowsLeaveMarks
@@ -53,9 +53,9 @@ pub mod LevelsAreWithinDepth
 pub mod DepthIsTheHighestLevel
 pub mod SameTrees
 pub mod SameMapsReordered
-pub mod Reorderings
+pub mod ReorderedMeanTheSame
 pub mod SameChars
-pub mod AnotherEnd
+pub mod EndChangesNothing
 pub mod StringsCarried
 pub mod GrammarCarried
 pub mod NothingAboveTheLimit
@@ -63,7 +63,7 @@ pub mod DeepValuesCompleted
 pub mod DeepTextsCompleted
 pub mod SameSections
 pub mod OffsetsForgotten
-pub mod RespelledLaws
+pub mod RespelledMeanTheSame
 pub mod WorkedChanges
 pub mod MarksInATrie
 pub mod ChangesByPath

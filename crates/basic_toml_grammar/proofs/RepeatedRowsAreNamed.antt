@@ -23,7 +23,7 @@ use Rattle.basic_toml_grammar.proofs.StepTestsDecide.{step_same}
 use Rattle.basic_toml_grammar.proofs.WhatSectionsSay.{KeysSay, value_here, dots_here, deeper}
 use Rattle.basic_toml_grammar.proofs.MarksFit.{Tells, tells_none}
 use Rattle.basic_toml_grammar.proofs.ClashesAgree.{turn_eq}
-use Rattle.basic_toml_grammar.proofs.WhatMarksTell.{RowOf, this_one, a_later, keys_row, valued_at, dotted_at}
+use Rattle.basic_toml_grammar.proofs.MarksTellPlaces.{RowOf, this_one, a_later, keys_row, valued_at, dotted_at}
 use Rattle.basic_toml_grammar.proofs.WhereRowsStop.{keys_before, steps_to_key, Reason, names_it, adds_it}
 use Rattle.basic_toml_grammar.proofs.WhereRowsStop.{ends_before, on_its_way, repeats_it, RowHit, row_hit}
 use Rattle.basic_toml_grammar.proofs.RowsLeaveMarks.{RowRan, row_ran}

@@ -21,11 +21,11 @@ use Rattle.basic_toml_grammar.proofs.StepTestsDecide.{step_is}
 use Rattle.basic_toml_grammar.proofs.WhatSectionsSay.{KeysSay}
 use Rattle.basic_toml_grammar.proofs.PathsAgree.{keys-append}
 use Rattle.basic_toml_grammar.proofs.ClashesAgree.{crossed_is}
-use Rattle.basic_toml_grammar.proofs.EnteredSections.{Made, Past}
+use Rattle.basic_toml_grammar.proofs.SectionsLeaveMarks.{Made, Past}
 use Rattle.basic_toml_grammar.proofs.WhereHeadersStop.{is_header}
-use Rattle.basic_toml_grammar.proofs.WhatMarksTell.{Role, role, way, RowOf}
-use Rattle.basic_toml_grammar.proofs.WhatMarksTell.{valued_at, inner_short, dotted_at, crosses_after}
-use Rattle.basic_toml_grammar.proofs.FaultsOfPairs.{on_path_fault, crossed_fault, row_later_fault, PairFault}
+use Rattle.basic_toml_grammar.proofs.MarksTellPlaces.{Role, role, way, RowOf}
+use Rattle.basic_toml_grammar.proofs.MarksTellPlaces.{valued_at, inner_short, dotted_at, crosses_after}
+use Rattle.basic_toml_grammar.proofs.PairsAreNamed.{on_path_fault, crossed_fault, row_later_fault, PairFault}
 use Rattle.basic_toml_grammar.proofs.HeaderStopsAreNamed.{there, keys_steps, keys_all, header_length, target_length}
 use Rattle.basic_toml_grammar.proofs.HeaderStopsAreNamed.{alike_there, no_number, says_of, found}
 use Rattle.basic_toml_grammar.proofs.WhereRowsStop.{keys_before, steps_to_key, AtEnd, Reason, names_it, adds_it}

@@ -14,9 +14,9 @@ use Rattle.basic_toml_grammar.proofs.AmongElements.{Among}
 use Rattle.basic_toml_grammar.proofs.PathsAgree.{offsets}
 use Rattle.basic_toml_grammar.proofs.WalkTakesMarks.{added_at}
 use Rattle.basic_toml_grammar.proofs.EnteringAccepts.{offset_same}
-use Rattle.basic_toml_grammar.proofs.EnteredSections.{onto, Past, entered}
+use Rattle.basic_toml_grammar.proofs.SectionsLeaveMarks.{onto, Past, entered}
 use Rattle.basic_toml_grammar.proofs.WhereHeadersStop.{WalkStop, walk_stops}
-use Rattle.basic_toml_grammar.proofs.FaultsOfPairs.{NoneDotted, pair_named, repeat_named}
+use Rattle.basic_toml_grammar.proofs.PairsAreNamed.{NoneDotted, pair_named, repeat_named}
 use Rattle.basic_toml_grammar.proofs.HeaderStopsAreNamed.{there, header_named}
 use Rattle.basic_toml_grammar.proofs.WhereRowsStop.{RowHit}
 use Rattle.basic_toml_grammar.proofs.RepeatedRowsAreNamed.{Repeats, both_none, rows_stop}

@@ -11,8 +11,8 @@ use Rattle.basic_toml_tokens.specs.Strings.{Quotes, count_of, is_plain, is_hex, 
 use Rattle.basic_toml_tokens.specs.Strings.{IsPiece, content, delimiters, letter, unicode, continuation, Pieces, none}
 use Rattle.basic_toml_tokens.specs.Strings.{piece, Closes, one, several, after_feed, Opens, one_line, multiline}
 use Rattle.basic_toml_tokens.specs.Strings.{IsString}
-use Rattle.basic_toml_grammar.proofs.AnotherEnd.{Cut, past, Carried, nothing_cut, first_same, sign_carried, run_carried}
-use Rattle.basic_toml_grammar.proofs.AnotherEnd.{drop_carried, run_dropped, run_taken}
+use Rattle.basic_toml_grammar.proofs.EndChangesNothing.{Cut, past, Carried, nothing_cut, first_same, sign_carried}
+use Rattle.basic_toml_grammar.proofs.EndChangesNothing.{run_carried, drop_carried, run_dropped, run_taken}
 
 -- as many delimiters as are taken
 counted_drop : (d : ℕ) {n : ℕ} (text : Text) → count_of d text ≡ n → drop n text ≡ after_run (λ c. c == d) text

@@ -17,9 +17,9 @@ use Rattle.basic_toml_grammar.proofs.WhatSectionsSay.{KeysSay, value_here, dots_
 use Rattle.basic_toml_grammar.proofs.MarksAreWhatIsSaid.{here_any}
 use Rattle.basic_toml_grammar.proofs.MarksFit.{Tells}
 use Rattle.basic_toml_grammar.proofs.PathsAgree.{append_none}
-use Rattle.basic_toml_grammar.proofs.WhatStands.{Shown, shown}
+use Rattle.basic_toml_grammar.proofs.WhatStandsWasMarked.{Shown, shown}
 use Rattle.basic_toml_grammar.proofs.WhereHeadersStop.{is_header, below_same, Tried, unfit, fit, tried}
-use Rattle.basic_toml_grammar.proofs.WhatMarksTell.{RowOf, keys_row}
+use Rattle.basic_toml_grammar.proofs.MarksTellPlaces.{RowOf, keys_row}
 
 -- the steps of the first keys of a row
 abbrev pub steps_to_key : ℕ → List Key → Path

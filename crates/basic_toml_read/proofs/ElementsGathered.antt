@@ -25,7 +25,7 @@ use Rattle.basic_toml_grammar.proofs.StringsAreRead.{then_some}
 use Rattle.basic_toml_grammar.proofs.ReaderIsSound.{found_some}
 use Rattle.basic_toml_grammar.proofs.ReaderIsComplete.{gap}
 use Rattle.basic_toml_explain.specs.StopPlaces.{before_value}
-use Rattle.basic_toml_read.proofs.Carried.{Carries, stays, then_on, over_element}
+use Rattle.basic_toml_read.proofs.OffsetsLeadOn.{Carries, stays, then_on, over_element}
 use Rattle.basic_toml_grammar.specs.DeepStops.{DeepElements}
 use Rattle.basic_toml_read.proofs.DeepFurtherOn.{past_element}
 use Rattle.basic_toml_read.proofs.EnoughSteps.{elements_is}

@@ -22,7 +22,7 @@ use Rattle.basic_toml_read.specs.Gathers.{row_level, IsRowRead, AreFieldsRead, C
 use Rattle.basic_toml_grammar.proofs.StringsAreRead.{then_some}
 use Rattle.basic_toml_grammar.proofs.ReaderIsSound.{found_some}
 use Rattle.basic_toml_grammar.specs.GrammarFaults.{precedes_key}
-use Rattle.basic_toml_read.proofs.Carried.{Carries, stays, then_on, over_field}
+use Rattle.basic_toml_read.proofs.OffsetsLeadOn.{Carries, stays, then_on, over_field}
 use Rattle.basic_toml_grammar.specs.DeepStops.{DeepFields}
 use Rattle.basic_toml_read.proofs.DeepFurtherOn.{past_field}
 use Rattle.basic_toml_read.proofs.EnoughSteps.{fields_is, fields_on_is}

@@ -20,7 +20,7 @@ use Rattle.basic_toml_read.specs.StopsAt.{Misses, MissesKey, ReadsKeyAt}
 use Rattle.basic_toml_grammar.proofs.StringsAreRead.{then_some}
 use Rattle.basic_toml_grammar.proofs.ReaderIsSound.{found_some}
 use Rattle.basic_toml_grammar.specs.GrammarFaults.{precedes_key}
-use Rattle.basic_toml_read.proofs.Carried.{Carries, stays, then_on, over_period}
+use Rattle.basic_toml_read.proofs.OffsetsLeadOn.{Carries, stays, then_on, over_period}
 use Rattle.basic_toml_grammar.specs.DeepStops.{DeepKeys}
 use Rattle.basic_toml_read.proofs.DeepFurtherOn.{deep_key_there, past_key}
 use Rattle.basic_toml_read.proofs.EnoughSteps.{keys_is}

@@ -12,8 +12,8 @@ pub mod HeadersRead
 pub mod RowsRead
 pub mod ListsRead
 pub mod NumbersEnd
-pub mod Reaching
-pub mod Carried
+pub mod TokensLeadOn
+pub mod OffsetsLeadOn
 pub mod StopsStand
 pub mod ListIsAnswered
 pub mod DeepFurtherOn

@@ -28,7 +28,7 @@ use Rattle.basic_toml_tokens.specs.Text.{is_comment}
 use Rattle.basic_toml_grammar.specs.GrammarFaults.{Reached, at_start}
 use Rattle.basic_toml_explain.specs.StopPlaces.{after_value, anywhere, IsAt}
 use Rattle.basic_toml_read.specs.StopsReached.{LineAt, NextStands}
-use Rattle.basic_toml_read.proofs.Carried.{line_at, header_here, line_after}
+use Rattle.basic_toml_read.proofs.OffsetsLeadOn.{line_at, header_here, line_after}
 use Rattle.basic_toml_grammar.specs.Grammar.{IsRows, IsHeader}
 use Rattle.basic_toml_grammar.specs.DeepStops as deep
 use Rattle.basic_toml_grammar.specs.DeepStops.{DeepRows, DeepSection, DeepSections, DeepStop}

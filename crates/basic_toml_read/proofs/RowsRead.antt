@@ -28,11 +28,12 @@ use Rattle.basic_toml_grammar.proofs.StringsAreRead.{then_some}
 use Rattle.basic_toml_grammar.specs.GrammarFaults.{precedes_key}
 use Rattle.basic_toml_explain.specs.StopPlaces.{after_value, anywhere, IsAt}
 use Rattle.basic_toml_read.specs.StopsReached.{LineAt}
-use Rattle.basic_toml_read.proofs.Carried.{moved, blanks_at, line_at, row_here, any_at, line_after}
+use Rattle.basic_toml_read.proofs.OffsetsLeadOn.{moved, blanks_at, line_at, row_here, any_at, line_after}
 use Rattle.basic_toml_grammar.specs.DeepStops.{DeepRows, this_row, after_empty, later_row, DeepRow}
 use Rattle.basic_toml_grammar.proofs.ReaderIsSound.{row_read, line_end_read}
 use Rattle.basic_toml_read.proofs.EnoughSteps.{rows_is, rows_is_none}
-use Rattle.basic_toml_read.proofs.LeftAfter.{sign_there, sign_missing, gap_past_line, gap_over, gap_ends_line, gap_has_no_bracket}
+use Rattle.basic_toml_read.proofs.LeftAfter.{sign_there, sign_missing, gap_past_line, gap_over, gap_ends_line}
+use Rattle.basic_toml_read.proofs.LeftAfter.{gap_has_no_bracket}
 use Rattle.basic_toml_read.proofs.KeysTold.{misses_then, misses_none}
 use Rattle.basic_toml_read.proofs.FieldsGathered.{joined_rows, joined_rows_none, after_rows, after_rows_more}
 use Rattle.basic_toml_read.proofs.FieldsGathered.{after_no_rows, level_joined_rows, Whole, whole_none, whole_more}

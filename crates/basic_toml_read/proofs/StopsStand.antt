@@ -22,8 +22,8 @@ use Rattle.basic_toml_read.specs.Gathers.{ClosesAt, IsLastKey, IsValueRead, IsRo
 use Rattle.basic_toml_read.specs.Lists.{AreHeaderKeys}
 use Rattle.basic_toml_explain.specs.StopPlaces.{Fits, before_value, after_key, after_value, anywhere, IsAt, StopStands}
 use Rattle.basic_toml_read.specs.StopsReached.{IfStops, StandsFrom, HeaderStands, LineAt, LinesStand}
-use Rattle.basic_toml_read.proofs.Carried.{Carries, then_on, moved, blanks_at, line_at, value_gap_at, sign_at_offset}
-use Rattle.basic_toml_read.proofs.Carried.{keys_here, value_here, row_here, key_after}
+use Rattle.basic_toml_read.proofs.OffsetsLeadOn.{Carries, then_on, moved, blanks_at, line_at, value_gap_at}
+use Rattle.basic_toml_read.proofs.OffsetsLeadOn.{sign_at_offset, keys_here, value_here, row_here, key_after}
 use Rattle.basic_toml_read.proofs.KeysTold.{stopped}
 use Rattle.basic_toml_read.proofs.LeftAfter.{sign_there, sign_missing}
 

@@ -19,7 +19,7 @@ use Rattle.basic_toml_grammar.specs.Depth.{depth}
 use Rattle.basic_toml_grammar.specs.Document.{IsDocument}
 use Rattle.basic_toml_grammar.specs.Respelled.{characters, has_return, has_byte_order_mark}
 use Rattle.basic_toml_grammar.proofs.OldDocumentsStand.{list_keyed}
-use Rattle.basic_toml_grammar.proofs.RespelledLaws.{offsets_mean_nothing}
+use Rattle.basic_toml_grammar.proofs.RespelledMeanTheSame.{offsets_mean_nothing}
 use Rattle.basic_toml_round_trip.proofs.LaidOut.{Laid}
 use Rattle.basic_toml_round_trip.proofs.SectionsOfTable.{sections}
 use Rattle.basic_toml_round_trip.proofs.CharactersInFront.{onto, characters-onto}

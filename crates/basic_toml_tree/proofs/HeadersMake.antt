@@ -20,9 +20,9 @@ use Rattle.basic_toml_grammar.proofs.LatestElementsWereAdded.{Added, latest_adde
 use Rattle.basic_toml_grammar.proofs.MarksAreWhatIsSaid.{marked, said, same_truth}
 use Rattle.basic_toml_grammar.proofs.PathsAgree.{paths_agree}
 use Rattle.basic_toml_grammar.proofs.StepTestsDecide.{step_is, begins_itself, paths_are, paths_same}
-use Rattle.basic_toml_grammar.proofs.WhatMarksTell.{role, way}
+use Rattle.basic_toml_grammar.proofs.MarksTellPlaces.{role, way}
 use Rattle.basic_toml_grammar.proofs.WhatSectionsSay.{Says, names, adds, into, passes, goes_by, on}
-use Rattle.basic_toml_grammar.proofs.WhatStands.{Shown, shown}
+use Rattle.basic_toml_grammar.proofs.WhatStandsWasMarked.{Shown, shown}
 use Rattle.basic_toml_grammar.proofs.WhereHeadersStop.{is_header}
 
 -- whether headers made what stands somewhere, and whether it is an array of tables

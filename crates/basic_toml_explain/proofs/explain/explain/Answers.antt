@@ -1,5 +1,5 @@
 use Rattle.basic_toml_explain.specs.declared.stop.Why.TheVariants.{Equals, Bracket, Comma, Newline}
-use Rattle.basic_toml_explain.proofs.Explained.{by_reason, equals_due, bracket_due, comma_due, newline_due}
+use Rattle.basic_toml_explain.proofs.ErrorsAreAllowed.{by_reason, equals_due, bracket_due, comma_due, newline_due}
 use Rattle.basic_toml_explain.proofs.explain.explain.Goals as goal
 
 pub returns-in-Equals : goal.returns-in-Equals

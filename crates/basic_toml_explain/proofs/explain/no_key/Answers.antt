@@ -1,4 +1,4 @@
-use Rattle.basic_toml_explain.proofs.Explained.{key_due, key_absent}
+use Rattle.basic_toml_explain.proofs.ErrorsAreAllowed.{key_due, key_absent}
 use Rattle.basic_toml_explain.proofs.explain.no_key.Goals as goal
 
 pub returns-in-Ok : goal.returns-in-Ok

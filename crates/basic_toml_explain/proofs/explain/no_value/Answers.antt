@@ -1,6 +1,6 @@
 use Rattle.std.proofs.Common.{sym, subst}
 use Rattle.basic_toml_explain.specs.Explain.{IsDue}
-use Rattle.basic_toml_explain.proofs.Explained.{value_due, over_due}
+use Rattle.basic_toml_explain.proofs.ErrorsAreAllowed.{value_due, over_due}
 use Rattle.basic_toml_explain.proofs.explain.no_value.Goals as goal
 
 pub returns-then-at-text : goal.returns-then-at-text

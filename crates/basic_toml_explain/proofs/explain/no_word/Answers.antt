@@ -1,4 +1,4 @@
-use Rattle.basic_toml_explain.proofs.Explained.{word_due, period_due}
+use Rattle.basic_toml_explain.proofs.ErrorsAreAllowed.{word_due, period_due}
 use Rattle.basic_toml_explain.proofs.explain.no_word.Goals as goal
 
 pub returns-in-Ok : goal.returns-in-Ok

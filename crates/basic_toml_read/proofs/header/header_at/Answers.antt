@@ -5,7 +5,7 @@ use Rattle.basic_toml_read.specs.Lists.{ReadsHeader}
 use Rattle.basic_toml_read.proofs.KeysTold.{stopped}
 use Rattle.basic_toml_read.proofs.HeadersRead.{no_bracket, one_missing, one_unclosed, one_closed, two_missing}
 use Rattle.basic_toml_read.proofs.HeadersRead.{two_unclosed, two_half_closed, two_closed}
-use Rattle.basic_toml_read.proofs.Carried.{then_on}
+use Rattle.basic_toml_read.proofs.OffsetsLeadOn.{then_on}
 use Rattle.basic_toml_read.proofs.StopsStand.{header_stop, no_bracket_there, to_keys, to_array_keys, after_header_keys}
 use Rattle.basic_toml_read.proofs.StopsStand.{after_bracket}
 use Rattle.basic_toml_grammar.specs.DeepStops.{DeepKeys, DeepHeader}

@@ -12,7 +12,7 @@ use Rattle.basic_toml_read.proofs.ValuesGathered.{inline_value, string_value, wo
 use Rattle.basic_toml_read.proofs.ValuesGathered.{inline_whole}
 use Rattle.basic_toml_grammar.specs.GrammarFaults.{precedes_key, precedes_value}
 use Rattle.basic_toml_explain.specs.StopPlaces.{before_value}
-use Rattle.basic_toml_read.proofs.Carried.{then_on}
+use Rattle.basic_toml_read.proofs.OffsetsLeadOn.{then_on}
 use Rattle.basic_toml_read.proofs.LeftAfter.{sign_there}
 use Rattle.basic_toml_read.proofs.StopsStand.{result_on, stop_on, over_a_sign, over_the_blanks, over_the_gap}
 use Rattle.basic_toml_read.proofs.StopsStand.{bracket_or_stop, brace_or_stop, after_last_key, no_equals_there}

@@ -17,8 +17,8 @@ use Rattle.basic_toml_explain.specs.StopPlaces.{Fits, before_value, after_key, a
 use Rattle.basic_toml_read.specs.StopsReached.{LineAt}
 use Rattle.basic_toml_grammar.proofs.ReaderIsSound.{sign_read, key_read, keys_read, value_read, row_read, header_read}
 use Rattle.basic_toml_read.proofs.LeftAfter.{sign_there}
-use Rattle.basic_toml_read.proofs.Reaching.{After, over_blanks, over_line, over_gap, over_sign, over_feed, over_key}
-use Rattle.basic_toml_read.proofs.Reaching.{over_keys, over_value, over_row}
+use Rattle.basic_toml_read.proofs.TokensLeadOn.{After, over_blanks, over_line, over_gap, over_sign, over_feed, over_key}
+use Rattle.basic_toml_read.proofs.TokensLeadOn.{over_keys, over_value, over_row}
 
 -- from an offset of one kind to one of another
 pub record Carries (fits : Fits) (text : Text) (fits' : Fits) (rest : Text) : Type 0 where

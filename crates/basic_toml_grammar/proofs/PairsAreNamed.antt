@@ -14,8 +14,8 @@ use Rattle.basic_toml_grammar.specs.NamedClash.{table_fault, array_fault, path_f
 use Rattle.basic_toml_grammar.specs.NamedClash.{row_faults, pair_faults, section_faults, first_of_two, clash_faults}
 use Rattle.basic_toml_grammar.specs.NamedClash.{dotted_faults, repeated_faults_of, NamesClash}
 use Rattle.basic_toml_grammar.proofs.AmongElements.{Among, first, next, among_left, among_right}
-use Rattle.basic_toml_grammar.proofs.WhatMarksTell.{RowOf, this_one, a_later}
-use Rattle.basic_toml_grammar.proofs.EnteredSections.{Stood, here, before, onto}
+use Rattle.basic_toml_grammar.proofs.MarksTellPlaces.{RowOf, this_one, a_later}
+use Rattle.basic_toml_grammar.proofs.SectionsLeaveMarks.{Stood, here, before, onto}
 
 pub when : {A : Type 0} (b : Bool) (f : A) → b ≡ true → Among f (if b then f ∷ [] else [])
 when true f e = first

@@ -38,7 +38,8 @@ use Rattle.basic_toml_explain.specs.Explain.{end_word, IsWanting, found, refused
 use Rattle.basic_toml_grammar.proofs.StringsAreRead.{string_found}
 use Rattle.basic_toml_explain.proofs.FaultlessNumberHasValue.{run_splits}
 use Rattle.basic_toml_explain.proofs.StopsAreAllowed.{fault_told, IsWanted, key_stop_stands, word_stop_stands}
-use Rattle.basic_toml_explain.proofs.TakenTokenStands.{sign_is, sign_found, code_is, word_is, over_at_token, offset_here, run_over}
+use Rattle.basic_toml_explain.proofs.TakenTokenStands.{sign_is, sign_found, code_is, word_is, over_at_token}
+use Rattle.basic_toml_explain.proofs.TakenTokenStands.{offset_here, run_over}
 
 -- what the code finds at an offset
 pub refusal_found : (bytes : List ℕ) (at : ℕ) (expected : List ℕ) (r : TokenStop) → IsFound bytes at (Err r)
