@@ -13,9 +13,9 @@ use Rattle.basic_toml_grammar.specs.NestingFaults.{deep_sections}
 use Rattle.basic_toml_grammar.specs.Document.{has_clash, tree_of_sections, document_of, IsDocument}
 use Rattle.basic_toml_grammar.specs.Faults as read
 use Rattle.basic_toml_grammar.proofs.LawsHold.{unambiguous, within, keyed}
-use Rattle.basic_toml_grammar.proofs.EveryClashIsNamed.{named_clashes}
-use Rattle.basic_toml_grammar.proofs.LevelsAreWithinDepth.{list_keys}
-use Rattle.basic_toml_grammar.proofs.DepthIsTheHighestLevel.{deep_where_one_is}
+use Rattle.basic_toml_grammar.proofs.Naming.EveryClashIsNamed.{named_clashes}
+use Rattle.basic_toml_grammar.proofs.Nesting.LevelsAreWithinDepth.{list_keys}
+use Rattle.basic_toml_grammar.proofs.Nesting.DepthIsTheHighestLevel.{deep_where_one_is}
 use Rattle.basic_toml.specs.Reading.{IsTextFault, outside, deep, deep_tree, clash}
 
 -- in the list of a document nothing clashes, and its tree fits

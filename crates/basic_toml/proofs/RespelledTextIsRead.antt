@@ -8,7 +8,8 @@ use Rattle.basic_toml_grammar.specs.Document.{IsDocument}
 use Rattle.basic_toml_grammar.specs.OldRules.{has_no_delete, WasDocument}
 use Rattle.basic_toml_grammar.specs.Respelled.{with_returns, has_return, with_byte_order_mark, has_byte_order_mark}
 use Rattle.basic_toml_grammar.proofs.LawsHold.{old}
-use Rattle.basic_toml_grammar.proofs.RespelledMeanTheSame.{returns_mean_nothing, byte_order_mark_means_nothing}
+use Rattle.basic_toml_grammar.proofs.SameMeaning.RespelledMeanTheSame.{returns_mean_nothing}
+use Rattle.basic_toml_grammar.proofs.SameMeaning.RespelledMeanTheSame.{byte_order_mark_means_nothing}
 use Rattle.basic_toml_error.specs.Fault.{Fault, want_of_memory}
 use Rattle.basic_toml_error.specs.ReadFaults.{lined}
 use Rattle.basic_toml.specs.Reading.{OnlyMemory, ReadsText, value_read, no_memory, no_document, not_taken, ReadsData}

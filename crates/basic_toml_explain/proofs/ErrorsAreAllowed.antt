@@ -35,7 +35,7 @@ use Rattle.basic_toml_explain.specs.Number.{begins_word, LacksValue}
 use Rattle.basic_toml_explain.specs.Stop.{StopsInside}
 use Rattle.basic_toml_explain.specs.StopPlaces.{before_value, after_key, after_value, IsAt, NoValue, StopStands}
 use Rattle.basic_toml_explain.specs.Explain.{end_word, IsWanting, found, refused, no_memory, IsDue, ExplainsWhy, Explains, Stops}
-use Rattle.basic_toml_grammar.proofs.StringsAreRead.{string_found}
+use Rattle.basic_toml_grammar.proofs.Grammar.StringsAreRead.{string_found}
 use Rattle.basic_toml_explain.proofs.FaultlessNumberHasValue.{run_splits}
 use Rattle.basic_toml_explain.proofs.StopsAreAllowed.{fault_told, IsWanted, key_stop_stands, word_stop_stands}
 use Rattle.basic_toml_explain.proofs.TakenTokenStands.{sign_is, sign_found, code_is, word_is, over_at_token}

@@ -20,7 +20,7 @@ use Rattle.basic_toml_grammar.specs.NumberFaults.{plus_power_fault, near_power_f
 use Rattle.basic_toml_grammar.specs.NumberFaults.{float_fault, fraction_parts_fault, after_period_fault, outside}
 use Rattle.basic_toml_grammar.specs.NumberFaults.{whole_fault, unmarked_fault, is_prefixed, word_fault}
 use Rattle.basic_toml_explain.specs.NumberFault.{plus_rest, mark_rest, period_rest, word_rest}
-use Rattle.basic_toml_grammar.proofs.ReaderIsSound.{sign_read}
+use Rattle.basic_toml_grammar.proofs.Grammar.ReaderIsSound.{sign_read}
 
 -- neither of two is there
 first_none : {A : Type 0} (a b : Option A) → option_or a b ≡ None → a ≡ None

@@ -25,8 +25,8 @@ use Rattle.basic_toml_grammar.specs.Grammar.{IsKey, bare}
 use Rattle.basic_toml_grammar.specs.Reader.{key_at}
 use Rattle.basic_toml_explain.specs.Key as keyed
 use Rattle.basic_toml_explain.specs.Key.{IsKeyStop}
-use Rattle.basic_toml_grammar.proofs.ReaderIsSound.{key_read}
-use Rattle.basic_toml_grammar.proofs.ReaderIsComplete.{key_found}
+use Rattle.basic_toml_grammar.proofs.Grammar.ReaderIsSound.{key_read}
+use Rattle.basic_toml_grammar.proofs.Grammar.ReaderIsComplete.{key_found}
 use Rattle.basic_toml_explain.proofs.TakenTokenStands.{code_is, stopped}
 use Rattle.basic_toml_explain.proofs.WordStopIsDue.{offset_of_token}
 

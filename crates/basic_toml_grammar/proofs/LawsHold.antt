@@ -8,25 +8,25 @@ use Rattle.basic_toml_grammar.specs.Statements.{GrammarGivesKeys, LevelsAreWithi
 use Rattle.basic_toml_grammar.specs.Statements.{ShallowTextIsFree, OldDocumentsStand, OrderIsFree, PlainOrderIsFree}
 use Rattle.basic_toml_grammar.specs.Statements.{EnteringAccepts, EnteringGrows, TrieIsEntering, TrieGivesLevels}
 use Rattle.basic_toml_grammar.specs.Statements.{StopsAreNamed, TrieStopsAreNamed}
-use Rattle.basic_toml_grammar.proofs.GrammarIsUnambiguous.{one_section_list}
-use Rattle.basic_toml_grammar.proofs.TreeIsGrouped.{tree_is_grouped}
-use Rattle.basic_toml_grammar.proofs.KeysAreDistinct.{keys_are_distinct}
-use Rattle.basic_toml_grammar.proofs.EveryClashIsNamed.{every_clash_named}
-use Rattle.basic_toml_grammar.proofs.PathsAgree.{paths_agree}
-use Rattle.basic_toml_grammar.proofs.MarksFit.{marks_fit}
-use Rattle.basic_toml_grammar.proofs.ClashesAgree.{clashes_agree}
-use Rattle.basic_toml_grammar.proofs.LevelsAreWithinDepth.{levels_within}
-use Rattle.basic_toml_grammar.proofs.DeepOffsetsAreOpened.{deep_offsets_are_opened}
-use Rattle.basic_toml_grammar.proofs.WorkedNesting.{shallow_text}
-use Rattle.basic_toml_grammar.proofs.OldDocumentsStand.{list_keyed, old_documents}
-use Rattle.basic_toml_grammar.proofs.ReaderIsComplete.{grammar_is_read}
-use Rattle.basic_toml_grammar.proofs.OrderIsFree.{order_free, plain_order_free}
-use Rattle.basic_toml_grammar.proofs.EnteringAccepts.{accepts}
-use Rattle.basic_toml_grammar.proofs.EnteringGrows.{tree_entered}
-use Rattle.basic_toml_grammar.proofs.SectionsInATrie.{bare_is_growth}
-use Rattle.basic_toml_grammar.proofs.StepsArePaths.{level_is_tree_level}
-use Rattle.basic_toml_grammar.proofs.StopsAreNamed.{stops_named}
-use Rattle.basic_toml_grammar.proofs.TrieStopsAreNamed.{trie_stops_named}
+use Rattle.basic_toml_grammar.proofs.Grammar.GrammarIsUnambiguous.{one_section_list}
+use Rattle.basic_toml_grammar.proofs.Trees.TreeIsGrouped.{tree_is_grouped}
+use Rattle.basic_toml_grammar.proofs.Trees.KeysAreDistinct.{keys_are_distinct}
+use Rattle.basic_toml_grammar.proofs.Naming.EveryClashIsNamed.{every_clash_named}
+use Rattle.basic_toml_grammar.proofs.Clash.PathsAgree.{paths_agree}
+use Rattle.basic_toml_grammar.proofs.Clash.MarksFit.{marks_fit}
+use Rattle.basic_toml_grammar.proofs.Clash.ClashesAgree.{clashes_agree}
+use Rattle.basic_toml_grammar.proofs.Nesting.LevelsAreWithinDepth.{levels_within}
+use Rattle.basic_toml_grammar.proofs.Nesting.DeepOffsetsAreOpened.{deep_offsets_are_opened}
+use Rattle.basic_toml_grammar.proofs.Worked.WorkedNesting.{shallow_text}
+use Rattle.basic_toml_grammar.proofs.SameMeaning.OldDocumentsStand.{list_keyed, old_documents}
+use Rattle.basic_toml_grammar.proofs.Grammar.ReaderIsComplete.{grammar_is_read}
+use Rattle.basic_toml_grammar.proofs.SameMeaning.OrderIsFree.{order_free, plain_order_free}
+use Rattle.basic_toml_grammar.proofs.Clash.EnteringAccepts.{accepts}
+use Rattle.basic_toml_grammar.proofs.Trees.EnteringGrows.{tree_entered}
+use Rattle.basic_toml_grammar.proofs.Tries.SectionsInATrie.{bare_is_growth}
+use Rattle.basic_toml_grammar.proofs.Tries.StepsArePaths.{level_is_tree_level}
+use Rattle.basic_toml_grammar.proofs.Naming.StopsAreNamed.{stops_named}
+use Rattle.basic_toml_grammar.proofs.Naming.TrieStopsAreNamed.{trie_stops_named}
 
 pub unambiguous : GrammarIsUnambiguous
 unambiguous comment text sections others x y = one_section_list x y

@@ -66,7 +66,7 @@ pub fn deep_offsets_are_opened()
 {}
 
 /// Where the reader meets a key or a bracket above the limit, that one is too deep.
-#[tactic(auto, using(crate::proofs::DeepStopsAreTooDeep::deep_stops_are_too_deep))]
+#[tactic(auto, using(crate::proofs::Nesting::DeepStopsAreTooDeep::deep_stops_are_too_deep))]
 pub fn deep_stops_are_too_deep()
     ensures { DeepStopsAreTooDeep }
 {}
@@ -78,19 +78,19 @@ pub fn old_documents_stand()
 {}
 
 /// What a text means does not depend on the offsets of its characters.
-#[tactic(auto, using(crate::proofs::RespelledMeanTheSame::offsets_mean_nothing))]
+#[tactic(auto, using(crate::proofs::SameMeaning::RespelledMeanTheSame::offsets_mean_nothing))]
 pub fn offsets_mean_nothing()
     ensures { OffsetsMeanNothing }
 {}
 
 /// CR LF for each LF of a text without CR leaves its document.
-#[tactic(auto, using(crate::proofs::RespelledMeanTheSame::returns_mean_nothing))]
+#[tactic(auto, using(crate::proofs::SameMeaning::RespelledMeanTheSame::returns_mean_nothing))]
 pub fn returns_mean_nothing()
     ensures { ReturnsMeanNothing }
 {}
 
 /// One U+FEFF in front of a text that begins with none leaves its document.
-#[tactic(auto, using(crate::proofs::RespelledMeanTheSame::byte_order_mark_means_nothing))]
+#[tactic(auto, using(crate::proofs::SameMeaning::RespelledMeanTheSame::byte_order_mark_means_nothing))]
 pub fn byte_order_mark_means_nothing()
     ensures { ByteOrderMarkMeansNothing }
 {}
@@ -108,19 +108,19 @@ pub fn plain_order_is_free()
 {}
 
 /// Sections in another order mean the same, where each keeps its indexed path.
-#[tactic(auto, using(crate::proofs::ReorderedMeanTheSame::reordered_means_the_same))]
+#[tactic(auto, using(crate::proofs::SameMeaning::ReorderedMeanTheSame::reordered_means_the_same))]
 pub fn reordered_means_the_same()
     ensures { ReorderedMeansTheSame }
 {}
 
 /// Without array sections they mean the same in each order.
-#[tactic(auto, using(crate::proofs::ReorderedMeanTheSame::plain_reordered_means_the_same))]
+#[tactic(auto, using(crate::proofs::SameMeaning::ReorderedMeanTheSame::plain_reordered_means_the_same))]
 pub fn plain_reordered_means_the_same()
     ensures { PlainReorderedMeansTheSame }
 {}
 
 /// Trees of the same maps are equally deep.
-#[tactic(auto, using(crate::proofs::ReorderedMeanTheSame::same_maps_are_as_deep))]
+#[tactic(auto, using(crate::proofs::SameMeaning::ReorderedMeanTheSame::same_maps_are_as_deep))]
 pub fn same_maps_are_as_deep()
     ensures { SameMapsAreAsDeep }
 {}

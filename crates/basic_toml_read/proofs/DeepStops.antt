@@ -11,7 +11,7 @@ use Rattle.basic_toml_grammar.specs.DeepStops.{DeepKeys, DeepRow, value, DeepVal
 use Rattle.basic_toml_grammar.specs.DeepStops.{DeepElements, elements, DeepInline, DeepFields, fields, DeepHeader}
 use Rattle.basic_toml_grammar.specs.DeepStops.{table, array_of_tables}
 use Rattle.basic_toml_grammar.specs.Reader.{char_at}
-use Rattle.basic_toml_grammar.proofs.ReaderIsSound.{sign_read, keys_read}
+use Rattle.basic_toml_grammar.proofs.Grammar.ReaderIsSound.{sign_read, keys_read}
 use Rattle.basic_toml_explain.specs.declared.stop.Stop.{Stop}
 use Rattle.basic_toml_explain.specs.declared.stop.Why.{Why}
 use Rattle.basic_toml_explain.specs.declared.stop.Why.TheVariants.{Deep}

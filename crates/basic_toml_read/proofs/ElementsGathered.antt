@@ -21,9 +21,9 @@ use Rattle.basic_toml_read.specs.AtPlace.{Leaves}
 use Rattle.basic_toml_read.specs.SectionView.{raw_of, placed_of, with_element, elements_view}
 use Rattle.basic_toml_read.specs.StopsAt.{Misses}
 use Rattle.basic_toml_read.specs.Gathers.{IsValueRead, AreElementsRead, ClosesAt, ReadsElements}
-use Rattle.basic_toml_grammar.proofs.StringsAreRead.{then_some}
-use Rattle.basic_toml_grammar.proofs.ReaderIsSound.{found_some}
-use Rattle.basic_toml_grammar.proofs.ReaderIsComplete.{gap}
+use Rattle.basic_toml_grammar.proofs.Grammar.StringsAreRead.{then_some}
+use Rattle.basic_toml_grammar.proofs.Grammar.ReaderIsSound.{found_some}
+use Rattle.basic_toml_grammar.proofs.Grammar.ReaderIsComplete.{gap}
 use Rattle.basic_toml_explain.specs.StopPlaces.{before_value}
 use Rattle.basic_toml_read.proofs.OffsetsLeadOn.{Carries, stays, then_on, over_element}
 use Rattle.basic_toml_grammar.specs.DeepStops.{DeepElements}

@@ -11,13 +11,13 @@ use Rattle.basic_toml_grammar.specs.Reader.{string_value_at, value_at, elements_
 use Rattle.basic_toml_grammar.specs.Reader.{line_end_at, rows_at, header_at, sections_at, section_list_of}
 use Rattle.basic_toml_read.specs.FrontOf.{keys_of, value_of, elements_of, fields_of, fields_on_of, row_of, rows_of}
 use Rattle.basic_toml_read.specs.FrontOf.{header_of, sections_of}
-use Rattle.basic_toml_grammar.proofs.StringsAreRead.{sign_length}
-use Rattle.basic_toml_grammar.proofs.ReaderIsSound.{sign_read, key_read, keys_read, value_read, row_read}
-use Rattle.basic_toml_grammar.proofs.ReaderIsSound.{line_end_read, rows_read, header_read}
-use Rattle.basic_toml_grammar.proofs.ReaderIsComplete.{key_shorter, keys_shorter, blanks_length}
-use Rattle.basic_toml_grammar.proofs.ReaderIsComplete.{shorter_after_blanks, gap, gap_length, shorter_after_gap}
-use Rattle.basic_toml_grammar.proofs.ReaderIsComplete.{value_shorter, row_shorter, ends_shorter, line_shorter}
-use Rattle.basic_toml_grammar.proofs.ReaderIsComplete.{header_shorter, rows_shorter}
+use Rattle.basic_toml_grammar.proofs.Grammar.StringsAreRead.{sign_length}
+use Rattle.basic_toml_grammar.proofs.Grammar.ReaderIsSound.{sign_read, key_read, keys_read, value_read, row_read}
+use Rattle.basic_toml_grammar.proofs.Grammar.ReaderIsSound.{line_end_read, rows_read, header_read}
+use Rattle.basic_toml_grammar.proofs.Grammar.ReaderIsComplete.{key_shorter, keys_shorter, blanks_length}
+use Rattle.basic_toml_grammar.proofs.Grammar.ReaderIsComplete.{shorter_after_blanks, gap, gap_length, shorter_after_gap}
+use Rattle.basic_toml_grammar.proofs.Grammar.ReaderIsComplete.{value_shorter, row_shorter, ends_shorter, line_shorter}
+use Rattle.basic_toml_grammar.proofs.Grammar.ReaderIsComplete.{header_shorter, rows_shorter}
 
 -- two ways to go on from the same finding
 pub then_alike : {A B : Type 0} (o : Option A) (f g : A → Option B) → ((x : A) → o ≡ Some x → f x ≡ g x)

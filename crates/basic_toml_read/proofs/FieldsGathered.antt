@@ -19,8 +19,8 @@ use Rattle.basic_toml_read.specs.AtPlace.{Leaves}
 use Rattle.basic_toml_read.specs.SectionView.{rows_view}
 use Rattle.basic_toml_read.specs.StopsAt.{Misses}
 use Rattle.basic_toml_read.specs.Gathers.{row_level, IsRowRead, AreFieldsRead, ClosesAt, ReadsFields}
-use Rattle.basic_toml_grammar.proofs.StringsAreRead.{then_some}
-use Rattle.basic_toml_grammar.proofs.ReaderIsSound.{found_some}
+use Rattle.basic_toml_grammar.proofs.Grammar.StringsAreRead.{then_some}
+use Rattle.basic_toml_grammar.proofs.Grammar.ReaderIsSound.{found_some}
 use Rattle.basic_toml_grammar.specs.GrammarFaults.{precedes_key}
 use Rattle.basic_toml_read.proofs.OffsetsLeadOn.{Carries, stays, then_on, over_field}
 use Rattle.basic_toml_grammar.specs.DeepStops.{DeepFields}

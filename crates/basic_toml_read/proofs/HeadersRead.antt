@@ -22,7 +22,7 @@ use Rattle.basic_toml_read.specs.SectionView.{keys_with}
 use Rattle.basic_toml_read.specs.StopsAt.{Misses, MissesKey, ReadsKeyAt}
 use Rattle.basic_toml_read.specs.Gathers.{ClosesAt}
 use Rattle.basic_toml_read.specs.Lists.{AreHeaderKeys, IsHeaderRead, ReadsHeader}
-use Rattle.basic_toml_grammar.proofs.StringsAreRead.{then_some}
+use Rattle.basic_toml_grammar.proofs.Grammar.StringsAreRead.{then_some}
 use Rattle.basic_toml_read.proofs.EnoughSteps.{header_is}
 use Rattle.basic_toml_read.proofs.LeftAfter.{sign_there, sign_missing}
 use Rattle.basic_toml_read.proofs.KeysTold.{KeysTold, misses_then, keys_missing, keys_deep, told_start, told_more}

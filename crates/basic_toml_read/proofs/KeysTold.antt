@@ -17,8 +17,8 @@ use Rattle.basic_toml_grammar.specs.Reader.{char_at, key_at, if_found}
 use Rattle.basic_toml_read.specs.FrontOf.{keys_of}
 use Rattle.basic_toml_read.specs.AtPlace.{Leaves}
 use Rattle.basic_toml_read.specs.StopsAt.{Misses, MissesKey, ReadsKeyAt}
-use Rattle.basic_toml_grammar.proofs.StringsAreRead.{then_some}
-use Rattle.basic_toml_grammar.proofs.ReaderIsSound.{found_some}
+use Rattle.basic_toml_grammar.proofs.Grammar.StringsAreRead.{then_some}
+use Rattle.basic_toml_grammar.proofs.Grammar.ReaderIsSound.{found_some}
 use Rattle.basic_toml_grammar.specs.GrammarFaults.{precedes_key}
 use Rattle.basic_toml_read.proofs.OffsetsLeadOn.{Carries, stays, then_on, over_period}
 use Rattle.basic_toml_grammar.specs.DeepStops.{DeepKeys}

@@ -6,9 +6,9 @@ use Rattle.basic_toml_grammar.specs.Faults.{Fault}
 use Rattle.basic_toml_grammar.specs.Levels.{highest_level}
 use Rattle.basic_toml_grammar.specs.DeepStops.{DeepStop}
 use Rattle.basic_toml_grammar.specs.Reader.{section_list_of}
-use Rattle.basic_toml_grammar.proofs.ReaderIsComplete.{list_found}
-use Rattle.basic_toml_grammar.proofs.ReaderIsSound.{list_read}
-use Rattle.basic_toml_grammar.proofs.DeepStopsAreTooDeep.{deep_stops_are_too_deep}
+use Rattle.basic_toml_grammar.proofs.Grammar.ReaderIsComplete.{list_found}
+use Rattle.basic_toml_grammar.proofs.Grammar.ReaderIsSound.{list_read}
+use Rattle.basic_toml_grammar.proofs.Nesting.DeepStopsAreTooDeep.{deep_stops_are_too_deep}
 use Rattle.basic_toml_explain.specs.declared.stop.Why.{Why}
 use Rattle.basic_toml_explain.specs.declared.stop.Why.TheVariants.{Memory, Deep}
 use Rattle.basic_toml_explain.specs.Explain.{IsDue, ExplainsWhy}

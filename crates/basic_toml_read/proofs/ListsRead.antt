@@ -22,7 +22,7 @@ use Rattle.basic_toml_read.specs.SectionView.{rows_view, keys_with, section_of}
 use Rattle.basic_toml_read.specs.StopsAt.{Misses}
 use Rattle.basic_toml_read.specs.Lists.{IsHeaderRead, EndsLineAt, AreRowsRead, NextAt, IsFrom, root_view, TakesRoot}
 use Rattle.basic_toml_read.specs.Lists.{sections_from, IsSectionRead, ReadsList, IsGap, PassesGaps}
-use Rattle.basic_toml_grammar.proofs.StringsAreRead.{then_some}
+use Rattle.basic_toml_grammar.proofs.Grammar.StringsAreRead.{then_some}
 use Rattle.basic_toml_grammar.specs.Grammar.{after_comment_by}
 use Rattle.basic_toml_tokens.specs.Text.{is_comment}
 use Rattle.basic_toml_grammar.specs.GrammarFaults.{Reached, at_start}
@@ -32,7 +32,7 @@ use Rattle.basic_toml_read.proofs.OffsetsLeadOn.{line_at, header_here, line_afte
 use Rattle.basic_toml_grammar.specs.Grammar.{IsRows, IsHeader}
 use Rattle.basic_toml_grammar.specs.DeepStops as deep
 use Rattle.basic_toml_grammar.specs.DeepStops.{DeepRows, DeepSection, DeepSections, DeepStop}
-use Rattle.basic_toml_grammar.proofs.ReaderIsSound.{rows_read, header_read, line_end_read}
+use Rattle.basic_toml_grammar.proofs.Grammar.ReaderIsSound.{rows_read, header_read, line_end_read}
 use Rattle.basic_toml_read.proofs.EnoughSteps.{list_is, sections_is, sections_is_none}
 use Rattle.basic_toml_read.proofs.HeadersRead.{header_length}
 use Rattle.basic_toml_read.proofs.KeysTold.{misses_then, misses_none}

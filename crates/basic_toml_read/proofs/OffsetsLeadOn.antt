@@ -15,7 +15,8 @@ use Rattle.basic_toml_read.specs.AtPlace.{Leaves}
 use Rattle.basic_toml_grammar.specs.GrammarFaults.{is_gap, Reached, precedes_key, ends_key, ends_value}
 use Rattle.basic_toml_explain.specs.StopPlaces.{Fits, before_value, after_key, after_value, anywhere, IsAt}
 use Rattle.basic_toml_read.specs.StopsReached.{LineAt}
-use Rattle.basic_toml_grammar.proofs.ReaderIsSound.{sign_read, key_read, keys_read, value_read, row_read, header_read}
+use Rattle.basic_toml_grammar.proofs.Grammar.ReaderIsSound.{sign_read, key_read, keys_read, value_read, row_read}
+use Rattle.basic_toml_grammar.proofs.Grammar.ReaderIsSound.{header_read}
 use Rattle.basic_toml_read.proofs.LeftAfter.{sign_there}
 use Rattle.basic_toml_read.proofs.TokensLeadOn.{After, over_blanks, over_line, over_gap, over_sign, over_feed, over_key}
 use Rattle.basic_toml_read.proofs.TokensLeadOn.{over_keys, over_value, over_row}

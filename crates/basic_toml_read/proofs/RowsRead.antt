@@ -24,13 +24,13 @@ use Rattle.basic_toml_read.specs.SectionView.{rows_view}
 use Rattle.basic_toml_read.specs.StopsAt.{Misses}
 use Rattle.basic_toml_read.specs.Gathers.{row_level, IsRowRead}
 use Rattle.basic_toml_read.specs.Lists.{EndsLineAt, AreRowsRead, IsGap}
-use Rattle.basic_toml_grammar.proofs.StringsAreRead.{then_some}
+use Rattle.basic_toml_grammar.proofs.Grammar.StringsAreRead.{then_some}
 use Rattle.basic_toml_grammar.specs.GrammarFaults.{precedes_key}
 use Rattle.basic_toml_explain.specs.StopPlaces.{after_value, anywhere, IsAt}
 use Rattle.basic_toml_read.specs.StopsReached.{LineAt}
 use Rattle.basic_toml_read.proofs.OffsetsLeadOn.{moved, blanks_at, line_at, row_here, any_at, line_after}
 use Rattle.basic_toml_grammar.specs.DeepStops.{DeepRows, this_row, after_empty, later_row, DeepRow}
-use Rattle.basic_toml_grammar.proofs.ReaderIsSound.{row_read, line_end_read}
+use Rattle.basic_toml_grammar.proofs.Grammar.ReaderIsSound.{row_read, line_end_read}
 use Rattle.basic_toml_read.proofs.EnoughSteps.{rows_is, rows_is_none}
 use Rattle.basic_toml_read.proofs.LeftAfter.{sign_there, sign_missing, gap_past_line, gap_over, gap_ends_line}
 use Rattle.basic_toml_read.proofs.LeftAfter.{gap_has_no_bracket}

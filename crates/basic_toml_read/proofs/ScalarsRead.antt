@@ -28,7 +28,7 @@ use Rattle.basic_toml_grammar.specs.Grammar.{is_wordlike, word_value}
 use Rattle.basic_toml_grammar.specs.Reader as reader
 use Rattle.basic_toml_grammar.specs.Reader.{string_at, bare_key_at, quoted_key, key_at, string_value_at, word_at}
 use Rattle.basic_toml_read.specs.StopsAt.{why_of, MissesKey, MissesString, ReadsKeyAt, IsKeyOf}
-use Rattle.basic_toml_grammar.proofs.StringsAreRead.{string_found, string_read}
+use Rattle.basic_toml_grammar.proofs.Grammar.StringsAreRead.{string_found, string_read}
 use Rattle.basic_toml_read.specs.AtPlace.{Leaves}
 use Rattle.basic_toml_read.specs.Word.{value_offset}
 use Rattle.basic_toml_explain.proofs.TakenTokenStands.{keylike_small, run_over}

@@ -19,8 +19,8 @@ use Rattle.basic_toml_grammar.specs.GrammarFaults.{ends_value}
 use Rattle.basic_toml_read.proofs.LeftAfter.{line_of, gap_past_line, gap_past_feed, gap_stops}
 use Rattle.basic_toml_explain.proofs.TakenTokenStands.{run_within}
 use Rattle.basic_toml_read.proofs.NumbersEnd.{ends_keylike, word_end}
-use Rattle.basic_toml_grammar.proofs.ReaderIsComplete.{blanks_length}
-use Rattle.basic_toml_grammar.proofs.StringsAreRead.{length_run}
+use Rattle.basic_toml_grammar.proofs.Grammar.ReaderIsComplete.{blanks_length}
+use Rattle.basic_toml_grammar.proofs.Grammar.StringsAreRead.{length_run}
 
 no_feed : (f : Bool) → (f || false) ≡ f
 no_feed true = refl

@@ -32,8 +32,8 @@ use Rattle.basic_toml_read.specs.StopsAt.{Misses, ReadsStringAt, ReadsWordAt, Mi
 use Rattle.basic_toml_read.specs.Gathers.{with_keys, IsLastKey, row_level, IsRowRead, Keeps, IsValueRead}
 use Rattle.basic_toml_read.specs.Gathers.{AreElementsRead, IsArrayRead, AreFieldsRead, IsInlineRead, ReadsValue}
 use Rattle.basic_toml_read.specs.Gathers.{ReadsArray, ReadsInline}
-use Rattle.basic_toml_grammar.proofs.StringsAreRead.{then_some}
-use Rattle.basic_toml_grammar.proofs.ReaderIsComplete.{gap}
+use Rattle.basic_toml_grammar.proofs.Grammar.StringsAreRead.{then_some}
+use Rattle.basic_toml_grammar.proofs.Grammar.ReaderIsComplete.{gap}
 use Rattle.basic_toml_read.proofs.EnoughSteps.{value_is, row_is}
 use Rattle.basic_toml_read.proofs.LeftAfter.{sign_there, sign_missing}
 use Rattle.basic_toml_read.proofs.ViewsSeen.{row_before, array_of, inline_of}

@@ -6,7 +6,7 @@ use Rattle.basic_toml_grammar.specs.Sections.{Key, KeyTexts, texts, Rows}
 use Rattle.basic_toml_grammar.specs.Steps.{Step, key, number, Path, step_eq, begins}
 use Rattle.basic_toml_grammar.specs.IndexedPath.{latest}
 use Rattle.basic_toml_grammar.specs.Placed.{Placed, elements_at, target_from, element_from, placed_after, placed_from}
-use Rattle.basic_toml_grammar.proofs.StepTestsDecide.{begins_itself, begins_same}
+use Rattle.basic_toml_grammar.proofs.Clash.StepTestsDecide.{begins_itself, begins_same}
 use Rattle.basic_toml_round_trip.proofs.SectionsOfTable.{one_key, backwards, section_of, below, placed_here}
 use Rattle.basic_toml_round_trip.proofs.StepsKeepSectionsApart.{placed_at}
 use Rattle.basic_toml_round_trip.proofs.PartsCountAside.{lift, after, off_beginning, Aside}

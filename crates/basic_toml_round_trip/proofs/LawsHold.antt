@@ -21,7 +21,8 @@ use Rattle.basic_toml_grammar.specs.Sections.{Section}
 use Rattle.basic_toml_grammar.specs.Depth.{depth}
 use Rattle.basic_toml_grammar.specs.Document.{has_clash, tree_of_sections, document_of, IsDocument}
 use Rattle.basic_toml_grammar.proofs.LawsHold.{unambiguous, within}
-use Rattle.basic_toml_grammar.proofs.RespelledMeanTheSame.{returns_mean_nothing, byte_order_mark_means_nothing}
+use Rattle.basic_toml_grammar.proofs.SameMeaning.RespelledMeanTheSame.{returns_mean_nothing}
+use Rattle.basic_toml_grammar.proofs.SameMeaning.RespelledMeanTheSame.{byte_order_mark_means_nothing}
 use Rattle.basic_toml_round_trip.specs.Statements.{WrittenIsReadBack, WrittenLevelsFit, WrittenIsReadWithReturns}
 use Rattle.basic_toml_round_trip.specs.Statements.{WrittenIsReadWithByteOrderMark, KeptHasTheLayout}
 use Rattle.basic_toml_round_trip.specs.Statements.{ReadIsWrittenAgain, TreeIsReadBack}

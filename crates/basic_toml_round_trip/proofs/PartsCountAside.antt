@@ -6,7 +6,7 @@ use Rattle.std.proofs.lemmas.Bool.{and_parts, and_right, false≢true}
 use Rattle.basic_toml_grammar.specs.Sections.{Section}
 use Rattle.basic_toml_grammar.specs.Steps.{number, Step, Path, step_eq, begins, path_eq}
 use Rattle.basic_toml_grammar.specs.Placed.{Placed, adds_element, elements_at, placed_after, placed_from}
-use Rattle.basic_toml_grammar.proofs.StepTestsDecide.{begins_same}
+use Rattle.basic_toml_grammar.proofs.Clash.StepTestsDecide.{begins_same}
 use Rattle.basic_toml_round_trip.proofs.SectionsOfTable.{below, placed_here}
 use Rattle.basic_toml_round_trip.proofs.StepsKeepSectionsApart.{placed_at}
 

@@ -9,8 +9,8 @@ use Rattle.basic_toml_grammar.specs.Tree.{Mention, value_here, IsTree, here, gro
 use Rattle.basic_toml_grammar.specs.Growth.{tree_of}
 use Rattle.basic_toml_grammar.specs.Mentions.{finished, finished_elements, row_mentions}
 use Rattle.basic_toml_grammar.specs.Placed.{Placed}
-use Rattle.basic_toml_grammar.proofs.TreeIsGrouped.{tree_is_grouped}
-use Rattle.basic_toml_grammar.proofs.EnteringGrows.{placed_mentions}
+use Rattle.basic_toml_grammar.proofs.Trees.TreeIsGrouped.{tree_is_grouped}
+use Rattle.basic_toml_grammar.proofs.Trees.EnteringGrows.{placed_mentions}
 use Rattle.basic_toml_round_trip.proofs.LaidOut.{IsInRow, AreInRow, IsNone, Laid, a_row, then_parts, Parts, no_parts}
 use Rattle.basic_toml_round_trip.proofs.LaidOut.{a_table, an_array, Nodes, no_nodes, a_node}
 use Rattle.basic_toml_round_trip.proofs.SectionsOfTable.{raw, raw_items, rows, placed_here, head_placed}

@@ -9,7 +9,7 @@ use Rattle.basic_toml_grammar.specs.Sections.{KeyTexts, Rows, no_rows, row, Sect
 use Rattle.basic_toml_grammar.specs.Steps.{key, overlap}
 use Rattle.basic_toml_grammar.specs.RowClash.{any_overlaps, rows_clash, value_clashes, elements_clash, has_row_clash}
 use Rattle.basic_toml_grammar.specs.Grammar.{with_root}
-use Rattle.basic_toml_grammar.proofs.ClashesAgree.{turn_eq}
+use Rattle.basic_toml_grammar.proofs.Clash.ClashesAgree.{turn_eq}
 use Rattle.basic_toml_round_trip.proofs.LaidOut.{IsInRow, AreInRow, IsNone, Laid, a_row, then_parts, Parts, no_parts}
 use Rattle.basic_toml_round_trip.proofs.LaidOut.{a_table, an_array, Nodes, no_nodes, a_node}
 use Rattle.basic_toml_round_trip.proofs.SectionsOfTable.{has_header, raw, raw_items, rows, section_of}

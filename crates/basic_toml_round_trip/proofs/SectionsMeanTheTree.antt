@@ -14,8 +14,8 @@ use Rattle.basic_toml_grammar.specs.Entering.{all_keyed}
 use Rattle.basic_toml_value.specs.Nesting.{nesting_limit}
 use Rattle.basic_toml_grammar.specs.Depth.{depth}
 use Rattle.basic_toml_grammar.specs.Document.{tree_of_sections, document_of}
-use Rattle.basic_toml_grammar.proofs.ClashesAgree.{clashes_agree}
-use Rattle.basic_toml_grammar.proofs.EnteringGrows.{placed_mentions, mentions_are}
+use Rattle.basic_toml_grammar.proofs.Clash.ClashesAgree.{clashes_agree}
+use Rattle.basic_toml_grammar.proofs.Trees.EnteringGrows.{placed_mentions, mentions_are}
 use Rattle.basic_toml_round_trip.proofs.LaidOut.{Laid}
 use Rattle.basic_toml_round_trip.proofs.SectionsOfTable.{rows, inner_placed, sections, placed_here}
 use Rattle.basic_toml_round_trip.proofs.RowsDoNotClash.{sections_quiet}

@@ -7,7 +7,7 @@ use Rattle.basic_toml_grammar.specs.Sections.{KeyTexts, Rows, no_rows, row}
 use Rattle.basic_toml_grammar.specs.Steps.{Step, key, number, Path}
 use Rattle.basic_toml_grammar.specs.Placed.{Placed, elements_at, placed_from, placed}
 use Rattle.basic_toml_grammar.specs.Grammar.{with_root}
-use Rattle.basic_toml_grammar.proofs.StepTestsDecide.{begins_same, paths_same}
+use Rattle.basic_toml_grammar.proofs.Clash.StepTestsDecide.{begins_same, paths_same}
 use Rattle.basic_toml_round_trip.proofs.LaidOut.{IsNew, Laid, a_row, then_parts, Parts, no_parts, a_table, an_array}
 use Rattle.basic_toml_round_trip.proofs.LaidOut.{Nodes, no_nodes, a_node}
 use Rattle.basic_toml_round_trip.proofs.SectionsOfTable.{has_header, rows, section_of, inner_sections, part_sections}

@@ -9,8 +9,8 @@ use Rattle.basic_toml_grammar.specs.Tree.{Mention, value_here, goes_by, group, o
 use Rattle.basic_toml_grammar.specs.Tree.{members_among, items_among, made_of, IsTree, AreGroups, no_steps, step}
 use Rattle.basic_toml_grammar.specs.Mentions.{finished, row_mentions, section_mentions}
 use Rattle.basic_toml_grammar.specs.Placed.{Placed, path_of}
-use Rattle.basic_toml_grammar.proofs.StepTestsDecide.{step_same}
-use Rattle.basic_toml_grammar.proofs.EnteringGrows.{placed_mentions}
+use Rattle.basic_toml_grammar.proofs.Clash.StepTestsDecide.{step_same}
+use Rattle.basic_toml_grammar.proofs.Trees.EnteringGrows.{placed_mentions}
 use Rattle.basic_toml_round_trip.proofs.SectionsOfTable.{below}
 
 -- mentions one step further down

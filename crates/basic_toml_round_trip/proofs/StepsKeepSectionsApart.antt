@@ -9,8 +9,8 @@ use Rattle.basic_toml_grammar.specs.Steps.{Step, key, number, Path, step_eq, beg
 use Rattle.basic_toml_grammar.specs.SectionClash.{any_pair}
 use Rattle.basic_toml_grammar.specs.Placed.{Placed, step_into, adds_element, path_of, is_cut, crosses, rows_meet}
 use Rattle.basic_toml_grammar.specs.Placed.{placed_clash_one_way, placed_clash}
-use Rattle.basic_toml_grammar.proofs.StepTestsDecide.{step_same}
-use Rattle.basic_toml_grammar.proofs.ClashesAgree.{turn_eq}
+use Rattle.basic_toml_grammar.proofs.Clash.StepTestsDecide.{step_same}
+use Rattle.basic_toml_grammar.proofs.Clash.ClashesAgree.{turn_eq}
 use Rattle.basic_toml_round_trip.proofs.SectionsOfTable.{below}
 
 -- a section with these rows at a target

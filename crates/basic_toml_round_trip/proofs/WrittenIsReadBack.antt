@@ -18,8 +18,8 @@ use Rattle.basic_toml_write.proofs.TreesAreKept.{written-tree_kept}
 use Rattle.basic_toml_grammar.specs.Depth.{depth}
 use Rattle.basic_toml_grammar.specs.Document.{IsDocument}
 use Rattle.basic_toml_grammar.specs.Respelled.{characters, has_return, has_byte_order_mark}
-use Rattle.basic_toml_grammar.proofs.OldDocumentsStand.{list_keyed}
-use Rattle.basic_toml_grammar.proofs.RespelledMeanTheSame.{offsets_mean_nothing}
+use Rattle.basic_toml_grammar.proofs.SameMeaning.OldDocumentsStand.{list_keyed}
+use Rattle.basic_toml_grammar.proofs.SameMeaning.RespelledMeanTheSame.{offsets_mean_nothing}
 use Rattle.basic_toml_round_trip.proofs.LaidOut.{Laid}
 use Rattle.basic_toml_round_trip.proofs.SectionsOfTable.{sections}
 use Rattle.basic_toml_round_trip.proofs.CharactersInFront.{onto, characters-onto}

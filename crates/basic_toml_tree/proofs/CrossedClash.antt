@@ -5,7 +5,7 @@ use Rattle.basic_toml_grammar.specs.IndexedPath.{located}
 use Rattle.basic_toml_grammar.specs.SectionClash.{clashes, any_pair}
 use Rattle.basic_toml_grammar.specs.Document.{has_clash}
 use Rattle.basic_toml_grammar.specs.NamedClash.{dotted_fault}
-use Rattle.basic_toml_grammar.proofs.DottedFaultsClash.{dotted_faults_clash}
+use Rattle.basic_toml_grammar.proofs.Naming.DottedFaultsClash.{dotted_faults_clash}
 use Rattle.basic_toml_read.specs.declared.section.Section as code
 use Rattle.basic_toml_read.specs.SectionView.{section_of}
 use Rattle.basic_toml_tree.specs.Crossed.{IsCrossed}

@@ -15,15 +15,15 @@ use Rattle.basic_toml_grammar.specs.Nodes.{is_number, is_made, is_array}
 use Rattle.basic_toml_grammar.specs.Standing.{Standing, table, array, value, fits, taken, standing_at, take_all}
 use Rattle.basic_toml_grammar.specs.Entering.{enter_all}
 use Rattle.basic_toml_grammar.proofs.AmongElements.{Among, first, next, among_left, among_right, among_either}
-use Rattle.basic_toml_grammar.proofs.EnteringAccepts.{enter_all_grows}
-use Rattle.basic_toml_grammar.proofs.LatestElementsWereAdded.{Added, latest_added}
-use Rattle.basic_toml_grammar.proofs.MarksAreWhatIsSaid.{marked, said, same_truth}
-use Rattle.basic_toml_grammar.proofs.PathsAgree.{paths_agree}
-use Rattle.basic_toml_grammar.proofs.StepTestsDecide.{step_is, begins_itself, paths_are, paths_same}
-use Rattle.basic_toml_grammar.proofs.MarksTellPlaces.{role, way}
-use Rattle.basic_toml_grammar.proofs.WhatSectionsSay.{Says, names, adds, into, passes, goes_by, on}
-use Rattle.basic_toml_grammar.proofs.WhatStandsWasMarked.{Shown, shown}
-use Rattle.basic_toml_grammar.proofs.WhereHeadersStop.{is_header}
+use Rattle.basic_toml_grammar.proofs.Clash.EnteringAccepts.{enter_all_grows}
+use Rattle.basic_toml_grammar.proofs.Clash.LatestElementsWereAdded.{Added, latest_added}
+use Rattle.basic_toml_grammar.proofs.Clash.MarksAreWhatIsSaid.{marked, said, same_truth}
+use Rattle.basic_toml_grammar.proofs.Clash.PathsAgree.{paths_agree}
+use Rattle.basic_toml_grammar.proofs.Clash.StepTestsDecide.{step_is, begins_itself, paths_are, paths_same}
+use Rattle.basic_toml_grammar.proofs.Clash.MarksTellPlaces.{role, way}
+use Rattle.basic_toml_grammar.proofs.Clash.WhatSectionsSay.{Says, names, adds, into, passes, goes_by, on}
+use Rattle.basic_toml_grammar.proofs.Clash.WhatStandsWasMarked.{Shown, shown}
+use Rattle.basic_toml_grammar.proofs.Naming.WhereHeadersStop.{is_header}
 
 -- whether headers made what stands somewhere, and whether it is an array of tables
 abbrev pub stands_made : Option Standing → Bool

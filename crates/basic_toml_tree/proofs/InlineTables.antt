@@ -7,7 +7,7 @@ use Rattle.basic_toml_grammar.specs.RowClash.{rows_clash}
 use Rattle.basic_toml_grammar.specs.Entering.{rows_keyed}
 use Rattle.basic_toml_grammar.specs.Standing as standings
 use Rattle.basic_toml_grammar.specs.Trie.{Trie, trie, no_tries, put_rows}
-use Rattle.basic_toml_grammar.proofs.RowsInATrie.{rows_put, inline_data}
+use Rattle.basic_toml_grammar.proofs.Tries.RowsInATrie.{rows_put, inline_data}
 use Rattle.basic_toml_read.specs.SectionView.{raw_of, rows_view}
 use Rattle.basic_toml_read.proofs.ViewsSeen.{inline_of}
 use Rattle.basic_toml_read.specs.declared.section.Raw as raws
@@ -22,7 +22,7 @@ use Rattle.basic_toml_tree.proofs.Reasons.{KeptFor, for_kept, UnfinishedFor, unf
 use Rattle.basic_toml_grammar.specs.Trie.{nothing}
 use Rattle.basic_toml_grammar.specs.Stops.{Stop, stops}
 use Rattle.basic_toml_grammar.specs.TrieStops.{try_put_rows, try_put_value}
-use Rattle.basic_toml_grammar.proofs.WhatIsPutGoesOn.{rows_aside}
+use Rattle.basic_toml_grammar.proofs.Naming.WhatIsPutGoesOn.{rows_aside}
 use Rattle.basic_toml_tree.specs.declared.clash.Clash.TheVariants as clashes
 use Rattle.basic_toml_tree.specs.Clash.{NamesStop}
 use Rattle.basic_toml_tree.proofs.RowsLeft.{rows_are_keyed}

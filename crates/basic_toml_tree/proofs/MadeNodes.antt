@@ -10,8 +10,8 @@ use Rattle.basic_toml_grammar.specs.IndexedPath.{located}
 use Rattle.basic_toml_grammar.specs.Standing.{Standing, table, array, value}
 use Rattle.basic_toml_grammar.specs.Trie.{Trie, trie, nothing, standing, below}
 use Rattle.basic_toml_grammar.specs.Nodes as grammar
-use Rattle.basic_toml_grammar.proofs.MarksInATrie.{descend, standing_of}
-use Rattle.basic_toml_grammar.proofs.SectionsInATrie.{marks_put}
+use Rattle.basic_toml_grammar.proofs.Tries.MarksInATrie.{descend, standing_of}
+use Rattle.basic_toml_grammar.proofs.Tries.SectionsInATrie.{marks_put}
 use Rattle.basic_toml_read.specs.SectionView.{section_of}
 use Rattle.basic_toml_tree.specs.declared.item.Item.{Item, out-Item, the_lemmas}
 use Rattle.basic_toml_tree.specs.declared.item.Item.TheOpen.{Item-F}

@@ -13,10 +13,11 @@ use Rattle.basic_toml_grammar.specs.Entering.{all_keyed, all_keyed_within}
 use Rattle.basic_toml_grammar.specs.Faults.{Fault, nested_too_deeply}
 use Rattle.basic_toml_grammar.specs.GrammarFaults.{fault_at}
 use Rattle.basic_toml_grammar.specs.Statements.{MeanTheSame}
-use Rattle.basic_toml_grammar.proofs.DepthIsTheHighestLevel.{deep_where_one_is}
-use Rattle.basic_toml_grammar.proofs.EveryClashIsNamed.{named_clashes}
-use Rattle.basic_toml_grammar.proofs.ReorderedMeanTheSame.{reordered_means_the_same, plain_reordered_means_the_same}
-use Rattle.basic_toml_grammar.proofs.ReorderedMeanTheSame.{same_maps_are_as_deep}
+use Rattle.basic_toml_grammar.proofs.Nesting.DepthIsTheHighestLevel.{deep_where_one_is}
+use Rattle.basic_toml_grammar.proofs.Naming.EveryClashIsNamed.{named_clashes}
+use Rattle.basic_toml_grammar.proofs.SameMeaning.ReorderedMeanTheSame.{reordered_means_the_same}
+use Rattle.basic_toml_grammar.proofs.SameMeaning.ReorderedMeanTheSame.{plain_reordered_means_the_same}
+use Rattle.basic_toml_grammar.proofs.SameMeaning.ReorderedMeanTheSame.{same_maps_are_as_deep}
 use Rattle.basic_toml_read.specs.declared.section.Section as code
 use Rattle.basic_toml_read.specs.SectionView.{section_of}
 use Rattle.basic_toml_tree.specs.declared.tree.Tree.{Tree}

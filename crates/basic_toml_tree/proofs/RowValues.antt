@@ -20,7 +20,7 @@ use Rattle.basic_toml_tree.specs.Rows.{met_reason, Enters, IsFinished, IsUnfinis
 use Rattle.basic_toml_tree.proofs.Reasons.{KeptFor, kept_for, UnfinishedFor, for_unfinished, kept_for_met}
 use Rattle.basic_toml_grammar.specs.Stops.{goes_on, and_on, held}
 use Rattle.basic_toml_grammar.specs.TrieStops.{try_put_row, try_put_rows, try_put_value}
-use Rattle.basic_toml_grammar.proofs.WhatIsPutGoesOn.{value_goes}
+use Rattle.basic_toml_grammar.proofs.Naming.WhatIsPutGoesOn.{value_goes}
 use Rattle.basic_toml_tree.specs.Clash.{NamesStop}
 use Rattle.basic_toml_tree.specs.RowStops.{line_keys, key_at, TellsRow, SaysMet, SaysHeld}
 use Rattle.basic_toml_tree.proofs.RowsHaveKeys.{kept, every_row}

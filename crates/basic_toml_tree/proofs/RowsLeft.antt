@@ -10,14 +10,14 @@ use Rattle.basic_toml_grammar.specs.Levels.{rows_level}
 use Rattle.basic_toml_grammar.specs.Entering.{and_then, rows_keyed}
 use Rattle.basic_toml_grammar.specs.Mentions.{finished}
 use Rattle.basic_toml_grammar.specs.Trie.{Trie, put_row, put_rows}
-use Rattle.basic_toml_grammar.proofs.RowsThatOverlapAreRefused.{values_clash, put_apart}
+use Rattle.basic_toml_grammar.proofs.Tries.RowsThatOverlapAreRefused.{values_clash, put_apart}
 use Rattle.basic_toml_read.specs.SectionView.{lined_of, rows_view, with_key, with_row}
 use Rattle.basic_toml_read.specs.declared.section.Row as lines
 use Rattle.basic_toml_tree.specs.Rows.{AreIn, AreKeptOut, is_dot, all_dots, key_texts, Reason, memory, deep, crossed}
 use Rattle.basic_toml_tree.specs.Rows.{reason}
 use Rattle.basic_toml_grammar.specs.Stops.{Outcome, goes_on, stops, and_on, held}
 use Rattle.basic_toml_grammar.specs.TrieStops.{try_put_row, try_put_rows, try_put_value}
-use Rattle.basic_toml_grammar.proofs.WhatIsPutGoesOn.{rows_go}
+use Rattle.basic_toml_grammar.proofs.Naming.WhatIsPutGoesOn.{rows_go}
 use Rattle.basic_toml_tree.specs.Clash.{NamesStop}
 use Rattle.basic_toml_tree.proofs.RowsHaveKeys.{rows_have_keys}
 use Rattle.basic_toml_tree.specs.declared.clash.Clash.TheVariants.{Memory, Deep, Header, Named, Redefined, Row}

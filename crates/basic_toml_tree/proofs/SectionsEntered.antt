@@ -21,9 +21,9 @@ use Rattle.basic_toml_tree.specs.declared.clash.Clash.TheVariants.{Deep}
 use Rattle.basic_toml_tree.specs.Headers.{IsIn, IsKeptOut}
 use Rattle.basic_toml_tree.specs.Resolve.{Stands}
 use Rattle.basic_toml_tree.proofs.HeadersInATrie.{fresh, walk_fresh, steps_fresh}
-use Rattle.basic_toml_grammar.proofs.SectionsInATrie.{sections_put, sections_data}
-use Rattle.basic_toml_grammar.proofs.StepsArePaths.{level_is_tree_level, at_section}
-use Rattle.basic_toml_grammar.proofs.DepthIsTheHighestLevel.{fits_where_shallow}
+use Rattle.basic_toml_grammar.proofs.Tries.SectionsInATrie.{sections_put, sections_data}
+use Rattle.basic_toml_grammar.proofs.Tries.StepsArePaths.{level_is_tree_level, at_section}
+use Rattle.basic_toml_grammar.proofs.Nesting.DepthIsTheHighestLevel.{fits_where_shallow}
 
 -- sections, and then others
 then_more : (earlier later : List Section) (u : Trie) (o : Option Trie)

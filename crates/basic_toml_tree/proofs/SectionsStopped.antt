@@ -9,7 +9,7 @@ use Rattle.basic_toml_grammar.specs.NamedClash.{NamesClash, dotted_faults, first
 use Rattle.basic_toml_grammar.specs.Stops.{Stop, at_header, is_named, is_passed, at_row, stops, stop_fault}
 use Rattle.basic_toml_grammar.specs.TrieStops.{try_by_keys}
 use Rattle.basic_toml_grammar.specs.Trie.{Trie, nothing}
-use Rattle.basic_toml_grammar.proofs.TrieStopsAreNamed.{trie_stops_named}
+use Rattle.basic_toml_grammar.proofs.Naming.TrieStopsAreNamed.{trie_stops_named}
 use Rattle.basic_toml_tree.specs.Resolve.{Stands}
 use Rattle.basic_toml_tree.proofs.HeadersStopped.{tried_fresh}
 

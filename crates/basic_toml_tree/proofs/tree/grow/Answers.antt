@@ -3,8 +3,8 @@ use Rattle.std.proofs.lemmas.List.{length-set, get_or-set_other}
 use Rattle.basic_toml_read.specs.declared.section.Section.{Section}
 use Rattle.basic_toml_tree.specs.Crossed.{NoneIsCrossed}
 use Rattle.basic_toml_tree.specs.Item.{table_trie}
-use Rattle.basic_toml_tree.proofs.SectionsResolved.{want_of, goes_on_from_a_value, kept_out, none_crossed, goes_on, resolved}
-use Rattle.basic_toml_tree.proofs.SectionsResolved.{heads_kept}
+use Rattle.basic_toml_tree.proofs.SectionsResolved.{want_of, goes_on_from_a_value, kept_out, none_crossed, goes_on}
+use Rattle.basic_toml_tree.proofs.SectionsResolved.{resolved, heads_kept}
 use Rattle.basic_toml_tree.proofs.tree.grow.Goals as goal
 
 pub returns-in_err-at : goal.returns-in_err-at

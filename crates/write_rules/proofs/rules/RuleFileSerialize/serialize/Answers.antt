@@ -1,5 +1,6 @@
 use Rattle.std.proofs.Common.{refl}
-use Rattle.basic_toml_write.proofs.RecordIsSent.{last_call, next_call, call_failed, next_field, field_failed, array_never}
+use Rattle.basic_toml_write.proofs.RecordIsSent.{last_call, next_call, call_failed, next_field, field_failed}
+use Rattle.basic_toml_write.proofs.RecordIsSent.{array_never}
 use Rattle.write_rules.proofs.rules.RuleFileSerialize.serialize.Goals as goal
 
 pub returns-in_err-serialize_struct : goal.returns-in_err-serialize_struct

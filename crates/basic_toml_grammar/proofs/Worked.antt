@@ -1,0 +1,9 @@
+-- Texts and lists that are computed from the definitions.
+pub mod WorkedChanges
+pub mod WorkedDocuments
+pub mod WorkedFaults
+pub mod WorkedGrammar
+pub mod WorkedNesting
+pub mod WorkedNodes
+pub mod WorkedNumbers
+pub mod WorkedWrongReadings
