@@ -1,6 +1,7 @@
--- A section list entered key by key, as the resolver does, own: the state is the marks so far, the latest first. It
--- goes through exactly where nothing clashes, and its tree is the tree of mentions (laws `entering_accepts`,
--- `entering_grows`).
+-- A section list entered key by key, own: the state is the marks so far, the latest first. It goes through exactly
+-- where nothing clashes, and its tree is the tree of mentions (laws `entering_accepts`, `entering_grows`). These laws
+-- are proved of this walk, since the rules speak of paths, as marks do; `Trie` is the same walk from node to node, as
+-- the resolver goes, and `Stops` says what stops this one.
 use Rattle.std.specs.Prelude.{ℕ, zero, suc, Bool, true, false, ◌&&◌, if◌then◌else◌, List, [], ◌∷◌, ◌++◌, Option}
 use Rattle.std.specs.Prelude.{Some, None}
 use Rattle.basic_toml_value.specs.Data.{Data}

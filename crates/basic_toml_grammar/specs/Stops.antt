@@ -1,6 +1,7 @@
 -- What stops a section that is entered key by key, own: the steps are those of `Entering`, and each goes on where its
 -- mark fits, or names what stands there. The fault of a stop stands in the list of named clashes (law
--- `stops_are_named`). A value is looked through before its row is put.
+-- `stops_are_named`); that list speaks of paths, so the law is proved of this walk, and `TrieStops` takes it over.
+-- A value is looked through before its row is put.
 use Rattle.std.specs.Prelude.{ℕ, zero, suc, ◌-◌, Bool, true, false, if◌then◌else◌, List, [], ◌∷◌, ◌++◌, Option, Some}
 use Rattle.std.specs.Prelude.{length, take}
 use Rattle.basic_toml_value.specs.Data.{Data}

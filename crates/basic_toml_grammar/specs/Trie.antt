@@ -1,7 +1,7 @@
 -- The tree while sections are entered, own: at each node what stands there, its value, and the nodes below it in order
 -- of first mention. A section is entered step by step from the root, and each step looks at one node alone. This is
 -- `Entering` with what the marks say of a path gathered at one node (law `trie_is_entering`): the form that the
--- resolver goes by.
+-- resolver's contracts go by where a section is put in. `TrieStops` says what stops this walk.
 use Rattle.std.specs.Prelude.{ℕ, zero, suc, Bool, max, if◌then◌else◌, List, [], ◌∷◌, Option, Some}
 use Rattle.std.specs.Prelude.{None, option_map}
 use Rattle.std.specs.Option.{option_or}
