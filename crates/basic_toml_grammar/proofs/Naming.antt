@@ -8,7 +8,6 @@ pub mod RowsLeaveMarks
 pub mod RowsOnHeadersAreNamed
 pub mod RowsSeeBelow
 pub mod StopsAreNamed
-pub mod StopsByPath
 pub mod TrieStopsAreNamed
 pub mod WhatIsPutGoesOn
 pub mod WhereHeadersStop

@@ -5,4 +5,6 @@ pub mod RowsInATrie
 pub mod RowsThatOverlapAreRefused
 pub mod SectionsInATrie
 pub mod StepsArePaths
+pub mod StopsByPath
+pub mod StopsForgotten
 pub mod TrieIsEntering

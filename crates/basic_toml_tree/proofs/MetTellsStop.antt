@@ -12,8 +12,8 @@ use Rattle.basic_toml_grammar.specs.Standing as standings
 use Rattle.basic_toml_grammar.specs.Trie.{Trie, trie, Tries, no_tries, nothing, below, mark_here}
 use Rattle.basic_toml_grammar.specs.Stops.{Stop, at_row, last_stop, Outcome, goes_on, stops, and_on}
 use Rattle.basic_toml_grammar.specs.TrieStops.{try_here, try_step, try_put_row}
-use Rattle.basic_toml_grammar.proofs.Naming.StopsByPath.{path_here, path_stop}
-use Rattle.basic_toml_grammar.proofs.Naming.WhatIsPutGoesOn.{goes, left_here}
+use Rattle.basic_toml_grammar.proofs.Tries.StopsByPath.{path_here, path_stop}
+use Rattle.basic_toml_grammar.proofs.Tries.StopsForgotten.{goes, left_here}
 use Rattle.basic_toml_read.specs.declared.section.Row.{Row}
 use Rattle.basic_toml_tree.specs.declared.item.Item as items
 use Rattle.basic_toml_tree.specs.declared.item.Child.{Child, out-Child}

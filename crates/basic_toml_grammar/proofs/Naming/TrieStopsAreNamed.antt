@@ -21,8 +21,8 @@ use Rattle.basic_toml_grammar.specs.TrieStops.{try_go_on, try_by_keys, try_put_s
 use Rattle.basic_toml_grammar.specs.Statements.{TrieStopsAreNamed}
 use Rattle.basic_toml_grammar.proofs.Tries.MarksInATrie.{touch, trie_of, descend, standing_of}
 use Rattle.basic_toml_grammar.proofs.Tries.TrieIsEntering.{trie_is_entering}
-use Rattle.basic_toml_grammar.proofs.Naming.StopsByPath.{try_path, on_on, on_goes, path_here, path_append, path_twice}
-use Rattle.basic_toml_grammar.proofs.Naming.StopsByPath.{path_stop, mark_or_stop}
+use Rattle.basic_toml_grammar.proofs.Tries.StopsByPath.{try_path, on_on, on_goes, path_here, path_append, path_twice}
+use Rattle.basic_toml_grammar.proofs.Tries.StopsByPath.{path_stop, mark_or_stop}
 use Rattle.basic_toml_grammar.proofs.Naming.StopsAreNamed.{stops_named}
 
 -- what is done to the marks at a path is done to their trie there

@@ -1,73 +1,25 @@
 -- Rows that are put into a trie go on: what is tried gives what is put, and nothing stops values without clashes.
-use Rattle.std.proofs.Common.{◌≡◌, Bool, true, false, cond, List, [], ◌∷◌, ◌++◌, Option, Some, None, refl, ap, ◌∙◌}
-use Rattle.std.specs.Prelude.{◌&&◌, ◌||◌, if◌then◌else◌, option_map}
-use Rattle.std.specs.Option.{option_or}
+use Rattle.std.proofs.Common.{◌≡◌, Bool, true, false, List, [], ◌∷◌, ◌++◌, Option, Some, None, refl, ap, ◌∙◌}
+use Rattle.std.specs.Prelude.{◌&&◌, ◌||◌}
 use Rattle.basic_toml_value.specs.Data.{Data}
 use Rattle.basic_toml_grammar.specs.Sections.{Key, KeyTexts, texts, Raw, Elements, no_elements, element, Rows}
 use Rattle.basic_toml_grammar.specs.Sections.{no_rows, row}
-use Rattle.basic_toml_grammar.specs.Steps.{Step, key, step_eq}
+use Rattle.basic_toml_grammar.specs.Steps.{key}
 use Rattle.basic_toml_grammar.specs.Mentions.{finished}
-use Rattle.basic_toml_grammar.specs.Marks.{MarkKind, dotted, valued}
-use Rattle.basic_toml_grammar.specs.Standing.{Standing, fits, taken, value_of}
+use Rattle.basic_toml_grammar.specs.Marks.{dotted, valued}
+use Rattle.basic_toml_grammar.specs.Standing.{Standing}
 use Rattle.basic_toml_grammar.specs.NamedClash.{last_key}
 use Rattle.basic_toml_grammar.specs.Entering.{and_then, rows_keyed, has_key, keyed_within, value_keyed}
 use Rattle.basic_toml_grammar.specs.Entering.{elements_keyed}
 use Rattle.basic_toml_grammar.specs.RowClash.{rows_clash, value_clashes, elements_clash, any_overlaps}
 use Rattle.basic_toml_grammar.specs.Steps.{steps_of}
-use Rattle.basic_toml_grammar.specs.Trie.{Trie, trie, Tries, no_tries, by, nothing, mark_here, among, at_step}
+use Rattle.basic_toml_grammar.specs.Trie.{Trie, trie, Tries, nothing, mark_here}
 use Rattle.basic_toml_grammar.specs.Trie.{put_row, put_rows}
 use Rattle.basic_toml_grammar.specs.Stops.{Stop, at_row, last_stop, Outcome, goes_on, stops, and_on, held}
-use Rattle.basic_toml_grammar.specs.TrieStops.{outcome_map, try_here, try_among, try_step, try_put_row, try_put_rows}
+use Rattle.basic_toml_grammar.specs.TrieStops.{outcome_map, try_here, try_among, try_put_row, try_put_rows}
 use Rattle.basic_toml_grammar.specs.TrieStops.{try_put_value, try_put_elements}
+use Rattle.basic_toml_grammar.proofs.Tries.StopsForgotten.{left_of, goes, left_on, left_here, left_step}
 use Rattle.basic_toml_grammar.proofs.Tries.RowsInATrie.{rows_put}
-
--- what is left of an outcome where it goes on
-abbrev pub left_of : {A : Type 0} → Outcome A → Option A
-left_of (goes_on a) = Some a
-left_of (stops x) = None
-
-pub goes : {A : Type 0} (o : Outcome A) (a : A) → left_of o ≡ Some a → o ≡ goes_on a
-goes (goes_on b) a e = ap goes_on (same e)
-  where
-    same : {A : Type 0} {a b : A} → Some b ≡ Some a → b ≡ a
-    same e = cc
-goes (stops x) a e = absurd (cc)
-
-left_map : {A B : Type 0} (f : A → B) (o : Outcome A) → left_of (outcome_map f o) ≡ option_map f (left_of o)
-left_map f (goes_on a) = refl
-left_map f (stops x) = refl
-
-left_on : {A B : Type 0} (f : A → Outcome B) (g : A → Option B) (o : Outcome A) → ((a : A) → left_of (f a) ≡ g a)
-    → left_of (and_on o f) ≡ and_then (left_of o) g
-left_on f g (goes_on a) e = e a
-left_on f g (stops x) e = refl
-
-pub left_here : (k : MarkKind) (name : Option Standing → Stop) (t : Trie) → left_of (try_here k name t) ≡ mark_here k t
-left_here k name (trie s v ts) = go (fits k s)
-  where
-    go : (b : Bool)
-        → left_of (if b then goes_on (trie (Some (taken k s)) (option_or v (value_of k)) ts) else stops (name s))
-        ≡ (if b then Some (trie (Some (taken k s)) (option_or v (value_of k)) ts) else None)
-    go true = refl
-    go false = refl
-
-left_among : (s : Step) (f : Trie → Outcome Trie) (g : Trie → Option Trie) (ts : Tries)
-    → ((t : Trie) → left_of (f t) ≡ g t) → left_of (try_among s f ts) ≡ among s g ts
-left_among s f g no_tries e =
-    left_map (λ t. by s t no_tries) (f nothing) ∙ ap (λ o. option_map (λ t. by s t no_tries) o) (e nothing)
-left_among s f g (by r t ts) e = go (step_eq r s) (left_among s f g ts e)
-  where
-    go : (b : Bool) → left_of (try_among s f ts) ≡ among s g ts
-        → left_of (cond b (outcome_map (λ t. by r t ts) (f t)) (outcome_map (λ ts. by r t ts) (try_among s f ts)))
-        ≡ cond b (option_map (λ t. by r t ts) (g t)) (option_map (λ ts. by r t ts) (among s g ts))
-    go true h = left_map (λ t. by r t ts) (f t) ∙ ap (λ o. option_map (λ t. by r t ts) o) (e t)
-    go false h = left_map (λ ts. by r t ts) (try_among s f ts) ∙ ap (λ o. option_map (λ ts. by r t ts) o) h
-
-left_step : (s : Step) (f : Trie → Outcome Trie) (g : Trie → Option Trie) (t : Trie)
-    → ((t : Trie) → left_of (f t) ≡ g t) → left_of (try_step s f t) ≡ at_step s g t
-left_step s f g (trie st v ts) e =
-    left_map (λ ts. trie st v ts) (try_among s f ts)
-    ∙ ap (λ o. option_map (λ ts. trie st v ts) o) (left_among s f g ts e)
 
 left_row : (before : KeyTexts) (ks : List Key) (v : Data) (t : Trie)
     → left_of (try_put_row before ks v t) ≡ put_row (texts ks) v t

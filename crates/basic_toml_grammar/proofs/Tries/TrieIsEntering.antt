@@ -16,7 +16,8 @@ use Rattle.basic_toml_grammar.specs.Entering as marked
 use Rattle.basic_toml_grammar.specs.Trie.{Trie, nothing, mark_here, at_step, put_row, put_rows, put_table}
 use Rattle.basic_toml_grammar.specs.Trie.{count, go_on, put_element, walk, put_section, put_sections}
 use Rattle.basic_toml_grammar.proofs.Tries.MarksInATrie.{touch, trie_of, descend, standing_of}
-use Rattle.basic_toml_grammar.proofs.Tries.ChangesByPath.{at_path, then_then, then_some, at_path_here}
+use Rattle.basic_toml_grammar.proofs.Tries.StopsForgotten.{at_path}
+use Rattle.basic_toml_grammar.proofs.Tries.ChangesByPath.{then_then, then_some, at_path_here}
 use Rattle.basic_toml_grammar.proofs.Tries.ChangesByPath.{at_path_append, at_path_twice, mark_by}
 
 -- what is done to the marks at a path is done to their trie there
