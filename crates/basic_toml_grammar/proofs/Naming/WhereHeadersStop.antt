@@ -72,50 +72,40 @@ WalkStop e rs t cut n st x = HeaderStop e rs t cut n st x ⊎ RowsStop (cut ++ (
 lift_rows : {p q : Path} {rs : Rows} {st : List Mark} {x : Stop} → p ≡ q → RowsStop p rs st x → RowsStop q rs st x
 lift_rows {rs = rs} {st = st} {x = x} e h = subst (λ p. RowsStop p rs st x) e h
 
+-- what is found one step further on
+lift_header : {e f : Option ℕ} {rs : Rows} {t u cut : Path} {n m : ℕ} {st : List Mark} {x : Stop} (s : Step)
+    → ((q : Path) (k : MarkKind) → Says e rs t q k → Says f rs u (s ∷ q) k)
+    → ((q : Path) (left : ℕ) → length (keys_of q) + left ≡ n → length (keys_of (s ∷ q)) + left ≡ m)
+    → HeaderStop e rs t (cut ++ s ∷ []) n st x → HeaderStop f rs u cut m st x
+lift_header {cut = cut} {st = st} s onward count h = record {
+  path = s ∷ h.path;
+  kind = h.kind;
+  left = h.left;
+  says = onward h.path h.kind h.says;
+  header = h.header;
+  unfit = ap (λ q. fits h.kind (standing_at st q)) (sym (append_assoc cut (s ∷ []) h.path)) ∙ h.unfit;
+  is = h.is ∙ ap (λ q. header_stop h.kind h.left (standing_at st q)) (append_assoc cut (s ∷ []) h.path);
+  counts = count h.path h.left h.counts;
+}
+
 lift_key : {e : Option ℕ} {rs : Rows} {t cut : Path} {n : ℕ} {st : List Mark} {x : Stop} (k : List ℕ)
     → WalkStop e rs t (cut ++ key k ∷ []) n st x → WalkStop e rs (key k ∷ t) cut (suc n) st x
-lift_key {e = e} {t = t} {cut = cut} {n = n} {st = st} {x = x} k (inl h) = inl
-    (record {
-      path = key k ∷ h.path;
-      kind = h.kind;
-      left = h.left;
-      says = on h.says;
-      header = h.header;
-      unfit = ap (λ q. fits h.kind (standing_at st q)) (sym (append_assoc cut (key k ∷ []) h.path)) ∙ h.unfit;
-      is = h.is ∙ ap (λ q. header_stop h.kind h.left (standing_at st q)) (append_assoc cut (key k ∷ []) h.path);
-      counts = let c : length (keys_of h.path) + h.left ≡ n = h.counts in omega arith;
-    })
+lift_key {n = n} k (inl h) =
+    inl (lift_header (key k) (λ q k y. on y) (λ q left c. one_more (length (keys_of q)) left n c) h)
+  where
+    one_more : (m left n : ℕ) → m + left ≡ n → suc m + left ≡ suc n
+    one_more m left n e = omega arith
 lift_key {e = e} {t = t} {cut = cut} k (inr h) = inr (lift_rows (append_assoc cut (key k ∷ []) (t ++ step_into e)) h)
 
 lift_number : {e : Option ℕ} {rs : Rows} {t cut : Path} {n : ℕ} {st : List Mark} {x : Stop} (i : ℕ)
     → WalkStop e rs t (cut ++ number i ∷ []) n st x → WalkStop e rs (number i ∷ t) cut n st x
-lift_number {e = e} {t = t} {cut = cut} {st = st} i (inl h) = inl
-    (record {
-      path = number i ∷ h.path;
-      kind = h.kind;
-      left = h.left;
-      says = on h.says;
-      header = h.header;
-      unfit = ap (λ q. fits h.kind (standing_at st q)) (sym (append_assoc cut (number i ∷ []) h.path)) ∙ h.unfit;
-      is = h.is ∙ ap (λ q. header_stop h.kind h.left (standing_at st q)) (append_assoc cut (number i ∷ []) h.path);
-      counts = h.counts;
-    })
+lift_number i (inl h) = inl (lift_header (number i) (λ q k y. on y) (λ q left c. c) h)
 lift_number {e = e} {t = t} {cut = cut} i (inr h) =
     inr (lift_rows (append_assoc cut (number i ∷ []) (t ++ step_into e)) h)
 
 lift_element : {rs : Rows} {cut : Path} {n : ℕ} {st : List Mark} {x : Stop} (i : ℕ)
     → WalkStop None rs [] (cut ++ number i ∷ []) n st x → WalkStop (Some i) rs [] cut n st x
-lift_element {cut = cut} {st = st} i (inl h) = inl
-    (record {
-      path = number i ∷ h.path;
-      kind = h.kind;
-      left = h.left;
-      says = into h.says;
-      header = h.header;
-      unfit = ap (λ q. fits h.kind (standing_at st q)) (sym (append_assoc cut (number i ∷ []) h.path)) ∙ h.unfit;
-      is = h.is ∙ ap (λ q. header_stop h.kind h.left (standing_at st q)) (append_assoc cut (number i ∷ []) h.path);
-      counts = h.counts;
-    })
+lift_element i (inl h) = inl (lift_header (number i) (λ q k y. into y) (λ q left c. c) h)
 lift_element {cut = cut} i (inr h) = inr (lift_rows (append_none (cut ++ number i ∷ [])) h)
 
 -- a mark, and then others
@@ -183,6 +173,61 @@ element_stops rs here st st0 x z h e = go (tried here added (header_stop added 0
     go (fit u f) = lift_element n (table_stops rs (here ++ number n ∷ []) (mark here added ∷ st) st0 x
         (deeper_same st st0 here (number n) added h) f)
 
+-- on from a path, into the latest element where there is one, by steps that stop so from each path on
+latest_stops : (rs : Rows) (go : Path → List Mark → Outcome (List Mark)) (element : Path → Option ℕ)
+    (target : Path → Path) (here : Path) (left : ℕ) (st st0 : List Mark) (x : Stop)
+    → ((c : Path) (st : List Mark) → SameFrom c st st0 → go c st ≡ stops x
+    → WalkStop (element c) rs (target c) c left st0 x) → (n : ℕ) → SameFrom here st st0
+    → try_latest go here left n st ≡ stops x
+    → WalkStop (element (here ++ latest n)) rs (latest n ++ target (here ++ latest n)) here left st0 x
+latest_stops rs go element target here left st st0 x ih zero h e =
+    subst (λ c. WalkStop (element c) rs (target c) here left st0 x) (sym (append_none here)) (ih here st h e)
+latest_stops rs go element target here left st st0 x ih (suc n) h e =
+    into_it (tried here by_latest (header_stop by_latest left) st (λ st. go (here ++ number n ∷ []) st) x e)
+  where
+    into_it : Tried here by_latest (header_stop by_latest left) st (λ st. go (here ++ number n ∷ []) st) x
+        → WalkStop (element (here ++ number n ∷ [])) rs (number n ∷ target (here ++ number n ∷ [])) here left st0 x
+    into_it (unfit u i) = inl (stop_here st st0 here by_latest left goes_by refl h u i)
+    into_it (fit u f) = lift_number n (ih (here ++ number n ∷ []) (mark here by_latest ∷ st)
+        (deeper_same st st0 here (number n) by_latest h) f)
+
+-- the same after a key, by the number of the elements that stand there
+key_stops : (rs : Rows) (go : Path → List Mark → Outcome (List Mark)) (element : Path → Option ℕ)
+    (target : Path → Path) (cut : Path) (k : List ℕ) (left : ℕ) (st st0 : List Mark) (x : Stop) → Sized st0
+    → SameFrom cut st st0
+    → ((c : Path) (st : List Mark) → SameFrom c st st0 → go c st ≡ stops x
+    → WalkStop (element c) rs (target c) c left st0 x)
+    → and_on (try_header cut passed (suc left) st)
+    (λ st. try_latest go (cut ++ key k ∷ []) left (count_at st (cut ++ key k ∷ [])) st) ≡ stops x
+    → WalkStop (element (cut ++ key k ∷ latest (added_at st0 (cut ++ key k ∷ [])))) rs
+    (key k ∷ (latest (added_at st0 (cut ++ key k ∷ []))
+    ++ target (cut ++ key k ∷ latest (added_at st0 (cut ++ key k ∷ []))))) cut (suc left) st0 x
+key_stops rs go element target cut k left st st0 x z h ih e =
+    on_key (tried cut passed (header_stop passed (suc left)) st follow x e)
+  where
+    here : Path
+    here = cut ++ key k ∷ []
+
+    n : ℕ
+    n = added_at st0 here
+
+    follow : List Mark → Outcome (List Mark)
+    follow st = try_latest go here left (count_at st here) st
+
+    past : List Mark
+    past = mark cut passed ∷ st
+
+    on_key : Tried cut passed (header_stop passed (suc left)) st follow x
+        → WalkStop (element (cut ++ key k ∷ latest n)) rs (key k ∷ (latest n ++ target (cut ++ key k ∷ latest n))) cut
+        (suc left) st0 x
+    on_key (unfit u i) = inl (stop_here st st0 cut passed (suc left) passes refl h u i)
+    on_key (fit u f) =
+        let s : SameFrom here past st0 = deeper_same st st0 cut (key k) passed h in
+        subst (λ c. WalkStop (element c) rs (key k ∷ (latest n ++ target c)) cut (suc left) st0 x)
+        (append_assoc cut (key k ∷ []) (latest n))
+        (lift_key k (latest_stops rs go element target here left past st0 x ih n s
+        (ap (λ n. try_latest go here left n past) (sym (count_same past st0 here z s)) ∙ f)))
+
 -- THE WALK, from a cut on
 pub walk_stops : (a : Bool) (rs : Rows) (cut : Path) (keys : KeyTexts) (st st0 : List Mark) (x : Stop) → Sized st0
     → SameFrom cut st st0 → try_walk a rs cut keys st ≡ stops x
@@ -200,92 +245,13 @@ walk_stops true rs cut (k ∷ []) st st0 x z h e = go (tried cut passed (header_
     go : Tried cut passed (header_stop passed 1) st follow x
         → WalkStop (Some (added_at st0 here)) rs (key k ∷ []) cut 1 st0 x
     go (unfit u i) = inl (stop_here st st0 cut passed 1 passes refl h u i)
-    go (fit u f) = lift_key k (element_stops rs here (mark cut passed ∷ st) st0 x z (deeper_same st st0 cut (key k) passed h) f)
-walk_stops false rs cut (k ∷ []) st st0 x z h e = go (tried cut passed (header_stop passed 1) st follow x e)
-  where
-    here : Path
-    here = cut ++ key k ∷ []
-
-    n : ℕ
-    n = added_at st0 here
-
-    follow : List Mark → Outcome (List Mark)
-    follow st = try_latest (λ p st. try_table p rs st) here 0 (count_at st here) st
-
-    past : List Mark
-    past = mark cut passed ∷ st
-
-    on_from : (n : ℕ) → SameFrom here past st0
-        → try_latest (λ p st. try_table p rs st) here 0 n past ≡ stops x → WalkStop None rs (latest n) here 0 st0 x
-    on_from zero h e = table_stops rs here past st0 x h e
-    on_from (suc n) h e = into_it (tried here by_latest (header_stop by_latest 0) past
-        (λ st. try_table (here ++ number n ∷ []) rs st) x e)
-      where
-        into_it : Tried here by_latest (header_stop by_latest 0) past (λ st. try_table (here ++ number n ∷ []) rs st) x
-            → WalkStop None rs (number n ∷ []) here 0 st0 x
-        into_it (unfit u i) = inl (stop_here past st0 here by_latest 0 goes_by refl h u i)
-        into_it (fit u f) = lift_number n (table_stops rs (here ++ number n ∷ []) (mark here by_latest ∷ past) st0 x
-            (deeper_same past st0 here (number n) by_latest h) f)
-
-    go : Tried cut passed (header_stop passed 1) st follow x
-        → WalkStop None rs (key k ∷ latest n) cut 1 st0 x
-    go (unfit u i) = inl (stop_here st st0 cut passed 1 passes refl h u i)
     go (fit u f) =
-        let s : SameFrom here past st0 = deeper_same st st0 cut (key k) passed h in
-        lift_key k (on_from n s (ap (λ n. try_latest (λ p st. try_table p rs st) here 0 n past)
-        (sym (count_same past st0 here z s)) ∙ f))
+        lift_key k (element_stops rs here (mark cut passed ∷ st) st0 x z (deeper_same st st0 cut (key k) passed h) f)
+walk_stops false rs cut (k ∷ []) st st0 x z h e =
+    subst (λ t. WalkStop None rs (key k ∷ t) cut 1 st0 x) (append_none (latest (added_at st0 (cut ++ key k ∷ []))))
+    (key_stops rs (λ p st. try_table p rs st) (λ c. None) (λ c. []) cut k 0 st st0 x z h
+    (λ c st h e. table_stops rs c st st0 x h e) e)
 walk_stops a rs cut (k ∷ l ∷ keys) st st0 x z h e =
-    go (λ c st h e. walk_stops a rs c (l ∷ keys) st st0 x z h e)
-    (tried cut passed (header_stop passed (length (k ∷ l ∷ keys))) st follow x e)
-  where
-    here : Path
-    here = cut ++ key k ∷ []
-
-    n : ℕ
-    n = added_at st0 here
-
-    follow : List Mark → Outcome (List Mark)
-    follow st = try_latest (λ p st. try_walk a rs p (l ∷ keys) st) here (length (l ∷ keys)) (count_at st here) st
-
-    past : List Mark
-    past = mark cut passed ∷ st
-
-    element : Path → Option ℕ
-    element c = element_from (λ p. added_at st0 p) a c (l ∷ keys)
-
-    target : Path → Path
-    target c = target_from (λ p. added_at st0 p) a c (l ∷ keys)
-
-    on_from : ((c : Path) (st : List Mark) → SameFrom c st st0 → try_walk a rs c (l ∷ keys) st ≡ stops x
-        → WalkStop (element_from (λ p. added_at st0 p) a c (l ∷ keys)) rs
-        (target_from (λ p. added_at st0 p) a c (l ∷ keys)) c (length (l ∷ keys)) st0 x)
-        → (n : ℕ) → SameFrom here past st0
-        → try_latest (λ p st. try_walk a rs p (l ∷ keys) st) here (length (l ∷ keys)) n past ≡ stops x
-        → WalkStop (element (cut ++ key k ∷ latest n)) rs (latest n ++ target (cut ++ key k ∷ latest n)) here
-        (length (l ∷ keys)) st0 x
-    on_from ih zero h e = ih here past h e
-    on_from ih (suc n) h e = into_it (tried here by_latest (header_stop by_latest (length (l ∷ keys))) past
-        (λ st. try_walk a rs (here ++ number n ∷ []) (l ∷ keys) st) x e)
-      where
-        into_it : Tried here by_latest (header_stop by_latest (length (l ∷ keys))) past
-            (λ st. try_walk a rs (here ++ number n ∷ []) (l ∷ keys) st) x
-            → WalkStop (element (cut ++ key k ∷ number n ∷ [])) rs
-            (number n ∷ target (cut ++ key k ∷ number n ∷ [])) here (length (l ∷ keys)) st0 x
-        into_it (unfit u i) = inl (stop_here past st0 here by_latest (length (l ∷ keys)) goes_by refl h u i)
-        into_it (fit u f) =
-            subst (λ c. WalkStop (element c) rs (number n ∷ target c) here (length (l ∷ keys)) st0 x)
-            (append_assoc cut (key k ∷ []) (number n ∷ []))
-            (lift_number n (ih (here ++ number n ∷ []) (mark here by_latest ∷ past)
-            (deeper_same past st0 here (number n) by_latest h) f))
-
-    go : ((c : Path) (st : List Mark) → SameFrom c st st0 → try_walk a rs c (l ∷ keys) st ≡ stops x
-        → WalkStop (element_from (λ p. added_at st0 p) a c (l ∷ keys)) rs
-        (target_from (λ p. added_at st0 p) a c (l ∷ keys)) c (length (l ∷ keys)) st0 x)
-        → Tried cut passed (header_stop passed (length (k ∷ l ∷ keys))) st follow x
-        → WalkStop (element (cut ++ key k ∷ latest n)) rs (key k ∷ (latest n ++ target (cut ++ key k ∷ latest n))) cut
-        (length (k ∷ l ∷ keys)) st0 x
-    go ih (unfit u i) = inl (stop_here st st0 cut passed (length (k ∷ l ∷ keys)) passes refl h u i)
-    go ih (fit u f) =
-        let s : SameFrom here past st0 = deeper_same st st0 cut (key k) passed h in
-        lift_key k (on_from ih n s (ap (λ n. try_latest (λ p st. try_walk a rs p (l ∷ keys) st) here
-        (length (l ∷ keys)) n past) (sym (count_same past st0 here z s)) ∙ f))
+    key_stops rs (λ p st. try_walk a rs p (l ∷ keys) st) (λ c. element_from (λ p. added_at st0 p) a c (l ∷ keys))
+    (λ c. target_from (λ p. added_at st0 p) a c (l ∷ keys)) cut k (length (l ∷ keys)) st st0 x z h
+    (λ c st h e. walk_stops a rs c (l ∷ keys) st st0 x z h e) e
