@@ -72,54 +72,59 @@ pub path_at : {i j : Located} {l m : Placed} (b : Bool) → Alike i l → Alike 
 path_at {i = i} {j = j} {l = l} {m = m} b x y c =
     ap (λ p. path_eq p (target j)) x.path ∙ ap (λ t. path_eq (path_of l) t) y.target ∙ c
 
+-- the section that made a mark, at its place
+abbrev pub maker : {b : List Section} {x : Mark} → Made b x → Placed
+maker m = there m.earlier m.section
+
+abbrev pub maker_at : {b : List Section} {x : Mark} → Made b x → Located
+maker_at m = located_after m.earlier m.section
+
+pub maker_alike : {b : List Section} {x : Mark} (m : Made b x) → Alike (maker_at m) (maker m)
+maker_alike m = alike_there m.earlier m.section m.keyed
+
 pub says_of : {b : List Section} {q : Path} {k : MarkKind} (m : Made b (mark q k))
-    → Says (there m.earlier m.section).element m.section.rows (there m.earlier m.section).target q k
-says_of m = said (there m.earlier m.section).element m.section.rows (there m.earlier m.section).target m.marked
+    → Says (maker m).element m.section.rows (maker m).target q k
+says_of m = said (maker m).element m.section.rows (maker m).target m.marked
 
 pub found : {b : List Section} {s : Section} {f : Fault} {x : Mark} (m : Made b x)
-    → Among f (pair_faults (located_after m.earlier m.section) (located_after b s)) → PairFault b s f
+    → Among f (pair_faults (maker_at m) (located_after b s)) → PairFault b s f
 found m a = record { section = m.section; earlier = m.earlier; stood = m.stood; among = a }
+
+-- how many keys a path has that goes on from another
+pub row_length : {q : Path} {n : ℕ} (p r : Path) → q ≡ p ++ r → length (keys_of p) ≡ n
+    → length (keys_of q) ≡ n + length (keys_of r)
+row_length p r e c = ap (λ q. length (keys_of q)) e ∙ ap length (keys-append p r)
+    ∙ length-append (keys_of p) (keys_of r) ∙ ap (λ n. n + length (keys_of r)) c
 
 -- a value on the way of a header
 on_value : (b : List Section) (s : Section) (q : Path) (v : Data) (left : ℕ) → is_keyed s ≡ true
     → begins q (path_of (there b s)) ≡ true → length (keys_of q) + left ≡ length s.header
     → Made b (mark q (valued v)) → PairFault b s (stop_fault s (at_header (suc left)))
 on_value b s q v left k w c m =
-    found m (subst (λ n. Among (key_fault (nth_key n s.header) (texts (take n s.header))) (pair_faults i j)) same
-    (row_before_fault i j (on_path_fault i j true r.mark.row on)))
+    found m (subst (λ n. Among (key_fault (nth_key n s.header) (texts (take n s.header)))
+    (pair_faults (maker_at m) (located_after b s))) same
+    (row_before_fault (maker_at m) (located_after b s)
+    (on_path_fault (maker_at m) (located_after b s) true r.mark.row on)))
   where
-    i : Located
-    i = located_after m.earlier m.section
-
-    j : Located
-    j = located_after b s
-
-    l : Placed
-    l = there m.earlier m.section
-
-    r : RowPart l.element l.rows l.target q (valued v)
+    r : RowPart (maker m).element (maker m).rows (maker m).target q (valued v)
     r = row_part (says_of m) refl
 
     steps : Path
     steps = steps_of (texts r.mark.keys)
 
-    place : q ≡ path_of l ++ steps
-    place = r.is ∙ ap (λ p. path_of l ++ p) (valued_at r.mark.says)
+    place : q ≡ path_of (maker m) ++ steps
+    place = r.is ∙ ap (λ p. path_of (maker m) ++ p) (valued_at r.mark.says)
 
-    on : row_on_path i.path steps j ≡ true
-    on = ap (λ p. begins (p ++ steps) j.path) (alike_there m.earlier m.section m.keyed).path
-        ∙ ap (λ p. begins (path_of l ++ steps) p) (alike_there b s k).path
+    on : row_on_path (maker_at m).path steps (located_after b s) ≡ true
+    on = ap (λ p. begins (p ++ steps) (located_after b s).path) (maker_alike m).path
+        ∙ ap (λ p. begins (path_of (maker m) ++ steps) p) (alike_there b s k).path
         ∙ ap (λ p. begins p (path_of (there b s))) (sym place) ∙ w
 
-    count : length (keys_of q) ≡ length m.section.header + length r.mark.keys
-    count = ap (λ p. length (keys_of p)) place ∙ ap length (keys-append (path_of l) steps)
-        ∙ length-append (keys_of (path_of l)) (keys_of steps)
-        ∙ ap (λ n. n + length (keys_of steps)) (header_length m.earlier m.section)
-        ∙ ap (λ n. length m.section.header + n)
-        (ap length (keys_steps (texts r.mark.keys)) ∙ length-map r.mark.keys (λ k. k.text))
-
     same : length m.section.header + length r.mark.keys - 1 ≡ length s.header - suc left
-    same = let d : length (keys_of q) ≡ length m.section.header + length r.mark.keys = count in
+    same = let d : length (keys_of q) ≡ length m.section.header + length (keys_of steps) =
+        row_length (path_of (maker m)) steps place (header_length m.earlier m.section) in
+        let f : length (keys_of steps) ≡ length r.mark.keys =
+        ap length (keys_steps (texts r.mark.keys)) ∙ length-map r.mark.keys (λ k. k.text) in
         let e : length (keys_of q) + left ≡ length s.header = c in omega arith
 
 -- a dotted table at the target
@@ -128,47 +133,34 @@ on_dots : (b : List Section) (s : Section) (q : Path) (left : ℕ) → is_keyed 
     → length (keys_of q) + left ≡ length s.header
     → Made b (mark q dotted) → PairFault b s (stop_fault s (at_header (suc left)))
 on_dots b s q left k t c m =
-    found m (subst (λ n. Among (key_fault (nth_key n s.header) (texts (take n s.header))) (pair_faults i j)) same
-    (row_before_fault i j (crossed_fault i j true r.mark.row crossed)))
+    found m (subst (λ n. Among (key_fault (nth_key n s.header) (texts (take n s.header)))
+    (pair_faults (maker_at m) (located_after b s))) same
+    (row_before_fault (maker_at m) (located_after b s)
+    (crossed_fault (maker_at m) (located_after b s) true r.mark.row crossed)))
   where
-    i : Located
-    i = located_after m.earlier m.section
-
-    j : Located
-    j = located_after b s
-
-    l : Placed
-    l = there m.earlier m.section
-
-    r : RowPart l.element l.rows l.target q dotted
+    r : RowPart (maker m).element (maker m).rows (maker m).target q dotted
     r = row_part (says_of m) refl
 
     steps : Path
     steps = steps_of (texts r.mark.keys)
 
-    across : crosses (path_of l) steps q ≡ true
-    across = ap (λ p. crosses (path_of l) steps p) r.is ∙
-        crosses_after (path_of l) r.path steps (dotted_at r.mark.says)
+    across : crosses (path_of (maker m)) steps q ≡ true
+    across = ap (λ p. crosses (path_of (maker m)) steps p) r.is ∙
+        crosses_after (path_of (maker m)) r.path steps (dotted_at r.mark.says)
 
     place : q ≡ (there b s).target
-    place = t (path_of l) (texts r.mark.keys) across
+    place = t (path_of (maker m)) (texts r.mark.keys) across
 
-    crossed : row_crossed i.path steps j ≡ true
-    crossed = crossed_is i.path steps (target j)
-        ∙ ap (λ p. crosses p steps (target j)) (alike_there m.earlier m.section m.keyed).path
-        ∙ ap (λ p. crosses (path_of l) steps p) ((alike_there b s k).target ∙ sym place) ∙ across
-
-    whole_length : length (keys_of q) ≡ length s.header
-    whole_length = ap (λ p. length (keys_of p)) place ∙ target_length b s
-
-    part_length : length (keys_of q) ≡ length m.section.header + length (keys_of r.path)
-    part_length = ap (λ p. length (keys_of p)) r.is ∙ ap length (keys-append (path_of l) r.path)
-        ∙ length-append (keys_of (path_of l)) (keys_of r.path)
-        ∙ ap (λ n. n + length (keys_of r.path)) (header_length m.earlier m.section)
+    crossed : row_crossed (maker_at m).path steps (located_after b s) ≡ true
+    crossed = crossed_is (maker_at m).path steps (target (located_after b s))
+        ∙ ap (λ p. crosses p steps (target (located_after b s))) (maker_alike m).path
+        ∙ ap (λ p. crosses (path_of (maker m)) steps p) ((alike_there b s k).target ∙ sym place) ∙ across
 
     same : length m.section.header + (length s.header - length m.section.header) - 1 ≡ length s.header - suc left
-    same = let d : length (keys_of q) ≡ length s.header = whole_length in
-        let f : length (keys_of q) ≡ length m.section.header + length (keys_of r.path) = part_length in
+    same = let d : length (keys_of q) ≡ length s.header =
+        ap (λ p. length (keys_of p)) place ∙ target_length b s in
+        let f : length (keys_of q) ≡ length m.section.header + length (keys_of r.path) =
+        row_length (path_of (maker m)) r.path r.is (header_length m.earlier m.section) in
         let e : length (keys_of q) + left ≡ length s.header = c in omega arith
 
 -- a dotted table at the path of a section stands at its target
@@ -181,70 +173,42 @@ no_number p t q (Some n) ks h c =
 -- the other marks of an earlier header
 on_named : (b : List Section) (s : Section) (q : Path) → is_keyed s ≡ true → q ≡ path_of (there b s)
     → Made b (mark q named) → PairFault b s (table_fault s)
-on_named b s q k h m = found m (same_path_fault i j
-    (ap (λ p. path_eq p j.path) ((alike_there m.earlier m.section m.keyed).path ∙ sym (role (says_of m) refl))
+on_named b s q k h m = found m (same_path_fault (maker_at m) (located_after b s)
+    (ap (λ p. path_eq p (located_after b s).path) ((maker_alike m).path ∙ sym (role (says_of m) refl))
     ∙ ap (λ p. path_eq q p) ((alike_there b s k).path ∙ sym h) ∙ paths_same q))
-  where
-    i : Located
-    i = located_after m.earlier m.section
-
-    j : Located
-    j = located_after b s
 
 on_array : (b : List Section) (s : Section) (q : Path) (c : Bool) → is_keyed s ≡ true
     → is_cut q (path_of (there b s)) ≡ true → path_eq (path_of (there b s)) q ≡ c
     → Made b (mark q added) → PairFault b s (if c then table_fault s else array_fault s)
 on_array b s q c k h o m =
-    found m (array_before_fault (located_after m.earlier m.section) (located_after b s) c
-    (on_cut y x r.1 (ap (λ t. is_cut t (path_of (there b s))) (sym r.0) ∙ h))
-    (path_at c y x (ap (λ t. path_eq (path_of (there b s)) t) (sym r.0) ∙ o)))
+    found m (array_before_fault (maker_at m) (located_after b s) c
+    (on_cut (alike_there b s k) (maker_alike m) r.1 (ap (λ t. is_cut t (path_of (there b s))) (sym r.0) ∙ h))
+    (path_at c (alike_there b s k) (maker_alike m) (ap (λ t. path_eq (path_of (there b s)) t) (sym r.0) ∙ o)))
   where
-    x : Alike (located_after m.earlier m.section) (there m.earlier m.section)
-    x = alike_there m.earlier m.section m.keyed
-
-    y : Alike (located_after b s) (there b s)
-    y = alike_there b s k
-
-    r : (q ≡ (there m.earlier m.section).target) × (adds_element (there m.earlier m.section).element ≡ true)
+    r : (q ≡ (maker m).target) × (adds_element (maker m).element ≡ true)
     r = role (says_of m) refl
 
 -- an element is added at a path that an earlier section names or passes
 array_on_named : (b : List Section) (s : Section) (q : Path) → is_keyed s ≡ true → q ≡ (there b s).target
     → adds_element (there b s).element ≡ true → Made b (mark q named) → PairFault b s (table_fault s)
 array_on_named b s q k h a m =
-    found m (array_later_fault (located_after m.earlier m.section) (located_after b s) true
-    (on_cut x y a (ap (λ t. is_cut t (path_of l)) (sym h ∙ r) ∙ cut_same (path_of l)))
-    (path_at true x y (ap (λ t. path_eq (path_of l) t) (sym h ∙ r) ∙ paths_same (path_of l))))
+    found m (array_later_fault (maker_at m) (located_after b s) true
+    (on_cut (maker_alike m) (alike_there b s k) a
+    (ap (λ t. is_cut t (path_of (maker m))) (sym h ∙ r) ∙ cut_same (path_of (maker m))))
+    (path_at true (maker_alike m) (alike_there b s k)
+    (ap (λ t. path_eq (path_of (maker m)) t) (sym h ∙ r) ∙ paths_same (path_of (maker m)))))
   where
-    l : Placed
-    l = there m.earlier m.section
-
-    x : Alike (located_after m.earlier m.section) (there m.earlier m.section)
-    x = alike_there m.earlier m.section m.keyed
-
-    y : Alike (located_after b s) (there b s)
-    y = alike_there b s k
-
-    r : q ≡ path_of l
+    r : q ≡ path_of (maker m)
     r = role (says_of m) refl
 
 array_on_passed : (b : List Section) (s : Section) (q : Path) → is_keyed s ≡ true → q ≡ (there b s).target
     → adds_element (there b s).element ≡ true → Made b (mark q passed) → PairFault b s (array_fault s)
 array_on_passed b s q k h a m =
-    found m (array_later_fault (located_after m.earlier m.section) (located_after b s) false
-    (on_cut x y a (ap (λ t. is_cut t (path_of l)) (sym h) ∙ r.0))
-    (path_at false x y (ap (λ t. path_eq (path_of l) t) (sym h) ∙ r.1)))
+    found m (array_later_fault (maker_at m) (located_after b s) false
+    (on_cut (maker_alike m) (alike_there b s k) a (ap (λ t. is_cut t (path_of (maker m))) (sym h) ∙ r.0))
+    (path_at false (maker_alike m) (alike_there b s k) (ap (λ t. path_eq (path_of (maker m)) t) (sym h) ∙ r.1)))
   where
-    l : Placed
-    l = there m.earlier m.section
-
-    x : Alike (located_after m.earlier m.section) (there m.earlier m.section)
-    x = alike_there m.earlier m.section m.keyed
-
-    y : Alike (located_after b s) (there b s)
-    y = alike_there b s k
-
-    r : (is_cut q (path_of l) ≡ true) × (path_eq (path_of l) q ≡ false)
+    r : (is_cut q (path_of (maker m)) ≡ true) × (path_eq (path_of (maker m)) q ≡ false)
     r = role (says_of m) refl
 
 -- a mark of the header, and what stands

@@ -8,9 +8,9 @@ use Rattle.std.proofs.lemmas.List.{length-map}
 use Rattle.basic_toml_value.specs.Data.{Data}
 use Rattle.basic_toml_grammar.specs.Sections.{Key, KeyTexts, texts, Section}
 use Rattle.basic_toml_grammar.specs.Steps.{key, Path, step_eq, begins, steps_of, keys_of}
-use Rattle.basic_toml_grammar.specs.IndexedPath.{Located, located_after}
+use Rattle.basic_toml_grammar.specs.IndexedPath.{located_after}
 use Rattle.basic_toml_grammar.specs.SectionClash.{target, row_on_path, row_crossed}
-use Rattle.basic_toml_grammar.specs.Placed.{Placed, path_of, is_short, is_inner, crosses}
+use Rattle.basic_toml_grammar.specs.Placed.{path_of, is_short, is_inner, crosses}
 use Rattle.basic_toml_grammar.specs.Marks.{MarkKind, named, added, valued, Mark, mark}
 use Rattle.basic_toml_grammar.specs.Standing.{fits, standing_at}
 use Rattle.basic_toml_grammar.specs.Entering.{is_keyed}
@@ -27,7 +27,8 @@ use Rattle.basic_toml_grammar.proofs.Clash.MarksTellPlaces.{Role, role, way, Row
 use Rattle.basic_toml_grammar.proofs.Clash.MarksTellPlaces.{valued_at, inner_short, dotted_at, crosses_after}
 use Rattle.basic_toml_grammar.proofs.Naming.PairsAreNamed.{on_path_fault, crossed_fault, row_later_fault, PairFault}
 use Rattle.basic_toml_grammar.proofs.Naming.HeaderStopsAreNamed.{there, keys_steps, keys_all, header_length}
-use Rattle.basic_toml_grammar.proofs.Naming.HeaderStopsAreNamed.{target_length, alike_there, no_number, says_of, found}
+use Rattle.basic_toml_grammar.proofs.Naming.HeaderStopsAreNamed.{target_length, alike_there, row_length, no_number}
+use Rattle.basic_toml_grammar.proofs.Naming.HeaderStopsAreNamed.{maker, maker_at, maker_alike, says_of, found}
 use Rattle.basic_toml_grammar.proofs.Naming.WhereRowsStop.{keys_before, steps_to_key, AtEnd, Reason, names_it, adds_it}
 use Rattle.basic_toml_grammar.proofs.Naming.WhereRowsStop.{ends_before, on_its_way, repeats_it, RowHit}
 use Rattle.basic_toml_grammar.proofs.Clash.EarlierRowsAreNotMet.{row_keyed, some_length, keyed_rows, no_row}
@@ -142,50 +143,34 @@ lies_on : (b : List Section) (s : Section) (keys : List Key) (v : Data) (m : ℕ
 lies_on b s keys v m k y o e d h made =
     found made (crossing b s made.section made.earlier keys m (length keys) count
     (header_along b s made.section made.earlier keys m (let c : length keys ≡ suc m = count in omega arith) w)
-    (on_path_fault j i false o over))
+    (on_path_fault (located_after b s) (maker_at made) false o over))
   where
-    i : Located
-    i = located_after made.earlier made.section
+    p : Path
+    p = path_of (there b s)
 
-    j : Located
-    j = located_after b s
-
-    l : Placed
-    l = there made.earlier made.section
-
-    w : begins (path_of (there b s) ++ steps_to_key m keys) (path_of l) ≡ true
-    w = way l.element l.target (path_of (there b s) ++ steps_to_key m keys) k (role (says_of made) h)
+    w : begins (p ++ steps_to_key m keys) (path_of (maker made)) ≡ true
+    w = way (maker made).element (maker made).target (p ++ steps_to_key m keys) k (role (says_of made) h)
 
     count : length keys ≡ suc m
     count = some_length keys (row_keyed o (keyed_rows s y)) ∙ ap (λ n. suc n) d.count
 
-    over : row_on_path j.path (steps_of (texts keys)) i ≡ true
-    over = ap (λ p. begins (p ++ steps_of (texts keys)) i.path) (alike_there b s y).path
-        ∙ ap (λ p. begins (path_of (there b s) ++ steps_of (texts keys)) p)
-        (alike_there made.earlier made.section made.keyed).path
-        ∙ ap (λ q. begins (path_of (there b s) ++ q) (path_of l)) (sym e) ∙ w
+    over : row_on_path (located_after b s).path (steps_of (texts keys)) (maker_at made) ≡ true
+    over = ap (λ p. begins (p ++ steps_of (texts keys)) (maker_at made).path) (alike_there b s y).path
+        ∙ ap (λ q. begins (p ++ steps_of (texts keys)) q) (maker_alike made).path
+        ∙ ap (λ q. begins (p ++ q) (path_of (maker made))) (sym e) ∙ w
 
 -- it crosses an earlier header
 crosses_it : (b : List Section) (s : Section) (keys : List Key) (v : Data) (m : ℕ) (k : MarkKind) → is_keyed s ≡ true
     → RowOf s.rows keys v → is_inner (steps_to_key m keys) (steps_of (texts keys)) ≡ true → is_header k ≡ true
     → (made : Made b (mark (path_of (there b s) ++ steps_to_key m keys) k))
-    → (path_of (there b s) ++ steps_to_key m keys ≡ (there made.earlier made.section).target)
+    → (path_of (there b s) ++ steps_to_key m keys ≡ (maker made).target)
     → PairFault b s (stop_fault s (at_row (keys_before m keys) (nth_key m keys)))
 crosses_it b s keys v m k y o e h made t =
     found made (crossing b s made.section made.earlier keys m (length made.section.header - length s.header) count
     (header_along b s made.section made.earlier keys m within
-    (way l.element l.target (p ++ steps_to_key m keys) k (role (says_of made) h)))
-    (crossed_fault j i false o over))
+    (way (maker made).element (maker made).target (p ++ steps_to_key m keys) k (role (says_of made) h)))
+    (crossed_fault (located_after b s) (maker_at made) false o over))
   where
-    i : Located
-    i = located_after made.earlier made.section
-
-    j : Located
-    j = located_after b s
-
-    l : Placed
-    l = there made.earlier made.section
-
     p : Path
     p = path_of (there b s)
 
@@ -198,19 +183,17 @@ crosses_it b s keys v m k y o e h made t =
         ap (λ n. n + 1) (before_length m keys within) ∙ omega arith
 
     whole_length : length made.section.header ≡ length s.header + suc m
-    whole_length = sym (target_length made.earlier made.section) ∙ ap (λ q. length (keys_of q)) (sym t)
-        ∙ ap length (keys-append p (steps_to_key m keys)) ∙ length-append (keys_of p) (keys_of (steps_to_key m keys))
-        ∙ ap (λ n. n + length (keys_of (steps_to_key m keys))) (header_length b s)
+    whole_length = sym (target_length made.earlier made.section)
+        ∙ row_length p (steps_to_key m keys) (sym t) (header_length b s)
         ∙ ap (λ n. length s.header + n) (ap length (keys_steps (texts (take (suc m) keys))) ∙ steps_length)
 
     count : length made.section.header - length s.header ≡ suc m
     count = let c : length made.section.header ≡ length s.header + suc m = whole_length in omega arith
 
-    over : row_crossed j.path (steps_of (texts keys)) i ≡ true
-    over = crossed_is j.path (steps_of (texts keys)) (target i)
-        ∙ ap (λ q. crosses q (steps_of (texts keys)) (target i)) (alike_there b s y).path
-        ∙ ap (λ q. crosses p (steps_of (texts keys)) q)
-        ((alike_there made.earlier made.section made.keyed).target ∙ sym t)
+    over : row_crossed (located_after b s).path (steps_of (texts keys)) (maker_at made) ≡ true
+    over = crossed_is (located_after b s).path (steps_of (texts keys)) (target (maker_at made))
+        ∙ ap (λ q. crosses q (steps_of (texts keys)) (target (maker_at made))) (alike_there b s y).path
+        ∙ ap (λ q. crosses p (steps_of (texts keys)) q) ((maker_alike made).target ∙ sym t)
         ∙ crosses_after p (steps_to_key m keys) (steps_of (texts keys)) e
 
 -- by what stood
@@ -223,13 +206,13 @@ by_reason : (b : List Section) (s : Section) (st : List Mark) (x : Stop) (keys :
 by_reason b s st x keys v m y h f o z u made (names_it i) =
     subst (λ x. PairFault b s (stop_fault s x)) (sym i)
     (crosses_it b s keys v m named y o (dotted_at z) refl made
-    (no_number (path_of (there b s)) (there made.earlier made.section).target
-    (path_of (there b s) ++ steps_to_key m keys) (there made.earlier made.section).element (texts keys)
+    (no_number (path_of (there b s)) (maker made).target
+    (path_of (there b s) ++ steps_to_key m keys) (maker made).element (texts keys)
     (role (says_of made) refl)
     (crosses_after (path_of (there b s)) (steps_to_key m keys) (steps_of (texts keys)) (dotted_at z))))
 by_reason b s st x keys v m y h f o z u made (adds_it i) =
-    let r : Role (there made.earlier made.section).element (there made.earlier made.section).target
-    (path_of (there b s) ++ steps_to_key m keys) added = role (says_of made) refl in
+    let r : Role (maker made).element (maker made).target (path_of (there b s) ++ steps_to_key m keys) added =
+    role (says_of made) refl in
     subst (λ x. PairFault b s (stop_fault s x)) (sym i) (crosses_it b s keys v m added y o (dotted_at z) refl made r.0)
 by_reason b s st x keys v m y h f o z u made (ends_before {w = w} i) =
     absurd (no_row b s st keys m (valued w) h f (row_keyed o (keyed_rows s y)) refl u made)
