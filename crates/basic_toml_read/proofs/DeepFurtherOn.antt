@@ -10,7 +10,7 @@ use Rattle.basic_toml_grammar.specs.Levels.{value_level}
 use Rattle.basic_toml_grammar.specs.DeepStops.{DeepKeys, this_key, later_key, DeepElements, later_element, DeepFields}
 use Rattle.basic_toml_grammar.specs.DeepStops.{later_field}
 use Rattle.basic_toml_grammar.specs.Reader as reader
-use Rattle.basic_toml_grammar.specs.Reader.{char_at, key_at}
+use Rattle.basic_toml_grammar.specs.Reader.{key_at}
 use Rattle.basic_toml_grammar.proofs.ReaderIsSound.{sign_read, key_read, value_read, row_read}
 use Rattle.basic_toml_read.specs.AtPlace.{Leaves}
 use Rattle.basic_toml_read.specs.FrontOf.{value_of, row_of}

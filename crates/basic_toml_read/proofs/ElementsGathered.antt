@@ -15,7 +15,7 @@ use Rattle.basic_toml_grammar.specs.Sections.{Raw, Elements, no_elements, elemen
 use Rattle.basic_toml_grammar.specs.Entering.{and_then}
 use Rattle.basic_toml_grammar.specs.Levels.{value_level, elements_level}
 use Rattle.basic_toml_grammar.specs.Reader as reader
-use Rattle.basic_toml_grammar.specs.Reader.{char_at, if_found, string_at, word_at, string_value_at}
+use Rattle.basic_toml_grammar.specs.Reader.{char_at, if_found}
 use Rattle.basic_toml_read.specs.FrontOf.{value_of, elements_of}
 use Rattle.basic_toml_read.specs.AtPlace.{Leaves}
 use Rattle.basic_toml_read.specs.SectionView.{raw_of, placed_of, with_element, elements_view}

@@ -13,7 +13,7 @@ use Rattle.basic_toml_grammar.specs.Sections.{Key, Raw, Rows, no_rows, row}
 use Rattle.basic_toml_grammar.specs.Entering.{and_then}
 use Rattle.basic_toml_grammar.specs.Levels.{rows_level}
 use Rattle.basic_toml_grammar.specs.Reader as reader
-use Rattle.basic_toml_grammar.specs.Reader.{char_at, if_found, string_at, word_at, string_value_at}
+use Rattle.basic_toml_grammar.specs.Reader.{char_at, if_found}
 use Rattle.basic_toml_read.specs.FrontOf.{fields_of, fields_on_of, row_of}
 use Rattle.basic_toml_read.specs.AtPlace.{Leaves}
 use Rattle.basic_toml_read.specs.SectionView.{rows_view}

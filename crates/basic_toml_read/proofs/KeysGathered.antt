@@ -8,7 +8,7 @@ use Rattle.basic_toml_tokens.specs.Punctuation.{IsPunctuationEnd}
 use Rattle.basic_toml_read.specs.declared.section.Row.{Row}
 use Rattle.basic_toml_read.specs.declared.scalar.Keyed.{Keyed}
 use Rattle.basic_toml_read.specs.declared.values.Gathered.{Gathered}
-use Rattle.basic_toml_grammar.specs.Sections.{Key, Rows, no_rows, row}
+use Rattle.basic_toml_grammar.specs.Sections.{Key, Rows, row}
 use Rattle.basic_toml_read.specs.AtPlace.{Leaves}
 use Rattle.basic_toml_read.specs.SectionView.{rows_view, with_key}
 use Rattle.basic_toml_read.specs.StopsAt.{ReadsKeyAt}
