@@ -1,8 +1,8 @@
-//! What clashes before a tree stands, and what the tree grows in: rows that go on from a value ([`crossed_value`]), why
-//! a section is not entered ([`Clash`]) with the error that names it, and keys with their values ([`Keyed`]).
+//! What clashes before a tree stands, and what the tree grows in: rows that go on from a value ([`crossed_value`]),
+//! why a section is not entered ([`Clash`]) with the error that names it, and keys with their values ([`Keyed`]).
 //!
-//! `basic_toml_tree` makes its tables of [`Keyed`], asks for [`crossed_value`] before it takes a section list apart, and
-//! answers the error of a [`Clash`].
+//! `basic_toml_tree` makes its tables of [`Keyed`], asks for [`crossed_value`] before it takes a section list apart,
+//! and answers the error of a [`Clash`].
 //!
 //! ```text
 //! let mut keyed = Keyed::new(alloc);
