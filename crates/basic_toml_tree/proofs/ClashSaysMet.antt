@@ -9,9 +9,9 @@ use Rattle.basic_toml_grammar.specs.Stops.{at_row, Outcome}
 use Rattle.basic_toml_read.specs.declared.section.Raw.{the_lemmas}
 use Rattle.basic_toml_read.specs.declared.section.Row.{Row, out-Row}
 use Rattle.basic_toml_read.specs.SectionView.{lined_of}
-use Rattle.basic_toml_tree.specs.declared.clash.Clash.TheVariants as clashes
+use Rattle.basic_toml_clash.specs.declared.clash.Clash.TheVariants as clashes
 use Rattle.basic_toml_tree.specs.declared.rows.Met.TheVariants as mets
-use Rattle.basic_toml_tree.specs.Trail.{path_of}
+use Rattle.basic_toml_clash.specs.Trail.{path_of}
 use Rattle.basic_toml_tree.specs.RowStops.{line_keys, key_at, StopsAtKey, SaysMet}
 
 same_row : {p q : KeyTexts} {n m : ℕ} {t u : List ℕ} → p ≡ q → n ≡ m → t ≡ u

@@ -18,8 +18,8 @@ use Rattle.basic_toml_tree.specs.Rows.{IsFinished, AreFinished}
 use Rattle.basic_toml_grammar.specs.Stops.{and_on}
 use Rattle.basic_toml_grammar.specs.TrieStops.{try_put_value, try_put_elements}
 use Rattle.basic_toml_grammar.proofs.Naming.WhatIsPutGoesOn.{value_goes}
-use Rattle.basic_toml_tree.specs.declared.clash.Clash.{Clash}
-use Rattle.basic_toml_tree.specs.Clash.{NamesStop}
+use Rattle.basic_toml_clash.specs.declared.clash.Clash.{Clash}
+use Rattle.basic_toml_clash.specs.Clash.{NamesStop}
 use Rattle.basic_toml_tree.proofs.RowsHaveKeys.{kept, every_element}
 use Rattle.basic_toml_tree.proofs.RowsLeft.{stopped_then}
 

@@ -9,7 +9,7 @@ use Rattle.basic_toml_value.specs.Data.{Data, items_of}
 use Rattle.basic_toml_grammar.specs.Sections.{KeyTexts, Rows}
 use Rattle.basic_toml_grammar.specs.Trie.{Trie, nothing, no_tries, walk, steps_to, among}
 use Rattle.basic_toml_grammar.specs.Steps.{key}
-use Rattle.basic_toml_tree.specs.declared.clash.Clash.{Clash}
+use Rattle.basic_toml_clash.specs.declared.clash.Clash.{Clash}
 use Rattle.basic_toml_tree.specs.declared.item.Item.{the_lemmas, Nothing, Tables}
 use Rattle.basic_toml_tree.specs.declared.item.Item as items
 use Rattle.basic_toml_tree.specs.declared.item.Item.TheOpen.{Item-F}
@@ -17,7 +17,7 @@ use Rattle.basic_toml_tree.specs.declared.item.Item.TheViews.{roll-Item, out-Ite
 use Rattle.basic_toml_tree.specs.declared.item.Child.{Child, out-Child}
 use Rattle.basic_toml_tree.specs.declared.item.Table.{Table, out-Table}
 use Rattle.basic_toml_tree.specs.Item.{item_trie, child_trie, table_trie, tree_data, leaf, by_keys}
-use Rattle.basic_toml_tree.specs.Keyed.{EntersKey, with_value, values_of}
+use Rattle.basic_toml_clash.specs.Keyed.{EntersKey, with_value, values_of}
 use Rattle.basic_toml_tree.specs.Headers.{IsIn, IsKeptOut, EntersChild, entered_by, steps_by, entered_at}
 use Rattle.basic_toml_tree.specs.Headers.{steps_at, Passes, PutsBack}
 use Rattle.basic_toml_tree.proofs.KeysInATrie.{tries_of, stood_there, change_put, change_refused}

@@ -13,18 +13,18 @@ use Rattle.basic_toml_grammar.specs.Trie.{Trie, trie, Tries, no_tries, by, nothi
 use Rattle.basic_toml_grammar.specs.Stops.{Stop, at_header, Outcome, stops}
 use Rattle.basic_toml_grammar.specs.TrieStops.{outcome_map, try_among, try_by_keys, try_put_table}
 use Rattle.basic_toml_grammar.specs.TrieStops.{try_put_element}
-use Rattle.basic_toml_tree.specs.declared.clash.Clash.{Clash}
-use Rattle.basic_toml_tree.specs.declared.clash.Clash.TheVariants.{Memory, Deep, Header, Named, Redefined, Row}
+use Rattle.basic_toml_clash.specs.declared.clash.Clash.{Clash}
+use Rattle.basic_toml_clash.specs.declared.clash.Clash.TheVariants.{Memory, Deep, Header, Named, Redefined, Row}
 use Rattle.basic_toml_tree.specs.declared.item.Item.{Nothing, Tables}
 use Rattle.basic_toml_tree.specs.declared.item.Item as items
 use Rattle.basic_toml_tree.specs.declared.item.Child.{Child, out-Child}
 use Rattle.basic_toml_tree.specs.declared.item.Table.{Table, out-Table}
 use Rattle.basic_toml_tree.specs.Item.{item_trie, child_trie, table_trie, by_keys, by_numbers, leaf}
-use Rattle.basic_toml_tree.specs.Clash.{NamesStop}
+use Rattle.basic_toml_clash.specs.Clash.{NamesStop}
 use Rattle.basic_toml_tree.specs.Headers.{tried_by, tried_at, Passes}
 use Rattle.basic_toml_tree.proofs.KeysInATrie.{tries_of, stood_there}
 use Rattle.basic_toml_tree.proofs.ItemTries.{child_item_trie, table_entries_trie}
-use Rattle.basic_toml_tree.proofs.HeadersNamed.{texts_count}
+use Rattle.basic_toml_clash.proofs.HeadersNamed.{texts_count}
 use Rattle.basic_toml_tree.proofs.LatestInATrie.{find_latest}
 use Rattle.basic_toml_tree.proofs.HeadersInATrie.{made, fresh, array_of}
 use Rattle.basic_toml_tree.proofs.TablesOpened.{tables_trie, nothing_trie, table_item_trie}

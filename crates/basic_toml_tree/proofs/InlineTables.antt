@@ -14,7 +14,7 @@ use Rattle.basic_toml_read.specs.declared.section.Raw as raws
 use Rattle.basic_toml_read.specs.declared.section.Row as lines
 use Rattle.basic_toml_tree.specs.declared.item.Item as items
 use Rattle.basic_toml_tree.specs.declared.item.Table.{Table}
-use Rattle.basic_toml_tree.specs.declared.clash.Clash.{Clash}
+use Rattle.basic_toml_clash.specs.declared.clash.Clash.{Clash}
 use Rattle.basic_toml_tree.specs.Item.{leaf, tree_data, item_trie, table_trie}
 use Rattle.basic_toml_tree.specs.Rows.{AreIn, AreKeptOut, Reason, memory, deep, crossed, reason}
 use Rattle.basic_toml_tree.specs.Rows.{IsFinished, IsUnfinished}
@@ -23,8 +23,8 @@ use Rattle.basic_toml_grammar.specs.Trie.{nothing}
 use Rattle.basic_toml_grammar.specs.Stops.{Stop, stops}
 use Rattle.basic_toml_grammar.specs.TrieStops.{try_put_rows, try_put_value}
 use Rattle.basic_toml_grammar.proofs.Naming.WhatIsPutGoesOn.{rows_aside}
-use Rattle.basic_toml_tree.specs.declared.clash.Clash.TheVariants as clashes
-use Rattle.basic_toml_tree.specs.Clash.{NamesStop}
+use Rattle.basic_toml_clash.specs.declared.clash.Clash.TheVariants as clashes
+use Rattle.basic_toml_clash.specs.Clash.{NamesStop}
 use Rattle.basic_toml_tree.proofs.RowsLeft.{rows_are_keyed}
 
 same_some : {A : Type 0} {a b : A} → Some a ≡ Some b → a ≡ b

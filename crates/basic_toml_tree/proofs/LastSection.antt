@@ -1,5 +1,5 @@
 -- The last section of a list.
-use Rattle.std.proofs.Common.{◌≡◌, ℕ, ◌-◌, List, [], ◌∷◌, map, length, slice_get, Option, Some, None, rules}
+use Rattle.std.proofs.Common.{◌≡◌, ◌-◌, List, [], ◌∷◌, map, length, slice_get, Some, None, rules}
 use native.Mathlib.Numerals.{unary_clauses}
 use Rattle.basic_toml_grammar.specs.Nodes as grammar
 use Rattle.basic_toml_read.specs.declared.section.Section as code

@@ -1,13 +1,9 @@
-pub mod CrossedClash
-pub mod FaultsGathered
 pub mod HeadersEntered
 pub mod HeadersInATrie
-pub mod HeadersNamed
 pub mod HeadersStopped
 pub mod ItemData
 pub mod ItemTries
 pub mod KeysInATrie
-pub mod KeysSeen
 pub mod NodesInOrder
 pub mod OrderIsFree
 pub mod RowsEntered
@@ -18,12 +14,6 @@ pub mod RowsLeft
 pub mod RowValues
 pub mod InlineTables
 pub mod ElementsLeft
-pub mod KeysChanged
-pub mod RowIsFollowed
-pub mod RowsGetNoLonger
-pub mod RowsGoOn
-pub mod RowsOfKeys
-pub mod TrailGrows
 pub mod LatestInATrie
 pub mod RowsHaveKeys
 pub mod SectionsEntered

@@ -21,12 +21,12 @@ use Rattle.basic_toml_tree.specs.declared.tree.Tree.{Tree}
 use Rattle.basic_toml_tree.specs.declared.node.Node.{Node}
 use Rattle.basic_toml_tree.specs.declared.node.Spot.{Spot}
 use Rattle.basic_toml_tree.specs.declared.node.Spot.TheVariants as spots
-use Rattle.basic_toml_tree.specs.Keyed.{values_of}
+use Rattle.basic_toml_clash.specs.Keyed.{values_of}
 use Rattle.basic_toml_tree.specs.Item.{item_trie, child_trie, table_trie, by_keys, by_numbers, leaf, tree_data}
 use Rattle.basic_toml_tree.specs.Stands.{trie_at, tree_trie, spot_trie, wraps_table, HoldsTable, IsBelow, is_root}
 use Rattle.basic_toml_tree.specs.Stands.{StandsAt, StandsOn, IsBeside, is_wrapper, ItemHolds}
 use Rattle.basic_toml_tree.proofs.ItemTries.{table_entries_trie}
-use Rattle.basic_toml_tree.proofs.KeysChanged.{first_at}
+use Rattle.basic_toml_clash.proofs.KeysChanged.{first_at}
 use Rattle.basic_toml_tree.proofs.KeysInATrie.{tries_of}
 
 at_more : (p : Path) (s : Step) (t : Trie) → trie_at (p ++ s ∷ []) t ≡ below s (trie_at p t)

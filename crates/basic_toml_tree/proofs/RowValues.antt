@@ -11,7 +11,7 @@ use Rattle.basic_toml_grammar.specs.Trie.{Trie, put_row, put_rows}
 use Rattle.basic_toml_read.specs.SectionView.{lined_of, raw_of, rows_view}
 use Rattle.basic_toml_read.specs.declared.section.Raw as raws
 use Rattle.basic_toml_read.specs.declared.section.Row as lines
-use Rattle.basic_toml_tree.specs.declared.clash.Clash.{Clash}
+use Rattle.basic_toml_clash.specs.declared.clash.Clash.{Clash}
 use Rattle.basic_toml_tree.specs.declared.rows.Met.{Met}
 use Rattle.basic_toml_tree.specs.Item.{leaf}
 use Rattle.basic_toml_tree.specs.Rows.{AreIn, AreKeptOut, is_dot, all_dots, key_texts, Reason, memory, deep, crossed}
@@ -21,7 +21,7 @@ use Rattle.basic_toml_tree.proofs.Reasons.{KeptFor, kept_for, UnfinishedFor, for
 use Rattle.basic_toml_grammar.specs.Stops.{goes_on, and_on, held}
 use Rattle.basic_toml_grammar.specs.TrieStops.{try_put_row, try_put_rows, try_put_value}
 use Rattle.basic_toml_grammar.proofs.Naming.WhatIsPutGoesOn.{value_goes}
-use Rattle.basic_toml_tree.specs.Clash.{NamesStop}
+use Rattle.basic_toml_clash.specs.Clash.{NamesStop}
 use Rattle.basic_toml_tree.specs.RowStops.{line_keys, key_at, TellsRow, SaysMet, SaysHeld}
 use Rattle.basic_toml_tree.proofs.RowsHaveKeys.{kept, every_row}
 use Rattle.basic_toml_tree.proofs.RowsLeft.{line_texts, line_view, has_value, clash_alone, then_same, stopped_then}

@@ -18,7 +18,7 @@ use Rattle.basic_toml_tree.specs.declared.item.Table.{Table, out-Table}
 use Rattle.basic_toml_tree.specs.declared.rows.Met.{Met}
 use Rattle.basic_toml_tree.specs.declared.rows.Met.TheVariants as mets
 use Rattle.basic_toml_tree.specs.Item.{child_trie, table_trie, by_keys}
-use Rattle.basic_toml_tree.specs.Keyed.{with_value, values_of, EntersKey}
+use Rattle.basic_toml_clash.specs.Keyed.{with_value, values_of, EntersKey}
 use Rattle.basic_toml_tree.specs.Rows.{Enters, key_texts}
 use Rattle.basic_toml_tree.proofs.KeysInATrie.{tries_of, with_twice, change_put_once, change_refused}
 use Rattle.basic_toml_tree.proofs.ItemTries.{table_entries_trie, with_entries, entries_with, with_entries_twice}

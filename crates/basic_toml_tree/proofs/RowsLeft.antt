@@ -18,11 +18,11 @@ use Rattle.basic_toml_tree.specs.Rows.{reason}
 use Rattle.basic_toml_grammar.specs.Stops.{Outcome, goes_on, stops, and_on, held}
 use Rattle.basic_toml_grammar.specs.TrieStops.{try_put_row, try_put_rows, try_put_value}
 use Rattle.basic_toml_grammar.proofs.Naming.WhatIsPutGoesOn.{rows_go}
-use Rattle.basic_toml_tree.specs.Clash.{NamesStop}
+use Rattle.basic_toml_clash.specs.Clash.{NamesStop}
 use Rattle.basic_toml_tree.proofs.RowsHaveKeys.{rows_have_keys}
-use Rattle.basic_toml_tree.specs.declared.clash.Clash.TheVariants.{Memory, Deep, Header, Named, Redefined, Row}
+use Rattle.basic_toml_clash.specs.declared.clash.Clash.TheVariants.{Memory, Deep, Header, Named, Redefined, Row}
 use Rattle.basic_toml_tree.specs.RowStops.{line_keys}
-use Rattle.basic_toml_tree.specs.declared.clash.Clash.{Clash}
+use Rattle.basic_toml_clash.specs.declared.clash.Clash.{Clash}
 use Rattle.basic_toml_tree.proofs.Reasons.{KeptFor, kept_for, for_kept}
 
 -- Keys that periods follow, and rows after them: putting these into the table as it is, is putting all rows into the

@@ -17,7 +17,7 @@ use Rattle.basic_toml_grammar.specs.Growth.{closed}
 use Rattle.basic_toml_grammar.specs.NestingFaults.{tree_level, deep_sections}
 use Rattle.basic_toml_grammar.specs.Trie.{Trie, nothing, bare, walk, steps_to, put_section, put_sections}
 use Rattle.basic_toml_grammar.specs.Trie.{section_level_in}
-use Rattle.basic_toml_tree.specs.declared.clash.Clash.TheVariants.{Deep}
+use Rattle.basic_toml_clash.specs.declared.clash.Clash.TheVariants.{Deep}
 use Rattle.basic_toml_tree.specs.Headers.{IsIn, IsKeptOut}
 use Rattle.basic_toml_tree.specs.Resolve.{Stands}
 use Rattle.basic_toml_tree.proofs.HeadersInATrie.{fresh, walk_fresh, steps_fresh}

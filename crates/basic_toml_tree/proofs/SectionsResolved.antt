@@ -17,12 +17,12 @@ use Rattle.basic_toml_grammar.specs.Trie.{Trie, walk, steps_to}
 use Rattle.basic_toml_explain.specs.Error.{want_of_memory}
 use Rattle.basic_toml_read.specs.declared.section.Section as code
 use Rattle.basic_toml_read.specs.SectionView.{section_of, rows_view}
-use Rattle.basic_toml_tree.specs.declared.clash.Clash.{Clash}
-use Rattle.basic_toml_tree.specs.declared.clash.Clash.TheVariants.{Memory, Deep, Header, Named, Redefined, Row}
-use Rattle.basic_toml_tree.specs.Clash.{IsFaultOf, NamesClash, NamesStop}
+use Rattle.basic_toml_clash.specs.declared.clash.Clash.{Clash}
+use Rattle.basic_toml_clash.specs.declared.clash.Clash.TheVariants.{Memory, Deep, Header, Named, Redefined, Row}
+use Rattle.basic_toml_clash.specs.Clash.{IsFaultOf, NamesClash, NamesStop}
 use Rattle.basic_toml_tree.specs.Headers.{IsIn, IsKeptOut}
 use Rattle.basic_toml_tree.specs.declared.tree.Tree.{Tree}
-use Rattle.basic_toml_tree.specs.Crossed.{IsCrossed, NoneIsCrossed, crossed_faults}
+use Rattle.basic_toml_clash.specs.Crossed.{IsCrossed, NoneIsCrossed, crossed_faults}
 use Rattle.basic_toml_tree.specs.Item.{table_trie}
 use Rattle.basic_toml_grammar.specs.NamedClash as grammar
 use Rattle.basic_toml_grammar.specs.NamedClash.{dotted_fault, dotted_faults, repeated_faults_of, section_faults}
@@ -34,7 +34,7 @@ use Rattle.basic_toml_tree.proofs.SectionsStopped.{section_stops, same_fault, fi
 use Rattle.basic_toml_grammar.specs.Sections.{Key}
 use Rattle.basic_toml_tree.specs.Resolve.{Resolves, IsResolved, IsUnresolved, memory, deep, clash, head}
 use Rattle.basic_toml_tree.proofs.HeadersInATrie.{fresh}
-use Rattle.basic_toml_tree.proofs.HeadersNamed.{header_is}
+use Rattle.basic_toml_clash.proofs.HeadersNamed.{header_is}
 use Rattle.basic_toml_tree.proofs.RowsHaveKeys.{sections_have_keys}
 use Rattle.basic_toml_tree.proofs.TrieData.{table_trie_data}
 use Rattle.basic_toml_tree.proofs.SectionsEntered.{Entered, one_more, too_deep, whole_tree}

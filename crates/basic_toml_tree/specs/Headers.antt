@@ -12,10 +12,10 @@ use Rattle.basic_toml_grammar.specs.Stops.{Outcome}
 use Rattle.basic_toml_grammar.specs.TrieStops.{try_go_on, try_by_keys, try_put_element}
 use Rattle.basic_toml_tree.specs.declared.item.Table.{Table, out-Table}
 use Rattle.basic_toml_tree.specs.declared.item.Child.{Child}
-use Rattle.basic_toml_tree.specs.declared.clash.Clash.{Clash}
-use Rattle.basic_toml_tree.specs.declared.clash.Clash.TheVariants.{Memory, Deep}
+use Rattle.basic_toml_clash.specs.declared.clash.Clash.{Clash}
+use Rattle.basic_toml_clash.specs.declared.clash.Clash.TheVariants.{Memory, Deep}
 use Rattle.basic_toml_tree.specs.Item.{table_trie, child_trie}
-use Rattle.basic_toml_tree.specs.Keyed.{EntersKey, with_value, values_of}
+use Rattle.basic_toml_clash.specs.Keyed.{EntersKey, with_value, values_of}
 
 -- the highest level of a section whose table is on a level
 abbrev pub highest : ℕ → Rows → ℕ

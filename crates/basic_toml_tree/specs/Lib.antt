@@ -1,4 +1,3 @@
-pub mod Keyed
 pub mod Item
 pub mod Data
 pub mod Nodes
@@ -6,10 +5,6 @@ pub mod Origin
 pub mod Rows
 pub mod RowStops
 pub mod Headers
-pub mod Clash
-pub mod Trail
-pub mod Crossed
 pub mod Resolve
 pub mod Order
 pub mod Stands
-pub mod formers

@@ -8,10 +8,10 @@ use Rattle.basic_toml_grammar.specs.Stops.{at_row, last_stop, Outcome, stops, an
 use Rattle.basic_toml_grammar.specs.TrieStops.{try_here, try_put_row}
 use Rattle.basic_toml_read.specs.declared.section.Row.{Row}
 use Rattle.basic_toml_read.specs.SectionView.{lined_of}
-use Rattle.basic_toml_tree.specs.declared.clash.Clash.{Clash}
+use Rattle.basic_toml_clash.specs.declared.clash.Clash.{Clash}
 use Rattle.basic_toml_tree.specs.declared.rows.Met.{Met}
 use Rattle.basic_toml_tree.specs.declared.rows.Met.TheVariants as mets
-use Rattle.basic_toml_tree.specs.Clash.{NamesStop}
+use Rattle.basic_toml_clash.specs.Clash.{NamesStop}
 
 -- the keys of rows, each with its offset
 abbrev pub line_keys : List Row → List Key

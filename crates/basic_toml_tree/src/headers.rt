@@ -6,14 +6,14 @@ ghost use Rattle.basic_toml_grammar.specs.Trie.{put_element};
 ghost use Rattle.basic_toml_grammar.specs.TrieStops.{try_by_keys, try_put_table, try_put_element};
 ghost use Rattle.basic_toml_read.specs.SectionView.{rows_view};
 ghost use Rattle.basic_toml_tree.specs.declared.item.Table.{out-Table};
-ghost use Rattle.basic_toml_tree.specs.Clash.{NamesStop};
+ghost use Rattle.basic_toml_clash.specs.Clash.{NamesStop};
 ghost use Rattle.basic_toml_tree.specs.Item.{table_trie, child_trie};
 ghost use Rattle.basic_toml_tree.specs.Headers.{EntersHeader, EntersChild, Passes, PutsBack};
 ghost use Rattle.basic_toml_tree.specs.Headers.{entered_by, steps_by, entered_at, steps_at, tried_by, tried_at};
 
-use crate::clash::Clash;
 use crate::item::{Child, Item, LIMIT, Table};
 use crate::rows::{enter_rows, room_for};
+use basic_toml_clash::Clash;
 use basic_toml_read::{Row, Section};
 use std::alloc::{AllocError, Global};
 use std::borrow::CowStr;

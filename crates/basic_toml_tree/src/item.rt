@@ -7,7 +7,7 @@ ghost use Rattle.basic_toml_tree.specs.declared.item.Child.{out-Child};
 ghost use Rattle.basic_toml_tree.specs.declared.item.Table.{out-Table};
 ghost use Rattle.basic_toml_tree.specs.Item.{item_trie, child_trie, table_trie};
 
-use crate::keyed::Keyed;
+use basic_toml_clash::Keyed;
 use basic_toml_value::Float;
 use std::alloc::{AllocError, Global};
 use std::borrow::CowStr;

@@ -4,12 +4,9 @@
 //! it comes from; the types of `basic_toml` are read from them.
 #![tactic(auto)]
 
-mod clash;
-mod crossed;
 mod entries;
 mod headers;
 mod item;
-mod keyed;
 mod node;
 mod origin;
 mod rows;

@@ -8,10 +8,10 @@ ghost use Rattle.basic_toml_grammar.specs.Nodes.{is_made as made_by_headers};
 ghost use Rattle.basic_toml_tree.specs.Stands.{IsNodeAt, Foretold};
 ghost use Rattle.basic_toml_tree.specs.Origin.{is_made, spot_is_made, spot_name, last_at, name_of, start_of, outer_of, offset_of, header_of, keys_of};
 
-use crate::clash::key_texts;
 use crate::item::Item;
 use crate::node::{Node, Spot, Trail};
 use crate::tree::Tree;
+use basic_toml_clash::key_texts;
 use std::alloc::{AllocError, Global};
 
 impl<'de> Tree<'de> {

@@ -10,13 +10,13 @@ ghost use Rattle.basic_toml_grammar.specs.TrieStops.{try_put_rows, try_put_value
 ghost use Rattle.basic_toml_read.specs.SectionView.{raw_of, rows_view, elements_view};
 ghost use Rattle.basic_toml_tree.specs.Item.{leaf, child_trie, table_trie};
 ghost use Rattle.basic_toml_tree.specs.Rows.{EntersRow, EntersRows, Extends, Finishes, FinishesAll, key_texts};
-ghost use Rattle.basic_toml_tree.specs.Clash.{NamesStop};
+ghost use Rattle.basic_toml_clash.specs.Clash.{NamesStop};
 ghost use Rattle.basic_toml_tree.specs.RowStops.{line_keys, key_at, TellsLast, TellsRow, TellsExtended, SaysMet};
 ghost use Rattle.basic_toml_tree.specs.RowStops.{SaysHeld};
 ghost use Rattle.basic_toml_tree.specs.Rows.{all_dots, is_dot, reason, met_reason};
 
-use crate::clash::{Clash, texts_of};
 use crate::item::{Child, Item, LIMIT, Table};
+use basic_toml_clash::{Clash, texts_of};
 use basic_toml_read::{Element, Raw, Row};
 use std::alloc::{AllocError, AllocFailed, Global};
 

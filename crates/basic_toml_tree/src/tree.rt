@@ -2,9 +2,9 @@
 ghost use Rattle.basic_toml_tree.specs.Order.{ResolvesInAnyOrder};
 ghost use Rattle.basic_toml_tree.specs.Resolve.{Resolves};
 
-use crate::crossed::crossed_value;
 use crate::headers::enter_section;
 use crate::item::Table;
+use basic_toml_clash::crossed_value;
 use basic_toml_read::{ReadError, ReadErrorKind, Section};
 use std::alloc::Global;
 

@@ -20,7 +20,7 @@ use Rattle.basic_toml_emit.specs.Open.{unknown, tables, others, OpenTable, empty
 use Rattle.basic_toml_emit.specs.Open.{with_settled, with_section, new_table, fresh}
 use Rattle.basic_toml_emit.specs.Rules.{holds_section}
 use Rattle.basic_toml_emit.specs.Calls as m
-use Rattle.basic_toml_emit.specs.Calls.{run, on_ok, after, path, header_text, array_start, with_row, with_sections}
+use Rattle.basic_toml_emit.specs.Calls.{run, path, header_text, array_start, with_row}
 use Rattle.basic_toml_emit.specs.Calls.{is_nothing_open}
 use Rattle.basic_toml_write.proofs.ValuesThatFit.{FitsValue, FitsOthers, FitsTables, FitsArray, FitsEntry}
 use Rattle.basic_toml_write.proofs.ValuesThatFit.{FitsEntries, Fits}

@@ -7,7 +7,7 @@ use Rattle.basic_toml_read.specs.SectionView.{rows_view}
 use Rattle.basic_toml_tree.specs.declared.item.Item.TheViews.{roll-Child}
 use Rattle.basic_toml_tree.specs.declared.item.Item.{Tables}
 use Rattle.basic_toml_tree.specs.Item.{child_trie, table_trie}
-use Rattle.basic_toml_tree.specs.Clash.{NamesStop}
+use Rattle.basic_toml_clash.specs.Clash.{NamesStop}
 use Rattle.basic_toml_tree.specs.Headers.{EntersChild}
 use Rattle.basic_toml_tree.proofs.HeadersInATrie.{array_of, fresh}
 use Rattle.basic_toml_tree.proofs.HeadersEntered.{failed}

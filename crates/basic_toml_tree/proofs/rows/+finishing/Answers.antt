@@ -16,7 +16,7 @@ use Rattle.basic_toml_tree.proofs.InlineTables.{inline_stopped}
 use Rattle.basic_toml_tree.proofs.ElementsLeft.{element_stopped, element_skipped}
 use Rattle.basic_toml_grammar.specs.Sections.{Elements}
 use Rattle.basic_toml_tree.proofs.ClashSaysMet.{row_offset}
-use Rattle.basic_toml_tree.specs.Clash.{NamesStop}
+use Rattle.basic_toml_clash.specs.Clash.{NamesStop}
 use Rattle.basic_toml_tree.specs.RowStops.{line_keys, key_at, SaysHeld}
 use Rattle.basic_toml_read.specs.SectionView.{lined_of}
 use Rattle.basic_toml_grammar.specs.TrieStops.{try_put_rows, try_put_elements}

@@ -1,6 +1,6 @@
 use Rattle.std.proofs.Common.{◌∙◌, sym, subst}
 use Rattle.basic_toml_tree.specs.declared.rows.Met.{Met}
-use Rattle.basic_toml_tree.specs.declared.clash.Clash.TheVariants as clashes
+use Rattle.basic_toml_clash.specs.declared.clash.Clash.TheVariants as clashes
 use Rattle.basic_toml_tree.specs.RowStops.{line_keys, key_at, SaysMet}
 use Rattle.basic_toml_tree.proofs.RowsEntered.{row_key}
 use Rattle.basic_toml_tree.proofs.ClashSaysMet.{key_said, last_said, row_offset, row_at, none_at}

@@ -1,7 +1,7 @@
 use Rattle.std.proofs.Common.{◌<◌, length, arith, rules, set, List, subst}
 use Rattle.std.proofs.lemmas.List.{length-set, get_or-set_other}
 use Rattle.basic_toml_read.specs.declared.section.Section.{Section}
-use Rattle.basic_toml_tree.specs.Crossed.{NoneIsCrossed}
+use Rattle.basic_toml_clash.specs.Crossed.{NoneIsCrossed}
 use Rattle.basic_toml_tree.specs.Item.{table_trie}
 use Rattle.basic_toml_tree.proofs.SectionsResolved.{want_of, goes_on_from_a_value, kept_out, none_crossed, goes_on}
 use Rattle.basic_toml_tree.proofs.SectionsResolved.{resolved, heads_kept}

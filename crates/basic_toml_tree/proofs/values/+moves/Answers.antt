@@ -7,7 +7,7 @@ use Rattle.basic_toml_tree.specs.Data.{data_of, child_data, table_data, child_pa
 use Rattle.basic_toml_tree.proofs.ItemData.{items_size-rest, items_size-front, items_size-last, members_size-rest}
 use Rattle.basic_toml_tree.proofs.ItemData.{mapped_next, child_item, table_of_pairs, tables_data, table_seen}
 use Rattle.basic_toml_tree.proofs.ItemData.{array_seen, entries_seen, keys_copied, tables_whole}
-use Rattle.basic_toml_tree.proofs.KeysSeen.{keys_of-seen}
+use Rattle.basic_toml_clash.proofs.KeysSeen.{keys_of-seen}
 use Rattle.basic_toml_tree.proofs.values.+moves.Goals as goal
 
 pub into_elements-into_value-requires : goal.into_elements-into_value-requires

@@ -9,16 +9,16 @@ pub returns-in_default-get-clause-data : goal.returns-in_default-get-clause-data
 returns-in_default-get-clause-data c =
     let here : node_data c.args.self ≡ table_data c.in-Some-Some.table.now = search (rules) in
     ap (λ d. data_at d c.args.key.now) here
-    ∙ data_at_absent c.in-Some-Some.table.now c.args.key.now c.in_default-get.ensures
+    ∙ data_at_absent c.in-Some-Some.table.now c.args.key.now c.in_default-get.ensures.value
 
 pub returns-clause-data : goal.returns-clause-data
 returns-clause-data c =
     let here : node_data c.args.self ≡ table_data c.in-Some-Some.table.now = search (rules) in
     ap (λ d. data_at d c.args.key.now) here
-    ∙ data_at_found c.in-Some-Some.table.now c.args.key.now c.in-Some.pair.now.value c.in-Some.ensures
+    ∙ data_at_found c.in-Some-Some.table.now c.args.key.now c.in-Some.pair.now.value c.in-Some.ensures.value
     ∙ ap Some (sym c.below.ensures.«data»)
 
 pub returns-clause-stands : goal.returns-clause-stands
 returns-clause-stands c =
     key_stands c.args.self c.below.result c.in-Some-Some.table.now c.args.key.now c.in-Some.pair.now.value (search (rules))
-    c.in-Some.ensures c.below.ensures.below
+    c.in-Some.ensures.value c.below.ensures.below

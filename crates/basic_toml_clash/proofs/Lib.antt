@@ -1,0 +1,9 @@
+pub mod FaultsGathered
+pub mod HeadersNamed
+pub mod KeysSeen
+pub mod KeysChanged
+pub mod RowIsFollowed
+pub mod RowsGetNoLonger
+pub mod RowsGoOn
+pub mod RowsOfKeys
+pub mod TrailGrows

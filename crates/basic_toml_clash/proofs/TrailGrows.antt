@@ -1,0 +1,144 @@
+-- A row is followed by a trail, one key after another.
+use Rattle.std.proofs.Common.{◌≡◌, ◌⊎◌, inl, inr, ℕ, true, false, List, [], ◌∷◌, ◌++◌, refl, sym, ap, ◌∙◌, map, rules}
+use Rattle.std.proofs.Common.{Option, Some, None, option_map, Bool, Err}
+use Rattle.std.specs.List.{slice_get}
+use Rattle.std.specs.Str.{bytes_eq}
+use Rattle.std.proofs.lemmas.Slice.Eq.{bytes_eq-Decides}
+use Rattle.basic_toml_value.specs.Pairs.{value_at}
+use Rattle.basic_toml_grammar.specs.Sections.{KeyTexts}
+use Rattle.basic_toml_clash.specs.declared.crossed.Trail.{Trail, out-Trail, roll-Trail, the_lemmas}
+use Rattle.basic_toml_clash.specs.declared.crossed.Trail.TheOpen.{Trail-F}
+use Rattle.basic_toml_clash.specs.declared.crossed.Crossed.{Crossed}
+use Rattle.basic_toml_clash.specs.declared.crossed.Crossed.TheVariants.{Memory, At}
+use Rattle.basic_toml_clash.specs.Trail.{Ends, ends_below, ends_from, ends_of, Follows, FollowsTo, GoesOnFrom}
+use Rattle.basic_toml_clash.specs.Keyed.{with_value, values_of, EntersKey}
+use Rattle.basic_toml_clash.proofs.KeysChanged.{value_at-map, stood_or_fresh, put_at, kept_elsewhere}
+
+-- a trail by its parts
+pub trail_ends : (t : Trail)
+    → ends_of t ≡ ends_from (out-Trail t).end (map (λ p. (p.0, ends_of p.1)) (out-Trail t).below)
+trail_ends t = search (rules, the_lemmas)
+
+rolled : (x : Trail-F Trail) → out-Trail (roll-Trail x) ≡ x
+rolled x = search (rules, the_lemmas)
+
+pub rolled_end : (end : Option ℕ) (below : List (List ℕ × Trail))
+    → (out-Trail (roll-Trail (record { end = end; below = below }))).end ≡ end
+rolled_end end below = ap (λ x. x.end) (rolled (record { end = end; below = below }))
+
+pub rolled_below : (end : Option ℕ) (below : List (List ℕ × Trail))
+    → (out-Trail (roll-Trail (record { end = end; below = below }))).below ≡ below
+rolled_below end below = ap (λ x. x.below) (rolled (record { end = end; below = below }))
+
+pub ends_at_key : (t : Trail) (k : List ℕ) (path : KeyTexts)
+    → ends_of t (k ∷ path) ≡ ends_below (option_map ends_of (value_at (out-Trail t).below k)) path
+ends_at_key t k path =
+    ap (λ e. e (k ∷ path)) (trail_ends t)
+    ∙ ap (λ o. ends_below o path) (value_at-map ends_of (out-Trail t).below k)
+
+-- a row that goes on by a key
+module _ (before after there gone : Ends) (k : List ℕ) (at_none : before [] ≡ None) (still_none : after [] ≡ None)
+    (was : (p : KeyTexts) → before (k ∷ p) ≡ there p) (is : (p : KeyTexts) → after (k ∷ p) ≡ gone p)
+    (others : (l : List ℕ) (p : KeyTexts) → bytes_eq l k ≡ false → after (l ∷ p) ≡ before (l ∷ p)) where
+  pub follows_deeper : (path : KeyTexts) (start : ℕ) → Follows there gone path start
+      → Follows before after (k ∷ path) start
+  follows_deeper path start deeper = record {
+    free = free;
+    kept = kept;
+    stands = (deeper.stands.0, is path ∙ deeper.stands.1);
+    told = told;
+  }
+    where
+      free : (front rest : KeyTexts) (l : List ℕ) → k ∷ path ≡ front ++ l ∷ rest → before front ≡ None
+      free [] rest l parts = at_none
+      free (m ∷ front) rest l parts =
+          let same : k ≡ m = cc in
+          let more : path ≡ front ++ l ∷ rest = cc in
+          rw (← same) (was front ∙ deeper.free front rest l more)
+
+      kept_at : (l : List ℕ) (p : KeyTexts) (s : ℕ) (b : Bool) → bytes_eq l k ≡ b → before (l ∷ p) ≡ Some s
+          → after (l ∷ p) ≡ Some s
+      kept_at l p s true same at =
+          let key : l ≡ k = (bytes_eq-Decides l k).0 same in
+          rw key (is p ∙ deeper.kept p s (sym (was p) ∙ rw key at at))
+      kept_at l p s false other at = others l p other ∙ at
+
+      kept : (p : KeyTexts) (s : ℕ) → before p ≡ Some s → after p ≡ Some s
+      kept [] s at = absurd (cc)
+      kept (l ∷ p) s at = kept_at l p s (bytes_eq l k) refl at
+
+      told_there : (p : KeyTexts) (s : ℕ) → (there p ≡ Some s) ⊎ ((p ≡ path) × (s ≡ start))
+          → (before (k ∷ p) ≡ Some s) ⊎ ((k ∷ p ≡ k ∷ path) × (s ≡ start))
+      told_there p s (inl at) = inl (was p ∙ at)
+      told_there p s (inr own) = inr (ap (λ p. k ∷ p) own.0, own.1)
+
+      told_at : (l : List ℕ) (p : KeyTexts) (s : ℕ) (b : Bool) → bytes_eq l k ≡ b → after (l ∷ p) ≡ Some s
+          → (before (l ∷ p) ≡ Some s) ⊎ ((l ∷ p ≡ k ∷ path) × (s ≡ start))
+      told_at l p s true same at =
+          let key : l ≡ k = (bytes_eq-Decides l k).0 same in
+          rw key (told_there p s (deeper.told p s (sym (is p) ∙ rw key at at)))
+      told_at l p s false other at = inl (sym (others l p other) ∙ at)
+
+      told : (p : KeyTexts) (s : ℕ) → after p ≡ Some s → (before p ≡ Some s) ⊎ ((p ≡ k ∷ path) × (s ≡ start))
+      told [] s at = absurd (cc)
+      told (l ∷ p) s at = told_at l p s (bytes_eq l k) refl at
+
+pub goes_deeper : (before there : Ends) (k : List ℕ) → ((p : KeyTexts) → before (k ∷ p) ≡ there p)
+    → (path : KeyTexts) (at : ℕ) → GoesOnFrom there path at → GoesOnFrom before (k ∷ path) at
+goes_deeper before there k was path at deeper = record {
+  front = k ∷ deeper.front;
+  k = deeper.k;
+  rest = deeper.rest;
+  parts = ap (λ p. k ∷ p) deeper.parts;
+  there = was deeper.front ∙ deeper.there;
+}
+
+-- a trail where a key is entered, and what stands there taken out
+module _ (t fresh there : Trail) (k : List ℕ) (new : List (List ℕ × Trail)) (i : ℕ)
+    (is_fresh : (p : KeyTexts) → ends_of fresh p ≡ None)
+    (entered : EntersKey k fresh (out-Trail t).below new i) (stands : slice_get (values_of new) i ≡ Some there) where
+  stood : (p : KeyTexts) → ends_of t (k ∷ p) ≡ ends_of there p
+  stood p = ends_at_key t k p ∙ go (stood_or_fresh k fresh (out-Trail t).below new i entered there stands)
+    where
+      go : (value_at (out-Trail t).below k ≡ Some there) ⊎ ((value_at (out-Trail t).below k ≡ None) × (there ≡ fresh))
+          → ends_below (option_map ends_of (value_at (out-Trail t).below k)) p ≡ ends_of there p
+      go (inl at) = ap (λ o. ends_below (option_map ends_of o) p) at
+      go (inr new) =
+          ap (λ o. ends_below (option_map ends_of o) p) new.0
+          ∙ sym (ap (λ t. ends_of t p) new.1 ∙ is_fresh p)
+
+  -- what went wrong below goes wrong here
+  pub fault_below : (path : KeyTexts) (start : ℕ) (e : Crossed) → FollowsTo there path start (Err e)
+      → FollowsTo t (k ∷ path) start (Err e)
+  fault_below path start Memory goes = tt
+  fault_below path start (At at) goes = goes_deeper (ends_of t) (ends_of there) k stood path at goes
+
+  -- what has gone on is put in
+  module _ (held gone u : Trail) (t_end : (out-Trail t).end ≡ None) (u_end : (out-Trail u).end ≡ None)
+      (put : (out-Trail u).below ≡ with_value (with_value new i held) i gone) where
+    at_none : ends_of t [] ≡ None
+    at_none = ap (λ e. e []) (trail_ends t) ∙ t_end
+
+    still_none : ends_of u [] ≡ None
+    still_none = ap (λ e. e []) (trail_ends u) ∙ u_end
+
+    stands_now : (p : KeyTexts) → ends_of u (k ∷ p) ≡ ends_of gone p
+    stands_now p =
+        ends_at_key u k p
+        ∙ ap (λ ps. ends_below (option_map ends_of (value_at ps k)) p) put
+        ∙ ap (λ o. ends_below (option_map ends_of o) p)
+        (put_at k fresh (out-Trail t).below new i entered there stands held gone)
+
+    elsewhere : (l : List ℕ) (p : KeyTexts) → bytes_eq l k ≡ false → ends_of u (l ∷ p) ≡ ends_of t (l ∷ p)
+    elsewhere l p other =
+        ends_at_key u l p
+        ∙ ap (λ ps. ends_below (option_map ends_of (value_at ps l)) p) put
+        ∙ ap (λ o. ends_below (option_map ends_of o) p)
+        (kept_elsewhere k fresh (out-Trail t).below new i entered there stands held gone l other)
+        ∙ sym (ends_at_key t l p)
+
+    pub row_below : (path : KeyTexts) (start : ℕ) → Follows (ends_of there) (ends_of gone) path start
+        → Follows (ends_of t) (ends_of u) (k ∷ path) start
+    row_below path start follows =
+        follows_deeper (ends_of t) (ends_of u) (ends_of there) (ends_of gone) k at_none still_none stood stands_now
+        elsewhere path start follows

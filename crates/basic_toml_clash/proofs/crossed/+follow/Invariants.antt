@@ -1,0 +1,5 @@
+use Rattle.std.proofs.Common.{length}
+use Rattle.basic_toml_clash.proofs.crossed.+follow.Given as goal
+
+abbrev pub decreases-follow : goal.decreases-follow
+decreases-follow l = length l.keys.now

@@ -1,0 +1,43 @@
+use Rattle.std.proofs.Common.{◌≡◌, ◌+◌, ◌-◌, true, refl, sym, is_some, arith, subst, take, drop}
+use Rattle.std.proofs.lemmas.Result.{err_from_is_err_and}
+use Rattle.basic_toml_grammar.specs.Sections.{Rows}
+use Rattle.basic_toml_read.specs.declared.section.Row.{Row, out-Row}
+use Rattle.basic_toml_read.specs.SectionView.{lined_of, rows_view}
+use Rattle.basic_toml_clash.specs.Trail.{ends_of, path_of, Follows}
+use Rattle.basic_toml_clash.proofs.RowIsFollowed.{gone_on, stopped}
+use Rattle.basic_toml_clash.proofs.RowsGoOn.{Reached, all_followed}
+use Rattle.basic_toml_clash.proofs.RowsOfKeys.{no_row}
+use Rattle.basic_toml_clash.proofs.crossed.look_between.Goals as goal
+
+pub returns-in_err-trail : goal.returns-in_err-trail
+returns-in_err-trail c =
+    let p = err_from_is_err_and c.from_residual.result c.from_residual.ensures.1 in
+    let within = c.in-Some.ensures.within c.in-Some.last refl in
+    rw (p.1, p.2)
+    (stopped c.args.rows.now c.loop-last.first c.in-Some.last c.index-rows-last.result c.loop-last.trail within.0
+    within.1 c.index-rows-last.is c.in-Some.ensures.dots
+    (subst (λ (r : Row). is_some (lined_of r).value ≡ true) (sym c.index-rows-last.is)
+    (c.in-Some.ensures.last c.index-rows-last.result))
+    c.loop-last.invariant.reached c.in_err-trail.field-0.0 c.in_err-trail.ensures)
+
+pub loop-last-preserved : goal.loop-last-preserved
+loop-last-preserved c =
+    let within = c.in-Some.ensures.within c.in-Some.last refl in
+    record {
+      within = omega (arith, within.1);
+      reached = gone_on c.args.rows.now c.loop-last.first c.in-Some.last c.index-rows-last.result c.loop-last.trail
+          within.0 within.1 c.index-rows-last.is c.in-Some.ensures.dots
+          (subst (λ (r : Row). is_some (lined_of r).value ≡ true) (sym c.index-rows-last.is)
+          (c.in-Some.ensures.last c.index-rows-last.result))
+          c.loop-last.invariant.reached c.in_ok-trail.trail
+          (subst (λ (r : Row). Follows (ends_of c.loop-last.trail) (ends_of c.in_ok-trail.trail)
+          (path_of (take (c.in-Some.last + 1 - c.loop-last.first) (drop c.loop-last.first c.args.rows.now)))
+          (out-Row r).start)
+          (sym c.index-rows-last.is) c.in_ok-trail.ensures);
+    }
+
+pub returns : goal.returns
+returns c =
+    all_followed (rows_view c.args.rows.now) (ends_of c.loop-last.trail)
+    (subst (λ (left : Rows). Reached (rows_view c.args.rows.now) left (ends_of c.loop-last.trail))
+    (no_row lined_of c.args.rows.now c.loop-last.first c.in_default.ensures.none) c.loop-last.invariant.reached)

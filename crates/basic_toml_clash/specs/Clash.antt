@@ -1,0 +1,42 @@
+-- The error that names the clash of a section.
+use Rattle.std.specs.Prelude.{◌≡◌, ◌⊎◌, ⊤, map, string_bytes}
+use Rattle.basic_toml_grammar.specs.Faults.{Fault, nested_too_deeply}
+use Rattle.basic_toml_grammar.specs.GrammarFaults.{fault_at}
+use Rattle.basic_toml_grammar.specs.Stops.{Stop, at_header, is_named, is_passed, at_row, Outcome, stops, stop_fault}
+use Rattle.basic_toml_explain.specs.Error.{want_of_memory}
+use Rattle.basic_toml_read.specs.SectionView.{section_of}
+use Rattle.basic_toml_read.specs.declared.section.Section.{Section}
+use Rattle.basic_toml_clash.specs.declared.clash.Clash.{Clash}
+use Rattle.basic_toml_clash.specs.declared.clash.Clash.TheVariants.{Memory, Deep, Header, Named, Redefined, Row}
+
+-- memory apart, the fault is that of the clash
+abbrev pub IsFaultOf : Section → Clash → Fault → Type 0
+IsFaultOf s Memory fault = fault ≡ want_of_memory
+IsFaultOf s Deep fault = fault ≡ fault_at nested_too_deeply s.at
+IsFaultOf s (Header left) fault = fault ≡ stop_fault (section_of s) (at_header left)
+IsFaultOf s Named fault = fault ≡ stop_fault (section_of s) is_named
+IsFaultOf s Redefined fault = fault ≡ stop_fault (section_of s) is_passed
+IsFaultOf s (Row path key offset) fault =
+    fault ≡ stop_fault (section_of s) (at_row (map string_bytes path.items) (record {
+      offset = offset;
+      text = string_bytes key;
+    }))
+
+abbrev pub NamesClash : Section → Clash → Fault → Type 0
+NamesClash s clash fault = (fault ≡ want_of_memory) ⊎ IsFaultOf s clash fault
+
+-- the clash that a stop is
+abbrev pub IsStop : Clash → Stop → Type 0
+IsStop Memory stop = ⊥
+IsStop Deep stop = ⊥
+IsStop (Header left) stop = stop ≡ at_header left
+IsStop Named stop = stop ≡ is_named
+IsStop Redefined stop = stop ≡ is_passed
+IsStop (Row path key offset) stop =
+    stop ≡ at_row (map string_bytes path.items) (record { offset = offset; text = string_bytes key })
+
+-- memory and depth apart, the clash is what stops
+abbrev pub NamesStop : {A : Type 0} → Outcome A → Clash → Type 0
+NamesStop o Memory = ⊤
+NamesStop o Deep = ⊤
+NamesStop o clash = (stop : Stop) × (IsStop clash stop × (o ≡ stops stop))

@@ -1,0 +1,5 @@
+pub mod Keyed
+pub mod Trail
+pub mod Crossed
+pub mod Clash
+pub mod formers

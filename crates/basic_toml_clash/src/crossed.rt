@@ -1,0 +1,178 @@
+//! Rows that go on from a value: the clash that comes before all others.
+
+ghost use Rattle.std.specs.Prelude.{◌≡◌, ◌≤◌, ◌<◌, [], List, ℕ, None, false, IfNone, IfOk, IfSome, is_some};
+ghost use Rattle.std.specs.Prelude.{length, true};
+ghost use Rattle.std.specs.List.{AllWithin, HoldsAt};
+ghost use Rattle.std.specs.Option.{ForSome};
+ghost use Rattle.basic_toml_grammar.specs.NamedClash.{dotted_faults, dotted_faults_among};
+ghost use Rattle.basic_toml_read.specs.SectionView.{elements_view, lined_of, raw_of, rows_view};
+ghost use Rattle.basic_toml_clash.specs.Crossed.{faults_between, faults_in, IsCrossed, Looks, NoneIsCrossed};
+ghost use Rattle.basic_toml_clash.specs.Trail.{FollowsTo, ends_of, path_of};
+ghost use Rattle.basic_toml_clash.specs.declared.crossed.Crossed.TheVariants.{Memory};
+
+use crate::keyed::Keyed;
+use basic_toml_read::{Element, Raw, Row, Section};
+use std::alloc::{AllocError, Global};
+
+/// The keys of rows so far, and where the value begins that stands at their end.
+#[cycle(trail)]
+#[derive(Drop)]
+struct Trail {
+    end: Option<usize>,
+    below: Keyed<Trail>,
+}
+
+/// Why the rows are not gone through.
+#[derive(Drop)]
+enum Crossed {
+    Memory,
+    /// A later row goes on from the value that begins here.
+    At(usize),
+}
+
+impl From<AllocError> for Crossed {
+    ghost from_gives = { λ _ e. e ≡ Memory };
+
+    fn from(_error: AllocError) -> Crossed {
+        Crossed::Memory
+    }
+}
+
+impl Trail {
+    fn new(alloc: Global) -> Trail
+        ensures { (path : List (List ℕ)) → ends_of result path ≡ None }
+    {
+        Trail {
+            end: None,
+            below: Keyed::new(alloc),
+        }
+    }
+}
+
+// Goes by the keys of a row that are left; the row's value begins at `start`.
+fn follow(alloc: Global, trail: Trail, keys: &[Row<'_>], start: usize) -> Result<Trail, Crossed>
+    ensures { FollowsTo trail (path_of keys.now) start result }
+{
+    let Trail { end, below } = trail;
+    match keys.split_first() {
+        None => Ok(Trail {
+            end: Some(end.unwrap_or(start)),
+            below,
+        }),
+        Some((row, rest)) => {
+            if let Some(end) = end {
+                return Err(Crossed::At(end));
+            }
+            let mut below = below;
+            let position = below.enter(row.key.as_str(), Trail::new(alloc))?;
+            let there = below.replace(position, Trail::new(alloc));
+            let gone = follow(alloc, there, rest, start)?;
+            let _ = below.replace(position, gone);
+            Ok(Trail { end: None, below })
+        }
+    }
+}
+
+// The number of the last key of the row that begins at a key.
+fn last_key(rows: &[Row<'_>], first: usize) -> Option<usize>
+    ensures within { ForSome result (λ last. (first ≤ last) × (last < length rows.now)) }
+    ensures dots { IfSome result (λ last. AllWithin (λ r. (lined_of r).value ≡ None) rows.now first last) }
+    ensures last { IfSome result (λ last. HoldsAt (λ r. is_some (lined_of r).value ≡ true) rows.now last) }
+    ensures none { IfNone result (AllWithin (λ r. (lined_of r).value ≡ None) rows.now first (length rows.now)) }
+{
+    for at in first..rows.len() {
+        if !rows[at].is_dot() {
+            return Some(at);
+        }
+    }
+    None
+}
+
+// Whether some row has more keys than the one before it.
+fn has_longer(rows: &[Row<'_>]) -> bool
+    ensures { result ≡ false → faults_between (rows_view rows.now) ≡ [] }
+{
+    let mut most = usize::MAX;
+    let mut keys = 0;
+    for row in rows {
+        keys += 1;
+        if keys > most {
+            return true;
+        }
+        if row.is_dot() {
+            continue;
+        }
+        most = keys;
+        keys = 0;
+    }
+    false
+}
+
+// Looks for a row that goes on from the value of one before it. It has more keys than that one.
+fn look_between(alloc: Global, rows: &[Row<'_>]) -> Result<(), Crossed>
+    ensures { Looks (faults_between (rows_view rows.now)) result }
+{
+    if !has_longer(rows) {
+        return Ok(());
+    }
+    let mut trail = Trail::new(alloc);
+    let mut first = 0;
+    while let Some(last) = last_key(rows, first) {
+        let start = rows[last].start;
+        trail = follow(alloc, trail, &rows[first..last + 1], start)?;
+        first = last + 1;
+    }
+    Ok(())
+}
+
+#[cycle(looking)]
+fn look_through(alloc: Global, rows: &[Row<'_>]) -> Result<(), Crossed>
+    ensures { Looks (dotted_faults (rows_view rows.now)) result }
+{
+    look_between(alloc, rows)?;
+    for row in rows {
+        look_into(alloc, &row.value)?;
+    }
+    Ok(())
+}
+
+#[cycle(looking)]
+fn look_into(alloc: Global, value: &Raw<'_>) -> Result<(), Crossed>
+    ensures { Looks (faults_in (raw_of value.now)) result }
+{
+    match value {
+        Raw::Array(elements) => look_among(alloc, elements.as_slice()),
+        Raw::Inline(rows) => look_through(alloc, rows.as_slice()),
+        _ => Ok(()),
+    }
+}
+
+#[cycle(looking)]
+fn look_among(alloc: Global, elements: &[Element<'_>]) -> Result<(), Crossed>
+    ensures { Looks (dotted_faults_among (elements_view elements.now)) result }
+{
+    for element in elements {
+        look_into(alloc, &element.value)?;
+    }
+    Ok(())
+}
+
+/// The byte offset where a value begins that a later row of its table goes on from, in any section, and none where
+/// no row does: after `a = 1` the row `a.b = 2` goes on from the value at `1` (TOML v0.5.0, "Table": dotted keys).
+///
+/// # Errors
+///
+/// `AllocError` where memory is refused.
+pub fn crossed_value(alloc: Global, sections: &[Section<'_>]) -> Result<Option<usize>, AllocError>
+    ensures none { IfOk result (λ found. IfNone found (NoneIsCrossed sections.now)) }
+    ensures some { IfOk result (λ found. IfSome found (λ at. IsCrossed sections.now at)) }
+{
+    for section in sections {
+        match look_through(alloc, section.rows.as_slice()) {
+            Ok(()) => {}
+            Err(Crossed::Memory) => return Err(AllocError),
+            Err(Crossed::At(at)) => return Ok(Some(at)),
+        }
+    }
+    Ok(None)
+}

@@ -1,0 +1,181 @@
+//! Keys with their values, in order, each key once: what a table grows in.
+
+ghost use Rattle.std.specs.Prelude.{◌≡◌, ◌<◌, OnOk, vec_capacity, vec_len};
+
+use basic_toml_value::{Found, Index, Pair};
+use std::alloc::{AllocError, Global};
+use std::marker::Model;
+use std::mem;
+
+// Makes room for one more pair. The first has room for itself alone, since many tables hold no other.
+fn make_room<V>(pairs: &mut Vec<Pair<V>>) -> Result<(), AllocError>
+    ensures items { pairs.new.items ≡ pairs.old.items }
+    ensures room { OnOk result (vec_len pairs.new < vec_capacity pairs.new) }
+{
+    if pairs.is_empty() {
+        return pairs.try_reserve_exact(1);
+    }
+    pairs.try_reserve(1)
+}
+
+/// Keys with their values, in order, each key once.
+#[derive(Drop)]
+pub struct Keyed<V> {
+    entries: Vec<Pair<V>>,
+    index: Index,
+}
+
+impl<V> Model for Keyed<V> {
+    ghost use Rattle.std.specs.Prelude.{List, ℕ};
+    ghost use Rattle.basic_toml_value.specs.Pairs.{pairs_code};
+    ghost use Rattle.basic_toml_value.specs.Index.{IsIndex};
+    ghost use Rattle.basic_toml_value.specs.Entries.{seen, texts_of};
+
+    ghost Value = { List (List ℕ × V) };
+
+    ghost coded = { pairs_code V.code };
+
+    ghost view = { λ p. seen p.entries.items };
+
+    ghost invariant = { λ p. IsIndex (texts_of p.entries.items) p.index };
+}
+
+impl<V: Drop> Keyed<V> {
+    ghost use Rattle.std.specs.Prelude.{◌≡◌, ◌<◌, [], ◌∷◌, ◌++◌, length, IfOk, IfErr, IfSome, IsTrue, MatchOption, None, slice_get, Some, string_bytes};
+    ghost use Rattle.basic_toml_value.specs.Keys.{are_distinct};
+    ghost use Rattle.basic_toml_value.specs.Pairs.{keys_of, value_at};
+    ghost use Rattle.basic_toml_value.specs.Entries.{seen, texts_of};
+    ghost use Rattle.basic_toml_value.specs.Index.{IsIndex};
+    ghost use Rattle.basic_toml_clash.specs.Keyed.{EntersKey, with_value, values_of};
+
+    /// No keys, which takes no memory yet.
+    pub fn new(alloc: Global) -> Keyed<V>
+        ensures { result ≡ [] }
+    {
+        Keyed {
+            entries: Vec::new(alloc),
+            index: Index::none(),
+        }
+    }
+
+    /// No keys, with room for some.
+    pub fn with_capacity(alloc: Global, capacity: usize) -> Result<Keyed<V>, AllocError>
+        ensures { IfOk result (λ keyed. keyed ≡ []) }
+    {
+        Ok(Keyed {
+            entries: Vec::with_capacity(alloc, capacity)?,
+            index: Index::none(),
+        })
+    }
+
+    /// How many keys there are.
+    pub fn len(&self) -> usize
+        ensures { result ≡ length self.now }
+    {
+        self.entries.len()
+    }
+
+    /// The pair of a key.
+    #[tactic(auto, using(crate::proofs::KeysSeen::keys_seen))]
+    pub fn get(&self, key: &str) -> Option<&Pair<V>>
+        ensures value { MatchOption result (value_at self.now key.now ≡ None)
+            (λ pair. value_at self.now key.now ≡ Some pair.now.value) }
+        ensures same { IfSome result (λ pair. string_bytes pair.now.key ≡ key.now) }
+    {
+        match self.index.search(&self.entries, key) {
+            Found::At(position) => Some(&self.entries[position]),
+            Found::Absent(_) => None,
+        }
+    }
+
+    /// The position of a key, which is put last with this value where it is not there. Where memory is refused, all
+    /// stays as it was.
+    pub fn enter(&mut self, key: &str, value: V) -> Result<usize, AllocError>
+        ensures entered { IfOk result (λ position. EntersKey key.now value self.old self.new position) }
+        ensures within { IfOk result (λ position. position < length self.new) }
+        ensures kept { IfErr result (λ _. self.new ≡ self.old) }
+    {
+        match self.index.search(&self.entries, key) {
+            Found::At(position) => Ok(position),
+            Found::Absent(gap) => {
+                let alloc = *self.entries.allocator();
+                let position = self.entries.len();
+                let key = String::from_str(alloc, key)?;
+                make_room(&mut self.entries)?;
+                self.index.insert(alloc, &self.entries, key.as_str(), gap)?;
+                match self.entries.push(Pair { key, value }) {
+                    Ok(()) => Ok(position),
+                    Err(_) => unreachable!(),
+                }
+            }
+        }
+    }
+
+    /// The key at a position.
+    #[tactic(auto, using(crate::proofs::KeysSeen::keys_seen))]
+    pub fn key(&self, position: usize) -> &str
+        requires { position < length self.now }
+        ensures { slice_get (keys_of self.now) position ≡ Some result.now }
+    {
+        self.entries[position].key.as_str()
+    }
+
+    /// The value at a position.
+    pub fn value(&self, position: usize) -> &V
+        requires { position < length self.now }
+        ensures { slice_get (values_of self.now) position ≡ Some result.now }
+    {
+        &self.entries[position].value
+    }
+
+    /// Puts a value in the place of the one at a position, and answers that one.
+    pub fn replace(&mut self, position: usize, value: V) -> V
+        requires { position < length self.old }
+        ensures changed { self.new ≡ with_value self.old position value }
+        ensures count { length self.new ≡ length self.old }
+        ensures value { slice_get (values_of self.old) position ≡ Some result }
+    {
+        mem::replace(&mut self.entries[position].value, value)
+    }
+
+    /// Puts a value in the place of the one at a position.
+    pub fn put(&mut self, position: usize, value: V)
+        requires { position < length self.old }
+        ensures changed { self.new ≡ with_value self.old position value }
+        ensures count { length self.new ≡ length self.old }
+    {
+        let _ = self.replace(position, value);
+    }
+
+    /// No key stands twice.
+    #[tactic(auto, using(crate::proofs::KeysSeen::keys_seen))]
+    pub fn keys_differ(&self)
+        ensures { IsTrue (are_distinct (keys_of self.now)) }
+    {
+        let _ = &self.index;
+    }
+
+    /// The pairs in order.
+    pub fn pairs(&self) -> &[Pair<V>]
+        ensures { seen result.now ≡ self.now }
+    {
+        self.entries.as_slice()
+    }
+
+    /// The index of the keys.
+    #[tactic(auto, using(crate::proofs::KeysSeen::keys_seen))]
+    pub fn index(&self) -> &Index
+        ensures { IsIndex (keys_of self.now) result.now }
+    {
+        &self.index
+    }
+
+    /// The pairs, and the index of their keys.
+    pub fn into_parts(self) -> (Vec<Pair<V>>, Index)
+        ensures pairs { seen result.0.items ≡ self }
+        ensures index { IsIndex (texts_of result.0.items) result.1 }
+    {
+        let Keyed { entries, index } = self;
+        (entries, index)
+    }
+}

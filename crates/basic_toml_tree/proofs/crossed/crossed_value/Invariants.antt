@@ -1,7 +1,0 @@
-use Rattle.std.proofs.Common.{◌≡◌, take, []}
-use Rattle.basic_toml_tree.specs.Crossed.{crossed_faults}
-use Rattle.basic_toml_tree.proofs.crossed.crossed_value.Given as goal
-
--- none is crossed in the sections passed
-abbrev pub invariant-loop-section : goal.invariant-loop-section
-invariant-loop-section l = crossed_faults (take l.section-index l.sections) ≡ []
