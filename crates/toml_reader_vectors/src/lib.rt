@@ -2,10 +2,14 @@
 #![tactic(auto)]
 
 #[cfg(test)]
+mod lists;
+#[cfg(test)]
 mod nodes;
 #[cfg(test)]
 mod scalars;
 #[cfg(test)]
 mod sections;
+#[cfg(test)]
+mod texts;
 #[cfg(test)]
 mod tree;

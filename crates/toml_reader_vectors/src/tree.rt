@@ -50,7 +50,7 @@ fn push_value(out: &mut String, value: &Value, levels: usize) -> Result<(), Allo
 }
 
 #[cycle(data)]
-fn push_table(
+pub(crate) fn push_table(
     out: &mut String,
     table: &basic_toml_value::Table,
     levels: usize,
@@ -87,7 +87,7 @@ fn push_kind(out: &mut String, kind: &ReadErrorKind) -> Result<(), AllocError> {
     }
 }
 
-fn push_error(out: &mut String, error: &ReadError) -> Result<(), AllocError> {
+pub(crate) fn push_error(out: &mut String, error: &ReadError) -> Result<(), AllocError> {
     push_kind(out, error.kind())?;
     push_offset(out, error.place())?;
     for key in error.key_path() {
@@ -195,6 +195,28 @@ fn names_clashes(rt: HostRuntime) -> Result<(), Fail> {
     for (text, wanted) in cases {
         assert_eq!(rt; value_of(alloc, text)?.as_str(), wanted, "{text}");
     }
+    Ok(())
+}
+
+#[test]
+fn finds_each_of_many_keys(rt: HostRuntime) -> Result<(), Fail> {
+    let alloc = rt.alloc();
+    let mut text = String::new(alloc);
+    for number in 0..40_i64 {
+        write!(text, "k{number} = {number}\n")?;
+    }
+    let Ok(list) = sections(alloc, text.as_str()) else {
+        panic!(rt; "no section list");
+    };
+    let Ok(tree) = resolve(alloc, list) else {
+        panic!(rt; "a clash");
+    };
+    for number in 0..40_i64 {
+        let key = format!(in alloc; "k{number}")?;
+        let found = tree.root().get(key.as_str());
+        assert_eq!(rt; found.and_then(|node| node.as_integer()), Some(number));
+    }
+    assert!(rt; tree.root().get("k40").is_none());
     Ok(())
 }
 

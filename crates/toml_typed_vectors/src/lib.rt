@@ -9,3 +9,5 @@ mod targets;
 pub mod types;
 #[cfg(test)]
 mod values;
+#[cfg(test)]
+mod worked;

@@ -6,7 +6,7 @@ use std::collections::BTreeMap;
 use std::test::Fail;
 
 // The text of the error of a type, or that it was read.
-fn told<'de, T: Deserialize<'de> + Drop>(
+pub(crate) fn told<'de, T: Deserialize<'de> + Drop>(
     alloc: Global,
     text: &'de str,
 ) -> Result<String, AllocError> {
