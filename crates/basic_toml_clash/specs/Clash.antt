@@ -7,7 +7,11 @@ use Rattle.basic_toml_explain.specs.Error.{want_of_memory}
 use Rattle.basic_toml_read.specs.SectionView.{section_of}
 use Rattle.basic_toml_read.specs.declared.section.Section.{Section}
 use Rattle.basic_toml_clash.specs.declared.clash.Clash.{Clash}
+use Rattle.basic_toml_clash.specs.declared.clash.Repeated.{Repeated}
 use Rattle.basic_toml_clash.specs.declared.clash.Clash.TheVariants.{Memory, Deep, Header, Named, Redefined, Row}
+
+abbrev pub row_stop : Repeated → Stop
+row_stop met = at_row (map string_bytes met.path.items) (record { offset = met.offset; text = string_bytes met.key })
 
 -- memory apart, the fault is that of the clash
 abbrev pub IsFaultOf : Section → Clash → Fault → Type 0
@@ -16,11 +20,7 @@ IsFaultOf s Deep fault = fault ≡ fault_at nested_too_deeply s.at
 IsFaultOf s (Header left) fault = fault ≡ stop_fault (section_of s) (at_header left)
 IsFaultOf s Named fault = fault ≡ stop_fault (section_of s) is_named
 IsFaultOf s Redefined fault = fault ≡ stop_fault (section_of s) is_passed
-IsFaultOf s (Row path key offset) fault =
-    fault ≡ stop_fault (section_of s) (at_row (map string_bytes path.items) (record {
-      offset = offset;
-      text = string_bytes key;
-    }))
+IsFaultOf s (Row met) fault = fault ≡ stop_fault (section_of s) (row_stop met.value)
 
 abbrev pub NamesClash : Section → Clash → Fault → Type 0
 NamesClash s clash fault = (fault ≡ want_of_memory) ⊎ IsFaultOf s clash fault
@@ -32,8 +32,7 @@ IsStop Deep stop = ⊥
 IsStop (Header left) stop = stop ≡ at_header left
 IsStop Named stop = stop ≡ is_named
 IsStop Redefined stop = stop ≡ is_passed
-IsStop (Row path key offset) stop =
-    stop ≡ at_row (map string_bytes path.items) (record { offset = offset; text = string_bytes key })
+IsStop (Row met) stop = stop ≡ row_stop met.value
 
 -- memory and depth apart, the clash is what stops
 abbrev pub NamesStop : {A : Type 0} → Outcome A → Clash → Type 0

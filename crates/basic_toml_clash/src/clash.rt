@@ -1,18 +1,16 @@
 //! Why a section is not entered, and the error that names it.
 
-ghost use Rattle.std.specs.Prelude.{◌≡◌, [], IfOk, map, string_bytes, take, slice_index_or};
-ghost use Rattle.std.specs.Cow.{cow_str_bytes};
+ghost use Rattle.std.specs.Prelude.{◌≡◌, IfOk, map, string_bytes, take};
 ghost use Rattle.std.specs.List.{join_with_byte};
 ghost use Rattle.basic_toml_tokens.specs.Ascii.{period};
 ghost use Rattle.basic_toml_grammar.specs.NamedClash.{nth_key};
-ghost use Rattle.basic_toml_grammar.specs.Stops.{at_header, stop_fault};
-ghost use Rattle.basic_toml_read.specs.SectionView.{section_of};
+ghost use Rattle.basic_toml_grammar.specs.Stops.{at_header, at_row, stop_fault};
+ghost use Rattle.basic_toml_read.specs.SectionView.{section_of, key_of, header_texts};
 ghost use Rattle.basic_toml_clash.specs.Trail.{path_of};
-ghost use Rattle.basic_toml_clash.specs.Clash.{IsFaultOf, NamesClash};
+ghost use Rattle.basic_toml_clash.specs.Clash.{IsFaultOf, IsStop, NamesClash};
 
-use basic_toml_read::{ReadError, ReadErrorKind, Row, Section};
+use basic_toml_read::{Key, ReadError, ReadErrorKind, Row, Section};
 use std::alloc::{AllocError, AllocFailed, Global};
-use std::borrow::CowStr;
 
 /// Why a section is not entered.
 #[derive(Drop)]
@@ -27,12 +25,34 @@ pub enum Clash {
     Named,
     /// The header is that of an array of tables, where a header passes through a table.
     Redefined,
-    /// A key of a row, which stands before it, with its offset, and the keys of the section that lead to it.
-    Row {
+    /// A key of a row, which stands before it.
+    Row(Box<Repeated>),
+}
+
+/// A key that stands before it, with its offset, and the keys of its section that lead to it.
+#[derive(Drop)]
+pub struct Repeated {
+    pub path: Vec<String>,
+    pub key: String,
+    pub offset: usize,
+}
+
+impl Clash {
+    /// The clash of a key of a row, with these keys of its section before it.
+    pub fn row(
+        alloc: Global,
         path: Vec<String>,
-        key: String,
+        key: &str,
         offset: usize,
-    },
+    ) -> Result<Clash, AllocError>
+        ensures { IfOk result (λ clash. IsStop clash (at_row (map string_bytes path.items) (record {
+          offset = offset;
+          text = key.now;
+        }))) }
+    {
+        let key = String::from_str(alloc, key)?;
+        Ok(Clash::Row(Box::new(alloc, Repeated { path, key, offset })?))
+    }
 }
 
 impl From<AllocError> for Clash {
@@ -76,59 +96,38 @@ fn all_texts(alloc: Global, keys: &[Row<'_>]) -> Result<Vec<String>, AllocError>
 }
 
 /// Copies of the texts of keys.
-pub fn key_texts(alloc: Global, keys: &[CowStr<'_>]) -> Result<Vec<String>, AllocError>
-    ensures { IfOk result (λ texts. map string_bytes texts.items ≡ map cow_str_bytes keys.now) }
+pub fn key_texts(alloc: Global, keys: &[Key<'_>]) -> Result<Vec<String>, AllocError>
+    ensures { IfOk result (λ texts. map string_bytes texts.items ≡ header_texts keys.now) }
 {
     let mut texts = Vec::new(alloc);
     for key in keys {
-        texts.push(String::from_str(alloc, key.as_str())?)?;
+        texts.push(String::from_str(alloc, key.text.as_str())?)?;
     }
     Ok(texts)
 }
 
 // Keys, joined by periods.
-fn joined(alloc: Global, keys: &[CowStr<'_>]) -> Result<String, AllocError>
-    ensures { IfOk result (λ name. string_bytes name ≡ join_with_byte period (map cow_str_bytes keys.now)) }
+fn joined(alloc: Global, keys: &[Key<'_>]) -> Result<String, AllocError>
+    ensures { IfOk result (λ name. string_bytes name ≡ join_with_byte period (header_texts keys.now)) }
 {
     let mut name = String::new(alloc);
     for at in 0..keys.len() {
         if at > 0 {
             name.push('.')?;
         }
-        name.push_str(keys[at].as_str())?;
+        name.push_str(keys[at].text.as_str())?;
     }
     Ok(name)
 }
 
-// A copy of the text of the key at a number, and of none past the end.
-#[tactic(auto, using(crate::proofs::HeadersNamed::headers_named))]
-fn key_text(alloc: Global, keys: &[CowStr<'_>], number: usize) -> Result<String, AllocError>
-    ensures { IfOk result (λ text. string_bytes text ≡ slice_index_or (map cow_str_bytes keys.now) number []) }
+// The key at a number, its text copied. Past the end it is empty, at 0.
+fn key_copy(alloc: Global, keys: &[Key<'_>], number: usize) -> Result<(String, usize), AllocError>
+    ensures { IfOk result (λ copy. nth_key number (map key_of keys.now)
+        ≡ record { offset = copy.1; text = string_bytes copy.0 }) }
 {
     match keys.get(number) {
-        Some(key) => String::from_str(alloc, key.as_str()),
-        None => Ok(String::new(alloc)),
-    }
-}
-
-// The offset at a number, or else another one.
-fn offset_or(offsets: &[usize], number: usize, other: usize) -> usize
-    ensures { result ≡ slice_index_or offsets.now number other }
-{
-    match offsets.get(number) {
-        Some(offset) => *offset,
-        None => other,
-    }
-}
-
-// The offset of the key of a header at a number, and 0 past the end.
-fn key_offset(section: &Section<'_>, number: usize) -> usize
-    ensures { result ≡ (nth_key number (section_of section.now).header).offset }
-{
-    if number < section.header.len() {
-        offset_or(section.offsets.as_slice(), number, 0)
-    } else {
-        0
+        Some(key) => Ok((String::from_str(alloc, key.text.as_str())?, key.offset)),
+        None => Ok((String::new(alloc), 0)),
     }
 }
 
@@ -138,8 +137,7 @@ fn header_key(alloc: Global, section: &Section<'_>, left: usize) -> Result<ReadE
 {
     let keys = section.header.as_slice();
     let number = keys.len().saturating_sub(left);
-    let key = key_text(alloc, keys, number)?;
-    let offset = key_offset(section, number);
+    let (key, offset) = key_copy(alloc, keys, number)?;
     let path = key_texts(alloc, &keys[..number])?;
     Ok(ReadError::within(offset, ReadErrorKind::DuplicateKey(key), path))
 }
@@ -163,7 +161,8 @@ impl Clash {
                 let path = key_texts(alloc, keys)?;
                 Ok(ReadError::within(at, ReadErrorKind::RedefineAsArray, path))
             }
-            Clash::Row { path, key, offset } => {
+            Clash::Row(repeated) => {
+                let Repeated { path, key, offset } = Box::into_inner(repeated);
                 let mut path = path;
                 let mut keys = key_texts(alloc, keys)?;
                 keys.append(&mut path)?;

@@ -17,6 +17,6 @@ mod clash;
 mod crossed;
 mod keyed;
 
-pub use clash::{Clash, key_texts, texts_of};
+pub use clash::{Clash, Repeated, key_texts, texts_of};
 pub use crossed::crossed_value;
 pub use keyed::Keyed;

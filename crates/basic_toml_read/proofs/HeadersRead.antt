@@ -2,9 +2,7 @@
 use Rattle.std.proofs.Common.{◌≡◌, ℕ, ◌+◌, ◌-◌, ◌<◌, ◌≤◌, Bool, true, false, List, [], ◌∷◌, ◌++◌, length, map, refl}
 use Rattle.std.proofs.Common.{ap, sym, ◌∙◌, subst, arith, length-append, Option, Some, None, Ok, Err, Vec, Global}
 use Rattle.std.proofs.lemmas.List.{map-append}
-use Rattle.std.specs.Str.{IsCharBoundary}
 use Rattle.std.specs.Cow.{cow_str_bytes}
-use Rattle.std.specs.declared.borrow.CowStr.{CowStr}
 use Rattle.basic_toml_tokens.specs.Text.{Text, text_at, after_blanks}
 use Rattle.basic_toml_tokens.specs.Punctuation.{IsPunctuationEnd}
 use Rattle.basic_toml_explain.specs.declared.stop.Stop.{Stop}
@@ -12,70 +10,25 @@ use Rattle.basic_toml_explain.specs.declared.stop.Why.{Why}
 use Rattle.basic_toml_explain.specs.declared.stop.Why.TheVariants as why
 use Rattle.basic_toml_read.specs.declared.scalar.Keyed.{Keyed}
 use Rattle.basic_toml_read.specs.declared.header.HeaderKeys.{HeaderKeys}
+use Rattle.basic_toml_read.specs.declared.section.Key as keys
 use Rattle.basic_toml_grammar.specs.Sections.{Key}
 use Rattle.basic_toml_grammar.specs.Entering.{and_then}
 use Rattle.basic_toml_grammar.specs.Reader as reader
 use Rattle.basic_toml_grammar.specs.Reader.{char_at, if_found}
 use Rattle.basic_toml_read.specs.FrontOf.{keys_of, header_of}
 use Rattle.basic_toml_read.specs.AtPlace.{Leaves}
-use Rattle.basic_toml_read.specs.SectionView.{keys_with}
+use Rattle.basic_toml_read.specs.SectionView.{key_of}
 use Rattle.basic_toml_read.specs.StopsAt.{Misses, MissesKey, ReadsKeyAt}
 use Rattle.basic_toml_read.specs.Gathers.{ClosesAt}
 use Rattle.basic_toml_read.specs.Lists.{AreHeaderKeys, IsHeaderRead, ReadsHeader}
 use Rattle.basic_toml_grammar.proofs.Grammar.StringsAreRead.{then_some}
 use Rattle.basic_toml_read.proofs.EnoughSteps.{header_is}
 use Rattle.basic_toml_read.proofs.LeftAfter.{sign_there, sign_missing}
-use Rattle.basic_toml_read.proofs.KeysTold.{KeysTold, misses_then, keys_missing, keys_deep, told_start, told_more}
-use Rattle.basic_toml_read.proofs.KeysTold.{told_last}
+use Rattle.basic_toml_read.proofs.KeysTold.{KeysTold, misses_then, keys_missing, keys_deep, told_more, told_last}
 
-keys_with_more : (offsets : List ℕ) (ts : List (List ℕ)) (p : ℕ) (t : List ℕ) → length offsets ≡ length ts
-    → keys_with (offsets ++ p ∷ []) (ts ++ t ∷ []) ≡ keys_with offsets ts ++ record { offset = p; text = t } ∷ []
-keys_with_more [] [] p t e = refl
-keys_with_more [] (u ∷ ts) p t e = absurd (omega arith)
-keys_with_more (q ∷ offsets) [] p t e = absurd (omega arith)
-keys_with_more (q ∷ offsets) (u ∷ ts) p t e =
-    ap (λ (l : List Key). record { offset = q; text = u } ∷ l) (keys_with_more offsets ts p t (omega arith))
-
-pub keys_with_length : (offsets : List ℕ) (ts : List (List ℕ)) → length offsets ≡ length ts
-    → length (keys_with offsets ts) ≡ length ts
-keys_with_length [] [] e = refl
-keys_with_length [] (u ∷ ts) e = absurd (omega arith)
-keys_with_length (q ∷ offsets) [] e = absurd (omega arith)
-keys_with_length (q ∷ offsets) (u ∷ ts) e = omega (arith, keys_with_length offsets ts (omega arith))
-
-map_length : (keys : List (CowStr Global)) → length (map cow_str_bytes keys) ≡ length keys
-map_length [] = refl
-map_length (x ∷ keys) = omega (arith, map_length keys)
-
-pub header_length : (offsets : List ℕ) (keys : List (CowStr Global)) → length offsets ≡ length keys
-    → length (keys_with offsets (map cow_str_bytes keys)) ≡ length keys
-header_length offsets keys e =
-    omega (arith, keys_with_length offsets (map cow_str_bytes keys) (omega (arith, map_length keys)), map_length keys)
-
-header_more : (offsets : List ℕ) (keys : List (CowStr Global)) (p : ℕ) (k : CowStr Global)
-    → length offsets ≡ length keys
-    → keys_with (offsets ++ p ∷ []) (map cow_str_bytes (keys ++ k ∷ [])) ≡ keys_with offsets (map cow_str_bytes keys)
-    ++ record { offset = p; text = cow_str_bytes k } ∷ []
-header_more offsets keys p k e = ap (keys_with (offsets ++ p ∷ [])) (map-append cow_str_bytes keys (k ∷ [])) ∙
-    keys_with_more offsets (map cow_str_bytes keys) p (cow_str_bytes k) (omega (arith, map_length keys))
-
--- the keys of a header up to an offset
-pub record HeaderSoFar (bytes : List ℕ) (at offset level : ℕ) (keys : List (CowStr Global)) (offsets : List ℕ) : Type
-    0 where
-  pub told : KeysTold bytes at 2 offset level (keys_with offsets (map cow_str_bytes keys))
-  pub same : length offsets ≡ length keys
-
-pub header_start : (bytes : List ℕ) (at : ℕ) (keys : List (CowStr Global)) (offsets : List ℕ) → keys ≡ []
-    → offsets ≡ [] → IsCharBoundary bytes at → HeaderSoFar bytes at at 2 keys offsets
-header_start bytes at keys offsets k p b = record {
-  told = subst (λ (front : List Key). KeysTold bytes at 2 at 2 front) (sym none)
-      (told_start bytes at 2 (omega arith) b);
-  same = omega (arith, ap length k, ap length p);
-}
-  where
-    none : keys_with offsets (map cow_str_bytes keys) ≡ []
-    none = ap (λ (l : List ℕ). keys_with l (map cow_str_bytes keys)) p ∙
-        ap (λ (l : List (CowStr Global)). keys_with [] (map cow_str_bytes l)) k
+pub header_length : (ks : List keys.Key) → length (map key_of ks) ≡ length ks
+header_length [] = refl
+header_length (k ∷ ks) = omega (arith, header_length ks)
 
 -- the level of the last key
 level_of : (n : ℕ) → 2 + n - 1 ≡ n + 1
@@ -87,79 +40,52 @@ misses_level w text m =
     misses_then w (keys_of text) (keys_of text) (λ keys. 128 < 2 + length keys.0 - 1)
     (λ keys. 128 < length keys.0 + 1) (λ e. e) (λ y e. (y, e, λ h. omega (arith, level_of (length y.0)))) m
 
-pub header_missing : (bytes : List ℕ) (at offset level : ℕ) (keys : List (CowStr Global)) (offsets : List ℕ)
-    → HeaderSoFar bytes at offset level keys offsets → (w : Why) → MissesKey w (text_at bytes offset)
+pub header_missing : (bytes : List ℕ) (at offset level : ℕ) (front : List Key)
+    → KeysTold bytes at 2 offset level front → (w : Why) → MissesKey w (text_at bytes offset)
     → Misses w (keys_of (text_at bytes at)) (λ keys. 128 < length keys.0 + 1)
-header_missing bytes at offset level keys offsets s w m =
-    misses_level w (text_at bytes at)
-    (keys_missing bytes at 2 offset level (keys_with offsets (map cow_str_bytes keys)) s.told w m)
+header_missing bytes at offset level front s w m =
+    misses_level w (text_at bytes at) (keys_missing bytes at 2 offset level front s w m)
 
-pub header_deep : (bytes : List ℕ) (at offset level : ℕ) (keys : List (CowStr Global)) (offsets : List ℕ)
-    → HeaderSoFar bytes at offset level keys offsets → 128 < level
+pub header_deep : (bytes : List ℕ) (at offset level : ℕ) (front : List Key)
+    → KeysTold bytes at 2 offset level front → 128 < level
     → Misses why.Deep (keys_of (text_at bytes at)) (λ keys. 128 < length keys.0 + 1)
-header_deep bytes at offset level keys offsets s h =
-    misses_level why.Deep (text_at bytes at)
-    (keys_deep bytes at 2 offset level (keys_with offsets (map cow_str_bytes keys)) s.told h)
+header_deep bytes at offset level front s h =
+    misses_level why.Deep (text_at bytes at) (keys_deep bytes at 2 offset level front s h)
 
-module _ (bytes : List ℕ) (at offset level : ℕ) (keys : List (CowStr Global)) (offsets : List ℕ)
-    (s : HeaderSoFar bytes at offset level keys offsets)
+module _ (bytes : List ℕ) (at offset level : ℕ) (front : List keys.Key)
+    (s : KeysTold bytes at 2 offset level (map key_of front))
     (k : Keyed) (key : ReadsKeyAt bytes offset (Ok k)) (end : ℕ)
     (blanks : Leaves bytes k.end end (after_blanks (text_at bytes k.end))) (high : level ≤ 128)
-    (keys' : List (CowStr Global)) (offsets' : List ℕ) (pushed : keys' ≡ keys ++ (k.key ∷ []))
-    (placed : offsets' ≡ offsets ++ (offset ∷ [])) where
-  more' : keys_with offsets' (map cow_str_bytes keys') ≡ keys_with offsets (map cow_str_bytes keys)
-      ++ record { offset = offset; text = cow_str_bytes k.key } ∷ []
-  more' = ap (λ (l : List ℕ). keys_with l (map cow_str_bytes keys')) placed ∙
-      ap (λ (l : List (CowStr Global)). keys_with (offsets ++ offset ∷ []) (map cow_str_bytes l)) pushed
-      ∙ header_more offsets keys offset k.key s.same
-
-  same' : length offsets' ≡ length keys'
-  same' = omega (
-    arith,
-    ap length placed,
-    ap length pushed,
-    s.same,
-    length-append offsets (offset ∷ []),
-    length-append keys (k.key ∷ []),
-  )
+    (all : List keys.Key) (pushed : all ≡ front ++ (record { text = k.key; offset = offset } ∷ [])) where
+  seen : map key_of all ≡ map key_of front ++ record { offset = offset; text = cow_str_bytes k.key } ∷ []
+  seen = ap (map key_of) pushed ∙ map-append key_of front (record { text = k.key; offset = offset } ∷ [])
 
   pub header_next : (next offset' : ℕ) → IsPunctuationEnd 46 bytes end (Some next)
       → Leaves bytes next offset' (after_blanks (text_at bytes next))
-      → HeaderSoFar bytes at offset' (level + 1) keys' offsets'
-  header_next next offset' sign after = record {
-    told = subst (λ (front : List Key). KeysTold bytes at 2 offset' (level + 1) front) (sym more')
-        (told_more bytes at 2 offset level (keys_with offsets (map cow_str_bytes keys)) s.told k key end blanks high
-        next offset' sign after);
-    same = same';
-  }
+      → KeysTold bytes at 2 offset' (level + 1) (map key_of all)
+  header_next next offset' sign after =
+      subst (λ (l : List Key). KeysTold bytes at 2 offset' (level + 1) l) (sym seen)
+      (told_more bytes at 2 offset level (map key_of front) s k key end blanks high next offset' sign after)
 
-  pub header_last : (ks : Vec (CowStr Global) Global) (ps : Vec ℕ Global) → ks.items ≡ keys' → ps.items ≡ offsets'
-      → IsPunctuationEnd 46 bytes end None
-      → AreHeaderKeys bytes at (record { keys = ks; offsets = ps; end = end })
-  header_last ks ps keys_are offsets_are sign =
-      let there : keys_with ps.items (map cow_str_bytes ks.items) ≡ keys_with offsets (map cow_str_bytes keys)
-      ++ record { offset = offset; text = cow_str_bytes k.key } ∷ [] =
-      ap (λ (l : List ℕ). keys_with l (map cow_str_bytes ks.items)) offsets_are ∙
-      ap (λ (l : List (CowStr Global)). keys_with offsets' (map cow_str_bytes l)) keys_are ∙ more' in
-      record {
-        mid = text_at bytes k.end;
-        is = told_last bytes at 2 offset level (keys_with offsets (map cow_str_bytes keys)) s.told k key end blanks
-            high sign
-            ∙ ap (λ (l : List Key). Some (l, text_at bytes k.end)) (sym there);
-        after = blanks.left;
-        same = omega (arith, ap length keys_are, ap length offsets_are, same');
-        limit = omega (
-          arith,
-          ap length keys_are,
-          ap length pushed,
-          length-append keys (k.key ∷ []),
-          s.told.level_is,
-          header_length offsets keys s.same,
-          high,
-        );
-        boundary = blanks.boundary;
-        later = omega (arith, s.told.forward, key.2, blanks.forward);
-      }
+  pub header_last : (read : Vec keys.Key Global) → read.items ≡ all → IsPunctuationEnd 46 bytes end None
+      → AreHeaderKeys bytes at (record { keys = read; end = end })
+  header_last read is sign = record {
+    mid = text_at bytes k.end;
+    is = told_last bytes at 2 offset level (map key_of front) s k key end blanks high sign
+        ∙ ap (λ (l : List Key). Some (l, text_at bytes k.end)) (sym (ap (map key_of) is ∙ seen));
+    after = blanks.left;
+    limit = omega (
+      arith,
+      ap length is,
+      ap length pushed,
+      length-append front (record { text = k.key; offset = offset } ∷ []),
+      s.level_is,
+      header_length front,
+      high,
+    );
+    boundary = blanks.boundary;
+    later = omega (arith, s.forward, key.2, blanks.forward);
+  }
 
 -- a header, by its brackets
 headed : ℕ → List Key → Bool → Text → reader.Headed
@@ -219,29 +145,25 @@ module _ (bytes : List ℕ) (at inner : ℕ) (sign : char_at 91 (text_at bytes a
     module _ (found : HeaderKeys) (k : AreHeaderKeys bytes start found) where
       by_keys : header_of (text_at bytes at)
           ≡ and_then (char_at 93 (text_at bytes found.end))
-          (λ close. Some (headed at (keys_with found.offsets.items (map cow_str_bytes found.keys.items)) false close.1))
+          (λ close. Some (headed at (map key_of found.keys.items) false close.1))
       by_keys =
           by_one ∙ ap (λ o. and_then o
           (λ keys. and_then (char_at 93 (after_blanks keys.1)) (λ close. Some (headed at keys.0 false close.1))))
           k.is
           ∙ ap (λ t. and_then (char_at 93 t)
-          (λ close. Some (headed at (keys_with found.offsets.items (map cow_str_bytes found.keys.items)) false
-          close.1))) (sym k.after)
+          (λ close. Some (headed at (map key_of found.keys.items) false close.1))) (sym k.after)
 
       pub one_closed : (end : ℕ) → ClosesAt 93 why.Bracket bytes found.end (Ok end)
           → IsHeaderRead bytes at (record {
             at = at;
             is_array = false;
             keys = found.keys;
-            offsets = found.offsets;
             end = end;
           })
       unfolding headed
       one_closed end c = record {
         is = by_keys ∙ ap (λ o. and_then o
-            (λ close. Some (headed at (keys_with found.offsets.items (map cow_str_bytes found.keys.items)) false
-            close.1))) c.0;
-        same = k.same;
+            (λ close. Some (headed at (map key_of found.keys.items) false close.1))) c.0;
         limit = k.limit;
         boundary = c.1;
         later = omega (arith, after, left.forward, k.later, c.2);
@@ -252,8 +174,7 @@ module _ (bytes : List ℕ) (at inner : ℕ) (sign : char_at 91 (text_at bytes a
       one_unclosed stop c =
           subst (λ stop. ReadsHeader bytes at (Err stop)) (sym c.1)
           (by_keys ∙ ap (λ o. and_then o
-          (λ close. Some (headed at (keys_with found.offsets.items (map cow_str_bytes found.keys.items)) false
-          close.1))) c.0)
+          (λ close. Some (headed at (map key_of found.keys.items) false close.1))) c.0)
 
   -- two brackets
   module _ (first : ℕ) (two : IsPunctuationEnd 91 bytes inner (Some first)) (start : ℕ)
@@ -293,16 +214,14 @@ module _ (bytes : List ℕ) (at inner : ℕ) (sign : char_at 91 (text_at bytes a
       by_both : header_of (text_at bytes at)
           ≡ and_then (char_at 93 (text_at bytes found.end))
           (λ close. and_then (char_at 93 close.1)
-          (λ last. Some (headed at (keys_with found.offsets.items (map cow_str_bytes found.keys.items)) true
-          last.1)))
+          (λ last. Some (headed at (map key_of found.keys.items) true last.1)))
       by_both =
           by_two ∙ ap (λ o. and_then o
           (λ keys. and_then (char_at 93 (after_blanks keys.1))
           (λ close. and_then (char_at 93 close.1) (λ last. Some (headed at keys.0 true last.1))))) k.is
           ∙ ap (λ t. and_then (char_at 93 t)
           (λ close. and_then (char_at 93 close.1)
-          (λ last. Some (headed at (keys_with found.offsets.items (map cow_str_bytes found.keys.items)) true
-          last.1)))) (sym k.after)
+          (λ last. Some (headed at (map key_of found.keys.items) true last.1)))) (sym k.after)
 
       pub two_unclosed : (stop : Stop) → ClosesAt 93 why.Bracket bytes found.end (Err stop)
           → ReadsHeader bytes at (Err stop)
@@ -310,40 +229,34 @@ module _ (bytes : List ℕ) (at inner : ℕ) (sign : char_at 91 (text_at bytes a
           subst (λ stop. ReadsHeader bytes at (Err stop)) (sym c.1)
           (by_both ∙ ap (λ o. and_then o
           (λ close. and_then (char_at 93 close.1)
-          (λ last. Some (headed at (keys_with found.offsets.items (map cow_str_bytes found.keys.items)) true
-          last.1)))) c.0)
+          (λ last. Some (headed at (map key_of found.keys.items) true last.1)))) c.0)
 
       module _ (last : ℕ) (closes : ClosesAt 93 why.Bracket bytes found.end (Ok last)) where
         by_last : header_of (text_at bytes at)
             ≡ and_then (char_at 93 (text_at bytes last))
-            (λ last. Some (headed at (keys_with found.offsets.items (map cow_str_bytes found.keys.items)) true last.1))
+            (λ last. Some (headed at (map key_of found.keys.items) true last.1))
         by_last = by_both ∙ ap (λ o. and_then o
             (λ close. and_then (char_at 93 close.1)
-            (λ last. Some (headed at (keys_with found.offsets.items (map cow_str_bytes found.keys.items)) true
-            last.1)))) closes.0
+            (λ last. Some (headed at (map key_of found.keys.items) true last.1)))) closes.0
 
         pub two_half_closed : (stop : Stop) → ClosesAt 93 why.Bracket bytes last (Err stop)
             → ReadsHeader bytes at (Err stop)
         two_half_closed stop c =
             subst (λ stop. ReadsHeader bytes at (Err stop)) (sym c.1)
             (by_last ∙ ap (λ o. and_then o
-            (λ last. Some (headed at (keys_with found.offsets.items (map cow_str_bytes found.keys.items)) true
-            last.1))) c.0)
+            (λ last. Some (headed at (map key_of found.keys.items) true last.1))) c.0)
 
         pub two_closed : (end : ℕ) → ClosesAt 93 why.Bracket bytes last (Ok end)
             → IsHeaderRead bytes at (record {
               at = at;
               is_array = true;
               keys = found.keys;
-              offsets = found.offsets;
               end = end;
             })
         unfolding headed
         two_closed end c = record {
           is = by_last ∙ ap (λ o. and_then o
-              (λ last. Some (headed at (keys_with found.offsets.items (map cow_str_bytes found.keys.items)) true
-              last.1))) c.0;
-          same = k.same;
+              (λ last. Some (headed at (map key_of found.keys.items) true last.1))) c.0;
           limit = k.limit;
           boundary = c.1;
           later = omega (arith, after, two.2, left.forward, k.later, closes.2, c.2);

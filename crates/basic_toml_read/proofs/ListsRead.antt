@@ -3,7 +3,6 @@ use Rattle.std.proofs.Common.{◌≡◌, ℕ, ◌+◌, ◌-◌, ◌<◌, ◌≤�
 use Rattle.std.proofs.Common.{sym, ◌∙◌, arith, append_assoc, append-nil, Option, Some, None, Ok, Err, Vec, Global}
 use Rattle.std.proofs.Common.{drop, take, inl, subst, suc, ◌*◌, Result, IfErr}
 use Rattle.std.proofs.lemmas.List.{map-append}
-use Rattle.std.specs.Cow.{cow_str_bytes}
 use Rattle.basic_toml_tokens.specs.Text.{Text, text_at, folded, start_of, after_blanks}
 use Rattle.basic_toml_read.specs.declared.header.Header.{Header}
 use Rattle.basic_toml_read.specs.declared.section.Row as code_rows
@@ -18,7 +17,7 @@ use Rattle.basic_toml_grammar.specs.Levels.{rows_level, section_level, highest_l
 use Rattle.basic_toml_grammar.specs.Reader as reader
 use Rattle.basic_toml_grammar.specs.Reader.{line_end_at, section_list_of}
 use Rattle.basic_toml_read.specs.FrontOf.{rows_of, header_of, sections_of}
-use Rattle.basic_toml_read.specs.SectionView.{rows_view, keys_with, section_of}
+use Rattle.basic_toml_read.specs.SectionView.{rows_view, key_of, section_of}
 use Rattle.basic_toml_read.specs.StopsAt.{Misses}
 use Rattle.basic_toml_read.specs.Lists.{IsHeaderRead, EndsLineAt, AreRowsRead, NextAt, IsFrom, root_view, TakesRoot}
 use Rattle.basic_toml_read.specs.Lists.{sections_from, IsSectionRead, ReadsList, IsGap, PassesGaps}
@@ -232,7 +231,7 @@ module _ (bytes : List ℕ) (at : ℕ) where
 
   module _ (h : Header) (read : IsHeaderRead bytes at h) where
     keys_here : List Key
-    keys_here = keys_with h.offsets.items (map cow_str_bytes h.keys.items)
+    keys_here = map key_of h.keys.items
 
     made : Rows → Section
     made rs = record { at = h.at; header = keys_here; is_array = h.is_array; rows = rs }
@@ -275,7 +274,7 @@ module _ (bytes : List ℕ) (at : ℕ) where
 
       level_here : length keys_here ≡ length h.keys.items
       unfolding keys_here
-      level_here = header_length h.offsets.items h.keys.items read.same
+      level_here = header_length h.keys.items
 
       -- rows that are too deep
       pub rows_are_deep : (p : ℕ) → DeepRows 128 (length h.keys.items + 1) (text_at bytes line) p
@@ -312,7 +311,7 @@ module _ (bytes : List ℕ) (at : ℕ) where
           → AreRowsRead bytes line (length h.keys.items + 1) old mid next → kept.items ≡ drop 0 mid.rows.items
           → new.rows.items ≡ take 0 mid.rows.items
           → after.items ≡ before.items
-          ++ (record { at = h.at; is_array = h.is_array; header = h.keys; offsets = h.offsets; rows = kept } ∷ [])
+          ++ (record { at = h.at; is_array = h.is_array; header = h.keys; rows = kept } ∷ [])
           → IsSectionRead bytes at new before after next
       unfolding made keys_here
       section_there old mid new next before after kept empty r kept_is rest_is pushed =
@@ -321,7 +320,7 @@ module _ (bytes : List ℕ) (at : ℕ) where
           let view : made (rows_view r.added) ≡ made (rows_view kept.items) =
           ap (λ (l : List code_rows.Row). made (rows_view l)) items in
           record {
-            made = record { at = h.at; is_array = h.is_array; header = h.keys; offsets = h.offsets; rows = kept };
+            made = record { at = h.at; is_array = h.is_array; header = h.keys; rows = kept };
             pushed = pushed;
             rest = r.rest;
             is = by_rows ∙ ap (λ o. and_then o

@@ -2,7 +2,6 @@
 use Rattle.std.specs.Prelude.{false, ◌≡◌, ◌≤◌, ◌<◌, ◌+◌, ℕ, List, [], ◌∷◌, ◌++◌, length, map, Option, Some, None}
 use Rattle.std.specs.Prelude.{Result, Ok, Err, Vec}
 use Rattle.std.specs.Str.{IsCharBoundary}
-use Rattle.std.specs.Cow.{cow_str_bytes}
 use Rattle.std.specs.declared.alloc.Global.{Global}
 use Rattle.basic_toml_tokens.specs.Text.{Text, text_at, folded, is_comment, after_blanks}
 use Rattle.basic_toml_read.specs.declared.header.Header.{Header}
@@ -20,16 +19,15 @@ use Rattle.basic_toml_grammar.specs.Reader.{line_end_at, section_list_of}
 use Rattle.basic_toml_read.specs.FrontOf.{keys_of, header_of, rows_of, sections_of}
 use Rattle.basic_toml_grammar.specs.Entering.{and_then}
 use Rattle.basic_toml_grammar.specs.DeepStops.{DeepSections}
-use Rattle.basic_toml_read.specs.SectionView.{rows_view, keys_with, section_of}
+use Rattle.basic_toml_read.specs.SectionView.{rows_view, key_of, section_of}
 use Rattle.basic_toml_read.specs.StopsAt.{Misses}
 use Rattle.basic_toml_explain.specs.StopPlaces.{anywhere, IsAt}
 use Rattle.basic_toml_read.specs.StopsReached.{LineAt, NextStands}
 
 pub record AreHeaderKeys (bytes : List ℕ) (at : ℕ) (found : HeaderKeys) : Type 0 where
   pub mid : Text
-  pub is : keys_of (text_at bytes at) ≡ Some (keys_with found.offsets.items (map cow_str_bytes found.keys.items), mid)
+  pub is : keys_of (text_at bytes at) ≡ Some (map key_of found.keys.items, mid)
   pub after : text_at bytes found.end ≡ after_blanks mid
-  pub same : length found.offsets.items ≡ length found.keys.items
   pub limit : length found.keys.items + 1 ≤ 128
   pub boundary : IsCharBoundary bytes found.end
   pub later : at < found.end
@@ -42,12 +40,10 @@ pub record IsHeaderRead (bytes : List ℕ) (at : ℕ) (h : Header) : Type 0 wher
   pub is : header_of (text_at bytes at)
       ≡ Some (record {
         offset = h.at;
-        keys = keys_with h.offsets.items (map cow_str_bytes h.keys.items);
-        is_array =
-            h.is_array;
+        keys = map key_of h.keys.items;
+        is_array = h.is_array;
         rest = text_at bytes h.end;
       })
-  pub same : length h.offsets.items ≡ length h.keys.items
   pub limit : length h.keys.items + 1 ≤ 128
   pub boundary : IsCharBoundary bytes h.end
   pub later : at < h.end

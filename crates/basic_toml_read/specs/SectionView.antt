@@ -9,8 +9,10 @@ use Rattle.basic_toml_read.specs.declared.section.Element as elements
 use Rattle.basic_toml_read.specs.declared.section.Element.{fold-Element}
 use Rattle.basic_toml_read.specs.declared.section.Row as rows
 use Rattle.basic_toml_read.specs.declared.section.Row.{fold-Row}
+use Rattle.basic_toml_read.specs.declared.section.Key as keys
 use Rattle.basic_toml_read.specs.declared.section.Section as code
-use Rattle.basic_toml_grammar.specs.Sections.{Key, Raw, Elements, no_elements, element, Rows, no_rows, row, Section}
+use Rattle.basic_toml_grammar.specs.Sections.{Key, KeyTexts, texts, Raw, Elements, no_elements, element, Rows, no_rows}
+use Rattle.basic_toml_grammar.specs.Sections.{row, Section}
 
 -- an element, and a row, with what its value stands for
 pub record Placed : Type 0 where
@@ -74,16 +76,17 @@ elements_view es = elements_from (map placed_of es)
 abbrev pub rows_view : List rows.Row → Rows
 rows_view rs = rows_from (map lined_of rs)
 
--- the keys of a header, each with its offset, and with 0 past the last offset
-abbrev pub keys_with : List ℕ → List (List ℕ) → List Key
-keys_with (p ∷ offsets) (text ∷ texts) = record { offset = p; text = text } ∷ keys_with offsets texts
-keys_with [] (text ∷ texts) = record { offset = 0; text = text } ∷ keys_with [] texts
-keys_with offsets [] = []
+abbrev pub key_of : keys.Key → Key
+key_of k = record { offset = k.offset; text = cow_str_bytes k.text }
+
+-- the texts of the keys of a header
+abbrev pub header_texts : List keys.Key → KeyTexts
+header_texts ks = texts (map key_of ks)
 
 abbrev pub section_of : code.Section → Section
 section_of s = record {
   at = s.at;
-  header = keys_with s.offsets.items (map cow_str_bytes s.header.items);
+  header = map key_of s.header.items;
   is_array = s.is_array;
   rows = rows_view s.rows.items;
 }

@@ -10,27 +10,28 @@ ghost use Rattle.basic_toml_grammar.specs.GrammarFaults.{precedes_key};
 
 use crate::front::after_blanks;
 use crate::scalar::key_at;
+use crate::section::Key;
 use crate::values::{closed, raise};
 use basic_toml_explain::{Stop, Why};
 use basic_toml_tokens::after_punctuation;
 use std::alloc::Global;
-use std::borrow::CowStr;
+
+// The list of a header's keys has room for so many from the start, which few headers pass.
+const ROOM: usize = 3;
 
 /// A header and where it ends. `at` is the offset of its first bracket.
 #[derive(Drop)]
 pub(crate) struct Header<'de> {
     pub at: usize,
     pub is_array: bool,
-    pub keys: Vec<CowStr<'de>>,
-    pub offsets: Vec<usize>,
+    pub keys: Vec<Key<'de>>,
     pub end: usize,
 }
 
-/// The keys of a header with their offsets, and where the blanks after them end.
+/// The keys of a header, and where the blanks after them end.
 #[derive(Drop)]
 struct HeaderKeys<'de> {
-    keys: Vec<CowStr<'de>>,
-    offsets: Vec<usize>,
+    keys: Vec<Key<'de>>,
     end: usize,
 }
 
@@ -43,22 +44,23 @@ fn header_keys<'de>(alloc: Global, text: &'de str, at: usize) -> Result<HeaderKe
     ensures stands { StandsFrom precedes_key text.now at result }
     ensures deep { IfDeep (DeepKeys 128 2 (text_at text.now at)) result }
 {
-    let mut keys = Vec::new(alloc);
-    let mut offsets = Vec::new(alloc);
+    let mut keys = Vec::with_capacity(alloc, ROOM)?;
     let mut offset = at;
     let mut level = 2;
     loop {
         let keyed = key_at(alloc, text, offset)?;
         raise(level, offset)?;
-        keys.push(keyed.key)?;
-        offsets.push(offset)?;
+        keys.push(Key {
+            text: keyed.key,
+            offset,
+        })?;
         let end = after_blanks(text, keyed.end);
         match after_punctuation(text, end, b'.') {
             Some(next) => {
                 offset = after_blanks(text, next);
                 level += 1;
             }
-            None => return Ok(HeaderKeys { keys, offsets, end }),
+            None => return Ok(HeaderKeys { keys, end }),
         }
     }
 }
@@ -74,33 +76,23 @@ pub(crate) fn header_at<'de>(alloc: Global, text: &'de str, at: usize) -> Result
     let inner = closed(text, at, b'[', Why::Newline)?;
     match after_punctuation(text, inner, b'[') {
         None => {
-            let HeaderKeys { keys, offsets, end } = header_keys(
-                alloc,
-                text,
-                after_blanks(text, inner),
-            )?;
+            let HeaderKeys { keys, end } = header_keys(alloc, text, after_blanks(text, inner))?;
             let end = closed(text, end, b']', Why::Bracket)?;
             Ok(Header {
                 at,
                 is_array: false,
                 keys,
-                offsets,
                 end,
             })
         }
         Some(first) => {
-            let HeaderKeys { keys, offsets, end } = header_keys(
-                alloc,
-                text,
-                after_blanks(text, first),
-            )?;
+            let HeaderKeys { keys, end } = header_keys(alloc, text, after_blanks(text, first))?;
             let last = closed(text, end, b']', Why::Bracket)?;
             let end = closed(text, last, b']', Why::Bracket)?;
             Ok(Header {
                 at,
                 is_array: true,
                 keys,
-                offsets,
                 end,
             })
         }

@@ -14,4 +14,4 @@ mod word;
 
 pub use basic_toml_explain::{ReadError, ReadErrorKind};
 pub use reader::sections;
-pub use section::{Element, Raw, Row, Section};
+pub use section::{Element, Key, Raw, Row, Section};

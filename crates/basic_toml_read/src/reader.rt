@@ -78,7 +78,6 @@ impl<'de> Gathered<'de> {
             at: 0,
             is_array: false,
             header: Vec::new(self.alloc),
-            offsets: Vec::new(self.alloc),
             rows,
         })?;
         Ok(())
@@ -106,7 +105,6 @@ impl<'de> Gathered<'de> {
             at: header.at,
             is_array: header.is_array,
             header: header.keys,
-            offsets: header.offsets,
             rows,
         })?;
         Ok(next)

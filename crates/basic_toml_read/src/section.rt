@@ -58,6 +58,15 @@ impl<'de> Row<'de> {
     }
 }
 
+/// A key of a header, and its offset.
+#[derive(Drop)]
+pub struct Key<'de> {
+    /// The key.
+    pub text: CowStr<'de>,
+    /// The byte offset of the key.
+    pub offset: usize,
+}
+
 /// A header with its rows, or the rows before the first header.
 #[derive(Drop)]
 pub struct Section<'de> {
@@ -66,9 +75,7 @@ pub struct Section<'de> {
     /// Whether the header has double brackets.
     pub is_array: bool,
     /// The keys of the header.
-    pub header: Vec<CowStr<'de>>,
-    /// The byte offsets of these keys.
-    pub offsets: Vec<usize>,
+    pub header: Vec<Key<'de>>,
     /// The rows, each key of a row for itself.
     pub rows: Vec<Row<'de>>,
 }
@@ -82,7 +89,7 @@ impl<'de> Section<'de> {
     }
 
     /// The keys of the header. The rows before the first header have none.
-    pub fn header(&self) -> &[CowStr<'de>]
+    pub fn header(&self) -> &[Key<'de>]
         ensures { result.now ≡ self.now.header.items }
     {
         self.header.as_slice()

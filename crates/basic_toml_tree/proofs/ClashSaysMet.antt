@@ -1,42 +1,42 @@
 -- The clash that is answered for a row says what was met, or what stops its value.
 use Rattle.std.proofs.Common.{◌≡◌, ◌<◌, ◌≤◌, get_or, ℕ, suc, zero, ◌+◌, ◌-◌, List, [], ◌∷◌, ◌++◌, refl, sym}
 use Rattle.std.proofs.Common.{ap, ◌∙◌, Some, None, length}
-use Rattle.std.proofs.Common.{take, map, Vec, Global, String, string_bytes, arith, rules}
+use Rattle.std.proofs.Common.{take, arith, rules, Result, Ok, Err, IfOk}
 use Rattle.std.specs.List.{slice_get}
 use Rattle.basic_toml_grammar.specs.Sections.{Key, KeyTexts, texts}
 use Rattle.basic_toml_grammar.specs.Trie.{Trie}
-use Rattle.basic_toml_grammar.specs.Stops.{at_row, Outcome}
+use Rattle.basic_toml_grammar.specs.Stops.{Stop, at_row, Outcome, stops}
 use Rattle.basic_toml_read.specs.declared.section.Raw.{the_lemmas}
 use Rattle.basic_toml_read.specs.declared.section.Row.{Row, out-Row}
 use Rattle.basic_toml_read.specs.SectionView.{lined_of}
+use Rattle.basic_toml_clash.specs.declared.clash.Clash.{Clash}
 use Rattle.basic_toml_clash.specs.declared.clash.Clash.TheVariants as clashes
 use Rattle.basic_toml_tree.specs.declared.rows.Met.TheVariants as mets
 use Rattle.basic_toml_clash.specs.Trail.{path_of}
+use Rattle.basic_toml_clash.specs.Clash.{IsStop, NamesStop}
 use Rattle.basic_toml_tree.specs.RowStops.{line_keys, key_at, StopsAtKey, SaysMet}
 
-same_row : {p q : KeyTexts} {n m : ℕ} {t u : List ℕ} → p ≡ q → n ≡ m → t ≡ u
+pub same_row : {p q : KeyTexts} {n m : ℕ} {t u : List ℕ} → p ≡ q → n ≡ m → t ≡ u
     → at_row p (key_at n t) ≡ at_row q (key_at m u)
 same_row a b c = cc
 
+-- a clash that is a stop
+names : (clash : Clash) (x : Stop) (o : Outcome Trie) → IsStop clash x → o ≡ stops x → NamesStop o clash
+names clashes.Memory x o is told = absurd is
+names clashes.Deep x o is told = absurd is
+names (clashes.Header left) x o is told = (x, (is, told))
+names clashes.Named x o is told = (x, (is, told))
+names clashes.Redefined x o is told = (x, (is, told))
+names (clashes.Row met) x o is told = (x, (is, told))
+
+-- what holds of each clash that is a stop
+pub if_stop : {E : Type 0} (result : Result Clash E) (x : Stop) (P : Clash → Type 0)
+    → ((clash : Clash) → IsStop clash x → P clash) → IfOk result (λ clash. IsStop clash x) → IfOk result P
+if_stop (Ok clash) x P f is = f clash is
+if_stop (Err error) x P f is = tt
+
 pub row_offset : (r : Row) → (out-Row r).offset ≡ (lined_of r).key.offset
 row_offset r = search (rules, the_lemmas)
-
-line_path : (rows : List Row) → texts (line_keys rows) ≡ path_of rows
-line_path [] = refl
-line_path (r ∷ rs) = ap (λ ks. (lined_of r).key.text ∷ ks) (line_path rs)
-
-one_of : (rows : List Row) → take 1 (texts (line_keys rows)) ≡ path_of (take 1 rows)
-one_of [] = refl
-one_of (r ∷ rs) = refl
-
--- another row
-pub row_said : (rows : List Row) (offset : ℕ) (last : List ℕ) (path : Vec (String Global) Global) (key : String Global)
-    → map string_bytes path.items ≡ path_of (take 1 rows) → string_bytes key ≡ last
-    → SaysMet (line_keys rows) (key_at offset last) mets.Row (clashes.Row path key offset)
-row_said rows offset last path key is_path is_key = λ o told. (
-  at_row (take 1 (texts (line_keys rows))) (key_at offset last),
-  (same_row (one_of rows ∙ sym is_path) refl (sym is_key), told),
-)
 
 -- a row at a number, or none
 pub row_at : (rows : List Row) (n : ℕ) (r : Row) → n < length rows → r ≡ get_or rows n r → slice_get rows n ≡ Some r
@@ -83,8 +83,7 @@ count_front rows k front there rest parts =
     after (f ∷ front) = let h = after front in omega arith
 
 module _ (rows : List Row) (offset : ℕ) (last : List ℕ) (left number : ℕ) (is_number : number ≡ length rows + 1 - left)
-    (path : Vec (String Global) Global) (key : String Global)
-    (is_path : map string_bytes path.items ≡ path_of (take number rows)) where
+    (path : KeyTexts) (is_path : path ≡ path_of (take number rows)) (clash : Clash) where
   abbrev MetKey : Outcome Trie → Type 0
   MetKey o = StopsAtKey [] (line_keys rows ++ key_at offset last ∷ []) left o
 
@@ -94,33 +93,25 @@ module _ (rows : List Row) (offset : ℕ) (last : List ℕ) (left number : ℕ) 
       let c = m.count in
       omega arith
 
-  pub key_said : (r : Row) (at_key : ℕ) → at_key ≡ (lined_of r).key.offset → slice_get rows number ≡ Some r
-      → string_bytes key ≡ (lined_of r).key.text
-      → SaysMet (line_keys rows) (key_at offset last) (mets.Header left)
-      (clashes.Row path key at_key)
-  key_said r at_key is_offset at is_key = λ o told.
-      let n = at_front o told in
-      let k = key_is rows (key_at offset last) told.front told.there told.rest told.parts in
-      let there : told.there ≡ (lined_of r).key = k.one r (ap (slice_get rows) (sym n) ∙ at) in (
-        at_row (texts told.front) told.there,
-        (
-          ap (λ k. at_row (texts told.front) k) there
-              ∙ same_row (k.before ∙ ap (λ n. path_of (take n rows)) (sym n) ∙ sym is_path) (sym is_offset)
-              (sym is_key),
-          told.stop,
-        ),
-      )
+  -- the stop at a key, whose place is known
+  told_at : (o : Outcome Trie) (m : MetKey o) (k : Key) → m.there ≡ k
+      → texts m.front ≡ path_of (take (length m.front) rows) → IsStop clash (at_row path k) → NamesStop o clash
+  told_at o m k there before said =
+      let n = at_front o m in
+      names clash (at_row path k) o said
+      (m.stop ∙ ap stops (ap (λ k. at_row (texts m.front) k) there
+      ∙ same_row (before ∙ ap (λ n. path_of (take n rows)) (sym n) ∙ sym is_path) refl refl))
 
-  pub last_said : slice_get rows number ≡ None → string_bytes key ≡ last
-      → SaysMet (line_keys rows) (key_at offset last) (mets.Header left) (clashes.Row path key offset)
-  last_said none is_key = λ o told.
+  pub key_said : (r : Row) → slice_get rows number ≡ Some r → IsStop clash (at_row path (lined_of r).key)
+      → SaysMet (line_keys rows) (key_at offset last) (mets.Header left) clash
+  key_said r at said = λ o told.
       let n = at_front o told in
       let k = key_is rows (key_at offset last) told.front told.there told.rest told.parts in
-      let there : told.there ≡ key_at offset last = k.last (ap (slice_get rows) (sym n) ∙ none) in (
-        at_row (texts told.front) told.there,
-        (
-          ap (λ k. at_row (texts told.front) k) there
-              ∙ same_row (k.before ∙ ap (λ n. path_of (take n rows)) (sym n) ∙ sym is_path) refl (sym is_key),
-          told.stop,
-        ),
-      )
+      told_at o told (lined_of r).key (k.one r (ap (slice_get rows) (sym n) ∙ at)) k.before said
+
+  pub last_said : slice_get rows number ≡ None → IsStop clash (at_row path (key_at offset last))
+      → SaysMet (line_keys rows) (key_at offset last) (mets.Header left) clash
+  last_said none said = λ o told.
+      let n = at_front o told in
+      let k = key_is rows (key_at offset last) told.front told.there told.rest told.parts in
+      told_at o told (key_at offset last) (k.last (ap (slice_get rows) (sym n) ∙ none)) k.before said

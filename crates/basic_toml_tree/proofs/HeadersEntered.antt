@@ -3,7 +3,8 @@ use Rattle.std.proofs.Common.{◌≡◌, ℕ, suc, ◌+◌, ◌≤◌, Bool, tru
 use Rattle.std.proofs.Common.{None, refl, ap, sym, ◌∙◌, arith, rules, option_map, Vec, Box, Global, Result, Ok, Err}
 use Rattle.std.proofs.Common.{IsErrAnd, subst, length}
 use Rattle.std.specs.Cow.{cow_str_bytes}
-use Rattle.std.specs.declared.borrow.CowStr.{CowStr}
+use Rattle.basic_toml_read.specs.declared.section.Key as code
+use Rattle.basic_toml_read.specs.SectionView.{header_texts}
 use Rattle.std.specs.List.{slice_get}
 use Rattle.basic_toml_value.specs.Data.{Data, items_of}
 use Rattle.basic_toml_grammar.specs.Sections.{KeyTexts, Rows}
@@ -76,10 +77,10 @@ pub no_array : (a : Bool) (rows : Rows) (keys : KeyTexts) (level : ℕ) (t : Tri
 no_array true rows keys level t r not is = cc
 no_array false rows keys level t r not is = is
 
-pub not_last : (a : Bool) (rows : Rows) (keys : List (CowStr Global)) (level : ℕ) (t : Trie) (r : Result Child Clash)
+pub not_last : (a : Bool) (rows : Rows) (keys : List code.Key) (level : ℕ) (t : Trie) (r : Result Child Clash)
     → 1 ≤ length keys
-    → EntersChild (entered_by a rows (map cow_str_bytes keys) t) rows (level + steps_by a (map cow_str_bytes keys) t) r
-    → EntersChild (entered_at a rows (map cow_str_bytes keys) t) rows (level + steps_at a (map cow_str_bytes keys) t) r
+    → EntersChild (entered_by a rows (header_texts keys) t) rows (level + steps_by a (header_texts keys) t) r
+    → EntersChild (entered_at a rows (header_texts keys) t) rows (level + steps_at a (header_texts keys) t) r
 not_last a rows [] level t r some is = absurd (omega arith)
 not_last true rows (k ∷ keys) level t r some is = is
 not_last false rows (k ∷ keys) level t r some is = is

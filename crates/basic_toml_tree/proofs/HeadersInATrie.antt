@@ -43,8 +43,8 @@ is_kept_out Named e f rows l m barred same (inl clash) = inl clash
 is_kept_out Named e f rows l m barred same (inr none) = inr (barred none)
 is_kept_out Redefined e f rows l m barred same (inl clash) = inl clash
 is_kept_out Redefined e f rows l m barred same (inr none) = inr (barred none)
-is_kept_out (Row path k offset) e f rows l m barred same (inl clash) = inl clash
-is_kept_out (Row path k offset) e f rows l m barred same (inr none) = inr (barred none)
+is_kept_out (Row met) e f rows l m barred same (inl clash) = inl clash
+is_kept_out (Row met) e f rows l m barred same (inr none) = inr (barred none)
 
 -- rows that are put into a table, and those that are not
 pub rows_in : (e : Option Trie) (rows : Rows) (l m : ℕ) (t u : Trie) → e ≡ put_rows rows t → m ≡ l
@@ -65,8 +65,8 @@ rows_kept_out Named e rows l m t same level (inl clash) = inl clash
 rows_kept_out Named e rows l m t same level (inr none) = inr (same ∙ none)
 rows_kept_out Redefined e rows l m t same level (inl clash) = inl clash
 rows_kept_out Redefined e rows l m t same level (inr none) = inr (same ∙ none)
-rows_kept_out (Row path k offset) e rows l m t same level (inl clash) = inl clash
-rows_kept_out (Row path k offset) e rows l m t same level (inr none) = inr (same ∙ none)
+rows_kept_out (Row met) e rows l m t same level (inl clash) = inl clash
+rows_kept_out (Row met) e rows l m t same level (inr none) = inr (same ∙ none)
 
 -- a fresh table takes a header as nothing does
 pub walk_fresh : (a : Bool) (rows : Rows) (keys : KeyTexts) → walk a rows keys fresh ≡ walk a rows keys nothing

@@ -1,10 +1,10 @@
 -- What stops a header on its way through tables is what its steps name.
-use Rattle.std.proofs.Common.{◌≡◌, ℕ, suc, ◌+◌, ◌<◌, Bool, true, false, cond, List, [], ◌∷◌, ◌++◌, length, map}
+use Rattle.std.proofs.Common.{◌≡◌, ℕ, suc, ◌+◌, ◌<◌, ◌≤◌, Bool, true, false, cond, List, [], ◌∷◌, ◌++◌, length, map}
 use Rattle.std.proofs.Common.{Some, None, refl, ap, sym, ◌∙◌, subst, arith, nat_eq, Vec, Box, Global, Result, Ok}
 use Rattle.std.proofs.Common.{Err}
 use Rattle.std.specs.Prelude.{IfErr}
-use Rattle.std.specs.Cow.{cow_str_bytes}
-use Rattle.std.specs.declared.borrow.CowStr.{CowStr}
+use Rattle.basic_toml_read.specs.declared.section.Key as code
+use Rattle.basic_toml_read.specs.SectionView.{header_texts}
 use Rattle.basic_toml_value.specs.Data.{Data}
 use Rattle.basic_toml_grammar.specs.Sections.{KeyTexts, Rows}
 use Rattle.basic_toml_grammar.specs.Steps.{Step, key, number, step_eq}
@@ -37,7 +37,7 @@ stopped Deep o p on is = tt
 stopped (Header n) o p on is = (is.0, (is.1.0, on is.0 is.1.1))
 stopped Named o p on is = (is.0, (is.1.0, on is.0 is.1.1))
 stopped Redefined o p on is = (is.0, (is.1.0, on is.0 is.1.1))
-stopped (Row path k offset) o p on is = (is.0, (is.1.0, on is.0 is.1.1))
+stopped (Row met) o p on is = (is.0, (is.1.0, on is.0 is.1.1))
 
 pub stopped_if : {A B C : Type 0} (r : Result C Clash) (o : Outcome A) (p : Outcome B)
     → ((x : Stop) → o ≡ stops x → p ≡ stops x) → IfErr r (λ clash. NamesStop o clash)
@@ -131,13 +131,25 @@ value_stops a rows [] d = refl
 value_stops a rows (k ∷ []) d = refl
 value_stops a rows (k ∷ l ∷ keys) d = refl
 
-pub value_stopped : (a : Bool) (rows : Rows) (keys : List (CowStr Global)) (c : Child) (d : Data)
+-- what does not add an element goes on by the keys that are left
+pub no_array_tried : (a : Bool) (rows : Rows) (keys : KeyTexts) (t : Trie) → a ≡ false
+    → tried_at a rows keys t ≡ tried_by a rows keys t
+no_array_tried true rows keys t not = cc
+no_array_tried false rows keys t not = refl
+
+pub not_last_tried : (a : Bool) (rows : Rows) (keys : List code.Key) (t : Trie) → 1 ≤ length keys
+    → tried_at a rows (header_texts keys) t ≡ tried_by a rows (header_texts keys) t
+not_last_tried a rows [] t some = absurd (omega arith)
+not_last_tried true rows (k ∷ keys) t some = refl
+not_last_tried false rows (k ∷ keys) t some = refl
+
+pub value_stopped : (a : Bool) (rows : Rows) (keys : List code.Key) (c : Child) (d : Data)
     → item_trie (out-Child c).item ≡ leaf d
-    → NamesStop (tried_by a rows (map cow_str_bytes keys) (child_trie c)) (Header (length keys + 1))
+    → NamesStop (tried_by a rows (header_texts keys) (child_trie c)) (Header (length keys + 1))
 value_stopped a rows keys c d is =
-    let n : suc (length (map cow_str_bytes keys)) ≡ length keys + 1 = omega (arith, texts_count keys) in
-    let tried = ap (tried_by a rows (map cow_str_bytes keys)) (child_item_trie c ∙ is)
-    ∙ value_stops a rows (map cow_str_bytes keys) d ∙ ap (λ n. stops (at_header n)) n in
+    let n : suc (length (header_texts keys)) ≡ length keys + 1 = omega (arith, texts_count keys) in
+    let tried = ap (tried_by a rows (header_texts keys)) (child_item_trie c ∙ is)
+    ∙ value_stops a rows (header_texts keys) d ∙ ap (λ n. stops (at_header n)) n in
     (at_header (length keys + 1), (refl, tried))
 
 -- the first element of an array, and one more

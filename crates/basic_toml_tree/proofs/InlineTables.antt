@@ -95,4 +95,4 @@ inline_stopped rs s before v clash seen empty named =
     go (clashes.Header left) named = (named.0, (named.1.0, aside named.0 named.1.1))
     go clashes.Named named = (named.0, (named.1.0, aside named.0 named.1.1))
     go clashes.Redefined named = (named.0, (named.1.0, aside named.0 named.1.1))
-    go (clashes.Row path key offset) named = (named.0, (named.1.0, aside named.0 named.1.1))
+    go (clashes.Row met) named = (named.0, (named.1.0, aside named.0 named.1.1))

@@ -26,7 +26,7 @@ kept_for rows level before Deep kept = kept
 kept_for rows level before (Header left) kept = kept
 kept_for rows level before Named kept = kept
 kept_for rows level before Redefined kept = kept
-kept_for rows level before (Row path key offset) kept = kept
+kept_for rows level before (Row met) kept = kept
 
 pub for_kept : (rows : Rows) (level : ℕ) (before : Trie) (clash : Clash) → AreKeptOut rows level before clash
     → KeptFor rows level before (reason clash)
@@ -35,7 +35,7 @@ for_kept rows level before Deep kept = kept
 for_kept rows level before (Header left) kept = kept
 for_kept rows level before Named kept = kept
 for_kept rows level before Redefined kept = kept
-for_kept rows level before (Row path key offset) kept = kept
+for_kept rows level before (Row met) kept = kept
 
 -- what each reason says of a value, and of a change that may meet something
 abbrev pub UnfinishedFor : Raw → ℕ → Reason → Type 0
@@ -50,7 +50,7 @@ for_unfinished v level Deep u = u
 for_unfinished v level (Header left) u = u
 for_unfinished v level Named u = u
 for_unfinished v level Redefined u = u
-for_unfinished v level (Row path key offset) u = u
+for_unfinished v level (Row met) u = u
 
 pub unfinished_for : (v : Raw) (level : ℕ) (clash : Clash) → UnfinishedFor v level (reason clash)
     → IsUnfinished v level clash
@@ -59,7 +59,7 @@ unfinished_for v level Deep u = u
 unfinished_for v level (Header left) u = u
 unfinished_for v level Named u = u
 unfinished_for v level Redefined u = u
-unfinished_for v level (Row path key offset) u = u
+unfinished_for v level (Row met) u = u
 
 pub kept_for_met : {A : Type 0} (f : A → Trie) (changed : Option Trie) (rows : Rows) (level : ℕ) (before : Trie)
     (met : Met)

@@ -203,7 +203,7 @@ stopped_then o p f Deep is named = tt
 stopped_then o p f (Header left) is named = (named.0, (named.1.0, is ∙ ap (λ o. and_on o f) named.1.1))
 stopped_then o p f Named is named = (named.0, (named.1.0, is ∙ ap (λ o. and_on o f) named.1.1))
 stopped_then o p f Redefined is named = (named.0, (named.1.0, is ∙ ap (λ o. and_on o f) named.1.1))
-stopped_then o p f (Row path key offset) is named = (named.0, (named.1.0, is ∙ ap (λ o. and_on o f) named.1.1))
+stopped_then o p f (Row met) is named = (named.0, (named.1.0, is ∙ ap (λ o. and_on o f) named.1.1))
 
 module _ (whole : Rows) (level : ℕ) (before : Trie) (keys : List lines.Row) (r : lines.Row) (rest : List lines.Row)
     (now : Trie)

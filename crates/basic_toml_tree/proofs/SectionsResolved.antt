@@ -4,7 +4,6 @@ use Rattle.std.proofs.Common.{ap}
 use Rattle.std.proofs.Common.{sym, ◌∙◌, subst, arith, map, length, take, drop, get_or, set, zero, Option}
 use Rattle.std.proofs.Common.{Some, None, Result, Ok, Err}
 use Rattle.std.proofs.Common.{IsErrAnd}
-use Rattle.std.specs.Cow.{cow_str_bytes}
 use Rattle.std.specs.List.{Contains}
 use Rattle.std.specs.Prelude.{IfSome, IfNone}
 use Rattle.std.proofs.lemmas.List.{map-append, take_more, take_all}
@@ -16,25 +15,23 @@ use Rattle.basic_toml_grammar.specs.NestingFaults.{deep_sections}
 use Rattle.basic_toml_grammar.specs.Trie.{Trie, walk, steps_to}
 use Rattle.basic_toml_explain.specs.Error.{want_of_memory}
 use Rattle.basic_toml_read.specs.declared.section.Section as code
-use Rattle.basic_toml_read.specs.SectionView.{section_of, rows_view}
+use Rattle.basic_toml_read.specs.SectionView.{section_of, header_texts, rows_view}
 use Rattle.basic_toml_clash.specs.declared.clash.Clash.{Clash}
 use Rattle.basic_toml_clash.specs.declared.clash.Clash.TheVariants.{Memory, Deep, Header, Named, Redefined, Row}
-use Rattle.basic_toml_clash.specs.Clash.{IsFaultOf, NamesClash, NamesStop}
+use Rattle.basic_toml_clash.specs.Clash.{IsFaultOf, NamesClash, NamesStop, row_stop}
 use Rattle.basic_toml_tree.specs.Headers.{IsIn, IsKeptOut}
 use Rattle.basic_toml_tree.specs.declared.tree.Tree.{Tree}
 use Rattle.basic_toml_clash.specs.Crossed.{IsCrossed, NoneIsCrossed, crossed_faults}
 use Rattle.basic_toml_tree.specs.Item.{table_trie}
 use Rattle.basic_toml_grammar.specs.NamedClash as grammar
 use Rattle.basic_toml_grammar.specs.NamedClash.{dotted_fault, dotted_faults, repeated_faults_of, section_faults}
-use Rattle.basic_toml_grammar.specs.Stops.{Stop, at_header, is_named, is_passed, at_row, stops, stop_fault}
+use Rattle.basic_toml_grammar.specs.Stops.{Stop, at_header, is_named, is_passed, stops, stop_fault}
 use Rattle.basic_toml_grammar.specs.TrieStops.{try_by_keys}
 use Rattle.std.specs.List.{flat_map}
-use Rattle.std.specs.Prelude.{string_bytes}
 use Rattle.basic_toml_tree.proofs.SectionsStopped.{section_stops, same_fault, first_contained}
 use Rattle.basic_toml_grammar.specs.Sections.{Key}
 use Rattle.basic_toml_tree.specs.Resolve.{Resolves, IsResolved, IsUnresolved, memory, deep, clash, head}
 use Rattle.basic_toml_tree.proofs.HeadersInATrie.{fresh}
-use Rattle.basic_toml_clash.proofs.HeadersNamed.{header_is}
 use Rattle.basic_toml_tree.proofs.RowsHaveKeys.{sections_have_keys}
 use Rattle.basic_toml_tree.proofs.TrieData.{table_trie_data}
 use Rattle.basic_toml_tree.proofs.SectionsEntered.{Entered, one_more, too_deep, whole_tree}
@@ -71,10 +68,10 @@ heads_set (t ∷ ss) zero s d same = ap (λ h. h ∷ map head_of ss) same
 heads_set (t ∷ ss) (suc n) s d same = ap (λ hs. head_of t ∷ hs) (heads_set ss n s d same)
 
 pub heads_kept : (ss : List code.Section) (n : ℕ) (was s : code.Section) → was ≡ get_or ss n was → s.at ≡ was.at
-    → s.header ≡ was.header → s.offsets ≡ was.offsets
+    → s.header ≡ was.header
     → map head (map section_of (set ss n s)) ≡ map head (map section_of ss)
-heads_kept ss n was s is at header offsets =
-    let same : head_of s ≡ head_of was = rw (at, header, offsets) refl in
+heads_kept ss n was s is at header =
+    let same : head_of s ≡ head_of was = rw (at, header) refl in
     heads_mapped (set ss n s) ∙ heads_set ss n s was (same ∙ ap head_of is) ∙ sym (heads_mapped ss)
 
 -- the list, split at the next section
@@ -92,14 +89,14 @@ module _ (old now : List code.Section) (n : ℕ) (t : Trie) (goes : Goes old now
       ∙ map-append section_of (take n old) (s ∷ [])
 
   pub goes_on : (next : List code.Section) (u : Trie)
-      → IsIn (walk s.is_array (rows_view s.rows.items) (map cow_str_bytes s.header.items) t) (rows_view s.rows.items)
-      (1 + steps_to s.is_array (map cow_str_bytes s.header.items) t) u
+      → IsIn (walk s.is_array (rows_view s.rows.items) (header_texts s.header.items) t) (rows_view s.rows.items)
+      (1 + steps_to s.is_array (header_texts s.header.items) t) u
       → length next ≡ length now → ((k : ℕ) (d : code.Section) → n + 1 ≤ k → get_or next k d ≡ get_or now k d)
       → map head (map section_of next) ≡ map head (map section_of now) → Goes old next (n + 1) u
   goes_on next u is_in count same heads = record {
     entered =
         subst (λ ss. Entered ss u) (sym more)
-        (one_more (map section_of (take n old)) (section_of s) (map cow_str_bytes s.header.items) t (header_is s)
+        (one_more (map section_of (take n old)) (section_of s) (header_texts s.header.items) t refl
         goes.entered u is_in);
     count = count ∙ goes.count;
     left = λ k d past. same k d past ∙ goes.left k d (omega (arith, past));
@@ -109,56 +106,55 @@ module _ (old now : List code.Section) (n : ℕ) (t : Trie) (goes : Goes old now
   -- a section that is not entered, and its fault
   module _ (keyed : all_keyed (map section_of old) ≡ true) (none : NoneIsCrossed old) where
     stop_named : (x : Stop)
-        → try_by_keys s.is_array (rows_view s.rows.items) (map cow_str_bytes s.header.items) t ≡ stops x
+        → try_by_keys s.is_array (rows_view s.rows.items) (header_texts s.header.items) t ≡ stops x
         → grammar.NamesClash (map section_of old) (stop_fault (section_of s) x)
     stop_named x tried =
         subst (λ ss. grammar.NamesClash ss (stop_fault (section_of s) x)) (sym split)
-        (section_stops (map section_of (take n old)) (section_of s) (map cow_str_bytes s.header.items) t (header_is s)
+        (section_stops (map section_of (take n old)) (section_of s) (header_texts s.header.items) t refl
         goes.entered.stands (map section_of (drop (suc n) old)) (subst (λ ss. all_keyed ss ≡ true) split keyed)
         (subst (λ ss. flat_map (λ s. dotted_faults s.rows) ss ≡ []) split none) x tried)
 
     barred : (fault : Fault) (now : code.Section) (x y : Stop) → now.at ≡ s.at → now.header ≡ s.header
-        → now.offsets ≡ s.offsets → fault ≡ stop_fault (section_of now) x → y ≡ x
-        → try_by_keys s.is_array (rows_view s.rows.items) (map cow_str_bytes s.header.items) t ≡ stops y
+        → fault ≡ stop_fault (section_of now) x → y ≡ x
+        → try_by_keys s.is_array (rows_view s.rows.items) (header_texts s.header.items) t ≡ stops y
         → IsUnresolved (map section_of old) fault
-    barred fault now x y at header offsets is same tried =
-        let keys : (section_of now).header ≡ (section_of s).header = rw (header, offsets) refl in
+    barred fault now x y at header is same tried =
+        let keys : (section_of now).header ≡ (section_of s).header = rw header refl in
         clash (subst (λ f. grammar.NamesClash (map section_of old) f)
         (sym (is ∙ same_fault (section_of now) (section_of s) keys at x)) (stop_named x (tried ∙ ap stops same)))
 
     named : (c : Clash) (fault : Fault)
-        → IsKeptOut (walk s.is_array (rows_view s.rows.items) (map cow_str_bytes s.header.items) t)
-        (rows_view s.rows.items) (1 + steps_to s.is_array (map cow_str_bytes s.header.items) t) c
-        → NamesStop (try_by_keys s.is_array (rows_view s.rows.items) (map cow_str_bytes s.header.items) t) c
-        → (now : code.Section) → now.at ≡ s.at → now.header ≡ s.header → now.offsets ≡ s.offsets
+        → IsKeptOut (walk s.is_array (rows_view s.rows.items) (header_texts s.header.items) t)
+        (rows_view s.rows.items) (1 + steps_to s.is_array (header_texts s.header.items) t) c
+        → NamesStop (try_by_keys s.is_array (rows_view s.rows.items) (header_texts s.header.items) t) c
+        → (now : code.Section) → now.at ≡ s.at → now.header ≡ s.header
         → IsFaultOf now c fault → IsUnresolved (map section_of old) fault
-    named Memory fault out stop now same header offsets is =
+    named Memory fault out stop now same header is =
         subst (λ f. IsUnresolved (map section_of old) f) (sym is) memory
-    named Deep fault out stop now same header offsets is =
+    named Deep fault out stop now same header is =
         let there : Contains (deep_sections nesting_limit (located (map section_of old))) s.at =
         subst (λ ss. Contains (deep_sections nesting_limit (located ss)) s.at) (sym split)
-        (too_deep (map section_of (take n old)) (section_of s) (map cow_str_bytes s.header.items) t (header_is s)
+        (too_deep (map section_of (take n old)) (section_of s) (header_texts s.header.items) t refl
         goes.entered (map section_of (drop (suc n) old)) out) in
         subst (λ f. IsUnresolved (map section_of old) f) (sym is) (rw same (deep there))
-    named (Header k) fault out stop now same header offsets is =
-        barred fault now (at_header k) stop.0 same header offsets is stop.1.0 stop.1.1
-    named Named fault out stop now same header offsets is =
-        barred fault now is_named stop.0 same header offsets is stop.1.0 stop.1.1
-    named Redefined fault out stop now same header offsets is =
-        barred fault now is_passed stop.0 same header offsets is stop.1.0 stop.1.1
-    named (Row path key offset) fault out stop now same header offsets is =
-        barred fault now (at_row (map string_bytes path.items) (record { offset = offset; text = string_bytes key }))
-        stop.0 same header offsets is stop.1.0 stop.1.1
+    named (Header k) fault out stop now same header is =
+        barred fault now (at_header k) stop.0 same header is stop.1.0 stop.1.1
+    named Named fault out stop now same header is =
+        barred fault now is_named stop.0 same header is stop.1.0 stop.1.1
+    named Redefined fault out stop now same header is =
+        barred fault now is_passed stop.0 same header is stop.1.0 stop.1.1
+    named (Row met) fault out stop now same header is =
+        barred fault now (row_stop met.value) stop.0 same header is stop.1.0 stop.1.1
 
     pub kept_out : (c : Clash) (fault : Fault)
-        → IsKeptOut (walk s.is_array (rows_view s.rows.items) (map cow_str_bytes s.header.items) t)
-        (rows_view s.rows.items) (1 + steps_to s.is_array (map cow_str_bytes s.header.items) t) c
-        → NamesStop (try_by_keys s.is_array (rows_view s.rows.items) (map cow_str_bytes s.header.items) t) c
-        → (now : code.Section) → now.at ≡ s.at → now.header ≡ s.header → now.offsets ≡ s.offsets
+        → IsKeptOut (walk s.is_array (rows_view s.rows.items) (header_texts s.header.items) t)
+        (rows_view s.rows.items) (1 + steps_to s.is_array (header_texts s.header.items) t) c
+        → NamesStop (try_by_keys s.is_array (rows_view s.rows.items) (header_texts s.header.items) t) c
+        → (now : code.Section) → now.at ≡ s.at → now.header ≡ s.header
         → NamesClash now c fault → IsUnresolved (map section_of old) fault
-    kept_out c fault out stop now same header offsets (inl is) =
+    kept_out c fault out stop now same header (inl is) =
         subst (λ f. IsUnresolved (map section_of old) f) (sym is) memory
-    kept_out c fault out stop now same header offsets (inr is) = named c fault out stop now same header offsets is
+    kept_out c fault out stop now same header (inr is) = named c fault out stop now same header is
 
 -- what is answered where memory is refused, where a row goes on from a value, and at the end
 pub want_of : (ss : List code.Section) (r : Result Tree Fault) → IsErrAnd r (λ f. f ≡ want_of_memory) → Resolves ss r

@@ -1,12 +1,11 @@
 -- Where a node comes from, as the tree keeps it: what made it, where it begins, and which keys lead to it.
-use Rattle.std.specs.Prelude.{ℕ, Bool, true, false, ◌&&◌, ◌||◌, ◌==◌, nat_lt, if◌then◌else◌, List, [], ◌∷◌, ◌++◌, codes, take}
-use Rattle.std.specs.Prelude.{map, length, slice_get, Option, Some, None, option_map}
+use Rattle.std.specs.Prelude.{ℕ, Bool, true, false, ◌||◌, ◌==◌, if◌then◌else◌, List, [], ◌∷◌, ◌++◌, codes, take}
+use Rattle.std.specs.Prelude.{map, slice_get, Option, Some, None}
 use Rattle.std.specs.Option.{option_or}
-use Rattle.std.specs.Cow.{cow_str_bytes}
 use Rattle.basic_toml_grammar.specs.Sections.{KeyTexts}
 use Rattle.basic_toml_grammar.specs.Nodes as grammar
 use Rattle.basic_toml_read.specs.declared.section.Section as code
-use Rattle.basic_toml_read.specs.SectionView.{section_of}
+use Rattle.basic_toml_read.specs.SectionView.{section_of, header_texts}
 use Rattle.basic_toml_tree.specs.declared.item.Item.{Item, out-Item}
 use Rattle.basic_toml_tree.specs.declared.item.Item.TheOpen.{Item-F}
 use Rattle.basic_toml_tree.specs.declared.item.Child.{Child}
@@ -74,7 +73,7 @@ offset_of node = if is_array_literal node.spot then outer_of node else start_of 
 
 abbrev pub header_of : Option code.Section → KeyTexts
 header_of None = []
-header_of (Some section) = map cow_str_bytes section.header.items
+header_of (Some section) = header_texts section.header.items
 
 abbrev pub trail_keys : List code.Section → ℕ → Trail → KeyTexts
 trail_keys sections count (trails.Header section) = take count (header_of (slice_get sections section))

@@ -1,10 +1,9 @@
 //! Sections: the way of a header through the tree, and the table that it names.
 
-ghost use Rattle.std.specs.Prelude.{◌≡◌, ◌≤◌, ◌<◌, ◌+◌, false, [], length, map, IfOk, IfErr};
-ghost use Rattle.std.specs.Cow.{cow_str_bytes};
+ghost use Rattle.std.specs.Prelude.{◌≡◌, ◌≤◌, ◌<◌, ◌+◌, false, [], length, IfOk, IfErr};
 ghost use Rattle.basic_toml_grammar.specs.Trie.{put_element};
 ghost use Rattle.basic_toml_grammar.specs.TrieStops.{try_by_keys, try_put_table, try_put_element};
-ghost use Rattle.basic_toml_read.specs.SectionView.{rows_view};
+ghost use Rattle.basic_toml_read.specs.SectionView.{header_texts, rows_view};
 ghost use Rattle.basic_toml_tree.specs.declared.item.Table.{out-Table};
 ghost use Rattle.basic_toml_clash.specs.Clash.{NamesStop};
 ghost use Rattle.basic_toml_tree.specs.Item.{table_trie, child_trie};
@@ -14,9 +13,8 @@ ghost use Rattle.basic_toml_tree.specs.Headers.{entered_by, steps_by, entered_at
 use crate::item::{Child, Item, LIMIT, Table};
 use crate::rows::{enter_rows, room_for};
 use basic_toml_clash::Clash;
-use basic_toml_read::{Row, Section};
+use basic_toml_read::{Key, Row, Section};
 use std::alloc::{AllocError, Global};
-use std::borrow::CowStr;
 use std::mem;
 
 /// Enters a section into the tree, by its number. Its rows go into the tree.
@@ -27,14 +25,13 @@ pub(crate) fn enter_section<'de>(
     number: usize,
 ) -> Result<Box<Table<'de>>, Clash>
     ensures entered { EntersHeader section.old.is_array (rows_view section.old.rows.items)
-        (map cow_str_bytes section.old.header.items) 1 (table_trie root.entry.value) result }
-    ensures named { let keys = map cow_str_bytes section.old.header.items in
+        (header_texts section.old.header.items) 1 (table_trie root.entry.value) result }
+    ensures named { let keys = header_texts section.old.header.items in
         let tried = try_by_keys section.old.is_array (rows_view section.old.rows.items) keys
         (table_trie root.entry.value) in
         IfErr result (λ clash. NamesStop tried clash) }
     ensures at { section.new.at ≡ section.old.at }
     ensures header { section.new.header ≡ section.old.header }
-    ensures offsets { section.new.offsets ≡ section.old.offsets }
 {
     let rows = mem::replace(&mut section.rows, Vec::new(alloc));
     let is_array = section.is_array;
@@ -82,16 +79,16 @@ fn open<'de>(
 fn enter_header<'de>(
     alloc: Global,
     table: Box<Table<'de>>,
-    keys: &[CowStr<'de>],
+    keys: &[Key<'de>],
     is_array: bool,
     rows: Vec<Row<'de>>,
     number: usize,
     level: usize,
 ) -> Result<Box<Table<'de>>, Clash>
     requires { level ≤ 130 }
-    ensures entered { EntersHeader is_array (rows_view rows.entry.items) (map cow_str_bytes keys.now) level
+    ensures entered { EntersHeader is_array (rows_view rows.entry.items) (header_texts keys.now) level
         (table_trie table.entry.value) result }
-    ensures named { let keys = map cow_str_bytes keys.now in
+    ensures named { let keys = header_texts keys.now in
         let tried = try_by_keys is_array (rows_view rows.entry.items) keys (table_trie table.entry.value) in
         IfErr result (λ clash. NamesStop tried clash) }
 {
@@ -102,7 +99,7 @@ fn enter_header<'de>(
                 return Err(Clash::Deep);
             }
             let mut table = table;
-            let (position, there) = pass(&mut table, key.as_str(), number)?;
+            let (position, there) = pass(&mut table, key.text.as_str(), number)?;
             let child = enter_at(alloc, there, rest, is_array, rows, number, level)?;
             put_back(&mut table, position, child);
             Ok(table)
@@ -138,7 +135,7 @@ fn put_back<'de>(table: &mut Table<'de>, position: usize, child: Child<'de>)
 fn enter_at<'de>(
     alloc: Global,
     there: Child<'de>,
-    rest: &[CowStr<'de>],
+    rest: &[Key<'de>],
     is_array: bool,
     rows: Vec<Row<'de>>,
     number: usize,
@@ -146,10 +143,10 @@ fn enter_at<'de>(
 ) -> Result<Child<'de>, Clash>
     requires { level ≤ 128 }
     ensures entered { let rows = rows_view rows.entry.items in
-        let keys = map cow_str_bytes rest.now in
+        let keys = header_texts rest.now in
         EntersChild (entered_at is_array rows keys (child_trie there.entry)) rows
         (level + steps_at is_array keys (child_trie there.entry)) result }
-    ensures named { let tried = tried_at is_array (rows_view rows.entry.items) (map cow_str_bytes rest.now)
+    ensures named { let tried = tried_at is_array (rows_view rows.entry.items) (header_texts rest.now)
         (child_trie there.entry) in
         IfErr result (λ clash. NamesStop tried clash) }
 {
@@ -206,7 +203,7 @@ fn add_element<'de>(
 }
 
 // The room that a table wants where a header goes on by the keys that are left.
-fn room_below(rest: &[CowStr<'_>], rows: &[Row<'_>]) -> usize {
+fn room_below(rest: &[Key<'_>], rows: &[Row<'_>]) -> usize {
     if rest.is_empty() { room_for(rows) } else { 1 }
 }
 
@@ -215,7 +212,7 @@ fn room_below(rest: &[CowStr<'_>], rows: &[Row<'_>]) -> usize {
 fn enter_child<'de>(
     alloc: Global,
     there: Child<'de>,
-    rest: &[CowStr<'de>],
+    rest: &[Key<'de>],
     is_array: bool,
     rows: Vec<Row<'de>>,
     number: usize,
@@ -223,10 +220,10 @@ fn enter_child<'de>(
 ) -> Result<Child<'de>, Clash>
     requires { level ≤ 128 }
     ensures entered { let rows = rows_view rows.entry.items in
-        let keys = map cow_str_bytes rest.now in
+        let keys = header_texts rest.now in
         EntersChild (entered_by is_array rows keys (child_trie there.entry)) rows
         (level + steps_by is_array keys (child_trie there.entry)) result }
-    ensures named { let tried = tried_by is_array (rows_view rows.entry.items) (map cow_str_bytes rest.now)
+    ensures named { let tried = tried_by is_array (rows_view rows.entry.items) (header_texts rest.now)
         (child_trie there.entry) in
         IfErr result (λ clash. NamesStop tried clash) }
 {

@@ -75,7 +75,7 @@ impl<'de> Tree<'de> {
 fn first_key<'t, 'de>(tree: &'t Tree<'de>, section: usize, count: usize) -> Option<&'t str> {
     match tree.sections.get(section) {
         Some(section) => match section.header.get(count) {
-            Some(key) => Some(key.as_str()),
+            Some(key) => Some(key.text.as_str()),
             None => None,
         },
         None => None,

@@ -162,27 +162,13 @@ fn row_clash(
 {
     match met {
         Met::Memory => Ok(Clash::Memory),
-        Met::Row => {
-            let path = texts_of(alloc, keys, 1)?;
-            let key = String::from_str(alloc, last)?;
-            Ok(Clash::Row { path, key, offset })
-        }
+        Met::Row => Clash::row(alloc, texts_of(alloc, keys, 1)?, last, offset),
         Met::Header(left) => {
             let number = (keys.len() + 1).saturating_sub(left);
             let path = texts_of(alloc, keys, number)?;
             match keys.get(number) {
-                Some(row) => {
-                    let key = String::from_str(alloc, row.key.as_str())?;
-                    Ok(Clash::Row {
-                        path,
-                        key,
-                        offset: row.offset,
-                    })
-                }
-                None => {
-                    let key = String::from_str(alloc, last)?;
-                    Ok(Clash::Row { path, key, offset })
-                }
+                Some(row) => Clash::row(alloc, path, row.key.as_str(), row.offset),
+                None => Clash::row(alloc, path, last, offset),
             }
         }
     }
@@ -195,16 +181,14 @@ fn held_by(alloc: Global, clash: Clash, keys: &[Row<'_>], last: &str) -> Result<
         → IfOk result (λ held. SaysHeld (line_keys keys.now ++ key_at offset last.now ∷ []) clash held) }
 {
     match clash {
-        Clash::Row {
-            path: _path,
-            key,
-            offset,
-        } => {
+        Clash::Row(repeated) => {
+            let mut repeated = repeated;
             let mut path = texts_of(alloc, keys, 1)?;
             if keys.is_empty() {
                 path.push(String::from_str(alloc, last)?)?;
             }
-            Ok(Clash::Row { path, key, offset })
+            repeated.path = path;
+            Ok(Clash::Row(repeated))
         }
         clash => Ok(clash),
     }

@@ -76,7 +76,7 @@ fn push_section(out: &mut String, section: &Section<'_>) -> Result<(), AllocErro
     let kind = if section.is_array() { "array" } else { "table" };
     write!(out, "{at} {kind}")?;
     for key in section.header() {
-        let key = text_of(key);
+        let key = text_of(&key.text);
         write!(out, " {key}")?;
     }
     out.push(':')?;

@@ -1,5 +1,5 @@
-use Rattle.std.proofs.Common.{◌≡◌, ◌<◌, [], ◌∷◌, ◌++◌, rules, ap, ◌∙◌, arith, length, map, get_or, string_bytes}
-use Rattle.std.specs.Cow.{cow_str_bytes}
+use Rattle.std.proofs.Common.{◌≡◌, ◌<◌, [], ◌∷◌, ◌++◌, rules, ap, ◌∙◌, arith, length, get_or, string_bytes}
+use Rattle.basic_toml_read.specs.SectionView.{header_texts}
 use Rattle.basic_toml_tokens.specs.Ascii.{period}
 use Rattle.basic_toml_clash.proofs.HeadersNamed.{text_read, joined_first, joined_next, texts_count}
 use Rattle.basic_toml_clash.proofs.clash.joined.Goals as goal
@@ -7,13 +7,13 @@ use Rattle.basic_toml_clash.proofs.clash.joined.Goals.{then-at-gt0+in_ok-push, e
 
 pub loop-at-preserved : goal.loop-at-preserved
 loop-at-preserved c =
-    let keys = map cow_str_bytes c.args.keys.now in
+    let keys = header_texts c.args.keys.now in
     let n = c.loop-at.at in
     let k = c.as_str.result.now in
     let name = string_bytes c.loop-at.name in
     let within : n < length keys = omega (arith, texts_count c.args.keys.now, c.loop-at-test.true) in
     let read : k ≡ get_or keys n k =
-    text_read c.args.keys.now n c.index-keys-at.result k c.index-keys-at.is c.as_str.ensures.value in
+    text_read c.args.keys.now n c.index-keys-at.result k c.as_str.ensures.value in
     elim c.if-at-gt0.branch [
       | then-at-gt0+in_ok-push w ↦
           let pushed : string_bytes w.push.new.self ≡ name ++ period ∷ [] =

@@ -1,63 +1,67 @@
-use Rattle.std.proofs.Common.{refl, sym, subst, Err}
+use Rattle.std.proofs.Common.{List, map, arith, refl, sym, subst, Err}
 use Rattle.basic_toml_explain.specs.declared.stop.Stop.{Stop}
 use Rattle.basic_toml_read.specs.Lists.{ReadsHeaderKeys}
-use Rattle.basic_toml_read.proofs.KeysTold.{stopped}
-use Rattle.basic_toml_read.proofs.HeadersRead.{header_start, header_next, header_last, header_missing, header_deep}
+use Rattle.basic_toml_read.specs.SectionView.{key_of}
+use Rattle.basic_toml_read.specs.declared.section.Key as code
+use Rattle.basic_toml_read.proofs.KeysTold.{KeysTold, told_start, stopped}
+use Rattle.basic_toml_read.proofs.HeadersRead.{header_next, header_last, header_missing, header_deep}
 use Rattle.basic_toml_tokens.specs.Text.{text_at}
 use Rattle.basic_toml_grammar.specs.DeepStops.{DeepKeys}
 use Rattle.basic_toml_read.proofs.KeysTold.{key_is_deep}
 use Rattle.basic_toml_read.proofs.DeepStops.{raised, shallow, no_key_deep}
 use Rattle.basic_toml_read.proofs.header.header_keys.Goals as goal
 
-pub loop-offsets-init : goal.loop-offsets-init
-loop-offsets-init c = header_start c.args.text.now c.args.at c.new-keys.result.items c.new-offsets.result.items
-    c.new-keys.ensures.items c.new-offsets.ensures.items c.requires
+pub loop-keys-init : goal.loop-keys-init
+loop-keys-init c =
+    let text = c.args.text.now in
+    subst (λ (keys : List code.Key). KeysTold text c.args.at 2 c.args.at 2 (map key_of keys))
+    (sym c.in_ok-keys.ensures.items) (told_start text c.args.at 2 (omega arith) c.requires)
 
 pub returns-in_err-keyed-clause-read : goal.returns-in_err-keyed-clause-read
 returns-in_err-keyed-clause-read c =
     let stop = c.in_err-keyed.field-0.0 in
-    stopped (ReadsHeaderKeys c.args.text.now c.args.at) c.from_residual.result stop c.from_residual.ensures.1
-    (header_missing c.args.text.now c.args.at c.loop-offsets.offset c.loop-offsets.level c.loop-offsets.keys.items
-    c.loop-offsets.offsets.items c.loop-offsets.invariant stop.why c.in_err-keyed.ensures.read.0)
+    stopped (ReadsHeaderKeys c.args.text.now c.args.at) c.from_residual-in_err-keyed.result stop c.from_residual-in_err-keyed.ensures.1
+    (header_missing c.args.text.now c.args.at c.loop-keys.offset c.loop-keys.level
+    (map key_of c.loop-keys.keys.items) c.loop-keys.invariant stop.why c.in_err-keyed.ensures.read.0)
 
 pub returns-in_err-raise-clause-read : goal.returns-in_err-raise-clause-read
 returns-in_err-raise-clause-read c =
     let reads = ReadsHeaderKeys c.args.text.now c.args.at in
     stopped reads c.from_residual-in_err-raise.result c.in_err-raise.field-0.0 c.from_residual-in_err-raise.ensures.1
     (subst (λ (stop : Stop). reads (Err stop)) (sym c.in_err-raise.ensures.1)
-    (header_deep c.args.text.now c.args.at c.loop-offsets.offset c.loop-offsets.level c.loop-offsets.keys.items
-    c.loop-offsets.offsets.items c.loop-offsets.invariant c.in_err-raise.ensures.0))
+    (header_deep c.args.text.now c.args.at c.loop-keys.offset c.loop-keys.level
+    (map key_of c.loop-keys.keys.items) c.loop-keys.invariant c.in_err-raise.ensures.0))
 
-pub loop-offsets-preserved : goal.loop-offsets-preserved
-loop-offsets-preserved c =
-    header_next c.args.text.now c.args.at c.loop-offsets.offset c.loop-offsets.level c.loop-offsets.keys.items
-    c.loop-offsets.offsets.items c.loop-offsets.invariant
+pub loop-keys-preserved : goal.loop-keys-preserved
+loop-keys-preserved c =
+    header_next c.args.text.now c.args.at c.loop-keys.offset c.loop-keys.level
+    c.loop-keys.keys.items c.loop-keys.invariant
     c.in_ok-keyed.keyed c.in_ok-keyed.ensures.read c.after_blanks-end.result c.after_blanks-end.ensures
     c.in_ok-raise.ensures
-    c.push.new.self.items c.push-in-loop-offsets.new.self.items c.in_ok-push.ensures.items c.in_ok-push-2.ensures.items
+    c.push.new.self.items c.in_ok-push.ensures.items
     c.in-Some.next c.after_blanks-offset.result c.in-Some.ensures c.after_blanks-offset.ensures
 
 pub returns-in-None-clause-read : goal.returns-in-None-clause-read
 returns-in-None-clause-read c =
-    header_last c.args.text.now c.args.at c.loop-offsets.offset c.loop-offsets.level c.loop-offsets.keys.items
-    c.loop-offsets.offsets.items c.loop-offsets.invariant
+    header_last c.args.text.now c.args.at c.loop-keys.offset c.loop-keys.level
+    c.loop-keys.keys.items c.loop-keys.invariant
     c.in_ok-keyed.keyed c.in_ok-keyed.ensures.read c.after_blanks-end.result c.after_blanks-end.ensures
     c.in_ok-raise.ensures
-    c.push.new.self.items c.push-in-loop-offsets.new.self.items c.in_ok-push.ensures.items c.in_ok-push-2.ensures.items
-    c.push.new.self c.push-in-loop-offsets.new.self refl refl c.in-None.ensures
+    c.push.new.self.items c.in_ok-push.ensures.items
+    c.push.new.self refl c.in-None.ensures
 
 -- levels
 pub returns-in_err-keyed-clause-deep : goal.returns-in_err-keyed-clause-deep
 returns-in_err-keyed-clause-deep c =
     let stop = c.in_err-keyed.field-0.0 in
-    shallow (DeepKeys 128 2 (text_at c.args.text.now c.args.at)) stop c.from_residual.result
-    c.from_residual.ensures.1
-    (no_key_deep stop.why (text_at c.args.text.now c.loop-offsets.offset) c.in_err-keyed.ensures.read.0)
+    shallow (DeepKeys 128 2 (text_at c.args.text.now c.args.at)) stop c.from_residual-in_err-keyed.result
+    c.from_residual-in_err-keyed.ensures.1
+    (no_key_deep stop.why (text_at c.args.text.now c.loop-keys.offset) c.in_err-keyed.ensures.read.0)
 
 pub returns-in_err-raise-clause-deep : goal.returns-in_err-raise-clause-deep
 returns-in_err-raise-clause-deep c =
-    raised (DeepKeys 128 2 (text_at c.args.text.now c.args.at)) c.loop-offsets.level c.loop-offsets.offset
+    raised (DeepKeys 128 2 (text_at c.args.text.now c.args.at)) c.loop-keys.level c.loop-keys.offset
     c.in_err-raise.field-0.0 c.from_residual-in_err-raise.result c.from_residual-in_err-raise.ensures.1
     c.in_err-raise.ensures
-    (key_is_deep c.args.text.now c.args.at 2 c.loop-offsets.offset c.loop-offsets.level
-    _ c.loop-offsets.invariant.told c.in_ok-keyed.keyed c.in_ok-keyed.ensures.read)
+    (key_is_deep c.args.text.now c.args.at 2 c.loop-keys.offset c.loop-keys.level
+    _ c.loop-keys.invariant c.in_ok-keyed.keyed c.in_ok-keyed.ensures.read)

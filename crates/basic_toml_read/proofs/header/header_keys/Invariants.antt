@@ -1,9 +1,10 @@
-use Rattle.std.proofs.Common.{◌-◌, length}
-use Rattle.basic_toml_read.proofs.HeadersRead.{HeaderSoFar}
+use Rattle.std.proofs.Common.{◌-◌, length, map}
+use Rattle.basic_toml_read.specs.SectionView.{key_of}
+use Rattle.basic_toml_read.proofs.KeysTold.{KeysTold}
 use Rattle.basic_toml_read.proofs.header.header_keys.Given as goal
 
-abbrev pub invariant-loop-offsets : goal.invariant-loop-offsets
-invariant-loop-offsets l = HeaderSoFar l.text l.at l.offset l.level l.keys.items l.offsets.items
+abbrev pub invariant-loop-keys : goal.invariant-loop-keys
+invariant-loop-keys l = KeysTold l.text l.at 2 l.offset l.level (map key_of l.keys.items)
 
-abbrev pub decreases-loop-offsets : goal.decreases-loop-offsets
-decreases-loop-offsets l = length l.text - l.offset
+abbrev pub decreases-loop-keys : goal.decreases-loop-keys
+decreases-loop-keys l = length l.text - l.offset

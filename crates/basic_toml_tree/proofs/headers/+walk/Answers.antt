@@ -1,9 +1,8 @@
-use Rattle.std.proofs.Common.{◌≡◌, ◌≤◌, ◌∷◌, ◌+◌, length, suc, ap, sym, ◌∙◌, arith, map, refl, inr}
+use Rattle.std.proofs.Common.{◌≡◌, ◌≤◌, ◌∷◌, ◌+◌, length, suc, ap, sym, ◌∙◌, arith, map, subst, refl, inr}
 use Rattle.std.specs.Prelude.{IfErr}
-use Rattle.std.specs.Cow.{cow_str_bytes}
 use Rattle.basic_toml_grammar.specs.Trie.{walk, steps_to}
 use Rattle.basic_toml_grammar.specs.TrieStops.{try_by_keys}
-use Rattle.basic_toml_read.specs.SectionView.{rows_view}
+use Rattle.basic_toml_read.specs.SectionView.{header_texts, rows_view}
 use Rattle.basic_toml_tree.specs.declared.item.Item.TheViews.{roll-Child}
 use Rattle.basic_toml_clash.specs.Clash.{NamesStop}
 use Rattle.basic_toml_tree.specs.Item.{child_trie, table_trie}
@@ -16,7 +15,7 @@ use Rattle.basic_toml_tree.proofs.HeadersEntered.{into_table, into_latest, steps
 use Rattle.basic_toml_tree.proofs.HeadersEntered.{steps_into_latest}
 use Rattle.basic_toml_tree.proofs.HeadersEntered.{other_is_leaf}
 use Rattle.basic_toml_tree.proofs.HeadersStopped.{stopped, same_stops, tried_into_fresh, stopped_in_latest}
-use Rattle.basic_toml_tree.proofs.HeadersStopped.{value_stopped, passed_stops}
+use Rattle.basic_toml_tree.proofs.HeadersStopped.{value_stopped, passed_stops, no_array_tried, not_last_tried}
 use Rattle.basic_toml_tree.proofs.headers.+walk.Goals as goal
 use Rattle.basic_toml_tree.proofs.headers.+walk.Goals.{enter_child-in-Nothing+in_ok-table-in-Nothing+in_ok-enter_header-in-Nothing}
 use Rattle.basic_toml_tree.proofs.headers.+walk.Goals.{enter_at-else-is_array-via-then-is_array+else-is_empty}
@@ -34,15 +33,30 @@ enter_at-returns-clause-entered t c =
           not_last c.args.is_array rows c.args.rest.now c.args.level there c.enter_child.result some
           c.enter_child.ensures.entered
       | enter_at-else-is_array-via-else-is_array w ↦
-          no_array c.args.is_array rows (map cow_str_bytes c.args.rest.now) c.args.level there c.enter_child.result
+          no_array c.args.is_array rows (header_texts c.args.rest.now) c.args.level there c.enter_child.result
           w.if-is_array.false c.enter_child.ensures.entered
     ]
+
+pub enter_at-returns-clause-named : goal.enter_at-returns-clause-named
+enter_at-returns-clause-named t c =
+    let rows = rows_view c.args.rows.items in
+    let there = child_trie c.args.there in
+    let same : tried_at c.args.is_array rows (header_texts c.args.rest.now) there
+    ≡ tried_by c.args.is_array rows (header_texts c.args.rest.now) there =
+    elim c.else-is_array.branch [
+      | enter_at-else-is_array-via-then-is_array+else-is_empty w ↦
+          let some : 1 ≤ length c.args.rest.now = grind (arith, w.is_empty.ensures, w.if-is_empty.false) in
+          not_last_tried c.args.is_array rows c.args.rest.now there some
+      | enter_at-else-is_array-via-else-is_array w ↦
+          no_array_tried c.args.is_array rows (header_texts c.args.rest.now) there w.if-is_array.false
+    ] in
+    subst (λ o. IfErr c.enter_child.result (λ clash. NamesStop o clash)) (sym same) c.enter_child.ensures.named
 
 pub enter_child-returns-in_err-enter_header-in-Nothing-clause-entered : goal.enter_child-returns-in_err-enter_header-in-Nothing-clause-entered
 enter_child-returns-in_err-enter_header-in-Nothing-clause-entered t c =
     let a = c.args.is_array in
     let rows = rows_view c.args.rows.items in
-    let keys = map cow_str_bytes c.args.rest.now in
+    let keys = header_texts c.args.rest.now in
     let there = child_trie c.args.there in
     let new = table_trie c.in_ok-table-in-Nothing.table.value in
     let clash = c.in_err-enter_header-in-Nothing.field-0.0 in
@@ -60,7 +74,7 @@ pub enter_child-returns-in_err-latest-in-Tables-clause-entered : goal.enter_chil
 enter_child-returns-in_err-latest-in-Tables-clause-entered t c =
     let a = c.args.is_array in
     let rows = rows_view c.args.rows.items in
-    let keys = map cow_str_bytes c.args.rest.now in
+    let keys = header_texts c.args.rest.now in
     let there = child_trie c.args.there in
     let old = table_trie c.in-Tables.latest.value in
     let clash = c.in_err-latest-in-Tables.field-0.0 in
@@ -77,14 +91,14 @@ enter_child-returns-in_err-latest-in-Tables-clause-entered t c =
 
 pub enter_child-returns-in_default-clause-entered : goal.enter_child-returns-in_default-clause-entered
 enter_child-returns-in_default-clause-entered t c =
-    inr (other_bars c.args.is_array (rows_view c.args.rows.items) (map cow_str_bytes c.args.rest.now) c.args.there
+    inr (other_bars c.args.is_array (rows_view c.args.rows.items) (header_texts c.args.rest.now) c.args.there
     c.args.there.item refl c.in_default.not-Nothing c.in_default.not-Table c.in_default.not-Tables)
 
 pub enter_child-returns-clause-entered : goal.enter_child-returns-clause-entered
 enter_child-returns-clause-entered t c =
     let a = c.args.is_array in
     let rows = rows_view c.args.rows.items in
-    let keys = map cow_str_bytes c.args.rest.now in
+    let keys = header_texts c.args.rest.now in
     let there = child_trie c.args.there in
     let child = roll-Child (record {
       start = c.args.there.start;
@@ -125,10 +139,10 @@ enter_header-returns-in_err-child-in-Some-clause-entered t c =
     let a = c.args.is_array in
     let rows = rows_view c.args.rows.items in
     let k = c.as_str.result.now in
-    let keys = map cow_str_bytes c.in-Some.rest.now in
-    let whole = map cow_str_bytes c.args.keys.now in
+    let keys = header_texts c.in-Some.rest.now in
+    let whole = header_texts c.args.keys.now in
     let is_whole : whole ≡ k ∷ keys =
-    ap (map cow_str_bytes) c.in-Some.ensures.cases.0 ∙ ap (λ k. k ∷ keys) (sym c.as_str.ensures.value) in
+    ap (λ l. header_texts l) c.in-Some.ensures.cases.0 ∙ ap (λ k. k ∷ keys) (sym c.as_str.ensures.value) in
     let clash = c.in_err-child-in-Some.field-0.0 in
     failed (EntersHeader a rows whole c.args.level (table_trie c.args.table.value))
     c.from_residual-in_err-child-in-Some.result clash c.from_residual-in_err-child-in-Some.ensures.1
@@ -141,10 +155,10 @@ enter_header-returns-in_ok-child-in-Some-clause-entered t c =
     let a = c.args.is_array in
     let rows = rows_view c.args.rows.items in
     let k = c.as_str.result.now in
-    let keys = map cow_str_bytes c.in-Some.rest.now in
-    let whole = map cow_str_bytes c.args.keys.now in
+    let keys = header_texts c.in-Some.rest.now in
+    let whole = header_texts c.args.keys.now in
     let is_whole : whole ≡ k ∷ keys =
-    ap (map cow_str_bytes) c.in-Some.ensures.cases.0 ∙ ap (λ k. k ∷ keys) (sym c.as_str.ensures.value) in
+    ap (λ l. header_texts l) c.in-Some.ensures.cases.0 ∙ ap (λ k. k ∷ keys) (sym c.as_str.ensures.value) in
     passed_in a rows k keys whole c.args.level c.args.table.value c.deref_mut.result.now c.pass.new.table
     c.deref_mut-in-Some.result.now c.put_back.new.table c.in_ok-position-in-Some.position
     c.in_ok-position-in-Some.there c.in_ok-child-in-Some.child is_whole c.deref_mut.ensures.value
@@ -156,7 +170,7 @@ pub enter_child-returns-in_err-enter_header-in-Nothing-clause-named :
 enter_child-returns-in_err-enter_header-in-Nothing-clause-named t c =
     let a = c.args.is_array in
     let rows = rows_view c.args.rows.items in
-    let keys = map cow_str_bytes c.args.rest.now in
+    let keys = header_texts c.args.rest.now in
     let new = table_trie c.in_ok-table-in-Nothing.table.value in
     let clash = c.in_err-enter_header-in-Nothing.field-0.0 in
     failed (λ r. IfErr r (λ clash. NamesStop (tried_by a rows keys (child_trie c.args.there)) clash))
@@ -172,7 +186,7 @@ pub enter_child-returns-in_err-latest-in-Tables-clause-named :
 enter_child-returns-in_err-latest-in-Tables-clause-named t c =
     let a = c.args.is_array in
     let rows = rows_view c.args.rows.items in
-    let keys = map cow_str_bytes c.args.rest.now in
+    let keys = header_texts c.args.rest.now in
     let clash = c.in_err-latest-in-Tables.field-0.0 in
     failed (λ r. IfErr r (λ clash. NamesStop (tried_by a rows keys (child_trie c.args.there)) clash))
     c.from_residual-in_err-latest-in-Tables.result clash c.from_residual-in_err-latest-in-Tables.ensures.1
@@ -192,10 +206,10 @@ enter_header-returns-in_err-child-in-Some-clause-named t c =
     let a = c.args.is_array in
     let rows = rows_view c.args.rows.items in
     let k = c.as_str.result.now in
-    let keys = map cow_str_bytes c.in-Some.rest.now in
-    let whole = map cow_str_bytes c.args.keys.now in
+    let keys = header_texts c.in-Some.rest.now in
+    let whole = header_texts c.args.keys.now in
     let is_whole : whole ≡ k ∷ keys =
-    ap (map cow_str_bytes) c.in-Some.ensures.cases.0 ∙ ap (λ k. k ∷ keys) (sym c.as_str.ensures.value) in
+    ap (λ l. header_texts l) c.in-Some.ensures.cases.0 ∙ ap (λ k. k ∷ keys) (sym c.as_str.ensures.value) in
     let clash = c.in_err-child-in-Some.field-0.0 in
     let there = child_trie c.in_ok-position-in-Some.there in
     failed (λ r. IfErr r (λ clash. NamesStop (try_by_keys a rows whole (table_trie c.args.table.value)) clash))

@@ -29,7 +29,7 @@ returns-in-Err c = λ keyed.
     (subst (λ (ss : List Section). NoneIsCrossed ss) c.as_slice.ensures.value
     (none_crossed c.as_slice.result.now c.in_ok-at.field-0 c.in_default.not-Some c.in_ok-at.ensures.none)) c.in-Err.clash c.error.result
     c.in-Err.ensures.entered c.in-Err.ensures.named c.enter_section.new.section c.enter_section.ensures.at
-    c.enter_section.ensures.header c.enter_section.ensures.offsets c.error.ensures
+    c.enter_section.ensures.header c.error.ensures
 
 pub loop-number-preserved : goal.loop-number-preserved
 loop-number-preserved c =
@@ -43,7 +43,7 @@ loop-number-preserved c =
     (table_trie c.in-Ok.root.value) c.in-Ok.ensures.entered (length-set now n next)
     (λ k d past. get_or-set_other now n k next d (omega (arith, past)))
     (heads_kept now n c.index_mut-section.result.now next (search (rules, c.index_mut-section.ensures.value))
-    c.enter_section.ensures.at c.enter_section.ensures.header c.enter_section.ensures.offsets)
+    c.enter_section.ensures.at c.enter_section.ensures.header)
 
 pub returns : goal.returns
 returns c = λ keyed.
