@@ -10,10 +10,8 @@ ghost use Rattle.basic_toml_emit.specs.Changes.{outer, with_stage, with_entry, h
 ghost use Rattle.basic_toml_emit.specs.Frames.{frames_of, frame_of, header_of, stage_of, kind_of};
 
 use crate::keys::Keys;
+use basic_toml_value::NESTING_LIMIT;
 use std::alloc::{AllocError, Global};
-
-/// How many arrays and tables may be open at once.
-pub const NESTING_LIMIT: usize = 128;
 
 // Whether the header of a table is still to be written.
 #[derive(Clone, Copy, Debug, PartialEq, Eq)]

@@ -17,4 +17,3 @@ pub use basic_toml_layout::{Scalar, write_key};
 pub use call::Call;
 pub use emitter::Emitter;
 pub use error::EmitError;
-pub use frames::NESTING_LIMIT;

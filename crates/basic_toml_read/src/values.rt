@@ -15,12 +15,10 @@ use crate::scalar::{Valued, key_at, string_value_at, word_at};
 use crate::section::{Element, Raw, Row};
 use basic_toml_explain::{End, Stop, Why};
 use basic_toml_tokens::after_punctuation;
+use basic_toml_value::NESTING_LIMIT;
 use std::alloc::{AllocError, Global};
 use std::borrow::CowStr;
 use std::mem;
-
-/// The highest level of a key or a bracket.
-const LIMIT: usize = 128;
 
 /// What is read is gathered in vectors that are used again, and is taken out of them where it is
 /// whole. So each vector that is kept is as long as it has to be.
@@ -45,7 +43,7 @@ struct LastKey<'de> {
 pub(crate) fn raise(level: usize, at: usize) -> Result<(), Stop>
     ensures { RaisesTo level at result }
 {
-    if level > LIMIT {
+    if level > NESTING_LIMIT {
         return Err(Stop { at, why: Why::Deep });
     }
     Ok(())

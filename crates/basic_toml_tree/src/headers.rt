@@ -10,10 +10,11 @@ ghost use Rattle.basic_toml_tree.specs.Item.{table_trie, child_trie};
 ghost use Rattle.basic_toml_tree.specs.Headers.{EntersHeader, EntersChild, Passes, PutsBack};
 ghost use Rattle.basic_toml_tree.specs.Headers.{entered_by, steps_by, entered_at, steps_at, tried_by, tried_at};
 
-use crate::item::{Child, Item, LIMIT, Table};
+use crate::item::{Child, Item, Table};
 use crate::rows::{enter_rows, room_for};
 use basic_toml_clash::Clash;
 use basic_toml_read::{Key, Row, Section};
+use basic_toml_value::NESTING_LIMIT;
 use std::alloc::{AllocError, Global};
 use std::mem;
 
@@ -60,7 +61,7 @@ fn open<'de>(
         IfErr result (λ clash. NamesStop tried clash) }
 {
     let mut table = table;
-    if level > LIMIT {
+    if level > NESTING_LIMIT {
         return Err(Clash::Deep);
     }
     if table.dotted {
@@ -95,7 +96,7 @@ fn enter_header<'de>(
     match keys.split_first() {
         None => open(alloc, table, rows, number, level),
         Some((key, rest)) => {
-            if level > LIMIT {
+            if level > NESTING_LIMIT {
                 return Err(Clash::Deep);
             }
             let mut table = table;

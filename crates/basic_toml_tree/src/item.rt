@@ -12,9 +12,6 @@ use basic_toml_value::Float;
 use std::alloc::{AllocError, Global};
 use std::borrow::CowStr;
 
-/// How deep a document is at most.
-pub(crate) const LIMIT: usize = 128;
-
 /// What stands at a key or a number.
 #[cycle(items)]
 #[derive(Drop)]

@@ -15,9 +15,10 @@ ghost use Rattle.basic_toml_tree.specs.RowStops.{line_keys, key_at, TellsLast, T
 ghost use Rattle.basic_toml_tree.specs.RowStops.{SaysHeld};
 ghost use Rattle.basic_toml_tree.specs.Rows.{all_dots, is_dot, reason, met_reason};
 
-use crate::item::{Child, Item, LIMIT, Table};
+use crate::item::{Child, Item, Table};
 use basic_toml_clash::{Clash, texts_of};
 use basic_toml_read::{Element, Raw, Row};
+use basic_toml_value::NESTING_LIMIT;
 use std::alloc::{AllocError, AllocFailed, Global};
 
 /// Why a row is not put into a table.
@@ -253,7 +254,7 @@ fn enter_value<'de>(
     ensures named { IfErr result (λ clash.
         NamesStop (try_put_rows (rows_view (keys.entry.now ++ row.entry ∷ [])) (table_trie table.entry.value)) clash) }
 {
-    if keys.len() > LIMIT - level {
+    if keys.len() > NESTING_LIMIT - level {
         return Err(Clash::Deep);
     }
     let Row {
@@ -299,14 +300,14 @@ fn finished<'de>(
         Raw::Boolean(truth) => Ok(Child::at(start, section, Item::Boolean(truth))),
         Raw::String(text) => Ok(Child::at(start, section, Item::String(text))),
         Raw::Array(elements) => {
-            if level >= LIMIT {
+            if level >= NESTING_LIMIT {
                 return Err(Clash::Deep);
             }
             let children = finished_elements(alloc, elements, section, level + 1)?;
             Ok(Child::at(start, section, Item::Array(children)))
         }
         Raw::Inline(rows) => {
-            if level >= LIMIT {
+            if level >= NESTING_LIMIT {
                 return Err(Clash::Deep);
             }
             let room = room_for(rows.as_slice());

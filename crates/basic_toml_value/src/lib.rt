@@ -22,4 +22,4 @@ pub use float::{Float, float_of};
 pub use index::{Found, Gap, Index, Texts};
 pub use numbers::{integer_of, is_digits, is_whole, split_part};
 pub use pairs::{Iter, Pair, Pairs, PushRefusal};
-pub use value::{Table, Value};
+pub use value::{NESTING_LIMIT, Table, Value};

@@ -12,6 +12,9 @@ use crate::float::Float;
 use crate::pairs::{Pair, Pairs};
 use std::alloc::{AllocError, Global};
 
+/// How deep arrays and tables nest at most: the depth of a document that is read, and of a value that is written.
+pub const NESTING_LIMIT: usize = 128;
+
 /// A table: keys with their values, in order, each key once.
 pub type Table = Pairs<Value>;
 

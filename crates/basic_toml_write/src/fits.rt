@@ -7,9 +7,8 @@ ghost use Rattle.basic_toml_write.specs.DataFits as f;
 ghost use Rattle.basic_toml_write.specs.Impls.{data_calls, items_calls, members_calls};
 ghost use Rattle.basic_toml_write.specs.Recordable.{AreRecordable};
 
-use basic_toml_emit::NESTING_LIMIT;
 use basic_toml_layout::{begins_with_table, is_section};
-use basic_toml_value::{Pair, Table, Value};
+use basic_toml_value::{NESTING_LIMIT, Pair, Table, Value};
 
 // A value within a row.
 #[cycle(rows)]
