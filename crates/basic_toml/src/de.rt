@@ -16,6 +16,13 @@ use std::alloc::Global;
 
 /// Reads a value from a text (TOML v0.5.0, without dates and times).
 ///
+/// ```text
+/// let settings: Table = from_str(alloc, "port = 80\n")?;
+/// ```
+///
+/// This is from `toml_typed_vectors`. A `Table` takes every text that has a document; the program `load_settings` reads
+/// a type of its own.
+///
 /// # Errors
 ///
 /// Where the text has no document: an error of the grammar; where its rows and sections clash, an error of a clash;
@@ -83,7 +90,7 @@ fn tree_in<'de>(alloc: Global, text: &'de str) -> Result<Tree<'de>, ReadError>
     resolve(alloc, sections)
 }
 
-/// Reads a value from bytes, as [`from_str`] does where they are UTF-8.
+/// Reads a value from bytes, as [`from_str`] does where they are UTF-8 (TOML v0.5.0, "Spec"). `toml_answer` calls it.
 ///
 /// # Errors
 ///

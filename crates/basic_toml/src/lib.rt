@@ -10,7 +10,8 @@
 //! let text = to_string(alloc, &settings)?; // port = 80
 //! ```
 //!
-//! The programs `load_settings`, `read_manifest`, `check_keys` and `write_rules` call it.
+//! This is from `toml_typed_vectors`. The programs `load_settings`, `read_manifest`, `check_keys` and `write_rules` are
+//! callers with types and checks of their own.
 #![tactic(auto)]
 
 mod de;

@@ -6,7 +6,8 @@ use basic_toml_value::Table;
 use basic_toml_write::Serialize;
 use std::alloc::Global;
 
-/// Writes a value and reads its text back into a [`Table`]: exactly what was written, absent options left out.
+/// Writes a value and reads its text back into a [`Table`]: exactly what was written, absent options left out. The
+/// program `write_rules` calls it.
 ///
 /// # Errors
 ///

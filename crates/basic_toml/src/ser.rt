@@ -12,6 +12,12 @@ use std::alloc::Global;
 /// A scalar entry of a table, and an array that holds no table, is a row `key = value`; a table is a section with its
 /// header, and an array of tables one section for each element. (TOML v0.5.0, "Table" and "Array of Tables")
 ///
+/// ```text
+/// let text = to_string(alloc, &settings)?;
+/// ```
+///
+/// This is from `toml_typed_vectors`; the program `write_rules` writes types of its own.
+///
 /// # Errors
 ///
 /// The first error that the value's calls meet, as [`Serializer`](crate::Serializer) says of each, even where the

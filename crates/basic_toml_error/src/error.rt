@@ -20,7 +20,19 @@ use std::marker::Model;
 ///
 /// It is an error of reading, bytes that are not UTF-8, an error of the writer, a message of a type's own, or want of
 /// memory. Its text says what is wrong, then the keys that lead there, if there are any, and where it has an offset at
-/// which line and column, counted from 1.
+/// which line and column, counted from 1; a column counts bytes.
+///
+/// A type makes errors of its own at the node that it does not read:
+///
+/// ```text
+/// if text.is_empty() {
+///     return Err(Error::invalid_length(alloc, node, 0, "a non-empty string"));
+/// }
+/// ```
+///
+/// This is from `toml_typed_vectors`. Such an error has the keys that lead to the node, and stands at its `place` where
+/// the function names no other; line and column come with the text, from `from_str`. Where its words or its keys find
+/// no memory, it is want of memory instead.
 #[derive(Debug, Drop)]
 pub struct Error {
     kind: ErrorKind,
@@ -157,7 +169,7 @@ impl Error {
         Error::told(alloc, node, unknown_field_message(alloc, field, fields))
     }
 
-    /// An error with a message of one's own.
+    /// An error with a message of one's own, which is its text up to the keys.
     pub fn custom(alloc: Global, node: Node<'_, '_>, message: &str) -> Error
         ensures { IsFault result (fault_at node.entry (custom message.now)) }
     {

@@ -140,6 +140,9 @@ pub(crate) fn list<'de>(alloc: Global, text: &'de str) -> Result<Vec<Section<'de
 /// stands; with `NestedTooDeeply` where a key or a bracket stands within 128 others; and with
 /// `OutOfMemory`, without an offset, where memory is refused. A text of blanks, comments and line
 /// feeds alone has no sections, and asks for no memory.
+///
+/// `sections(alloc, "a = 1\n[b]\n")` has two: a row `a`, and the header `b` without rows. `basic_toml` calls it, and so
+/// do the tests of `toml_reader_vectors`.
 pub fn sections<'de>(alloc: Global, text: &'de str) -> Result<Vec<Section<'de>>, ReadError>
     ensures { AnswersSections text.now result }
 {

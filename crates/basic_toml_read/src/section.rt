@@ -5,7 +5,7 @@ ghost use Rattle.basic_toml_read.specs.SectionView.{section_of, lined_of};
 use basic_toml_value::Float;
 use std::borrow::CowStr;
 
-/// A value as it is written.
+/// A value as it is written (TOML v0.5.0, "Integer" to "Inline Table").
 #[cycle(raws)]
 #[derive(Drop)]
 pub enum Raw<'de> {
@@ -67,7 +67,7 @@ pub struct Key<'de> {
     pub offset: usize,
 }
 
-/// A header with its rows, or the rows before the first header.
+/// A header with its rows, or the rows before the first header (TOML v0.5.0, "Table" and "Array of Tables").
 #[derive(Drop)]
 pub struct Section<'de> {
     /// The byte offset of the header's first bracket, and 0 where there is no header.

@@ -75,7 +75,7 @@ pub(crate) fn is_in(class: Class, byte: u8) -> bool
     CLASSES[byte as usize] & bit != 0
 }
 
-/// Where the longest run of a class ends.
+/// The byte offset where the longest run of a class ends that stands at a byte offset.
 #[inline]
 pub fn end_of_run(text: &str, at: usize, class: Class) -> usize
     requires { IsCharBoundary text.now at }

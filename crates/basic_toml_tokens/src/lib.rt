@@ -7,12 +7,11 @@
 //!
 //! ```text
 //! let mut tokens = Tokenizer::new("a = 'b'");
-//! while let Some((span, token)) = tokens.next(alloc)? {
-//!     // 0..1 Keylike("a"), 1..2 Whitespace(" "), 2..3 Equals, 3..4 Whitespace(" "), 4..7 String { val: "b", .. }
-//! }
+//! let next = tokens.next(alloc)?; // 0..1 Keylike("a"); then 1..2 Whitespace(" "), 2..3 Equals, 3..4 Whitespace(" "),
+//! // 4..7 String { val: "b", .. }, and None
 //! ```
 //!
-//! The program `check_keys` goes through a text so.
+//! This is from `toml_typed_vectors`; the program `check_keys` goes through a text by `while let`.
 #![tactic(auto)]
 
 mod class;

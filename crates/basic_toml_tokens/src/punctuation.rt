@@ -4,7 +4,7 @@ ghost use Rattle.std.specs.Str.{IsCharBoundary};
 ghost use Rattle.basic_toml_tokens.specs.Quote.{IsFeed};
 ghost use Rattle.basic_toml_tokens.specs.Punctuation.{is_lone, IsPunctuationEnd};
 
-/// Where the text goes on after a character, or `None` where it does not stand at the offset. The
+/// The byte offset after a character, or `None` where it does not stand at the offset. The
 /// character is below U+0080, and neither a carriage return nor a line feed.
 #[inline]
 pub fn after_punctuation(text: &str, at: usize, punctuation: u8) -> Option<usize>
@@ -23,7 +23,7 @@ pub fn after_punctuation(text: &str, at: usize, punctuation: u8) -> Option<usize
     }
 }
 
-/// Where the text goes on after a line feed, or `None` where none stands at the offset. A carriage
+/// The byte offset after a line feed, or `None` where none stands at the offset. A carriage
 /// return and a line feed are one.
 #[inline]
 pub fn after_feed(text: &str, at: usize) -> Option<usize>

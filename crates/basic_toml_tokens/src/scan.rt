@@ -99,7 +99,8 @@ pub(crate) fn rest<'a>(
     }
 }
 
-/// The token at an offset and where it ends, or `None` at the end of the text.
+/// The token at a byte offset and where it ends, or `None` at the end of the text. The errors are those of
+/// `Tokenizer::next`.
 pub fn scan<'a>(
     alloc: Global,
     text: &'a str,

@@ -28,7 +28,7 @@ fn char_at(text: &str, at: usize) -> Option<(char, &str)>
     }
 }
 
-/// Where a text begins, after a U+FEFF.
+/// The byte offset where a text begins, after a U+FEFF: 0 or 3.
 pub fn start(text: &str) -> usize
     ensures offset { result ≡ start_of text.now }
     ensures boundary { IsCharBoundary text.now result }

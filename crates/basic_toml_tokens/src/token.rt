@@ -3,7 +3,8 @@ ghost use Rattle.std.specs.Prelude.{◌≡◌, ◌↔◌, IsTrue};
 
 use std::borrow::CowStr;
 
-/// A piece of a text (TOML v0.5.0). `Whitespace`, `Comment` and `Keylike` hold their bytes in the text.
+/// A piece of a text (TOML v0.5.0: "Spec", "Comment", "Keys", "String"). `Whitespace`, `Comment` and `Keylike` hold
+/// their bytes in the text.
 #[derive(Debug, Drop, PartialEq, Eq)]
 pub enum Token<'a> {
     /// Spaces and tabs.

@@ -16,7 +16,8 @@ use std::alloc::{AllocError, Global};
 use std::borrow::CowStr;
 use std::marker::Model;
 
-/// Stands at an offset of a text (TOML v0.5.0), and takes tokens from there on.
+/// Stands at an offset of a text (TOML v0.5.0), and takes tokens from there on. The program `check_keys` goes through a
+/// text by `next`, and the tests of `toml_vectors` make each call once.
 ///
 /// Offsets count bytes, from 0. It stands on a character boundary of the text, or at its end, so
 /// that the text can be cut there. A carriage return directly followed by a line feed counts as
@@ -70,7 +71,7 @@ impl<'a> Tokenizer<'a> {
         }
     }
 
-    /// Stands at an offset of a text. It has to be the start of a character.
+    /// Stands at a byte offset of a text, which has to be the start of a character, or the end.
     pub fn at(input: &'a str, at: usize) -> Tokenizer<'a>
         requires { IsCharBoundary input.now at }
         ensures text { result.text ≡ input.now }
@@ -84,7 +85,7 @@ impl<'a> Tokenizer<'a> {
     /// Where no token stands, it answers the error that does. It then stands after the character
     /// that the error names, after the last digit for `InvalidEscapeValue`, before the first
     /// character that is no blank for the `InvalidEscape` of a blank, and at the end of the text for
-    /// `UnterminatedString`.
+    /// `UnterminatedString`. Without memory for the value of a string it answers `OutOfMemory`, and stays.
     pub fn next(&mut self, alloc: Global) -> Result<Option<(Span, Token<'a>)>, Error>
         ensures answers { NextAnswers self.old self.new result }
         // the token that stands there is answered, unless memory runs out
@@ -142,7 +143,7 @@ impl<'a> Tokenizer<'a> {
         Ok(taken.is_some())
     }
 
-    /// As `eat`, and answers where the token stood.
+    /// As `eat`, and answers where the token stood, `None` where nothing was taken.
     pub fn eat_spanned(&mut self, alloc: Global, expected: Token<'a>) -> Result<Option<Span>, Error>
         ensures answers { EatsSpanned (lexeme_of expected.entry) self.old self.new result }
         ensures boundary { IsCharBoundary self.new.text self.new.offset }
@@ -194,7 +195,7 @@ impl<'a> Tokenizer<'a> {
     /// Takes a key (TOML v0.5.0, "Keys"): a keylike token or a one-line string, with its text.
     ///
     /// Another token is taken too: a multiline string is refused with `Error::MultilineStringKey`,
-    /// any other with `Error::Wanted`.
+    /// any other, and the end of the text, with `Error::Wanted`. An error of `next` is answered as it is.
     pub fn table_key(&mut self, alloc: Global) -> Result<(Span, CowStr<'a>), Error>
         ensures answers { TakesKey self.old self.new result }
         ensures boundary { IsCharBoundary self.new.text self.new.offset }
@@ -249,7 +250,7 @@ impl<'a> Tokenizer<'a> {
     }
 
     /// Takes a line feed, or meets the end of the text. Another token is taken too, and refused with
-    /// `Error::Wanted`.
+    /// `Error::Wanted`. An error of `next` is answered as it is.
     pub fn eat_newline_or_eof(&mut self, alloc: Global) -> Result<(), Error>
         ensures answers { EndsLine self.old self.new result }
         ensures boundary { IsCharBoundary self.new.text self.new.offset }
@@ -265,7 +266,7 @@ impl<'a> Tokenizer<'a> {
         }
     }
 
-    /// Takes all up to the next line feed, and that.
+    /// Takes all up to the next line feed, and that; all where none follows.
     pub fn skip_to_newline(&mut self)
         ensures skips { Skips self.old self.new (after_line (text_of self.old)) }
         ensures boundary { IsCharBoundary self.new.text self.new.offset }
@@ -273,7 +274,7 @@ impl<'a> Tokenizer<'a> {
         self.at = after_line(self.text, self.at);
     }
 
-    /// The offset of the next character, or the length of the text.
+    /// The byte offset of the next character, or the length of the text.
     pub fn current(&mut self) -> usize
         ensures offset { result ≡ self.old.offset }
         ensures boundary { IsCharBoundary self.old.text result }
@@ -282,7 +283,8 @@ impl<'a> Tokenizer<'a> {
         self.at
     }
 
-    /// Takes one character, a carriage return and a line feed as one line feed.
+    /// Takes one character, a carriage return and a line feed as one line feed, and answers it with its byte offset;
+    /// `None` at the end of the text.
     pub fn one(&mut self) -> Option<(usize, char)>
         ensures answers { TakesOne self.old self.new result }
         ensures boundary { IsCharBoundary self.new.text self.new.offset }

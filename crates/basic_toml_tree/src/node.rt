@@ -40,7 +40,8 @@ pub(crate) enum Trail<'t> {
     Row(usize, &'t str),
 }
 
-/// A node of a tree: a value, and where it comes from.
+/// A node of a tree: a value, and where it comes from. Types are read from one, as `bool` is in `basic_toml_typed`, by
+/// `node.as_bool()`.
 #[derive(Clone, Copy)]
 pub struct Node<'t, 'de> {
     pub(crate) tree: &'t Tree<'de>,

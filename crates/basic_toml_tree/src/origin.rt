@@ -144,6 +144,10 @@ impl<'t, 'de> Node<'t, 'de> {
 
     /// The keys that lead to it: those of the headers that made it, or those of its section and the first key of its
     /// row.
+    ///
+    /// # Errors
+    ///
+    /// `AllocError` where memory for the copies was refused.
     #[tactic(auto, unfolding(crate::specs::Origin::keys_of))]
     pub fn key_path(self, alloc: Global) -> Result<Vec<String>, AllocError>
         ensures { IfOk result (λ path. map string_bytes path.items ≡ keys_of self.entry) }

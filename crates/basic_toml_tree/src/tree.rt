@@ -8,7 +8,7 @@ use basic_toml_clash::crossed_value;
 use basic_toml_read::{ReadError, ReadErrorKind, Section};
 use std::alloc::Global;
 
-/// The tree of a section list.
+/// The tree of a section list. `Tree::root` is its first node, and `Tree::into_table` makes a table of it.
 #[derive(Drop)]
 pub struct Tree<'de> {
     /// The headers, whose rows have gone into the tree.
@@ -19,13 +19,15 @@ pub struct Tree<'de> {
 /// The tree of a section list, or a clash that stands in it (TOML v0.5.0, "Table" and "Array of Tables").
 ///
 /// Memory apart, it accepts exactly the lists in which nothing clashes and whose tree is no deeper than 128, and
-/// answers the tree of their mentions. The error names a clash that stands in the list. The sections in another order, in
-/// which each keeps its indexed path (without array sections: in any order), have a tree of the same maps, or none.
+/// answers the tree of their mentions. The error names a clash that stands in the list. The sections in another order,
+/// in which each keeps its indexed path (without array sections: in any order), have a tree of the same maps, or none.
 ///
 /// # Errors
 ///
 /// `DottedKeyInvalidType` comes before every other clash. `NestedTooDeeply` comes where the tree is deeper than 128,
-/// at a section that makes it so, and `OutOfMemory` where memory is refused.
+/// at a section that makes it so, and `OutOfMemory` where memory is refused. All but the last have a byte offset.
+///
+/// `basic_toml` calls it, and so do the tests of `toml_reader_vectors`.
 #[tactic(auto, using(crate::proofs::OrderIsFree::in_any_order))]
 pub fn resolve<'de>(alloc: Global, sections: Vec<Section<'de>>) -> Result<Tree<'de>, ReadError>
     ensures resolves { Resolves sections.entry.items result }

@@ -144,6 +144,10 @@ fn into_table(alloc: Global, table: Table<'_>) -> Result<values::Table, AllocErr
 
 impl<'de> Tree<'de> {
     /// The table of the document. Strings and keys are moved into it, and the tree's memory is given back on the way.
+    ///
+    /// # Errors
+    ///
+    /// `AllocError` where a growth was refused.
     pub fn into_table(self, alloc: Global) -> Result<values::Table, AllocError>
         ensures { IfOk result (λ moved. table_of_members (entries moved) ≡ table_data self.entry.root.value) }
     {

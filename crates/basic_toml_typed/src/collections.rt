@@ -10,12 +10,13 @@ use basic_toml_tree::{Node, Tree};
 use std::alloc::{AllocError, Global};
 use std::collections::BTreeMap;
 
-/// Reads the elements of an array in order.
+/// Reads the elements of an array in order (TOML v0.5.0, "Array" and "Array of Tables"). `Steps` of
+/// `toml_typed_vectors` is read by it.
 ///
 /// # Errors
 ///
 /// `invalid type: .., expected a sequence` at the node where it is no array; else the error of the first element that
-/// the type does not read.
+/// the type does not read; and want of memory.
 #[tactic(auto, using(crate::proofs::ArraysRead::arrays_read))]
 pub fn read_elements<'de, T: Deserialize<'de> + Drop>(
     alloc: Global,

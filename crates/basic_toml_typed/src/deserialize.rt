@@ -12,6 +12,24 @@ use basic_toml_value::Table;
 use std::alloc::Global;
 
 /// A type that can be read from a text.
+///
+/// The ghost member `reads` says which values it reads from which data, and the checker proves that its functions do.
+///
+/// ```text
+/// impl<'de> Deserialize<'de> for Steps {
+///     ghost reads = { λ d s. array_reads ⟦<u8 as Deserialize<'static>>⟧.reads d s.0 };
+///
+///     fn deserialize(alloc: Global, node: Node<'_, 'de>) -> Result<Steps, Error> {
+///         Ok(Steps(read_elements(alloc, node)?))
+///     }
+///
+///     fn from_tree(alloc: Global, tree: Tree<'de>) -> Result<Steps, Error> {
+///         Steps::deserialize(alloc, tree.root())
+///     }
+/// }
+/// ```
+///
+/// This is from `toml_typed_vectors`, which has a type of each shape; `load_settings` has a record with defaults.
 pub trait Deserialize<'de>: Sized {
     // Which values are read from which data.
     ghost reads: { Data → Self → Type 0 };
@@ -20,13 +38,21 @@ pub trait Deserialize<'de>: Sized {
     // `reads`.
     ghost takes: { Data → Type 0 } = { λ _. ⊥ };
 
-    /// Reads a value from a node; an error, other than want of memory, only where the type reads nothing from it.
+    /// Reads a value from a node.
+    ///
+    /// # Errors
+    ///
+    /// The type's own, only where it reads nothing from the node; and want of memory.
     fn deserialize(alloc: Global, node: Node<'_, 'de>) -> Result<Self, Error>
         ensures ok { IfOk result (λ value. reads (node_data node.entry) value) }
         ensures err { IfErr result (OnlyMemory (takes (node_data node.entry)) (reads (node_data node.entry))) };
 
     /// Reads a value from the whole of a tree, which it may use up. A type that has no use for the tree reads itself
     /// from its root: `Self::deserialize(alloc, tree.root())`.
+    ///
+    /// # Errors
+    ///
+    /// Those of `deserialize` at the root.
     fn from_tree(alloc: Global, tree: Tree<'de>) -> Result<Self, Error>
         ensures ok { IfOk result (λ value. reads (table_data tree.entry.root.value) value) }
         ensures err { IfErr result (OnlyMemory (takes (table_data tree.entry.root.value))

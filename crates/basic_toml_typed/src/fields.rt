@@ -16,12 +16,19 @@ use basic_toml_error::Error;
 use basic_toml_tree::{Entries, Node};
 use std::alloc::Global;
 
-/// Reads the field of a table at a key.
+/// Reads the field of a table at a key (TOML v0.5.0, "Table").
+///
+/// ```text
+/// let host = read_field(alloc, node, "host")?;
+/// let port = read_optional(alloc, node, "port")?.unwrap_or(8080);
+/// ```
+///
+/// This is from the program `load_settings`.
 ///
 /// # Errors
 ///
 /// `invalid type: .., expected a map` where the node is no table, ``missing field `key` `` where it lacks the key, both
-/// at the node; else the error of the type.
+/// at the node; else the error of the type; and want of memory.
 #[tactic(auto, using(crate::proofs::FieldFaultsNamed::field_no_table, crate::proofs::FieldFaultsNamed::field_missing, crate::proofs::FieldFaultsNamed::field_own), unfolding(crate::specs::TypeReads::field_reads, crate::specs::TypeReads::field_takes))]
 pub fn read_field<'de, T: Deserialize<'de>>(
     alloc: Global,
@@ -39,11 +46,11 @@ pub fn read_field<'de, T: Deserialize<'de>>(
     }
 }
 
-/// Reads the field of a table at a key, and `None` where the table lacks the key.
+/// Reads the field of a table at a key, and `None` where the table lacks the key. [`read_field`] has an example.
 ///
 /// # Errors
 ///
-/// `invalid type: .., expected a map` at the node where it is no table; else the error of the type.
+/// `invalid type: .., expected a map` at the node where it is no table; else the error of the type; and want of memory.
 #[tactic(auto, using(crate::proofs::FieldFaultsNamed::optional_no_table, crate::proofs::FieldFaultsNamed::optional_own), unfolding(crate::specs::TypeReads::optional_reads, crate::specs::TypeReads::optional_takes))]
 pub fn read_optional<'de, T: Deserialize<'de>>(
     alloc: Global,
@@ -76,12 +83,14 @@ fn field_at<'t, 'de>(
     Ok(node.get(key))
 }
 
-/// Checks that a table has no key but these.
+/// Checks that a table has no key but these, as `only_fields(alloc, node, &["host", "port", "verbose"])?` in the
+/// program `load_settings`.
 ///
 /// # Errors
 ///
 /// `invalid type: .., expected a map` where the node is no table; ``unknown field `key`, expected ..`` for the first
-/// key in order that is not among them, at the node. It takes no memory where it finds nothing to refuse.
+/// key in order that is not among them, at the node; and want of memory. It takes no memory where it finds nothing to
+/// refuse.
 #[tactic(auto, using(crate::proofs::NamesListed::all_listed, crate::proofs::NamesListed::other_unlisted, crate::proofs::NamesListed::table_unlisted, crate::proofs::VariantsNamed::only_no_table, crate::proofs::VariantsNamed::only_unknown))]
 pub fn only_fields(alloc: Global, node: Node<'_, '_>, fields: &[&str]) -> Result<(), Error>
     ensures ok { IfOk result (λ _. HasOnly (map (λ field. text_number field.now) fields.now) (node_data node.entry)) }
@@ -117,14 +126,24 @@ fn position_of(names: &[&str], text: &str) -> Option<usize>
     names.iter().position(|name| *name == text)
 }
 
-/// The first position at which these names have the string at a node.
+/// The first position, from 0, at which these names have the string at a node.
+///
+/// ```text
+/// match variant(alloc, node, &["red", "green", "blue"])? {
+///     0 => Ok(Color::Red),
+///     1 => Ok(Color::Green),
+///     _ => Ok(Color::Blue),
+/// }
+/// ```
+///
+/// This is from `toml_typed_vectors`.
 ///
 /// # Errors
 ///
 /// ``unknown variant `name`, expected ..`` at the table around the node, where the string is none of them;
 /// `expected string, found ..` where the value begins, where it is no string; and
-/// `invalid type: .., expected a string` for a table or an array that headers made. It takes no memory where it
-/// answers a position.
+/// `invalid type: .., expected a string` for a table or an array that headers made; and want of memory. It takes no
+/// memory where it answers a position.
 #[tactic(auto, using(crate::proofs::VariantsNamed::variant_found, crate::proofs::VariantsNamed::variant_within, crate::proofs::VariantsNamed::variant_unnamed, crate::proofs::VariantsNamed::no_string_unnamed, crate::proofs::VariantsNamed::variant_is_had, crate::proofs::VariantsNamed::variant_no_string, crate::proofs::VariantsNamed::variant_made, crate::proofs::VariantsNamed::variant_unknown))]
 pub fn variant(alloc: Global, node: Node<'_, '_>, variants: &[&str]) -> Result<usize, Error>
     ensures bound { IfOk result (λ position. position < length variants.now) }

@@ -11,7 +11,7 @@ use crate::numbers::is_float;
 use std::alloc::{AllocError, Global};
 use std::marker::Model;
 
-/// A float, as its canonical text: without plus signs and underscores, the exponent lettered `E`.
+/// A float (TOML v0.5.0, "Float"), as its canonical text: no plus signs and no underscores, the exponent lettered `E`.
 ///
 /// A float is never computed. Two floats are equal where their texts are.
 #[derive(Debug, Drop)]
@@ -58,6 +58,10 @@ impl Float {
     }
 
     /// A copy.
+    ///
+    /// # Errors
+    ///
+    /// `AllocError` where memory for the text was refused.
     pub fn clone(&self) -> Result<Float, AllocError>
         ensures { IfOk result (λ copy. copy ≡ self.now) }
     {
@@ -67,7 +71,7 @@ impl Float {
     }
 }
 
-/// The same as `Float::parse`.
+/// The same as `Float::parse`, with its errors.
 pub fn float_of(alloc: Global, text: &str) -> Result<Option<Float>, AllocError>
     ensures { IfOk result (λ found. found ≡ float_of text.now) }
 {

@@ -78,6 +78,10 @@ impl Index {
     }
 
     /// An index of texts that differ, made at once; none where the texts are few.
+    ///
+    /// # Errors
+    ///
+    /// `AllocError` where memory was refused.
     pub fn of<T: Texts>(alloc: Global, texts: &T) -> Result<Index, AllocError>
         requires { IsTrue (are_distinct (T.texts texts.now)) }
         ensures { IfOk result (λ index. IsIndex (T.texts texts.now) index) }
@@ -144,6 +148,10 @@ impl Index {
     }
 
     /// A copy, which serves the same texts.
+    ///
+    /// # Errors
+    ///
+    /// `AllocError` where memory was refused.
     pub fn clone(&self, alloc: Global) -> Result<Index, AllocError>
         ensures { IfOk result (λ copy. (keys : List (List ℕ)) → IsIndex keys self.now → IsIndex keys copy) }
     {

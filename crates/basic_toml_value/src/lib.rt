@@ -3,13 +3,13 @@
 //!
 //! ```text
 //! let mut table = Table::new(alloc);
-//! table.push(String::from_str(alloc, "port")?, Value::Integer(80)); // Ok(()); the same key again: KeyPresent
-//! table.get("port"); // Some(&Value::Integer(80))
-//! integer_of("0x50"); // Some(80)
-//! Float::parse(alloc, "+1.50e3")?; // 1.50E3, as text
+//! let first = table.push(String::from_str(alloc, "port")?, Value::Integer(80)); // Ok(())
+//! let second = table.push(String::from_str(alloc, "port")?, Value::Integer(81)); // KeyPresent, and the pair
+//! let port = table.get("port"); // Some(&Value::Integer(80))
+//! let float = Float::parse(alloc, "+1.50e3")?; // 1.50E3, as text
 //! ```
 //!
-//! `toml_vectors` has such calls as tests.
+//! This is from `toml_typed_vectors`; `toml_vectors` makes each call once.
 #![tactic(auto)]
 
 mod float;

@@ -44,7 +44,7 @@ impl<V> Texts for Vec<Pair<V>> {
     }
 }
 
-/// Keys with their values, in order, each key once.
+/// Keys with their values, in order, each key once (TOML v0.5.0, "Table").
 ///
 /// `for (key, value) in &pairs` goes over them in that order, as `iter` does.
 #[derive(Drop)]
@@ -106,7 +106,7 @@ impl<V> Pairs<V> {
         self.entries.is_empty()
     }
 
-    /// The value at a key.
+    /// The value at a key, and `None` where the key is not there.
     #[tactic(auto, using(crate::proofs::SeenPairs::seen_pairs))]
     pub fn get(&self, key: &str) -> Option<&V>
         ensures { option_copied result ≡ value_at self.now key.now }
@@ -142,6 +142,8 @@ impl<V> Pairs<V> {
     }
 
     /// Puts a pair last whose key is not there, as the caller has seen: `push` that looks through no pairs.
+    ///
+    /// # Errors
     ///
     /// Where memory is refused, the pair comes back and the table stays as it was.
     #[tactic(auto, using(crate::proofs::SeenPairs::seen_pairs))]

@@ -15,7 +15,7 @@ use std::alloc::{AllocError, Global};
 /// How deep arrays and tables nest at most: the depth of a document that is read, and of a value that is written.
 pub const NESTING_LIMIT: usize = 128;
 
-/// A table: keys with their values, in order, each key once.
+/// A table: keys with their values, in order, each key once (TOML v0.5.0, "Table").
 pub type Table = Pairs<Value>;
 
 /// A TOML value: a value of a row, or what a header leads to (TOML v0.5.0, without "Offset Date-Time" to "Local Time").
@@ -27,24 +27,30 @@ pub type Table = Pairs<Value>;
 ///     settings.get("port")?.as_integer()
 /// }
 /// ```
+///
+/// This is from `toml_vectors`.
 #[derive(Debug, Drop)]
 pub enum Value {
-    /// A whole number.
+    /// A whole number ("Integer").
     Integer(i64),
-    /// A float, as its text.
+    /// A float, as its text ("Float").
     Float(Float),
-    /// `true` or `false`.
+    /// `true` or `false` ("Boolean").
     Boolean(bool),
-    /// A text.
+    /// A text ("String").
     String(String),
-    /// An array, whose elements may be of different kinds.
+    /// An array ("Array", "Array of Tables"), whose elements may be of different kinds.
     Array(Vec<Value>),
-    /// A table.
+    /// A table ("Table", "Inline Table").
     Table(Table),
 }
 
 impl Value {
     /// A copy.
+    ///
+    /// # Errors
+    ///
+    /// `AllocError` where memory was refused.
     #[cycle(copies)]
     pub fn clone(&self) -> Result<Value, AllocError>
         ensures { IfOk result (λ copy. view copy ≡ view self.now) }
@@ -125,6 +131,10 @@ impl Value {
 
 impl Table {
     /// A copy.
+    ///
+    /// # Errors
+    ///
+    /// `AllocError` where memory was refused.
     #[cycle(copies)]
     pub fn clone(&self) -> Result<Table, AllocError>
         ensures { IfOk result (λ copy. entries copy ≡ entries self.now) }

@@ -13,7 +13,7 @@
 //! }
 //! ```
 //!
-//! This is from the program `write_rules`, which has the ghost line and the proof beside it.
+//! This is from the program `write_rules`; [`Serialize`] has the ghost line.
 #![tactic(auto)]
 
 mod again;

@@ -10,16 +10,23 @@ use std::alloc::Global;
 /// names in `gives_up` after which of them, and with which error: an error of the serializer goes before it.
 ///
 /// ```text
-/// impl Serialize for Server {
-///     ghost calls = { λ s. open_table ∷ (field (codes "port") ∷ a_scalar (integer (pos s.port)) ∷ close ∷ []) };
+/// impl Serialize for Rule {
+///     ghost calls = { λ r.
+///         open_table
+///         ∷ field (codes "pattern") ∷ a_scalar (written.text (string_bytes r.pattern))
+///         ∷ field (codes "limit") ∷ a_scalar (written.integer (pos r.limit))
+///         ∷ close ∷ [] };
 ///
 ///     fn serialize(&self, _alloc: Global, ser: &mut Serializer) -> Result<(), WriteError> {
-///         ser.serialize_struct("Server", 1)?;
-///         ser.serialize_field("port", &self.port)?;
+///         ser.serialize_struct("Rule", 2)?;
+///         ser.serialize_field("pattern", &self.pattern)?;
+///         ser.serialize_field("limit", &self.limit)?;
 ///         ser.end()
 ///     }
 /// }
 /// ```
+///
+/// This is from the program `write_rules`, which has the proof too.
 pub trait Serialize {
     ghost use Rattle.basic_toml_write.specs.declared.error.WriteError.{WriteError};
     ghost use Rattle.basic_toml_emit.specs.Items.{Item};
@@ -32,6 +39,10 @@ pub trait Serialize {
     ghost gives_up: { Self → List Item → WriteError → Type 0 } = { λ _. NoFault };
 
     /// Makes the calls of the value on `ser`. An error of the type's own is made by [`WriteError::custom`].
+    ///
+    /// # Errors
+    ///
+    /// The first that a call answers, or the type's own.
     fn serialize(&self, alloc: Global, ser: &mut Serializer) -> Result<(), WriteError>
         ensures { Sends (calls self.now) (gives_up self.now) ser.old ser.new result };
 }

@@ -37,6 +37,8 @@ use std::alloc::Global;
 /// ser.end()?;
 /// let text = ser.finish()?; // answer = 42
 /// ```
+///
+/// This is from `toml_typed_vectors`; `toml_writer_vectors` makes each call.
 #[derive(Drop)]
 pub struct Serializer {
     emitter: Emitter,

@@ -5,7 +5,9 @@ ghost use Rattle.basic_toml_write.specs.Write.{WritesOut, IsLayout, Succeeds};
 use crate::{Serialize, Serializer, WriteError};
 use std::alloc::Global;
 
-/// The text of a value: the layout of what its calls spell.
+/// The text of a value: the layout of what its calls spell. `to_string` of `basic_toml` calls it.
+///
+/// # Errors
 ///
 /// An error of the serializer is answered even where the type passed over it, or answered one of its own. Else the
 /// type's own error is, so that it gave up after calls of which none was refused; else what [`Serializer::finish`]

@@ -5,13 +5,16 @@
 mod keys;
 mod rows;
 
+use basic_toml::tokens::Error;
 use keys::{Trouble, check};
 use std::io;
 
 fn main(rt: HostRuntime) -> io::Result<()> {
     let text = io::read_to_string(rt.alloc(), rt.reader())?;
-    let Ok(findings) = check(rt.alloc(), text.as_str()) else {
-        return println!(rt; "this is no TOML");
+    let findings = match check(rt.alloc(), text.as_str()) {
+        Ok(findings) => findings,
+        Err(Error::OutOfMemory) => return println!(rt; "out of memory"),
+        Err(_) => return println!(rt; "settings.toml: this is no TOML"),
     };
     for finding in &findings {
         println!(rt;

@@ -64,6 +64,10 @@ pub fn text_of(alloc: Global, file: &RuleFile) -> Result<String, Error>
 }
 
 /// What a reader of that text finds: exactly what was written.
+///
+/// # Errors
+///
+/// Those of [`round_trip`].
 pub fn read_again(alloc: Global, file: &RuleFile) -> Result<Table, Error>
     ensures { RoundTrips (⟦<RuleFile as Serialize>⟧.calls file.now) (⟦<RuleFile as Serialize>⟧.gives_up file.now)
         result }
