@@ -1,15 +1,16 @@
-//! Types as a caller writes them: records, records in records, lists, choices, newtypes that refuse, strict records and
-//! records that borrow. None takes a proof file.
-ghost use Rattle.std.specs.Prelude.{◌≡◌, ◌≢◌, ◌∷◌, [], codes, string_bytes};
+//! Types as a caller writes them: records, records in records, lists, choices, newtypes and records that refuse, strict
+//! records, records that borrow and a record of sixteen fields. None takes a proof file.
+ghost use Rattle.std.specs.Prelude.{◌≡◌, ◌≢◌, ◌≤◌, ◌∷◌, [], codes, string_bytes};
 ghost use Rattle.basic_toml.specs.FieldKeys.{key_of};
 ghost use Rattle.basic_toml.specs.TypeReads.{HasOnly, IsVariant, array_reads, field_reads, optional_reads};
 
 use basic_toml::{
-    Deserialize, Error, Float, Node, Tree, only_fields, read_elements, read_field, read_optional,
-    variant,
+    Deserialize, Error, Float, Node, Tree, Value, only_fields, read_elements, read_field,
+    read_optional, variant,
 };
 use std::alloc::Global;
 use std::borrow::CowStr;
+use std::collections::BTreeMap;
 
 /// A record of a text and a list of records.
 #[derive(Drop)]
@@ -31,6 +32,26 @@ impl<'de, T: Deserialize<'de> + Drop> Deserialize<'de> for Parent<T> {
     }
 
     fn from_tree(alloc: Global, tree: Tree<'de>) -> Result<Parent<T>, Error> {
+        Self::deserialize(alloc, tree.root())
+    }
+}
+
+/// A record of one field, of any type.
+#[derive(Drop)]
+pub struct Sole<T> {
+    pub value: T,
+}
+
+impl<'de, T: Deserialize<'de>> Deserialize<'de> for Sole<T> {
+    ghost reads = { λ d s. field_reads T.reads (key_of "value") d s.value };
+
+    fn deserialize(alloc: Global, node: Node<'_, 'de>) -> Result<Sole<T>, Error> {
+        Ok(Sole {
+            value: read_field(alloc, node, "value")?,
+        })
+    }
+
+    fn from_tree(alloc: Global, tree: Tree<'de>) -> Result<Sole<T>, Error> {
         Self::deserialize(alloc, tree.root())
     }
 }
@@ -176,6 +197,25 @@ impl<'de> Deserialize<'de> for Color {
     }
 }
 
+/// A choice of one.
+#[derive(Debug, Clone, Copy, PartialEq, Eq)]
+pub enum Single {
+    Variant,
+}
+
+impl<'de> Deserialize<'de> for Single {
+    ghost reads = { λ d _. IsVariant (key_of "Variant" ∷ []) d 0 };
+
+    fn deserialize(alloc: Global, node: Node<'_, 'de>) -> Result<Single, Error> {
+        variant(alloc, node, &["Variant"])?;
+        Ok(Single::Variant)
+    }
+
+    fn from_tree(alloc: Global, tree: Tree<'de>) -> Result<Single, Error> {
+        Single::deserialize(alloc, tree.root())
+    }
+}
+
 /// A record that borrows its title from the text, where it can.
 #[derive(Drop)]
 pub struct Title<'de> {
@@ -213,5 +253,128 @@ impl<'de> Deserialize<'de> for Steps {
 
     fn from_tree(alloc: Global, tree: Tree<'de>) -> Result<Steps, Error> {
         Steps::deserialize(alloc, tree.root())
+    }
+}
+
+/// A record of sixteen fields, with a field of nearly each type.
+#[derive(Drop)]
+pub struct Service {
+    pub name: String,
+    pub enabled: bool,
+    pub priority: i8,
+    pub offset: i16,
+    pub level: i32,
+    pub balance: i64,
+    pub retries: u8,
+    pub port: u16,
+    pub backlog: u32,
+    pub timeout: u64,
+    pub ratio: Float,
+    pub tags: Vec<String>,
+    pub limits: BTreeMap<String, u32>,
+    pub color: Color,
+    pub log: Option<String>,
+    pub note: Option<Value>,
+}
+
+impl<'de> Deserialize<'de> for Service {
+    ghost reads = { λ d s.
+        field_reads ⟦<String as Deserialize<'static>>⟧.reads (key_of "name") d s.name
+        × field_reads ⟦<bool as Deserialize<'static>>⟧.reads (key_of "enabled") d s.enabled
+        × field_reads ⟦<i8 as Deserialize<'static>>⟧.reads (key_of "priority") d s.priority
+        × field_reads ⟦<i16 as Deserialize<'static>>⟧.reads (key_of "offset") d s.offset
+        × field_reads ⟦<i32 as Deserialize<'static>>⟧.reads (key_of "level") d s.level
+        × field_reads ⟦<i64 as Deserialize<'static>>⟧.reads (key_of "balance") d s.balance
+        × field_reads ⟦<u8 as Deserialize<'static>>⟧.reads (key_of "retries") d s.retries
+        × field_reads ⟦<u16 as Deserialize<'static>>⟧.reads (key_of "port") d s.port
+        × field_reads ⟦<u32 as Deserialize<'static>>⟧.reads (key_of "backlog") d s.backlog
+        × field_reads ⟦<u64 as Deserialize<'static>>⟧.reads (key_of "timeout") d s.timeout
+        × field_reads ⟦<Float as Deserialize<'static>>⟧.reads (key_of "ratio") d s.ratio
+        × field_reads ⟦<Vec<String> as Deserialize<'static>>⟧.reads (key_of "tags") d s.tags
+        × field_reads ⟦<BTreeMap<String, u32> as Deserialize<'static>>⟧.reads (key_of "limits") d s.limits
+        × field_reads ⟦<Color as Deserialize<'static>>⟧.reads (key_of "color") d s.color
+        × optional_reads ⟦<String as Deserialize<'static>>⟧.reads (key_of "log") d s.log
+        × optional_reads ⟦<Value as Deserialize<'static>>⟧.reads (key_of "note") d s.note };
+
+    fn deserialize(alloc: Global, node: Node<'_, 'de>) -> Result<Service, Error> {
+        Ok(Service {
+            name: read_field(alloc, node, "name")?,
+            enabled: read_field(alloc, node, "enabled")?,
+            priority: read_field(alloc, node, "priority")?,
+            offset: read_field(alloc, node, "offset")?,
+            level: read_field(alloc, node, "level")?,
+            balance: read_field(alloc, node, "balance")?,
+            retries: read_field(alloc, node, "retries")?,
+            port: read_field(alloc, node, "port")?,
+            backlog: read_field(alloc, node, "backlog")?,
+            timeout: read_field(alloc, node, "timeout")?,
+            ratio: read_field(alloc, node, "ratio")?,
+            tags: read_field(alloc, node, "tags")?,
+            limits: read_field(alloc, node, "limits")?,
+            color: read_field(alloc, node, "color")?,
+            log: read_optional(alloc, node, "log")?,
+            note: read_optional(alloc, node, "note")?,
+        })
+    }
+
+    fn from_tree(alloc: Global, tree: Tree<'de>) -> Result<Service, Error> {
+        Service::deserialize(alloc, tree.root())
+    }
+}
+
+/// A record that tests a field itself: its error stands at that field.
+#[derive(Drop)]
+pub struct Listener {
+    pub host: String,
+    pub port: u16,
+}
+
+impl<'de> Deserialize<'de> for Listener {
+    ghost reads = { λ d l.
+        field_reads ⟦<String as Deserialize<'static>>⟧.reads (key_of "host") d l.host
+        × field_reads ⟦<u16 as Deserialize<'static>>⟧.reads (key_of "port") d l.port
+        × (l.port ≢ 0) };
+
+    #[tactic(auto, unfolding(basic_toml_typed::specs::TypeReads::field_reads))]
+    fn deserialize(alloc: Global, node: Node<'_, 'de>) -> Result<Listener, Error> {
+        let host = read_field(alloc, node, "host")?;
+        let port = read_field(alloc, node, "port")?;
+        if port == 0 {
+            let field = node.get("port").unwrap_or(node);
+            return Err(Error::invalid_value(alloc, field, "a port above 0"));
+        }
+        Ok(Listener { host, port })
+    }
+
+    fn from_tree(alloc: Global, tree: Tree<'de>) -> Result<Listener, Error> {
+        Listener::deserialize(alloc, tree.root())
+    }
+}
+
+/// A record that tests its fields against one another: its error stands at the record.
+#[derive(Drop)]
+pub struct Interval {
+    pub first: u32,
+    pub last: u32,
+}
+
+impl<'de> Deserialize<'de> for Interval {
+    ghost reads = { λ d i.
+        field_reads ⟦<u32 as Deserialize<'static>>⟧.reads (key_of "first") d i.first
+        × field_reads ⟦<u32 as Deserialize<'static>>⟧.reads (key_of "last") d i.last
+        × (i.first ≤ i.last) };
+
+    #[tactic(auto, unfolding(basic_toml_typed::specs::TypeReads::field_reads))]
+    fn deserialize(alloc: Global, node: Node<'_, 'de>) -> Result<Interval, Error> {
+        let first = read_field(alloc, node, "first")?;
+        let last = read_field(alloc, node, "last")?;
+        if last < first {
+            return Err(Error::custom(alloc, node, "the last is before the first"));
+        }
+        Ok(Interval { first, last })
+    }
+
+    fn from_tree(alloc: Global, tree: Tree<'de>) -> Result<Interval, Error> {
+        Interval::deserialize(alloc, tree.root())
     }
 }
