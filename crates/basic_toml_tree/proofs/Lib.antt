@@ -35,3 +35,10 @@ pub mod LastSection
 pub mod HeadersMake
 pub mod NodesStand
 pub mod MadeNodes
+pub mod OriginsSeen
+pub mod RowsPlaceOrigins
+pub mod OriginsLeft
+pub mod HeadersPlaceOrigins
+pub mod ElementsPlaceOrigins
+pub mod WaysAreLocated
+pub mod SectionsPlaceOrigins

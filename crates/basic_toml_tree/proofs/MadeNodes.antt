@@ -70,7 +70,7 @@ array_in_trie sections t (inr none) p =
     go (s ∷ p) = ap (λ t. stands_array (standing t)) (none_below p)
 
 -- what stands where an item is
-abbrev item_standing : Item-F Item Child Table → Option Standing → Type 0
+abbrev pub item_standing : Item-F Item Child Table → Option Standing → Type 0
 item_standing Item-F.Nothing o = o ≡ None
 item_standing (Item-F.Table t) o = o ≡ standing (table_trie t.value)
 item_standing (Item-F.Tables before latest) o = stands_array o ≡ true
@@ -111,7 +111,7 @@ item_made count b (Item-F.String z) o is stands same own made = absurd (false≢
 item_made count b (Item-F.Array z) o is stands same own made = absurd (false≢true (sym (ap stands_made stands) ∙ made))
 item_made count b (Item-F.Inline z) o is stands same own made = absurd (false≢true (sym (ap stands_made stands) ∙ made))
 
-standing_here : (i : Item) → item_standing (out-Item i) (standing (item_trie i))
+pub standing_here : (i : Item) → item_standing (out-Item i) (standing (item_trie i))
 standing_here i = subst (λ j. item_standing (out-Item i) (standing (item_trie j))) (sym (shape i (out-Item i) refl))
     (stands_item (out-Item i))
 

@@ -1,11 +1,13 @@
 pub mod Keyed
 pub mod Item
 pub mod Data
+pub mod Origins
 pub mod Nodes
 pub mod Origin
 pub mod Rows
 pub mod RowStops
 pub mod Headers
+pub mod Ways
 pub mod Clash
 pub mod Trail
 pub mod Crossed

@@ -1,6 +1,6 @@
 //! Sections: the way of a header through the tree, and the table that it names.
 
-ghost use Rattle.std.specs.Prelude.{◌≡◌, ◌≤◌, ◌<◌, ◌+◌, false, [], length, map, IfOk, IfErr};
+ghost use Rattle.std.specs.Prelude.{◌≡◌, ◌≤◌, ◌<◌, ◌+◌, false, [], ◌∷◌, length, map, IfOk, IfErr};
 ghost use Rattle.std.specs.Cow.{cow_str_bytes};
 ghost use Rattle.basic_toml_grammar.specs.Trie.{put_element};
 ghost use Rattle.basic_toml_grammar.specs.TrieStops.{try_by_keys, try_put_table, try_put_element};
@@ -8,6 +8,10 @@ ghost use Rattle.basic_toml_read.specs.SectionView.{rows_view};
 ghost use Rattle.basic_toml_tree.specs.declared.item.Table.{out-Table};
 ghost use Rattle.basic_toml_tree.specs.Clash.{NamesStop};
 ghost use Rattle.basic_toml_tree.specs.Item.{table_trie, child_trie};
+ghost use Rattle.basic_toml_grammar.specs.Steps.{number as number_step};
+ghost use Rattle.basic_toml_grammar.specs.Trie.{count};
+ghost use Rattle.basic_toml_tree.specs.Origins.{child_origins, table_within, or_else, rows_origins};
+ghost use Rattle.basic_toml_tree.specs.Ways.{way, way_by, way_at, GrowsAlong};
 ghost use Rattle.basic_toml_tree.specs.Headers.{EntersHeader, EntersChild, Passes, PutsBack};
 ghost use Rattle.basic_toml_tree.specs.Headers.{entered_by, steps_by, entered_at, steps_at, tried_by, tried_at};
 
@@ -32,6 +36,10 @@ pub(crate) fn enter_section<'de>(
         let tried = try_by_keys section.old.is_array (rows_view section.old.rows.items) keys
         (table_trie root.entry.value) in
         IfErr result (λ clash. NamesStop tried clash) }
+    ensures origins { let keys = map cow_str_bytes section.old.header.items in
+        let rows = rows_origins number (rows_view section.old.rows.items) in
+        IfOk result (λ after. GrowsAlong (way section.old.is_array keys (table_trie root.entry.value)) rows
+        (table_within root.entry.value).below (table_within after.value).below) }
     ensures at { section.new.at ≡ section.old.at }
     ensures header { section.new.header ≡ section.old.header }
     ensures offsets { section.new.offsets ≡ section.old.offsets }
@@ -61,6 +69,8 @@ fn open<'de>(
     ensures entered { EntersHeader false (rows_view rows.entry.items) [] level (table_trie table.entry.value) result }
     ensures named { let tried = try_put_table (rows_view rows.entry.items) (table_trie table.entry.value) in
         IfErr result (λ clash. NamesStop tried clash) }
+    ensures origins { IfOk result (λ after. (table_within after.value).below
+        ≡ or_else (table_within table.entry.value).below (rows_origins number (rows_view rows.entry.items))) }
 {
     let mut table = table;
     if level > LIMIT {
@@ -94,6 +104,9 @@ fn enter_header<'de>(
     ensures named { let keys = map cow_str_bytes keys.now in
         let tried = try_by_keys is_array (rows_view rows.entry.items) keys (table_trie table.entry.value) in
         IfErr result (λ clash. NamesStop tried clash) }
+    ensures origins { let new = rows_origins number (rows_view rows.entry.items) in
+        IfOk result (λ after. GrowsAlong (way is_array (map cow_str_bytes keys.now) (table_trie table.entry.value)) new
+        (table_within table.entry.value).below (table_within after.value).below) }
 {
     match keys.split_first() {
         None => open(alloc, table, rows, number, level),
@@ -152,6 +165,9 @@ fn enter_at<'de>(
     ensures named { let tried = tried_at is_array (rows_view rows.entry.items) (map cow_str_bytes rest.now)
         (child_trie there.entry) in
         IfErr result (λ clash. NamesStop tried clash) }
+    ensures origins { let new = rows_origins number (rows_view rows.entry.items) in
+        IfOk result (λ after. GrowsAlong (way_at is_array (map cow_str_bytes rest.now) (child_trie there.entry)) new
+        (child_origins there.entry) (child_origins after)) }
 {
     if is_array && rest.is_empty() {
         return add_element(alloc, there, rows, number, level);
@@ -172,6 +188,9 @@ fn add_element<'de>(
         EntersChild (put_element rows (child_trie there.entry)) rows (level + 2) result }
     ensures named { let tried = try_put_element (rows_view rows.entry.items) (child_trie there.entry) in
         IfErr result (λ clash. NamesStop tried clash) }
+    ensures origins { let new = rows_origins number (rows_view rows.entry.items) in
+        IfOk result (λ after. GrowsAlong (number_step (count (child_trie there.entry)) ∷ []) new
+        (child_origins there.entry) (child_origins after)) }
 {
     let Child {
         start,
@@ -229,6 +248,9 @@ fn enter_child<'de>(
     ensures named { let tried = tried_by is_array (rows_view rows.entry.items) (map cow_str_bytes rest.now)
         (child_trie there.entry) in
         IfErr result (λ clash. NamesStop tried clash) }
+    ensures origins { let new = rows_origins number (rows_view rows.entry.items) in
+        IfOk result (λ after. GrowsAlong (way_by is_array (map cow_str_bytes rest.now) (child_trie there.entry)) new
+        (child_origins there.entry) (child_origins after)) }
 {
     let Child {
         start,
