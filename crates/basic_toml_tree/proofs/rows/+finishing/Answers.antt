@@ -93,8 +93,7 @@ enter_rows-loop-row-preserved t c =
     (table_within c.loop-row.table.value)) c.in-Some.ensures.steps.0 c.loop-row.invariant.1 in
     let more = c.in_ok-table.ensures.origins
     ∙ ap (λ ks. with_more (table_within c.loop-row.table.value) (rows_origins s (rows_view (ks ++ row ∷ []))))
-    c.as_slice.ensures.value in
-    (
+    c.as_slice.ensures.value in (
       subst (λ (ks : List Row). AreLeft whole c.args.level before ks rest after) (sym c.clear.ensures.items)
           (row_entered whole c.args.level before keys row rest now left is_row after entered),
       subst (λ (ks : List Row). OriginsLeft s whole (table_within c.args.table.value) ks rest
@@ -143,8 +142,7 @@ finished_elements-loop-element-preserved t c =
     c.next.new.self.rest.items some.0 some.1 left (c.in_ok-finished.ensures.finished some.0 some.1) in
     let s = c.args.section in
     let come = subst (λ (es : List Element). ElementsCome s whole c.loop-element.children.items (elements_view es))
-    c.in-Some.ensures.steps.0 c.loop-element.invariant.1 in
-    (
+    c.in-Some.ensures.steps.0 c.loop-element.invariant.1 in (
       subst (λ (cs : List Child). ElementsAreLeft whole c.args.level (map child_trie cs) (elements_view
           c.next.new.self.rest.items))
           (sym c.in_ok-push.ensures.items) entered,
@@ -263,8 +261,7 @@ finished_elements-loop-element-preserved-then-is_dot_value t c =
     let none = no_value (raw_of c.in-Some.element.value) (sym {A = Bool} c.is_dot_value.ensures
     ∙ c.if-is_dot_value.true) in
     let come = subst (λ (es : List Element). ElementsCome c.args.section whole c.loop-element.children.items
-    (elements_view es)) c.in-Some.ensures.steps.0 c.loop-element.invariant.1 in
-    (
+    (elements_view es)) c.in-Some.ensures.steps.0 c.loop-element.invariant.1 in (
       subst (λ (es : Elements). ElementsAreLeft whole c.args.level ts es)
           (element_skipped c.in-Some.element c.next.new.self.rest.items none) left,
       subst (λ (es : Elements). ElementsCome c.args.section whole c.loop-element.children.items es)

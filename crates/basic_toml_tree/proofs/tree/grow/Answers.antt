@@ -38,8 +38,7 @@ loop-number-preserved c =
     let n = c.loop-number.number in
     let next = c.enter_section.new.section in
     let within : c.loop-number.number < length c.loop-number.sections.items =
-    omega (arith, c.len-number-end.ensures, c.loop-number-test.true, c.loop-number.invariant.0.count) in
-    (
+    omega (arith, c.len-number-end.ensures, c.loop-number-test.true, c.loop-number.invariant.0.count) in (
       goes_on c.args.sections.items now n (table_trie c.loop-number.root.value) c.loop-number.invariant.0
           c.index_mut-section.result.now within (search (rules, c.index_mut-section.ensures.value)) (set now n next)
           (table_trie c.in-Ok.root.value) c.in-Ok.ensures.entered (length-set now n next)
