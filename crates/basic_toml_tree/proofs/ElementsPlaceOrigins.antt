@@ -15,13 +15,16 @@ use Rattle.basic_toml_tree.specs.declared.item.Item.TheViews.{roll-Child}
 use Rattle.basic_toml_tree.specs.declared.item.Child.{Child, out-Child}
 use Rattle.basic_toml_tree.specs.declared.item.Table.{Table}
 use Rattle.basic_toml_tree.specs.Item.{item_trie, child_trie, table_trie}
-use Rattle.basic_toml_tree.specs.Origins.{Origin, Origins, no_origins, entry, under, at_numbers, Within, elements_within}
-use Rattle.basic_toml_tree.specs.Origins.{table_origin, child_origins, item_origins, table_within, or_else, along, beyond}
+use Rattle.basic_toml_tree.specs.Origins.{Origin, Origins, no_origins, entry, under, at_numbers, Within}
+use Rattle.basic_toml_tree.specs.Origins.{elements_within}
+use Rattle.basic_toml_tree.specs.Origins.{table_origin, child_origins, item_origins, table_within, or_else, along}
+use Rattle.basic_toml_tree.specs.Origins.{beyond}
 use Rattle.basic_toml_tree.specs.Ways.{way, way_by, way_at, GrowsAlong}
 use Rattle.basic_toml_tree.proofs.HeadersInATrie.{fresh, array_of}
 use Rattle.basic_toml_tree.proofs.ItemTries.{child_item_trie}
 use Rattle.basic_toml_tree.proofs.TablesOpened.{tables_trie, nothing_trie}
-use Rattle.basic_toml_tree.proofs.OriginsSeen.{child_seen, nothing_seen, tables_seen, table_origins, fresh_within, or_none}
+use Rattle.basic_toml_tree.proofs.OriginsSeen.{child_seen, nothing_seen, tables_seen, table_origins, fresh_within}
+use Rattle.basic_toml_tree.proofs.OriginsSeen.{or_none}
 use Rattle.basic_toml_tree.proofs.HeadersPlaceOrigins.{way_into_latest}
 
 -- the last of a list, and the others
@@ -120,7 +123,8 @@ pub latest_grows : (a : Bool) (keys : KeyTexts) (rows : Origins) (there child : 
     → GrowsAlong (way a keys (table_trie old.value)) rows (table_origins old.value) (table_origins after.value)
     → GrowsAlong (way_by a keys (child_trie there)) rows (child_origins there) (child_origins child)
 latest_grows a keys rows there child b old after is child_is at_is s_is grows =
-    subst (λ w. GrowsAlong w rows (child_origins there) (child_origins child)) (sym (way_into_latest a keys there b old is))
+    subst (λ w. GrowsAlong w rows (child_origins there) (child_origins child))
+    (sym (way_into_latest a keys there b old is))
     (element_grows xs n counted (table_origins old.value) (table_origins after.value) rows
     (way a keys (table_trie old.value)) (λ r q not. grows (r ∷ q) not) there child
     (λ r q. was (number n) (r ∷ q) ∙ ap (λ o. under o (r ∷ q)) (last_is xs (of_table at s (table_within old.value)) n

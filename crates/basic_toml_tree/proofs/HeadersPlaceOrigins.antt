@@ -1,6 +1,8 @@
 -- The way of a header through the tree: what its rows bring comes at the way's end.
-use Rattle.std.proofs.Common.{◌≡◌, ℕ, zero, suc, Bool, true, false, ◌≤◌, List, [], ◌∷◌, ◌++◌, Option, Some, None, refl, ap}
-use Rattle.std.proofs.Common.{sym, ◌∙◌, subst, map, rules, arith, length, slice_get, Vec, Box, Global, Result, Ok, Err}
+use Rattle.std.proofs.Common.{◌≡◌, ℕ, zero, suc, Bool, true, false, ◌≤◌, List, [], ◌∷◌, ◌++◌, Option, Some, None}
+use Rattle.std.proofs.Common.{refl, ap}
+use Rattle.std.proofs.Common.{sym, ◌∙◌, subst, map, rules, arith, length, slice_get, Vec, Box, Global, Result, Ok}
+use Rattle.std.proofs.Common.{Err}
 use Rattle.std.specs.Prelude.{IfOk, if◌then◌else◌, ◌&&◌}
 use Rattle.std.specs.Option.{option_or}
 use Rattle.std.specs.Cow.{cow_str_bytes}
@@ -28,7 +30,8 @@ use Rattle.basic_toml_tree.proofs.HeadersInATrie.{made, fresh, array_of}
 use Rattle.basic_toml_tree.proofs.ItemTries.{child_item_trie, table_entries_trie}
 use Rattle.basic_toml_tree.proofs.KeysInATrie.{tries_of, stood_there}
 use Rattle.basic_toml_tree.proofs.LatestInATrie.{find_latest}
-use Rattle.basic_toml_tree.proofs.TablesOpened.{named_fields, numbered_fields, tables_trie, nothing_trie, table_item_trie}
+use Rattle.basic_toml_tree.proofs.TablesOpened.{named_fields, numbered_fields, tables_trie, nothing_trie}
+use Rattle.basic_toml_tree.proofs.TablesOpened.{table_item_trie}
 use Rattle.basic_toml_tree.proofs.OriginsSeen.{child_seen, below_seen, nothing_seen, table_item_seen}
 use Rattle.basic_toml_tree.proofs.OriginsSeen.{table_origins, nothing_comes, fresh_within, grows_at}
 

@@ -42,3 +42,8 @@ pub mod HeadersPlaceOrigins
 pub mod ElementsPlaceOrigins
 pub mod WaysAreLocated
 pub mod SectionsPlaceOrigins
+pub mod RowsAreNodes
+pub mod ItemsStand
+pub mod NodesCome
+pub mod RowNodesTold
+pub mod PlacesTold

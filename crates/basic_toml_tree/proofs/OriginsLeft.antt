@@ -1,11 +1,13 @@
 -- Rows and elements that are left, and where what all of them make comes from.
-use Rattle.std.proofs.Common.{◌≡◌, ℕ, Bool, true, false, not, List, [], ◌∷◌, ◌++◌, Option, Some, None, refl, ap, is_some}
+use Rattle.std.proofs.Common.{◌≡◌, ℕ, Bool, true, false, not, List, [], ◌∷◌, ◌++◌, Option, Some, None, refl, ap}
+use Rattle.std.proofs.Common.{is_some}
 use Rattle.std.proofs.Common.{sym, ◌∙◌, subst, map, rules, arith, length, append_assoc}
 use Rattle.std.specs.Option.{option_or}
 use Rattle.std.specs.Cow.{cow_str_bytes}
 use Rattle.std.proofs.Math.Path.{fun_ext}
 use Rattle.std.proofs.lemmas.List.{map-append}
-use Rattle.basic_toml_grammar.specs.Sections.{Key, KeyTexts, texts, Raw, Elements, no_elements, element, Rows, no_rows}
+use Rattle.basic_toml_grammar.specs.Sections.{Key, KeyTexts, texts, Raw, Elements, no_elements, element, Rows}
+use Rattle.basic_toml_grammar.specs.Sections.{no_rows}
 use Rattle.basic_toml_grammar.specs.Sections.{row}
 use Rattle.basic_toml_grammar.specs.Steps.{Path}
 use Rattle.basic_toml_read.specs.SectionView.{raw_of, lined_of, placed_of, rows_view, elements_view}
@@ -16,7 +18,8 @@ use Rattle.basic_toml_tree.specs.declared.item.Child.{Child, out-Child}
 use Rattle.basic_toml_tree.specs.Rows.{is_dot, all_dots, key_texts}
 use Rattle.basic_toml_tree.specs.RowStops.{line_keys}
 use Rattle.basic_toml_tree.specs.Origins.{Origin, Origins, no_origins, Within, table_origin, child_origins, dotted_of}
-use Rattle.basic_toml_tree.specs.Origins.{with_more, or_else, row_origins, rows_origins, value_origins, elements_origins}
+use Rattle.basic_toml_tree.specs.Origins.{with_more, or_else, row_origins, rows_origins, value_origins}
+use Rattle.basic_toml_tree.specs.Origins.{elements_origins}
 use Rattle.basic_toml_tree.proofs.ElementsLeft.{element_seen}
 use Rattle.basic_toml_tree.proofs.RowsLeft.{line_view, line_texts, has_value, dots_alone, nothing_left}
 use Rattle.basic_toml_tree.proofs.OriginsSeen.{or_none}
@@ -102,7 +105,8 @@ one_row s keys r last child dots valued is_last comes dotted =
     ∙ ap (λ o. row_origins (texts ks) o (child_origins child)) dotted
     ∙ ap (λ f. row_origins (texts ks) (table_origin false at s) f) v
     ∙ sym (ap (rows_origins s) (line_view keys r [] w.0 dots w.1)
-    ∙ else_none (row_origins (texts ks) (table_origin false (lined_of r).start s) (value_origins s (lined_of r).start w.0))
+    ∙ else_none (row_origins (texts ks) (table_origin false (lined_of r).start s)
+    (value_origins s (lined_of r).start w.0))
     ∙ ap (λ at. row_origins (texts ks) (table_origin false at s) (value_origins s at w.0)) (row_start r))
 
 -- elements that are left
@@ -123,7 +127,8 @@ element_comes s whole children child e rest v some left comes =
     ∙ ap (λ at. map child_origins children ++ value_origins s at v ∷ elements_origins s (elements_view rest))
     (element_at e)
     ∙ ap (λ f. map child_origins children ++ f ∷ elements_origins s (elements_view rest)) (sym comes)
-    ∙ sym (append_assoc (map child_origins children) (child_origins child ∷ []) (elements_origins s (elements_view rest)))
+    ∙ sym (append_assoc (map child_origins children) (child_origins child ∷ [])
+    (elements_origins s (elements_view rest)))
     ∙ ap (λ fs. fs ++ elements_origins s (elements_view rest)) (sym (map-append child_origins children (child ∷ [])))
 
 pub elements_come : (s : ℕ) (whole : Elements) (children : List Child) → ElementsCome s whole children no_elements

@@ -1,5 +1,6 @@
 -- The origins in a table and in what stands in it, one level at a time, and how they change at a key.
-use Rattle.std.proofs.Common.{◌≡◌, ◌⊎◌, inl, inr, ℕ, Bool, true, false, List, [], ◌∷◌, ◌++◌, Option, Some, None, refl, ap}
+use Rattle.std.proofs.Common.{◌≡◌, ◌⊎◌, inl, inr, ℕ, Bool, true, false, List, [], ◌∷◌, ◌++◌, Option, Some, None}
+use Rattle.std.proofs.Common.{refl, ap}
 use Rattle.std.proofs.Common.{sym, ◌∙◌, subst, map, rules, option_map, slice_get, Vec, Box, Global, codes}
 use Rattle.std.specs.Prelude.{◌||◌, if◌then◌else◌}
 use Rattle.std.specs.Option.{option_or}
@@ -24,8 +25,7 @@ use Rattle.basic_toml_tree.specs.Origins.{item_origins, child_origins, table_wit
 use Rattle.basic_toml_tree.proofs.ItemTries.{child_item_trie, table_entries_trie}
 use Rattle.basic_toml_tree.proofs.KeysChanged.{value_at-map, stood_or_fresh, put_at, kept_elsewhere}
 use Rattle.basic_toml_tree.proofs.KeysInATrie.{tries_of}
-use Rattle.basic_toml_tree.proofs.MadeNodes.{standing_here, item_standing}
-use Rattle.basic_toml_tree.proofs.NodesStand.{shape}
+use Rattle.basic_toml_tree.proofs.ItemsStand.{shape, standing_here, item_standing}
 
 -- a child and a table, by their parts
 pub child_seen : (c : Child)
@@ -96,7 +96,8 @@ module _ (t u : Table) (fresh there gone held : Child) (k : List ℕ) (new : Lis
   stood : (p : Path) → table_origins t (key k ∷ p) ≡ child_origins there p
   stood p = seen_at_key t k p ∙ go (stood_or_fresh k fresh (out-Table t).entries new i entered there stands)
     where
-      go : (value_at (out-Table t).entries k ≡ Some there) ⊎ ((value_at (out-Table t).entries k ≡ None) × (there ≡ fresh))
+      go : (value_at (out-Table t).entries k ≡ Some there)
+          ⊎ ((value_at (out-Table t).entries k ≡ None) × (there ≡ fresh))
           → under (option_map child_origins (value_at (out-Table t).entries k)) p ≡ child_origins there p
       go (inl at) = ap (λ o. under (option_map child_origins o) p) at
       go (inr new) =

@@ -236,7 +236,8 @@ resolved old n tree goes past keyed brought =
       heads = goes.heads;
       within = sections_have_keys old;
       origins = made_apart (table_within tree.root.value).below (map section_of old)
-          (subst (λ (ss : List code.Section). Brought (map section_of ss) (table_within tree.root.value).below) all brought);
+          (subst (λ (ss : List code.Section). Brought (map section_of ss) (table_within tree.root.value).below) all
+          brought);
     }
   where
     made_apart : (origins : Origins) (ss : List Section) → Brought ss origins → (p : Path)

@@ -207,5 +207,6 @@ extended-returns-in-Nothing-clause-origins t c =
     ∙ fresh_within c.in_ok-table-in-Nothing.table.value c.in_ok-table-in-Nothing.ensures in
     child_of_table c.in_ok-table-in-Nothing-2.table c.args.child.start c.args.child.section
     ∙ new_table c.args.there c.in_ok-table-in-Nothing-2.table u
-    (row_origins (key_texts c.args.keys.now ++ c.args.last.now ∷ []) (dotted_of c.args.child) (child_origins c.args.child))
+    (row_origins (key_texts c.args.keys.now ++ c.args.last.now ∷ []) (dotted_of c.args.child)
+    (child_origins c.args.child))
     c.args.child.start c.args.child.section c.in-Nothing.is fresh c.in_ok-table-in-Nothing-2.ensures.origins
