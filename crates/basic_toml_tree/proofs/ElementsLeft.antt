@@ -40,7 +40,7 @@ pub record ElementsAreLeft (whole : Elements) (level : ℕ) (ts : List Trie) (re
 element_value : (e : elements.Element) → (placed_of e).value ≡ raw_of (elements.out-Element e).value
 element_value e = search (rules, raws.the_lemmas)
 
-element_seen : (e : elements.Element) (rest : List elements.Element) (v : Raw)
+pub element_seen : (e : elements.Element) (rest : List elements.Element) (v : Raw)
     → raw_of (elements.out-Element e).value ≡ Some v
     → elements_view (e ∷ rest) ≡ element (placed_of e).offset v (elements_view rest)
 element_seen e rest v some =

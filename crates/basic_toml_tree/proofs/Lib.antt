@@ -25,3 +25,15 @@ pub mod LastSection
 pub mod HeadersMake
 pub mod NodesStand
 pub mod MadeNodes
+pub mod OriginsSeen
+pub mod RowsPlaceOrigins
+pub mod OriginsLeft
+pub mod HeadersPlaceOrigins
+pub mod ElementsPlaceOrigins
+pub mod WaysAreLocated
+pub mod SectionsPlaceOrigins
+pub mod RowsAreNodes
+pub mod ItemsStand
+pub mod NodesCome
+pub mod RowNodesTold
+pub mod PlacesTold

@@ -26,10 +26,11 @@ use Rattle.basic_toml_tree.specs.Origin.{spot_is_made, is_made, spot_name, name_
 use Rattle.basic_toml_tree.specs.Origin.{start_of, outer_of, offset_of, is_array_literal}
 use Rattle.basic_toml_tree.specs.Resolve.{Stands, only_root, head}
 use Rattle.basic_toml_tree.specs.Stands.{trie_at, tree_trie, spot_trie, wraps_table, is_wrapper, is_root, IsNodeAt}
-use Rattle.basic_toml_tree.specs.Stands.{Foretold}
+use Rattle.basic_toml_tree.specs.Stands.{ForetoldMade}
 use Rattle.basic_toml_tree.proofs.HeadersMake.{stands_made, stands_array, made_is, array_is}
 use Rattle.basic_toml_tree.proofs.ItemTries.{table_entries_trie}
-use Rattle.basic_toml_tree.proofs.NodesStand.{shape, tells_table}
+use Rattle.basic_toml_tree.proofs.ItemsStand.{item_standing, standing_here}
+use Rattle.basic_toml_tree.proofs.NodesStand.{tells_table}
 
 same_way : (p : Path) (t : Trie) → trie_at p t ≡ descend p t
 same_way [] t = refl
@@ -69,24 +70,6 @@ array_in_trie sections t (inr none) p =
     go [] = refl
     go (s ∷ p) = ap (λ t. stands_array (standing t)) (none_below p)
 
--- what stands where an item is
-abbrev item_standing : Item-F Item Child Table → Option Standing → Type 0
-item_standing Item-F.Nothing o = o ≡ None
-item_standing (Item-F.Table t) o = o ≡ standing (table_trie t.value)
-item_standing (Item-F.Tables before latest) o = stands_array o ≡ true
-item_standing _ o = o ≡ Some value
-
-stands_item : (x : Item-F Item Child Table) → item_standing x (standing (item_trie (roll-Item x)))
-stands_item Item-F.Nothing = search (rules, the_lemmas)
-stands_item (Item-F.Integer z) = search (rules, the_lemmas)
-stands_item (Item-F.Float z) = search (rules, the_lemmas)
-stands_item (Item-F.Boolean z) = search (rules, the_lemmas)
-stands_item (Item-F.String z) = search (rules, the_lemmas)
-stands_item (Item-F.Array z) = search (rules, the_lemmas)
-stands_item (Item-F.Inline z) = search (rules, the_lemmas)
-stands_item (Item-F.Table t) = search (rules, the_lemmas)
-stands_item (Item-F.Tables before latest) = search (rules, the_lemmas)
-
 abbrev made_name : Bool → List ℕ
 made_name b = if b then codes "array" else codes "table"
 
@@ -110,10 +93,6 @@ item_made count b (Item-F.Boolean z) o is stands same own made = absurd (false�
 item_made count b (Item-F.String z) o is stands same own made = absurd (false≢true (sym (ap stands_made stands) ∙ made))
 item_made count b (Item-F.Array z) o is stands same own made = absurd (false≢true (sym (ap stands_made stands) ∙ made))
 item_made count b (Item-F.Inline z) o is stands same own made = absurd (false≢true (sym (ap stands_made stands) ∙ made))
-
-standing_here : (i : Item) → item_standing (out-Item i) (standing (item_trie i))
-standing_here i = subst (λ j. item_standing (out-Item i) (standing (item_trie j))) (sym (shape i (out-Item i) refl))
-    (stands_item (out-Item i))
 
 table_made : (count : ℕ) (b : Bor Table) → ((count == 0) || stands_made (standing (table_trie b.now))) ≡ true
     → IsMade count (spots.Table b)
@@ -200,7 +179,7 @@ last_heads (x ∷ w ∷ xs) (y ∷ z ∷ ys) same =
 foretold : (sections : List Section) (p : Path) (node : Node) (P : grammar.Node → Type 0)
     → (IsNodeAt sections p node → grammar.is_made (located sections) p ≡ true
     → P (grammar.made_node (located sections) (grammar.last_at sections) p))
-    → Foretold sections p node P
+    → ForetoldMade sections p node P
 foretold sections p node P told is made = rw made (told is made)
 
 last_same : (sections : List Section) (p : Path) (node : Node) → IsNodeAt sections p node
@@ -208,29 +187,29 @@ last_same : (sections : List Section) (p : Path) (node : Node) → IsNodeAt sect
 last_same sections p node is = last_heads (map section_of node.tree.now.sections.items) sections is.resolved.heads
 
 -- its name, where it begins, the offset around it and the one that names it are as they are foretold
-pub name_told : (name : List ℕ) (node : Node) → name ≡ name_of node → (sections : List Section) (p : Path)
-    → Foretold sections p node (λ found. name ≡ found.type_name)
+pub made_name_told : (name : List ℕ) (node : Node) → name ≡ name_of node → (sections : List Section) (p : Path)
+    → ForetoldMade sections p node (λ found. name ≡ found.type_name)
 unfolding name_of
-name_told name node same sections p = foretold sections p node (λ found. name ≡ found.type_name)
+made_name_told name node same sections p = foretold sections p node (λ found. name ≡ found.type_name)
     (λ is made. let told = is_told sections node p is made in same ∙ told.0.name ∙ ap made_name told.1)
 
-pub start_told : (start : Option ℕ) (node : Node) → start ≡ start_of node → (sections : List Section) (p : Path)
-    → Foretold sections p node (λ found. start ≡ found.start)
+pub made_start_told : (start : Option ℕ) (node : Node) → start ≡ start_of node → (sections : List Section) (p : Path)
+    → ForetoldMade sections p node (λ found. start ≡ found.start)
 unfolding start_of
-start_told start node same sections p = foretold sections p node (λ found. start ≡ found.start)
+made_start_told start node same sections p = foretold sections p node (λ found. start ≡ found.start)
     (λ is made. let told = is_told sections node p is made in
     same ∙ ap (λ b. if b then last_at node.tree.now else Some node.start) told.0.made
     ∙ last_same sections p node is)
 
 pub outer_told : (outer : Option ℕ) (node : Node) → outer ≡ outer_of node → (sections : List Section) (p : Path)
-    → Foretold sections p node (λ found. outer ≡ found.outer_offset)
+    → ForetoldMade sections p node (λ found. outer ≡ found.outer_offset)
 unfolding outer_of
 outer_told outer node same sections p = foretold sections p node (λ found. outer ≡ found.outer_offset)
     (λ is made. let told = is_told sections node p is made in
     same ∙ rw (told.0.made) (last_same sections p node is))
 
 pub offset_told : (offset : Option ℕ) (node : Node) → offset ≡ offset_of node → (sections : List Section) (p : Path)
-    → Foretold sections p node (λ found. offset ≡ found.offset)
+    → ForetoldMade sections p node (λ found. offset ≡ found.offset)
 unfolding offset_of start_of outer_of
 offset_told offset node same sections p = foretold sections p node (λ found. offset ≡ found.offset)
     (λ is made. let told = is_told sections node p is made in

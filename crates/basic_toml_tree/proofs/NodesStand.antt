@@ -24,9 +24,13 @@ use Rattle.basic_toml_tree.specs.declared.node.Spot.TheVariants as spots
 use Rattle.basic_toml_clash.specs.Keyed.{values_of}
 use Rattle.basic_toml_tree.specs.Item.{item_trie, child_trie, table_trie, by_keys, by_numbers, leaf, tree_data}
 use Rattle.basic_toml_tree.specs.Stands.{trie_at, tree_trie, spot_trie, wraps_table, HoldsTable, IsBelow, is_root}
-use Rattle.basic_toml_tree.specs.Stands.{StandsAt, StandsOn, IsBeside, is_wrapper, ItemHolds}
+use Rattle.basic_toml_tree.specs.Stands.{StandsAt, StandsOn, IsBeside, is_wrapper, ItemHolds, ComesFrom, node_origins}
+use Rattle.basic_toml_tree.specs.Origins.{child_origins, table_within}
 use Rattle.basic_toml_tree.proofs.ItemTries.{table_entries_trie}
 use Rattle.basic_toml_clash.proofs.KeysChanged.{first_at}
+use Rattle.basic_toml_tree.proofs.ItemsStand.{shape}
+use Rattle.basic_toml_tree.proofs.NodesCome.{comes_on, key_comes, literal_comes, tables_come}
+use Rattle.basic_toml_tree.proofs.NodesCome.{table_node_comes}
 use Rattle.basic_toml_tree.proofs.KeysInATrie.{tries_of}
 
 at_more : (p : Path) (s : Step) (t : Trie) → trie_at (p ++ s ∷ []) t ≡ below s (trie_at p t)
@@ -67,10 +71,6 @@ find_number k (suc n) m (t ∷ ts) u is found =
 table_below : (t : Table) (k : List ℕ) (c : Child) → value_at (out-Table t).entries k ≡ Some c
     → below (key k) (table_trie t) ≡ child_trie c
 table_below t k c found = ap (below (key k)) (table_entries_trie t) ∙ find_key (out-Table t).entries k c found
-
--- an item, as it is made
-pub shape : (i : Item) (x : Item-F Item Child Table) → out-Item i ≡ x → i ≡ roll-Item x
-shape i x is = let whole : roll-Item (out-Item i) ≡ i = search (rules, the_lemmas) in sym whole ∙ ap roll-Item is
 
 array_trie : (children : Vec Child Global) → (d : Data) × (item_trie (Array children) ≡ leaf d)
 array_trie children =
@@ -115,7 +115,8 @@ spot_below (spots.Item item) t k c holds own found =
 module _ (from node : Node) (s : Step) (same : node.tree ≡ from.tree)
     (more : wraps_table from.spot ≡ false → (below s (spot_trie from.spot) ≡ nothing)
     ⊎ ((spot_trie node.spot ≡ below s (spot_trie from.spot)) × (wraps_table node.spot ≡ false)))
-    (tree : Tree) (p : Path) (stands : StandsAt tree p from) where
+    (comes : (at : ℕ) → ComesFrom (λ q. node_origins at from (s ∷ q)) node) (tree : Tree) (p : Path)
+    (stands : StandsAt tree p from) where
   further : (trie_at (p ++ s ∷ []) (tree_trie tree) ≡ nothing)
       ⊎ ((spot_trie node.spot ≡ trie_at (p ++ s ∷ []) (tree_trie tree)) × (wraps_table node.spot ≡ false))
   further = go stands.there
@@ -141,12 +142,15 @@ module _ (from node : Node) (s : Step) (same : node.tree ≡ from.tree)
     within = ap (λ t. t.now) same ∙ stands.within;
     root = counted ∙ sym (no_root p s);
     there = further;
+    comes = comes_on from node s tree p stands.comes comes;
   }
 
 pub key_stands : (from node : Node) (t : Table) (k : List ℕ) (c : Child) → HoldsTable from.spot t
-    → value_at (out-Table t).entries k ≡ Some c → IsBelow from (child_trie c) node → StandsOn from (key k) node
-key_stands from node t k c holds found is tree p stands =
-    stands_on from node (key k) is.tree (λ own. go (spot_below from.spot t k c holds own found)) tree p stands is.count
+    → value_at (out-Table t).entries k ≡ Some c → IsBelow from (child_trie c) node
+    → ComesFrom (child_origins c) node → StandsOn from (key k) node
+key_stands from node t k c holds found is comes tree p stands =
+    stands_on from node (key k) is.tree (λ own. go (spot_below from.spot t k c holds own found))
+    (λ at. key_comes from node t k c holds found comes at) tree p stands is.count
   where
     go : NothingOr (key k) (spot_trie from.spot) (child_trie c) → (below (key k) (spot_trie from.spot) ≡ nothing)
         ⊎ ((spot_trie node.spot ≡ below (key k) (spot_trie from.spot)) × (wraps_table node.spot ≡ false))
@@ -157,10 +161,11 @@ key_stands from node t k c holds found is tree p stands =
 pub entry_stands : (from node : Node) (t : Table) (i : ℕ) (k : List ℕ) (c : Child) → HoldsTable from.spot t
     → IsTrue (are_distinct (keys_of (out-Table t).entries)) → slice_get (keys_of (out-Table t).entries) i ≡ Some k
     → slice_get (values_of (out-Table t).entries) i ≡ Some c → IsBelow from (child_trie c) node
-    → StandsOn from (key k) node
-entry_stands from node t i k c holds distinct at value is =
+    → ComesFrom (child_origins c) node → StandsOn from (key k) node
+entry_stands from node t i k c holds distinct at value is comes =
     key_stands from node t k c holds
     (first_at (out-Table t).entries i k c at (is_among-before (keys_of (out-Table t).entries) i k distinct at) value) is
+    comes
 
 -- an array is no root
 abbrev pub tells_table : Trie → Bool
@@ -186,24 +191,31 @@ array_spot : (from : Node) (b : Bor Item) (i : Item) → from.spot ≡ spots.Ite
 array_spot from b i at is = ap spot_trie at ∙ ap item_trie is
 
 module _ (from node : Node) (n : ℕ) (b : Bor Item) (at : from.spot ≡ spots.Item b) where
-  pub literal_stands : (children : Vec Child Global) (spot : Spot) → b.now ≡ Array children
-      → IsBeside from spot node → StandsOn from (number n) node
-  literal_stands children spot is beside tree p stands =
+  pub literal_stands : (children : Vec Child Global) (spot : Spot) (child : Child) → b.now ≡ Array children
+      → slice_get (map child_origins children.items) n ≡ Some (child_origins child)
+      → IsBeside from spot node → ComesFrom (child_origins child) node → StandsOn from (number n) node
+  literal_stands children spot child is read beside comes tree p stands =
       let d = array_trie children in
       let here : spot_trie from.spot ≡ leaf d.0 = array_spot from b (Array children) at is ∙ d.1 in
-      stands_on from node (number n) beside.tree (λ own. inl (ap (below (number n)) here)) tree p stands
+      stands_on from node (number n) beside.tree (λ own. inl (ap (below (number n)) here))
+      (λ s. literal_comes from node n b at children child is read comes s) tree p stands
       (ap (λ c. c == 0) beside.count ∙ stands.root ∙ no_array_root from tree p stands (ap tells_table here))
 
   pub tables_stand : (before : Vec Table Global) (latest : Box Table Global) (t : Bor Table)
       → b.now ≡ Tables before latest
       → slice_get (map table_trie before.items ++ table_trie latest.value ∷ []) n ≡ Some (table_trie t.now)
-      → IsBeside from (spots.Table t) node → StandsOn from (number n) node
-  tables_stand before latest t is found beside tree p stands =
+      → slice_get (map table_within before.items ++ table_within latest.value ∷ []) n ≡ Some (table_within t.now)
+      → IsBeside from (spots.Table t) node → node.start ≡ from.start → StandsOn from (number n) node
+  tables_stand before latest t is found read beside start tree p stands =
+      let counted : (node.count == 0) ≡ false =
+      ap (λ c. c == 0) beside.count ∙ stands.root ∙ no_array_root from tree p stands
+      (ap tells_table (array_spot from b (Tables before latest) at is ∙ tables_trie before latest)) in
       let here = array_spot from b (Tables before latest) at is ∙ tables_trie before latest in
       let there : spot_trie node.spot ≡ below (number n) (spot_trie from.spot) =
       ap spot_trie beside.spot
       ∙ sym (ap (below (number n)) here
       ∙ find_number 0 n n (map table_trie before.items ++ table_trie latest.value ∷ []) (table_trie t.now) (omega arith)
       found) in
-      stands_on from node (number n) beside.tree (λ own. inr (there, ap wraps_table beside.spot)) tree p stands
-      (ap (λ c. c == 0) beside.count ∙ stands.root ∙ no_array_root from tree p stands (ap tells_table here))
+      stands_on from node (number n) beside.tree (λ own. inr (there, ap wraps_table beside.spot))
+      (λ s. tables_come from node n b at before latest t is read
+      (λ s. table_node_comes t node from.start s beside.spot start counted) s) tree p stands counted

@@ -1,5 +1,5 @@
 -- The sections of the code entered one after another, each of which gives its rows away.
-use Rattle.std.proofs.Common.{◌≡◌, inl, inr, ℕ, suc, ◌+◌, ◌<◌, ◌≤◌, true, List, [], ◌∷◌, ◌++◌, refl}
+use Rattle.std.proofs.Common.{◌≡◌, inl, inr, ℕ, suc, ◌+◌, ◌<◌, ◌≤◌, true, false, List, [], ◌∷◌, ◌++◌, refl}
 use Rattle.std.proofs.Common.{ap}
 use Rattle.std.proofs.Common.{sym, ◌∙◌, subst, arith, map, length, take, drop, get_or, set, zero, Option}
 use Rattle.std.proofs.Common.{Some, None, Result, Ok, Err}
@@ -9,7 +9,9 @@ use Rattle.std.specs.Prelude.{IfSome, IfNone}
 use Rattle.std.proofs.lemmas.List.{map-append, take_more, take_all}
 use Rattle.basic_toml_value.specs.Nesting.{nesting_limit}
 use Rattle.basic_toml_grammar.specs.IndexedPath.{located}
-use Rattle.basic_toml_grammar.specs.Entering.{all_keyed}
+use Rattle.basic_toml_grammar.specs.Entering.{all_keyed, is_keyed}
+use Rattle.basic_toml_grammar.specs.Nodes.{is_made}
+use Rattle.basic_toml_grammar.specs.Steps.{Path}
 use Rattle.basic_toml_grammar.specs.Faults.{Fault}
 use Rattle.basic_toml_grammar.specs.NestingFaults.{deep_sections}
 use Rattle.basic_toml_grammar.specs.Trie.{Trie, walk, steps_to}
@@ -20,6 +22,7 @@ use Rattle.basic_toml_clash.specs.declared.clash.Clash.{Clash}
 use Rattle.basic_toml_clash.specs.declared.clash.Clash.TheVariants.{Memory, Deep, Header, Named, Redefined, Row}
 use Rattle.basic_toml_clash.specs.Clash.{IsFaultOf, NamesClash, NamesStop, row_stop}
 use Rattle.basic_toml_tree.specs.Headers.{IsIn, IsKeptOut}
+use Rattle.basic_toml_tree.specs.declared.item.Table.{Table}
 use Rattle.basic_toml_tree.specs.declared.tree.Tree.{Tree}
 use Rattle.basic_toml_clash.specs.Crossed.{IsCrossed, NoneIsCrossed, crossed_faults}
 use Rattle.basic_toml_tree.specs.Item.{table_trie}
@@ -29,7 +32,12 @@ use Rattle.basic_toml_grammar.specs.Stops.{Stop, at_header, is_named, is_passed,
 use Rattle.basic_toml_grammar.specs.TrieStops.{try_by_keys}
 use Rattle.std.specs.List.{flat_map}
 use Rattle.basic_toml_tree.proofs.SectionsStopped.{section_stops, same_fault, first_contained}
-use Rattle.basic_toml_grammar.specs.Sections.{Key}
+use Rattle.basic_toml_grammar.specs.Sections.{Key, Section}
+use Rattle.std.proofs.lemmas.Bool.{false≢true, and_parts, and_from}
+use Rattle.basic_toml_tree.specs.Origins.{Origins, no_origins, table_within, rows_origins}
+use Rattle.basic_toml_tree.specs.Ways.{way, GrowsAlong, sections_origins}
+use Rattle.basic_toml_tree.proofs.OriginsSeen.{fresh_within}
+use Rattle.basic_toml_tree.proofs.SectionsPlaceOrigins.{Brought, none_brought, more_brought}
 use Rattle.basic_toml_tree.specs.Resolve.{Resolves, IsResolved, IsUnresolved, memory, deep, clash, head}
 use Rattle.basic_toml_tree.proofs.HeadersInATrie.{fresh}
 use Rattle.basic_toml_tree.proofs.RowsHaveKeys.{sections_have_keys}
@@ -53,6 +61,9 @@ begins old t is = record {
   heads = refl;
 }
 
+pub brings_none : (t : Table) → table_trie t ≡ fresh → Brought [] (table_within t).below
+brings_none t is = none_brought (table_within t).below (ap (λ w. w.below) (fresh_within t is))
+
 -- a section that only gives its rows away leaves the headers as they are
 abbrev head_of : code.Section → ℕ × List Key
 head_of s = head (section_of s)
@@ -73,6 +84,17 @@ pub heads_kept : (ss : List code.Section) (n : ℕ) (was s : code.Section) → w
 heads_kept ss n was s is at header =
     let same : head_of s ≡ head_of was = rw (at, header) refl in
     heads_mapped (set ss n s) ∙ heads_set ss n s was (same ∙ ap head_of is) ∙ sym (heads_mapped ss)
+
+keyed_front : (xs ys : List Section) → all_keyed (xs ++ ys) ≡ true → all_keyed xs ≡ true
+keyed_front [] ys keyed = refl
+keyed_front (x ∷ xs) ys keyed =
+    let both = and_parts (is_keyed x) (all_keyed (xs ++ ys)) keyed in
+    and_from (is_keyed x) (all_keyed xs) both.0 (keyed_front xs ys both.1)
+
+taken_count : (ss : List code.Section) (n : ℕ) → n ≤ length ss → n ≡ length (map section_of (take n ss))
+taken_count ss zero within = refl
+taken_count [] (suc n) within = absurd (omega (arith, within))
+taken_count (s ∷ ss) (suc n) within = ap suc (taken_count ss n (omega (arith, within)))
 
 -- the list, split at the next section
 module _ (old now : List code.Section) (n : ℕ) (t : Trie) (goes : Goes old now n t) (s : code.Section)
@@ -102,6 +124,19 @@ module _ (old now : List code.Section) (n : ℕ) (t : Trie) (goes : Goes old now
     left = λ k d past. same k d past ∙ goes.left k d (omega (arith, past));
     heads = heads ∙ goes.heads;
   }
+
+  -- what the rows of the section bring
+  pub brings_on : (before after : Origins) → all_keyed (map section_of old) ≡ true
+      → Brought (map section_of (take n old)) before
+      → GrowsAlong (way s.is_array (header_texts s.header.items) t) (rows_origins n (rows_view s.rows.items))
+      before after
+      → Brought (map section_of (take (n + 1) old)) after
+  brings_on before after keyed brought grows =
+      let keyed_before : all_keyed (map section_of (take n old)) ≡ true =
+      keyed_front (map section_of (take n old)) _ (sym (ap all_keyed split) ∙ keyed) in
+      subst (λ ss. Brought ss after) (sym more)
+      (more_brought (map section_of (take n old)) (section_of s) (header_texts s.header.items) t n before after
+      refl keyed_before goes.entered.stands (taken_count old n (omega (arith, goes.count))) brought grows)
 
   -- a section that is not entered, and its fault
   module _ (keyed : all_keyed (map section_of old) ≡ true) (none : NoneIsCrossed old) where
@@ -182,8 +217,9 @@ none_crossed slice (Some at) other none = absurd (other at refl)
 
 pub resolved : (old : List code.Section) (n : ℕ) (tree : Tree)
     → Goes old tree.sections.items n (table_trie tree.root.value)
-    → length old ≤ n → all_keyed (map section_of old) ≡ true → IsResolved (map section_of old) tree
-resolved old n tree goes past keyed =
+    → length old ≤ n → all_keyed (map section_of old) ≡ true
+    → Brought (map section_of (take n old)) (table_within tree.root.value).below → IsResolved (map section_of old) tree
+resolved old n tree goes past keyed brought =
     let all : take n old ≡ old = take_all n old past in
     let t = table_trie tree.root.value in
     let entered = subst (λ (ss : List code.Section). Entered (map section_of ss) (table_trie tree.root.value)) all
@@ -194,4 +230,13 @@ resolved old n tree goes past keyed =
       grown = sym (table_trie_data tree.root.value) ∙ whole_tree (map section_of old) t entered;
       stands = entered.stands;
       heads = goes.heads;
+      within = sections_have_keys old;
+      origins = made_apart (table_within tree.root.value).below (map section_of old)
+          (subst (λ (ss : List code.Section). Brought (map section_of ss) (table_within tree.root.value).below) all
+          brought);
     }
+  where
+    made_apart : (origins : Origins) (ss : List Section) → Brought ss origins → (p : Path)
+        → is_made (located ss) p ≡ false → origins p ≡ sections_origins 0 (located ss) p
+    made_apart origins ss brought [] not = absurd (false≢true (sym not))
+    made_apart origins ss brought (r ∷ p) not = brought (r ∷ p) not

@@ -1,10 +1,12 @@
 pub mod Item
 pub mod Data
+pub mod Origins
 pub mod Nodes
 pub mod Origin
 pub mod Rows
 pub mod RowStops
 pub mod Headers
+pub mod Ways
 pub mod Resolve
 pub mod Order
 pub mod Stands

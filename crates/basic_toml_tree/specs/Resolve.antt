@@ -2,12 +2,14 @@
 use Rattle.std.specs.Prelude.{◌≡◌, ◌⊎◌, ◌≤◌, ℕ, List, [], map, Contains, true, false, Some, None, Result, Ok, Err}
 use Rattle.basic_toml_value.specs.Nesting.{nesting_limit}
 use Rattle.basic_toml_grammar.specs.Sections.{Key, Section}
+use Rattle.basic_toml_grammar.specs.Steps.{Path}
+use Rattle.basic_toml_grammar.specs.Nodes.{is_made}
 use Rattle.basic_toml_grammar.specs.Standing as standing
 use Rattle.basic_toml_grammar.specs.Trie.{Trie, trie, nothing, no_tries, put_sections}
 use Rattle.basic_toml_grammar.specs.IndexedPath.{located}
 use Rattle.basic_toml_grammar.specs.Depth.{depth}
 use Rattle.basic_toml_grammar.specs.Document.{has_clash, tree_of_sections}
-use Rattle.basic_toml_grammar.specs.Entering.{all_keyed}
+use Rattle.basic_toml_grammar.specs.Entering.{all_keyed, all_keyed_within}
 use Rattle.basic_toml_grammar.specs.Faults.{Fault, nested_too_deeply}
 use Rattle.basic_toml_grammar.specs.GrammarFaults.{fault_at}
 use Rattle.basic_toml_grammar.specs.NamedClash.{NamesClash}
@@ -18,6 +20,8 @@ use Rattle.basic_toml_read.specs.SectionView.{section_of}
 use Rattle.basic_toml_tree.specs.declared.tree.Tree.{Tree}
 use Rattle.basic_toml_tree.specs.Data.{table_data}
 use Rattle.basic_toml_tree.specs.Item.{table_trie}
+use Rattle.basic_toml_tree.specs.Origins.{table_within}
+use Rattle.basic_toml_tree.specs.Ways.{sections_origins}
 
 -- a trie in which nothing stands but the root
 abbrev pub only_root : Trie
@@ -31,13 +35,17 @@ Stands sections t = (put_sections sections nothing ≡ Some t) ⊎ ((sections �
 abbrev pub head : Section → ℕ × List Key
 head s = (s.at, s.header)
 
--- Nothing clashes, the tree fits the limit, and this is it. It keeps the headers, and what is said of each path.
+-- Nothing clashes, the tree fits the limit, and this is it. It keeps the headers, what is said of each path, and where
+-- what rows made comes from.
 pub record IsResolved (sections : List Section) (tree : Tree) : Type 0 where
   pub clash : has_clash sections ≡ false
   pub fits : depth (tree_of_sections sections) ≤ nesting_limit
   pub grown : table_data tree.root.value ≡ tree_of_sections sections
   pub stands : Stands sections (table_trie tree.root.value)
   pub heads : map head (map section_of tree.sections.items) ≡ map head sections
+  pub within : all_keyed_within sections ≡ true
+  pub origins : (p : Path) → is_made (located sections) p ≡ false
+      → (table_within tree.root.value).below p ≡ sections_origins 0 (located sections) p
 
 -- Why a list has no tree: memory was refused, a section makes the tree too deep, or it names a clash that stands.
 pub data IsUnresolved (sections : List Section) : Fault → Type 0 where

@@ -20,6 +20,8 @@ use Rattle.basic_toml_tree.specs.declared.entries.Entries.{Entries}
 use Rattle.basic_toml_tree.specs.declared.node.Spot.{Spot}
 use Rattle.basic_toml_tree.specs.declared.node.Spot.TheVariants as spots
 use Rattle.basic_toml_tree.specs.Item.{item_trie, table_trie}
+use Rattle.basic_toml_tree.specs.Origin.{spot_is_made, spot_name}
+use Rattle.basic_toml_tree.specs.Origins.{Origin, Origins, item_origins, table_within}
 use Rattle.basic_toml_tree.specs.Nodes.{node_data, elements_left, key_and_data, entries_left}
 use Rattle.basic_toml_tree.specs.Resolve.{IsResolved}
 
@@ -71,12 +73,41 @@ abbrev pub is_root : Path → Bool
 is_root [] = true
 is_root (s ∷ p) = false
 
+-- the origins below a spot, and that of a node, by the section that first mentioned it
+abbrev pub spot_origins : Spot → ℕ → ℕ → Origins
+spot_origins (spots.Table table) at s = (table_within table.now).below
+spot_origins (spots.Item found) at s = item_origins found.now at s
+
+abbrev pub node_origins : ℕ → Node → Origins
+node_origins s node = spot_origins node.spot node.start s
+
+abbrev pub spot_origin : ℕ → Spot → ℕ → ℕ → Origin
+spot_origin count spot at s = record {
+  made = spot_is_made count spot;
+  name = spot_name count spot;
+  start = at;
+  section = s;
+}
+
+-- A node is what these origins tell, and those below them, but of what headers made only those below.
+pub record SpotComes (here : Origins) (count : ℕ) (spot : Spot) (at : ℕ) : Type 0 where
+  pub section : ℕ
+  pub own : IfSome (here []) (λ o. o.made ≡ false → o ≡ spot_origin count spot at section)
+  pub parts : (s : Step) (q : Path) → here (s ∷ q) ≡ spot_origins spot at section (s ∷ q)
+
+abbrev pub ComesFrom : Origins → Node → Type 0
+ComesFrom here node = SpotComes here node.count node.spot node.start
+
+abbrev pub tree_origins : Tree → Origins
+tree_origins tree = (table_within tree.root.value).below
+
 -- A node of a tree stands at a path. Below a value that a row gives nothing more is in the trie.
 pub record StandsAt (tree : Tree) (p : Path) (node : Node) : Type 0 where
   pub within : node.tree.now ≡ tree
   pub root : (node.count == 0) ≡ is_root p
   pub there : (trie_at p (tree_trie tree) ≡ nothing)
       ⊎ ((spot_trie node.spot ≡ trie_at p (tree_trie tree)) × (wraps_table node.spot ≡ false))
+  pub comes : ComesFrom (λ q. tree_origins tree (p ++ q)) node
 
 -- where the one stands at a path, the other stands there and one step further
 abbrev pub StandsOn : Node → Step → Node → Type 0
@@ -116,7 +147,10 @@ pub record IsNodeAt (sections : List Section) (p : Path) (node : Node) : Type 0 
   pub keyed : all_keyed sections ≡ true
   pub stands : StandsAt node.tree.now p node
 
--- what is said of the node by the section list alone, where headers made it
+-- what is said of the node by the section list alone, and where headers made it
 abbrev pub Foretold : List Section → Path → Node → (grammar.Node → Type 0) → Type 0
-Foretold sections p node says =
+Foretold sections p node says = IsNodeAt sections p node → IfSome (grammar.node_at sections p) says
+
+abbrev pub ForetoldMade : List Section → Path → Node → (grammar.Node → Type 0) → Type 0
+ForetoldMade sections p node says =
     IsNodeAt sections p node → grammar.is_made (located sections) p ≡ true → IfSome (grammar.node_at sections p) says

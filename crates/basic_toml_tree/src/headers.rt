@@ -1,12 +1,16 @@
 //! Sections: the way of a header through the tree, and the table that it names.
 
-ghost use Rattle.std.specs.Prelude.{◌≡◌, ◌≤◌, ◌<◌, ◌+◌, false, [], length, IfOk, IfErr};
+ghost use Rattle.std.specs.Prelude.{◌≡◌, ◌≤◌, ◌<◌, ◌+◌, false, [], ◌∷◌, length, IfOk, IfErr};
 ghost use Rattle.basic_toml_grammar.specs.Trie.{put_element};
 ghost use Rattle.basic_toml_grammar.specs.TrieStops.{try_by_keys, try_put_table, try_put_element};
 ghost use Rattle.basic_toml_read.specs.SectionView.{header_texts, rows_view};
 ghost use Rattle.basic_toml_tree.specs.declared.item.Table.{out-Table};
 ghost use Rattle.basic_toml_clash.specs.Clash.{NamesStop};
 ghost use Rattle.basic_toml_tree.specs.Item.{table_trie, child_trie};
+ghost use Rattle.basic_toml_grammar.specs.Steps.{number as number_step};
+ghost use Rattle.basic_toml_grammar.specs.Trie.{count};
+ghost use Rattle.basic_toml_tree.specs.Origins.{child_origins, table_within, or_else, rows_origins};
+ghost use Rattle.basic_toml_tree.specs.Ways.{way, way_by, way_at, GrowsAlong};
 ghost use Rattle.basic_toml_tree.specs.Headers.{EntersHeader, EntersChild, Passes, PutsBack};
 ghost use Rattle.basic_toml_tree.specs.Headers.{entered_by, steps_by, entered_at, steps_at, tried_by, tried_at};
 
@@ -31,6 +35,10 @@ pub(crate) fn enter_section<'de>(
         let tried = try_by_keys section.old.is_array (rows_view section.old.rows.items) keys
         (table_trie root.entry.value) in
         IfErr result (λ clash. NamesStop tried clash) }
+    ensures origins { let keys = header_texts section.old.header.items in
+        let rows = rows_origins number (rows_view section.old.rows.items) in
+        IfOk result (λ after. GrowsAlong (way section.old.is_array keys (table_trie root.entry.value)) rows
+        (table_within root.entry.value).below (table_within after.value).below) }
     ensures at { section.new.at ≡ section.old.at }
     ensures header { section.new.header ≡ section.old.header }
 {
@@ -59,6 +67,8 @@ fn open<'de>(
     ensures entered { EntersHeader false (rows_view rows.entry.items) [] level (table_trie table.entry.value) result }
     ensures named { let tried = try_put_table (rows_view rows.entry.items) (table_trie table.entry.value) in
         IfErr result (λ clash. NamesStop tried clash) }
+    ensures origins { IfOk result (λ after. (table_within after.value).below
+        ≡ or_else (table_within table.entry.value).below (rows_origins number (rows_view rows.entry.items))) }
 {
     let mut table = table;
     if level > NESTING_LIMIT {
@@ -92,6 +102,9 @@ fn enter_header<'de>(
     ensures named { let keys = header_texts keys.now in
         let tried = try_by_keys is_array (rows_view rows.entry.items) keys (table_trie table.entry.value) in
         IfErr result (λ clash. NamesStop tried clash) }
+    ensures origins { let new = rows_origins number (rows_view rows.entry.items) in
+        IfOk result (λ after. GrowsAlong (way is_array (header_texts keys.now) (table_trie table.entry.value)) new
+        (table_within table.entry.value).below (table_within after.value).below) }
 {
     match keys.split_first() {
         None => open(alloc, table, rows, number, level),
@@ -150,6 +163,9 @@ fn enter_at<'de>(
     ensures named { let tried = tried_at is_array (rows_view rows.entry.items) (header_texts rest.now)
         (child_trie there.entry) in
         IfErr result (λ clash. NamesStop tried clash) }
+    ensures origins { let new = rows_origins number (rows_view rows.entry.items) in
+        IfOk result (λ after. GrowsAlong (way_at is_array (header_texts rest.now) (child_trie there.entry)) new
+        (child_origins there.entry) (child_origins after)) }
 {
     if is_array && rest.is_empty() {
         return add_element(alloc, there, rows, number, level);
@@ -170,6 +186,9 @@ fn add_element<'de>(
         EntersChild (put_element rows (child_trie there.entry)) rows (level + 2) result }
     ensures named { let tried = try_put_element (rows_view rows.entry.items) (child_trie there.entry) in
         IfErr result (λ clash. NamesStop tried clash) }
+    ensures origins { let new = rows_origins number (rows_view rows.entry.items) in
+        IfOk result (λ after. GrowsAlong (number_step (count (child_trie there.entry)) ∷ []) new
+        (child_origins there.entry) (child_origins after)) }
 {
     let Child {
         start,
@@ -227,6 +246,9 @@ fn enter_child<'de>(
     ensures named { let tried = tried_by is_array (rows_view rows.entry.items) (header_texts rest.now)
         (child_trie there.entry) in
         IfErr result (λ clash. NamesStop tried clash) }
+    ensures origins { let new = rows_origins number (rows_view rows.entry.items) in
+        IfOk result (λ after. GrowsAlong (way_by is_array (header_texts rest.now) (child_trie there.entry)) new
+        (child_origins there.entry) (child_origins after)) }
 {
     let Child {
         start,

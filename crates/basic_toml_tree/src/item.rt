@@ -6,6 +6,7 @@ ghost use Rattle.basic_toml_grammar.specs.Trie.{trie, nothing, no_tries};
 ghost use Rattle.basic_toml_tree.specs.declared.item.Child.{out-Child};
 ghost use Rattle.basic_toml_tree.specs.declared.item.Table.{out-Table};
 ghost use Rattle.basic_toml_tree.specs.Item.{item_trie, child_trie, table_trie};
+ghost use Rattle.basic_toml_tree.specs.Origins.{item_origins, child_origins};
 
 use basic_toml_clash::Keyed;
 use basic_toml_value::Float;
@@ -61,6 +62,7 @@ impl<'de> Child<'de> {
     /// An item that comes from an offset and a section.
     pub fn at(start: usize, section: usize, item: Item<'de>) -> Child<'de>
         ensures trie { child_trie result ≡ item_trie item.entry }
+        ensures origins { child_origins result ≡ item_origins item.entry start section }
         ensures start { (out-Child result).start ≡ start }
         ensures section { (out-Child result).section ≡ section }
     {

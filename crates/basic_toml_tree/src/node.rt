@@ -14,6 +14,8 @@ ghost use Rattle.basic_toml_tree.specs.Data.{table_data, child_data};
 ghost use Rattle.basic_toml_tree.specs.Nodes.{node_data, is_table, is_array, maybe_table, data_at};
 ghost use Rattle.basic_toml_tree.specs.Nodes.{elements_in, entries_in, elements_left, entries_left};
 ghost use Rattle.basic_toml_tree.specs.Stands.{StandsAt, HoldsTable, IsBelow, IsBeside, IsTableBeside, AtKey, AtNumber, BeginsIn};
+ghost use Rattle.basic_toml_tree.specs.Stands.{ComesFrom};
+ghost use Rattle.basic_toml_tree.specs.Origins.{child_origins};
 
 use crate::entries::{Elements, Entries};
 use crate::item::{Child, Item, Table};
@@ -165,6 +167,7 @@ impl<'t, 'de> Node<'t, 'de> {
     ) -> Node<'t, 'de>
         ensures data { node_data result ≡ child_data child.now }
         ensures below { IsBelow self.entry (child_trie child.now) result }
+        ensures comes { ComesFrom (child_origins child.now) result }
     {
         let count = self.count.saturating_add(1);
         let outer = if self.is_made() {
@@ -209,6 +212,7 @@ impl<'t, 'de> Node<'t, 'de> {
     fn settled(self) -> Node<'t, 'de>
         ensures data { node_data result ≡ node_data self.entry }
         ensures beside { IsBeside self.entry self.entry.spot result }
+        ensures start { result.start ≡ self.entry.start }
     {
         if !self.is_made() {
             return self;
@@ -228,6 +232,7 @@ impl<'t, 'de> Node<'t, 'de> {
     fn element(self, child: &'t Child<'de>) -> Node<'t, 'de>
         ensures data { node_data result ≡ child_data child.now }
         ensures beside { IsBeside self.entry result.spot result }
+        ensures comes { ComesFrom (child_origins child.now) result }
     {
         Node {
             spot: Spot::Item(&child.item),
@@ -239,6 +244,7 @@ impl<'t, 'de> Node<'t, 'de> {
     fn element_table(self, table: &'t Table<'de>) -> Node<'t, 'de>
         ensures data { node_data result ≡ table_data table.now }
         ensures beside { IsTableBeside self.entry table.entry result }
+        ensures start { result.start ≡ self.entry.start }
     {
         let node = Node {
             spot: Spot::Table(table),

@@ -1,11 +1,11 @@
 //! Where nodes come from: what made them, where they begin, and which keys lead to them.
 
-ghost use Rattle.std.specs.Prelude.{◌≡◌, true, List, IfOk, map, slice_get, string_bytes};
+ghost use Rattle.std.specs.Prelude.{◌≡◌, ◌⊎◌, codes, true, List, IfOk, map, slice_get, string_bytes};
 ghost use Rattle.basic_toml_grammar.specs.Sections.{Section};
 ghost use Rattle.basic_toml_grammar.specs.Steps.{Path};
 ghost use Rattle.basic_toml_grammar.specs.IndexedPath.{located};
 ghost use Rattle.basic_toml_grammar.specs.Nodes.{is_made as made_by_headers};
-ghost use Rattle.basic_toml_tree.specs.Stands.{IsNodeAt, Foretold};
+ghost use Rattle.basic_toml_tree.specs.Stands.{IsNodeAt, Foretold, ForetoldMade};
 ghost use Rattle.basic_toml_tree.specs.Origin.{is_made, spot_is_made, spot_name, last_at, name_of, start_of, outer_of, offset_of, header_of, keys_of};
 
 use crate::item::Item;
@@ -78,18 +78,20 @@ impl<'t, 'de> Spot<'t, 'de> {
 
 impl<'t, 'de> Node<'t, 'de> {
     /// Whether headers made it: they name it, pass through it, or add elements to it.
-    #[tactic(auto, using(crate::proofs::MadeNodes::made_told))]
+    #[tactic(auto, using(crate::proofs::MadeNodes::made_told, crate::proofs::RowNodesTold::made_answers))]
     pub fn is_made(self) -> bool
         ensures is { result ≡ is_made self.entry }
         ensures foretold { (sections : List Section) (p : Path) → IsNodeAt sections p self.entry
             → made_by_headers (located sections) p ≡ true → result ≡ true }
+        ensures told { (sections : List Section) (p : Path)
+            → Foretold sections p self.entry (λ _. result ≡ made_by_headers (located sections) p) }
     {
         self.spot.is_made(self.count)
     }
 
     /// The name of its kind: `integer`, `float`, `boolean`, `string`, `array`, `inline table`, `dotted table` or
     /// `table`.
-    #[tactic(auto, unfolding(crate::specs::Origin::name_of), using(crate::proofs::MadeNodes::name_told))]
+    #[tactic(auto, unfolding(crate::specs::Origin::name_of), using(crate::proofs::RowNodesTold::name_told))]
     pub fn type_name(self) -> &'static str
         ensures is { result.now ≡ name_of self.entry }
         ensures foretold { (sections : List Section) (p : Path)
@@ -100,7 +102,7 @@ impl<'t, 'de> Node<'t, 'de> {
 
     /// The byte offset where it begins: that of a value, of the first value of a dotted table, and of the last section
     /// where headers made it.
-    #[tactic(auto, unfolding(crate::specs::Origin::start_of), using(crate::proofs::MadeNodes::start_told))]
+    #[tactic(auto, unfolding(crate::specs::Origin::start_of), using(crate::proofs::RowNodesTold::start_told))]
     pub fn start(self) -> Option<usize>
         ensures is { result ≡ start_of self.entry }
         ensures foretold { (sections : List Section) (p : Path)
@@ -114,11 +116,13 @@ impl<'t, 'de> Node<'t, 'de> {
     }
 
     /// The byte offset that names it in errors: where it begins, but for an array literal the outer place.
-    #[tactic(auto, unfolding(crate::specs::Origin::offset_of, crate::specs::Origin::start_of, crate::specs::Origin::outer_of))]
+    #[tactic(auto, unfolding(crate::specs::Origin::offset_of, crate::specs::Origin::start_of, crate::specs::Origin::outer_of), using(crate::proofs::PlacesTold::place_told))]
     pub fn place(self) -> Option<usize>
         ensures is { result ≡ offset_of self.entry }
         ensures foretold { (sections : List Section) (p : Path)
-            → Foretold sections p self.entry (λ node. result ≡ node.offset) }
+            → ForetoldMade sections p self.entry (λ node. result ≡ node.offset) }
+        ensures apart_from_arrays { (sections : List Section) (p : Path)
+            → Foretold sections p self.entry (λ node. (node.type_name ≡ codes "array") ⊎ (result ≡ node.offset)) }
     {
         match self.spot {
             Spot::Item(Item::Array(_)) => self.outer_place(),
@@ -131,7 +135,7 @@ impl<'t, 'de> Node<'t, 'de> {
     pub fn outer_place(self) -> Option<usize>
         ensures is { result ≡ outer_of self.entry }
         ensures foretold { (sections : List Section) (p : Path)
-            → Foretold sections p self.entry (λ node. result ≡ node.outer_offset) }
+            → ForetoldMade sections p self.entry (λ node. result ≡ node.outer_offset) }
     {
         if self.is_made() {
             return self.tree.last_at();

@@ -1,6 +1,6 @@
 //! Rows: their values, and the tables that their keys lead through.
 
-ghost use Rattle.std.specs.Prelude.{◌≡◌, ◌≤◌, ℕ, [], ◌∷◌, ◌++◌, Some, None, true, false, not, is_some};
+ghost use Rattle.std.specs.Prelude.{◌≡◌, ◌≤◌, ℕ, [], ◌∷◌, ◌++◌, Some, None, true, false, not, is_some, map};
 ghost use Rattle.std.specs.Prelude.{MatchOption, IfOk, IfErr, IfSome};
 ghost use Rattle.basic_toml_value.specs.Data.{Data};
 ghost use Rattle.basic_toml_grammar.specs.Sections.{Raw as spec_raw};
@@ -9,6 +9,9 @@ ghost use Rattle.basic_toml_grammar.specs.Trie.{nothing, mark_here};
 ghost use Rattle.basic_toml_grammar.specs.TrieStops.{try_put_rows, try_put_value, try_put_elements};
 ghost use Rattle.basic_toml_read.specs.SectionView.{raw_of, rows_view, elements_view};
 ghost use Rattle.basic_toml_tree.specs.Item.{leaf, child_trie, table_trie};
+ghost use Rattle.basic_toml_tree.specs.Origins.{child_origins, table_within, with_more, or_else, entry};
+ghost use Rattle.basic_toml_tree.specs.Origins.{row_origins, rows_origins, value_origins, elements_origins};
+ghost use Rattle.basic_toml_tree.specs.Origins.{dotted_of, table_origin};
 ghost use Rattle.basic_toml_tree.specs.Rows.{EntersRow, EntersRows, Extends, Finishes, FinishesAll, key_texts};
 ghost use Rattle.basic_toml_clash.specs.Clash.{NamesStop};
 ghost use Rattle.basic_toml_tree.specs.RowStops.{line_keys, key_at, TellsLast, TellsRow, TellsExtended, SaysMet};
@@ -84,6 +87,9 @@ fn enter_row<'de>(
         → EntersRow (key_texts keys.entry.now ++ last.entry.now ∷ []) d (table_trie table.entry.value) result }
     ensures named { IfErr result (λ met. (d : Data) → child_trie child.entry ≡ leaf d
         → TellsRow (line_keys keys.entry.now) last.entry.now d (table_trie table.entry.value) met) }
+    ensures origins { let row = row_origins (key_texts keys.entry.now ++ last.entry.now ∷ []) (dotted_of child.entry)
+        (child_origins child.entry) in
+        IfOk result (λ after. table_within after.value ≡ with_more (table_within table.entry.value) row) }
 {
     let mut table = table;
     let Some((row, rest)) = keys.split_first() else {
@@ -114,6 +120,10 @@ fn extended<'de>(
         → Extends (key_texts keys.entry.now ++ last.entry.now ∷ []) d (child_trie there.entry) result }
     ensures named { IfErr result (λ met. (d : Data) → child_trie child.entry ≡ leaf d
         → TellsExtended (line_keys keys.entry.now) last.entry.now d (child_trie there.entry) met) }
+    ensures origins { let row = row_origins (key_texts keys.entry.now ++ last.entry.now ∷ []) (dotted_of child.entry)
+        (child_origins child.entry) in
+        IfOk result (λ after. child_origins after ≡ or_else (child_origins there.entry)
+        (entry (dotted_of child.entry) row)) }
 {
     let Child {
         start,
@@ -219,6 +229,8 @@ pub(crate) fn enter_rows<'de>(
     ensures entered { EntersRows (rows_view rows.entry.items) level (table_trie table.entry.value) result }
     ensures named { IfErr result (λ clash.
         NamesStop (try_put_rows (rows_view rows.entry.items) (table_trie table.entry.value)) clash) }
+    ensures origins { IfOk result (λ after. table_within after.value
+        ≡ with_more (table_within table.entry.value) (rows_origins section (rows_view rows.entry.items))) }
 {
     if rows.is_empty() {
         return Ok(table);
@@ -253,6 +265,8 @@ fn enter_value<'de>(
         result }
     ensures named { IfErr result (λ clash.
         NamesStop (try_put_rows (rows_view (keys.entry.now ++ row.entry ∷ [])) (table_trie table.entry.value)) clash) }
+    ensures origins { let row = rows_origins section (rows_view (keys.entry.now ++ row.entry ∷ [])) in
+        IfOk result (λ after. table_within after.value ≡ with_more (table_within table.entry.value) row) }
 {
     if keys.len() > NESTING_LIMIT - level {
         return Err(Clash::Deep);
@@ -292,6 +306,9 @@ fn finished<'de>(
     ensures finished { (v : spec_raw) → raw_of value.entry ≡ Some v → Finishes v level result }
     ensures named { IfErr result (λ clash. (v : spec_raw) → raw_of value.entry ≡ Some v
         → NamesStop (try_put_value v) clash) }
+    ensures origins { IfOk result (λ child. (v : spec_raw) → raw_of value.entry ≡ Some v
+        → child_origins child ≡ value_origins section start v) }
+    ensures dotted { IfOk result (λ child. dotted_of child ≡ table_origin false start section) }
 {
     match value {
         Raw::Dot => Ok(Child::at(start, section, Item::Nothing)),
@@ -328,6 +345,8 @@ fn finished_elements<'de>(
     requires { level ≤ 128 }
     ensures finished { FinishesAll (elements_view elements.entry.items) level result }
     ensures named { IfErr result (λ clash. NamesStop (try_put_elements (elements_view elements.entry.items)) clash) }
+    ensures origins { IfOk result (λ children. map child_origins children.items
+        ≡ elements_origins section (elements_view elements.entry.items)) }
 {
     let mut children = Vec::with_capacity(alloc, elements.len())?;
     for element in elements.into_iter() {

@@ -16,6 +16,10 @@ use Rattle.basic_toml_tree.proofs.HeadersEntered.{steps_into_latest}
 use Rattle.basic_toml_tree.proofs.HeadersEntered.{other_is_leaf}
 use Rattle.basic_toml_tree.proofs.HeadersStopped.{stopped, same_stops, tried_into_fresh, stopped_in_latest}
 use Rattle.basic_toml_tree.proofs.HeadersStopped.{value_stopped, passed_stops, no_array_tried, not_last_tried}
+use Rattle.basic_toml_tree.specs.Origins.{rows_origins, child_origins}
+use Rattle.basic_toml_tree.specs.Ways.{way_at, way_by, GrowsAlong}
+use Rattle.basic_toml_tree.proofs.HeadersPlaceOrigins.{no_keys_left, passed_grows, new_table_grows, table_grows}
+use Rattle.basic_toml_tree.proofs.ElementsPlaceOrigins.{latest_grows, keys_left}
 use Rattle.basic_toml_tree.proofs.headers.+walk.Goals as goal
 use Rattle.basic_toml_tree.proofs.headers.+walk.Goals.{enter_child-in-Nothing+in_ok-table-in-Nothing+in_ok-enter_header-in-Nothing}
 use Rattle.basic_toml_tree.proofs.headers.+walk.Goals.{enter_at-else-is_array-via-then-is_array+else-is_empty}
@@ -219,3 +223,41 @@ enter_header-returns-in_err-child-in-Some-clause-named t c =
     c.in_ok-position-in-Some.position c.in_ok-position-in-Some.there is_whole c.deref_mut.ensures.value
     c.in_ok-position-in-Some.ensures)
     c.in_err-child-in-Some.ensures.named)
+
+-- where what the section brings comes from
+pub enter_child-returns-clause-origins : goal.enter_child-returns-clause-origins
+enter_child-returns-clause-origins t c =
+    let a = c.args.is_array in
+    let rows = rows_origins c.args.number (rows_view c.args.rows.items) in
+    let keys = header_texts c.args.rest.now in
+    let child = roll-Child (record {
+      start = c.args.there.start;
+      section = c.args.there.section;
+      item = c.match-item.item;
+    }) in
+    elim c.match-item.branch [
+      | enter_child-in-Nothing+in_ok-table-in-Nothing+in_ok-enter_header-in-Nothing w ↦
+          new_table_grows a keys rows c.args.there child w.in_ok-table-in-Nothing.table _ w.in-Nothing.is
+          w.in_ok-table-in-Nothing.ensures w.item-is w.in_ok-enter_header-in-Nothing.ensures.origins
+      | enter_child-in-Table+in_ok-enter_header-in-Table w ↦
+          table_grows a keys rows c.args.there child w.in-Table.table _ w.in-Table.is w.item-is
+          w.in_ok-enter_header-in-Table.ensures.origins
+      | enter_child-in-Tables+in_ok-latest-in-Tables w ↦
+          latest_grows a keys rows c.args.there child w.in-Tables.before w.in-Tables.latest _ w.in-Tables.is w.item-is
+          refl refl w.in_ok-latest-in-Tables.ensures.origins
+    ]
+
+pub enter_header-returns-in_ok-child-in-Some-clause-origins : goal.enter_header-returns-in_ok-child-in-Some-clause-origins
+enter_header-returns-in_ok-child-in-Some-clause-origins t c =
+    let a = c.args.is_array in
+    let rows = rows_origins c.args.number (rows_view c.args.rows.items) in
+    let k = c.as_str.result.now in
+    let keys = header_texts c.in-Some.rest.now in
+    let whole = header_texts c.args.keys.now in
+    let is_whole : whole ≡ k ∷ keys =
+    ap (λ l. header_texts l) c.in-Some.ensures.cases.0 ∙ ap (λ k. k ∷ keys) (sym c.as_str.ensures.value) in
+    passed_grows a rows k keys whole c.args.table.value c.deref_mut.result.now c.pass.new.table
+    c.deref_mut-in-Some.result.now c.put_back.new.table c.in_ok-position-in-Some.position
+    c.in_ok-position-in-Some.there c.in_ok-child-in-Some.child is_whole c.deref_mut.ensures.value
+    c.in_ok-position-in-Some.ensures c.deref_mut-in-Some.ensures.value c.put_back.ensures
+    c.in_ok-child-in-Some.ensures.origins

@@ -13,6 +13,11 @@ use Rattle.basic_toml_tree.proofs.HeadersInATrie.{array_of, fresh}
 use Rattle.basic_toml_tree.proofs.HeadersEntered.{failed}
 use Rattle.basic_toml_tree.proofs.TablesOpened.{first_element, next_element, element_in, element_out}
 use Rattle.basic_toml_tree.proofs.HeadersStopped.{stopped, first_stops, next_stops}
+use Rattle.basic_toml_grammar.specs.Steps.{number}
+use Rattle.basic_toml_grammar.specs.Trie.{count}
+use Rattle.basic_toml_tree.specs.Origins.{rows_origins, child_origins}
+use Rattle.basic_toml_tree.specs.Ways.{GrowsAlong}
+use Rattle.basic_toml_tree.proofs.ElementsPlaceOrigins.{first_added, next_added}
 use Rattle.basic_toml_tree.proofs.headers.add_element.Goals as goal
 use Rattle.basic_toml_tree.proofs.headers.add_element.Goals.{in-Nothing, in-Tables+in_ok-push-in-Tables}
 
@@ -72,3 +77,17 @@ returns-in_err-latest-clause-named c =
     c.from_residual-in_err-latest.result clash c.from_residual-in_err-latest.ensures.1
     (stopped clash (try_put_table rows new) (try_put_element rows (child_trie c.args.there)) on
     c.in_err-latest.ensures.named)
+
+pub returns-clause-origins : goal.returns-clause-origins
+returns-clause-origins c =
+    let rows = rows_origins c.args.number (rows_view c.args.rows.items) in
+    elim c.match-item.branch [
+      | in-Nothing w ↦ first_added c.args.there c.match-item.before c.in_ok-table.table c.in_ok-latest.latest rows
+          c.in_ok-table.ensures c.in_ok-latest.ensures.origins w.in-Nothing.is
+          (ap (λ b. b.items) w.before-is ∙ w.new-before.ensures.items)
+      | in-Tables+in_ok-push-in-Tables w ↦ next_added c.args.there c.match-item.before c.in_ok-table.table
+          c.in_ok-latest.latest rows c.in_ok-table.ensures c.in_ok-latest.ensures.origins w.in-Tables.before
+          w.in-Tables.latest w.in-Tables.is
+          (ap (λ b. b.items) w.before-is ∙ w.in_ok-push-in-Tables.ensures.items
+          ∙ ap (λ t. w.in-Tables.before.items ++ t ∷ []) w.into_inner.ensures)
+    ]

@@ -23,6 +23,15 @@ use Rattle.basic_toml_grammar.specs.TrieStops.{try_put_rows, try_put_elements}
 use Rattle.basic_toml_tree.proofs.RowValues.{last_deep, value_kept_out, value_put, value_met}
 use Rattle.basic_toml_tree.proofs.InlineTables.{inline_finished, inline_kept_out}
 use Rattle.basic_toml_tree.proofs.ElementsLeft.{ElementsAreLeft, element_entered, elements_done}
+use Rattle.basic_toml_tree.specs.Origins.{table_within, with_more, rows_origins, elements_origins, child_origins}
+use Rattle.std.proofs.Common.{codes}
+use Rattle.basic_toml_grammar.specs.Sections.{Raw}
+use Rattle.basic_toml_read.proofs.ViewsSeen.{inline_of}
+use Rattle.basic_toml_tree.specs.Origins.{entry, value_origin, value_origins}
+use Rattle.basic_toml_tree.proofs.OriginsSeen.{inline_seen, fresh_within}
+use Rattle.basic_toml_tree.specs.Rows.{is_dot}
+use Rattle.basic_toml_tree.proofs.OriginsLeft.{OriginsLeft, ElementsCome, origins_entered, origins_done, no_rows_come}
+use Rattle.basic_toml_tree.proofs.OriginsLeft.{one_row, element_comes, elements_come, value_comes}
 use Rattle.basic_toml_tree.proofs.rows.+finishing.Goals as goal
 
 pub enter_rows-returns-then-is_empty-clause-entered : goal.enter_rows-returns-then-is_empty-clause-entered
@@ -42,7 +51,7 @@ enter_rows-returns-in_err-table-clause-entered t c =
     let row = c.in-Some.row in
     let left = subst (λ (rows : List Row). AreLeft (rows_view c.into_iter-row-iterator.result.rest.items)
     c.args.level before keys rows now)
-    c.in-Some.ensures.steps.0 c.loop-row.invariant in
+    c.in-Some.ensures.steps.0 c.loop-row.invariant.0 in
     let kept = subst (λ (ks : List Row). AreKeptOut (rows_view (ks ++ row ∷ [])) c.args.level now
     c.in_err-table.field-0.0)
     c.as_slice.ensures.value c.in_err-table.ensures.entered in
@@ -61,7 +70,7 @@ enter_rows-returns-clause-entered t c =
     ∙ c.in-None.ensures.steps.0 in
     let left = subst (λ (rows : List Row). AreLeft (rows_view c.into_iter-row-iterator.result.rest.items)
     c.args.level before
-    c.loop-row.keys.items rows now) (nothing_left _ none) c.loop-row.invariant in
+    c.loop-row.keys.items rows now) (nothing_left _ none) c.loop-row.invariant.0 in
     subst (λ (rows : List Row). AreIn (rows_view rows) c.args.level before now) start
     (none_left c.into_iter-row-iterator.result.rest.items c.loop-row.keys.items c.args.level before now left)
 
@@ -75,12 +84,23 @@ enter_rows-loop-row-preserved t c =
     let rest = c.next.new.self.rest.items in
     let row = c.in-Some.row in
     let left = subst (λ (rows : List Row). AreLeft whole c.args.level before keys rows now) c.in-Some.ensures.steps.0
-    c.loop-row.invariant in
+    c.loop-row.invariant.0 in
     let entered = subst (λ (ks : List Row). AreIn (rows_view (ks ++ row ∷ [])) c.args.level now after)
     c.as_slice.ensures.value c.in_ok-table.ensures.entered in
-    subst (λ (ks : List Row). AreLeft whole c.args.level before ks rest after) (sym c.clear.ensures.items)
-    (row_entered whole c.args.level before keys row rest now left (sym c.is_dot.ensures
-    ∙ c.if-is_dot.false) after entered)
+    let s = c.args.section in
+    let is_row : is_dot row ≡ false = sym c.is_dot.ensures ∙ c.if-is_dot.false in
+    let come = subst (λ (rows : List Row). OriginsLeft s whole (table_within c.args.table.value) keys rows
+    (table_within c.loop-row.table.value)) c.in-Some.ensures.steps.0 c.loop-row.invariant.1 in
+    let more = c.in_ok-table.ensures.origins
+    ∙ ap (λ ks. with_more (table_within c.loop-row.table.value) (rows_origins s (rows_view (ks ++ row ∷ []))))
+    c.as_slice.ensures.value in (
+      subst (λ (ks : List Row). AreLeft whole c.args.level before ks rest after) (sym c.clear.ensures.items)
+          (row_entered whole c.args.level before keys row rest now left is_row after entered),
+      subst (λ (ks : List Row). OriginsLeft s whole (table_within c.args.table.value) ks rest
+          (table_within c.in_ok-table.table.value)) (sym c.clear.ensures.items)
+          (origins_entered s whole (table_within c.args.table.value) (table_within c.loop-row.table.value)
+          (table_within c.in_ok-table.table.value) keys row rest left.dots is_row come more),
+    )
 
 pub enter_value-returns-then-keys-level-clause-entered : goal.enter_value-returns-then-keys-level-clause-entered
 enter_value-returns-then-keys-level-clause-entered t c =
@@ -116,13 +136,21 @@ finished_elements-loop-element-preserved t c =
     let whole = elements_view c.into_iter-element-iterator.result.rest.items in
     let left = subst (λ (es : List Element). ElementsAreLeft whole c.args.level (map child_trie
     c.loop-element.children.items)
-    (elements_view es)) c.in-Some.ensures.steps.0 c.loop-element.invariant in
+    (elements_view es)) c.in-Some.ensures.steps.0 c.loop-element.invariant.0 in
     let entered = element_entered whole c.args.level c.loop-element.children.items c.in_ok-finished.field-0
     c.in-Some.element
     c.next.new.self.rest.items some.0 some.1 left (c.in_ok-finished.ensures.finished some.0 some.1) in
-    subst (λ (cs : List Child). ElementsAreLeft whole c.args.level (map child_trie cs) (elements_view
-    c.next.new.self.rest.items))
-    (sym c.in_ok-push.ensures.items) entered
+    let s = c.args.section in
+    let come = subst (λ (es : List Element). ElementsCome s whole c.loop-element.children.items (elements_view es))
+    c.in-Some.ensures.steps.0 c.loop-element.invariant.1 in (
+      subst (λ (cs : List Child). ElementsAreLeft whole c.args.level (map child_trie cs) (elements_view
+          c.next.new.self.rest.items))
+          (sym c.in_ok-push.ensures.items) entered,
+      subst (λ (cs : List Child). ElementsCome s whole cs (elements_view c.next.new.self.rest.items))
+          (sym c.in_ok-push.ensures.items)
+          (element_comes s whole c.loop-element.children.items c.in_ok-finished.field-0 c.in-Some.element
+          c.next.new.self.rest.items some.0 some.1 come (c.in_ok-finished.ensures.origins some.0 some.1)),
+    )
 
 pub finished_elements-returns-clause-finished : goal.finished_elements-returns-clause-finished
 finished_elements-returns-clause-finished t c =
@@ -134,7 +162,7 @@ finished_elements-returns-clause-finished t c =
     let ts = map child_trie c.loop-element.children.items in
     let left = subst (λ (es : List Element). ElementsAreLeft (elements_view
     c.into_iter-element-iterator.result.rest.items)
-    c.args.level ts (elements_view es)) (nothing_left _ none) c.loop-element.invariant in
+    c.args.level ts (elements_view es)) (nothing_left _ none) c.loop-element.invariant.0 in
     subst (λ (es : List Element). AreFinished (elements_view es) c.args.level ts) start
     (elements_done (elements_view c.into_iter-element-iterator.result.rest.items) c.args.level ts left)
 
@@ -168,7 +196,7 @@ enter_rows-returns-in_err-table-clause-named t c =
     let clash = c.in_err-table.field-0.0 in
     let whole = rows_view c.into_iter-row-iterator.result.rest.items in
     let left = subst (λ (rows : List Row). AreLeft whole c.args.level before keys rows now)
-    c.in-Some.ensures.steps.0 c.loop-row.invariant in
+    c.in-Some.ensures.steps.0 c.loop-row.invariant.0 in
     let named = subst (λ (ks : List Row). NamesStop (try_put_rows (rows_view (ks ++ row ∷ [])) now) clash)
     c.as_slice.ensures.value c.in_err-table.ensures.named in
     rw (p.1, p.2) (subst (λ (rows : List Row). NamesStop (try_put_rows (rows_view rows) before) clash) start
@@ -218,7 +246,7 @@ finished_elements-returns-in_err-finished-clause-named t c =
     let whole = elements_view c.into_iter-element-iterator.result.rest.items in
     let ts = map child_trie c.loop-element.children.items in
     let left = subst (λ (es : List Element). ElementsAreLeft whole c.args.level ts (elements_view es))
-    c.in-Some.ensures.steps.0 c.loop-element.invariant in
+    c.in-Some.ensures.steps.0 c.loop-element.invariant.0 in
     rw (p.1, p.2) (subst (λ (es : List Element). NamesStop (try_put_elements (elements_view es)) clash) start
     (element_stopped whole c.args.level ts c.in-Some.element c.next.new.self.rest.items some.0 clash some.1 left
     (c.in_err-finished.ensures.named some.0 some.1)))
@@ -229,8 +257,70 @@ finished_elements-loop-element-preserved-then-is_dot_value t c =
     let whole = elements_view c.into_iter-element-iterator.result.rest.items in
     let ts = map child_trie c.loop-element.children.items in
     let left = subst (λ (es : List Element). ElementsAreLeft whole c.args.level ts (elements_view es))
-    c.in-Some.ensures.steps.0 c.loop-element.invariant in
+    c.in-Some.ensures.steps.0 c.loop-element.invariant.0 in
     let none = no_value (raw_of c.in-Some.element.value) (sym {A = Bool} c.is_dot_value.ensures
     ∙ c.if-is_dot_value.true) in
-    subst (λ (es : Elements). ElementsAreLeft whole c.args.level ts es)
-    (element_skipped c.in-Some.element c.next.new.self.rest.items none) left
+    let come = subst (λ (es : List Element). ElementsCome c.args.section whole c.loop-element.children.items
+    (elements_view es)) c.in-Some.ensures.steps.0 c.loop-element.invariant.1 in (
+      subst (λ (es : Elements). ElementsAreLeft whole c.args.level ts es)
+          (element_skipped c.in-Some.element c.next.new.self.rest.items none) left,
+      subst (λ (es : Elements). ElementsCome c.args.section whole c.loop-element.children.items es)
+          (element_skipped c.in-Some.element c.next.new.self.rest.items none) come,
+    )
+
+-- where what is put into the table comes from
+pub enter_rows-returns-then-is_empty-clause-origins : goal.enter_rows-returns-then-is_empty-clause-origins
+enter_rows-returns-then-is_empty-clause-origins t c =
+    let none : length c.args.rows.items ≡ 0 = grind (arith, c.is_empty.ensures, c.if-is_empty.true, c.args.rows.ok.0) in
+    no_rows_come c.args.section c.args.rows.items (table_within c.args.table.value) none
+
+pub enter_rows-returns-clause-origins : goal.enter_rows-returns-clause-origins
+enter_rows-returns-clause-origins t c =
+    let start : c.into_iter-row-iterator.result.rest.items ≡ c.args.rows.items =
+    ap (λ i. i.rest.items) c.into_iter-row-iterator.ensures.into_iter_gives ∙ c.into_iter-row-items.ensures.rest in
+    let none : length c.loop-row.row-iterator.rest.items ≡ 0 = sym c.loop-row.row-iterator.rest.ok.0
+    ∙ c.in-None.ensures.steps.0 in
+    let come = subst (λ (rows : List Row). OriginsLeft c.args.section (rows_view
+    c.into_iter-row-iterator.result.rest.items) (table_within c.args.table.value) c.loop-row.keys.items rows
+    (table_within c.loop-row.table.value)) (nothing_left _ none) c.loop-row.invariant.1 in
+    origins_done c.args.section (rows_view c.into_iter-row-iterator.result.rest.items)
+    (table_within c.args.table.value) (table_within c.loop-row.table.value) c.loop-row.keys.items
+    c.loop-row.invariant.0.dots come
+    ∙ ap (λ rows. with_more (table_within c.args.table.value) (rows_origins c.args.section (rows_view rows))) start
+
+pub enter_value-returns-in-Ok-enter_row-clause-origins : goal.enter_value-returns-in-Ok-enter_row-clause-origins
+enter_value-returns-in-Ok-enter_row-clause-origins t c =
+    c.in-Ok-enter_row.ensures.origins
+    ∙ ap (with_more (table_within c.args.table.value))
+    (one_row c.args.section c.args.keys.now c.args.row c.as_str-in-Ok.result.now c.in-Ok.child c.requires.keys
+    c.requires.row c.as_str-in-Ok.ensures.value c.in-Ok.ensures.origins c.in-Ok.ensures.dotted)
+
+pub finished_elements-returns-clause-origins : goal.finished_elements-returns-clause-origins
+finished_elements-returns-clause-origins t c =
+    let start : c.into_iter-element-iterator.result.rest.items ≡ c.args.elements.items =
+    ap (λ i. i.rest.items) c.into_iter-element-iterator.ensures.into_iter_gives
+    ∙ c.into_iter-element-items.ensures.rest in
+    let none : length c.loop-element.element-iterator.rest.items ≡ 0 =
+    sym c.loop-element.element-iterator.rest.ok.0 ∙ c.in-None.ensures.steps.0 in
+    let come = subst (λ (es : List Element). ElementsCome c.args.section (elements_view
+    c.into_iter-element-iterator.result.rest.items) c.loop-element.children.items (elements_view es))
+    (nothing_left _ none) c.loop-element.invariant.1 in
+    elements_come c.args.section (elements_view c.into_iter-element-iterator.result.rest.items)
+    c.loop-element.children.items come
+    ∙ ap (λ es. elements_origins c.args.section (elements_view es)) start
+
+pub finished-returns-in_ok-table-in-Inline-clause-origins :
+    goal.finished-returns-in_ok-table-in-Inline-clause-origins
+finished-returns-in_ok-table-in-Inline-clause-origins t c = λ v seen.
+    let s = c.args.section in
+    let at = c.args.start in
+    let rows = rows_view c.in-Inline.rows.items in
+    let table = c.in_ok-table-in-Inline.table in
+    let comes : child_origins c.at-in-Inline.result ≡ value_origins s at (Raw.inline rows) =
+    c.at-in-Inline.ensures.origins ∙ inline_seen table at s
+    ∙ ap (λ w. entry (value_origin (codes "inline table") at s) w.below)
+    (c.in_ok-table-in-Inline.ensures.origins
+    ∙ ap (λ w. with_more w (rows_origins s rows)) (fresh_within c.in_ok-new-in-Inline.field-0.value
+    c.in_ok-new-in-Inline.ensures)) in
+    value_comes c.args.value (Raw.inline rows) (child_origins c.at-in-Inline.result) s at
+    (ap raw_of c.in-Inline.is ∙ inline_of c.in-Inline.rows) comes v seen

@@ -1,6 +1,8 @@
 use Rattle.std.proofs.Common.{◌+◌, ◌-◌, ◌*◌, map}
 use Rattle.basic_toml_read.specs.SectionView.{rows_view, elements_view}
 use Rattle.basic_toml_tree.specs.Item.{child_trie, table_trie}
+use Rattle.basic_toml_tree.specs.Origins.{table_within}
+use Rattle.basic_toml_tree.proofs.OriginsLeft.{OriginsLeft, ElementsCome}
 use Rattle.basic_toml_tree.proofs.RowsLeft.{AreLeft}
 use Rattle.basic_toml_tree.proofs.ElementsLeft.{ElementsAreLeft}
 use Rattle.basic_toml_tree.proofs.rows.+finishing.Given as goal
@@ -22,8 +24,12 @@ abbrev pub invariant-enter_rows-loop-row : goal.invariant-enter_rows-loop-row
 invariant-enter_rows-loop-row l =
     AreLeft (rows_view l.initial.row-iterator.rest.items) l.level (table_trie l.initial.table.value) l.keys.items
     l.row-iterator.rest.items (table_trie l.table.value)
+    × OriginsLeft l.section (rows_view l.initial.row-iterator.rest.items) (table_within l.initial.table.value)
+    l.keys.items l.row-iterator.rest.items (table_within l.table.value)
 
 abbrev pub invariant-finished_elements-loop-element : goal.invariant-finished_elements-loop-element
 invariant-finished_elements-loop-element l =
     ElementsAreLeft (elements_view l.initial.element-iterator.rest.items) l.level (map child_trie l.children.items)
+    (elements_view l.element-iterator.rest.items)
+    × ElementsCome l.section (elements_view l.initial.element-iterator.rest.items) l.children.items
     (elements_view l.element-iterator.rest.items)

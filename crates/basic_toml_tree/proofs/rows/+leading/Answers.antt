@@ -17,6 +17,11 @@ use Rattle.basic_toml_tree.specs.RowStops.{line_keys, TellsRow}
 use Rattle.basic_toml_tree.proofs.RowsEntered.{row_key}
 use Rattle.basic_toml_tree.proofs.MetTellsStop.{no_keys, last_told, row_told, extended_on, extended_refused}
 use Rattle.basic_toml_tree.proofs.MetTellsStop.{dotted_fields, dotted_nothing, dotted_table, named_refuses}
+use Rattle.basic_toml_grammar.specs.Steps as steps
+use Rattle.basic_toml_tree.specs.Origins.{table_within, child_origins, with_more, beyond, row_origins, dotted_of, entry}
+use Rattle.basic_toml_tree.proofs.RowsPlaceOrigins.{origins_put, origins_put_back, comes_first, origins_on}
+use Rattle.basic_toml_tree.proofs.RowsPlaceOrigins.{dotted_within, new_table, child_of_table}
+use Rattle.basic_toml_tree.proofs.OriginsSeen.{fresh_within}
 use Rattle.basic_toml_tree.proofs.rows.+leading.Goals as goal
 
 pub enter_row-returns-in-Some-what_is_met-clause-entered : goal.enter_row-returns-in-Some-what_is_met-clause-entered
@@ -156,3 +161,52 @@ pub extended-returns-clause-named : goal.extended-returns-clause-named
 extended-returns-clause-named t c = λ d is_leaf.
     extended_refused c.args.keys.now c.args.last.now d (child_trie c.args.there) (length c.args.keys.now + 2) refl
     (search (rules, the_lemmas))
+
+pub enter_row-returns-in_default-clause-origins : goal.enter_row-returns-in_default-clause-origins
+enter_row-returns-in_default-clause-origins t c =
+    let stands = stands_in c.deref_mut.result.now c.deref.result.now c.enter.new.self c.in_ok-position.position
+    c.value.result.now c.deref.ensures c.value.ensures in
+    origins_put c.deref_mut.result.now c.args.last.now c.nothing.result c.value.result.now c.args.child c.enter.new.self
+    c.in_ok-position.position c.nothing.ensures c.in_ok-position.ensures.entered stands
+    (child_origins c.args.child)
+    (comes_first c.value.result.now (child_origins c.args.child) c.in_default-what_is_met.ensures.stands)
+    c.deref_mut-in_default.result.now c.put.new.self c.deref_mut-in_default.ensures.value c.put.ensures.changed
+    ∙ ap (λ t. with_more (table_within t) (beyond (steps.key c.args.last.now) (child_origins c.args.child)))
+    c.deref_mut.ensures.value
+    ∙ ap (λ ks. with_more (table_within c.args.table.value) (row_origins (ks ++ c.args.last.now ∷ [])
+    (dotted_of c.args.child) (child_origins c.args.child)))
+    (sym (no_texts c.args.keys.now c.in_default.ensures.cases))
+
+pub enter_row-returns-clause-origins : goal.enter_row-returns-clause-origins
+enter_row-returns-clause-origins t c =
+    let key = cow_str_bytes c.in-Some.row.now.key in
+    let rest = key_texts c.in-Some.rest.now in
+    let last = c.args.last.now in
+    let dotted = dotted_of c.args.child in
+    let below = child_origins c.args.child in
+    let stands = stands_in c.deref_mut-2.result.now c.deref_mut-3.result.now c.enter-2.new.self
+    c.in_ok-position-2.position
+    c.replace-there.result c.deref_mut-3.ensures.value c.replace-there.ensures.value in
+    origins_put_back c.deref_mut-2.result.now key c.nothing-2.result c.replace-there.result c.in_ok-extended.extended
+    c.enter-2.new.self c.in_ok-position-2.position c.nothing-2.ensures
+    (entered_by {new = c.enter-2.new.self} c.as_str.ensures.value c.in_ok-position-2.ensures.entered) stands
+    (entry dotted (row_origins (rest ++ last ∷ []) dotted below))
+    c.in_ok-extended.ensures.origins c.nothing-3.result c.deref_mut-3.result.now c.deref_mut-4.result.now
+    c.replace-there.new.self c.put-2.new.self c.deref_mut-3.ensures.value c.replace-there.ensures.changed
+    c.deref_mut-4.ensures.value c.put-2.ensures.changed
+    ∙ ap (λ t. with_more (table_within t) (beyond (steps.key key) (entry dotted (row_origins (rest ++ last ∷ []) dotted
+    below)))) c.deref_mut-2.ensures.value
+    ∙ ap (with_more (table_within c.args.table.value)) (sym (ap (λ ks. row_origins (ks ++ last ∷ []) dotted below)
+    (first_text c.args.keys.now c.in-Some.row.now c.in-Some.rest.now c.in-Some.ensures.cases.0)
+    ∙ origins_on key rest last dotted below))
+
+pub extended-returns-in-Nothing-clause-origins : goal.extended-returns-in-Nothing-clause-origins
+extended-returns-in-Nothing-clause-origins t c =
+    let u = roll-Table (dotted_fields c.deref_mut.result.now) in
+    let fresh = dotted_within c.deref_mut.result.now ∙ ap table_within c.deref_mut.ensures.value
+    ∙ fresh_within c.in_ok-table-in-Nothing.table.value c.in_ok-table-in-Nothing.ensures in
+    child_of_table c.in_ok-table-in-Nothing-2.table c.args.child.start c.args.child.section
+    ∙ new_table c.args.there c.in_ok-table-in-Nothing-2.table u
+    (row_origins (key_texts c.args.keys.now ++ c.args.last.now ∷ []) (dotted_of c.args.child)
+    (child_origins c.args.child))
+    c.args.child.start c.args.child.section c.in-Nothing.is fresh c.in_ok-table-in-Nothing-2.ensures.origins

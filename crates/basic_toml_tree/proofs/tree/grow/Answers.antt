@@ -4,7 +4,8 @@ use Rattle.basic_toml_read.specs.declared.section.Section.{Section}
 use Rattle.basic_toml_clash.specs.Crossed.{NoneIsCrossed}
 use Rattle.basic_toml_tree.specs.Item.{table_trie}
 use Rattle.basic_toml_tree.proofs.SectionsResolved.{want_of, goes_on_from_a_value, kept_out, none_crossed, goes_on}
-use Rattle.basic_toml_tree.proofs.SectionsResolved.{resolved, heads_kept}
+use Rattle.basic_toml_tree.proofs.SectionsResolved.{resolved, heads_kept, brings_on, brings_none, begins}
+use Rattle.basic_toml_tree.specs.Origins.{table_within}
 use Rattle.basic_toml_tree.proofs.tree.grow.Goals as goal
 
 pub returns-in_err-at : goal.returns-in_err-at
@@ -22,9 +23,9 @@ returns-in_err-root c =
 pub returns-in-Err : goal.returns-in-Err
 returns-in-Err c = λ keyed.
     let within : c.loop-number.number < length c.loop-number.sections.items =
-    omega (arith, c.len-number-end.ensures, c.loop-number-test.true, c.loop-number.invariant.count) in
+    omega (arith, c.len-number-end.ensures, c.loop-number-test.true, c.loop-number.invariant.0.count) in
     kept_out c.args.sections.items c.loop-number.sections.items c.loop-number.number
-    (table_trie c.loop-number.root.value) c.loop-number.invariant c.index_mut-section.result.now within
+    (table_trie c.loop-number.root.value) c.loop-number.invariant.0 c.index_mut-section.result.now within
     (search (rules, c.index_mut-section.ensures.value)) keyed
     (subst (λ (ss : List Section). NoneIsCrossed ss) c.as_slice.ensures.value
     (none_crossed c.as_slice.result.now c.in_ok-at.field-0 c.in_default.not-Some c.in_ok-at.ensures.none)) c.in-Err.clash c.error.result
@@ -37,16 +38,27 @@ loop-number-preserved c =
     let n = c.loop-number.number in
     let next = c.enter_section.new.section in
     let within : c.loop-number.number < length c.loop-number.sections.items =
-    omega (arith, c.len-number-end.ensures, c.loop-number-test.true, c.loop-number.invariant.count) in
-    goes_on c.args.sections.items now n (table_trie c.loop-number.root.value) c.loop-number.invariant
-    c.index_mut-section.result.now within (search (rules, c.index_mut-section.ensures.value)) (set now n next)
-    (table_trie c.in-Ok.root.value) c.in-Ok.ensures.entered (length-set now n next)
-    (λ k d past. get_or-set_other now n k next d (omega (arith, past)))
-    (heads_kept now n c.index_mut-section.result.now next (search (rules, c.index_mut-section.ensures.value))
-    c.enter_section.ensures.at c.enter_section.ensures.header)
+    omega (arith, c.len-number-end.ensures, c.loop-number-test.true, c.loop-number.invariant.0.count) in (
+      goes_on c.args.sections.items now n (table_trie c.loop-number.root.value) c.loop-number.invariant.0
+          c.index_mut-section.result.now within (search (rules, c.index_mut-section.ensures.value)) (set now n next)
+          (table_trie c.in-Ok.root.value) c.in-Ok.ensures.entered (length-set now n next)
+          (λ k d past. get_or-set_other now n k next d (omega (arith, past)))
+          (heads_kept now n c.index_mut-section.result.now next (search (rules, c.index_mut-section.ensures.value))
+          c.enter_section.ensures.at c.enter_section.ensures.header),
+      λ keyed. brings_on c.args.sections.items now n (table_trie c.loop-number.root.value) c.loop-number.invariant.0
+          c.index_mut-section.result.now within (search (rules, c.index_mut-section.ensures.value))
+          (table_within c.loop-number.root.value).below (table_within c.in-Ok.root.value).below keyed
+          (c.loop-number.invariant.1 keyed) c.in-Ok.ensures.origins,
+    )
 
 pub returns : goal.returns
 returns c = λ keyed.
     resolved c.args.sections.items c.loop-number.number
-    (record { sections = c.loop-number.sections; root = c.loop-number.root }) c.loop-number.invariant
-    (omega (arith, c.len-number-end.ensures, c.loop-number-test.false)) keyed
+    (record { sections = c.loop-number.sections; root = c.loop-number.root }) c.loop-number.invariant.0
+    (omega (arith, c.len-number-end.ensures, c.loop-number-test.false)) keyed (c.loop-number.invariant.1 keyed)
+
+pub loop-number-init : goal.loop-number-init
+loop-number-init c = (
+  begins c.args.sections.items (table_trie c.in_ok-root.root.value) c.in_ok-root.ensures,
+  λ keyed. brings_none c.in_ok-root.root.value c.in_ok-root.ensures,
+)

@@ -37,7 +37,8 @@ returns-clause-steps c =
     let holds : HoldsTable c.args.self.now.table.spot c.in_ok-table.table.now = search (rules) in (
       first c,
       entry_stands c.args.self.now.table c.below.result c.in_ok-table.table.now c.args.self.now.at c.key-key.result.now
-          c.value.result.now holds c.keys_differ.ensures c.key-key.ensures c.value.ensures c.below.ensures.below,
+          c.value.result.now holds c.keys_differ.ensures c.key-key.ensures c.value.ensures c.below.ensures.below
+          c.below.ensures.comes,
       refl,
     )
 

@@ -7,6 +7,7 @@ use Rattle.basic_toml_tree.proofs.NodesInOrder.{array_elements, tables_elements,
 use Rattle.basic_toml_tree.proofs.NodesInOrder.{last_read}
 use Rattle.basic_toml_tree.specs.declared.node.Spot.TheVariants as spots
 use Rattle.basic_toml_tree.specs.Item.{table_trie}
+use Rattle.basic_toml_tree.specs.Origins.{child_origins, table_within}
 use Rattle.basic_toml_tree.proofs.NodesStand.{literal_stands, tables_stand}
 use Rattle.basic_toml_tree.proofs.node.Node.element_at.Goals as goal
 
@@ -85,8 +86,12 @@ pub returns-in-Some-clause-stands : goal.returns-in-Some-clause-stands
 returns-in-Some-clause-stands c =
     let at : c.args.self.spot ≡ spots.Item c.in-Item-Array.field-0 = search (rules) in
     let is : c.in-Item-Array.field-0.now ≡ Array c.in-Item-Array.children = search (rules) in
+    let read = c.in-Some.ensures.lookup in
     literal_stands c.args.self c.element.result c.args.at c.in-Item-Array.field-0 at c.in-Item-Array.children
-    c.element.result.spot is c.element.ensures.beside
+    c.element.result.spot c.in-Some.child.now is
+    (ap (λ xs. slice_get (map child_origins xs) c.args.at) (sym c.deref.ensures.value)
+    ∙ mapped_read child_origins c.deref.result.now c.args.at c.in-Some.child.now read.3.0 read.1)
+    c.element.ensures.beside c.element.ensures.comes
 
 pub returns-in-Some-get-clause-stands : goal.returns-in-Some-get-clause-stands
 returns-in-Some-get-clause-stands c =
@@ -102,7 +107,12 @@ returns-in-Some-get-clause-stands c =
     (ap (λ xs. slice_get (map table_trie xs) c.args.at) (sym c.deref-in-Item-Tables.ensures.value)
     ∙ mapped_read table_trie c.deref-in-Item-Tables.result.now c.args.at c.in-Some-get.table.now
     read.3.0 read.1))
-    c.element_table.ensures.beside
+    (front_read (map table_within before.items) (table_within latest.value ∷ []) c.args.at
+    (table_within c.in-Some-get.table.now)
+    (ap (λ xs. slice_get (map table_within xs) c.args.at) (sym c.deref-in-Item-Tables.ensures.value)
+    ∙ mapped_read table_within c.deref-in-Item-Tables.result.now c.args.at c.in-Some-get.table.now
+    read.3.0 read.1))
+    c.element_table.ensures.beside c.element_table.ensures.start
 
 pub returns-then-at-len-clause-stands : goal.returns-then-at-len-clause-stands
 returns-then-at-len-clause-stands c =
@@ -119,4 +129,9 @@ returns-then-at-len-clause-stands c =
     (ap (λ i. slice_get (map table_trie before.items ++ table_trie latest.value ∷ []) i) last
     ∙ last_read (map table_trie before.items) (table_trie latest.value)
     ∙ ap (λ t. Some (table_trie t)) (sym c.deref-then-at-len.ensures))
-    c.element_table-then-at-len.ensures.beside
+    (ap (λ i. slice_get (map table_within before.items ++ table_within latest.value ∷ []) i)
+    (last ∙ mapped_length table_trie c.in-Item-Tables.before.items
+    ∙ sym (mapped_length table_within c.in-Item-Tables.before.items))
+    ∙ last_read (map table_within before.items) (table_within latest.value)
+    ∙ ap (λ t. Some (table_within t)) (sym c.deref-then-at-len.ensures))
+    c.element_table-then-at-len.ensures.beside c.element_table-then-at-len.ensures.start

@@ -21,4 +21,4 @@ returns-clause-data c =
 pub returns-clause-stands : goal.returns-clause-stands
 returns-clause-stands c =
     key_stands c.args.self c.below.result c.in-Some-Some.table.now c.args.key.now c.in-Some.pair.now.value (search (rules))
-    c.in-Some.ensures.value c.below.ensures.below
+    c.in-Some.ensures.value c.below.ensures.below c.below.ensures.comes

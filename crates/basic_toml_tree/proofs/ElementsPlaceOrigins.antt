@@ -1,0 +1,237 @@
+-- A header that goes on into the latest element of an array of tables, and one that adds an element.
+use Rattle.std.proofs.Common.{◌≡◌, ℕ, zero, suc, Bool, true, false, List, [], ◌∷◌, ◌++◌, Option, Some, None, refl, ap}
+use Rattle.std.proofs.Common.{sym, ◌∙◌, subst, map, rules, arith, length, slice_get, Vec, Box, Global}
+use Rattle.std.proofs.Common.{nat_eq}
+use Rattle.std.specs.Prelude.{if◌then◌else◌, ◌&&◌, ◌==◌}
+use Rattle.std.specs.Option.{option_or}
+use Rattle.std.proofs.lemmas.Bool.{false≢true}
+use Rattle.std.proofs.lemmas.List.{map-append}
+use Rattle.basic_toml_grammar.specs.Sections.{KeyTexts}
+use Rattle.basic_toml_grammar.specs.Steps.{Step, key, number, Path, begins, step_eq}
+use Rattle.basic_toml_grammar.specs.Trie.{Trie, nothing, count}
+use Rattle.basic_toml_tree.specs.declared.item.Item.{the_lemmas, Nothing, Tables}
+use Rattle.basic_toml_tree.specs.declared.item.Item as items
+use Rattle.basic_toml_tree.specs.declared.item.Item.TheViews.{roll-Child}
+use Rattle.basic_toml_tree.specs.declared.item.Child.{Child, out-Child}
+use Rattle.basic_toml_tree.specs.declared.item.Table.{Table}
+use Rattle.basic_toml_tree.specs.Item.{item_trie, child_trie, table_trie}
+use Rattle.basic_toml_tree.specs.Origins.{Origin, Origins, no_origins, entry, under, at_numbers, Within}
+use Rattle.basic_toml_tree.specs.Origins.{elements_within}
+use Rattle.basic_toml_tree.specs.Origins.{table_origin, child_origins, item_origins, table_within, or_else, along}
+use Rattle.basic_toml_tree.specs.Origins.{beyond}
+use Rattle.basic_toml_tree.specs.Ways.{way, way_by, way_at, GrowsAlong}
+use Rattle.basic_toml_tree.proofs.HeadersInATrie.{fresh, array_of}
+use Rattle.basic_toml_tree.proofs.ItemTries.{child_item_trie}
+use Rattle.basic_toml_tree.proofs.TablesOpened.{tables_trie, nothing_trie}
+use Rattle.basic_toml_tree.proofs.OriginsSeen.{child_seen, nothing_seen, tables_seen, table_origins, fresh_within}
+use Rattle.basic_toml_tree.proofs.OriginsSeen.{or_none}
+use Rattle.basic_toml_tree.proofs.HeadersPlaceOrigins.{way_into_latest}
+
+-- the last of a list, and the others
+module _ {A : Type 0} where
+  last_is : (xs : List A) (x : A) (n : ℕ) → n ≡ length xs → slice_get (xs ++ x ∷ []) n ≡ Some x
+  last_is [] x zero same = refl
+  last_is [] x (suc n) same = absurd (omega (arith, same))
+  last_is (y ∷ xs) x zero same = absurd (omega (arith, same))
+  last_is (y ∷ xs) x (suc n) same = last_is xs x n (omega (arith, same))
+
+  none_past : (xs : List A) (n : ℕ) → n ≡ length xs → slice_get xs n ≡ None
+  none_past [] n same = refl
+  none_past (y ∷ xs) zero same = absurd (omega (arith, same))
+  none_past (y ∷ xs) (suc n) same = none_past xs n (omega (arith, same))
+
+  other_is : (xs : List A) (x : A) (n m : ℕ) → n ≡ length xs → nat_eq m n ≡ false
+      → slice_get (xs ++ x ∷ []) m ≡ slice_get xs m
+  other_is [] x n zero same other = absurd (false≢true (sym other ∙ ap (nat_eq 0) same))
+  other_is [] x n (suc m) same other = refl
+  other_is (y ∷ xs) x n zero same other = refl
+  other_is (y ∷ xs) x zero (suc m) same other = absurd (omega (arith, same))
+  other_is (y ∷ xs) x (suc n) (suc m) same other = other_is xs x n m (omega (arith, same)) (grind (arith, other))
+
+same_numbers : (n m : ℕ) → nat_eq m n ≡ true → m ≡ n
+same_numbers n m same = grind (arith, same)
+
+-- the elements before the last one are as they were; the last has grown, or is new
+module _ (xs : List Origins) (n : ℕ) (counted : n ≡ length xs) (was now rows : Origins) (w : Path)
+    (grows : (s : Step) (q : Path) → begins (s ∷ q) w ≡ false → now (s ∷ q) ≡ or_else was (along w rows) (s ∷ q))
+    (there child : Child)
+    (there_last : (s : Step) (q : Path) → child_origins there (number n ∷ s ∷ q) ≡ was (s ∷ q))
+    (there_others : (m : ℕ) (q : Path) → nat_eq m n ≡ false → child_origins there (number m ∷ q)
+    ≡ under (slice_get xs m) q)
+    (there_keys : (k : List ℕ) (q : Path) → child_origins there (key k ∷ q) ≡ None) (o : Origin)
+    (child_is : (s : Step) (q : Path) → child_origins child (s ∷ q) ≡ at_numbers (xs ++ entry o now ∷ []) (s ∷ q)) where
+  last_grows : (q : Path) → begins q w ≡ false
+      → child_origins child (number n ∷ q) ≡ option_or (child_origins there (number n ∷ q)) (along w rows q)
+  last_grows [] not = absurd (false≢true (sym not))
+  last_grows (s ∷ q) not =
+      child_is (number n) (s ∷ q)
+      ∙ ap (λ o. under o (s ∷ q)) (last_is xs (entry o now) n counted)
+      ∙ grows s q not
+      ∙ ap (λ o. option_or o (along w rows (s ∷ q))) (sym (there_last s q))
+
+  pub element_grows : GrowsAlong (number n ∷ w) rows (child_origins there) (child_origins child)
+  element_grows [] not = absurd (false≢true (sym not))
+  element_grows (key k ∷ q) not = child_is (key k) q ∙ sym (ap (λ o. option_or o None) (there_keys k q))
+  element_grows (number m ∷ q) not = go (nat_eq m n) refl not
+    where
+      go : (b : Bool) → nat_eq m n ≡ b → (b && begins q w) ≡ false
+          → child_origins child (number m ∷ q)
+          ≡ option_or (child_origins there (number m ∷ q)) (if nat_eq m n then along w rows q else None)
+      go true e not =
+          let same = same_numbers n m e in
+          ap (λ m. child_origins child (number m ∷ q)) same ∙ last_grows q not
+          ∙ ap (λ m. option_or (child_origins there (number m ∷ q)) (along w rows q)) (sym same)
+          ∙ ap (λ b. option_or (child_origins there (number m ∷ q)) (if b then along w rows q else None)) (sym e)
+      go false e not =
+          child_is (number m) q
+          ∙ ap (λ o. under o q) (other_is xs (entry o now) n m counted e)
+          ∙ sym (there_others m q e)
+          ∙ sym (or_none (child_origins there (number m ∷ q)))
+          ∙ ap (λ b. option_or (child_origins there (number m ∷ q)) (if b then along w rows q else None)) (sym e)
+
+-- an array of tables, by the origins in its elements
+abbrev of_table : ℕ → ℕ → Within → Origins
+of_table at s t = entry (table_origin t.made at s) t.below
+
+array_below : (c : Child) (b : Vec Table Global) (latest : Box Table Global) (at s : ℕ) → (out-Child c).item
+    ≡ Tables b latest → (out-Child c).start ≡ at → (out-Child c).section ≡ s → (r : Step) (p : Path)
+    → child_origins c (r ∷ p)
+    ≡ at_numbers (map (of_table at s) (map table_within b.items) ++ of_table at s (table_within latest.value) ∷ [])
+    (r ∷ p)
+array_below c b latest at s is is_at is_s r p =
+    ap (λ f. f (r ∷ p)) (child_seen c
+    ∙ ap (λ i. item_origins i (out-Child c).start (out-Child c).section) is
+    ∙ ap (λ at. item_origins (Tables b latest) at (out-Child c).section) is_at
+    ∙ ap (λ s. item_origins (Tables b latest) at s) is_s
+    ∙ tables_seen b latest at s)
+    ∙ ap (λ os. at_numbers os (r ∷ p))
+    (map-append (of_table at s) (map table_within b.items) (table_within latest.value ∷ []))
+
+mapped_count : {A B : Type 0} (f : A → B) (xs : List A) → length (map f xs) ≡ length xs
+mapped_count f [] = refl
+mapped_count f (x ∷ xs) = ap suc (mapped_count f xs)
+
+-- elements other than the last
+others_are : (xs : List Origins) (x : Origins) (n m : ℕ) (q : Path) → n ≡ length xs → nat_eq m n ≡ false
+    → at_numbers (xs ++ x ∷ []) (number m ∷ q) ≡ under (slice_get xs m) q
+others_are xs x n m q counted other = ap (λ o. under o q) (other_is xs x n m counted other)
+
+-- on into the latest element
+pub latest_grows : (a : Bool) (keys : KeyTexts) (rows : Origins) (there child : Child) (b : Vec Table Global)
+    (old after : Box Table Global) → (out-Child there).item ≡ Tables b old → (out-Child child).item ≡ Tables b after
+    → (out-Child child).start ≡ (out-Child there).start → (out-Child child).section ≡ (out-Child there).section
+    → GrowsAlong (way a keys (table_trie old.value)) rows (table_origins old.value) (table_origins after.value)
+    → GrowsAlong (way_by a keys (child_trie there)) rows (child_origins there) (child_origins child)
+latest_grows a keys rows there child b old after is child_is at_is s_is grows =
+    subst (λ w. GrowsAlong w rows (child_origins there) (child_origins child))
+    (sym (way_into_latest a keys there b old is))
+    (element_grows xs n counted (table_origins old.value) (table_origins after.value) rows
+    (way a keys (table_trie old.value)) (λ r q not. grows (r ∷ q) not) there child
+    (λ r q. was (number n) (r ∷ q) ∙ ap (λ o. under o (r ∷ q)) (last_is xs (of_table at s (table_within old.value)) n
+    counted))
+    (λ m q other. was (number m) q ∙ others_are xs (of_table at s (table_within old.value)) n m q counted other)
+    (λ k q. was (key k) q) (table_origin (table_within after.value).made at s) now)
+  where
+    at : ℕ
+    at = (out-Child there).start
+
+    s : ℕ
+    s = (out-Child there).section
+
+    xs : List Origins
+    xs = map (of_table at s) (map table_within b.items)
+
+    n : ℕ
+    n = length (map table_trie b.items)
+
+    counted : n ≡ length xs
+    counted = mapped_count table_trie b.items ∙ sym (mapped_count (of_table at s) (map table_within b.items)
+        ∙ mapped_count table_within b.items)
+
+    was : (r : Step) (p : Path) → child_origins there (r ∷ p)
+        ≡ at_numbers (xs ++ of_table at s (table_within old.value) ∷ []) (r ∷ p)
+    was r p = array_below there b old at s is refl refl r p
+
+    now : (r : Step) (p : Path) → child_origins child (r ∷ p)
+        ≡ at_numbers (xs ++ of_table at s (table_within after.value) ∷ []) (r ∷ p)
+    now r p = array_below child b after at s child_is at_is s_is r p
+
+-- one more element, after none and after some
+module _ (there : Child) (before : Vec Table Global) (new after : Box Table Global) (rows : Origins)
+    (is_fresh : table_trie new.value ≡ fresh)
+    (put : table_origins after.value ≡ or_else (table_origins new.value) rows) where
+  abbrev at : ℕ
+  at = (out-Child there).start
+
+  abbrev s : ℕ
+  s = (out-Child there).section
+
+  abbrev child : Child
+  child = roll-Child (record {
+    start = (out-Child there).start;
+    section = (out-Child there).section;
+    item = Tables before after;
+  })
+
+  abbrev xs : List Origins
+  xs = map (of_table at s) (map table_within before.items)
+
+  now : (r : Step) (p : Path) → child_origins child (r ∷ p)
+      ≡ at_numbers (xs ++ of_table at s (table_within after.value) ∷ []) (r ∷ p)
+  now r p = array_below child before after at s refl refl refl r p
+
+  grown : (r : Step) (q : Path) → begins (r ∷ q) [] ≡ false
+      → table_origins after.value (r ∷ q) ≡ or_else no_origins (along [] rows) (r ∷ q)
+  grown r q not = ap (λ f. f (r ∷ q)) put
+      ∙ ap (λ w. option_or (w.below (r ∷ q)) (rows (r ∷ q))) (fresh_within new.value is_fresh)
+
+  added : (n : ℕ) → n ≡ length xs
+      → ((r : Step) (p : Path) → child_origins there (r ∷ p) ≡ at_numbers xs (r ∷ p))
+      → GrowsAlong (number n ∷ []) rows (child_origins there) (child_origins child)
+  added n counted was =
+      element_grows xs n counted no_origins (table_origins after.value) rows [] grown there child
+      (λ r q. was (number n) (r ∷ q) ∙ ap (λ o. under o (r ∷ q)) (none_past xs n counted))
+      (λ m q other. was (number m) q)
+      (λ k q. was (key k) q) (table_origin (table_within after.value).made at s) now
+
+  pub first_added : (out-Child there).item ≡ Nothing → before.items ≡ []
+      → GrowsAlong (number (count (child_trie there)) ∷ []) rows (child_origins there) (child_origins child)
+  first_added is none =
+      added (count (child_trie there))
+      (ap count (child_item_trie there ∙ ap item_trie is ∙ nothing_trie)
+      ∙ sym (ap (λ ts. length (map (of_table at s) (map table_within ts))) none))
+      (λ r p. ap (λ f. f (r ∷ p)) (child_seen there
+      ∙ ap (λ i. item_origins i (out-Child there).start (out-Child there).section) is
+      ∙ nothing_seen (out-Child there).start (out-Child there).section)
+      ∙ sym (ap (λ ts. at_numbers (map (of_table at s) (map table_within ts)) (r ∷ p)) none ∙ nowhere r p))
+    where
+      nowhere : (r : Step) (p : Path) → at_numbers [] (r ∷ p) ≡ None
+      nowhere (key k) p = refl
+      nowhere (number n) p = refl
+
+  pub next_added : (b : Vec Table Global) (latest : Box Table Global) → (out-Child there).item ≡ Tables b latest
+      → before.items ≡ b.items ++ latest.value ∷ []
+      → GrowsAlong (number (count (child_trie there)) ∷ []) rows (child_origins there) (child_origins child)
+  next_added b latest is more =
+      added (count (child_trie there))
+      (ap count (child_item_trie there ∙ ap item_trie is ∙ tables_trie b latest)
+      ∙ ap suc (mapped_count table_trie b.items)
+      ∙ sym (ap length same ∙ one_longer (map (of_table at s) (map table_within b.items))
+      (of_table at s (table_within latest.value))
+      ∙ ap suc (mapped_count (of_table at s) (map table_within b.items) ∙ mapped_count table_within b.items)))
+      (λ r p. array_below there b latest at s is refl refl r p ∙ sym (ap (λ os. at_numbers os (r ∷ p)) same))
+    where
+      same : xs ≡ map (of_table at s) (map table_within b.items) ++ of_table at s (table_within latest.value) ∷ []
+      same = ap (λ ts. map (of_table at s) (map table_within ts)) more
+          ∙ ap (map (of_table at s)) (map-append table_within b.items (latest.value ∷ []))
+          ∙ map-append (of_table at s) (map table_within b.items) (table_within latest.value ∷ [])
+
+      one_longer : {A : Type 0} (xs : List A) (x : A) → length (xs ++ x ∷ []) ≡ suc (length xs)
+      one_longer [] x = refl
+      one_longer (y ∷ xs) x = ap suc (one_longer xs x)
+
+-- on by the keys that are left
+pub keys_left : (a : Bool) (keys : KeyTexts) (rows before after : Origins) (t : Trie) → a ≡ false
+    → GrowsAlong (way_by a keys t) rows before after → GrowsAlong (way_at a keys t) rows before after
+keys_left true keys rows before after t not grows = absurd (false≢true (sym not))
+keys_left false keys rows before after t not grows = grows

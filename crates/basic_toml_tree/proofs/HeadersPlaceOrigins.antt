@@ -1,0 +1,183 @@
+-- The way of a header through the tree: what its rows bring comes at the way's end.
+use Rattle.std.proofs.Common.{◌≡◌, ℕ, zero, suc, Bool, true, false, ◌≤◌, List, [], ◌∷◌, ◌++◌, Option, Some, None}
+use Rattle.std.proofs.Common.{refl, ap}
+use Rattle.std.proofs.Common.{sym, ◌∙◌, subst, map, rules, arith, length, slice_get, Vec, Box, Global, Result, Ok}
+use Rattle.std.proofs.Common.{Err}
+use Rattle.std.specs.Prelude.{IfOk, if◌then◌else◌, ◌&&◌}
+use Rattle.std.specs.Option.{option_or}
+use Rattle.std.proofs.lemmas.Bool.{false≢true}
+use Rattle.std.proofs.lemmas.List.{map-append}
+use Rattle.basic_toml_value.proofs.DistinctKeys.{bytes_eq-same}
+use Rattle.basic_toml_grammar.specs.Sections.{KeyTexts}
+use Rattle.basic_toml_read.specs.declared.section.Key.{Key}
+use Rattle.basic_toml_read.specs.SectionView.{header_texts}
+use Rattle.basic_toml_grammar.specs.Steps.{Step, key, number, Path, begins, step_eq}
+use Rattle.basic_toml_grammar.specs.Trie.{Trie, nothing, count, find, Tries}
+use Rattle.basic_toml_clash.specs.declared.clash.Clash.{Clash}
+use Rattle.basic_toml_tree.specs.declared.item.Item.{the_lemmas, Nothing, Tables}
+use Rattle.basic_toml_tree.specs.declared.item.Item as items
+use Rattle.basic_toml_tree.specs.declared.item.Item.TheViews.{roll-Child, roll-Table, out-roll-Table}
+use Rattle.basic_toml_tree.specs.declared.item.Child.{Child, out-Child}
+use Rattle.basic_toml_tree.specs.declared.item.Table.{Table, out-Table}
+use Rattle.basic_toml_tree.specs.Item.{item_trie, child_trie, table_trie, by_keys}
+use Rattle.basic_toml_clash.specs.Keyed.{with_value}
+use Rattle.basic_toml_tree.specs.Headers.{Passes, PutsBack}
+use Rattle.basic_toml_tree.specs.Origins.{Origins, at_keys}
+use Rattle.basic_toml_tree.specs.Origins.{child_origins, item_origins, table_within}
+use Rattle.basic_toml_tree.specs.Origins.{with_more, or_else, along}
+use Rattle.basic_toml_tree.specs.Ways.{way, way_by, way_at, GrowsAlong}
+use Rattle.basic_toml_tree.proofs.HeadersInATrie.{made, fresh, array_of}
+use Rattle.basic_toml_tree.proofs.ItemTries.{child_item_trie, table_entries_trie}
+use Rattle.basic_toml_tree.proofs.KeysInATrie.{tries_of, stood_there}
+use Rattle.basic_toml_tree.proofs.LatestInATrie.{find_latest}
+use Rattle.basic_toml_tree.proofs.TablesOpened.{named_fields, numbered_fields, tables_trie, nothing_trie}
+use Rattle.basic_toml_tree.proofs.TablesOpened.{table_item_trie}
+use Rattle.basic_toml_tree.proofs.OriginsSeen.{child_seen, below_seen, nothing_seen, table_item_seen}
+use Rattle.basic_toml_tree.proofs.OriginsSeen.{table_origins, nothing_comes, fresh_within, grows_at}
+
+-- a way, a node at a time
+way_through : (a : Bool) (k : List ℕ) (keys : KeyTexts) (p n d : Bool) (ts : Tries)
+    → way a (k ∷ keys) (made p n d ts) ≡ key k ∷ way_at a keys (find (key k) ts)
+way_through true k [] p n d ts = refl
+way_through false k [] p n d ts = refl
+way_through true k (l ∷ keys) p n d ts = refl
+way_through false k (l ∷ keys) p n d ts = refl
+
+pub way_fresh : (a : Bool) (keys : KeyTexts) → way a keys fresh ≡ way a keys nothing
+way_fresh a [] = refl
+way_fresh true (k ∷ []) = refl
+way_fresh false (k ∷ []) = refl
+way_fresh a (k ∷ l ∷ keys) = refl
+
+way_latest : (a : Bool) (keys : KeyTexts) (before : List Trie) (t : Trie)
+    → way_by a keys (array_of before t) ≡ number (length before) ∷ way a keys t
+way_latest a keys before t = rw (find_latest 0 (length before) before t (omega arith)) refl
+
+pub way_into_fresh : (a : Bool) (keys : KeyTexts) (c : Child) (new : Trie) → (out-Child c).item ≡ Nothing
+    → new ≡ fresh → way_by a keys (child_trie c) ≡ way a keys new
+way_into_fresh a keys c new is is_fresh =
+    ap (way_by a keys) (child_item_trie c ∙ ap item_trie is ∙ nothing_trie)
+    ∙ sym (way_fresh a keys) ∙ ap (way a keys) (sym is_fresh)
+
+pub way_into_table : (a : Bool) (keys : KeyTexts) (c : Child) (t : Box Table Global)
+    → (out-Child c).item ≡ items.Table t → way_by a keys (child_trie c) ≡ way a keys (table_trie t.value)
+way_into_table a keys c t is =
+    let e = table_entries_trie t.value in
+    ap (way_by a keys) (child_item_trie c ∙ ap item_trie is ∙ table_item_trie t ∙ e)
+    ∙ ap (way a keys) (sym e)
+
+pub way_into_latest : (a : Bool) (keys : KeyTexts) (c : Child) (b : Vec Table Global) (latest : Box Table Global)
+    → (out-Child c).item ≡ Tables b latest
+    → way_by a keys (child_trie c) ≡ number (length (map table_trie b.items)) ∷ way a keys (table_trie latest.value)
+way_into_latest a keys c b latest is =
+    ap (way_by a keys) (child_item_trie c ∙ ap item_trie is ∙ tables_trie b latest)
+    ∙ way_latest a keys (map table_trie b.items) (table_trie latest.value)
+
+-- the table that is named, and the rows that are put into it
+pub same_below : (t u : Table) → (out-Table u).entries ≡ (out-Table t).entries → table_origins u ≡ table_origins t
+same_below t u same = below_seen u ∙ sym (below_seen t ∙ ap (λ ps. at_all ps) (sym same))
+  where
+    at_all : List (List ℕ × Child) → Origins
+    at_all ps = at_keys (map (λ p. (p.0, child_origins p.1)) ps)
+
+pub opened : (t d e : Table) (n : ℕ) (rows : Origins) (r : Result (Box Table Global) Clash)
+    → d ≡ t → e ≡ roll-Table (named_fields d)
+    → IfOk r (λ after. table_within after.value
+    ≡ with_more (table_within (roll-Table (numbered_fields n e))) rows)
+    → IfOk r (λ after. table_origins after.value ≡ or_else (table_origins t) rows)
+opened t d e n rows (Err clash) same is comes = tt
+opened t d e n rows (Ok after) same is comes =
+    let a = out-roll-Table (numbered_fields n e) in
+    let b = ap out-Table is ∙ out-roll-Table (named_fields d) in
+    ap (λ w. w.below) comes
+    ∙ ap (λ f. or_else f rows) (same_below t (roll-Table (numbered_fields n e))
+    (ap (λ o. o.entries) a ∙ ap (λ o. o.entries) b ∙ ap (λ t. (out-Table t).entries) same))
+
+pub no_keys_left : (a : Bool) (keys : List Key) (t : Table) (rows : Origins)
+    (r : Result (Box Table Global) Clash) → length keys ≡ 0
+    → IfOk r (λ after. table_origins after.value ≡ or_else (table_origins t) rows)
+    → IfOk r (λ after. GrowsAlong (way a (header_texts keys) (table_trie t)) rows (table_origins t)
+    (table_origins after.value))
+no_keys_left a (k ∷ keys) t rows r none comes = absurd (omega (arith, none))
+no_keys_left a [] t rows (Err clash) none comes = tt
+no_keys_left a [] t rows (Ok after) none comes = λ p not. ap (λ f. f p) comes
+
+-- a table that a header passes
+pub passed_grows : (a : Bool) (rows : Origins) (k : List ℕ) (keys whole : KeyTexts) (t o p q u : Table)
+    (position : ℕ) (there child : Child) → whole ≡ k ∷ keys → o ≡ t → Passes k o p position there → q ≡ p
+    → PutsBack q position child u
+    → GrowsAlong (way_at a keys (child_trie there)) rows (child_origins there) (child_origins child)
+    → GrowsAlong (way a whole (table_trie t)) rows (table_origins t) (table_origins u)
+passed_grows a rows k keys whole t o p q u position there child is_whole is_old passed same puts grows =
+    subst (λ w. GrowsAlong w rows (table_origins t) (table_origins u)) (sym is_way) go
+  where
+    passes : Passes k t p position there
+    passes = subst (λ (t : Table). Passes k t p position there) is_old passed
+
+    w : Path
+    w = way_at a keys (child_trie there)
+
+    is_way : way a whole (table_trie t) ≡ key k ∷ w
+    is_way =
+        ap (λ ks. way a ks (table_trie t)) is_whole
+        ∙ ap (way a (k ∷ keys)) (table_entries_trie t)
+        ∙ way_through a k keys (out-Table t).passed (out-Table t).named (out-Table t).dotted
+        (by_keys (tries_of child_trie (out-Table t).entries))
+        ∙ ap (λ t. key k ∷ way_at a keys t)
+        (stood_there child_trie k passes.blank (out-Table t).entries passes.entries position passes.is_nothing
+        passes.entered there passes.stands)
+
+    put : (out-Table u).entries ≡ with_value (with_value passes.entries position passes.other) position child
+    put =
+        puts.entries ∙ ap (λ t. with_value (out-Table t).entries position child) same
+        ∙ ap (λ es. with_value es position child) passes.left
+
+    go : GrowsAlong (key k ∷ w) rows (table_origins t) (table_origins u)
+    go x not =
+        grows_at t u passes.blank there child passes.other k passes.entries position
+        (nothing_comes passes.blank passes.is_nothing) passes.entered passes.stands put (along w rows) x
+        (λ y is. grows y (further y (sym (ap (λ x. begins x (key k ∷ w)) is) ∙ not)))
+      where
+        further : (y : Path) → begins (key k ∷ y) (key k ∷ w) ≡ false → begins y w ≡ false
+        further y not = sym (ap (λ b. b && begins y w) (bytes_eq-same k)) ∙ not
+
+-- a table below a key, which was there or is new
+held_grows : (w v : Path) (rows before after : Origins) (there child : Child) → v ≡ w
+    → ((s : Step) (p : Path) → child_origins there (s ∷ p) ≡ before (s ∷ p))
+    → ((s : Step) (p : Path) → child_origins child (s ∷ p) ≡ after (s ∷ p))
+    → GrowsAlong w rows before after → GrowsAlong v rows (child_origins there) (child_origins child)
+held_grows w v rows before after there child same was is grows =
+    subst (λ w. GrowsAlong w rows (child_origins there) (child_origins child)) (sym same) go
+  where
+    go : GrowsAlong w rows (child_origins there) (child_origins child)
+    go [] not = absurd (false≢true (sym not))
+    go (s ∷ p) not =
+        is s p ∙ grows (s ∷ p) not ∙ ap (λ o. option_or o (along w rows (s ∷ p))) (sym (was s p))
+
+table_held : (c : Child) (t : Box Table Global) → (out-Child c).item ≡ items.Table t → (r : Step) (p : Path)
+    → child_origins c (r ∷ p) ≡ table_origins t.value (r ∷ p)
+table_held c t is r p = ap (λ f. f (r ∷ p)) (child_seen c
+    ∙ ap (λ i. item_origins i (out-Child c).start (out-Child c).section) is
+    ∙ table_item_seen t (out-Child c).start (out-Child c).section)
+
+pub new_table_grows : (a : Bool) (keys : KeyTexts) (rows : Origins) (there child : Child) (new after : Box Table Global)
+    → (out-Child there).item ≡ Nothing → table_trie new.value ≡ fresh → (out-Child child).item ≡ items.Table after
+    → GrowsAlong (way a keys (table_trie new.value)) rows (table_origins new.value) (table_origins after.value)
+    → GrowsAlong (way_by a keys (child_trie there)) rows (child_origins there) (child_origins child)
+new_table_grows a keys rows there child new after is is_fresh is_table grows =
+    held_grows (way a keys (table_trie new.value)) (way_by a keys (child_trie there)) rows (table_origins new.value)
+    (table_origins after.value) there child (way_into_fresh a keys there (table_trie new.value) is is_fresh)
+    (λ r p. ap (λ f. f (r ∷ p)) (child_seen there
+    ∙ ap (λ i. item_origins i (out-Child there).start (out-Child there).section) is
+    ∙ nothing_seen (out-Child there).start (out-Child there).section)
+    ∙ sym (ap (λ w. w.below (r ∷ p)) (fresh_within new.value is_fresh)))
+    (table_held child after is_table) grows
+
+pub table_grows : (a : Bool) (keys : KeyTexts) (rows : Origins) (there child : Child) (old after : Box Table Global)
+    → (out-Child there).item ≡ items.Table old → (out-Child child).item ≡ items.Table after
+    → GrowsAlong (way a keys (table_trie old.value)) rows (table_origins old.value) (table_origins after.value)
+    → GrowsAlong (way_by a keys (child_trie there)) rows (child_origins there) (child_origins child)
+table_grows a keys rows there child old after is is_table grows =
+    held_grows (way a keys (table_trie old.value)) (way_by a keys (child_trie there)) rows (table_origins old.value)
+    (table_origins after.value) there child (way_into_table a keys there old is)
+    (table_held there old is) (table_held child after is_table) grows

@@ -1,0 +1,218 @@
+-- A node comes from what the origins in the tree tell at its path.
+use Rattle.std.proofs.Common.{◌≡◌, ◌==◌, ℕ, zero, suc, Bool, true, false, List, [], ◌∷◌, ◌++◌, Option, Some, None}
+use Rattle.std.proofs.Common.{refl, ap, sym, ◌∙◌}
+use Rattle.std.proofs.Common.{subst, map, rules, slice_get, option_map, append_assoc, codes, Vec, Box, Global}
+use Rattle.std.specs.Prelude.{IfSome, ◌||◌, if◌then◌else◌}
+use Rattle.std.specs.Borrow.{Bor}
+use Rattle.std.proofs.Math.Path.{fun_ext}
+use Rattle.std.proofs.lemmas.Bool.{false≢true}
+use Rattle.basic_toml_value.specs.Pairs.{value_at}
+use Rattle.basic_toml_grammar.specs.Steps.{Step, key, number, Path}
+use Rattle.basic_toml_tree.specs.declared.item.Item.{Item, out-Item, the_lemmas, Array, Tables}
+use Rattle.basic_toml_tree.specs.declared.item.Item as items
+use Rattle.basic_toml_tree.specs.declared.item.Item.TheOpen.{Item-F}
+use Rattle.basic_toml_tree.specs.declared.item.Item.TheViews.{roll-Item}
+use Rattle.basic_toml_tree.specs.declared.item.Child.{Child, out-Child}
+use Rattle.basic_toml_tree.specs.declared.item.Table.{Table, out-Table}
+use Rattle.basic_toml_tree.specs.declared.tree.Tree.{Tree}
+use Rattle.basic_toml_tree.specs.declared.node.Node.{Node}
+use Rattle.basic_toml_tree.specs.declared.node.Spot.{Spot}
+use Rattle.basic_toml_tree.specs.declared.node.Spot.TheVariants as spots
+use Rattle.basic_toml_tree.specs.Origin.{spot_is_made, holds_tables, item_name, table_is_made}
+use Rattle.basic_toml_tree.specs.Origins.{Origin, Origins, no_origins, entry, under, at_numbers, Within, value_origin}
+use Rattle.basic_toml_tree.specs.Origins.{table_origin, array_origin, elements_within, item_origins, child_origins}
+use Rattle.basic_toml_tree.specs.Origins.{table_within}
+use Rattle.basic_toml_tree.specs.Stands.{ItemHolds, HoldsTable, spot_origins, node_origins, spot_origin, SpotComes}
+use Rattle.basic_toml_tree.specs.Stands.{ComesFrom, tree_origins}
+use Rattle.basic_toml_tree.proofs.ItemsStand.{shape}
+use Rattle.basic_toml_tree.proofs.OriginsSeen.{child_seen, made_seen, table_origins, table_item_seen, inline_seen}
+use Rattle.basic_toml_tree.proofs.OriginsSeen.{array_seen, tables_seen, seen_at_key, seen_at_none}
+
+-- one step on from a node
+pub comes_on : (from node : Node) (s : Step) (tree : Tree) (p : Path)
+    → ComesFrom (λ q. tree_origins tree (p ++ q)) from
+    → ((at : ℕ) → ComesFrom (λ q. node_origins at from (s ∷ q)) node)
+    → ComesFrom (λ q. tree_origins tree ((p ++ s ∷ []) ++ q)) node
+comes_on from node s tree p comes on =
+    subst (λ f. ComesFrom f node) (fun_ext (λ q. sym (ap (tree_origins tree) (append_assoc p (s ∷ []) q)
+    ∙ comes.parts s q))) (on comes.section)
+
+-- at a key of a table
+item_key : (x : Item-F Item Child Table) (i : Item) (t : Table) (k : List ℕ) (q : Path) (at s : ℕ) → out-Item i ≡ x
+    → ItemHolds x t → item_origins i at s (key k ∷ q) ≡ table_origins t (key k ∷ q)
+item_key (Item-F.Table b) i t k q at s is holds =
+    ap (λ i. item_origins i at s (key k ∷ q)) (shape i (Item-F.Table b) is)
+    ∙ ap (λ f. f (key k ∷ q)) (made_table b at s)
+    ∙ ap (λ t. table_origins t (key k ∷ q)) (sym holds)
+  where
+    made_table : (b : Box Table Global) (at s : ℕ) → item_origins (roll-Item (Item-F.Table b)) at s
+        ≡ entry (table_origin (table_within b.value).made at s) (table_origins b.value)
+    made_table b at s = search (rules, the_lemmas)
+item_key (Item-F.Inline b) i t k q at s is holds =
+    ap (λ i. item_origins i at s (key k ∷ q)) (shape i (Item-F.Inline b) is)
+    ∙ ap (λ f. f (key k ∷ q)) (made_inline b at s)
+    ∙ ap (λ t. table_origins t (key k ∷ q)) (sym holds)
+  where
+    made_inline : (b : Box Table Global) (at s : ℕ) → item_origins (roll-Item (Item-F.Inline b)) at s
+        ≡ entry (value_origin (codes "inline table") at s) (table_origins b.value)
+    made_inline b at s = search (rules, the_lemmas)
+item_key Item-F.Nothing i t k q at s is holds = absurd holds
+item_key (Item-F.Integer z) i t k q at s is holds = absurd holds
+item_key (Item-F.Float z) i t k q at s is holds = absurd holds
+item_key (Item-F.Boolean z) i t k q at s is holds = absurd holds
+item_key (Item-F.String z) i t k q at s is holds = absurd holds
+item_key (Item-F.Array z) i t k q at s is holds = absurd holds
+item_key (Item-F.Tables y z) i t k q at s is holds = absurd holds
+
+spot_key : (spot : Spot) (t : Table) (k : List ℕ) (q : Path) (at s : ℕ) → HoldsTable spot t
+    → spot_origins spot at s (key k ∷ q) ≡ table_origins t (key k ∷ q)
+spot_key (spots.Table b) t k q at s holds = ap (λ t. table_origins t (key k ∷ q)) (sym holds)
+spot_key (spots.Item b) t k q at s holds = item_key (out-Item b.now) b.now t k q at s refl holds
+
+pub key_comes : (from node : Node) (t : Table) (k : List ℕ) (c : Child) → HoldsTable from.spot t
+    → value_at (out-Table t).entries k ≡ Some c → ComesFrom (child_origins c) node
+    → (s : ℕ) → ComesFrom (λ q. node_origins s from (key k ∷ q)) node
+key_comes from node t k c holds found comes s =
+    subst (λ f. ComesFrom f node) (fun_ext (λ q. sym (spot_key from.spot t k q from.start s holds
+    ∙ seen_at_key t k q ∙ ap (λ o. under (option_map child_origins o) q) found))) comes
+
+-- at a number of an array
+pub literal_comes : (from node : Node) (n : ℕ) (b : Bor Item) → from.spot ≡ spots.Item b
+    → (children : Vec Child Global) (child : Child) → b.now ≡ Array children
+    → slice_get (map child_origins children.items) n ≡ Some (child_origins child) → ComesFrom (child_origins child) node
+    → (s : ℕ) → ComesFrom (λ q. node_origins s from (number n ∷ q)) node
+literal_comes from node n b at children child is read comes s =
+    subst (λ f. ComesFrom f node) (fun_ext (λ q. sym (ap (λ spot. spot_origins spot from.start s (number n ∷ q)) at
+    ∙ ap (λ i. item_origins i from.start s (number n ∷ q)) is
+    ∙ ap (λ f. f (number n ∷ q)) (array_seen children from.start s)
+    ∙ ap (λ o. under o q) read))) comes
+
+module _ {A B : Type 0} (f : A → B) where
+  read_mapped : (xs : List A) (n : ℕ) (x : A) → slice_get xs n ≡ Some x → slice_get (map f xs) n ≡ Some (f x)
+  read_mapped [] n x read = absurd (cc)
+  read_mapped (y ∷ ys) zero x read = let same : y ≡ x = cc in ap (λ y. Some (f y)) same
+  read_mapped (y ∷ ys) (suc n) x read = read_mapped ys n x read
+
+pub tables_come : (from node : Node) (n : ℕ) (b : Bor Item) → from.spot ≡ spots.Item b
+    → (before : Vec Table Global) (latest : Box Table Global) (t : Bor Table) → b.now ≡ Tables before latest
+    → slice_get (map table_within before.items ++ table_within latest.value ∷ []) n ≡ Some (table_within t.now)
+    → ((s : ℕ)
+    → ComesFrom (entry (table_origin (table_within t.now).made from.start s) (table_within t.now).below) node)
+    → (s : ℕ) → ComesFrom (λ q. node_origins s from (number n ∷ q)) node
+tables_come from node n b at before latest t is read comes s =
+    subst (λ f. ComesFrom f node) (fun_ext (λ q. sym (ap (λ spot. spot_origins spot from.start s (number n ∷ q)) at
+    ∙ ap (λ i. item_origins i from.start s (number n ∷ q)) is
+    ∙ ap (λ f. f (number n ∷ q)) (tables_seen before latest from.start s)
+    ∙ ap (λ o. under o q) (read_mapped (λ w. entry (table_origin w.made from.start s) w.below)
+    (map table_within before.items ++ table_within latest.value ∷ []) n (table_within t.now) read)))) (comes s)
+
+-- the root, of which nothing is told
+pub root_comes : (tree : Tree) (b : Bor Table) (at : ℕ) → b.now ≡ tree.root.value
+    → SpotComes (λ q. tree_origins tree q) 0 (spots.Table b) at
+root_comes tree b at is = record {
+  section = 0;
+  own = subst (λ o. IfSome o (λ o. o.made ≡ false → o ≡ spot_origin 0 (spots.Table b) at 0))
+      (sym (seen_at_none tree.root.value)) tt;
+  parts = λ s q. ap (λ t. table_origins t (s ∷ q)) (sym is);
+}
+
+-- a table of headers or of dotted keys
+told_name : (b made : Bool) → b ≡ made → made ≡ false → (at s : ℕ)
+    → table_origin made at s ≡ record {
+      made = b;
+      name = (if b then codes "table" else codes "dotted table");
+      start = at;
+      section = s;
+    }
+told_name b true same apart at s = absurd (false≢true (sym apart))
+told_name true false same apart at s = absurd (false≢true (sym same))
+told_name false false same apart at s = refl
+
+pub table_comes : (t : Table) (b : Bor Table) (count at s : ℕ) → b.now ≡ t → (count == 0) ≡ false
+    → SpotComes (entry (table_origin (table_within t).made at s) (table_origins t)) count (spots.Table b) at
+table_comes t b count at s is some = record {
+  section = s;
+  own = λ apart. told_name (spot_is_made count (spots.Table b)) (table_within t).made
+      (ap (λ c. c || table_is_made b.now) some ∙ ap table_is_made is ∙ sym (made_seen t)) apart at s;
+  parts = λ r q. ap (λ t. table_origins t (r ∷ q)) (sym is);
+}
+
+pub table_node_comes : (b : Bor Table) (node : Node) (at s : ℕ) → node.spot ≡ spots.Table b → node.start ≡ at
+    → (node.count == 0) ≡ false
+    → ComesFrom (entry (table_origin (table_within b.now).made at s) (table_within b.now).below) node
+table_node_comes b node at s is_spot is_at some =
+    let here = entry (table_origin (table_within b.now).made at s) (table_within b.now).below in
+    subst (λ at. SpotComes here node.count node.spot at) (sym is_at)
+    (subst (λ spot. SpotComes here node.count spot at) (sym is_spot)
+    (table_comes b.now b node.count at s refl some))
+
+pub child_table_comes : (c : Child) (t : Box Table Global) (b : Bor Table) (count : ℕ) (spot : Spot) (at : ℕ)
+    → (out-Child c).item ≡ items.Table t → b.now ≡ t.value → (count == 0) ≡ false → spot ≡ spots.Table b
+    → at ≡ (out-Child c).start → SpotComes (child_origins c) count spot at
+child_table_comes c t b count spot at is same some is_spot is_at =
+    let from = (out-Child c).start in
+    let s = (out-Child c).section in
+    let seen : child_origins c ≡ entry (table_origin (table_within t.value).made from s) (table_origins t.value) =
+    child_seen c ∙ ap (λ i. item_origins i from s) is ∙ table_item_seen t from s in
+    subst (λ at. SpotComes (child_origins c) count spot at) (sym is_at)
+    (subst (λ spot. SpotComes (child_origins c) count spot from) (sym is_spot)
+    (subst (λ f. SpotComes f count (spots.Table b) from) (sym seen)
+    (table_comes t.value b count from s same some)))
+
+-- an item
+abbrev item_told : Item-F Item Child Table → ℕ → ℕ → Origin
+item_told x at s = record { made = holds_tables x; name = item_name x; start = at; section = s }
+
+abbrev OwnIs : Origins → Origin → Type 0
+OwnIs f want = IfSome (f []) (λ o. o.made ≡ false → o ≡ want)
+
+own_of : (f : Origins) (o want : Origin) (g : Origins) → f ≡ entry o g → (o.made ≡ false → o ≡ want) → OwnIs f want
+own_of f o want g is told = subst (λ f. OwnIs f want) (sym is) told
+
+item_own : (x : Item-F Item Child Table) (at s : ℕ) → OwnIs (item_origins (roll-Item x) at s) (item_told x at s)
+item_own Item-F.Nothing at s =
+    let none : item_origins (roll-Item Item-F.Nothing) at s ≡ no_origins = search (rules, the_lemmas) in
+    subst (λ f. OwnIs f (item_told Item-F.Nothing at s)) (sym none) tt
+item_own (Item-F.Integer z) at s =
+    own_of (item_origins (roll-Item (Item-F.Integer z)) at s) (value_origin (codes "integer") at s)
+    (item_told (Item-F.Integer z) at s) no_origins (search (rules, the_lemmas)) (λ apart. refl)
+item_own (Item-F.Float z) at s =
+    own_of (item_origins (roll-Item (Item-F.Float z)) at s) (value_origin (codes "float") at s)
+    (item_told (Item-F.Float z) at s) no_origins (search (rules, the_lemmas)) (λ apart. refl)
+item_own (Item-F.Boolean z) at s =
+    own_of (item_origins (roll-Item (Item-F.Boolean z)) at s) (value_origin (codes "boolean") at s)
+    (item_told (Item-F.Boolean z) at s) no_origins (search (rules, the_lemmas)) (λ apart. refl)
+item_own (Item-F.String z) at s =
+    own_of (item_origins (roll-Item (Item-F.String z)) at s) (value_origin (codes "string") at s)
+    (item_told (Item-F.String z) at s) no_origins (search (rules, the_lemmas)) (λ apart. refl)
+item_own (Item-F.Array z) at s =
+    own_of (item_origins (roll-Item (Item-F.Array z)) at s) (value_origin (codes "array") at s)
+    (item_told (Item-F.Array z) at s) (at_numbers (map child_origins z.items)) (search (rules, the_lemmas))
+    (λ apart. refl)
+item_own (Item-F.Inline z) at s =
+    own_of (item_origins (roll-Item (Item-F.Inline z)) at s) (value_origin (codes "inline table") at s)
+    (item_told (Item-F.Inline z) at s) (table_origins z.value) (search (rules, the_lemmas)) (λ apart. refl)
+item_own (Item-F.Table z) at s =
+    own_of (item_origins (roll-Item (Item-F.Table z)) at s) (table_origin (table_within z.value).made at s)
+    (item_told (Item-F.Table z) at s) (table_origins z.value) (search (rules, the_lemmas))
+    (λ apart. ap (λ made. table_origin made at s) apart)
+item_own (Item-F.Tables y z) at s =
+    own_of (item_origins (roll-Item (Item-F.Tables y z)) at s) (array_origin at s)
+    (item_told (Item-F.Tables y z) at s)
+    (at_numbers (elements_within at s (map table_within y.items ++ table_within z.value ∷ [])))
+    (search (rules, the_lemmas)) (λ apart. absurd (false≢true (sym apart)))
+
+pub item_comes : (c : Child) (b : Bor Item) (count : ℕ) (spot : Spot) (at : ℕ) → b.now ≡ (out-Child c).item
+    → spot ≡ spots.Item b → at ≡ (out-Child c).start → SpotComes (child_origins c) count spot at
+item_comes c b count spot at is is_spot is_at =
+    let from = (out-Child c).start in
+    let s = (out-Child c).section in
+    let i = b.now in
+    let seen : child_origins c ≡ item_origins i from s = child_seen c ∙ ap (λ i. item_origins i from s) (sym is) in
+    let own : OwnIs (item_origins i from s) (item_told (out-Item i) from s) =
+    subst (λ j. OwnIs (item_origins j from s) (item_told (out-Item i) from s)) (sym (shape i (out-Item i) refl))
+    (item_own (out-Item i) from s) in
+    subst (λ at. SpotComes (child_origins c) count spot at) (sym is_at)
+    (subst (λ spot. SpotComes (child_origins c) count spot from) (sym is_spot)
+    (subst (λ f. SpotComes f count (spots.Item b) from) (sym seen)
+    (record { section = s; own = own; parts = λ r q. refl })))

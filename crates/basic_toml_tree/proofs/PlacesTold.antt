@@ -1,0 +1,150 @@
+-- The offset that names a node in errors, by the section list: where the node begins, but for an array.
+use Rattle.std.proofs.Common.{◌≡◌, ◌⊎◌, inl, inr, ℕ, zero, suc, Bool, true, false, List, [], ◌∷◌, Option, Some}
+use Rattle.std.proofs.Common.{None, refl, ap}
+use Rattle.std.proofs.Common.{sym, ◌∙◌, codes, length, drop, ◌++◌}
+use Rattle.std.specs.Prelude.{if◌then◌else◌, IfSome}
+use Rattle.std.specs.Option.{option_or}
+use Rattle.basic_toml_grammar.specs.Sections.{KeyTexts, texts, Raw, Elements, no_elements, element, Rows, no_rows}
+use Rattle.basic_toml_grammar.specs.Sections.{row}
+use Rattle.basic_toml_grammar.specs.Sections.{Section}
+use Rattle.basic_toml_grammar.specs.Steps.{Step, key, number, Path, begins, steps_of}
+use Rattle.basic_toml_grammar.specs.IndexedPath.{Located, located}
+use Rattle.basic_toml_grammar.specs.NamedClash.{first_key}
+use Rattle.basic_toml_grammar.specs.Nodes.{Node, front, value_node, dotted_node, holder_in, node_in, node_among}
+use Rattle.basic_toml_grammar.specs.Nodes.{node_by}
+use Rattle.basic_toml_grammar.specs.Nodes.{holder, node_of_rows, node_of_sections, node_at, made_node, is_made}
+use Rattle.basic_toml_grammar.specs.Nodes.{last_at}
+use Rattle.std.proofs.lemmas.Bool.{false≢true}
+use Rattle.basic_toml_tree.specs.declared.item.Item.{Item, out-Item}
+use Rattle.basic_toml_tree.specs.declared.item.Item.TheOpen.{Item-F}
+use Rattle.basic_toml_tree.specs.declared.item.Child.{Child}
+use Rattle.basic_toml_tree.specs.declared.item.Table.{Table}
+use Rattle.basic_toml_tree.specs.declared.node.Node as nodes
+use Rattle.basic_toml_tree.specs.declared.node.Spot.{Spot}
+use Rattle.basic_toml_tree.specs.declared.node.Spot.TheVariants as spots
+use Rattle.basic_toml_tree.specs.Origin.{is_array_literal, item_name, spot_name, name_of, start_of, outer_of}
+use Rattle.basic_toml_tree.specs.Origin.{offset_of}
+use Rattle.basic_toml_tree.specs.Stands.{Foretold}
+use Rattle.basic_toml_tree.proofs.RowNodesTold.{name_told, start_told}
+
+-- it is an array, or its offset is where it begins
+abbrev pub Plain : Node → Type 0
+Plain n = (n.type_name ≡ codes "array") ⊎ (n.offset ≡ n.start)
+
+value_plain : (keys : KeyTexts) (outer : Option ℕ) (at : ℕ) (v : Raw) → Plain (value_node keys outer at v)
+value_plain keys outer at (Raw.integer z) = inr refl
+value_plain keys outer at (Raw.float z) = inr refl
+value_plain keys outer at (Raw.boolean z) = inr refl
+value_plain keys outer at (Raw.string z) = inr refl
+value_plain keys outer at (Raw.array z) = inl refl
+value_plain keys outer at (Raw.inline z) = inr refl
+
+one_of : (a b : Bool) (m n : Option Node) (d : Node) → IfSome m Plain → Plain d → IfSome n Plain
+    → IfSome (if a then m else if b then Some d else n) Plain
+one_of true b m n d value table later = value
+one_of false true m n d value table later = table
+one_of false false m n d value table later = later
+
+mutual
+  in_plain : (keys : KeyTexts) (outer : Option ℕ) (at : ℕ) (v : Raw) (p : Path)
+      → IfSome (node_in keys outer at v p) Plain
+  in_plain keys outer at v [] = value_plain keys outer at v
+  in_plain keys outer at (Raw.array es) (number n ∷ p) = among_plain keys outer es n p
+  in_plain keys outer at (Raw.inline rows) (key k ∷ p) = by_plain keys (Some at) rows rows (key k ∷ p)
+  in_plain keys outer at (Raw.array es) (key k ∷ p) = tt
+  in_plain keys outer at (Raw.inline rows) (number n ∷ p) = tt
+  in_plain keys outer at (Raw.integer z) (key k ∷ p) = tt
+  in_plain keys outer at (Raw.integer z) (number n ∷ p) = tt
+  in_plain keys outer at (Raw.float z) (key k ∷ p) = tt
+  in_plain keys outer at (Raw.float z) (number n ∷ p) = tt
+  in_plain keys outer at (Raw.boolean z) (key k ∷ p) = tt
+  in_plain keys outer at (Raw.boolean z) (number n ∷ p) = tt
+  in_plain keys outer at (Raw.string z) (key k ∷ p) = tt
+  in_plain keys outer at (Raw.string z) (number n ∷ p) = tt
+
+  among_plain : (keys : KeyTexts) (outer : Option ℕ) (es : Elements) (n : ℕ) (p : Path)
+      → IfSome (node_among keys outer es n p) Plain
+  among_plain keys outer no_elements n p = tt
+  among_plain keys outer (element at v es) zero p = in_plain keys outer at v p
+  among_plain keys outer (element at v es) (suc n) p = among_plain keys outer es n p
+
+  by_plain : (keys : KeyTexts) (outer : Option ℕ) (all rows : Rows) (p : Path)
+      → IfSome (node_by keys outer all rows p) Plain
+  by_plain keys outer all no_rows p = tt
+  by_plain keys outer all (row ks at v later) p =
+      let steps = steps_of (texts ks) in
+      one_of (begins steps p) (begins p steps)
+      (node_in keys (holder_in outer all (front steps)) at v (drop (length steps) p)) (node_by keys outer all later p)
+      (dotted_node keys (holder_in outer all (front p)) at)
+      (in_plain keys (holder_in outer all (front steps)) at v (drop (length steps) p)) (inr refl)
+      (by_plain keys outer all later p)
+
+rows_plain : (ls : List Located) (last : Option ℕ) (l : Located) (rows : Rows) (p : Path)
+    → IfSome (node_of_rows ls last l rows p) Plain
+rows_plain ls last l no_rows p = tt
+rows_plain ls last l (row ks at v rows) p =
+    let path = l.path ++ steps_of (texts ks) in
+    let key_path = texts l.section.header ++ first_key ks in
+    one_of (begins path p) (begins p path)
+    (node_in key_path (holder ls last (front path)) at v (drop (length path) p)) (node_of_rows ls last l rows p)
+    (dotted_node key_path (holder ls last (front p)) at)
+    (in_plain key_path (holder ls last (front path)) at v (drop (length path) p)) (inr refl)
+    (rows_plain ls last l rows p)
+
+or_plain : (m n : Option Node) → IfSome m Plain → IfSome n Plain → IfSome (option_or m n) Plain
+or_plain None n first later = later
+or_plain (Some m) n first later = first
+
+sections_plain : (ls : List Located) (last : Option ℕ) (later : List Located) (p : Path)
+    → IfSome (node_of_sections ls last later p) Plain
+sections_plain ls last [] p = tt
+sections_plain ls last (l ∷ later) p =
+    or_plain (node_of_rows ls last l l.section.rows p) (node_of_sections ls last later p)
+    (rows_plain ls last l l.section.rows p) (sections_plain ls last later p)
+
+pub plain_at : (sections : List Section) (p : Path) → IfSome (node_at sections p) Plain
+plain_at sections p = go (is_made (located sections) p)
+  where
+    go : (b : Bool) → IfSome (if b then Some (made_node (located sections) (last_at sections) p)
+        else node_of_sections (located sections) (last_at sections) (located sections) p) Plain
+    go true = inr refl
+    go false = sections_plain (located sections) (last_at sections) (located sections) p
+
+-- three facts of what is there
+some_three : {A : Type 0} (o : Option A) (P Q R S : A → Type 0) → ((x : A) → P x → Q x → R x → S x) → IfSome o P
+    → IfSome o Q → IfSome o R → IfSome o S
+some_three None P Q R S f p q r = tt
+some_three (Some x) P Q R S f p q r = f x p q r
+
+literal_name : (count : ℕ) (spot : Spot) → is_array_literal spot ≡ true → spot_name count spot ≡ codes "array"
+literal_name count (spots.Table b) e = absurd (false≢true e)
+literal_name count (spots.Item b) e = go (out-Item b.now) e
+  where
+    go : (x : Item-F Item Child Table) → elim x [ Item-F.Array _ ↦ true | _ ↦ false ] ≡ true
+        → item_name x ≡ codes "array"
+    go (Item-F.Array z) e = refl
+    go Item-F.Nothing e = absurd (false≢true e)
+    go (Item-F.Integer z) e = absurd (false≢true e)
+    go (Item-F.Float z) e = absurd (false≢true e)
+    go (Item-F.Boolean z) e = absurd (false≢true e)
+    go (Item-F.String z) e = absurd (false≢true e)
+    go (Item-F.Inline z) e = absurd (false≢true e)
+    go (Item-F.Table z) e = absurd (false≢true e)
+    go (Item-F.Tables y z) e = absurd (false≢true e)
+
+pub place_told : (place : Option ℕ) (node : nodes.Node) → place ≡ offset_of node → (sections : List Section) (p : Path)
+    → Foretold sections p node (λ found. (found.type_name ≡ codes "array") ⊎ (place ≡ found.offset))
+unfolding name_of offset_of
+place_told place node same sections p is =
+    some_three (node_at sections p) (λ found. name_of node ≡ found.type_name) (λ found. start_of node ≡ found.start) Plain
+    (λ found. (found.type_name ≡ codes "array") ⊎ (place ≡ found.offset))
+    (λ found. go found (is_array_literal node.spot) refl)
+    (name_told (name_of node) node refl sections p is) (start_told (start_of node) node refl sections p is)
+    (plain_at sections p)
+  where
+    go : (found : Node) (b : Bool) → is_array_literal node.spot ≡ b → name_of node ≡ found.type_name
+        → start_of node ≡ found.start → Plain found → (found.type_name ≡ codes "array") ⊎ (place ≡ found.offset)
+    go found true e name start plain = inl (sym name ∙ literal_name node.count node.spot e)
+    go found false e name start (inl array) = inl array
+    go found false e name start (inr here) =
+        inr (same ∙ ap (λ b. if b then outer_of node else start_of node) e ∙ start ∙ sym here)

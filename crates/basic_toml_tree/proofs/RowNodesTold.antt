@@ -1,0 +1,122 @@
+-- What rows made, as the tree has it and as the section list foretells it.
+use Rattle.std.proofs.Common.{◌≡◌, ℕ, Bool, true, false, List, [], ◌∷◌, ◌++◌, Option, Some, None, refl, ap, sym}
+use Rattle.std.proofs.Common.{◌∙◌, subst}
+use Rattle.std.proofs.Common.{option_map}
+use Rattle.std.specs.Prelude.{◌||◌, ◌&&◌, if◌then◌else◌, IfSome}
+use Rattle.std.specs.List.{list_any, list_all}
+use Rattle.std.proofs.lemmas.Bool.{false≢true}
+use Rattle.basic_toml_grammar.specs.Sections.{Section}
+use Rattle.basic_toml_grammar.specs.Steps.{Step, Path, begins}
+use Rattle.basic_toml_grammar.specs.IndexedPath.{Located, located_after, located_from, located}
+use Rattle.basic_toml_grammar.specs.Document.{has_clash}
+use Rattle.basic_toml_grammar.specs.RowClash.{rows_clash, has_row_clash}
+use Rattle.basic_toml_grammar.specs.SectionClash.{sections_clash}
+use Rattle.basic_toml_grammar.specs.Entering.{keyed_within, all_keyed_within}
+use Rattle.basic_toml_grammar.specs.Nodes as grammar
+use Rattle.basic_toml_grammar.proofs.Clash.PathsAgree.{append_none}
+use Rattle.basic_toml_tree.specs.declared.node.Node.{Node}
+use Rattle.basic_toml_tree.specs.Origin.{is_made, spot_name, name_of, start_of, last_at}
+use Rattle.basic_toml_tree.specs.Origins.{Origin}
+use Rattle.basic_toml_tree.specs.Ways.{sections_origins}
+use Rattle.basic_toml_tree.specs.Stands.{spot_origin, tree_origins, IsNodeAt, Foretold}
+use Rattle.basic_toml_tree.proofs.MadeNodes.{made_name_told, made_start_told, made_told}
+use Rattle.basic_toml_tree.proofs.RowsAreNodes.{Same, of_node, of_origin, sections_same}
+
+-- the list's sections, where they stand
+located_any : (f : Section → Bool) (before ss : List Section)
+    → list_any (λ l. f l.section) (located_from before ss) ≡ list_any f ss
+located_any f before [] = refl
+located_any f before (s ∷ ss) = ap (λ b. f s || b) (located_any f (s ∷ before) ss)
+
+located_keyed : (before ss : List Section)
+    → list_all (λ l. keyed_within l.section.rows) (located_from before ss) ≡ all_keyed_within ss
+located_keyed before [] = refl
+located_keyed before (s ∷ ss) = ap (λ b. keyed_within s.rows && b) (located_keyed (s ∷ before) ss)
+
+no_row_clash : (a b : Bool) → (a || b) ≡ false → a ≡ false
+no_row_clash false b e = refl
+no_row_clash true b e = absurd (cc)
+
+-- a node that headers did not make
+pub record RowTold (node : Node) (found : grammar.Node) : Type 0 where
+  pub made : is_made node ≡ false
+  pub name : spot_name node.count node.spot ≡ found.type_name
+  pub start : Some node.start ≡ found.start
+
+told_by : (node : Node) (s : ℕ) (m : Option grammar.Node) (o : Option Origin) → Same m o
+    → IfSome o (λ o. o.made ≡ false → o ≡ spot_origin node.count node.spot node.start s)
+    → IfSome m (RowTold node)
+told_by node s None o same own = tt
+told_by node s (Some m) None same own = absurd (cc)
+told_by node s (Some m) (Some o) same own =
+    let both : of_node m ≡ of_origin o = cc in
+    let made : o.made ≡ false = sym (ap (λ t. t.made) both) in
+    let is : o ≡ spot_origin node.count node.spot node.start s = own made in
+    record {
+      made = sym (ap (λ o. o.made) is) ∙ made;
+      name = sym (ap (λ o. o.name) is) ∙ sym (ap (λ t. t.name) both);
+      start = sym (ap (λ o. Some o.start) is) ∙ sym (ap (λ t. t.start) both);
+    }
+
+pub row_told : (sections : List Section) (p : Path) (node : Node) → IsNodeAt sections p node
+    → grammar.is_made (located sections) p ≡ false → IfSome (grammar.node_at sections p) (RowTold node)
+row_told sections [] node is not = absurd (false≢true (sym not))
+row_told sections (r ∷ p) node is not =
+    let ls = located sections in
+    let last = grammar.last_at sections in
+    let tree = node.tree.now in
+    let here : tree_origins tree ((r ∷ p) ++ []) ≡ sections_origins 0 ls (r ∷ p) =
+    ap (tree_origins tree) (append_none (r ∷ p)) ∙ is.resolved.origins (r ∷ p) not in
+    let own = subst (λ o. IfSome o (λ o. o.made ≡ false
+    → o ≡ spot_origin node.count node.spot node.start is.stands.comes.section)) here is.stands.comes.own in
+    let same = sections_same ls last 0 ls (r ∷ p) not
+    (located_any (λ s. rows_clash s.rows) [] sections
+    ∙ no_row_clash (has_row_clash sections) (sections_clash sections) is.resolved.clash)
+    (located_keyed [] sections ∙ is.resolved.within) in
+    rw not (told_by node is.stands.comes.section (grammar.node_of_sections ls last ls (r ∷ p))
+    (sections_origins 0 ls (r ∷ p)) same own)
+
+-- what every node tells
+some_then : {A : Type 0} (o : Option A) (P Q : A → Type 0) → ((x : A) → P x → Q x) → IfSome o P → IfSome o Q
+some_then None P Q f p = tt
+some_then (Some x) P Q f p = f x p
+
+either_way : (sections : List Section) (p : Path) (node : Node) (says : grammar.Node → Type 0) (b : Bool)
+    → grammar.is_made (located sections) p ≡ b
+    → (grammar.is_made (located sections) p ≡ true → IfSome (grammar.node_at sections p) says)
+    → ((found : grammar.Node) → RowTold node found → says found) → IsNodeAt sections p node
+    → IfSome (grammar.node_at sections p) says
+either_way sections p node says true e made row is = made e
+either_way sections p node says false e made row is =
+    some_then (grammar.node_at sections p) (RowTold node) says row (row_told sections p node is e)
+
+pub name_told : (name : List ℕ) (node : Node) → name ≡ name_of node → (sections : List Section) (p : Path)
+    → Foretold sections p node (λ found. name ≡ found.type_name)
+unfolding name_of
+name_told name node same sections p is =
+    either_way sections p node (λ found. name ≡ found.type_name) (grammar.is_made (located sections) p) refl
+    (made_name_told name node same sections p is) (λ found told. same ∙ told.name) is
+
+pub start_told : (start : Option ℕ) (node : Node) → start ≡ start_of node → (sections : List Section) (p : Path)
+    → Foretold sections p node (λ found. start ≡ found.start)
+unfolding start_of
+start_told start node same sections p is =
+    either_way sections p node (λ found. start ≡ found.start) (grammar.is_made (located sections) p) refl
+    (made_start_told start node same sections p is)
+    (λ found told. same ∙ ap (λ b. if b then last_at node.tree.now else Some node.start) told.made ∙ told.start) is
+
+pub made_answers : (made : Bool) (node : Node) → made ≡ is_made node → (sections : List Section) (p : Path)
+    → Foretold sections p node (λ _. made ≡ grammar.is_made (located sections) p)
+made_answers made node same sections p is = go (grammar.is_made (located sections) p) refl
+  where
+    any : {A : Type 0} (o : Option A) (P : Type 0) → P → IfSome o (λ _. P)
+    any None P p = tt
+    any (Some x) P p = p
+
+    go : (b : Bool) → grammar.is_made (located sections) p ≡ b
+        → IfSome (grammar.node_at sections p) (λ _. made ≡ grammar.is_made (located sections) p)
+    go true e = any (grammar.node_at sections p) (made ≡ grammar.is_made (located sections) p)
+        (made_told made node same sections p is e ∙ sym e)
+    go false e =
+        some_then (grammar.node_at sections p) (RowTold node) (λ _. made ≡ grammar.is_made (located sections) p)
+        (λ found told. same ∙ told.made ∙ sym e) (row_told sections p node is e)

@@ -1,0 +1,365 @@
+-- What the rows of sections bring into the tree is what the section list says of it.
+use Rattle.std.proofs.Common.{◌≡◌, ◌⊎◌, inl, inr, ℕ, zero, suc, Bool, true, false, List, [], ◌∷◌, ◌++◌, Option, Some}
+use Rattle.std.proofs.Common.{None, refl, ap, sym, ◌∙◌, length, drop, slice_get, option_map}
+use Rattle.std.specs.Prelude.{◌||◌, ◌&&◌, if◌then◌else◌}
+use Rattle.std.specs.List.{list_any, list_all}
+use Rattle.std.specs.Option.{option_or}
+use Rattle.std.proofs.lemmas.Bool.{false≢true, and_parts}
+use Rattle.basic_toml_grammar.specs.Sections.{KeyTexts, texts, Raw, Elements, no_elements, element, Rows, no_rows}
+use Rattle.basic_toml_grammar.specs.Sections.{row}
+use Rattle.basic_toml_grammar.specs.Sections.{Section}
+use Rattle.basic_toml_grammar.specs.Steps.{Step, key, number, Path, step_eq, begins, overlap, steps_of}
+use Rattle.basic_toml_grammar.specs.RowClash.{any_overlaps, rows_clash, value_clashes, elements_clash}
+use Rattle.basic_toml_grammar.specs.IndexedPath.{Located}
+use Rattle.basic_toml_grammar.specs.Entering.{has_key, keyed_within, value_keyed, elements_keyed}
+use Rattle.basic_toml_grammar.specs.NamedClash.{first_key}
+use Rattle.basic_toml_grammar.specs.Nodes.{Node, front, value_node, dotted_node, holder_in, node_in, node_among}
+use Rattle.basic_toml_grammar.specs.Nodes.{node_by}
+use Rattle.basic_toml_grammar.specs.Nodes.{holder, node_of_rows, node_of_sections}
+use Rattle.basic_toml_grammar.proofs.Clash.ClashesAgree.{turn_eq}
+use Rattle.basic_toml_grammar.proofs.Clash.StepTestsDecide.{step_is, step_same}
+use Rattle.basic_toml_tree.specs.Origins.{Origin, Origins, no_origins, entry, under, at_numbers, table_origin}
+use Rattle.basic_toml_tree.specs.Origins.{beyond, along}
+use Rattle.basic_toml_tree.specs.Origins.{row_origins, value_origins, elements_origins, rows_origins}
+use Rattle.basic_toml_tree.specs.Ways.{sections_origins}
+
+-- what both tell
+pub record Told : Type 0 where
+  pub made : Bool
+  pub name : List ℕ
+  pub start : Option ℕ
+
+abbrev pub of_node : Node → Told
+of_node n = record { made = false; name = n.type_name; start = n.start }
+
+abbrev pub of_origin : Origin → Told
+of_origin o = record { made = o.made; name = o.name; start = Some o.start }
+
+abbrev pub Same : Option Node → Option Origin → Type 0
+Same n o = option_map of_node n ≡ option_map of_origin o
+
+either : (a b : Bool) → (a || b) ≡ false → (a ≡ false) × (b ≡ false)
+either false b e = (refl, e)
+either true b e = absurd (cc)
+
+-- a row, by how its keys begin a path
+abbrev by_keys : Path → Origin → Origins → Path → Option Origin
+by_keys steps o f p =
+    if begins steps p then f (drop (length steps) p) else if begins p steps then Some o else None
+
+one_key : (k : List ℕ) (o : Origin) (f : Origins) (r : Step) (q : Path) (b : Bool) → step_eq r (key k) ≡ b
+    → row_origins (k ∷ []) o f (r ∷ q) ≡ by_keys (steps_of (k ∷ [])) o f (r ∷ q)
+one_key k o f r q true e = rw (turn_eq (key k) r, e) refl
+one_key k o f r q false e = rw (turn_eq (key k) r, e) refl
+
+first_of : (k l : List ℕ) (ls : KeyTexts) (o : Origin) (f : Origins) (r : Step) (b : Bool) → step_eq r (key k) ≡ b
+    → row_origins (k ∷ l ∷ ls) o f (r ∷ []) ≡ by_keys (steps_of (k ∷ l ∷ ls)) o f (r ∷ [])
+first_of k l ls o f r true e = rw (turn_eq (key k) r, e) refl
+first_of k l ls o f r false e = rw (turn_eq (key k) r, e) refl
+
+key_on : (k l : List ℕ) (ls : KeyTexts) (o : Origin) (f : Origins) (r t : Step) (p : Path) (b : Bool)
+    → step_eq r (key k) ≡ b → row_origins (l ∷ ls) o f (t ∷ p) ≡ by_keys (steps_of (l ∷ ls)) o f (t ∷ p)
+    → row_origins (k ∷ l ∷ ls) o f (r ∷ t ∷ p) ≡ by_keys (steps_of (k ∷ l ∷ ls)) o f (r ∷ t ∷ p)
+key_on k l ls o f r t p true e ih = rw (turn_eq (key k) r, e) ih
+key_on k l ls o f r t p false e ih = rw (turn_eq (key k) r, e) refl
+
+row_begins : (k : List ℕ) (ks : KeyTexts) (o : Origin) (f : Origins) (r : Step) (q : Path)
+    → row_origins (k ∷ ks) o f (r ∷ q) ≡ by_keys (steps_of (k ∷ ks)) o f (r ∷ q)
+row_begins k [] o f r q = one_key k o f r q (step_eq r (key k)) refl
+row_begins k (l ∷ ls) o f r [] = first_of k l ls o f r (step_eq r (key k)) refl
+row_begins k (l ∷ ls) o f r (t ∷ p) =
+    key_on k l ls o f r t p (step_eq r (key k)) refl (row_begins l ls o f t p)
+
+keys_begin : (ks : KeyTexts) (o : Origin) (f : Origins) (r : Step) (q : Path)
+    → row_origins ks o f (r ∷ q) ≡ by_keys (steps_of ks) o f (r ∷ q)
+keys_begin [] o f r q = refl
+keys_begin (k ∷ ks) o f r q = row_begins k ks o f r q
+
+-- two paths that begin a third overlap, and so do two of which one goes on from a third that the other begins
+both_begin : (p q x : Path) → begins p x ≡ true → begins q x ≡ true → overlap p q ≡ true
+both_begin [] q x a b = refl
+both_begin (s ∷ p) [] x a b = or_true (begins (s ∷ p) [])
+  where
+    or_true : (b : Bool) → (b || true) ≡ true
+    or_true true = refl
+    or_true false = refl
+both_begin (s ∷ p) (t ∷ q) [] a b = absurd (false≢true a)
+both_begin (s ∷ p) (t ∷ q) (u ∷ x) a b =
+    let left = and_parts (step_eq s u) (begins p x) a in
+    let right = and_parts (step_eq t u) (begins q x) b in
+    let is : s ≡ u = step_is s u left.0 in
+    let was : t ≡ u = step_is t u right.0 in
+    let same : step_eq s t ≡ true = ap (λ s. step_eq s t) is ∙ ap (step_eq u) was ∙ sym (ap (λ t. step_eq t u) was)
+    ∙ right.0 in
+    let back : step_eq t s ≡ true = turn_eq t s ∙ same in
+    rw (same, back) (both_begin p q x left.1 right.1)
+
+goes_on : (p x q : Path) → begins p x ≡ true → begins x q ≡ true → begins p q ≡ true
+goes_on [] x q a b = refl
+goes_on (s ∷ p) [] q a b = absurd (false≢true a)
+goes_on (s ∷ p) (t ∷ x) [] a b = absurd (false≢true b)
+goes_on (s ∷ p) (t ∷ x) (u ∷ q) a b =
+    let left = and_parts (step_eq s t) (begins p x) a in
+    let right = and_parts (step_eq t u) (begins x q) b in
+    let first : step_eq s u ≡ true = ap (λ s. step_eq s u) (step_is s t left.0) ∙ right.0 in
+    rw first (goes_on p x q left.1 right.1)
+
+-- below the value of a row no later row brings anything
+none_later : (s : ℕ) (steps : Path) (rows : Rows) (r : Step) (q : Path) → begins steps (r ∷ q) ≡ true
+    → any_overlaps steps rows ≡ false → rows_origins s rows (r ∷ q) ≡ None
+none_later s steps no_rows r q here apart = refl
+none_later s steps (row ks at v rows) r q here apart =
+    let both = either (overlap steps (steps_of (texts ks))) (any_overlaps steps rows) apart in
+    ap (λ o. option_or o (rows_origins s rows (r ∷ q)))
+    (keys_begin (texts ks) (table_origin false at s) (value_origins s at v) r q
+    ∙ go (begins (steps_of (texts ks)) (r ∷ q)) (begins (r ∷ q) (steps_of (texts ks))) refl refl both.0)
+    ∙ none_later s steps rows r q here both.1
+  where
+    go : (a b : Bool) → begins (steps_of (texts ks)) (r ∷ q) ≡ a → begins (r ∷ q) (steps_of (texts ks)) ≡ b
+        → overlap steps (steps_of (texts ks)) ≡ false
+        → (if a then value_origins s at v (drop (length (steps_of (texts ks))) (r ∷ q))
+        else if b then Some (table_origin false at s) else None) ≡ None
+    go true b x y apart =
+        absurd (false≢true (sym apart ∙ both_begin steps (steps_of (texts ks)) (r ∷ q) here x))
+    go false true x y apart =
+        absurd (false≢true (sym apart ∙ ap (λ b. b || begins (steps_of (texts ks)) steps)
+        (goes_on steps (r ∷ q) (steps_of (texts ks)) here y)))
+    go false false x y apart = refl
+
+option_none : (o : Option Origin) → option_or o None ≡ o
+option_none None = refl
+option_none (Some o) = refl
+
+-- one of three: below the value, a table on the way to it, or in a later row
+chosen : (a b : Bool) (m n : Option Node) (o p : Option Origin) (d : Node) (e : Origin)
+    → Same m o → Same (Some d) (Some e) → Same n p → (a ≡ true → p ≡ None)
+    → Same (if a then m else if b then Some d else n) (option_or (if a then o else if b then Some e else None) p)
+chosen true b m n o p d e value table later none = value ∙ ap (option_map of_origin)
+    (sym (ap (option_or o) (none refl) ∙ option_none o))
+chosen false true m n o p d e value table later none = table
+chosen false false m n o p d e value table later none = later
+
+-- rows with keys bring nothing to numbers
+no_numbers : (s : ℕ) (rows : Rows) (n : ℕ) (p : Path) → keyed_within rows ≡ true
+    → rows_origins s rows (number n ∷ p) ≡ None
+no_numbers s no_rows n p keyed = refl
+no_numbers s (row [] at v rows) n p keyed = absurd (false≢true keyed)
+no_numbers s (row (k ∷ []) at v rows) n p keyed =
+    no_numbers s rows n p (and_parts (value_keyed v) (keyed_within rows) keyed).1
+no_numbers s (row (k ∷ l ∷ ks) at v rows) n p keyed =
+    no_numbers s rows n p (and_parts (value_keyed v) (keyed_within rows) keyed).1
+
+mutual
+  value_same : (keys : KeyTexts) (outer : Option ℕ) (s at : ℕ) (v : Raw) (p : Path) → value_clashes v ≡ false
+      → value_keyed v ≡ true → Same (node_in keys outer at v p) (value_origins s at v p)
+  value_same keys outer s at (Raw.integer z) [] apart keyed = refl
+  value_same keys outer s at (Raw.float z) [] apart keyed = refl
+  value_same keys outer s at (Raw.boolean z) [] apart keyed = refl
+  value_same keys outer s at (Raw.string z) [] apart keyed = refl
+  value_same keys outer s at (Raw.array es) [] apart keyed = refl
+  value_same keys outer s at (Raw.inline rows) [] apart keyed = refl
+  value_same keys outer s at (Raw.integer z) (r ∷ p) apart keyed = other r
+    where
+      other : (r : Step) → Same (node_in keys outer at (Raw.integer z) (r ∷ p)) None
+      other (key k) = refl
+      other (number n) = refl
+  value_same keys outer s at (Raw.float z) (r ∷ p) apart keyed = other r
+    where
+      other : (r : Step) → Same (node_in keys outer at (Raw.float z) (r ∷ p)) None
+      other (key k) = refl
+      other (number n) = refl
+  value_same keys outer s at (Raw.boolean z) (r ∷ p) apart keyed = other r
+    where
+      other : (r : Step) → Same (node_in keys outer at (Raw.boolean z) (r ∷ p)) None
+      other (key k) = refl
+      other (number n) = refl
+  value_same keys outer s at (Raw.string z) (r ∷ p) apart keyed = other r
+    where
+      other : (r : Step) → Same (node_in keys outer at (Raw.string z) (r ∷ p)) None
+      other (key k) = refl
+      other (number n) = refl
+  value_same keys outer s at (Raw.array es) (key k ∷ p) apart keyed = refl
+  value_same keys outer s at (Raw.array es) (number n ∷ p) apart keyed = among_same keys outer s es n p apart keyed
+  value_same keys outer s at (Raw.inline rows) (number n ∷ p) apart keyed =
+      sym (ap (option_map of_origin) (no_numbers s rows n p keyed))
+  value_same keys outer s at (Raw.inline rows) (key k ∷ p) apart keyed =
+      by_same keys (Some at) s rows rows (key k) p apart keyed
+
+  among_same : (keys : KeyTexts) (outer : Option ℕ) (s : ℕ) (es : Elements) (n : ℕ) (p : Path)
+      → elements_clash es ≡ false → elements_keyed es ≡ true
+      → Same (node_among keys outer es n p) (under (slice_get (elements_origins s es) n) p)
+  among_same keys outer s no_elements n p apart keyed = refl
+  among_same keys outer s (element at v es) zero p apart keyed =
+      value_same keys outer s at v p (either (value_clashes v) (elements_clash es) apart).0
+      (and_parts (value_keyed v) (elements_keyed es) keyed).0
+  among_same keys outer s (element at v es) (suc n) p apart keyed =
+      among_same keys outer s es n p (either (value_clashes v) (elements_clash es) apart).1
+      (and_parts (value_keyed v) (elements_keyed es) keyed).1
+
+  by_same : (keys : KeyTexts) (outer : Option ℕ) (s : ℕ) (all rows : Rows) (r : Step) (q : Path)
+      → rows_clash rows ≡ false → keyed_within rows ≡ true
+      → Same (node_by keys outer all rows (r ∷ q)) (rows_origins s rows (r ∷ q))
+  by_same keys outer s all no_rows r q apart keyed = refl
+  by_same keys outer s all (row ks at v rows) r q apart keyed =
+      let steps = steps_of (texts ks) in
+      let keys_in = and_parts (has_key ks && value_keyed v) (keyed_within rows) keyed in
+      let value_in = and_parts (has_key ks) (value_keyed v) keys_in.0 in
+      let split = either (any_overlaps steps rows || value_clashes v) (rows_clash rows) apart in
+      let first = either (any_overlaps steps rows) (value_clashes v) split.0 in
+      chosen (begins steps (r ∷ q)) (begins (r ∷ q) steps)
+      (node_in keys (holder_in outer all (front steps)) at v (drop (length steps) (r ∷ q)))
+      (node_by keys outer all rows (r ∷ q)) (value_origins s at v (drop (length steps) (r ∷ q)))
+      (rows_origins s rows (r ∷ q)) (dotted_node keys (holder_in outer all (front (r ∷ q))) at)
+      (table_origin false at s)
+      (value_same keys (holder_in outer all (front steps)) s at v (drop (length steps) (r ∷ q)) first.1 value_in.1) refl
+      (by_same keys outer s all rows r q split.1 keys_in.1)
+      (λ here. none_later s steps rows r q here first.0)
+      ∙ ap (λ o. option_map of_origin (option_or o (rows_origins s rows (r ∷ q))))
+      (sym (keys_begin (texts ks) (table_origin false at s) (value_origins s at v) r q))
+
+-- a path that goes on from another one
+begins_on : (w steps x : Path) → begins (w ++ steps) (w ++ x) ≡ begins steps x
+begins_on [] steps x = refl
+begins_on (s ∷ w) steps x = rw step_same (begins_on w steps x)
+
+drop_on : (w steps x : Path) → drop (length (w ++ steps)) (w ++ x) ≡ drop (length steps) x
+drop_on [] steps x = refl
+drop_on (s ∷ w) steps x = drop_on w steps x
+
+along_on : (w x : Path) (f : Origins) → along w f (w ++ x) ≡ f x
+along_on [] x f = refl
+along_on (s ∷ w) x f = rw step_same (along_on w x f)
+
+-- rows of a section, below its table
+module _ (ls : List Located) (last : Option ℕ) (l : Located) (n : ℕ) where
+  rows_same : (rows : Rows) (r : Step) (q : Path) → rows_clash rows ≡ false → keyed_within rows ≡ true
+      → Same (node_of_rows ls last l rows (l.path ++ r ∷ q)) (rows_origins n rows (r ∷ q))
+  rows_same no_rows r q apart keyed = refl
+  rows_same (row ks at v rows) r q apart keyed =
+      let steps = steps_of (texts ks) in
+      let p = l.path ++ r ∷ q in
+      let path = l.path ++ steps in
+      let key_path = texts l.section.header ++ first_key ks in
+      let split = either (any_overlaps steps rows || value_clashes v) (rows_clash rows) apart in
+      let first = either (any_overlaps steps rows) (value_clashes v) split.0 in
+      let keys_in = and_parts (has_key ks && value_keyed v) (keyed_within rows) keyed in
+      let value_in = and_parts (has_key ks) (value_keyed v) keys_in.0 in
+      let dropped = drop_on l.path steps (r ∷ q) in
+      chosen (begins path p) (begins p path)
+      (node_in key_path (holder ls last (front path)) at v (drop (length path) p))
+      (node_of_rows ls last l rows p) (value_origins n at v (drop (length steps) (r ∷ q)))
+      (rows_origins n rows (r ∷ q)) (dotted_node key_path (holder ls last (front p)) at)
+      (table_origin false at n)
+      (ap (λ x. option_map of_node (node_in key_path (holder ls last (front path)) at v x)) dropped
+      ∙ value_same key_path (holder ls last (front path)) n at v (drop (length steps) (r ∷ q)) first.1 value_in.1)
+      refl
+      (rows_same rows r q split.1 keys_in.1)
+      (λ here. none_later n steps rows r q (sym (begins_on l.path steps (r ∷ q)) ∙ here) first.0)
+      ∙ ap (λ b. option_map of_origin (option_or (if b then value_origins n at v (drop (length steps) (r ∷ q))
+      else if begins p path then Some (table_origin false at n) else None) (rows_origins n rows (r ∷ q))))
+      (begins_on l.path steps (r ∷ q))
+      ∙ ap (λ b. option_map of_origin (option_or (if begins steps (r ∷ q)
+      then value_origins n at v (drop (length steps) (r ∷ q))
+      else if b then Some (table_origin false at n) else None) (rows_origins n rows (r ∷ q))))
+      (begins_on l.path (r ∷ q) steps)
+      ∙ ap (λ o. option_map of_origin (option_or o (rows_origins n rows (r ∷ q))))
+      (sym (keys_begin (texts ks) (table_origin false at n) (value_origins n at v) r q))
+
+  -- and elsewhere
+  apart_before : (w steps p : Path) → begins w p ≡ false → begins (w ++ steps) p ≡ false
+  apart_before [] steps p not = absurd (false≢true (sym not))
+  apart_before (s ∷ w) steps [] not = refl
+  apart_before (s ∷ w) steps (t ∷ p) not = go (step_eq s t) not (λ e. apart_before w steps p e)
+    where
+      go : (b : Bool) → (b && begins w p) ≡ false → (begins w p ≡ false → begins (w ++ steps) p ≡ false)
+          → (b && begins (w ++ steps) p) ≡ false
+      go true not ih = ih not
+      go false not ih = refl
+
+  apart_after : (w steps p : Path) → begins w p ≡ false → begins p w ≡ false → begins p (w ++ steps) ≡ false
+  apart_after [] steps p not back = absurd (false≢true (sym not))
+  apart_after (s ∷ w) steps [] not back = absurd (false≢true (sym back))
+  apart_after (s ∷ w) steps (t ∷ p) not back =
+      go (step_eq t s) refl (λ a b. apart_after w steps p a b)
+    where
+      go : (b : Bool) → step_eq t s ≡ b
+          → (begins w p ≡ false → begins p w ≡ false → begins p (w ++ steps) ≡ false)
+          → (step_eq t s && begins p (w ++ steps)) ≡ false
+      go true e ih = rw e (ih (sym (ap (λ b. b && begins w p) (turn_eq s t ∙ e)) ∙ not)
+          (sym (ap (λ b. b && begins p w) e) ∙ back))
+      go false e ih = rw e refl
+
+  along_apart : (w p : Path) (f : Origins) → begins w p ≡ false → along w f p ≡ None
+  along_apart [] p f not = absurd (false≢true (sym not))
+  along_apart (s ∷ w) [] f not = refl
+  along_apart (s ∷ w) (t ∷ p) f not = go (step_eq t s) refl (λ e. along_apart w p f e)
+    where
+      go : (b : Bool) → step_eq t s ≡ b → (begins w p ≡ false → along w f p ≡ None)
+          → (if step_eq t s then along w f p else None) ≡ None
+      go true e ih = rw e (ih (sym (ap (λ b. b && begins w p) (turn_eq s t ∙ e)) ∙ not))
+      go false e ih = rw e refl
+
+  rows_apart : (rows : Rows) (p : Path) → begins l.path p ≡ false → begins p l.path ≡ false
+      → node_of_rows ls last l rows p ≡ None
+  rows_apart no_rows p not back = refl
+  rows_apart (row ks at v rows) p not back =
+      rw (apart_before l.path (steps_of (texts ks)) p not, apart_after l.path (steps_of (texts ks)) p not back)
+      (rows_apart rows p not back)
+
+  and_none : (b : Bool) → (b && false) ≡ false
+  and_none true = refl
+  and_none false = refl
+
+  -- a path goes on from the other, or is apart from it
+  goes_from : (w p : Path) → begins p w ≡ false
+      → ((r : Step) × (q : Path) × (p ≡ w ++ r ∷ q)) ⊎ (begins w p ≡ false)
+  goes_from [] [] back = absurd (false≢true (sym back))
+  goes_from [] (r ∷ q) back = inl (r, q, refl)
+  goes_from (s ∷ w) [] back = inr refl
+  goes_from (s ∷ w) (t ∷ p) back = go (step_eq t s) refl (λ b. goes_from w p b)
+    where
+      go : (b : Bool) → step_eq t s ≡ b
+          → (begins p w ≡ false → ((r : Step) × (q : Path) × (p ≡ w ++ r ∷ q)) ⊎ (begins w p ≡ false))
+          → ((r : Step) × (q : Path) × (t ∷ p ≡ s ∷ w ++ r ∷ q)) ⊎ ((step_eq s t && begins w p) ≡ false)
+      go false e ih = inr (rw (turn_eq s t, e) refl)
+      go true e ih = more (ih (sym (ap (λ b. b && begins p w) e) ∙ back))
+        where
+          more : ((r : Step) × (q : Path) × (p ≡ w ++ r ∷ q)) ⊎ (begins w p ≡ false)
+              → ((r : Step) × (q : Path) × (t ∷ p ≡ s ∷ w ++ r ∷ q)) ⊎ ((step_eq s t && begins w p) ≡ false)
+          more (inl x) = inl (x.0, x.1, ap (λ t. t ∷ p) (step_is t s e) ∙ ap (λ p. s ∷ p) x.2)
+          more (inr other) = inr (ap (λ b. step_eq s t && b) other ∙ and_none (step_eq s t))
+
+  section_same : (p : Path) → begins p l.path ≡ false → rows_clash l.section.rows ≡ false
+      → keyed_within l.section.rows ≡ true
+      → Same (node_of_rows ls last l l.section.rows p) (along l.path (rows_origins n l.section.rows) p)
+  section_same p back apart keyed = go (goes_from l.path p back)
+    where
+      go : ((r : Step) × (q : Path) × (p ≡ l.path ++ r ∷ q)) ⊎ (begins l.path p ≡ false)
+          → Same (node_of_rows ls last l l.section.rows p) (along l.path (rows_origins n l.section.rows) p)
+      go (inl x) =
+          ap (λ p. option_map of_node (node_of_rows ls last l l.section.rows p)) x.2
+          ∙ rows_same l.section.rows x.0 x.1 apart keyed
+          ∙ ap (option_map of_origin) (sym (ap (along l.path (rows_origins n l.section.rows)) x.2
+          ∙ along_on l.path (x.0 ∷ x.1) (rows_origins n l.section.rows)))
+      go (inr not) =
+          ap (option_map of_node) (rows_apart l.section.rows p not back)
+          ∙ ap (option_map of_origin) (sym (along_apart l.path p (rows_origins n l.section.rows) not))
+
+or_same : (m n : Option Node) (o p : Option Origin) → Same m o → Same n p → Same (option_or m n) (option_or o p)
+or_same None n None p first later = later
+or_same None n (Some o) p first later = absurd (cc)
+or_same (Some m) n None p first later = absurd (cc)
+or_same (Some m) n (Some o) p first later = first
+
+pub sections_same : (ls : List Located) (last : Option ℕ) (n : ℕ) (later : List Located) (p : Path)
+    → list_any (λ l. begins p l.path) later ≡ false → list_any (λ l. rows_clash l.section.rows) later ≡ false
+    → list_all (λ l. keyed_within l.section.rows) later ≡ true
+    → Same (node_of_sections ls last later p) (sections_origins n later p)
+sections_same ls last n [] p back apart keyed = refl
+sections_same ls last n (l ∷ later) p back apart keyed =
+    let b = either (begins p l.path) (list_any (λ l. begins p l.path) later) back in
+    let a = either (rows_clash l.section.rows) (list_any (λ l. rows_clash l.section.rows) later) apart in
+    let k = and_parts (keyed_within l.section.rows) (list_all (λ l. keyed_within l.section.rows) later) keyed in
+    or_same (node_of_rows ls last l l.section.rows p) (node_of_sections ls last later p)
+    (along l.path (rows_origins n l.section.rows) p) (sections_origins (suc n) later p)
+    (section_same ls last l n p b.0 a.0 k.0) (sections_same ls last (suc n) later p b.1 a.1 k.1)

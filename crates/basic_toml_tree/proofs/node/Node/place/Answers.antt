@@ -1,0 +1,16 @@
+use Rattle.std.proofs.Common.{◌≡◌, rules}
+use Rattle.basic_toml_tree.specs.Origin.{offset_of}
+use Rattle.basic_toml_tree.proofs.PlacesTold.{place_told}
+use Rattle.basic_toml_tree.proofs.node.Node.place.Goals as goal
+
+pub returns-in-Item-Array-clause-apart_from_arrays : goal.returns-in-Item-Array-clause-apart_from_arrays
+unfolding offset_of
+returns-in-Item-Array-clause-apart_from_arrays c =
+    let same : c.outer_place.result ≡ offset_of c.args.self = search (rules) in
+    λ sections p. place_told c.outer_place.result c.args.self same sections p
+
+pub returns-in_default-clause-apart_from_arrays : goal.returns-in_default-clause-apart_from_arrays
+unfolding offset_of
+returns-in_default-clause-apart_from_arrays c =
+    let same : c.start.result ≡ offset_of c.args.self = search (rules) in
+    λ sections p. place_told c.start.result c.args.self same sections p
