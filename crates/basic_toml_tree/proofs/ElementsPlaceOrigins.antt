@@ -1,26 +1,23 @@
 -- A header that goes on into the latest element of an array of tables, and one that adds an element.
-use Rattle.std.proofs.Common.{◌≡◌, ℕ, zero, suc, Bool, true, false, List, [], ◌∷◌, ◌++◌, Option, Some, None, refl, ap}
-use Rattle.std.proofs.Common.{sym, ◌∙◌, subst, map, rules, arith, length, slice_get, Vec, Box, Global}
+use Rattle.std.proofs.Common.{◌≡◌, ℕ, zero, suc, Bool, true, false, List, [], ◌∷◌, ◌++◌, Some, None, refl, ap}
+use Rattle.std.proofs.Common.{sym, ◌∙◌, subst, map, arith, length, slice_get, Vec, Box, Global}
 use Rattle.std.proofs.Common.{nat_eq}
-use Rattle.std.specs.Prelude.{if◌then◌else◌, ◌&&◌, ◌==◌}
+use Rattle.std.specs.Prelude.{if◌then◌else◌, ◌&&◌}
 use Rattle.std.specs.Option.{option_or}
 use Rattle.std.proofs.lemmas.Bool.{false≢true}
 use Rattle.std.proofs.lemmas.List.{map-append}
 use Rattle.basic_toml_grammar.specs.Sections.{KeyTexts}
-use Rattle.basic_toml_grammar.specs.Steps.{Step, key, number, Path, begins, step_eq}
-use Rattle.basic_toml_grammar.specs.Trie.{Trie, nothing, count}
-use Rattle.basic_toml_tree.specs.declared.item.Item.{the_lemmas, Nothing, Tables}
-use Rattle.basic_toml_tree.specs.declared.item.Item as items
+use Rattle.basic_toml_grammar.specs.Steps.{Step, key, number, Path, begins}
+use Rattle.basic_toml_grammar.specs.Trie.{count}
+use Rattle.basic_toml_tree.specs.declared.item.Item.{Nothing, Tables}
 use Rattle.basic_toml_tree.specs.declared.item.Item.TheViews.{roll-Child}
 use Rattle.basic_toml_tree.specs.declared.item.Child.{Child, out-Child}
 use Rattle.basic_toml_tree.specs.declared.item.Table.{Table}
 use Rattle.basic_toml_tree.specs.Item.{item_trie, child_trie, table_trie}
 use Rattle.basic_toml_tree.specs.Origins.{Origin, Origins, no_origins, entry, under, at_numbers, Within}
-use Rattle.basic_toml_tree.specs.Origins.{elements_within}
 use Rattle.basic_toml_tree.specs.Origins.{table_origin, child_origins, item_origins, table_within, or_else, along}
-use Rattle.basic_toml_tree.specs.Origins.{beyond}
-use Rattle.basic_toml_tree.specs.Ways.{way, way_by, way_at, GrowsAlong}
-use Rattle.basic_toml_tree.proofs.HeadersInATrie.{fresh, array_of}
+use Rattle.basic_toml_tree.specs.Ways.{way, way_by, GrowsAlong}
+use Rattle.basic_toml_tree.proofs.HeadersInATrie.{fresh}
 use Rattle.basic_toml_tree.proofs.ItemTries.{child_item_trie}
 use Rattle.basic_toml_tree.proofs.TablesOpened.{tables_trie, nothing_trie}
 use Rattle.basic_toml_tree.proofs.OriginsSeen.{child_seen, nothing_seen, tables_seen, table_origins, fresh_within}
@@ -229,9 +226,3 @@ module _ (there : Child) (before : Vec Table Global) (new after : Box Table Glob
       one_longer : {A : Type 0} (xs : List A) (x : A) → length (xs ++ x ∷ []) ≡ suc (length xs)
       one_longer [] x = refl
       one_longer (y ∷ xs) x = ap suc (one_longer xs x)
-
--- on by the keys that are left
-pub keys_left : (a : Bool) (keys : KeyTexts) (rows before after : Origins) (t : Trie) → a ≡ false
-    → GrowsAlong (way_by a keys t) rows before after → GrowsAlong (way_at a keys t) rows before after
-keys_left true keys rows before after t not grows = absurd (false≢true (sym not))
-keys_left false keys rows before after t not grows = grows

@@ -1,22 +1,21 @@
 -- The way of a header through the tree: what its rows bring comes at the way's end.
-use Rattle.std.proofs.Common.{◌≡◌, ℕ, zero, suc, Bool, true, false, ◌≤◌, List, [], ◌∷◌, ◌++◌, Option, Some, None}
+use Rattle.std.proofs.Common.{◌≡◌, ℕ, Bool, true, false, ◌≤◌, List, [], ◌∷◌}
 use Rattle.std.proofs.Common.{refl, ap}
-use Rattle.std.proofs.Common.{sym, ◌∙◌, subst, map, rules, arith, length, slice_get, Vec, Box, Global, Result, Ok}
+use Rattle.std.proofs.Common.{sym, ◌∙◌, subst, map, arith, length, Vec, Box, Global, Result, Ok}
 use Rattle.std.proofs.Common.{Err}
-use Rattle.std.specs.Prelude.{IfOk, if◌then◌else◌, ◌&&◌}
+use Rattle.std.specs.Prelude.{IfOk, ◌&&◌}
 use Rattle.std.specs.Option.{option_or}
 use Rattle.std.proofs.lemmas.Bool.{false≢true}
-use Rattle.std.proofs.lemmas.List.{map-append}
 use Rattle.basic_toml_value.proofs.DistinctKeys.{bytes_eq-same}
 use Rattle.basic_toml_grammar.specs.Sections.{KeyTexts}
 use Rattle.basic_toml_read.specs.declared.section.Key.{Key}
 use Rattle.basic_toml_read.specs.SectionView.{header_texts}
-use Rattle.basic_toml_grammar.specs.Steps.{Step, key, number, Path, begins, step_eq}
-use Rattle.basic_toml_grammar.specs.Trie.{Trie, nothing, count, find, Tries}
+use Rattle.basic_toml_grammar.specs.Steps.{Step, key, number, Path, begins}
+use Rattle.basic_toml_grammar.specs.Trie.{Trie, nothing, find, Tries}
 use Rattle.basic_toml_clash.specs.declared.clash.Clash.{Clash}
 use Rattle.basic_toml_tree.specs.declared.item.Item.{the_lemmas, Nothing, Tables}
 use Rattle.basic_toml_tree.specs.declared.item.Item as items
-use Rattle.basic_toml_tree.specs.declared.item.Item.TheViews.{roll-Child, roll-Table, out-roll-Table}
+use Rattle.basic_toml_tree.specs.declared.item.Item.TheViews.{roll-Table, out-roll-Table}
 use Rattle.basic_toml_tree.specs.declared.item.Child.{Child, out-Child}
 use Rattle.basic_toml_tree.specs.declared.item.Table.{Table, out-Table}
 use Rattle.basic_toml_tree.specs.Item.{item_trie, child_trie, table_trie, by_keys}
@@ -92,6 +91,17 @@ opened t d e n rows (Ok after) same is comes =
     ap (λ w. w.below) comes
     ∙ ap (λ f. or_else f rows) (same_below t (roll-Table (numbered_fields n e))
     (ap (λ o. o.entries) a ∙ ap (λ o. o.entries) b ∙ ap (λ t. (out-Table t).entries) same))
+
+-- no element is added: the way is that of the keys that are left
+pub no_array_way : (a : Bool) (keys : KeyTexts) (t : Trie) → a ≡ false → way_at a keys t ≡ way_by a keys t
+no_array_way true keys t not = absurd (false≢true (sym not))
+no_array_way false keys t not = refl
+
+pub not_last_way : (a : Bool) (keys : List Key) (t : Trie) → 1 ≤ length keys
+    → way_at a (header_texts keys) t ≡ way_by a (header_texts keys) t
+not_last_way a [] t some = absurd (omega arith)
+not_last_way true (k ∷ keys) t some = refl
+not_last_way false (k ∷ keys) t some = refl
 
 pub no_keys_left : (a : Bool) (keys : List Key) (t : Table) (rows : Origins)
     (r : Result (Box Table Global) Clash) → length keys ≡ 0

@@ -1,21 +1,20 @@
 -- What headers made, as the tree has it and as the section list foretells it.
-use Rattle.std.proofs.Common.{◌≡◌, ◌⊎◌, inl, inr, ◌==◌, ℕ, Bool, true, false, List, [], ◌∷◌, Option, Some, None, refl, ap}
-use Rattle.std.proofs.Common.{sym, ◌∙◌, subst, map, codes, rules}
+use Rattle.std.proofs.Common.{◌≡◌, ◌⊎◌, inl, inr, ◌==◌, ℕ, Bool, true, false, List, [], ◌∷◌, Option, Some, refl, ap}
+use Rattle.std.proofs.Common.{sym, ◌∙◌, map, codes}
 use Rattle.std.specs.Prelude.{◌||◌, if◌then◌else◌}
 use Rattle.std.specs.Borrow.{Bor}
 use Rattle.std.proofs.lemmas.Bool.{false≢true, or_left, or_right}
 use Rattle.basic_toml_grammar.specs.Sections.{Section}
 use Rattle.basic_toml_grammar.specs.Steps.{Step, Path}
 use Rattle.basic_toml_grammar.specs.IndexedPath.{located}
-use Rattle.basic_toml_grammar.specs.Standing.{Standing, table, array, value}
-use Rattle.basic_toml_grammar.specs.Trie.{Trie, trie, nothing, standing, below}
+use Rattle.basic_toml_grammar.specs.Standing.{Standing, table}
+use Rattle.basic_toml_grammar.specs.Trie.{Trie, nothing, standing, below}
 use Rattle.basic_toml_grammar.specs.Nodes as grammar
 use Rattle.basic_toml_grammar.proofs.Tries.MarksInATrie.{descend, standing_of}
 use Rattle.basic_toml_grammar.proofs.Tries.SectionsInATrie.{marks_put}
 use Rattle.basic_toml_read.specs.SectionView.{section_of}
-use Rattle.basic_toml_tree.specs.declared.item.Item.{Item, out-Item, the_lemmas}
+use Rattle.basic_toml_tree.specs.declared.item.Item.{Item, out-Item}
 use Rattle.basic_toml_tree.specs.declared.item.Item.TheOpen.{Item-F}
-use Rattle.basic_toml_tree.specs.declared.item.Item.TheViews.{roll-Item}
 use Rattle.basic_toml_tree.specs.declared.item.Child.{Child}
 use Rattle.basic_toml_tree.specs.declared.item.Table.{Table, out-Table}
 use Rattle.basic_toml_tree.specs.declared.node.Node.{Node}

@@ -1,5 +1,5 @@
 -- A node comes from what the origins in the tree tell at its path.
-use Rattle.std.proofs.Common.{◌≡◌, ◌==◌, ℕ, zero, suc, Bool, true, false, List, [], ◌∷◌, ◌++◌, Option, Some, None}
+use Rattle.std.proofs.Common.{◌≡◌, ◌==◌, ℕ, zero, suc, Bool, true, false, List, [], ◌∷◌, ◌++◌, Some}
 use Rattle.std.proofs.Common.{refl, ap, sym, ◌∙◌}
 use Rattle.std.proofs.Common.{subst, map, rules, slice_get, option_map, append_assoc, codes, Vec, Box, Global}
 use Rattle.std.specs.Prelude.{IfSome, ◌||◌, if◌then◌else◌}
@@ -19,13 +19,13 @@ use Rattle.basic_toml_tree.specs.declared.node.Node.{Node}
 use Rattle.basic_toml_tree.specs.declared.node.Spot.{Spot}
 use Rattle.basic_toml_tree.specs.declared.node.Spot.TheVariants as spots
 use Rattle.basic_toml_tree.specs.Origin.{spot_is_made, holds_tables, item_name, table_is_made}
-use Rattle.basic_toml_tree.specs.Origins.{Origin, Origins, no_origins, entry, under, at_numbers, Within, value_origin}
+use Rattle.basic_toml_tree.specs.Origins.{Origin, Origins, no_origins, entry, under, at_numbers, value_origin}
 use Rattle.basic_toml_tree.specs.Origins.{table_origin, array_origin, elements_within, item_origins, child_origins}
 use Rattle.basic_toml_tree.specs.Origins.{table_within}
 use Rattle.basic_toml_tree.specs.Stands.{ItemHolds, HoldsTable, spot_origins, node_origins, spot_origin, SpotComes}
 use Rattle.basic_toml_tree.specs.Stands.{ComesFrom, tree_origins}
 use Rattle.basic_toml_tree.proofs.ItemsStand.{shape}
-use Rattle.basic_toml_tree.proofs.OriginsSeen.{child_seen, made_seen, table_origins, table_item_seen, inline_seen}
+use Rattle.basic_toml_tree.proofs.OriginsSeen.{child_seen, made_seen, table_origins, table_item_seen}
 use Rattle.basic_toml_tree.proofs.OriginsSeen.{array_seen, tables_seen, seen_at_key, seen_at_none}
 
 -- one step on from a node

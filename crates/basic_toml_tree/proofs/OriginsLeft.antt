@@ -1,20 +1,16 @@
 -- Rows and elements that are left, and where what all of them make comes from.
-use Rattle.std.proofs.Common.{◌≡◌, ℕ, Bool, true, false, not, List, [], ◌∷◌, ◌++◌, Option, Some, None, refl, ap}
-use Rattle.std.proofs.Common.{is_some}
-use Rattle.std.proofs.Common.{sym, ◌∙◌, subst, map, rules, arith, length, append_assoc}
+use Rattle.std.proofs.Common.{◌≡◌, ℕ, true, false, List, [], ◌∷◌, ◌++◌, Option, Some, None, refl, ap}
+use Rattle.std.proofs.Common.{sym, ◌∙◌, map, rules, length, append_assoc}
 use Rattle.std.specs.Option.{option_or}
 use Rattle.std.specs.Cow.{cow_str_bytes}
 use Rattle.std.proofs.Math.Path.{fun_ext}
 use Rattle.std.proofs.lemmas.List.{map-append}
-use Rattle.basic_toml_grammar.specs.Sections.{Key, KeyTexts, texts, Raw, Elements, no_elements, element, Rows}
-use Rattle.basic_toml_grammar.specs.Sections.{no_rows}
-use Rattle.basic_toml_grammar.specs.Sections.{row}
-use Rattle.basic_toml_grammar.specs.Steps.{Path}
+use Rattle.basic_toml_grammar.specs.Sections.{texts, Raw, Elements, no_elements, Rows}
 use Rattle.basic_toml_read.specs.SectionView.{raw_of, lined_of, placed_of, rows_view, elements_view}
 use Rattle.basic_toml_read.specs.declared.section.Raw as raws
 use Rattle.basic_toml_read.specs.declared.section.Row as lines
 use Rattle.basic_toml_read.specs.declared.section.Element as elements
-use Rattle.basic_toml_tree.specs.declared.item.Child.{Child, out-Child}
+use Rattle.basic_toml_tree.specs.declared.item.Child.{Child}
 use Rattle.basic_toml_tree.specs.Rows.{is_dot, all_dots, key_texts}
 use Rattle.basic_toml_tree.specs.RowStops.{line_keys}
 use Rattle.basic_toml_tree.specs.Origins.{Origin, Origins, no_origins, Within, table_origin, child_origins, dotted_of}

@@ -19,7 +19,7 @@ use Rattle.basic_toml_tree.specs.declared.item.Child.{Child, out-Child}
 use Rattle.basic_toml_tree.specs.declared.item.Table.{Table, out-Table}
 use Rattle.basic_toml_tree.specs.Item.{item_trie, child_trie, table_trie, by_keys}
 use Rattle.basic_toml_clash.specs.Keyed.{with_value, values_of, EntersKey}
-use Rattle.basic_toml_tree.specs.Origins.{Origin, Origins, no_origins, entry, under, at_keys, at_numbers, Within}
+use Rattle.basic_toml_tree.specs.Origins.{Origin, Origins, no_origins, entry, under, at_keys, at_numbers}
 use Rattle.basic_toml_tree.specs.Origins.{elements_within, array_origin, value_origin, table_origin}
 use Rattle.basic_toml_tree.specs.Origins.{item_origins, child_origins, table_within, or_else, beyond}
 use Rattle.basic_toml_tree.proofs.ItemTries.{child_item_trie, table_entries_trie}

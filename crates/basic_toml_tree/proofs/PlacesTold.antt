@@ -7,7 +7,7 @@ use Rattle.std.specs.Option.{option_or}
 use Rattle.basic_toml_grammar.specs.Sections.{KeyTexts, texts, Raw, Elements, no_elements, element, Rows, no_rows}
 use Rattle.basic_toml_grammar.specs.Sections.{row}
 use Rattle.basic_toml_grammar.specs.Sections.{Section}
-use Rattle.basic_toml_grammar.specs.Steps.{Step, key, number, Path, begins, steps_of}
+use Rattle.basic_toml_grammar.specs.Steps.{key, number, Path, begins, steps_of}
 use Rattle.basic_toml_grammar.specs.IndexedPath.{Located, located}
 use Rattle.basic_toml_grammar.specs.NamedClash.{first_key}
 use Rattle.basic_toml_grammar.specs.Nodes.{Node, front, value_node, dotted_node, holder_in, node_in, node_among}

@@ -1,14 +1,12 @@
 -- What rows made, as the tree has it and as the section list foretells it.
 use Rattle.std.proofs.Common.{◌≡◌, ℕ, Bool, true, false, List, [], ◌∷◌, ◌++◌, Option, Some, None, refl, ap, sym}
 use Rattle.std.proofs.Common.{◌∙◌, subst}
-use Rattle.std.proofs.Common.{option_map}
 use Rattle.std.specs.Prelude.{◌||◌, ◌&&◌, if◌then◌else◌, IfSome}
 use Rattle.std.specs.List.{list_any, list_all}
 use Rattle.std.proofs.lemmas.Bool.{false≢true}
 use Rattle.basic_toml_grammar.specs.Sections.{Section}
-use Rattle.basic_toml_grammar.specs.Steps.{Step, Path, begins}
-use Rattle.basic_toml_grammar.specs.IndexedPath.{Located, located_after, located_from, located}
-use Rattle.basic_toml_grammar.specs.Document.{has_clash}
+use Rattle.basic_toml_grammar.specs.Steps.{Path}
+use Rattle.basic_toml_grammar.specs.IndexedPath.{located_from, located}
 use Rattle.basic_toml_grammar.specs.RowClash.{rows_clash, has_row_clash}
 use Rattle.basic_toml_grammar.specs.SectionClash.{sections_clash}
 use Rattle.basic_toml_grammar.specs.Entering.{keyed_within, all_keyed_within}

@@ -1,19 +1,17 @@
 -- A row put into a table: where what it makes comes from.
-use Rattle.std.proofs.Common.{◌≡◌, ℕ, Bool, true, false, List, [], ◌∷◌, ◌++◌, Option, Some, None, refl, ap}
-use Rattle.std.proofs.Common.{sym, ◌∙◌, subst, ap₂, map, rules, slice_get, Box, Global}
+use Rattle.std.proofs.Common.{◌≡◌, ℕ, Bool, false, List, [], ◌∷◌, ◌++◌, Some, refl, ap}
+use Rattle.std.proofs.Common.{sym, ◌∙◌, ap₂, map, rules, slice_get, Box, Global}
 use Rattle.std.specs.Prelude.{◌||◌}
-use Rattle.std.specs.Option.{option_or}
 use Rattle.std.proofs.Math.Path.{fun_ext}
 use Rattle.basic_toml_grammar.specs.Sections.{KeyTexts}
-use Rattle.basic_toml_grammar.specs.Steps.{Step, key, Path}
-use Rattle.basic_toml_grammar.specs.Standing as standings
-use Rattle.basic_toml_grammar.specs.Trie.{trie, no_tries, nothing}
+use Rattle.basic_toml_grammar.specs.Steps.{key, Path}
+use Rattle.basic_toml_grammar.specs.Trie.{nothing}
 use Rattle.basic_toml_tree.specs.declared.item.Item.{the_lemmas, Nothing}
 use Rattle.basic_toml_tree.specs.declared.item.Item as items
 use Rattle.basic_toml_tree.specs.declared.item.Item.TheViews.{roll-Child, roll-Table, out-roll-Table}
 use Rattle.basic_toml_tree.specs.declared.item.Child.{Child, out-Child}
 use Rattle.basic_toml_tree.specs.declared.item.Table.{Table, out-Table}
-use Rattle.basic_toml_tree.specs.Item.{child_trie, table_trie}
+use Rattle.basic_toml_tree.specs.Item.{child_trie}
 use Rattle.basic_toml_clash.specs.Keyed.{with_value, values_of, EntersKey}
 use Rattle.basic_toml_tree.specs.Origins.{Origin, Origins, no_origins, entry, at_keys, Within, table_origin}
 use Rattle.basic_toml_tree.specs.Origins.{child_origins}
@@ -23,7 +21,7 @@ use Rattle.basic_toml_tree.proofs.KeysInATrie.{with_twice}
 use Rattle.basic_toml_tree.proofs.OriginsSeen.{child_seen, table_seen, made_seen, nothing_seen, table_item_seen}
 use Rattle.basic_toml_tree.proofs.OriginsSeen.{nothing_comes}
 use Rattle.basic_toml_tree.proofs.MetTellsStop.{dotted_fields}
-use Rattle.basic_toml_tree.proofs.OriginsSeen.{grows_at, table_origins, or_none}
+use Rattle.basic_toml_tree.proofs.OriginsSeen.{grows_at, table_origins}
 
 pub origins_on : (k : List ℕ) (ks : KeyTexts) (last : List ℕ) (o : Origin) (below : Origins)
     → row_origins (k ∷ (ks ++ last ∷ [])) o below ≡ beyond (key k) (entry o (row_origins (ks ++ last ∷ []) o below))

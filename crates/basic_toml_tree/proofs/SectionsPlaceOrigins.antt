@@ -1,7 +1,7 @@
 -- Sections entered one after another: what the rows of all of them bring into the tree.
-use Rattle.std.proofs.Common.{◌≡◌, ℕ, zero, suc, ◌+◌, Bool, true, false, List, [], ◌∷◌, ◌++◌, Option, Some, None}
+use Rattle.std.proofs.Common.{◌≡◌, ℕ, suc, ◌+◌, Bool, true, false, List, [], ◌∷◌, ◌++◌, Option, Some, None}
 use Rattle.std.proofs.Common.{refl, ap}
-use Rattle.std.proofs.Common.{sym, ◌∙◌, subst, length, reverse, arith}
+use Rattle.std.proofs.Common.{sym, ◌∙◌, length, reverse, arith}
 use Rattle.std.specs.Prelude.{◌||◌}
 use Rattle.std.specs.List.{list_any}
 use Rattle.std.specs.Option.{option_or}
@@ -12,7 +12,7 @@ use Rattle.basic_toml_grammar.specs.Entering.{all_keyed}
 use Rattle.basic_toml_grammar.specs.Trie.{Trie}
 use Rattle.basic_toml_grammar.proofs.Tries.StepsArePaths.{at_section}
 use Rattle.basic_toml_tree.specs.Resolve.{Stands}
-use Rattle.basic_toml_tree.specs.Origins.{Origin, Origins, no_origins, or_else, along, rows_origins}
+use Rattle.basic_toml_tree.specs.Origins.{Origin, Origins, no_origins, along, rows_origins}
 use Rattle.basic_toml_tree.specs.Ways.{way, GrowsAlong, sections_origins}
 use Rattle.basic_toml_tree.proofs.WaysAreLocated.{way_is}
 

@@ -34,7 +34,7 @@ use Rattle.std.specs.List.{flat_map}
 use Rattle.basic_toml_tree.proofs.SectionsStopped.{section_stops, same_fault, first_contained}
 use Rattle.basic_toml_grammar.specs.Sections.{Key, Section}
 use Rattle.std.proofs.lemmas.Bool.{false≢true, and_parts, and_from}
-use Rattle.basic_toml_tree.specs.Origins.{Origins, no_origins, table_within, rows_origins}
+use Rattle.basic_toml_tree.specs.Origins.{Origins, table_within, rows_origins}
 use Rattle.basic_toml_tree.specs.Ways.{way, GrowsAlong, sections_origins}
 use Rattle.basic_toml_tree.proofs.OriginsSeen.{fresh_within}
 use Rattle.basic_toml_tree.proofs.SectionsPlaceOrigins.{Brought, none_brought, more_brought}

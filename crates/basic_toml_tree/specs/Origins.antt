@@ -1,14 +1,13 @@
 -- Where what stands in a tree comes from, by its path: what made it, where it begins, and the section that first
 -- mentioned it. Rows put theirs into a table beside what stood there, and what stood there first stays.
-use Rattle.std.specs.Prelude.{◌≡◌, ℕ, zero, suc, Bool, true, false, ◌||◌, if◌then◌else◌, List, [], ◌∷◌, ◌++◌, codes}
+use Rattle.std.specs.Prelude.{ℕ, Bool, true, false, ◌||◌, if◌then◌else◌, List, [], ◌∷◌, ◌++◌, codes}
 use Rattle.std.specs.Prelude.{map}
 use Rattle.std.specs.Prelude.{slice_get, Option, Some, None}
 use Rattle.std.specs.Option.{option_or}
 use Rattle.basic_toml_value.specs.Pairs.{value_at}
 use Rattle.basic_toml_grammar.specs.Sections.{KeyTexts, texts, Raw, Elements, no_elements, element, Rows, no_rows}
 use Rattle.basic_toml_grammar.specs.Sections.{row}
-use Rattle.basic_toml_grammar.specs.Steps.{Step, key, number, Path, step_eq, begins}
-use Rattle.basic_toml_grammar.specs.Nodes.{raw_name}
+use Rattle.basic_toml_grammar.specs.Steps.{Step, key, number, Path, step_eq}
 use Rattle.basic_toml_tree.specs.declared.item.Item.{fold-Item}
 use Rattle.basic_toml_tree.specs.declared.item.Item as items
 use Rattle.basic_toml_tree.specs.declared.item.Item.TheOpen.{Item-F, Child-F, Table-F}

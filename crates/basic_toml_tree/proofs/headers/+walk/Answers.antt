@@ -1,5 +1,5 @@
 use Rattle.std.proofs.Common.{◌≡◌, ◌≤◌, ◌∷◌, ◌+◌, length, suc, ap, sym, ◌∙◌, arith, map, subst, refl, inr}
-use Rattle.std.specs.Prelude.{IfErr}
+use Rattle.std.specs.Prelude.{IfOk, IfErr}
 use Rattle.basic_toml_grammar.specs.Trie.{walk, steps_to}
 use Rattle.basic_toml_grammar.specs.TrieStops.{try_by_keys}
 use Rattle.basic_toml_read.specs.SectionView.{header_texts, rows_view}
@@ -18,8 +18,9 @@ use Rattle.basic_toml_tree.proofs.HeadersStopped.{stopped, same_stops, tried_int
 use Rattle.basic_toml_tree.proofs.HeadersStopped.{value_stopped, passed_stops, no_array_tried, not_last_tried}
 use Rattle.basic_toml_tree.specs.Origins.{rows_origins, child_origins}
 use Rattle.basic_toml_tree.specs.Ways.{way_at, way_by, GrowsAlong}
-use Rattle.basic_toml_tree.proofs.HeadersPlaceOrigins.{no_keys_left, passed_grows, new_table_grows, table_grows}
-use Rattle.basic_toml_tree.proofs.ElementsPlaceOrigins.{latest_grows, keys_left}
+use Rattle.basic_toml_tree.proofs.HeadersPlaceOrigins.{passed_grows, new_table_grows, table_grows}
+use Rattle.basic_toml_tree.proofs.HeadersPlaceOrigins.{no_array_way, not_last_way}
+use Rattle.basic_toml_tree.proofs.ElementsPlaceOrigins.{latest_grows}
 use Rattle.basic_toml_tree.proofs.headers.+walk.Goals as goal
 use Rattle.basic_toml_tree.proofs.headers.+walk.Goals.{enter_child-in-Nothing+in_ok-table-in-Nothing+in_ok-enter_header-in-Nothing}
 use Rattle.basic_toml_tree.proofs.headers.+walk.Goals.{enter_at-else-is_array-via-then-is_array+else-is_empty}
@@ -55,6 +56,24 @@ enter_at-returns-clause-named t c =
           no_array_tried c.args.is_array rows (header_texts c.args.rest.now) there w.if-is_array.false
     ] in
     subst (λ o. IfErr c.enter_child.result (λ clash. NamesStop o clash)) (sym same) c.enter_child.ensures.named
+
+pub enter_at-returns-clause-origins : goal.enter_at-returns-clause-origins
+enter_at-returns-clause-origins t c =
+    let new = rows_origins c.args.number (rows_view c.args.rows.items) in
+    let there = child_trie c.args.there in
+    let same : way_at c.args.is_array (header_texts c.args.rest.now) there
+    ≡ way_by c.args.is_array (header_texts c.args.rest.now) there =
+    elim c.else-is_array.branch [
+      | enter_at-else-is_array-via-then-is_array+else-is_empty w ↦
+          let some : 1 ≤ length c.args.rest.now = grind (arith, w.is_empty.ensures, w.if-is_empty.false) in
+          not_last_way c.args.is_array c.args.rest.now there some
+      | enter_at-else-is_array-via-else-is_array w ↦
+          no_array_way c.args.is_array (header_texts c.args.rest.now) there w.if-is_array.false
+    ] in
+    subst
+    (λ way. IfOk c.enter_child.result
+    (λ after. GrowsAlong way new (child_origins c.args.there) (child_origins after)))
+    (sym same) c.enter_child.ensures.origins
 
 pub enter_child-returns-in_err-enter_header-in-Nothing-clause-entered : goal.enter_child-returns-in_err-enter_header-in-Nothing-clause-entered
 enter_child-returns-in_err-enter_header-in-Nothing-clause-entered t c =

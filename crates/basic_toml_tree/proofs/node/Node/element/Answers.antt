@@ -1,4 +1,4 @@
-use Rattle.std.proofs.Common.{◌≡◌, refl, rules}
+use Rattle.std.proofs.Common.{refl, rules}
 use Rattle.basic_toml_tree.proofs.NodesCome.{item_comes}
 use Rattle.basic_toml_tree.proofs.node.Node.element.Goals as goal
 
