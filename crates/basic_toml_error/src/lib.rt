@@ -4,6 +4,7 @@
 mod error;
 mod key_path;
 mod kind;
+pub mod laws;
 mod line_column;
 mod message;
 

@@ -8,4 +8,6 @@ mod scalars;
 #[cfg(test)]
 mod sections;
 #[cfg(test)]
+mod texts;
+#[cfg(test)]
 mod tree;
