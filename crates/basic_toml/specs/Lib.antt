@@ -30,7 +30,8 @@ pub use Rattle.basic_toml_error.specs.Fault
 pub use Rattle.basic_toml_error.specs.FaultText
 pub use Rattle.basic_toml_error.specs.Error
 pub use Rattle.basic_toml_error.specs.KindView
-pub use Rattle.basic_toml_error.specs.KeyPath
+pub use Rattle.basic_toml_explain.specs.KeyPath
+pub use Rattle.basic_toml_explain.specs.ReadErrorText
 pub use Rattle.basic_toml_error.specs.WriteFaults
 pub use Rattle.basic_toml_error.specs.ReadFaults
 pub use Rattle.basic_toml_error.specs.NodeFaults

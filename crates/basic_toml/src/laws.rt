@@ -6,6 +6,7 @@ ghost use Rattle.basic_toml_grammar.specs.Document.{IsDocument};
 ghost use Rattle.basic_toml_grammar.specs.Faults as read;
 ghost use Rattle.basic_toml.specs.Reading.{IsTextFault};
 
+pub use basic_toml_error::laws::text_goes_on_with_line;
 pub use basic_toml_typed::laws::text_numbers_differ;
 
 /// A text has at most one document.

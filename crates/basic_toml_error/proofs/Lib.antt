@@ -1,3 +1,4 @@
 pub mod WorkedErrorTexts
-pub mod KeysJoined
 pub mod EscapedQuotes
+pub mod WrittenTexts
+pub mod TextsGoOn

@@ -1,32 +1,15 @@
 -- The texts of faults, on rows.
 use Rattle.std.proofs.Common.{◌≡◌, [], ◌∷◌, codes, refl, Some}
 use Rattle.std.specs.Fmt.{digits}
-use Rattle.basic_toml_error.specs.Fault.{unexpected, duplicate_table, duplicate_key, wanted, not_text}
-use Rattle.basic_toml_error.specs.FaultText.{escaped, fault_text}
+use Rattle.basic_toml_grammar.specs.Faults.{unexpected, duplicate_table}
+use Rattle.basic_toml_error.specs.Fault.{reading, duplicate_key, wanted, not_text}
+use Rattle.basic_toml_error.specs.FaultText.{fault_text}
 
-tab : escaped 9 ≡ 92 ∷ 116 ∷ []
-tab = refl
-
-quote : escaped 39 ≡ 92 ∷ 39 ∷ []
-quote = refl
-
-backslash : escaped 92 ≡ 92 ∷ 92 ∷ []
-backslash = refl
-
--- U+007F and é are shown by their numbers
-delete : escaped 127 ≡ codes "\\u{7f}"
-unfolding digits
-delete = refl
-
-e_acute : fault_text (record { kind = unexpected 0xE9; key_path = []; offset = Some 0; line_column = Some (0, 0) })
+e_acute : fault_text
+    (record { kind = reading (unexpected 0xE9); key_path = []; offset = Some 0; line_column = Some (0, 0) })
     ≡ codes "unexpected character found: `\\u{e9}` at line 1 column 1"
 unfolding digits
 e_acute = refl
-
-carriage_return : fault_text (record { kind = unexpected 13; key_path = []; offset = Some 5; line_column = Some (0, 5) })
-    ≡ codes "unexpected character found: `\\r` at line 1 column 6"
-unfolding digits
-carriage_return = refl
 
 key_and_offset : fault_text
     (record { kind = duplicate_key (codes "b"); key_path = codes "a" ∷ []; offset = Some 18; line_column = Some (1, 11) })
@@ -34,8 +17,12 @@ key_and_offset : fault_text
 unfolding digits
 key_and_offset = refl
 
-long_key_path : fault_text
-    (record { kind = duplicate_table (codes "a.b"); key_path = codes "a" ∷ codes "b" ∷ []; offset = Some 8; line_column = Some (1, 0) })
+long_key_path : fault_text (record {
+  kind = reading (duplicate_table (codes "a.b"));
+  key_path = codes "a" ∷ codes "b" ∷ [];
+  offset = Some 8;
+  line_column = Some (1, 0);
+})
     ≡ codes "redefinition of table `a.b` for key `a.b` at line 2 column 1"
 unfolding digits
 long_key_path = refl

@@ -1,39 +1,35 @@
 -- What a fault says: what is wrong, the key path where it stands, and its line and column, if it has an offset. (own)
 use Rattle.std.specs.Prelude.{ℕ, List, [], Option, None}
+use Rattle.basic_toml_grammar.specs.Faults as read
 
--- A character is its code, a text its bytes.
 pub data FaultKind : Type 0 where
-  -- a text that cannot be read
-  invalid_char_in_string : ℕ → FaultKind
-  invalid_escape : ℕ → FaultKind
-  invalid_hex_escape : ℕ → FaultKind
-  invalid_escape_value : ℕ → FaultKind
-  newline_in_string : FaultKind
-  unexpected : ℕ → FaultKind
-  unterminated_string : FaultKind
-  newline_in_table_key : FaultKind
-  multiline_string_key : FaultKind
-  -- what was wanted, and what was found
-  wanted : List ℕ → List ℕ → FaultKind
-  unexpected_eof : FaultKind
-  number_invalid : FaultKind
-  unquoted_string : FaultKind
+  -- why a text is not read
+  reading : read.FaultKind → FaultKind
   not_utf8 : FaultKind
-  -- keys and sections that clash
-  dotted_key_invalid_type : FaultKind
-  duplicate_key : List ℕ → FaultKind
-  duplicate_table : List ℕ → FaultKind
-  redefine_as_array : FaultKind
-  -- a value that cannot be written
+  -- why a value is not written
   unsupported_type : FaultKind
   key_not_string : FaultKind
   value_after_table : FaultKind
   unsupported_none : FaultKind
   call_order : FaultKind
-  -- of texts and values alike: a message of a type's own, a depth above the limit, a growth that was refused
-  custom : List ℕ → FaultKind
-  nested_too_deeply : FaultKind
-  out_of_memory : FaultKind
+
+-- of texts and values alike: a repeated key, a message of a type's own, a depth above the limit, a growth that was
+-- refused
+abbrev pub duplicate_key : List ℕ → FaultKind
+duplicate_key key = reading (read.duplicate_key key)
+
+abbrev pub custom : List ℕ → FaultKind
+custom text = reading (read.custom text)
+
+abbrev pub nested_too_deeply : FaultKind
+nested_too_deeply = reading read.nested_too_deeply
+
+abbrev pub out_of_memory : FaultKind
+out_of_memory = reading read.out_of_memory
+
+-- what was wanted, and what was found
+abbrev pub wanted : List ℕ → List ℕ → FaultKind
+wanted expected found = reading (read.wanted expected found)
 
 pub record Fault : Type 0 where
   pub kind : FaultKind

@@ -3,7 +3,7 @@ pub mod Fault
 pub mod FaultText
 pub mod Error
 pub mod KindView
-pub mod KeyPath
 pub mod WriteFaults
 pub mod ReadFaults
 pub mod NodeFaults
+pub mod Statements

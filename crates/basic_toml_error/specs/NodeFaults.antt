@@ -8,8 +8,8 @@ use Rattle.basic_toml_value.specs.Data.{Data}
 use Rattle.basic_toml_tree.specs.declared.node.Node.{Node}
 use Rattle.basic_toml_tree.specs.Nodes.{node_data}
 use Rattle.basic_toml_tree.specs.Origin as origin
+use Rattle.basic_toml_explain.specs.ReadErrorText.{quoted}
 use Rattle.basic_toml_error.specs.Fault.{Fault, FaultKind, custom, wanted, want_of_memory}
-use Rattle.basic_toml_error.specs.FaultText.{quoted}
 
 -- at a node, and at the table around it
 abbrev pub fault_within : Node → Option ℕ → FaultKind → Fault

@@ -2,14 +2,14 @@
 ghost use Rattle.std.specs.Prelude.{◌≡◌, ◌≤◌, Some, IsTrue, ◌↔◌, ◌⊎◌, IfOk, IfErr, [], codes, map, length, string_bytes};
 ghost use Rattle.basic_toml_error.specs.KindView.{kind_of};
 
-use crate::key_path::{KeyPath, copied};
+use crate::key_path::copied;
 use crate::kind::ErrorKind;
 use crate::line_column::line_column_of;
 use crate::message::{
     length_message, missing_message, type_message, unknown_field_message, unknown_variant_message,
     value_message, wanted,
 };
-use basic_toml_explain::ReadError;
+use basic_toml_explain::{KeyPath, ReadError, ReadErrorKind};
 use basic_toml_tree::Node;
 use basic_toml_write::WriteError;
 use std::alloc::{AllocError, Global};
@@ -95,7 +95,11 @@ impl Error {
     pub fn is_out_of_memory(&self) -> bool
         ensures { IsTrue result ↔ (self.now.kind ≡ out_of_memory) }
     {
-        matches!(self.kind, ErrorKind::OutOfMemory)
+        matches!(
+            self.kind,
+            ErrorKind::Reading(ReadErrorKind::OutOfMemory)
+                | ErrorKind::Writing(WriteError::OutOfMemory)
+        )
     }
 
     /// An error of reading this text, with the line and the column of its offset; want of memory where its words cannot
@@ -192,7 +196,7 @@ impl Error {
                 alloc,
                 node,
                 node.outer_place(),
-                ErrorKind::Custom(message),
+                ErrorKind::Reading(ReadErrorKind::Custom(message)),
             ),
             Err(e) => Error::from(e),
         }
@@ -216,7 +220,12 @@ impl Error {
             × IfErr message (λ _. result ≡ want_of_memory) }
     {
         match message {
-            Ok(message) => Error::placed(alloc, node, node.place(), ErrorKind::Custom(message)),
+            Ok(message) => Error::placed(
+                alloc,
+                node,
+                node.place(),
+                ErrorKind::Reading(ReadErrorKind::Custom(message)),
+            ),
             Err(e) => Error::from(e),
         }
     }
@@ -261,7 +270,7 @@ impl From<AllocError> for Error {
     ghost from_gives = { λ _ e. e ≡ want_of_memory };
 
     fn from(_e: AllocError) -> Error {
-        Error::without_offset(ErrorKind::OutOfMemory)
+        Error::without_offset(ErrorKind::Reading(ReadErrorKind::OutOfMemory))
     }
 }
 
@@ -272,6 +281,6 @@ impl From<WriteError> for Error {
     ghost from_gives = { λ fault e. e ≡ without_offset (write_kind fault) };
 
     fn from(fault: WriteError) -> Error {
-        Error::without_offset(ErrorKind::from(fault))
+        Error::without_offset(ErrorKind::Writing(fault))
     }
 }

@@ -14,6 +14,7 @@
 mod error;
 mod key_path;
 mod kind;
+pub mod laws;
 mod line_column;
 mod message;
 

@@ -9,6 +9,7 @@ ghost use Rattle.basic_toml_error.specs.NodeFaults.{found, escaped_quotes, behin
 ghost use Rattle.basic_toml_error.specs.NodeFaults.{missing_message, unknown_field_message, unknown_variant_message};
 
 use crate::kind::ErrorKind;
+use basic_toml_explain::ReadErrorKind;
 use basic_toml_tree::Node;
 use std::alloc::{AllocError, Global};
 use std::fmt;
@@ -201,8 +202,8 @@ pub(crate) fn unknown_variant_message(
 pub(crate) fn wanted(alloc: Global, expected: &str, found: &str) -> Result<ErrorKind, AllocError>
     ensures { IfOk result (λ kind. kind_of kind ≡ fault.wanted expected.now found.now) }
 {
-    Ok(ErrorKind::Wanted {
+    Ok(ErrorKind::Reading(ReadErrorKind::Wanted {
         expected: String::from_str(alloc, expected)?,
         found: String::from_str(alloc, found)?,
-    })
+    }))
 }

@@ -8,3 +8,5 @@ pub mod PlusWordIsNone
 pub mod KeyIsRead
 pub mod StopsAreAllowed
 pub mod ErrorsAreAllowed
+pub mod WorkedErrorTexts
+pub mod KeysJoined

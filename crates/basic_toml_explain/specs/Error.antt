@@ -1,5 +1,6 @@
 -- What contracts see of a `ReadError`, and what a fault of a token becomes.
-use Rattle.std.specs.Prelude.{ℕ, [], map, Option, Some, None, Vec, String, string_bytes}
+use Rattle.std.specs.Prelude.{ℕ, List, [], map, Option, Some, None, Vec, String, string_bytes}
+use Rattle.std.specs.Borrow.{Bor}
 use Rattle.std.specs.declared.alloc.Global.{Global}
 use Rattle.basic_toml_tokens.specs.declared.error.Error.{Error}
 use Rattle.basic_toml_tokens.specs.declared.error.Error.TheVariants as tokens
@@ -11,27 +12,35 @@ use Rattle.basic_toml_grammar.specs.Faults as fault
 use Rattle.basic_toml_grammar.specs.Faults.{FaultKind, Fault}
 use Rattle.basic_toml_grammar.specs.GrammarFaults.{fault_at}
 
-abbrev pub kind_of : ReadErrorKind → FaultKind
-kind_of (kinds.InvalidCharInString c) = fault.invalid_char_in_string c
-kind_of (kinds.InvalidEscape c) = fault.invalid_escape c
-kind_of (kinds.InvalidHexEscape c) = fault.invalid_hex_escape c
-kind_of (kinds.InvalidEscapeValue n) = fault.invalid_escape_value n
-kind_of kinds.NewlineInString = fault.newline_in_string
-kind_of (kinds.Unexpected c) = fault.unexpected c
-kind_of kinds.UnterminatedString = fault.unterminated_string
-kind_of kinds.NewlineInTableKey = fault.newline_in_table_key
-kind_of kinds.MultilineStringKey = fault.multiline_string_key
-kind_of (kinds.Wanted expected found) = fault.wanted expected.now found.now
-kind_of kinds.UnexpectedEof = fault.unexpected_eof
-kind_of kinds.NumberInvalid = fault.number_invalid
-kind_of kinds.UnquotedString = fault.unquoted_string
-kind_of kinds.DottedKeyInvalidType = fault.dotted_key_invalid_type
-kind_of (kinds.DuplicateKey key) = fault.duplicate_key (string_bytes key)
-kind_of (kinds.DuplicateTable name) = fault.duplicate_table (string_bytes name)
-kind_of kinds.RedefineAsArray = fault.redefine_as_array
-kind_of kinds.NestedTooDeeply = fault.nested_too_deeply
-kind_of (kinds.Custom message) = fault.custom (string_bytes message)
-kind_of kinds.OutOfMemory = fault.out_of_memory
+-- a kind, with the text of each of its words
+abbrev pub kind_by : {Word : Type 0} → (Word → List ℕ) → ReadErrorKind Word → FaultKind
+kind_by text (kinds.InvalidCharInString c) = fault.invalid_char_in_string c
+kind_by text (kinds.InvalidEscape c) = fault.invalid_escape c
+kind_by text (kinds.InvalidHexEscape c) = fault.invalid_hex_escape c
+kind_by text (kinds.InvalidEscapeValue n) = fault.invalid_escape_value n
+kind_by text kinds.NewlineInString = fault.newline_in_string
+kind_by text (kinds.Unexpected c) = fault.unexpected c
+kind_by text kinds.UnterminatedString = fault.unterminated_string
+kind_by text kinds.NewlineInTableKey = fault.newline_in_table_key
+kind_by text kinds.MultilineStringKey = fault.multiline_string_key
+kind_by text (kinds.Wanted expected found) = fault.wanted (text expected) (text found)
+kind_by text kinds.UnexpectedEof = fault.unexpected_eof
+kind_by text kinds.NumberInvalid = fault.number_invalid
+kind_by text kinds.UnquotedString = fault.unquoted_string
+kind_by text kinds.DottedKeyInvalidType = fault.dotted_key_invalid_type
+kind_by text (kinds.DuplicateKey key) = fault.duplicate_key (string_bytes key)
+kind_by text (kinds.DuplicateTable name) = fault.duplicate_table (string_bytes name)
+kind_by text kinds.RedefineAsArray = fault.redefine_as_array
+kind_by text kinds.NestedTooDeeply = fault.nested_too_deeply
+kind_by text (kinds.Custom message) = fault.custom (string_bytes message)
+kind_by text kinds.OutOfMemory = fault.out_of_memory
+
+abbrev pub kind_of : ReadErrorKind (Bor (List ℕ)) → FaultKind
+kind_of kind = kind_by (λ word. word.now) kind
+
+-- a kind that owns its words
+abbrev pub owned_kind_of : ReadErrorKind (String Global) → FaultKind
+owned_kind_of kind = kind_by string_bytes kind
 
 abbrev pub keys_of : Option (Vec (String Global) Global) → KeyTexts
 keys_of None = []

@@ -6,3 +6,5 @@ pub mod Key
 pub mod Stop
 pub mod StopPlaces
 pub mod Explain
+pub mod ReadErrorText
+pub mod KeyPath

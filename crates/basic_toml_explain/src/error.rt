@@ -2,12 +2,17 @@
 ghost use Rattle.std.specs.Prelude.{◌≡◌, map, string_bytes};
 ghost use Rattle.basic_toml_explain.specs.Error.{kind_of, fault_within};
 
+use crate::key_path::KeyPath;
 use std::alloc::AllocError;
+use std::fmt;
 use std::marker::Model;
 
 /// What an error is.
+///
+/// Its words are constants, but in a copy that owns them, a `ReadErrorKind<String>`. Its text is what is wrong, as
+/// ``duplicate key: `a` `` for `DuplicateKey("a")`.
 #[derive(Debug, Drop)]
-pub enum ReadErrorKind {
+pub enum ReadErrorKind<Word = &'static str> {
     /// A control character in a string.
     InvalidCharInString(char),
     /// A character after a backslash that begins no escape.
@@ -29,9 +34,9 @@ pub enum ReadErrorKind {
     /// Another thing than what is wanted.
     Wanted {
         /// What was wanted.
-        expected: &'static str,
+        expected: Word,
         /// What was found, `eof` for the end of the text.
-        found: &'static str,
+        found: Word,
     },
     /// The text ends where a value is wanted.
     UnexpectedEof,
@@ -56,6 +61,14 @@ pub enum ReadErrorKind {
 }
 
 /// Why a text was not read: the error, its offset, and the keys that lead there.
+///
+/// Its text says what is wrong, and then the keys, if there are any. It has no line and no column, which only the text
+/// that was read can tell: `Error::in_text` of `basic_toml_error` makes an error whose text goes on with them.
+///
+/// ```text
+/// let Err(error) = resolve(alloc, sections(alloc, "[a]\nb = 1\nb = 2\n")?) else { .. };
+/// format!(in alloc; "{error}")?; // duplicate key: `b` for key `a`
+/// ```
 #[derive(Debug, Drop)]
 pub struct ReadError {
     kind: ReadErrorKind,
@@ -71,6 +84,20 @@ impl Model for ReadError {
     ghost Value = { Fault };
 
     ghost view = { fault_of };
+}
+
+impl std::error::Error for ReadError {}
+
+impl fmt::Display for ReadError {
+    ghost use Rattle.std.specs.Prelude.{Some};
+    ghost use Rattle.basic_toml_explain.specs.ReadErrorText.{read_text};
+
+    ghost output = { λ error. Some (read_text error) };
+
+    fn fmt<W: fmt::Write>(&self, f: &mut fmt::Formatter<W>) -> fmt::Result {
+        let kind = &self.kind;
+        write!(f, "{kind}{}", KeyPath(self.key_path()))
+    }
 }
 
 impl ReadError {
@@ -103,7 +130,7 @@ impl ReadError {
 
     /// An error that stands at an offset, without a key path.
     pub fn at(offset: usize, kind: ReadErrorKind) -> ReadError
-        ensures { result ≡ fault_at (kind_of kind) offset }
+        ensures { result ≡ fault_at (kind_of kind.entry) offset }
     {
         ReadError {
             kind,
@@ -114,7 +141,7 @@ impl ReadError {
 
     /// An error that stands at an offset, within these keys.
     pub fn within(offset: usize, kind: ReadErrorKind, keys: Vec<String>) -> ReadError
-        ensures { result ≡ fault_within (kind_of kind) offset (map string_bytes keys.items) }
+        ensures { result ≡ fault_within (kind_of kind.entry) offset (map string_bytes keys.items) }
     {
         let mut error = ReadError::at(offset, kind);
         error.key_path = Some(keys);

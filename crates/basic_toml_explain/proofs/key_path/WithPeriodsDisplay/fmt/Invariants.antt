@@ -1,7 +1,7 @@
 use Rattle.std.proofs.Common.{take}
 use Rattle.std.specs.Fmt.{HasWritten, IsPlainFormatter}
-use Rattle.basic_toml_error.specs.KeyPath.{with_periods}
-use Rattle.basic_toml_error.proofs.key_path.WithPeriodsDisplay.fmt.Given as goal
+use Rattle.basic_toml_explain.specs.KeyPath.{with_periods}
+use Rattle.basic_toml_explain.proofs.key_path.WithPeriodsDisplay.fmt.Given as goal
 
 -- the keys passed are written
 abbrev pub invariant-loop-key : goal.invariant-loop-key

@@ -1,8 +1,8 @@
 -- Keys with periods between them: the first, and each other behind a period.
 use Rattle.std.proofs.Common.{◌≡◌, List, [], ◌∷◌, ◌++◌, map, codes, String, string_bytes, Global, sym, ap, ◌∙◌}
 use Rattle.std.proofs.lemmas.List.{append_assoc, append-nil}
-use Rattle.basic_toml_error.specs.FaultText.{joined, key_text}
-use Rattle.basic_toml_error.specs.KeyPath.{with_periods}
+use Rattle.basic_toml_explain.specs.ReadErrorText.{joined, key_text}
+use Rattle.basic_toml_explain.specs.KeyPath.{with_periods}
 
 joined_is : (key : String Global) (keys : List (String Global))
     → joined (map string_bytes (key ∷ keys)) ≡ string_bytes key ++ with_periods keys
