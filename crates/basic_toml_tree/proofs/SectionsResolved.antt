@@ -36,8 +36,8 @@ use Rattle.basic_toml_grammar.specs.Sections.{Key, Section}
 use Rattle.std.proofs.lemmas.Bool.{false≢true, and_parts, and_from}
 use Rattle.basic_toml_tree.specs.Origins.{Origins, table_within, rows_origins}
 use Rattle.basic_toml_tree.specs.Ways.{way, GrowsAlong, sections_origins}
-use Rattle.basic_toml_tree.proofs.OriginsSeen.{fresh_within}
-use Rattle.basic_toml_tree.proofs.SectionsPlaceOrigins.{Brought, none_brought, more_brought}
+use Rattle.basic_toml_tree.proofs.Origins.OriginsSeen.{fresh_within}
+use Rattle.basic_toml_tree.proofs.Origins.SectionsPlaceOrigins.{Brought, none_brought, more_brought}
 use Rattle.basic_toml_tree.specs.Resolve.{Resolves, IsResolved, IsUnresolved, memory, deep, clash, head}
 use Rattle.basic_toml_tree.proofs.HeadersInATrie.{fresh}
 use Rattle.basic_toml_tree.proofs.RowsHaveKeys.{sections_have_keys}

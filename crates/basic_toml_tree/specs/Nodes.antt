@@ -8,8 +8,8 @@ use Rattle.basic_toml_tree.specs.declared.item.Table.{Table}
 use Rattle.basic_toml_tree.specs.declared.node.Node.{Node}
 use Rattle.basic_toml_tree.specs.declared.entries.Elements.{Elements}
 use Rattle.basic_toml_tree.specs.declared.entries.Entries.{Entries}
-use Rattle.basic_toml_tree.specs.declared.node.Spot.{Spot}
-use Rattle.basic_toml_tree.specs.declared.node.Spot.TheVariants as spots
+use Rattle.basic_toml_tree.specs.declared.spot.Spot.{Spot}
+use Rattle.basic_toml_tree.specs.declared.spot.Spot.TheVariants as spots
 
 abbrev pub spot_data : Spot → Data
 spot_data (spots.Table table) = table_data table.now

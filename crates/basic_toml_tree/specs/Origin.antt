@@ -12,10 +12,10 @@ use Rattle.basic_toml_tree.specs.declared.item.Child.{Child}
 use Rattle.basic_toml_tree.specs.declared.item.Table.{Table, out-Table}
 use Rattle.basic_toml_tree.specs.declared.tree.Tree.{Tree}
 use Rattle.basic_toml_tree.specs.declared.node.Node.{Node}
-use Rattle.basic_toml_tree.specs.declared.node.Spot.{Spot}
-use Rattle.basic_toml_tree.specs.declared.node.Spot.TheVariants as spots
-use Rattle.basic_toml_tree.specs.declared.node.Trail.{Trail}
-use Rattle.basic_toml_tree.specs.declared.node.Trail.TheVariants as trails
+use Rattle.basic_toml_tree.specs.declared.spot.Spot.{Spot}
+use Rattle.basic_toml_tree.specs.declared.spot.Spot.TheVariants as spots
+use Rattle.basic_toml_tree.specs.declared.trail.Trail.{Trail}
+use Rattle.basic_toml_tree.specs.declared.trail.Trail.TheVariants as trails
 
 abbrev pub table_is_made : Table → Bool
 table_is_made table = (out-Table table).passed || (out-Table table).named

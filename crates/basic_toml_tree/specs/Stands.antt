@@ -17,8 +17,8 @@ use Rattle.basic_toml_tree.specs.declared.tree.Tree.{Tree}
 use Rattle.basic_toml_tree.specs.declared.node.Node.{Node}
 use Rattle.basic_toml_tree.specs.declared.entries.Elements.{Elements}
 use Rattle.basic_toml_tree.specs.declared.entries.Entries.{Entries}
-use Rattle.basic_toml_tree.specs.declared.node.Spot.{Spot}
-use Rattle.basic_toml_tree.specs.declared.node.Spot.TheVariants as spots
+use Rattle.basic_toml_tree.specs.declared.spot.Spot.{Spot}
+use Rattle.basic_toml_tree.specs.declared.spot.Spot.TheVariants as spots
 use Rattle.basic_toml_tree.specs.Item.{item_trie, table_trie}
 use Rattle.basic_toml_tree.specs.Origin.{spot_is_made, spot_name}
 use Rattle.basic_toml_tree.specs.Origins.{Origin, Origins, item_origins, table_within}

@@ -8,8 +8,9 @@ mod entries;
 mod headers;
 mod item;
 mod node;
-mod origin;
 mod rows;
+mod spot;
+mod trail;
 mod tree;
 mod values;
 

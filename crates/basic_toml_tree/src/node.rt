@@ -1,24 +1,32 @@
 //! The nodes of a tree.
 
-ghost use Rattle.std.specs.Prelude.{◌≡◌, ◌<◌, ◌≤◌, false, [], Some, None, IsSome, IfSome, IsTrue, IfOk, IfErr};
-ghost use Rattle.std.specs.Prelude.{MatchOption, length, slice_get};
+ghost use Rattle.std.specs.Prelude.{◌≡◌, ◌⊎◌, ◌<◌, ◌≤◌, true, false, List, Some, None, IsSome, IfSome, IsTrue, IfOk, IfErr};
+ghost use Rattle.std.specs.Prelude.{MatchOption, codes, length, map, slice_get, string_bytes};
 ghost use Rattle.std.specs.Option.{option_copied};
 ghost use Rattle.std.specs.Cow.{cow_str_bytes};
 ghost use Rattle.basic_toml_value.specs.Data.{table as table_of_members, integer_in, boolean_in, float_in, string_in};
 ghost use Rattle.basic_toml_value.specs.Keys.{are_distinct};
 ghost use Rattle.basic_toml_value.specs.Pairs.{keys_of};
 ghost use Rattle.basic_toml_value.specs.View.{view, entries};
+ghost use Rattle.basic_toml_grammar.specs.Sections.{Section};
+ghost use Rattle.basic_toml_grammar.specs.Steps.{Path};
+ghost use Rattle.basic_toml_grammar.specs.IndexedPath.{located};
+ghost use Rattle.basic_toml_grammar.specs.Nodes.{is_made as made_by_headers};
 ghost use Rattle.basic_toml_explain.specs.Error.{want_of_memory};
 ghost use Rattle.basic_toml_tree.specs.Item.{child_trie};
 ghost use Rattle.basic_toml_tree.specs.Data.{table_data, child_data};
 ghost use Rattle.basic_toml_tree.specs.Nodes.{node_data, is_table, is_array, maybe_table, data_at};
 ghost use Rattle.basic_toml_tree.specs.Nodes.{elements_in, entries_in, elements_left, entries_left};
-ghost use Rattle.basic_toml_tree.specs.Stands.{StandsAt, HoldsTable, IsBelow, IsBeside, IsTableBeside, AtKey, AtNumber, BeginsIn};
+ghost use Rattle.basic_toml_tree.specs.Origin.{is_made, name_of, start_of, outer_of, offset_of, keys_of as key_path_of};
+ghost use Rattle.basic_toml_tree.specs.Stands.{IsNodeAt, Foretold, ForetoldMade};
+ghost use Rattle.basic_toml_tree.specs.Stands.{HoldsTable, IsBelow, IsBeside, IsTableBeside, AtKey, AtNumber, BeginsIn};
 ghost use Rattle.basic_toml_tree.specs.Stands.{ComesFrom};
 ghost use Rattle.basic_toml_tree.specs.Origins.{child_origins};
 
 use crate::entries::{Elements, Entries};
 use crate::item::{Child, Item, Table};
+use crate::spot::Spot;
+use crate::trail::{Trail, first_key, header_len, header_texts};
 use crate::tree::Tree;
 use crate::values::{table_of, value_of};
 use basic_toml_read::ReadError;
@@ -26,21 +34,6 @@ use basic_toml_value as values;
 use basic_toml_value::{Float, Value};
 use std::alloc::{AllocError, Global};
 use std::borrow::CowStr;
-
-// What a node is.
-#[derive(Clone, Copy)]
-pub(crate) enum Spot<'t, 'de> {
-    // a table of headers or of dotted keys
-    Table(&'t Table<'de>),
-    Item(&'t Item<'de>),
-}
-
-// Which keys lead to a node: the first of a header, or those of a header and then the first key of a row.
-#[derive(Clone, Copy)]
-pub(crate) enum Trail<'t> {
-    Header(usize),
-    Row(usize, &'t str),
-}
 
 /// A node of a tree: a value, and where it comes from. Types are read from one, as `bool` is in `basic_toml_typed`, by
 /// `node.as_bool()`.
@@ -55,41 +48,6 @@ pub struct Node<'t, 'de> {
     // how many keys lead to it, numbers of elements apart
     pub(crate) count: usize,
     pub(crate) trail: Trail<'t>,
-}
-
-impl<'de> Tree<'de> {
-    /// The table of the whole document.
-    pub fn root(&self) -> Node<'_, 'de>
-        ensures data { node_data result ≡ table_data self.now.root.value }
-        ensures stands { StandsAt self.now [] result }
-    {
-        Node {
-            tree: self,
-            spot: Spot::Table(&self.root),
-            start: 0,
-            outer: None,
-            count: 0,
-            trail: Trail::Header(0),
-        }
-    }
-}
-
-// The key of a row that has so many keys of its section before it.
-fn first_key<'t, 'de>(tree: &'t Tree<'de>, section: usize, count: usize) -> Option<&'t str> {
-    match tree.sections.get(section) {
-        Some(section) => match section.header.get(count) {
-            Some(key) => Some(key.text.as_str()),
-            None => None,
-        },
-        None => None,
-    }
-}
-
-fn header_len(tree: &Tree<'_>, section: usize) -> usize {
-    match tree.sections.get(section) {
-        Some(section) => section.header.len(),
-        None => 0,
-    }
 }
 
 impl<'t, 'de> Node<'t, 'de> {
@@ -309,7 +267,7 @@ impl<'t, 'de> Node<'t, 'de> {
     }
 
     /// Its keys with their values in order, each key once, if it is a table.
-    #[tactic(auto, using(crate::proofs::NodesInOrder::table_keys))]
+    #[tactic(auto, using(crate::proofs::Nodes::NodesInOrder::table_keys))]
     pub fn entries(self) -> Option<Entries<'t, 'de>>
         ensures entries { MatchOption result (is_table (node_data self.entry) ≡ false)
             (λ entries. IsTrue (is_table (node_data self.entry))
@@ -356,6 +314,99 @@ impl<'t, 'de> Node<'t, 'de> {
             Some(Some(table)) => Ok(Some(table_of(alloc, table)?)),
             Some(None) => Ok(Some(values::Table::new(alloc))),
             None => Ok(None),
+        }
+    }
+
+    /// Whether headers made it: they name it, pass through it, or add elements to it.
+    #[tactic(auto, using(crate::proofs::Nodes::MadeNodes::made_told, crate::proofs::Nodes::RowNodesTold::made_answers))]
+    pub fn is_made(self) -> bool
+        ensures is { result ≡ is_made self.entry }
+        ensures foretold { (sections : List Section) (p : Path) → IsNodeAt sections p self.entry
+            → made_by_headers (located sections) p ≡ true → result ≡ true }
+        ensures told { (sections : List Section) (p : Path)
+            → Foretold sections p self.entry (λ _. result ≡ made_by_headers (located sections) p) }
+    {
+        self.spot.is_made(self.count)
+    }
+
+    /// The name of its kind: `integer`, `float`, `boolean`, `string`, `array`, `inline table`, `dotted table` or
+    /// `table`.
+    #[tactic(auto, unfolding(crate::specs::Origin::name_of), using(crate::proofs::Nodes::RowNodesTold::name_told))]
+    pub fn type_name(self) -> &'static str
+        ensures is { result.now ≡ name_of self.entry }
+        ensures foretold { (sections : List Section) (p : Path)
+            → Foretold sections p self.entry (λ node. result.now ≡ node.type_name) }
+    {
+        self.spot.type_name(self.count)
+    }
+
+    /// The byte offset where it begins: that of a value, of the first value of a dotted table, and of the last section
+    /// where headers made it.
+    #[tactic(auto, unfolding(crate::specs::Origin::start_of), using(crate::proofs::Nodes::RowNodesTold::start_told))]
+    pub fn start(self) -> Option<usize>
+        ensures is { result ≡ start_of self.entry }
+        ensures foretold { (sections : List Section) (p : Path)
+            → Foretold sections p self.entry (λ node. result ≡ node.start) }
+    {
+        if self.is_made() {
+            self.tree.last_at()
+        } else {
+            Some(self.start)
+        }
+    }
+
+    /// The byte offset that names it in errors: where it begins, but for an array literal the outer place.
+    #[tactic(auto, unfolding(crate::specs::Origin::offset_of, crate::specs::Origin::start_of, crate::specs::Origin::outer_of), using(crate::proofs::Nodes::PlacesTold::place_told))]
+    pub fn place(self) -> Option<usize>
+        ensures is { result ≡ offset_of self.entry }
+        ensures foretold { (sections : List Section) (p : Path)
+            → ForetoldMade sections p self.entry (λ node. result ≡ node.offset) }
+        ensures apart_from_arrays { (sections : List Section) (p : Path)
+            → Foretold sections p self.entry (λ node. (node.type_name ≡ codes "array") ⊎ (result ≡ node.offset)) }
+    {
+        match self.spot {
+            Spot::Item(Item::Array(_)) => self.outer_place(),
+            _ => self.start(),
+        }
+    }
+
+    /// The byte offset of the nearest inline or dotted table around it, else that of the last section.
+    #[tactic(auto, unfolding(crate::specs::Origin::outer_of))]
+    pub fn outer_place(self) -> Option<usize>
+        ensures is { result ≡ outer_of self.entry }
+        ensures foretold { (sections : List Section) (p : Path)
+            → ForetoldMade sections p self.entry (λ node. result ≡ node.outer_offset) }
+    {
+        if self.is_made() {
+            return self.tree.last_at();
+        }
+        match self.outer {
+            Some(outer) => Some(outer),
+            None => self.tree.last_at(),
+        }
+    }
+
+    /// The keys that lead to it: those of the headers that made it, or those of its section and the first key of its
+    /// row.
+    ///
+    /// # Errors
+    ///
+    /// `AllocError` where memory for the copies was refused.
+    #[tactic(auto, unfolding(crate::specs::Origin::keys_of))]
+    pub fn key_path(self, alloc: Global) -> Result<Vec<String>, AllocError>
+        ensures { IfOk result (λ path. map string_bytes path.items ≡ key_path_of self.entry) }
+    {
+        match self.trail {
+            Trail::Header(section) => {
+                let mut path = header_texts(alloc, self.tree, section)?;
+                path.truncate(self.count);
+                Ok(path)
+            }
+            Trail::Row(section, first) => {
+                let mut path = header_texts(alloc, self.tree, section)?;
+                path.push(String::from_str(alloc, first)?)?;
+                Ok(path)
+            }
         }
     }
 }

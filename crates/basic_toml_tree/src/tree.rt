@@ -1,12 +1,24 @@
 //! From a section list to its tree.
+ghost use Rattle.std.specs.Prelude.{◌≡◌, [], IfOk};
+ghost use Rattle.basic_toml_value.specs.Data.{table as table_of_members};
+ghost use Rattle.basic_toml_value.specs.View.{entries};
+ghost use Rattle.basic_toml_tree.specs.Data.{table_data};
+ghost use Rattle.basic_toml_tree.specs.Nodes.{node_data};
+ghost use Rattle.basic_toml_tree.specs.Origin.{last_at};
 ghost use Rattle.basic_toml_tree.specs.Order.{ResolvesInAnyOrder};
 ghost use Rattle.basic_toml_tree.specs.Resolve.{Resolves};
+ghost use Rattle.basic_toml_tree.specs.Stands.{StandsAt};
 
 use crate::headers::enter_section;
 use crate::item::Table;
+use crate::node::Node;
+use crate::spot::Spot;
+use crate::trail::Trail;
+use crate::values::into_table;
 use basic_toml_clash::crossed_value;
 use basic_toml_read::{ReadError, ReadErrorKind, Section};
-use std::alloc::Global;
+use basic_toml_value as values;
+use std::alloc::{AllocError, Global};
 
 /// The tree of a section list. `Tree::root` is its first node, and `Tree::into_table` makes a table of it.
 #[derive(Drop)]
@@ -14,6 +26,46 @@ pub struct Tree<'de> {
     /// The headers, whose rows have gone into the tree.
     pub(crate) sections: Vec<Section<'de>>,
     pub(crate) root: Box<Table<'de>>,
+}
+
+impl<'de> Tree<'de> {
+    /// The table of the whole document.
+    pub fn root(&self) -> Node<'_, 'de>
+        ensures data { node_data result ≡ table_data self.now.root.value }
+        ensures stands { StandsAt self.now [] result }
+    {
+        Node {
+            tree: self,
+            spot: Spot::Table(&self.root),
+            start: 0,
+            outer: None,
+            count: 0,
+            trail: Trail::Header(0),
+        }
+    }
+
+    /// The offset of the last section.
+    #[tactic(auto, using(crate::proofs::Nodes::LastSection::last_is_last, crate::proofs::Nodes::LastSection::none_is_last))]
+    pub(crate) fn last_at(&self) -> Option<usize>
+        ensures { result ≡ last_at self.now }
+    {
+        match self.sections.last() {
+            Some(section) => Some(section.at),
+            None => None,
+        }
+    }
+
+    /// The table of the document. Strings and keys are moved into it, and the tree's memory is given back on the way.
+    ///
+    /// # Errors
+    ///
+    /// `AllocError` where a growth was refused.
+    pub fn into_table(self, alloc: Global) -> Result<values::Table, AllocError>
+        ensures { IfOk result (λ moved. table_of_members (entries moved) ≡ table_data self.entry.root.value) }
+    {
+        let Tree { sections: _, root } = self;
+        into_table(alloc, Box::into_inner(root))
+    }
 }
 
 /// The tree of a section list, or a clash that stands in it (TOML v0.5.0, "Table" and "Array of Tables").

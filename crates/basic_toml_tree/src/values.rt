@@ -5,7 +5,6 @@ ghost use Rattle.basic_toml_value.specs.View.{view, entries};
 ghost use Rattle.basic_toml_tree.specs.Data.{data_of, child_data, table_data, child_pair, value_pair};
 
 use crate::item::{Child, Item, Table};
-use crate::tree::Tree;
 use basic_toml_value as values;
 use basic_toml_value::{Pair, Pairs, Value};
 use std::alloc::{AllocError, Global};
@@ -133,25 +132,12 @@ fn into_entries(alloc: Global, pairs: Vec<Pair<Child<'_>>>) -> Result<Vec<Pair<V
     Ok(moved)
 }
 
+/// The table that a table of the tree becomes. Strings and keys are moved into it, and memory is given back on the way.
 #[cycle(moves)]
-fn into_table(alloc: Global, table: Table<'_>) -> Result<values::Table, AllocError>
+pub(crate) fn into_table(alloc: Global, table: Table<'_>) -> Result<values::Table, AllocError>
     ensures { IfOk result (λ moved. table_of_members (entries moved) ≡ table_data table.entry) }
 {
     let (pairs, index) = table.entries.into_parts();
     let moved = into_entries(alloc, pairs)?;
     Ok(Pairs::from_parts(moved, index))
-}
-
-impl<'de> Tree<'de> {
-    /// The table of the document. Strings and keys are moved into it, and the tree's memory is given back on the way.
-    ///
-    /// # Errors
-    ///
-    /// `AllocError` where a growth was refused.
-    pub fn into_table(self, alloc: Global) -> Result<values::Table, AllocError>
-        ensures { IfOk result (λ moved. table_of_members (entries moved) ≡ table_data self.entry.root.value) }
-    {
-        let Tree { sections: _, root } = self;
-        into_table(alloc, Box::into_inner(root))
-    }
 }

@@ -18,9 +18,9 @@ use Rattle.basic_toml_tree.proofs.HeadersStopped.{stopped, same_stops, tried_int
 use Rattle.basic_toml_tree.proofs.HeadersStopped.{value_stopped, passed_stops, no_array_tried, not_last_tried}
 use Rattle.basic_toml_tree.specs.Origins.{rows_origins, child_origins}
 use Rattle.basic_toml_tree.specs.Ways.{way_at, way_by, GrowsAlong}
-use Rattle.basic_toml_tree.proofs.HeadersPlaceOrigins.{passed_grows, new_table_grows, table_grows}
-use Rattle.basic_toml_tree.proofs.HeadersPlaceOrigins.{no_array_way, not_last_way}
-use Rattle.basic_toml_tree.proofs.ElementsPlaceOrigins.{latest_grows}
+use Rattle.basic_toml_tree.proofs.Origins.HeadersPlaceOrigins.{passed_grows, new_table_grows, table_grows}
+use Rattle.basic_toml_tree.proofs.Origins.HeadersPlaceOrigins.{no_array_way, not_last_way}
+use Rattle.basic_toml_tree.proofs.Origins.ElementsPlaceOrigins.{latest_grows}
 use Rattle.basic_toml_tree.proofs.headers.+walk.Goals as goal
 use Rattle.basic_toml_tree.proofs.headers.+walk.Goals.{enter_child-in-Nothing+in_ok-table-in-Nothing+in_ok-enter_header-in-Nothing}
 use Rattle.basic_toml_tree.proofs.headers.+walk.Goals.{enter_at-else-is_array-via-then-is_array+else-is_empty}

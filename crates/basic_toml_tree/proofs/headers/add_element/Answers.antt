@@ -14,7 +14,7 @@ use Rattle.basic_toml_tree.proofs.HeadersEntered.{failed}
 use Rattle.basic_toml_tree.proofs.TablesOpened.{first_element, next_element, element_in, element_out}
 use Rattle.basic_toml_tree.proofs.HeadersStopped.{stopped, first_stops, next_stops}
 use Rattle.basic_toml_tree.specs.Origins.{rows_origins}
-use Rattle.basic_toml_tree.proofs.ElementsPlaceOrigins.{first_added, next_added}
+use Rattle.basic_toml_tree.proofs.Origins.ElementsPlaceOrigins.{first_added, next_added}
 use Rattle.basic_toml_tree.proofs.headers.add_element.Goals as goal
 use Rattle.basic_toml_tree.proofs.headers.add_element.Goals.{in-Nothing, in-Tables+in_ok-push-in-Tables}
 

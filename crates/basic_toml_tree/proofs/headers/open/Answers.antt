@@ -3,7 +3,7 @@ use Rattle.basic_toml_tree.specs.declared.item.Table.{out-Table}
 use Rattle.basic_toml_read.specs.SectionView.{rows_view}
 use Rattle.basic_toml_tree.proofs.TablesOpened.{open_named}
 use Rattle.basic_toml_tree.specs.Origins.{rows_origins}
-use Rattle.basic_toml_tree.proofs.HeadersPlaceOrigins.{opened}
+use Rattle.basic_toml_tree.proofs.Origins.HeadersPlaceOrigins.{opened}
 use Rattle.basic_toml_tree.proofs.headers.open.Goals as goal
 
 pub returns-clause-entered : goal.returns-clause-entered

@@ -28,10 +28,10 @@ use Rattle.std.proofs.Common.{codes}
 use Rattle.basic_toml_grammar.specs.Sections.{Raw}
 use Rattle.basic_toml_read.proofs.ViewsSeen.{inline_of}
 use Rattle.basic_toml_tree.specs.Origins.{entry, value_origin, value_origins}
-use Rattle.basic_toml_tree.proofs.OriginsSeen.{inline_seen, fresh_within}
+use Rattle.basic_toml_tree.proofs.Origins.OriginsSeen.{inline_seen, fresh_within}
 use Rattle.basic_toml_tree.specs.Rows.{is_dot}
-use Rattle.basic_toml_tree.proofs.OriginsLeft.{OriginsLeft, ElementsCome, origins_entered, origins_done, no_rows_come}
-use Rattle.basic_toml_tree.proofs.OriginsLeft.{one_row, element_comes, elements_come, value_comes}
+use Rattle.basic_toml_tree.proofs.Origins.OriginsLeft.{OriginsLeft, ElementsCome, origins_entered, origins_done, no_rows_come}
+use Rattle.basic_toml_tree.proofs.Origins.OriginsLeft.{one_row, element_comes, elements_come, value_comes}
 use Rattle.basic_toml_tree.proofs.rows.+finishing.Goals as goal
 
 pub enter_rows-returns-then-is_empty-clause-entered : goal.enter_rows-returns-then-is_empty-clause-entered

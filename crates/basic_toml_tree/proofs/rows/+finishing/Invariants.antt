@@ -2,7 +2,7 @@ use Rattle.std.proofs.Common.{◌+◌, ◌-◌, ◌*◌, map}
 use Rattle.basic_toml_read.specs.SectionView.{rows_view, elements_view}
 use Rattle.basic_toml_tree.specs.Item.{child_trie, table_trie}
 use Rattle.basic_toml_tree.specs.Origins.{table_within}
-use Rattle.basic_toml_tree.proofs.OriginsLeft.{OriginsLeft, ElementsCome}
+use Rattle.basic_toml_tree.proofs.Origins.OriginsLeft.{OriginsLeft, ElementsCome}
 use Rattle.basic_toml_tree.proofs.RowsLeft.{AreLeft}
 use Rattle.basic_toml_tree.proofs.ElementsLeft.{ElementsAreLeft}
 use Rattle.basic_toml_tree.proofs.rows.+finishing.Given as goal

@@ -19,9 +19,9 @@ use Rattle.basic_toml_tree.proofs.MetTellsStop.{no_keys, last_told, row_told, ex
 use Rattle.basic_toml_tree.proofs.MetTellsStop.{dotted_fields, dotted_nothing, dotted_table, named_refuses}
 use Rattle.basic_toml_grammar.specs.Steps as steps
 use Rattle.basic_toml_tree.specs.Origins.{table_within, child_origins, with_more, beyond, row_origins, dotted_of, entry}
-use Rattle.basic_toml_tree.proofs.RowsPlaceOrigins.{origins_put, origins_put_back, comes_first, origins_on}
-use Rattle.basic_toml_tree.proofs.RowsPlaceOrigins.{dotted_within, new_table, child_of_table}
-use Rattle.basic_toml_tree.proofs.OriginsSeen.{fresh_within}
+use Rattle.basic_toml_tree.proofs.Origins.RowsPlaceOrigins.{origins_put, origins_put_back, comes_first, origins_on}
+use Rattle.basic_toml_tree.proofs.Origins.RowsPlaceOrigins.{dotted_within, new_table, child_of_table}
+use Rattle.basic_toml_tree.proofs.Origins.OriginsSeen.{fresh_within}
 use Rattle.basic_toml_tree.proofs.rows.+leading.Goals as goal
 
 pub enter_row-returns-in-Some-what_is_met-clause-entered : goal.enter_row-returns-in-Some-what_is_met-clause-entered

@@ -1,6 +1,6 @@
 use Rattle.std.proofs.Common.{◌≡◌, ◌∷◌, ◌+◌, arith, ap, length, drop, refl}
 use Rattle.basic_toml_tree.specs.Nodes.{node_data, elements_in, elements_left}
-use Rattle.basic_toml_tree.proofs.NodesInOrder.{drop_next, progress}
+use Rattle.basic_toml_tree.proofs.Nodes.NodesInOrder.{drop_next, progress}
 use Rattle.basic_toml_tree.proofs.entries.ElementsIterator.next.Goals as goal
 
 pub returns-clause-steps : goal.returns-clause-steps

@@ -4,8 +4,8 @@ use Rattle.basic_toml_tree.specs.declared.item.Table.{out-Table}
 use Rattle.basic_toml_tree.specs.Data.{child_data, table_data}
 use Rattle.basic_toml_tree.specs.Nodes.{node_data, entries_in, entries_left, key_and_data}
 use Rattle.basic_toml_tree.specs.Stands.{HoldsTable}
-use Rattle.basic_toml_tree.proofs.NodesInOrder.{drop_next, drop_past, pair_read, mapped_length, table_entries, progress}
-use Rattle.basic_toml_tree.proofs.NodesStand.{entry_stands}
+use Rattle.basic_toml_tree.proofs.Nodes.NodesInOrder.{drop_next, drop_past, pair_read, mapped_length, table_entries, progress}
+use Rattle.basic_toml_tree.proofs.Nodes.NodesStand.{entry_stands}
 use Rattle.basic_toml_tree.proofs.entries.EntriesIterator.next.Goals as goal
 
 pub returns-then-at-len-clause-steps : goal.returns-then-at-len-clause-steps

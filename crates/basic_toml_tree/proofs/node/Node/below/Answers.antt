@@ -1,5 +1,5 @@
 use Rattle.std.proofs.Common.{◌≡◌, ◌==◌, false, ◌∙◌, arith, rules}
-use Rattle.basic_toml_tree.proofs.NodesCome.{item_comes, child_table_comes}
+use Rattle.basic_toml_tree.proofs.Nodes.NodesCome.{item_comes, child_table_comes}
 use Rattle.basic_toml_tree.proofs.node.Node.below.Goals as goal
 use Rattle.basic_toml_tree.proofs.node.Node.below.Goals.{in-Table, in_default}
 

@@ -1,5 +1,5 @@
 use Rattle.std.proofs.Common.{refl, rules}
-use Rattle.basic_toml_tree.proofs.NodesCome.{item_comes}
+use Rattle.basic_toml_tree.proofs.Nodes.NodesCome.{item_comes}
 use Rattle.basic_toml_tree.proofs.node.Node.element.Goals as goal
 
 pub returns-clause-comes : goal.returns-clause-comes

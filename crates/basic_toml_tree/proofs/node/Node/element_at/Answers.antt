@@ -3,12 +3,12 @@ use Rattle.std.specs.Prelude.{slice_get}
 use Rattle.basic_toml_tree.specs.declared.item.Item.{Array, Tables}
 use Rattle.basic_toml_tree.specs.Data.{data_of, child_data, table_data}
 use Rattle.basic_toml_tree.specs.Nodes.{node_data, elements_in}
-use Rattle.basic_toml_tree.proofs.NodesInOrder.{array_elements, tables_elements, mapped_read, mapped_length, front_read}
-use Rattle.basic_toml_tree.proofs.NodesInOrder.{last_read}
-use Rattle.basic_toml_tree.specs.declared.node.Spot.TheVariants as spots
+use Rattle.basic_toml_tree.proofs.Nodes.NodesInOrder.{array_elements, tables_elements, mapped_read, mapped_length, front_read}
+use Rattle.basic_toml_tree.proofs.Nodes.NodesInOrder.{last_read}
+use Rattle.basic_toml_tree.specs.declared.spot.Spot.TheVariants as spots
 use Rattle.basic_toml_tree.specs.Item.{table_trie}
 use Rattle.basic_toml_tree.specs.Origins.{child_origins, table_within}
-use Rattle.basic_toml_tree.proofs.NodesStand.{literal_stands, tables_stand}
+use Rattle.basic_toml_tree.proofs.Nodes.NodesStand.{literal_stands, tables_stand}
 use Rattle.basic_toml_tree.proofs.node.Node.element_at.Goals as goal
 
 pub returns-in-Some-clause-data : goal.returns-in-Some-clause-data

@@ -2,7 +2,7 @@ use Rattle.std.proofs.Common.{◌≡◌, Some, ap, sym, ◌∙◌, rules}
 use Rattle.basic_toml_tree.specs.Data.{table_data}
 use Rattle.basic_toml_tree.specs.Nodes.{node_data, data_at}
 use Rattle.basic_toml_tree.proofs.ItemData.{data_at_found, data_at_absent}
-use Rattle.basic_toml_tree.proofs.NodesStand.{key_stands}
+use Rattle.basic_toml_tree.proofs.Nodes.NodesStand.{key_stands}
 use Rattle.basic_toml_tree.proofs.node.Node.get.Goals as goal
 
 pub returns-in_default-get-clause-data : goal.returns-in_default-get-clause-data

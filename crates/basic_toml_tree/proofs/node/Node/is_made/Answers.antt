@@ -1,4 +1,4 @@
-use Rattle.basic_toml_tree.proofs.RowNodesTold.{made_answers}
+use Rattle.basic_toml_tree.proofs.Nodes.RowNodesTold.{made_answers}
 use Rattle.basic_toml_tree.proofs.node.Node.is_made.Goals as goal
 
 pub returns-clause-told : goal.returns-clause-told

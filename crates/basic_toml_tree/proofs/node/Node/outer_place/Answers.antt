@@ -1,6 +1,6 @@
 use Rattle.std.proofs.Common.{◌≡◌, rules}
 use Rattle.basic_toml_tree.specs.Origin.{outer_of}
-use Rattle.basic_toml_tree.proofs.MadeNodes.{outer_told}
+use Rattle.basic_toml_tree.proofs.Nodes.MadeNodes.{outer_told}
 use Rattle.basic_toml_tree.proofs.node.Node.outer_place.Goals as goal
 
 pub returns-then-is_made-clause-foretold : goal.returns-then-is_made-clause-foretold

@@ -1,6 +1,6 @@
 use Rattle.std.proofs.Common.{◌≡◌, rules}
 use Rattle.basic_toml_tree.specs.Origin.{offset_of}
-use Rattle.basic_toml_tree.proofs.PlacesTold.{place_told}
+use Rattle.basic_toml_tree.proofs.Nodes.PlacesTold.{place_told}
 use Rattle.basic_toml_tree.proofs.node.Node.place.Goals as goal
 
 pub returns-in-Item-Array-clause-apart_from_arrays : goal.returns-in-Item-Array-clause-apart_from_arrays

@@ -1,6 +1,6 @@
 use Rattle.std.proofs.Common.{◌≡◌, Some, rules}
 use Rattle.basic_toml_tree.specs.Origin.{start_of}
-use Rattle.basic_toml_tree.proofs.RowNodesTold.{start_told}
+use Rattle.basic_toml_tree.proofs.Nodes.RowNodesTold.{start_told}
 use Rattle.basic_toml_tree.proofs.node.Node.start.Goals as goal
 
 pub returns-then-is_made-clause-foretold : goal.returns-then-is_made-clause-foretold

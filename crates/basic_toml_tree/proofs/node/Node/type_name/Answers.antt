@@ -1,5 +1,5 @@
 use Rattle.basic_toml_tree.specs.Origin.{name_of}
-use Rattle.basic_toml_tree.proofs.RowNodesTold.{name_told}
+use Rattle.basic_toml_tree.proofs.Nodes.RowNodesTold.{name_told}
 use Rattle.basic_toml_tree.proofs.node.Node.type_name.Goals as goal
 
 pub returns-clause-foretold : goal.returns-clause-foretold

@@ -20,12 +20,12 @@ use Rattle.basic_toml_tree.specs.declared.item.Item.TheOpen.{Item-F}
 use Rattle.basic_toml_tree.specs.declared.item.Child.{Child}
 use Rattle.basic_toml_tree.specs.declared.item.Table.{Table}
 use Rattle.basic_toml_tree.specs.declared.node.Node as nodes
-use Rattle.basic_toml_tree.specs.declared.node.Spot.{Spot}
-use Rattle.basic_toml_tree.specs.declared.node.Spot.TheVariants as spots
+use Rattle.basic_toml_tree.specs.declared.spot.Spot.{Spot}
+use Rattle.basic_toml_tree.specs.declared.spot.Spot.TheVariants as spots
 use Rattle.basic_toml_tree.specs.Origin.{is_array_literal, item_name, spot_name, name_of, start_of, outer_of}
 use Rattle.basic_toml_tree.specs.Origin.{offset_of}
 use Rattle.basic_toml_tree.specs.Stands.{Foretold}
-use Rattle.basic_toml_tree.proofs.RowNodesTold.{name_told, start_told}
+use Rattle.basic_toml_tree.proofs.Nodes.RowNodesTold.{name_told, start_told}
 
 -- it is an array, or its offset is where it begins
 abbrev pub Plain : Node → Type 0

@@ -20,9 +20,9 @@ use Rattle.basic_toml_tree.specs.Ways.{way, way_by, GrowsAlong}
 use Rattle.basic_toml_tree.proofs.HeadersInATrie.{fresh}
 use Rattle.basic_toml_tree.proofs.ItemTries.{child_item_trie}
 use Rattle.basic_toml_tree.proofs.TablesOpened.{tables_trie, nothing_trie}
-use Rattle.basic_toml_tree.proofs.OriginsSeen.{child_seen, nothing_seen, tables_seen, table_origins, fresh_within}
-use Rattle.basic_toml_tree.proofs.OriginsSeen.{or_none}
-use Rattle.basic_toml_tree.proofs.HeadersPlaceOrigins.{way_into_latest}
+use Rattle.basic_toml_tree.proofs.Origins.OriginsSeen.{child_seen, nothing_seen, tables_seen, table_origins, fresh_within}
+use Rattle.basic_toml_tree.proofs.Origins.OriginsSeen.{or_none}
+use Rattle.basic_toml_tree.proofs.Origins.HeadersPlaceOrigins.{way_into_latest}
 
 -- the last of a list, and the others
 module _ {A : Type 0} where

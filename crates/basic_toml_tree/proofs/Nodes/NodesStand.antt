@@ -19,8 +19,8 @@ use Rattle.basic_toml_tree.specs.declared.item.Child.{Child}
 use Rattle.basic_toml_tree.specs.declared.item.Table.{Table, out-Table}
 use Rattle.basic_toml_tree.specs.declared.tree.Tree.{Tree}
 use Rattle.basic_toml_tree.specs.declared.node.Node.{Node}
-use Rattle.basic_toml_tree.specs.declared.node.Spot.{Spot}
-use Rattle.basic_toml_tree.specs.declared.node.Spot.TheVariants as spots
+use Rattle.basic_toml_tree.specs.declared.spot.Spot.{Spot}
+use Rattle.basic_toml_tree.specs.declared.spot.Spot.TheVariants as spots
 use Rattle.basic_toml_clash.specs.Keyed.{values_of}
 use Rattle.basic_toml_tree.specs.Item.{item_trie, child_trie, table_trie, by_keys, by_numbers, leaf, tree_data}
 use Rattle.basic_toml_tree.specs.Stands.{trie_at, tree_trie, spot_trie, wraps_table, HoldsTable, IsBelow, is_root}
@@ -28,9 +28,9 @@ use Rattle.basic_toml_tree.specs.Stands.{StandsAt, StandsOn, IsBeside, is_wrappe
 use Rattle.basic_toml_tree.specs.Origins.{child_origins, table_within}
 use Rattle.basic_toml_tree.proofs.ItemTries.{table_entries_trie}
 use Rattle.basic_toml_clash.proofs.KeysChanged.{first_at}
-use Rattle.basic_toml_tree.proofs.ItemsStand.{shape}
-use Rattle.basic_toml_tree.proofs.NodesCome.{comes_on, key_comes, literal_comes, tables_come}
-use Rattle.basic_toml_tree.proofs.NodesCome.{table_node_comes}
+use Rattle.basic_toml_tree.proofs.Nodes.ItemsStand.{shape}
+use Rattle.basic_toml_tree.proofs.Nodes.NodesCome.{comes_on, key_comes, literal_comes, tables_come}
+use Rattle.basic_toml_tree.proofs.Nodes.NodesCome.{table_node_comes}
 use Rattle.basic_toml_tree.proofs.KeysInATrie.{tries_of}
 
 at_more : (p : Path) (s : Step) (t : Trie) → trie_at (p ++ s ∷ []) t ≡ below s (trie_at p t)

@@ -18,8 +18,8 @@ use Rattle.basic_toml_tree.specs.Origins.{with_more, or_else, row_origins, rows_
 use Rattle.basic_toml_tree.specs.Origins.{elements_origins}
 use Rattle.basic_toml_tree.proofs.ElementsLeft.{element_seen}
 use Rattle.basic_toml_tree.proofs.RowsLeft.{line_view, line_texts, has_value, dots_alone, nothing_left}
-use Rattle.basic_toml_tree.proofs.OriginsSeen.{or_none}
-use Rattle.basic_toml_tree.proofs.RowsPlaceOrigins.{within_is}
+use Rattle.basic_toml_tree.proofs.Origins.OriginsSeen.{or_none}
+use Rattle.basic_toml_tree.proofs.Origins.RowsPlaceOrigins.{within_is}
 
 option_assoc : (a b c : Option Origin) → option_or (option_or a b) c ≡ option_or a (option_or b c)
 option_assoc None b c = refl

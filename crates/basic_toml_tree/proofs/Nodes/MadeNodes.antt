@@ -18,8 +18,8 @@ use Rattle.basic_toml_tree.specs.declared.item.Item.TheOpen.{Item-F}
 use Rattle.basic_toml_tree.specs.declared.item.Child.{Child}
 use Rattle.basic_toml_tree.specs.declared.item.Table.{Table, out-Table}
 use Rattle.basic_toml_tree.specs.declared.node.Node.{Node}
-use Rattle.basic_toml_tree.specs.declared.node.Spot.{Spot}
-use Rattle.basic_toml_tree.specs.declared.node.Spot.TheVariants as spots
+use Rattle.basic_toml_tree.specs.declared.spot.Spot.{Spot}
+use Rattle.basic_toml_tree.specs.declared.spot.Spot.TheVariants as spots
 use Rattle.basic_toml_tree.specs.Item.{item_trie, table_trie}
 use Rattle.basic_toml_tree.specs.Origin.{spot_is_made, is_made, spot_name, name_of, holds_tables, item_name, last_at}
 use Rattle.basic_toml_tree.specs.Origin.{start_of, outer_of, offset_of, is_array_literal}
@@ -28,8 +28,8 @@ use Rattle.basic_toml_tree.specs.Stands.{trie_at, tree_trie, spot_trie, wraps_ta
 use Rattle.basic_toml_tree.specs.Stands.{ForetoldMade}
 use Rattle.basic_toml_tree.proofs.HeadersMake.{stands_made, stands_array, made_is, array_is}
 use Rattle.basic_toml_tree.proofs.ItemTries.{table_entries_trie}
-use Rattle.basic_toml_tree.proofs.ItemsStand.{item_standing, standing_here}
-use Rattle.basic_toml_tree.proofs.NodesStand.{tells_table}
+use Rattle.basic_toml_tree.proofs.Nodes.ItemsStand.{item_standing, standing_here}
+use Rattle.basic_toml_tree.proofs.Nodes.NodesStand.{tells_table}
 
 same_way : (p : Path) (t : Trie) → trie_at p t ≡ descend p t
 same_way [] t = refl

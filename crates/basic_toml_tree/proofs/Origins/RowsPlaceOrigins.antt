@@ -18,10 +18,10 @@ use Rattle.basic_toml_tree.specs.Origins.{child_origins}
 use Rattle.basic_toml_tree.specs.Origins.{item_origins, table_within, with_more, or_else, beyond, row_origins}
 use Rattle.basic_toml_tree.proofs.ItemTries.{with_entries, entries_with}
 use Rattle.basic_toml_tree.proofs.KeysInATrie.{with_twice}
-use Rattle.basic_toml_tree.proofs.OriginsSeen.{child_seen, table_seen, made_seen, nothing_seen, table_item_seen}
-use Rattle.basic_toml_tree.proofs.OriginsSeen.{nothing_comes}
+use Rattle.basic_toml_tree.proofs.Origins.OriginsSeen.{child_seen, table_seen, made_seen, nothing_seen, table_item_seen}
+use Rattle.basic_toml_tree.proofs.Origins.OriginsSeen.{nothing_comes}
 use Rattle.basic_toml_tree.proofs.MetTellsStop.{dotted_fields}
-use Rattle.basic_toml_tree.proofs.OriginsSeen.{grows_at, table_origins}
+use Rattle.basic_toml_tree.proofs.Origins.OriginsSeen.{grows_at, table_origins}
 
 pub origins_on : (k : List ℕ) (ks : KeyTexts) (last : List ℕ) (o : Origin) (below : Origins)
     → row_origins (k ∷ (ks ++ last ∷ [])) o below ≡ beyond (key k) (entry o (row_origins (ks ++ last ∷ []) o below))

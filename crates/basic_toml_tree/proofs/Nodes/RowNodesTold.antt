@@ -17,8 +17,8 @@ use Rattle.basic_toml_tree.specs.Origin.{is_made, spot_name, name_of, start_of, 
 use Rattle.basic_toml_tree.specs.Origins.{Origin}
 use Rattle.basic_toml_tree.specs.Ways.{sections_origins}
 use Rattle.basic_toml_tree.specs.Stands.{spot_origin, tree_origins, IsNodeAt, Foretold}
-use Rattle.basic_toml_tree.proofs.MadeNodes.{made_name_told, made_start_told, made_told}
-use Rattle.basic_toml_tree.proofs.RowsAreNodes.{Same, of_node, of_origin, sections_same}
+use Rattle.basic_toml_tree.proofs.Nodes.MadeNodes.{made_name_told, made_start_told, made_told}
+use Rattle.basic_toml_tree.proofs.Origins.RowsAreNodes.{Same, of_node, of_origin, sections_same}
 
 -- the list's sections, where they stand
 located_any : (f : Section → Bool) (before ss : List Section)

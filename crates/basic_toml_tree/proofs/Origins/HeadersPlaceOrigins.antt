@@ -31,8 +31,8 @@ use Rattle.basic_toml_tree.proofs.KeysInATrie.{tries_of, stood_there}
 use Rattle.basic_toml_tree.proofs.LatestInATrie.{find_latest}
 use Rattle.basic_toml_tree.proofs.TablesOpened.{named_fields, numbered_fields, tables_trie, nothing_trie}
 use Rattle.basic_toml_tree.proofs.TablesOpened.{table_item_trie}
-use Rattle.basic_toml_tree.proofs.OriginsSeen.{child_seen, below_seen, nothing_seen, table_item_seen}
-use Rattle.basic_toml_tree.proofs.OriginsSeen.{table_origins, nothing_comes, fresh_within, grows_at}
+use Rattle.basic_toml_tree.proofs.Origins.OriginsSeen.{child_seen, below_seen, nothing_seen, table_item_seen}
+use Rattle.basic_toml_tree.proofs.Origins.OriginsSeen.{table_origins, nothing_comes, fresh_within, grows_at}
 
 -- a way, a node at a time
 way_through : (a : Bool) (k : List ℕ) (keys : KeyTexts) (p n d : Bool) (ts : Tries)

@@ -25,7 +25,7 @@ use Rattle.basic_toml_tree.specs.Origins.{item_origins, child_origins, table_wit
 use Rattle.basic_toml_tree.proofs.ItemTries.{child_item_trie, table_entries_trie}
 use Rattle.basic_toml_clash.proofs.KeysChanged.{value_at-map, stood_or_fresh, put_at, kept_elsewhere}
 use Rattle.basic_toml_tree.proofs.KeysInATrie.{tries_of}
-use Rattle.basic_toml_tree.proofs.ItemsStand.{shape, standing_here, item_standing}
+use Rattle.basic_toml_tree.proofs.Nodes.ItemsStand.{shape, standing_here, item_standing}
 
 -- a child and a table, by their parts
 pub child_seen : (c : Child)

@@ -1,0 +1,9 @@
+-- The nodes of a tree: where they stand, and what they are by the section list.
+pub mod NodesInOrder
+pub mod NodesStand
+pub mod NodesCome
+pub mod ItemsStand
+pub mod LastSection
+pub mod MadeNodes
+pub mod RowNodesTold
+pub mod PlacesTold

@@ -1,0 +1,53 @@
+//! What a node is, and what it is called.
+
+ghost use Rattle.std.specs.Prelude.{◌≡◌};
+ghost use Rattle.basic_toml_tree.specs.Origin.{spot_is_made, spot_name};
+
+use crate::item::{Item, Table};
+
+/// What a node is.
+#[derive(Clone, Copy)]
+pub(crate) enum Spot<'t, 'de> {
+    /// A table of headers or of dotted keys.
+    Table(&'t Table<'de>),
+    Item(&'t Item<'de>),
+}
+
+impl<'t, 'de> Spot<'t, 'de> {
+    /// Whether headers made it, where so many keys lead to it.
+    pub fn is_made(self, count: usize) -> bool
+        ensures { result ≡ spot_is_made count self.entry }
+    {
+        match self {
+            Spot::Table(table) => count == 0 || table.is_made(),
+            Spot::Item(Item::Tables(_, _)) => true,
+            _ => false,
+        }
+    }
+
+    /// What it is called, where so many keys lead to it.
+    pub fn type_name(self, count: usize) -> &'static str
+        ensures { result.now ≡ spot_name count self.entry }
+    {
+        match self {
+            Spot::Table(_) => {
+                if self.is_made(count) {
+                    "table"
+                } else {
+                    "dotted table"
+                }
+            }
+            Spot::Item(item) => match item {
+                Item::Nothing => "dotted table",
+                Item::Integer(_) => "integer",
+                Item::Float(_) => "float",
+                Item::Boolean(_) => "boolean",
+                Item::String(_) => "string",
+                Item::Array(_) => "array",
+                Item::Inline(_) => "inline table",
+                Item::Table(_) => "dotted table",
+                Item::Tables(_, _) => "array",
+            },
+        }
+    }
+}
