@@ -38,7 +38,7 @@ fn takes_tokens(rt: HostRuntime) -> Result<(), Fail> {
     let mut tokens = Tokenizer::new("a = 'b'");
     for (start, end) in [(0, 1), (1, 2), (2, 3), (3, 4), (4, 7)] {
         let next = tokens.next(alloc)?;
-        assert!(rt; next.is_some_and(|(span, _)| span == Span { start, end }));
+        assert!(rt; matches!(&next, Some((span, _)) if *span == Span { start, end }));
     }
     assert!(rt; tokens.next(alloc)?.is_none());
     assert_eq!(rt; line_col("a\nbc", 3), (1, 1));
