@@ -18,6 +18,7 @@ ghost use Rattle.basic_toml_tree.specs.RowStops.{line_keys, key_at, TellsLast, T
 ghost use Rattle.basic_toml_tree.specs.RowStops.{SaysHeld};
 ghost use Rattle.basic_toml_tree.specs.Rows.{all_dots, is_dot, reason, met_reason};
 
+use crate::drained::drained;
 use crate::item::{Child, Item, Table};
 use basic_toml_clash::{Clash, texts_of};
 use basic_toml_read::{Element, Raw, Row};
@@ -237,7 +238,7 @@ pub(crate) fn enter_rows<'de>(
     }
     let mut table = table;
     let mut keys = Vec::new(alloc);
-    for row in rows.into_iter() {
+    for row in drained(rows) {
         if row.is_dot() {
             keys.push(row)?;
             continue;
@@ -349,7 +350,7 @@ fn finished_elements<'de>(
         ≡ elements_origins section (elements_view elements.entry.items)) }
 {
     let mut children = Vec::with_capacity(alloc, elements.len())?;
-    for element in elements.into_iter() {
+    for element in drained(elements) {
         let Element { offset, value } = element;
         if is_dot_value(&value) {
             continue;

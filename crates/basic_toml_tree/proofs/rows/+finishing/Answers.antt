@@ -9,7 +9,7 @@ use Rattle.basic_toml_grammar.specs.Standing as standings
 use Rattle.basic_toml_tree.specs.Item.{child_trie, table_trie}
 use Rattle.basic_toml_tree.specs.Rows.{AreIn, AreKeptOut, IsFinished, AreFinished, key_texts}
 use Rattle.basic_toml_tree.proofs.RowsEntered.{boxed_trie, row_key}
-use Rattle.basic_toml_tree.proofs.RowsLeft.{AreLeft, has_value, row_entered, row_kept_out, none_left, nothing_left}
+use Rattle.basic_toml_tree.proofs.RowsLeft.{AreLeft, has_value, row_entered, row_kept_out, none_left}
 use Rattle.basic_toml_tree.proofs.RowsLeft.{row_stopped, no_value, no_rows_left}
 use Rattle.basic_toml_tree.proofs.RowValues.{value_stopped, met_stopped}
 use Rattle.basic_toml_tree.proofs.InlineTables.{inline_stopped}
@@ -42,55 +42,53 @@ enter_rows-returns-then-is_empty-clause-entered t c =
 pub enter_rows-returns-in_err-table-clause-entered : goal.enter_rows-returns-in_err-table-clause-entered
 enter_rows-returns-in_err-table-clause-entered t c =
     let p = err_from_is_err_and c.from_residual-in_err-table.result c.from_residual-in_err-table.ensures.1 in
-    let start : c.into_iter-row-iterator.result.rest.items ≡ c.args.rows.items =
-    ap (λ i. i.rest.items) c.into_iter-row-iterator.ensures.into_iter_gives ∙ c.into_iter-row-items.ensures.rest in
+    let start : c.into_iter-row-iterator.result ≡ c.args.rows.items =
+    c.into_iter-row-iterator.ensures.into_iter_gives ∙ c.drained-row-items.ensures in
     let before = table_trie c.args.table.value in
     let now = table_trie c.loop-row.table.value in
     let keys = c.loop-row.keys.items in
-    let rest = c.next.new.self.rest.items in
+    let rest = c.next.new.self in
     let row = c.in-Some.row in
-    let left = subst (λ (rows : List Row). AreLeft (rows_view c.into_iter-row-iterator.result.rest.items)
+    let left = subst (λ (rows : List Row). AreLeft (rows_view c.into_iter-row-iterator.result)
     c.args.level before keys rows now)
-    c.in-Some.ensures.steps.0 c.loop-row.invariant.0 in
+    c.in-Some.ensures.steps c.loop-row.invariant.0 in
     let kept = subst (λ (ks : List Row). AreKeptOut (rows_view (ks ++ row ∷ [])) c.args.level now
     c.in_err-table.field-0.0)
     c.as_slice.ensures.value c.in_err-table.ensures.entered in
     rw (p.1, p.2) (subst (λ (rows : List Row). AreKeptOut (rows_view rows) c.args.level before
     c.in_err-table.field-0.0) start
-    (row_kept_out (rows_view c.into_iter-row-iterator.result.rest.items) c.args.level before keys row rest now left
+    (row_kept_out (rows_view c.into_iter-row-iterator.result) c.args.level before keys row rest now left
     (sym c.is_dot.ensures ∙ c.if-is_dot.false) c.in_err-table.field-0.0 kept))
 
 pub enter_rows-returns-clause-entered : goal.enter_rows-returns-clause-entered
 enter_rows-returns-clause-entered t c =
-    let start : c.into_iter-row-iterator.result.rest.items ≡ c.args.rows.items =
-    ap (λ i. i.rest.items) c.into_iter-row-iterator.ensures.into_iter_gives ∙ c.into_iter-row-items.ensures.rest in
+    let start : c.into_iter-row-iterator.result ≡ c.args.rows.items =
+    c.into_iter-row-iterator.ensures.into_iter_gives ∙ c.drained-row-items.ensures in
     let before = table_trie c.args.table.value in
     let now = table_trie c.loop-row.table.value in
-    let none : length c.loop-row.row-iterator.rest.items ≡ 0 = sym c.loop-row.row-iterator.rest.ok.0
-    ∙ c.in-None.ensures.steps.0 in
-    let left = subst (λ (rows : List Row). AreLeft (rows_view c.into_iter-row-iterator.result.rest.items)
+    let left = subst (λ (rows : List Row). AreLeft (rows_view c.into_iter-row-iterator.result)
     c.args.level before
-    c.loop-row.keys.items rows now) (nothing_left _ none) c.loop-row.invariant.0 in
+    c.loop-row.keys.items rows now) c.in-None.ensures.steps.0 c.loop-row.invariant.0 in
     subst (λ (rows : List Row). AreIn (rows_view rows) c.args.level before now) start
-    (none_left c.into_iter-row-iterator.result.rest.items c.loop-row.keys.items c.args.level before now left)
+    (none_left c.into_iter-row-iterator.result c.loop-row.keys.items c.args.level before now left)
 
 pub enter_rows-loop-row-preserved : goal.enter_rows-loop-row-preserved
 enter_rows-loop-row-preserved t c =
     let before = table_trie c.args.table.value in
     let now = table_trie c.loop-row.table.value in
     let after = table_trie c.in_ok-table.table.value in
-    let whole = rows_view c.into_iter-row-iterator.result.rest.items in
+    let whole = rows_view c.into_iter-row-iterator.result in
     let keys = c.loop-row.keys.items in
-    let rest = c.next.new.self.rest.items in
+    let rest = c.next.new.self in
     let row = c.in-Some.row in
-    let left = subst (λ (rows : List Row). AreLeft whole c.args.level before keys rows now) c.in-Some.ensures.steps.0
+    let left = subst (λ (rows : List Row). AreLeft whole c.args.level before keys rows now) c.in-Some.ensures.steps
     c.loop-row.invariant.0 in
     let entered = subst (λ (ks : List Row). AreIn (rows_view (ks ++ row ∷ [])) c.args.level now after)
     c.as_slice.ensures.value c.in_ok-table.ensures.entered in
     let s = c.args.section in
     let is_row : is_dot row ≡ false = sym c.is_dot.ensures ∙ c.if-is_dot.false in
     let come = subst (λ (rows : List Row). OriginsLeft s whole (table_within c.args.table.value) keys rows
-    (table_within c.loop-row.table.value)) c.in-Some.ensures.steps.0 c.loop-row.invariant.1 in
+    (table_within c.loop-row.table.value)) c.in-Some.ensures.steps c.loop-row.invariant.1 in
     let more = c.in_ok-table.ensures.origins
     ∙ ap (λ ks. with_more (table_within c.loop-row.table.value) (rows_origins s (rows_view (ks ++ row ∷ []))))
     c.as_slice.ensures.value in (
@@ -133,38 +131,35 @@ pub finished_elements-loop-element-preserved : goal.finished_elements-loop-eleme
 finished_elements-loop-element-preserved t c =
     let some = has_value (raw_of c.in-Some.element.value) (sym {A = Bool} c.is_dot_value.ensures
     ∙ c.if-is_dot_value.false) in
-    let whole = elements_view c.into_iter-element-iterator.result.rest.items in
+    let whole = elements_view c.into_iter-element-iterator.result in
     let left = subst (λ (es : List Element). ElementsAreLeft whole c.args.level (map child_trie
     c.loop-element.children.items)
-    (elements_view es)) c.in-Some.ensures.steps.0 c.loop-element.invariant.0 in
+    (elements_view es)) c.in-Some.ensures.steps c.loop-element.invariant.0 in
     let entered = element_entered whole c.args.level c.loop-element.children.items c.in_ok-finished.field-0
     c.in-Some.element
-    c.next.new.self.rest.items some.0 some.1 left (c.in_ok-finished.ensures.finished some.0 some.1) in
+    c.next.new.self some.0 some.1 left (c.in_ok-finished.ensures.finished some.0 some.1) in
     let s = c.args.section in
     let come = subst (λ (es : List Element). ElementsCome s whole c.loop-element.children.items (elements_view es))
-    c.in-Some.ensures.steps.0 c.loop-element.invariant.1 in (
+    c.in-Some.ensures.steps c.loop-element.invariant.1 in (
       subst (λ (cs : List Child). ElementsAreLeft whole c.args.level (map child_trie cs) (elements_view
-          c.next.new.self.rest.items))
+          c.next.new.self))
           (sym c.in_ok-push.ensures.items) entered,
-      subst (λ (cs : List Child). ElementsCome s whole cs (elements_view c.next.new.self.rest.items))
+      subst (λ (cs : List Child). ElementsCome s whole cs (elements_view c.next.new.self))
           (sym c.in_ok-push.ensures.items)
           (element_comes s whole c.loop-element.children.items c.in_ok-finished.field-0 c.in-Some.element
-          c.next.new.self.rest.items some.0 some.1 come (c.in_ok-finished.ensures.origins some.0 some.1)),
+          c.next.new.self some.0 some.1 come (c.in_ok-finished.ensures.origins some.0 some.1)),
     )
 
 pub finished_elements-returns-clause-finished : goal.finished_elements-returns-clause-finished
 finished_elements-returns-clause-finished t c =
-    let start : c.into_iter-element-iterator.result.rest.items ≡ c.args.elements.items =
-    ap (λ i. i.rest.items) c.into_iter-element-iterator.ensures.into_iter_gives
-    ∙ c.into_iter-element-items.ensures.rest in
-    let none : length c.loop-element.element-iterator.rest.items ≡ 0 =
-    sym c.loop-element.element-iterator.rest.ok.0 ∙ c.in-None.ensures.steps.0 in
+    let start : c.into_iter-element-iterator.result ≡ c.args.elements.items =
+    c.into_iter-element-iterator.ensures.into_iter_gives ∙ c.drained-element-items.ensures in
     let ts = map child_trie c.loop-element.children.items in
     let left = subst (λ (es : List Element). ElementsAreLeft (elements_view
-    c.into_iter-element-iterator.result.rest.items)
-    c.args.level ts (elements_view es)) (nothing_left _ none) c.loop-element.invariant.0 in
+    c.into_iter-element-iterator.result)
+    c.args.level ts (elements_view es)) c.in-None.ensures.steps.0 c.loop-element.invariant.0 in
     subst (λ (es : List Element). AreFinished (elements_view es) c.args.level ts) start
-    (elements_done (elements_view c.into_iter-element-iterator.result.rest.items) c.args.level ts left)
+    (elements_done (elements_view c.into_iter-element-iterator.result) c.args.level ts left)
 
 pub finished-returns-in_err-table-in-Inline-clause-finished :
     goal.finished-returns-in_err-table-in-Inline-clause-finished
@@ -186,17 +181,17 @@ finished-returns-in_ok-table-in-Inline-clause-finished t c = λ v seen.
 pub enter_rows-returns-in_err-table-clause-named : goal.enter_rows-returns-in_err-table-clause-named
 enter_rows-returns-in_err-table-clause-named t c =
     let p = err_from_is_err_and c.from_residual-in_err-table.result c.from_residual-in_err-table.ensures.1 in
-    let start : c.into_iter-row-iterator.result.rest.items ≡ c.args.rows.items =
-    ap (λ i. i.rest.items) c.into_iter-row-iterator.ensures.into_iter_gives ∙ c.into_iter-row-items.ensures.rest in
+    let start : c.into_iter-row-iterator.result ≡ c.args.rows.items =
+    c.into_iter-row-iterator.ensures.into_iter_gives ∙ c.drained-row-items.ensures in
     let before = table_trie c.args.table.value in
     let now = table_trie c.loop-row.table.value in
     let keys = c.loop-row.keys.items in
-    let rest = c.next.new.self.rest.items in
+    let rest = c.next.new.self in
     let row = c.in-Some.row in
     let clash = c.in_err-table.field-0.0 in
-    let whole = rows_view c.into_iter-row-iterator.result.rest.items in
+    let whole = rows_view c.into_iter-row-iterator.result in
     let left = subst (λ (rows : List Row). AreLeft whole c.args.level before keys rows now)
-    c.in-Some.ensures.steps.0 c.loop-row.invariant.0 in
+    c.in-Some.ensures.steps c.loop-row.invariant.0 in
     let named = subst (λ (ks : List Row). NamesStop (try_put_rows (rows_view (ks ++ row ∷ [])) now) clash)
     c.as_slice.ensures.value c.in_err-table.ensures.named in
     rw (p.1, p.2) (subst (λ (rows : List Row). NamesStop (try_put_rows (rows_view rows) before) clash) start
@@ -237,35 +232,34 @@ pub finished_elements-returns-in_err-finished-clause-named :
     goal.finished_elements-returns-in_err-finished-clause-named
 finished_elements-returns-in_err-finished-clause-named t c =
     let p = err_from_is_err_and c.from_residual-in_err-finished.result c.from_residual-in_err-finished.ensures.1 in
-    let start : c.into_iter-element-iterator.result.rest.items ≡ c.args.elements.items =
-    ap (λ i. i.rest.items) c.into_iter-element-iterator.ensures.into_iter_gives
-    ∙ c.into_iter-element-items.ensures.rest in
+    let start : c.into_iter-element-iterator.result ≡ c.args.elements.items =
+    c.into_iter-element-iterator.ensures.into_iter_gives ∙ c.drained-element-items.ensures in
     let some = has_value (raw_of c.in-Some.element.value) (sym {A = Bool} c.is_dot_value.ensures
     ∙ c.if-is_dot_value.false) in
     let clash = c.in_err-finished.field-0.0 in
-    let whole = elements_view c.into_iter-element-iterator.result.rest.items in
+    let whole = elements_view c.into_iter-element-iterator.result in
     let ts = map child_trie c.loop-element.children.items in
     let left = subst (λ (es : List Element). ElementsAreLeft whole c.args.level ts (elements_view es))
-    c.in-Some.ensures.steps.0 c.loop-element.invariant.0 in
+    c.in-Some.ensures.steps c.loop-element.invariant.0 in
     rw (p.1, p.2) (subst (λ (es : List Element). NamesStop (try_put_elements (elements_view es)) clash) start
-    (element_stopped whole c.args.level ts c.in-Some.element c.next.new.self.rest.items some.0 clash some.1 left
+    (element_stopped whole c.args.level ts c.in-Some.element c.next.new.self some.0 clash some.1 left
     (c.in_err-finished.ensures.named some.0 some.1)))
 
 pub finished_elements-loop-element-preserved-then-is_dot_value :
     goal.finished_elements-loop-element-preserved-then-is_dot_value
 finished_elements-loop-element-preserved-then-is_dot_value t c =
-    let whole = elements_view c.into_iter-element-iterator.result.rest.items in
+    let whole = elements_view c.into_iter-element-iterator.result in
     let ts = map child_trie c.loop-element.children.items in
     let left = subst (λ (es : List Element). ElementsAreLeft whole c.args.level ts (elements_view es))
-    c.in-Some.ensures.steps.0 c.loop-element.invariant.0 in
+    c.in-Some.ensures.steps c.loop-element.invariant.0 in
     let none = no_value (raw_of c.in-Some.element.value) (sym {A = Bool} c.is_dot_value.ensures
     ∙ c.if-is_dot_value.true) in
     let come = subst (λ (es : List Element). ElementsCome c.args.section whole c.loop-element.children.items
-    (elements_view es)) c.in-Some.ensures.steps.0 c.loop-element.invariant.1 in (
+    (elements_view es)) c.in-Some.ensures.steps c.loop-element.invariant.1 in (
       subst (λ (es : Elements). ElementsAreLeft whole c.args.level ts es)
-          (element_skipped c.in-Some.element c.next.new.self.rest.items none) left,
+          (element_skipped c.in-Some.element c.next.new.self none) left,
       subst (λ (es : Elements). ElementsCome c.args.section whole c.loop-element.children.items es)
-          (element_skipped c.in-Some.element c.next.new.self.rest.items none) come,
+          (element_skipped c.in-Some.element c.next.new.self none) come,
     )
 
 -- where what is put into the table comes from
@@ -276,14 +270,12 @@ enter_rows-returns-then-is_empty-clause-origins t c =
 
 pub enter_rows-returns-clause-origins : goal.enter_rows-returns-clause-origins
 enter_rows-returns-clause-origins t c =
-    let start : c.into_iter-row-iterator.result.rest.items ≡ c.args.rows.items =
-    ap (λ i. i.rest.items) c.into_iter-row-iterator.ensures.into_iter_gives ∙ c.into_iter-row-items.ensures.rest in
-    let none : length c.loop-row.row-iterator.rest.items ≡ 0 = sym c.loop-row.row-iterator.rest.ok.0
-    ∙ c.in-None.ensures.steps.0 in
+    let start : c.into_iter-row-iterator.result ≡ c.args.rows.items =
+    c.into_iter-row-iterator.ensures.into_iter_gives ∙ c.drained-row-items.ensures in
     let come = subst (λ (rows : List Row). OriginsLeft c.args.section (rows_view
-    c.into_iter-row-iterator.result.rest.items) (table_within c.args.table.value) c.loop-row.keys.items rows
-    (table_within c.loop-row.table.value)) (nothing_left _ none) c.loop-row.invariant.1 in
-    origins_done c.args.section (rows_view c.into_iter-row-iterator.result.rest.items)
+    c.into_iter-row-iterator.result) (table_within c.args.table.value) c.loop-row.keys.items rows
+    (table_within c.loop-row.table.value)) c.in-None.ensures.steps.0 c.loop-row.invariant.1 in
+    origins_done c.args.section (rows_view c.into_iter-row-iterator.result)
     (table_within c.args.table.value) (table_within c.loop-row.table.value) c.loop-row.keys.items
     c.loop-row.invariant.0.dots come
     ∙ ap (λ rows. with_more (table_within c.args.table.value) (rows_origins c.args.section (rows_view rows))) start
@@ -297,15 +289,12 @@ enter_value-returns-in-Ok-enter_row-clause-origins t c =
 
 pub finished_elements-returns-clause-origins : goal.finished_elements-returns-clause-origins
 finished_elements-returns-clause-origins t c =
-    let start : c.into_iter-element-iterator.result.rest.items ≡ c.args.elements.items =
-    ap (λ i. i.rest.items) c.into_iter-element-iterator.ensures.into_iter_gives
-    ∙ c.into_iter-element-items.ensures.rest in
-    let none : length c.loop-element.element-iterator.rest.items ≡ 0 =
-    sym c.loop-element.element-iterator.rest.ok.0 ∙ c.in-None.ensures.steps.0 in
+    let start : c.into_iter-element-iterator.result ≡ c.args.elements.items =
+    c.into_iter-element-iterator.ensures.into_iter_gives ∙ c.drained-element-items.ensures in
     let come = subst (λ (es : List Element). ElementsCome c.args.section (elements_view
-    c.into_iter-element-iterator.result.rest.items) c.loop-element.children.items (elements_view es))
-    (nothing_left _ none) c.loop-element.invariant.1 in
-    elements_come c.args.section (elements_view c.into_iter-element-iterator.result.rest.items)
+    c.into_iter-element-iterator.result) c.loop-element.children.items (elements_view es))
+    c.in-None.ensures.steps.0 c.loop-element.invariant.1 in
+    elements_come c.args.section (elements_view c.into_iter-element-iterator.result)
     c.loop-element.children.items come
     ∙ ap (λ es. elements_origins c.args.section (elements_view es)) start
 

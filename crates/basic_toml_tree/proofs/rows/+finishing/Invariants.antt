@@ -22,14 +22,14 @@ decreases-finished_elements l = 3 * (128 - l.level) + 1
 -- what the rows that are left put into the table as it is, all put into it as it was
 abbrev pub invariant-enter_rows-loop-row : goal.invariant-enter_rows-loop-row
 invariant-enter_rows-loop-row l =
-    AreLeft (rows_view l.initial.row-iterator.rest.items) l.level (table_trie l.initial.table.value) l.keys.items
-    l.row-iterator.rest.items (table_trie l.table.value)
-    × OriginsLeft l.section (rows_view l.initial.row-iterator.rest.items) (table_within l.initial.table.value)
-    l.keys.items l.row-iterator.rest.items (table_within l.table.value)
+    AreLeft (rows_view l.initial.row-iterator) l.level (table_trie l.initial.table.value) l.keys.items
+    l.row-iterator (table_trie l.table.value)
+    × OriginsLeft l.section (rows_view l.initial.row-iterator) (table_within l.initial.table.value)
+    l.keys.items l.row-iterator (table_within l.table.value)
 
 abbrev pub invariant-finished_elements-loop-element : goal.invariant-finished_elements-loop-element
 invariant-finished_elements-loop-element l =
-    ElementsAreLeft (elements_view l.initial.element-iterator.rest.items) l.level (map child_trie l.children.items)
-    (elements_view l.element-iterator.rest.items)
-    × ElementsCome l.section (elements_view l.initial.element-iterator.rest.items) l.children.items
-    (elements_view l.element-iterator.rest.items)
+    ElementsAreLeft (elements_view l.initial.element-iterator) l.level (map child_trie l.children.items)
+    (elements_view l.element-iterator)
+    × ElementsCome l.section (elements_view l.initial.element-iterator) l.children.items
+    (elements_view l.element-iterator)

@@ -12,41 +12,39 @@ use Rattle.basic_toml_tree.proofs.values.+moves.Goals as goal
 
 pub into_elements-into_value-requires : goal.into_elements-into_value-requires
 into_elements-into_value-requires t c =
-    let start : c.into_iter-child-iterator.result.rest.items ≡ c.args.children.items =
-    search (rules, c.into_iter-child-iterator.ensures, c.into_iter-child-items.ensures.rest)
-    in
+    let start : c.into_iter-child-iterator.result ≡ c.args.children.items =
+    c.into_iter-child-iterator.ensures.into_iter_gives ∙ c.drained-child-items.ensures in
     let smaller = items_size-rest (map view c.loop-child.elements.items) child_data c.in-Some.child
-    c.next.new.self.rest.items c.into_iter-child-iterator.result.rest.items
-    (ap (λ l. map view c.loop-child.elements.items ++ map child_data l) (sym c.in-Some.ensures.steps.0)
+    c.next.new.self c.into_iter-child-iterator.result
+    (ap (λ l. map view c.loop-child.elements.items ++ map child_data l) (sym c.in-Some.ensures.steps)
     ∙ c.loop-child.invariant) in
     let same = child_item c.in-Some.child in
     (omega (arith, ap data_size same, ap (λ l. items_size (items_of (map child_data l))) start), tt)
 
 pub into_elements-loop-child-preserved : goal.into_elements-loop-child-preserved
 into_elements-loop-child-preserved t c =
-    mapped_next view child_data c.loop-child.elements.items c.push.new.self.items c.loop-child.child-iterator.rest.items
-    c.next.new.self.rest.items c.into_iter-child-iterator.result.rest.items c.in_ok-into_value.field-0 c.in-Some.child
-    c.in-Some.ensures.steps.0 c.in_ok-push.ensures.items c.loop-child.invariant
+    mapped_next view child_data c.loop-child.elements.items c.push.new.self.items c.loop-child.child-iterator
+    c.next.new.self c.into_iter-child-iterator.result c.in_ok-into_value.field-0 c.in-Some.child
+    c.in-Some.ensures.steps c.in_ok-push.ensures.items c.loop-child.invariant
     (c.in_ok-into_value.ensures ∙ sym (child_item c.in-Some.child))
 
 pub into_entries-into_value-requires : goal.into_entries-into_value-requires
 into_entries-into_value-requires t c =
-    let start : c.into_iter-pair-iterator.result.rest.items ≡ c.args.pairs.items =
-    search (rules, c.into_iter-pair-iterator.ensures, c.into_iter-pair-items.ensures.rest)
-    in
+    let start : c.into_iter-pair-iterator.result ≡ c.args.pairs.items =
+    c.into_iter-pair-iterator.ensures.into_iter_gives ∙ c.drained-pair-items.ensures in
     let smaller = members_size-rest (map value_pair c.loop-pair.moved.items) child_pair c.in-Some.pair
-    c.next.new.self.rest.items c.into_iter-pair-iterator.result.rest.items
-    (ap (λ l. map value_pair c.loop-pair.moved.items ++ map child_pair l) (sym c.in-Some.ensures.steps.0)
+    c.next.new.self c.into_iter-pair-iterator.result
+    (ap (λ l. map value_pair c.loop-pair.moved.items ++ map child_pair l) (sym c.in-Some.ensures.steps)
     ∙ c.loop-pair.invariant) in
     let same = child_item c.in-Some.pair.value in
     (omega (arith, ap data_size same, ap (λ l. members_size (members_of (map child_pair l))) start), tt)
 
 pub into_entries-loop-pair-preserved : goal.into_entries-loop-pair-preserved
 into_entries-loop-pair-preserved t c =
-    mapped_next value_pair child_pair c.loop-pair.moved.items c.push.new.self.items c.loop-pair.pair-iterator.rest.items
-    c.next.new.self.rest.items c.into_iter-pair-iterator.result.rest.items
+    mapped_next value_pair child_pair c.loop-pair.moved.items c.push.new.self.items c.loop-pair.pair-iterator
+    c.next.new.self c.into_iter-pair-iterator.result
     (record { key = c.in-Some.pair.key; value = c.in_ok-value.value }) c.in-Some.pair
-    c.in-Some.ensures.steps.0 c.in_ok-push.ensures.items c.loop-pair.invariant
+    c.in-Some.ensures.steps c.in_ok-push.ensures.items c.loop-pair.invariant
     (rw (c.in_ok-value.ensures, child_item c.in-Some.pair.value) refl)
 
 pub into_table-into_entries-requires : goal.into_table-into_entries-requires
@@ -69,20 +67,19 @@ into_table-returns t c =
 
 pub into_tables-into_table-requires : goal.into_tables-into_table-requires
 into_tables-into_table-requires t c =
-    let start : c.into_iter-table-iterator.result.rest.items ≡ c.args.tables.items =
-    search (rules, c.into_iter-table-iterator.ensures, c.into_iter-table-items.ensures.rest)
-    in
+    let start : c.into_iter-table-iterator.result ≡ c.args.tables.items =
+    c.into_iter-table-iterator.ensures.into_iter_gives ∙ c.drained-table-items.ensures in
     let smaller = items_size-rest (map view c.loop-table.elements.items) table_data c.in-Some.table
-    c.next.new.self.rest.items c.into_iter-table-iterator.result.rest.items
-    (ap (λ l. map view c.loop-table.elements.items ++ map table_data l) (sym c.in-Some.ensures.steps.0)
+    c.next.new.self c.into_iter-table-iterator.result
+    (ap (λ l. map view c.loop-table.elements.items ++ map table_data l) (sym c.in-Some.ensures.steps)
     ∙ c.loop-table.invariant) in
     (omega (arith, ap (λ l. items_size (items_of (map table_data l))) start), tt)
 
 pub into_tables-loop-table-preserved : goal.into_tables-loop-table-preserved
 into_tables-loop-table-preserved t c =
-    mapped_next view table_data c.loop-table.elements.items c.push.new.self.items c.loop-table.table-iterator.rest.items
-    c.next.new.self.rest.items c.into_iter-table-iterator.result.rest.items _ c.in-Some.table
-    c.in-Some.ensures.steps.0 c.in_ok-push.ensures.items c.loop-table.invariant
+    mapped_next view table_data c.loop-table.elements.items c.push.new.self.items c.loop-table.table-iterator
+    c.next.new.self c.into_iter-table-iterator.result _ c.in-Some.table
+    c.in-Some.ensures.steps c.in_ok-push.ensures.items c.loop-table.invariant
     (table_seen _ ∙ c.in_ok-into_table.ensures)
 
 pub into_value-into_tables-requires : goal.into_value-into_tables-requires

@@ -23,15 +23,15 @@ decreases-into_table l = 2 * data_size (table_data l.table)
 -- what was passed is moved, in order, and the rest is left
 abbrev pub invariant-into_elements-loop-child : goal.invariant-into_elements-loop-child
 invariant-into_elements-loop-child l =
-    map view l.elements.items ++ map child_data l.child-iterator.rest.items
-    ≡ map child_data l.initial.child-iterator.rest.items
+    map view l.elements.items ++ map child_data l.child-iterator
+    ≡ map child_data l.initial.child-iterator
 
 abbrev pub invariant-into_tables-loop-table : goal.invariant-into_tables-loop-table
 invariant-into_tables-loop-table l =
-    map view l.elements.items ++ map table_data l.table-iterator.rest.items
-    ≡ map table_data l.initial.table-iterator.rest.items
+    map view l.elements.items ++ map table_data l.table-iterator
+    ≡ map table_data l.initial.table-iterator
 
 abbrev pub invariant-into_entries-loop-pair : goal.invariant-into_entries-loop-pair
 invariant-into_entries-loop-pair l =
-    map value_pair l.moved.items ++ map child_pair l.pair-iterator.rest.items
-    ≡ map child_pair l.initial.pair-iterator.rest.items
+    map value_pair l.moved.items ++ map child_pair l.pair-iterator
+    ≡ map child_pair l.initial.pair-iterator
