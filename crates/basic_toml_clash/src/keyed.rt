@@ -7,13 +7,17 @@ use std::alloc::{AllocError, Global};
 use std::marker::Model;
 use std::mem;
 
-// Makes room for one more pair. The first has room for itself alone, since many tables hold no other.
+// Below so many pairs the room doubles from one, as many tables are small: a vector begins with room for four.
+const FEW: usize = 4;
+
+// Makes room for one more pair.
 fn make_room<V>(pairs: &mut Vec<Pair<V>>) -> Result<(), AllocError>
     ensures items { pairs.new.items ≡ pairs.old.items }
     ensures room { OnOk result (vec_len pairs.new < vec_capacity pairs.new) }
 {
-    if pairs.is_empty() {
-        return pairs.try_reserve_exact(1);
+    let count = pairs.len();
+    if count < FEW && count == pairs.capacity() {
+        return pairs.try_reserve_exact(count.max(1));
     }
     pairs.try_reserve(1)
 }
