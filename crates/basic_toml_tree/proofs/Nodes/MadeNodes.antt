@@ -26,7 +26,8 @@ use Rattle.basic_toml_tree.specs.Origin.{start_of, outer_of, offset_of, is_array
 use Rattle.basic_toml_tree.specs.Resolve.{Stands, only_root, head}
 use Rattle.basic_toml_tree.specs.Stands.{trie_at, tree_trie, spot_trie, wraps_table, is_wrapper, is_root, IsNodeAt}
 use Rattle.basic_toml_tree.specs.Stands.{ForetoldMade}
-use Rattle.basic_toml_tree.proofs.HeadersMake.{stands_made, stands_array, made_is, array_is}
+use Rattle.basic_toml_tree.specs.Outer.{stands_made}
+use Rattle.basic_toml_tree.proofs.HeadersMake.{stands_array, made_is, array_is}
 use Rattle.basic_toml_tree.proofs.ItemTries.{table_entries_trie}
 use Rattle.basic_toml_tree.proofs.Nodes.ItemsStand.{item_standing, standing_here}
 use Rattle.basic_toml_tree.proofs.Nodes.NodesStand.{tells_table}
