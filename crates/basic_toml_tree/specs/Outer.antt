@@ -3,6 +3,8 @@ use Rattle.std.specs.Prelude.{◌≡◌, ◌||◌, ℕ, Bool, true, false, if◌
 use Rattle.std.specs.Option.{IfSome}
 use Rattle.basic_toml_grammar.specs.Steps.{key, number, Path}
 use Rattle.basic_toml_grammar.specs.Standing.{Standing, table, array}
+use Rattle.basic_toml_tree.specs.declared.node.Node.{Node}
+use Rattle.basic_toml_tree.specs.Origin.{is_made}
 use Rattle.basic_toml_tree.specs.Origins.{Origin}
 
 -- no key is in it
@@ -28,3 +30,7 @@ pub record KeepsStart (p : Path) (there : Option Standing) (origin : Option Orig
   pub root : p ≡ [] → kept ≡ None
   pub made : stands_made there ≡ true → kept ≡ None
   pub row : IfSome origin (λ o. o.made ≡ false → kept ≡ Some o.start)
+
+-- what a node keeps of its own beginning for those below it
+abbrev pub kept_below : Node → Option ℕ
+kept_below node = if is_made node then None else Some node.start

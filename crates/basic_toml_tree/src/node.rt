@@ -22,6 +22,7 @@ ghost use Rattle.basic_toml_tree.specs.Stands.{IsNodeAt, Foretold, ForetoldMade}
 ghost use Rattle.basic_toml_tree.specs.Stands.{HoldsTable, IsBelow, IsBeside, IsTableBeside, AtKey, AtNumber, BeginsIn};
 ghost use Rattle.basic_toml_tree.specs.Stands.{ComesFrom};
 ghost use Rattle.basic_toml_tree.specs.Origins.{child_origins};
+ghost use Rattle.basic_toml_tree.specs.Outer.{kept_below};
 
 use crate::entries::{Elements, Entries};
 use crate::item::{Child, Item, Table};
@@ -126,6 +127,7 @@ impl<'t, 'de> Node<'t, 'de> {
         ensures data { node_data result ≡ child_data child.now }
         ensures below { IsBelow self.entry (child_trie child.now) result }
         ensures comes { ComesFrom (child_origins child.now) result }
+        ensures outer { result.outer ≡ kept_below self.entry }
     {
         let count = self.count.saturating_add(1);
         let outer = if self.is_made() {

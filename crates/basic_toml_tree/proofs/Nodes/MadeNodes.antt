@@ -70,13 +70,13 @@ array_in_trie sections t (inr none) p =
     go [] = refl
     go (s ∷ p) = ap (λ t. stands_array (standing t)) (none_below p)
 
-abbrev made_name : Bool → List ℕ
+abbrev pub made_name : Bool → List ℕ
 made_name b = if b then codes "array" else codes "table"
 
 -- that headers made what is here, its name, and that it is no array literal
-record IsMade (count : ℕ) (spot : Spot) : Type 0 where
-  made : spot_is_made count spot ≡ true
-  name : spot_name count spot ≡ made_name (stands_array (standing (spot_trie spot)))
+pub record IsMade (count : ℕ) (spot : Spot) : Type 0 where
+  pub made : spot_is_made count spot ≡ true
+  pub name : spot_name count spot ≡ made_name (stands_array (standing (spot_trie spot)))
 
 item_made : (count : ℕ) (b : Bor Item) (x : Item-F Item Child Table) (o : Option Standing) → out-Item b.now ≡ x
     → item_standing x o → standing (item_trie b.now) ≡ o → is_wrapper x ≡ false → stands_made o ≡ true
@@ -106,7 +106,7 @@ table_made count b made =
     }
 
 -- what stands as made, and the root
-spot_made : (count : ℕ) (spot : Spot) → wraps_table spot ≡ false → stands_made (standing (spot_trie spot)) ≡ true
+pub spot_made : (count : ℕ) (spot : Spot) → wraps_table spot ≡ false → stands_made (standing (spot_trie spot)) ≡ true
     → IsMade count spot
 spot_made count (spots.Table b) own made = table_made count b (or_right _ _ made)
 spot_made count (spots.Item b) own made =
@@ -124,7 +124,7 @@ not_table (Item-F.Inline z) o stands own p n d is = absurd (cc)
 not_table (Item-F.Table t) o stands own p n d is = absurd (cc)
 not_table (Item-F.Tables before latest) o stands own p n d is = absurd (false≢true (sym (ap stands_array is) ∙ stands))
 
-root_made : (count : ℕ) (spot : Spot) (t : Table) → wraps_table spot ≡ false → (count == 0) ≡ true
+pub root_made : (count : ℕ) (spot : Spot) (t : Table) → wraps_table spot ≡ false → (count == 0) ≡ true
     → spot_trie spot ≡ table_trie t → IsMade count spot
 root_made count (spots.Table b) t own none same = table_made count b (or_left _ _ none)
 root_made count (spots.Item b) t own none same =
