@@ -134,7 +134,7 @@ abbrev pub choose : (Path → Option ℕ) → List Line → Path → Option Node
 choose holder [] p = None
 choose holder (e ∷ es) p =
     if begins (path_of e) p then
-      node_in e.names (holder (front (path_of e))) e.at e.value (drop (length (path_of e)) p)
+    node_in e.names (holder (front (path_of e))) e.at e.value (drop (length (path_of e)) p)
     else if begins p (path_of e) then Some (dotted_node e.names (holder (front p)) e.at)
     else choose holder es p
 

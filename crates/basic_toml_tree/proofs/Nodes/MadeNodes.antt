@@ -182,7 +182,7 @@ foretold : (sections : List Section) (p : Path) (node : Node) (P : grammar.Node 
     → ForetoldMade sections p node P
 foretold sections p node P told is made = rw made (told is made)
 
-last_same : (sections : List Section) (p : Path) (node : Node) → IsNodeAt sections p node
+pub last_same : (sections : List Section) (p : Path) (node : Node) → IsNodeAt sections p node
     → last_at node.tree.now ≡ grammar.last_at sections
 last_same sections p node is = last_heads (map section_of node.tree.now.sections.items) sections is.resolved.heads
 
@@ -201,17 +201,17 @@ made_start_told start node same sections p = foretold sections p node (λ found.
     same ∙ ap (λ b. if b then last_at node.tree.now else Some node.start) told.0.made
     ∙ last_same sections p node is)
 
-pub outer_told : (outer : Option ℕ) (node : Node) → outer ≡ outer_of node → (sections : List Section) (p : Path)
+pub made_outer_told : (outer : Option ℕ) (node : Node) → outer ≡ outer_of node → (sections : List Section) (p : Path)
     → ForetoldMade sections p node (λ found. outer ≡ found.outer_offset)
 unfolding outer_of
-outer_told outer node same sections p = foretold sections p node (λ found. outer ≡ found.outer_offset)
+made_outer_told outer node same sections p = foretold sections p node (λ found. outer ≡ found.outer_offset)
     (λ is made. let told = is_told sections node p is made in
     same ∙ rw (told.0.made) (last_same sections p node is))
 
-pub offset_told : (offset : Option ℕ) (node : Node) → offset ≡ offset_of node → (sections : List Section) (p : Path)
+pub made_offset_told : (offset : Option ℕ) (node : Node) → offset ≡ offset_of node → (sections : List Section) (p : Path)
     → ForetoldMade sections p node (λ found. offset ≡ found.offset)
 unfolding offset_of start_of outer_of
-offset_told offset node same sections p = foretold sections p node (λ found. offset ≡ found.offset)
+made_offset_told offset node same sections p = foretold sections p node (λ found. offset ≡ found.offset)
     (λ is made. let told = is_told sections node p is made in
     same ∙ rw (told.0.made) (go (is_array_literal node.spot) ∙ last_same sections p node is))
   where
