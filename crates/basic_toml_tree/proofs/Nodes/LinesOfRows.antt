@@ -1,32 +1,27 @@
 -- The rows of values and of section lists, as lines: no line meets another one, and what is told of the nodes in their
 -- values.
-use Rattle.std.proofs.Common.{◌≡◌, ◌⊎◌, inl, inr, ℕ, zero, suc, Bool, true, false, cond, List, [], ◌∷◌, ◌++◌, Option}
-use Rattle.std.proofs.Common.{Some, None, refl, ap, sym, ◌∙◌, subst, length, drop}
+use Rattle.std.proofs.Common.{◌≡◌, ℕ, zero, suc, Bool, true, false, cond, List, [], ◌∷◌, ◌++◌, Option}
+use Rattle.std.proofs.Common.{Some, None, refl, ap, sym, ◌∙◌, length, drop}
 use Rattle.std.specs.Prelude.{◌||◌, ◌&&◌, if◌then◌else◌, not}
 use Rattle.std.specs.List.{list_any, list_all}
-use Rattle.std.specs.Option.{option_or}
-use Rattle.std.proofs.lemmas.Bool.{false≢true, and_parts, or_parts, or_from, or_right}
+use Rattle.std.proofs.lemmas.Bool.{false≢true, and_parts, or_parts, or_from}
 use Rattle.basic_toml_value.specs.Data.{Data}
 use Rattle.basic_toml_grammar.specs.Sections.{Key, KeyTexts, texts, Raw, Elements, no_elements, element, Rows, no_rows}
 use Rattle.basic_toml_grammar.specs.Sections.{row}
 use Rattle.basic_toml_grammar.specs.Steps.{Step, key, number, Path, step_eq, begins, overlap, steps_of}
 use Rattle.basic_toml_grammar.specs.RowClash.{any_overlaps, rows_clash, value_clashes, elements_clash}
 use Rattle.basic_toml_grammar.specs.IndexedPath.{Located}
-use Rattle.basic_toml_grammar.specs.Entering.{has_key, keyed_within, value_keyed, elements_keyed}
+use Rattle.basic_toml_grammar.specs.Entering.{keyed_within, value_keyed, elements_keyed}
 use Rattle.basic_toml_grammar.specs.Mentions.{finished, row_mentions, mentions}
 use Rattle.basic_toml_grammar.specs.NamedClash.{first_key}
 use Rattle.basic_toml_grammar.specs.Nodes.{Node, front, value_node, dotted_node, dotted_start, holder_in, node_in}
-use Rattle.basic_toml_grammar.specs.Nodes.{node_among, node_by, is_made, start_in, first_start, holder, node_of_rows}
-use Rattle.basic_toml_grammar.specs.Nodes.{node_of_sections}
+use Rattle.basic_toml_grammar.specs.Nodes.{node_among, node_by}
 use Rattle.basic_toml_grammar.specs.Tree.{Mention}
-use Rattle.basic_toml_grammar.proofs.AmongElements.{Among, first, next, among_left, among_right, among_either}
 use Rattle.basic_toml_grammar.proofs.Clash.ClashesAgree.{turn_eq}
-use Rattle.basic_toml_grammar.proofs.Clash.StepTestsDecide.{step_is}
 use Rattle.basic_toml_grammar.proofs.Nesting.TreeIsAsDeepAsMentions.{same_kind, bars, barred_by, mention, Peace}
 use Rattle.basic_toml_tree.specs.Outer.{no_keys, around}
-use Rattle.basic_toml_tree.proofs.Nodes.Lines.{ends_key, keys_end, Line, path_of, choose, start_among, ValueOuter, Sound}
+use Rattle.basic_toml_tree.proofs.Nodes.Lines.{ends_key, keys_end, Line, path_of, choose, start_among, Sound}
 use Rattle.basic_toml_tree.proofs.Nodes.Lines.{meets, Apart, Found, within, by_rows, found}
-use Rattle.basic_toml_tree.proofs.Origins.RowsAreNodes.{both_begin, goes_on}
 
 -- rows below a path, each with the key path that its nodes have
 abbrev pub lines_of : Path → (List Key → KeyTexts) → Rows → List Line

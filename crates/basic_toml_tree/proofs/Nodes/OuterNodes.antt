@@ -1,28 +1,27 @@
 -- The outer offset of a node is where the table around it begins, by the section list alone.
-use Rattle.std.proofs.Common.{◌≡◌, ◌⊎◌, inl, inr, ℕ, Bool, true, false, cond, List, [], ◌∷◌, ◌++◌, Option, Some, None}
-use Rattle.std.proofs.Common.{refl, ap, sym, ◌∙◌, length, drop, subst}
-use Rattle.std.specs.Prelude.{◌||◌, ◌&&◌, if◌then◌else◌, not}
+use Rattle.std.proofs.Common.{◌≡◌, ◌⊎◌, inl, inr, ℕ, Bool, true, false, List, [], ◌∷◌, ◌++◌, Option, Some, None}
+use Rattle.std.proofs.Common.{refl, ap, sym, ◌∙◌, length, drop}
+use Rattle.std.specs.Prelude.{◌||◌, if◌then◌else◌, not}
 use Rattle.std.specs.List.{list_any, list_all}
 use Rattle.std.specs.Option.{option_or}
-use Rattle.std.proofs.lemmas.Bool.{false≢true, and_parts, or_parts, or_from, or_right}
+use Rattle.std.proofs.lemmas.Bool.{false≢true, and_parts, or_parts, or_from}
 use Rattle.basic_toml_value.specs.Data.{Data}
 use Rattle.basic_toml_grammar.specs.Sections.{Key, KeyTexts, texts, Rows, no_rows, row}
-use Rattle.basic_toml_grammar.specs.Steps.{Step, Path, step_eq, begins, overlap, steps_of}
+use Rattle.basic_toml_grammar.specs.Steps.{Path, step_eq, begins, steps_of}
 use Rattle.basic_toml_grammar.specs.RowClash.{rows_clash}
 use Rattle.basic_toml_grammar.specs.IndexedPath.{Located}
 use Rattle.basic_toml_grammar.specs.Entering.{keyed_within}
 use Rattle.basic_toml_grammar.specs.Mentions.{finished, row_mentions, mentions}
-use Rattle.basic_toml_grammar.specs.NamedClash.{first_key}
 use Rattle.basic_toml_grammar.specs.Nodes.{Node, front, dotted_node, node_in, is_made, start_in, first_start, holder}
 use Rattle.basic_toml_grammar.specs.Nodes.{node_of_rows, node_of_sections}
 use Rattle.basic_toml_grammar.specs.Tree.{Mention}
 use Rattle.basic_toml_grammar.proofs.AmongElements.{Among, first, next, among_left, among_right, among_either}
 use Rattle.basic_toml_grammar.proofs.Clash.StepTestsDecide.{step_is, step_same}
-use Rattle.basic_toml_grammar.proofs.Nesting.TreeIsAsDeepAsMentions.{same_kind, bars, barred_by, mention, Peace}
+use Rattle.basic_toml_grammar.proofs.Nesting.TreeIsAsDeepAsMentions.{bars, barred_by, mention, Peace}
 use Rattle.basic_toml_grammar.proofs.Nesting.TreeIsAsDeepAsMentions.{none, more}
 use Rattle.basic_toml_tree.specs.Outer.{around}
 use Rattle.basic_toml_tree.specs.Stands.{is_root}
-use Rattle.basic_toml_tree.proofs.Nodes.Lines.{Line, path_of, choose, start_among, Sound, meets, Apart, Found, within}
+use Rattle.basic_toml_tree.proofs.Nodes.Lines.{Line, path_of, choose, start_among, meets, Apart, Found, within}
 use Rattle.basic_toml_tree.proofs.Nodes.Lines.{ends_key, by_rows, found}
 use Rattle.basic_toml_tree.proofs.Nodes.LinesOfRows.{lines_of, names_of, all_lines, all_sound, apart_all}
 use Rattle.basic_toml_tree.proofs.Origins.RowsAreNodes.{both_begin, goes_on}

@@ -1,4 +1,5 @@
--- The offset that names a node in errors, by the section list: where the node begins, but for an array the outer offset.
+-- The offset that names a node in errors, by the section list: where the node begins, but for an array the outer
+-- offset.
 use Rattle.std.proofs.Common.{◌≡◌, ◌⊎◌, inl, inr, ℕ, zero, suc, Bool, true, false, List, [], ◌∷◌, Option, Some}
 use Rattle.std.proofs.Common.{None, refl, ap}
 use Rattle.std.proofs.Common.{sym, ◌∙◌, codes, length, drop, ◌++◌}
