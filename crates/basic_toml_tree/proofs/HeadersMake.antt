@@ -24,13 +24,9 @@ use Rattle.basic_toml_grammar.proofs.Clash.MarksTellPlaces.{role, way}
 use Rattle.basic_toml_grammar.proofs.Clash.WhatSectionsSay.{Says, names, adds, into, passes, goes_by, on}
 use Rattle.basic_toml_grammar.proofs.Clash.WhatStandsWasMarked.{Shown, shown}
 use Rattle.basic_toml_grammar.proofs.Naming.WhereHeadersStop.{is_header}
+use Rattle.basic_toml_tree.specs.Outer.{stands_made}
 
--- whether headers made what stands somewhere, and whether it is an array of tables
-abbrev pub stands_made : Option Standing → Bool
-stands_made (Some (table p n d)) = p || n
-stands_made (Some (array n)) = true
-stands_made _ = false
-
+-- whether it is an array of tables
 abbrev pub stands_array : Option Standing → Bool
 stands_array (Some (array n)) = true
 stands_array _ = false

@@ -7,3 +7,8 @@ pub mod LastSection
 pub mod MadeNodes
 pub mod RowNodesTold
 pub mod PlacesTold
+pub mod Lines
+pub mod LinesOfRows
+pub mod OuterNodes
+pub mod OuterStands
+pub mod OuterTold

@@ -7,6 +7,7 @@ pub mod Rows
 pub mod RowStops
 pub mod Headers
 pub mod Ways
+pub mod Outer
 pub mod Resolve
 pub mod Order
 pub mod Stands

@@ -8,7 +8,7 @@ use Rattle.basic_toml_grammar.specs.Steps.{Step, key, number, Path}
 use Rattle.basic_toml_grammar.specs.IndexedPath.{located}
 use Rattle.basic_toml_grammar.specs.Entering.{all_keyed}
 use Rattle.basic_toml_grammar.specs.Nodes as grammar
-use Rattle.basic_toml_grammar.specs.Trie.{Trie, nothing, below}
+use Rattle.basic_toml_grammar.specs.Trie.{Trie, nothing, standing, below}
 use Rattle.basic_toml_tree.specs.declared.item.Item.{Item, out-Item}
 use Rattle.basic_toml_tree.specs.declared.item.Item.TheOpen.{Item-F}
 use Rattle.basic_toml_tree.specs.declared.item.Child.{Child}
@@ -23,6 +23,7 @@ use Rattle.basic_toml_tree.specs.Item.{item_trie, table_trie}
 use Rattle.basic_toml_tree.specs.Origin.{spot_is_made, spot_name}
 use Rattle.basic_toml_tree.specs.Origins.{Origin, Origins, item_origins, table_within}
 use Rattle.basic_toml_tree.specs.Nodes.{node_data, elements_left, key_and_data, entries_left}
+use Rattle.basic_toml_tree.specs.Outer.{around, KeepsStart}
 use Rattle.basic_toml_tree.specs.Resolve.{IsResolved}
 
 -- what is at a path of a trie
@@ -63,11 +64,12 @@ pub record IsBelow (from : Node) (t : Trie) (node : Node) : Type 0 where
   pub trie : spot_trie node.spot ≡ t
   pub own : wraps_table node.spot ≡ false
 
--- a node in the tree of another one, with as many keys that lead to it
+-- a node in the tree of another one, with as many keys that lead to it, and the same table around it
 pub record IsBeside (from : Node) (here : Spot) (node : Node) : Type 0 where
   pub tree : node.tree ≡ from.tree
   pub count : node.count ≡ from.count
   pub spot : node.spot ≡ here
+  pub outer : node.outer ≡ from.outer
 
 abbrev pub is_root : Path → Bool
 is_root [] = true
@@ -101,6 +103,10 @@ ComesFrom here node = SpotComes here node.count node.spot node.start
 abbrev pub tree_origins : Tree → Origins
 tree_origins tree = (table_within tree.root.value).below
 
+-- where the table at a path begins, as the nodes below it keep it
+abbrev pub StartIsKept : Tree → Path → Option ℕ → Type 0
+StartIsKept tree p kept = KeepsStart p (standing (trie_at p (tree_trie tree))) (tree_origins tree p) kept
+
 -- A node of a tree stands at a path. Below a value that a row gives nothing more is in the trie.
 pub record StandsAt (tree : Tree) (p : Path) (node : Node) : Type 0 where
   pub within : node.tree.now ≡ tree
@@ -108,6 +114,7 @@ pub record StandsAt (tree : Tree) (p : Path) (node : Node) : Type 0 where
   pub there : (trie_at p (tree_trie tree) ≡ nothing)
       ⊎ ((spot_trie node.spot ≡ trie_at p (tree_trie tree)) × (wraps_table node.spot ≡ false))
   pub comes : ComesFrom (λ q. tree_origins tree (p ++ q)) node
+  pub outer : StartIsKept tree (around p) node.outer
 
 -- where the one stands at a path, the other stands there and one step further
 abbrev pub StandsOn : Node → Step → Node → Type 0

@@ -1,7 +1,7 @@
 //! The nodes of a tree.
 
-ghost use Rattle.std.specs.Prelude.{◌≡◌, ◌⊎◌, ◌<◌, ◌≤◌, true, false, List, Some, None, IsSome, IfSome, IsTrue, IfOk, IfErr};
-ghost use Rattle.std.specs.Prelude.{MatchOption, codes, length, map, slice_get, string_bytes};
+ghost use Rattle.std.specs.Prelude.{◌≡◌, ◌<◌, ◌≤◌, true, false, List, Some, None, IsSome, IfSome, IsTrue, IfOk, IfErr};
+ghost use Rattle.std.specs.Prelude.{MatchOption, length, map, slice_get, string_bytes};
 ghost use Rattle.std.specs.Option.{option_copied};
 ghost use Rattle.std.specs.Cow.{cow_str_bytes};
 ghost use Rattle.basic_toml_value.specs.Data.{table as table_of_members, integer_in, boolean_in, float_in, string_in};
@@ -18,10 +18,11 @@ ghost use Rattle.basic_toml_tree.specs.Data.{table_data, child_data};
 ghost use Rattle.basic_toml_tree.specs.Nodes.{node_data, is_table, is_array, maybe_table, data_at};
 ghost use Rattle.basic_toml_tree.specs.Nodes.{elements_in, entries_in, elements_left, entries_left};
 ghost use Rattle.basic_toml_tree.specs.Origin.{is_made, name_of, start_of, outer_of, offset_of, keys_of as key_path_of};
-ghost use Rattle.basic_toml_tree.specs.Stands.{IsNodeAt, Foretold, ForetoldMade};
+ghost use Rattle.basic_toml_tree.specs.Stands.{IsNodeAt, Foretold};
 ghost use Rattle.basic_toml_tree.specs.Stands.{HoldsTable, IsBelow, IsBeside, IsTableBeside, AtKey, AtNumber, BeginsIn};
 ghost use Rattle.basic_toml_tree.specs.Stands.{ComesFrom};
 ghost use Rattle.basic_toml_tree.specs.Origins.{child_origins};
+ghost use Rattle.basic_toml_tree.specs.Outer.{kept_below};
 
 use crate::entries::{Elements, Entries};
 use crate::item::{Child, Item, Table};
@@ -126,6 +127,7 @@ impl<'t, 'de> Node<'t, 'de> {
         ensures data { node_data result ≡ child_data child.now }
         ensures below { IsBelow self.entry (child_trie child.now) result }
         ensures comes { ComesFrom (child_origins child.now) result }
+        ensures outer { result.outer ≡ kept_below self.entry }
     {
         let count = self.count.saturating_add(1);
         let outer = if self.is_made() {
@@ -360,9 +362,7 @@ impl<'t, 'de> Node<'t, 'de> {
     pub fn place(self) -> Option<usize>
         ensures is { result ≡ offset_of self.entry }
         ensures foretold { (sections : List Section) (p : Path)
-            → ForetoldMade sections p self.entry (λ node. result ≡ node.offset) }
-        ensures apart_from_arrays { (sections : List Section) (p : Path)
-            → Foretold sections p self.entry (λ node. (node.type_name ≡ codes "array") ⊎ (result ≡ node.offset)) }
+            → Foretold sections p self.entry (λ node. result ≡ node.offset) }
     {
         match self.spot {
             Spot::Item(Item::Array(_)) => self.outer_place(),
@@ -371,11 +371,11 @@ impl<'t, 'de> Node<'t, 'de> {
     }
 
     /// The byte offset of the nearest inline or dotted table around it, else that of the last section.
-    #[tactic(auto, unfolding(crate::specs::Origin::outer_of))]
+    #[tactic(auto, unfolding(crate::specs::Origin::outer_of), using(crate::proofs::Nodes::OuterTold::outer_told))]
     pub fn outer_place(self) -> Option<usize>
         ensures is { result ≡ outer_of self.entry }
         ensures foretold { (sections : List Section) (p : Path)
-            → ForetoldMade sections p self.entry (λ node. result ≡ node.outer_offset) }
+            → Foretold sections p self.entry (λ node. result ≡ node.outer_offset) }
     {
         if self.is_made() {
             return self.tree.last_at();

@@ -26,7 +26,8 @@ use Rattle.basic_toml_tree.specs.Origin.{start_of, outer_of, offset_of, is_array
 use Rattle.basic_toml_tree.specs.Resolve.{Stands, only_root, head}
 use Rattle.basic_toml_tree.specs.Stands.{trie_at, tree_trie, spot_trie, wraps_table, is_wrapper, is_root, IsNodeAt}
 use Rattle.basic_toml_tree.specs.Stands.{ForetoldMade}
-use Rattle.basic_toml_tree.proofs.HeadersMake.{stands_made, stands_array, made_is, array_is}
+use Rattle.basic_toml_tree.specs.Outer.{stands_made}
+use Rattle.basic_toml_tree.proofs.HeadersMake.{stands_array, made_is, array_is}
 use Rattle.basic_toml_tree.proofs.ItemTries.{table_entries_trie}
 use Rattle.basic_toml_tree.proofs.Nodes.ItemsStand.{item_standing, standing_here}
 use Rattle.basic_toml_tree.proofs.Nodes.NodesStand.{tells_table}
@@ -69,13 +70,13 @@ array_in_trie sections t (inr none) p =
     go [] = refl
     go (s ∷ p) = ap (λ t. stands_array (standing t)) (none_below p)
 
-abbrev made_name : Bool → List ℕ
+abbrev pub made_name : Bool → List ℕ
 made_name b = if b then codes "array" else codes "table"
 
 -- that headers made what is here, its name, and that it is no array literal
-record IsMade (count : ℕ) (spot : Spot) : Type 0 where
-  made : spot_is_made count spot ≡ true
-  name : spot_name count spot ≡ made_name (stands_array (standing (spot_trie spot)))
+pub record IsMade (count : ℕ) (spot : Spot) : Type 0 where
+  pub made : spot_is_made count spot ≡ true
+  pub name : spot_name count spot ≡ made_name (stands_array (standing (spot_trie spot)))
 
 item_made : (count : ℕ) (b : Bor Item) (x : Item-F Item Child Table) (o : Option Standing) → out-Item b.now ≡ x
     → item_standing x o → standing (item_trie b.now) ≡ o → is_wrapper x ≡ false → stands_made o ≡ true
@@ -105,7 +106,7 @@ table_made count b made =
     }
 
 -- what stands as made, and the root
-spot_made : (count : ℕ) (spot : Spot) → wraps_table spot ≡ false → stands_made (standing (spot_trie spot)) ≡ true
+pub spot_made : (count : ℕ) (spot : Spot) → wraps_table spot ≡ false → stands_made (standing (spot_trie spot)) ≡ true
     → IsMade count spot
 spot_made count (spots.Table b) own made = table_made count b (or_right _ _ made)
 spot_made count (spots.Item b) own made =
@@ -123,7 +124,7 @@ not_table (Item-F.Inline z) o stands own p n d is = absurd (cc)
 not_table (Item-F.Table t) o stands own p n d is = absurd (cc)
 not_table (Item-F.Tables before latest) o stands own p n d is = absurd (false≢true (sym (ap stands_array is) ∙ stands))
 
-root_made : (count : ℕ) (spot : Spot) (t : Table) → wraps_table spot ≡ false → (count == 0) ≡ true
+pub root_made : (count : ℕ) (spot : Spot) (t : Table) → wraps_table spot ≡ false → (count == 0) ≡ true
     → spot_trie spot ≡ table_trie t → IsMade count spot
 root_made count (spots.Table b) t own none same = table_made count b (or_left _ _ none)
 root_made count (spots.Item b) t own none same =
@@ -181,7 +182,7 @@ foretold : (sections : List Section) (p : Path) (node : Node) (P : grammar.Node 
     → ForetoldMade sections p node P
 foretold sections p node P told is made = rw made (told is made)
 
-last_same : (sections : List Section) (p : Path) (node : Node) → IsNodeAt sections p node
+pub last_same : (sections : List Section) (p : Path) (node : Node) → IsNodeAt sections p node
     → last_at node.tree.now ≡ grammar.last_at sections
 last_same sections p node is = last_heads (map section_of node.tree.now.sections.items) sections is.resolved.heads
 
@@ -200,17 +201,17 @@ made_start_told start node same sections p = foretold sections p node (λ found.
     same ∙ ap (λ b. if b then last_at node.tree.now else Some node.start) told.0.made
     ∙ last_same sections p node is)
 
-pub outer_told : (outer : Option ℕ) (node : Node) → outer ≡ outer_of node → (sections : List Section) (p : Path)
+pub made_outer_told : (outer : Option ℕ) (node : Node) → outer ≡ outer_of node → (sections : List Section) (p : Path)
     → ForetoldMade sections p node (λ found. outer ≡ found.outer_offset)
 unfolding outer_of
-outer_told outer node same sections p = foretold sections p node (λ found. outer ≡ found.outer_offset)
+made_outer_told outer node same sections p = foretold sections p node (λ found. outer ≡ found.outer_offset)
     (λ is made. let told = is_told sections node p is made in
     same ∙ rw (told.0.made) (last_same sections p node is))
 
-pub offset_told : (offset : Option ℕ) (node : Node) → offset ≡ offset_of node → (sections : List Section) (p : Path)
+pub made_offset_told : (offset : Option ℕ) (node : Node) → offset ≡ offset_of node → (sections : List Section) (p : Path)
     → ForetoldMade sections p node (λ found. offset ≡ found.offset)
 unfolding offset_of start_of outer_of
-offset_told offset node same sections p = foretold sections p node (λ found. offset ≡ found.offset)
+made_offset_told offset node same sections p = foretold sections p node (λ found. offset ≡ found.offset)
     (λ is made. let told = is_told sections node p is made in
     same ∙ rw (told.0.made) (go (is_array_literal node.spot) ∙ last_same sections p node is))
   where

@@ -1,6 +1,6 @@
 -- A node below another one stands at the path of that one and one more step.
 use Rattle.std.proofs.Common.{◌≡◌, ◌⊎◌, inl, inr, ◌==◌, ℕ, zero, suc, ◌+◌, Bool, true, false, cond, List, [], ◌∷◌}
-use Rattle.std.proofs.Common.{◌++◌, Some, None, refl, ap, sym, ◌∙◌, arith, map, length, rules, Vec, Box, Global, IsTrue}
+use Rattle.std.proofs.Common.{◌++◌, Some, None, refl, ap, sym, ◌∙◌, subst, arith, map, length, rules, Vec, Box, Global, IsTrue}
 use Rattle.std.specs.Prelude.{slice_get, nat_eq}
 use Rattle.std.specs.Str.{bytes_eq}
 use Rattle.std.proofs.lemmas.Slice.Eq.{bytes_eq-Decides}
@@ -25,12 +25,15 @@ use Rattle.basic_toml_clash.specs.Keyed.{values_of}
 use Rattle.basic_toml_tree.specs.Item.{item_trie, child_trie, table_trie, by_keys, by_numbers, leaf, tree_data}
 use Rattle.basic_toml_tree.specs.Stands.{trie_at, tree_trie, spot_trie, wraps_table, HoldsTable, IsBelow, is_root}
 use Rattle.basic_toml_tree.specs.Stands.{StandsAt, StandsOn, IsBeside, is_wrapper, ItemHolds, ComesFrom, node_origins}
+use Rattle.basic_toml_tree.specs.Stands.{StartIsKept}
+use Rattle.basic_toml_tree.specs.Outer.{around}
 use Rattle.basic_toml_tree.specs.Origins.{child_origins, table_within}
 use Rattle.basic_toml_tree.proofs.ItemTries.{table_entries_trie}
 use Rattle.basic_toml_clash.proofs.KeysChanged.{first_at}
 use Rattle.basic_toml_tree.proofs.Nodes.ItemsStand.{shape}
 use Rattle.basic_toml_tree.proofs.Nodes.NodesCome.{comes_on, key_comes, literal_comes, tables_come}
 use Rattle.basic_toml_tree.proofs.Nodes.NodesCome.{table_node_comes}
+use Rattle.basic_toml_tree.proofs.Nodes.Lines.{around_key, around_number}
 use Rattle.basic_toml_tree.proofs.KeysInATrie.{tries_of}
 
 at_more : (p : Path) (s : Step) (t : Trie) → trie_at (p ++ s ∷ []) t ≡ below s (trie_at p t)
@@ -137,20 +140,33 @@ module _ (from node : Node) (s : Step) (same : node.tree ≡ from.tree)
       go (inl none) = inl (at_more p s (tree_trie tree) ∙ ap (below s) none)
       go (inr there) = step (more there.1) there.0
 
-  stands_on : (node.count == 0) ≡ false → StandsAt tree (p ++ s ∷ []) node
-  stands_on counted = record {
+  stands_on : (node.count == 0) ≡ false → StartIsKept tree (around (p ++ s ∷ [])) node.outer
+      → StandsAt tree (p ++ s ∷ []) node
+  stands_on counted kept = record {
     within = ap (λ t. t.now) same ∙ stands.within;
     root = counted ∙ sym (no_root p s);
     there = further;
     comes = comes_on from node s tree p stands.comes comes;
+    outer = kept;
   }
+
+-- what a node keeps of where this one begins, and one beside it of what is around both
+abbrev pub KeepsBelow : Node → Node → Type 0
+KeepsBelow from node = (tree : Tree) (p : Path) → StandsAt tree p from → StartIsKept tree p node.outer
+
+kept_beside : (from node : Node) (n : ℕ) (tree : Tree) (p : Path) → node.outer ≡ from.outer → StandsAt tree p from
+    → StartIsKept tree (around (p ++ number n ∷ [])) node.outer
+kept_beside from node n tree p same stands =
+    subst (λ q. StartIsKept tree q node.outer) (sym (around_number p n))
+    (subst (λ outer. StartIsKept tree (around p) outer) (sym same) stands.outer)
 
 pub key_stands : (from node : Node) (t : Table) (k : List ℕ) (c : Child) → HoldsTable from.spot t
     → value_at (out-Table t).entries k ≡ Some c → IsBelow from (child_trie c) node
-    → ComesFrom (child_origins c) node → StandsOn from (key k) node
-key_stands from node t k c holds found is comes tree p stands =
+    → ComesFrom (child_origins c) node → KeepsBelow from node → StandsOn from (key k) node
+key_stands from node t k c holds found is comes keeps tree p stands =
     stands_on from node (key k) is.tree (λ own. go (spot_below from.spot t k c holds own found))
     (λ at. key_comes from node t k c holds found comes at) tree p stands is.count
+    (subst (λ q. StartIsKept tree q node.outer) (sym (around_key p k)) (keeps tree p stands))
   where
     go : NothingOr (key k) (spot_trie from.spot) (child_trie c) → (below (key k) (spot_trie from.spot) ≡ nothing)
         ⊎ ((spot_trie node.spot ≡ below (key k) (spot_trie from.spot)) × (wraps_table node.spot ≡ false))
@@ -161,11 +177,11 @@ key_stands from node t k c holds found is comes tree p stands =
 pub entry_stands : (from node : Node) (t : Table) (i : ℕ) (k : List ℕ) (c : Child) → HoldsTable from.spot t
     → IsTrue (are_distinct (keys_of (out-Table t).entries)) → slice_get (keys_of (out-Table t).entries) i ≡ Some k
     → slice_get (values_of (out-Table t).entries) i ≡ Some c → IsBelow from (child_trie c) node
-    → ComesFrom (child_origins c) node → StandsOn from (key k) node
-entry_stands from node t i k c holds distinct at value is comes =
+    → ComesFrom (child_origins c) node → KeepsBelow from node → StandsOn from (key k) node
+entry_stands from node t i k c holds distinct at value is comes keeps =
     key_stands from node t k c holds
     (first_at (out-Table t).entries i k c at (is_among-before (keys_of (out-Table t).entries) i k distinct at) value) is
-    comes
+    comes keeps
 
 -- an array is no root
 abbrev pub tells_table : Trie → Bool
@@ -200,6 +216,7 @@ module _ (from node : Node) (n : ℕ) (b : Bor Item) (at : from.spot ≡ spots.I
       stands_on from node (number n) beside.tree (λ own. inl (ap (below (number n)) here))
       (λ s. literal_comes from node n b at children child is read comes s) tree p stands
       (ap (λ c. c == 0) beside.count ∙ stands.root ∙ no_array_root from tree p stands (ap tells_table here))
+      (kept_beside from node n tree p beside.outer stands)
 
   pub tables_stand : (before : Vec Table Global) (latest : Box Table Global) (t : Bor Table)
       → b.now ≡ Tables before latest
@@ -219,3 +236,4 @@ module _ (from node : Node) (n : ℕ) (b : Bor Item) (at : from.spot ≡ spots.I
       stands_on from node (number n) beside.tree (λ own. inr (there, ap wraps_table beside.spot))
       (λ s. tables_come from node n b at before latest t is read
       (λ s. table_node_comes t node from.start s beside.spot start counted) s) tree p stands counted
+      (kept_beside from node n tree p beside.outer stands)

@@ -1,19 +1,21 @@
--- The offset that names a node in errors, by the section list: where the node begins, but for an array.
+-- The offset that names a node in errors, by the section list: where the node begins, but for an array the outer
+-- offset.
 use Rattle.std.proofs.Common.{◌≡◌, ◌⊎◌, inl, inr, ℕ, zero, suc, Bool, true, false, List, [], ◌∷◌, Option, Some}
 use Rattle.std.proofs.Common.{None, refl, ap}
 use Rattle.std.proofs.Common.{sym, ◌∙◌, codes, length, drop, ◌++◌}
 use Rattle.std.specs.Prelude.{if◌then◌else◌, IfSome}
 use Rattle.std.specs.Option.{option_or}
+use Rattle.std.specs.Str.{bytes_eq}
 use Rattle.basic_toml_grammar.specs.Sections.{KeyTexts, texts, Raw, Elements, no_elements, element, Rows, no_rows}
 use Rattle.basic_toml_grammar.specs.Sections.{row}
 use Rattle.basic_toml_grammar.specs.Sections.{Section}
-use Rattle.basic_toml_grammar.specs.Steps.{key, number, Path, begins, steps_of}
+use Rattle.basic_toml_grammar.specs.Steps.{key, number, Path, begins, steps_of, keys_of}
 use Rattle.basic_toml_grammar.specs.IndexedPath.{Located, located}
 use Rattle.basic_toml_grammar.specs.NamedClash.{first_key}
 use Rattle.basic_toml_grammar.specs.Nodes.{Node, front, value_node, dotted_node, holder_in, node_in, node_among}
 use Rattle.basic_toml_grammar.specs.Nodes.{node_by}
 use Rattle.basic_toml_grammar.specs.Nodes.{holder, node_of_rows, node_of_sections, node_at, made_node, is_made}
-use Rattle.basic_toml_grammar.specs.Nodes.{last_at}
+use Rattle.basic_toml_grammar.specs.Nodes.{last_at, is_array}
 use Rattle.std.proofs.lemmas.Bool.{false≢true}
 use Rattle.basic_toml_tree.specs.declared.item.Item.{Item, out-Item}
 use Rattle.basic_toml_tree.specs.declared.item.Item.TheOpen.{Item-F}
@@ -22,22 +24,29 @@ use Rattle.basic_toml_tree.specs.declared.item.Table.{Table}
 use Rattle.basic_toml_tree.specs.declared.node.Node as nodes
 use Rattle.basic_toml_tree.specs.declared.spot.Spot.{Spot}
 use Rattle.basic_toml_tree.specs.declared.spot.Spot.TheVariants as spots
-use Rattle.basic_toml_tree.specs.Origin.{is_array_literal, item_name, spot_name, name_of, start_of, outer_of}
-use Rattle.basic_toml_tree.specs.Origin.{offset_of}
+use Rattle.basic_toml_tree.specs.Origin.{is_array_literal, item_name, spot_name, spot_is_made, holds_tables, start_of}
+use Rattle.basic_toml_tree.specs.Origin.{outer_of, offset_of}
 use Rattle.basic_toml_tree.specs.Stands.{Foretold}
-use Rattle.basic_toml_tree.proofs.Nodes.RowNodesTold.{name_told, start_told}
+use Rattle.basic_toml_tree.proofs.Nodes.MadeNodes.{made_offset_told}
+use Rattle.basic_toml_tree.proofs.Nodes.OuterTold.{outer_told}
+use Rattle.basic_toml_tree.proofs.Nodes.RowNodesTold.{RowTold, row_told, start_told}
 
--- it is an array, or its offset is where it begins
+abbrev names_array : List ℕ → Bool
+names_array name = bytes_eq name (codes "array")
+
+-- the offset of an array is the outer one, and that of anything else where it begins
 abbrev pub Plain : Node → Type 0
-Plain n = (n.type_name ≡ codes "array") ⊎ (n.offset ≡ n.start)
+Plain n =
+    ((names_array n.type_name ≡ true) × (n.offset ≡ n.outer_offset))
+    ⊎ ((names_array n.type_name ≡ false) × (n.offset ≡ n.start))
 
 value_plain : (keys : KeyTexts) (outer : Option ℕ) (at : ℕ) (v : Raw) → Plain (value_node keys outer at v)
-value_plain keys outer at (Raw.integer z) = inr refl
-value_plain keys outer at (Raw.float z) = inr refl
-value_plain keys outer at (Raw.boolean z) = inr refl
-value_plain keys outer at (Raw.string z) = inr refl
-value_plain keys outer at (Raw.array z) = inl refl
-value_plain keys outer at (Raw.inline z) = inr refl
+value_plain keys outer at (Raw.integer z) = inr (refl, refl)
+value_plain keys outer at (Raw.float z) = inr (refl, refl)
+value_plain keys outer at (Raw.boolean z) = inr (refl, refl)
+value_plain keys outer at (Raw.string z) = inr (refl, refl)
+value_plain keys outer at (Raw.array z) = inl (refl, refl)
+value_plain keys outer at (Raw.inline z) = inr (refl, refl)
 
 one_of : (a b : Bool) (m n : Option Node) (d : Node) → IfSome m Plain → Plain d → IfSome n Plain
     → IfSome (if a then m else if b then Some d else n) Plain
@@ -76,7 +85,7 @@ mutual
       one_of (begins steps p) (begins p steps)
       (node_in keys (holder_in outer all (front steps)) at v (drop (length steps) p)) (node_by keys outer all later p)
       (dotted_node keys (holder_in outer all (front p)) at)
-      (in_plain keys (holder_in outer all (front steps)) at v (drop (length steps) p)) (inr refl)
+      (in_plain keys (holder_in outer all (front steps)) at v (drop (length steps) p)) (inr (refl, refl))
       (by_plain keys outer all later p)
 
 rows_plain : (ls : List Located) (last : Option ℕ) (l : Located) (rows : Rows) (p : Path)
@@ -88,7 +97,7 @@ rows_plain ls last l (row ks at v rows) p =
     one_of (begins path p) (begins p path)
     (node_in key_path (holder ls last (front path)) at v (drop (length path) p)) (node_of_rows ls last l rows p)
     (dotted_node key_path (holder ls last (front p)) at)
-    (in_plain key_path (holder ls last (front path)) at v (drop (length path) p)) (inr refl)
+    (in_plain key_path (holder ls last (front path)) at v (drop (length path) p)) (inr (refl, refl))
     (rows_plain ls last l rows p)
 
 or_plain : (m n : Option Node) → IfSome m Plain → IfSome n Plain → IfSome (option_or m n) Plain
@@ -107,44 +116,73 @@ plain_at sections p = go (is_made (located sections) p)
   where
     go : (b : Bool) → IfSome (if b then Some (made_node (located sections) (last_at sections) p)
         else node_of_sections (located sections) (last_at sections) (located sections) p) Plain
-    go true = inr refl
+    go true = made (is_array (located sections) p)
+      where
+        made : (b : Bool) → Plain (record {
+          type_name = (if b then codes "array" else codes "table");
+          start = last_at sections;
+          offset = last_at sections;
+          outer_offset = last_at sections;
+          key_path = keys_of p;
+        })
+        made true = inl (refl, refl)
+        made false = inr (refl, refl)
     go false = sections_plain (located sections) (last_at sections) (located sections) p
 
--- three facts of what is there
-some_three : {A : Type 0} (o : Option A) (P Q R S : A → Type 0) → ((x : A) → P x → Q x → R x → S x) → IfSome o P
-    → IfSome o Q → IfSome o R → IfSome o S
-some_three None P Q R S f p q r = tt
-some_three (Some x) P Q R S f p q r = f x p q r
-
-literal_name : (count : ℕ) (spot : Spot) → is_array_literal spot ≡ true → spot_name count spot ≡ codes "array"
-literal_name count (spots.Table b) e = absurd (false≢true e)
-literal_name count (spots.Item b) e = go (out-Item b.now) e
+literal_name : (count : ℕ) (spot : Spot) → spot_is_made count spot ≡ false
+    → names_array (spot_name count spot) ≡ is_array_literal spot
+literal_name count (spots.Table b) not = go (spot_is_made count (spots.Table b))
   where
-    go : (x : Item-F Item Child Table) → elim x [ Item-F.Array _ ↦ true | _ ↦ false ] ≡ true
-        → item_name x ≡ codes "array"
-    go (Item-F.Array z) e = refl
-    go Item-F.Nothing e = absurd (false≢true e)
-    go (Item-F.Integer z) e = absurd (false≢true e)
-    go (Item-F.Float z) e = absurd (false≢true e)
-    go (Item-F.Boolean z) e = absurd (false≢true e)
-    go (Item-F.String z) e = absurd (false≢true e)
-    go (Item-F.Inline z) e = absurd (false≢true e)
-    go (Item-F.Table z) e = absurd (false≢true e)
-    go (Item-F.Tables y z) e = absurd (false≢true e)
+    go : (b : Bool) → names_array (if b then codes "table" else codes "dotted table") ≡ false
+    go true = refl
+    go false = refl
+literal_name count (spots.Item b) not = go (out-Item b.now) not
+  where
+    go : (x : Item-F Item Child Table) → holds_tables x ≡ false
+        → names_array (item_name x) ≡ elim x [ Item-F.Array _ ↦ true | _ ↦ false ]
+    go (Item-F.Array z) not = refl
+    go Item-F.Nothing not = refl
+    go (Item-F.Integer z) not = refl
+    go (Item-F.Float z) not = refl
+    go (Item-F.Boolean z) not = refl
+    go (Item-F.String z) not = refl
+    go (Item-F.Inline z) not = refl
+    go (Item-F.Table z) not = refl
+    go (Item-F.Tables y z) not = absurd (false≢true (sym not))
+
+-- a node that headers did not make
+module _ (node : nodes.Node) (found : Node) (told : RowTold node found) where
+  row_place : outer_of node ≡ found.outer_offset → start_of node ≡ found.start → Plain found
+      → (if is_array_literal node.spot then outer_of node else start_of node) ≡ found.offset
+  row_place outer start plain = go (is_array_literal node.spot) (named) plain
+    where
+      named : names_array found.type_name ≡ is_array_literal node.spot
+      named = ap names_array (sym told.name) ∙ literal_name node.count node.spot told.made
+
+      go : (b : Bool) → names_array found.type_name ≡ b → Plain found
+          → (if b then outer_of node else start_of node) ≡ found.offset
+      go true name (inl array) = outer ∙ sym array.1
+      go true name (inr other) = absurd (false≢true (sym other.0 ∙ name))
+      go false name (inl array) = absurd (false≢true (sym name ∙ array.0))
+      go false name (inr other) = start ∙ sym other.1
+
+-- four facts of what is there
+some_four : {A : Type 0} (o : Option A) (P Q R S T : A → Type 0) → ((x : A) → P x → Q x → R x → S x → T x)
+    → IfSome o P → IfSome o Q → IfSome o R → IfSome o S → IfSome o T
+some_four None P Q R S T f p q r s = tt
+some_four (Some x) P Q R S T f p q r s = f x p q r s
 
 pub place_told : (place : Option ℕ) (node : nodes.Node) → place ≡ offset_of node → (sections : List Section) (p : Path)
-    → Foretold sections p node (λ found. (found.type_name ≡ codes "array") ⊎ (place ≡ found.offset))
-unfolding name_of offset_of
-place_told place node same sections p is =
-    some_three (node_at sections p) (λ found. name_of node ≡ found.type_name) (λ found. start_of node ≡ found.start) Plain
-    (λ found. (found.type_name ≡ codes "array") ⊎ (place ≡ found.offset))
-    (λ found. go found (is_array_literal node.spot) refl)
-    (name_told (name_of node) node refl sections p is) (start_told (start_of node) node refl sections p is)
-    (plain_at sections p)
+    → Foretold sections p node (λ found. place ≡ found.offset)
+unfolding offset_of
+place_told place node same sections p is = go (is_made (located sections) p) refl
   where
-    go : (found : Node) (b : Bool) → is_array_literal node.spot ≡ b → name_of node ≡ found.type_name
-        → start_of node ≡ found.start → Plain found → (found.type_name ≡ codes "array") ⊎ (place ≡ found.offset)
-    go found true e name start plain = inl (sym name ∙ literal_name node.count node.spot e)
-    go found false e name start (inl array) = inl array
-    go found false e name start (inr here) =
-        inr (same ∙ ap (λ b. if b then outer_of node else start_of node) e ∙ start ∙ sym here)
+    go : (b : Bool) → is_made (located sections) p ≡ b
+        → IfSome (node_at sections p) (λ found. place ≡ found.offset)
+    go true made = made_offset_told place node same sections p is made
+    go false not =
+        some_four (node_at sections p) (RowTold node) (λ found. outer_of node ≡ found.outer_offset)
+        (λ found. start_of node ≡ found.start) Plain (λ found. place ≡ found.offset)
+        (λ found told outer start plain. same ∙ row_place node found told outer start plain)
+        (row_told sections p node is not) (outer_told (outer_of node) node refl sections p is)
+        (start_told (start_of node) node refl sections p is) (plain_at sections p)

@@ -75,7 +75,7 @@ keys_begin [] o f r q = refl
 keys_begin (k ∷ ks) o f r q = row_begins k ks o f r q
 
 -- two paths that begin a third overlap, and so do two of which one goes on from a third that the other begins
-both_begin : (p q x : Path) → begins p x ≡ true → begins q x ≡ true → overlap p q ≡ true
+pub both_begin : (p q x : Path) → begins p x ≡ true → begins q x ≡ true → overlap p q ≡ true
 both_begin [] q x a b = refl
 both_begin (s ∷ p) [] x a b = or_true (begins (s ∷ p) [])
   where
@@ -93,7 +93,7 @@ both_begin (s ∷ p) (t ∷ q) (u ∷ x) a b =
     let back : step_eq t s ≡ true = turn_eq t s ∙ same in
     rw (same, back) (both_begin p q x left.1 right.1)
 
-goes_on : (p x q : Path) → begins p x ≡ true → begins x q ≡ true → begins p q ≡ true
+pub goes_on : (p x q : Path) → begins p x ≡ true → begins x q ≡ true → begins p q ≡ true
 goes_on [] x q a b = refl
 goes_on (s ∷ p) [] q a b = absurd (false≢true a)
 goes_on (s ∷ p) (t ∷ x) [] a b = absurd (false≢true b)

@@ -3,14 +3,14 @@ use Rattle.basic_toml_tree.specs.Origin.{offset_of}
 use Rattle.basic_toml_tree.proofs.Nodes.PlacesTold.{place_told}
 use Rattle.basic_toml_tree.proofs.node.Node.place.Goals as goal
 
-pub returns-in-Item-Array-clause-apart_from_arrays : goal.returns-in-Item-Array-clause-apart_from_arrays
+pub returns-in-Item-Array-clause-foretold : goal.returns-in-Item-Array-clause-foretold
 unfolding offset_of
-returns-in-Item-Array-clause-apart_from_arrays c =
+returns-in-Item-Array-clause-foretold c =
     let same : c.outer_place.result ≡ offset_of c.args.self = search (rules) in
     λ sections p. place_told c.outer_place.result c.args.self same sections p
 
-pub returns-in_default-clause-apart_from_arrays : goal.returns-in_default-clause-apart_from_arrays
+pub returns-in_default-clause-foretold : goal.returns-in_default-clause-foretold
 unfolding offset_of
-returns-in_default-clause-apart_from_arrays c =
+returns-in_default-clause-foretold c =
     let same : c.start.result ≡ offset_of c.args.self = search (rules) in
     λ sections p. place_told c.start.result c.args.self same sections p

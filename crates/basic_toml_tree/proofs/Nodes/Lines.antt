@@ -1,0 +1,267 @@
+-- Rows as one list of lines, each with its whole path: which line a path leads to, and where the table around what
+-- stands there begins.
+use Rattle.std.proofs.Common.{◌≡◌, ℕ, Bool, true, false, List, [], ◌∷◌, ◌++◌, Option, Some, None, refl, ap, sym, ◌∙◌}
+use Rattle.std.proofs.Common.{subst, length, drop}
+use Rattle.std.specs.Prelude.{◌&&◌, if◌then◌else◌}
+use Rattle.std.specs.List.{list_any}
+use Rattle.std.proofs.lemmas.Bool.{false≢true, and_parts, or_parts, or_right}
+use Rattle.basic_toml_grammar.specs.Sections.{KeyTexts, Raw}
+use Rattle.basic_toml_grammar.specs.Steps.{Step, key, number, Path, step_eq, begins, overlap, steps_of}
+use Rattle.basic_toml_grammar.specs.Nodes.{Node, front, dotted_node, node_in}
+use Rattle.basic_toml_grammar.proofs.AmongElements.{Among, first, next}
+use Rattle.basic_toml_grammar.proofs.Clash.PathsAgree.{append_none}
+use Rattle.basic_toml_grammar.proofs.Clash.StepTestsDecide.{step_is, step_same, begins_itself}
+use Rattle.basic_toml_tree.specs.Outer.{no_keys, around}
+use Rattle.basic_toml_tree.proofs.Origins.RowsAreNodes.{goes_on}
+
+-- a path that ends with a key
+abbrev is_key : Step → Bool
+is_key (key k) = true
+is_key (number n) = false
+
+abbrev pub ends_key : Path → Bool
+ends_key [] = false
+ends_key (s ∷ []) = is_key s
+ends_key (s ∷ t ∷ p) = ends_key (t ∷ p)
+
+pub keys_end : (base : Path) (k : List ℕ) (ks : KeyTexts) → ends_key (base ++ steps_of (k ∷ ks)) ≡ true
+keys_end [] k [] = refl
+keys_end [] k (l ∷ ks) = keys_end [] l ks
+keys_end (s ∷ []) k ks = keys_end [] k ks
+keys_end (s ∷ t ∷ base) k ks = keys_end (t ∷ base) k ks
+
+ends_in_keys : (p base : Path) (ks : KeyTexts) → begins p (base ++ steps_of ks) ≡ true → begins p base ≡ false
+    → ends_key p ≡ true
+ends_in_keys [] base ks here not = absurd (false≢true (sym not))
+ends_in_keys (s ∷ p) [] [] here not = absurd (false≢true here)
+ends_in_keys (s ∷ []) [] (k ∷ ks) here not =
+    let both = and_parts (step_eq s (key k)) (begins [] (steps_of ks)) here in
+    ap is_key (step_is s (key k) both.0)
+ends_in_keys (s ∷ t ∷ p) [] (k ∷ ks) here not =
+    let both = and_parts (step_eq s (key k)) (begins (t ∷ p) (steps_of ks)) here in
+    ends_in_keys (t ∷ p) [] ks both.1 refl
+ends_in_keys (s ∷ []) (b ∷ base) ks here not =
+    let both = and_parts (step_eq s b) (begins [] (base ++ steps_of ks)) here in
+    absurd (false≢true (sym not ∙ ap (λ e. e && begins [] base) both.0))
+ends_in_keys (s ∷ t ∷ p) (b ∷ base) ks here not =
+    let both = and_parts (step_eq s b) (begins (t ∷ p) (base ++ steps_of ks)) here in
+    ends_in_keys (t ∷ p) base ks both.1 (sym (ap (λ e. e && begins (t ∷ p) base) both.0) ∙ not)
+
+some_key : (p : Path) → ends_key p ≡ true → no_keys p ≡ false
+some_key [] e = absurd (false≢true e)
+some_key (key k ∷ p) e = refl
+some_key (number n ∷ []) e = absurd (false≢true e)
+some_key (number n ∷ t ∷ p) e = some_key (t ∷ p) e
+
+keys_left : (p x : Path) → no_keys p ≡ false → no_keys (p ++ x) ≡ false
+keys_left [] x e = absurd (false≢true (sym e))
+keys_left (key k ∷ p) x e = refl
+keys_left (number n ∷ p) x e = keys_left p x e
+
+keys_right : (p x : Path) → no_keys x ≡ false → no_keys (p ++ x) ≡ false
+keys_right [] x e = e
+keys_right (key k ∷ p) x e = refl
+keys_right (number n ∷ p) x e = keys_right p x e
+
+around_front : (p x : Path) → ends_key p ≡ true → no_keys x ≡ true → around (p ++ x) ≡ front p
+around_front [] x e none = absurd (false≢true e)
+around_front (s ∷ []) x e none = ap (λ b. if b then [] else s ∷ around x) none
+around_front (s ∷ t ∷ p) x e none =
+    ap (λ b. if b then [] else s ∷ around ((t ∷ p) ++ x)) (keys_left (t ∷ p) x (some_key (t ∷ p) e))
+    ∙ ap (λ q. s ∷ q) (around_front (t ∷ p) x e none)
+
+around_on : (p x : Path) → no_keys x ≡ false → around (p ++ x) ≡ p ++ around x
+around_on [] x e = refl
+around_on (s ∷ p) x e =
+    ap (λ b. if b then [] else s ∷ around (p ++ x)) (keys_right p x e) ∙ ap (λ q. s ∷ q) (around_on p x e)
+
+around_begins : (p : Path) → begins (around p) p ≡ true
+around_begins [] = refl
+around_begins (s ∷ p) = go (no_keys p) (around_begins p)
+  where
+    go : (b : Bool) → begins (around p) p ≡ true → begins (if b then [] else s ∷ around p) (s ∷ p) ≡ true
+    go true ih = refl
+    go false ih = rw step_same ih
+
+-- a step on from a path
+pub around_key : (p : Path) (k : List ℕ) → around (p ++ key k ∷ []) ≡ p
+around_key p k = around_on p (key k ∷ []) refl ∙ append_none p
+
+still_none : (p : Path) (n : ℕ) → no_keys (p ++ number n ∷ []) ≡ no_keys p
+still_none [] n = refl
+still_none (key k ∷ p) n = refl
+still_none (number m ∷ p) n = still_none p n
+
+pub around_number : (p : Path) (n : ℕ) → around (p ++ number n ∷ []) ≡ around p
+around_number [] n = refl
+around_number (s ∷ p) n =
+    ap (λ b. if b then [] else s ∷ around (p ++ number n ∷ [])) (still_none p n)
+    ∙ ap (λ q. if no_keys p then [] else s ∷ q) (around_number p n)
+
+front_begins : (p : Path) → begins (front p) p ≡ true
+front_begins [] = refl
+front_begins (s ∷ []) = refl
+front_begins (s ∷ t ∷ p) = rw step_same (front_begins (t ∷ p))
+
+front_short : (p : Path) → ends_key p ≡ true → begins p (front p) ≡ false
+front_short [] e = absurd (false≢true e)
+front_short (s ∷ []) e = refl
+front_short (s ∷ t ∷ p) e = rw step_same (front_short (t ∷ p) e)
+
+goes_by : (p q : Path) → begins p q ≡ true → q ≡ p ++ drop (length p) q
+goes_by [] q e = refl
+goes_by (s ∷ p) [] e = absurd (false≢true e)
+goes_by (s ∷ p) (t ∷ q) e =
+    let both = and_parts (step_eq s t) (begins p q) e in
+    ap (λ u. u ∷ q) (sym (step_is s t both.0)) ∙ ap (λ q. s ∷ q) (goes_by p q both.1)
+
+dropped : (p x : Path) → drop (length p) (p ++ x) ≡ x
+dropped [] x = refl
+dropped (s ∷ p) x = dropped p x
+
+-- a row, with the path of its table
+pub record Line : Type 0 where
+  pub base : Path
+  pub steps : KeyTexts
+  pub at : ℕ
+  pub value : Raw
+  pub names : KeyTexts
+
+abbrev pub path_of : Line → Path
+path_of e = e.base ++ steps_of e.steps
+
+abbrev pub choose : (Path → Option ℕ) → List Line → Path → Option Node
+choose holder [] p = None
+choose holder (e ∷ es) p =
+    if begins (path_of e) p then
+    node_in e.names (holder (front (path_of e))) e.at e.value (drop (length (path_of e)) p)
+    else if begins p (path_of e) then Some (dotted_node e.names (holder (front p)) e.at)
+    else choose holder es p
+
+abbrev pub start_among : List Line → Path → Option ℕ
+start_among [] p = None
+start_among (e ∷ es) p = if begins p (path_of e) then Some e.at else start_among es p
+
+-- what is told of the nodes in a value: with no key on the way the outer offset is that of the value, else the table
+-- around begins there
+pub record ValueOuter (v : Raw) : Type 0 where
+  pub bare : (names : KeyTexts) (outer : Option ℕ) (at : ℕ) (x : Path) (n : Node)
+      → node_in names outer at v x ≡ Some n → no_keys x ≡ true → n.outer_offset ≡ outer
+  pub deep : (names : KeyTexts) (outer : Option ℕ) (at : ℕ) (x : Path) (n : Node)
+      → node_in names outer at v x ≡ Some n → no_keys x ≡ false
+      → (m : Node) × (node_in names outer at v (around x) ≡ Some m) × (n.outer_offset ≡ m.start)
+
+pub data Sound : List Line → Type 0 where
+  none : Sound []
+  more : {e : Line} {es : List Line} → ends_key (path_of e) ≡ true → ValueOuter e.value → Sound es → Sound (e ∷ es)
+
+-- no line is in the way of another
+abbrev pub meets : Line → Line → Bool
+meets e f = overlap (path_of e) (path_of f)
+
+pub data Apart : List Line → Type 0 where
+  none : Apart []
+  more : {e : Line} {es : List Line} → list_any (meets e) es ≡ false → Apart es → Apart (e ∷ es)
+
+pub not_met : (e f : Line) (es : List Line) → list_any (meets e) es ≡ false → Among f es → meets e f ≡ false
+not_met e f [] free a = elim a [ ]
+not_met e f (g ∷ es) free first = (or_parts (meets e g) (list_any (meets e) es) free).0
+not_met e f (g ∷ es) free (next a) = not_met e f es (or_parts (meets e g) (list_any (meets e) es) free).1 a
+
+-- the node of a path, and the table around it: below a line, or on the way to one
+pub data Found (holder : Path → Option ℕ) (p : Path) (es : List Line) (n : Node) : Type 0 where
+  within : (m : Node) (e : Line) → Among e es → ends_key (path_of e) ≡ true → begins (path_of e) (around p) ≡ true
+      → choose holder es (around p) ≡ Some m → n.outer_offset ≡ m.start → Found holder p es n
+  by_rows : (m : Node) → choose holder es (around p) ≡ Some m → m.start ≡ start_among es (around p)
+      → n.outer_offset ≡ holder (around p) → Found holder p es n
+
+module _ (holder : Path → Option ℕ) (p : Path) where
+  q : Path
+  q = around p
+
+  off : (e : Line) → begins (path_of e) p ≡ false → begins (path_of e) (around p) ≡ false
+  off e not = go (begins (path_of e) (around p)) refl
+    where
+      go : (b : Bool) → begins (path_of e) (around p) ≡ b → b ≡ false
+      go true x = absurd (false≢true (sym not ∙ goes_on (path_of e) (around p) p x (around_begins p)))
+      go false x = refl
+
+  -- an earlier line, which the path does not meet
+  later : (e : Line) (es : List Line) (n : Node) → begins (path_of e) p ≡ false → list_any (meets e) es ≡ false
+      → Found holder p es n → Found holder p (e ∷ es) n
+  later e es n not free (within m f a ends here chosen same) =
+      within m f (next a) ends here (rw (off e not, go (begins (around p) (path_of e)) refl) chosen) same
+    where
+      go : (b : Bool) → begins (around p) (path_of e) ≡ b → b ≡ false
+      go true x =
+          absurd (false≢true (sym (not_met e f es free a)
+          ∙ or_right (begins (path_of e) (path_of f)) (begins (path_of f) (path_of e))
+          (goes_on (path_of f) (around p) (path_of e) here x)))
+      go false x = refl
+  later e es n not free (by_rows m chosen start same) = go (begins (around p) (path_of e)) refl
+    where
+      go : (b : Bool) → begins (around p) (path_of e) ≡ b → Found holder p (e ∷ es) n
+      go true x =
+          by_rows (dotted_node e.names (holder (front (around p))) e.at) (rw (off e not, x) refl) (rw x refl) same
+      go false x = by_rows m (rw (off e not, x) chosen) (rw x start) same
+
+  -- the line of the value that the path leads into
+  here : (e : Line) (es : List Line) (n : Node) → begins (path_of e) p ≡ true → ends_key (path_of e) ≡ true
+      → ValueOuter e.value
+      → node_in e.names (holder (front (path_of e))) e.at e.value (drop (length (path_of e)) p) ≡ Some n
+      → Found holder p (e ∷ es) n
+  here e es n on ends told is = go (no_keys x) refl
+    where
+      x : Path
+      x = drop (length (path_of e)) p
+
+      goes : p ≡ path_of e ++ x
+      goes = goes_by (path_of e) p on
+
+      go : (b : Bool) → no_keys x ≡ b → Found holder p (e ∷ es) n
+      go true empty =
+          let there : around p ≡ front (path_of e) = ap around goes ∙ around_front (path_of e) x ends empty in
+          let short : begins (path_of e) (around p) ≡ false =
+          ap (begins (path_of e)) there ∙ front_short (path_of e) ends in
+          let long : begins (around p) (path_of e) ≡ true =
+          ap (λ q. begins q (path_of e)) there ∙ front_begins (path_of e) in
+          by_rows (dotted_node e.names (holder (front (around p))) e.at) (rw (short, long) refl) (rw long refl)
+          (told.bare e.names (holder (front (path_of e))) e.at x n is empty ∙ ap holder (sym there))
+      go false some =
+          let there : around p ≡ path_of e ++ around x = ap around goes ∙ around_on (path_of e) x some in
+          let m = told.deep e.names (holder (front (path_of e))) e.at x n is some in
+          let under : begins (path_of e) (around p) ≡ true =
+          ap (begins (path_of e)) there ∙ begins_itself (path_of e) (around x) in
+          let left : drop (length (path_of e)) (around p) ≡ around x =
+          ap (drop (length (path_of e))) there ∙ dropped (path_of e) (around x) in
+          within m.0 e first ends under
+          (rw under (ap (node_in e.names (holder (front (path_of e))) e.at e.value) left ∙ m.1)) m.2
+
+  -- a line that goes on from the path
+  crossing : (e : Line) (es : List Line) → begins (path_of e) p ≡ false → begins p (path_of e) ≡ true
+      → begins p e.base ≡ false → Found holder p (e ∷ es) (dotted_node e.names (holder (front p)) e.at)
+  crossing e es not on apart =
+      let there : around p ≡ front p =
+      ap around (sym (append_none p)) ∙ around_front p [] (ends_in_keys p e.base e.steps on apart) refl in
+      let long : begins (around p) (path_of e) ≡ true = goes_on (around p) p (path_of e) (around_begins p) on in
+      by_rows (dotted_node e.names (holder (front (around p))) e.at) (rw (off e not, long) refl) (rw long refl)
+      (ap holder (sym there))
+
+  pub found : (es : List Line) → Apart es → Sound es → list_any (λ e. begins p e.base) es ≡ false → (n : Node)
+      → choose holder es p ≡ Some n → Found holder p es n
+  found [] free sound apart n is = absurd (cc)
+  found (e ∷ es) (Apart.more free rest) (Sound.more ends told sound) apart n is =
+      go (begins (path_of e) p) refl (begins p (path_of e)) refl is (λ is. found es rest sound both.1 n is)
+    where
+      both : (begins p e.base ≡ false) × (list_any (λ e. begins p e.base) es ≡ false)
+      both = or_parts (begins p e.base) (list_any (λ e. begins p e.base) es) apart
+
+      go : (a : Bool) → begins (path_of e) p ≡ a → (b : Bool) → begins p (path_of e) ≡ b
+          → (if a then node_in e.names (holder (front (path_of e))) e.at e.value (drop (length (path_of e)) p)
+          else if b then Some (dotted_node e.names (holder (front p)) e.at) else choose holder es p) ≡ Some n
+          → (choose holder es p ≡ Some n → Found holder p es n) → Found holder p (e ∷ es) n
+      go true x b y is ih = here e es n x ends told is
+      go false x true y is ih =
+          let same : dotted_node e.names (holder (front p)) e.at ≡ n = cc in
+          subst (λ n. Found holder p (e ∷ es) n) same (crossing e es x y both.0)
+      go false x false y is ih = later e es n x free (ih is)

@@ -1,0 +1,292 @@
+-- The rows of values and of section lists, as lines: no line meets another one, and what is told of the nodes in their
+-- values.
+use Rattle.std.proofs.Common.{◌≡◌, ℕ, zero, suc, Bool, true, false, cond, List, [], ◌∷◌, ◌++◌, Option}
+use Rattle.std.proofs.Common.{Some, None, refl, ap, sym, ◌∙◌, length, drop}
+use Rattle.std.specs.Prelude.{◌||◌, ◌&&◌, if◌then◌else◌, not}
+use Rattle.std.specs.List.{list_any, list_all}
+use Rattle.std.proofs.lemmas.Bool.{false≢true, and_parts, or_parts, or_from}
+use Rattle.basic_toml_value.specs.Data.{Data}
+use Rattle.basic_toml_grammar.specs.Sections.{Key, KeyTexts, texts, Raw, Elements, no_elements, element, Rows, no_rows}
+use Rattle.basic_toml_grammar.specs.Sections.{row}
+use Rattle.basic_toml_grammar.specs.Steps.{Step, key, number, Path, step_eq, begins, overlap, steps_of}
+use Rattle.basic_toml_grammar.specs.RowClash.{any_overlaps, rows_clash, value_clashes, elements_clash}
+use Rattle.basic_toml_grammar.specs.IndexedPath.{Located}
+use Rattle.basic_toml_grammar.specs.Entering.{keyed_within, value_keyed, elements_keyed}
+use Rattle.basic_toml_grammar.specs.Mentions.{finished, row_mentions, mentions}
+use Rattle.basic_toml_grammar.specs.NamedClash.{first_key}
+use Rattle.basic_toml_grammar.specs.Nodes.{Node, front, value_node, dotted_node, dotted_start, holder_in, node_in}
+use Rattle.basic_toml_grammar.specs.Nodes.{node_among, node_by}
+use Rattle.basic_toml_grammar.specs.Tree.{Mention}
+use Rattle.basic_toml_grammar.proofs.Clash.ClashesAgree.{turn_eq}
+use Rattle.basic_toml_grammar.proofs.Nesting.TreeIsAsDeepAsMentions.{same_kind, bars, barred_by, mention, Peace}
+use Rattle.basic_toml_tree.specs.Outer.{no_keys, around}
+use Rattle.basic_toml_tree.proofs.Nodes.Lines.{ends_key, keys_end, Line, path_of, choose, start_among, Sound}
+use Rattle.basic_toml_tree.proofs.Nodes.Lines.{meets, Apart, Found, within, by_rows, found}
+
+-- rows below a path, each with the key path that its nodes have
+abbrev pub lines_of : Path → (List Key → KeyTexts) → Rows → List Line
+lines_of base name no_rows = []
+lines_of base name (row ks at v rows) =
+    record { base = base; steps = texts ks; at = at; value = v; names = name ks } ∷ lines_of base name rows
+
+abbrev pub names_of : Located → List Key → KeyTexts
+names_of l ks = texts l.section.header ++ first_key ks
+
+abbrev pub all_lines : List Located → List Line
+all_lines [] = []
+all_lines (l ∷ ls) = lines_of l.path (names_of l) l.section.rows ++ all_lines ls
+
+-- rows of one list do not meet
+rows_overlap : (name : List Key → KeyTexts) (e : Line) (rows : Rows)
+    → list_any (meets e) (lines_of [] name rows) ≡ any_overlaps (path_of e) rows
+rows_overlap name e no_rows = refl
+rows_overlap name e (row ks at v rows) =
+    ap (λ b. overlap (path_of e) (steps_of (texts ks)) || b) (rows_overlap name e rows)
+
+rows_apart : (name : List Key → KeyTexts) (rows : Rows) → rows_clash rows ≡ false → Apart (lines_of [] name rows)
+rows_apart name no_rows free = Apart.none
+rows_apart name (row ks at v rows) free =
+    let split = or_parts (any_overlaps (steps_of (texts ks)) rows || value_clashes v) (rows_clash rows) free in
+    let own = or_parts (any_overlaps (steps_of (texts ks)) rows) (value_clashes v) split.0 in
+    Apart.more (rows_overlap name (record { base = []; steps = texts ks; at = at; value = v; names = name ks }) rows
+    ∙ own.0) (rows_apart name rows split.1)
+
+-- the rows of an inline table, as lines
+by_lines : (names : KeyTexts) (outer : Option ℕ) (all rows : Rows) (p : Path)
+    → node_by names outer all rows p ≡ choose (holder_in outer all) (lines_of [] (λ ks. names) rows) p
+by_lines names outer all no_rows p = refl
+by_lines names outer all (row ks at v rows) p =
+    let steps = steps_of (texts ks) in
+    ap (λ n. if begins steps p then node_in names (holder_in outer all (front steps)) at v (drop (length steps) p)
+    else if begins p steps then Some (dotted_node names (holder_in outer all (front p)) at) else n)
+    (by_lines names outer all rows p)
+
+starts_by_lines : (name : List Key → KeyTexts) (rows : Rows) (p : Path)
+    → dotted_start rows p ≡ start_among (lines_of [] name rows) p
+starts_by_lines name no_rows p = refl
+starts_by_lines name (row ks at v rows) p =
+    ap (λ o. if begins p (steps_of (texts ks)) then Some at else o) (starts_by_lines name rows p)
+
+no_base : (name : List Key → KeyTexts) (rows : Rows) (s : Step) (p : Path)
+    → list_any (λ (e : Line). begins (s ∷ p) e.base) (lines_of [] name rows) ≡ false
+no_base name no_rows s p = refl
+no_base name (row ks at v rows) s p = no_base name rows s p
+
+not_at_root : (p : Path) → ends_key p ≡ true → begins p [] ≡ true → ⊥
+not_at_root [] ends at = false≢true ends
+not_at_root (s ∷ p) ends at = false≢true at
+
+-- a node of an inline table
+module _ (names : KeyTexts) (outer : Option ℕ) (at : ℕ) (rows : Rows) (k : List ℕ) (p : Path) (n : Node) where
+  abbrev Below : Type 0
+  Below = (m : Node) × (node_in names outer at (Raw.inline rows) (around (key k ∷ p)) ≡ Some m)
+      × (n.outer_offset ≡ m.start)
+
+  of_inline : Found (holder_in (Some at) rows) (key k ∷ p) (lines_of [] (λ ks. names) rows) n → Below
+  of_inline f = go (no_keys p) refl f
+    where
+      go : (b : Bool) → no_keys p ≡ b
+          → Found (holder_in (Some at) rows) (key k ∷ p) (lines_of [] (λ ks. names) rows) n → Below
+      go true e (within m l a ends here chosen same) =
+          let root : around (key k ∷ p) ≡ [] = ap (λ b. if b then [] else key k ∷ around p) e in
+          absurd (not_at_root (path_of l) ends (ap (begins (path_of l)) (sym root) ∙ here))
+      go true e (by_rows m chosen start same) =
+          let root : around (key k ∷ p) ≡ [] = ap (λ b. if b then [] else key k ∷ around p) e in (
+            value_node names outer at (Raw.inline rows),
+            ap (node_in names outer at (Raw.inline rows)) root,
+            same ∙ ap (holder_in (Some at) rows) root,
+          )
+      go false e (within m l a ends here chosen same) =
+          let on : around (key k ∷ p) ≡ key k ∷ around p = ap (λ b. if b then [] else key k ∷ around p) e in (
+            m,
+            ap (node_in names outer at (Raw.inline rows)) on
+                ∙ by_lines names (Some at) rows rows (key k ∷ around p)
+                ∙ ap (choose (holder_in (Some at) rows) (lines_of [] (λ ks. names) rows)) (sym on) ∙ chosen,
+            same,
+          )
+      go false e (by_rows m chosen start same) =
+          let on : around (key k ∷ p) ≡ key k ∷ around p = ap (λ b. if b then [] else key k ∷ around p) e in (
+            m,
+            ap (node_in names outer at (Raw.inline rows)) on
+                ∙ by_lines names (Some at) rows rows (key k ∷ around p)
+                ∙ ap (choose (holder_in (Some at) rows) (lines_of [] (λ ks. names) rows)) (sym on) ∙ chosen,
+            same ∙ ap (holder_in (Some at) rows) on ∙ starts_by_lines (λ ks. names) rows (key k ∷ around p)
+                ∙ ap (start_among (lines_of [] (λ ks. names) rows)) (sym on) ∙ sym start,
+          )
+
+-- with no key on the way the outer offset is that of the value
+mutual
+  bare_in : (v : Raw) (names : KeyTexts) (outer : Option ℕ) (at : ℕ) (x : Path) (n : Node)
+      → node_in names outer at v x ≡ Some n → no_keys x ≡ true → n.outer_offset ≡ outer
+  bare_in v names outer at [] n is none = let same : value_node names outer at v ≡ n = cc in
+      sym (ap (λ n. n.outer_offset) same)
+  bare_in v names outer at (key k ∷ x) n is none = absurd (false≢true none)
+  bare_in (Raw.array es) names outer at (number i ∷ x) n is none = bare_among es names outer i x n is none
+  bare_in (Raw.inline rows) names outer at (number i ∷ x) n is none = absurd (cc)
+  bare_in (Raw.integer z) names outer at (number i ∷ x) n is none = absurd (cc)
+  bare_in (Raw.float z) names outer at (number i ∷ x) n is none = absurd (cc)
+  bare_in (Raw.boolean z) names outer at (number i ∷ x) n is none = absurd (cc)
+  bare_in (Raw.string z) names outer at (number i ∷ x) n is none = absurd (cc)
+
+  bare_among : (es : Elements) (names : KeyTexts) (outer : Option ℕ) (i : ℕ) (x : Path) (n : Node)
+      → node_among names outer es i x ≡ Some n → no_keys x ≡ true → n.outer_offset ≡ outer
+  bare_among no_elements names outer i x n is none = absurd (cc)
+  bare_among (element at v es) names outer zero x n is none = bare_in v names outer at x n is none
+  bare_among (element at v es) names outer (suc i) x n is none = bare_among es names outer i x n is none
+
+abbrev DeepIn : Raw → Type 0
+DeepIn v = (names : KeyTexts) (outer : Option ℕ) (at : ℕ) (x : Path) (n : Node)
+    → node_in names outer at v x ≡ Some n → no_keys x ≡ false
+    → (m : Node) × (node_in names outer at v (around x) ≡ Some m) × (n.outer_offset ≡ m.start)
+
+abbrev DeepAmong : Elements → Type 0
+DeepAmong es = (names : KeyTexts) (outer : Option ℕ) (i : ℕ) (x : Path) (n : Node)
+    → node_among names outer es i x ≡ Some n → no_keys x ≡ false
+    → (m : Node) × (node_among names outer es i (around x) ≡ Some m) × (n.outer_offset ≡ m.start)
+
+plain_deep : (v : Raw) → ((names : KeyTexts) (outer : Option ℕ) (at : ℕ) (s : Step) (x : Path)
+    → node_in names outer at v (s ∷ x) ≡ None) → DeepIn v
+plain_deep v plain names outer at [] n is some = absurd (false≢true (sym some))
+plain_deep v plain names outer at (s ∷ x) n is some = absurd (cc (plain names outer at s x))
+
+mutual
+  deep_in : (v : Raw) → value_clashes v ≡ false → value_keyed v ≡ true → DeepIn v
+  deep_in (Raw.integer z) free keyed names outer at x n is some =
+      plain_deep (Raw.integer z) plain names outer at x n is some
+    where
+      plain : (names : KeyTexts) (outer : Option ℕ) (at : ℕ) (s : Step) (x : Path)
+          → node_in names outer at (Raw.integer z) (s ∷ x) ≡ None
+      plain names outer at (key k) x = refl
+      plain names outer at (number i) x = refl
+  deep_in (Raw.float z) free keyed names outer at x n is some =
+      plain_deep (Raw.float z) plain names outer at x n is some
+    where
+      plain : (names : KeyTexts) (outer : Option ℕ) (at : ℕ) (s : Step) (x : Path)
+          → node_in names outer at (Raw.float z) (s ∷ x) ≡ None
+      plain names outer at (key k) x = refl
+      plain names outer at (number i) x = refl
+  deep_in (Raw.boolean z) free keyed names outer at x n is some =
+      plain_deep (Raw.boolean z) plain names outer at x n is some
+    where
+      plain : (names : KeyTexts) (outer : Option ℕ) (at : ℕ) (s : Step) (x : Path)
+          → node_in names outer at (Raw.boolean z) (s ∷ x) ≡ None
+      plain names outer at (key k) x = refl
+      plain names outer at (number i) x = refl
+  deep_in (Raw.string z) free keyed names outer at x n is some =
+      plain_deep (Raw.string z) plain names outer at x n is some
+    where
+      plain : (names : KeyTexts) (outer : Option ℕ) (at : ℕ) (s : Step) (x : Path)
+          → node_in names outer at (Raw.string z) (s ∷ x) ≡ None
+      plain names outer at (key k) x = refl
+      plain names outer at (number i) x = refl
+  deep_in (Raw.array es) free keyed names outer at [] n is some = absurd (false≢true (sym some))
+  deep_in (Raw.array es) free keyed names outer at (key k ∷ x) n is some = absurd (cc)
+  deep_in (Raw.array es) free keyed names outer at (number i ∷ x) n is some =
+      let m = deep_among es free keyed names outer i x n is some in
+      (m.0, ap (λ b. node_in names outer at (Raw.array es) (if b then [] else number i ∷ around x)) some ∙ m.1, m.2)
+  deep_in (Raw.inline rows) free keyed names outer at [] n is some = absurd (false≢true (sym some))
+  deep_in (Raw.inline rows) free keyed names outer at (number i ∷ x) n is some = absurd (cc)
+  deep_in (Raw.inline rows) free keyed names outer at (key k ∷ x) n is some =
+      of_inline names outer at rows k x n
+      (found (holder_in (Some at) rows) (key k ∷ x) (lines_of [] (λ ks. names) rows) (rows_apart (λ ks. names) rows free)
+      (rows_sound [] (λ ks. names) rows free keyed) (no_base (λ ks. names) rows (key k) x) n
+      (sym (by_lines names (Some at) rows rows (key k ∷ x)) ∙ is))
+
+  deep_among : (es : Elements) → elements_clash es ≡ false → elements_keyed es ≡ true → DeepAmong es
+  deep_among no_elements free keyed names outer i x n is some = absurd (cc)
+  deep_among (element at v es) free keyed names outer zero x n is some =
+      deep_in v (or_parts (value_clashes v) (elements_clash es) free).0
+      (and_parts (value_keyed v) (elements_keyed es) keyed).0 names outer at x n is some
+  deep_among (element at v es) free keyed names outer (suc i) x n is some =
+      deep_among es (or_parts (value_clashes v) (elements_clash es) free).1
+      (and_parts (value_keyed v) (elements_keyed es) keyed).1 names outer i x n is some
+
+  pub rows_sound : (base : Path) (name : List Key → KeyTexts) (rows : Rows) → rows_clash rows ≡ false
+      → keyed_within rows ≡ true → Sound (lines_of base name rows)
+  rows_sound base name no_rows free keyed = Sound.none
+  rows_sound base name (row [] at v rows) free keyed = absurd (false≢true keyed)
+  rows_sound base name (row (k ∷ ks) at v rows) free keyed =
+      let steps = steps_of (texts (k ∷ ks)) in
+      let split = or_parts (any_overlaps steps rows || value_clashes v) (rows_clash rows) free in
+      let own = or_parts (any_overlaps steps rows) (value_clashes v) split.0 in
+      let parts = and_parts (value_keyed v) (keyed_within rows) keyed in
+      Sound.more (keys_end base k.text (texts ks)) (record {
+        bare = bare_in v;
+        deep = deep_in v own.1 parts.0;
+      }) (rows_sound base name rows split.1 parts.1)
+
+-- the rows of all sections
+sound_both : (es fs : List Line) → Sound es → Sound fs → Sound (es ++ fs)
+sound_both [] fs a b = b
+sound_both (e ∷ es) fs (Sound.more ends told a) b = Sound.more ends told (sound_both es fs a b)
+
+pub all_sound : (ls : List Located) → list_any (λ l. rows_clash l.section.rows) ls ≡ false
+    → list_all (λ l. keyed_within l.section.rows) ls ≡ true → Sound (all_lines ls)
+all_sound [] free keyed = Sound.none
+all_sound (l ∷ ls) free keyed =
+    let a = or_parts (rows_clash l.section.rows) (list_any (λ l. rows_clash l.section.rows) ls) free in
+    let k = and_parts (keyed_within l.section.rows) (list_all (λ l. keyed_within l.section.rows) ls) keyed in
+    sound_both (lines_of l.path (names_of l) l.section.rows) (all_lines ls)
+    (rows_sound l.path (names_of l) l.section.rows a.0 k.0) (all_sound ls a.1 k.1)
+
+overlap_barred : (p q : Path) (d c : Data) → overlap p q ≡ true → bars p (Some d) q (Some c) ≡ true
+overlap_barred [] q d c e = refl
+overlap_barred (s ∷ p) [] d c e = refl
+overlap_barred (s ∷ p) (t ∷ q) d c e = go (step_eq s t) refl e (λ e. overlap_barred p q d c e)
+  where
+    go : (b : Bool) → step_eq s t ≡ b
+        → ((step_eq s t && begins p q) || (step_eq t s && begins q p)) ≡ true
+        → (overlap p q ≡ true → bars p (Some d) q (Some c) ≡ true)
+        → cond (step_eq s t) (bars p (Some d) q (Some c)) (not (same_kind s t)) ≡ true
+    go true x e ih =
+        let back : step_eq t s ≡ true = turn_eq t s ∙ x in
+        let both : overlap p q ≡ true =
+        sym (ap (λ b. (b && begins p q) || (step_eq t s && begins q p)) x
+        ∙ ap (λ b. begins p q || (b && begins q p)) back) ∙ e in
+        rw x (ih both)
+    go false x e ih =
+        let back : step_eq t s ≡ false = turn_eq t s ∙ x in
+        absurd (false≢true (sym (ap (λ b. (b && begins p q) || (step_eq t s && begins q p)) x
+        ∙ ap (λ b. b && begins q p) back) ∙ e))
+
+not_overlap : (p q : Path) (d c : Data) → bars p (Some d) q (Some c) ≡ false → overlap p q ≡ false
+not_overlap p q d c free = go (overlap p q) refl
+  where
+    go : (b : Bool) → overlap p q ≡ b → b ≡ false
+    go true e = absurd (false≢true (sym free ∙ overlap_barred p q d c e))
+    go false e = refl
+
+free_rows : (e : Line) (d : Data) (base : Path) (name : List Key → KeyTexts) (rows : Rows) (ms : List Mention)
+    (es : List Line) → (list_any (barred_by (mention (path_of e) (Some d))) ms ≡ false → list_any (meets e) es ≡ false)
+    → list_any (barred_by (mention (path_of e) (Some d))) (row_mentions base rows ++ ms) ≡ false
+    → list_any (meets e) (lines_of base name rows ++ es) ≡ false
+free_rows e d base name no_rows ms es rest free = rest free
+free_rows e d base name (row ks at v rows) ms es rest free =
+    let path = base ++ steps_of (texts ks) in
+    let split = or_parts (bars (path_of e) (Some d) path (Some (finished v)))
+    (list_any (barred_by (mention (path_of e) (Some d))) (row_mentions base rows ++ ms)) free in
+    or_from (overlap (path_of e) path) (list_any (meets e) (lines_of base name rows ++ es))
+    (not_overlap (path_of e) path d (finished v) split.0) (free_rows e d base name rows ms es rest split.1)
+
+free_all : (e : Line) (d : Data) (ls : List Located)
+    → list_any (barred_by (mention (path_of e) (Some d))) (mentions ls) ≡ false
+    → list_any (meets e) (all_lines ls) ≡ false
+free_all e d [] free = refl
+free_all e d (l ∷ ls) free =
+    free_rows e d l.path (names_of l) l.section.rows (mentions ls) (all_lines ls) (λ free. free_all e d ls free)
+    (or_parts (bars (path_of e) (Some d) l.path None)
+    (list_any (barred_by (mention (path_of e) (Some d))) (row_mentions l.path l.section.rows ++ mentions ls)) free).1
+
+apart_rows : (base : Path) (name : List Key → KeyTexts) (rows : Rows) (ls : List Located)
+    → (Peace (mentions ls) → Apart (all_lines ls))
+    → Peace (row_mentions base rows ++ mentions ls) → Apart (lines_of base name rows ++ all_lines ls)
+apart_rows base name no_rows ls rest peace = rest peace
+apart_rows base name (row ks at v rows) ls rest (Peace.more e peace) =
+    let l : Line = record { base = base; steps = texts ks; at = at; value = v; names = name ks } in
+    Apart.more (free_rows l (finished v) base name rows (mentions ls) (all_lines ls)
+    (λ free. free_all l (finished v) ls free) e) (apart_rows base name rows ls rest peace)
+
+pub apart_all : (ls : List Located) → Peace (mentions ls) → Apart (all_lines ls)
+apart_all [] peace = Apart.none
+apart_all (l ∷ ls) (Peace.more e peace) =
+    apart_rows l.path (names_of l) l.section.rows ls (λ peace. apart_all ls peace) peace
