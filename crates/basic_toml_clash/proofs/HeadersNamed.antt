@@ -1,7 +1,6 @@
 -- The keys of a header as the fault of a clash tells them.
 use Rattle.std.proofs.Common.{◌≡◌, ℕ, zero, suc, ◌-◌, ◌+◌, ◌<◌, ◌≤◌, List, [], ◌∷◌, ◌++◌, length, map, take, get_or}
 use Rattle.std.proofs.Common.{refl, sym, ap, ◌∙◌, arith}
-use Rattle.std.specs.Cow.{cow_str_bytes}
 use Rattle.std.specs.List.{join_with_byte}
 use Rattle.std.proofs.lemmas.List.{append_assoc, take_more}
 use Rattle.basic_toml_tokens.specs.Ascii.{period}
@@ -10,13 +9,14 @@ use Rattle.basic_toml_grammar.specs.Faults.{duplicate_key, duplicate_table, rede
 use Rattle.basic_toml_grammar.specs.NamedClash.{nth_key}
 use Rattle.basic_toml_grammar.specs.Stops.{at_header, is_named, is_passed, at_row, stop_fault}
 use Rattle.basic_toml_explain.specs.Error.{fault_within}
+use Rattle.basic_toml_read.specs.KeyText.{key_text_bytes}
 use Rattle.basic_toml_read.specs.declared.section.Key as code
 use Rattle.basic_toml_read.specs.declared.section.Section.{Section}
 use Rattle.basic_toml_read.specs.SectionView.{section_of, key_of, header_texts}
 
 -- the key at a number, and none past the end
 pub key_there : (keys : List code.Key) (n : ℕ) (key : code.Key) (text : List ℕ) → n < length keys
-    → key ≡ get_or keys n key → text ≡ cow_str_bytes key.text
+    → key ≡ get_or keys n key → text ≡ key_text_bytes key.text
     → nth_key n (map key_of keys) ≡ record { offset = key.offset; text = text }
 key_there [] n key text within read is = absurd (omega arith)
 key_there (k ∷ keys) zero key text within read is = rw is (ap key_of (sym read))
@@ -30,7 +30,7 @@ none_there (k ∷ keys) (suc n) past = none_there keys n (omega arith)
 
 -- the text of a key at a number
 pub text_read : (keys : List code.Key) (n : ℕ) (other : code.Key) (k : List ℕ)
-    → k ≡ cow_str_bytes (get_or keys n other).text → k ≡ get_or (header_texts keys) n k
+    → k ≡ key_text_bytes (get_or keys n other).text → k ≡ get_or (header_texts keys) n k
 text_read [] n other k is = refl
 text_read (c ∷ keys) zero other k is = is
 text_read (c ∷ keys) (suc n) other k is = text_read keys n other k is

@@ -4,7 +4,7 @@ use Rattle.std.proofs.Common.{◌∙◌, take, drop}
 use Rattle.std.proofs.Common.{Some, None, is_some, map, arith, length, get_or, Option, subst, rules}
 use Rattle.std.specs.List.{flat_map}
 use Rattle.std.proofs.lemmas.List.Folds.{flat_map-map}
-use Rattle.std.specs.Cow.{cow_str_bytes}
+use Rattle.basic_toml_read.specs.KeyText.{key_text_bytes}
 use Rattle.basic_toml_read.specs.declared.section.Raw.{the_lemmas}
 use Rattle.basic_toml_read.specs.declared.section.Element.{Element, out-Element}
 use Rattle.basic_toml_read.specs.declared.section.Row.{Row, out-Row}
@@ -89,7 +89,7 @@ some_value (Some v) is = (v, refl)
 
 -- the rows and elements of the code
 pub lined_is : (r : Row) → lined_of r ≡ record {
-  key = record { offset = (out-Row r).offset; text = cow_str_bytes (out-Row r).key };
+  key = record { offset = (out-Row r).offset; text = key_text_bytes (out-Row r).key };
   start = (out-Row r).start;
   value = raw_of (out-Row r).value;
 }

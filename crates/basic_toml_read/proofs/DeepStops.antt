@@ -2,7 +2,6 @@
 use Rattle.std.proofs.Common.{◌≡◌, ◌≤◌, ◌<◌, ◌+◌, ◌-◌, ℕ, suc, List, length, refl, sym, subst, arith}
 use Rattle.std.proofs.Common.{Some, Result, Ok, Err, length-append, [], ◌∷◌, ◌++◌}
 use Rattle.std.specs.Result.{IsErrAnd}
-use Rattle.std.specs.Cow.{cow_str_bytes}
 use Rattle.basic_toml_tokens.specs.Text.{Text, text_at, is_comment, after_blanks}
 use Rattle.basic_toml_tokens.specs.Punctuation.{IsPunctuationEnd}
 use Rattle.basic_toml_grammar.specs.Sections.{Key}
@@ -18,6 +17,7 @@ use Rattle.basic_toml_explain.specs.declared.stop.Why.TheVariants.{Deep}
 use Rattle.basic_toml_read.specs.declared.scalar.Valued.{Valued}
 use Rattle.basic_toml_read.specs.declared.values.Gathered.{Gathered}
 use Rattle.basic_toml_read.specs.declared.values.LastKey.{LastKey}
+use Rattle.basic_toml_read.specs.KeyText.{key_text_bytes}
 use Rattle.basic_toml_read.specs.AtPlace.{Leaves}
 use Rattle.basic_toml_read.specs.FrontOf.{keys_of}
 use Rattle.basic_toml_read.specs.Gathers.{RaisesTo, IsLastKey}
@@ -96,12 +96,12 @@ pub value_deep : (bytes : List ℕ) (at level : ℕ) (old new : Gathered) (last 
     → Leaves bytes next start (after_blanks (text_at bytes next)) → (p : ℕ)
     → DeepValue 128 last.level (text_at bytes start) p → DeepRow 128 level (text_at bytes at) p
 value_deep bytes at level old new last next start k sign left p d =
-    let keys : List Key = k.front ++ (record { offset = last.offset; text = cow_str_bytes last.key } ∷ []) in
+    let keys : List Key = k.front ++ (record { offset = last.offset; text = key_text_bytes last.key } ∷ []) in
     let same : last.level ≡ level + length keys - 1 =
     omega (
       arith,
       k.level_is,
-      length-append k.front (record { offset = last.offset; text = cow_str_bytes last.key } ∷ []),
+      length-append k.front (record { offset = last.offset; text = key_text_bytes last.key } ∷ []),
     ) in
     value (keys_there (text_at bytes at) (keys, k.mid) k.is) (omega (arith, same, k.limit))
     (sign_after bytes last.end next 61 k.after sign)

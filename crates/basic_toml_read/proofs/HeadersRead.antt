@@ -2,7 +2,6 @@
 use Rattle.std.proofs.Common.{◌≡◌, ℕ, ◌+◌, ◌-◌, ◌<◌, ◌≤◌, Bool, true, false, List, [], ◌∷◌, ◌++◌, length, map, refl}
 use Rattle.std.proofs.Common.{ap, sym, ◌∙◌, subst, arith, length-append, Option, Some, None, Ok, Err, Vec, Global}
 use Rattle.std.proofs.lemmas.List.{map-append}
-use Rattle.std.specs.Cow.{cow_str_bytes}
 use Rattle.basic_toml_tokens.specs.Text.{Text, text_at, after_blanks}
 use Rattle.basic_toml_tokens.specs.Punctuation.{IsPunctuationEnd}
 use Rattle.basic_toml_explain.specs.declared.stop.Stop.{Stop}
@@ -17,6 +16,7 @@ use Rattle.basic_toml_grammar.specs.Reader as reader
 use Rattle.basic_toml_grammar.specs.Reader.{char_at, if_found}
 use Rattle.basic_toml_read.specs.FrontOf.{keys_of, header_of}
 use Rattle.basic_toml_read.specs.AtPlace.{Leaves}
+use Rattle.basic_toml_read.specs.KeyText.{key_text_bytes}
 use Rattle.basic_toml_read.specs.SectionView.{key_of}
 use Rattle.basic_toml_read.specs.StopsAt.{Misses, MissesKey, ReadsKeyAt}
 use Rattle.basic_toml_read.specs.Gathers.{ClosesAt}
@@ -57,7 +57,7 @@ module _ (bytes : List ℕ) (at offset level : ℕ) (front : List keys.Key)
     (k : Keyed) (key : ReadsKeyAt bytes offset (Ok k)) (end : ℕ)
     (blanks : Leaves bytes k.end end (after_blanks (text_at bytes k.end))) (high : level ≤ 128)
     (all : List keys.Key) (pushed : all ≡ front ++ (record { text = k.key; offset = offset } ∷ [])) where
-  seen : map key_of all ≡ map key_of front ++ record { offset = offset; text = cow_str_bytes k.key } ∷ []
+  seen : map key_of all ≡ map key_of front ++ record { offset = offset; text = key_text_bytes k.key } ∷ []
   seen = ap (map key_of) pushed ∙ map-append key_of front (record { text = k.key; offset = offset } ∷ [])
 
   pub header_next : (next offset' : ℕ) → IsPunctuationEnd 46 bytes end (Some next)

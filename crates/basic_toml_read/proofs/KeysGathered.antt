@@ -2,7 +2,6 @@
 use Rattle.std.proofs.Common.{◌≡◌, ℕ, ◌+◌, ◌≤◌, List, [], ◌∷◌, ◌++◌, refl, ap, sym, ◌∙◌, arith, append_assoc}
 use Rattle.std.proofs.Common.{append-nil, Some, None, Ok}
 use Rattle.std.specs.Str.{IsCharBoundary}
-use Rattle.std.specs.Cow.{cow_str_bytes}
 use Rattle.basic_toml_tokens.specs.Text.{text_at, after_blanks}
 use Rattle.basic_toml_tokens.specs.Punctuation.{IsPunctuationEnd}
 use Rattle.basic_toml_read.specs.declared.section.Row.{Row}
@@ -10,6 +9,7 @@ use Rattle.basic_toml_read.specs.declared.scalar.Keyed.{Keyed}
 use Rattle.basic_toml_read.specs.declared.values.Gathered.{Gathered}
 use Rattle.basic_toml_grammar.specs.Sections.{Key, Rows, row}
 use Rattle.basic_toml_read.specs.AtPlace.{Leaves}
+use Rattle.basic_toml_read.specs.KeyText.{key_text_bytes}
 use Rattle.basic_toml_read.specs.SectionView.{rows_view, with_key}
 use Rattle.basic_toml_read.specs.StopsAt.{ReadsKeyAt}
 use Rattle.basic_toml_read.specs.Gathers.{with_keys, IsLastKey}
@@ -53,17 +53,17 @@ module _ (bytes : List ℕ) (at first offset level : ℕ) (old new : Gathered)
   pub keys_more : (next offset' : ℕ) (new' : Gathered) (dot : Row) → IsPunctuationEnd 46 bytes end (Some next)
       → Leaves bytes next offset' (after_blanks (text_at bytes next))
       → ((rest : List Row) → rows_view (dot ∷ rest)
-      ≡ with_key (record { offset = offset; text = cow_str_bytes k.key }) (rows_view rest))
+      ≡ with_key (record { offset = offset; text = key_text_bytes k.key }) (rows_view rest))
       → new'.rows.items ≡ new.rows.items ++ (dot ∷ []) → new'.elements.items ≡ new.elements.items
       → KeysSoFar bytes at first offset' (level + 1) old new'
   keys_more next offset' new' dot sign after dot_is pushed elements = record {
-    front = s.front ++ record { offset = offset; text = cow_str_bytes k.key } ∷ [];
+    front = s.front ++ record { offset = offset; text = key_text_bytes k.key } ∷ [];
     keys = told_more bytes at first offset level s.front s.keys k key end blanks high next offset' sign after;
     dots = s.dots ++ dot ∷ [];
     pushed = pushed ∙ ap (λ (l : List Row). l ++ dot ∷ []) s.pushed ∙ append_assoc old.rows.items s.dots (dot ∷ []);
     seen = λ rest. ap rows_view (append_assoc s.dots (dot ∷ []) rest) ∙ s.seen (dot ∷ rest) ∙
         ap (with_keys s.front) (dot_is rest)
-        ∙ sym (with_keys_more s.front (record { offset = offset; text = cow_str_bytes k.key }) (rows_view rest));
+        ∙ sym (with_keys_more s.front (record { offset = offset; text = key_text_bytes k.key }) (rows_view rest));
     elements = elements ∙ s.elements;
   }
 

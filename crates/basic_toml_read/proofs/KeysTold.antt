@@ -3,7 +3,6 @@ use Rattle.std.proofs.Common.{inl, inr, ◌≡◌, ℕ, ◌+◌, ◌-◌, ◌<�
 use Rattle.std.proofs.Common.{subst, arith, append_assoc, length-append, Option, Some, None, Result, Ok, Err}
 use Rattle.std.specs.Result.{IsErrAnd}
 use Rattle.std.specs.Str.{IsCharBoundary}
-use Rattle.std.specs.Cow.{cow_str_bytes}
 use Rattle.basic_toml_tokens.specs.Text.{Text, text_at, after_blanks}
 use Rattle.basic_toml_tokens.specs.Punctuation.{IsPunctuationEnd}
 use Rattle.basic_toml_explain.specs.declared.stop.Stop.{Stop}
@@ -14,6 +13,7 @@ use Rattle.basic_toml_read.specs.declared.scalar.Keyed.{Keyed}
 use Rattle.basic_toml_grammar.specs.Sections.{Key}
 use Rattle.basic_toml_grammar.specs.Entering.{and_then}
 use Rattle.basic_toml_grammar.specs.Reader.{char_at, key_at, if_found}
+use Rattle.basic_toml_read.specs.KeyText.{key_text_bytes}
 use Rattle.basic_toml_read.specs.FrontOf.{keys_of}
 use Rattle.basic_toml_read.specs.AtPlace.{Leaves}
 use Rattle.basic_toml_read.specs.StopsAt.{Misses, MissesKey, ReadsKeyAt}
@@ -149,12 +149,12 @@ module _ (bytes : List ℕ) (at first offset level : ℕ) (front : List Key)
   module _ (k : Keyed) (key : ReadsKeyAt bytes offset (Ok k)) (end : ℕ)
       (blanks : Leaves bytes k.end end (after_blanks (text_at bytes k.end))) (high : level ≤ 128) where
     here : Key
-    here = record { offset = offset; text = cow_str_bytes k.key }
+    here = record { offset = offset; text = key_text_bytes k.key }
 
     -- a period and another key
     pub told_more : (next offset' : ℕ) → IsPunctuationEnd 46 bytes end (Some next)
         → Leaves bytes next offset' (after_blanks (text_at bytes next))
-        → KeysTold bytes at first offset' (level + 1) (front ++ record { offset = offset; text = cow_str_bytes k.key }
+        → KeysTold bytes at first offset' (level + 1) (front ++ record { offset = offset; text = key_text_bytes k.key }
         ∷ [])
     unfolding here
     told_more next offset' sign after =
@@ -178,7 +178,7 @@ module _ (bytes : List ℕ) (at first offset level : ℕ) (front : List Key)
     -- no period
     pub told_last : IsPunctuationEnd 46 bytes end None
         → keys_of (text_at bytes at)
-        ≡ Some (front ++ record { offset = offset; text = cow_str_bytes k.key } ∷ [], text_at bytes k.end)
+        ≡ Some (front ++ record { offset = offset; text = key_text_bytes k.key } ∷ [], text_at bytes k.end)
     unfolding here in_front
     told_last sign =
         let missed : char_at 46 (after_blanks (text_at bytes k.end)) ≡ None = ap (char_at 46) (sym blanks.left) ∙

@@ -5,8 +5,6 @@ use Rattle.std.proofs.Common.{Ok, Err}
 use Rattle.std.specs.Str.{IsUtf8, IsCharBoundary}
 use Rattle.std.specs.Cow.{cow_str_bytes}
 use Rattle.std.specs.Option.{option_or}
-use Rattle.std.specs.declared.borrow.CowStr.{CowStr}
-use Rattle.std.specs.declared.alloc.Global.{Global}
 use Rattle.std.proofs.lemmas.Str.{encodes-IsAscii}
 use Rattle.basic_toml_tokens.specs.declared.error.Error.{Error}
 use Rattle.basic_toml_tokens.specs.declared.error.Error.TheVariants.{OutOfMemory}
@@ -22,11 +20,13 @@ use Rattle.basic_toml_explain.specs.declared.stop.Stop.{Stop}
 use Rattle.basic_toml_explain.specs.declared.stop.Why.{Why}
 use Rattle.basic_toml_explain.specs.declared.stop.Why.TheVariants.{Memory, Key, Value}
 use Rattle.basic_toml_read.specs.declared.scalar.Keyed.{Keyed}
+use Rattle.basic_toml_read.specs.declared.key_text.KeyText.{KeyText}
 use Rattle.basic_toml_grammar.specs.Sections as sections
 use Rattle.basic_toml_grammar.specs.Entering.{and_then}
 use Rattle.basic_toml_grammar.specs.Grammar.{is_wordlike, word_value}
 use Rattle.basic_toml_grammar.specs.Reader as reader
 use Rattle.basic_toml_grammar.specs.Reader.{string_at, bare_key_at, quoted_key, key_at, string_value_at, word_at}
+use Rattle.basic_toml_read.specs.KeyText.{key_text_bytes}
 use Rattle.basic_toml_read.specs.StopsAt.{why_of, MissesKey, MissesString, ReadsKeyAt, IsKeyOf}
 use Rattle.basic_toml_grammar.proofs.Grammar.StringsAreRead.{string_found, string_read}
 use Rattle.basic_toml_read.specs.AtPlace.{Leaves}
@@ -79,16 +79,16 @@ bare_found (x ∷ text) p offset some = go (is_keylike x.1) refl some
           after_run is_keylike (x ∷ text),
         )) (offset x text refl)
 
-pub bare_key : (bytes : List ℕ) (at end : ℕ) (key : CowStr Global) → IsRun is_keylike bytes at end → (at ≡ end → ⊥)
-    → cow_str_bytes key ≡ between bytes at end
+pub bare_key : (bytes : List ℕ) (at end : ℕ) (key : KeyText) → IsRun is_keylike bytes at end → (at ≡ end → ⊥)
+    → key_text_bytes key ≡ between bytes at end
     → ReadsKeyAt bytes at (Ok (record { key = key; end = end }))
 bare_key bytes at end key r some e =
-    let text_is : run is_keylike (text_at bytes at) ≡ cow_str_bytes key = sym (bare_text bytes at end r) ∙ sym e in (
+    let text_is : run is_keylike (text_at bytes at) ≡ key_text_bytes key = sym (bare_text bytes at end r) ∙ sym e in (
       bare_found (text_at bytes at) at (λ x t h. offset_is bytes at x t h)
           (λ h. some_run (ap length (bare_text bytes at end r ∙ h)))
           ∙ ap (λ (t : List ℕ). Some (record { offset = at; text = t }, after_run is_keylike (text_at bytes at)))
           text_is
-          ∙ ap (λ (t : Text). Some (record { offset = at; text = cow_str_bytes key }, t)) (sym r.rest),
+          ∙ ap (λ (t : Text). Some (record { offset = at; text = key_text_bytes key }, t)) (sym r.rest),
       r.boundary,
       omega (arith, r.forward),
     )
@@ -122,22 +122,25 @@ string_is bytes at q s = string_found s.string
 
 pub string_key : (bytes : List ℕ) (at : ℕ) (q : Quoted) (result : Result Keyed Stop)
     → run is_keylike (text_at bytes at) ≡ [] → IsQuoted bytes at q → IsKeyOf q at result → ReadsKeyAt bytes at result
-string_key bytes at q (Ok k) none s is =
-    subst (λ k. ReadsKeyAt bytes at (Ok k)) (sym is.1) (
+string_key bytes at q (Ok k) none s (one_line, same, end) = (
+  key_by_string (text_at bytes at) _ none (string_is bytes at q s)
+      ∙ ap (λ b. cond b None (Some (record { offset = at; text = encode_utf8_all s.value }, text_at bytes q.end)))
+      one_line
+      ∙ ap (λ (t : List ℕ). Some (record { offset = at; text = t }, text_at bytes q.end))
+      (sym s.spelled ∙ ap cow_str_bytes (sym same))
+      ∙ ap (λ (n : ℕ). Some (record { offset = at; text = key_text_bytes k.key }, text_at bytes n)) (sym end),
+  subst (λ (n : ℕ). IsCharBoundary bytes n) (sym end) s.boundary,
+  subst (λ (n : ℕ). at < n) (sym end) s.forward,
+)
+string_key bytes at q (Err stop) none s (inl (lines, is)) =
+    subst (λ stop. ReadsKeyAt bytes at (Err stop)) (sym is) (
       key_by_string (text_at bytes at) _ none (string_is bytes at q s)
           ∙ ap (λ b. cond b None (Some (record { offset = at; text = encode_utf8_all s.value }, text_at bytes q.end)))
-          is.0
-          ∙ ap (λ (t : List ℕ). Some (record { offset = at; text = t }, text_at bytes q.end)) (sym s.spelled),
-      s.boundary,
-      s.forward,
-    )
-string_key bytes at q (Err stop) none s is =
-    subst (λ stop. ReadsKeyAt bytes at (Err stop)) (sym is.1) (
-      key_by_string (text_at bytes at) _ none (string_is bytes at q s)
-          ∙ ap (λ b. cond b None (Some (record { offset = at; text = encode_utf8_all s.value }, text_at bytes q.end)))
-          is.0,
+          lines,
       λ _. refl,
     )
+string_key bytes at q (Err stop) none s (inr (is, _, _)) =
+    subst (λ stop. ReadsKeyAt bytes at (Err stop)) (sym is) (tt, λ h. cc)
 
 why_by : (Q : Why → Type 0) (why : Why) (e : Error) → Q Memory → ((e ≡ OutOfMemory → ⊥) → Q why) → Q (why_of e why)
 why_by Q why OutOfMemory m k = m

@@ -6,7 +6,6 @@ use Rattle.std.specs.Prelude.{codes}
 use Rattle.std.specs.Str.{bytes_eq}
 use Rattle.std.proofs.Math.Seq.{drop-append_seam, take-append_seam}
 use Rattle.std.specs.Option.{option_or}
-use Rattle.std.specs.Cow.{cow_str_bytes}
 use Rattle.basic_toml_tokens.specs.Text.{Text, text_at, run, after_run, after_blanks}
 use Rattle.basic_toml_tokens.specs.Punctuation.{IsPunctuationEnd}
 use Rattle.basic_toml_read.specs.declared.section.Raw as code
@@ -25,6 +24,7 @@ use Rattle.basic_toml_grammar.specs.Reader as reader
 use Rattle.basic_toml_grammar.specs.Reader.{char_at, if_found, string_at, word_at, string_value_at}
 use Rattle.basic_toml_value.specs.Numbers.{integer_of, float_of}
 use Rattle.basic_toml_grammar.specs.Grammar.{is_wordlike, number_value, word_value, word_offset}
+use Rattle.basic_toml_read.specs.KeyText.{key_text_bytes}
 use Rattle.basic_toml_read.specs.FrontOf.{keys_of, value_of, elements_of, fields_of, row_of}
 use Rattle.basic_toml_read.specs.AtPlace.{Leaves}
 use Rattle.basic_toml_read.specs.SectionView.{elements_view, rows_view}
@@ -66,7 +66,7 @@ keys_missed level text w m =
 module _ (bytes : List ℕ) (at level : ℕ) (old mid : Gathered) (last : LastKey)
     (k : IsLastKey bytes at level old mid last) where
   all_keys : List Key
-  all_keys = k.front ++ record { offset = last.offset; text = cow_str_bytes last.key } ∷ []
+  all_keys = k.front ++ record { offset = last.offset; text = key_text_bytes last.key } ∷ []
 
   assigned : List Key → reader.Valued → reader.Assigned
   assigned keys v = record { keys = keys; offset = v.offset; value = v.value; rest = v.rest }
@@ -88,7 +88,7 @@ module _ (bytes : List ℕ) (at level : ℕ) (old mid : Gathered) (last : LastKe
   unfolding all_keys
   length_keys = omega (
     arith,
-    length-append k.front (record { offset = last.offset; text = cow_str_bytes last.key }
+    length-append k.front (record { offset = last.offset; text = key_text_bytes last.key }
         ∷ []),
   )
 
@@ -140,7 +140,7 @@ module _ (bytes : List ℕ) (at level : ℕ) (old mid : Gathered) (last : LastKe
           ∙ k.seen (roll-Row (record { key = last.key; offset = last.offset; start = v.offset; value = v.value })
           ∷ rest)
           ∙ ap (with_keys k.front) (row_before last.key last.offset v.offset v.value r.found.raw rest r.found.seen)
-          ∙ with_keys_row k.front (record { offset = last.offset; text = cow_str_bytes last.key }) [] v.offset
+          ∙ with_keys_row k.front (record { offset = last.offset; text = key_text_bytes last.key }) [] v.offset
           r.found.raw (rows_view rest);
       elements = elements ∙ r.keeps.elements ∙ k.elements;
       limit =

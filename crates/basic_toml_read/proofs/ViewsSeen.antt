@@ -1,11 +1,11 @@
 -- What each form of the code's values stands for.
 use Rattle.std.proofs.Common.{◌≡◌, ℕ, ℤ, List, [], ◌∷◌, ap, ◌∙◌, Some, None, Vec, Global, rules}
-use Rattle.std.specs.Cow.{cow_str_bytes}
-use Rattle.std.specs.declared.borrow.CowStr.{CowStr}
-use Rattle.basic_toml_read.specs.declared.section.Raw.{Raw, the_lemmas, Dot, Integer, String, Array, Inline}
+use Rattle.basic_toml_read.specs.declared.key_text.KeyText.{KeyText}
+use Rattle.basic_toml_read.specs.declared.section.Raw.{Raw, the_lemmas, Dot, Integer, Array, Inline}
 use Rattle.basic_toml_read.specs.declared.section.Element.{Element, roll-Element}
 use Rattle.basic_toml_read.specs.declared.section.Row.{Row, roll-Row}
 use Rattle.basic_toml_grammar.specs.Sections as spec
+use Rattle.basic_toml_read.specs.KeyText.{key_text_bytes}
 use Rattle.basic_toml_read.specs.SectionView.{raw_of, placed_of, lined_of, with_key, with_row, elements_view, rows_view}
 
 pub dot_of : raw_of Dot ≡ None
@@ -20,12 +20,9 @@ inline_of v = search (rules, the_lemmas)
 pub integer_of : (z : ℤ) → raw_of (Integer z) ≡ Some (spec.Raw.integer z)
 integer_of z = search (rules, the_lemmas)
 
-pub string_of : (s : CowStr Global) → raw_of (String s) ≡ Some (spec.Raw.string (cow_str_bytes s))
-string_of s = search (rules, the_lemmas)
-
-pub row_seen : (key : CowStr Global) (offset start : ℕ) (value : Raw)
+pub row_seen : (key : KeyText) (offset start : ℕ) (value : Raw)
     → lined_of (roll-Row (record { key = key; offset = offset; start = start; value = value }))
-    ≡ record { key = record { offset = offset; text = cow_str_bytes key }; start = start; value = raw_of value }
+    ≡ record { key = record { offset = offset; text = key_text_bytes key }; start = start; value = raw_of value }
 row_seen key offset start value = search (rules, the_lemmas)
 
 pub element_seen : (offset : ℕ) (value : Raw)
@@ -34,18 +31,18 @@ pub element_seen : (offset : ℕ) (value : Raw)
 element_seen offset value = search (rules, the_lemmas)
 
 -- a key that another follows
-pub dot_before : (key : CowStr Global) (offset : ℕ) (rest : List Row)
+pub dot_before : (key : KeyText) (offset : ℕ) (rest : List Row)
     → rows_view (roll-Row (record { key = key; offset = offset; start = 0; value = Dot }) ∷ rest)
-    ≡ with_key (record { offset = offset; text = cow_str_bytes key }) (rows_view rest)
+    ≡ with_key (record { offset = offset; text = key_text_bytes key }) (rows_view rest)
 dot_before key offset rest =
     ap (λ r. with_row r.key r.start r.value (rows_view rest)) (row_seen key offset 0 Dot)
-    ∙ ap (λ v. with_row (record { offset = offset; text = cow_str_bytes key }) 0 v (rows_view rest)) dot_of
+    ∙ ap (λ v. with_row (record { offset = offset; text = key_text_bytes key }) 0 v (rows_view rest)) dot_of
 
 -- the last key with its value
-pub row_before : (key : CowStr Global) (offset start : ℕ) (value : Raw) (v : spec.Raw) (rest : List Row)
+pub row_before : (key : KeyText) (offset start : ℕ) (value : Raw) (v : spec.Raw) (rest : List Row)
     → raw_of value ≡ Some v
     → rows_view (roll-Row (record { key = key; offset = offset; start = start; value = value }) ∷ rest)
-    ≡ spec.row (record { offset = offset; text = cow_str_bytes key } ∷ []) start v (rows_view rest)
+    ≡ spec.row (record { offset = offset; text = key_text_bytes key } ∷ []) start v (rows_view rest)
 row_before key offset start value v rest e =
     ap (λ r. with_row r.key r.start r.value (rows_view rest)) (row_seen key offset start value)
-    ∙ ap (λ v. with_row (record { offset = offset; text = cow_str_bytes key }) start v (rows_view rest)) e
+    ∙ ap (λ v. with_row (record { offset = offset; text = key_text_bytes key }) start v (rows_view rest)) e

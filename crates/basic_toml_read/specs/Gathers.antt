@@ -1,7 +1,6 @@
 -- What reading rows and values answers, and what is gathered on the way.
 use Rattle.std.specs.Prelude.{◌⊎◌, ◌≡◌, ◌≤◌, ◌<◌, ◌+◌, ◌-◌, ℕ, List, [], ◌∷◌, ◌++◌, length, Some, None, Result, Ok, Err}
 use Rattle.std.specs.Str.{IsCharBoundary}
-use Rattle.std.specs.Cow.{cow_str_bytes}
 use Rattle.basic_toml_tokens.specs.Text.{Text, text_at, is_comment, after_blanks}
 use Rattle.basic_toml_read.specs.declared.section.Element as code_elements
 use Rattle.basic_toml_read.specs.declared.section.Row as code_rows
@@ -17,6 +16,7 @@ use Rattle.basic_toml_grammar.specs.Levels.{value_level, elements_level, rows_le
 use Rattle.basic_toml_grammar.specs.Reader as reader
 use Rattle.basic_toml_grammar.specs.Reader.{char_at}
 use Rattle.basic_toml_read.specs.FrontOf.{keys_of, value_of, elements_of, fields_of, row_of}
+use Rattle.basic_toml_read.specs.KeyText.{key_text_bytes}
 use Rattle.basic_toml_read.specs.SectionView.{raw_of, elements_view, rows_view, with_key}
 use Rattle.basic_toml_read.specs.StopsAt.{Misses, IsValued}
 
@@ -40,7 +40,7 @@ pub record IsLastKey (bytes : List ℕ) (at level : ℕ) (old new : Gathered) (l
   pub front : List Key
   pub mid : Text
   pub is : keys_of (text_at bytes at)
-      ≡ Some (front ++ (record { offset = last.offset; text = cow_str_bytes last.key } ∷ []), mid)
+      ≡ Some (front ++ (record { offset = last.offset; text = key_text_bytes last.key } ∷ []), mid)
   pub after : text_at bytes last.end ≡ after_blanks mid
   pub dots : List code_rows.Row
   pub pushed : new.rows.items ≡ old.rows.items ++ dots

@@ -1,4 +1,5 @@
 pub mod Word
+pub mod KeyText
 pub mod SectionView
 pub mod AtPlace
 pub mod FrontOf

@@ -1,7 +1,7 @@
 -- What the code's values, rows and sections stand for. A row without a value is a key that the keys of the next row
 -- follow.
 use Rattle.std.specs.Prelude.{ℕ, List, [], ◌∷◌, Option, Some, None, map}
-use Rattle.std.specs.Cow.{cow_str_bytes}
+use Rattle.std.specs.String.{string_bytes}
 use Rattle.basic_toml_read.specs.declared.section.Raw.{fold-Raw}
 use Rattle.basic_toml_read.specs.declared.section.Raw as raws
 use Rattle.basic_toml_read.specs.declared.section.Raw.TheOpen.{Raw-F, Element-F, Row-F}
@@ -11,6 +11,7 @@ use Rattle.basic_toml_read.specs.declared.section.Row as rows
 use Rattle.basic_toml_read.specs.declared.section.Row.{fold-Row}
 use Rattle.basic_toml_read.specs.declared.section.Key as keys
 use Rattle.basic_toml_read.specs.declared.section.Section as code
+use Rattle.basic_toml_read.specs.KeyText.{key_text_bytes}
 use Rattle.basic_toml_grammar.specs.Sections.{Key, KeyTexts, texts, Raw, Elements, no_elements, element, Rows, no_rows}
 use Rattle.basic_toml_grammar.specs.Sections.{row, Section}
 
@@ -51,7 +52,8 @@ raw_step Raw-F.Dot = None
 raw_step (Raw-F.Integer z) = Some (Raw.integer z)
 raw_step (Raw-F.Float text) = Some (Raw.float text)
 raw_step (Raw-F.Boolean b) = Some (Raw.boolean b)
-raw_step (Raw-F.String text) = Some (Raw.string (cow_str_bytes text))
+raw_step (Raw-F.String text) = Some (Raw.string text.now)
+raw_step (Raw-F.Escaped text) = Some (Raw.string (string_bytes text))
 raw_step (Raw-F.Array es) = Some (Raw.array (elements_from es.items))
 raw_step (Raw-F.Inline rs) = Some (Raw.inline (rows_from rs.items))
 
@@ -59,7 +61,7 @@ abbrev pub element_step : Element-F (Option Raw) Placed Lined → Placed
 element_step e = record { offset = e.offset; value = e.value }
 
 abbrev pub row_step : Row-F (Option Raw) Placed Lined → Lined
-row_step r = record { key = record { offset = r.offset; text = cow_str_bytes r.key }; start = r.start; value = r.value }
+row_step r = record { key = record { offset = r.offset; text = key_text_bytes r.key }; start = r.start; value = r.value }
 
 abbrev pub raw_of : raws.Raw → Option Raw
 raw_of = fold-Raw (Option Raw) Placed Lined raw_step element_step row_step
@@ -77,7 +79,7 @@ abbrev pub rows_view : List rows.Row → Rows
 rows_view rs = rows_from (map lined_of rs)
 
 abbrev pub key_of : keys.Key → Key
-key_of k = record { offset = k.offset; text = cow_str_bytes k.text }
+key_of k = record { offset = k.offset; text = key_text_bytes k.text }
 
 -- the texts of the keys of a header
 abbrev pub header_texts : List keys.Key → KeyTexts

@@ -1,11 +1,12 @@
 -- Where reading stops, and what does not stand there.
-use Rattle.std.specs.Prelude.{◌≡◌, ◌<◌, ℕ, true, false, List, [], Option, Some, None, Result, Ok, Err}
+use Rattle.std.specs.Prelude.{◌⊎◌, ◌≡◌, ◌<◌, ℕ, true, false, List, [], Option, Some, None, Result, Ok, Err}
 use Rattle.std.specs.Str.{IsCharBoundary}
-use Rattle.std.specs.Cow.{cow_str_bytes}
+use Rattle.std.specs.Cow.{IsOwnedStr}
 use Rattle.basic_toml_tokens.specs.declared.error.Error.{Error}
 use Rattle.basic_toml_tokens.specs.declared.error.Error.TheVariants.{OutOfMemory}
 use Rattle.basic_toml_tokens.specs.declared.string.Quoted.{Quoted}
 use Rattle.basic_toml_tokens.specs.Text.{Text, text_at, run}
+use Rattle.basic_toml_explain.specs.Stop.{no_memory}
 use Rattle.basic_toml_explain.specs.declared.stop.Stop.{Stop}
 use Rattle.basic_toml_explain.specs.declared.stop.Why.{Why}
 use Rattle.basic_toml_explain.specs.declared.stop.Why.TheVariants.{Memory, Deep, Key, Value, Word}
@@ -15,6 +16,7 @@ use Rattle.basic_toml_grammar.specs.Sections.{Raw}
 use Rattle.basic_toml_grammar.specs.Grammar.{is_wordlike}
 use Rattle.basic_toml_grammar.specs.Reader as reader
 use Rattle.basic_toml_grammar.specs.Reader.{key_at, string_at, string_value_at, word_at}
+use Rattle.basic_toml_read.specs.KeyText.{cow_of, key_text_bytes}
 use Rattle.basic_toml_read.specs.SectionView.{raw_of}
 
 -- the stop where no string was taken
@@ -40,14 +42,15 @@ MissesKey _ text = ⊥
 
 abbrev pub ReadsKeyAt : List ℕ → ℕ → Result Keyed Stop → Type 0
 ReadsKeyAt bytes at (Ok k) =
-    (key_at (text_at bytes at) ≡ Some (record { offset = at; text = cow_str_bytes k.key }, text_at bytes k.end))
+    (key_at (text_at bytes at) ≡ Some (record { offset = at; text = key_text_bytes k.key }, text_at bytes k.end))
     × IsCharBoundary bytes k.end × (at < k.end)
 ReadsKeyAt bytes at (Err stop) = MissesKey stop.why (text_at bytes at) × (stop.why ≡ Key → stop.at ≡ at)
 
--- a one-line string as a key
+-- a one-line string as a key, or no memory for an owned one
 abbrev pub IsKeyOf : Quoted → ℕ → Result Keyed Stop → Type 0
-IsKeyOf quoted at (Ok k) = (quoted.multiline ≡ false) × (k ≡ record { key = quoted.val; end = quoted.end })
-IsKeyOf quoted at (Err stop) = (quoted.multiline ≡ true) × (stop ≡ record { at = at; why = Key })
+IsKeyOf quoted at (Ok k) = (quoted.multiline ≡ false) × (cow_of k.key ≡ quoted.val) × (k.end ≡ quoted.end)
+IsKeyOf quoted at (Err stop) = ((quoted.multiline ≡ true) × (stop ≡ record { at = at; why = Key }))
+    ⊎ ((stop ≡ no_memory) × (quoted.multiline ≡ false) × IsOwnedStr quoted.val)
 
 -- the value that the code has, and where it ends
 pub record IsValued (bytes : List ℕ) (at : ℕ) (v : Valued) (found : Option reader.Valued) : Type 0 where

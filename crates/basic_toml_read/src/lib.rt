@@ -6,6 +6,7 @@
 
 mod front;
 mod header;
+mod key_text;
 mod reader;
 mod scalar;
 mod section;
@@ -13,5 +14,6 @@ mod values;
 mod word;
 
 pub use basic_toml_explain::{ReadError, ReadErrorKind};
+pub use key_text::KeyText;
 pub use reader::sections;
 pub use section::{Element, Key, Raw, Row, Section};

@@ -1,14 +1,17 @@
 //! Keys, strings and words at an offset of a text.
 ghost use Rattle.std.specs.Prelude.{IfErr, ◌≡◌, ◌<◌, [], Some, true, length, slice_index};
 ghost use Rattle.std.specs.Str.{IsCharBoundary};
+ghost use Rattle.std.specs.Cow.{cow_str_bytes};
 ghost use Rattle.basic_toml_tokens.specs.Text.{text_at, run, is_keylike};
 ghost use Rattle.basic_toml_tokens.specs.Strings.{is_quote};
+ghost use Rattle.basic_toml_grammar.specs.Sections as sections;
 ghost use Rattle.basic_toml_read.specs.Word as words;
 ghost use Rattle.basic_toml_read.specs.SectionView.{raw_of};
 ghost use Rattle.basic_toml_explain.specs.Stop.{StopsInside};
 ghost use Rattle.basic_toml_read.specs.StopsAt.{stop_of, IsKeyOf, ReadsKeyAt, ReadsStringAt, ReadsWordAt};
 
 use crate::front::{begins_string, end_of_word};
+use crate::key_text::KeyText;
 use crate::section::Raw;
 use crate::word::{Word, value_offset, word_value};
 use basic_toml_explain::{End, Stop, Why};
@@ -27,7 +30,7 @@ pub(crate) struct Valued<'de> {
 /// A key, and where it ends.
 #[derive(Drop)]
 pub(crate) struct Keyed<'de> {
-    pub key: CowStr<'de>,
+    pub key: KeyText<'de>,
     pub end: usize,
 }
 
@@ -55,7 +58,7 @@ pub(crate) fn key_at<'de>(alloc: Global, text: &'de str, at: usize) -> Result<Ke
         return quoted_key_at(alloc, text, at);
     }
     Ok(Keyed {
-        key: CowStr::Borrowed(&text[at..end]),
+        key: KeyText::Borrowed(&text[at..end]),
         end,
     })
 }
@@ -71,22 +74,32 @@ fn quoted_key_at<'de>(alloc: Global, text: &'de str, at: usize) -> Result<Keyed<
         return Err(Stop { at, why: Why::Key });
     }
     match string_at(alloc, text, at) {
-        Ok(quoted) => key_of(quoted, at),
+        Ok(quoted) => key_of(alloc, quoted, at),
         Err(refusal) => Err(refused(refusal, at, Why::Key)),
     }
 }
 
 // A one-line string as a key.
-fn key_of<'de>(quoted: Quoted<'de>, at: usize) -> Result<Keyed<'de>, Stop>
+fn key_of<'de>(alloc: Global, quoted: Quoted<'de>, at: usize) -> Result<Keyed<'de>, Stop>
     ensures { IsKeyOf quoted.entry at result }
 {
     if quoted.multiline {
         return Err(Stop { at, why: Why::Key });
     }
     Ok(Keyed {
-        key: quoted.val,
+        key: KeyText::from_cow(alloc, quoted.val)?,
         end: quoted.end,
     })
+}
+
+// The value of a string.
+fn string_of<'de>(text: CowStr<'de>) -> Raw<'de>
+    ensures { raw_of result ≡ Some (sections.Raw.string (cow_str_bytes text.entry)) }
+{
+    match text {
+        CowStr::Borrowed(text) => Raw::String(text),
+        CowStr::Owned(text) => Raw::Escaped(text),
+    }
 }
 
 /// The string at an offset, as a value.
@@ -104,7 +117,7 @@ pub(crate) fn string_value_at<'de>(
     match string_at(alloc, text, at) {
         Ok(quoted) => Ok(Valued {
             offset: at,
-            value: Raw::String(quoted.val),
+            value: string_of(quoted.val),
             end: quoted.end,
         }),
         Err(refusal) => Err(refused(refusal, at, Why::Value)),

@@ -2,8 +2,8 @@
 ghost use Rattle.std.specs.Prelude.{◌≡◌, not, is_some};
 ghost use Rattle.basic_toml_read.specs.SectionView.{section_of, lined_of};
 
+use crate::key_text::KeyText;
 use basic_toml_value::Float;
-use std::borrow::CowStr;
 
 /// A value as it is written (TOML v0.5.0, "Integer" to "Inline Table").
 #[cycle(raws)]
@@ -17,8 +17,10 @@ pub enum Raw<'de> {
     Float(Float),
     /// `true` or `false`.
     Boolean(bool),
-    /// A string without its delimiters, escapes resolved.
-    String(CowStr<'de>),
+    /// A string without its delimiters, as it stands in the text.
+    String(&'de str),
+    /// A string without its delimiters, where escapes are resolved or line ends are made line feeds.
+    Escaped(String),
     /// The elements of an array.
     Array(Vec<Element<'de>>),
     /// The rows of an inline table.
@@ -40,7 +42,7 @@ pub struct Element<'de> {
 #[derive(Drop)]
 pub struct Row<'de> {
     /// The key.
-    pub key: CowStr<'de>,
+    pub key: KeyText<'de>,
     /// The byte offset of the key.
     pub offset: usize,
     /// The byte offset of the value, after the last key.
@@ -62,7 +64,7 @@ impl<'de> Row<'de> {
 #[derive(Drop)]
 pub struct Key<'de> {
     /// The key.
-    pub text: CowStr<'de>,
+    pub text: KeyText<'de>,
     /// The byte offset of the key.
     pub offset: usize,
 }

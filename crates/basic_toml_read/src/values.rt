@@ -11,13 +11,13 @@ ghost use Rattle.basic_toml_tokens.specs.Punctuation.{is_lone};
 ghost use Rattle.basic_toml_read.specs.Gathers.{RaisesTo, ClosesAt, ReadsKeys, ReadsRow, ReadsValue, ReadsElements, ReadsArray, ReadsFields, ReadsInline};
 
 use crate::front::{after_blanks, after_gap, begins_string};
+use crate::key_text::KeyText;
 use crate::scalar::{Valued, key_at, string_value_at, word_at};
 use crate::section::{Element, Raw, Row};
 use basic_toml_explain::{End, Stop, Why};
 use basic_toml_tokens::after_punctuation;
 use basic_toml_value::NESTING_LIMIT;
 use std::alloc::{AllocError, Global};
-use std::borrow::CowStr;
 use std::mem;
 
 /// What is read is gathered in vectors that are used again, and is taken out of them where it is
@@ -32,7 +32,7 @@ pub(crate) struct Gathered<'de> {
 /// The last key of a row with its offset and its level, and where the blanks after it end.
 #[derive(Drop)]
 struct LastKey<'de> {
-    key: CowStr<'de>,
+    key: KeyText<'de>,
     offset: usize,
     level: usize,
     end: usize,

@@ -2,7 +2,6 @@
 use Rattle.std.proofs.Common.{◌≡◌, ℕ, List, [], ◌∷◌, ◌++◌, ap, ◌∙◌, refl, sym, Option, Some, None, Err, rules, length}
 use Rattle.std.proofs.Common.{arith, Box, Global, subst}
 use Rattle.std.specs.List.{slice_get}
-use Rattle.std.specs.Cow.{cow_str_bytes}
 use Rattle.basic_toml_value.specs.Data.{Data}
 use Rattle.basic_toml_grammar.specs.Sections.{KeyTexts}
 use Rattle.basic_toml_grammar.specs.Steps as steps
@@ -10,6 +9,7 @@ use Rattle.basic_toml_grammar.specs.Marks.{dotted}
 use Rattle.basic_toml_grammar.specs.Entering.{and_then}
 use Rattle.basic_toml_grammar.specs.Trie.{Trie, trie, nothing, standing, with_tries, mark_here, among, at_step}
 use Rattle.basic_toml_grammar.specs.Trie.{put_row}
+use Rattle.basic_toml_read.specs.KeyText.{key_text_bytes}
 use Rattle.basic_toml_read.specs.SectionView.{lined_of}
 use Rattle.basic_toml_read.specs.declared.section.Raw.{the_lemmas}
 use Rattle.basic_toml_read.specs.declared.section.Row.{Row, out-Row}
@@ -42,7 +42,7 @@ is_met_on f g changed whole (mets.Header left) entered on = on entered
 is_met_on f g changed whole mets.Row entered on = on entered
 
 -- the key of a row
-pub row_key : (row : Row) → (lined_of row).key.text ≡ cow_str_bytes (out-Row row).key
+pub row_key : (row : Row) → (lined_of row).key.text ≡ key_text_bytes (out-Row row).key
 row_key row = search (rules, the_lemmas)
 
 -- no rows, and a first one
@@ -51,7 +51,7 @@ no_texts [] none = refl
 no_texts (r ∷ rs) none = absurd (omega arith)
 
 pub first_text : (rows : List Row) (row : Row) (rest : List Row) → rows ≡ row ∷ rest
-    → key_texts rows ≡ cow_str_bytes (out-Row row).key ∷ key_texts rest
+    → key_texts rows ≡ key_text_bytes (out-Row row).key ∷ key_texts rest
 first_text rows row rest same = ap key_texts same ∙ ap (λ k. k ∷ key_texts rest) (row_key row)
 
 -- a row with a key more before its last one

@@ -2,7 +2,7 @@
 use Rattle.std.proofs.Common.{◌≡◌, ℕ, Bool, true, false, List, [], ◌∷◌, map, Option, Some, None, refl, ap, ◌∙◌, subst}
 use Rattle.std.proofs.Common.{rules}
 use Rattle.std.specs.Prelude.{⊤, ◌&&◌}
-use Rattle.std.specs.Cow.{cow_str_bytes}
+use Rattle.std.specs.String.{string_bytes}
 use Rattle.basic_toml_grammar.specs.Sections.{Key, Elements, Rows, no_rows, row}
 use Rattle.basic_toml_grammar.specs.Sections as sections
 use Rattle.basic_toml_read.specs.declared.section.Raw.{Raw, map-Raw, roll-Raw, the_lemmas}
@@ -74,7 +74,10 @@ raw_kept (Raw-F.Boolean b) parts =
     let a : raw_of (roll-Raw (Raw-F.Boolean b)) ≡ Some (sections.Raw.boolean b)
     = search (rules, the_lemmas) in ap kept a
 raw_kept (Raw-F.String text) parts =
-    let a : raw_of (roll-Raw (Raw-F.String text)) ≡ Some (sections.Raw.string (cow_str_bytes text)) =
+    let a : raw_of (roll-Raw (Raw-F.String text)) ≡ Some (sections.Raw.string text.now) = search (rules, the_lemmas) in
+    ap kept a
+raw_kept (Raw-F.Escaped text) parts =
+    let a : raw_of (roll-Raw (Raw-F.Escaped text)) ≡ Some (sections.Raw.string (string_bytes text)) =
     search (rules, the_lemmas) in ap kept a
 raw_kept (Raw-F.Array es) parts =
     let a : raw_of (roll-Raw (Raw-F.Array es)) ≡ Some (sections.Raw.array (elements_from (map placed_of es.items))) =
@@ -107,6 +110,7 @@ parts_kept (Raw-F.Integer z) = tt
 parts_kept (Raw-F.Float text) = tt
 parts_kept (Raw-F.Boolean b) = tt
 parts_kept (Raw-F.String text) = tt
+parts_kept (Raw-F.Escaped text) = tt
 parts_kept (Raw-F.Array es) = elements_kept es.items
 parts_kept (Raw-F.Inline rs) = rows_kept rs.items
 

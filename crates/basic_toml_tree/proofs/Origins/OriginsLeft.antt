@@ -2,10 +2,10 @@
 use Rattle.std.proofs.Common.{◌≡◌, ℕ, true, false, List, [], ◌∷◌, ◌++◌, Option, Some, None, refl, ap}
 use Rattle.std.proofs.Common.{sym, ◌∙◌, map, rules, length, append_assoc}
 use Rattle.std.specs.Option.{option_or}
-use Rattle.std.specs.Cow.{cow_str_bytes}
 use Rattle.std.proofs.Math.Path.{fun_ext}
 use Rattle.std.proofs.lemmas.List.{map-append}
 use Rattle.basic_toml_grammar.specs.Sections.{texts, Raw, Elements, no_elements, Rows}
+use Rattle.basic_toml_read.specs.KeyText.{key_text_bytes}
 use Rattle.basic_toml_read.specs.SectionView.{raw_of, lined_of, placed_of, rows_view, elements_view}
 use Rattle.basic_toml_read.specs.declared.section.Raw as raws
 use Rattle.basic_toml_read.specs.declared.section.Row as lines
@@ -81,11 +81,11 @@ row_value r = search (rules, raws.the_lemmas)
 row_start : (r : lines.Row) → (lined_of r).start ≡ (lines.out-Row r).start
 row_start r = search (rules, raws.the_lemmas)
 
-row_key : (r : lines.Row) → (lined_of r).key.text ≡ cow_str_bytes (lines.out-Row r).key
+row_key : (r : lines.Row) → (lined_of r).key.text ≡ key_text_bytes (lines.out-Row r).key
 row_key r = search (rules, raws.the_lemmas)
 
 pub one_row : (s : ℕ) (keys : List lines.Row) (r : lines.Row) (last : List ℕ) (child : Child) → all_dots keys ≡ true
-    → is_dot r ≡ false → last ≡ cow_str_bytes (lines.out-Row r).key
+    → is_dot r ≡ false → last ≡ key_text_bytes (lines.out-Row r).key
     → ((v : Raw) → raw_of (lines.out-Row r).value ≡ Some v
     → child_origins child ≡ value_origins s (lines.out-Row r).start v)
     → dotted_of child ≡ table_origin false (lines.out-Row r).start s

@@ -1,5 +1,5 @@
 use Rattle.basic_toml_read.proofs.ScalarsRead.{bare_key, no_bare}
-use Rattle.std.specs.declared.borrow.CowStr.TheVariants.{Borrowed}
+use Rattle.basic_toml_read.specs.declared.key_text.KeyText.TheVariants.{Borrowed}
 use Rattle.basic_toml_read.proofs.scalar.key_at.Goals as goal
 
 pub quoted_key_at-requires-clause-none : goal.quoted_key_at-requires-clause-none

@@ -6,14 +6,13 @@ use Rattle.basic_toml_explain.specs.declared.stop.Why.TheVariants.{Value}
 use Rattle.basic_toml_grammar.specs.Sections as sections
 use Rattle.std.specs.Prelude.{◌≡◌}
 use Rattle.basic_toml_read.specs.StopsAt.{MissesString}
-use Rattle.basic_toml_read.proofs.ViewsSeen.{string_of}
 use Rattle.basic_toml_read.proofs.ScalarsRead.{string_value, string_refused}
 use Rattle.basic_toml_read.proofs.scalar.string_value_at.Goals as goal
 
 pub returns-in-Ok-clause-read : goal.returns-in-Ok-clause-read
 returns-in-Ok-clause-read c = record {
   raw = sections.Raw.string (cow_str_bytes c.in-Ok.quoted.val);
-  seen = string_of c.in-Ok.quoted.val;
+  seen = c.string_of.ensures;
   is = string_value c.args.text.now c.args.at c.in-Ok.quoted c.in-Ok.ensures;
   boundary = c.in-Ok.ensures.boundary;
   later = c.in-Ok.ensures.forward;

@@ -1,6 +1,5 @@
 use Rattle.std.proofs.Common.{[], ◌∷◌, ◌++◌, ap, ◌∙◌, sym, Some, List, subst, refl, length, ◌+◌, rules}
 use Rattle.std.proofs.lemmas.Result.{err_from_is_err_and}
-use Rattle.std.specs.Cow.{cow_str_bytes}
 use Rattle.basic_toml_grammar.specs.Marks.{dotted, valued}
 use Rattle.basic_toml_grammar.specs.Entering.{and_then}
 use Rattle.basic_toml_grammar.specs.Trie.{mark_here, put_row}
@@ -9,6 +8,7 @@ use Rattle.basic_toml_tree.specs.Rows.{key_texts}
 use Rattle.basic_toml_tree.proofs.RowsEntered.{boxed_trie, is_met, is_met_on, entered_by, no_texts, first_text}
 use Rattle.basic_toml_tree.proofs.RowsEntered.{row_on, step_put, step_put_back, step_refused, stands_in}
 use Rattle.basic_toml_grammar.specs.Sections.{Key}
+use Rattle.basic_toml_read.specs.KeyText.{key_text_bytes}
 use Rattle.basic_toml_read.specs.SectionView.{lined_of}
 use Rattle.basic_toml_read.specs.declared.section.Row.{Row}
 use Rattle.basic_toml_tree.specs.declared.item.Item.{the_lemmas}
@@ -52,7 +52,7 @@ enter_row-returns-in_default-clause-entered t c = λ d is_leaf.
 pub enter_row-returns-in_err-extended-clause-entered : goal.enter_row-returns-in_err-extended-clause-entered
 enter_row-returns-in_err-extended-clause-entered t c = λ d is_leaf.
     let p = err_from_is_err_and c.from_residual-in_err-extended.result c.from_residual-in_err-extended.ensures.1 in
-    let key = cow_str_bytes c.in-Some.row.now.key in
+    let key = key_text_bytes c.in-Some.row.now.key in
     let rest = key_texts c.in-Some.rest.now in
     let last = c.args.last.now in
     let stands = stands_in c.deref_mut-2.result.now c.deref_mut-3.result.now c.enter-2.new.self
@@ -75,7 +75,7 @@ enter_row-returns-in_err-extended-clause-entered t c = λ d is_leaf.
 
 pub enter_row-returns-clause-entered : goal.enter_row-returns-clause-entered
 enter_row-returns-clause-entered t c = λ d is_leaf.
-    let key = cow_str_bytes c.in-Some.row.now.key in
+    let key = key_text_bytes c.in-Some.row.now.key in
     let rest = key_texts c.in-Some.rest.now in
     let last = c.args.last.now in
     let stands = stands_in c.deref_mut-2.result.now c.deref_mut-3.result.now c.enter-2.new.self
@@ -111,7 +111,7 @@ pub enter_row-returns-in_err-extended-clause-named : goal.enter_row-returns-in_e
 enter_row-returns-in_err-extended-clause-named t c =
     let p = err_from_is_err_and c.from_residual-in_err-extended.result c.from_residual-in_err-extended.ensures.1 in
     let row = c.in-Some.row.now in
-    let key = cow_str_bytes row.key in
+    let key = key_text_bytes row.key in
     let last = c.args.last.now in
     let met = c.in_err-extended.field-0.0 in
     let stands = stands_in c.deref_mut-2.result.now c.deref_mut-3.result.now c.enter-2.new.self
@@ -179,7 +179,7 @@ enter_row-returns-in_default-clause-origins t c =
 
 pub enter_row-returns-clause-origins : goal.enter_row-returns-clause-origins
 enter_row-returns-clause-origins t c =
-    let key = cow_str_bytes c.in-Some.row.now.key in
+    let key = key_text_bytes c.in-Some.row.now.key in
     let rest = key_texts c.in-Some.rest.now in
     let last = c.args.last.now in
     let dotted = dotted_of c.args.child in
