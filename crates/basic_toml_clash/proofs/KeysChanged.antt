@@ -45,6 +45,13 @@ module _ {V : Type 0} where
   changed_elsewhere (p ∷ ps) (suc i) k l v at other =
       ap (λ x. if bytes_eq l p.0 then Some p.1 else x) (changed_elsewhere ps i k l v at other)
 
+  -- a value that is put at a position stands there
+  pub value_put : (ps : List (List ℕ × V)) (i : ℕ) (v w : V) → slice_get (values_of ps) i ≡ Some v
+      → slice_get (values_of (with_value ps i w)) i ≡ Some w
+  value_put [] i v w there = absurd (cc)
+  value_put (p ∷ ps) zero v w there = refl
+  value_put (p ∷ ps) (suc i) v w there = value_put ps i v w there
+
   changed_twice : (ps : List (List ℕ × V)) (i : ℕ) (v w : V) → with_value (with_value ps i v) i w ≡ with_value ps i w
   changed_twice [] i v w = refl
   changed_twice (p ∷ ps) zero v w = refl

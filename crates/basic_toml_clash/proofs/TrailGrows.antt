@@ -10,7 +10,8 @@ use Rattle.basic_toml_clash.specs.declared.crossed.Trail.{Trail, out-Trail, roll
 use Rattle.basic_toml_clash.specs.declared.crossed.Trail.TheOpen.{Trail-F}
 use Rattle.basic_toml_clash.specs.declared.crossed.Crossed.{Crossed}
 use Rattle.basic_toml_clash.specs.declared.crossed.Crossed.TheVariants.{Memory, At}
-use Rattle.basic_toml_clash.specs.Trail.{Ends, ends_below, ends_from, ends_of, Follows, FollowsTo, GoesOnFrom}
+use Rattle.basic_toml_clash.specs.Trail.{Ends, ends_below, ends_from, ends_of, no_trail, Follows, FollowsTo}
+use Rattle.basic_toml_clash.specs.Trail.{GoesOnFrom}
 use Rattle.basic_toml_clash.specs.Keyed.{with_value, values_of, EntersKey}
 use Rattle.basic_toml_clash.proofs.KeysChanged.{value_at-map, stood_or_fresh, put_at, kept_elsewhere}
 
@@ -29,6 +30,17 @@ rolled_end end below = ap (λ x. x.end) (rolled (record { end = end; below = bel
 pub rolled_below : (end : Option ℕ) (below : List (List ℕ × Trail))
     → (out-Trail (roll-Trail (record { end = end; below = below }))).below ≡ below
 rolled_below end below = ap (λ x. x.below) (rolled (record { end = end; below = below }))
+
+-- nothing ends where no row is followed yet
+pub nowhere : (path : KeyTexts) → ends_of no_trail path ≡ None
+nowhere path =
+    ap (λ e. e path) (trail_ends no_trail)
+    ∙ ap (λ x. ends_from x.end (map (λ p. (p.0, ends_of p.1)) x.below) path) (rolled (record { end = None; below = [] }))
+    ∙ none path
+  where
+    none : (path : KeyTexts) → ends_from None [] path ≡ None
+    none [] = refl
+    none (k ∷ path) = refl
 
 pub ends_at_key : (t : Trail) (k : List ℕ) (path : KeyTexts)
     → ends_of t (k ∷ path) ≡ ends_below (option_map ends_of (value_at (out-Trail t).below k)) path

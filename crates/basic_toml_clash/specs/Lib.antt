@@ -1,4 +1,5 @@
 pub mod Keyed
+pub mod Lends
 pub mod Trail
 pub mod Crossed
 pub mod Clash

@@ -4,7 +4,7 @@ use Rattle.basic_toml_value.specs.Pairs.{value_at}
 use Rattle.basic_toml_grammar.specs.Sections.{KeyTexts}
 use Rattle.basic_toml_read.specs.declared.section.Row as rows
 use Rattle.basic_toml_read.specs.SectionView.{lined_of}
-use Rattle.basic_toml_clash.specs.declared.crossed.Trail.{Trail, fold-Trail}
+use Rattle.basic_toml_clash.specs.declared.crossed.Trail.{Trail, fold-Trail, roll-Trail}
 use Rattle.basic_toml_clash.specs.declared.crossed.Trail.TheOpen.{Trail-F}
 use Rattle.basic_toml_clash.specs.declared.crossed.Crossed.{Crossed}
 use Rattle.basic_toml_clash.specs.declared.crossed.Crossed.TheVariants.{Memory, At}
@@ -27,6 +27,10 @@ trail_step t = ends_from t.end t.below
 
 abbrev pub ends_of : Trail → Ends
 ends_of = fold-Trail Ends trail_step
+
+-- no row is followed yet
+abbrev pub no_trail : Trail
+no_trail = roll-Trail (record { end = None; below = [] })
 
 -- the path of a row, each key in a row of its own
 abbrev pub path_of : List rows.Row → KeyTexts

@@ -1,16 +1,16 @@
 //! Rows that go on from a value: the clash that comes before all others.
 
-ghost use Rattle.std.specs.Prelude.{◌≡◌, ◌≤◌, ◌<◌, [], List, ℕ, None, false, IfNone, IfOk, IfSome, is_some};
+ghost use Rattle.std.specs.Prelude.{◌≡◌, ◌≤◌, ◌<◌, [], None, false, IfNone, IfOk, IfSome, is_some};
 ghost use Rattle.std.specs.Prelude.{length, true};
 ghost use Rattle.std.specs.List.{AllWithin, HoldsAt};
 ghost use Rattle.std.specs.Option.{ForSome};
 ghost use Rattle.basic_toml_grammar.specs.NamedClash.{dotted_faults, dotted_faults_among};
 ghost use Rattle.basic_toml_read.specs.SectionView.{elements_view, lined_of, raw_of, rows_view};
 ghost use Rattle.basic_toml_clash.specs.Crossed.{faults_between, faults_in, IsCrossed, Looks, NoneIsCrossed};
-ghost use Rattle.basic_toml_clash.specs.Trail.{FollowsTo, ends_of, path_of};
+ghost use Rattle.basic_toml_clash.specs.Trail.{FollowsTo, no_trail, path_of};
 ghost use Rattle.basic_toml_clash.specs.declared.crossed.Crossed.TheVariants.{Memory};
 
-use crate::keyed::Keyed;
+use crate::keyed::{Blank, Keyed};
 use basic_toml_read::{Element, Raw, Row, Section};
 use std::alloc::{AllocError, Global};
 
@@ -38,10 +38,10 @@ impl From<AllocError> for Crossed {
     }
 }
 
-impl Trail {
-    fn new(alloc: Global) -> Trail
-        ensures { (path : List (List ℕ)) → ends_of result path ≡ None }
-    {
+impl Blank for Trail {
+    ghost blank = { no_trail };
+
+    fn blank(alloc: Global) -> Trail {
         Trail {
             end: None,
             below: Keyed::new(alloc),
@@ -64,8 +64,8 @@ fn follow(alloc: Global, trail: Trail, keys: &[Row<'_>], start: usize) -> Result
                 return Err(Crossed::At(end));
             }
             let mut below = below;
-            let position = below.enter(row.key.as_str(), Trail::new(alloc))?;
-            let there = below.replace(position, Trail::new(alloc));
+            let position = below.enter(row.key.as_str())?;
+            let there = below.replace(position, Trail::blank(alloc));
             let gone = follow(alloc, there, rest, start)?;
             let _ = below.replace(position, gone);
             Ok(Trail { end: None, below })
@@ -115,7 +115,7 @@ fn look_between(alloc: Global, rows: &[Row<'_>]) -> Result<(), Crossed>
     if !has_longer(rows) {
         return Ok(());
     }
-    let mut trail = Trail::new(alloc);
+    let mut trail = Trail::blank(alloc);
     let mut first = 0;
     while let Some(last) = last_key(rows, first) {
         let start = rows[last].start;

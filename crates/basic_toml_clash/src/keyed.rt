@@ -1,8 +1,12 @@
 //! Keys with their values, in order, each key once: what a table grows in.
 
-ghost use Rattle.std.specs.Prelude.{◌≡◌, ◌<◌, OnOk, vec_capacity, vec_len};
+ghost use Rattle.std.specs.Prelude.{◌≡◌, ◌<◌, IfErr, IfOk, OnOk, vec_capacity, vec_len};
+ghost use Rattle.std.specs.Borrow.{sem};
+ghost use Rattle.basic_toml_value.specs.Entries.{seen, texts_of};
+ghost use Rattle.basic_toml_value.specs.Index.{IsGap, IsIndex};
+ghost use Rattle.basic_toml_clash.specs.Keyed.{EntersKey};
 
-use basic_toml_value::{Found, Index, Pair};
+use basic_toml_value::{Found, Gap, Index, Pair};
 use std::alloc::{AllocError, Global};
 use std::marker::Model;
 use std::mem;
@@ -20,6 +24,45 @@ fn make_room<V>(pairs: &mut Vec<Pair<V>>) -> Result<(), AllocError>
         return pairs.try_reserve_exact(count.max(1));
     }
     pairs.try_reserve(1)
+}
+
+// Puts a key last with a value. Where memory is refused, all stays as it was. It stands apart from the search before it,
+// since most keys that are entered are there already.
+#[inline(never)]
+fn add<V: Drop>(
+    pairs: &mut Vec<Pair<V>>,
+    index: &mut Index,
+    key: &str,
+    gap: Gap,
+    value: V,
+) -> Result<usize, AllocError>
+    requires index { IsIndex (texts_of pairs.old.items) index.old }
+    requires gap { IsGap (texts_of pairs.old.items) index.old key.now gap }
+    ensures entered { IfOk result (λ position.
+        EntersKey key.now value (seen pairs.old.items) (seen pairs.new.items) position) }
+    ensures kept { IfErr result (λ _. pairs.new.items ≡ pairs.old.items) }
+    ensures index { IsIndex (texts_of pairs.new.items) index.new }
+{
+    let alloc = *pairs.allocator();
+    let position = pairs.len();
+    let key = String::from_str(alloc, key)?;
+    make_room(pairs)?;
+    index.insert(alloc, pairs, key.as_str(), gap)?;
+    match pairs.push(Pair { key, value }) {
+        Ok(()) => Ok(position),
+        Err(_) => unreachable!(),
+    }
+}
+
+/// What stands at a new key until something else is put there.
+pub trait Blank {
+    ghost use Rattle.std.specs.Prelude.{◌≡◌};
+
+    ghost blank: { Self };
+
+    /// What stands at a new key.
+    fn blank(alloc: Global) -> Self
+        ensures { result ≡ blank };
 }
 
 /// Keys with their values, in order, each key once.
@@ -45,12 +88,13 @@ impl<V> Model for Keyed<V> {
 }
 
 impl<V: Drop> Keyed<V> {
-    ghost use Rattle.std.specs.Prelude.{◌≡◌, ◌<◌, [], ◌∷◌, ◌++◌, length, IfOk, IfErr, IfSome, IsTrue, MatchOption, None, slice_get, Some, string_bytes};
+    ghost use Rattle.std.specs.Prelude.{◌≡◌, ◌<◌, [], ◌∷◌, ◌++◌, length, IfOk, IfSome, IsTrue, MatchOption, None, slice_get, Some, string_bytes};
     ghost use Rattle.basic_toml_value.specs.Keys.{are_distinct};
     ghost use Rattle.basic_toml_value.specs.Pairs.{keys_of, value_at};
     ghost use Rattle.basic_toml_value.specs.Entries.{seen, texts_of};
     ghost use Rattle.basic_toml_value.specs.Index.{IsIndex};
-    ghost use Rattle.basic_toml_clash.specs.Keyed.{EntersKey, with_value, values_of};
+    ghost use Rattle.basic_toml_clash.specs.Keyed.{with_value, values_of};
+    ghost use Rattle.basic_toml_clash.specs.Lends.{lends_value};
 
     /// No keys, which takes no memory yet.
     pub fn new(alloc: Global) -> Keyed<V>
@@ -92,29 +136,6 @@ impl<V: Drop> Keyed<V> {
         }
     }
 
-    /// The position of a key, which is put last with this value where it is not there. Where memory is refused, all
-    /// stays as it was.
-    pub fn enter(&mut self, key: &str, value: V) -> Result<usize, AllocError>
-        ensures entered { IfOk result (λ position. EntersKey key.now value self.old self.new position) }
-        ensures within { IfOk result (λ position. position < length self.new) }
-        ensures kept { IfErr result (λ _. self.new ≡ self.old) }
-    {
-        match self.index.search(&self.entries, key) {
-            Found::At(position) => Ok(position),
-            Found::Absent(gap) => {
-                let alloc = *self.entries.allocator();
-                let position = self.entries.len();
-                let key = String::from_str(alloc, key)?;
-                make_room(&mut self.entries)?;
-                self.index.insert(alloc, &self.entries, key.as_str(), gap)?;
-                match self.entries.push(Pair { key, value }) {
-                    Ok(()) => Ok(position),
-                    Err(_) => unreachable!(),
-                }
-            }
-        }
-    }
-
     /// The key at a position.
     #[tactic(auto, using(crate::proofs::KeysSeen::keys_seen))]
     pub fn key(&self, position: usize) -> &str
@@ -130,6 +151,16 @@ impl<V: Drop> Keyed<V> {
         ensures { slice_get (values_of self.now) position ≡ Some result.now }
     {
         &self.entries[position].value
+    }
+
+    /// The value at a position, to be changed.
+    pub fn value_mut(&mut self, position: usize) -> &mut V
+        requires { position < length self.old }
+        ensures* changed { sem 𝓛 (lends_value V.row self.entry position result) }
+        ensures value { slice_get (values_of self.old) position ≡ Some result.now }
+    {
+        let pair = &mut self.entries[position];
+        &mut pair.value
     }
 
     /// Puts a value in the place of the one at a position, and answers that one.
@@ -181,5 +212,26 @@ impl<V: Drop> Keyed<V> {
     {
         let Keyed { entries, index } = self;
         (entries, index)
+    }
+}
+
+impl<V: Drop + Blank> Keyed<V> {
+    ghost use Rattle.std.specs.Prelude.{◌≡◌, ◌<◌, length, IfOk, IfErr};
+    ghost use Rattle.basic_toml_clash.specs.Keyed.{EntersKey};
+
+    /// The position of a key, which is put last where it is not there: then the blank value stands at it. Where memory is
+    /// refused, all stays as it was.
+    pub fn enter(&mut self, key: &str) -> Result<usize, AllocError>
+        ensures entered { IfOk result (λ position. EntersKey key.now V.blank self.old self.new position) }
+        ensures within { IfOk result (λ position. position < length self.new) }
+        ensures kept { IfErr result (λ _. self.new ≡ self.old) }
+    {
+        match self.index.search(&self.entries, key) {
+            Found::At(position) => Ok(position),
+            Found::Absent(gap) => {
+                let value = V::blank(*self.entries.allocator());
+                add(&mut self.entries, &mut self.index, key, gap, value)
+            }
+        }
     }
 }

@@ -1,14 +1,16 @@
 //! What clashes before a tree stands, and what the tree grows in: rows that go on from a value ([`crossed_value`]),
-//! why a section is not entered ([`Clash`]) with the error that names it, and keys with their values ([`Keyed`]).
+//! why a section is not entered ([`Clash`]) with the error that names it, and keys with their values ([`Keyed`]), where
+//! a [`Blank`] value stands at a new key.
 //!
 //! `basic_toml_tree` makes its tables of [`Keyed`], asks for [`crossed_value`] before it takes a section list apart,
 //! and answers the error of a [`Clash`].
 //!
 //! ```text
 //! let mut keyed = Keyed::new(alloc);
-//! keyed.enter("port", 80)?; // 0, its position
-//! keyed.enter("host", 81)?; // 1
-//! keyed.enter("port", 82)?; // 0 once more: the key is there, and keeps its value
+//! keyed.enter("port")?; // 0, its position, where the blank value stands
+//! keyed.enter("host")?; // 1
+//! *keyed.value_mut(0) = 80;
+//! keyed.enter("port")?; // 0 once more: the key is there, and keeps its value
 //! keyed.replace(0, 82); // 80, the value that was there
 //! ```
 #![tactic(auto)]
@@ -19,4 +21,4 @@ mod keyed;
 
 pub use clash::{Clash, Repeated, key_texts, texts_of};
 pub use crossed::crossed_value;
-pub use keyed::Keyed;
+pub use keyed::{Blank, Keyed};

@@ -17,13 +17,13 @@ use Rattle.basic_toml_clash.specs.declared.clash.Clash.{Clash}
 use Rattle.basic_toml_clash.specs.declared.clash.Clash.TheVariants.{Memory, Deep, Header, Named, Redefined, Row}
 use Rattle.basic_toml_tree.specs.declared.item.Item.{Nothing, Tables}
 use Rattle.basic_toml_tree.specs.declared.item.Item as items
-use Rattle.basic_toml_tree.specs.declared.item.Child.{Child, out-Child}
 use Rattle.basic_toml_tree.specs.declared.item.Table.{Table, out-Table}
 use Rattle.basic_toml_tree.specs.Item.{item_trie, child_trie, table_trie, by_keys, by_numbers, leaf}
 use Rattle.basic_toml_clash.specs.Clash.{NamesStop}
 use Rattle.basic_toml_tree.specs.Headers.{tried_by, tried_at, Passes}
+use Rattle.basic_toml_tree.proofs.HeadersEntered.{passed_trie}
 use Rattle.basic_toml_tree.proofs.KeysInATrie.{tries_of, stood_there}
-use Rattle.basic_toml_tree.proofs.ItemTries.{child_item_trie, table_entries_trie}
+use Rattle.basic_toml_tree.proofs.ItemTries.{table_entries_trie}
 use Rattle.basic_toml_clash.proofs.HeadersNamed.{texts_count}
 use Rattle.basic_toml_tree.proofs.LatestInATrie.{find_latest}
 use Rattle.basic_toml_tree.proofs.HeadersInATrie.{made, fresh, array_of}
@@ -76,8 +76,8 @@ through_stops a rows k keys p n d ts x e =
     ∙ ap (λ o. outcome_map (λ ts. made true n d ts) o) (among_stops (key k) (λ t. tried_at a rows keys t) ts x e)
 
 pub passed_stops : (a : Bool) (rows : Rows) (k : List ℕ) (keys whole : KeyTexts) (t o p : Table) (position : ℕ)
-    (there : Child) → whole ≡ k ∷ keys → o ≡ t → Passes k o p position there → (x : Stop)
-    → tried_at a rows keys (child_trie there) ≡ stops x → try_by_keys a rows whole (table_trie t) ≡ stops x
+    (there : items.Item) → whole ≡ k ∷ keys → o ≡ t → Passes k o p position there → (x : Stop)
+    → tried_at a rows keys (item_trie there) ≡ stops x → try_by_keys a rows whole (table_trie t) ≡ stops x
 passed_stops a rows k keys whole t o p position there is_whole is_old passed x e =
     let passes = subst (λ (t : Table). Passes k t p position there) is_old passed in
     let f = out-Table t in
@@ -85,8 +85,8 @@ passed_stops a rows k keys whole t o p position there is_whole is_old passed x e
     ∙ ap (try_by_keys a rows (k ∷ keys)) (table_entries_trie t)
     ∙ through_stops a rows k keys f.passed f.named f.dotted (by_keys (tries_of child_trie f.entries)) x
     (ap (tried_at a rows keys)
-    (stood_there child_trie k passes.blank f.entries passes.entries position passes.is_nothing passes.entered there
-    passes.stands) ∙ e)
+    (stood_there child_trie k passes.blank f.entries passes.entries position passes.is_nothing passes.entered
+    passes.child passes.stands ∙ passed_trie k t p position there passes) ∙ e)
 
 -- a fresh table stops a header as nothing does
 pub tried_fresh : (a : Bool) (rows : Rows) (keys : KeyTexts)
@@ -96,18 +96,18 @@ tried_fresh a rows (k ∷ []) = refl
 tried_fresh a rows (k ∷ l ∷ keys) = refl
 
 -- what stops a header at a key, where nothing stands there, a table, or an array of tables
-pub tried_into_fresh : (a : Bool) (rows : Rows) (keys : KeyTexts) (c : Child) (new : Trie)
-    → (out-Child c).item ≡ Nothing → new ≡ fresh → tried_by a rows keys (child_trie c) ≡ try_by_keys a rows keys new
-tried_into_fresh a rows keys c new is is_fresh =
-    ap (tried_by a rows keys) (child_item_trie c ∙ ap item_trie is ∙ nothing_trie)
+pub tried_into_fresh : (a : Bool) (rows : Rows) (keys : KeyTexts) (i : items.Item) (new : Trie)
+    → i ≡ Nothing → new ≡ fresh → tried_by a rows keys (item_trie i) ≡ try_by_keys a rows keys new
+tried_into_fresh a rows keys i new is is_fresh =
+    ap (tried_by a rows keys) (ap item_trie is ∙ nothing_trie)
     ∙ sym (tried_fresh a rows keys) ∙ ap (try_by_keys a rows keys) (sym is_fresh)
 
-pub tried_into_table : (a : Bool) (rows : Rows) (keys : KeyTexts) (c : Child) (t : Box Table Global)
-    → (out-Child c).item ≡ items.Table t
-    → tried_by a rows keys (child_trie c) ≡ try_by_keys a rows keys (table_trie t.value)
-tried_into_table a rows keys c t is =
+pub tried_into_table : (a : Bool) (rows : Rows) (keys : KeyTexts) (i : items.Item) (t : Box Table Global)
+    → i ≡ items.Table t
+    → tried_by a rows keys (item_trie i) ≡ try_by_keys a rows keys (table_trie t.value)
+tried_into_table a rows keys i t is =
     let e = table_entries_trie t.value in
-    ap (tried_by a rows keys) (child_item_trie c ∙ ap item_trie is ∙ table_item_trie t ∙ e)
+    ap (tried_by a rows keys) (ap item_trie is ∙ table_item_trie t ∙ e)
     ∙ ap (try_by_keys a rows keys) (sym e)
 
 latest_stops : (a : Bool) (rows : Rows) (keys : KeyTexts) (before : List Trie) (t : Trie) (x : Stop)
@@ -117,11 +117,11 @@ latest_stops a rows keys before t x e =
     (among_stops (number (length before)) (λ t. try_by_keys a rows keys t) (by_numbers 0 (before ++ t ∷ [])) x
     (ap (try_by_keys a rows keys) (find_latest 0 (length before) before t (omega arith)) ∙ e))
 
-pub stopped_in_latest : (a : Bool) (rows : Rows) (keys : KeyTexts) (c : Child) (b : Vec Table Global)
-    (latest : Box Table Global) → (out-Child c).item ≡ Tables b latest → (x : Stop)
-    → try_by_keys a rows keys (table_trie latest.value) ≡ stops x → tried_by a rows keys (child_trie c) ≡ stops x
-stopped_in_latest a rows keys c b latest is x e =
-    ap (tried_by a rows keys) (child_item_trie c ∙ ap item_trie is ∙ tables_trie b latest)
+pub stopped_in_latest : (a : Bool) (rows : Rows) (keys : KeyTexts) (i : items.Item) (b : Vec Table Global)
+    (latest : Box Table Global) → i ≡ Tables b latest → (x : Stop)
+    → try_by_keys a rows keys (table_trie latest.value) ≡ stops x → tried_by a rows keys (item_trie i) ≡ stops x
+stopped_in_latest a rows keys i b latest is x e =
+    ap (tried_by a rows keys) (ap item_trie is ∙ tables_trie b latest)
     ∙ latest_stops a rows keys (map table_trie b.items) (table_trie latest.value) x e
 
 -- a value stops a header
@@ -143,12 +143,12 @@ not_last_tried a rows [] t some = absurd (omega arith)
 not_last_tried true rows (k ∷ keys) t some = refl
 not_last_tried false rows (k ∷ keys) t some = refl
 
-pub value_stopped : (a : Bool) (rows : Rows) (keys : List code.Key) (c : Child) (d : Data)
-    → item_trie (out-Child c).item ≡ leaf d
-    → NamesStop (tried_by a rows (header_texts keys) (child_trie c)) (Header (length keys + 1))
-value_stopped a rows keys c d is =
+pub value_stopped : (a : Bool) (rows : Rows) (keys : List code.Key) (i : items.Item) (d : Data)
+    → item_trie i ≡ leaf d
+    → NamesStop (tried_by a rows (header_texts keys) (item_trie i)) (Header (length keys + 1))
+value_stopped a rows keys i d is =
     let n : suc (length (header_texts keys)) ≡ length keys + 1 = omega (arith, texts_count keys) in
-    let tried = ap (tried_by a rows (header_texts keys)) (child_item_trie c ∙ is)
+    let tried = ap (tried_by a rows (header_texts keys)) is
     ∙ value_stops a rows (header_texts keys) d ∙ ap (λ n. stops (at_header n)) n in
     (at_header (length keys + 1), (refl, tried))
 
@@ -160,11 +160,11 @@ find_next : (k n : ℕ) (before : List Trie) → n ≡ k + length before → fin
 find_next k n [] e = refl
 find_next k n (b ∷ before) e = rw (nat_eq-other k n (omega arith)) (find_next (suc k) n before (omega arith))
 
-pub first_stops : (rows : Rows) (c : Child) (new : Trie) → (out-Child c).item ≡ Nothing → new ≡ fresh → (x : Stop)
-    → try_put_table rows new ≡ stops x → try_put_element rows (child_trie c) ≡ stops x
-first_stops rows c new is is_fresh x e =
+pub first_stops : (rows : Rows) (i : items.Item) (new : Trie) → i ≡ Nothing → new ≡ fresh → (x : Stop)
+    → try_put_table rows new ≡ stops x → try_put_element rows (item_trie i) ≡ stops x
+first_stops rows i new is is_fresh x e =
     let there : try_put_table rows nothing ≡ stops x = ap (try_put_table rows) (sym is_fresh) ∙ e in
-    ap (try_put_element rows) (child_item_trie c ∙ ap item_trie is ∙ nothing_trie)
+    ap (try_put_element rows) (ap item_trie is ∙ nothing_trie)
     ∙ ap (λ o. outcome_map (λ ts. trie (Some (standing.array 1)) None ts) o)
     (among_stops (number 0) (λ t. try_put_table rows t) no_tries x there)
 
@@ -180,10 +180,10 @@ next_element_stops rows before t x e =
     length_more [] t = refl
     length_more (b ∷ before) t = ap suc (length_more before t)
 
-pub next_stops : (rows : Rows) (c : Child) (b : Vec Table Global) (latest : Box Table Global) (new : Trie)
-    → (out-Child c).item ≡ Tables b latest → new ≡ fresh → (x : Stop) → try_put_table rows new ≡ stops x
-    → try_put_element rows (child_trie c) ≡ stops x
-next_stops rows c b latest new is is_fresh x e =
+pub next_stops : (rows : Rows) (i : items.Item) (b : Vec Table Global) (latest : Box Table Global) (new : Trie)
+    → i ≡ Tables b latest → new ≡ fresh → (x : Stop) → try_put_table rows new ≡ stops x
+    → try_put_element rows (item_trie i) ≡ stops x
+next_stops rows i b latest new is is_fresh x e =
     let there : try_put_table rows nothing ≡ stops x = ap (try_put_table rows) (sym is_fresh) ∙ e in
-    ap (try_put_element rows) (child_item_trie c ∙ ap item_trie is ∙ tables_trie b latest)
+    ap (try_put_element rows) (ap item_trie is ∙ tables_trie b latest)
     ∙ next_element_stops rows (map table_trie b.items) (table_trie latest.value) x there

@@ -10,12 +10,12 @@ use Rattle.basic_toml_tree.specs.declared.item.Item.{the_lemmas, Nothing, Tables
 use Rattle.basic_toml_tree.specs.declared.item.Item as items
 use Rattle.basic_toml_tree.specs.declared.item.Item.TheOpen.{Table-F}
 use Rattle.basic_toml_tree.specs.declared.item.Item.TheViews.{roll-Table, out-roll-Table}
-use Rattle.basic_toml_tree.specs.declared.item.Child.{Child, out-Child}
+use Rattle.basic_toml_tree.specs.declared.item.Child.{Child}
 use Rattle.basic_toml_tree.specs.declared.item.Table.{Table, out-Table}
-use Rattle.basic_toml_tree.specs.Item.{item_trie, child_trie, table_trie}
+use Rattle.basic_toml_tree.specs.Item.{item_trie, table_trie}
 use Rattle.basic_toml_tree.specs.Rows.{EntersRows}
 use Rattle.basic_toml_tree.specs.Headers.{IsIn, IsKeptOut, EntersHeader}
-use Rattle.basic_toml_tree.proofs.ItemTries.{child_item_trie, table_entries_trie}
+use Rattle.basic_toml_tree.proofs.ItemTries.{table_entries_trie}
 use Rattle.basic_toml_tree.proofs.HeadersInATrie.{fresh, array_of, is_in, is_kept_out, rows_in, rows_kept_out}
 use Rattle.basic_toml_tree.proofs.HeadersInATrie.{put_first, put_next}
 
@@ -72,44 +72,44 @@ pub table_item_trie : (t : Box Table Global) → item_trie (items.Table t) ≡ t
 table_item_trie t = search (rules, the_lemmas)
 
 -- an array with one more element, which is its first one or not
-pub first_element : (rows : Rows) (c : Child) (before : List Table) → (out-Child c).item ≡ Nothing → before ≡ []
-    → put_element rows (child_trie c) ≡ option_map (λ u. array_of (map table_trie before) u) (put_table rows fresh)
-first_element rows c before is none =
-    ap (put_element rows) (child_item_trie c ∙ ap item_trie is ∙ nothing_trie)
+pub first_element : (rows : Rows) (i : items.Item) (before : List Table) → i ≡ Nothing → before ≡ []
+    → put_element rows (item_trie i) ≡ option_map (λ u. array_of (map table_trie before) u) (put_table rows fresh)
+first_element rows i before is none =
+    ap (put_element rows) (ap item_trie is ∙ nothing_trie)
     ∙ put_first rows
     ∙ ap (λ b. option_map (λ u. array_of (map table_trie b) u) (put_table rows fresh)) (sym none)
 
-pub next_element : (rows : Rows) (c : Child) (b : Vec Table Global) (latest : Box Table Global) (before : List Table)
-    → (out-Child c).item ≡ Tables b latest → before ≡ b.items ++ latest.value ∷ []
-    → put_element rows (child_trie c) ≡ option_map (λ u. array_of (map table_trie before) u) (put_table rows fresh)
-next_element rows c b latest before is more =
-    ap (put_element rows) (child_item_trie c ∙ ap item_trie is ∙ tables_trie b latest)
+pub next_element : (rows : Rows) (i : items.Item) (b : Vec Table Global) (latest : Box Table Global) (before : List Table)
+    → i ≡ Tables b latest → before ≡ b.items ++ latest.value ∷ []
+    → put_element rows (item_trie i) ≡ option_map (λ u. array_of (map table_trie before) u) (put_table rows fresh)
+next_element rows i b latest before is more =
+    ap (put_element rows) (ap item_trie is ∙ tables_trie b latest)
     ∙ put_next rows (map table_trie b.items) (table_trie latest.value)
     ∙ ap (λ ts. option_map (λ u. array_of ts u) (put_table rows fresh))
     (sym (ap (map table_trie) more ∙ map-append table_trie b.items (latest.value ∷ [])))
 
-pub element_in : (rows : Rows) (level : ℕ) (new : Trie) (there child : Child) (before : Vec Table Global)
+pub element_in : (rows : Rows) (level : ℕ) (new : Trie) (there item : items.Item) (before : Vec Table Global)
     (latest : Box Table Global) → new ≡ fresh
-    → put_element rows (child_trie there)
+    → put_element rows (item_trie there)
     ≡ option_map (λ u. array_of (map table_trie before.items) u) (put_table rows fresh)
-    → (out-Child child).item ≡ Tables before latest
+    → item ≡ Tables before latest
     → IsIn (put_table rows new) rows ((level + 2) + 0) (table_trie latest.value)
-    → IsIn (put_element rows (child_trie there)) rows (level + 2) (child_trie child)
-element_in rows level new there child before latest is_fresh puts made_of is =
-    is_in (put_table rows new) (put_element rows (child_trie there)) rows ((level + 2) + 0) (level + 2)
-    (table_trie latest.value) (child_trie child)
+    → IsIn (put_element rows (item_trie there)) rows (level + 2) (item_trie item)
+element_in rows level new there item before latest is_fresh puts made_of is =
+    is_in (put_table rows new) (put_element rows (item_trie there)) rows ((level + 2) + 0) (level + 2)
+    (table_trie latest.value) (item_trie item)
     (puts ∙ ap (λ u. option_map (λ u. array_of (map table_trie before.items) u) u)
     (ap (put_table rows) (sym is_fresh) ∙ is.gives)
-    ∙ ap Some (sym (child_item_trie child ∙ ap item_trie made_of ∙ tables_trie before latest)))
+    ∙ ap Some (sym (ap item_trie made_of ∙ tables_trie before latest)))
     (omega arith) is
 
-pub element_out : (clash : Clash) (rows : Rows) (level : ℕ) (new : Trie) (there : Child) (before : List Table)
+pub element_out : (clash : Clash) (rows : Rows) (level : ℕ) (new : Trie) (there : items.Item) (before : List Table)
     → new ≡ fresh
-    → put_element rows (child_trie there) ≡ option_map (λ u. array_of (map table_trie before) u) (put_table rows fresh)
+    → put_element rows (item_trie there) ≡ option_map (λ u. array_of (map table_trie before) u) (put_table rows fresh)
     → IsKeptOut (put_table rows new) rows ((level + 2) + 0) clash
-    → IsKeptOut (put_element rows (child_trie there)) rows (level + 2) clash
+    → IsKeptOut (put_element rows (item_trie there)) rows (level + 2) clash
 element_out clash rows level new there before is_fresh puts out =
-    is_kept_out clash (put_table rows new) (put_element rows (child_trie there)) rows ((level + 2) + 0) (level + 2)
+    is_kept_out clash (put_table rows new) (put_element rows (item_trie there)) rows ((level + 2) + 0) (level + 2)
     (λ none. puts ∙ ap (λ u. option_map (λ u. array_of (map table_trie before) u) u)
     (ap (put_table rows) (sym is_fresh) ∙ none))
     (omega arith) out

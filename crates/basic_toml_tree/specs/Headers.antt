@@ -11,10 +11,12 @@ use Rattle.basic_toml_grammar.specs.Trie.{Trie, nothing, walk, steps_to, steps_o
 use Rattle.basic_toml_grammar.specs.Stops.{Outcome}
 use Rattle.basic_toml_grammar.specs.TrieStops.{try_go_on, try_by_keys, try_put_element}
 use Rattle.basic_toml_tree.specs.declared.item.Table.{Table, out-Table}
-use Rattle.basic_toml_tree.specs.declared.item.Child.{Child}
+use Rattle.basic_toml_tree.specs.declared.item.Child.{Child, out-Child}
+use Rattle.basic_toml_tree.specs.declared.item.Item.{Item, Nothing}
+use Rattle.basic_toml_tree.specs.declared.item.Item.TheViews.{roll-Child}
 use Rattle.basic_toml_clash.specs.declared.clash.Clash.{Clash}
 use Rattle.basic_toml_clash.specs.declared.clash.Clash.TheVariants.{Memory, Deep}
-use Rattle.basic_toml_tree.specs.Item.{table_trie, child_trie}
+use Rattle.basic_toml_tree.specs.Item.{table_trie, child_trie, item_trie}
 use Rattle.basic_toml_clash.specs.Keyed.{EntersKey, with_value, values_of}
 
 -- the highest level of a section whose table is on a level
@@ -41,9 +43,9 @@ EntersHeader is_array rows keys level t (Err clash) =
     IsKeptOut (walk is_array rows keys t) rows (level + steps_to is_array keys t) clash
 
 -- on from what stands at a key in a table of a level
-abbrev pub EntersChild : Option Trie → Rows → ℕ → Result Child Clash → Type 0
-EntersChild entered rows level (Ok after) = IsIn entered rows level (child_trie after)
-EntersChild entered rows level (Err clash) = IsKeptOut entered rows level clash
+abbrev pub EntersItem : Option Trie → Rows → ℕ → Result Item Clash → Type 0
+EntersItem entered rows level (Ok after) = IsIn entered rows level (item_trie after)
+EntersItem entered rows level (Err clash) = IsKeptOut entered rows level clash
 
 -- what is entered by the keys that are left, and how many steps further
 abbrev pub entered_by : Bool → Rows → KeyTexts → Trie → Option Trie
@@ -69,8 +71,12 @@ abbrev pub tried_at : Bool → Rows → KeyTexts → Trie → Outcome Trie
 tried_at true rows [] t = try_put_element rows t
 tried_at is_array rows keys t = tried_by is_array rows keys t
 
--- A table that a header passes by a key: the key is there, at this position, and what stands at it is taken out.
-pub record Passes (key : List ℕ) (old new : Table) (position : ℕ) (there : Child) : Type 0 where
+-- a child with another item
+abbrev pub holding : Child → Item → Child
+holding c item = roll-Child (record { start = (out-Child c).start; section = (out-Child c).section; item = item })
+
+-- A table that a header passes by a key: the key is there, at this position, and the item that stands at it is taken out.
+pub record Passes (key : List ℕ) (old new : Table) (position : ℕ) (there : Item) : Type 0 where
   pub passed : (out-Table new).passed ≡ true
   pub named : (out-Table new).named ≡ (out-Table old).named
   pub dotted : (out-Table new).dotted ≡ (out-Table old).dotted
@@ -78,14 +84,17 @@ pub record Passes (key : List ℕ) (old new : Table) (position : ℕ) (there : C
   pub is_nothing : child_trie blank ≡ nothing
   pub entries : List (List ℕ × Child)
   pub entered : EntersKey key blank (out-Table old).entries entries position
-  pub stands : slice_get (values_of entries) position ≡ Some there
-  pub other : Child
-  pub left : (out-Table new).entries ≡ with_value entries position other
+  pub child : Child
+  pub stands : slice_get (values_of entries) position ≡ Some child
+  pub item : (out-Child child).item ≡ there
+  pub left : (out-Table new).entries ≡ with_value entries position (holding child Nothing)
   pub within : position < length (out-Table new).entries
 
--- a table with a child at a position
-pub record PutsBack (old : Table) (position : ℕ) (child : Child) (new : Table) : Type 0 where
+-- a table with an item at a position, in the child that stood there
+pub record PutsBack (old : Table) (position : ℕ) (item : Item) (new : Table) : Type 0 where
   pub passed : (out-Table new).passed ≡ (out-Table old).passed
   pub named : (out-Table new).named ≡ (out-Table old).named
   pub dotted : (out-Table new).dotted ≡ (out-Table old).dotted
-  pub entries : (out-Table new).entries ≡ with_value (out-Table old).entries position child
+  pub child : Child
+  pub stands : slice_get (values_of (out-Table old).entries) position ≡ Some child
+  pub entries : (out-Table new).entries ≡ with_value (out-Table old).entries position (holding child item)

@@ -9,6 +9,7 @@ use Rattle.basic_toml_grammar.specs.Trie.{Trie, trie, Tries, no_tries, by, nothi
 use Rattle.basic_toml_tree.specs.declared.item.Item.{fold-Item}
 use Rattle.basic_toml_tree.specs.declared.item.Item as items
 use Rattle.basic_toml_tree.specs.declared.item.Item.TheOpen.{Item-F, Child-F, Table-F}
+use Rattle.basic_toml_tree.specs.declared.item.Item.TheViews.{roll-Child}
 use Rattle.basic_toml_tree.specs.declared.item.Child as children
 use Rattle.basic_toml_tree.specs.declared.item.Child.{fold-Child}
 use Rattle.basic_toml_tree.specs.declared.item.Table as tables
@@ -56,3 +57,7 @@ child_trie = fold-Child Trie Trie Trie item_grows child_grows table_grows
 
 abbrev pub table_trie : tables.Table → Trie
 table_trie = fold-Table Trie Trie Trie item_grows child_grows table_grows
+
+-- where nothing stands yet
+abbrev pub no_child : children.Child
+no_child = roll-Child (record { start = 0; section = 0; item = items.Nothing })

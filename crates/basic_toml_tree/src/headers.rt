@@ -1,20 +1,20 @@
 //! Sections: the way of a header through the tree, and the table that it names.
 
-ghost use Rattle.std.specs.Prelude.{◌≡◌, ◌≤◌, ◌<◌, ◌+◌, false, [], ◌∷◌, length, IfOk, IfErr};
+ghost use Rattle.std.specs.Prelude.{◌≡◌, ◌≤◌, ◌<◌, ◌+◌, ℕ, false, [], ◌∷◌, length, IfOk, IfErr};
 ghost use Rattle.basic_toml_grammar.specs.Trie.{put_element};
 ghost use Rattle.basic_toml_grammar.specs.TrieStops.{try_by_keys, try_put_table, try_put_element};
 ghost use Rattle.basic_toml_read.specs.SectionView.{header_texts, rows_view};
 ghost use Rattle.basic_toml_tree.specs.declared.item.Table.{out-Table};
 ghost use Rattle.basic_toml_clash.specs.Clash.{NamesStop};
-ghost use Rattle.basic_toml_tree.specs.Item.{table_trie, child_trie};
+ghost use Rattle.basic_toml_tree.specs.Item.{table_trie, item_trie};
 ghost use Rattle.basic_toml_grammar.specs.Steps.{number as number_step};
 ghost use Rattle.basic_toml_grammar.specs.Trie.{count};
-ghost use Rattle.basic_toml_tree.specs.Origins.{child_origins, table_within, or_else, rows_origins};
+ghost use Rattle.basic_toml_tree.specs.Origins.{item_origins, table_within, or_else, rows_origins};
 ghost use Rattle.basic_toml_tree.specs.Ways.{way, way_by, way_at, GrowsAlong};
-ghost use Rattle.basic_toml_tree.specs.Headers.{EntersHeader, EntersChild, Passes, PutsBack};
+ghost use Rattle.basic_toml_tree.specs.Headers.{EntersHeader, EntersItem, Passes, PutsBack};
 ghost use Rattle.basic_toml_tree.specs.Headers.{entered_by, steps_by, entered_at, steps_at, tried_by, tried_at};
 
-use crate::item::{Child, Item, Table};
+use crate::item::{Item, Table};
 use crate::rows::{enter_rows, room_for};
 use basic_toml_clash::Clash;
 use basic_toml_read::{Key, Row, Section};
@@ -114,88 +114,87 @@ fn enter_header<'de>(
             }
             let mut table = table;
             let (position, there) = pass(&mut table, key.text.as_str(), number)?;
-            let child = enter_at(alloc, there, rest, is_array, rows, number, level)?;
-            put_back(&mut table, position, child);
+            let item = enter_at(alloc, there, rest, is_array, rows, number, level)?;
+            put_back(&mut table, position, item);
             Ok(table)
         }
     }
 }
 
-// Passes through a table by a key: takes out what stands there, and answers its position too.
+// Passes through a table by a key: takes out the item that stands there, and answers its position too.
 fn pass<'de>(
     table: &mut Table<'de>,
     key: &str,
     number: usize,
-) -> Result<(usize, Child<'de>), AllocError>
+) -> Result<(usize, Item<'de>), AllocError>
     ensures { IfOk result (λ out. Passes key.now table.old table.new out.0 out.1) }
 {
-    let position = table.entries.enter(key, Child::nothing())?;
-    let there = table.entries.replace(position, Child::nothing());
+    let position = table.entries.enter(key)?;
+    let child = table.entries.value_mut(position);
+    let there = mem::replace(&mut child.item, Item::Nothing);
     table.passed = true;
     table.section = number;
     Ok((position, there))
 }
 
-// Puts a child in its place.
-fn put_back<'de>(table: &mut Table<'de>, position: usize, child: Child<'de>)
+// Puts an item back in its place.
+fn put_back<'de>(table: &mut Table<'de>, position: usize, item: Item<'de>)
     requires { position < length (out-Table table.old).entries }
-    ensures { PutsBack table.old position child.entry table.new }
+    ensures { PutsBack table.old position item.entry table.new }
 {
-    table.entries.put(position, child);
+    let child = table.entries.value_mut(position);
+    child.item = item;
 }
 
 // What stands at a key in a table of a level, with the section in it whose header goes on by the keys that are left.
 #[cycle(walk)]
 fn enter_at<'de>(
     alloc: Global,
-    there: Child<'de>,
+    there: Item<'de>,
     rest: &[Key<'de>],
     is_array: bool,
     rows: Vec<Row<'de>>,
     number: usize,
     level: usize,
-) -> Result<Child<'de>, Clash>
+) -> Result<Item<'de>, Clash>
     requires { level ≤ 128 }
     ensures entered { let rows = rows_view rows.entry.items in
         let keys = header_texts rest.now in
-        EntersChild (entered_at is_array rows keys (child_trie there.entry)) rows
-        (level + steps_at is_array keys (child_trie there.entry)) result }
+        EntersItem (entered_at is_array rows keys (item_trie there.entry)) rows
+        (level + steps_at is_array keys (item_trie there.entry)) result }
     ensures named { let tried = tried_at is_array (rows_view rows.entry.items) (header_texts rest.now)
-        (child_trie there.entry) in
+        (item_trie there.entry) in
         IfErr result (λ clash. NamesStop tried clash) }
     ensures origins { let new = rows_origins number (rows_view rows.entry.items) in
-        IfOk result (λ after. GrowsAlong (way_at is_array (header_texts rest.now) (child_trie there.entry)) new
-        (child_origins there.entry) (child_origins after)) }
+        IfOk result (λ after. (start section : ℕ) →
+        GrowsAlong (way_at is_array (header_texts rest.now) (item_trie there.entry)) new
+        (item_origins there.entry start section) (item_origins after start section)) }
 {
     if is_array && rest.is_empty() {
         return add_element(alloc, there, rows, number, level);
     }
-    enter_child(alloc, there, rest, is_array, rows, number, level)
+    enter_item(alloc, there, rest, is_array, rows, number, level)
 }
 
 // The array of tables in a table of a level, with one more element.
 fn add_element<'de>(
     alloc: Global,
-    there: Child<'de>,
+    there: Item<'de>,
     rows: Vec<Row<'de>>,
     number: usize,
     level: usize,
-) -> Result<Child<'de>, Clash>
+) -> Result<Item<'de>, Clash>
     requires { level ≤ 128 }
     ensures entered { let rows = rows_view rows.entry.items in
-        EntersChild (put_element rows (child_trie there.entry)) rows (level + 2) result }
-    ensures named { let tried = try_put_element (rows_view rows.entry.items) (child_trie there.entry) in
+        EntersItem (put_element rows (item_trie there.entry)) rows (level + 2) result }
+    ensures named { let tried = try_put_element (rows_view rows.entry.items) (item_trie there.entry) in
         IfErr result (λ clash. NamesStop tried clash) }
     ensures origins { let new = rows_origins number (rows_view rows.entry.items) in
-        IfOk result (λ after. GrowsAlong (number_step (count (child_trie there.entry)) ∷ []) new
-        (child_origins there.entry) (child_origins after)) }
+        IfOk result (λ after. (start section : ℕ) →
+        GrowsAlong (number_step (count (item_trie there.entry)) ∷ []) new
+        (item_origins there.entry start section) (item_origins after start section)) }
 {
-    let Child {
-        start,
-        section,
-        item,
-    } = there;
-    let before = match item {
+    let before = match there {
         Item::Nothing => Vec::new(alloc),
         Item::Tables(before, latest) => {
             let mut before = before;
@@ -215,11 +214,7 @@ fn add_element<'de>(
     };
     let table = Table::new(alloc, room_for(rows.as_slice()))?;
     let latest = open(alloc, table, rows, number, level + 2)?;
-    Ok(Child {
-        start,
-        section,
-        item: Item::Tables(before, latest),
-    })
+    Ok(Item::Tables(before, latest))
 }
 
 // The room that a table wants where a header goes on by the keys that are left.
@@ -229,33 +224,29 @@ fn room_below(rest: &[Key<'_>], rows: &[Row<'_>]) -> usize {
 
 // Goes on from what stands at a key in a table of a level by the keys that are left after it.
 #[cycle(walk)]
-fn enter_child<'de>(
+fn enter_item<'de>(
     alloc: Global,
-    there: Child<'de>,
+    there: Item<'de>,
     rest: &[Key<'de>],
     is_array: bool,
     rows: Vec<Row<'de>>,
     number: usize,
     level: usize,
-) -> Result<Child<'de>, Clash>
+) -> Result<Item<'de>, Clash>
     requires { level ≤ 128 }
     ensures entered { let rows = rows_view rows.entry.items in
         let keys = header_texts rest.now in
-        EntersChild (entered_by is_array rows keys (child_trie there.entry)) rows
-        (level + steps_by is_array keys (child_trie there.entry)) result }
+        EntersItem (entered_by is_array rows keys (item_trie there.entry)) rows
+        (level + steps_by is_array keys (item_trie there.entry)) result }
     ensures named { let tried = tried_by is_array (rows_view rows.entry.items) (header_texts rest.now)
-        (child_trie there.entry) in
+        (item_trie there.entry) in
         IfErr result (λ clash. NamesStop tried clash) }
     ensures origins { let new = rows_origins number (rows_view rows.entry.items) in
-        IfOk result (λ after. GrowsAlong (way_by is_array (header_texts rest.now) (child_trie there.entry)) new
-        (child_origins there.entry) (child_origins after)) }
+        IfOk result (λ after. (start section : ℕ) →
+        GrowsAlong (way_by is_array (header_texts rest.now) (item_trie there.entry)) new
+        (item_origins there.entry start section) (item_origins after start section)) }
 {
-    let Child {
-        start,
-        section,
-        item,
-    } = there;
-    let item = match item {
+    let item = match there {
         Item::Nothing => {
             let table = Table::new(alloc, room_below(rest, rows.as_slice()))?;
             Item::Table(enter_header(alloc, table, rest, is_array, rows, number, level + 1)?)
@@ -275,9 +266,5 @@ fn enter_child<'de>(
         }
         _other => return Err(Clash::Header(rest.len() + 1)),
     };
-    Ok(Child {
-        start,
-        section,
-        item,
-    })
+    Ok(item)
 }

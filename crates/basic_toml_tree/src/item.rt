@@ -8,7 +8,7 @@ ghost use Rattle.basic_toml_tree.specs.declared.item.Table.{out-Table};
 ghost use Rattle.basic_toml_tree.specs.Item.{item_trie, child_trie, table_trie};
 ghost use Rattle.basic_toml_tree.specs.Origins.{item_origins, child_origins};
 
-use basic_toml_clash::Keyed;
+use basic_toml_clash::{Blank, Keyed};
 use basic_toml_value::Float;
 use std::alloc::{AllocError, Global};
 use std::borrow::CowStr;
@@ -78,6 +78,20 @@ impl<'de> Child<'de> {
         ensures { child_trie result ≡ nothing }
     {
         Child::at(0, 0, Item::Nothing)
+    }
+}
+
+impl<'de> Blank for Child<'de> {
+    ghost use Rattle.basic_toml_tree.specs.Item.{no_child};
+
+    ghost blank = { no_child };
+
+    fn blank(_alloc: Global) -> Child<'de> {
+        Child {
+            start: 0,
+            section: 0,
+            item: Item::Nothing,
+        }
     }
 }
 

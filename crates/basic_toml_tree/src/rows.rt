@@ -95,14 +95,14 @@ fn enter_row<'de>(
 {
     let mut table = table;
     let Some((row, rest)) = keys.split_first() else {
-        let position = table.entries.enter(last, Child::nothing())?;
+        let position = table.entries.enter(last)?;
         if let Some(met) = what_is_met(table.entries.value(position)) {
             return Err(met);
         }
         table.entries.put(position, child);
         return Ok(table);
     };
-    let position = table.entries.enter(row.key.as_str(), Child::nothing())?;
+    let position = table.entries.enter(row.key.as_str())?;
     let there = table.entries.replace(position, Child::nothing());
     let extended = extended(alloc, there, rest, last, child)?;
     table.entries.put(position, extended);

@@ -10,17 +10,15 @@ use Rattle.basic_toml_grammar.specs.Sections.{KeyTexts}
 use Rattle.basic_toml_grammar.specs.Steps.{Step, key, number, Path, begins}
 use Rattle.basic_toml_grammar.specs.Trie.{count}
 use Rattle.basic_toml_tree.specs.declared.item.Item.{Nothing, Tables}
-use Rattle.basic_toml_tree.specs.declared.item.Item.TheViews.{roll-Child}
-use Rattle.basic_toml_tree.specs.declared.item.Child.{Child, out-Child}
+use Rattle.basic_toml_tree.specs.declared.item.Item as items
 use Rattle.basic_toml_tree.specs.declared.item.Table.{Table}
-use Rattle.basic_toml_tree.specs.Item.{item_trie, child_trie, table_trie}
+use Rattle.basic_toml_tree.specs.Item.{item_trie, table_trie}
 use Rattle.basic_toml_tree.specs.Origins.{Origin, Origins, no_origins, entry, under, at_numbers, Within}
-use Rattle.basic_toml_tree.specs.Origins.{table_origin, child_origins, item_origins, table_within, or_else, along}
+use Rattle.basic_toml_tree.specs.Origins.{table_origin, item_origins, table_within, or_else, along}
 use Rattle.basic_toml_tree.specs.Ways.{way, way_by, GrowsAlong}
 use Rattle.basic_toml_tree.proofs.HeadersInATrie.{fresh}
-use Rattle.basic_toml_tree.proofs.ItemTries.{child_item_trie}
 use Rattle.basic_toml_tree.proofs.TablesOpened.{tables_trie, nothing_trie}
-use Rattle.basic_toml_tree.proofs.Origins.OriginsSeen.{child_seen, nothing_seen, tables_seen, table_origins, fresh_within}
+use Rattle.basic_toml_tree.proofs.Origins.OriginsSeen.{nothing_seen, tables_seen, table_origins, fresh_within}
 use Rattle.basic_toml_tree.proofs.Origins.OriginsSeen.{or_none}
 use Rattle.basic_toml_tree.proofs.Origins.HeadersPlaceOrigins.{way_into_latest}
 
@@ -51,56 +49,51 @@ same_numbers n m same = grind (arith, same)
 -- the elements before the last one are as they were; the last has grown, or is new
 module _ (xs : List Origins) (n : ℕ) (counted : n ≡ length xs) (was now rows : Origins) (w : Path)
     (grows : (s : Step) (q : Path) → begins (s ∷ q) w ≡ false → now (s ∷ q) ≡ or_else was (along w rows) (s ∷ q))
-    (there child : Child)
-    (there_last : (s : Step) (q : Path) → child_origins there (number n ∷ s ∷ q) ≡ was (s ∷ q))
-    (there_others : (m : ℕ) (q : Path) → nat_eq m n ≡ false → child_origins there (number m ∷ q)
+    (there grown : Origins)
+    (there_last : (s : Step) (q : Path) → there (number n ∷ s ∷ q) ≡ was (s ∷ q))
+    (there_others : (m : ℕ) (q : Path) → nat_eq m n ≡ false → there (number m ∷ q)
     ≡ under (slice_get xs m) q)
-    (there_keys : (k : List ℕ) (q : Path) → child_origins there (key k ∷ q) ≡ None) (o : Origin)
-    (child_is : (s : Step) (q : Path) → child_origins child (s ∷ q) ≡ at_numbers (xs ++ entry o now ∷ []) (s ∷ q)) where
+    (there_keys : (k : List ℕ) (q : Path) → there (key k ∷ q) ≡ None) (o : Origin)
+    (grown_is : (s : Step) (q : Path) → grown (s ∷ q) ≡ at_numbers (xs ++ entry o now ∷ []) (s ∷ q)) where
   last_grows : (q : Path) → begins q w ≡ false
-      → child_origins child (number n ∷ q) ≡ option_or (child_origins there (number n ∷ q)) (along w rows q)
+      → grown (number n ∷ q) ≡ option_or (there (number n ∷ q)) (along w rows q)
   last_grows [] not = absurd (false≢true (sym not))
   last_grows (s ∷ q) not =
-      child_is (number n) (s ∷ q)
+      grown_is (number n) (s ∷ q)
       ∙ ap (λ o. under o (s ∷ q)) (last_is xs (entry o now) n counted)
       ∙ grows s q not
       ∙ ap (λ o. option_or o (along w rows (s ∷ q))) (sym (there_last s q))
 
-  pub element_grows : GrowsAlong (number n ∷ w) rows (child_origins there) (child_origins child)
+  pub element_grows : GrowsAlong (number n ∷ w) rows (there) (grown)
   element_grows [] not = absurd (false≢true (sym not))
-  element_grows (key k ∷ q) not = child_is (key k) q ∙ sym (ap (λ o. option_or o None) (there_keys k q))
+  element_grows (key k ∷ q) not = grown_is (key k) q ∙ sym (ap (λ o. option_or o None) (there_keys k q))
   element_grows (number m ∷ q) not = go (nat_eq m n) refl not
     where
       go : (b : Bool) → nat_eq m n ≡ b → (b && begins q w) ≡ false
-          → child_origins child (number m ∷ q)
-          ≡ option_or (child_origins there (number m ∷ q)) (if nat_eq m n then along w rows q else None)
+          → grown (number m ∷ q)
+          ≡ option_or (there (number m ∷ q)) (if nat_eq m n then along w rows q else None)
       go true e not =
           let same = same_numbers n m e in
-          ap (λ m. child_origins child (number m ∷ q)) same ∙ last_grows q not
-          ∙ ap (λ m. option_or (child_origins there (number m ∷ q)) (along w rows q)) (sym same)
-          ∙ ap (λ b. option_or (child_origins there (number m ∷ q)) (if b then along w rows q else None)) (sym e)
+          ap (λ m. grown (number m ∷ q)) same ∙ last_grows q not
+          ∙ ap (λ m. option_or (there (number m ∷ q)) (along w rows q)) (sym same)
+          ∙ ap (λ b. option_or (there (number m ∷ q)) (if b then along w rows q else None)) (sym e)
       go false e not =
-          child_is (number m) q
+          grown_is (number m) q
           ∙ ap (λ o. under o q) (other_is xs (entry o now) n m counted e)
           ∙ sym (there_others m q e)
-          ∙ sym (or_none (child_origins there (number m ∷ q)))
-          ∙ ap (λ b. option_or (child_origins there (number m ∷ q)) (if b then along w rows q else None)) (sym e)
+          ∙ sym (or_none (there (number m ∷ q)))
+          ∙ ap (λ b. option_or (there (number m ∷ q)) (if b then along w rows q else None)) (sym e)
 
 -- an array of tables, by the origins in its elements
 abbrev of_table : ℕ → ℕ → Within → Origins
 of_table at s t = entry (table_origin t.made at s) t.below
 
-array_below : (c : Child) (b : Vec Table Global) (latest : Box Table Global) (at s : ℕ) → (out-Child c).item
-    ≡ Tables b latest → (out-Child c).start ≡ at → (out-Child c).section ≡ s → (r : Step) (p : Path)
-    → child_origins c (r ∷ p)
+array_below : (i : items.Item) (b : Vec Table Global) (latest : Box Table Global) (at s : ℕ) → i ≡ Tables b latest
+    → (r : Step) (p : Path) → item_origins i at s (r ∷ p)
     ≡ at_numbers (map (of_table at s) (map table_within b.items) ++ of_table at s (table_within latest.value) ∷ [])
     (r ∷ p)
-array_below c b latest at s is is_at is_s r p =
-    ap (λ f. f (r ∷ p)) (child_seen c
-    ∙ ap (λ i. item_origins i (out-Child c).start (out-Child c).section) is
-    ∙ ap (λ at. item_origins (Tables b latest) at (out-Child c).section) is_at
-    ∙ ap (λ s. item_origins (Tables b latest) at s) is_s
-    ∙ tables_seen b latest at s)
+array_below i b latest at s is r p =
+    ap (λ f. f (r ∷ p)) (ap (λ i. item_origins i at s) is ∙ tables_seen b latest at s)
     ∙ ap (λ os. at_numbers os (r ∷ p))
     (map-append (of_table at s) (map table_within b.items) (table_within latest.value ∷ []))
 
@@ -114,27 +107,21 @@ others_are : (xs : List Origins) (x : Origins) (n m : ℕ) (q : Path) → n ≡ 
 others_are xs x n m q counted other = ap (λ o. under o q) (other_is xs x n m counted other)
 
 -- on into the latest element
-pub latest_grows : (a : Bool) (keys : KeyTexts) (rows : Origins) (there child : Child) (b : Vec Table Global)
-    (old after : Box Table Global) → (out-Child there).item ≡ Tables b old → (out-Child child).item ≡ Tables b after
-    → (out-Child child).start ≡ (out-Child there).start → (out-Child child).section ≡ (out-Child there).section
+pub latest_grows : (a : Bool) (keys : KeyTexts) (rows : Origins) (there item : items.Item) (b : Vec Table Global)
+    (old after : Box Table Global) → there ≡ Tables b old → item ≡ Tables b after
     → GrowsAlong (way a keys (table_trie old.value)) rows (table_origins old.value) (table_origins after.value)
-    → GrowsAlong (way_by a keys (child_trie there)) rows (child_origins there) (child_origins child)
-latest_grows a keys rows there child b old after is child_is at_is s_is grows =
-    subst (λ w. GrowsAlong w rows (child_origins there) (child_origins child))
+    → (at s : ℕ) → GrowsAlong (way_by a keys (item_trie there)) rows (item_origins there at s) (item_origins item at s)
+latest_grows a keys rows there item b old after is item_is grows at s =
+    subst (λ w. GrowsAlong w rows (item_origins there at s) (item_origins item at s))
     (sym (way_into_latest a keys there b old is))
     (element_grows xs n counted (table_origins old.value) (table_origins after.value) rows
-    (way a keys (table_trie old.value)) (λ r q not. grows (r ∷ q) not) there child
+    (way a keys (table_trie old.value)) (λ r q not. grows (r ∷ q) not) (item_origins there at s)
+    (item_origins item at s)
     (λ r q. was (number n) (r ∷ q) ∙ ap (λ o. under o (r ∷ q)) (last_is xs (of_table at s (table_within old.value)) n
     counted))
     (λ m q other. was (number m) q ∙ others_are xs (of_table at s (table_within old.value)) n m q counted other)
     (λ k q. was (key k) q) (table_origin (table_within after.value).made at s) now)
   where
-    at : ℕ
-    at = (out-Child there).start
-
-    s : ℕ
-    s = (out-Child there).section
-
     xs : List Origins
     xs = map (of_table at s) (map table_within b.items)
 
@@ -145,37 +132,24 @@ latest_grows a keys rows there child b old after is child_is at_is s_is grows =
     counted = mapped_count table_trie b.items ∙ sym (mapped_count (of_table at s) (map table_within b.items)
         ∙ mapped_count table_within b.items)
 
-    was : (r : Step) (p : Path) → child_origins there (r ∷ p)
+    was : (r : Step) (p : Path) → item_origins there at s (r ∷ p)
         ≡ at_numbers (xs ++ of_table at s (table_within old.value) ∷ []) (r ∷ p)
-    was r p = array_below there b old at s is refl refl r p
+    was r p = array_below there b old at s is r p
 
-    now : (r : Step) (p : Path) → child_origins child (r ∷ p)
+    now : (r : Step) (p : Path) → item_origins item at s (r ∷ p)
         ≡ at_numbers (xs ++ of_table at s (table_within after.value) ∷ []) (r ∷ p)
-    now r p = array_below child b after at s child_is at_is s_is r p
+    now r p = array_below item b after at s item_is r p
 
 -- one more element, after none and after some
-module _ (there : Child) (before : Vec Table Global) (new after : Box Table Global) (rows : Origins)
+module _ (there : items.Item) (at s : ℕ) (before : Vec Table Global) (new after : Box Table Global) (rows : Origins)
     (is_fresh : table_trie new.value ≡ fresh)
     (put : table_origins after.value ≡ or_else (table_origins new.value) rows) where
-  abbrev at : ℕ
-  at = (out-Child there).start
-
-  abbrev s : ℕ
-  s = (out-Child there).section
-
-  abbrev child : Child
-  child = roll-Child (record {
-    start = (out-Child there).start;
-    section = (out-Child there).section;
-    item = Tables before after;
-  })
-
   abbrev xs : List Origins
   xs = map (of_table at s) (map table_within before.items)
 
-  now : (r : Step) (p : Path) → child_origins child (r ∷ p)
+  now : (r : Step) (p : Path) → item_origins (Tables before after) at s (r ∷ p)
       ≡ at_numbers (xs ++ of_table at s (table_within after.value) ∷ []) (r ∷ p)
-  now r p = array_below child before after at s refl refl refl r p
+  now r p = array_below (Tables before after) before after at s refl r p
 
   grown : (r : Step) (q : Path) → begins (r ∷ q) [] ≡ false
       → table_origins after.value (r ∷ q) ≡ or_else no_origins (along [] rows) (r ∷ q)
@@ -183,40 +157,39 @@ module _ (there : Child) (before : Vec Table Global) (new after : Box Table Glob
       ∙ ap (λ w. option_or (w.below (r ∷ q)) (rows (r ∷ q))) (fresh_within new.value is_fresh)
 
   added : (n : ℕ) → n ≡ length xs
-      → ((r : Step) (p : Path) → child_origins there (r ∷ p) ≡ at_numbers xs (r ∷ p))
-      → GrowsAlong (number n ∷ []) rows (child_origins there) (child_origins child)
+      → ((r : Step) (p : Path) → item_origins there at s (r ∷ p) ≡ at_numbers xs (r ∷ p))
+      → GrowsAlong (number n ∷ []) rows (item_origins there at s) (item_origins (Tables before after) at s)
   added n counted was =
-      element_grows xs n counted no_origins (table_origins after.value) rows [] grown there child
+      element_grows xs n counted no_origins (table_origins after.value) rows [] grown (item_origins there at s)
+      (item_origins (Tables before after) at s)
       (λ r q. was (number n) (r ∷ q) ∙ ap (λ o. under o (r ∷ q)) (none_past xs n counted))
       (λ m q other. was (number m) q)
       (λ k q. was (key k) q) (table_origin (table_within after.value).made at s) now
 
-  pub first_added : (out-Child there).item ≡ Nothing → before.items ≡ []
-      → GrowsAlong (number (count (child_trie there)) ∷ []) rows (child_origins there) (child_origins child)
+  pub first_added : there ≡ Nothing → before.items ≡ []
+      → GrowsAlong (number (count (item_trie there)) ∷ []) rows (item_origins there at s) (item_origins (Tables before after) at s)
   first_added is none =
-      added (count (child_trie there))
-      (ap count (child_item_trie there ∙ ap item_trie is ∙ nothing_trie)
+      added (count (item_trie there))
+      (ap count (ap item_trie is ∙ nothing_trie)
       ∙ sym (ap (λ ts. length (map (of_table at s) (map table_within ts))) none))
-      (λ r p. ap (λ f. f (r ∷ p)) (child_seen there
-      ∙ ap (λ i. item_origins i (out-Child there).start (out-Child there).section) is
-      ∙ nothing_seen (out-Child there).start (out-Child there).section)
+      (λ r p. ap (λ f. f (r ∷ p)) (ap (λ i. item_origins i at s) is ∙ nothing_seen at s)
       ∙ sym (ap (λ ts. at_numbers (map (of_table at s) (map table_within ts)) (r ∷ p)) none ∙ nowhere r p))
     where
       nowhere : (r : Step) (p : Path) → at_numbers [] (r ∷ p) ≡ None
       nowhere (key k) p = refl
       nowhere (number n) p = refl
 
-  pub next_added : (b : Vec Table Global) (latest : Box Table Global) → (out-Child there).item ≡ Tables b latest
+  pub next_added : (b : Vec Table Global) (latest : Box Table Global) → there ≡ Tables b latest
       → before.items ≡ b.items ++ latest.value ∷ []
-      → GrowsAlong (number (count (child_trie there)) ∷ []) rows (child_origins there) (child_origins child)
+      → GrowsAlong (number (count (item_trie there)) ∷ []) rows (item_origins there at s) (item_origins (Tables before after) at s)
   next_added b latest is more =
-      added (count (child_trie there))
-      (ap count (child_item_trie there ∙ ap item_trie is ∙ tables_trie b latest)
+      added (count (item_trie there))
+      (ap count (ap item_trie is ∙ tables_trie b latest)
       ∙ ap suc (mapped_count table_trie b.items)
       ∙ sym (ap length same ∙ one_longer (map (of_table at s) (map table_within b.items))
       (of_table at s (table_within latest.value))
       ∙ ap suc (mapped_count (of_table at s) (map table_within b.items) ∙ mapped_count table_within b.items)))
-      (λ r p. array_below there b latest at s is refl refl r p ∙ sym (ap (λ os. at_numbers os (r ∷ p)) same))
+      (λ r p. array_below there b latest at s is r p ∙ sym (ap (λ os. at_numbers os (r ∷ p)) same))
     where
       same : xs ≡ map (of_table at s) (map table_within b.items) ++ of_table at s (table_within latest.value) ∷ []
       same = ap (λ ts. map (of_table at s) (map table_within ts)) more

@@ -1,7 +1,7 @@
 -- The way of a header through the tree: what its rows bring comes at the way's end.
 use Rattle.std.proofs.Common.{◌≡◌, ℕ, Bool, true, false, ◌≤◌, List, [], ◌∷◌}
 use Rattle.std.proofs.Common.{refl, ap}
-use Rattle.std.proofs.Common.{sym, ◌∙◌, subst, map, arith, length, Vec, Box, Global, Result, Ok}
+use Rattle.std.proofs.Common.{sym, ◌∙◌, subst, map, arith, length, slice_get, Some, Vec, Box, Global, Result, Ok}
 use Rattle.std.proofs.Common.{Err}
 use Rattle.std.specs.Prelude.{IfOk, ◌&&◌}
 use Rattle.std.specs.Option.{option_or}
@@ -19,14 +19,16 @@ use Rattle.basic_toml_tree.specs.declared.item.Item.TheViews.{roll-Table, out-ro
 use Rattle.basic_toml_tree.specs.declared.item.Child.{Child, out-Child}
 use Rattle.basic_toml_tree.specs.declared.item.Table.{Table, out-Table}
 use Rattle.basic_toml_tree.specs.Item.{item_trie, child_trie, table_trie, by_keys}
-use Rattle.basic_toml_clash.specs.Keyed.{with_value}
-use Rattle.basic_toml_tree.specs.Headers.{Passes, PutsBack}
+use Rattle.basic_toml_clash.specs.Keyed.{with_value, values_of}
+use Rattle.basic_toml_tree.specs.Headers.{holding, Passes, PutsBack}
 use Rattle.basic_toml_tree.specs.Origins.{Origins, at_keys}
 use Rattle.basic_toml_tree.specs.Origins.{child_origins, item_origins, table_within}
 use Rattle.basic_toml_tree.specs.Origins.{with_more, or_else, along}
 use Rattle.basic_toml_tree.specs.Ways.{way, way_by, way_at, GrowsAlong}
+use Rattle.basic_toml_clash.proofs.KeysChanged.{value_put}
 use Rattle.basic_toml_tree.proofs.HeadersInATrie.{made, fresh, array_of}
-use Rattle.basic_toml_tree.proofs.ItemTries.{child_item_trie, table_entries_trie}
+use Rattle.basic_toml_tree.proofs.HeadersEntered.{out_holding, passed_trie}
+use Rattle.basic_toml_tree.proofs.ItemTries.{table_entries_trie}
 use Rattle.basic_toml_tree.proofs.KeysInATrie.{tries_of, stood_there}
 use Rattle.basic_toml_tree.proofs.LatestInATrie.{find_latest}
 use Rattle.basic_toml_tree.proofs.TablesOpened.{named_fields, numbered_fields, tables_trie, nothing_trie}
@@ -52,25 +54,28 @@ way_latest : (a : Bool) (keys : KeyTexts) (before : List Trie) (t : Trie)
     → way_by a keys (array_of before t) ≡ number (length before) ∷ way a keys t
 way_latest a keys before t = rw (find_latest 0 (length before) before t (omega arith)) refl
 
-pub way_into_fresh : (a : Bool) (keys : KeyTexts) (c : Child) (new : Trie) → (out-Child c).item ≡ Nothing
-    → new ≡ fresh → way_by a keys (child_trie c) ≡ way a keys new
-way_into_fresh a keys c new is is_fresh =
-    ap (way_by a keys) (child_item_trie c ∙ ap item_trie is ∙ nothing_trie)
+pub way_into_fresh : (a : Bool) (keys : KeyTexts) (i : items.Item) (new : Trie) → i ≡ Nothing
+    → new ≡ fresh → way_by a keys (item_trie i) ≡ way a keys new
+way_into_fresh a keys i new is is_fresh =
+    ap (way_by a keys) (ap item_trie is ∙ nothing_trie)
     ∙ sym (way_fresh a keys) ∙ ap (way a keys) (sym is_fresh)
 
-pub way_into_table : (a : Bool) (keys : KeyTexts) (c : Child) (t : Box Table Global)
-    → (out-Child c).item ≡ items.Table t → way_by a keys (child_trie c) ≡ way a keys (table_trie t.value)
-way_into_table a keys c t is =
+pub way_into_table : (a : Bool) (keys : KeyTexts) (i : items.Item) (t : Box Table Global)
+    → i ≡ items.Table t → way_by a keys (item_trie i) ≡ way a keys (table_trie t.value)
+way_into_table a keys i t is =
     let e = table_entries_trie t.value in
-    ap (way_by a keys) (child_item_trie c ∙ ap item_trie is ∙ table_item_trie t ∙ e)
+    ap (way_by a keys) (ap item_trie is ∙ table_item_trie t ∙ e)
     ∙ ap (way a keys) (sym e)
 
-pub way_into_latest : (a : Bool) (keys : KeyTexts) (c : Child) (b : Vec Table Global) (latest : Box Table Global)
-    → (out-Child c).item ≡ Tables b latest
-    → way_by a keys (child_trie c) ≡ number (length (map table_trie b.items)) ∷ way a keys (table_trie latest.value)
-way_into_latest a keys c b latest is =
-    ap (way_by a keys) (child_item_trie c ∙ ap item_trie is ∙ tables_trie b latest)
+pub way_into_latest : (a : Bool) (keys : KeyTexts) (i : items.Item) (b : Vec Table Global) (latest : Box Table Global)
+    → i ≡ Tables b latest
+    → way_by a keys (item_trie i) ≡ number (length (map table_trie b.items)) ∷ way a keys (table_trie latest.value)
+way_into_latest a keys i b latest is =
+    ap (way_by a keys) (ap item_trie is ∙ tables_trie b latest)
     ∙ way_latest a keys (map table_trie b.items) (table_trie latest.value)
+
+some_same : {A : Type 0} {x y : A} → Some x ≡ Some y → x ≡ y
+some_same is = cc
 
 -- the table that is named, and the rows that are put into it
 pub same_below : (t u : Table) → (out-Table u).entries ≡ (out-Table t).entries → table_origins u ≡ table_origins t
@@ -114,18 +119,18 @@ no_keys_left a [] t rows (Ok after) none comes = λ p not. ap (λ f. f p) comes
 
 -- a table that a header passes
 pub passed_grows : (a : Bool) (rows : Origins) (k : List ℕ) (keys whole : KeyTexts) (t o p q u : Table)
-    (position : ℕ) (there child : Child) → whole ≡ k ∷ keys → o ≡ t → Passes k o p position there → q ≡ p
-    → PutsBack q position child u
-    → GrowsAlong (way_at a keys (child_trie there)) rows (child_origins there) (child_origins child)
+    (position : ℕ) (there item : items.Item) → whole ≡ k ∷ keys → o ≡ t → Passes k o p position there → q ≡ p
+    → PutsBack q position item u
+    → ((at s : ℕ) → GrowsAlong (way_at a keys (item_trie there)) rows (item_origins there at s) (item_origins item at s))
     → GrowsAlong (way a whole (table_trie t)) rows (table_origins t) (table_origins u)
-passed_grows a rows k keys whole t o p q u position there child is_whole is_old passed same puts grows =
+passed_grows a rows k keys whole t o p q u position there item is_whole is_old passed same puts grows =
     subst (λ w. GrowsAlong w rows (table_origins t) (table_origins u)) (sym is_way) go
   where
     passes : Passes k t p position there
     passes = subst (λ (t : Table). Passes k t p position there) is_old passed
 
     w : Path
-    w = way_at a keys (child_trie there)
+    w = way_at a keys (item_trie there)
 
     is_way : way a whole (table_trie t) ≡ key k ∷ w
     is_way =
@@ -135,59 +140,85 @@ passed_grows a rows k keys whole t o p q u position there child is_whole is_old 
         (by_keys (tries_of child_trie (out-Table t).entries))
         ∙ ap (λ t. key k ∷ way_at a keys t)
         (stood_there child_trie k passes.blank (out-Table t).entries passes.entries position passes.is_nothing
-        passes.entered there passes.stands)
+        passes.entered passes.child passes.stands ∙ passed_trie k t p position there passes)
 
-    put : (out-Table u).entries ≡ with_value (with_value passes.entries position passes.other) position child
+    put : (out-Table u).entries
+        ≡ with_value (with_value passes.entries position (holding passes.child Nothing)) position
+        (holding puts.child item)
     put =
-        puts.entries ∙ ap (λ t. with_value (out-Table t).entries position child) same
-        ∙ ap (λ es. with_value es position child) passes.left
+        puts.entries ∙ ap (λ t. with_value (out-Table t).entries position (holding puts.child item)) same
+        ∙ ap (λ es. with_value es position (holding puts.child item)) passes.left
+
+    -- the child that the item is put back into is the one that it was taken out of
+    same_child : puts.child ≡ holding passes.child Nothing
+    same_child =
+        some_same (sym puts.stands
+        ∙ ap (λ t. slice_get (values_of (out-Table t).entries) position) same
+        ∙ ap (λ es. slice_get (values_of es) position) passes.left
+        ∙ value_put passes.entries position passes.child (holding passes.child Nothing) passes.stands)
+
+    at : ℕ
+    at = (out-Child passes.child).start
+
+    s : ℕ
+    s = (out-Child passes.child).section
+
+    was : child_origins passes.child ≡ item_origins there at s
+    was = child_seen passes.child ∙ ap (λ i. item_origins i at s) passes.item
+
+    is : child_origins (holding puts.child item) ≡ item_origins item at s
+    is =
+        child_seen (holding puts.child item)
+        ∙ ap (λ o. item_origins o.item o.start o.section)
+        (out_holding puts.child item
+        ∙ ap (λ o. record { start = o.start; section = o.section; item = item })
+        (ap out-Child same_child ∙ out_holding passes.child Nothing))
+
+    below : GrowsAlong w rows (child_origins passes.child) (child_origins (holding puts.child item))
+    below y not =
+        ap (λ f. f y) is ∙ grows at s y not ∙ ap (λ f. or_else f (along w rows) y) (sym was)
 
     go : GrowsAlong (key k ∷ w) rows (table_origins t) (table_origins u)
     go x not =
-        grows_at t u passes.blank there child passes.other k passes.entries position
-        (nothing_comes passes.blank passes.is_nothing) passes.entered passes.stands put (along w rows) x
-        (λ y is. grows y (further y (sym (ap (λ x. begins x (key k ∷ w)) is) ∙ not)))
+        grows_at t u passes.blank passes.child (holding puts.child item) (holding passes.child Nothing) k passes.entries
+        position (nothing_comes passes.blank passes.is_nothing) passes.entered passes.stands put (along w rows) x
+        (λ y is. below y (further y (sym (ap (λ x. begins x (key k ∷ w)) is) ∙ not)))
       where
         further : (y : Path) → begins (key k ∷ y) (key k ∷ w) ≡ false → begins y w ≡ false
         further y not = sym (ap (λ b. b && begins y w) (bytes_eq-same k)) ∙ not
 
 -- a table below a key, which was there or is new
-held_grows : (w v : Path) (rows before after : Origins) (there child : Child) → v ≡ w
-    → ((s : Step) (p : Path) → child_origins there (s ∷ p) ≡ before (s ∷ p))
-    → ((s : Step) (p : Path) → child_origins child (s ∷ p) ≡ after (s ∷ p))
-    → GrowsAlong w rows before after → GrowsAlong v rows (child_origins there) (child_origins child)
-held_grows w v rows before after there child same was is grows =
-    subst (λ w. GrowsAlong w rows (child_origins there) (child_origins child)) (sym same) go
+held_grows : (w v : Path) (rows before after there now : Origins) → v ≡ w
+    → ((s : Step) (p : Path) → there (s ∷ p) ≡ before (s ∷ p)) → ((s : Step) (p : Path) → now (s ∷ p) ≡ after (s ∷ p))
+    → GrowsAlong w rows before after → GrowsAlong v rows there now
+held_grows w v rows before after there now same was is grows = subst (λ w. GrowsAlong w rows there now) (sym same) go
   where
-    go : GrowsAlong w rows (child_origins there) (child_origins child)
+    go : GrowsAlong w rows there now
     go [] not = absurd (false≢true (sym not))
     go (s ∷ p) not =
         is s p ∙ grows (s ∷ p) not ∙ ap (λ o. option_or o (along w rows (s ∷ p))) (sym (was s p))
 
-table_held : (c : Child) (t : Box Table Global) → (out-Child c).item ≡ items.Table t → (r : Step) (p : Path)
-    → child_origins c (r ∷ p) ≡ table_origins t.value (r ∷ p)
-table_held c t is r p = ap (λ f. f (r ∷ p)) (child_seen c
-    ∙ ap (λ i. item_origins i (out-Child c).start (out-Child c).section) is
-    ∙ table_item_seen t (out-Child c).start (out-Child c).section)
+table_held : (i : items.Item) (t : Box Table Global) (at s : ℕ) → i ≡ items.Table t → (r : Step) (p : Path)
+    → item_origins i at s (r ∷ p) ≡ table_origins t.value (r ∷ p)
+table_held i t at s is r p = ap (λ f. f (r ∷ p)) (ap (λ i. item_origins i at s) is ∙ table_item_seen t at s)
 
-pub new_table_grows : (a : Bool) (keys : KeyTexts) (rows : Origins) (there child : Child) (new after : Box Table Global)
-    → (out-Child there).item ≡ Nothing → table_trie new.value ≡ fresh → (out-Child child).item ≡ items.Table after
+pub new_table_grows : (a : Bool) (keys : KeyTexts) (rows : Origins) (there item : items.Item)
+    (new after : Box Table Global) → there ≡ Nothing → table_trie new.value ≡ fresh → item ≡ items.Table after
     → GrowsAlong (way a keys (table_trie new.value)) rows (table_origins new.value) (table_origins after.value)
-    → GrowsAlong (way_by a keys (child_trie there)) rows (child_origins there) (child_origins child)
-new_table_grows a keys rows there child new after is is_fresh is_table grows =
-    held_grows (way a keys (table_trie new.value)) (way_by a keys (child_trie there)) rows (table_origins new.value)
-    (table_origins after.value) there child (way_into_fresh a keys there (table_trie new.value) is is_fresh)
-    (λ r p. ap (λ f. f (r ∷ p)) (child_seen there
-    ∙ ap (λ i. item_origins i (out-Child there).start (out-Child there).section) is
-    ∙ nothing_seen (out-Child there).start (out-Child there).section)
+    → (at s : ℕ) → GrowsAlong (way_by a keys (item_trie there)) rows (item_origins there at s) (item_origins item at s)
+new_table_grows a keys rows there item new after is is_fresh is_table grows at s =
+    held_grows (way a keys (table_trie new.value)) (way_by a keys (item_trie there)) rows (table_origins new.value)
+    (table_origins after.value) (item_origins there at s) (item_origins item at s)
+    (way_into_fresh a keys there (table_trie new.value) is is_fresh)
+    (λ r p. ap (λ f. f (r ∷ p)) (ap (λ i. item_origins i at s) is ∙ nothing_seen at s)
     ∙ sym (ap (λ w. w.below (r ∷ p)) (fresh_within new.value is_fresh)))
-    (table_held child after is_table) grows
+    (table_held item after at s is_table) grows
 
-pub table_grows : (a : Bool) (keys : KeyTexts) (rows : Origins) (there child : Child) (old after : Box Table Global)
-    → (out-Child there).item ≡ items.Table old → (out-Child child).item ≡ items.Table after
+pub table_grows : (a : Bool) (keys : KeyTexts) (rows : Origins) (there item : items.Item)
+    (old after : Box Table Global) → there ≡ items.Table old → item ≡ items.Table after
     → GrowsAlong (way a keys (table_trie old.value)) rows (table_origins old.value) (table_origins after.value)
-    → GrowsAlong (way_by a keys (child_trie there)) rows (child_origins there) (child_origins child)
-table_grows a keys rows there child old after is is_table grows =
-    held_grows (way a keys (table_trie old.value)) (way_by a keys (child_trie there)) rows (table_origins old.value)
-    (table_origins after.value) there child (way_into_table a keys there old is)
-    (table_held there old is) (table_held child after is_table) grows
+    → (at s : ℕ) → GrowsAlong (way_by a keys (item_trie there)) rows (item_origins there at s) (item_origins item at s)
+table_grows a keys rows there item old after is is_table grows at s =
+    held_grows (way a keys (table_trie old.value)) (way_by a keys (item_trie there)) rows (table_origins old.value)
+    (table_origins after.value) (item_origins there at s) (item_origins item at s) (way_into_table a keys there old is)
+    (table_held there old at s is) (table_held item after at s is_table) grows

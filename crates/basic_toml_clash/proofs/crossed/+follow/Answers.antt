@@ -4,9 +4,9 @@ use Rattle.basic_toml_grammar.specs.Sections.{KeyTexts}
 use Rattle.basic_toml_read.specs.SectionView.{lined_of}
 use Rattle.basic_toml_clash.specs.declared.crossed.Trail.{Trail, roll-Trail}
 use Rattle.basic_toml_clash.specs.Keyed.{with_value}
-use Rattle.basic_toml_clash.specs.Trail.{ends_of, path_of, Follows, FollowsTo}
+use Rattle.basic_toml_clash.specs.Trail.{ends_of, no_trail, path_of, Follows, FollowsTo}
 use Rattle.basic_toml_clash.proofs.RowsOfKeys.{lined_is}
-use Rattle.basic_toml_clash.proofs.TrailGrows.{trail_ends, rolled_end, rolled_below, fault_below, row_below}
+use Rattle.basic_toml_clash.proofs.TrailGrows.{nowhere, trail_ends, rolled_end, rolled_below, fault_below, row_below}
 use Rattle.basic_toml_clash.proofs.crossed.+follow.Goals as goal
 
 pub returns-in-Some-end : goal.returns-in-Some-end
@@ -29,8 +29,8 @@ returns-in_err-gone-in-Some t c =
     rw (p.1, p.2)
     (subst (λ (path : KeyTexts). FollowsTo c.args.trail path c.args.start (Err c.in_err-gone-in-Some.field-0.0))
     (sym path)
-    (fault_below c.args.trail c.new.result c.replace-there.result c.as_str.result.now c.enter.new.self
-    c.in_ok-position-in-Some.position c.new.ensures c.in_ok-position-in-Some.ensures.entered
+    (fault_below c.args.trail no_trail c.replace-there.result c.as_str.result.now c.enter.new.self
+    c.in_ok-position-in-Some.position nowhere c.in_ok-position-in-Some.ensures.entered
     c.replace-there.ensures.value
     (path_of c.in-Some.rest.now) c.args.start c.in_err-gone-in-Some.field-0.0 c.in_err-gone-in-Some.ensures))
 
@@ -42,10 +42,10 @@ returns-in_ok-gone-in-Some t c =
     (ap (λ l. l.key.text) (lined_is c.in-Some.row.now) ∙ sym c.as_str.ensures.value) in
     let after : Trail = roll-Trail (record { end = None; below = c.replace.new.self }) in
     subst (λ (path : KeyTexts). Follows (ends_of c.args.trail) (ends_of after) path c.args.start) (sym path)
-    (row_below c.args.trail c.new.result c.replace-there.result c.as_str.result.now c.enter.new.self
-    c.in_ok-position-in-Some.position c.new.ensures c.in_ok-position-in-Some.ensures.entered
+    (row_below c.args.trail no_trail c.replace-there.result c.as_str.result.now c.enter.new.self
+    c.in_ok-position-in-Some.position nowhere c.in_ok-position-in-Some.ensures.entered
     c.replace-there.ensures.value
-    c.new-in-Some.result c.in_ok-gone-in-Some.gone after c.in_default.is (rolled_end None c.replace.new.self)
+    c.blank.result c.in_ok-gone-in-Some.gone after c.in_default.is (rolled_end None c.replace.new.self)
     (rolled_below None c.replace.new.self ∙ c.replace.ensures.changed
     ∙ ap (λ ps. with_value ps c.in_ok-position-in-Some.position c.in_ok-gone-in-Some.gone)
     c.replace-there.ensures.changed)

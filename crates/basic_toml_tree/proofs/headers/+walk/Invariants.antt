@@ -7,5 +7,5 @@ decreases-enter_header l = 3 * length l.keys.now
 abbrev pub decreases-enter_at : goal.decreases-enter_at
 decreases-enter_at l = 3 * length l.rest.now + 2
 
-abbrev pub decreases-enter_child : goal.decreases-enter_child
-decreases-enter_child l = 3 * length l.rest.now + 1
+abbrev pub decreases-enter_item : goal.decreases-enter_item
+decreases-enter_item l = 3 * length l.rest.now + 1

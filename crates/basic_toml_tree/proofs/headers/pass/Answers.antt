@@ -1,6 +1,11 @@
-use Rattle.std.proofs.Common.{rules, arith}
+use Rattle.std.proofs.Common.{rules, sym, ap}
+use Rattle.basic_toml_clash.specs.Keyed.{with_value}
+use Rattle.basic_toml_clash.proofs.KeysSeen.{length-with_value}
 use Rattle.basic_toml_tree.specs.declared.item.Item.{the_lemmas}
 use Rattle.basic_toml_tree.specs.declared.item.Item.TheViews.{out-roll-Table}
+use Rattle.basic_toml_tree.specs.Item.{no_child}
+use Rattle.basic_toml_tree.specs.Headers.{holding}
+use Rattle.basic_toml_tree.proofs.ItemTries.{no_child_trie}
 use Rattle.basic_toml_tree.proofs.headers.pass.Goals as goal
 
 pub returns : goal.returns
@@ -8,14 +13,18 @@ returns c = record {
   passed = search (rules, the_lemmas);
   named = search (rules, the_lemmas);
   dotted = search (rules, the_lemmas);
-  blank = c.nothing.result;
-  is_nothing = c.nothing.ensures;
+  blank = no_child;
+  is_nothing = no_child_trie;
   entries = c.enter.new.self;
   entered = c.in_ok-position.ensures.entered;
-  stands = search (rules, the_lemmas, c.replace-there.ensures.value);
-  other = c.nothing-2.result;
-  left = search (rules, the_lemmas, c.replace-there.ensures.changed);
+  child = c.value_mut-child.result.now;
+  stands = simp out-roll-Table at c.value_mut-child.ensures.value;
+  item = sym c.replace-there.ensures.value;
+  left =
+      simp out-roll-Table
+      (ap (λ i. with_value c.enter.new.self c.in_ok-position.position (holding c.value_mut-child.result.now i))
+      c.replace-there.ensures.after);
   within =
       simp out-roll-Table
-      (omega (arith, simp out-roll-Table at c.replace-there.ensures.count, c.in_ok-position.ensures.within));
+      (rw (length-with_value c.enter.new.self c.in_ok-position.position _) c.in_ok-position.ensures.within);
 }

@@ -1,5 +1,6 @@
-use Rattle.std.proofs.Common.{rules}
+use Rattle.std.proofs.Common.{rules, ap}
 use Rattle.basic_toml_tree.specs.declared.item.Item.{the_lemmas}
+use Rattle.basic_toml_tree.specs.declared.item.Item.TheViews.{out-roll-Table}
 use Rattle.basic_toml_tree.proofs.headers.put_back.Goals as goal
 
 pub returns : goal.returns
@@ -7,5 +8,7 @@ returns c = record {
   passed = search (rules, the_lemmas);
   named = search (rules, the_lemmas);
   dotted = search (rules, the_lemmas);
-  entries = search (rules, the_lemmas, c.put.ensures.changed);
+  child = c.value_mut-child.result.now;
+  stands = c.value_mut-child.ensures.value;
+  entries = ap (λ o. o.entries) (out-roll-Table _);
 }

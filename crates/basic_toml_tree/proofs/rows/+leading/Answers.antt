@@ -3,7 +3,8 @@ use Rattle.std.proofs.lemmas.Result.{err_from_is_err_and}
 use Rattle.basic_toml_grammar.specs.Marks.{dotted, valued}
 use Rattle.basic_toml_grammar.specs.Entering.{and_then}
 use Rattle.basic_toml_grammar.specs.Trie.{mark_here, put_row}
-use Rattle.basic_toml_tree.specs.Item.{child_trie, table_trie}
+use Rattle.basic_toml_tree.specs.Item.{child_trie, no_child, table_trie}
+use Rattle.basic_toml_tree.proofs.ItemTries.{no_child_trie}
 use Rattle.basic_toml_tree.specs.Rows.{key_texts}
 use Rattle.basic_toml_tree.proofs.RowsEntered.{boxed_trie, is_met, is_met_on, entered_by, no_texts, first_text}
 use Rattle.basic_toml_tree.proofs.RowsEntered.{row_on, step_put, step_put_back, step_refused, stands_in}
@@ -32,8 +33,8 @@ enter_row-returns-in-Some-what_is_met-clause-entered t c = λ d is_leaf.
     (ap (λ ks. put_row (ks ++ c.args.last.now ∷ []) d (table_trie c.args.table.value)) (no_texts c.args.keys.now
     c.in_default.ensures.cases)
     ∙ ap (λ t. put_row (c.args.last.now ∷ []) d (table_trie t)) (sym c.deref_mut.ensures.value)
-    ∙ step_refused c.deref_mut.result.now c.args.last.now c.nothing.result c.enter.new.self c.in_ok-position.position
-    c.nothing.ensures c.in_ok-position.ensures.entered c.value.result.now stands (λ t. mark_here (valued d) t)
+    ∙ step_refused c.deref_mut.result.now c.args.last.now no_child c.enter.new.self c.in_ok-position.position
+    no_child_trie c.in_ok-position.ensures.entered c.value.result.now stands (λ t. mark_here (valued d) t)
     (c.in-Some-what_is_met.ensures.stands d))
 
 pub enter_row-returns-in_default-clause-entered : goal.enter_row-returns-in_default-clause-entered
@@ -43,8 +44,8 @@ enter_row-returns-in_default-clause-entered t c = λ d is_leaf.
     ap (λ ks. put_row (ks ++ c.args.last.now ∷ []) d (table_trie c.args.table.value)) (no_texts c.args.keys.now
     c.in_default.ensures.cases)
     ∙ ap (λ t. put_row (c.args.last.now ∷ []) d (table_trie t)) (sym c.deref_mut.ensures.value)
-    ∙ step_put c.deref_mut.result.now c.args.last.now c.nothing.result c.enter.new.self c.in_ok-position.position
-    c.nothing.ensures c.in_ok-position.ensures.entered c.value.result.now stands (λ t. mark_here (valued d) t)
+    ∙ step_put c.deref_mut.result.now c.args.last.now no_child c.enter.new.self c.in_ok-position.position
+    no_child_trie c.in_ok-position.ensures.entered c.value.result.now stands (λ t. mark_here (valued d) t)
     c.args.child c.deref_mut-in_default.result.now c.put.new.self
     (ap (mark_here (valued d)) c.in_default-what_is_met.ensures.stands ∙ ap Some (sym is_leaf))
     c.deref_mut-in_default.ensures.value c.put.ensures.changed
@@ -68,8 +69,8 @@ enter_row-returns-in_err-extended-clause-entered t c = λ d is_leaf.
     c.in-Some.rest.now c.in-Some.ensures.cases.0)
     ∙ ap (λ t. put_row (key ∷ (rest ++ last ∷ [])) d (table_trie t)) (sym c.deref_mut-2.ensures.value)
     ∙ row_on key rest last d (table_trie c.deref_mut-2.result.now)
-    ∙ step_refused c.deref_mut-2.result.now key c.nothing-2.result c.enter-2.new.self c.in_ok-position-2.position
-    c.nothing-2.ensures (entered_by {new = c.enter-2.new.self} c.as_str.ensures.value
+    ∙ step_refused c.deref_mut-2.result.now key no_child c.enter-2.new.self c.in_ok-position-2.position
+    no_child_trie (entered_by {new = c.enter-2.new.self} c.as_str.ensures.value
     c.in_ok-position-2.ensures.entered) c.replace-there.result stands
     (λ t. and_then (mark_here dotted t) (λ t. put_row (rest ++ last ∷ []) d t)) refused))
 
@@ -86,11 +87,11 @@ enter_row-returns-clause-entered t c = λ d is_leaf.
     c.in-Some.rest.now c.in-Some.ensures.cases.0)
     ∙ ap (λ t. put_row (key ∷ (rest ++ last ∷ [])) d (table_trie t)) (sym c.deref_mut-2.ensures.value)
     ∙ row_on key rest last d (table_trie c.deref_mut-2.result.now)
-    ∙ step_put_back c.deref_mut-2.result.now key c.nothing-2.result c.enter-2.new.self c.in_ok-position-2.position
-    c.nothing-2.ensures (entered_by {new = c.enter-2.new.self} c.as_str.ensures.value
+    ∙ step_put_back c.deref_mut-2.result.now key no_child c.enter-2.new.self c.in_ok-position-2.position
+    no_child_trie (entered_by {new = c.enter-2.new.self} c.as_str.ensures.value
     c.in_ok-position-2.ensures.entered) c.replace-there.result stands
     (λ t. and_then (mark_here dotted t) (λ t. put_row (rest ++ last ∷ []) d t))
-    c.in_ok-extended.extended c.nothing-3.result c.deref_mut-3.result.now c.deref_mut-4.result.now
+    c.in_ok-extended.extended c.nothing.result c.deref_mut-3.result.now c.deref_mut-4.result.now
     c.replace-there.new.self c.put-2.new.self (c.in_ok-extended.ensures.entered d is_leaf)
     c.deref_mut-3.ensures.value c.replace-there.ensures.changed c.deref_mut-4.ensures.value c.put-2.ensures.changed
 
@@ -103,8 +104,8 @@ enter_row-returns-in-Some-what_is_met-clause-named t c = λ d is_leaf.
     subst (λ (ks : List Key). TellsRow ks last d (table_trie c.args.table.value) met)
     (sym (no_keys c.args.keys.now c.in_default.ensures.cases))
     (subst (λ (t : Table). TellsRow [] last d (table_trie t) met) c.deref_mut.ensures.value
-    (last_told c.deref_mut.result.now last c.nothing.result c.enter.new.self c.in_ok-position.position
-    c.nothing.ensures c.in_ok-position.ensures.entered c.value.result.now stands met d
+    (last_told c.deref_mut.result.now last no_child c.enter.new.self c.in_ok-position.position
+    no_child_trie c.in_ok-position.ensures.entered c.value.result.now stands met d
     c.in-Some-what_is_met.ensures.named))
 
 pub enter_row-returns-in_err-extended-clause-named : goal.enter_row-returns-in_err-extended-clause-named
@@ -122,8 +123,8 @@ enter_row-returns-in_err-extended-clause-named t c =
     (sym c.in-Some.ensures.cases.0)
     (subst (λ (t : Table). TellsRow (line_keys (row ∷ c.in-Some.rest.now)) last d (table_trie t) met)
     c.deref_mut-2.ensures.value
-    (row_told c.deref_mut-2.result.now key c.nothing-2.result c.enter-2.new.self c.in_ok-position-2.position
-    c.nothing-2.ensures (entered_by {new = c.enter-2.new.self} c.as_str.ensures.value
+    (row_told c.deref_mut-2.result.now key no_child c.enter-2.new.self c.in_ok-position-2.position
+    no_child_trie (entered_by {new = c.enter-2.new.self} c.as_str.ensures.value
     c.in_ok-position-2.ensures.entered) c.replace-there.result stands met (lined_of row).key
     (line_keys c.in-Some.rest.now) last d (row_key row) (c.in_err-extended.ensures.named d is_leaf))))
 
@@ -166,8 +167,8 @@ pub enter_row-returns-in_default-clause-origins : goal.enter_row-returns-in_defa
 enter_row-returns-in_default-clause-origins t c =
     let stands = stands_in c.deref_mut.result.now c.deref.result.now c.enter.new.self c.in_ok-position.position
     c.value.result.now c.deref.ensures c.value.ensures in
-    origins_put c.deref_mut.result.now c.args.last.now c.nothing.result c.value.result.now c.args.child c.enter.new.self
-    c.in_ok-position.position c.nothing.ensures c.in_ok-position.ensures.entered stands
+    origins_put c.deref_mut.result.now c.args.last.now no_child c.value.result.now c.args.child c.enter.new.self
+    c.in_ok-position.position no_child_trie c.in_ok-position.ensures.entered stands
     (child_origins c.args.child)
     (comes_first c.value.result.now (child_origins c.args.child) c.in_default-what_is_met.ensures.stands)
     c.deref_mut-in_default.result.now c.put.new.self c.deref_mut-in_default.ensures.value c.put.ensures.changed
@@ -187,11 +188,11 @@ enter_row-returns-clause-origins t c =
     let stands = stands_in c.deref_mut-2.result.now c.deref_mut-3.result.now c.enter-2.new.self
     c.in_ok-position-2.position
     c.replace-there.result c.deref_mut-3.ensures.value c.replace-there.ensures.value in
-    origins_put_back c.deref_mut-2.result.now key c.nothing-2.result c.replace-there.result c.in_ok-extended.extended
-    c.enter-2.new.self c.in_ok-position-2.position c.nothing-2.ensures
+    origins_put_back c.deref_mut-2.result.now key no_child c.replace-there.result c.in_ok-extended.extended
+    c.enter-2.new.self c.in_ok-position-2.position no_child_trie
     (entered_by {new = c.enter-2.new.self} c.as_str.ensures.value c.in_ok-position-2.ensures.entered) stands
     (entry dotted (row_origins (rest ++ last ∷ []) dotted below))
-    c.in_ok-extended.ensures.origins c.nothing-3.result c.deref_mut-3.result.now c.deref_mut-4.result.now
+    c.in_ok-extended.ensures.origins c.nothing.result c.deref_mut-3.result.now c.deref_mut-4.result.now
     c.replace-there.new.self c.put-2.new.self c.deref_mut-3.ensures.value c.replace-there.ensures.changed
     c.deref_mut-4.ensures.value c.put-2.ensures.changed
     ∙ ap (λ t. with_more (table_within t) (beyond (steps.key key) (entry dotted (row_origins (rest ++ last ∷ []) dotted
