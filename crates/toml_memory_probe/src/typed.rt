@@ -52,7 +52,7 @@ impl<'de> Deserialize<'de> for Package {
 }
 
 /// Reads a text as each of some types, and shows the value or the error.
-pub fn each(rt: &impl Print, alloc: Global, text: &str) -> io::Result<()> {
+pub(crate) fn each(rt: &impl Print, alloc: Global, text: &str) -> io::Result<()> {
     as_package(rt, alloc, text)?;
     as_strict(rt, alloc, text)?;
     as_lower(rt, alloc, text)?;

@@ -1,7 +1,7 @@
 // Texts with their trees and clashes.
+use crate::show::{push_table, push_value};
 use basic_toml_read::{ReadError, ReadErrorKind, sections};
 use basic_toml_tree::resolve;
-use basic_toml_value::Value;
 use std::alloc::{AllocError, Global};
 use std::test::Fail;
 
@@ -15,59 +15,6 @@ pub(crate) fn push_offset(out: &mut String, offset: Option<usize>) -> Result<(),
 
 // More than there are levels here.
 const LEVELS: usize = 300;
-
-#[cycle(data)]
-fn push_value(out: &mut String, value: &Value, levels: usize) -> Result<(), AllocError> {
-    if levels == 0 {
-        return Ok(());
-    }
-    match value {
-        Value::Integer(number) => {
-            let number = *number;
-            write!(out, "{number}")
-        }
-        Value::Float(float) => out.push_str(float.as_str()),
-        Value::Boolean(truth) => {
-            let truth = *truth;
-            write!(out, "{truth}")
-        }
-        Value::String(text) => {
-            let text = text.as_str();
-            write!(out, "'{text}'")
-        }
-        Value::Array(values) => {
-            out.push('[')?;
-            for (at, value) in values.iter().enumerate() {
-                if at > 0 {
-                    out.push(' ')?;
-                }
-                push_value(out, value, levels - 1)?;
-            }
-            out.push(']')
-        }
-        Value::Table(table) => push_table(out, table, levels - 1),
-    }
-}
-
-#[cycle(data)]
-pub(crate) fn push_table(
-    out: &mut String,
-    table: &basic_toml_value::Table,
-    levels: usize,
-) -> Result<(), AllocError> {
-    if levels == 0 {
-        return Ok(());
-    }
-    out.push('{')?;
-    for (at, (key, value)) in table.iter().enumerate() {
-        if at > 0 {
-            out.push(' ')?;
-        }
-        write!(out, "{key}:")?;
-        push_value(out, value, levels - 1)?;
-    }
-    out.push('}')
-}
 
 fn push_kind(out: &mut String, kind: &ReadErrorKind) -> Result<(), AllocError> {
     match kind {

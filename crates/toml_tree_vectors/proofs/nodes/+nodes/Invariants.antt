@@ -1,5 +1,5 @@
 use Rattle.std.proofs.Common.{◌+◌, ◌*◌}
-use Rattle.toml_reader_vectors.proofs.nodes.+nodes.Given as goal
+use Rattle.toml_tree_vectors.proofs.nodes.+nodes.Given as goal
 
 abbrev pub decreases-push_node : goal.decreases-push_node
 decreases-push_node l = 100 * l.levels

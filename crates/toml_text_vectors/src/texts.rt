@@ -1,10 +1,10 @@
 // Whole texts through `from_str`: the table that each gives, or the text of its error.
 mod refused;
 
-use crate::tree::push_table;
 use basic_toml::{Table, from_str};
 use std::alloc::{AllocError, Global};
 use std::test::Fail;
+use toml_tree_vectors::show::push_table;
 
 // More than there are levels here.
 const LEVELS: usize = 20;

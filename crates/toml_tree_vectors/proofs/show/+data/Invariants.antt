@@ -1,4 +1,4 @@
-use Rattle.toml_reader_vectors.proofs.tree.+data.Given as goal
+use Rattle.toml_tree_vectors.proofs.show.+data.Given as goal
 
 abbrev pub decreases-push_value : goal.decreases-push_value
 decreases-push_value l = l.levels

@@ -1,5 +1,6 @@
 // Section lists that a caller reorders or joins: their trees, or the clash that is named.
-use crate::tree::{push_error, push_table};
+use crate::show::push_table;
+use crate::tree::push_error;
 use basic_toml_read::{Section, sections};
 use basic_toml_tree::resolve;
 use std::alloc::{AllocError, Global};
