@@ -108,8 +108,7 @@ pub same_mapped : (e w : Option Trie) → e ≡ w → e ≡ option_map (λ t. t)
 same_mapped e None is = is
 same_mapped e (Some t) is = is
 
-pub holds_table : (i : items.Item) (t : Box Table Global) → i ≡ items.Table t
-    → item_trie i ≡ table_trie t.value
+pub holds_table : (i : items.Item) (t : Box Table Global) → i ≡ items.Table t → item_trie i ≡ table_trie t.value
 holds_table i t is = ap item_trie is ∙ table_item_trie t
 
 pub holds_tables : (i : items.Item) (b : Vec Table Global) (latest : Box Table Global) → i ≡ Tables b latest
@@ -149,12 +148,11 @@ other_is_leaf i no_nothing no_table no_tables = go (out-Item i) refl
         ∙ search (rules, the_lemmas)))
 
 pub value_bars : (a : Bool) (rows : Rows) (keys : KeyTexts) (i : items.Item) (d : Data)
-    → item_trie i ≡ leaf d
-    → entered_by a rows keys (item_trie i) ≡ None
-value_bars a rows keys i d is =
-    ap (entered_by a rows keys) is ∙ walk_barred a rows keys (Some d) no_tries
+    → item_trie i ≡ leaf d → entered_by a rows keys (item_trie i) ≡ None
+value_bars a rows keys i d is = ap (entered_by a rows keys) is ∙ walk_barred a rows keys (Some d) no_tries
 
-pub other_bars : (a : Bool) (rows : Rows) (keys : KeyTexts) (i : items.Item) → (i ≡ Nothing → ⊥) → ((t : Box Table Global) → i ≡ items.Table t → ⊥)
+pub other_bars : (a : Bool) (rows : Rows) (keys : KeyTexts) (i : items.Item)
+    → (i ≡ Nothing → ⊥) → ((t : Box Table Global) → i ≡ items.Table t → ⊥)
     → ((b : Vec Table Global) (latest : Box Table Global) → i ≡ Tables b latest → ⊥)
     → entered_by a rows keys (item_trie i) ≡ None
 other_bars a rows keys i no_nothing no_table no_tables =

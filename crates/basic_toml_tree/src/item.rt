@@ -5,7 +5,7 @@ ghost use Rattle.basic_toml_grammar.specs.Standing.{table as table_standing};
 ghost use Rattle.basic_toml_grammar.specs.Trie.{trie, nothing, no_tries};
 ghost use Rattle.basic_toml_tree.specs.declared.item.Child.{out-Child};
 ghost use Rattle.basic_toml_tree.specs.declared.item.Table.{out-Table};
-ghost use Rattle.basic_toml_tree.specs.Item.{item_trie, child_trie, table_trie};
+ghost use Rattle.basic_toml_tree.specs.Item.{item_trie, child_trie, no_child, table_trie};
 ghost use Rattle.basic_toml_tree.specs.Origins.{item_origins, child_origins};
 
 use basic_toml_clash::{Blank, Keyed};
@@ -82,8 +82,6 @@ impl<'de> Child<'de> {
 }
 
 impl<'de> Blank for Child<'de> {
-    ghost use Rattle.basic_toml_tree.specs.Item.{no_child};
-
     ghost blank = { no_child };
 
     fn blank(_alloc: Global) -> Child<'de> {

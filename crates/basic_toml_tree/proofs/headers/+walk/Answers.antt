@@ -1,4 +1,4 @@
-use Rattle.std.proofs.Common.{◌≡◌, ℕ, ◌≤◌, ◌∷◌, ◌+◌, length, suc, ap, sym, ◌∙◌, arith, map, subst, refl, inr}
+use Rattle.std.proofs.Common.{◌≡◌, ℕ, ◌≤◌, ◌∷◌, ◌+◌, length, suc, ap, sym, ◌∙◌, arith, map, subst, inr}
 use Rattle.std.specs.Prelude.{IfOk, IfErr}
 use Rattle.basic_toml_grammar.specs.Trie.{walk, steps_to}
 use Rattle.basic_toml_grammar.specs.TrieStops.{try_by_keys}
