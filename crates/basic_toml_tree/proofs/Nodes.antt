@@ -7,3 +7,5 @@ pub mod LastSection
 pub mod MadeNodes
 pub mod RowNodesTold
 pub mod PlacesTold
+pub mod KeysLead
+pub mod KeysTold

@@ -9,4 +9,5 @@ pub mod Headers
 pub mod Ways
 pub mod Resolve
 pub mod Order
+pub mod Keys
 pub mod Stands

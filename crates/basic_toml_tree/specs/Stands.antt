@@ -24,6 +24,7 @@ use Rattle.basic_toml_tree.specs.Origin.{spot_is_made, spot_name}
 use Rattle.basic_toml_tree.specs.Origins.{Origin, Origins, item_origins, table_within}
 use Rattle.basic_toml_tree.specs.Nodes.{node_data, elements_left, key_and_data, entries_left}
 use Rattle.basic_toml_tree.specs.Resolve.{IsResolved}
+use Rattle.basic_toml_tree.specs.Keys.{KeysLead}
 
 -- what is at a path of a trie
 abbrev pub trie_at : Path → Trie → Trie
@@ -63,11 +64,12 @@ pub record IsBelow (from : Node) (t : Trie) (node : Node) : Type 0 where
   pub trie : spot_trie node.spot ≡ t
   pub own : wraps_table node.spot ≡ false
 
--- a node in the tree of another one, with as many keys that lead to it
+-- a node in the tree of another one, with the keys that lead to it
 pub record IsBeside (from : Node) (here : Spot) (node : Node) : Type 0 where
   pub tree : node.tree ≡ from.tree
   pub count : node.count ≡ from.count
   pub spot : node.spot ≡ here
+  pub trail : node.trail ≡ from.trail
 
 abbrev pub is_root : Path → Bool
 is_root [] = true
@@ -108,6 +110,7 @@ pub record StandsAt (tree : Tree) (p : Path) (node : Node) : Type 0 where
   pub there : (trie_at p (tree_trie tree) ≡ nothing)
       ⊎ ((spot_trie node.spot ≡ trie_at p (tree_trie tree)) × (wraps_table node.spot ≡ false))
   pub comes : ComesFrom (λ q. tree_origins tree (p ++ q)) node
+  pub keys : KeysLead tree p node
 
 -- where the one stands at a path, the other stands there and one step further
 abbrev pub StandsOn : Node → Step → Node → Type 0

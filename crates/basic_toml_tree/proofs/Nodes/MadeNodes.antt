@@ -69,13 +69,13 @@ array_in_trie sections t (inr none) p =
     go [] = refl
     go (s ∷ p) = ap (λ t. stands_array (standing t)) (none_below p)
 
-abbrev made_name : Bool → List ℕ
+abbrev pub made_name : Bool → List ℕ
 made_name b = if b then codes "array" else codes "table"
 
 -- that headers made what is here, its name, and that it is no array literal
-record IsMade (count : ℕ) (spot : Spot) : Type 0 where
-  made : spot_is_made count spot ≡ true
-  name : spot_name count spot ≡ made_name (stands_array (standing (spot_trie spot)))
+pub record IsMade (count : ℕ) (spot : Spot) : Type 0 where
+  pub made : spot_is_made count spot ≡ true
+  pub name : spot_name count spot ≡ made_name (stands_array (standing (spot_trie spot)))
 
 item_made : (count : ℕ) (b : Bor Item) (x : Item-F Item Child Table) (o : Option Standing) → out-Item b.now ≡ x
     → item_standing x o → standing (item_trie b.now) ≡ o → is_wrapper x ≡ false → stands_made o ≡ true
@@ -105,7 +105,7 @@ table_made count b made =
     }
 
 -- what stands as made, and the root
-spot_made : (count : ℕ) (spot : Spot) → wraps_table spot ≡ false → stands_made (standing (spot_trie spot)) ≡ true
+pub spot_made : (count : ℕ) (spot : Spot) → wraps_table spot ≡ false → stands_made (standing (spot_trie spot)) ≡ true
     → IsMade count spot
 spot_made count (spots.Table b) own made = table_made count b (or_right _ _ made)
 spot_made count (spots.Item b) own made =
@@ -175,7 +175,7 @@ last_heads (x ∷ w ∷ xs) (y ∷ []) same = absurd (cc)
 last_heads (x ∷ w ∷ xs) (y ∷ z ∷ ys) same =
     let rest : map head (w ∷ xs) ≡ map head (z ∷ ys) = cc in last_heads (w ∷ xs) (z ∷ ys) rest
 
-foretold : (sections : List Section) (p : Path) (node : Node) (P : grammar.Node → Type 0)
+pub foretold : (sections : List Section) (p : Path) (node : Node) (P : grammar.Node → Type 0)
     → (IsNodeAt sections p node → grammar.is_made (located sections) p ≡ true
     → P (grammar.made_node (located sections) (grammar.last_at sections) p))
     → ForetoldMade sections p node P

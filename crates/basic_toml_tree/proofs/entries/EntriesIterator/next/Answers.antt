@@ -6,6 +6,7 @@ use Rattle.basic_toml_tree.specs.Nodes.{node_data, entries_in, entries_left, key
 use Rattle.basic_toml_tree.specs.Stands.{HoldsTable}
 use Rattle.basic_toml_tree.proofs.Nodes.NodesInOrder.{drop_next, drop_past, pair_read, mapped_length, table_entries, progress}
 use Rattle.basic_toml_tree.proofs.Nodes.NodesStand.{entry_stands}
+use Rattle.basic_toml_tree.proofs.Nodes.KeysTold.{key_keeps}
 use Rattle.basic_toml_tree.proofs.entries.EntriesIterator.next.Goals as goal
 
 pub returns-then-at-len-clause-steps : goal.returns-then-at-len-clause-steps
@@ -38,7 +39,9 @@ returns-clause-steps c =
       first c,
       entry_stands c.args.self.now.table c.below.result c.in_ok-table.table.now c.args.self.now.at c.key-key.result.now
           c.value.result.now holds c.keys_differ.ensures c.key-key.ensures c.value.ensures c.below.ensures.below
-          c.below.ensures.comes,
+          c.below.ensures.comes
+          (key_keeps c.args.self.now.table c.below.result c.key-key.result.now c.below.ensures.keys
+          c.below.ensures.count),
       refl,
     )
 
