@@ -9,3 +9,4 @@ pub mod RowNodesTold
 pub mod PlacesTold
 pub mod KeysLead
 pub mod KeysTold
+pub mod RowKeys

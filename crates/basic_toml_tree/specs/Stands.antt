@@ -24,7 +24,7 @@ use Rattle.basic_toml_tree.specs.Origin.{spot_is_made, spot_name}
 use Rattle.basic_toml_tree.specs.Origins.{Origin, Origins, item_origins, table_within}
 use Rattle.basic_toml_tree.specs.Nodes.{node_data, elements_left, key_and_data, entries_left}
 use Rattle.basic_toml_tree.specs.Resolve.{IsResolved}
-use Rattle.basic_toml_tree.specs.Keys.{KeysLead}
+use Rattle.basic_toml_tree.specs.Keys.{KeysLead, RowsLead}
 
 -- what is at a path of a trie
 abbrev pub trie_at : Path → Trie → Trie
@@ -111,6 +111,7 @@ pub record StandsAt (tree : Tree) (p : Path) (node : Node) : Type 0 where
       ⊎ ((spot_trie node.spot ≡ trie_at p (tree_trie tree)) × (wraps_table node.spot ≡ false))
   pub comes : ComesFrom (λ q. tree_origins tree (p ++ q)) node
   pub keys : KeysLead tree p node
+  pub rows : RowsLead tree p node
 
 -- where the one stands at a path, the other stands there and one step further
 abbrev pub StandsOn : Node → Step → Node → Type 0
@@ -157,3 +158,9 @@ Foretold sections p node says = IsNodeAt sections p node → IfSome (grammar.nod
 abbrev pub ForetoldMade : List Section → Path → Node → (grammar.Node → Type 0) → Type 0
 ForetoldMade sections p node says =
     IsNodeAt sections p node → grammar.is_made (located sections) p ≡ true → IfSome (grammar.node_at sections p) says
+
+-- what is said of an entry of a table that headers made
+abbrev pub ForetoldEntry : List Section → Path → List ℕ → Node → (grammar.Node → Type 0) → Type 0
+ForetoldEntry sections p k node says =
+    IsNodeAt sections (p ++ key k ∷ []) node → grammar.is_made (located sections) p ≡ true
+    → IfSome (grammar.node_at sections (p ++ key k ∷ [])) says

@@ -18,11 +18,12 @@ ghost use Rattle.basic_toml_tree.specs.Data.{table_data, child_data};
 ghost use Rattle.basic_toml_tree.specs.Nodes.{node_data, is_table, is_array, maybe_table, data_at};
 ghost use Rattle.basic_toml_tree.specs.Nodes.{elements_in, entries_in, elements_left, entries_left};
 ghost use Rattle.basic_toml_tree.specs.Origin.{is_made, spot_is_made, name_of, start_of, outer_of, offset_of, keys_of as key_path_of};
-ghost use Rattle.basic_toml_tree.specs.Stands.{IsNodeAt, Foretold, ForetoldMade};
+ghost use Rattle.basic_toml_tree.specs.Stands.{IsNodeAt, Foretold, ForetoldMade, ForetoldEntry};
 ghost use Rattle.basic_toml_tree.specs.Stands.{HoldsTable, IsBelow, IsBeside, IsTableBeside, AtKey, AtNumber, BeginsIn};
 ghost use Rattle.basic_toml_tree.specs.Stands.{ComesFrom};
 ghost use Rattle.basic_toml_tree.specs.Origins.{child_origins};
-ghost use Rattle.basic_toml_tree.specs.Keys.{header_at, GoesOn, CountsOn};
+ghost use Rattle.basic_toml_tree.specs.Keys.{header_at, GoesOn, CountsOn, BeginsRow};
+ghost use Rattle.basic_toml_tree.specs.declared.item.Child.{out-Child};
 ghost use Rattle.basic_toml_tree.specs.declared.trail.Trail.TheVariants as trails;
 
 use crate::entries::{Elements, Entries};
@@ -124,6 +125,7 @@ impl<'t, 'de> Node<'t, 'de> {
         ensures below { IsBelow self.entry (child_trie child.now) result }
         ensures comes { ComesFrom (child_origins child.now) result }
         ensures keys { GoesOn self.entry key.now result.spot result.trail }
+        ensures row { BeginsRow self.entry key.now (out-Child child.now).section result.spot result.trail }
         ensures count { CountsOn self.entry result.spot result.count }
     {
         let count = self.count.saturating_add(1);
@@ -149,6 +151,7 @@ impl<'t, 'de> Node<'t, 'de> {
     // The keys that lead to what stands at a key below this table, which this section first mentioned.
     fn trail_below(self, key: &'t str, section: usize, spot: Spot<'t, 'de>) -> Trail<'t>
         ensures keys { GoesOn self.entry key.now spot.entry result }
+        ensures row { BeginsRow self.entry key.now section spot.entry result }
         ensures within { (s : ℕ) → self.entry.trail ≡ trails.Header s → spot_is_made 1 spot.entry ≡ true
             → length (take self.entry.count (header_at self.entry.tree.now s)) < usize.MAX }
     {
@@ -376,6 +379,8 @@ impl<'t, 'de> Node<'t, 'de> {
     pub fn key_path(self, alloc: Global) -> Result<Vec<String>, AllocError>
         ensures is { IfOk result (λ path. map string_bytes path.items ≡ key_path_of self.entry) }
         ensures foretold { (sections : List Section) (p : Path) → ForetoldMade sections p self.entry
+            (λ node. IfOk result (λ path. map string_bytes path.items ≡ node.key_path)) }
+        ensures entries { (sections : List Section) (p : Path) (k : List ℕ) → ForetoldEntry sections p k self.entry
             (λ node. IfOk result (λ path. map string_bytes path.items ≡ node.key_path)) }
     {
         match self.trail {

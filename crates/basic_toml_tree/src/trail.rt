@@ -1,6 +1,7 @@
 //! Which keys lead to a node.
 
-ghost use Rattle.std.specs.Prelude.{◌≡◌, ◌<◌, ◌++◌, ◌∷◌, [], ℕ, IfOk, length, map, string_bytes, take};
+ghost use Rattle.std.specs.Prelude.{◌≡◌, ◌<◌, ◌++◌, ◌∷◌, [], ℕ, IfOk, MatchOption, Some, None, length, map};
+ghost use Rattle.std.specs.Prelude.{slice_get, string_bytes, take};
 ghost use Rattle.basic_toml_grammar.specs.Steps.{begins, steps_of};
 ghost use Rattle.basic_toml_read.specs.SectionView.{header_texts as keys_in};
 ghost use Rattle.basic_toml_tree.specs.Keys.{header_at, Leads};
@@ -22,7 +23,10 @@ pub(crate) fn first_key<'t, 'de>(
     tree: &'t Tree<'de>,
     section: usize,
     count: usize,
-) -> Option<&'t str> {
+) -> Option<&'t str>
+    ensures { MatchOption result (slice_get (header_at tree.now section) count ≡ None)
+        (λ key. slice_get (header_at tree.now section) count ≡ Some key.now) }
+{
     match tree.sections.get(section) {
         Some(section) => match section.header.get(count) {
             Some(key) => Some(key.text.as_str()),
@@ -33,7 +37,9 @@ pub(crate) fn first_key<'t, 'de>(
 }
 
 /// How many keys the header of a section has.
-pub(crate) fn header_len(tree: &Tree<'_>, section: usize) -> usize {
+pub(crate) fn header_len(tree: &Tree<'_>, section: usize) -> usize
+    ensures { result ≡ length (header_at tree.now section) }
+{
     match tree.sections.get(section) {
         Some(section) => section.header.len(),
         None => 0,

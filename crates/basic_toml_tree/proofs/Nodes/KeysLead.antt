@@ -1,5 +1,5 @@
 -- Headers that begin with keys.
-use Rattle.std.proofs.Common.{◌≡◌, ◌≤◌, ◌<◌, ℕ, zero, suc, Bool, true, false, List, [], ◌∷◌, ◌++◌, length, map, take, Some}
+use Rattle.std.proofs.Common.{◌≡◌, ◌≤◌, ◌<◌, ℕ, zero, suc, Bool, true, false, List, [], ◌∷◌, ◌++◌, length, map, take, Some, None}
 use Rattle.std.proofs.Common.{refl, ap, sym, ◌∙◌, arith, nat_lt, subst, get_or}
 use Rattle.std.specs.Prelude.{slice_get}
 use Rattle.std.proofs.lemmas.List.{take-map}
@@ -10,13 +10,13 @@ use Rattle.basic_toml_grammar.specs.IndexedPath.{Located, located}
 use Rattle.basic_toml_grammar.specs.Nodes.{is_made}
 use Rattle.basic_toml_grammar.proofs.Clash.PathsAgree.{append_none, keys-append}
 use Rattle.basic_toml_grammar.specs.Sections.{KeyTexts}
-use Rattle.basic_toml_grammar.specs.Steps.{Step, number, Path, step_eq, begins, steps_of, keys_of}
+use Rattle.basic_toml_grammar.specs.Steps.{Step, key, number, Path, step_eq, begins, steps_of, keys_of}
 use Rattle.basic_toml_read.specs.declared.section.Key.{Key}
 use Rattle.basic_toml_read.specs.declared.section.Section as code
 use Rattle.basic_toml_read.specs.SectionView.{header_texts, key_of}
 use Rattle.basic_toml_tree.specs.declared.tree.Tree.{Tree}
 use Rattle.basic_toml_tree.specs.Origin.{header_of}
-use Rattle.basic_toml_tree.specs.Keys.{header_at, Leads, KeepsHeader, KeysLead}
+use Rattle.basic_toml_tree.specs.Keys.{header_at, Leads, KeepsHeader, KeysLead, RowsLead}
 use Rattle.basic_toml_tree.specs.Stands.{StandsAt, IsBeside}
 use Rattle.basic_toml_tree.specs.declared.node.Node.{Node}
 use Rattle.basic_toml_tree.specs.declared.spot.Spot.{Spot}
@@ -43,6 +43,40 @@ pub header_there : (sections : List code.Section) (n : ℕ) (s : code.Section) �
 header_there [] n s within read = absurd (omega (arith, within))
 header_there (t ∷ sections) zero s within read = ap (λ s. header_texts s.header.items) (sym read)
 header_there (t ∷ sections) (suc n) s within read = header_there sections n s (omega (arith, within)) read
+
+-- the text of the key at a number, and past the last
+pub key_there : (keys : List Key) (n : ℕ) (k : Key) → n < length keys → k ≡ get_or keys n k
+    → slice_get (header_texts keys) n ≡ Some (key_of k).text
+key_there [] n k within read = absurd (omega (arith, within))
+key_there (l ∷ keys) zero k within read = ap (λ k. Some (key_of k).text) (sym read)
+key_there (l ∷ keys) (suc n) k within read = key_there keys n k (omega (arith, within)) read
+
+pub no_key : (keys : List Key) (n : ℕ) → length keys ≤ n → slice_get (header_texts keys) n ≡ None
+no_key [] n past = refl
+no_key (k ∷ keys) zero past = absurd (omega (arith, past))
+no_key (k ∷ keys) (suc n) past = no_key keys n (omega (arith, past))
+
+-- the key at a number of the first so many
+pub among_first : (keys : KeyTexts) (count n : ℕ) (k found : List ℕ) → n < count → slice_get keys n ≡ Some found
+    → found ≡ get_or (take count keys) n k
+among_first [] count n k found within there = absurd (cc)
+among_first (l ∷ keys) zero n k found within there = absurd (omega (arith, within))
+among_first (l ∷ keys) (suc count) zero k found within there = let same : l ≡ found = cc in sym same
+among_first (l ∷ keys) (suc count) (suc n) k found within there =
+    among_first keys count n k found (omega (arith, within)) there
+
+pub past_first : (keys : KeyTexts) (count n : ℕ) (k : List ℕ) → count ≤ n → k ≡ get_or (take count keys) n k
+past_first keys zero n k past = refl
+past_first [] (suc count) n k past = refl
+past_first (l ∷ keys) (suc count) zero k past = absurd (omega (arith, past))
+past_first (l ∷ keys) (suc count) (suc n) k past = past_first keys count n k (omega (arith, past))
+
+pub past_all : (keys : KeyTexts) (count n : ℕ) (k : List ℕ) → slice_get keys n ≡ None
+    → k ≡ get_or (take count keys) n k
+past_all keys zero n k none = refl
+past_all [] (suc count) n k none = refl
+past_all (l ∷ keys) (suc count) zero k none = absurd (cc)
+past_all (l ∷ keys) (suc count) (suc n) k none = past_all keys count n k none
 
 -- where none of the headers begins with the keys, none leads to them
 pub none_leads : (tree : Tree) (before : KeyTexts) (k : List ℕ) (count : ℕ) → length tree.sections.items ≤ count
@@ -100,7 +134,35 @@ keys_beside from node here n beside tree p stands sections resolved made =
           (subst (λ kept. KeepsHeader tree (keys_of p) kept) (sym beside.trail) before.keeps);
     }
 
+-- the last step of a path
+pub last_step : (p q : Path) (s t : Step) → p ++ s ∷ [] ≡ q ++ t ∷ [] → (p ≡ q) × (s ≡ t)
+last_step [] [] s t same = let one : s ≡ t = cc in (refl, one)
+last_step [] (r ∷ []) s t same = absurd (cc)
+last_step [] (r ∷ u ∷ q) s t same = absurd (cc)
+last_step (r ∷ []) [] s t same = absurd (cc)
+last_step (r ∷ u ∷ p) [] s t same = absurd (cc)
+last_step (r ∷ p) (u ∷ q) s t same =
+    let first : r ≡ u = cc in
+    let rest : p ++ s ∷ [] ≡ q ++ t ∷ [] = cc in
+    let ih = last_step p q s t rest in
+    (ap (λ r. r ∷ p) first ∙ ap (λ p. u ∷ p) ih.0, ih.1)
+
+-- at a number a row begins nothing
+pub rows_beside : (tree : Tree) (p : Path) (n : ℕ) (node : Node) → RowsLead tree (p ++ number n ∷ []) node
+rows_beside tree p n node sections resolved q k same made =
+    absurd (other (last_step p q (number n) (key k) same).1)
+  where
+    other : number n ≡ key k → ⊥
+    other e = cc
+
 -- the root, to which no key leads
+pub root_rows : (tree : Tree) (node : Node) → RowsLead tree [] node
+root_rows tree node sections resolved q k same made = absurd (other q same)
+  where
+    other : (q : Path) → [] ≡ q ++ key k ∷ [] → ⊥
+    other [] e = cc
+    other (s ∷ q) e = cc
+
 pub root_keys : (tree : Tree) (node : Node) → node.count ≡ 0 → node.trail ≡ Header 0 → KeysLead tree [] node
 root_keys tree node none kept sections resolved made = record {
   count = none;

@@ -21,17 +21,17 @@ use Rattle.basic_toml_tree.proofs.Nodes.MadeNodes.{made_name_told, made_start_to
 use Rattle.basic_toml_tree.proofs.Origins.RowsAreNodes.{Same, of_node, of_origin, sections_same}
 
 -- the list's sections, where they stand
-located_any : (f : Section → Bool) (before ss : List Section)
+pub located_any : (f : Section → Bool) (before ss : List Section)
     → list_any (λ l. f l.section) (located_from before ss) ≡ list_any f ss
 located_any f before [] = refl
 located_any f before (s ∷ ss) = ap (λ b. f s || b) (located_any f (s ∷ before) ss)
 
-located_keyed : (before ss : List Section)
+pub located_keyed : (before ss : List Section)
     → list_all (λ l. keyed_within l.section.rows) (located_from before ss) ≡ all_keyed_within ss
 located_keyed before [] = refl
 located_keyed before (s ∷ ss) = ap (λ b. keyed_within s.rows && b) (located_keyed (s ∷ before) ss)
 
-no_row_clash : (a b : Bool) → (a || b) ≡ false → a ≡ false
+pub no_row_clash : (a b : Bool) → (a || b) ≡ false → a ≡ false
 no_row_clash false b e = refl
 no_row_clash true b e = absurd (cc)
 
@@ -75,7 +75,7 @@ row_told sections (r ∷ p) node is not =
     (sections_origins 0 ls (r ∷ p)) same own)
 
 -- what every node tells
-some_then : {A : Type 0} (o : Option A) (P Q : A → Type 0) → ((x : A) → P x → Q x) → IfSome o P → IfSome o Q
+pub some_then : {A : Type 0} (o : Option A) (P Q : A → Type 0) → ((x : A) → P x → Q x) → IfSome o P → IfSome o Q
 some_then None P Q f p = tt
 some_then (Some x) P Q f p = f x p
 

@@ -40,8 +40,9 @@ returns-clause-steps c =
       entry_stands c.args.self.now.table c.below.result c.in_ok-table.table.now c.args.self.now.at c.key-key.result.now
           c.value.result.now holds c.keys_differ.ensures c.key-key.ensures c.value.ensures c.below.ensures.below
           c.below.ensures.comes
-          (key_keeps c.args.self.now.table c.below.result c.key-key.result.now c.below.ensures.keys
-          c.below.ensures.count),
+          (key_keeps c.args.self.now.table c.below.result c.key-key.result.now c.value.result.now
+          c.below.ensures.keys c.below.ensures.count c.below.ensures.row c.below.ensures.comes
+          c.below.ensures.below.count),
       refl,
     )
 

@@ -23,4 +23,5 @@ pub returns-clause-stands : goal.returns-clause-stands
 returns-clause-stands c =
     key_stands c.args.self c.below.result c.in-Some-Some.table.now c.args.key.now c.in-Some.pair.now.value (search (rules))
     c.in-Some.ensures.value c.below.ensures.below c.below.ensures.comes
-    (key_keeps c.args.self c.below.result c.args.key.now (search (rules)) c.below.ensures.count)
+    (key_keeps c.args.self c.below.result c.args.key.now c.in-Some.pair.now.value (search (rules)) c.below.ensures.count
+    (search (rules)) c.below.ensures.comes c.below.ensures.below.count)
