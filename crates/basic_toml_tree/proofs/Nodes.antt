@@ -12,3 +12,6 @@ pub mod LinesOfRows
 pub mod OuterNodes
 pub mod OuterStands
 pub mod OuterTold
+pub mod KeysLead
+pub mod KeysTold
+pub mod RowKeys

@@ -10,4 +10,5 @@ pub mod Ways
 pub mod Outer
 pub mod Resolve
 pub mod Order
+pub mod Keys
 pub mod Stands

@@ -25,6 +25,7 @@ use Rattle.basic_toml_tree.specs.Origins.{Origin, Origins, item_origins, table_w
 use Rattle.basic_toml_tree.specs.Nodes.{node_data, elements_left, key_and_data, entries_left}
 use Rattle.basic_toml_tree.specs.Outer.{around, KeepsStart}
 use Rattle.basic_toml_tree.specs.Resolve.{IsResolved}
+use Rattle.basic_toml_tree.specs.Keys.{KeysLead, RowsLead}
 
 -- what is at a path of a trie
 abbrev pub trie_at : Path → Trie → Trie
@@ -64,12 +65,13 @@ pub record IsBelow (from : Node) (t : Trie) (node : Node) : Type 0 where
   pub trie : spot_trie node.spot ≡ t
   pub own : wraps_table node.spot ≡ false
 
--- a node in the tree of another one, with as many keys that lead to it, and the same table around it
+-- a node in the tree of another one, with the keys that lead to it, and the same table around it
 pub record IsBeside (from : Node) (here : Spot) (node : Node) : Type 0 where
   pub tree : node.tree ≡ from.tree
   pub count : node.count ≡ from.count
   pub spot : node.spot ≡ here
   pub outer : node.outer ≡ from.outer
+  pub trail : node.trail ≡ from.trail
 
 abbrev pub is_root : Path → Bool
 is_root [] = true
@@ -115,6 +117,8 @@ pub record StandsAt (tree : Tree) (p : Path) (node : Node) : Type 0 where
       ⊎ ((spot_trie node.spot ≡ trie_at p (tree_trie tree)) × (wraps_table node.spot ≡ false))
   pub comes : ComesFrom (λ q. tree_origins tree (p ++ q)) node
   pub outer : StartIsKept tree (around p) node.outer
+  pub keys : KeysLead tree p node
+  pub rows : RowsLead tree p node
 
 -- where the one stands at a path, the other stands there and one step further
 abbrev pub StandsOn : Node → Step → Node → Type 0
@@ -161,3 +165,9 @@ Foretold sections p node says = IsNodeAt sections p node → IfSome (grammar.nod
 abbrev pub ForetoldMade : List Section → Path → Node → (grammar.Node → Type 0) → Type 0
 ForetoldMade sections p node says =
     IsNodeAt sections p node → grammar.is_made (located sections) p ≡ true → IfSome (grammar.node_at sections p) says
+
+-- what is said of an entry of a table that headers made
+abbrev pub ForetoldEntry : List Section → Path → List ℕ → Node → (grammar.Node → Type 0) → Type 0
+ForetoldEntry sections p k node says =
+    IsNodeAt sections (p ++ key k ∷ []) node → grammar.is_made (located sections) p ≡ true
+    → IfSome (grammar.node_at sections (p ++ key k ∷ [])) says

@@ -55,6 +55,6 @@ impl<'t, 'de> Iterator for Entries<'t, 'de> {
         table.entries.keys_differ();
         self.at += 1;
         let key = table.entries.key(at);
-        Some((key, self.table.below(table, key, table.entries.value(at))))
+        Some((key, self.table.below(key, table.entries.value(at))))
     }
 }

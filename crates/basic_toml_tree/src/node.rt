@@ -1,6 +1,6 @@
 //! The nodes of a tree.
 
-ghost use Rattle.std.specs.Prelude.{◌≡◌, ◌<◌, ◌≤◌, true, false, List, Some, None, IsSome, IfSome, IsTrue, IfOk, IfErr};
+ghost use Rattle.std.specs.Prelude.{◌≡◌, ◌<◌, ◌≤◌, true, ℕ, take, false, List, Some, None, IsSome, IfSome, IsTrue, IfOk, IfErr};
 ghost use Rattle.std.specs.Prelude.{MatchOption, length, map, slice_get, string_bytes};
 ghost use Rattle.std.specs.Option.{option_copied};
 ghost use Rattle.std.specs.Cow.{cow_str_bytes};
@@ -17,17 +17,20 @@ ghost use Rattle.basic_toml_tree.specs.Item.{child_trie};
 ghost use Rattle.basic_toml_tree.specs.Data.{table_data, child_data};
 ghost use Rattle.basic_toml_tree.specs.Nodes.{node_data, is_table, is_array, maybe_table, data_at};
 ghost use Rattle.basic_toml_tree.specs.Nodes.{elements_in, entries_in, elements_left, entries_left};
-ghost use Rattle.basic_toml_tree.specs.Origin.{is_made, name_of, start_of, outer_of, offset_of, keys_of as key_path_of};
-ghost use Rattle.basic_toml_tree.specs.Stands.{IsNodeAt, Foretold};
+ghost use Rattle.basic_toml_tree.specs.Origin.{is_made, spot_is_made, name_of, start_of, outer_of, offset_of, keys_of as key_path_of};
+ghost use Rattle.basic_toml_tree.specs.Stands.{IsNodeAt, Foretold, ForetoldMade, ForetoldEntry};
 ghost use Rattle.basic_toml_tree.specs.Stands.{HoldsTable, IsBelow, IsBeside, IsTableBeside, AtKey, AtNumber, BeginsIn};
 ghost use Rattle.basic_toml_tree.specs.Stands.{ComesFrom};
 ghost use Rattle.basic_toml_tree.specs.Origins.{child_origins};
 ghost use Rattle.basic_toml_tree.specs.Outer.{kept_below};
+ghost use Rattle.basic_toml_tree.specs.Keys.{header_at, GoesOn, CountsOn, BeginsRow};
+ghost use Rattle.basic_toml_tree.specs.declared.item.Child.{out-Child};
+ghost use Rattle.basic_toml_tree.specs.declared.trail.Trail.TheVariants as trails;
 
 use crate::entries::{Elements, Entries};
 use crate::item::{Child, Item, Table};
 use crate::spot::Spot;
-use crate::trail::{Trail, first_key, header_len, header_texts};
+use crate::trail::{Trail, first_key, header_len, header_texts, section_below};
 use crate::tree::Tree;
 use crate::values::{table_of, value_of};
 use basic_toml_read::ReadError;
@@ -118,16 +121,14 @@ impl<'t, 'de> Node<'t, 'de> {
     }
 
     // A node below this table at a key.
-    pub(crate) fn below(
-        self,
-        table: &'t Table<'de>,
-        key: &'t str,
-        child: &'t Child<'de>,
-    ) -> Node<'t, 'de>
+    pub(crate) fn below(self, key: &'t str, child: &'t Child<'de>) -> Node<'t, 'de>
         ensures data { node_data result ≡ child_data child.now }
         ensures below { IsBelow self.entry (child_trie child.now) result }
         ensures comes { ComesFrom (child_origins child.now) result }
         ensures outer { result.outer ≡ kept_below self.entry }
+        ensures keys { GoesOn self.entry key.now result.spot result.trail }
+        ensures row { BeginsRow self.entry key.now (out-Child child.now).section result.spot result.trail }
+        ensures count { CountsOn self.entry result.spot result.count }
     {
         let count = self.count.saturating_add(1);
         let outer = if self.is_made() {
@@ -135,57 +136,40 @@ impl<'t, 'de> Node<'t, 'de> {
         } else {
             Some(self.start)
         };
-        let trail = if self.is_made() {
-            self.trail_below(table, key, child)
-        } else {
-            self.trail
-        };
         let spot = match &child.item {
             Item::Table(table) => Spot::Table(table),
             item => Spot::Item(item),
         };
-        let node = Node {
+        Node {
             tree: self.tree,
             spot,
             start: child.start,
             outer,
             count,
-            trail,
-        };
-        node.settled()
-    }
-
-    // The keys that lead to what a row put below a table that headers made.
-    fn trail_below(self, table: &'t Table<'de>, key: &'t str, child: &'t Child<'de>) -> Trail<'t> {
-        let len = header_len(self.tree, child.section);
-        if len < self.count {
-            match first_key(self.tree, table.section, len) {
-                Some(first) => Trail::Row(child.section, first),
-                None => Trail::Row(child.section, key),
-            }
-        } else {
-            Trail::Row(child.section, key)
+            trail: self.trail_below(key, child.section, spot),
         }
     }
 
-    // The same node, with the header that made it, if one did.
-    fn settled(self) -> Node<'t, 'de>
-        ensures data { node_data result ≡ node_data self.entry }
-        ensures beside { IsBeside self.entry self.entry.spot result }
-        ensures start { result.start ≡ self.entry.start }
+    // The keys that lead to what stands at a key below this table, which this section first mentioned.
+    fn trail_below(self, key: &'t str, section: usize, spot: Spot<'t, 'de>) -> Trail<'t>
+        ensures keys { GoesOn self.entry key.now spot.entry result }
+        ensures row { BeginsRow self.entry key.now section spot.entry result }
+        ensures within { (s : ℕ) → self.entry.trail ≡ trails.Header s → spot_is_made 1 spot.entry ≡ true
+            → length (take self.entry.count (header_at self.entry.tree.now s)) < usize.MAX }
     {
-        if !self.is_made() {
-            return self;
-        }
-        let section = match self.spot {
-            Spot::Table(table) => table.section,
-            Spot::Item(Item::Tables(_, latest)) => latest.section,
-            _ => 0,
+        let Trail::Header(header) = self.trail else {
+            return self.trail;
         };
-        Node {
-            trail: Trail::Header(section),
-            ..self
+        if let Some(likely) = spot.section() {
+            return Trail::Header(section_below(self.tree, header, self.count, key, likely));
         }
+        let len = header_len(self.tree, section);
+        if len < self.count {
+            if let Some(first) = first_key(self.tree, header, len) {
+                return Trail::Row(section, first);
+            }
+        }
+        Trail::Row(section, key)
     }
 
     // A node among the elements of this array.
@@ -206,11 +190,10 @@ impl<'t, 'de> Node<'t, 'de> {
         ensures beside { IsTableBeside self.entry table.entry result }
         ensures start { result.start ≡ self.entry.start }
     {
-        let node = Node {
+        Node {
             spot: Spot::Table(table),
             ..self
-        };
-        node.settled()
+        }
     }
 
     // The element at a number, if this is an array that has it.
@@ -251,7 +234,7 @@ impl<'t, 'de> Node<'t, 'de> {
         let Some(pair) = table.entries.get(key) else {
             return None;
         };
-        Some(self.below(table, pair.key.as_str(), &pair.value))
+        Some(self.below(pair.key.as_str(), &pair.value))
     }
 
     /// Its elements in order, if it is an array.
@@ -394,7 +377,11 @@ impl<'t, 'de> Node<'t, 'de> {
     /// `AllocError` where memory for the copies was refused.
     #[tactic(auto, unfolding(crate::specs::Origin::keys_of))]
     pub fn key_path(self, alloc: Global) -> Result<Vec<String>, AllocError>
-        ensures { IfOk result (λ path. map string_bytes path.items ≡ key_path_of self.entry) }
+        ensures is { IfOk result (λ path. map string_bytes path.items ≡ key_path_of self.entry) }
+        ensures foretold { (sections : List Section) (p : Path) → ForetoldMade sections p self.entry
+            (λ node. IfOk result (λ path. map string_bytes path.items ≡ node.key_path)) }
+        ensures entries { (sections : List Section) (p : Path) (k : List ℕ) → ForetoldEntry sections p k self.entry
+            (λ node. IfOk result (λ path. map string_bytes path.items ≡ node.key_path)) }
     {
         match self.trail {
             Trail::Header(section) => {

@@ -1,6 +1,6 @@
 //! What a node is, and what it is called.
 
-ghost use Rattle.std.specs.Prelude.{◌≡◌};
+ghost use Rattle.std.specs.Prelude.{◌≡◌, is_some};
 ghost use Rattle.basic_toml_tree.specs.Origin.{spot_is_made, spot_name};
 
 use crate::item::{Item, Table};
@@ -22,6 +22,17 @@ impl<'t, 'de> Spot<'t, 'de> {
             Spot::Table(table) => count == 0 || table.is_made(),
             Spot::Item(Item::Tables(_, _)) => true,
             _ => false,
+        }
+    }
+
+    /// A section whose header likely leads here, if headers made it and it is not the root.
+    pub fn section(self) -> Option<usize>
+        ensures { is_some result ≡ spot_is_made 1 self.entry }
+    {
+        match self {
+            Spot::Table(table) if table.is_made() => Some(table.section),
+            Spot::Item(Item::Tables(_, latest)) => Some(latest.section),
+            _ => None,
         }
     }
 

@@ -176,7 +176,7 @@ last_heads (x ∷ w ∷ xs) (y ∷ []) same = absurd (cc)
 last_heads (x ∷ w ∷ xs) (y ∷ z ∷ ys) same =
     let rest : map head (w ∷ xs) ≡ map head (z ∷ ys) = cc in last_heads (w ∷ xs) (z ∷ ys) rest
 
-foretold : (sections : List Section) (p : Path) (node : Node) (P : grammar.Node → Type 0)
+pub foretold : (sections : List Section) (p : Path) (node : Node) (P : grammar.Node → Type 0)
     → (IsNodeAt sections p node → grammar.is_made (located sections) p ≡ true
     → P (grammar.made_node (located sections) (grammar.last_at sections) p))
     → ForetoldMade sections p node P

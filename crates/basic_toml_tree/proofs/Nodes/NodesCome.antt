@@ -69,6 +69,51 @@ spot_key : (spot : Spot) (t : Table) (k : List ℕ) (q : Path) (at s : ℕ) → 
 spot_key (spots.Table b) t k q at s holds = ap (λ t. table_origins t (key k ∷ q)) (sym holds)
 spot_key (spots.Item b) t k q at s holds = item_key (out-Item b.now) b.now t k q at s refl holds
 
+pub key_origins : (from : Node) (t : Table) (k : List ℕ) (c : Child) → HoldsTable from.spot t
+    → value_at (out-Table t).entries k ≡ Some c → (s : ℕ) (q : Path)
+    → node_origins s from (key k ∷ q) ≡ child_origins c q
+key_origins from t k c holds found s q =
+    spot_key from.spot t k q from.start s holds ∙ seen_at_key t k q
+    ∙ ap (λ o. under (option_map child_origins o) q) found
+
+-- the section that first mentioned it
+bears_entry : (x : Item-F Item Child Table) (at s : ℕ) (o : Origin) (f : Origins)
+    → item_origins (roll-Item x) at s ≡ entry o f → o.section ≡ s
+    → IfSome (item_origins (roll-Item x) at s []) (λ o. o.section ≡ s)
+bears_entry x at s o f is same = subst (λ f. IfSome (f []) (λ o. o.section ≡ s)) (sym is) same
+
+item_bears : (x : Item-F Item Child Table) (at s : ℕ) → IfSome (item_origins (roll-Item x) at s []) (λ o. o.section ≡ s)
+item_bears Item-F.Nothing at s = bears (search (rules, the_lemmas))
+  where
+    bears : item_origins (roll-Item Item-F.Nothing) at s ≡ no_origins
+        → IfSome (item_origins (roll-Item Item-F.Nothing) at s []) (λ o. o.section ≡ s)
+    bears e = subst (λ f. IfSome (f []) (λ o. o.section ≡ s)) (sym e) tt
+item_bears (Item-F.Integer z) at s = bears_entry (Item-F.Integer z) at s (value_origin (codes "integer") at s) no_origins
+    (search (rules, the_lemmas)) refl
+item_bears (Item-F.Float z) at s = bears_entry (Item-F.Float z) at s (value_origin (codes "float") at s) no_origins
+    (search (rules, the_lemmas)) refl
+item_bears (Item-F.Boolean z) at s = bears_entry (Item-F.Boolean z) at s (value_origin (codes "boolean") at s) no_origins
+    (search (rules, the_lemmas)) refl
+item_bears (Item-F.String z) at s = bears_entry (Item-F.String z) at s (value_origin (codes "string") at s) no_origins
+    (search (rules, the_lemmas)) refl
+item_bears (Item-F.Array z) at s = bears_entry (Item-F.Array z) at s (value_origin (codes "array") at s)
+    (at_numbers (map child_origins z.items)) (search (rules, the_lemmas)) refl
+item_bears (Item-F.Inline z) at s = bears_entry (Item-F.Inline z) at s (value_origin (codes "inline table") at s)
+    (table_origins z.value) (search (rules, the_lemmas)) refl
+item_bears (Item-F.Table z) at s = bears_entry (Item-F.Table z) at s (table_origin (table_within z.value).made at s)
+    (table_origins z.value) (search (rules, the_lemmas)) refl
+item_bears (Item-F.Tables y z) at s = bears_entry (Item-F.Tables y z) at s (array_origin at s)
+    (at_numbers (elements_within at s (map table_within y.items ++ table_within z.value ∷ [])))
+    (search (rules, the_lemmas)) refl
+
+pub child_bears : (c : Child) → IfSome (child_origins c []) (λ o. o.section ≡ (out-Child c).section)
+child_bears c =
+    let from = (out-Child c).start in
+    let s = (out-Child c).section in
+    let i = (out-Child c).item in
+    subst (λ f. IfSome (f []) (λ o. o.section ≡ s)) (sym (child_seen c
+    ∙ ap (λ i. item_origins i from s) (shape i (out-Item i) refl))) (item_bears (out-Item i) from s)
+
 pub key_comes : (from node : Node) (t : Table) (k : List ℕ) (c : Child) → HoldsTable from.spot t
     → value_at (out-Table t).entries k ≡ Some c → ComesFrom (child_origins c) node
     → (s : ℕ) → ComesFrom (λ q. node_origins s from (key k ∷ q)) node

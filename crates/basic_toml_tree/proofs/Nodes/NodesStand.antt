@@ -24,14 +24,16 @@ use Rattle.basic_toml_tree.specs.declared.spot.Spot.TheVariants as spots
 use Rattle.basic_toml_clash.specs.Keyed.{values_of}
 use Rattle.basic_toml_tree.specs.Item.{item_trie, child_trie, table_trie, by_keys, by_numbers, leaf, tree_data}
 use Rattle.basic_toml_tree.specs.Stands.{trie_at, tree_trie, spot_trie, wraps_table, HoldsTable, IsBelow, is_root}
+use Rattle.basic_toml_tree.specs.Keys.{KeysLead, RowsLead}
+use Rattle.basic_toml_tree.proofs.Nodes.KeysLead.{keys_beside, rows_beside}
 use Rattle.basic_toml_tree.specs.Stands.{StandsAt, StandsOn, IsBeside, is_wrapper, ItemHolds, ComesFrom, node_origins}
-use Rattle.basic_toml_tree.specs.Stands.{StartIsKept}
+use Rattle.basic_toml_tree.specs.Stands.{StartIsKept, tree_origins}
 use Rattle.basic_toml_tree.specs.Outer.{around}
 use Rattle.basic_toml_tree.specs.Origins.{child_origins, table_within}
 use Rattle.basic_toml_tree.proofs.ItemTries.{table_entries_trie}
 use Rattle.basic_toml_clash.proofs.KeysChanged.{first_at}
 use Rattle.basic_toml_tree.proofs.Nodes.ItemsStand.{shape}
-use Rattle.basic_toml_tree.proofs.Nodes.NodesCome.{comes_on, key_comes, literal_comes, tables_come}
+use Rattle.basic_toml_tree.proofs.Nodes.NodesCome.{comes_on, key_comes, key_origins, literal_comes, tables_come}
 use Rattle.basic_toml_tree.proofs.Nodes.NodesCome.{table_node_comes}
 use Rattle.basic_toml_tree.proofs.Nodes.Lines.{around_key, around_number}
 use Rattle.basic_toml_tree.proofs.KeysInATrie.{tries_of}
@@ -141,13 +143,15 @@ module _ (from node : Node) (s : Step) (same : node.tree ≡ from.tree)
       go (inr there) = step (more there.1) there.0
 
   stands_on : (node.count == 0) ≡ false → StartIsKept tree (around (p ++ s ∷ [])) node.outer
-      → StandsAt tree (p ++ s ∷ []) node
-  stands_on counted kept = record {
+      → KeysLead tree (p ++ s ∷ []) node → RowsLead tree (p ++ s ∷ []) node → StandsAt tree (p ++ s ∷ []) node
+  stands_on counted kept keys rows = record {
     within = ap (λ t. t.now) same ∙ stands.within;
     root = counted ∙ sym (no_root p s);
     there = further;
     comes = comes_on from node s tree p stands.comes comes;
     outer = kept;
+    keys = keys;
+    rows = rows;
   }
 
 -- what a node keeps of where this one begins, and one beside it of what is around both
@@ -160,28 +164,46 @@ kept_beside from node n tree p same stands =
     subst (λ q. StartIsKept tree q node.outer) (sym (around_number p n))
     (subst (λ outer. StartIsKept tree (around p) outer) (sym same) stands.outer)
 
+-- what is kept of the keys, one step on from a node
+abbrev pub Further : Tree → Path → Node → Type 0
+Further tree p node = (trie_at p (tree_trie tree) ≡ nothing)
+    ⊎ ((spot_trie node.spot ≡ trie_at p (tree_trie tree)) × (wraps_table node.spot ≡ false))
+
+abbrev pub KeysOn : Node → List ℕ → Child → Node → Type 0
+KeysOn from k c node = (tree : Tree) (p : Path) → StandsAt tree p from → Further tree (p ++ key k ∷ []) node
+    → tree_origins tree (p ++ key k ∷ []) ≡ child_origins c []
+    → KeysLead tree (p ++ key k ∷ []) node × RowsLead tree (p ++ key k ∷ []) node
+
 pub key_stands : (from node : Node) (t : Table) (k : List ℕ) (c : Child) → HoldsTable from.spot t
     → value_at (out-Table t).entries k ≡ Some c → IsBelow from (child_trie c) node
-    → ComesFrom (child_origins c) node → KeepsBelow from node → StandsOn from (key k) node
-key_stands from node t k c holds found is comes keeps tree p stands =
-    stands_on from node (key k) is.tree (λ own. go (spot_below from.spot t k c holds own found))
-    (λ at. key_comes from node t k c holds found comes at) tree p stands is.count
-    (subst (λ q. StartIsKept tree q node.outer) (sym (around_key p k)) (keeps tree p stands))
+    → ComesFrom (child_origins c) node → KeepsBelow from node → KeysOn from k c node → StandsOn from (key k) node
+key_stands from node t k c holds found is comes keeps keys tree p stands =
+    let both = keys tree p stands (further from node (key k) is.tree more from_there tree p stands)
+    (stands.comes.parts (key k) [] ∙ key_origins from t k c holds found stands.comes.section []) in
+    stands_on from node (key k) is.tree more from_there tree p stands is.count
+    (subst (λ q. StartIsKept tree q node.outer) (sym (around_key p k)) (keeps tree p stands)) both.0 both.1
   where
     go : NothingOr (key k) (spot_trie from.spot) (child_trie c) → (below (key k) (spot_trie from.spot) ≡ nothing)
         ⊎ ((spot_trie node.spot ≡ below (key k) (spot_trie from.spot)) × (wraps_table node.spot ≡ false))
     go (inl none) = inl none
     go (inr same) = inr (is.trie ∙ same, is.own)
 
+    more : wraps_table from.spot ≡ false → (below (key k) (spot_trie from.spot) ≡ nothing)
+        ⊎ ((spot_trie node.spot ≡ below (key k) (spot_trie from.spot)) × (wraps_table node.spot ≡ false))
+    more own = go (spot_below from.spot t k c holds own found)
+
+    from_there : (at : ℕ) → ComesFrom (λ q. node_origins at from (key k ∷ q)) node
+    from_there at = key_comes from node t k c holds found comes at
+
 -- the key and the value at a position of a table
 pub entry_stands : (from node : Node) (t : Table) (i : ℕ) (k : List ℕ) (c : Child) → HoldsTable from.spot t
     → IsTrue (are_distinct (keys_of (out-Table t).entries)) → slice_get (keys_of (out-Table t).entries) i ≡ Some k
     → slice_get (values_of (out-Table t).entries) i ≡ Some c → IsBelow from (child_trie c) node
-    → ComesFrom (child_origins c) node → KeepsBelow from node → StandsOn from (key k) node
-entry_stands from node t i k c holds distinct at value is comes keeps =
+    → ComesFrom (child_origins c) node → KeepsBelow from node → KeysOn from k c node → StandsOn from (key k) node
+entry_stands from node t i k c holds distinct at value is comes keeps keys =
     key_stands from node t k c holds
     (first_at (out-Table t).entries i k c at (is_among-before (keys_of (out-Table t).entries) i k distinct at) value) is
-    comes keeps
+    comes keeps keys
 
 -- an array is no root
 abbrev pub tells_table : Trie → Bool
@@ -217,6 +239,7 @@ module _ (from node : Node) (n : ℕ) (b : Bor Item) (at : from.spot ≡ spots.I
       (λ s. literal_comes from node n b at children child is read comes s) tree p stands
       (ap (λ c. c == 0) beside.count ∙ stands.root ∙ no_array_root from tree p stands (ap tells_table here))
       (kept_beside from node n tree p beside.outer stands)
+      (keys_beside from node spot n beside tree p stands) (rows_beside tree p n node)
 
   pub tables_stand : (before : Vec Table Global) (latest : Box Table Global) (t : Bor Table)
       → b.now ≡ Tables before latest
@@ -237,3 +260,4 @@ module _ (from node : Node) (n : ℕ) (b : Bor Item) (at : from.spot ≡ spots.I
       (λ s. tables_come from node n b at before latest t is read
       (λ s. table_node_comes t node from.start s beside.spot start counted) s) tree p stands counted
       (kept_beside from node n tree p beside.outer stands)
+      (keys_beside from node (spots.Table t) n beside tree p stands) (rows_beside tree p n node)

@@ -217,7 +217,7 @@ mutual
       (sym (keys_begin (texts ks) (table_origin false at s) (value_origins s at v) r q))
 
 -- a path that goes on from another one
-begins_on : (w steps x : Path) → begins (w ++ steps) (w ++ x) ≡ begins steps x
+pub begins_on : (w steps x : Path) → begins (w ++ steps) (w ++ x) ≡ begins steps x
 begins_on [] steps x = refl
 begins_on (s ∷ w) steps x = rw step_same (begins_on w steps x)
 
@@ -298,7 +298,7 @@ module _ (ls : List Located) (last : Option ℕ) (l : Located) (n : ℕ) where
       go true e ih = rw e (ih (sym (ap (λ b. b && begins w p) (turn_eq s t ∙ e)) ∙ not))
       go false e ih = rw e refl
 
-  rows_apart : (rows : Rows) (p : Path) → begins l.path p ≡ false → begins p l.path ≡ false
+  pub rows_apart : (rows : Rows) (p : Path) → begins l.path p ≡ false → begins p l.path ≡ false
       → node_of_rows ls last l rows p ≡ None
   rows_apart no_rows p not back = refl
   rows_apart (row ks at v rows) p not back =
@@ -310,7 +310,7 @@ module _ (ls : List Located) (last : Option ℕ) (l : Located) (n : ℕ) where
   and_none false = refl
 
   -- a path goes on from the other, or is apart from it
-  goes_from : (w p : Path) → begins p w ≡ false
+  pub goes_from : (w p : Path) → begins p w ≡ false
       → ((r : Step) × (q : Path) × (p ≡ w ++ r ∷ q)) ⊎ (begins w p ≡ false)
   goes_from [] [] back = absurd (false≢true (sym back))
   goes_from [] (r ∷ q) back = inl (r, q, refl)
@@ -328,7 +328,7 @@ module _ (ls : List Located) (last : Option ℕ) (l : Located) (n : ℕ) where
           more (inl x) = inl (x.0, x.1, ap (λ t. t ∷ p) (step_is t s e) ∙ ap (λ p. s ∷ p) x.2)
           more (inr other) = inr (ap (λ b. step_eq s t && b) other ∙ and_none (step_eq s t))
 
-  section_same : (p : Path) → begins p l.path ≡ false → rows_clash l.section.rows ≡ false
+  pub section_same : (p : Path) → begins p l.path ≡ false → rows_clash l.section.rows ≡ false
       → keyed_within l.section.rows ≡ true
       → Same (node_of_rows ls last l l.section.rows p) (along l.path (rows_origins n l.section.rows) p)
   section_same p back apart keyed = go (goes_from l.path p back)

@@ -7,6 +7,7 @@ use Rattle.basic_toml_tree.specs.Stands.{HoldsTable}
 use Rattle.basic_toml_tree.proofs.Nodes.NodesInOrder.{drop_next, drop_past, pair_read, mapped_length, table_entries, progress}
 use Rattle.basic_toml_tree.proofs.Nodes.NodesStand.{entry_stands}
 use Rattle.basic_toml_tree.proofs.Nodes.OuterStands.{keeps_below}
+use Rattle.basic_toml_tree.proofs.Nodes.KeysTold.{key_keeps}
 use Rattle.basic_toml_tree.proofs.entries.EntriesIterator.next.Goals as goal
 
 pub returns-then-at-len-clause-steps : goal.returns-then-at-len-clause-steps
@@ -39,7 +40,10 @@ returns-clause-steps c =
       first c,
       entry_stands c.args.self.now.table c.below.result c.in_ok-table.table.now c.args.self.now.at c.key-key.result.now
           c.value.result.now holds c.keys_differ.ensures c.key-key.ensures c.value.ensures c.below.ensures.below
-          c.below.ensures.comes (keeps_below c.args.self.now.table c.below.result c.below.ensures.outer),
+          c.below.ensures.comes (keeps_below c.args.self.now.table c.below.result c.below.ensures.outer)
+          (key_keeps c.args.self.now.table c.below.result c.key-key.result.now c.value.result.now
+          c.below.ensures.keys c.below.ensures.count c.below.ensures.row c.below.ensures.comes
+          c.below.ensures.below.count),
       refl,
     )
 

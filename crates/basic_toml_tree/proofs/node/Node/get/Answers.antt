@@ -4,6 +4,7 @@ use Rattle.basic_toml_tree.specs.Nodes.{node_data, data_at}
 use Rattle.basic_toml_tree.proofs.ItemData.{data_at_found, data_at_absent}
 use Rattle.basic_toml_tree.proofs.Nodes.NodesStand.{key_stands}
 use Rattle.basic_toml_tree.proofs.Nodes.OuterStands.{keeps_below}
+use Rattle.basic_toml_tree.proofs.Nodes.KeysTold.{key_keeps}
 use Rattle.basic_toml_tree.proofs.node.Node.get.Goals as goal
 
 pub returns-in_default-get-clause-data : goal.returns-in_default-get-clause-data
@@ -24,3 +25,5 @@ returns-clause-stands c =
     key_stands c.args.self c.below.result c.in-Some-Some.table.now c.args.key.now c.in-Some.pair.now.value (search (rules))
     c.in-Some.ensures.value c.below.ensures.below c.below.ensures.comes
     (keeps_below c.args.self c.below.result c.below.ensures.outer)
+    (key_keeps c.args.self c.below.result c.args.key.now c.in-Some.pair.now.value (search (rules)) c.below.ensures.count
+    (search (rules)) c.below.ensures.comes c.below.ensures.below.count)

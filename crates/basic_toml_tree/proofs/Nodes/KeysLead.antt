@@ -1,0 +1,170 @@
+-- Headers that begin with keys.
+use Rattle.std.proofs.Common.{◌≡◌, ◌≤◌, ◌<◌, ℕ, zero, suc, Bool, true, false, List, [], ◌∷◌, ◌++◌, length, map, take, Some, None}
+use Rattle.std.proofs.Common.{refl, ap, sym, ◌∙◌, arith, nat_lt, subst, get_or}
+use Rattle.std.specs.Prelude.{slice_get}
+use Rattle.std.proofs.lemmas.List.{take-map}
+use Rattle.std.specs.Prelude.{◌||◌}
+use Rattle.std.specs.List.{list_any}
+use Rattle.std.proofs.lemmas.Bool.{false≢true, and_parts, and_from, or_left, or_right}
+use Rattle.basic_toml_grammar.specs.IndexedPath.{Located, located}
+use Rattle.basic_toml_grammar.specs.Nodes.{is_made}
+use Rattle.basic_toml_grammar.proofs.Clash.PathsAgree.{append_none, keys-append}
+use Rattle.basic_toml_grammar.specs.Sections.{KeyTexts}
+use Rattle.basic_toml_grammar.specs.Steps.{Step, key, number, Path, step_eq, begins, steps_of, keys_of}
+use Rattle.basic_toml_read.specs.declared.section.Key.{Key}
+use Rattle.basic_toml_read.specs.declared.section.Section as code
+use Rattle.basic_toml_read.specs.SectionView.{header_texts, key_of}
+use Rattle.basic_toml_tree.specs.declared.tree.Tree.{Tree}
+use Rattle.basic_toml_tree.specs.Origin.{header_of}
+use Rattle.basic_toml_tree.specs.Keys.{header_at, Leads, KeepsHeader, KeysLead, RowsLead}
+use Rattle.basic_toml_tree.specs.Stands.{StandsAt, IsBeside}
+use Rattle.basic_toml_tree.specs.declared.node.Node.{Node}
+use Rattle.basic_toml_tree.specs.declared.spot.Spot.{Spot}
+use Rattle.basic_toml_tree.specs.declared.trail.Trail.TheVariants.{Header}
+
+-- no keys begin with a key
+pub none_begins : (before : KeyTexts) (k : List ℕ) (header : KeyTexts) → header ≡ []
+    → false ≡ begins (steps_of (before ++ k ∷ [])) (steps_of header)
+none_begins [] k header none = sym (ap (λ h. begins (steps_of (k ∷ [])) (steps_of h)) none)
+none_begins (b ∷ before) k header none = sym (ap (λ h. begins (steps_of (b ∷ before ++ k ∷ [])) (steps_of h)) none)
+
+pub no_keys : (keys : List Key) → length keys ≡ 0 → header_texts keys ≡ []
+no_keys [] none = refl
+no_keys (k ∷ keys) none = absurd (omega (arith, none))
+
+-- past the last section there is no header
+pub no_header : (sections : List code.Section) (n : ℕ) → length sections ≤ n → header_of (slice_get sections n) ≡ []
+no_header [] n past = refl
+no_header (s ∷ sections) zero past = absurd (omega (arith, past))
+no_header (s ∷ sections) (suc n) past = no_header sections n (omega (arith, past))
+
+pub header_there : (sections : List code.Section) (n : ℕ) (s : code.Section) → n < length sections
+    → s ≡ get_or sections n s → header_of (slice_get sections n) ≡ header_texts s.header.items
+header_there [] n s within read = absurd (omega (arith, within))
+header_there (t ∷ sections) zero s within read = ap (λ s. header_texts s.header.items) (sym read)
+header_there (t ∷ sections) (suc n) s within read = header_there sections n s (omega (arith, within)) read
+
+-- the text of the key at a number, and past the last
+pub key_there : (keys : List Key) (n : ℕ) (k : Key) → n < length keys → k ≡ get_or keys n k
+    → slice_get (header_texts keys) n ≡ Some (key_of k).text
+key_there [] n k within read = absurd (omega (arith, within))
+key_there (l ∷ keys) zero k within read = ap (λ k. Some (key_of k).text) (sym read)
+key_there (l ∷ keys) (suc n) k within read = key_there keys n k (omega (arith, within)) read
+
+pub no_key : (keys : List Key) (n : ℕ) → length keys ≤ n → slice_get (header_texts keys) n ≡ None
+no_key [] n past = refl
+no_key (k ∷ keys) zero past = absurd (omega (arith, past))
+no_key (k ∷ keys) (suc n) past = no_key keys n (omega (arith, past))
+
+-- the key at a number of the first so many
+pub among_first : (keys : KeyTexts) (count n : ℕ) (k found : List ℕ) → n < count → slice_get keys n ≡ Some found
+    → found ≡ get_or (take count keys) n k
+among_first [] count n k found within there = absurd (cc)
+among_first (l ∷ keys) zero n k found within there = absurd (omega (arith, within))
+among_first (l ∷ keys) (suc count) zero k found within there = let same : l ≡ found = cc in sym same
+among_first (l ∷ keys) (suc count) (suc n) k found within there =
+    among_first keys count n k found (omega (arith, within)) there
+
+pub past_first : (keys : KeyTexts) (count n : ℕ) (k : List ℕ) → count ≤ n → k ≡ get_or (take count keys) n k
+past_first keys zero n k past = refl
+past_first [] (suc count) n k past = refl
+past_first (l ∷ keys) (suc count) zero k past = absurd (omega (arith, past))
+past_first (l ∷ keys) (suc count) (suc n) k past = past_first keys count n k (omega (arith, past))
+
+pub past_all : (keys : KeyTexts) (count n : ℕ) (k : List ℕ) → slice_get keys n ≡ None
+    → k ≡ get_or (take count keys) n k
+past_all keys zero n k none = refl
+past_all [] (suc count) n k none = refl
+past_all (l ∷ keys) (suc count) zero k none = absurd (cc)
+past_all (l ∷ keys) (suc count) (suc n) k none = past_all keys count n k none
+
+-- where none of the headers begins with the keys, none leads to them
+pub none_leads : (tree : Tree) (before : KeyTexts) (k : List ℕ) (count : ℕ) → length tree.sections.items ≤ count
+    → ((n : ℕ) → n < count → begins (steps_of (before ++ k ∷ [])) (steps_of (header_at tree n)) ≡ false)
+    → (n : ℕ) → Leads tree (before ++ k ∷ []) n → ⊥
+none_leads tree before k count all none n leads = go (nat_lt n count) refl
+  where
+    go : (b : Bool) → nat_lt n count ≡ b → ⊥
+    go true e = false≢true (sym (none n (grind (arith, e))) ∙ leads)
+    go false e =
+        let past : length tree.sections.items ≤ n = grind (arith, e, all) in
+        false≢true (none_begins before k (header_at tree n) (no_header tree.sections.items n past) ∙ leads)
+
+pub first_keys : (keys : List Key) (n : ℕ) → header_texts (take n keys) ≡ take n (header_texts keys)
+first_keys keys n =
+    ap (map (λ k. k.text)) (sym (take-map key_of n keys)) ∙ sym (take-map (λ k. k.text) n (map key_of keys))
+
+-- what headers made below a path, and at it
+pub made_before : (ls : List Located) (p : Path) (s : Step) → is_made ls (p ++ s ∷ []) ≡ true → is_made ls p ≡ true
+made_before ls [] s made = refl
+made_before ls (r ∷ p) s made = go ls made
+  where
+    shorter : (q : Path) (p : Path) → begins (p ++ s ∷ []) q ≡ true → begins p q ≡ true
+    shorter q [] e = refl
+    shorter [] (r ∷ p) e = absurd (false≢true e)
+    shorter (t ∷ q) (r ∷ p) e =
+        let both = and_parts (step_eq r t) (begins (p ++ s ∷ []) q) e in
+        and_from (step_eq r t) (begins p q) both.0 (shorter q p both.1)
+
+    go : (ls : List Located) → list_any (λ l. begins (r ∷ p ++ s ∷ []) l.path) ls ≡ true
+        → list_any (λ l. begins (r ∷ p) l.path) ls ≡ true
+    go [] e = e
+    go (l ∷ ls) e = by (begins (r ∷ p ++ s ∷ []) l.path) refl e (go ls)
+      where
+        by : (b : Bool) → begins (r ∷ p ++ s ∷ []) l.path ≡ b
+            → (b || list_any (λ l. begins (r ∷ p ++ s ∷ []) l.path) ls) ≡ true
+            → (list_any (λ l. begins (r ∷ p ++ s ∷ []) l.path) ls ≡ true
+            → list_any (λ l. begins (r ∷ p) l.path) ls ≡ true)
+            → (begins (r ∷ p) l.path || list_any (λ l. begins (r ∷ p) l.path) ls) ≡ true
+        by true e some ih = or_left _ _ (shorter l.path (r ∷ p) e)
+        by false e some ih = or_right _ _ (ih some)
+
+-- an element has the keys of its array
+keys_more : (p : Path) (n : ℕ) → keys_of (p ++ number n ∷ []) ≡ keys_of p
+keys_more p n = keys-append p (number n ∷ []) ∙ append_none (keys_of p)
+
+pub keys_beside : (from node : Node) (here : Spot) (n : ℕ) → IsBeside from here node → (tree : Tree) (p : Path)
+    → StandsAt tree p from → KeysLead tree (p ++ number n ∷ []) node
+keys_beside from node here n beside tree p stands sections resolved made =
+    let before = stands.keys sections resolved (made_before (located sections) p (number n) made) in
+    let same = sym (keys_more p n) in
+    record {
+      count = beside.count ∙ before.count ∙ ap length same;
+      keeps = subst (λ keys. KeepsHeader tree keys node.trail) same
+          (subst (λ kept. KeepsHeader tree (keys_of p) kept) (sym beside.trail) before.keeps);
+    }
+
+-- the last step of a path
+pub last_step : (p q : Path) (s t : Step) → p ++ s ∷ [] ≡ q ++ t ∷ [] → (p ≡ q) × (s ≡ t)
+last_step [] [] s t same = let one : s ≡ t = cc in (refl, one)
+last_step [] (r ∷ []) s t same = absurd (cc)
+last_step [] (r ∷ u ∷ q) s t same = absurd (cc)
+last_step (r ∷ []) [] s t same = absurd (cc)
+last_step (r ∷ u ∷ p) [] s t same = absurd (cc)
+last_step (r ∷ p) (u ∷ q) s t same =
+    let first : r ≡ u = cc in
+    let rest : p ++ s ∷ [] ≡ q ++ t ∷ [] = cc in
+    let ih = last_step p q s t rest in
+    (ap (λ r. r ∷ p) first ∙ ap (λ p. u ∷ p) ih.0, ih.1)
+
+-- at a number a row begins nothing
+pub rows_beside : (tree : Tree) (p : Path) (n : ℕ) (node : Node) → RowsLead tree (p ++ number n ∷ []) node
+rows_beside tree p n node sections resolved q k same made =
+    absurd (other (last_step p q (number n) (key k) same).1)
+  where
+    other : number n ≡ key k → ⊥
+    other e = cc
+
+-- the root, to which no key leads
+pub root_rows : (tree : Tree) (node : Node) → RowsLead tree [] node
+root_rows tree node sections resolved q k same made = absurd (other q same)
+  where
+    other : (q : Path) → [] ≡ q ++ key k ∷ [] → ⊥
+    other [] e = cc
+    other (s ∷ q) e = cc
+
+pub root_keys : (tree : Tree) (node : Node) → node.count ≡ 0 → node.trail ≡ Header 0 → KeysLead tree [] node
+root_keys tree node none kept sections resolved made = record {
+  count = none;
+  keeps = record { section = 0; trail = kept; leads = refl };
+}

@@ -1,0 +1,242 @@
+-- The keys that lead to what rows give: those of the section's header, and the first key of the row.
+use Rattle.std.proofs.Common.{◌≡◌, ◌⊎◌, inl, inr, ℕ, zero, suc, ◌+◌, Bool, true, false, List, [], ◌∷◌, ◌++◌, Option}
+use Rattle.std.proofs.Common.{Some, None, refl, ap, sym, ◌∙◌, subst, arith, length, drop, slice_get}
+use Rattle.std.specs.Prelude.{⊤, ◌||◌, ◌&&◌, if◌then◌else◌, IfSome}
+use Rattle.std.specs.List.{list_any, list_all}
+use Rattle.std.specs.Option.{option_or}
+use Rattle.std.proofs.lemmas.Bool.{false≢true, and_parts}
+use Rattle.basic_toml_grammar.specs.Sections.{KeyTexts, texts, Raw, Elements, no_elements, element, Rows, no_rows}
+use Rattle.basic_toml_grammar.specs.Sections.{Key, row}
+use Rattle.basic_toml_grammar.specs.Steps.{Step, key, number, Path, step_eq, begins, steps_of}
+use Rattle.basic_toml_grammar.specs.RowClash.{rows_clash}
+use Rattle.basic_toml_grammar.specs.IndexedPath.{Located}
+use Rattle.basic_toml_grammar.specs.Entering.{has_key, keyed_within, value_keyed}
+use Rattle.basic_toml_grammar.specs.NamedClash.{first_key}
+use Rattle.basic_toml_grammar.specs.Nodes.{Node, front, dotted_node, holder_in, node_in, node_among, node_by, holder}
+use Rattle.basic_toml_grammar.specs.Nodes.{node_of_rows, node_of_sections}
+use Rattle.basic_toml_grammar.proofs.Clash.StepTestsDecide.{step_is}
+use Rattle.basic_toml_tree.specs.Origins.{Origin, Origins, under, table_origin, along}
+use Rattle.basic_toml_tree.specs.Origins.{row_origins, value_origins, elements_origins, rows_origins}
+use Rattle.basic_toml_tree.specs.Ways.{sections_origins}
+use Rattle.basic_toml_tree.proofs.Origins.RowsAreNodes.{Same, begins_on, goes_from, rows_apart, section_same}
+
+-- one of three, each where it is chosen
+one_of : (a b : Bool) (m n : Option Node) (d : Node) (P : Node → Type 0) → (a ≡ true → IfSome m P) → (b ≡ true → P d)
+    → IfSome n P → IfSome (if a then m else if b then Some d else n) P
+one_of true b m n d P value table later = value refl
+one_of false true m n d P value table later = table refl
+one_of false false m n d P value table later = later
+
+some_then : {A : Type 0} (o : Option A) (P Q : A → Type 0) → ((x : A) → P x → Q x) → IfSome o P → IfSome o Q
+some_then None P Q f p = tt
+some_then (Some x) P Q f p = f x p
+
+-- below a value the keys stay
+abbrev Keeps : KeyTexts → Node → Type 0
+Keeps keys m = m.key_path ≡ keys
+
+mutual
+  in_keeps : (keys : KeyTexts) (outer : Option ℕ) (at : ℕ) (v : Raw) (p : Path)
+      → IfSome (node_in keys outer at v p) (Keeps keys)
+  in_keeps keys outer at v [] = refl
+  in_keeps keys outer at (Raw.array es) (number n ∷ p) = among_keeps keys outer es n p
+  in_keeps keys outer at (Raw.inline rows) (key k ∷ p) = by_keeps keys (Some at) rows rows (key k ∷ p)
+  in_keeps keys outer at (Raw.array es) (key k ∷ p) = tt
+  in_keeps keys outer at (Raw.inline rows) (number n ∷ p) = tt
+  in_keeps keys outer at (Raw.integer z) (key k ∷ p) = tt
+  in_keeps keys outer at (Raw.integer z) (number n ∷ p) = tt
+  in_keeps keys outer at (Raw.float z) (key k ∷ p) = tt
+  in_keeps keys outer at (Raw.float z) (number n ∷ p) = tt
+  in_keeps keys outer at (Raw.boolean z) (key k ∷ p) = tt
+  in_keeps keys outer at (Raw.boolean z) (number n ∷ p) = tt
+  in_keeps keys outer at (Raw.string z) (key k ∷ p) = tt
+  in_keeps keys outer at (Raw.string z) (number n ∷ p) = tt
+
+  among_keeps : (keys : KeyTexts) (outer : Option ℕ) (es : Elements) (n : ℕ) (p : Path)
+      → IfSome (node_among keys outer es n p) (Keeps keys)
+  among_keeps keys outer no_elements n p = tt
+  among_keeps keys outer (element at v es) zero p = in_keeps keys outer at v p
+  among_keeps keys outer (element at v es) (suc n) p = among_keeps keys outer es n p
+
+  by_keeps : (keys : KeyTexts) (outer : Option ℕ) (all rows : Rows) (p : Path)
+      → IfSome (node_by keys outer all rows p) (Keeps keys)
+  by_keeps keys outer all no_rows p = tt
+  by_keeps keys outer all (row ks at v later) p =
+      let steps = steps_of (texts ks) in
+      one_of (begins steps p) (begins p steps)
+      (node_in keys (holder_in outer all (front steps)) at v (drop (length steps) p)) (node_by keys outer all later p)
+      (dotted_node keys (holder_in outer all (front p)) at) (Keeps keys)
+      (λ _. in_keeps keys (holder_in outer all (front steps)) at v (drop (length steps) p)) (λ _. refl)
+      (by_keeps keys outer all later p)
+
+-- a row below its section's table
+module _ (ls : List Located) (last : Option ℕ) (l : Located) (r : Step) (q : Path) where
+  abbrev FromRow : Node → Type 0
+  FromRow m = (k : List ℕ) × (r ≡ key k) × (m.key_path ≡ texts l.section.header ++ k ∷ [])
+
+  from_key : (k : Key) (ks : List Key) (m : Node) → r ≡ key k.text
+      → Keeps (texts l.section.header ++ first_key (k ∷ ks)) m → FromRow m
+  from_key k ks m is keeps = (k.text, is, keeps)
+
+  rows_keep : (rows : Rows) → keyed_within rows ≡ true
+      → IfSome (node_of_rows ls last l rows (l.path ++ r ∷ q)) FromRow
+  rows_keep no_rows keyed = tt
+  rows_keep (row [] at v rows) keyed = absurd (false≢true keyed)
+  rows_keep (row (k ∷ ks) at v rows) keyed =
+      let steps = steps_of (texts (k ∷ ks)) in
+      let p = l.path ++ r ∷ q in
+      let path = l.path ++ steps in
+      let keys = texts l.section.header ++ first_key (k ∷ ks) in
+      one_of (begins path p) (begins p path)
+      (node_in keys (holder ls last (front path)) at v (drop (length path) p)) (node_of_rows ls last l rows p)
+      (dotted_node keys (holder ls last (front p)) at) FromRow
+      (λ e. some_then (node_in keys (holder ls last (front path)) at v (drop (length path) p)) (Keeps keys) FromRow
+      (λ m. from_key k ks m (sym (step_is (key k.text) r
+      (and_parts (step_eq (key k.text) r) (begins (steps_of (texts ks)) q)
+      (sym (begins_on l.path steps (r ∷ q)) ∙ e)).0)))
+      (in_keeps keys (holder ls last (front path)) at v (drop (length path) p)))
+      (λ e. from_key k ks (dotted_node keys (holder ls last (front p)) at) (step_is r (key k.text)
+      (and_parts (step_eq r (key k.text)) (begins q (steps_of (texts ks)))
+      (sym (begins_on l.path (r ∷ q) steps) ∙ e)).0) refl)
+      (rows_keep rows (and_parts (has_key (k ∷ ks) && value_keyed v) (keyed_within rows) keyed).1)
+
+-- what a section brings bears its number
+abbrev Of : ℕ → Origin → Type 0
+Of s o = o.section ≡ s
+
+if_some : (b : Bool) (o : Option Origin) (P : Origin → Type 0) → IfSome o P → IfSome (if b then o else None) P
+if_some true o P some = some
+if_some false o P some = tt
+
+or_some : (m n : Option Origin) (P : Origin → Type 0) → IfSome m P → IfSome n P → IfSome (option_or m n) P
+or_some None n P first later = later
+or_some (Some o) n P first later = first
+
+row_bears : (ks : KeyTexts) (d : Origin) (f : Origins) (P : Origin → Type 0) → P d → ((p : Path) → IfSome (f p) P)
+    → (p : Path) → IfSome (row_origins ks d f p) P
+row_bears [] d f P own below p = below p
+row_bears (k ∷ []) d f P own below [] = tt
+row_bears (k ∷ []) d f P own below (t ∷ p) = if_some (step_eq t (key k)) (f p) P (below p)
+row_bears (k ∷ l ∷ ks) d f P own below [] = tt
+row_bears (k ∷ l ∷ ks) d f P own below (t ∷ []) = if_some (step_eq t (key k)) (Some d) P own
+row_bears (k ∷ l ∷ ks) d f P own below (t ∷ u ∷ p) =
+    if_some (step_eq t (key k)) (row_origins (l ∷ ks) d f (u ∷ p)) P (row_bears (l ∷ ks) d f P own below (u ∷ p))
+
+mutual
+  value_bears : (s at : ℕ) (v : Raw) (p : Path) → IfSome (value_origins s at v p) (Of s)
+  value_bears s at (Raw.integer z) [] = refl
+  value_bears s at (Raw.float z) [] = refl
+  value_bears s at (Raw.boolean z) [] = refl
+  value_bears s at (Raw.string z) [] = refl
+  value_bears s at (Raw.array es) [] = refl
+  value_bears s at (Raw.inline rows) [] = refl
+  value_bears s at (Raw.integer z) (r ∷ p) = tt
+  value_bears s at (Raw.float z) (r ∷ p) = tt
+  value_bears s at (Raw.boolean z) (r ∷ p) = tt
+  value_bears s at (Raw.string z) (r ∷ p) = tt
+  value_bears s at (Raw.array es) (key k ∷ p) = tt
+  value_bears s at (Raw.array es) (number n ∷ p) = elements_bear s es n p
+  value_bears s at (Raw.inline rows) (r ∷ p) = rows_bear s rows (r ∷ p)
+
+  elements_bear : (s : ℕ) (es : Elements) (n : ℕ) (p : Path)
+      → IfSome (under (slice_get (elements_origins s es) n) p) (Of s)
+  elements_bear s no_elements n p = tt
+  elements_bear s (element at v es) zero p = value_bears s at v p
+  elements_bear s (element at v es) (suc n) p = elements_bear s es n p
+
+  rows_bear : (s : ℕ) (rows : Rows) (p : Path) → IfSome (rows_origins s rows p) (Of s)
+  rows_bear s no_rows p = tt
+  rows_bear s (row ks at v rows) p =
+      or_some (row_origins (texts ks) (table_origin false at s) (value_origins s at v) p) (rows_origins s rows p) (Of s)
+      (row_bears (texts ks) (table_origin false at s) (value_origins s at v) (Of s) refl
+      (λ p. value_bears s at v p) p)
+      (rows_bear s rows p)
+
+along_bears : (w : Path) (f : Origins) (P : Origin → Type 0) → ((p : Path) → IfSome (f p) P) → (p : Path)
+    → IfSome (along w f p) P
+along_bears [] f P below p = below p
+along_bears (s ∷ w) f P below [] = tt
+along_bears (s ∷ w) f P below (t ∷ p) = if_some (step_eq t s) (along w f p) P (along_bears w f P below p)
+
+-- the section whose row leads to a path, by the number that the origin bears
+pub record FoundIn (n : ℕ) (later : List Located) (p : Path) (m : Node) (o : Origin) : Type 0 where
+  pub number : ℕ
+  pub located : Located
+  pub there : slice_get later number ≡ Some located
+  pub section : o.section ≡ n + number
+  pub first : List ℕ
+  pub others : Path
+  pub path : p ≡ located.path ++ key first ∷ others
+  pub keys : m.key_path ≡ texts located.section.header ++ first ∷ []
+
+abbrev pub Both : Option Node → Option Origin → (Node → Origin → Type 0) → Type 0
+Both (Some m) (Some o) R = R m o
+Both _ _ R = ⊤
+
+-- one section, and the others
+module _ (n : ℕ) (l : Located) (later : List Located) (p : Path) where
+  abbrev FromSection : Node → Type 0
+  FromSection m = (k : List ℕ) × (q : Path) × (p ≡ l.path ++ key k ∷ q)
+      × (m.key_path ≡ texts l.section.header ++ k ∷ [])
+
+  later_found : (m : Option Node) (o : Option Origin) → Both m o (FoundIn (suc n) later p)
+      → Both m o (FoundIn n (l ∷ later) p)
+  later_found None o found = tt
+  later_found (Some m) None found = tt
+  later_found (Some m) (Some o) found = record {
+    number = suc found.number;
+    located = found.located;
+    there = found.there;
+    section = let is : suc n + found.number ≡ n + suc found.number = omega arith in found.section ∙ is;
+    first = found.first;
+    others = found.others;
+    path = found.path;
+    keys = found.keys;
+  }
+
+  one_found : (a c : Option Node) (b d : Option Origin) → Same a b → IfSome a FromSection → IfSome b (Of n)
+      → Both c d (FoundIn (suc n) later p) → Both (option_or a c) (option_or b d) (FoundIn n (l ∷ later) p)
+  one_found None c None d same from of found = later_found c d found
+  one_found None c (Some o) d same from of found = absurd (cc)
+  one_found (Some m) c None d same from of found = absurd (cc)
+  one_found (Some m) c (Some o) d same from of found = record {
+    number = 0;
+    located = l;
+    there = refl;
+    section = let is : n ≡ n + 0 = omega arith in of ∙ is;
+    first = from.0;
+    others = from.1;
+    path = from.2;
+    keys = from.3;
+  }
+
+either : (a b : Bool) → (a || b) ≡ false → (a ≡ false) × (b ≡ false)
+either false b e = (refl, e)
+either true b e = absurd (cc)
+
+pub sections_found : (ls : List Located) (last : Option ℕ) (n : ℕ) (later : List Located) (p : Path)
+    → list_any (λ l. begins p l.path) later ≡ false → list_any (λ l. rows_clash l.section.rows) later ≡ false
+    → list_all (λ l. keyed_within l.section.rows) later ≡ true
+    → Both (node_of_sections ls last later p) (sections_origins n later p) (FoundIn n later p)
+sections_found ls last n [] p back apart keyed = tt
+sections_found ls last n (l ∷ later) p back apart keyed =
+    let b = either (begins p l.path) (list_any (λ l. begins p l.path) later) back in
+    let a = either (rows_clash l.section.rows) (list_any (λ l. rows_clash l.section.rows) later) apart in
+    let k = and_parts (keyed_within l.section.rows) (list_all (λ l. keyed_within l.section.rows) later) keyed in
+    one_found n l later p (node_of_rows ls last l l.section.rows p) (node_of_sections ls last later p)
+    (along l.path (rows_origins n l.section.rows) p) (sections_origins (suc n) later p)
+    (section_same ls last l n p b.0 a.0 k.0) (from b.0 k.0 (goes_from ls last l n l.path p b.0))
+    (along_bears l.path (rows_origins n l.section.rows) (Of n) (λ p. rows_bear n l.section.rows p) p)
+    (sections_found ls last (suc n) later p b.1 a.1 k.1)
+  where
+    from : begins p l.path ≡ false → keyed_within l.section.rows ≡ true
+        → ((r : Step) × (q : Path) × (p ≡ l.path ++ r ∷ q)) ⊎ (begins l.path p ≡ false)
+        → IfSome (node_of_rows ls last l l.section.rows p) (FromSection n l later p)
+    from back keyed (inl x) =
+        subst (λ p. IfSome (node_of_rows ls last l l.section.rows p) (FromSection n l later p)) (sym x.2)
+        (some_then (node_of_rows ls last l l.section.rows (l.path ++ x.0 ∷ x.1)) (FromRow ls last l x.0 x.1)
+        (FromSection n l later (l.path ++ x.0 ∷ x.1)) (λ m row. (row.0, x.1, ap (λ r. l.path ++ r ∷ x.1) row.1, row.2))
+        (rows_keep ls last l x.0 x.1 l.section.rows keyed))
+    from back keyed (inr not) =
+        subst (λ m. IfSome m (FromSection n l later p))
+        (sym (rows_apart ls last l n l.section.rows p not back)) tt
