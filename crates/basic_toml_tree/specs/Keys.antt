@@ -1,4 +1,4 @@
--- Which header's keys lead to what headers made.
+-- Which keys of headers and rows a node keeps, of those that lead to it.
 use Rattle.std.specs.Prelude.{◌≡◌, ◌+◌, ℕ, true, false, List, [], ◌∷◌, ◌++◌, length, slice_get, take, IfSome, get_or}
 use Rattle.basic_toml_grammar.specs.Sections.{KeyTexts, Section}
 use Rattle.basic_toml_grammar.specs.Steps.{key, Path, begins, steps_of, keys_of}

@@ -1,5 +1,5 @@
 -- The keys that lead to a node, as the tree has them and as the section list foretells them.
-use Rattle.std.proofs.Common.{◌≡◌, ◌⊎◌, inl, inr, ◌+◌, ℕ, zero, suc, Bool, true, false, List, [], ◌∷◌, ◌++◌, length}
+use Rattle.std.proofs.Common.{◌≡◌, inl, inr, ◌+◌, ℕ, zero, suc, Bool, true, false, List, [], ◌∷◌, ◌++◌, length}
 use Rattle.std.proofs.Common.{map, take, get_or, Option, Some, None, refl, ap, sym, ◌∙◌, subst, arith, length-append}
 use Rattle.std.specs.Prelude.{◌||◌, ◌==◌, slice_get, IfSome}
 use Rattle.std.specs.List.{list_any}
@@ -10,7 +10,7 @@ use Rattle.std.specs.Str.{bytes_eq}
 use Rattle.basic_toml_grammar.specs.Sections.{KeyTexts, texts, Section}
 use Rattle.basic_toml_grammar.specs.Steps.{Step, key, number, Path, step_eq, begins, steps_of, keys_of}
 use Rattle.basic_toml_grammar.specs.IndexedPath.{Located, located_after, located_from, located}
-use Rattle.basic_toml_grammar.specs.Trie.{Trie, nothing, standing}
+use Rattle.basic_toml_grammar.specs.Trie.{Trie, standing}
 use Rattle.basic_toml_grammar.specs.Nodes as grammar
 use Rattle.basic_toml_grammar.proofs.Clash.PathsAgree.{count_in, keys-append, keys_cut, cuts_are, counts_are}
 use Rattle.basic_toml_read.specs.declared.section.Section as code
@@ -32,7 +32,7 @@ use Rattle.basic_toml_tree.proofs.Nodes.RowNodesTold.{located_any, located_keyed
 use Rattle.basic_toml_tree.proofs.Origins.RowsAreNodes.{Same, of_node, of_origin, sections_same}
 use Rattle.basic_toml_tree.specs.Origin.{header_of, spot_is_made, table_is_made, keys_of as kept_keys, trail_keys}
 use Rattle.basic_toml_tree.specs.Resolve.{IsResolved, Stands, head}
-use Rattle.basic_toml_tree.specs.Stands.{trie_at, tree_trie, spot_trie, wraps_table, StandsAt, IsNodeAt, ForetoldMade}
+use Rattle.basic_toml_tree.specs.Stands.{trie_at, tree_trie, StandsAt, IsNodeAt, ForetoldMade}
 use Rattle.basic_toml_tree.specs.Stands.{ForetoldEntry, ComesFrom, tree_origins, spot_origin}
 use Rattle.basic_toml_tree.specs.Keys.{header_at, Leads, KeepsHeader, KeepsKeys, KeysLead, GoesOn, CountsOn}
 use Rattle.basic_toml_tree.specs.Keys.{KeepsRow, BeginsRow, RowsLead}

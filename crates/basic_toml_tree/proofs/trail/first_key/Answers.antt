@@ -1,5 +1,5 @@
-use Rattle.std.proofs.Common.{◌≡◌, Some, None, slice_get, length, ap, sym, ◌∙◌, arith}
-use Rattle.basic_toml_read.specs.SectionView.{header_texts, key_of}
+use Rattle.std.proofs.Common.{◌≡◌, Some, slice_get, length, ap, sym, ◌∙◌, arith}
+use Rattle.basic_toml_read.specs.SectionView.{header_texts}
 use Rattle.basic_toml_tree.specs.Origin.{header_of}
 use Rattle.basic_toml_tree.specs.Keys.{header_at}
 use Rattle.basic_toml_tree.proofs.Nodes.KeysLead.{header_there, no_header, key_there, no_key}

@@ -1,4 +1,4 @@
-use Rattle.std.proofs.Common.{◌≡◌, Some, refl, ap, sym, ◌∙◌, arith, length, slice_get}
+use Rattle.std.proofs.Common.{◌≡◌, refl, ap, sym, ◌∙◌, arith, length, slice_get}
 use Rattle.basic_toml_tree.specs.Keys.{header_at}
 use Rattle.basic_toml_tree.proofs.Nodes.KeysLead.{among_first, past_first, past_all}
 use Rattle.basic_toml_tree.proofs.node.Node.trail_below.Goals as goal
