@@ -1,22 +1,14 @@
 // What each text gives: its sections with their rows, or its error and where it stands.
 use basic_toml_read::{Element, Raw, ReadError, ReadErrorKind, Row, Section, sections};
 use std::alloc::{AllocError, Global};
-use std::borrow::CowStr;
 use std::test::Fail;
-
-fn text_of<'t>(text: &'t CowStr<'_>) -> &'t str {
-    match text {
-        CowStr::Borrowed(text) => text,
-        CowStr::Owned(text) => text.as_str(),
-    }
-}
 
 // Each key with its offset, `=` and the offset of the value after the last.
 #[cycle(shown)]
 fn push_rows(out: &mut String, rows: &[Row<'_>]) -> Result<(), AllocError> {
     for row in rows {
         let offset = row.offset;
-        let key = text_of(&row.key);
+        let key = row.key.as_str();
         write!(out, " {offset}:{key}")?;
         match &row.value {
             Raw::Dot => out.push('.')?,
@@ -53,8 +45,8 @@ fn push_value(out: &mut String, value: &Raw<'_>) -> Result<(), AllocError> {
             let value = *value;
             write!(out, "{value}")
         }
-        Raw::String(CowStr::Borrowed(text)) => write!(out, "'{text}'"),
-        Raw::String(CowStr::Owned(text)) => {
+        Raw::String(text) => write!(out, "'{text}'"),
+        Raw::Escaped(text) => {
             let text = text.as_str();
             write!(out, "copy '{text}'")
         }
@@ -76,7 +68,7 @@ fn push_section(out: &mut String, section: &Section<'_>) -> Result<(), AllocErro
     let kind = if section.is_array() { "array" } else { "table" };
     write!(out, "{at} {kind}")?;
     for key in section.header() {
-        let key = text_of(&key.text);
+        let key = key.text.as_str();
         write!(out, " {key}")?;
     }
     out.push(':')?;
@@ -145,6 +137,10 @@ fn lists_sections(rt: HostRuntime) -> Result<(), Fail> {
             "0 table: 0:x=6:copy 'y\n' 12:z=18:'w';",
         ),
         ("[a]\n[a]\n", "0 table a:;4 table a:;"),
+        (
+            "\"\\u0061b\".c = 'd'\n[\"\\u0065\"]",
+            "0 table: 0:ab. 10:c=14:'d';18 table e:;",
+        ),
     ];
     for (text, want) in cases {
         assert_eq!(rt; shown(rt.alloc(), text)?.as_str(), want, "at {text}");
