@@ -36,7 +36,7 @@ use Rattle.basic_toml_tree.specs.Stands.{trie_at, tree_trie, StandsAt, IsNodeAt,
 use Rattle.basic_toml_tree.specs.Stands.{ForetoldEntry, ComesFrom, tree_origins, spot_origin}
 use Rattle.basic_toml_tree.specs.Keys.{header_at, Leads, KeepsHeader, KeepsKeys, KeysLead, GoesOn, CountsOn}
 use Rattle.basic_toml_tree.specs.Keys.{KeepsRow, BeginsRow, RowsLead}
-use Rattle.basic_toml_tree.proofs.HeadersMake.{stands_made}
+use Rattle.basic_toml_tree.specs.Outer.{stands_made}
 use Rattle.basic_toml_tree.proofs.Nodes.KeysLead.{made_before, last_step}
 use Rattle.basic_toml_tree.proofs.Nodes.MadeNodes.{made_in_trie, spot_made, foretold}
 use Rattle.basic_toml_tree.proofs.Nodes.NodesStand.{KeysOn, Further}

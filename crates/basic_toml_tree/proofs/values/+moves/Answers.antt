@@ -1,4 +1,4 @@
-use Rattle.std.proofs.Common.{◌≡◌, ap, arith, sym, ◌∙◌, refl, ◌++◌, map, rules, subst, List, ℕ}
+use Rattle.std.proofs.Common.{◌≡◌, ap, arith, sym, ◌∙◌, refl, ◌++◌, map, subst, List, ℕ}
 use Rattle.basic_toml_value.specs.Data.{Data, items_of, members_of}
 use Rattle.basic_toml_value.specs.View.{view, entries}
 use Rattle.basic_toml_value.specs.Index.{IsIndex}
