@@ -6,6 +6,7 @@ pub mod ItemsStand
 pub mod LastSection
 pub mod MadeNodes
 pub mod RowNodesTold
+pub mod NodesOfValues
 pub mod PlacesTold
 pub mod Lines
 pub mod LinesOfRows

@@ -1,19 +1,18 @@
 -- The offset that names a node in errors, by the section list: where the node begins, but for an array the outer
 -- offset.
-use Rattle.std.proofs.Common.{◌≡◌, ◌⊎◌, inl, inr, ℕ, zero, suc, Bool, true, false, List, [], ◌∷◌, Option, Some}
+use Rattle.std.proofs.Common.{◌≡◌, ◌⊎◌, inl, inr, ℕ, Bool, true, false, List, [], ◌∷◌, Option, Some}
 use Rattle.std.proofs.Common.{None, refl, ap}
 use Rattle.std.proofs.Common.{sym, ◌∙◌, codes, length, drop, ◌++◌}
 use Rattle.std.specs.Prelude.{if◌then◌else◌, IfSome}
 use Rattle.std.specs.Option.{option_or}
 use Rattle.std.specs.Str.{bytes_eq}
-use Rattle.basic_toml_grammar.specs.Sections.{KeyTexts, texts, Raw, Elements, no_elements, element, Rows, no_rows}
+use Rattle.basic_toml_grammar.specs.Sections.{KeyTexts, texts, Raw, Rows, no_rows}
 use Rattle.basic_toml_grammar.specs.Sections.{row}
 use Rattle.basic_toml_grammar.specs.Sections.{Section}
-use Rattle.basic_toml_grammar.specs.Steps.{key, number, Path, begins, steps_of, keys_of}
+use Rattle.basic_toml_grammar.specs.Steps.{Path, begins, steps_of, keys_of}
 use Rattle.basic_toml_grammar.specs.IndexedPath.{Located, located}
 use Rattle.basic_toml_grammar.specs.NamedClash.{first_key}
-use Rattle.basic_toml_grammar.specs.Nodes.{Node, front, value_node, dotted_node, holder_in, node_in, node_among}
-use Rattle.basic_toml_grammar.specs.Nodes.{node_by}
+use Rattle.basic_toml_grammar.specs.Nodes.{Node, front, value_node, dotted_node, node_in}
 use Rattle.basic_toml_grammar.specs.Nodes.{holder, node_of_rows, node_of_sections, node_at, made_node, is_made}
 use Rattle.basic_toml_grammar.specs.Nodes.{last_at, is_array}
 use Rattle.std.proofs.lemmas.Bool.{false≢true}
@@ -28,6 +27,7 @@ use Rattle.basic_toml_tree.specs.Origin.{is_array_literal, item_name, spot_name,
 use Rattle.basic_toml_tree.specs.Origin.{outer_of, offset_of}
 use Rattle.basic_toml_tree.specs.Stands.{Foretold}
 use Rattle.basic_toml_tree.proofs.Nodes.MadeNodes.{made_offset_told}
+use Rattle.basic_toml_tree.proofs.Nodes.NodesOfValues.{one_of, in_value}
 use Rattle.basic_toml_tree.proofs.Nodes.OuterTold.{outer_told}
 use Rattle.basic_toml_tree.proofs.Nodes.RowNodesTold.{RowTold, row_told, start_told}
 
@@ -48,45 +48,9 @@ value_plain keys outer at (Raw.string z) = inr (refl, refl)
 value_plain keys outer at (Raw.array z) = inl (refl, refl)
 value_plain keys outer at (Raw.inline z) = inr (refl, refl)
 
-one_of : (a b : Bool) (m n : Option Node) (d : Node) → IfSome m Plain → Plain d → IfSome n Plain
-    → IfSome (if a then m else if b then Some d else n) Plain
-one_of true b m n d value table later = value
-one_of false true m n d value table later = table
-one_of false false m n d value table later = later
-
-mutual
-  in_plain : (keys : KeyTexts) (outer : Option ℕ) (at : ℕ) (v : Raw) (p : Path)
-      → IfSome (node_in keys outer at v p) Plain
-  in_plain keys outer at v [] = value_plain keys outer at v
-  in_plain keys outer at (Raw.array es) (number n ∷ p) = among_plain keys outer es n p
-  in_plain keys outer at (Raw.inline rows) (key k ∷ p) = by_plain keys (Some at) rows rows (key k ∷ p)
-  in_plain keys outer at (Raw.array es) (key k ∷ p) = tt
-  in_plain keys outer at (Raw.inline rows) (number n ∷ p) = tt
-  in_plain keys outer at (Raw.integer z) (key k ∷ p) = tt
-  in_plain keys outer at (Raw.integer z) (number n ∷ p) = tt
-  in_plain keys outer at (Raw.float z) (key k ∷ p) = tt
-  in_plain keys outer at (Raw.float z) (number n ∷ p) = tt
-  in_plain keys outer at (Raw.boolean z) (key k ∷ p) = tt
-  in_plain keys outer at (Raw.boolean z) (number n ∷ p) = tt
-  in_plain keys outer at (Raw.string z) (key k ∷ p) = tt
-  in_plain keys outer at (Raw.string z) (number n ∷ p) = tt
-
-  among_plain : (keys : KeyTexts) (outer : Option ℕ) (es : Elements) (n : ℕ) (p : Path)
-      → IfSome (node_among keys outer es n p) Plain
-  among_plain keys outer no_elements n p = tt
-  among_plain keys outer (element at v es) zero p = in_plain keys outer at v p
-  among_plain keys outer (element at v es) (suc n) p = among_plain keys outer es n p
-
-  by_plain : (keys : KeyTexts) (outer : Option ℕ) (all rows : Rows) (p : Path)
-      → IfSome (node_by keys outer all rows p) Plain
-  by_plain keys outer all no_rows p = tt
-  by_plain keys outer all (row ks at v later) p =
-      let steps = steps_of (texts ks) in
-      one_of (begins steps p) (begins p steps)
-      (node_in keys (holder_in outer all (front steps)) at v (drop (length steps) p)) (node_by keys outer all later p)
-      (dotted_node keys (holder_in outer all (front p)) at)
-      (in_plain keys (holder_in outer all (front steps)) at v (drop (length steps) p)) (inr (refl, refl))
-      (by_plain keys outer all later p)
+in_plain : (keys : KeyTexts) (outer : Option ℕ) (at : ℕ) (v : Raw) (p : Path)
+    → IfSome (node_in keys outer at v p) Plain
+in_plain keys outer at v p = in_value keys Plain (value_plain keys) (λ outer at. inr (refl, refl)) outer at v p
 
 rows_plain : (ls : List Located) (last : Option ℕ) (l : Located) (rows : Rows) (p : Path)
     → IfSome (node_of_rows ls last l rows p) Plain
@@ -96,8 +60,8 @@ rows_plain ls last l (row ks at v rows) p =
     let key_path = texts l.section.header ++ first_key ks in
     one_of (begins path p) (begins p path)
     (node_in key_path (holder ls last (front path)) at v (drop (length path) p)) (node_of_rows ls last l rows p)
-    (dotted_node key_path (holder ls last (front p)) at)
-    (in_plain key_path (holder ls last (front path)) at v (drop (length path) p)) (inr (refl, refl))
+    (dotted_node key_path (holder ls last (front p)) at) Plain
+    (λ _. in_plain key_path (holder ls last (front path)) at v (drop (length path) p)) (λ _. inr (refl, refl))
     (rows_plain ls last l rows p)
 
 or_plain : (m n : Option Node) → IfSome m Plain → IfSome n Plain → IfSome (option_or m n) Plain

@@ -12,20 +12,14 @@ use Rattle.basic_toml_grammar.specs.RowClash.{rows_clash}
 use Rattle.basic_toml_grammar.specs.IndexedPath.{Located}
 use Rattle.basic_toml_grammar.specs.Entering.{has_key, keyed_within, value_keyed}
 use Rattle.basic_toml_grammar.specs.NamedClash.{first_key}
-use Rattle.basic_toml_grammar.specs.Nodes.{Node, front, dotted_node, holder_in, node_in, node_among, node_by, holder}
+use Rattle.basic_toml_grammar.specs.Nodes.{Node, front, dotted_node, node_in, holder}
 use Rattle.basic_toml_grammar.specs.Nodes.{node_of_rows, node_of_sections}
 use Rattle.basic_toml_grammar.proofs.Clash.StepTestsDecide.{step_is}
 use Rattle.basic_toml_tree.specs.Origins.{Origin, Origins, under, table_origin, along}
 use Rattle.basic_toml_tree.specs.Origins.{row_origins, value_origins, elements_origins, rows_origins}
 use Rattle.basic_toml_tree.specs.Ways.{sections_origins}
+use Rattle.basic_toml_tree.proofs.Nodes.NodesOfValues.{one_of, in_value}
 use Rattle.basic_toml_tree.proofs.Origins.RowsAreNodes.{Same, begins_on, goes_from, rows_apart, section_same}
-
--- one of three, each where it is chosen
-one_of : (a b : Bool) (m n : Option Node) (d : Node) (P : Node → Type 0) → (a ≡ true → IfSome m P) → (b ≡ true → P d)
-    → IfSome n P → IfSome (if a then m else if b then Some d else n) P
-one_of true b m n d P value table later = value refl
-one_of false true m n d P value table later = table refl
-one_of false false m n d P value table later = later
 
 some_then : {A : Type 0} (o : Option A) (P Q : A → Type 0) → ((x : A) → P x → Q x) → IfSome o P → IfSome o Q
 some_then None P Q f p = tt
@@ -35,39 +29,9 @@ some_then (Some x) P Q f p = f x p
 abbrev Keeps : KeyTexts → Node → Type 0
 Keeps keys m = m.key_path ≡ keys
 
-mutual
-  in_keeps : (keys : KeyTexts) (outer : Option ℕ) (at : ℕ) (v : Raw) (p : Path)
-      → IfSome (node_in keys outer at v p) (Keeps keys)
-  in_keeps keys outer at v [] = refl
-  in_keeps keys outer at (Raw.array es) (number n ∷ p) = among_keeps keys outer es n p
-  in_keeps keys outer at (Raw.inline rows) (key k ∷ p) = by_keeps keys (Some at) rows rows (key k ∷ p)
-  in_keeps keys outer at (Raw.array es) (key k ∷ p) = tt
-  in_keeps keys outer at (Raw.inline rows) (number n ∷ p) = tt
-  in_keeps keys outer at (Raw.integer z) (key k ∷ p) = tt
-  in_keeps keys outer at (Raw.integer z) (number n ∷ p) = tt
-  in_keeps keys outer at (Raw.float z) (key k ∷ p) = tt
-  in_keeps keys outer at (Raw.float z) (number n ∷ p) = tt
-  in_keeps keys outer at (Raw.boolean z) (key k ∷ p) = tt
-  in_keeps keys outer at (Raw.boolean z) (number n ∷ p) = tt
-  in_keeps keys outer at (Raw.string z) (key k ∷ p) = tt
-  in_keeps keys outer at (Raw.string z) (number n ∷ p) = tt
-
-  among_keeps : (keys : KeyTexts) (outer : Option ℕ) (es : Elements) (n : ℕ) (p : Path)
-      → IfSome (node_among keys outer es n p) (Keeps keys)
-  among_keeps keys outer no_elements n p = tt
-  among_keeps keys outer (element at v es) zero p = in_keeps keys outer at v p
-  among_keeps keys outer (element at v es) (suc n) p = among_keeps keys outer es n p
-
-  by_keeps : (keys : KeyTexts) (outer : Option ℕ) (all rows : Rows) (p : Path)
-      → IfSome (node_by keys outer all rows p) (Keeps keys)
-  by_keeps keys outer all no_rows p = tt
-  by_keeps keys outer all (row ks at v later) p =
-      let steps = steps_of (texts ks) in
-      one_of (begins steps p) (begins p steps)
-      (node_in keys (holder_in outer all (front steps)) at v (drop (length steps) p)) (node_by keys outer all later p)
-      (dotted_node keys (holder_in outer all (front p)) at) (Keeps keys)
-      (λ _. in_keeps keys (holder_in outer all (front steps)) at v (drop (length steps) p)) (λ _. refl)
-      (by_keeps keys outer all later p)
+in_keeps : (keys : KeyTexts) (outer : Option ℕ) (at : ℕ) (v : Raw) (p : Path)
+    → IfSome (node_in keys outer at v p) (Keeps keys)
+in_keeps keys outer at v p = in_value keys (Keeps keys) (λ outer at v. refl) (λ outer at. refl) outer at v p
 
 -- a row below its section's table
 module _ (ls : List Located) (last : Option ℕ) (l : Located) (r : Step) (q : Path) where

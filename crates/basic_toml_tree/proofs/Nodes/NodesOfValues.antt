@@ -1,0 +1,47 @@
+-- What holds of each value and of each dotted table holds of every node in a value.
+use Rattle.std.proofs.Common.{◌≡◌, ℕ, zero, suc, Bool, true, false, [], ◌∷◌, Option, Some, refl, length, drop}
+use Rattle.std.specs.Prelude.{if◌then◌else◌, IfSome}
+use Rattle.basic_toml_grammar.specs.Sections.{KeyTexts, texts, Raw, Elements, no_elements, element, Rows, no_rows, row}
+use Rattle.basic_toml_grammar.specs.Steps.{key, number, Path, begins, steps_of}
+use Rattle.basic_toml_grammar.specs.Nodes.{Node, front, value_node, dotted_node, holder_in, node_in, node_among, node_by}
+
+-- one of three, each where it is chosen
+pub one_of : (a b : Bool) (m n : Option Node) (d : Node) (P : Node → Type 0) → (a ≡ true → IfSome m P)
+    → (b ≡ true → P d) → IfSome n P → IfSome (if a then m else if b then Some d else n) P
+one_of true b m n d P value table later = value refl
+one_of false true m n d P value table later = table refl
+one_of false false m n d P value table later = later
+
+module _ (keys : KeyTexts) (P : Node → Type 0)
+    (of_value : (outer : Option ℕ) (at : ℕ) (v : Raw) → P (value_node keys outer at v))
+    (of_dotted : (outer : Option ℕ) (at : ℕ) → P (dotted_node keys outer at)) where
+  mutual
+    pub in_value : (outer : Option ℕ) (at : ℕ) (v : Raw) (p : Path) → IfSome (node_in keys outer at v p) P
+    in_value outer at v [] = of_value outer at v
+    in_value outer at (Raw.array es) (number n ∷ p) = among_elements outer es n p
+    in_value outer at (Raw.inline rows) (key k ∷ p) = by_rows (Some at) rows rows (key k ∷ p)
+    in_value outer at (Raw.array es) (key k ∷ p) = tt
+    in_value outer at (Raw.inline rows) (number n ∷ p) = tt
+    in_value outer at (Raw.integer z) (key k ∷ p) = tt
+    in_value outer at (Raw.integer z) (number n ∷ p) = tt
+    in_value outer at (Raw.float z) (key k ∷ p) = tt
+    in_value outer at (Raw.float z) (number n ∷ p) = tt
+    in_value outer at (Raw.boolean z) (key k ∷ p) = tt
+    in_value outer at (Raw.boolean z) (number n ∷ p) = tt
+    in_value outer at (Raw.string z) (key k ∷ p) = tt
+    in_value outer at (Raw.string z) (number n ∷ p) = tt
+
+    among_elements : (outer : Option ℕ) (es : Elements) (n : ℕ) (p : Path) → IfSome (node_among keys outer es n p) P
+    among_elements outer no_elements n p = tt
+    among_elements outer (element at v es) zero p = in_value outer at v p
+    among_elements outer (element at v es) (suc n) p = among_elements outer es n p
+
+    by_rows : (outer : Option ℕ) (all rows : Rows) (p : Path) → IfSome (node_by keys outer all rows p) P
+    by_rows outer all no_rows p = tt
+    by_rows outer all (row ks at v later) p =
+        let steps = steps_of (texts ks) in
+        one_of (begins steps p) (begins p steps)
+        (node_in keys (holder_in outer all (front steps)) at v (drop (length steps) p)) (node_by keys outer all later p)
+        (dotted_node keys (holder_in outer all (front p)) at) P
+        (λ _. in_value (holder_in outer all (front steps)) at v (drop (length steps) p))
+        (λ _. of_dotted (holder_in outer all (front p)) at) (by_rows outer all later p)
