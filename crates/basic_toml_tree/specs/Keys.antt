@@ -1,5 +1,6 @@
 -- Which keys of headers and rows a node keeps, of those that lead to it.
 use Rattle.std.specs.Prelude.{◌≡◌, ◌+◌, ℕ, true, false, List, [], ◌∷◌, ◌++◌, length, slice_get, take, IfSome, get_or}
+use Rattle.std.specs.Borrow.{Bor}
 use Rattle.basic_toml_grammar.specs.Sections.{KeyTexts, Section}
 use Rattle.basic_toml_grammar.specs.Steps.{key, Path, begins, steps_of, keys_of}
 use Rattle.basic_toml_grammar.specs.IndexedPath.{located}
@@ -63,10 +64,14 @@ BeginsRow from k n spot trail =
     (s : ℕ) → from.trail ≡ Header s → spot_is_made 1 spot ≡ false
     → KeepsRow from.tree.now n (take from.count (header_at from.tree.now s)) k trail
 
--- where headers made a table, and a row put what is at a key of it
+-- on from a node that keeps a row: the same row is kept
+abbrev pub HandsOn : Node → Trail → Type 0
+HandsOn from trail = (n : ℕ) (first : Bor (List ℕ)) → from.trail ≡ Row n first → trail ≡ from.trail
+
+-- at a key of a table that headers made, where a row put what is there, and below it
 abbrev pub RowsLead : Tree → Path → Node → Type 0
 RowsLead tree p node =
-    (sections : List Section) → IsResolved sections tree → (q : Path) (k : List ℕ) → p ≡ q ++ key k ∷ []
+    (sections : List Section) → IsResolved sections tree → (q : Path) (k : List ℕ) (r : Path) → p ≡ q ++ key k ∷ r
     → is_made (located sections) q ≡ true
-    → IfSome ((table_within tree.root.value).below p)
+    → IfSome ((table_within tree.root.value).below (q ++ key k ∷ []))
     (λ o. o.made ≡ false → KeepsRow tree o.section (keys_of q) k node.trail)

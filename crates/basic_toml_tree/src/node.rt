@@ -23,7 +23,7 @@ ghost use Rattle.basic_toml_tree.specs.Stands.{HoldsTable, IsBelow, IsBeside, Is
 ghost use Rattle.basic_toml_tree.specs.Stands.{ComesFrom};
 ghost use Rattle.basic_toml_tree.specs.Origins.{child_origins};
 ghost use Rattle.basic_toml_tree.specs.Outer.{kept_below};
-ghost use Rattle.basic_toml_tree.specs.Keys.{header_at, GoesOn, CountsOn, BeginsRow};
+ghost use Rattle.basic_toml_tree.specs.Keys.{header_at, GoesOn, CountsOn, BeginsRow, HandsOn};
 ghost use Rattle.basic_toml_tree.specs.declared.item.Child.{out-Child};
 ghost use Rattle.basic_toml_tree.specs.declared.trail.Trail.TheVariants as trails;
 
@@ -128,6 +128,7 @@ impl<'t, 'de> Node<'t, 'de> {
         ensures outer { result.outer ≡ kept_below self.entry }
         ensures keys { GoesOn self.entry key.now result.spot result.trail }
         ensures row { BeginsRow self.entry key.now (out-Child child.now).section result.spot result.trail }
+        ensures handed { HandsOn self.entry result.trail }
         ensures count { CountsOn self.entry result.spot result.count }
     {
         let count = self.count.saturating_add(1);
@@ -154,6 +155,7 @@ impl<'t, 'de> Node<'t, 'de> {
     fn trail_below(self, key: &'t str, section: usize, spot: Spot<'t, 'de>) -> Trail<'t>
         ensures keys { GoesOn self.entry key.now spot.entry result }
         ensures row { BeginsRow self.entry key.now section spot.entry result }
+        ensures handed { HandsOn self.entry result }
         ensures within { (s : ℕ) → self.entry.trail ≡ trails.Header s → spot_is_made 1 spot.entry ≡ true
             → length (take self.entry.count (header_at self.entry.tree.now s)) < usize.MAX }
     {

@@ -1,9 +1,9 @@
 -- Headers that begin with keys.
-use Rattle.std.proofs.Common.{◌≡◌, ◌≤◌, ◌<◌, ℕ, zero, suc, Bool, true, false, List, [], ◌∷◌, ◌++◌, length, map, take, Some, None}
+use Rattle.std.proofs.Common.{◌≡◌, ◌⊎◌, inl, inr, ◌≤◌, ◌<◌, ℕ, zero, suc, Bool, true, false, List, [], ◌∷◌, ◌++◌, length, map, take, Some, None}
 use Rattle.std.proofs.Common.{refl, ap, sym, ◌∙◌, arith, nat_lt, subst, get_or}
 use Rattle.std.specs.Prelude.{slice_get}
 use Rattle.std.proofs.lemmas.List.{take-map}
-use Rattle.std.specs.Prelude.{◌||◌}
+use Rattle.std.specs.Prelude.{◌||◌, IfSome}
 use Rattle.std.specs.List.{list_any}
 use Rattle.std.proofs.lemmas.Bool.{false≢true, and_parts, and_from, or_left, or_right}
 use Rattle.basic_toml_grammar.specs.IndexedPath.{Located, located}
@@ -16,7 +16,8 @@ use Rattle.basic_toml_read.specs.declared.section.Section as code
 use Rattle.basic_toml_read.specs.SectionView.{header_texts, key_of}
 use Rattle.basic_toml_tree.specs.declared.tree.Tree.{Tree}
 use Rattle.basic_toml_tree.specs.Origin.{header_of}
-use Rattle.basic_toml_tree.specs.Keys.{header_at, Leads, KeepsHeader, KeysLead, RowsLead}
+use Rattle.basic_toml_tree.specs.Origins.{table_within}
+use Rattle.basic_toml_tree.specs.Keys.{header_at, Leads, KeepsHeader, KeysLead, KeepsRow, RowsLead}
 use Rattle.basic_toml_tree.specs.Stands.{StandsAt, IsBeside}
 use Rattle.basic_toml_tree.specs.declared.node.Node.{Node}
 use Rattle.basic_toml_tree.specs.declared.spot.Spot.{Spot}
@@ -134,32 +135,48 @@ keys_beside from node here n beside tree p stands sections resolved made =
           (subst (λ kept. KeepsHeader tree (keys_of p) kept) (sym beside.trail) before.keeps);
     }
 
--- the last step of a path
-pub last_step : (p q : Path) (s t : Step) → p ++ s ∷ [] ≡ q ++ t ∷ [] → (p ≡ q) × (s ≡ t)
-last_step [] [] s t same = let one : s ≡ t = cc in (refl, one)
-last_step [] (r ∷ []) s t same = absurd (cc)
-last_step [] (r ∷ u ∷ q) s t same = absurd (cc)
-last_step (r ∷ []) [] s t same = absurd (cc)
-last_step (r ∷ u ∷ p) [] s t same = absurd (cc)
-last_step (r ∷ p) (u ∷ q) s t same =
-    let first : r ≡ u = cc in
-    let rest : p ++ s ∷ [] ≡ q ++ t ∷ [] = cc in
-    let ih = last_step p q s t rest in
-    (ap (λ r. r ∷ p) first ∙ ap (λ p. u ∷ p) ih.0, ih.1)
+-- The last step of a path is this one, or stands further on.
+abbrev pub EndsAt : Path → Step → Path → Step → Path → Type 0
+EndsAt p s q t r = ((r ≡ []) × (p ≡ q) × (s ≡ t)) ⊎ ((more : Path) × (p ≡ q ++ t ∷ more))
 
--- at a number a row begins nothing
-pub rows_beside : (tree : Tree) (p : Path) (n : ℕ) (node : Node) → RowsLead tree (p ++ number n ∷ []) node
-rows_beside tree p n node sections resolved q k same made =
-    absurd (other (last_step p q (number n) (key k) same).1)
+pub last_step : (p q : Path) (s t : Step) (r : Path) → p ++ s ∷ [] ≡ q ++ t ∷ r → EndsAt p s q t r
+last_step [] [] s t r same =
+    let one : s ≡ t = cc in
+    let rest : r ≡ [] = cc in inl (rest, refl, one)
+last_step [] (u ∷ []) s t r same = absurd (cc)
+last_step [] (u ∷ v ∷ q) s t r same = absurd (cc)
+last_step (u ∷ p) [] s t r same = let first : u ≡ t = cc in inr (p, ap (λ u. u ∷ p) first)
+last_step (u ∷ p) (v ∷ q) s t r same =
+    let first : u ≡ v = cc in
+    let rest : p ++ s ∷ [] ≡ q ++ t ∷ r = cc in on first (last_step p q s t r rest)
+  where
+    on : u ≡ v → EndsAt p s q t r → EndsAt (u ∷ p) s (v ∷ q) t r
+    on first (inl one) = inl (one.0, ap (λ u. u ∷ p) first ∙ ap (λ p. v ∷ p) one.1, one.2)
+    on first (inr further) = inr (further.0, ap (λ u. u ∷ p) first ∙ ap (λ p. v ∷ p) further.1)
+
+-- an element is below the key that its array is below
+pub rows_beside : (from node : Node) (here : Spot) (n : ℕ) → IsBeside from here node → (tree : Tree) (p : Path)
+    → StandsAt tree p from → RowsLead tree (p ++ number n ∷ []) node
+rows_beside from node here n beside tree p stands sections resolved q k r same made =
+    go (last_step p q (number n) (key k) r same)
   where
     other : number n ≡ key k → ⊥
     other e = cc
 
+    go : EndsAt p (number n) q (key k) r
+        → IfSome ((table_within tree.root.value).below (q ++ key k ∷ []))
+        (λ o. o.made ≡ false → KeepsRow tree o.section (keys_of q) k node.trail)
+    go (inl one) = absurd (other one.2)
+    go (inr further) =
+        subst (λ trail. IfSome ((table_within tree.root.value).below (q ++ key k ∷ []))
+        (λ o. o.made ≡ false → KeepsRow tree o.section (keys_of q) k trail)) (sym beside.trail)
+        (stands.rows sections resolved q k further.0 further.1 made)
+
 -- the root, to which no key leads
 pub root_rows : (tree : Tree) (node : Node) → RowsLead tree [] node
-root_rows tree node sections resolved q k same made = absurd (other q same)
+root_rows tree node sections resolved q k r same made = absurd (other q same)
   where
-    other : (q : Path) → [] ≡ q ++ key k ∷ [] → ⊥
+    other : (q : Path) → [] ≡ q ++ key k ∷ r → ⊥
     other [] e = cc
     other (s ∷ q) e = cc
 

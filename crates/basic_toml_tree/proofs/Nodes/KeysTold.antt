@@ -35,9 +35,9 @@ use Rattle.basic_toml_tree.specs.Resolve.{IsResolved, Stands, head}
 use Rattle.basic_toml_tree.specs.Stands.{trie_at, tree_trie, StandsAt, IsNodeAt, ForetoldMade}
 use Rattle.basic_toml_tree.specs.Stands.{ForetoldEntry, ComesFrom, tree_origins, spot_origin}
 use Rattle.basic_toml_tree.specs.Keys.{header_at, Leads, KeepsHeader, KeepsKeys, KeysLead, GoesOn, CountsOn}
-use Rattle.basic_toml_tree.specs.Keys.{KeepsRow, BeginsRow, RowsLead}
+use Rattle.basic_toml_tree.specs.Keys.{KeepsRow, BeginsRow, HandsOn, RowsLead}
 use Rattle.basic_toml_tree.specs.Outer.{stands_made}
-use Rattle.basic_toml_tree.proofs.Nodes.KeysLead.{made_before, last_step}
+use Rattle.basic_toml_tree.proofs.Nodes.KeysLead.{made_before, EndsAt, last_step}
 use Rattle.basic_toml_tree.proofs.Nodes.MadeNodes.{made_in_trie, spot_made, foretold}
 use Rattle.basic_toml_tree.proofs.Nodes.NodesStand.{KeysOn, Further}
 
@@ -176,41 +176,65 @@ no_root : (spot : Spot) (count : ℕ) → (count == 0) ≡ false → spot_is_mad
 no_root (spots.Table b) count some = sym (ap (λ c. c || table_is_made b.now) some)
 no_root (spots.Item b) count some = refl
 
+row_on : (from node : Node) → HandsOn from node.trail → (tree : Tree) (n : ℕ) (keys : KeyTexts) (k : List ℕ)
+    → KeepsRow tree n keys k from.trail → KeepsRow tree n keys k node.trail
+row_on from node hands tree n keys k kept = go from.trail refl kept
+  where
+    go : (t : Trail) → from.trail ≡ t → KeepsRow tree n keys k t → KeepsRow tree n keys k node.trail
+    go (Header m) is kept = absurd kept
+    go (Row m first) is kept = subst (λ t. KeepsRow tree n keys k t) (sym is ∙ sym (hands m first is)) kept
+
 row_keeps : (from node : Node) (k : List ℕ) (c : Child)
-    → BeginsRow from k (out-Child c).section node.spot node.trail → ComesFrom (child_origins c) node
-    → (node.count == 0) ≡ false → (tree : Tree) (p : Path) → StandsAt tree p from
+    → BeginsRow from k (out-Child c).section node.spot node.trail → HandsOn from node.trail
+    → ComesFrom (child_origins c) node → (node.count == 0) ≡ false → (tree : Tree) (p : Path) → StandsAt tree p from
     → tree_origins tree (p ++ key k ∷ []) ≡ child_origins c [] → RowsLead tree (p ++ key k ∷ []) node
-row_keeps from node k c row comes some tree p stands here sections resolved q l same made =
-    let last = last_step p q (key k) (key l) same in
-    let is_key : k ≡ l = same_key last.1 in
-    let before = stands.keys sections resolved
-    (subst (λ q. grammar.is_made (located sections) q ≡ true) (sym last.0) made) in
-    let within : from.tree.now ≡ tree = stands.within in
-    let keys = kept_first from tree p within before ∙ ap keys_of last.0 in
-    subst (λ o. IfSome o (λ o. o.made ≡ false → KeepsRow tree o.section (keys_of q) l node.trail)) (sym here)
-    (some_both (child_origins c []) (λ o. o.section ≡ (out-Child c).section)
-    (λ o. o.made ≡ false → o ≡ spot_origin node.count node.spot node.start comes.section)
-    (λ o. o.made ≡ false → KeepsRow tree o.section (keys_of q) l node.trail)
-    (λ o bears own apart.
-    let spot : spot_is_made 1 node.spot ≡ false =
-    no_root node.spot node.count some ∙ sym (ap (λ o. o.made) (own apart)) ∙ apart in
-    subst (λ n. KeepsRow tree n (keys_of q) l node.trail) (sym bears)
-    (subst (λ k. KeepsRow tree (out-Child c).section (keys_of q) k node.trail) is_key
-    (subst (λ keys. KeepsRow tree (out-Child c).section keys k node.trail) keys
-    (subst (λ (t : Tree). KeepsRow t (out-Child c).section (take from.count (header_at from.tree.now
-    before.keeps.section)) k node.trail) within
-    (row before.keeps.section before.keeps.trail spot)))))
-    (child_bears c) comes.own)
+row_keeps from node k c row hands comes some tree p stands here sections resolved q l r same made =
+    go (last_step p q (key k) (key l) r same)
   where
     same_key : key k ≡ key l → k ≡ l
     same_key e = cc
 
+    first : p ≡ q → k ≡ l → IfSome (tree_origins tree (q ++ key l ∷ []))
+        (λ o. o.made ≡ false → KeepsRow tree o.section (keys_of q) l node.trail)
+    first is_path is_key =
+        let before = stands.keys sections resolved
+        (subst (λ q. grammar.is_made (located sections) q ≡ true) (sym is_path) made) in
+        let within : from.tree.now ≡ tree = stands.within in
+        let keys = kept_first from tree p within before ∙ ap keys_of is_path in
+        let path : q ++ key l ∷ [] ≡ p ++ key k ∷ [] =
+        sym (ap (λ p. p ++ key k ∷ []) is_path ∙ ap (λ k. q ++ key k ∷ []) is_key) in
+        subst (λ o. IfSome o (λ o. o.made ≡ false → KeepsRow tree o.section (keys_of q) l node.trail))
+        (sym (ap (tree_origins tree) path ∙ here))
+        (some_both (child_origins c []) (λ o. o.section ≡ (out-Child c).section)
+        (λ o. o.made ≡ false → o ≡ spot_origin node.count node.spot node.start comes.section)
+        (λ o. o.made ≡ false → KeepsRow tree o.section (keys_of q) l node.trail)
+        (λ o bears own apart.
+        let spot : spot_is_made 1 node.spot ≡ false =
+        no_root node.spot node.count some ∙ sym (ap (λ o. o.made) (own apart)) ∙ apart in
+        subst (λ n. KeepsRow tree n (keys_of q) l node.trail) (sym bears)
+        (subst (λ k. KeepsRow tree (out-Child c).section (keys_of q) k node.trail) is_key
+        (subst (λ keys. KeepsRow tree (out-Child c).section keys k node.trail) keys
+        (subst (λ (t : Tree). KeepsRow t (out-Child c).section (take from.count (header_at from.tree.now
+        before.keeps.section)) k node.trail) within
+        (row before.keeps.section before.keeps.trail spot)))))
+        (child_bears c) comes.own)
+
+    go : EndsAt p (key k) q (key l) r → IfSome (tree_origins tree (q ++ key l ∷ []))
+        (λ o. o.made ≡ false → KeepsRow tree o.section (keys_of q) l node.trail)
+    go (inl one) = first one.1 (same_key one.2)
+    go (inr further) =
+        some_then (tree_origins tree (q ++ key l ∷ []))
+        (λ o. o.made ≡ false → KeepsRow tree o.section (keys_of q) l from.trail)
+        (λ o. o.made ≡ false → KeepsRow tree o.section (keys_of q) l node.trail)
+        (λ o kept apart. row_on from node hands tree o.section (keys_of q) l (kept apart))
+        (stands.rows sections resolved q l further.0 further.1 made)
+
 pub key_keeps : (from node : Node) (k : List ℕ) (c : Child) → GoesOn from k node.spot node.trail
     → CountsOn from node.spot node.count → BeginsRow from k (out-Child c).section node.spot node.trail
-    → ComesFrom (child_origins c) node → (node.count == 0) ≡ false → KeysOn from k c node
-key_keeps from node k c goes counts row comes some tree p stands there here = (
+    → HandsOn from node.trail → ComesFrom (child_origins c) node → (node.count == 0) ≡ false → KeysOn from k c node
+key_keeps from node k c goes counts row hands comes some tree p stands there here = (
   header_keeps from node k goes counts tree p stands there,
-  row_keeps from node k c row comes some tree p stands here,
+  row_keeps from node k c row hands comes some tree p stands here,
 )
 
 -- what headers made is told
@@ -301,7 +325,7 @@ module _ (sections : List Section) (node : Node) (p : Path) (k : List ℕ) (is :
         ∙ no_row_clash (has_row_clash sections) (sections_clash sections) is.resolved.clash in
         let keyed = located_keyed [] sections ∙ is.resolved.within in
         let rows = subst (λ o. IfSome o (λ o. o.made ≡ false → KeepsRow tree o.section (keys_of p) k node.trail))
-        (is.resolved.origins q not) (is.stands.rows sections is.resolved p k refl made) in
+        (is.resolved.origins q not) (is.stands.rows sections is.resolved p k [] refl made) in
         rw not (told_row (grammar.node_of_sections ls last ls q) (sections_origins 0 ls q)
         (sections_same ls last 0 ls q back apart keyed) (sections_found ls last 0 ls q back apart keyed) rows)
 

@@ -239,7 +239,7 @@ module _ (from node : Node) (n : ℕ) (b : Bor Item) (at : from.spot ≡ spots.I
       (λ s. literal_comes from node n b at children child is read comes s) tree p stands
       (ap (λ c. c == 0) beside.count ∙ stands.root ∙ no_array_root from tree p stands (ap tells_table here))
       (kept_beside from node n tree p beside.outer stands)
-      (keys_beside from node spot n beside tree p stands) (rows_beside tree p n node)
+      (keys_beside from node spot n beside tree p stands) (rows_beside from node spot n beside tree p stands)
 
   pub tables_stand : (before : Vec Table Global) (latest : Box Table Global) (t : Bor Table)
       → b.now ≡ Tables before latest
@@ -260,4 +260,5 @@ module _ (from node : Node) (n : ℕ) (b : Bor Item) (at : from.spot ≡ spots.I
       (λ s. tables_come from node n b at before latest t is read
       (λ s. table_node_comes t node from.start s beside.spot start counted) s) tree p stands counted
       (kept_beside from node n tree p beside.outer stands)
-      (keys_beside from node (spots.Table t) n beside tree p stands) (rows_beside tree p n node)
+      (keys_beside from node (spots.Table t) n beside tree p stands)
+      (rows_beside from node (spots.Table t) n beside tree p stands)

@@ -42,7 +42,8 @@ returns-clause-steps c =
           c.value.result.now holds c.keys_differ.ensures c.key-key.ensures c.value.ensures c.below.ensures.below
           c.below.ensures.comes (keeps_below c.args.self.now.table c.below.result c.below.ensures.outer)
           (key_keeps c.args.self.now.table c.below.result c.key-key.result.now c.value.result.now
-          c.below.ensures.keys c.below.ensures.count c.below.ensures.row c.below.ensures.comes
+          c.below.ensures.keys c.below.ensures.count c.below.ensures.row c.below.ensures.handed
+          c.below.ensures.comes
           c.below.ensures.below.count),
       refl,
     )

@@ -26,4 +26,4 @@ returns-clause-stands c =
     c.in-Some.ensures.value c.below.ensures.below c.below.ensures.comes
     (keeps_below c.args.self c.below.result c.below.ensures.outer)
     (key_keeps c.args.self c.below.result c.args.key.now c.in-Some.pair.now.value (search (rules)) c.below.ensures.count
-    (search (rules)) c.below.ensures.comes c.below.ensures.below.count)
+    (search (rules)) c.below.ensures.handed c.below.ensures.comes c.below.ensures.below.count)
