@@ -1,6 +1,7 @@
 -- The nodes of a tree: where they stand, and what they are by the section list.
 pub mod NodesInOrder
 pub mod NodesStand
+pub mod OneSection
 pub mod NodesCome
 pub mod ItemsStand
 pub mod LastSection

@@ -65,14 +65,14 @@ module _ (ls : List Located) (last : Option ℕ) (l : Located) (r : Step) (q : P
       (rows_keep rows (and_parts (has_key (k ∷ ks) && value_keyed v) (keyed_within rows) keyed).1)
 
 -- what a section brings bears its number
-abbrev Of : ℕ → Origin → Type 0
+abbrev pub Of : ℕ → Origin → Type 0
 Of s o = o.section ≡ s
 
 if_some : (b : Bool) (o : Option Origin) (P : Origin → Type 0) → IfSome o P → IfSome (if b then o else None) P
 if_some true o P some = some
 if_some false o P some = tt
 
-or_some : (m n : Option Origin) (P : Origin → Type 0) → IfSome m P → IfSome n P → IfSome (option_or m n) P
+pub or_some : (m n : Option Origin) (P : Origin → Type 0) → IfSome m P → IfSome n P → IfSome (option_or m n) P
 or_some None n P first later = later
 or_some (Some o) n P first later = first
 
@@ -108,7 +108,7 @@ mutual
   elements_bear s (element at v es) zero p = value_bears s at v p
   elements_bear s (element at v es) (suc n) p = elements_bear s es n p
 
-  rows_bear : (s : ℕ) (rows : Rows) (p : Path) → IfSome (rows_origins s rows p) (Of s)
+  pub rows_bear : (s : ℕ) (rows : Rows) (p : Path) → IfSome (rows_origins s rows p) (Of s)
   rows_bear s no_rows p = tt
   rows_bear s (row ks at v rows) p =
       or_some (row_origins (texts ks) (table_origin false at s) (value_origins s at v) p) (rows_origins s rows p) (Of s)
@@ -116,7 +116,7 @@ mutual
       (λ p. value_bears s at v p) p)
       (rows_bear s rows p)
 
-along_bears : (w : Path) (f : Origins) (P : Origin → Type 0) → ((p : Path) → IfSome (f p) P) → (p : Path)
+pub along_bears : (w : Path) (f : Origins) (P : Origin → Type 0) → ((p : Path) → IfSome (f p) P) → (p : Path)
     → IfSome (along w f p) P
 along_bears [] f P below p = below p
 along_bears (s ∷ w) f P below [] = tt
@@ -174,7 +174,7 @@ module _ (n : ℕ) (l : Located) (later : List Located) (p : Path) where
     keys = from.3;
   }
 
-either : (a b : Bool) → (a || b) ≡ false → (a ≡ false) × (b ≡ false)
+pub either : (a b : Bool) → (a || b) ≡ false → (a ≡ false) × (b ≡ false)
 either false b e = (refl, e)
 either true b e = absurd (cc)
 
