@@ -1,7 +1,6 @@
 -- The nodes of a tree: where they stand, and what they are by the section list.
 pub mod NodesInOrder
 pub mod NodesStand
-pub mod OneSection
 pub mod NodesCome
 pub mod ItemsStand
 pub mod LastSection
@@ -17,3 +16,5 @@ pub mod OuterTold
 pub mod KeysLead
 pub mod KeysTold
 pub mod RowKeys
+pub mod RowsReach
+pub mod OneSection

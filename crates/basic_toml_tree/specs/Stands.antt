@@ -165,9 +165,3 @@ Foretold sections p node says = IsNodeAt sections p node → IfSome (grammar.nod
 abbrev pub ForetoldMade : List Section → Path → Node → (grammar.Node → Type 0) → Type 0
 ForetoldMade sections p node says =
     IsNodeAt sections p node → grammar.is_made (located sections) p ≡ true → IfSome (grammar.node_at sections p) says
-
--- what is said of an entry of a table that headers made
-abbrev pub ForetoldEntry : List Section → Path → List ℕ → Node → (grammar.Node → Type 0) → Type 0
-ForetoldEntry sections p k node says =
-    IsNodeAt sections (p ++ key k ∷ []) node → grammar.is_made (located sections) p ≡ true
-    → IfSome (grammar.node_at sections (p ++ key k ∷ [])) says

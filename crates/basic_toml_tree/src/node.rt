@@ -18,7 +18,7 @@ ghost use Rattle.basic_toml_tree.specs.Data.{table_data, child_data};
 ghost use Rattle.basic_toml_tree.specs.Nodes.{node_data, is_table, is_array, maybe_table, data_at};
 ghost use Rattle.basic_toml_tree.specs.Nodes.{elements_in, entries_in, elements_left, entries_left};
 ghost use Rattle.basic_toml_tree.specs.Origin.{is_made, spot_is_made, name_of, start_of, outer_of, offset_of, keys_of as key_path_of};
-ghost use Rattle.basic_toml_tree.specs.Stands.{IsNodeAt, Foretold, ForetoldMade, ForetoldEntry};
+ghost use Rattle.basic_toml_tree.specs.Stands.{IsNodeAt, Foretold};
 ghost use Rattle.basic_toml_tree.specs.Stands.{HoldsTable, IsBelow, IsBeside, IsTableBeside, AtKey, AtNumber, BeginsIn};
 ghost use Rattle.basic_toml_tree.specs.Stands.{ComesFrom};
 ghost use Rattle.basic_toml_tree.specs.Origins.{child_origins};
@@ -380,9 +380,7 @@ impl<'t, 'de> Node<'t, 'de> {
     #[tactic(auto, unfolding(crate::specs::Origin::keys_of))]
     pub fn key_path(self, alloc: Global) -> Result<Vec<String>, AllocError>
         ensures is { IfOk result (λ path. map string_bytes path.items ≡ key_path_of self.entry) }
-        ensures foretold { (sections : List Section) (p : Path) → ForetoldMade sections p self.entry
-            (λ node. IfOk result (λ path. map string_bytes path.items ≡ node.key_path)) }
-        ensures entries { (sections : List Section) (p : Path) (k : List ℕ) → ForetoldEntry sections p k self.entry
+        ensures foretold { (sections : List Section) (p : Path) → Foretold sections p self.entry
             (λ node. IfOk result (λ path. map string_bytes path.items ≡ node.key_path)) }
     {
         match self.trail {

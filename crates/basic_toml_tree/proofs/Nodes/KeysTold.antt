@@ -12,7 +12,7 @@ use Rattle.basic_toml_grammar.specs.Steps.{Step, key, number, Path, step_eq, beg
 use Rattle.basic_toml_grammar.specs.IndexedPath.{Located, located_after, located_from, located}
 use Rattle.basic_toml_grammar.specs.Trie.{Trie, standing}
 use Rattle.basic_toml_grammar.specs.Nodes as grammar
-use Rattle.basic_toml_grammar.proofs.Clash.PathsAgree.{count_in, keys-append, keys_cut, cuts_are, counts_are}
+use Rattle.basic_toml_grammar.proofs.Clash.PathsAgree.{append_none, count_in, keys-append, keys_cut, cuts_are, counts_are}
 use Rattle.basic_toml_read.specs.declared.section.Section as code
 use Rattle.basic_toml_read.specs.SectionView.{section_of}
 use Rattle.basic_toml_tree.specs.declared.tree.Tree.{Tree}
@@ -27,13 +27,15 @@ use Rattle.basic_toml_tree.specs.Ways.{sections_origins}
 use Rattle.basic_toml_grammar.specs.RowClash.{rows_clash, has_row_clash}
 use Rattle.basic_toml_grammar.specs.SectionClash.{sections_clash}
 use Rattle.basic_toml_tree.proofs.Nodes.NodesCome.{child_bears}
-use Rattle.basic_toml_tree.proofs.Nodes.RowKeys.{Both, FoundIn, sections_found}
-use Rattle.basic_toml_tree.proofs.Nodes.RowNodesTold.{located_any, located_keyed, no_row_clash, some_then}
+use Rattle.basic_toml_tree.proofs.Nodes.RowKeys.{Both, FoundIn, either, sections_found}
+use Rattle.basic_toml_tree.proofs.Nodes.RowsReach.{joined}
+use Rattle.basic_toml_tree.proofs.Nodes.OneSection.{some_same, stands_before, EntryBears, entry_bears}
+use Rattle.basic_toml_tree.proofs.Nodes.RowNodesTold.{located_any, located_keyed, some_then}
 use Rattle.basic_toml_tree.proofs.Origins.RowsAreNodes.{Same, of_node, of_origin, sections_same}
 use Rattle.basic_toml_tree.specs.Origin.{header_of, spot_is_made, table_is_made, keys_of as kept_keys, trail_keys}
 use Rattle.basic_toml_tree.specs.Resolve.{IsResolved, Stands, head}
-use Rattle.basic_toml_tree.specs.Stands.{trie_at, tree_trie, StandsAt, IsNodeAt, ForetoldMade}
-use Rattle.basic_toml_tree.specs.Stands.{ForetoldEntry, ComesFrom, tree_origins, spot_origin}
+use Rattle.basic_toml_tree.specs.Stands.{trie_at, tree_trie, StandsAt, IsNodeAt, Foretold, ForetoldMade}
+use Rattle.basic_toml_tree.specs.Stands.{ComesFrom, tree_origins, spot_origin}
 use Rattle.basic_toml_tree.specs.Keys.{header_at, Leads, KeepsHeader, KeepsKeys, KeysLead, GoesOn, CountsOn}
 use Rattle.basic_toml_tree.specs.Keys.{KeepsRow, BeginsRow, HandsOn, RowsLead}
 use Rattle.basic_toml_tree.specs.Outer.{stands_made}
@@ -262,22 +264,20 @@ located_at before (s ∷ ss) zero l there =
 located_at before (s ∷ ss) (suc n) l there = located_at (s ∷ before) ss n l there
 
 -- the key after those of a path that begins another
-key_after : (w others q : Path) (k l : List ℕ) → q ++ key k ∷ [] ≡ w ++ key l ∷ others
+get_past : (before keys : KeyTexts) (k : List ℕ) → get_or (before ++ keys) (length before) k ≡ get_or keys 0 k
+get_past [] keys k = refl
+get_past (l ∷ before) keys k = get_past before keys k
+
+first_after : (y r others : Path) (k l : List ℕ) → y ++ key k ∷ r ≡ key l ∷ others → get_or (keys_of y) 0 k ≡ l
+first_after [] r others k l same = cc
+first_after (s ∷ y) r others k l same =
+    let is : s ≡ key l = cc in ap (λ s. get_or (keys_of (s ∷ y)) 0 k) is
+
+key_after : (q w y r others : Path) (k l : List ℕ) → q ≡ w ++ y → y ++ key k ∷ r ≡ key l ∷ others
     → get_or (keys_of q) (length (keys_of w)) k ≡ l
-key_after [] others [] k l same = cc
-key_after [] others (s ∷ q) k l same =
-    let is : s ≡ key l = cc in ap (λ s. get_or (keys_of (s ∷ q)) 0 k) is
-key_after (t ∷ []) others [] k l same = absurd (cc)
-key_after (t ∷ u ∷ w) others [] k l same = absurd (cc)
-key_after (t ∷ w) others (s ∷ q) k l same =
-    let is : s ≡ t = cc in
-    let rest : q ++ key k ∷ [] ≡ w ++ key l ∷ others = cc in
-    ap (λ s. get_or (keys_of (s ∷ q)) (length (keys_of (t ∷ w))) k) is ∙ go t (key_after w others q k l rest)
-  where
-    go : (t : Step) → get_or (keys_of q) (length (keys_of w)) k ≡ l
-        → get_or (keys_of (t ∷ q)) (length (keys_of (t ∷ w))) k ≡ l
-    go (key m) ih = ih
-    go (number m) ih = ih
+key_after q w y r others k l at same =
+    ap (λ keys. get_or keys (length (keys_of w)) k) (ap keys_of at ∙ keys-append w y)
+    ∙ get_past (keys_of w) (keys_of y) k ∙ first_after y r others k l same
 
 row_keys : (tree : Tree) (n count : ℕ) (keys : KeyTexts) (k : List ℕ) (trail : Trail) → KeepsRow tree n keys k trail
     → trail_keys tree.sections.items count trail
@@ -286,59 +286,108 @@ row_keys tree n count keys k (Header m) kept = absurd kept
 row_keys tree n count keys k (Row m first) kept =
     ap (λ m. header_at tree m ++ first.now ∷ []) kept.0 ∙ ap (λ k. header_at tree n ++ k ∷ []) kept.1
 
--- what a row put into a table that headers made
-module _ (sections : List Section) (node : Node) (p : Path) (k : List ℕ) (is : IsNodeAt sections (p ++ key k ∷ []) node)
+-- the last that headers made on the way to a path, and the step on from it
+record LastMade (ls : List Located) (p : Path) : Type 0 where
+  before : Path
+  step : Step
+  rest : Path
+  is : p ≡ before ++ step ∷ rest
+  made : grammar.is_made ls before ≡ true
+  not : grammar.is_made ls (before ++ step ∷ []) ≡ false
+
+made_from : (ls : List Located) (q r : Path) → grammar.is_made ls q ≡ true → grammar.is_made ls (q ++ r) ≡ false
+    → LastMade ls (q ++ r)
+made_from ls q [] made not =
+    absurd (false≢true (sym not ∙ ap (λ p. grammar.is_made ls p) (append_none q) ∙ made))
+made_from ls q (s ∷ r) made not =
+    go (grammar.is_made ls (q ++ s ∷ [])) refl (λ more. made_from ls (q ++ s ∷ []) r more
+    (ap (λ p. grammar.is_made ls p) (joined q (s ∷ []) r) ∙ not))
   where
-    told_row : (m : Option grammar.Node) (o : Option Origin) → Same m o
-        → Both m o (FoundIn 0 (located sections) (p ++ key k ∷ []))
-        → IfSome o (λ o. o.made ≡ false → KeepsRow node.tree.now o.section (keys_of p) k node.trail)
-        → IfSome m (λ found. trail_keys node.tree.now.sections.items node.count node.trail ≡ found.key_path)
-    told_row None o same found rows = tt
-    told_row (Some m) None same found rows = absurd (cc)
-    told_row (Some m) (Some o) same found rows =
+    go : (b : Bool) → grammar.is_made ls (q ++ s ∷ []) ≡ b
+        → (grammar.is_made ls (q ++ s ∷ []) ≡ true → LastMade ls ((q ++ s ∷ []) ++ r)) → LastMade ls (q ++ s ∷ r)
+    go true e more = subst (λ p. LastMade ls p) (joined q (s ∷ []) r) (more e)
+    go false e more = record { before = q; step = s; rest = r; is = refl; made = made; not = e }
+
+not_any : (ls : List Located) (p : Path) → grammar.is_made ls p ≡ false → list_any (λ l. begins p l.path) ls ≡ false
+not_any ls [] not = absurd (false≢true (sym not))
+not_any ls (s ∷ p) not = not
+
+-- what a row put at a key of a table that headers made, or below it
+module _ (sections : List Section) (node : Node) (p : Path) (is : IsNodeAt sections p node)
+    (not : grammar.is_made (located sections) p ≡ false)
+  where
+    abbrev SaysKeys : grammar.Node → Type 0
+    SaysKeys found = trail_keys node.tree.now.sections.items node.count node.trail ≡ found.key_path
+
+    row_apart : list_any (λ l. rows_clash l.section.rows) (located sections) ≡ false
+    row_apart =
+        located_any (λ s. rows_clash s.rows) [] sections
+        ∙ (either (has_row_clash sections) (sections_clash sections) is.resolved.clash).0
+
+    unmade : (m : Option grammar.Node) (x : Origin) → Same m (Some x) → x.made ≡ false
+    unmade None x same = absurd (cc)
+    unmade (Some m) x same = let both : of_node m ≡ of_origin x = cc in sym (ap (λ t. t.made) both)
+
+    told_row : (q : Path) (s : Step) (r : Path) → p ≡ q ++ s ∷ r → grammar.is_made (located sections) q ≡ true
+        → grammar.is_made (located sections) (q ++ s ∷ []) ≡ false → (m : Option grammar.Node) (o : Option Origin)
+        → Same m o → Both m o (FoundIn 0 (located sections) p) → IfSome o (EntryBears sections q s) → IfSome m SaysKeys
+    told_row q s r path made apart None o same found entry = tt
+    told_row q s r path made apart (Some m) None same found entry = absurd (cc)
+    told_row q s r path made apart (Some m) (Some o) same found entry =
+        let ls = located sections in
         let tree = node.tree.now in
-        let both : of_node m ≡ of_origin o = cc in
-        let made : o.made ≡ false = sym (ap (λ t. t.made) both) in
+        let k = entry.0 in
+        let x = entry.2 in
+        let step : s ≡ key k = entry.1 in
+        let keyed = located_keyed [] sections ∙ is.resolved.within in
+        let none = not_any ls (q ++ s ∷ []) apart in
         let at = located_at [] sections found.number found.located found.there in
-        let number : o.section ≡ found.number = omega (arith, found.section) in
-        let header : header_at tree o.section ≡ texts found.located.section.header =
+        let number : x.section ≡ found.number = omega (arith, found.section, entry.4) in
+        let header : header_at tree x.section ≡ texts found.located.section.header =
         ap (header_at tree) number ∙ heads_at tree.sections.items sections found.number is.resolved.heads ∙ at.0 in
-        row_keys tree o.section node.count (keys_of p) k node.trail (rows made)
-        ∙ ap (λ h. h ++ get_or (keys_of p) (length h) k ∷ []) (header ∙ sym at.1)
+        let here : tree_origins tree (q ++ key k ∷ []) ≡ Some x =
+        ap (λ s. tree_origins tree (q ++ s ∷ [])) (sym step) ∙ is.resolved.origins (q ++ s ∷ []) apart ∙ entry.3 in
+        let own : x.made ≡ false =
+        unmade (grammar.node_of_sections ls (grammar.last_at sections) ls (q ++ s ∷ [])) x
+        (subst (λ o. Same (grammar.node_of_sections ls (grammar.last_at sections) ls (q ++ s ∷ [])) o) entry.3
+        (sections_same ls (grammar.last_at sections) 0 ls (q ++ s ∷ []) none row_apart keyed)) in
+        let rows = some_same (tree_origins tree (q ++ key k ∷ [])) x
+        (λ o. o.made ≡ false → KeepsRow tree o.section (keys_of q) k node.trail) here
+        (is.stands.rows sections is.resolved q k r (path ∙ ap (λ s. q ++ s ∷ r) step) made) in
+        let before = stands_before ls q s none found.number found.located found.there r (key found.first ∷ found.others)
+        (sym path ∙ found.path) in
+        row_keys tree x.section node.count (keys_of q) k node.trail (rows own)
+        ∙ ap (λ h. h ++ get_or (keys_of q) (length h) k ∷ []) (header ∙ sym at.1)
         ∙ ap (λ l. keys_of found.located.path ++ l ∷ [])
-        (key_after found.located.path found.others p k found.first found.path)
+        (key_after q found.located.path before.0 r found.others k found.first before.1
+        (ap (λ s. before.0 ++ s ∷ r) (sym step) ∙ before.2))
         ∙ ap (λ h. h ++ found.first ∷ []) at.1
         ∙ sym found.keys
 
-    row_told : grammar.is_made (located sections) p ≡ true
-        → grammar.is_made (located sections) (p ++ key k ∷ []) ≡ false
-        → IfSome (grammar.node_at sections (p ++ key k ∷ []))
-        (λ found. trail_keys node.tree.now.sections.items node.count node.trail ≡ found.key_path)
-    row_told made not =
+    row_told : IfSome (grammar.node_at sections p) SaysKeys
+    row_told =
         let ls = located sections in
         let last = grammar.last_at sections in
-        let q = p ++ key k ∷ [] in
-        let tree = node.tree.now in
-        let back : list_any (λ l. begins (p ++ key k ∷ []) l.path) (located sections) ≡ false =
-        sym (steps_made sections p k) ∙ not in
-        let apart = located_any (λ s. rows_clash s.rows) [] sections
-        ∙ no_row_clash (has_row_clash sections) (sections_clash sections) is.resolved.clash in
+        let by = made_from ls [] p refl not in
+        let back = not_any ls p not in
         let keyed = located_keyed [] sections ∙ is.resolved.within in
-        let rows = subst (λ o. IfSome o (λ o. o.made ≡ false → KeepsRow tree o.section (keys_of p) k node.trail))
-        (is.resolved.origins q not) (is.stands.rows sections is.resolved p k [] refl made) in
-        rw not (told_row (grammar.node_of_sections ls last ls q) (sections_origins 0 ls q)
-        (sections_same ls last 0 ls q back apart keyed) (sections_found ls last 0 ls q back apart keyed) rows)
+        let clash = (either (has_row_clash sections) (sections_clash sections) is.resolved.clash).1 in
+        rw not (told_row by.before by.step by.rest by.is by.made by.not (grammar.node_of_sections ls last ls p)
+        (sections_origins 0 ls p) (sections_same ls last 0 ls p back row_apart keyed)
+        (sections_found ls last 0 ls p back row_apart keyed)
+        (subst (λ p. IfSome (sections_origins 0 ls p) (EntryBears sections by.before by.step)) (sym by.is)
+        (entry_bears sections clash is.resolved.within by.before by.step by.rest by.made
+        (not_any ls (by.before ++ by.step ∷ []) by.not))))
 
-pub entry_told : (keys : KeyTexts) (node : Node) → keys ≡ kept_keys node → (sections : List Section) (p : Path)
-    (k : List ℕ) → ForetoldEntry sections p k node (λ found. keys ≡ found.key_path)
+pub all_told : (keys : KeyTexts) (node : Node) → keys ≡ kept_keys node → (sections : List Section) (p : Path)
+    → Foretold sections p node (λ found. keys ≡ found.key_path)
 unfolding kept_keys
-entry_told keys node same sections p k is made =
-    go (grammar.is_made (located sections) (p ++ key k ∷ [])) refl
+all_told keys node same sections p is = go (grammar.is_made (located sections) p) refl
   where
-    go : (b : Bool) → grammar.is_made (located sections) (p ++ key k ∷ []) ≡ b
-        → IfSome (grammar.node_at sections (p ++ key k ∷ [])) (λ found. keys ≡ found.key_path)
-    go true e = keys_told keys node same sections (p ++ key k ∷ []) is e
+    go : (b : Bool) → grammar.is_made (located sections) p ≡ b
+        → IfSome (grammar.node_at sections p) (λ found. keys ≡ found.key_path)
+    go true e = keys_told keys node same sections p is e
     go false e =
-        some_then (grammar.node_at sections (p ++ key k ∷ []))
+        some_then (grammar.node_at sections p)
         (λ found. trail_keys node.tree.now.sections.items node.count node.trail ≡ found.key_path)
-        (λ found. keys ≡ found.key_path) (λ found told. same ∙ told) (row_told sections node p k is made e)
+        (λ found. keys ≡ found.key_path) (λ found told. same ∙ told) (row_told sections node p is e)

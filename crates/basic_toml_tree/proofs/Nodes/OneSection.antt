@@ -2,237 +2,28 @@
 -- two would clash.
 use Rattle.std.proofs.Common.{◌≡◌, ◌⊎◌, inl, inr, ◌+◌, ℕ, zero, suc, Bool, true, false, List, [], ◌∷◌, ◌++◌, Option}
 use Rattle.std.proofs.Common.{Some, None, refl, ap, sym, ◌∙◌, subst, arith, slice_get, map}
-use Rattle.std.specs.Prelude.{◌||◌, ◌&&◌, if◌then◌else◌, IfSome}
+use Rattle.std.specs.Prelude.{◌||◌, if◌then◌else◌, IfSome}
 use Rattle.std.specs.List.{list_any, list_all}
 use Rattle.std.specs.Option.{option_or}
 use Rattle.std.proofs.lemmas.Bool.{false≢true, and_parts, or_left, or_right}
-use Rattle.basic_toml_grammar.specs.Sections.{KeyTexts, texts, Raw, Elements, no_elements, element, Rows, no_rows}
-use Rattle.basic_toml_grammar.specs.Sections.{Key, row, Section}
+use Rattle.basic_toml_grammar.specs.Sections.{KeyTexts}
+use Rattle.basic_toml_grammar.specs.Sections.{Section}
 use Rattle.basic_toml_grammar.specs.Steps.{Step, key, number, Path, step_eq, path_eq, begins, steps_of}
 use Rattle.basic_toml_grammar.specs.IndexedPath.{Located, located}
 use Rattle.basic_toml_grammar.specs.SectionClash.{without_last_number, target, inner_beginnings, same_path, array_on_cut}
-use Rattle.basic_toml_grammar.specs.SectionClash.{row_on_path, row_crossed, any_row_clashes, clashes_one_way, clashes}
+use Rattle.basic_toml_grammar.specs.SectionClash.{row_crossed, any_row_clashes, clashes_one_way, clashes}
 use Rattle.basic_toml_grammar.specs.SectionClash.{any_pair, sections_clash}
-use Rattle.basic_toml_grammar.specs.Entering.{has_key, keyed_within, value_keyed, all_keyed_within}
+use Rattle.basic_toml_grammar.specs.Entering.{keyed_within, all_keyed_within}
 use Rattle.basic_toml_grammar.specs.Nodes.{is_made}
 use Rattle.basic_toml_grammar.proofs.Clash.PathsAgree.{append_none}
-use Rattle.basic_toml_grammar.proofs.Clash.StepTestsDecide.{step_is, step_same, begins_itself, paths_same}
-use Rattle.basic_toml_tree.specs.Origins.{Origin, Origins, entry, under, table_origin, along}
-use Rattle.basic_toml_tree.specs.Origins.{row_origins, value_origins, elements_origins, rows_origins}
+use Rattle.basic_toml_grammar.proofs.Clash.StepTestsDecide.{begins_itself, paths_same}
+use Rattle.basic_toml_tree.specs.Origins.{Origin, along}
+use Rattle.basic_toml_tree.specs.Origins.{rows_origins}
 use Rattle.basic_toml_tree.specs.Ways.{sections_origins}
-use Rattle.basic_toml_tree.proofs.Nodes.RowKeys.{either, or_some, Of, along_bears, rows_bear}
+use Rattle.basic_toml_tree.proofs.Nodes.RowKeys.{either, Of, along_bears, rows_bear}
 use Rattle.basic_toml_tree.proofs.Nodes.RowNodesTold.{some_then, located_keyed}
-
-abbrev Told : Option Origin → Type 0
-Told o = (x : Origin) × (o ≡ Some x)
-
--- What tells of a path tells of its beginnings, too, from the first key on.
-some_told : (o : Option Origin) (x : Origin) → IfSome o (λ y. Told (Some x))
-some_told None x = tt
-some_told (Some y) x = (x, refl)
-
-if_front : (b : Bool) (o front : Option Origin) → IfSome o (λ x. Told front)
-    → IfSome (if b then o else None) (λ x. Told (if b then front else None))
-if_front true o front told = told
-if_front false o front told = tt
-
-or_front : (a b c d : Option Origin) → IfSome a (λ x. Told c) → IfSome b (λ x. Told d)
-    → IfSome (option_or a b) (λ x. Told (option_or c d))
-or_front (Some x) b (Some y) d first later = (y, refl)
-or_front (Some x) b None d first later = let bad : None ≡ Some first.0 = first.1 in absurd (cc)
-or_front None b (Some y) d first later = some_told b y
-or_front None b None d first later = later
-
-row_front : (ks : KeyTexts) (d : Origin) (f : Origins) → ((p r : Path) → IfSome (f (p ++ r)) (λ x. Told (f p)))
-    → (s : Step) (p r : Path)
-    → IfSome (row_origins ks d f (s ∷ p ++ r)) (λ x. Told (row_origins ks d f (s ∷ p)))
-row_front [] d f below s p r = below (s ∷ p) r
-row_front (k ∷ []) d f below s p r = if_front (step_eq s (key k)) (f (p ++ r)) (f p) (below p r)
-row_front (k ∷ l ∷ ks) d f below s [] r =
-    if_front (step_eq s (key k)) (entry d (row_origins (l ∷ ks) d f) r) (Some d)
-    (some_told (entry d (row_origins (l ∷ ks) d f) r) d)
-row_front (k ∷ l ∷ ks) d f below s (t ∷ p) r =
-    if_front (step_eq s (key k)) (row_origins (l ∷ ks) d f (t ∷ p ++ r)) (row_origins (l ∷ ks) d f (t ∷ p))
-    (row_front (l ∷ ks) d f below t p r)
-
-mutual
-  value_front : (n at : ℕ) (v : Raw) (p r : Path)
-      → IfSome (value_origins n at v (p ++ r)) (λ x. Told (value_origins n at v p))
-  value_front n at (Raw.integer z) [] r = some_told (value_origins n at (Raw.integer z) r) _
-  value_front n at (Raw.float z) [] r = some_told (value_origins n at (Raw.float z) r) _
-  value_front n at (Raw.boolean z) [] r = some_told (value_origins n at (Raw.boolean z) r) _
-  value_front n at (Raw.string z) [] r = some_told (value_origins n at (Raw.string z) r) _
-  value_front n at (Raw.array es) [] r = some_told (value_origins n at (Raw.array es) r) _
-  value_front n at (Raw.inline rows) [] r = some_told (value_origins n at (Raw.inline rows) r) _
-  value_front n at (Raw.integer z) (s ∷ p) r = tt
-  value_front n at (Raw.float z) (s ∷ p) r = tt
-  value_front n at (Raw.boolean z) (s ∷ p) r = tt
-  value_front n at (Raw.string z) (s ∷ p) r = tt
-  value_front n at (Raw.array es) (key k ∷ p) r = tt
-  value_front n at (Raw.array es) (number m ∷ p) r = elements_front n es m p r
-  value_front n at (Raw.inline rows) (s ∷ p) r = rows_front n rows s p r
-
-  elements_front : (n : ℕ) (es : Elements) (m : ℕ) (p r : Path)
-      → IfSome (under (slice_get (elements_origins n es) m) (p ++ r))
-      (λ x. Told (under (slice_get (elements_origins n es) m) p))
-  elements_front n no_elements m p r = tt
-  elements_front n (element at v es) zero p r = value_front n at v p r
-  elements_front n (element at v es) (suc m) p r = elements_front n es m p r
-
-  rows_front : (n : ℕ) (rows : Rows) (s : Step) (p r : Path)
-      → IfSome (rows_origins n rows (s ∷ p ++ r)) (λ x. Told (rows_origins n rows (s ∷ p)))
-  rows_front n no_rows s p r = tt
-  rows_front n (row ks at v rows) s p r =
-      let brings = row_origins (texts ks) (table_origin false at n) (value_origins n at v) in
-      or_front (brings (s ∷ p ++ r)) (rows_origins n rows (s ∷ p ++ r)) (brings (s ∷ p)) (rows_origins n rows (s ∷ p))
-      (row_front (texts ks) (table_origin false at n) (value_origins n at v) (λ p r. value_front n at v p r) s p r)
-      (rows_front n rows s p r)
-
-joined : (p q r : Path) → (p ++ q) ++ r ≡ p ++ (q ++ r)
-joined [] q r = refl
-joined (s ∷ p) q r = ap (λ p. s ∷ p) (joined p q r)
-
-rows_told : (n : ℕ) (rows : Rows) (y : Path) (s : Step) (r : Path)
-    → IfSome (rows_origins n rows (y ++ s ∷ r)) (λ x. Told (rows_origins n rows (y ++ s ∷ [])))
-rows_told n rows [] s r = rows_front n rows s [] r
-rows_told n rows (t ∷ y) s r =
-    subst (λ p. IfSome (rows_origins n rows (t ∷ p)) (λ x. Told (rows_origins n rows (t ∷ y ++ s ∷ []))))
-    (joined y (s ∷ []) r) (rows_front n rows t (y ++ s ∷ []) r)
-
--- what is told of a path along a way
-abbrev On : Path → Origins → Path → Origin → Type 0
-On w f p o = (x : Path) × (p ≡ w ++ x) × (f x ≡ Some o)
-
-along_tells : (w : Path) (f : Origins) (p : Path) → IfSome (along w f p) (On w f p)
-along_tells [] f p = it (f p) refl
-  where
-    it : (m : Option Origin) → f p ≡ m → IfSome m (On [] f p)
-    it None e = tt
-    it (Some o) e = (p, refl, e)
-along_tells (s ∷ w) f [] = tt
-along_tells (s ∷ w) f (t ∷ p) = go (step_eq t s) refl (along_tells w f p)
-  where
-    go : (b : Bool) → step_eq t s ≡ b → IfSome (along w f p) (On w f p)
-        → IfSome (if b then along w f p else None) (On (s ∷ w) f (t ∷ p))
-    go true e below =
-        some_then (along w f p) (On w f p) (On (s ∷ w) f (t ∷ p))
-        (λ o at. (at.0, ap (λ t. t ∷ p) (step_is t s e) ∙ ap (λ p. s ∷ p) at.1, at.2)) below
-    go false e below = tt
-
-along_there : (w x : Path) (f : Origins) → along w f (w ++ x) ≡ f x
-along_there [] x f = refl
-along_there (s ∷ w) x f = rw step_same (along_there w x f)
-
--- The keys of a row pass by a step after others, or end before it.
-abbrev GoesOver : KeyTexts → Path → Step → Type 0
-GoesOver ks y s = ((more : Path) × (steps_of ks ≡ y ++ s ∷ more)) ⊎ ((rest : Path) × (y ≡ steps_of ks ++ rest))
-
-if_so : (b : Bool) (o : Option Origin) (T : Type 0) → (b ≡ true → IfSome o (λ x. T))
-    → IfSome (if b then o else None) (λ x. T)
-if_so true o T so = so refl
-if_so false o T so = tt
-
-all_so : (o : Option Origin) (T : Type 0) → T → IfSome o (λ x. T)
-all_so None T so = tt
-all_so (Some x) T so = so
-
-entry_below : (d : Origin) (g : Origins) (y : Path) (s : Step) (r : Path) → entry d g (y ++ s ∷ r) ≡ g (y ++ s ∷ r)
-entry_below d g [] s r = refl
-entry_below d g (t ∷ y) s r = refl
-
-further : (k : List ℕ) (ks : KeyTexts) (t : Step) (y : Path) (s : Step) → t ≡ key k → GoesOver ks y s
-    → GoesOver (k ∷ ks) (t ∷ y) s
-further k ks t y s is (inl on) = inl (on.0, ap (λ p. key k ∷ p) on.1 ∙ ap (λ t. t ∷ y ++ s ∷ on.0) (sym is))
-further k ks t y s is (inr past) = inr (past.0, ap (λ t. t ∷ y) is ∙ ap (λ p. key k ∷ p) past.1)
-
-row_over : (k : List ℕ) (ks : KeyTexts) (d : Origin) (f : Origins) (y : Path) (s : Step) (r : Path)
-    → IfSome (row_origins (k ∷ ks) d f (y ++ s ∷ r)) (λ x. GoesOver (k ∷ ks) y s)
-row_over k [] d f [] s r =
-    if_so (step_eq s (key k)) (f r) (GoesOver (k ∷ []) [] s)
-    (λ e. all_so (f r) (GoesOver (k ∷ []) [] s) (inl ([], ap (λ t. t ∷ []) (sym (step_is s (key k) e)))))
-row_over k [] d f (t ∷ y) s r =
-    if_so (step_eq t (key k)) (f (y ++ s ∷ r)) (GoesOver (k ∷ []) (t ∷ y) s)
-    (λ e. all_so (f (y ++ s ∷ r)) (GoesOver (k ∷ []) (t ∷ y) s) (inr (y, ap (λ t. t ∷ y) (step_is t (key k) e))))
-row_over k (l ∷ ks) d f [] s r =
-    let more = entry d (row_origins (l ∷ ks) d f) r in
-    if_so (step_eq s (key k)) more (GoesOver (k ∷ l ∷ ks) [] s)
-    (λ e. all_so more (GoesOver (k ∷ l ∷ ks) [] s)
-    (inl (steps_of (l ∷ ks), ap (λ t. t ∷ steps_of (l ∷ ks)) (sym (step_is s (key k) e)))))
-row_over k (l ∷ ks) d f (t ∷ y) s r =
-    let more = row_origins (l ∷ ks) d f in
-    if_so (step_eq t (key k)) (entry d more (y ++ s ∷ r)) (GoesOver (k ∷ l ∷ ks) (t ∷ y) s)
-    (λ e. subst (λ o. IfSome o (λ x. GoesOver (k ∷ l ∷ ks) (t ∷ y) s)) (sym (entry_below d more y s r))
-    (some_then (more (y ++ s ∷ r)) (λ x. GoesOver (l ∷ ks) y s) (λ x. GoesOver (k ∷ l ∷ ks) (t ∷ y) s)
-    (λ x over. further k (l ∷ ks) t y s (step_is t (key k) e) over) (row_over l ks d f y s r)))
-
--- Some row of a section passes by a step; it crosses no header that none of the rows crosses.
-record Over (w : Path) (rows : Rows) (y : Path) (s : Step) : Type 0 where
-  keys : KeyTexts
-  more : Path
-  is : steps_of keys ≡ y ++ s ∷ more
-  crossed : (j : Located) → any_row_clashes w rows j ≡ false → row_crossed w (steps_of keys) j ≡ false
-
--- No row ends before the step: a header goes on to it on which no row ends.
-abbrev GoneOn : Path → Rows → Path → Type 0
-GoneOn w rows y = (y ≡ []) ⊎ ((j : Located) × (begins (w ++ y) j.path ≡ true) × (any_row_clashes w rows j ≡ false))
-
-begins_front : (p r q : Path) → begins (p ++ r) q ≡ true → begins p q ≡ true
-begins_front [] r q e = refl
-begins_front (s ∷ p) r [] e = absurd (false≢true e)
-begins_front (s ∷ p) r (t ∷ q) e =
-    let both = and_parts (step_eq s t) (begins (p ++ r) q) e in rw both.0 (begins_front p r q both.1)
-
-ends_nowhere : (w : Path) (k : Key) (ks : List Key) (at : ℕ) (v : Raw) (rows : Rows) (y : Path)
-    → GoneOn w (row (k ∷ ks) at v rows) y → (rest : Path) → y ≡ steps_of (texts (k ∷ ks)) ++ rest → ⊥
-ends_nowhere w k ks at v rows y (inl none) rest is =
-    let bad : [] ≡ key k.text ∷ steps_of (texts ks) ++ rest = sym none ∙ is in absurd (cc)
-ends_nowhere w k ks at v rows y (inr gone) rest is =
-    let steps = steps_of (texts (k ∷ ks)) in
-    let on : begins (w ++ steps) gone.0.path ≡ true =
-    begins_front (w ++ steps) rest gone.0.path
-    (subst (λ p. begins p gone.0.path ≡ true) (ap (λ y. w ++ y) is ∙ sym (joined w steps rest)) gone.1) in
-    let apart = either (row_on_path w steps gone.0 || row_crossed w steps gone.0) (any_row_clashes w rows gone.0) gone.2 in
-    false≢true (sym (either (row_on_path w steps gone.0) (row_crossed w steps gone.0) apart.0).0 ∙ on)
-
-rows_over : (n : ℕ) (w : Path) (rows : Rows) (y : Path) (s : Step) (r : Path) → keyed_within rows ≡ true
-    → GoneOn w rows y → IfSome (rows_origins n rows (y ++ s ∷ r)) (λ x. Over w rows y s)
-rows_over n w no_rows y s r keyed gone = tt
-rows_over n w (row [] at v rows) y s r keyed gone = absurd (false≢true keyed)
-rows_over n w (row (k ∷ ks) at v rows) y s r keyed gone =
-    let d = table_origin false at n in
-    let f = value_origins n at v in
-    let p = y ++ s ∷ r in
-    or_some (row_origins (texts (k ∷ ks)) d f p) (rows_origins n rows p) (λ x. Over w (row (k ∷ ks) at v rows) y s)
-    (some_then (row_origins (texts (k ∷ ks)) d f p) (λ x. GoesOver (texts (k ∷ ks)) y s)
-    (λ x. Over w (row (k ∷ ks) at v rows) y s) (λ x over. here over) (row_over k.text (texts ks) d f y s r))
-    (some_then (rows_origins n rows p) (λ x. Over w rows y s) (λ x. Over w (row (k ∷ ks) at v rows) y s)
-    (λ x over. later over)
-    (rows_over n w rows y s r (and_parts (has_key (k ∷ ks) && value_keyed v) (keyed_within rows) keyed).1 (less gone)))
-  where
-    parts : (j : Located) → any_row_clashes w (row (k ∷ ks) at v rows) j ≡ false
-        → (row_crossed w (steps_of (texts (k ∷ ks))) j ≡ false) × (any_row_clashes w rows j ≡ false)
-    parts j none =
-        let apart = either (row_on_path w (steps_of (texts (k ∷ ks))) j || row_crossed w (steps_of (texts (k ∷ ks))) j)
-        (any_row_clashes w rows j) none in (
-          (either (row_on_path w (steps_of (texts (k ∷ ks))) j) (row_crossed w (steps_of (texts (k ∷ ks))) j) apart.0).1,
-          apart.1,
-        )
-
-    here : GoesOver (texts (k ∷ ks)) y s → Over w (row (k ∷ ks) at v rows) y s
-    here (inl on) = record { keys = texts (k ∷ ks); more = on.0; is = on.1; crossed = λ j none. (parts j none).0 }
-    here (inr past) = absurd (ends_nowhere w k ks at v rows y gone past.0 past.1)
-
-    later : Over w rows y s → Over w (row (k ∷ ks) at v rows) y s
-    later over = record {
-      keys = over.keys;
-      more = over.more;
-      is = over.is;
-      crossed = λ j none. over.crossed j (parts j none).1;
-    }
-
-    less : GoneOn w (row (k ∷ ks) at v rows) y → GoneOn w rows y
-    less (inl none) = inl none
-    less (inr on) = inr (on.0, on.1, (parts on.0 on.2).1)
+use Rattle.basic_toml_tree.proofs.Nodes.RowsReach.{Told, rows_told, On, along_tells, along_there, Over, GoneOn}
+use Rattle.basic_toml_tree.proofs.Nodes.RowsReach.{rows_over, joined}
 
 -- sections of the list by their numbers
 none_at : (f : Located → Bool) (ls : List Located) → list_any f ls ≡ false → (m : ℕ) (l : Located)
@@ -356,3 +147,223 @@ further_clashes i j y z s (u ∷ b, at, rest) over apart =
     false≢true (sym (over.crossed j row)
     ∙ crosses i j over.keys u b on.0 on.1 at
     (over.is ∙ ap (λ y. y ++ s ∷ over.more) rest ∙ joined (u ∷ b) z (s ∷ over.more) ∙ ap (λ p. (u ∷ b) ++ p) on.2))
+
+-- A path that goes on from one of two beginnings: the later of them is further on, or goes by the step of the other.
+split : (q w : Path) (s : Step) (r x : Path) → q ++ s ∷ r ≡ w ++ x
+    → ((y : Path) × (q ≡ w ++ y) × (y ++ s ∷ r ≡ x)) ⊎ ((y : Path) × (w ≡ q ++ s ∷ y))
+split [] [] s r x same = inl ([], refl, same)
+split [] (v ∷ w) s r x same = let first : s ≡ v = cc in inr (w, ap (λ v. v ∷ w) (sym first))
+split (u ∷ q) [] s r x same = inl (u ∷ q, refl, same)
+split (u ∷ q) (v ∷ w) s r x same =
+    let first : u ≡ v = cc in
+    let rest : q ++ s ∷ r ≡ w ++ x = cc in on first (split q w s r x rest)
+  where
+    on : u ≡ v → ((y : Path) × (q ≡ w ++ y) × (y ++ s ∷ r ≡ x)) ⊎ ((y : Path) × (w ≡ q ++ s ∷ y))
+        → ((y : Path) × (u ∷ q ≡ (v ∷ w) ++ y) × (y ++ s ∷ r ≡ x)) ⊎ ((y : Path) × (v ∷ w ≡ (u ∷ q) ++ s ∷ y))
+    on e (inl at) = inl (at.0, ap (λ u. u ∷ q) e ∙ ap (λ p. v ∷ p) at.1, at.2)
+    on e (inr at) = inr (at.0, ap (λ v. v ∷ w) (sym e) ∙ ap (λ p. u ∷ p) at.1)
+
+no_longer : (w : Path) (u : Step) (y : Path) → begins (w ++ u ∷ y) w ≡ true → ⊥
+no_longer [] u y e = false≢true e
+no_longer (s ∷ w) u y e = no_longer w u y (and_parts (step_eq s s) (begins (w ++ u ∷ y) w) e).1
+
+made_by : (ls : List Located) (w : Path) (u : Step) (y : Path) → is_made ls (w ++ u ∷ y) ≡ true
+    → list_any (λ l. begins (w ++ u ∷ y) l.path) ls ≡ true
+made_by ls [] u y e = e
+made_by ls (v ∷ w) u y e = e
+
+key_in : (ks : KeyTexts) (y : Path) (s : Step) (more : Path) → steps_of ks ≡ y ++ s ∷ more
+    → (k : List ℕ) × (s ≡ key k)
+key_in [] [] s more is = absurd (cc)
+key_in [] (t ∷ y) s more is = absurd (cc)
+key_in (l ∷ ks) [] s more is = let first : s ≡ key l = cc in (l, first)
+key_in (l ∷ ks) (t ∷ y) s more is = let rest : steps_of ks ≡ y ++ s ∷ more = cc in key_in ks y s more rest
+
+-- the section that tells of a path
+abbrev Teller : ℕ → List Located → Path → Type 0
+Teller n later p = (m : ℕ) × (l : Located) × (slice_get later m ≡ Some l)
+    × (x : Origin) × (along l.path (rows_origins (n + m) l.section.rows) p ≡ Some x)
+
+teller : (n : ℕ) (later : List Located) (p : Path) (o : Origin) → sections_origins n later p ≡ Some o
+    → Teller n later p
+teller n [] p o told = absurd (cc)
+teller n (l ∷ later) p o told =
+    go (along l.path (rows_origins n l.section.rows) p) refl told (λ told. teller (suc n) later p o told)
+  where
+    go : (a : Option Origin) → along l.path (rows_origins n l.section.rows) p ≡ a
+        → option_or a (sections_origins (suc n) later p) ≡ Some o
+        → (sections_origins (suc n) later p ≡ Some o → Teller (suc n) later p) → Teller n (l ∷ later) p
+    go (Some x) e told below =
+        let is : n ≡ n + 0 = omega arith in
+        (0, l, refl, x, subst (λ a. along l.path (rows_origins a l.section.rows) p ≡ Some x) is e)
+    go None e told below =
+        let at = below told in
+        let is : suc n + at.0 ≡ n + suc at.0 = omega arith in (
+          suc at.0,
+          at.1,
+          at.2,
+          at.3,
+          subst (λ a. along at.1.path (rows_origins a at.1.section.rows) p ≡ Some at.3) is at.4,
+        )
+
+pub some_same : (a : Option Origin) (o : Origin) (T : Origin → Type 0) → a ≡ Some o → IfSome a T → T o
+some_same a o T e told = let it : IfSome (Some o) T = subst (λ a. IfSome a T) e told in it
+
+-- a section below whose table the step is, or something further on, stands before the step
+pub stands_before : (ls : List Located) (q : Path) (s : Step)
+    → list_any (λ l. begins (q ++ s ∷ []) l.path) ls ≡ false → (m : ℕ) (l : Located) → slice_get ls m ≡ Some l
+    → (r x : Path) → q ++ s ∷ r ≡ l.path ++ x → (y : Path) × (q ≡ l.path ++ y) × (y ++ s ∷ r ≡ x)
+stands_before ls q s not m l there r x same = go (split q l.path s r x same)
+  where
+    go : ((y : Path) × (q ≡ l.path ++ y) × (y ++ s ∷ r ≡ x)) ⊎ ((y : Path) × (l.path ≡ q ++ s ∷ y))
+        → (y : Path) × (q ≡ l.path ++ y) × (y ++ s ∷ r ≡ x)
+    go (inl at) = at
+    go (inr at) =
+        absurd (false≢true (sym (none_at (λ l. begins (q ++ s ∷ []) l.path) ls not m l there)
+        ∙ ap (λ p. begins (q ++ s ∷ []) p) (at.1 ∙ sym (joined q (s ∷ []) at.0)) ∙ begins_itself (q ++ s ∷ []) at.0))
+
+-- a list in which no two sections clash, and a step that no header takes on from where some go
+module _ (ls : List Located) (apart : any_pair clashes ls ≡ false)
+    (keyed : list_all (λ l. keyed_within l.section.rows) ls ≡ true) (q : Path) (s : Step)
+    (made : is_made ls q ≡ true) (not : list_any (λ l. begins (q ++ s ∷ []) l.path) ls ≡ false)
+  where
+    abbrev Passes : Located → Type 0
+    Passes l = (y : Path) × (q ≡ l.path ++ y) × Over l.path l.section.rows y s
+
+    gone_on : (m : ℕ) (l : Located) → slice_get ls m ≡ Some l → (y : Path) → q ≡ l.path ++ y
+        → GoneOn l.path l.section.rows y
+    gone_on m l there [] at = inl refl
+    gone_on m l there (u ∷ y) at =
+        let some = some_at (λ l. begins q l.path) ls (subst (λ q. list_any (λ l. begins q l.path) ls ≡ true) (sym at)
+        (made_by ls l.path u y (subst (λ q. is_made ls q ≡ true) at made))) in
+        let on : begins (l.path ++ u ∷ y) some.1.path ≡ true = subst (λ q. begins q some.1.path ≡ true) at some.3 in
+        inr (some.1, on, rows_apart some.0 some.1 some.2 on)
+      where
+        rows_apart : (b : ℕ) (j : Located) → slice_get ls b ≡ Some j → begins (l.path ++ u ∷ y) j.path ≡ true
+            → any_row_clashes l.path l.section.rows j ≡ false
+        rows_apart b j at_b on =
+            let one = pairs_apart ls apart m b l j there at_b (λ e.
+            let same : l ≡ j = cc (e, there, at_b) in
+            no_longer l.path u y (subst (λ j. begins (l.path ++ u ∷ y) j.path ≡ true) (sym same) on)) in
+            (either (array_on_cut l j) (any_row_clashes l.path l.section.rows j)
+            (either (same_path l j) (array_on_cut l j || any_row_clashes l.path l.section.rows j) one).1).1
+
+    passes : (n m : ℕ) (l : Located) → slice_get ls m ≡ Some l → (r : Path)
+        → IfSome (along l.path (rows_origins n l.section.rows) (q ++ s ∷ r)) (λ o. Passes l)
+    passes n m l there r =
+        let f = rows_origins n l.section.rows in
+        some_then (along l.path f (q ++ s ∷ r)) (On l.path f (q ++ s ∷ r)) (λ o. Passes l)
+        (λ o on. go o on.0 on.2 (stands_before ls q s not m l there r on.0 on.1)) (along_tells l.path f (q ++ s ∷ r))
+      where
+        go : (o : Origin) (x : Path) → rows_origins n l.section.rows x ≡ Some o
+            → (y : Path) × (q ≡ l.path ++ y) × (y ++ s ∷ r ≡ x) → Passes l
+        go o x told at =
+            let over = rows_over n l.path l.section.rows at.0 s r
+            (all_at (λ l. keyed_within l.section.rows) ls keyed m l there) (gone_on m l there at.0 at.1) in (
+              at.0,
+              at.1,
+              some_same (rows_origins n l.section.rows (at.0 ++ s ∷ r)) o (λ o. Over l.path l.section.rows at.0 s)
+                  (ap (rows_origins n l.section.rows) at.2 ∙ told) over,
+            )
+
+    -- two of them
+    never_two : (a b : ℕ) (i j : Located) → slice_get ls a ≡ Some i → slice_get ls b ≡ Some j → (a ≡ b → ⊥)
+        → Passes i → Passes j → ⊥
+    never_two a b i j at_a at_b other one two =
+        go (compare i.path one.0 j.path two.0 (sym one.1 ∙ two.1))
+      where
+        go : Further i.path one.0 j.path two.0 ⊎ Further j.path two.0 i.path one.0 → ⊥
+        go (inl on) =
+            further_clashes i j one.0 two.0 s on one.2 (pairs_apart ls apart a b i j at_a at_b other)
+        go (inr on) =
+            further_clashes j i two.0 one.0 s on two.2 (pairs_apart ls apart b a j i at_b at_a (λ e. other (sym e)))
+
+    -- what is told of the step bears the section of what is told further on
+    abbrev Entry : ℕ → List Located → Origin → Type 0
+    Entry n later o = (k : List ℕ) × (s ≡ key k) × (x : Origin)
+        × (sections_origins n later (q ++ s ∷ []) ≡ Some x) × (x.section ≡ o.section)
+
+    first_entry : (n m : ℕ) (l : Located) (later : List Located) → slice_get ls m ≡ Some l → (r : Path) (o : Origin)
+        → along l.path (rows_origins n l.section.rows) (q ++ s ∷ r) ≡ Some o → Entry n (l ∷ later) o
+    first_entry n m l later there r o told =
+        let f = rows_origins n l.section.rows in
+        let at = some_same (along l.path f (q ++ s ∷ r)) o (λ o. Passes l) told (passes n m l there r) in
+        let way : (r : Path) → along l.path f (q ++ s ∷ r) ≡ f (at.0 ++ s ∷ r) =
+        λ r. ap (λ q. along l.path f (q ++ s ∷ r)) at.1 ∙ ap (along l.path f) (joined l.path at.0 (s ∷ r))
+        ∙ along_there l.path (at.0 ++ s ∷ r) f in
+        let front = some_same (f (at.0 ++ s ∷ r)) o (λ x. Told (f (at.0 ++ s ∷ []))) (sym (way r) ∙ told)
+        (rows_told n l.section.rows at.0 s r) in
+        let here : along l.path f (q ++ s ∷ []) ≡ Some front.0 = way [] ∙ front.1 in
+        let k = key_in at.2.keys at.0 s at.2.more at.2.is in (
+          k.0,
+          k.1,
+          front.0,
+          ap (λ a. option_or a (sections_origins (suc n) later (q ++ s ∷ []))) here,
+          some_same (along l.path f (q ++ s ∷ [])) front.0 (Of n) here (bears (q ++ s ∷ []))
+              ∙ sym (some_same (along l.path f (q ++ s ∷ r)) o (Of n) told (bears (q ++ s ∷ r))),
+        )
+      where
+        bears : (p : Path) → IfSome (along l.path (rows_origins n l.section.rows) p) (Of n)
+        bears p = along_bears l.path (rows_origins n l.section.rows) (Of n) (λ p. rows_bear n l.section.rows p) p
+
+    later_entry : (n m : ℕ) (l : Located) (later : List Located) → slice_get ls m ≡ Some l
+        → ((b : ℕ) (j : Located) → slice_get later b ≡ Some j → (c : ℕ) × (slice_get ls c ≡ Some j) × (m ≡ c → ⊥))
+        → (o : Origin) → Entry (suc n) later o → Entry n (l ∷ later) o
+    later_entry n m l later there within o at =
+        go (along l.path (rows_origins n l.section.rows) (q ++ s ∷ [])) refl
+      where
+        go : (a : Option Origin) → along l.path (rows_origins n l.section.rows) (q ++ s ∷ []) ≡ a
+            → Entry n (l ∷ later) o
+        go None e = (
+          at.0,
+          at.1,
+          at.2,
+          ap (λ a. option_or a (sections_origins (suc n) later (q ++ s ∷ []))) e ∙ at.3,
+          at.4,
+        )
+        go (Some x) e =
+            let other = teller (suc n) later (q ++ s ∷ []) at.2 at.3 in
+            let where_j = within other.0 other.1 other.2 in
+            absurd (never_two m where_j.0 l other.1 there where_j.1 where_j.2
+            (some_same (along l.path (rows_origins n l.section.rows) (q ++ s ∷ [])) x (λ o. Passes l) e
+            (passes n m l there []))
+            (some_same (along other.1.path (rows_origins (suc n + other.0) other.1.section.rows) (q ++ s ∷ [])) other.3
+            (λ o. Passes other.1) other.4 (passes (suc n + other.0) where_j.0 other.1 where_j.1 [])))
+
+    entries_bear : (n : ℕ) (later : List Located) → ((m : ℕ) (l : Located) → slice_get later m ≡ Some l
+        → slice_get ls (n + m) ≡ Some l) → (r : Path)
+        → IfSome (sections_origins n later (q ++ s ∷ r)) (Entry n later)
+    entries_bear n [] within r = tt
+    entries_bear n (l ∷ later) within r =
+        go (along l.path (rows_origins n l.section.rows) (q ++ s ∷ r)) refl (entries_bear (suc n) later on r)
+      where
+        on : (m : ℕ) (j : Located) → slice_get later m ≡ Some j → slice_get ls (suc n + m) ≡ Some j
+        on m j at =
+            let is : n + suc m ≡ suc n + m = omega arith in
+            subst (λ a. slice_get ls a ≡ Some j) is (within (suc m) j at)
+
+        elsewhere : (b : ℕ) (j : Located) → slice_get later b ≡ Some j
+            → (c : ℕ) × (slice_get ls c ≡ Some j) × (n + 0 ≡ c → ⊥)
+        elsewhere b j at = (suc n + b, on b j at, λ e. let bad : n + 0 ≡ suc n + b = e in absurd (omega (arith, bad)))
+
+        go : (a : Option Origin) → along l.path (rows_origins n l.section.rows) (q ++ s ∷ r) ≡ a
+            → IfSome (sections_origins (suc n) later (q ++ s ∷ r)) (Entry (suc n) later)
+            → IfSome (option_or a (sections_origins (suc n) later (q ++ s ∷ r))) (Entry n (l ∷ later))
+        go (Some o) e below = first_entry n (n + 0) l later (within 0 l refl) r o e
+        go None e below =
+            some_then (sections_origins (suc n) later (q ++ s ∷ r)) (Entry (suc n) later) (Entry n (l ∷ later))
+            (λ o at. later_entry n (n + 0) l later (within 0 l refl) elsewhere o at) below
+
+-- What rows put below a key that no header names or passes through, of a table that headers made: rows put something
+-- at that key, too, and of the same section.
+abbrev pub EntryBears : List Section → Path → Step → Origin → Type 0
+EntryBears sections q s o = (k : List ℕ) × (s ≡ key k) × (x : Origin)
+    × (sections_origins 0 (located sections) (q ++ s ∷ []) ≡ Some x) × (x.section ≡ o.section)
+
+pub entry_bears : (sections : List Section) → sections_clash sections ≡ false → all_keyed_within sections ≡ true
+    → (q : Path) (s : Step) (r : Path) → is_made (located sections) q ≡ true
+    → list_any (λ l. begins (q ++ s ∷ []) l.path) (located sections) ≡ false
+    → IfSome (sections_origins 0 (located sections) (q ++ s ∷ r)) (EntryBears sections q s)
+entry_bears sections apart keyed q s r made not =
+    entries_bear (located sections) apart (located_keyed [] sections ∙ keyed) q s made not 0 (located sections)
+    (λ m l at. let is : m ≡ 0 + m = omega arith in subst (λ a. slice_get (located sections) a ≡ Some l) is at) r

@@ -1,7 +1,7 @@
 use Rattle.std.proofs.Common.{◌≡◌, ap, sym, ◌∙◌, map, take, string_bytes, rules, ◌++◌, ◌∷◌, []}
 use Rattle.std.proofs.lemmas.List.{take-map, map-append}
 use Rattle.basic_toml_tree.specs.Origin.{keys_of, trail_keys}
-use Rattle.basic_toml_tree.proofs.Nodes.KeysTold.{keys_told, entry_told}
+use Rattle.basic_toml_tree.proofs.Nodes.KeysTold.{all_told}
 use Rattle.basic_toml_tree.proofs.node.Node.key_path.Goals as goal
 
 pub returns-in_ok-path-in-Header-clause-is : goal.returns-in_ok-path-in-Header-clause-is
@@ -18,19 +18,11 @@ returns-in_ok-path-in-Header-clause-foretold c =
     let kept = c.truncate.new.self.items in
     let same : map string_bytes c.truncate.new.self.items ≡ keys_of c.args.self =
     returns-in_ok-path-in-Header-clause-is c in
-    λ sections p. keys_told (map string_bytes kept) c.args.self same sections p
+    λ sections p. all_told (map string_bytes kept) c.args.self same sections p
 
-pub returns-in_ok-path-in-Header-clause-entries : goal.returns-in_ok-path-in-Header-clause-entries
+pub returns-in_ok-push-in-Row-clause-foretold : goal.returns-in_ok-push-in-Row-clause-foretold
 unfolding keys_of
-returns-in_ok-path-in-Header-clause-entries c =
-    let kept = c.truncate.new.self.items in
-    let same : map string_bytes c.truncate.new.self.items ≡ keys_of c.args.self =
-    returns-in_ok-path-in-Header-clause-is c in
-    λ sections p k. entry_told (map string_bytes kept) c.args.self same sections p k
-
-pub returns-in_ok-push-in-Row-clause-entries : goal.returns-in_ok-push-in-Row-clause-entries
-unfolding keys_of
-returns-in_ok-push-in-Row-clause-entries c =
+returns-in_ok-push-in-Row-clause-foretold c =
     let kept = c.push.new.self.items in
     let path = c.in_ok-path-in-Row.path.items in
     let last = c.in_ok-from_str-in-Row.field-0 in
@@ -43,4 +35,4 @@ returns-in_ok-push-in-Row-clause-entries c =
     ∙ ap (λ k. map string_bytes path ++ k ∷ []) text
     ∙ ap (λ keys. keys ++ first ∷ []) c.in_ok-path-in-Row.ensures
     ∙ sym (ap (trail_keys c.args.self.tree.now.sections.items c.args.self.count) c.in-Row.is) in
-    λ sections p k. entry_told (map string_bytes kept) c.args.self same sections p k
+    λ sections p. all_told (map string_bytes kept) c.args.self same sections p
