@@ -5,7 +5,6 @@ use Rattle.std.specs.Iterator.{YieldsFirstBy}
 use Rattle.std.specs.Option.{IfSome}
 use Rattle.basic_toml_grammar.specs.Sections.{Section}
 use Rattle.basic_toml_grammar.specs.Steps.{Step, key, number, Path}
-use Rattle.basic_toml_grammar.specs.IndexedPath.{located}
 use Rattle.basic_toml_grammar.specs.Entering.{all_keyed}
 use Rattle.basic_toml_grammar.specs.Nodes as grammar
 use Rattle.basic_toml_grammar.specs.Trie.{Trie, nothing, standing, below}
@@ -158,10 +157,6 @@ pub record IsNodeAt (sections : List Section) (p : Path) (node : Node) : Type 0 
   pub keyed : all_keyed sections ≡ true
   pub stands : StandsAt node.tree.now p node
 
--- what is said of the node by the section list alone, and where headers made it
+-- what is said of the node by the section list alone
 abbrev pub Foretold : List Section → Path → Node → (grammar.Node → Type 0) → Type 0
 Foretold sections p node says = IsNodeAt sections p node → IfSome (grammar.node_at sections p) says
-
-abbrev pub ForetoldMade : List Section → Path → Node → (grammar.Node → Type 0) → Type 0
-ForetoldMade sections p node says =
-    IsNodeAt sections p node → grammar.is_made (located sections) p ≡ true → IfSome (grammar.node_at sections p) says

@@ -34,13 +34,13 @@ use Rattle.basic_toml_tree.proofs.Nodes.RowNodesTold.{located_any, located_keyed
 use Rattle.basic_toml_tree.proofs.Origins.RowsAreNodes.{Same, of_node, of_origin, sections_same}
 use Rattle.basic_toml_tree.specs.Origin.{header_of, spot_is_made, table_is_made, keys_of as kept_keys, trail_keys}
 use Rattle.basic_toml_tree.specs.Resolve.{IsResolved, Stands, head}
-use Rattle.basic_toml_tree.specs.Stands.{trie_at, tree_trie, StandsAt, IsNodeAt, Foretold, ForetoldMade}
+use Rattle.basic_toml_tree.specs.Stands.{trie_at, tree_trie, StandsAt, IsNodeAt, Foretold}
 use Rattle.basic_toml_tree.specs.Stands.{ComesFrom, tree_origins, spot_origin}
 use Rattle.basic_toml_tree.specs.Keys.{header_at, Leads, KeepsHeader, KeepsKeys, KeysLead, GoesOn, CountsOn}
 use Rattle.basic_toml_tree.specs.Keys.{KeepsRow, BeginsRow, HandsOn, RowsLead}
 use Rattle.basic_toml_tree.specs.Outer.{stands_made}
 use Rattle.basic_toml_tree.proofs.Nodes.KeysLead.{made_before, EndsAt, last_step}
-use Rattle.basic_toml_tree.proofs.Nodes.MadeNodes.{made_in_trie, spot_made, foretold}
+use Rattle.basic_toml_tree.proofs.Nodes.MadeNodes.{ForetoldMade, made_in_trie, spot_made, foretold}
 use Rattle.basic_toml_tree.proofs.Nodes.NodesStand.{KeysOn, Further}
 
 -- the keys of a header's path are the header

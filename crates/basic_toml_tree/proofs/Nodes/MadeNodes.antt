@@ -1,7 +1,7 @@
 -- What headers made, as the tree has it and as the section list foretells it.
 use Rattle.std.proofs.Common.{◌≡◌, ◌⊎◌, inl, inr, ◌==◌, ℕ, Bool, true, false, List, [], ◌∷◌, Option, Some, refl, ap}
 use Rattle.std.proofs.Common.{sym, ◌∙◌, map, codes}
-use Rattle.std.specs.Prelude.{◌||◌, if◌then◌else◌}
+use Rattle.std.specs.Prelude.{◌||◌, if◌then◌else◌, IfSome}
 use Rattle.std.specs.Borrow.{Bor}
 use Rattle.std.proofs.lemmas.Bool.{false≢true, or_left, or_right}
 use Rattle.basic_toml_grammar.specs.Sections.{Section}
@@ -25,7 +25,6 @@ use Rattle.basic_toml_tree.specs.Origin.{spot_is_made, is_made, spot_name, name_
 use Rattle.basic_toml_tree.specs.Origin.{start_of, outer_of, offset_of, is_array_literal}
 use Rattle.basic_toml_tree.specs.Resolve.{Stands, only_root, head}
 use Rattle.basic_toml_tree.specs.Stands.{trie_at, tree_trie, spot_trie, wraps_table, is_wrapper, is_root, IsNodeAt}
-use Rattle.basic_toml_tree.specs.Stands.{ForetoldMade}
 use Rattle.basic_toml_tree.specs.Outer.{stands_made}
 use Rattle.basic_toml_tree.proofs.HeadersMake.{stands_array, made_is, array_is}
 use Rattle.basic_toml_tree.proofs.ItemTries.{table_entries_trie}
@@ -175,6 +174,11 @@ last_heads (x ∷ []) (y ∷ z ∷ ys) same = absurd (cc)
 last_heads (x ∷ w ∷ xs) (y ∷ []) same = absurd (cc)
 last_heads (x ∷ w ∷ xs) (y ∷ z ∷ ys) same =
     let rest : map head (w ∷ xs) ≡ map head (z ∷ ys) = cc in last_heads (w ∷ xs) (z ∷ ys) rest
+
+-- what is said of a node that headers made
+abbrev pub ForetoldMade : List Section → Path → Node → (grammar.Node → Type 0) → Type 0
+ForetoldMade sections p node says =
+    IsNodeAt sections p node → grammar.is_made (located sections) p ≡ true → IfSome (grammar.node_at sections p) says
 
 pub foretold : (sections : List Section) (p : Path) (node : Node) (P : grammar.Node → Type 0)
     → (IsNodeAt sections p node → grammar.is_made (located sections) p ≡ true
