@@ -20,7 +20,10 @@ fn make_room<V>(pairs: &mut Vec<Pair<V>>) -> Result<(), AllocError>
     ensures room { OnOk result (vec_len pairs.new < vec_capacity pairs.new) }
 {
     let count = pairs.len();
-    if count < FEW && count == pairs.capacity() {
+    if count < pairs.capacity() {
+        return Ok(());
+    }
+    if count < FEW {
         return pairs.try_reserve_exact(count.max(1));
     }
     pairs.try_reserve(1)
@@ -48,10 +51,8 @@ fn add<V: Drop>(
     let key = String::from_str(alloc, key)?;
     make_room(pairs)?;
     index.insert(alloc, pairs, key.as_str(), gap)?;
-    match pairs.push(Pair { key, value }) {
-        Ok(()) => Ok(position),
-        Err(_) => unreachable!(),
-    }
+    pairs.push_reserved(Pair { key, value });
+    Ok(position)
 }
 
 /// What stands at a new key until something else is put there.

@@ -78,6 +78,7 @@ fn what_is_met(there: &Child<'_>) -> Option<Met>
 
 // Puts a row's value into a table, by the keys that periods follow, and then its last key.
 #[cycle(leading)]
+#[inline(always)]
 fn enter_row<'de>(
     alloc: Global,
     table: Box<Table<'de>>,
@@ -111,6 +112,7 @@ fn enter_row<'de>(
 
 // The table at a key that a period follows, with the rest of the row put into it.
 #[cycle(leading)]
+#[inline(never)]
 fn extended<'de>(
     alloc: Global,
     there: Child<'de>,
@@ -297,6 +299,7 @@ fn is_dot_value(value: &Raw<'_>) -> bool
 
 // The item of a value that begins at an offset, within a table or an array of a level.
 #[cycle(finishing)]
+#[inline(always)]
 fn finished<'de>(
     alloc: Global,
     value: Raw<'de>,
@@ -339,6 +342,7 @@ fn finished<'de>(
 
 // The items of the values of elements, within an array of a level.
 #[cycle(finishing)]
+#[inline(never)]
 fn finished_elements<'de>(
     alloc: Global,
     elements: Vec<Element<'de>>,

@@ -78,6 +78,7 @@ pub(crate) fn table_of(alloc: Global, table: &Table<'_>) -> Result<values::Table
 }
 
 #[cycle(moves)]
+#[inline(always)]
 fn into_value(alloc: Global, item: Item<'_>) -> Result<Value, AllocError>
     ensures { IfOk result (λ value. view value ≡ data_of item.entry) }
 {
@@ -99,6 +100,7 @@ fn into_value(alloc: Global, item: Item<'_>) -> Result<Value, AllocError>
 }
 
 #[cycle(moves)]
+#[inline(never)]
 fn into_elements(alloc: Global, children: Vec<Child<'_>>) -> Result<Vec<Value>, AllocError>
     ensures { IfOk result (λ values. map view values.items ≡ map child_data children.entry.items) }
 {
@@ -110,6 +112,7 @@ fn into_elements(alloc: Global, children: Vec<Child<'_>>) -> Result<Vec<Value>, 
 }
 
 #[cycle(moves)]
+#[inline(never)]
 fn into_tables(alloc: Global, tables: Vec<Table<'_>>) -> Result<Vec<Value>, AllocError>
     ensures { IfOk result (λ values. map view values.items ≡ map table_data tables.entry.items) }
 {
@@ -135,6 +138,7 @@ fn into_entries(alloc: Global, pairs: Vec<Pair<Child<'_>>>) -> Result<Vec<Pair<V
 
 /// The table that a table of the tree becomes. Strings and keys are moved into it, and memory is given back on the way.
 #[cycle(moves)]
+#[inline(never)]
 pub(crate) fn into_table(alloc: Global, table: Table<'_>) -> Result<values::Table, AllocError>
     ensures { IfOk result (λ moved. table_of_members (entries moved) ≡ table_data table.entry) }
 {

@@ -9,7 +9,7 @@ returns-clause-entered g c =
     (record { key = c.in_ok-key.key; value = c.args.value }) c.args.key.now c.args.value refl c.requires.gap.absent
     c.in_ok-key.ensures.ok refl in
     rw (
-      c.in-Ok.ensures.items,
+      c.push_reserved.ensures.items,
       c.in_ok-make_room.ensures.items,
       c.len-position.ensures,
       c.args.pairs.now.ok.0,
