@@ -33,7 +33,7 @@ impl<'t, 'de> fmt::Display for Found<'t, 'de> {
             return write!(f, "floating point `{}`", float.as_str());
         }
         if let Some(text) = node.text() {
-            return write!(f, "string \"{}\"", Quoted(text.as_str()));
+            return write!(f, "string \"{}\"", Quoted(text));
         }
         if node.is_table() {
             write!(f, "map")

@@ -1,8 +1,7 @@
 -- The way of a header through tables and what stands in them, as contracts say it.
-use Rattle.std.proofs.Common.{◌≡◌, ℕ, suc, ◌+◌, ◌≤◌, Bool, true, false, List, [], ◌∷◌, map, Option, Some}
+use Rattle.std.proofs.Common.{string_bytes, ◌≡◌, ℕ, suc, ◌+◌, ◌≤◌, Bool, true, false, List, [], ◌∷◌, map, Option, Some}
 use Rattle.std.proofs.Common.{None, refl, ap, sym, ◌∙◌, arith, rules, option_map, Vec, Box, Global, Result, Ok, Err}
 use Rattle.std.proofs.Common.{IsErrAnd, subst, length}
-use Rattle.std.specs.Cow.{cow_str_bytes}
 use Rattle.basic_toml_read.specs.declared.section.Key as code
 use Rattle.basic_toml_read.specs.SectionView.{header_texts}
 use Rattle.std.specs.List.{slice_get}
@@ -42,13 +41,13 @@ into_table a rows keys i t is =
     ap (entered_by a rows keys) (ap item_trie is ∙ table_item_trie t ∙ e)
     ∙ ap (walk a rows keys) (sym e)
 
-pub into_latest : (a : Bool) (rows : Rows) (keys : KeyTexts) (i : items.Item) (b : Vec Table Global)
+pub into_latest : (a : Bool) (rows : Rows) (keys : KeyTexts) (i : items.Item) (b : Box (Vec Table Global) Global)
     (latest : Box Table Global) → i ≡ Tables b latest
     → entered_by a rows keys (item_trie i)
-    ≡ option_map (λ u. array_of (map table_trie b.items) u) (walk a rows keys (table_trie latest.value))
+    ≡ option_map (λ u. array_of (map table_trie b.value.items) u) (walk a rows keys (table_trie latest.value))
 into_latest a rows keys i b latest is =
     ap (entered_by a rows keys) (ap item_trie is ∙ tables_trie b latest)
-    ∙ enter_latest a rows keys (map table_trie b.items) (table_trie latest.value)
+    ∙ enter_latest a rows keys (map table_trie b.value.items) (table_trie latest.value)
 
 pub steps_into_fresh : (a : Bool) (keys : KeyTexts) (i : items.Item) (new : Trie) → i ≡ Nothing
     → new ≡ fresh → steps_by a keys (item_trie i) ≡ suc (steps_to a keys new)
@@ -63,12 +62,12 @@ steps_into_table a keys i t is =
     ap (steps_by a keys) (ap item_trie is ∙ table_item_trie t ∙ e)
     ∙ ap (λ t. suc (steps_to a keys t)) (sym e)
 
-pub steps_into_latest : (a : Bool) (keys : KeyTexts) (i : items.Item) (b : Vec Table Global) (latest : Box Table Global)
+pub steps_into_latest : (a : Bool) (keys : KeyTexts) (i : items.Item) (b : Box (Vec Table Global) Global) (latest : Box Table Global)
     → i ≡ Tables b latest
     → steps_by a keys (item_trie i) ≡ suc (suc (steps_to a keys (table_trie latest.value)))
 steps_into_latest a keys i b latest is =
     ap (steps_by a keys) (ap item_trie is ∙ tables_trie b latest)
-    ∙ steps_latest a keys (map table_trie b.items) (table_trie latest.value)
+    ∙ steps_latest a keys (map table_trie b.value.items) (table_trie latest.value)
 
 -- on by the keys that are left, where the key before them adds no element
 pub no_array : (a : Bool) (rows : Rows) (keys : KeyTexts) (level : ℕ) (t : Trie) (r : Result items.Item Clash) → a ≡ false
@@ -111,13 +110,13 @@ same_mapped e (Some t) is = is
 pub holds_table : (i : items.Item) (t : Box Table Global) → i ≡ items.Table t → item_trie i ≡ table_trie t.value
 holds_table i t is = ap item_trie is ∙ table_item_trie t
 
-pub holds_tables : (i : items.Item) (b : Vec Table Global) (latest : Box Table Global) → i ≡ Tables b latest
-    → item_trie i ≡ array_of (map table_trie b.items) (table_trie latest.value)
+pub holds_tables : (i : items.Item) (b : Box (Vec Table Global) Global) (latest : Box Table Global) → i ≡ Tables b latest
+    → item_trie i ≡ array_of (map table_trie b.value.items) (table_trie latest.value)
 holds_tables i b latest is = ap item_trie is ∙ tables_trie b latest
 
 -- what is none of these is a value, which bars a header
 pub other_is_leaf : (i : items.Item) → (i ≡ Nothing → ⊥) → ((t : Box Table Global) → i ≡ items.Table t → ⊥)
-    → ((b : Vec Table Global) (latest : Box Table Global) → i ≡ Tables b latest → ⊥)
+    → ((b : Box (Vec Table Global) Global) (latest : Box Table Global) → i ≡ Tables b latest → ⊥)
     → (d : Data) × (item_trie i ≡ leaf d)
 other_is_leaf i no_nothing no_table no_tables = go (out-Item i) refl
   where
@@ -136,7 +135,10 @@ other_is_leaf i no_nothing no_table no_tables = go (out-Item i) refl
     go (Item-F.Boolean b) e = is_leaf (Data.boolean b) (ap item_trie (made (Item-F.Boolean b) e)
         ∙ search (rules, the_lemmas))
     go (Item-F.String text) e =
-        is_leaf (Data.string (cow_str_bytes text)) (ap item_trie (made (Item-F.String text) e)
+        is_leaf (Data.string text.now) (ap item_trie (made (Item-F.String text) e)
+        ∙ search (rules, the_lemmas))
+    go (Item-F.Escaped text) e =
+        is_leaf (Data.string (string_bytes text)) (ap item_trie (made (Item-F.Escaped text) e)
         ∙ search (rules, the_lemmas))
     go (Item-F.Array children) e =
         is_leaf (Data.array (items_of (map tree_data (map child_trie children.items))))
@@ -153,7 +155,7 @@ value_bars a rows keys i d is = ap (entered_by a rows keys) is ∙ walk_barred a
 
 pub other_bars : (a : Bool) (rows : Rows) (keys : KeyTexts) (i : items.Item)
     → (i ≡ Nothing → ⊥) → ((t : Box Table Global) → i ≡ items.Table t → ⊥)
-    → ((b : Vec Table Global) (latest : Box Table Global) → i ≡ Tables b latest → ⊥)
+    → ((b : Box (Vec Table Global) Global) (latest : Box Table Global) → i ≡ Tables b latest → ⊥)
     → entered_by a rows keys (item_trie i) ≡ None
 other_bars a rows keys i no_nothing no_table no_tables =
     let seen = other_is_leaf i no_nothing no_table no_tables in

@@ -117,12 +117,12 @@ latest_stops a rows keys before t x e =
     (among_stops (number (length before)) (λ t. try_by_keys a rows keys t) (by_numbers 0 (before ++ t ∷ [])) x
     (ap (try_by_keys a rows keys) (find_latest 0 (length before) before t (omega arith)) ∙ e))
 
-pub stopped_in_latest : (a : Bool) (rows : Rows) (keys : KeyTexts) (i : items.Item) (b : Vec Table Global)
+pub stopped_in_latest : (a : Bool) (rows : Rows) (keys : KeyTexts) (i : items.Item) (b : Box (Vec Table Global) Global)
     (latest : Box Table Global) → i ≡ Tables b latest → (x : Stop)
     → try_by_keys a rows keys (table_trie latest.value) ≡ stops x → tried_by a rows keys (item_trie i) ≡ stops x
 stopped_in_latest a rows keys i b latest is x e =
     ap (tried_by a rows keys) (ap item_trie is ∙ tables_trie b latest)
-    ∙ latest_stops a rows keys (map table_trie b.items) (table_trie latest.value) x e
+    ∙ latest_stops a rows keys (map table_trie b.value.items) (table_trie latest.value) x e
 
 -- a value stops a header
 pub value_stops : (a : Bool) (rows : Rows) (keys : KeyTexts) (d : Data)
@@ -180,10 +180,10 @@ next_element_stops rows before t x e =
     length_more [] t = refl
     length_more (b ∷ before) t = ap suc (length_more before t)
 
-pub next_stops : (rows : Rows) (i : items.Item) (b : Vec Table Global) (latest : Box Table Global) (new : Trie)
+pub next_stops : (rows : Rows) (i : items.Item) (b : Box (Vec Table Global) Global) (latest : Box Table Global) (new : Trie)
     → i ≡ Tables b latest → new ≡ fresh → (x : Stop) → try_put_table rows new ≡ stops x
     → try_put_element rows (item_trie i) ≡ stops x
 next_stops rows i b latest new is is_fresh x e =
     let there : try_put_table rows nothing ≡ stops x = ap (try_put_table rows) (sym is_fresh) ∙ e in
     ap (try_put_element rows) (ap item_trie is ∙ tables_trie b latest)
-    ∙ next_element_stops rows (map table_trie b.items) (table_trie latest.value) x there
+    ∙ next_element_stops rows (map table_trie b.value.items) (table_trie latest.value) x there

@@ -110,9 +110,9 @@ table_of_pairs t pairs same =
     ∙ ap (λ ps. Data.table (members_of ps)) (pairs_seen pairs)
 
 -- the data of an array of tables
-pub tables_data : (before : Vec Table Global) (latest : Box Table Global)
+pub tables_data : (before : Box (Vec Table Global) Global) (latest : Box Table Global)
     → data_of (Tables before latest)
-    ≡ Data.array (items_of (map table_data before.items ++ table_data latest.value ∷ []))
+    ≡ Data.array (items_of (map table_data before.value.items ++ table_data latest.value ∷ []))
 tables_data before latest = search (rules, the_lemmas)
 
 -- what a value of a table is seen as

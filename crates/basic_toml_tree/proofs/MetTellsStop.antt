@@ -254,11 +254,11 @@ named_refuses c t is named =
     go true set = refl
     go false set = absurd (cc)
 
-pub tables_stand : (c : Child) (b : Vec Table Global) (latest : Box Table Global)
+pub tables_stand : (c : Child) (b : Box (Vec Table Global) Global) (latest : Box Table Global)
     → (out-Child c).item ≡ items.Tables b latest → TellsLast (child_trie c) (mets.Header 1)
 tables_stand c b latest is =
-    tables_met c (suc (length (map table_trie b.items))) None
-    (by_numbers 0 (map table_trie b.items ++ table_trie latest.value ∷ []))
+    tables_met c (suc (length (map table_trie b.value.items))) None
+    (by_numbers 0 (map table_trie b.value.items ++ table_trie latest.value ∷ []))
     (child_item_trie c ∙ ap item_trie is ∙ tables_trie b latest)
 
 pub no_keys : (rows : List Row) → length rows ≡ 0 → line_keys rows ≡ []

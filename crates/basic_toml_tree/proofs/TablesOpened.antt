@@ -61,8 +61,8 @@ open_named t d e n rows level r named dotted same is within rows_in =
     (ap (λ o. o.entries) a ∙ ap (λ o. o.entries) b ∙ ap (λ t. (out-Table t).entries) same))
     within rows_in
 
-pub tables_trie : (before : Vec Table Global) (latest : Box Table Global)
-    → item_trie (Tables before latest) ≡ array_of (map table_trie before.items) (table_trie latest.value)
+pub tables_trie : (before : Box (Vec Table Global) Global) (latest : Box Table Global)
+    → item_trie (Tables before latest) ≡ array_of (map table_trie before.value.items) (table_trie latest.value)
 tables_trie before latest = search (rules, the_lemmas)
 
 pub nothing_trie : item_trie Nothing ≡ nothing
@@ -79,26 +79,26 @@ first_element rows i before is none =
     ∙ put_first rows
     ∙ ap (λ b. option_map (λ u. array_of (map table_trie b) u) (put_table rows fresh)) (sym none)
 
-pub next_element : (rows : Rows) (i : items.Item) (b : Vec Table Global) (latest : Box Table Global) (before : List Table)
-    → i ≡ Tables b latest → before ≡ b.items ++ latest.value ∷ []
+pub next_element : (rows : Rows) (i : items.Item) (b : Box (Vec Table Global) Global) (latest : Box Table Global) (before : List Table)
+    → i ≡ Tables b latest → before ≡ b.value.items ++ latest.value ∷ []
     → put_element rows (item_trie i) ≡ option_map (λ u. array_of (map table_trie before) u) (put_table rows fresh)
 next_element rows i b latest before is more =
     ap (put_element rows) (ap item_trie is ∙ tables_trie b latest)
-    ∙ put_next rows (map table_trie b.items) (table_trie latest.value)
+    ∙ put_next rows (map table_trie b.value.items) (table_trie latest.value)
     ∙ ap (λ ts. option_map (λ u. array_of ts u) (put_table rows fresh))
-    (sym (ap (map table_trie) more ∙ map-append table_trie b.items (latest.value ∷ [])))
+    (sym (ap (map table_trie) more ∙ map-append table_trie b.value.items (latest.value ∷ [])))
 
-pub element_in : (rows : Rows) (level : ℕ) (new : Trie) (there item : items.Item) (before : Vec Table Global)
+pub element_in : (rows : Rows) (level : ℕ) (new : Trie) (there item : items.Item) (before : Box (Vec Table Global) Global)
     (latest : Box Table Global) → new ≡ fresh
     → put_element rows (item_trie there)
-    ≡ option_map (λ u. array_of (map table_trie before.items) u) (put_table rows fresh)
+    ≡ option_map (λ u. array_of (map table_trie before.value.items) u) (put_table rows fresh)
     → item ≡ Tables before latest
     → IsIn (put_table rows new) rows ((level + 2) + 0) (table_trie latest.value)
     → IsIn (put_element rows (item_trie there)) rows (level + 2) (item_trie item)
 element_in rows level new there item before latest is_fresh puts made_of is =
     is_in (put_table rows new) (put_element rows (item_trie there)) rows ((level + 2) + 0) (level + 2)
     (table_trie latest.value) (item_trie item)
-    (puts ∙ ap (λ u. option_map (λ u. array_of (map table_trie before.items) u) u)
+    (puts ∙ ap (λ u. option_map (λ u. array_of (map table_trie before.value.items) u) u)
     (ap (put_table rows) (sym is_fresh) ∙ is.gives)
     ∙ ap Some (sym (ap item_trie made_of ∙ tables_trie before latest)))
     (omega arith) is

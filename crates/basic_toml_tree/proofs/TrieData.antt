@@ -78,7 +78,7 @@ Agree (Item-F.Array children) =
 Agree (Item-F.Inline t) = OfTable t.value
 Agree (Item-F.Table t) = OfTable t.value
 Agree (Item-F.Tables before latest) =
-    (map tree_data (map table_trie before.items) ≡ map table_data before.items) × OfTable latest.value
+    (map tree_data (map table_trie before.value.items) ≡ map table_data before.value.items) × OfTable latest.value
 Agree _ = ⊤
 
 item_agrees : (x : Item-F Item Child Table) → Agree x → OfItem (roll-Item x)
@@ -87,6 +87,7 @@ item_agrees (Item-F.Integer z) agree = search (rules, the_lemmas)
 item_agrees (Item-F.Float text) agree = search (rules, the_lemmas)
 item_agrees (Item-F.Boolean b) agree = search (rules, the_lemmas)
 item_agrees (Item-F.String text) agree = search (rules, the_lemmas)
+item_agrees (Item-F.Escaped text) agree = search (rules, the_lemmas)
 item_agrees (Item-F.Array children) agree =
     let a : item_trie (roll-Item (Item-F.Array children))
     ≡ leaf (Data.array (items_of (map tree_data (map child_trie children.items)))) = search (rules, the_lemmas) in
@@ -103,16 +104,16 @@ item_agrees (Item-F.Table t) agree =
     let b : data_of (roll-Item (Item-F.Table t)) ≡ table_data t.value = search (rules, the_lemmas) in
     ap tree_data a ∙ agree ∙ sym b
 item_agrees (Item-F.Tables before latest) agree =
-    let ts : List Trie = map table_trie before.items in
-    let s : Option Standing = Some (array (suc (length (map table_trie before.items)))) in
+    let ts : List Trie = map table_trie before.value.items in
+    let s : Option Standing = Some (array (suc (length (map table_trie before.value.items)))) in
     let a : item_trie (roll-Item (Item-F.Tables before latest))
-    ≡ trie (Some (array (suc (length (map table_trie before.items))))) None
-    (by_numbers 0 (map table_trie before.items ++ table_trie latest.value ∷ [])) = search (rules, the_lemmas) in
+    ≡ trie (Some (array (suc (length (map table_trie before.value.items))))) None
+    (by_numbers 0 (map table_trie before.value.items ++ table_trie latest.value ∷ [])) = search (rules, the_lemmas) in
     let b : data_of (roll-Item (Item-F.Tables before latest))
-    ≡ Data.array (items_of (map table_data before.items ++ table_data latest.value ∷ [])) =
+    ≡ Data.array (items_of (map table_data before.value.items ++ table_data latest.value ∷ [])) =
     search (rules, the_lemmas) in
-    let both : map tree_data (map table_trie before.items) ++ tree_data (table_trie latest.value) ∷ []
-    ≡ map table_data before.items ++ table_data latest.value ∷ [] = rw (agree.0, agree.1) refl in
+    let both : map tree_data (map table_trie before.value.items) ++ tree_data (table_trie latest.value) ∷ []
+    ≡ map table_data before.value.items ++ table_data latest.value ∷ [] = rw (agree.0, agree.1) refl in
     ap tree_data a
     ∙ numbers_data s 0 ts (table_trie latest.value)
     ∙ ap (λ ds. Data.array (items_of ds)) (map-append tree_data ts (table_trie latest.value ∷ []) ∙ both)
@@ -153,10 +154,11 @@ parts_agree (Item-F.Integer z) = tt
 parts_agree (Item-F.Float text) = tt
 parts_agree (Item-F.Boolean b) = tt
 parts_agree (Item-F.String text) = tt
+parts_agree (Item-F.Escaped text) = tt
 parts_agree (Item-F.Array es) = children_agree es.items
 parts_agree (Item-F.Inline e) = e.value.1
 parts_agree (Item-F.Table e) = e.value.1
-parts_agree (Item-F.Tables before latest) = (tables_agree before.items, latest.value.1)
+parts_agree (Item-F.Tables before latest) = (tables_agree before.value.items, latest.value.1)
 
 pub table_trie_data : (t : Table) → tree_data (table_trie t) ≡ table_data t
 table_trie_data =

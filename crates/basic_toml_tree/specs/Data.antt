@@ -1,6 +1,5 @@
 -- The data that an item stands for.
 use Rattle.std.specs.Prelude.{ℕ, List, [], ◌∷◌, ◌++◌, string_bytes}
-use Rattle.std.specs.Cow.{cow_str_bytes}
 use Rattle.basic_toml_value.specs.Data.{Data, no_members, items_of, members_of}
 use Rattle.basic_toml_value.specs.View.{view}
 use Rattle.basic_toml_value.specs.declared.pairs.Pair.{Pair}
@@ -19,12 +18,13 @@ item_step Item-F.Nothing = Data.table no_members
 item_step (Item-F.Integer z) = Data.integer z
 item_step (Item-F.Float text) = Data.float text
 item_step (Item-F.Boolean b) = Data.boolean b
-item_step (Item-F.String text) = Data.string (cow_str_bytes text)
+item_step (Item-F.String text) = Data.string text.now
+item_step (Item-F.Escaped text) = Data.string (string_bytes text)
 item_step (Item-F.Array children) = Data.array (items_of children.items)
 item_step (Item-F.Inline table) = table.value
 item_step (Item-F.Table table) = table.value
 item_step (Item-F.Tables before latest) =
-    Data.array (items_of (before.items ++ latest.value ∷ []))
+    Data.array (items_of (before.value.items ++ latest.value ∷ []))
 
 abbrev pub child_step : Child-F Data Data Data → Data
 child_step c = c.item

@@ -1,6 +1,5 @@
 -- The trie that an item stands for: what is said of each table, and what it holds. Offsets play no part.
-use Rattle.std.specs.Prelude.{ℕ, suc, List, [], ◌∷◌, ◌++◌, Some, None, length, map}
-use Rattle.std.specs.Cow.{cow_str_bytes}
+use Rattle.std.specs.Prelude.{ℕ, suc, List, [], ◌∷◌, ◌++◌, Some, None, length, map, string_bytes}
 use Rattle.basic_toml_value.specs.Data.{Data, items_of}
 use Rattle.basic_toml_grammar.specs.Steps.{key, number}
 use Rattle.basic_toml_grammar.specs.Standing as standing
@@ -36,12 +35,13 @@ item_grows Item-F.Nothing = nothing
 item_grows (Item-F.Integer z) = leaf (Data.integer z)
 item_grows (Item-F.Float text) = leaf (Data.float text)
 item_grows (Item-F.Boolean b) = leaf (Data.boolean b)
-item_grows (Item-F.String text) = leaf (Data.string (cow_str_bytes text))
+item_grows (Item-F.String text) = leaf (Data.string text.now)
+item_grows (Item-F.Escaped text) = leaf (Data.string (string_bytes text))
 item_grows (Item-F.Array children) = leaf (Data.array (items_of (map tree_data children.items)))
 item_grows (Item-F.Inline table) = leaf (tree_data table.value)
 item_grows (Item-F.Table table) = table.value
 item_grows (Item-F.Tables before latest) =
-    trie (Some (standing.array (suc (length before.items)))) None (by_numbers 0 (before.items ++ latest.value ∷ []))
+    trie (Some (standing.array (suc (length before.value.items)))) None (by_numbers 0 (before.value.items ++ latest.value ∷ []))
 
 abbrev pub child_grows : Child-F Trie Trie Trie → Trie
 child_grows c = c.item

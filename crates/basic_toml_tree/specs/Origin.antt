@@ -42,6 +42,7 @@ item_name (Item-F.Integer _) = codes "integer"
 item_name (Item-F.Float _) = codes "float"
 item_name (Item-F.Boolean _) = codes "boolean"
 item_name (Item-F.String _) = codes "string"
+item_name (Item-F.Escaped _) = codes "string"
 item_name (Item-F.Array _) = codes "array"
 item_name (Item-F.Inline _) = codes "inline table"
 item_name (Item-F.Table _) = codes "dotted table"
@@ -54,6 +55,18 @@ spot_name count (spots.Item found) = item_name (out-Item found.now)
 -- what a node is called
 unfoldable pub name_of : Node → List ℕ
 name_of node = spot_name node.count node.spot
+
+-- whether it is a string that stands in the document as it is
+abbrev pub holds_string : Item-F Item Child Table → Bool
+holds_string (Item-F.String _) = true
+holds_string _ = false
+
+abbrev pub spot_is_borrowed : Spot → Bool
+spot_is_borrowed (spots.Table _) = false
+spot_is_borrowed (spots.Item found) = holds_string (out-Item found.now)
+
+abbrev pub is_borrowed : Node → Bool
+is_borrowed node = spot_is_borrowed node.spot
 
 -- where it begins
 unfoldable pub start_of : Node → Option ℕ

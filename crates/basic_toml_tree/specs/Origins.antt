@@ -79,11 +79,12 @@ item_from (Item-F.Integer _) at s = entry (value_origin (codes "integer") at s) 
 item_from (Item-F.Float _) at s = entry (value_origin (codes "float") at s) no_origins
 item_from (Item-F.Boolean _) at s = entry (value_origin (codes "boolean") at s) no_origins
 item_from (Item-F.String _) at s = entry (value_origin (codes "string") at s) no_origins
+item_from (Item-F.Escaped _) at s = entry (value_origin (codes "string") at s) no_origins
 item_from (Item-F.Array children) at s = entry (value_origin (codes "array") at s) (at_numbers children.items)
 item_from (Item-F.Inline table) at s = entry (value_origin (codes "inline table") at s) table.value.below
 item_from (Item-F.Table table) at s = entry (table_origin table.value.made at s) table.value.below
 item_from (Item-F.Tables before latest) at s =
-    entry (array_origin at s) (at_numbers (elements_within at s (before.items ++ latest.value ∷ [])))
+    entry (array_origin at s) (at_numbers (elements_within at s (before.value.items ++ latest.value ∷ [])))
 
 abbrev pub child_from : Child-F (ℕ → ℕ → Origins) Origins Within → Origins
 child_from c = c.item c.start c.section

@@ -195,7 +195,7 @@ fn add_element<'de>(
         (item_origins there.entry start section) (item_origins after start section)) }
 {
     let before = match there {
-        Item::Nothing => Vec::new(alloc),
+        Item::Nothing => Box::new(alloc, Vec::new(alloc))?,
         Item::Tables(before, latest) => {
             let mut before = before;
             before.push(Box::into_inner(latest))?;

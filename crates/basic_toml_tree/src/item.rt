@@ -11,7 +11,6 @@ ghost use Rattle.basic_toml_tree.specs.Origins.{item_origins, child_origins};
 use basic_toml_clash::{Blank, Keyed};
 use basic_toml_value::Float;
 use std::alloc::{AllocError, Global};
-use std::borrow::CowStr;
 
 /// What stands at a key or a number.
 #[cycle(items)]
@@ -22,14 +21,18 @@ pub(crate) enum Item<'de> {
     Integer(i64),
     Float(Float),
     Boolean(bool),
-    String(CowStr<'de>),
+    /// A string as it stands in the text.
+    String(&'de str),
+    /// A string of its own.
+    Escaped(String),
     Array(Vec<Child<'de>>),
     /// An inline table.
     Inline(Box<Table<'de>>),
     /// A table of headers or of dotted keys.
     Table(Box<Table<'de>>),
-    /// The tables of an array of tables: those before the latest, and the latest.
-    Tables(Vec<Table<'de>>, Box<Table<'de>>),
+    /// The tables of an array of tables: those before the latest, and the latest. Two boxes keep an item as small as a
+    /// raw value, and a table's entries as large as its rows: so one takes the memory that the other gave back.
+    Tables(Box<Vec<Table<'de>>>, Box<Table<'de>>),
 }
 
 /// An item, and where it comes from.

@@ -1,9 +1,8 @@
 //! The nodes of a tree.
 
-ghost use Rattle.std.specs.Prelude.{◌≡◌, ◌<◌, ◌≤◌, true, ℕ, take, false, List, Some, None, IsSome, IfSome, IsTrue, IfOk, IfErr};
+ghost use Rattle.std.specs.Prelude.{◌≡◌, ◌<◌, ◌≤◌, true, ℕ, take, false, is_some, List, Some, None, IsSome, IfSome, IsTrue, IfOk, IfErr};
 ghost use Rattle.std.specs.Prelude.{MatchOption, length, map, slice_get, string_bytes};
 ghost use Rattle.std.specs.Option.{option_copied};
-ghost use Rattle.std.specs.Cow.{cow_str_bytes};
 ghost use Rattle.basic_toml_value.specs.Data.{table as table_of_members, integer_in, boolean_in, float_in, string_in};
 ghost use Rattle.basic_toml_value.specs.Keys.{are_distinct};
 ghost use Rattle.basic_toml_value.specs.Pairs.{keys_of};
@@ -17,7 +16,7 @@ ghost use Rattle.basic_toml_tree.specs.Item.{child_trie};
 ghost use Rattle.basic_toml_tree.specs.Data.{table_data, child_data};
 ghost use Rattle.basic_toml_tree.specs.Nodes.{node_data, is_table, is_array, maybe_table, data_at};
 ghost use Rattle.basic_toml_tree.specs.Nodes.{elements_in, entries_in, elements_left, entries_left};
-ghost use Rattle.basic_toml_tree.specs.Origin.{is_made, spot_is_made, name_of, start_of, outer_of, offset_of, keys_of as key_path_of};
+ghost use Rattle.basic_toml_tree.specs.Origin.{is_borrowed, is_made, spot_is_made, name_of, start_of, outer_of, offset_of, keys_of as key_path_of};
 ghost use Rattle.basic_toml_tree.specs.Stands.{IsNodeAt, Foretold};
 ghost use Rattle.basic_toml_tree.specs.Stands.{HoldsTable, IsBelow, IsBeside, IsTableBeside, AtKey, AtNumber, BeginsIn};
 ghost use Rattle.basic_toml_tree.specs.Stands.{ComesFrom};
@@ -37,7 +36,6 @@ use basic_toml_read::ReadError;
 use basic_toml_value as values;
 use basic_toml_value::{Float, Value};
 use std::alloc::{AllocError, Global};
-use std::borrow::CowStr;
 
 /// A node of a tree: a value, and where it comes from. Types are read from one, as `bool` is in `basic_toml_typed`, by
 /// `node.as_bool()`.
@@ -85,10 +83,23 @@ impl<'t, 'de> Node<'t, 'de> {
         }
     }
 
-    /// The text, if it is a string: borrowed from the text that was read, where it can be.
-    pub fn text(self) -> Option<&'t CowStr<'de>>
+    /// The text, if it is a string.
+    pub fn text(self) -> Option<&'t str>
         ensures { MatchOption result (string_in (node_data self.entry) ≡ None)
-            (λ text. string_in (node_data self.entry) ≡ Some (cow_str_bytes text.now)) }
+            (λ text. string_in (node_data self.entry) ≡ Some text.now) }
+    {
+        match self.spot {
+            Spot::Item(Item::String(text)) => Some(text),
+            Spot::Item(Item::Escaped(text)) => Some(text.as_str()),
+            _ => None,
+        }
+    }
+
+    /// The text, if it is a string that stands in the document as it is: without escapes, and without line ends that
+    /// became line feeds.
+    pub fn borrowed_text(self) -> Option<&'de str>
+        ensures text { IfSome result (λ text. string_in (node_data self.entry) ≡ Some text.now) }
+        ensures borrowed { is_some result ≡ is_borrowed self.entry }
     {
         match self.spot {
             Spot::Item(Item::String(text)) => Some(text),
@@ -210,16 +221,19 @@ impl<'t, 'de> Node<'t, 'de> {
                 Some(child) => Some(self.element(child)),
                 None => None,
             },
-            Spot::Item(Item::Tables(before, latest)) => match before.get(at) {
-                Some(table) => Some(self.element_table(table)),
-                None => {
-                    if at == before.len() {
-                        Some(self.element_table(latest))
-                    } else {
-                        None
+            Spot::Item(Item::Tables(before, latest)) => {
+                let earlier = before.as_slice();
+                match earlier.get(at) {
+                    Some(table) => Some(self.element_table(table)),
+                    None => {
+                        if at == earlier.len() {
+                            Some(self.element_table(latest))
+                        } else {
+                            None
+                        }
                     }
                 }
-            },
+            }
             _ => None,
         }
     }

@@ -24,7 +24,6 @@ use basic_toml_clash::{Clash, texts_of};
 use basic_toml_read::{Element, Raw, Row};
 use basic_toml_value::NESTING_LIMIT;
 use std::alloc::{AllocError, AllocFailed, Global};
-use std::borrow::CowStr;
 
 /// Why a row is not put into a table.
 #[derive(Clone, Copy, Drop)]
@@ -320,8 +319,8 @@ fn finished<'de>(
         Raw::Integer(number) => Ok(Child::at(start, section, Item::Integer(number))),
         Raw::Float(float) => Ok(Child::at(start, section, Item::Float(float))),
         Raw::Boolean(truth) => Ok(Child::at(start, section, Item::Boolean(truth))),
-        Raw::String(text) => Ok(Child::at(start, section, Item::String(CowStr::Borrowed(text)))),
-        Raw::Escaped(text) => Ok(Child::at(start, section, Item::String(CowStr::Owned(text)))),
+        Raw::String(text) => Ok(Child::at(start, section, Item::String(text))),
+        Raw::Escaped(text) => Ok(Child::at(start, section, Item::Escaped(text))),
         Raw::Array(elements) => {
             if level >= NESTING_LIMIT {
                 return Err(Clash::Deep);

@@ -53,7 +53,7 @@ impl<'t, 'de> Spot<'t, 'de> {
                 Item::Integer(_) => "integer",
                 Item::Float(_) => "float",
                 Item::Boolean(_) => "boolean",
-                Item::String(_) => "string",
+                Item::String(_) | Item::Escaped(_) => "string",
                 Item::Array(_) => "array",
                 Item::Inline(_) => "inline table",
                 Item::Table(_) => "dotted table",

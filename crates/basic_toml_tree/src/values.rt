@@ -20,7 +20,8 @@ pub(crate) fn value_of(alloc: Global, item: &Item<'_>) -> Result<Value, AllocErr
         Item::Integer(number) => Ok(Value::Integer(*number)),
         Item::Float(float) => Ok(Value::Float(float.clone()?)),
         Item::Boolean(truth) => Ok(Value::Boolean(*truth)),
-        Item::String(text) => Ok(Value::String(String::from_str(alloc, text.as_str())?)),
+        Item::String(text) => Ok(Value::String(String::from_str(alloc, text)?)),
+        Item::Escaped(text) => Ok(Value::String(text.clone()?)),
         Item::Array(children) => Ok(Value::Array(elements_of(alloc, children.as_slice())?)),
         Item::Inline(table) => Ok(Value::Table(table_of(alloc, table)?)),
         Item::Table(table) => Ok(Value::Table(table_of(alloc, table)?)),
@@ -87,12 +88,14 @@ fn into_value(alloc: Global, item: Item<'_>) -> Result<Value, AllocError>
         Item::Integer(number) => Ok(Value::Integer(number)),
         Item::Float(float) => Ok(Value::Float(float)),
         Item::Boolean(truth) => Ok(Value::Boolean(truth)),
-        Item::String(text) => Ok(Value::String(text.into_owned(alloc)?)),
+        Item::String(text) => Ok(Value::String(String::from_str(alloc, text)?)),
+        Item::Escaped(text) => Ok(Value::String(text)),
         Item::Array(children) => Ok(Value::Array(into_elements(alloc, children)?)),
         Item::Inline(table) => Ok(Value::Table(into_table(alloc, Box::into_inner(table))?)),
         Item::Table(table) => Ok(Value::Table(into_table(alloc, Box::into_inner(table))?)),
         Item::Tables(before, latest) => {
-            let mut elements = into_tables(alloc, before)?;
+            let earlier = Box::into_inner(before);
+            let mut elements = into_tables(alloc, earlier)?;
             elements.push(Value::Table(into_table(alloc, Box::into_inner(latest))?))?;
             Ok(Value::Array(elements))
         }

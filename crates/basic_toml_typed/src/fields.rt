@@ -161,7 +161,6 @@ pub fn variant(alloc: Global, node: Node<'_, '_>, variants: &[&str]) -> Result<u
             Error::wanted_string(alloc, node)
         });
     };
-    let text = text.as_str();
     match position_of(variants, text) {
         Some(position) => Ok(position),
         None => Err(Error::unknown_variant(alloc, node, text, variants)),

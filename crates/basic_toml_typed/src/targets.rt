@@ -184,7 +184,7 @@ impl<'de> Deserialize<'de> for String {
 
     fn deserialize(alloc: Global, node: Node<'_, 'de>) -> Result<String, Error> {
         match node.text() {
-            Some(text) => Ok(String::from_str(alloc, text.as_str())?),
+            Some(text) => Ok(String::from_str(alloc, text)?),
             None => Err(Error::invalid_type(alloc, node, "a string")),
         }
     }
@@ -201,9 +201,11 @@ impl<'de> Deserialize<'de> for CowStr<'de> {
     ghost takes = { string_takes };
 
     fn deserialize(alloc: Global, node: Node<'_, 'de>) -> Result<CowStr<'de>, Error> {
+        if let Some(text) = node.borrowed_text() {
+            return Ok(CowStr::Borrowed(text));
+        }
         match node.text() {
-            Some(CowStr::Borrowed(text)) => Ok(CowStr::Borrowed(text)),
-            Some(CowStr::Owned(text)) => Ok(CowStr::Owned(String::from_str(alloc, text.as_str())?)),
+            Some(text) => Ok(CowStr::Owned(String::from_str(alloc, text)?)),
             None => Err(Error::invalid_type(alloc, node, "a string")),
         }
     }

@@ -22,7 +22,6 @@ fn push_data(out: &mut String, node: Node<'_, '_>) -> Result<(), AllocError> {
         out.push_str(float.as_str())?;
     }
     if let Some(text) = node.text() {
-        let text = text.as_str();
         write!(out, "'{text}'")?;
     }
     if node.elements().is_some() {

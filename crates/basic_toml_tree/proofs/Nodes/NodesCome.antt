@@ -61,6 +61,7 @@ item_key (Item-F.Integer z) i t k q at s is holds = absurd holds
 item_key (Item-F.Float z) i t k q at s is holds = absurd holds
 item_key (Item-F.Boolean z) i t k q at s is holds = absurd holds
 item_key (Item-F.String z) i t k q at s is holds = absurd holds
+item_key (Item-F.Escaped z) i t k q at s is holds = absurd holds
 item_key (Item-F.Array z) i t k q at s is holds = absurd holds
 item_key (Item-F.Tables y z) i t k q at s is holds = absurd holds
 
@@ -96,6 +97,8 @@ item_bears (Item-F.Boolean z) at s = bears_entry (Item-F.Boolean z) at s (value_
     (search (rules, the_lemmas)) refl
 item_bears (Item-F.String z) at s = bears_entry (Item-F.String z) at s (value_origin (codes "string") at s) no_origins
     (search (rules, the_lemmas)) refl
+item_bears (Item-F.Escaped z) at s = bears_entry (Item-F.Escaped z) at s (value_origin (codes "string") at s) no_origins
+    (search (rules, the_lemmas)) refl
 item_bears (Item-F.Array z) at s = bears_entry (Item-F.Array z) at s (value_origin (codes "array") at s)
     (at_numbers (map child_origins z.items)) (search (rules, the_lemmas)) refl
 item_bears (Item-F.Inline z) at s = bears_entry (Item-F.Inline z) at s (value_origin (codes "inline table") at s)
@@ -103,7 +106,7 @@ item_bears (Item-F.Inline z) at s = bears_entry (Item-F.Inline z) at s (value_or
 item_bears (Item-F.Table z) at s = bears_entry (Item-F.Table z) at s (table_origin (table_within z.value).made at s)
     (table_origins z.value) (search (rules, the_lemmas)) refl
 item_bears (Item-F.Tables y z) at s = bears_entry (Item-F.Tables y z) at s (array_origin at s)
-    (at_numbers (elements_within at s (map table_within y.items ++ table_within z.value ∷ [])))
+    (at_numbers (elements_within at s (map table_within y.value.items ++ table_within z.value ∷ [])))
     (search (rules, the_lemmas)) refl
 
 pub child_bears : (c : Child) → IfSome (child_origins c []) (λ o. o.section ≡ (out-Child c).section)
@@ -139,8 +142,8 @@ module _ {A B : Type 0} (f : A → B) where
   read_mapped (y ∷ ys) (suc n) x read = read_mapped ys n x read
 
 pub tables_come : (from node : Node) (n : ℕ) (b : Bor Item) → from.spot ≡ spots.Item b
-    → (before : Vec Table Global) (latest : Box Table Global) (t : Bor Table) → b.now ≡ Tables before latest
-    → slice_get (map table_within before.items ++ table_within latest.value ∷ []) n ≡ Some (table_within t.now)
+    → (before : Box (Vec Table Global) Global) (latest : Box Table Global) (t : Bor Table) → b.now ≡ Tables before latest
+    → slice_get (map table_within before.value.items ++ table_within latest.value ∷ []) n ≡ Some (table_within t.now)
     → ((s : ℕ)
     → ComesFrom (entry (table_origin (table_within t.now).made from.start s) (table_within t.now).below) node)
     → (s : ℕ) → ComesFrom (λ q. node_origins s from (number n ∷ q)) node
@@ -149,7 +152,7 @@ tables_come from node n b at before latest t is read comes s =
     ∙ ap (λ i. item_origins i from.start s (number n ∷ q)) is
     ∙ ap (λ f. f (number n ∷ q)) (tables_seen before latest from.start s)
     ∙ ap (λ o. under o q) (read_mapped (λ w. entry (table_origin w.made from.start s) w.below)
-    (map table_within before.items ++ table_within latest.value ∷ []) n (table_within t.now) read)))) (comes s)
+    (map table_within before.value.items ++ table_within latest.value ∷ []) n (table_within t.now) read)))) (comes s)
 
 -- the root, of which nothing is told
 pub root_comes : (tree : Tree) (b : Bor Table) (at : ℕ) → b.now ≡ tree.root.value
@@ -230,6 +233,9 @@ item_own (Item-F.Boolean z) at s =
 item_own (Item-F.String z) at s =
     own_of (item_origins (roll-Item (Item-F.String z)) at s) (value_origin (codes "string") at s)
     (item_told (Item-F.String z) at s) no_origins (search (rules, the_lemmas)) (λ apart. refl)
+item_own (Item-F.Escaped z) at s =
+    own_of (item_origins (roll-Item (Item-F.Escaped z)) at s) (value_origin (codes "string") at s)
+    (item_told (Item-F.Escaped z) at s) no_origins (search (rules, the_lemmas)) (λ apart. refl)
 item_own (Item-F.Array z) at s =
     own_of (item_origins (roll-Item (Item-F.Array z)) at s) (value_origin (codes "array") at s)
     (item_told (Item-F.Array z) at s) (at_numbers (map child_origins z.items)) (search (rules, the_lemmas))
@@ -244,7 +250,7 @@ item_own (Item-F.Table z) at s =
 item_own (Item-F.Tables y z) at s =
     own_of (item_origins (roll-Item (Item-F.Tables y z)) at s) (array_origin at s)
     (item_told (Item-F.Tables y z) at s)
-    (at_numbers (elements_within at s (map table_within y.items ++ table_within z.value ∷ [])))
+    (at_numbers (elements_within at s (map table_within y.value.items ++ table_within z.value ∷ [])))
     (search (rules, the_lemmas)) (λ apart. absurd (false≢true (sym apart)))
 
 pub item_comes : (c : Child) (b : Bor Item) (count : ℕ) (spot : Spot) (at : ℕ) → b.now ≡ (out-Child c).item

@@ -84,10 +84,10 @@ array_trie children =
 inline_trie : (t : Box Table Global) → (d : Data) × (item_trie (roll-Item (Item-F.Inline t)) ≡ leaf d)
 inline_trie t = (tree_data (table_trie t.value), search (rules, the_lemmas))
 
-tables_trie : (before : Vec Table Global) (latest : Box Table Global)
+tables_trie : (before : Box (Vec Table Global) Global) (latest : Box Table Global)
     → item_trie (Tables before latest)
-    ≡ trie (Some (standing.array (suc (length (map table_trie before.items))))) None
-    (by_numbers 0 (map table_trie before.items ++ table_trie latest.value ∷ []))
+    ≡ trie (Some (standing.array (suc (length (map table_trie before.value.items))))) None
+    (by_numbers 0 (map table_trie before.value.items ++ table_trie latest.value ∷ []))
 tables_trie before latest = search (rules, the_lemmas)
 
 abbrev NothingOr : Step → Trie → Trie → Type 0
@@ -105,6 +105,7 @@ item_below i (Item-F.Integer z) t k u is own holds = absurd holds
 item_below i (Item-F.Float z) t k u is own holds = absurd holds
 item_below i (Item-F.Boolean z) t k u is own holds = absurd holds
 item_below i (Item-F.String z) t k u is own holds = absurd holds
+item_below i (Item-F.Escaped z) t k u is own holds = absurd holds
 item_below i (Item-F.Array z) t k u is own holds = absurd holds
 item_below i (Item-F.Tables z y) t k u is own holds = absurd holds
 
@@ -241,10 +242,10 @@ module _ (from node : Node) (n : ℕ) (b : Bor Item) (at : from.spot ≡ spots.I
       (kept_beside from node n tree p beside.outer stands)
       (keys_beside from node spot n beside tree p stands) (rows_beside from node spot n beside tree p stands)
 
-  pub tables_stand : (before : Vec Table Global) (latest : Box Table Global) (t : Bor Table)
+  pub tables_stand : (before : Box (Vec Table Global) Global) (latest : Box Table Global) (t : Bor Table)
       → b.now ≡ Tables before latest
-      → slice_get (map table_trie before.items ++ table_trie latest.value ∷ []) n ≡ Some (table_trie t.now)
-      → slice_get (map table_within before.items ++ table_within latest.value ∷ []) n ≡ Some (table_within t.now)
+      → slice_get (map table_trie before.value.items ++ table_trie latest.value ∷ []) n ≡ Some (table_trie t.now)
+      → slice_get (map table_within before.value.items ++ table_within latest.value ∷ []) n ≡ Some (table_within t.now)
       → IsBeside from (spots.Table t) node → node.start ≡ from.start → StandsOn from (number n) node
   tables_stand before latest t is found read beside start tree p stands =
       let counted : (node.count == 0) ≡ false =
@@ -254,7 +255,7 @@ module _ (from node : Node) (n : ℕ) (b : Bor Item) (at : from.spot ≡ spots.I
       let there : spot_trie node.spot ≡ below (number n) (spot_trie from.spot) =
       ap spot_trie beside.spot
       ∙ sym (ap (below (number n)) here
-      ∙ find_number 0 n n (map table_trie before.items ++ table_trie latest.value ∷ []) (table_trie t.now) (omega arith)
+      ∙ find_number 0 n n (map table_trie before.value.items ++ table_trie latest.value ∷ []) (table_trie t.now) (omega arith)
       found) in
       stands_on from node (number n) beside.tree (λ own. inr (there, ap wraps_table beside.spot))
       (λ s. tables_come from node n b at before latest t is read

@@ -110,6 +110,7 @@ literal_name count (spots.Item b) not = go (out-Item b.now) not
     go (Item-F.Float z) not = refl
     go (Item-F.Boolean z) not = refl
     go (Item-F.String z) not = refl
+    go (Item-F.Escaped z) not = refl
     go (Item-F.Inline z) not = refl
     go (Item-F.Table z) not = refl
     go (Item-F.Tables y z) not = absurd (false≢true (sym not))

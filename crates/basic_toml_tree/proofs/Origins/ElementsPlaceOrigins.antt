@@ -88,14 +88,14 @@ module _ (xs : List Origins) (n : ℕ) (counted : n ≡ length xs) (was now rows
 abbrev of_table : ℕ → ℕ → Within → Origins
 of_table at s t = entry (table_origin t.made at s) t.below
 
-array_below : (i : items.Item) (b : Vec Table Global) (latest : Box Table Global) (at s : ℕ) → i ≡ Tables b latest
+array_below : (i : items.Item) (b : Box (Vec Table Global) Global) (latest : Box Table Global) (at s : ℕ) → i ≡ Tables b latest
     → (r : Step) (p : Path) → item_origins i at s (r ∷ p)
-    ≡ at_numbers (map (of_table at s) (map table_within b.items) ++ of_table at s (table_within latest.value) ∷ [])
+    ≡ at_numbers (map (of_table at s) (map table_within b.value.items) ++ of_table at s (table_within latest.value) ∷ [])
     (r ∷ p)
 array_below i b latest at s is r p =
     ap (λ f. f (r ∷ p)) (ap (λ i. item_origins i at s) is ∙ tables_seen b latest at s)
     ∙ ap (λ os. at_numbers os (r ∷ p))
-    (map-append (of_table at s) (map table_within b.items) (table_within latest.value ∷ []))
+    (map-append (of_table at s) (map table_within b.value.items) (table_within latest.value ∷ []))
 
 mapped_count : {A B : Type 0} (f : A → B) (xs : List A) → length (map f xs) ≡ length xs
 mapped_count f [] = refl
@@ -107,7 +107,7 @@ others_are : (xs : List Origins) (x : Origins) (n m : ℕ) (q : Path) → n ≡ 
 others_are xs x n m q counted other = ap (λ o. under o q) (other_is xs x n m counted other)
 
 -- on into the latest element
-pub latest_grows : (a : Bool) (keys : KeyTexts) (rows : Origins) (there item : items.Item) (b : Vec Table Global)
+pub latest_grows : (a : Bool) (keys : KeyTexts) (rows : Origins) (there item : items.Item) (b : Box (Vec Table Global) Global)
     (old after : Box Table Global) → there ≡ Tables b old → item ≡ Tables b after
     → GrowsAlong (way a keys (table_trie old.value)) rows (table_origins old.value) (table_origins after.value)
     → (at s : ℕ) → GrowsAlong (way_by a keys (item_trie there)) rows (item_origins there at s) (item_origins item at s)
@@ -123,14 +123,14 @@ latest_grows a keys rows there item b old after is item_is grows at s =
     (λ k q. was (key k) q) (table_origin (table_within after.value).made at s) now)
   where
     xs : List Origins
-    xs = map (of_table at s) (map table_within b.items)
+    xs = map (of_table at s) (map table_within b.value.items)
 
     n : ℕ
-    n = length (map table_trie b.items)
+    n = length (map table_trie b.value.items)
 
     counted : n ≡ length xs
-    counted = mapped_count table_trie b.items ∙ sym (mapped_count (of_table at s) (map table_within b.items)
-        ∙ mapped_count table_within b.items)
+    counted = mapped_count table_trie b.value.items ∙ sym (mapped_count (of_table at s) (map table_within b.value.items)
+        ∙ mapped_count table_within b.value.items)
 
     was : (r : Step) (p : Path) → item_origins there at s (r ∷ p)
         ≡ at_numbers (xs ++ of_table at s (table_within old.value) ∷ []) (r ∷ p)
@@ -141,11 +141,11 @@ latest_grows a keys rows there item b old after is item_is grows at s =
     now r p = array_below item b after at s item_is r p
 
 -- one more element, after none and after some
-module _ (there : items.Item) (at s : ℕ) (before : Vec Table Global) (new after : Box Table Global) (rows : Origins)
+module _ (there : items.Item) (at s : ℕ) (before : Box (Vec Table Global) Global) (new after : Box Table Global) (rows : Origins)
     (is_fresh : table_trie new.value ≡ fresh)
     (put : table_origins after.value ≡ or_else (table_origins new.value) rows) where
   abbrev xs : List Origins
-  xs = map (of_table at s) (map table_within before.items)
+  xs = map (of_table at s) (map table_within before.value.items)
 
   now : (r : Step) (p : Path) → item_origins (Tables before after) at s (r ∷ p)
       ≡ at_numbers (xs ++ of_table at s (table_within after.value) ∷ []) (r ∷ p)
@@ -166,7 +166,7 @@ module _ (there : items.Item) (at s : ℕ) (before : Vec Table Global) (new afte
       (λ m q other. was (number m) q)
       (λ k q. was (key k) q) (table_origin (table_within after.value).made at s) now
 
-  pub first_added : there ≡ Nothing → before.items ≡ []
+  pub first_added : there ≡ Nothing → before.value.items ≡ []
       → GrowsAlong (number (count (item_trie there)) ∷ []) rows (item_origins there at s) (item_origins (Tables before after) at s)
   first_added is none =
       added (count (item_trie there))
@@ -179,22 +179,22 @@ module _ (there : items.Item) (at s : ℕ) (before : Vec Table Global) (new afte
       nowhere (key k) p = refl
       nowhere (number n) p = refl
 
-  pub next_added : (b : Vec Table Global) (latest : Box Table Global) → there ≡ Tables b latest
-      → before.items ≡ b.items ++ latest.value ∷ []
+  pub next_added : (b : Box (Vec Table Global) Global) (latest : Box Table Global) → there ≡ Tables b latest
+      → before.value.items ≡ b.value.items ++ latest.value ∷ []
       → GrowsAlong (number (count (item_trie there)) ∷ []) rows (item_origins there at s) (item_origins (Tables before after) at s)
   next_added b latest is more =
       added (count (item_trie there))
       (ap count (ap item_trie is ∙ tables_trie b latest)
-      ∙ ap suc (mapped_count table_trie b.items)
-      ∙ sym (ap length same ∙ one_longer (map (of_table at s) (map table_within b.items))
+      ∙ ap suc (mapped_count table_trie b.value.items)
+      ∙ sym (ap length same ∙ one_longer (map (of_table at s) (map table_within b.value.items))
       (of_table at s (table_within latest.value))
-      ∙ ap suc (mapped_count (of_table at s) (map table_within b.items) ∙ mapped_count table_within b.items)))
+      ∙ ap suc (mapped_count (of_table at s) (map table_within b.value.items) ∙ mapped_count table_within b.value.items)))
       (λ r p. array_below there b latest at s is r p ∙ sym (ap (λ os. at_numbers os (r ∷ p)) same))
     where
-      same : xs ≡ map (of_table at s) (map table_within b.items) ++ of_table at s (table_within latest.value) ∷ []
+      same : xs ≡ map (of_table at s) (map table_within b.value.items) ++ of_table at s (table_within latest.value) ∷ []
       same = ap (λ ts. map (of_table at s) (map table_within ts)) more
-          ∙ ap (map (of_table at s)) (map-append table_within b.items (latest.value ∷ []))
-          ∙ map-append (of_table at s) (map table_within b.items) (table_within latest.value ∷ [])
+          ∙ ap (map (of_table at s)) (map-append table_within b.value.items (latest.value ∷ []))
+          ∙ map-append (of_table at s) (map table_within b.value.items) (table_within latest.value ∷ [])
 
       one_longer : {A : Type 0} (xs : List A) (x : A) → length (xs ++ x ∷ []) ≡ suc (length xs)
       one_longer [] x = refl

@@ -67,12 +67,12 @@ way_into_table a keys i t is =
     ap (way_by a keys) (ap item_trie is ∙ table_item_trie t ∙ e)
     ∙ ap (way a keys) (sym e)
 
-pub way_into_latest : (a : Bool) (keys : KeyTexts) (i : items.Item) (b : Vec Table Global) (latest : Box Table Global)
+pub way_into_latest : (a : Bool) (keys : KeyTexts) (i : items.Item) (b : Box (Vec Table Global) Global) (latest : Box Table Global)
     → i ≡ Tables b latest
-    → way_by a keys (item_trie i) ≡ number (length (map table_trie b.items)) ∷ way a keys (table_trie latest.value)
+    → way_by a keys (item_trie i) ≡ number (length (map table_trie b.value.items)) ∷ way a keys (table_trie latest.value)
 way_into_latest a keys i b latest is =
     ap (way_by a keys) (ap item_trie is ∙ tables_trie b latest)
-    ∙ way_latest a keys (map table_trie b.items) (table_trie latest.value)
+    ∙ way_latest a keys (map table_trie b.value.items) (table_trie latest.value)
 
 some_same : {A : Type 0} {x y : A} → Some x ≡ Some y → x ≡ y
 some_same is = cc

@@ -65,10 +65,10 @@ pub array_seen : (cs : Vec Child Global) (at s : ℕ)
     ≡ entry (value_origin (codes "array") at s) (at_numbers (map child_origins cs.items))
 array_seen cs at s = search (rules, the_lemmas)
 
-pub tables_seen : (before : Vec Table Global) (latest : Box Table Global) (at s : ℕ)
+pub tables_seen : (before : Box (Vec Table Global) Global) (latest : Box Table Global) (at s : ℕ)
     → item_origins (Tables before latest) at s
     ≡ entry (array_origin at s)
-    (at_numbers (elements_within at s (map table_within before.items ++ table_within latest.value ∷ [])))
+    (at_numbers (elements_within at s (map table_within before.value.items ++ table_within latest.value ∷ [])))
 tables_seen before latest at s = search (rules, the_lemmas)
 
 -- what stands at a key
@@ -154,6 +154,7 @@ item_none (Item-F.Integer z) i at s is stands = absurd (cc)
 item_none (Item-F.Float z) i at s is stands = absurd (cc)
 item_none (Item-F.Boolean z) i at s is stands = absurd (cc)
 item_none (Item-F.String z) i at s is stands = absurd (cc)
+item_none (Item-F.Escaped z) i at s is stands = absurd (cc)
 item_none (Item-F.Array z) i at s is stands = absurd (cc)
 item_none (Item-F.Inline z) i at s is stands = absurd (cc)
 

@@ -107,7 +107,7 @@ enter_item-returns-in_err-latest-in-Tables-clause-entered t c =
     c.from_residual-in_err-latest-in-Tables.ensures.1
     (item_out (entered_by a rows keys there) rows c.args.level ((c.args.level + 2) + steps_to a keys old)
     (steps_by a keys there) (walk a rows keys old) clash
-    (λ u. array_of (map table_trie c.in-Tables.before.items) u)
+    (λ u. array_of (map table_trie c.in-Tables.before.value.items) u)
     (into_latest a rows keys c.args.there c.in-Tables.before c.in-Tables.latest c.in-Tables.is)
     (omega (arith, steps)) c.in_err-latest-in-Tables.ensures.entered)
 
@@ -146,7 +146,7 @@ enter_item-returns-clause-entered t c =
           steps_into_latest a keys c.args.there w.in-Tables.before w.in-Tables.latest w.in-Tables.is in
           item_in (entered_by a rows keys there) rows c.args.level ((c.args.level + 2) + steps_to a keys old)
           (steps_by a keys there) (walk a rows keys old) _ item
-          (λ u. array_of (map table_trie w.in-Tables.before.items) u)
+          (λ u. array_of (map table_trie w.in-Tables.before.value.items) u)
           (into_latest a rows keys c.args.there w.in-Tables.before w.in-Tables.latest w.in-Tables.is)
           (omega (arith, steps)) w.in_ok-latest-in-Tables.ensures.entered
           (holds_tables item w.in-Tables.before _ w.item-is)

@@ -15,40 +15,42 @@ use Rattle.basic_toml_tree.proofs.HeadersStopped.{stopped, first_stops, next_sto
 use Rattle.basic_toml_tree.specs.Origins.{rows_origins}
 use Rattle.basic_toml_tree.proofs.Origins.ElementsPlaceOrigins.{first_added, next_added}
 use Rattle.basic_toml_tree.proofs.headers.add_element.Goals as goal
-use Rattle.basic_toml_tree.proofs.headers.add_element.Goals.{in-Nothing, in-Tables+in_ok-push-in-Tables}
+use Rattle.basic_toml_tree.proofs.headers.add_element.Goals.{in-Nothing+in_ok-before-in-Nothing, in-Tables+in_ok-push-in-Tables}
 
 pub returns-in_err-latest-clause-entered : goal.returns-in_err-latest-clause-entered
 returns-in_err-latest-clause-entered c =
     let rows = rows_view c.args.rows.items in
     let puts : put_element (rows_view c.args.rows.items) (item_trie c.args.there)
-    ≡ option_map (λ u. array_of (map table_trie c.match-there.before.items) u)
+    ≡ option_map (λ u. array_of (map table_trie c.match-there.before.value.items) u)
     (put_table (rows_view c.args.rows.items) fresh) =
     elim c.match-there.branch [
-      | in-Nothing w ↦ first_element rows c.args.there c.match-there.before.items w.in-Nothing.is
-          (ap (λ b. b.items) w.before-is ∙ w.new-before.ensures.items)
+      | in-Nothing+in_ok-before-in-Nothing w ↦ first_element rows c.args.there c.match-there.before.value.items w.in-Nothing.is
+          (ap (λ b. b.value.items) w.before-is ∙ ap (λ v. v.items) w.in_ok-before-in-Nothing.ensures.ok ∙ w.new.ensures.items)
       | in-Tables+in_ok-push-in-Tables w ↦ next_element rows c.args.there w.in-Tables.before w.in-Tables.latest
-          c.match-there.before.items w.in-Tables.is
-          (ap (λ b. b.items) w.before-is ∙ w.in_ok-push-in-Tables.ensures.items
-          ∙ ap (λ t. w.in-Tables.before.items ++ t ∷ []) w.into_inner.ensures)
+          c.match-there.before.value.items w.in-Tables.is
+          (ap (λ b. b.value.items) w.before-is ∙ w.in_ok-push-in-Tables.ensures.items
+          ∙ ap (λ v. v.items ++ w.into_inner.result ∷ []) w.deref_mut.ensures.value
+          ∙ ap (λ t. w.in-Tables.before.value.items ++ t ∷ []) w.into_inner.ensures)
     ] in
     failed (EntersItem (put_element rows (item_trie c.args.there)) rows (c.args.level + 2))
     c.from_residual-in_err-latest.result c.in_err-latest.field-0.0 c.from_residual-in_err-latest.ensures.1
     (element_out c.in_err-latest.field-0.0 rows c.args.level (table_trie c.in_ok-table.table.value) c.args.there
-    c.match-there.before.items c.in_ok-table.ensures puts c.in_err-latest.ensures.entered)
+    c.match-there.before.value.items c.in_ok-table.ensures puts c.in_err-latest.ensures.entered)
 
 pub returns-clause-entered : goal.returns-clause-entered
 returns-clause-entered c =
     let rows = rows_view c.args.rows.items in
     let puts : put_element (rows_view c.args.rows.items) (item_trie c.args.there)
-    ≡ option_map (λ u. array_of (map table_trie c.match-there.before.items) u)
+    ≡ option_map (λ u. array_of (map table_trie c.match-there.before.value.items) u)
     (put_table (rows_view c.args.rows.items) fresh) =
     elim c.match-there.branch [
-      | in-Nothing w ↦ first_element rows c.args.there c.match-there.before.items w.in-Nothing.is
-          (ap (λ b. b.items) w.before-is ∙ w.new-before.ensures.items)
+      | in-Nothing+in_ok-before-in-Nothing w ↦ first_element rows c.args.there c.match-there.before.value.items w.in-Nothing.is
+          (ap (λ b. b.value.items) w.before-is ∙ ap (λ v. v.items) w.in_ok-before-in-Nothing.ensures.ok ∙ w.new.ensures.items)
       | in-Tables+in_ok-push-in-Tables w ↦ next_element rows c.args.there w.in-Tables.before w.in-Tables.latest
-          c.match-there.before.items w.in-Tables.is
-          (ap (λ b. b.items) w.before-is ∙ w.in_ok-push-in-Tables.ensures.items
-          ∙ ap (λ t. w.in-Tables.before.items ++ t ∷ []) w.into_inner.ensures)
+          c.match-there.before.value.items w.in-Tables.is
+          (ap (λ b. b.value.items) w.before-is ∙ w.in_ok-push-in-Tables.ensures.items
+          ∙ ap (λ v. v.items ++ w.into_inner.result ∷ []) w.deref_mut.ensures.value
+          ∙ ap (λ t. w.in-Tables.before.value.items ++ t ∷ []) w.into_inner.ensures)
     ] in
     element_in rows c.args.level (table_trie c.in_ok-table.table.value) c.args.there
     (Tables c.match-there.before c.in_ok-latest.latest) c.match-there.before
@@ -61,7 +63,7 @@ returns-in_err-latest-clause-named c =
     let clash = c.in_err-latest.field-0.0 in
     let on : (x : Stop) → try_put_table rows new ≡ stops x → try_put_element rows (item_trie c.args.there) ≡ stops x =
     elim c.match-there.branch [
-      | in-Nothing w ↦ first_stops rows c.args.there new w.in-Nothing.is c.in_ok-table.ensures
+      | in-Nothing+in_ok-before-in-Nothing w ↦ first_stops rows c.args.there new w.in-Nothing.is c.in_ok-table.ensures
       | in-Tables+in_ok-push-in-Tables w ↦ next_stops rows c.args.there w.in-Tables.before w.in-Tables.latest new
           w.in-Tables.is c.in_ok-table.ensures
     ] in
@@ -74,12 +76,13 @@ pub returns-clause-origins : goal.returns-clause-origins
 returns-clause-origins c =
     let rows = rows_origins c.args.number (rows_view c.args.rows.items) in
     elim c.match-there.branch [
-      | in-Nothing w ↦ λ at s. first_added c.args.there at s c.match-there.before c.in_ok-table.table c.in_ok-latest.latest rows
+      | in-Nothing+in_ok-before-in-Nothing w ↦ λ at s. first_added c.args.there at s c.match-there.before c.in_ok-table.table c.in_ok-latest.latest rows
           c.in_ok-table.ensures c.in_ok-latest.ensures.origins w.in-Nothing.is
-          (ap (λ b. b.items) w.before-is ∙ w.new-before.ensures.items)
+          (ap (λ b. b.value.items) w.before-is ∙ ap (λ v. v.items) w.in_ok-before-in-Nothing.ensures.ok ∙ w.new.ensures.items)
       | in-Tables+in_ok-push-in-Tables w ↦ λ at s. next_added c.args.there at s c.match-there.before c.in_ok-table.table
           c.in_ok-latest.latest rows c.in_ok-table.ensures c.in_ok-latest.ensures.origins w.in-Tables.before
           w.in-Tables.latest w.in-Tables.is
-          (ap (λ b. b.items) w.before-is ∙ w.in_ok-push-in-Tables.ensures.items
-          ∙ ap (λ t. w.in-Tables.before.items ++ t ∷ []) w.into_inner.ensures)
+          (ap (λ b. b.value.items) w.before-is ∙ w.in_ok-push-in-Tables.ensures.items
+          ∙ ap (λ v. v.items ++ w.into_inner.result ∷ []) w.deref_mut.ensures.value
+          ∙ ap (λ t. w.in-Tables.before.value.items ++ t ∷ []) w.into_inner.ensures)
     ]

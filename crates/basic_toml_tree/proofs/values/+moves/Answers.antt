@@ -84,13 +84,14 @@ into_tables-loop-table-preserved t c =
 
 pub into_value-into_tables-requires : goal.into_value-into_tables-requires
 into_value-into_tables-requires t c =
-    let front = items_size-front (map table_data c.in-Tables.before.items) (table_data c.in-Tables.latest.value) in
+    let front = items_size-front (map table_data c.in-Tables.before.value.items) (table_data c.in-Tables.latest.value) in
     let same = ap data_of c.in-Tables.is ∙ tables_data c.in-Tables.before c.in-Tables.latest in
+    let earlier = ap (λ ts. items_size (items_of (map table_data ts.items))) c.into_inner-earlier.ensures in
     (omega (arith, ap data_size same), tt)
 
 pub into_value-into_table-requires-in-Tables : goal.into_value-into_table-requires-in-Tables
 into_value-into_table-requires-in-Tables t c =
-    let last = items_size-last (map table_data c.in-Tables.before.items) (table_data c.in-Tables.latest.value) in
+    let last = items_size-last (map table_data c.in-Tables.before.value.items) (table_data c.in-Tables.latest.value) in
     let same = ap data_of c.in-Tables.is ∙ tables_data c.in-Tables.before c.in-Tables.latest in
     (omega (arith, ap data_size same, ap (λ t. data_size (table_data t)) c.into_inner-in-Tables.ensures), tt)
 
@@ -98,7 +99,7 @@ pub into_value-returns-in_ok-push-in-Tables : goal.into_value-returns-in_ok-push
 into_value-returns-in_ok-push-in-Tables t c =
     array_seen c.push.new.self
     ∙ ap (λ ds. Data.array (items_of ds)) (tables_whole c.in_ok-elements-in-Tables.elements.items c.push.new.self.items
-    c.in-Tables.before.items _ c.in-Tables.latest.value c.in_ok-push-in-Tables.ensures.items
-    c.in_ok-elements-in-Tables.ensures
+    c.in-Tables.before.value.items _ c.in-Tables.latest.value c.in_ok-push-in-Tables.ensures.items
+    (c.in_ok-elements-in-Tables.ensures ∙ ap (λ ts. map table_data ts.items) c.into_inner-earlier.ensures)
     (table_seen _ ∙ c.in_ok-into_table-in-Tables.ensures ∙ ap table_data c.into_inner-in-Tables.ensures))
     ∙ sym (ap data_of c.in-Tables.is ∙ tables_data c.in-Tables.before c.in-Tables.latest)

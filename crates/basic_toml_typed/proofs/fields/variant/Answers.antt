@@ -7,16 +7,16 @@ use Rattle.basic_toml_typed.proofs.fields.variant.Goals as goal
 
 pub returns-in-Some-position_of-clause-ok : goal.returns-in-Some-position_of-clause-ok
 returns-in-Some-position_of-clause-ok c =
-    let text : string_in (node_data c.args.node) ≡ Some c.as_str-text.result.now =
-    c.in-Some.ensures ∙ ap Some (sym c.as_str-text.ensures.value) in
-    variant_found c.args.variants.now (node_data c.args.node) c.as_str-text.result.now c.in-Some-position_of.position
+    let text : string_in (node_data c.args.node) ≡ Some c.in-Some.text.now =
+    c.in-Some.ensures in
+    variant_found c.args.variants.now (node_data c.args.node) c.in-Some.text.now c.in-Some-position_of.position
     text c.in-Some-position_of.ensures
 
 pub returns-in-None-clause-refused : goal.returns-in-None-clause-refused
 returns-in-None-clause-refused c =
-    let text : string_in (node_data c.args.node) ≡ Some c.as_str-text.result.now =
-    c.in-Some.ensures ∙ ap Some (sym c.as_str-text.ensures.value) in
-    variant_unnamed c.args.variants.now (node_data c.args.node) c.as_str-text.result.now text c.in-None.ensures
+    let text : string_in (node_data c.args.node) ≡ Some c.in-Some.text.now =
+    c.in-Some.ensures in
+    variant_unnamed c.args.variants.now (node_data c.args.node) c.in-Some.text.now text c.in-None.ensures
 
 pub returns-in-None-clause-err : goal.returns-in-None-clause-err
 returns-in-None-clause-err c = record {
@@ -27,7 +27,7 @@ returns-in-None-clause-err c = record {
 
 pub returns-in-None-clause-named : goal.returns-in-None-clause-named
 returns-in-None-clause-named c =
-    let text : string_in (node_data c.args.node) ≡ Some c.as_str-text.result.now =
-    c.in-Some.ensures ∙ ap Some (sym c.as_str-text.ensures.value) in
-    variant_unknown c.args.variants.now c.args.node c.unknown_variant.result c.as_str-text.result.now text
+    let text : string_in (node_data c.args.node) ≡ Some c.in-Some.text.now =
+    c.in-Some.ensures in
+    variant_unknown c.args.variants.now c.args.node c.unknown_variant.result c.in-Some.text.now text
     c.in-None.ensures c.unknown_variant.ensures

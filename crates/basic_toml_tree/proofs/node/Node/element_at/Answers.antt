@@ -38,47 +38,45 @@ returns-in-Some-get-clause-data c =
     let read = c.in-Some-get.ensures.lookup in
     ap (λ d. slice_get (elements_in d) c.args.at) here
     ∙ ap (λ ds. slice_get ds c.args.at) (tables_elements before latest)
-    ∙ front_read (map table_data before.items) (table_data latest.value ∷ []) c.args.at
+    ∙ front_read (map table_data before.value.items) (table_data latest.value ∷ []) c.args.at
     (table_data c.in-Some-get.table.now)
-    (ap (λ xs. slice_get (map table_data xs) c.args.at) (sym c.deref-in-Item-Tables.ensures.value)
-    ∙ mapped_read table_data c.deref-in-Item-Tables.result.now c.args.at c.in-Some-get.table.now
+    (ap (λ xs. slice_get (map table_data xs) c.args.at) (sym (c.as_slice-earlier.ensures.value ∙ ap (λ v. v.items) c.deref-in-Item-Tables.ensures))
+    ∙ mapped_read table_data c.as_slice-earlier.result.now c.args.at c.in-Some-get.table.now
     read.3.0 read.1)
     ∙ ap Some (sym c.element_table.ensures.«data»)
 
-pub returns-then-at-len-clause-data : goal.returns-then-at-len-clause-data
-returns-then-at-len-clause-data c =
+pub returns-then-at-earlier-clause-data : goal.returns-then-at-earlier-clause-data
+returns-then-at-earlier-clause-data c =
     let before = c.in-Item-Tables.before in
     let latest = c.in-Item-Tables.latest in
     let here : node_data c.args.self ≡ data_of (Tables c.in-Item-Tables.before c.in-Item-Tables.latest) = search (rules) in
-    let at : c.args.at ≡ length (map table_data c.in-Item-Tables.before.items) =
-    c.if-at-len.true ∙ c.len.ensures ∙ sym c.deref-in-Item-Tables.ensures.len
-    ∙ ap length c.deref-in-Item-Tables.ensures.value
-    ∙ sym (mapped_length table_data c.in-Item-Tables.before.items) in
+    let at : c.args.at ≡ length (map table_data c.in-Item-Tables.before.value.items) =
+    c.if-at-earlier.true
+    ∙ ap length (c.as_slice-earlier.ensures.value ∙ ap (λ v. v.items) c.deref-in-Item-Tables.ensures)
+    ∙ sym (mapped_length table_data c.in-Item-Tables.before.value.items) in
     ap (λ d. slice_get (elements_in d) c.args.at) here
     ∙ ap (λ ds. slice_get ds c.args.at) (tables_elements before latest)
-    ∙ ap (λ i. slice_get (map table_data before.items ++ table_data latest.value ∷ []) i) at
-    ∙ last_read (map table_data before.items) (table_data latest.value)
-    ∙ ap (λ t. Some (table_data t)) (sym c.deref-then-at-len.ensures)
-    ∙ ap Some (sym c.element_table-then-at-len.ensures.«data»)
+    ∙ ap (λ i. slice_get (map table_data before.value.items ++ table_data latest.value ∷ []) i) at
+    ∙ last_read (map table_data before.value.items) (table_data latest.value)
+    ∙ ap (λ t. Some (table_data t)) (sym c.deref-then-at-earlier.ensures)
+    ∙ ap Some (sym c.element_table-then-at-earlier.ensures.«data»)
 
-pub returns-else-at-len-clause-data : goal.returns-else-at-len-clause-data
-returns-else-at-len-clause-data c =
+pub returns-else-at-earlier-clause-data : goal.returns-else-at-earlier-clause-data
+returns-else-at-earlier-clause-data c =
     let here : node_data c.args.self ≡ data_of (Tables c.in-Item-Tables.before c.in-Item-Tables.latest) = search (rules) in
     let past = c.in-None-get.ensures.lookup.3 in
     let long : length (elements_in (node_data c.args.self))
-    ≡ length (map table_data c.in-Item-Tables.before.items ++ table_data c.in-Item-Tables.latest.value ∷ []) =
+    ≡ length (map table_data c.in-Item-Tables.before.value.items ++ table_data c.in-Item-Tables.latest.value ∷ []) =
     ap (λ d. length (elements_in d)) here
     ∙ ap length (tables_elements c.in-Item-Tables.before c.in-Item-Tables.latest) in
     omega (
       arith,
       past,
       long,
-      length-append (map table_data c.in-Item-Tables.before.items) (table_data c.in-Item-Tables.latest.value ∷ []),
-      mapped_length table_data c.in-Item-Tables.before.items,
-      ap length c.deref-in-Item-Tables.ensures.value,
-      c.deref-in-Item-Tables.ensures.len,
-      c.len.ensures,
-      c.if-at-len.false,
+      length-append (map table_data c.in-Item-Tables.before.value.items) (table_data c.in-Item-Tables.latest.value ∷ []),
+      mapped_length table_data c.in-Item-Tables.before.value.items,
+      ap length (c.as_slice-earlier.ensures.value ∙ ap (λ v. v.items) c.deref-in-Item-Tables.ensures),
+      c.if-at-earlier.false,
     )
 
 -- where they stand
@@ -102,36 +100,36 @@ returns-in-Some-get-clause-stands c =
     let read = c.in-Some-get.ensures.lookup in
     tables_stand c.args.self c.element_table.result c.args.at c.in-Item-Tables.field-0 at before latest
     c.in-Some-get.table is
-    (front_read (map table_trie before.items) (table_trie latest.value ∷ []) c.args.at
+    (front_read (map table_trie before.value.items) (table_trie latest.value ∷ []) c.args.at
     (table_trie c.in-Some-get.table.now)
-    (ap (λ xs. slice_get (map table_trie xs) c.args.at) (sym c.deref-in-Item-Tables.ensures.value)
-    ∙ mapped_read table_trie c.deref-in-Item-Tables.result.now c.args.at c.in-Some-get.table.now
+    (ap (λ xs. slice_get (map table_trie xs) c.args.at) (sym (c.as_slice-earlier.ensures.value ∙ ap (λ v. v.items) c.deref-in-Item-Tables.ensures))
+    ∙ mapped_read table_trie c.as_slice-earlier.result.now c.args.at c.in-Some-get.table.now
     read.3.0 read.1))
-    (front_read (map table_within before.items) (table_within latest.value ∷ []) c.args.at
+    (front_read (map table_within before.value.items) (table_within latest.value ∷ []) c.args.at
     (table_within c.in-Some-get.table.now)
-    (ap (λ xs. slice_get (map table_within xs) c.args.at) (sym c.deref-in-Item-Tables.ensures.value)
-    ∙ mapped_read table_within c.deref-in-Item-Tables.result.now c.args.at c.in-Some-get.table.now
+    (ap (λ xs. slice_get (map table_within xs) c.args.at) (sym (c.as_slice-earlier.ensures.value ∙ ap (λ v. v.items) c.deref-in-Item-Tables.ensures))
+    ∙ mapped_read table_within c.as_slice-earlier.result.now c.args.at c.in-Some-get.table.now
     read.3.0 read.1))
     c.element_table.ensures.beside c.element_table.ensures.start
 
-pub returns-then-at-len-clause-stands : goal.returns-then-at-len-clause-stands
-returns-then-at-len-clause-stands c =
+pub returns-then-at-earlier-clause-stands : goal.returns-then-at-earlier-clause-stands
+returns-then-at-earlier-clause-stands c =
     let before = c.in-Item-Tables.before in
     let latest = c.in-Item-Tables.latest in
     let at : c.args.self.spot ≡ spots.Item c.in-Item-Tables.field-0 = search (rules) in
     let is : c.in-Item-Tables.field-0.now ≡ Tables c.in-Item-Tables.before c.in-Item-Tables.latest = search (rules) in
-    let last : c.args.at ≡ length (map table_trie c.in-Item-Tables.before.items) =
-    c.if-at-len.true ∙ c.len.ensures ∙ sym c.deref-in-Item-Tables.ensures.len
-    ∙ ap length c.deref-in-Item-Tables.ensures.value
-    ∙ sym (mapped_length table_trie c.in-Item-Tables.before.items) in
-    tables_stand c.args.self c.element_table-then-at-len.result c.args.at c.in-Item-Tables.field-0 at before latest
-    c.deref-then-at-len.result is
-    (ap (λ i. slice_get (map table_trie before.items ++ table_trie latest.value ∷ []) i) last
-    ∙ last_read (map table_trie before.items) (table_trie latest.value)
-    ∙ ap (λ t. Some (table_trie t)) (sym c.deref-then-at-len.ensures))
-    (ap (λ i. slice_get (map table_within before.items ++ table_within latest.value ∷ []) i)
-    (last ∙ mapped_length table_trie c.in-Item-Tables.before.items
-    ∙ sym (mapped_length table_within c.in-Item-Tables.before.items))
-    ∙ last_read (map table_within before.items) (table_within latest.value)
-    ∙ ap (λ t. Some (table_within t)) (sym c.deref-then-at-len.ensures))
-    c.element_table-then-at-len.ensures.beside c.element_table-then-at-len.ensures.start
+    let last : c.args.at ≡ length (map table_trie c.in-Item-Tables.before.value.items) =
+    c.if-at-earlier.true
+    ∙ ap length (c.as_slice-earlier.ensures.value ∙ ap (λ v. v.items) c.deref-in-Item-Tables.ensures)
+    ∙ sym (mapped_length table_trie c.in-Item-Tables.before.value.items) in
+    tables_stand c.args.self c.element_table-then-at-earlier.result c.args.at c.in-Item-Tables.field-0 at before latest
+    c.deref-then-at-earlier.result is
+    (ap (λ i. slice_get (map table_trie before.value.items ++ table_trie latest.value ∷ []) i) last
+    ∙ last_read (map table_trie before.value.items) (table_trie latest.value)
+    ∙ ap (λ t. Some (table_trie t)) (sym c.deref-then-at-earlier.ensures))
+    (ap (λ i. slice_get (map table_within before.value.items ++ table_within latest.value ∷ []) i)
+    (last ∙ mapped_length table_trie c.in-Item-Tables.before.value.items
+    ∙ sym (mapped_length table_within c.in-Item-Tables.before.value.items))
+    ∙ last_read (map table_within before.value.items) (table_within latest.value)
+    ∙ ap (λ t. Some (table_within t)) (sym c.deref-then-at-earlier.ensures))
+    c.element_table-then-at-earlier.ensures.beside c.element_table-then-at-earlier.ensures.start
