@@ -56,7 +56,7 @@ spot_name count (spots.Item found) = item_name (out-Item found.now)
 unfoldable pub name_of : Node → List ℕ
 name_of node = spot_name node.count node.spot
 
--- whether it is a string that stands in the document as it is
+-- whether it is a string, and a slice of the document
 abbrev pub holds_string : Item-F Item Child Table → Bool
 holds_string (Item-F.String _) = true
 holds_string _ = false

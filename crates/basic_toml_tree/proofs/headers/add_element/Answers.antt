@@ -25,7 +25,8 @@ returns-in_err-latest-clause-entered c =
     (put_table (rows_view c.args.rows.items) fresh) =
     elim c.match-there.branch [
       | in-Nothing+in_ok-before-in-Nothing w ↦ first_element rows c.args.there c.match-there.before.value.items w.in-Nothing.is
-          (ap (λ b. b.value.items) w.before-is ∙ ap (λ v. v.items) w.in_ok-before-in-Nothing.ensures.ok ∙ w.new.ensures.items)
+          (ap (λ b. b.value.items) w.before-is ∙ ap (λ v. v.items) w.in_ok-before-in-Nothing.ensures.ok
+          ∙ w.new.ensures.items)
       | in-Tables+in_ok-push-in-Tables w ↦ next_element rows c.args.there w.in-Tables.before w.in-Tables.latest
           c.match-there.before.value.items w.in-Tables.is
           (ap (λ b. b.value.items) w.before-is ∙ w.in_ok-push-in-Tables.ensures.items
@@ -45,7 +46,8 @@ returns-clause-entered c =
     (put_table (rows_view c.args.rows.items) fresh) =
     elim c.match-there.branch [
       | in-Nothing+in_ok-before-in-Nothing w ↦ first_element rows c.args.there c.match-there.before.value.items w.in-Nothing.is
-          (ap (λ b. b.value.items) w.before-is ∙ ap (λ v. v.items) w.in_ok-before-in-Nothing.ensures.ok ∙ w.new.ensures.items)
+          (ap (λ b. b.value.items) w.before-is ∙ ap (λ v. v.items) w.in_ok-before-in-Nothing.ensures.ok
+          ∙ w.new.ensures.items)
       | in-Tables+in_ok-push-in-Tables w ↦ next_element rows c.args.there w.in-Tables.before w.in-Tables.latest
           c.match-there.before.value.items w.in-Tables.is
           (ap (λ b. b.value.items) w.before-is ∙ w.in_ok-push-in-Tables.ensures.items
@@ -78,7 +80,8 @@ returns-clause-origins c =
     elim c.match-there.branch [
       | in-Nothing+in_ok-before-in-Nothing w ↦ λ at s. first_added c.args.there at s c.match-there.before c.in_ok-table.table c.in_ok-latest.latest rows
           c.in_ok-table.ensures c.in_ok-latest.ensures.origins w.in-Nothing.is
-          (ap (λ b. b.value.items) w.before-is ∙ ap (λ v. v.items) w.in_ok-before-in-Nothing.ensures.ok ∙ w.new.ensures.items)
+          (ap (λ b. b.value.items) w.before-is ∙ ap (λ v. v.items) w.in_ok-before-in-Nothing.ensures.ok
+          ∙ w.new.ensures.items)
       | in-Tables+in_ok-push-in-Tables w ↦ λ at s. next_added c.args.there at s c.match-there.before c.in_ok-table.table
           c.in_ok-latest.latest rows c.in_ok-table.ensures c.in_ok-latest.ensures.origins w.in-Tables.before
           w.in-Tables.latest w.in-Tables.is

@@ -32,6 +32,7 @@ returns-in-None-clause-data c =
 
 pub returns-in-Some-get-clause-data : goal.returns-in-Some-get-clause-data
 returns-in-Some-get-clause-data c =
+    let whole = c.as_slice-earlier.ensures.value ∙ ap (λ v. v.items) c.deref-in-Item-Tables.ensures in
     let before = c.in-Item-Tables.before in
     let latest = c.in-Item-Tables.latest in
     let here : node_data c.args.self ≡ data_of (Tables c.in-Item-Tables.before c.in-Item-Tables.latest) = search (rules) in
@@ -40,19 +41,20 @@ returns-in-Some-get-clause-data c =
     ∙ ap (λ ds. slice_get ds c.args.at) (tables_elements before latest)
     ∙ front_read (map table_data before.value.items) (table_data latest.value ∷ []) c.args.at
     (table_data c.in-Some-get.table.now)
-    (ap (λ xs. slice_get (map table_data xs) c.args.at) (sym (c.as_slice-earlier.ensures.value ∙ ap (λ v. v.items) c.deref-in-Item-Tables.ensures))
+    (ap (λ xs. slice_get (map table_data xs) c.args.at) (sym whole)
     ∙ mapped_read table_data c.as_slice-earlier.result.now c.args.at c.in-Some-get.table.now
     read.3.0 read.1)
     ∙ ap Some (sym c.element_table.ensures.«data»)
 
 pub returns-then-at-earlier-clause-data : goal.returns-then-at-earlier-clause-data
 returns-then-at-earlier-clause-data c =
+    let whole = c.as_slice-earlier.ensures.value ∙ ap (λ v. v.items) c.deref-in-Item-Tables.ensures in
     let before = c.in-Item-Tables.before in
     let latest = c.in-Item-Tables.latest in
     let here : node_data c.args.self ≡ data_of (Tables c.in-Item-Tables.before c.in-Item-Tables.latest) = search (rules) in
     let at : c.args.at ≡ length (map table_data c.in-Item-Tables.before.value.items) =
     c.if-at-earlier.true
-    ∙ ap length (c.as_slice-earlier.ensures.value ∙ ap (λ v. v.items) c.deref-in-Item-Tables.ensures)
+    ∙ ap length whole
     ∙ sym (mapped_length table_data c.in-Item-Tables.before.value.items) in
     ap (λ d. slice_get (elements_in d) c.args.at) here
     ∙ ap (λ ds. slice_get ds c.args.at) (tables_elements before latest)
@@ -63,6 +65,7 @@ returns-then-at-earlier-clause-data c =
 
 pub returns-else-at-earlier-clause-data : goal.returns-else-at-earlier-clause-data
 returns-else-at-earlier-clause-data c =
+    let whole = c.as_slice-earlier.ensures.value ∙ ap (λ v. v.items) c.deref-in-Item-Tables.ensures in
     let here : node_data c.args.self ≡ data_of (Tables c.in-Item-Tables.before c.in-Item-Tables.latest) = search (rules) in
     let past = c.in-None-get.ensures.lookup.3 in
     let long : length (elements_in (node_data c.args.self))
@@ -75,7 +78,7 @@ returns-else-at-earlier-clause-data c =
       long,
       length-append (map table_data c.in-Item-Tables.before.value.items) (table_data c.in-Item-Tables.latest.value ∷ []),
       mapped_length table_data c.in-Item-Tables.before.value.items,
-      ap length (c.as_slice-earlier.ensures.value ∙ ap (λ v. v.items) c.deref-in-Item-Tables.ensures),
+      ap length whole,
       c.if-at-earlier.false,
     )
 
@@ -93,6 +96,7 @@ returns-in-Some-clause-stands c =
 
 pub returns-in-Some-get-clause-stands : goal.returns-in-Some-get-clause-stands
 returns-in-Some-get-clause-stands c =
+    let whole = c.as_slice-earlier.ensures.value ∙ ap (λ v. v.items) c.deref-in-Item-Tables.ensures in
     let before = c.in-Item-Tables.before in
     let latest = c.in-Item-Tables.latest in
     let at : c.args.self.spot ≡ spots.Item c.in-Item-Tables.field-0 = search (rules) in
@@ -102,25 +106,26 @@ returns-in-Some-get-clause-stands c =
     c.in-Some-get.table is
     (front_read (map table_trie before.value.items) (table_trie latest.value ∷ []) c.args.at
     (table_trie c.in-Some-get.table.now)
-    (ap (λ xs. slice_get (map table_trie xs) c.args.at) (sym (c.as_slice-earlier.ensures.value ∙ ap (λ v. v.items) c.deref-in-Item-Tables.ensures))
+    (ap (λ xs. slice_get (map table_trie xs) c.args.at) (sym whole)
     ∙ mapped_read table_trie c.as_slice-earlier.result.now c.args.at c.in-Some-get.table.now
     read.3.0 read.1))
     (front_read (map table_within before.value.items) (table_within latest.value ∷ []) c.args.at
     (table_within c.in-Some-get.table.now)
-    (ap (λ xs. slice_get (map table_within xs) c.args.at) (sym (c.as_slice-earlier.ensures.value ∙ ap (λ v. v.items) c.deref-in-Item-Tables.ensures))
+    (ap (λ xs. slice_get (map table_within xs) c.args.at) (sym whole)
     ∙ mapped_read table_within c.as_slice-earlier.result.now c.args.at c.in-Some-get.table.now
     read.3.0 read.1))
     c.element_table.ensures.beside c.element_table.ensures.start
 
 pub returns-then-at-earlier-clause-stands : goal.returns-then-at-earlier-clause-stands
 returns-then-at-earlier-clause-stands c =
+    let whole = c.as_slice-earlier.ensures.value ∙ ap (λ v. v.items) c.deref-in-Item-Tables.ensures in
     let before = c.in-Item-Tables.before in
     let latest = c.in-Item-Tables.latest in
     let at : c.args.self.spot ≡ spots.Item c.in-Item-Tables.field-0 = search (rules) in
     let is : c.in-Item-Tables.field-0.now ≡ Tables c.in-Item-Tables.before c.in-Item-Tables.latest = search (rules) in
     let last : c.args.at ≡ length (map table_trie c.in-Item-Tables.before.value.items) =
     c.if-at-earlier.true
-    ∙ ap length (c.as_slice-earlier.ensures.value ∙ ap (λ v. v.items) c.deref-in-Item-Tables.ensures)
+    ∙ ap length whole
     ∙ sym (mapped_length table_trie c.in-Item-Tables.before.value.items) in
     tables_stand c.args.self c.element_table-then-at-earlier.result c.args.at c.in-Item-Tables.field-0 at before latest
     c.deref-then-at-earlier.result is
