@@ -75,7 +75,8 @@ fn what_is_met(there: &Child<'_>) -> Option<Met>
     }
 }
 
-// Puts a row's value into a table, by the keys that periods follow, and then its last key.
+// Puts a row's value into a table, by the keys that periods follow, and then its last key. It is inlined, since most rows
+// have one key.
 #[cycle(leading)]
 #[inline(always)]
 fn enter_row<'de>(
@@ -296,7 +297,8 @@ fn is_dot_value(value: &Raw<'_>) -> bool
     matches!(value, Raw::Dot)
 }
 
-// The item of a value that begins at an offset, within a table or an array of a level.
+// The item of a value that begins at an offset, within a table or an array of a level. It is inlined, since most values
+// are scalars.
 #[cycle(finishing)]
 #[inline(always)]
 fn finished<'de>(

@@ -78,6 +78,7 @@ pub(crate) fn table_of(alloc: Global, table: &Table<'_>) -> Result<values::Table
     Ok(Pairs::from_parts(copies, index))
 }
 
+// The value that an item becomes. It is inlined, since most items are scalars, which are moved in less than a call takes.
 #[cycle(moves)]
 #[inline(always)]
 fn into_value(alloc: Global, item: Item<'_>) -> Result<Value, AllocError>
