@@ -7,3 +7,6 @@ pub mod RowsGetNoLonger
 pub mod RowsGoOn
 pub mod RowsOfKeys
 pub mod TrailGrows
+pub mod DataParts
+pub mod PlainSeen
+pub mod PlainValues

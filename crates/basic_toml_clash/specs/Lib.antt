@@ -3,4 +3,5 @@ pub mod Lends
 pub mod Trail
 pub mod Crossed
 pub mod Clash
+pub mod Plain
 pub mod formers

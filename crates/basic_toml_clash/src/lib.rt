@@ -17,8 +17,12 @@
 
 mod clash;
 mod crossed;
+mod items_left;
 mod keyed;
+mod plain;
 
 pub use clash::{Clash, Repeated, key_texts, texts_of};
 pub use crossed::crossed_value;
+pub use items_left::{ItemsLeft, drained};
 pub use keyed::{Blank, Keyed};
+pub use plain::{are_plain, into_plain_values, plain_value, plain_values};

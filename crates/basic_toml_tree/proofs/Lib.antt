@@ -13,6 +13,7 @@ pub mod RowsLeft
 pub mod RowValues
 pub mod InlineTables
 pub mod ElementsLeft
+pub mod PlainArrays
 pub mod LatestInATrie
 pub mod RowsHaveKeys
 pub mod SectionsEntered

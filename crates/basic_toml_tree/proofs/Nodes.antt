@@ -3,6 +3,7 @@ pub mod NodesInOrder
 pub mod NodesStand
 pub mod NodesCome
 pub mod ItemsStand
+pub mod PlainNodes
 pub mod LastSection
 pub mod MadeNodes
 pub mod RowNodesTold

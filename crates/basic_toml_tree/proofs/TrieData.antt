@@ -94,6 +94,7 @@ item_agrees (Item-F.Array children) agree =
     let b : data_of (roll-Item (Item-F.Array children)) ≡ Data.array (items_of (map child_data children.items)) =
     search (rules, the_lemmas) in
     ap tree_data a ∙ ap (λ ds. Data.array (items_of ds)) agree ∙ sym b
+item_agrees (Item-F.Plain es) agree = search (rules, the_lemmas)
 item_agrees (Item-F.Inline t) agree =
     let a : item_trie (roll-Item (Item-F.Inline t)) ≡ leaf (tree_data (table_trie t.value)) =
     search (rules, the_lemmas) in
@@ -156,6 +157,7 @@ parts_agree (Item-F.Boolean b) = tt
 parts_agree (Item-F.String text) = tt
 parts_agree (Item-F.Escaped text) = tt
 parts_agree (Item-F.Array es) = children_agree es.items
+parts_agree (Item-F.Plain es) = tt
 parts_agree (Item-F.Inline e) = e.value.1
 parts_agree (Item-F.Table e) = e.value.1
 parts_agree (Item-F.Tables before latest) = (tables_agree before.value.items, latest.value.1)

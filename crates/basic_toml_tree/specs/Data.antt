@@ -4,6 +4,8 @@ use Rattle.basic_toml_value.specs.Data.{Data, no_members, items_of, members_of}
 use Rattle.basic_toml_value.specs.View.{view}
 use Rattle.basic_toml_value.specs.declared.pairs.Pair.{Pair}
 use Rattle.basic_toml_value.specs.declared.value.Value.{Value}
+use Rattle.basic_toml_grammar.specs.Mentions.{finished}
+use Rattle.basic_toml_clash.specs.Plain.{plain_array}
 use Rattle.basic_toml_tree.specs.declared.item.Item.{fold-Item}
 use Rattle.basic_toml_tree.specs.declared.item.Item as items
 use Rattle.basic_toml_tree.specs.declared.item.Item.TheOpen.{Item-F, Child-F, Table-F}
@@ -21,6 +23,7 @@ item_step (Item-F.Boolean b) = Data.boolean b
 item_step (Item-F.String text) = Data.string text.now
 item_step (Item-F.Escaped text) = Data.string (string_bytes text)
 item_step (Item-F.Array children) = Data.array (items_of children.items)
+item_step (Item-F.Plain elements) = finished (plain_array elements.items)
 item_step (Item-F.Inline table) = table.value
 item_step (Item-F.Table table) = table.value
 item_step (Item-F.Tables before latest) =

@@ -3,6 +3,7 @@ use Rattle.std.specs.Prelude.{ℕ, Bool, true, false, List, [], ◌∷◌, Optio
 use Rattle.std.specs.Borrow.{Bor}
 use Rattle.std.specs.Str.{bytes_eq}
 use Rattle.basic_toml_value.specs.Data.{Data, Items, no_items, item, Members, no_members, member}
+use Rattle.basic_toml_clash.specs.Plain.{plain_data}
 use Rattle.basic_toml_tree.specs.Data.{data_of, table_data}
 use Rattle.basic_toml_tree.specs.declared.item.Table.{Table}
 use Rattle.basic_toml_tree.specs.declared.node.Node.{Node}
@@ -14,6 +15,7 @@ use Rattle.basic_toml_tree.specs.declared.spot.Spot.TheVariants as spots
 abbrev pub spot_data : Spot → Data
 spot_data (spots.Table table) = table_data table.now
 spot_data (spots.Item found) = data_of found.now
+spot_data (spots.Plain found) = plain_data found.now
 
 abbrev pub node_data : Node → Data
 node_data node = spot_data node.spot

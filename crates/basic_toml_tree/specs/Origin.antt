@@ -6,6 +6,11 @@ use Rattle.basic_toml_grammar.specs.Sections.{KeyTexts}
 use Rattle.basic_toml_grammar.specs.Nodes as grammar
 use Rattle.basic_toml_read.specs.declared.section.Section as code
 use Rattle.basic_toml_read.specs.SectionView.{section_of, header_texts}
+use Rattle.basic_toml_read.specs.declared.section.Raw.{Raw, out-Raw}
+use Rattle.basic_toml_read.specs.declared.section.Raw.TheOpen.{Raw-F}
+use Rattle.basic_toml_read.specs.declared.section.Element.{Element}
+use Rattle.basic_toml_read.specs.declared.section.Row.{Row}
+use Rattle.basic_toml_clash.specs.Plain.{plain_of}
 use Rattle.basic_toml_tree.specs.declared.item.Item.{Item, out-Item}
 use Rattle.basic_toml_tree.specs.declared.item.Item.TheOpen.{Item-F}
 use Rattle.basic_toml_tree.specs.declared.item.Child.{Child}
@@ -28,6 +33,7 @@ holds_tables _ = false
 abbrev pub spot_is_made : ℕ → Spot → Bool
 spot_is_made count (spots.Table table) = (count == 0) || table_is_made table.now
 spot_is_made count (spots.Item found) = holds_tables (out-Item found.now)
+spot_is_made count (spots.Plain found) = false
 
 abbrev pub is_made : Node → Bool
 is_made node = spot_is_made node.count node.spot
@@ -44,6 +50,7 @@ item_name (Item-F.Boolean _) = codes "boolean"
 item_name (Item-F.String _) = codes "string"
 item_name (Item-F.Escaped _) = codes "string"
 item_name (Item-F.Array _) = codes "array"
+item_name (Item-F.Plain _) = codes "array"
 item_name (Item-F.Inline _) = codes "inline table"
 item_name (Item-F.Table _) = codes "dotted table"
 item_name (Item-F.Tables _ _) = codes "array"
@@ -51,6 +58,7 @@ item_name (Item-F.Tables _ _) = codes "array"
 abbrev pub spot_name : ℕ → Spot → List ℕ
 spot_name count (spots.Table table) = if spot_is_made count (spots.Table table) then codes "table" else codes "dotted table"
 spot_name count (spots.Item found) = item_name (out-Item found.now)
+spot_name count (spots.Plain found) = grammar.raw_name (plain_of found.now)
 
 -- what a node is called
 unfoldable pub name_of : Node → List ℕ
@@ -61,9 +69,14 @@ abbrev pub holds_string : Item-F Item Child Table → Bool
 holds_string (Item-F.String _) = true
 holds_string _ = false
 
+abbrev pub is_string : Raw-F Raw Element Row → Bool
+is_string (Raw-F.String _) = true
+is_string _ = false
+
 abbrev pub spot_is_borrowed : Spot → Bool
 spot_is_borrowed (spots.Table _) = false
 spot_is_borrowed (spots.Item found) = holds_string (out-Item found.now)
+spot_is_borrowed (spots.Plain found) = is_string (out-Raw found.now)
 
 abbrev pub is_borrowed : Node → Bool
 is_borrowed node = spot_is_borrowed node.spot
@@ -76,9 +89,19 @@ start_of node = if is_made node then last_at node.tree.now else Some node.start
 unfoldable pub outer_of : Node → Option ℕ
 outer_of node = if is_made node then last_at node.tree.now else option_or node.outer (last_at node.tree.now)
 
+abbrev pub item_is_literal : Item-F Item Child Table → Bool
+item_is_literal (Item-F.Array _) = true
+item_is_literal (Item-F.Plain _) = true
+item_is_literal _ = false
+
+abbrev pub raw_is_array : Raw-F Raw Element Row → Bool
+raw_is_array (Raw-F.Array _) = true
+raw_is_array _ = false
+
 abbrev pub is_array_literal : Spot → Bool
-is_array_literal (spots.Item found) = elim (out-Item found.now) [ Item-F.Array _ ↦ true | _ ↦ false ]
-is_array_literal _ = false
+is_array_literal (spots.Table _) = false
+is_array_literal (spots.Item found) = item_is_literal (out-Item found.now)
+is_array_literal (spots.Plain found) = raw_is_array (out-Raw found.now)
 
 -- the offset that names it in errors
 unfoldable pub offset_of : Node → Option ℕ

@@ -8,6 +8,7 @@ use Rattle.basic_toml_value.specs.Pairs.{value_at}
 use Rattle.basic_toml_grammar.specs.Sections.{KeyTexts, texts, Raw, Elements, no_elements, element, Rows, no_rows}
 use Rattle.basic_toml_grammar.specs.Sections.{row}
 use Rattle.basic_toml_grammar.specs.Steps.{Step, key, number, Path, step_eq}
+use Rattle.basic_toml_clash.specs.Plain.{plain_array}
 use Rattle.basic_toml_tree.specs.declared.item.Item.{fold-Item}
 use Rattle.basic_toml_tree.specs.declared.item.Item as items
 use Rattle.basic_toml_tree.specs.declared.item.Item.TheOpen.{Item-F, Child-F, Table-F}
@@ -72,35 +73,6 @@ pub record Within : Type 0 where
 abbrev pub elements_within : ℕ → ℕ → List Within → List Origins
 elements_within at s ts = map (λ t. entry (table_origin t.made at s) t.below) ts
 
--- one level, the parts seen already
-abbrev pub item_from : Item-F (ℕ → ℕ → Origins) Origins Within → ℕ → ℕ → Origins
-item_from Item-F.Nothing at s = no_origins
-item_from (Item-F.Integer _) at s = entry (value_origin (codes "integer") at s) no_origins
-item_from (Item-F.Float _) at s = entry (value_origin (codes "float") at s) no_origins
-item_from (Item-F.Boolean _) at s = entry (value_origin (codes "boolean") at s) no_origins
-item_from (Item-F.String _) at s = entry (value_origin (codes "string") at s) no_origins
-item_from (Item-F.Escaped _) at s = entry (value_origin (codes "string") at s) no_origins
-item_from (Item-F.Array children) at s = entry (value_origin (codes "array") at s) (at_numbers children.items)
-item_from (Item-F.Inline table) at s = entry (value_origin (codes "inline table") at s) table.value.below
-item_from (Item-F.Table table) at s = entry (table_origin table.value.made at s) table.value.below
-item_from (Item-F.Tables before latest) at s =
-    entry (array_origin at s) (at_numbers (elements_within at s (before.value.items ++ latest.value ∷ [])))
-
-abbrev pub child_from : Child-F (ℕ → ℕ → Origins) Origins Within → Origins
-child_from c = c.item c.start c.section
-
-abbrev pub table_from : Table-F (ℕ → ℕ → Origins) Origins Within → Within
-table_from t = record { made = t.passed || t.named; below = at_keys t.entries }
-
-abbrev pub item_origins : items.Item → ℕ → ℕ → Origins
-item_origins = fold-Item (ℕ → ℕ → Origins) Origins Within item_from child_from table_from
-
-abbrev pub child_origins : children.Child → Origins
-child_origins = fold-Child (ℕ → ℕ → Origins) Origins Within item_from child_from table_from
-
-abbrev pub table_within : tables.Table → Within
-table_within = fold-Table (ℕ → ℕ → Origins) Origins Within item_from child_from table_from
-
 -- those before, and the others where there are none
 abbrev pub or_else : Origins → Origins → Origins
 or_else before new p = option_or (before p) (new p)
@@ -141,3 +113,33 @@ abbrev mutual
   rows_origins s no_rows = no_origins
   rows_origins s (row keys at v rows) =
       or_else (row_origins (texts keys) (table_origin false at s) (value_origins s at v)) (rows_origins s rows)
+
+-- one level, the parts seen already
+abbrev pub item_from : Item-F (ℕ → ℕ → Origins) Origins Within → ℕ → ℕ → Origins
+item_from Item-F.Nothing at s = no_origins
+item_from (Item-F.Integer _) at s = entry (value_origin (codes "integer") at s) no_origins
+item_from (Item-F.Float _) at s = entry (value_origin (codes "float") at s) no_origins
+item_from (Item-F.Boolean _) at s = entry (value_origin (codes "boolean") at s) no_origins
+item_from (Item-F.String _) at s = entry (value_origin (codes "string") at s) no_origins
+item_from (Item-F.Escaped _) at s = entry (value_origin (codes "string") at s) no_origins
+item_from (Item-F.Array children) at s = entry (value_origin (codes "array") at s) (at_numbers children.items)
+item_from (Item-F.Plain elements) at s = value_origins s at (plain_array elements.items)
+item_from (Item-F.Inline table) at s = entry (value_origin (codes "inline table") at s) table.value.below
+item_from (Item-F.Table table) at s = entry (table_origin table.value.made at s) table.value.below
+item_from (Item-F.Tables before latest) at s =
+    entry (array_origin at s) (at_numbers (elements_within at s (before.value.items ++ latest.value ∷ [])))
+
+abbrev pub child_from : Child-F (ℕ → ℕ → Origins) Origins Within → Origins
+child_from c = c.item c.start c.section
+
+abbrev pub table_from : Table-F (ℕ → ℕ → Origins) Origins Within → Within
+table_from t = record { made = t.passed || t.named; below = at_keys t.entries }
+
+abbrev pub item_origins : items.Item → ℕ → ℕ → Origins
+item_origins = fold-Item (ℕ → ℕ → Origins) Origins Within item_from child_from table_from
+
+abbrev pub child_origins : children.Child → Origins
+child_origins = fold-Child (ℕ → ℕ → Origins) Origins Within item_from child_from table_from
+
+abbrev pub table_within : tables.Table → Within
+table_within = fold-Table (ℕ → ℕ → Origins) Origins Within item_from child_from table_from

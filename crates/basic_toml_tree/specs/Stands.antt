@@ -1,5 +1,5 @@
 -- Where a node stands in its tree, by its path, and what is foretold of it by the section list.
-use Rattle.std.specs.Prelude.{◌≡◌, ◌⊎◌, ◌==◌, ◌+◌, ℕ, Bool, true, false, List, [], ◌∷◌, ◌++◌, Option}
+use Rattle.std.specs.Prelude.{◌≡◌, ◌⊎◌, ◌==◌, ◌+◌, ℕ, Bool, true, false, List, [], ◌∷◌, ◌++◌, Option, Some, map, slice_get}
 use Rattle.std.specs.Borrow.{Bor}
 use Rattle.std.specs.Iterator.{YieldsFirstBy}
 use Rattle.std.specs.Option.{IfSome}
@@ -8,6 +8,9 @@ use Rattle.basic_toml_grammar.specs.Steps.{Step, key, number, Path}
 use Rattle.basic_toml_grammar.specs.Entering.{all_keyed}
 use Rattle.basic_toml_grammar.specs.Nodes as grammar
 use Rattle.basic_toml_grammar.specs.Trie.{Trie, nothing, standing, below}
+use Rattle.basic_toml_read.specs.declared.section.Raw.{Raw}
+use Rattle.basic_toml_read.specs.declared.section.Element.{Element}
+use Rattle.basic_toml_clash.specs.Plain.{plain_of, plain_data, listed_of}
 use Rattle.basic_toml_tree.specs.declared.item.Item.{Item, out-Item}
 use Rattle.basic_toml_tree.specs.declared.item.Item.TheOpen.{Item-F}
 use Rattle.basic_toml_tree.specs.declared.item.Child.{Child}
@@ -18,9 +21,9 @@ use Rattle.basic_toml_tree.specs.declared.entries.Elements.{Elements}
 use Rattle.basic_toml_tree.specs.declared.entries.Entries.{Entries}
 use Rattle.basic_toml_tree.specs.declared.spot.Spot.{Spot}
 use Rattle.basic_toml_tree.specs.declared.spot.Spot.TheVariants as spots
-use Rattle.basic_toml_tree.specs.Item.{item_trie, table_trie}
+use Rattle.basic_toml_tree.specs.Item.{item_trie, leaf, table_trie}
 use Rattle.basic_toml_tree.specs.Origin.{spot_is_made, spot_name}
-use Rattle.basic_toml_tree.specs.Origins.{Origin, Origins, item_origins, table_within}
+use Rattle.basic_toml_tree.specs.Origins.{Origin, Origins, item_origins, table_within, value_origins}
 use Rattle.basic_toml_tree.specs.Nodes.{node_data, elements_left, key_and_data, entries_left}
 use Rattle.basic_toml_tree.specs.Outer.{around, KeepsStart}
 use Rattle.basic_toml_tree.specs.Resolve.{IsResolved}
@@ -37,6 +40,7 @@ tree_trie tree = table_trie tree.root.value
 abbrev pub spot_trie : Spot → Trie
 spot_trie (spots.Table table) = table_trie table.now
 spot_trie (spots.Item found) = item_trie found.now
+spot_trie (spots.Plain found) = leaf (plain_data found.now)
 
 -- an item that holds a table of headers or of dotted keys, which stands for itself
 abbrev pub is_wrapper : Item-F Item Child Table → Bool
@@ -46,6 +50,7 @@ is_wrapper _ = false
 abbrev pub wraps_table : Spot → Bool
 wraps_table (spots.Table table) = false
 wraps_table (spots.Item found) = is_wrapper (out-Item found.now)
+wraps_table (spots.Plain found) = false
 
 -- the table of a spot, which it is, or which its item holds
 abbrev pub ItemHolds : Item-F Item Child Table → Table → Type 0
@@ -56,6 +61,7 @@ ItemHolds _ found = ⊥
 abbrev pub HoldsTable : Spot → Table → Type 0
 HoldsTable (spots.Table table) found = found ≡ table.now
 HoldsTable (spots.Item item) found = ItemHolds (out-Item item.now) found
+HoldsTable (spots.Plain value) found = ⊥
 
 -- a node in the tree of another one, below it, with this trie
 pub record IsBelow (from : Node) (t : Trie) (node : Node) : Type 0 where
@@ -72,6 +78,13 @@ pub record IsBeside (from : Node) (here : Spot) (node : Node) : Type 0 where
   pub outer : node.outer ≡ from.outer
   pub trail : node.trail ≡ from.trail
 
+-- a node of plain elements, beside this one
+pub record IsPlainElement (from : Node) (elements : List Element) (n : ℕ) (node : Node) : Type 0 where
+  pub value : Bor Raw
+  pub spot : node.spot ≡ spots.Plain value
+  pub listed : slice_get (map listed_of elements) n ≡ Some (record { offset = node.start; value = plain_of value.now })
+  pub beside : IsBeside from node.spot node
+
 abbrev pub is_root : Path → Bool
 is_root [] = true
 is_root (s ∷ p) = false
@@ -80,6 +93,7 @@ is_root (s ∷ p) = false
 abbrev pub spot_origins : Spot → ℕ → ℕ → Origins
 spot_origins (spots.Table table) at s = (table_within table.now).below
 spot_origins (spots.Item found) at s = item_origins found.now at s
+spot_origins (spots.Plain found) at s = value_origins s at (plain_of found.now)
 
 abbrev pub node_origins : ℕ → Node → Origins
 node_origins s node = spot_origins node.spot node.start s

@@ -9,6 +9,7 @@ ghost use Rattle.basic_toml_tree.specs.Item.{item_trie, child_trie, no_child, ta
 ghost use Rattle.basic_toml_tree.specs.Origins.{item_origins, child_origins};
 
 use basic_toml_clash::{Blank, Keyed};
+use basic_toml_read::Element;
 use basic_toml_value::Float;
 use std::alloc::{AllocError, Global};
 
@@ -25,7 +26,10 @@ pub(crate) enum Item<'de> {
     String(&'de str),
     /// A string of its own.
     Escaped(String),
+    /// An array with inline tables in it.
     Array(Vec<Child<'de>>),
+    /// An array of plain values, as it was read.
+    Plain(Vec<Element<'de>>),
     /// An inline table.
     Inline(Box<Table<'de>>),
     /// A table of headers or of dotted keys.

@@ -4,7 +4,6 @@
 //! it comes from; the types of `basic_toml` are read from them.
 #![tactic(auto)]
 
-mod drained;
 mod entries;
 mod headers;
 mod item;

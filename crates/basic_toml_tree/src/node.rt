@@ -1,6 +1,6 @@
 //! The nodes of a tree.
 
-ghost use Rattle.std.specs.Prelude.{◌≡◌, ◌<◌, ◌≤◌, true, ℕ, take, false, is_some, List, Some, None, IsSome, IfSome, IsTrue, IfOk, IfErr};
+ghost use Rattle.std.specs.Prelude.{◌≡◌, ◌<◌, ◌≤◌, true, ℕ, take, false, is_some, List, Some, None, IsSome, IfSome, IfNone, IsTrue, IfOk, IfErr};
 ghost use Rattle.std.specs.Prelude.{MatchOption, length, map, slice_get, string_bytes};
 ghost use Rattle.std.specs.Option.{option_copied};
 ghost use Rattle.basic_toml_value.specs.Data.{table as table_of_members, integer_in, boolean_in, float_in, string_in};
@@ -19,7 +19,7 @@ ghost use Rattle.basic_toml_tree.specs.Nodes.{elements_in, entries_in, elements_
 ghost use Rattle.basic_toml_tree.specs.Origin.{is_borrowed, is_made, spot_is_made, name_of, start_of, outer_of, offset_of, keys_of as key_path_of};
 ghost use Rattle.basic_toml_tree.specs.Stands.{IsNodeAt, Foretold};
 ghost use Rattle.basic_toml_tree.specs.Stands.{HoldsTable, IsBelow, IsBeside, IsTableBeside, AtKey, AtNumber, BeginsIn};
-ghost use Rattle.basic_toml_tree.specs.Stands.{ComesFrom};
+ghost use Rattle.basic_toml_tree.specs.Stands.{ComesFrom, IsPlainElement};
 ghost use Rattle.basic_toml_tree.specs.Origins.{child_origins};
 ghost use Rattle.basic_toml_tree.specs.Outer.{kept_below};
 ghost use Rattle.basic_toml_tree.specs.Keys.{header_at, GoesOn, CountsOn, BeginsRow, HandsOn};
@@ -32,7 +32,8 @@ use crate::spot::Spot;
 use crate::trail::{Trail, first_key, header_len, header_texts, section_below};
 use crate::tree::Tree;
 use crate::values::{table_of, value_of};
-use basic_toml_read::ReadError;
+use basic_toml_clash::plain_value;
+use basic_toml_read::{Element, Raw, ReadError};
 use basic_toml_value as values;
 use basic_toml_value::{Float, Value};
 use std::alloc::{AllocError, Global};
@@ -59,6 +60,7 @@ impl<'t, 'de> Node<'t, 'de> {
     {
         match self.spot {
             Spot::Item(Item::Integer(number)) => Some(*number),
+            Spot::Plain(Raw::Integer(number)) => Some(*number),
             _ => None,
         }
     }
@@ -69,6 +71,7 @@ impl<'t, 'de> Node<'t, 'de> {
     {
         match self.spot {
             Spot::Item(Item::Boolean(truth)) => Some(*truth),
+            Spot::Plain(Raw::Boolean(truth)) => Some(*truth),
             _ => None,
         }
     }
@@ -79,6 +82,7 @@ impl<'t, 'de> Node<'t, 'de> {
     {
         match self.spot {
             Spot::Item(Item::Float(float)) => Some(float),
+            Spot::Plain(Raw::Float(float)) => Some(float),
             _ => None,
         }
     }
@@ -91,6 +95,8 @@ impl<'t, 'de> Node<'t, 'de> {
         match self.spot {
             Spot::Item(Item::String(text)) => Some(text),
             Spot::Item(Item::Escaped(text)) => Some(text.as_str()),
+            Spot::Plain(Raw::String(text)) => Some(text),
+            Spot::Plain(Raw::Escaped(text)) => Some(text.as_str()),
             _ => None,
         }
     }
@@ -103,6 +109,7 @@ impl<'t, 'de> Node<'t, 'de> {
     {
         match self.spot {
             Spot::Item(Item::String(text)) => Some(text),
+            Spot::Plain(Raw::String(text)) => Some(text),
             _ => None,
         }
     }
@@ -121,6 +128,10 @@ impl<'t, 'de> Node<'t, 'de> {
                 Item::Nothing => Some(None),
                 _ => None,
             },
+            // no value of a plain array is one
+            Spot::Plain(Raw::Dot) => Some(None),
+            Spot::Plain(Raw::Inline(_)) => Some(None),
+            Spot::Plain(_) => None,
         }
     }
 
@@ -209,6 +220,20 @@ impl<'t, 'de> Node<'t, 'de> {
         }
     }
 
+    // A node of plain elements, which are those of this array.
+    fn plain_element(self, elements: &'t [Element<'de>], at: usize) -> Option<Node<'t, 'de>>
+        ensures within { IsSome result → at < usize.MAX }
+        ensures none { IfNone result (length elements.now ≤ at) }
+        ensures some { IfSome result (λ node. IsPlainElement self.entry elements.now at node) }
+    {
+        let element = elements.get(at)?;
+        Some(Node {
+            spot: Spot::Plain(&element.value),
+            start: element.offset,
+            ..self
+        })
+    }
+
     // The element at a number, if this is an array that has it.
     pub(crate) fn element_at(self, at: usize) -> Option<Node<'t, 'de>>
         ensures within { IsSome result → at < usize.MAX }
@@ -234,6 +259,8 @@ impl<'t, 'de> Node<'t, 'de> {
                     }
                 }
             }
+            Spot::Item(Item::Plain(elements)) => self.plain_element(elements.as_slice(), at),
+            Spot::Plain(Raw::Array(elements)) => self.plain_element(elements.as_slice(), at),
             _ => None,
         }
     }
@@ -263,6 +290,8 @@ impl<'t, 'de> Node<'t, 'de> {
         match self.spot {
             Spot::Item(Item::Array(_)) => Some(Elements { array: self, at: 0 }),
             Spot::Item(Item::Tables(_, _)) => Some(Elements { array: self, at: 0 }),
+            Spot::Item(Item::Plain(_)) => Some(Elements { array: self, at: 0 }),
+            Spot::Plain(Raw::Array(_)) => Some(Elements { array: self, at: 0 }),
             _ => None,
         }
     }
@@ -299,6 +328,7 @@ impl<'t, 'de> Node<'t, 'de> {
         match self.spot {
             Spot::Table(table) => Ok(Value::Table(table_of(alloc, table)?)),
             Spot::Item(item) => Ok(value_of(alloc, item)?),
+            Spot::Plain(value) => Ok(plain_value(alloc, value)?),
         }
     }
 
@@ -365,6 +395,8 @@ impl<'t, 'de> Node<'t, 'de> {
     {
         match self.spot {
             Spot::Item(Item::Array(_)) => self.outer_place(),
+            Spot::Item(Item::Plain(_)) => self.outer_place(),
+            Spot::Plain(Raw::Array(_)) => self.outer_place(),
             _ => self.start(),
         }
     }

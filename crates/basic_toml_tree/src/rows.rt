@@ -18,9 +18,8 @@ ghost use Rattle.basic_toml_tree.specs.RowStops.{line_keys, key_at, TellsLast, T
 ghost use Rattle.basic_toml_tree.specs.RowStops.{SaysHeld};
 ghost use Rattle.basic_toml_tree.specs.Rows.{all_dots, is_dot, reason, met_reason};
 
-use crate::drained::drained;
 use crate::item::{Child, Item, Table};
-use basic_toml_clash::{Clash, texts_of};
+use basic_toml_clash::{Clash, are_plain, drained, texts_of};
 use basic_toml_read::{Element, Raw, Row};
 use basic_toml_value::NESTING_LIMIT;
 use std::alloc::{AllocError, AllocFailed, Global};
@@ -281,12 +280,42 @@ fn enter_value<'de>(
         start,
         value,
     } = row;
-    match finished(alloc, value, start, section, level + keys.len()) {
+    match row_value(alloc, value, start, section, level + keys.len()) {
         Err(clash) => Err(held_by(alloc, clash, keys, key.as_str())?),
         Ok(child) => match enter_row(alloc, table, keys, key.as_str(), child) {
             Ok(table) => Ok(table),
             Err(met) => Err(row_clash(alloc, met, keys, key.as_str(), offset)?),
         },
+    }
+}
+
+// The item of the value of a row, which begins at an offset, in a table of a level. An array of plain values is kept as it
+// was read. No value is looked through twice: in an array that is not plain, none is looked for.
+#[cycle(finishing)]
+#[inline(always)]
+fn row_value<'de>(
+    alloc: Global,
+    value: Raw<'de>,
+    start: usize,
+    section: usize,
+    level: usize,
+) -> Result<Child<'de>, Clash>
+    requires { level ≤ 128 }
+    ensures finished { (v : spec_raw) → raw_of value.entry ≡ Some v → Finishes v level result }
+    ensures named { IfErr result (λ clash. (v : spec_raw) → raw_of value.entry ≡ Some v
+        → NamesStop (try_put_value v) clash) }
+    ensures origins { IfOk result (λ child. (v : spec_raw) → raw_of value.entry ≡ Some v
+        → child_origins child ≡ value_origins section start v) }
+    ensures dotted { IfOk result (λ child. dotted_of child ≡ table_origin false start section) }
+{
+    match value {
+        Raw::Array(elements) => {
+            if level < NESTING_LIMIT && are_plain(elements.as_slice(), level + 1) {
+                return Ok(Child::at(start, section, Item::Plain(elements)));
+            }
+            finished(alloc, Raw::Array(elements), start, section, level)
+        }
+        value => finished(alloc, value, start, section, level),
     }
 }
 

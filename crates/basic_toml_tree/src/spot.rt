@@ -4,6 +4,7 @@ ghost use Rattle.std.specs.Prelude.{◌≡◌, is_some};
 ghost use Rattle.basic_toml_tree.specs.Origin.{spot_is_made, spot_name};
 
 use crate::item::{Item, Table};
+use basic_toml_read::Raw;
 
 /// What a node is.
 #[derive(Clone, Copy)]
@@ -11,6 +12,8 @@ pub(crate) enum Spot<'t, 'de> {
     /// A table of headers or of dotted keys.
     Table(&'t Table<'de>),
     Item(&'t Item<'de>),
+    /// A value in an array of plain values.
+    Plain(&'t Raw<'de>),
 }
 
 impl<'t, 'de> Spot<'t, 'de> {
@@ -55,9 +58,19 @@ impl<'t, 'de> Spot<'t, 'de> {
                 Item::Boolean(_) => "boolean",
                 Item::String(_) | Item::Escaped(_) => "string",
                 Item::Array(_) => "array",
+                Item::Plain(_) => "array",
                 Item::Inline(_) => "inline table",
                 Item::Table(_) => "dotted table",
                 Item::Tables(_, _) => "array",
+            },
+            Spot::Plain(value) => match value {
+                Raw::Dot => "inline table",
+                Raw::Integer(_) => "integer",
+                Raw::Float(_) => "float",
+                Raw::Boolean(_) => "boolean",
+                Raw::String(_) | Raw::Escaped(_) => "string",
+                Raw::Array(_) => "array",
+                Raw::Inline(_) => "inline table",
             },
         }
     }

@@ -4,8 +4,8 @@ ghost use Rattle.basic_toml_value.specs.Data.{table as table_of_members};
 ghost use Rattle.basic_toml_value.specs.View.{view, entries};
 ghost use Rattle.basic_toml_tree.specs.Data.{data_of, child_data, table_data, child_pair, value_pair};
 
-use crate::drained::drained;
 use crate::item::{Child, Item, Table};
+use basic_toml_clash::{drained, into_plain_values, plain_values};
 use basic_toml_value as values;
 use basic_toml_value::{Pair, Pairs, Value};
 use std::alloc::{AllocError, Global};
@@ -23,6 +23,7 @@ pub(crate) fn value_of(alloc: Global, item: &Item<'_>) -> Result<Value, AllocErr
         Item::String(text) => Ok(Value::String(String::from_str(alloc, text)?)),
         Item::Escaped(text) => Ok(Value::String(text.clone()?)),
         Item::Array(children) => Ok(Value::Array(elements_of(alloc, children.as_slice())?)),
+        Item::Plain(elements) => Ok(Value::Array(plain_values(alloc, elements.as_slice())?)),
         Item::Inline(table) => Ok(Value::Table(table_of(alloc, table)?)),
         Item::Table(table) => Ok(Value::Table(table_of(alloc, table)?)),
         Item::Tables(before, latest) => {
@@ -92,6 +93,7 @@ fn into_value(alloc: Global, item: Item<'_>) -> Result<Value, AllocError>
         Item::String(text) => Ok(Value::String(String::from_str(alloc, text)?)),
         Item::Escaped(text) => Ok(Value::String(text)),
         Item::Array(children) => Ok(Value::Array(into_elements(alloc, children)?)),
+        Item::Plain(elements) => Ok(Value::Array(into_plain_values(alloc, elements)?)),
         Item::Inline(table) => Ok(Value::Table(into_table(alloc, Box::into_inner(table))?)),
         Item::Table(table) => Ok(Value::Table(into_table(alloc, Box::into_inner(table))?)),
         Item::Tables(before, latest) => {

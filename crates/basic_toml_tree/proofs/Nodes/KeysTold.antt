@@ -177,6 +177,7 @@ some_both (Some x) P Q R f p q = f x p q
 no_root : (spot : Spot) (count : ℕ) → (count == 0) ≡ false → spot_is_made 1 spot ≡ spot_is_made count spot
 no_root (spots.Table b) count some = sym (ap (λ c. c || table_is_made b.now) some)
 no_root (spots.Item b) count some = refl
+no_root (spots.Plain b) count some = refl
 
 row_on : (from node : Node) → HandsOn from node.trail → (tree : Tree) (n : ℕ) (keys : KeyTexts) (k : List ℕ)
     → KeepsRow tree n keys k from.trail → KeepsRow tree n keys k node.trail

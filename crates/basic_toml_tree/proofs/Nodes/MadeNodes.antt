@@ -7,7 +7,7 @@ use Rattle.std.proofs.lemmas.Bool.{false≢true, or_left, or_right}
 use Rattle.basic_toml_grammar.specs.Sections.{Section}
 use Rattle.basic_toml_grammar.specs.Steps.{Step, Path}
 use Rattle.basic_toml_grammar.specs.IndexedPath.{located}
-use Rattle.basic_toml_grammar.specs.Standing.{Standing, table}
+use Rattle.basic_toml_grammar.specs.Standing.{Standing, table, value}
 use Rattle.basic_toml_grammar.specs.Trie.{Trie, nothing, standing, below}
 use Rattle.basic_toml_grammar.specs.Nodes as grammar
 use Rattle.basic_toml_grammar.proofs.Tries.MarksInATrie.{descend, standing_of}
@@ -92,6 +92,7 @@ item_made count b (Item-F.Boolean z) o is stands same own made = absurd (false�
 item_made count b (Item-F.String z) o is stands same own made = absurd (false≢true (sym (ap stands_made stands) ∙ made))
 item_made count b (Item-F.Escaped z) o is stands same own made = absurd (false≢true (sym (ap stands_made stands) ∙ made))
 item_made count b (Item-F.Array z) o is stands same own made = absurd (false≢true (sym (ap stands_made stands) ∙ made))
+item_made count b (Item-F.Plain z) o is stands same own made = absurd (false≢true (sym (ap stands_made stands) ∙ made))
 item_made count b (Item-F.Inline z) o is stands same own made = absurd (false≢true (sym (ap stands_made stands) ∙ made))
 
 table_made : (count : ℕ) (b : Bor Table) → ((count == 0) || stands_made (standing (table_trie b.now))) ≡ true
@@ -111,6 +112,7 @@ pub spot_made : (count : ℕ) (spot : Spot) → wraps_table spot ≡ false → s
 spot_made count (spots.Table b) own made = table_made count b (or_right _ _ made)
 spot_made count (spots.Item b) own made =
     item_made count b (out-Item b.now) (standing (item_trie b.now)) refl (standing_here b.now) refl own made
+spot_made count (spots.Plain b) own made = absurd (false≢true made)
 
 not_table : (x : Item-F Item Child Table) (o : Option Standing) → item_standing x o → is_wrapper x ≡ false
     → (p n d : Bool) → o ≡ Some (table p n d) → ⊥
@@ -121,6 +123,7 @@ not_table (Item-F.Boolean z) o stands own p n d is = absurd (cc)
 not_table (Item-F.String z) o stands own p n d is = absurd (cc)
 not_table (Item-F.Escaped z) o stands own p n d is = absurd (cc)
 not_table (Item-F.Array z) o stands own p n d is = absurd (cc)
+not_table (Item-F.Plain z) o stands own p n d is = absurd (cc)
 not_table (Item-F.Inline z) o stands own p n d is = absurd (cc)
 not_table (Item-F.Table t) o stands own p n d is = absurd (cc)
 not_table (Item-F.Tables before latest) o stands own p n d is = absurd (false≢true (sym (ap stands_array is) ∙ stands))
@@ -132,6 +135,10 @@ root_made count (spots.Item b) t own none same =
     absurd (not_table (out-Item b.now) (standing (item_trie b.now)) (standing_here b.now) own
     (out-Table t).passed (out-Table t).named (out-Table t).dotted
     (ap standing same ∙ ap standing (table_entries_trie t)))
+root_made count (spots.Plain b) t own none same = absurd (no_value (ap standing same ∙ ap standing (table_entries_trie t)))
+  where
+    no_value : {p n d : Bool} → Some value ≡ Some (table p n d) → ⊥
+    no_value e = absurd (cc)
 
 -- a node that headers made
 module _ (sections : List Section) (node : Node) where

@@ -8,10 +8,12 @@ use Rattle.std.proofs.Math.Path.{fun_ext}
 use Rattle.std.proofs.lemmas.Bool.{false≢true}
 use Rattle.basic_toml_value.specs.Pairs.{value_at}
 use Rattle.basic_toml_grammar.specs.Steps.{Step, key, number, Path}
+use Rattle.basic_toml_clash.specs.Plain.{listed, listed_of}
 use Rattle.basic_toml_tree.specs.declared.item.Item.{Item, out-Item, the_lemmas, Array, Tables}
 use Rattle.basic_toml_tree.specs.declared.item.Item as items
 use Rattle.basic_toml_tree.specs.declared.item.Item.TheOpen.{Item-F}
 use Rattle.basic_toml_tree.specs.declared.item.Item.TheViews.{roll-Item}
+use Rattle.basic_toml_tree.specs.Origins.{elements_origins}
 use Rattle.basic_toml_tree.specs.declared.item.Child.{Child, out-Child}
 use Rattle.basic_toml_tree.specs.declared.item.Table.{Table, out-Table}
 use Rattle.basic_toml_tree.specs.declared.tree.Tree.{Tree}
@@ -63,12 +65,14 @@ item_key (Item-F.Boolean z) i t k q at s is holds = absurd holds
 item_key (Item-F.String z) i t k q at s is holds = absurd holds
 item_key (Item-F.Escaped z) i t k q at s is holds = absurd holds
 item_key (Item-F.Array z) i t k q at s is holds = absurd holds
+item_key (Item-F.Plain z) i t k q at s is holds = absurd holds
 item_key (Item-F.Tables y z) i t k q at s is holds = absurd holds
 
 spot_key : (spot : Spot) (t : Table) (k : List ℕ) (q : Path) (at s : ℕ) → HoldsTable spot t
     → spot_origins spot at s (key k ∷ q) ≡ table_origins t (key k ∷ q)
 spot_key (spots.Table b) t k q at s holds = ap (λ t. table_origins t (key k ∷ q)) (sym holds)
 spot_key (spots.Item b) t k q at s holds = item_key (out-Item b.now) b.now t k q at s refl holds
+spot_key (spots.Plain b) t k q at s holds = absurd holds
 
 pub key_origins : (from : Node) (t : Table) (k : List ℕ) (c : Child) → HoldsTable from.spot t
     → value_at (out-Table t).entries k ≡ Some c → (s : ℕ) (q : Path)
@@ -101,6 +105,8 @@ item_bears (Item-F.Escaped z) at s = bears_entry (Item-F.Escaped z) at s (value_
     (search (rules, the_lemmas)) refl
 item_bears (Item-F.Array z) at s = bears_entry (Item-F.Array z) at s (value_origin (codes "array") at s)
     (at_numbers (map child_origins z.items)) (search (rules, the_lemmas)) refl
+item_bears (Item-F.Plain z) at s = bears_entry (Item-F.Plain z) at s (value_origin (codes "array") at s)
+    (at_numbers (elements_origins s (listed (map listed_of z.items)))) (search (rules, the_lemmas)) refl
 item_bears (Item-F.Inline z) at s = bears_entry (Item-F.Inline z) at s (value_origin (codes "inline table") at s)
     (table_origins z.value) (search (rules, the_lemmas)) refl
 item_bears (Item-F.Table z) at s = bears_entry (Item-F.Table z) at s (table_origin (table_within z.value).made at s)
@@ -136,7 +142,7 @@ literal_comes from node n b at children child is read comes s =
     ∙ ap (λ o. under o q) read))) comes
 
 module _ {A B : Type 0} (f : A → B) where
-  read_mapped : (xs : List A) (n : ℕ) (x : A) → slice_get xs n ≡ Some x → slice_get (map f xs) n ≡ Some (f x)
+  pub read_mapped : (xs : List A) (n : ℕ) (x : A) → slice_get xs n ≡ Some x → slice_get (map f xs) n ≡ Some (f x)
   read_mapped [] n x read = absurd (cc)
   read_mapped (y ∷ ys) zero x read = let same : y ≡ x = cc in ap (λ y. Some (f y)) same
   read_mapped (y ∷ ys) (suc n) x read = read_mapped ys n x read
@@ -240,6 +246,10 @@ item_own (Item-F.Array z) at s =
     own_of (item_origins (roll-Item (Item-F.Array z)) at s) (value_origin (codes "array") at s)
     (item_told (Item-F.Array z) at s) (at_numbers (map child_origins z.items)) (search (rules, the_lemmas))
     (λ apart. refl)
+item_own (Item-F.Plain z) at s =
+    own_of (item_origins (roll-Item (Item-F.Plain z)) at s) (value_origin (codes "array") at s)
+    (item_told (Item-F.Plain z) at s) (at_numbers (elements_origins s (listed (map listed_of z.items))))
+    (search (rules, the_lemmas)) (λ apart. refl)
 item_own (Item-F.Inline z) at s =
     own_of (item_origins (roll-Item (Item-F.Inline z)) at s) (value_origin (codes "inline table") at s)
     (item_told (Item-F.Inline z) at s) (table_origins z.value) (search (rules, the_lemmas)) (λ apart. refl)

@@ -12,7 +12,12 @@ use Rattle.basic_toml_value.proofs.DistinctKeys.{bytes_eq-same, bytes_eq_other, 
 use Rattle.basic_toml_grammar.specs.Steps.{Step, key, number, Path}
 use Rattle.basic_toml_grammar.specs.Standing as standing
 use Rattle.basic_toml_grammar.specs.Trie.{Trie, trie, nothing, below, find, by}
-use Rattle.basic_toml_tree.specs.declared.item.Item.{Item, out-Item, the_lemmas, Array, Tables}
+use Rattle.basic_toml_grammar.specs.Mentions.{finished}
+use Rattle.basic_toml_read.specs.declared.section.Raw as raws
+use Rattle.basic_toml_read.specs.declared.section.Element.{Element}
+use Rattle.basic_toml_clash.specs.Plain.{plain_of, plain_array}
+use Rattle.basic_toml_clash.proofs.PlainSeen.{array_of}
+use Rattle.basic_toml_tree.specs.declared.item.Item.{Item, out-Item, the_lemmas, Array, Plain, Tables}
 use Rattle.basic_toml_tree.specs.declared.item.Item.TheOpen.{Item-F}
 use Rattle.basic_toml_tree.specs.declared.item.Item.TheViews.{roll-Item}
 use Rattle.basic_toml_tree.specs.declared.item.Child.{Child}
@@ -27,9 +32,11 @@ use Rattle.basic_toml_tree.specs.Stands.{trie_at, tree_trie, spot_trie, wraps_ta
 use Rattle.basic_toml_tree.specs.Keys.{KeysLead, RowsLead}
 use Rattle.basic_toml_tree.proofs.Nodes.KeysLead.{keys_beside, rows_beside}
 use Rattle.basic_toml_tree.specs.Stands.{StandsAt, StandsOn, IsBeside, is_wrapper, ItemHolds, ComesFrom, node_origins}
-use Rattle.basic_toml_tree.specs.Stands.{StartIsKept, tree_origins}
+use Rattle.basic_toml_tree.specs.Stands.{StartIsKept, tree_origins, IsPlainElement, spot_origins}
 use Rattle.basic_toml_tree.specs.Outer.{around}
-use Rattle.basic_toml_tree.specs.Origins.{child_origins, table_within}
+use Rattle.basic_toml_tree.specs.Origins.{child_origins, item_origins, table_within, value_origins}
+use Rattle.basic_toml_tree.proofs.PlainArrays.{plain_trie, plain_origins}
+use Rattle.basic_toml_tree.proofs.Nodes.PlainNodes.{element_comes}
 use Rattle.basic_toml_tree.proofs.ItemTries.{table_entries_trie}
 use Rattle.basic_toml_clash.proofs.KeysChanged.{first_at}
 use Rattle.basic_toml_tree.proofs.Nodes.ItemsStand.{shape}
@@ -107,6 +114,7 @@ item_below i (Item-F.Boolean z) t k u is own holds = absurd holds
 item_below i (Item-F.String z) t k u is own holds = absurd holds
 item_below i (Item-F.Escaped z) t k u is own holds = absurd holds
 item_below i (Item-F.Array z) t k u is own holds = absurd holds
+item_below i (Item-F.Plain z) t k u is own holds = absurd holds
 item_below i (Item-F.Tables z y) t k u is own holds = absurd holds
 
 spot_below : (spot : Spot) (t : Table) (k : List ℕ) (c : Child) → HoldsTable spot t → wraps_table spot ≡ false
@@ -116,6 +124,7 @@ spot_below (spots.Table table) t k c holds own found =
     inr (sym (ap (λ t. below (key k) (table_trie t)) (sym same) ∙ table_below t k c found))
 spot_below (spots.Item item) t k c holds own found =
     item_below item.now (out-Item item.now) t k (child_trie c) refl own holds
+spot_below (spots.Plain value) t k c holds own found = absurd holds
 
 -- one step on from a node
 module _ (from node : Node) (s : Step) (same : node.tree ≡ from.tree)
@@ -229,6 +238,26 @@ array_spot : (from : Node) (b : Bor Item) (i : Item) → from.spot ≡ spots.Ite
     → spot_trie from.spot ≡ item_trie i
 array_spot from b i at is = ap spot_trie at ∙ ap item_trie is
 
+-- an element of an array of plain values
+element_stands : (from node : Node) (n : ℕ) (es : List Element) → IsPlainElement from es n node
+    → spot_trie from.spot ≡ leaf (finished (plain_array es))
+    → ((at s : ℕ) → spot_origins from.spot at s ≡ value_origins s at (plain_array es)) → StandsOn from (number n) node
+element_stands from node n es listed here origins tree p stands =
+    let beside = listed.beside in
+    stands_on from node (number n) beside.tree (λ own. inl (ap (below (number n)) here))
+    (element_comes from node es n listed origins) tree p stands
+    (ap (λ c. c == 0) beside.count ∙ stands.root ∙ no_array_root from tree p stands (ap tells_table here))
+    (kept_beside from node n tree p beside.outer stands)
+    (keys_beside from node node.spot n beside tree p stands) (rows_beside from node node.spot n beside tree p stands)
+
+-- and of one among such elements
+pub value_stands : (from node : Node) (n : ℕ) (b : Bor raws.Raw) (es : Vec Element Global) → from.spot ≡ spots.Plain b
+    → b.now ≡ raws.Array es → IsPlainElement from es.items n node → StandsOn from (number n) node
+value_stands from node n b es at is listed =
+    let seen : plain_of b.now ≡ plain_array es.items = ap plain_of is ∙ array_of es in
+    element_stands from node n es.items listed (ap spot_trie at ∙ ap (λ v. leaf (finished v)) seen)
+    (λ start s. ap (λ spot. spot_origins spot start s) at ∙ ap (value_origins s start) seen)
+
 module _ (from node : Node) (n : ℕ) (b : Bor Item) (at : from.spot ≡ spots.Item b) where
   pub literal_stands : (children : Vec Child Global) (spot : Spot) (child : Child) → b.now ≡ Array children
       → slice_get (map child_origins children.items) n ≡ Some (child_origins child)
@@ -241,6 +270,11 @@ module _ (from node : Node) (n : ℕ) (b : Bor Item) (at : from.spot ≡ spots.I
       (ap (λ c. c == 0) beside.count ∙ stands.root ∙ no_array_root from tree p stands (ap tells_table here))
       (kept_beside from node n tree p beside.outer stands)
       (keys_beside from node spot n beside tree p stands) (rows_beside from node spot n beside tree p stands)
+
+  pub plain_stand : (es : Vec Element Global) → b.now ≡ Plain es → IsPlainElement from es.items n node
+      → StandsOn from (number n) node
+  plain_stand es is listed = element_stands from node n es.items listed (array_spot from b (Plain es) at is ∙ plain_trie es)
+      (λ start s. ap (λ spot. spot_origins spot start s) at ∙ ap (λ i. item_origins i start s) is ∙ plain_origins es start s)
 
   pub tables_stand : (before : Box (Vec Table Global) Global) (latest : Box Table Global) (t : Bor Table)
       → b.now ≡ Tables before latest

@@ -2,7 +2,7 @@
 -- offset.
 use Rattle.std.proofs.Common.{◌≡◌, ◌⊎◌, inl, inr, ℕ, Bool, true, false, List, [], ◌∷◌, Option, Some}
 use Rattle.std.proofs.Common.{None, refl, ap}
-use Rattle.std.proofs.Common.{sym, ◌∙◌, codes, length, drop, ◌++◌}
+use Rattle.std.proofs.Common.{sym, ◌∙◌, rules, codes, length, drop, ◌++◌}
 use Rattle.std.specs.Prelude.{if◌then◌else◌, IfSome}
 use Rattle.std.specs.Option.{option_or}
 use Rattle.std.specs.Str.{bytes_eq}
@@ -14,7 +14,12 @@ use Rattle.basic_toml_grammar.specs.IndexedPath.{Located, located}
 use Rattle.basic_toml_grammar.specs.NamedClash.{first_key}
 use Rattle.basic_toml_grammar.specs.Nodes.{Node, front, value_node, dotted_node, node_in}
 use Rattle.basic_toml_grammar.specs.Nodes.{holder, node_of_rows, node_of_sections, node_at, made_node, is_made}
-use Rattle.basic_toml_grammar.specs.Nodes.{last_at, is_array}
+use Rattle.basic_toml_grammar.specs.Nodes.{last_at, is_array, raw_name}
+use Rattle.basic_toml_read.specs.declared.section.Raw as raws
+use Rattle.basic_toml_read.specs.declared.section.Raw.TheOpen.{Raw-F}
+use Rattle.basic_toml_read.specs.declared.section.Element.{Element}
+use Rattle.basic_toml_read.specs.declared.section.Row.{Row}
+use Rattle.basic_toml_clash.specs.Plain.{plain_of}
 use Rattle.std.proofs.lemmas.Bool.{false≢true}
 use Rattle.basic_toml_tree.specs.declared.item.Item.{Item, out-Item}
 use Rattle.basic_toml_tree.specs.declared.item.Item.TheOpen.{Item-F}
@@ -24,7 +29,7 @@ use Rattle.basic_toml_tree.specs.declared.node.Node as nodes
 use Rattle.basic_toml_tree.specs.declared.spot.Spot.{Spot}
 use Rattle.basic_toml_tree.specs.declared.spot.Spot.TheVariants as spots
 use Rattle.basic_toml_tree.specs.Origin.{is_array_literal, item_name, spot_name, spot_is_made, holds_tables, start_of}
-use Rattle.basic_toml_tree.specs.Origin.{outer_of, offset_of}
+use Rattle.basic_toml_tree.specs.Origin.{outer_of, offset_of, item_is_literal, raw_is_array}
 use Rattle.basic_toml_tree.specs.Stands.{Foretold}
 use Rattle.basic_toml_tree.proofs.Nodes.MadeNodes.{made_offset_told}
 use Rattle.basic_toml_tree.proofs.Nodes.NodesOfValues.{one_of, in_value}
@@ -103,7 +108,7 @@ literal_name count (spots.Table b) not = go (spot_is_made count (spots.Table b))
 literal_name count (spots.Item b) not = go (out-Item b.now) not
   where
     go : (x : Item-F Item Child Table) → holds_tables x ≡ false
-        → names_array (item_name x) ≡ elim x [ Item-F.Array _ ↦ true | _ ↦ false ]
+        → names_array (item_name x) ≡ item_is_literal x
     go (Item-F.Array z) not = refl
     go Item-F.Nothing not = refl
     go (Item-F.Integer z) not = refl
@@ -111,9 +116,22 @@ literal_name count (spots.Item b) not = go (out-Item b.now) not
     go (Item-F.Boolean z) not = refl
     go (Item-F.String z) not = refl
     go (Item-F.Escaped z) not = refl
+    go (Item-F.Plain z) not = refl
     go (Item-F.Inline z) not = refl
     go (Item-F.Table z) not = refl
     go (Item-F.Tables y z) not = absurd (false≢true (sym not))
+literal_name count (spots.Plain b) not =
+    ap (λ v. names_array (raw_name (plain_of v))) (sym (raws.roll-out-Raw b.now)) ∙ go (raws.out-Raw b.now)
+  where
+    go : (x : Raw-F raws.Raw Element Row) → names_array (raw_name (plain_of (raws.roll-Raw x))) ≡ raw_is_array x
+    go Raw-F.Dot = search (rules, raws.the_lemmas)
+    go (Raw-F.Integer z) = search (rules, raws.the_lemmas)
+    go (Raw-F.Float z) = search (rules, raws.the_lemmas)
+    go (Raw-F.Boolean z) = search (rules, raws.the_lemmas)
+    go (Raw-F.String z) = search (rules, raws.the_lemmas)
+    go (Raw-F.Escaped z) = search (rules, raws.the_lemmas)
+    go (Raw-F.Array z) = search (rules, raws.the_lemmas)
+    go (Raw-F.Inline z) = search (rules, raws.the_lemmas)
 
 -- a node that headers did not make
 module _ (node : nodes.Node) (found : Node) (told : RowTold node found) where

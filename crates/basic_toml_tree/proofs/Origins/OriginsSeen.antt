@@ -156,6 +156,7 @@ item_none (Item-F.Boolean z) i at s is stands = absurd (cc)
 item_none (Item-F.String z) i at s is stands = absurd (cc)
 item_none (Item-F.Escaped z) i at s is stands = absurd (cc)
 item_none (Item-F.Array z) i at s is stands = absurd (cc)
+item_none (Item-F.Plain z) i at s is stands = absurd (cc)
 item_none (Item-F.Inline z) i at s is stands = absurd (cc)
 
 pub nothing_comes : (c : Child) → child_trie c ≡ nothing → child_origins c ≡ no_origins

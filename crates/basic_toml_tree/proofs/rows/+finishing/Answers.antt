@@ -1,4 +1,4 @@
-use Rattle.std.proofs.Common.{◌≡◌, [], ◌∷◌, ◌++◌, ap, ◌∙◌, sym, subst, arith, Some, List, length, map, Bool, false, ℕ}
+use Rattle.std.proofs.Common.{◌≡◌, [], ◌∷◌, ◌++◌, ap, ◌∙◌, sym, subst, arith, Some, List, length, map, Bool, false, true, ◌+◌, ℕ}
 use Rattle.std.proofs.lemmas.Result.{err_from_is_err_and}
 use Rattle.basic_toml_grammar.specs.Trie.{Trie}
 use Rattle.basic_toml_read.specs.SectionView.{rows_view, elements_view, raw_of}
@@ -32,6 +32,8 @@ use Rattle.basic_toml_tree.proofs.Origins.OriginsSeen.{inline_seen, fresh_within
 use Rattle.basic_toml_tree.specs.Rows.{is_dot}
 use Rattle.basic_toml_tree.proofs.Origins.OriginsLeft.{OriginsLeft, ElementsCome, origins_entered, origins_done, no_rows_come}
 use Rattle.basic_toml_tree.proofs.Origins.OriginsLeft.{one_row, element_comes, elements_come, value_comes}
+use Rattle.basic_toml_clash.specs.Plain.{are_plain}
+use Rattle.basic_toml_tree.proofs.PlainArrays.{plain_finished, plain_come}
 use Rattle.basic_toml_tree.proofs.rows.+finishing.Goals as goal
 
 pub enter_rows-returns-then-is_empty-clause-entered : goal.enter_rows-returns-then-is_empty-clause-entered
@@ -313,3 +315,22 @@ finished-returns-in_ok-table-in-Inline-clause-origins t c = λ v seen.
     c.in_ok-new-in-Inline.ensures)) in
     value_comes c.args.value (Raw.inline rows) (child_origins c.at-in-Inline.result) s at
     (ap raw_of c.in-Inline.is ∙ inline_of c.in-Inline.rows) comes v seen
+
+-- an array of plain values, kept as it was read
+pub row_value-returns-then-are_plain-clause-finished : goal.row_value-returns-then-are_plain-clause-finished
+row_value-returns-then-are_plain-clause-finished t c = λ v seen.
+    let plain : are_plain (c.args.level + 1) c.in-Array.elements.items ≡ true =
+    ap (are_plain (c.args.level + 1)) (sym c.as_slice.ensures.value) ∙ sym {A = Bool} c.are_plain.ensures
+    ∙ c.if-are_plain.true in
+    subst (λ (u : Trie). IsFinished v c.args.level u) (sym c.at.ensures.trie)
+    (plain_finished c.in-Array.elements c.args.level plain v (ap raw_of (sym c.in-Array.is) ∙ seen)
+    c.if-level-lt-NESTING_LIMIT.true)
+
+pub row_value-returns-then-are_plain-clause-origins : goal.row_value-returns-then-are_plain-clause-origins
+row_value-returns-then-are_plain-clause-origins t c = λ v seen.
+    let plain : are_plain (c.args.level + 1) c.in-Array.elements.items ≡ true =
+    ap (are_plain (c.args.level + 1)) (sym c.as_slice.ensures.value) ∙ sym {A = Bool} c.are_plain.ensures
+    ∙ c.if-are_plain.true in
+    c.at.ensures.origins
+    ∙ plain_come c.in-Array.elements c.args.level plain v (ap raw_of (sym c.in-Array.is) ∙ seen)
+    c.args.start c.args.section

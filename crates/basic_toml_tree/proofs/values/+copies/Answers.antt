@@ -3,10 +3,12 @@ use Rattle.basic_toml_value.specs.Data.{Data, items_of, members_of}
 use Rattle.basic_toml_value.specs.View.{view, entries}
 use Rattle.basic_toml_value.specs.Entries.{texts_of}
 use Rattle.basic_toml_value.proofs.Sizes.{data_size, items_size}
+use Rattle.basic_toml_clash.specs.Plain.{listed_data}
 use Rattle.basic_toml_tree.specs.Data.{data_of, child_data, table_data, child_pair, value_pair}
-use Rattle.basic_toml_tree.proofs.ItemData.{items_size-at, items_size-front, items_size-last, members_size-at}
-use Rattle.basic_toml_tree.proofs.ItemData.{mapped_more, child_item, table_of_pairs, tables_data, table_seen}
-use Rattle.basic_toml_tree.proofs.ItemData.{array_seen, entries_seen, keys_copied, tables_whole}
+use Rattle.basic_toml_clash.proofs.DataParts.{items_size-at, items_size-front, items_size-last, members_size-at}
+use Rattle.basic_toml_clash.proofs.DataParts.{mapped_more, array_seen}
+use Rattle.basic_toml_tree.proofs.ItemData.{child_item, plain_elements, table_of_pairs, tables_data, table_seen}
+use Rattle.basic_toml_tree.proofs.ItemData.{entries_seen, keys_copied, tables_whole}
 use Rattle.basic_toml_tree.proofs.values.+copies.Goals as goal
 
 pub elements_of-value_of-requires : goal.elements_of-value_of-requires
@@ -90,3 +92,10 @@ value_of-returns-in_ok-push-in-Tables t c =
     ∙ ap (λ ts. map table_data ts.items) c.deref-in-Tables.ensures)
     (table_seen _ ∙ c.in_ok-table_of-in-Tables.ensures ∙ ap table_data c.deref-in-Tables-2.ensures))
     ∙ sym (ap data_of c.in-Tables.is ∙ tables_data c.in-Tables.before c.in-Tables.latest)
+
+pub value_of-returns-in_ok-plain_values-in-Plain : goal.value_of-returns-in_ok-plain_values-in-Plain
+value_of-returns-in_ok-plain_values-in-Plain t c =
+    array_seen c.in_ok-plain_values-in-Plain.field-0
+    ∙ ap (λ ds. Data.array (items_of ds)) (c.in_ok-plain_values-in-Plain.ensures
+    ∙ ap (map listed_data) c.as_slice-in-Plain.ensures.value)
+    ∙ sym (ap data_of c.in-Plain.is ∙ plain_elements c.in-Plain.elements)

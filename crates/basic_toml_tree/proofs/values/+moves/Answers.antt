@@ -4,9 +4,10 @@ use Rattle.basic_toml_value.specs.View.{view, entries}
 use Rattle.basic_toml_value.specs.Index.{IsIndex}
 use Rattle.basic_toml_value.proofs.Sizes.{data_size, items_size, members_size}
 use Rattle.basic_toml_tree.specs.Data.{data_of, child_data, table_data, child_pair, value_pair}
-use Rattle.basic_toml_tree.proofs.ItemData.{items_size-rest, items_size-front, items_size-last, members_size-rest}
-use Rattle.basic_toml_tree.proofs.ItemData.{mapped_next, child_item, table_of_pairs, tables_data, table_seen}
-use Rattle.basic_toml_tree.proofs.ItemData.{array_seen, entries_seen, keys_copied, tables_whole}
+use Rattle.basic_toml_clash.proofs.DataParts.{items_size-rest, items_size-front, items_size-last, members_size-rest}
+use Rattle.basic_toml_clash.proofs.DataParts.{mapped_next, array_seen}
+use Rattle.basic_toml_tree.proofs.ItemData.{child_item, plain_elements, table_of_pairs, tables_data, table_seen}
+use Rattle.basic_toml_tree.proofs.ItemData.{entries_seen, keys_copied, tables_whole}
 use Rattle.basic_toml_clash.proofs.KeysSeen.{keys_of-seen}
 use Rattle.basic_toml_tree.proofs.values.+moves.Goals as goal
 
@@ -103,3 +104,9 @@ into_value-returns-in_ok-push-in-Tables t c =
     (c.in_ok-elements-in-Tables.ensures ∙ ap (λ ts. map table_data ts.items) c.into_inner-earlier.ensures)
     (table_seen _ ∙ c.in_ok-into_table-in-Tables.ensures ∙ ap table_data c.into_inner-in-Tables.ensures))
     ∙ sym (ap data_of c.in-Tables.is ∙ tables_data c.in-Tables.before c.in-Tables.latest)
+
+pub into_value-returns-in_ok-into_plain_values-in-Plain : goal.into_value-returns-in_ok-into_plain_values-in-Plain
+into_value-returns-in_ok-into_plain_values-in-Plain t c =
+    array_seen c.in_ok-into_plain_values-in-Plain.field-0
+    ∙ ap (λ ds. Data.array (items_of ds)) c.in_ok-into_plain_values-in-Plain.ensures
+    ∙ sym (ap data_of c.in-Plain.is ∙ plain_elements c.in-Plain.elements)

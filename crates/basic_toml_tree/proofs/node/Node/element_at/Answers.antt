@@ -1,6 +1,11 @@
-use Rattle.std.proofs.Common.{◌≡◌, ◌∷◌, [], ◌++◌, length, map, Some, ap, sym, ◌∙◌, arith, rules, length-append}
+use Rattle.std.proofs.Common.{◌≡◌, List, ◌∷◌, [], ◌++◌, length, map, Some, ap, sym, ◌∙◌, arith, rules, subst, length-append}
 use Rattle.std.specs.Prelude.{slice_get}
-use Rattle.basic_toml_tree.specs.declared.item.Item.{Array, Tables}
+use Rattle.basic_toml_read.specs.declared.section.Raw as raws
+use Rattle.basic_toml_read.specs.declared.section.Element.{Element}
+use Rattle.basic_toml_grammar.specs.Mentions.{finished}
+use Rattle.basic_toml_clash.specs.Plain.{plain_array, plain_data}
+use Rattle.basic_toml_clash.proofs.PlainSeen.{array_of}
+use Rattle.basic_toml_tree.specs.declared.item.Item.{Array, Plain, Tables}
 use Rattle.basic_toml_tree.specs.Data.{data_of, child_data, table_data}
 use Rattle.basic_toml_tree.specs.Nodes.{node_data, elements_in}
 use Rattle.basic_toml_tree.proofs.Nodes.NodesInOrder.{array_elements, tables_elements, mapped_read, mapped_length, front_read}
@@ -8,7 +13,10 @@ use Rattle.basic_toml_tree.proofs.Nodes.NodesInOrder.{last_read}
 use Rattle.basic_toml_tree.specs.declared.spot.Spot.TheVariants as spots
 use Rattle.basic_toml_tree.specs.Item.{table_trie}
 use Rattle.basic_toml_tree.specs.Origins.{child_origins, table_within}
-use Rattle.basic_toml_tree.proofs.Nodes.NodesStand.{literal_stands, tables_stand}
+use Rattle.basic_toml_tree.specs.Stands.{AtNumber, IsPlainElement}
+use Rattle.basic_toml_tree.proofs.Nodes.NodesStand.{literal_stands, plain_stand, tables_stand, value_stands}
+use Rattle.basic_toml_tree.proofs.Nodes.PlainNodes.{plain_answers, some_then}
+use Rattle.basic_toml_tree.proofs.ItemData.{plain_item}
 use Rattle.basic_toml_tree.proofs.node.Node.element_at.Goals as goal
 
 pub returns-in-Some-clause-data : goal.returns-in-Some-clause-data
@@ -138,3 +146,43 @@ returns-then-at-earlier-clause-stands c =
     ∙ last_read (map table_within before.value.items) (table_within latest.value)
     ∙ ap (λ t. Some (table_within t)) (sym c.deref-then-at-earlier.ensures))
     c.element_table-then-at-earlier.ensures.beside c.element_table-then-at-earlier.ensures.start
+
+-- plain elements
+pub returns-in-Item-Plain-clause-data : goal.returns-in-Item-Plain-clause-data
+returns-in-Item-Plain-clause-data c =
+    let here : node_data c.args.self ≡ data_of (Plain c.in-Item-Plain.elements) = search (rules) in
+    plain_answers c.args.self c.as_slice.result.now c.args.at (node_data c.args.self) c.plain_element.result
+    (here ∙ plain_item c.in-Item-Plain.elements
+    ∙ ap (λ es. finished (plain_array es)) (sym c.as_slice.ensures.value))
+    c.plain_element.ensures.none c.plain_element.ensures.some
+
+pub returns-in-Plain-Array-clause-within : goal.returns-in-Plain-Array-clause-within
+returns-in-Plain-Array-clause-within c = c.plain_element-in-Plain-Array.ensures.within
+
+pub returns-in-Plain-Array-clause-data : goal.returns-in-Plain-Array-clause-data
+returns-in-Plain-Array-clause-data c =
+    let here : node_data c.args.self ≡ plain_data (raws.Array c.in-Plain-Array.elements) = search (rules) in
+    plain_answers c.args.self c.as_slice-in-Plain-Array.result.now c.args.at (node_data c.args.self)
+    c.plain_element-in-Plain-Array.result
+    (here ∙ ap finished (array_of c.in-Plain-Array.elements)
+    ∙ ap (λ es. finished (plain_array es)) (sym c.as_slice-in-Plain-Array.ensures.value))
+    c.plain_element-in-Plain-Array.ensures.none c.plain_element-in-Plain-Array.ensures.some
+
+pub returns-in-Item-Plain-clause-stands : goal.returns-in-Item-Plain-clause-stands
+returns-in-Item-Plain-clause-stands c =
+    let at : c.args.self.spot ≡ spots.Item c.in-Item-Plain.field-0 = search (rules) in
+    let is : c.in-Item-Plain.field-0.now ≡ Plain c.in-Item-Plain.elements = search (rules) in
+    some_then c.plain_element.result (IsPlainElement c.args.self c.as_slice.result.now c.args.at)
+    (AtNumber c.args.self c.args.at) (λ node listed. plain_stand c.args.self node c.args.at c.in-Item-Plain.field-0 at
+    c.in-Item-Plain.elements is (subst (λ (es : List Element). IsPlainElement c.args.self es c.args.at node)
+    c.as_slice.ensures.value listed)) c.plain_element.ensures.some
+
+pub returns-in-Plain-Array-clause-stands : goal.returns-in-Plain-Array-clause-stands
+returns-in-Plain-Array-clause-stands c =
+    let at : c.args.self.spot ≡ spots.Plain c.in-Plain-Array.field-0 = search (rules) in
+    let is : c.in-Plain-Array.field-0.now ≡ raws.Array c.in-Plain-Array.elements = search (rules) in
+    some_then c.plain_element-in-Plain-Array.result
+    (IsPlainElement c.args.self c.as_slice-in-Plain-Array.result.now c.args.at)
+    (AtNumber c.args.self c.args.at) (λ node listed. value_stands c.args.self node c.args.at c.in-Plain-Array.field-0
+    c.in-Plain-Array.elements at is (subst (λ (es : List Element). IsPlainElement c.args.self es c.args.at node)
+    c.as_slice-in-Plain-Array.ensures.value listed)) c.plain_element-in-Plain-Array.ensures.some

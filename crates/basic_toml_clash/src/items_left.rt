@@ -10,7 +10,7 @@ const GIVEN_BACK: usize = 1024;
 
 /// The items that are left of a vector, in order.
 #[derive(Drop)]
-pub(crate) struct ItemsLeft<T> {
+pub struct ItemsLeft<T> {
     // Last to first: a vector has room to give back only at its end.
     backwards: Vec<T>,
 }
@@ -24,7 +24,7 @@ impl<T> Model for ItemsLeft<T> {
 }
 
 /// The items of a vector in order. The vector shrinks as they are taken.
-pub(crate) fn drained<T>(items: Vec<T>) -> ItemsLeft<T>
+pub fn drained<T>(items: Vec<T>) -> ItemsLeft<T>
     ensures { result ≡ items.items }
 {
     let mut backwards = items;

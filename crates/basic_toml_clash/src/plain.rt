@@ -1,0 +1,114 @@
+//! Plain values: scalars, and arrays of plain values. No key stands in them, so nothing clashes there, and a tree can keep
+//! an array of them as it was read.
+
+ghost use Rattle.std.specs.Prelude.{◌≡◌, IfOk, map};
+ghost use Rattle.basic_toml_value.specs.View.{view};
+ghost use Rattle.basic_toml_clash.specs.Plain.{are_plain as all_plain, is_plain as plain_within};
+ghost use Rattle.basic_toml_clash.specs.Plain.{plain_data, listed_data};
+
+use crate::items_left::drained;
+use basic_toml_read::{Element, Raw};
+use basic_toml_value::{NESTING_LIMIT, Table, Value};
+use std::alloc::{AllocError, Global};
+
+/// Whether all elements of an array of a level are plain: none holds an inline table, and none is deeper than the limit.
+#[cycle(plain)]
+pub fn are_plain(elements: &[Element<'_>], level: usize) -> bool
+    ensures { result ≡ all_plain level elements.now }
+{
+    for element in elements {
+        if !is_plain(&element.value, level) {
+            return false;
+        }
+    }
+    true
+}
+
+#[cycle(plain)]
+fn is_plain(value: &Raw<'_>, level: usize) -> bool
+    ensures { result ≡ plain_within value.now level }
+{
+    match value {
+        Raw::Dot => false,
+        Raw::Inline(_) => false,
+        Raw::Array(elements) => {
+            level < NESTING_LIMIT && are_plain(elements.as_slice(), level + 1)
+        }
+        _ => true,
+    }
+}
+
+/// A copy of a plain value.
+///
+/// # Errors
+///
+/// `AllocError` where memory was refused.
+#[cycle(copies)]
+pub fn plain_value(alloc: Global, value: &Raw<'_>) -> Result<Value, AllocError>
+    ensures { IfOk result (λ copy. view copy ≡ plain_data value.now) }
+{
+    match value {
+        Raw::Dot => Ok(Value::Table(Table::new(alloc))),
+        Raw::Integer(number) => Ok(Value::Integer(*number)),
+        Raw::Float(float) => Ok(Value::Float(float.clone()?)),
+        Raw::Boolean(truth) => Ok(Value::Boolean(*truth)),
+        Raw::String(text) => Ok(Value::String(String::from_str(alloc, text)?)),
+        Raw::Escaped(text) => Ok(Value::String(text.clone()?)),
+        Raw::Array(elements) => Ok(Value::Array(plain_values(alloc, elements.as_slice())?)),
+        Raw::Inline(_) => Ok(Value::Table(Table::new(alloc))),
+    }
+}
+
+/// Copies of the values of plain elements.
+///
+/// # Errors
+///
+/// `AllocError` where memory was refused.
+#[cycle(copies)]
+pub fn plain_values(alloc: Global, elements: &[Element<'_>]) -> Result<Vec<Value>, AllocError>
+    ensures { IfOk result (λ copies. map view copies.items ≡ map listed_data elements.now) }
+{
+    let mut copies = Vec::with_capacity(alloc, elements.len())?;
+    for element in elements {
+        copies.push(plain_value(alloc, &element.value)?)?;
+    }
+    Ok(copies)
+}
+
+// The value that a plain one becomes. It is inlined, since most elements are scalars.
+#[cycle(moves)]
+#[inline(always)]
+fn into_plain_value(alloc: Global, value: Raw<'_>) -> Result<Value, AllocError>
+    ensures { IfOk result (λ moved. view moved ≡ plain_data value.entry) }
+{
+    match value {
+        Raw::Dot => Ok(Value::Table(Table::new(alloc))),
+        Raw::Integer(number) => Ok(Value::Integer(number)),
+        Raw::Float(float) => Ok(Value::Float(float)),
+        Raw::Boolean(truth) => Ok(Value::Boolean(truth)),
+        Raw::String(text) => Ok(Value::String(String::from_str(alloc, text)?)),
+        Raw::Escaped(text) => Ok(Value::String(text)),
+        Raw::Array(elements) => Ok(Value::Array(into_plain_values(alloc, elements)?)),
+        Raw::Inline(_) => Ok(Value::Table(Table::new(alloc))),
+    }
+}
+
+/// The values that plain elements become. Strings are moved, and memory is given back on the way.
+///
+/// # Errors
+///
+/// `AllocError` where memory was refused.
+#[cycle(moves)]
+#[inline(never)]
+pub fn into_plain_values(
+    alloc: Global,
+    elements: Vec<Element<'_>>,
+) -> Result<Vec<Value>, AllocError>
+    ensures { IfOk result (λ moved. map view moved.items ≡ map listed_data elements.entry.items) }
+{
+    let mut moved = Vec::with_capacity(alloc, elements.len())?;
+    for element in drained(elements) {
+        moved.push(into_plain_value(alloc, element.value)?)?;
+    }
+    Ok(moved)
+}

@@ -1,0 +1,105 @@
+-- The nodes of plain values, and of the elements of arrays of them.
+use Rattle.std.proofs.Common.{◌≡◌, ℕ, false, List, [], ◌∷◌, map, length, Some, refl, sym, ap, ◌∙◌, subst, arith, rules}
+use Rattle.std.specs.Prelude.{slice_get, ◌≤◌, Option, None, IfSome, IfNone, MatchOption}
+use Rattle.std.specs.Borrow.{Bor}
+use Rattle.std.proofs.Math.Path.{fun_ext}
+use Rattle.basic_toml_value.specs.Data.{Data}
+use Rattle.basic_toml_grammar.specs.Mentions.{finished, finished_elements}
+use Rattle.basic_toml_grammar.specs.Nodes.{raw_name}
+use Rattle.basic_toml_grammar.specs.Sections.{Raw}
+use Rattle.basic_toml_grammar.specs.Steps.{number}
+use Rattle.basic_toml_read.specs.declared.section.Raw as raws
+use Rattle.basic_toml_read.specs.declared.section.Element.{Element, out-Element}
+use Rattle.basic_toml_clash.specs.Plain.{Listed, listed, listed_of, plain_of, plain_array}
+use Rattle.basic_toml_tree.specs.declared.node.Node.{Node}
+use Rattle.basic_toml_tree.specs.declared.spot.Spot.{Spot}
+use Rattle.basic_toml_tree.specs.declared.spot.Spot.TheVariants as spots
+use Rattle.basic_toml_tree.specs.Nodes as seen
+use Rattle.basic_toml_tree.specs.Origins.{under, at_numbers, value_origins, elements_origins}
+use Rattle.basic_toml_tree.specs.Stands.{SpotComes, ComesFrom, IsPlainElement, spot_origins, node_origins}
+use Rattle.basic_toml_tree.proofs.Nodes.NodesInOrder.{mapped_length}
+use Rattle.basic_toml_tree.proofs.Nodes.NodesCome.{read_mapped}
+
+-- what is listed, one after another
+datas_listed : (ls : List Listed) → seen.listed (finished_elements (listed ls)) ≡ map (λ e. finished e.value) ls
+datas_listed [] = refl
+datas_listed (e ∷ ls) = ap (λ ds. finished e.value ∷ ds) (datas_listed ls)
+
+origins_listed : (s : ℕ) (ls : List Listed)
+    → elements_origins s (listed ls) ≡ map (λ e. value_origins s e.offset e.value) ls
+origins_listed s [] = refl
+origins_listed s (e ∷ ls) = ap (λ os. value_origins s e.offset e.value ∷ os) (origins_listed s ls)
+
+-- the data of plain elements
+pub plain_elements : (es : List Element)
+    → seen.elements_in (finished (plain_array es)) ≡ map (λ e. finished (listed_of e).value) es
+plain_elements es = datas_listed (map listed_of es) ∙ both es
+  where
+    both : (es : List Element)
+        → map (λ e. finished e.value) (map listed_of es) ≡ map (λ e. finished (listed_of e).value) es
+    both [] = refl
+    both (e ∷ es) = ap (λ ds. finished (listed_of e).value ∷ ds) (both es)
+
+pub plain_length : (es : List Element) → length (seen.elements_in (finished (plain_array es))) ≡ length es
+plain_length es = ap length (plain_elements es) ∙ mapped_length (λ e. finished (listed_of e).value) es
+
+pub plain_read : (es : List Element) (n : ℕ) (at : ℕ) (v : Raw)
+    → slice_get (map listed_of es) n ≡ Some (record { offset = at; value = v })
+    → slice_get (seen.elements_in (finished (plain_array es))) n ≡ Some (finished v)
+plain_read es n at v read =
+    ap (λ ds. slice_get ds n) (datas_listed (map listed_of es))
+    ∙ read_mapped (λ e. finished e.value) (map listed_of es) n (record { offset = at; value = v }) read
+
+-- where a plain value comes from
+own_is : (v : Raw) (at s : ℕ)
+    → IfSome (value_origins s at v []) (λ o. o.made ≡ false → o ≡ record {
+      made = false;
+      name = raw_name v;
+      start = at;
+      section = s;
+    })
+own_is (Raw.integer z) at s = λ apart. refl
+own_is (Raw.float z) at s = λ apart. refl
+own_is (Raw.boolean z) at s = λ apart. refl
+own_is (Raw.string z) at s = λ apart. refl
+own_is (Raw.array z) at s = λ apart. refl
+own_is (Raw.inline z) at s = λ apart. refl
+
+pub value_comes : (v : Bor raws.Raw) (count at s : ℕ)
+    → SpotComes (value_origins s at (plain_of v.now)) count (spots.Plain v) at
+value_comes v count at s = record { section = s; own = own_is (plain_of v.now) at s; parts = λ r q. refl }
+
+-- an element, from an array of plain elements
+module _ (from node : Node) (es : List Element) (n : ℕ) (is : IsPlainElement from es n node)
+    (array : (at s : ℕ) → spot_origins from.spot at s ≡ value_origins s at (plain_array es)) where
+  pub element_comes : (s : ℕ) → ComesFrom (λ q. node_origins s from (number n ∷ q)) node
+  element_comes s =
+      subst (λ f. ComesFrom f node) (fun_ext (λ q. sym (ap (λ f. f (number n ∷ q)) (array from.start s)
+      ∙ ap (λ os. at_numbers os (number n ∷ q)) (origins_listed s (map listed_of es))
+      ∙ ap (λ o. under o q) (read_mapped (λ e. value_origins s e.offset e.value) (map listed_of es) n
+      (record { offset = node.start; value = plain_of is.value.now }) is.listed))))
+      (subst (λ (spot : Spot). SpotComes (value_origins s node.start (plain_of is.value.now)) node.count spot node.start)
+      (sym is.spot) (value_comes is.value node.count node.start s))
+
+-- what is answered for a number of an array of plain elements
+pub plain_answers : (from : Node) (es : List Element) (n : ℕ) (d : Data) (result : Option Node)
+    → d ≡ finished (plain_array es) → IfNone result (length es ≤ n)
+    → IfSome result (λ node. IsPlainElement from es n node)
+    → MatchOption result (length (seen.elements_in d) ≤ n)
+    (λ node. slice_get (seen.elements_in d) n ≡ Some (seen.node_data node))
+plain_answers from es n d None is past some =
+    let long = ap (λ d. length (seen.elements_in d)) is ∙ plain_length es in omega (arith, past, long)
+plain_answers from es n d (Some node) is past some =
+    ap (λ d. slice_get (seen.elements_in d) n) is
+    ∙ plain_read es n node.start (plain_of some.value.now) some.listed
+    ∙ sym (ap (λ spot. Some (seen.spot_data spot)) some.spot)
+
+-- an element, as it is listed
+pub element_listed : (e : Element)
+    → listed_of e ≡ record { offset = (out-Element e).offset; value = plain_of (out-Element e).value }
+element_listed e = search (rules, raws.the_lemmas)
+
+pub some_then : (result : Option Node) (P Q : Node → Type 0) → ((node : Node) → P node → Q node) → IfSome result P
+    → IfSome result Q
+some_then None P Q f some = tt
+some_then (Some node) P Q f some = f node some

@@ -1,0 +1,16 @@
+use Rattle.std.proofs.Common.{ap, refl, ◌∙◌, Some}
+use Rattle.basic_toml_clash.specs.Plain.{listed_of}
+use Rattle.basic_toml_tree.proofs.Nodes.NodesInOrder.{mapped_read}
+use Rattle.basic_toml_tree.proofs.Nodes.PlainNodes.{element_listed}
+use Rattle.basic_toml_tree.proofs.node.Node.plain_element.Goals as goal
+
+pub returns-clause-some : goal.returns-clause-some
+returns-clause-some c =
+    let read = c.in_ok-element.ensures.lookup in
+    let e = c.in_ok-element.element.now in
+    record {
+      value = _;
+      spot = refl;
+      listed = mapped_read listed_of c.args.elements.now c.args.at e read.3.0 read.1 ∙ ap Some (element_listed e);
+      beside = record { tree = refl; count = refl; spot = refl; outer = refl; trail = refl };
+    }
