@@ -1,9 +1,10 @@
 //! What clashes before a tree stands, and what the tree grows in: rows that go on from a value ([`crossed_value`]),
 //! why a section is not entered ([`Clash`]) with the error that names it, and keys with their values ([`Keyed`]), where
-//! a [`Blank`] value stands at a new key.
+//! a [`Blank`] value stands at a new key; values in which nothing can clash ([`are_plain`]), and the items of a vector
+//! that shrinks as they are taken ([`drained`]).
 //!
 //! `basic_toml_tree` makes its tables of [`Keyed`], asks for [`crossed_value`] before it takes a section list apart,
-//! and answers the error of a [`Clash`].
+//! keeps arrays that [`are_plain`] as they were read, and answers the error of a [`Clash`].
 //!
 //! ```text
 //! let mut keyed = Keyed::new(alloc);
