@@ -63,6 +63,28 @@ fn tells_where_values_of_rows_come_from(rt: HostRuntime) -> Result<(), Fail> {
             .x[]: [] array 13 0 0 x\n",
         ),
         (
+            "x = [1.5, true, 'c', \"\\u0064\"]\n",
+            "\
+            : {} table 0 0 0\n\
+            .x: [] array 4 0 0 x\n\
+            .x[]: 1.5 float 7 7 0 x\n\
+            .x[]: true boolean 10 10 0 x\n\
+            .x[]: 'c' string 16 16 0 x\n\
+            .x[]: 'd' string 21 21 0 x\n",
+        ),
+        (
+            "x = [[true, 'c'], [{y = 1}]]\n",
+            "\
+            : {} table 0 0 0\n\
+            .x: [] array 4 0 0 x\n\
+            .x[]: [] array 5 0 0 x\n\
+            .x[][]: true boolean 6 6 0 x\n\
+            .x[][]: 'c' string 12 12 0 x\n\
+            .x[]: [] array 18 0 0 x\n\
+            .x[][]: {} inline table 19 19 0 x\n\
+            .x[][].y: 1 integer 24 24 19 x\n",
+        ),
+        (
             "x = [ # one\n  1,\n  [2],\n]\n",
             "\
             : {} table 0 0 0\n\
