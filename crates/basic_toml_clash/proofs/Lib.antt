@@ -10,3 +10,4 @@ pub mod TrailGrows
 pub mod DataParts
 pub mod PlainSeen
 pub mod PlainValues
+pub mod SimpleRows

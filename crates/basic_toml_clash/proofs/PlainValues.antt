@@ -8,7 +8,7 @@ use Rattle.basic_toml_grammar.specs.Sections.{Elements, element}
 use Rattle.basic_toml_grammar.specs.Sections as sections
 use Rattle.basic_toml_grammar.specs.Levels.{value_level, elements_level}
 use Rattle.basic_toml_grammar.specs.RowClash.{value_clashes, elements_clash}
-use Rattle.basic_toml_read.specs.declared.section.Raw.{Raw, Array, map-Raw, roll-Raw, the_lemmas}
+use Rattle.basic_toml_read.specs.declared.section.Raw.{Raw, Array, map-Raw, ind-Raw, roll-Raw, the_lemmas}
 use Rattle.basic_toml_read.specs.declared.section.Raw.TheOpen.{Raw-F, Element-F}
 use Rattle.basic_toml_read.specs.declared.section.Element.{Element, roll-Element, ind-Element}
 use Rattle.basic_toml_read.specs.declared.section.Row.{Row}
@@ -149,11 +149,20 @@ parts_are (Raw-F.Escaped text) = tt
 parts_are (Raw-F.Array es) = all_of es.items
 parts_are (Raw-F.Inline rs) = tt
 
+every_value : (r : Raw) → OfRaw r
+every_value =
+    ind-Raw OfRaw OfElement OfRow (λ x y is. raw_is x (subst Parts is (parts_are y)))
+    (λ x y is. element_is x (subst (λ z. OfRaw z.value) is y.value.1))
+    (λ x y is. tt)
+
 every_element : (e : Element) → OfElement e
 every_element =
     ind-Element OfRaw OfElement OfRow (λ x y is. raw_is x (subst Parts is (parts_are y)))
     (λ x y is. element_is x (subst (λ z. OfRaw z.value) is y.value.1))
     (λ x y is. tt)
+
+pub plain_value : (r : Raw) (l : ℕ) → is_plain r l ≡ true → PlainAt l (raw_of r) (plain_of r)
+plain_value r = every_value r
 
 pub all_plain : (l : ℕ) (es : List Element) → are_plain l es ≡ true
     → AllPlainAt l (elements_view es) (listed (map listed_of es))

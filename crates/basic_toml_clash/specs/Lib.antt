@@ -4,4 +4,5 @@ pub mod Trail
 pub mod Crossed
 pub mod Clash
 pub mod Plain
+pub mod Simple
 pub mod formers

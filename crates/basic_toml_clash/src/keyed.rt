@@ -89,7 +89,7 @@ impl<V> Model for Keyed<V> {
 }
 
 impl<V: Drop> Keyed<V> {
-    ghost use Rattle.std.specs.Prelude.{◌≡◌, ◌<◌, [], ◌∷◌, ◌++◌, length, IfOk, IfSome, IsTrue, MatchOption, None, slice_get, Some, string_bytes};
+    ghost use Rattle.std.specs.Prelude.{◌≡◌, ◌==◌, ◌<◌, [], ◌∷◌, ◌++◌, length, IfOk, IfSome, IsTrue, MatchOption, None, slice_get, Some, string_bytes};
     ghost use Rattle.basic_toml_value.specs.Keys.{are_distinct};
     ghost use Rattle.basic_toml_value.specs.Pairs.{keys_of, value_at};
     ghost use Rattle.basic_toml_value.specs.Entries.{seen, texts_of};
@@ -122,6 +122,13 @@ impl<V: Drop> Keyed<V> {
         ensures { result ≡ length self.now }
     {
         self.entries.len()
+    }
+
+    /// Whether there is no key.
+    pub fn is_empty(&self) -> bool
+        ensures { result ≡ (length self.now == 0) }
+    {
+        self.entries.is_empty()
     }
 
     /// The pair of a key.
@@ -204,6 +211,26 @@ impl<V: Drop> Keyed<V> {
         ensures { IsIndex (keys_of self.now) result.now }
     {
         &self.index
+    }
+
+    /// Takes the pairs out.
+    pub fn take(&mut self) -> Vec<Pair<V>>
+        ensures pairs { seen result.items ≡ self.old }
+        ensures none { self.new ≡ [] }
+    {
+        let none = Vec::new(*self.entries.allocator());
+        let entries = mem::replace(&mut self.entries, none);
+        self.index = Index::none();
+        entries
+    }
+
+    /// Puts pairs whose keys differ in the place of those that are there.
+    pub fn set(&mut self, entries: Vec<Pair<V>>)
+        requires { IsTrue (are_distinct (texts_of entries.items)) }
+        ensures { self.new ≡ seen entries.items }
+    {
+        self.index = Index::none();
+        self.entries = entries;
     }
 
     /// The pairs, and the index of their keys.

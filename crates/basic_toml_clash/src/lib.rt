@@ -1,10 +1,11 @@
 //! What clashes before a tree stands, and what the tree grows in: rows that go on from a value ([`crossed_value`]),
 //! why a section is not entered ([`Clash`]) with the error that names it, and keys with their values ([`Keyed`]), where
-//! a [`Blank`] value stands at a new key; values in which nothing can clash ([`are_plain`]), and the items of a vector
-//! that shrinks as they are taken ([`drained`]).
+//! a [`Blank`] value stands at a new key; values and rows in which nothing can clash ([`are_plain`], [`are_simple`]),
+//! and the items of a vector that shrinks as they are taken ([`drained`]).
 //!
 //! `basic_toml_tree` makes its tables of [`Keyed`], asks for [`crossed_value`] before it takes a section list apart,
-//! keeps arrays that [`are_plain`] as they were read, and answers the error of a [`Clash`].
+//! keeps arrays that [`are_plain`] as they were read, takes rows that [`are_simple`] all at once, and answers the error
+//! of a [`Clash`].
 //!
 //! ```text
 //! let mut keyed = Keyed::new(alloc);
@@ -21,9 +22,11 @@ mod crossed;
 mod items_left;
 mod keyed;
 mod plain;
+mod simple;
 
 pub use clash::{Clash, Repeated, key_texts, texts_of};
 pub use crossed::crossed_value;
 pub use items_left::{ItemsLeft, drained};
 pub use keyed::{Blank, Keyed};
 pub use plain::{are_plain, into_plain_values, plain_value, plain_values};
+pub use simple::are_simple;

@@ -24,8 +24,9 @@ pub fn are_plain(elements: &[Element<'_>], level: usize) -> bool
     true
 }
 
+/// Whether a value within something of a level is plain.
 #[cycle(plain)]
-fn is_plain(value: &Raw<'_>, level: usize) -> bool
+pub(crate) fn is_plain(value: &Raw<'_>, level: usize) -> bool
     ensures { result ≡ plain_within value.now level }
 {
     match value {

@@ -4,8 +4,9 @@ use Rattle.basic_toml_grammar.specs.Standing as standings
 use Rattle.basic_toml_grammar.specs.Trie.{trie, nothing, standing}
 use Rattle.basic_toml_tree.specs.declared.item.Item.{the_lemmas}
 use Rattle.basic_toml_tree.specs.declared.item.Child.{Child, out-Child}
-use Rattle.basic_toml_tree.specs.declared.item.Table.{Table, out-Table, roll-Table}
+use Rattle.basic_toml_tree.specs.declared.item.Table.{Table, out-Table}
 use Rattle.basic_toml_tree.specs.Item.{item_trie, child_trie, table_trie, by_keys, no_child}
+use Rattle.basic_toml_tree.specs.Simple.{with_entries}
 use Rattle.basic_toml_tree.proofs.KeysInATrie.{tries_of}
 
 -- the trie of a child is that of its item
@@ -22,16 +23,6 @@ pub table_entries_trie : (t : Table)
     (by_keys (tries_of child_trie (out-Table t).entries))
 unfolding tries_of
 table_entries_trie t = search (rules, the_lemmas)
-
--- a table with other entries
-abbrev pub with_entries : Table → List (List ℕ × Child) → Table
-with_entries t ps = roll-Table (record {
-  passed = (out-Table t).passed;
-  named = (out-Table t).named;
-  dotted = (out-Table t).dotted;
-  section = (out-Table t).section;
-  entries = ps;
-})
 
 pub entries_with : (t : Table) (ps : List (List ℕ × Child)) → (out-Table (with_entries t ps)).entries ≡ ps
 entries_with t ps = search (rules, the_lemmas)

@@ -17,11 +17,12 @@ use Rattle.basic_toml_tree.specs.declared.item.Child.{Child}
 use Rattle.basic_toml_tree.specs.declared.item.Table.{Table, out-Table}
 use Rattle.basic_toml_tree.specs.declared.rows.Met.{Met}
 use Rattle.basic_toml_tree.specs.declared.rows.Met.TheVariants as mets
+use Rattle.basic_toml_tree.specs.Simple.{with_entries}
 use Rattle.basic_toml_tree.specs.Item.{child_trie, table_trie, by_keys}
 use Rattle.basic_toml_clash.specs.Keyed.{with_value, values_of, EntersKey}
 use Rattle.basic_toml_tree.specs.Rows.{Enters, key_texts}
 use Rattle.basic_toml_tree.proofs.KeysInATrie.{tries_of, with_twice, change_put_once, change_refused}
-use Rattle.basic_toml_tree.proofs.ItemTries.{table_entries_trie, with_entries, entries_with, with_entries_twice}
+use Rattle.basic_toml_tree.proofs.ItemTries.{table_entries_trie, entries_with, with_entries_twice}
 use Rattle.basic_toml_tree.proofs.ItemTries.{with_entries_trie}
 
 -- the trie of a table in its place

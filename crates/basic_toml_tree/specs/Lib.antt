@@ -1,4 +1,5 @@
 pub mod Item
+pub mod Simple
 pub mod Data
 pub mod Origins
 pub mod Nodes

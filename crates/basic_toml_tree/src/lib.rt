@@ -9,6 +9,7 @@ mod headers;
 mod item;
 mod node;
 mod rows;
+mod simple;
 mod spot;
 mod trail;
 mod tree;

@@ -19,10 +19,14 @@ ghost use Rattle.basic_toml_tree.specs.RowStops.{SaysHeld};
 ghost use Rattle.basic_toml_tree.specs.Rows.{all_dots, is_dot, reason, met_reason};
 
 use crate::item::{Child, Item, Table};
-use basic_toml_clash::{Clash, are_plain, drained, texts_of};
+use crate::simple::with_rows;
+use basic_toml_clash::{Clash, are_plain, are_simple, drained, texts_of};
 use basic_toml_read::{Element, Raw, Row};
 use basic_toml_value::NESTING_LIMIT;
 use std::alloc::{AllocError, AllocFailed, Global};
+
+// Of so many rows it is asked whether they are simple, since each key is then compared with all others.
+const FEW: usize = 16;
 
 /// Why a row is not put into a table.
 #[derive(Clone, Copy, Drop)]
@@ -237,6 +241,9 @@ pub(crate) fn enter_rows<'de>(
 {
     if rows.is_empty() {
         return Ok(table);
+    }
+    if table.entries.is_empty() && rows.len() <= FEW && are_simple(rows.as_slice(), level) {
+        return Ok(with_rows(alloc, table, rows, section)?);
     }
     let mut table = table;
     let mut keys = Vec::new(alloc);

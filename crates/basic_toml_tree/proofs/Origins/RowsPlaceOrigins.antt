@@ -11,12 +11,13 @@ use Rattle.basic_toml_tree.specs.declared.item.Item as items
 use Rattle.basic_toml_tree.specs.declared.item.Item.TheViews.{roll-Child, roll-Table, out-roll-Table}
 use Rattle.basic_toml_tree.specs.declared.item.Child.{Child, out-Child}
 use Rattle.basic_toml_tree.specs.declared.item.Table.{Table, out-Table}
+use Rattle.basic_toml_tree.specs.Simple.{with_entries}
 use Rattle.basic_toml_tree.specs.Item.{child_trie}
 use Rattle.basic_toml_clash.specs.Keyed.{with_value, values_of, EntersKey}
 use Rattle.basic_toml_tree.specs.Origins.{Origin, Origins, no_origins, entry, at_keys, Within, table_origin}
 use Rattle.basic_toml_tree.specs.Origins.{child_origins}
 use Rattle.basic_toml_tree.specs.Origins.{item_origins, table_within, with_more, or_else, beyond, row_origins}
-use Rattle.basic_toml_tree.proofs.ItemTries.{with_entries, entries_with}
+use Rattle.basic_toml_tree.proofs.ItemTries.{entries_with}
 use Rattle.basic_toml_tree.proofs.KeysInATrie.{with_twice}
 use Rattle.basic_toml_tree.proofs.Origins.OriginsSeen.{child_seen, table_seen, made_seen, nothing_seen, table_item_seen}
 use Rattle.basic_toml_tree.proofs.Origins.OriginsSeen.{nothing_comes}

@@ -1,0 +1,33 @@
+//! Simple rows: each has one key, which no other has, and a plain value. Nothing clashes among them, and a table without
+//! entries takes them all at once.
+
+ghost use Rattle.std.specs.Prelude.{◌≡◌, map};
+ghost use Rattle.basic_toml_value.specs.Keys.{is_among};
+ghost use Rattle.basic_toml_clash.specs.Simple.{are_simple as all_simple, key_of};
+
+use crate::plain::is_plain;
+use basic_toml_read::Row;
+
+/// Whether the rows of a table of a level are simple. Each key is compared with all after it: ask it of a few rows.
+pub fn are_simple(rows: &[Row<'_>], level: usize) -> bool
+    ensures { result ≡ all_simple level rows.now }
+{
+    match rows.split_first() {
+        Some((row, rest)) => {
+            is_plain(&row.value, level)
+                && !has_key(rest, row.key.as_str())
+                && are_simple(rest, level)
+        }
+        None => true,
+    }
+}
+
+// Whether a row has this key.
+fn has_key(rows: &[Row<'_>], key: &str) -> bool
+    ensures { result ≡ is_among (map key_of rows.now) key.now }
+{
+    match rows.split_first() {
+        Some((row, rest)) => key == row.key.as_str() || has_key(rest, key),
+        None => false,
+    }
+}
