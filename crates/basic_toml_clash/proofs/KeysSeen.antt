@@ -27,6 +27,12 @@ module _ {V : Type 0} where
       → has_key (seen pairs) key ≡ true
   has_key-found pairs i key at = has_key-seen pairs key ∙ is_among_at (texts_of pairs) i key at
 
+  pub text_at : (pairs : List (Pair V)) (i : ℕ) (pair : Pair V) → slice_get pairs i ≡ Some pair
+      → slice_get (texts_of pairs) i ≡ Some (string_bytes pair.key)
+  text_at [] i pair read = absurd (cc)
+  text_at (p ∷ ps) zero pair read = let same : p ≡ pair = cc in ap (λ p. Some (string_bytes p.key)) same
+  text_at (p ∷ ps) (suc i) pair read = text_at ps i pair read
+
   -- a key that is found is entered
   pub entered_found : (pairs : List (Pair V)) (old : List (List ℕ × V)) (i : ℕ) (key : List ℕ) (v : V)
       → seen pairs ≡ old → IsTrue (are_distinct (texts_of pairs)) → slice_get (texts_of pairs) i ≡ Some key

@@ -115,6 +115,15 @@ fn look_between(alloc: Global, rows: &[Row<'_>]) -> Result<(), Crossed>
     if !has_longer(rows) {
         return Ok(());
     }
+    follow_rows(alloc, rows)
+}
+
+// Follows the keys of all rows, one row after another. It stands apart, since in most tables no row has more keys than the
+// one before it.
+#[inline(never)]
+fn follow_rows(alloc: Global, rows: &[Row<'_>]) -> Result<(), Crossed>
+    ensures { Looks (faults_between (rows_view rows.now)) result }
+{
     let mut trail = Trail::blank(alloc);
     let mut first = 0;
     while let Some(last) = last_key(rows, first) {

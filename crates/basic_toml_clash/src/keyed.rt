@@ -107,14 +107,11 @@ impl<V: Drop> Keyed<V> {
         }
     }
 
-    /// No keys, with room for some.
-    pub fn with_capacity(alloc: Global, capacity: usize) -> Result<Keyed<V>, AllocError>
-        ensures { IfOk result (λ keyed. keyed ≡ []) }
+    /// Makes room for so many more keys.
+    pub fn reserve(&mut self, more: usize) -> Result<(), AllocError>
+        ensures { self.new ≡ self.old }
     {
-        Ok(Keyed {
-            entries: Vec::with_capacity(alloc, capacity)?,
-            index: Index::none(),
-        })
+        self.entries.try_reserve_exact(more)
     }
 
     /// How many keys there are.
@@ -213,17 +210,6 @@ impl<V: Drop> Keyed<V> {
         &self.index
     }
 
-    /// Takes the pairs out.
-    pub fn take(&mut self) -> Vec<Pair<V>>
-        ensures pairs { seen result.items ≡ self.old }
-        ensures none { self.new ≡ [] }
-    {
-        let none = Vec::new(*self.entries.allocator());
-        let entries = mem::replace(&mut self.entries, none);
-        self.index = Index::none();
-        entries
-    }
-
     /// Puts pairs whose keys differ in the place of those that are there.
     pub fn set(&mut self, entries: Vec<Pair<V>>)
         requires { IsTrue (are_distinct (texts_of entries.items)) }
@@ -261,5 +247,19 @@ impl<V: Drop + Blank> Keyed<V> {
                 add(&mut self.entries, &mut self.index, key, gap, value)
             }
         }
+    }
+
+    /// The same, where the key is likely the last one: it is looked at first.
+    pub fn enter_again(&mut self, key: &str) -> Result<usize, AllocError>
+        ensures entered { IfOk result (λ position. EntersKey key.now V.blank self.old self.new position) }
+        ensures within { IfOk result (λ position. position < length self.new) }
+        ensures kept { IfErr result (λ _. self.new ≡ self.old) }
+    {
+        if let Some(last) = self.entries.last() {
+            if last.key.as_str() == key {
+                return Ok(self.entries.len() - 1);
+            }
+        }
+        self.enter(key)
     }
 }

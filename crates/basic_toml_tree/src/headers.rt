@@ -15,7 +15,7 @@ ghost use Rattle.basic_toml_tree.specs.Headers.{EntersHeader, EntersItem, Passes
 ghost use Rattle.basic_toml_tree.specs.Headers.{entered_by, steps_by, entered_at, steps_at, tried_by, tried_at};
 
 use crate::item::{Item, Table};
-use crate::rows::{enter_rows, room_for};
+use crate::rows::take_rows;
 use basic_toml_clash::Clash;
 use basic_toml_read::{Key, Row, Section};
 use basic_toml_value::NESTING_LIMIT;
@@ -56,6 +56,7 @@ pub(crate) fn enter_section<'de>(
 }
 
 // The table at a level that a header names, with the rows of its section.
+#[inline(always)]
 fn open<'de>(
     alloc: Global,
     table: Box<Table<'de>>,
@@ -82,7 +83,7 @@ fn open<'de>(
     }
     table.named = true;
     table.section = number;
-    enter_rows(alloc, table, rows, number, level)
+    take_rows(alloc, table, rows, number, level)
 }
 
 // Goes on from a table of a level by the keys of a header that are left.
@@ -212,14 +213,9 @@ fn add_element<'de>(
         }
         _other => return Err(Clash::Header(1)),
     };
-    let table = Table::new(alloc, room_for(rows.as_slice()))?;
+    let table = Table::new(alloc)?;
     let latest = open(alloc, table, rows, number, level + 2)?;
     Ok(Item::Tables(before, latest))
-}
-
-// The room that a table wants where a header goes on by the keys that are left.
-fn room_below(rest: &[Key<'_>], rows: &[Row<'_>]) -> usize {
-    if rest.is_empty() { room_for(rows) } else { 1 }
 }
 
 // Goes on from what stands at a key in a table of a level by the keys that are left after it.
@@ -248,7 +244,7 @@ fn enter_item<'de>(
 {
     let item = match there {
         Item::Nothing => {
-            let table = Table::new(alloc, room_below(rest, rows.as_slice()))?;
+            let table = Table::new(alloc)?;
             Item::Table(enter_header(alloc, table, rest, is_array, rows, number, level + 1)?)
         }
         Item::Table(table) => Item::Table(enter_header(

@@ -101,8 +101,8 @@ impl<'de> Blank for Child<'de> {
 }
 
 impl<'de> Table<'de> {
-    /// A table without entries, with room for some, of which nothing is said yet.
-    pub fn new(alloc: Global, room: usize) -> Result<Box<Table<'de>>, AllocError>
+    /// A table without entries, of which nothing is said yet.
+    pub fn new(alloc: Global) -> Result<Box<Table<'de>>, AllocError>
         ensures { IfOk result (λ table. table_trie table.value
             ≡ trie (Some (table_standing false false false)) None no_tries) }
     {
@@ -111,7 +111,7 @@ impl<'de> Table<'de> {
             named: false,
             dotted: false,
             section: 0,
-            entries: Keyed::with_capacity(alloc, room)?,
+            entries: Keyed::new(alloc),
         };
         Ok(Box::new(alloc, table)?)
     }

@@ -1,6 +1,6 @@
 //! Rows: their values, and the tables that their keys lead through.
 
-ghost use Rattle.std.specs.Prelude.{◌≡◌, ◌≤◌, ℕ, [], ◌∷◌, ◌++◌, Some, None, true, false, not, is_some, map};
+ghost use Rattle.std.specs.Prelude.{◌≡◌, ◌≤◌, ◌<◌, ℕ, length, [], ◌∷◌, ◌++◌, Some, None, true, false, not, is_some, map};
 ghost use Rattle.std.specs.Prelude.{MatchOption, IfOk, IfErr, IfSome};
 ghost use Rattle.basic_toml_value.specs.Data.{Data};
 ghost use Rattle.basic_toml_grammar.specs.Sections.{Raw as spec_raw};
@@ -8,6 +8,7 @@ ghost use Rattle.basic_toml_grammar.specs.Marks.{valued};
 ghost use Rattle.basic_toml_grammar.specs.Trie.{nothing, mark_here};
 ghost use Rattle.basic_toml_grammar.specs.TrieStops.{try_put_rows, try_put_value, try_put_elements};
 ghost use Rattle.basic_toml_read.specs.SectionView.{raw_of, rows_view, elements_view};
+ghost use Rattle.basic_toml_tree.specs.declared.item.Table.{out-Table};
 ghost use Rattle.basic_toml_tree.specs.Item.{leaf, child_trie, table_trie};
 ghost use Rattle.basic_toml_tree.specs.Origins.{child_origins, table_within, with_more, or_else, entry};
 ghost use Rattle.basic_toml_tree.specs.Origins.{row_origins, rows_origins, value_origins, elements_origins};
@@ -106,14 +107,29 @@ fn enter_row<'de>(
         table.entries.put(position, child);
         return Ok(table);
     };
-    let position = table.entries.enter(row.key.as_str())?;
+    let position = table.entries.enter_again(row.key.as_str())?;
+    let room = room_like(&table, position);
     let there = table.entries.replace(position, Child::nothing());
-    let extended = extended(alloc, there, rest, last, child)?;
+    let extended = extended(alloc, there, rest, last, child, room)?;
     table.entries.put(position, extended);
     Ok(table)
 }
 
-// The table at a key that a period follows, with the rest of the row put into it.
+// The room that a table at this position may want: as many entries as the one before it has, since such tables are often
+// alike.
+fn room_like(table: &Table<'_>, position: usize) -> usize
+    requires { position < length (out-Table table.now).entries }
+{
+    if position == 0 {
+        return 1;
+    }
+    match &table.entries.value(position - 1).item {
+        Item::Table(before) => before.entries.len(),
+        _ => 1,
+    }
+}
+
+// The table at a key that a period follows, with the rest of the row put into it; where it is new, it has this room.
 #[cycle(leading)]
 #[inline(never)]
 fn extended<'de>(
@@ -122,6 +138,7 @@ fn extended<'de>(
     keys: &[Row<'de>],
     last: &str,
     child: Child<'de>,
+    room: usize,
 ) -> Result<Child<'de>, Met>
     ensures entered { (d : Data) → child_trie child.entry ≡ leaf d
         → Extends (key_texts keys.entry.now ++ last.entry.now ∷ []) d (child_trie there.entry) result }
@@ -139,7 +156,7 @@ fn extended<'de>(
     } = there;
     match item {
         Item::Nothing => {
-            let mut table = Table::new(alloc, 1)?;
+            let mut table = with_room(Table::new(alloc)?, room)?;
             table.dotted = true;
             let start = child.start;
             let section = child.section;
@@ -212,20 +229,34 @@ fn held_by(alloc: Global, clash: Clash, keys: &[Row<'_>], last: &str) -> Result<
     }
 }
 
-/// The room that the rows of a table want: no row makes more than one entry of it.
-pub(crate) fn room_for(rows: &[Row<'_>]) -> usize {
+// The room that the rows of one key want, each of which makes an entry of its own.
+fn room_for(rows: &[Row<'_>]) -> usize {
     let mut room = 0;
+    let mut goes_on = false;
     for row in rows {
-        if !row.is_dot() {
+        let is_dot = row.is_dot();
+        if !is_dot && !goes_on {
             room += 1;
         }
+        goes_on = is_dot;
     }
     room
 }
 
-/// Puts rows into a table of a level, in order.
+// A table with room for so many more entries.
+fn with_room<'de>(table: Box<Table<'de>>, more: usize) -> Result<Box<Table<'de>>, AllocError>
+    ensures { IfOk result (λ after. after.value ≡ table.entry.value) }
+{
+    let mut table = table;
+    table.entries.reserve(more)?;
+    Ok(table)
+}
+
+/// Puts rows into a table of a level, in order: a few simple ones into a table without entries at once, others one by one.
+/// It is inlined, since most rows are simple.
 #[cycle(finishing)]
-pub(crate) fn enter_rows<'de>(
+#[inline(always)]
+pub(crate) fn take_rows<'de>(
     alloc: Global,
     table: Box<Table<'de>>,
     rows: Vec<Row<'de>>,
@@ -245,6 +276,27 @@ pub(crate) fn enter_rows<'de>(
     if table.entries.is_empty() && rows.len() <= FEW && are_simple(rows.as_slice(), level) {
         return Ok(with_rows(alloc, table, rows, section)?);
     }
+    let room = room_for(rows.as_slice());
+    enter_rows(alloc, with_room(table, room)?, rows, section, level)
+}
+
+// Puts rows into a table of a level, one by one.
+#[cycle(finishing)]
+#[inline(never)]
+fn enter_rows<'de>(
+    alloc: Global,
+    table: Box<Table<'de>>,
+    rows: Vec<Row<'de>>,
+    section: usize,
+    level: usize,
+) -> Result<Box<Table<'de>>, Clash>
+    requires { level ≤ 128 }
+    ensures entered { EntersRows (rows_view rows.entry.items) level (table_trie table.entry.value) result }
+    ensures named { IfErr result (λ clash.
+        NamesStop (try_put_rows (rows_view rows.entry.items) (table_trie table.entry.value)) clash) }
+    ensures origins { IfOk result (λ after. table_within after.value
+        ≡ with_more (table_within table.entry.value) (rows_origins section (rows_view rows.entry.items))) }
+{
     let mut table = table;
     let mut keys = Vec::new(alloc);
     for row in drained(rows) {
@@ -370,8 +422,7 @@ fn finished<'de>(
             if level >= NESTING_LIMIT {
                 return Err(Clash::Deep);
             }
-            let room = room_for(rows.as_slice());
-            let table = enter_rows(alloc, Table::new(alloc, room)?, rows, section, level + 1)?;
+            let table = take_rows(alloc, Table::new(alloc)?, rows, section, level + 1)?;
             Ok(Child::at(start, section, Item::Inline(table)))
         }
     }

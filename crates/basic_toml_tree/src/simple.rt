@@ -1,11 +1,10 @@
 //! Simple rows: a table without entries takes them all at once.
 
-ghost use Rattle.std.specs.Prelude.{◌≡◌, [], IfOk, IsTrue, map};
+ghost use Rattle.std.specs.Prelude.{◌≡◌, IfOk, IsTrue, map};
 ghost use Rattle.basic_toml_value.specs.Keys.{are_distinct};
 ghost use Rattle.basic_toml_value.specs.Entries.{seen};
 ghost use Rattle.basic_toml_clash.specs.Simple.{key_of};
-ghost use Rattle.basic_toml_tree.specs.declared.item.Table.{out-Table};
-ghost use Rattle.basic_toml_tree.specs.Simple.{entries_of, item_of as kept_item, with_entries};
+ghost use Rattle.basic_toml_tree.specs.Simple.{entries_of as new_entries, item_of as kept_item, with_entries};
 
 use crate::item::{Child, Item, Table};
 use basic_toml_read::{Raw, Row};
@@ -29,18 +28,15 @@ fn item_of<'de>(value: Raw<'de>) -> Item<'de>
     }
 }
 
-// The entries that rows of a section become, each of one key and a plain value, in the room of no entries.
-fn fill<'de>(
+// The entries that rows of a section become, each of one key and a plain value.
+fn entries_of<'de>(
     alloc: Global,
-    entries: Vec<Pair<Child<'de>>>,
     rows: Vec<Row<'de>>,
     section: usize,
 ) -> Result<Vec<Pair<Child<'de>>>, AllocError>
-    requires { entries.items ≡ [] }
-    ensures { IfOk result (λ filled. seen filled.items ≡ entries_of section rows.entry.items) }
+    ensures { IfOk result (λ entries. seen entries.items ≡ new_entries section rows.entry.items) }
 {
-    let mut entries = entries;
-    entries.try_reserve_exact(rows.len())?;
+    let mut entries = Vec::with_capacity(alloc, rows.len())?;
     for row in rows {
         let Row {
             key,
@@ -62,7 +58,7 @@ fn fill<'de>(
     Ok(entries)
 }
 
-/// A table without entries, with rows of a section whose keys differ, each of one key and a plain value.
+/// A table with rows of a section in the place of its entries: their keys differ, and each has one key and a plain value.
 #[inline(never)]
 pub(crate) fn with_rows<'de>(
     alloc: Global,
@@ -70,13 +66,11 @@ pub(crate) fn with_rows<'de>(
     rows: Vec<Row<'de>>,
     section: usize,
 ) -> Result<Box<Table<'de>>, AllocError>
-    requires none { (out-Table table.value).entries ≡ [] }
-    requires differ { IsTrue (are_distinct (map key_of rows.items)) }
+    requires { IsTrue (are_distinct (map key_of rows.items)) }
     ensures { IfOk result (λ after. after.value
-        ≡ with_entries table.entry.value (entries_of section rows.entry.items)) }
+        ≡ with_entries table.entry.value (new_entries section rows.entry.items)) }
 {
     let mut table = table;
-    let entries = fill(alloc, table.entries.take(), rows, section)?;
-    table.entries.set(entries);
+    table.entries.set(entries_of(alloc, rows, section)?);
     Ok(table)
 }

@@ -97,7 +97,7 @@ fn grow<'de>(alloc: Global, sections: Vec<Section<'de>>) -> Result<Tree<'de>, Re
         return Err(ReadError::at(at, ReadErrorKind::DottedKeyInvalidType));
     }
     let mut sections = sections;
-    let mut root = Table::new(alloc, 0)?;
+    let mut root = Table::new(alloc)?;
     for number in 0..sections.len() {
         let section = &mut sections[number];
         root = match enter_section(alloc, root, section, number) {

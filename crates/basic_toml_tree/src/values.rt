@@ -10,6 +10,9 @@ use basic_toml_value as values;
 use basic_toml_value::{Pair, Pairs, Value};
 use std::alloc::{AllocError, Global};
 
+// Of so many entries the memory is given back while they are moved. Fewer are moved in less by a plain iterator.
+const MANY: usize = 1024;
+
 /// A copy of an item.
 #[cycle(copies)]
 pub(crate) fn value_of(alloc: Global, item: &Item<'_>) -> Result<Value, AllocError>
@@ -131,6 +134,27 @@ fn into_tables(alloc: Global, tables: Vec<Table<'_>>) -> Result<Vec<Value>, Allo
 
 #[cycle(moves)]
 fn into_entries(alloc: Global, pairs: Vec<Pair<Child<'_>>>) -> Result<Vec<Pair<Value>>, AllocError>
+    ensures { IfOk result (λ moved. map value_pair moved.items ≡ map child_pair pairs.entry.items) }
+{
+    if pairs.len() >= MANY {
+        return into_many_entries(alloc, pairs);
+    }
+    let mut moved = Vec::with_capacity(alloc, pairs.len())?;
+    for pair in pairs {
+        let Pair { key, value } = pair;
+        let value = into_value(alloc, value.item)?;
+        moved.push_reserved(Pair { key, value });
+    }
+    Ok(moved)
+}
+
+// The same, of many entries, whose memory is given back on the way.
+#[cycle(moves)]
+#[inline(never)]
+fn into_many_entries(
+    alloc: Global,
+    pairs: Vec<Pair<Child<'_>>>,
+) -> Result<Vec<Pair<Value>>, AllocError>
     ensures { IfOk result (λ moved. map value_pair moved.items ≡ map child_pair pairs.entry.items) }
 {
     let mut moved = Vec::with_capacity(alloc, pairs.len())?;

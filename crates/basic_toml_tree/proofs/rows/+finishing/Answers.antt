@@ -40,8 +40,8 @@ use Rattle.basic_toml_tree.specs.declared.item.Table.{Table}
 use Rattle.basic_toml_tree.proofs.SimpleRows.{no_entries, rows_in, rows_come}
 use Rattle.basic_toml_tree.proofs.rows.+finishing.Goals as goal
 
-pub enter_rows-returns-then-is_empty-clause-entered : goal.enter_rows-returns-then-is_empty-clause-entered
-enter_rows-returns-then-is_empty-clause-entered t c =
+pub take_rows-returns-then-is_empty-clause-entered : goal.take_rows-returns-then-is_empty-clause-entered
+take_rows-returns-then-is_empty-clause-entered t c =
     let none : length c.args.rows.items ≡ 0 = grind (arith, c.is_empty.ensures, c.if-is_empty.true, c.args.rows.ok.0) in
     no_rows_left c.args.rows.items c.args.level (table_trie c.args.table.value) none
 
@@ -60,7 +60,7 @@ enter_rows-returns-in_err-table-clause-entered t c =
     c.in-Some.ensures.steps c.loop-row.invariant.0 in
     let kept = subst (λ (ks : List Row). AreKeptOut (rows_view (ks ++ row ∷ [])) c.args.level now
     c.in_err-table.field-0.0)
-    c.as_slice-in-loop-row.ensures.value c.in_err-table.ensures.entered in
+    c.as_slice.ensures.value c.in_err-table.ensures.entered in
     rw (p.1, p.2) (subst (λ (rows : List Row). AreKeptOut (rows_view rows) c.args.level before
     c.in_err-table.field-0.0) start
     (row_kept_out (rows_view c.into_iter-row-iterator.result) c.args.level before keys row rest now left
@@ -90,14 +90,14 @@ enter_rows-loop-row-preserved t c =
     let left = subst (λ (rows : List Row). AreLeft whole c.args.level before keys rows now) c.in-Some.ensures.steps
     c.loop-row.invariant.0 in
     let entered = subst (λ (ks : List Row). AreIn (rows_view (ks ++ row ∷ [])) c.args.level now after)
-    c.as_slice-in-loop-row.ensures.value c.in_ok-table.ensures.entered in
+    c.as_slice.ensures.value c.in_ok-table.ensures.entered in
     let s = c.args.section in
     let is_row : is_dot row ≡ false = sym c.is_dot.ensures ∙ c.if-is_dot.false in
     let come = subst (λ (rows : List Row). OriginsLeft s whole (table_within c.args.table.value) keys rows
     (table_within c.loop-row.table.value)) c.in-Some.ensures.steps c.loop-row.invariant.1 in
     let more = c.in_ok-table.ensures.origins
     ∙ ap (λ ks. with_more (table_within c.loop-row.table.value) (rows_origins s (rows_view (ks ++ row ∷ []))))
-    c.as_slice-in-loop-row.ensures.value in (
+    c.as_slice.ensures.value in (
       subst (λ (ks : List Row). AreLeft whole c.args.level before ks rest after) (sym c.clear.ensures.items)
           (row_entered whole c.args.level before keys row rest now left is_row after entered),
       subst (λ (ks : List Row). OriginsLeft s whole (table_within c.args.table.value) ks rest
@@ -199,7 +199,7 @@ enter_rows-returns-in_err-table-clause-named t c =
     let left = subst (λ (rows : List Row). AreLeft whole c.args.level before keys rows now)
     c.in-Some.ensures.steps c.loop-row.invariant.0 in
     let named = subst (λ (ks : List Row). NamesStop (try_put_rows (rows_view (ks ++ row ∷ [])) now) clash)
-    c.as_slice-in-loop-row.ensures.value c.in_err-table.ensures.named in
+    c.as_slice.ensures.value c.in_err-table.ensures.named in
     rw (p.1, p.2) (subst (λ (rows : List Row). NamesStop (try_put_rows (rows_view rows) before) clash) start
     (row_stopped whole c.args.level before keys row rest now left
     (sym c.is_dot.ensures ∙ c.if-is_dot.false) clash named))
@@ -269,8 +269,8 @@ finished_elements-loop-element-preserved-then-is_dot_value t c =
     )
 
 -- where what is put into the table comes from
-pub enter_rows-returns-then-is_empty-clause-origins : goal.enter_rows-returns-then-is_empty-clause-origins
-enter_rows-returns-then-is_empty-clause-origins t c =
+pub take_rows-returns-then-is_empty-clause-origins : goal.take_rows-returns-then-is_empty-clause-origins
+take_rows-returns-then-is_empty-clause-origins t c =
     let none : length c.args.rows.items ≡ 0 = grind (arith, c.is_empty.ensures, c.if-is_empty.true, c.args.rows.ok.0) in
     no_rows_come c.args.section c.args.rows.items (table_within c.args.table.value) none
 
@@ -340,13 +340,13 @@ row_value-returns-then-are_plain-clause-origins t c = λ v seen.
     c.args.start c.args.section
 
 -- simple rows, taken all at once
-pub enter_rows-with_rows-requires-clause-differ : goal.enter_rows-with_rows-requires-clause-differ
-enter_rows-with_rows-requires-clause-differ t c =
+pub take_rows-with_rows-requires : goal.take_rows-with_rows-requires
+take_rows-with_rows-requires t c =
     keys_differ c.args.level c.args.rows.items (ap (are_simple c.args.level) (sym c.as_slice.ensures.value)
     ∙ sym {A = Bool} c.are_simple.ensures ∙ c.if-are_simple.true)
 
-pub enter_rows-returns-then-are_simple-clause-entered : goal.enter_rows-returns-then-are_simple-clause-entered
-enter_rows-returns-then-are_simple-clause-entered t c =
+pub take_rows-returns-then-are_simple-clause-entered : goal.take_rows-returns-then-are_simple-clause-entered
+take_rows-returns-then-are_simple-clause-entered t c =
     let table = c.args.table.value in
     let rows = c.args.rows.items in
     let none = no_entries table c.deref.result.now c.is_empty-2.result c.deref.ensures c.is_empty-2.ensures
@@ -356,8 +356,8 @@ enter_rows-returns-then-are_simple-clause-entered t c =
     subst (λ (t : Table). AreIn (rows_view rows) c.args.level (table_trie table) (table_trie t))
     (sym c.in_ok-with_rows.ensures) (rows_in c.args.section c.args.level (omega arith) table none rows simple)
 
-pub enter_rows-returns-then-are_simple-clause-origins : goal.enter_rows-returns-then-are_simple-clause-origins
-enter_rows-returns-then-are_simple-clause-origins t c =
+pub take_rows-returns-then-are_simple-clause-origins : goal.take_rows-returns-then-are_simple-clause-origins
+take_rows-returns-then-are_simple-clause-origins t c =
     let table = c.args.table.value in
     let none = no_entries table c.deref.result.now c.is_empty-2.result c.deref.ensures c.is_empty-2.ensures
     c.if-is_empty-2.true in

@@ -7,20 +7,23 @@ use Rattle.basic_toml_tree.proofs.RowsLeft.{AreLeft}
 use Rattle.basic_toml_tree.proofs.ElementsLeft.{ElementsAreLeft}
 use Rattle.basic_toml_tree.proofs.rows.+finishing.Given as goal
 
+abbrev pub decreases-take_rows : goal.decreases-take_rows
+decreases-take_rows l = 5 * (128 - l.level) + 4
+
 abbrev pub decreases-enter_rows : goal.decreases-enter_rows
-decreases-enter_rows l = 4 * (128 - l.level) + 3
+decreases-enter_rows l = 5 * (128 - l.level) + 3
 
 abbrev pub decreases-enter_value : goal.decreases-enter_value
-decreases-enter_value l = 4 * (128 - l.level) + 2
+decreases-enter_value l = 5 * (128 - l.level) + 2
 
 abbrev pub decreases-row_value : goal.decreases-row_value
-decreases-row_value l = 4 * (128 - l.level) + 1
+decreases-row_value l = 5 * (128 - l.level) + 1
 
 abbrev pub decreases-finished : goal.decreases-finished
-decreases-finished l = 4 * (128 - l.level)
+decreases-finished l = 5 * (128 - l.level)
 
 abbrev pub decreases-finished_elements : goal.decreases-finished_elements
-decreases-finished_elements l = 4 * (128 - l.level) + 1
+decreases-finished_elements l = 5 * (128 - l.level) + 1
 
 -- what the rows that are left put into the table as it is, all put into it as it was
 abbrev pub invariant-enter_rows-loop-row : goal.invariant-enter_rows-loop-row

@@ -56,7 +56,7 @@ enter_row-returns-in_err-extended-clause-entered t c = λ d is_leaf.
     let key = key_text_bytes c.in-Some.row.now.key in
     let rest = key_texts c.in-Some.rest.now in
     let last = c.args.last.now in
-    let stands = stands_in c.deref_mut-2.result.now c.deref_mut-3.result.now c.enter-2.new.self
+    let stands = stands_in c.deref_mut-2.result.now c.deref_mut-3.result.now c.enter_again.new.self
     c.in_ok-position-2.position
     c.replace-there.result c.deref_mut-3.ensures.value c.replace-there.ensures.value in
     rw (p.1, p.2) (is_met_on child_trie boxed_trie
@@ -69,8 +69,8 @@ enter_row-returns-in_err-extended-clause-entered t c = λ d is_leaf.
     c.in-Some.rest.now c.in-Some.ensures.cases.0)
     ∙ ap (λ t. put_row (key ∷ (rest ++ last ∷ [])) d (table_trie t)) (sym c.deref_mut-2.ensures.value)
     ∙ row_on key rest last d (table_trie c.deref_mut-2.result.now)
-    ∙ step_refused c.deref_mut-2.result.now key no_child c.enter-2.new.self c.in_ok-position-2.position
-    no_child_trie (entered_by {new = c.enter-2.new.self} c.as_str.ensures.value
+    ∙ step_refused c.deref_mut-2.result.now key no_child c.enter_again.new.self c.in_ok-position-2.position
+    no_child_trie (entered_by {new = c.enter_again.new.self} c.as_str.ensures.value
     c.in_ok-position-2.ensures.entered) c.replace-there.result stands
     (λ t. and_then (mark_here dotted t) (λ t. put_row (rest ++ last ∷ []) d t)) refused))
 
@@ -79,7 +79,7 @@ enter_row-returns-clause-entered t c = λ d is_leaf.
     let key = key_text_bytes c.in-Some.row.now.key in
     let rest = key_texts c.in-Some.rest.now in
     let last = c.args.last.now in
-    let stands = stands_in c.deref_mut-2.result.now c.deref_mut-3.result.now c.enter-2.new.self
+    let stands = stands_in c.deref_mut-2.result.now c.deref_mut-3.result.now c.enter_again.new.self
     c.in_ok-position-2.position
     c.replace-there.result c.deref_mut-3.ensures.value c.replace-there.ensures.value in
     ap (λ ks. put_row (ks ++ last ∷ []) d (table_trie c.args.table.value)) (first_text c.args.keys.now
@@ -87,8 +87,8 @@ enter_row-returns-clause-entered t c = λ d is_leaf.
     c.in-Some.rest.now c.in-Some.ensures.cases.0)
     ∙ ap (λ t. put_row (key ∷ (rest ++ last ∷ [])) d (table_trie t)) (sym c.deref_mut-2.ensures.value)
     ∙ row_on key rest last d (table_trie c.deref_mut-2.result.now)
-    ∙ step_put_back c.deref_mut-2.result.now key no_child c.enter-2.new.self c.in_ok-position-2.position
-    no_child_trie (entered_by {new = c.enter-2.new.self} c.as_str.ensures.value
+    ∙ step_put_back c.deref_mut-2.result.now key no_child c.enter_again.new.self c.in_ok-position-2.position
+    no_child_trie (entered_by {new = c.enter_again.new.self} c.as_str.ensures.value
     c.in_ok-position-2.ensures.entered) c.replace-there.result stands
     (λ t. and_then (mark_here dotted t) (λ t. put_row (rest ++ last ∷ []) d t))
     c.in_ok-extended.extended c.nothing.result c.deref_mut-3.result.now c.deref_mut-4.result.now
@@ -115,7 +115,7 @@ enter_row-returns-in_err-extended-clause-named t c =
     let key = key_text_bytes row.key in
     let last = c.args.last.now in
     let met = c.in_err-extended.field-0.0 in
-    let stands = stands_in c.deref_mut-2.result.now c.deref_mut-3.result.now c.enter-2.new.self
+    let stands = stands_in c.deref_mut-2.result.now c.deref_mut-3.result.now c.enter_again.new.self
     c.in_ok-position-2.position
     c.replace-there.result c.deref_mut-3.ensures.value c.replace-there.ensures.value in
     rw (p.1, p.2) (λ d is_leaf.
@@ -123,8 +123,8 @@ enter_row-returns-in_err-extended-clause-named t c =
     (sym c.in-Some.ensures.cases.0)
     (subst (λ (t : Table). TellsRow (line_keys (row ∷ c.in-Some.rest.now)) last d (table_trie t) met)
     c.deref_mut-2.ensures.value
-    (row_told c.deref_mut-2.result.now key no_child c.enter-2.new.self c.in_ok-position-2.position
-    no_child_trie (entered_by {new = c.enter-2.new.self} c.as_str.ensures.value
+    (row_told c.deref_mut-2.result.now key no_child c.enter_again.new.self c.in_ok-position-2.position
+    no_child_trie (entered_by {new = c.enter_again.new.self} c.as_str.ensures.value
     c.in_ok-position-2.ensures.entered) c.replace-there.result stands met (lined_of row).key
     (line_keys c.in-Some.rest.now) last d (row_key row) (c.in_err-extended.ensures.named d is_leaf))))
 
@@ -137,7 +137,7 @@ extended-returns-in_err-table-in-Nothing-2-clause-named t c =
     extended_on (line_keys c.args.keys.now) c.args.last.now d (child_trie c.args.there)
     (table_trie (roll-Table (dotted_fields c.deref_mut.result.now))) c.in_err-table-in-Nothing-2.field-0.0
     (dotted_nothing c.args.there c.in_ok-table-in-Nothing.table.value c.deref_mut.result.now c.in-Nothing.is
-    c.deref_mut.ensures.value c.in_ok-table-in-Nothing.ensures)
+    c.deref_mut.ensures.value (ap table_trie c.in_ok-table-in-Nothing.ensures ∙ c.in_ok-new-in-Nothing.ensures))
     (c.in_err-table-in-Nothing-2.ensures.named d is_leaf))
 
 pub extended-returns-then-deref-clause-named : goal.extended-returns-then-deref-clause-named
@@ -185,12 +185,12 @@ enter_row-returns-clause-origins t c =
     let last = c.args.last.now in
     let dotted = dotted_of c.args.child in
     let below = child_origins c.args.child in
-    let stands = stands_in c.deref_mut-2.result.now c.deref_mut-3.result.now c.enter-2.new.self
+    let stands = stands_in c.deref_mut-2.result.now c.deref_mut-3.result.now c.enter_again.new.self
     c.in_ok-position-2.position
     c.replace-there.result c.deref_mut-3.ensures.value c.replace-there.ensures.value in
     origins_put_back c.deref_mut-2.result.now key no_child c.replace-there.result c.in_ok-extended.extended
-    c.enter-2.new.self c.in_ok-position-2.position no_child_trie
-    (entered_by {new = c.enter-2.new.self} c.as_str.ensures.value c.in_ok-position-2.ensures.entered) stands
+    c.enter_again.new.self c.in_ok-position-2.position no_child_trie
+    (entered_by {new = c.enter_again.new.self} c.as_str.ensures.value c.in_ok-position-2.ensures.entered) stands
     (entry dotted (row_origins (rest ++ last ∷ []) dotted below))
     c.in_ok-extended.ensures.origins c.nothing.result c.deref_mut-3.result.now c.deref_mut-4.result.now
     c.replace-there.new.self c.put-2.new.self c.deref_mut-3.ensures.value c.replace-there.ensures.changed
@@ -205,7 +205,8 @@ pub extended-returns-in-Nothing-clause-origins : goal.extended-returns-in-Nothin
 extended-returns-in-Nothing-clause-origins t c =
     let u = roll-Table (dotted_fields c.deref_mut.result.now) in
     let fresh = dotted_within c.deref_mut.result.now ∙ ap table_within c.deref_mut.ensures.value
-    ∙ fresh_within c.in_ok-table-in-Nothing.table.value c.in_ok-table-in-Nothing.ensures in
+    ∙ fresh_within c.in_ok-table-in-Nothing.table.value
+    (ap table_trie c.in_ok-table-in-Nothing.ensures ∙ c.in_ok-new-in-Nothing.ensures) in
     child_of_table c.in_ok-table-in-Nothing-2.table c.args.child.start c.args.child.section
     ∙ new_table c.args.there c.in_ok-table-in-Nothing-2.table u
     (row_origins (key_texts c.args.keys.now ++ c.args.last.now ∷ []) (dotted_of c.args.child)

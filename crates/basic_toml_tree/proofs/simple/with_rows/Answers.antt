@@ -7,6 +7,6 @@ use Rattle.basic_toml_tree.proofs.simple.with_rows.Goals as goal
 
 pub set-requires : goal.set-requires
 set-requires c =
-    let keys = sym (keys_of-seen c.in_ok-entries.entries.items) ∙ ap keys_of c.in_ok-entries.ensures
+    let keys = sym (keys_of-seen c.in_ok-entries_of.field-0.items) ∙ ap keys_of c.in_ok-entries_of.ensures
     ∙ entry_keys c.args.section c.args.rows.items in
-    subst (λ (ks : List (List ℕ)). IsTrue (are_distinct ks)) (sym keys) c.requires.differ
+    subst (λ (ks : List (List ℕ)). IsTrue (are_distinct ks)) (sym keys) c.requires

@@ -1,4 +1,4 @@
-use Rattle.std.proofs.Common.{◌≡◌, ap, arith, sym, ◌∙◌, refl, ◌++◌, map, subst, List, ℕ}
+use Rattle.std.proofs.Common.{◌≡◌, length, ap, arith, sym, ◌∙◌, refl, ◌++◌, map, subst, List, ℕ}
 use Rattle.basic_toml_value.specs.Data.{Data, items_of, members_of}
 use Rattle.basic_toml_value.specs.View.{view, entries}
 use Rattle.basic_toml_value.specs.Index.{IsIndex}
@@ -9,6 +9,8 @@ use Rattle.basic_toml_clash.proofs.DataParts.{mapped_next, array_seen}
 use Rattle.basic_toml_tree.proofs.ItemData.{child_item, plain_elements, table_of_pairs, tables_data, table_seen}
 use Rattle.basic_toml_tree.proofs.ItemData.{entries_seen, keys_copied, tables_whole}
 use Rattle.basic_toml_clash.proofs.KeysSeen.{keys_of-seen}
+use Rattle.basic_toml_tree.proofs.RowsLeft.{nothing_left}
+use Rattle.basic_toml_tree.proofs.SimpleRows.{none_after}
 use Rattle.basic_toml_tree.proofs.values.+moves.Goals as goal
 
 pub into_elements-into_value-requires : goal.into_elements-into_value-requires
@@ -29,8 +31,8 @@ into_elements-loop-child-preserved t c =
     c.in-Some.ensures.steps c.in_ok-push.ensures.items c.loop-child.invariant
     (c.in_ok-into_value.ensures ∙ sym (child_item c.in-Some.child))
 
-pub into_entries-into_value-requires : goal.into_entries-into_value-requires
-into_entries-into_value-requires t c =
+pub into_many_entries-into_value-requires : goal.into_many_entries-into_value-requires
+into_many_entries-into_value-requires t c =
     let start : c.into_iter-pair-iterator.result ≡ c.args.pairs.items =
     c.into_iter-pair-iterator.ensures.into_iter_gives ∙ c.drained-pair-items.ensures in
     let smaller = members_size-rest (map value_pair c.loop-pair.moved.items) child_pair c.in-Some.pair
@@ -40,13 +42,58 @@ into_entries-into_value-requires t c =
     let same = child_item c.in-Some.pair.value in
     (omega (arith, ap data_size same, ap (λ l. members_size (members_of (map child_pair l))) start), tt)
 
-pub into_entries-loop-pair-preserved : goal.into_entries-loop-pair-preserved
-into_entries-loop-pair-preserved t c =
+pub into_many_entries-loop-pair-preserved : goal.into_many_entries-loop-pair-preserved
+into_many_entries-loop-pair-preserved t c =
     mapped_next value_pair child_pair c.loop-pair.moved.items c.push.new.self.items c.loop-pair.pair-iterator
     c.next.new.self c.into_iter-pair-iterator.result
     (record { key = c.in-Some.pair.key; value = c.in_ok-value.value }) c.in-Some.pair
     c.in-Some.ensures.steps c.in_ok-push.ensures.items c.loop-pair.invariant
     (rw (c.in_ok-value.ensures, child_item c.in-Some.pair.value) refl)
+
+pub into_entries-loop-pair-init : goal.into_entries-loop-pair-init
+into_entries-loop-pair-init t c =
+    let none = c.in_ok-moved.ensures.items in
+    let same = ap length c.into_iter-pair-iterator.ensures.into_iter_gives.0 in
+    let room = c.in_ok-moved.ensures.capacity in
+    let empty = c.in_ok-moved.ensures.len in (
+      ap (λ ps. map value_pair ps ++ map child_pair c.into_iter-pair-iterator.result.rest.items) none,
+      omega (arith, same, room, empty, c.len.ensures, c.len-2.ensures, c.args.pairs.ok.0),
+    )
+
+pub into_entries-into_value-requires : goal.into_entries-into_value-requires
+into_entries-into_value-requires t c =
+    let start : c.into_iter-pair-iterator.result.rest.items ≡ c.args.pairs.items =
+    c.into_iter-pair-iterator.ensures.into_iter_gives.0 in
+    let smaller = members_size-rest (map value_pair c.loop-pair.moved.items) child_pair c.in-Some.pair
+    c.next.new.self.rest.items c.into_iter-pair-iterator.result.rest.items
+    (ap (λ l. map value_pair c.loop-pair.moved.items ++ map child_pair l) (sym c.in-Some.ensures.steps.0)
+    ∙ c.loop-pair.invariant.0) in
+    let same = child_item c.in-Some.pair.value in
+    (omega (arith, ap data_size same, ap (λ l. members_size (members_of (map child_pair l))) start), tt)
+
+pub into_entries-push_reserved-requires : goal.into_entries-push_reserved-requires
+into_entries-push_reserved-requires t c =
+    let left = ap length c.in-Some.ensures.steps.0 in
+    omega (arith, left, c.loop-pair.invariant.1)
+
+pub into_entries-loop-pair-preserved : goal.into_entries-loop-pair-preserved
+into_entries-loop-pair-preserved t c =
+    let left = ap length c.in-Some.ensures.steps.0 in (
+      mapped_next value_pair child_pair c.loop-pair.moved.items c.push_reserved.new.self.items
+          c.loop-pair.pair-iterator.rest.items c.next.new.self.rest.items c.into_iter-pair-iterator.result.rest.items
+          (record { key = c.in-Some.pair.key; value = c.in_ok-value.value }) c.in-Some.pair
+          c.in-Some.ensures.steps.0 c.push_reserved.ensures.items c.loop-pair.invariant.0
+          (rw (c.in_ok-value.ensures, child_item c.in-Some.pair.value) refl),
+      omega (arith, left, c.loop-pair.invariant.1, c.push_reserved.ensures.len, c.push_reserved.ensures.capacity),
+    )
+
+pub into_entries-returns : goal.into_entries-returns
+into_entries-returns t c =
+    let none = nothing_left c.loop-pair.pair-iterator.rest.items
+    (omega (arith, c.in-None.ensures.steps.0, c.loop-pair.pair-iterator.rest.ok.0)) in
+    none_after (map value_pair c.loop-pair.moved.items) (map child_pair c.loop-pair.pair-iterator.rest.items)
+    (map child_pair c.into_iter-pair-iterator.result.rest.items) (ap (map child_pair) none) c.loop-pair.invariant.0
+    ∙ ap (map child_pair) c.into_iter-pair-iterator.ensures.into_iter_gives.0
 
 pub into_table-into_entries-requires : goal.into_table-into_entries-requires
 into_table-into_entries-requires t c =

@@ -1,4 +1,5 @@
-use Rattle.std.proofs.Common.{◌≡◌, ◌+◌, ◌*◌, ◌++◌, map}
+use Rattle.std.proofs.Common.{◌≡◌, ◌≤◌, ◌+◌, ◌*◌, ◌++◌, length, map}
+use Rattle.std.specs.Vec.{vec_len, vec_capacity}
 use Rattle.basic_toml_value.specs.Data.{items_of, members_of}
 use Rattle.basic_toml_value.specs.View.{view}
 use Rattle.basic_toml_value.proofs.Sizes.{data_size, items_size, members_size}
@@ -15,7 +16,10 @@ abbrev pub decreases-into_tables : goal.decreases-into_tables
 decreases-into_tables l = 2 * items_size (items_of (map table_data l.tables.items))
 
 abbrev pub decreases-into_entries : goal.decreases-into_entries
-decreases-into_entries l = 2 * members_size (members_of (map child_pair l.pairs.items))
+decreases-into_entries l = 2 * members_size (members_of (map child_pair l.pairs.items)) + 1
+
+abbrev pub decreases-into_many_entries : goal.decreases-into_many_entries
+decreases-into_many_entries l = 2 * members_size (members_of (map child_pair l.pairs.items))
 
 abbrev pub decreases-into_table : goal.decreases-into_table
 decreases-into_table l = 2 * data_size (table_data l.table)
@@ -31,7 +35,14 @@ invariant-into_tables-loop-table l =
     map view l.elements.items ++ map table_data l.table-iterator
     ≡ map table_data l.initial.table-iterator
 
-abbrev pub invariant-into_entries-loop-pair : goal.invariant-into_entries-loop-pair
-invariant-into_entries-loop-pair l =
+abbrev pub invariant-into_many_entries-loop-pair : goal.invariant-into_many_entries-loop-pair
+invariant-into_many_entries-loop-pair l =
     map value_pair l.moved.items ++ map child_pair l.pair-iterator
     ≡ map child_pair l.initial.pair-iterator
+
+-- and there is room for them
+abbrev pub invariant-into_entries-loop-pair : goal.invariant-into_entries-loop-pair
+invariant-into_entries-loop-pair l =
+    (map value_pair l.moved.items ++ map child_pair l.pair-iterator.rest.items
+    ≡ map child_pair l.initial.pair-iterator.rest.items)
+    × (vec_len l.moved + length l.pair-iterator.rest.items ≤ vec_capacity l.moved)

@@ -7,7 +7,7 @@ use Rattle.basic_toml_clash.specs.Trail.{ends_of, path_of, Follows}
 use Rattle.basic_toml_clash.proofs.RowIsFollowed.{gone_on, stopped}
 use Rattle.basic_toml_clash.proofs.RowsGoOn.{Reached, all_followed}
 use Rattle.basic_toml_clash.proofs.RowsOfKeys.{no_row}
-use Rattle.basic_toml_clash.proofs.crossed.look_between.Goals as goal
+use Rattle.basic_toml_clash.proofs.crossed.follow_rows.Goals as goal
 
 pub returns-in_err-trail : goal.returns-in_err-trail
 returns-in_err-trail c =

@@ -2,7 +2,7 @@ use Rattle.std.proofs.Common.{◌≡◌, ◌≤◌, ◌+◌, ◌++◌, map, leng
 use Rattle.std.specs.Vec.{vec_len, vec_capacity}
 use Rattle.basic_toml_value.specs.Entries.{pair_seen}
 use Rattle.basic_toml_tree.specs.Simple.{entry_of}
-use Rattle.basic_toml_tree.proofs.simple.fill.Given as goal
+use Rattle.basic_toml_tree.proofs.simple.entries_of.Given as goal
 
 -- the rows passed are entries, in order, the others are left, and there is room for them
 abbrev pub invariant-loop-row : goal.invariant-loop-row

@@ -2,7 +2,7 @@ use Rattle.std.proofs.Common.{◌≤◌, ◌-◌, length, drop}
 use Rattle.basic_toml_read.specs.SectionView.{rows_view}
 use Rattle.basic_toml_clash.specs.Trail.{ends_of}
 use Rattle.basic_toml_clash.proofs.RowsGoOn.{Reached}
-use Rattle.basic_toml_clash.proofs.crossed.look_between.Given as goal
+use Rattle.basic_toml_clash.proofs.crossed.follow_rows.Given as goal
 
 -- the rows before have been followed
 abbrev pub invariant-loop-last : goal.invariant-loop-last

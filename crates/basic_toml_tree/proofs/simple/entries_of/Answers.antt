@@ -4,15 +4,16 @@ use Rattle.basic_toml_clash.proofs.DataParts.{mapped_next}
 use Rattle.basic_toml_tree.specs.Simple.{entry_of}
 use Rattle.basic_toml_tree.proofs.RowsLeft.{nothing_left}
 use Rattle.basic_toml_tree.proofs.SimpleRows.{same_entry, none_after}
-use Rattle.basic_toml_tree.proofs.simple.fill.Goals as goal
+use Rattle.basic_toml_tree.proofs.simple.entries_of.Goals as goal
 
 pub loop-row-init : goal.loop-row-init
 loop-row-init c =
-    let none = c.try_reserve_exact.ensures.items ∙ c.requires in
+    let none = c.in_ok-entries.ensures.items in
     let same = ap length c.into_iter-row-iterator.ensures.into_iter_gives.0 in
-    let room = c.in_ok-try_reserve_exact.ensures.ok in (
+    let room = c.in_ok-entries.ensures.capacity in
+    let empty = c.in_ok-entries.ensures.len in (
       ap (λ ps. map pair_seen ps ++ map (entry_of c.args.section) c.into_iter-row-iterator.result.rest.items) none,
-      omega (arith, same, room, c.len.ensures, c.args.rows.ok.0),
+      omega (arith, same, room, empty, c.len.ensures, c.args.rows.ok.0),
     )
 
 pub push_reserved-requires : goal.push_reserved-requires
