@@ -86,8 +86,9 @@ fn open<'de>(
     take_rows(alloc, table, rows, number, level)
 }
 
-// Goes on from a table of a level by the keys of a header that are left.
+// Goes on from a table of a level by the keys of a header that are left. It is inlined, so that none is left in no call.
 #[cycle(walk)]
+#[inline(always)]
 fn enter_header<'de>(
     alloc: Global,
     table: Box<Table<'de>>,
@@ -109,17 +110,42 @@ fn enter_header<'de>(
 {
     match keys.split_first() {
         None => open(alloc, table, rows, number, level),
-        Some((key, rest)) => {
-            if level > NESTING_LIMIT {
-                return Err(Clash::Deep);
-            }
-            let mut table = table;
-            let (position, there) = pass(&mut table, key.text.as_str(), number)?;
-            let item = enter_at(alloc, there, rest, is_array, rows, number, level)?;
-            put_back(&mut table, position, item);
-            Ok(table)
-        }
+        Some((key, rest)) => enter_below(alloc, table, key, rest, is_array, rows, number, level),
     }
+}
+
+// Goes on from a table of a level by a key of a header, and by the keys after it.
+#[cycle(walk)]
+#[inline(never)]
+fn enter_below<'de>(
+    alloc: Global,
+    table: Box<Table<'de>>,
+    key: &Key<'de>,
+    rest: &[Key<'de>],
+    is_array: bool,
+    rows: Vec<Row<'de>>,
+    number: usize,
+    level: usize,
+) -> Result<Box<Table<'de>>, Clash>
+    requires { level ≤ 130 }
+    ensures entered { EntersHeader is_array (rows_view rows.entry.items) (header_texts (key.now ∷ rest.now)) level
+        (table_trie table.entry.value) result }
+    ensures named { let keys = header_texts (key.now ∷ rest.now) in
+        let tried = try_by_keys is_array (rows_view rows.entry.items) keys (table_trie table.entry.value) in
+        IfErr result (λ clash. NamesStop tried clash) }
+    ensures origins { let new = rows_origins number (rows_view rows.entry.items) in
+        let keys = header_texts (key.now ∷ rest.now) in
+        IfOk result (λ after. GrowsAlong (way is_array keys (table_trie table.entry.value)) new
+        (table_within table.entry.value).below (table_within after.value).below) }
+{
+    if level > NESTING_LIMIT {
+        return Err(Clash::Deep);
+    }
+    let mut table = table;
+    let (position, there) = pass(&mut table, key.text.as_str(), number)?;
+    let item = enter_at(alloc, there, rest, is_array, rows, number, level)?;
+    put_back(&mut table, position, item);
+    Ok(table)
 }
 
 // Passes through a table by a key: takes out the item that stands there, and answers its position too.

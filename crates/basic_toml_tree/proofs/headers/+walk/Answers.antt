@@ -1,4 +1,4 @@
-use Rattle.std.proofs.Common.{◌≡◌, ℕ, ◌≤◌, ◌∷◌, ◌+◌, length, suc, ap, sym, ◌∙◌, arith, map, subst, inr}
+use Rattle.std.proofs.Common.{◌≡◌, ℕ, ◌≤◌, ◌∷◌, ◌+◌, length, suc, ap, sym, arith, map, subst, inr}
 use Rattle.std.specs.Prelude.{IfOk, IfErr}
 use Rattle.basic_toml_grammar.specs.Trie.{walk, steps_to}
 use Rattle.basic_toml_grammar.specs.TrieStops.{try_by_keys}
@@ -152,36 +152,36 @@ enter_item-returns-clause-entered t c =
           (holds_tables item w.in-Tables.before _ w.item-is)
     ]
 
-pub enter_header-returns-in_err-item-in-Some-clause-entered : goal.enter_header-returns-in_err-item-in-Some-clause-entered
-enter_header-returns-in_err-item-in-Some-clause-entered t c =
+pub enter_below-returns-in_err-item-clause-entered : goal.enter_below-returns-in_err-item-clause-entered
+enter_below-returns-in_err-item-clause-entered t c =
     let a = c.args.is_array in
     let rows = rows_view c.args.rows.items in
     let k = c.as_str.result.now in
-    let keys = header_texts c.in-Some.rest.now in
-    let whole = header_texts c.args.keys.now in
+    let keys = header_texts c.args.rest.now in
+    let whole = header_texts (c.args.key.now ∷ c.args.rest.now) in
     let is_whole : whole ≡ k ∷ keys =
-    ap (λ l. header_texts l) c.in-Some.ensures.cases.0 ∙ ap (λ k. k ∷ keys) (sym c.as_str.ensures.value) in
-    let clash = c.in_err-item-in-Some.field-0.0 in
+    ap (λ k. k ∷ keys) (sym c.as_str.ensures.value) in
+    let clash = c.in_err-item.field-0.0 in
     failed (EntersHeader a rows whole c.args.level (table_trie c.args.table.value))
-    c.from_residual-in_err-item-in-Some.result clash c.from_residual-in_err-item-in-Some.ensures.1
+    c.from_residual-in_err-item.result clash c.from_residual-in_err-item.ensures.1
     (passed_out a rows k keys whole c.args.level c.args.table.value c.deref_mut.result.now c.pass.new.table
-    c.in_ok-position-in-Some.position c.in_ok-position-in-Some.there clash is_whole c.deref_mut.ensures.value
-    c.in_ok-position-in-Some.ensures c.in_err-item-in-Some.ensures.entered)
+    c.in_ok-position.position c.in_ok-position.there clash is_whole c.deref_mut.ensures.value
+    c.in_ok-position.ensures c.in_err-item.ensures.entered)
 
-pub enter_header-returns-in_ok-item-in-Some-clause-entered : goal.enter_header-returns-in_ok-item-in-Some-clause-entered
-enter_header-returns-in_ok-item-in-Some-clause-entered t c =
+pub enter_below-returns-clause-entered : goal.enter_below-returns-clause-entered
+enter_below-returns-clause-entered t c =
     let a = c.args.is_array in
     let rows = rows_view c.args.rows.items in
     let k = c.as_str.result.now in
-    let keys = header_texts c.in-Some.rest.now in
-    let whole = header_texts c.args.keys.now in
+    let keys = header_texts c.args.rest.now in
+    let whole = header_texts (c.args.key.now ∷ c.args.rest.now) in
     let is_whole : whole ≡ k ∷ keys =
-    ap (λ l. header_texts l) c.in-Some.ensures.cases.0 ∙ ap (λ k. k ∷ keys) (sym c.as_str.ensures.value) in
+    ap (λ k. k ∷ keys) (sym c.as_str.ensures.value) in
     passed_in a rows k keys whole c.args.level c.args.table.value c.deref_mut.result.now c.pass.new.table
-    c.deref_mut-in-Some.result.now c.put_back.new.table c.in_ok-position-in-Some.position
-    c.in_ok-position-in-Some.there c.in_ok-item-in-Some.item is_whole c.deref_mut.ensures.value
-    c.in_ok-position-in-Some.ensures c.deref_mut-in-Some.ensures.value c.put_back.ensures
-    c.in_ok-item-in-Some.ensures.entered
+    c.deref_mut-2.result.now c.put_back.new.table c.in_ok-position.position
+    c.in_ok-position.there c.in_ok-item.item is_whole c.deref_mut.ensures.value
+    c.in_ok-position.ensures c.deref_mut-2.ensures.value c.put_back.ensures
+    c.in_ok-item.ensures.entered
 
 pub enter_item-returns-in_err-enter_header-in-Nothing-clause-named :
     goal.enter_item-returns-in_err-enter_header-in-Nothing-clause-named
@@ -219,24 +219,24 @@ enter_item-returns-in_default-clause-named t c =
     c.in_default.not-Tables in
     value_stopped c.args.is_array (rows_view c.args.rows.items) c.args.rest.now c.args.there seen.0 seen.1
 
-pub enter_header-returns-in_err-item-in-Some-clause-named : goal.enter_header-returns-in_err-item-in-Some-clause-named
-enter_header-returns-in_err-item-in-Some-clause-named t c =
+pub enter_below-returns-in_err-item-clause-named : goal.enter_below-returns-in_err-item-clause-named
+enter_below-returns-in_err-item-clause-named t c =
     let a = c.args.is_array in
     let rows = rows_view c.args.rows.items in
     let k = c.as_str.result.now in
-    let keys = header_texts c.in-Some.rest.now in
-    let whole = header_texts c.args.keys.now in
+    let keys = header_texts c.args.rest.now in
+    let whole = header_texts (c.args.key.now ∷ c.args.rest.now) in
     let is_whole : whole ≡ k ∷ keys =
-    ap (λ l. header_texts l) c.in-Some.ensures.cases.0 ∙ ap (λ k. k ∷ keys) (sym c.as_str.ensures.value) in
-    let clash = c.in_err-item-in-Some.field-0.0 in
-    let there = item_trie c.in_ok-position-in-Some.there in
+    ap (λ k. k ∷ keys) (sym c.as_str.ensures.value) in
+    let clash = c.in_err-item.field-0.0 in
+    let there = item_trie c.in_ok-position.there in
     failed (λ r. IfErr r (λ clash. NamesStop (try_by_keys a rows whole (table_trie c.args.table.value)) clash))
-    c.from_residual-in_err-item-in-Some.result clash c.from_residual-in_err-item-in-Some.ensures.1
+    c.from_residual-in_err-item.result clash c.from_residual-in_err-item.ensures.1
     (stopped clash (tried_at a rows keys there) (try_by_keys a rows whole (table_trie c.args.table.value))
     (passed_stops a rows k keys whole c.args.table.value c.deref_mut.result.now c.pass.new.table
-    c.in_ok-position-in-Some.position c.in_ok-position-in-Some.there is_whole c.deref_mut.ensures.value
-    c.in_ok-position-in-Some.ensures)
-    c.in_err-item-in-Some.ensures.named)
+    c.in_ok-position.position c.in_ok-position.there is_whole c.deref_mut.ensures.value
+    c.in_ok-position.ensures)
+    c.in_err-item.ensures.named)
 
 -- where what the section brings comes from
 pub enter_item-returns-clause-origins : goal.enter_item-returns-clause-origins
@@ -257,17 +257,17 @@ enter_item-returns-clause-origins t c =
           w.in_ok-latest-in-Tables.ensures.origins
     ]
 
-pub enter_header-returns-in_ok-item-in-Some-clause-origins : goal.enter_header-returns-in_ok-item-in-Some-clause-origins
-enter_header-returns-in_ok-item-in-Some-clause-origins t c =
+pub enter_below-returns-clause-origins : goal.enter_below-returns-clause-origins
+enter_below-returns-clause-origins t c =
     let a = c.args.is_array in
     let rows = rows_origins c.args.number (rows_view c.args.rows.items) in
     let k = c.as_str.result.now in
-    let keys = header_texts c.in-Some.rest.now in
-    let whole = header_texts c.args.keys.now in
+    let keys = header_texts c.args.rest.now in
+    let whole = header_texts (c.args.key.now ∷ c.args.rest.now) in
     let is_whole : whole ≡ k ∷ keys =
-    ap (λ l. header_texts l) c.in-Some.ensures.cases.0 ∙ ap (λ k. k ∷ keys) (sym c.as_str.ensures.value) in
+    ap (λ k. k ∷ keys) (sym c.as_str.ensures.value) in
     passed_grows a rows k keys whole c.args.table.value c.deref_mut.result.now c.pass.new.table
-    c.deref_mut-in-Some.result.now c.put_back.new.table c.in_ok-position-in-Some.position
-    c.in_ok-position-in-Some.there c.in_ok-item-in-Some.item is_whole c.deref_mut.ensures.value
-    c.in_ok-position-in-Some.ensures c.deref_mut-in-Some.ensures.value c.put_back.ensures
-    c.in_ok-item-in-Some.ensures.origins
+    c.deref_mut-2.result.now c.put_back.new.table c.in_ok-position.position
+    c.in_ok-position.there c.in_ok-item.item is_whole c.deref_mut.ensures.value
+    c.in_ok-position.ensures c.deref_mut-2.ensures.value c.put_back.ensures
+    c.in_ok-item.ensures.origins
