@@ -1,4 +1,4 @@
-use Rattle.std.proofs.Common.{◌≡◌, ℕ, ◌-◌, length, Some, ap, sym, ◌∙◌}
+use Rattle.std.proofs.Common.{◌-◌, length, Some, ap, sym, ◌∙◌}
 use Rattle.std.specs.List.{slice_get}
 use Rattle.std.proofs.lemmas.Slice.Eq.{bytes_eq-Decides}
 use Rattle.basic_toml_clash.proofs.KeysSeen.{text_at, entered_found}
