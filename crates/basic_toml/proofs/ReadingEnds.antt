@@ -1,9 +1,9 @@
 -- How reading ends, from what the section list, the tree and the type answered.
 use Rattle.std.proofs.Common.{◌≡◌, ◌⊎◌, inl, inr, ℕ, ◌≤◌, false, List, map, refl, sym, ap, subst, Result, Ok, Err}
-use Rattle.std.proofs.Common.{Some, IfOk, IfErr, rules, ◌∙◌}
+use Rattle.std.proofs.Common.{Some, IfOk, IfErr, ◌∙◌}
 use Rattle.std.proofs.lemmas.Bool.{le-leb}
 use Rattle.basic_toml_tokens.specs.Text.{folded}
-use Rattle.basic_toml_value.specs.Data.{Data, table, Members, members_of}
+use Rattle.basic_toml_value.specs.Data.{Data, table, Members}
 use Rattle.basic_toml_value.specs.Nesting.{nesting_limit}
 use Rattle.basic_toml_grammar.specs.Sections.{Section}
 use Rattle.basic_toml_grammar.specs.Grammar.{IsSectionList}
@@ -16,11 +16,11 @@ use Rattle.basic_toml_read.specs.declared.section.Section as code
 use Rattle.basic_toml_read.specs.SectionView.{section_of}
 use Rattle.basic_toml_read.specs.SectionsAnswer as answer
 use Rattle.basic_toml_read.specs.SectionsAnswer.{IsRefused}
-use Rattle.basic_toml_tree.specs.declared.item.Table.{Table, the_lemmas, out-Table}
 use Rattle.basic_toml_tree.specs.declared.tree.Tree.{Tree}
-use Rattle.basic_toml_tree.specs.Data.{table_data, child_data}
+use Rattle.basic_toml_tree.specs.Data.{table_data}
 use Rattle.basic_toml_tree.specs.Resolve as resolve
 use Rattle.basic_toml_tree.specs.Resolve.{Resolves, IsResolved, IsUnresolved}
+use Rattle.basic_toml_tree.proofs.ItemData.{table_is_table}
 use Rattle.basic_toml_error.specs.Fault.{Fault, want_of_memory}
 use Rattle.basic_toml_error.specs.ReadFaults.{fault_in, lined}
 use Rattle.basic_toml.specs.Reading.{IsTextFault, outside, deep, deep_tree, clash, OnlyMemory, IsLined, ReadsText}
@@ -81,11 +81,6 @@ lined_error takes reads text own fault only same = (own, only, same)
 
 pub ruleset read_lined = (lined_error)
 
--- a tree stands for a table
-root_is_table : (t : Table) → (members : Members) × (table_data t ≡ table members)
-root_is_table t =
-    (members_of (map (λ p. (p.0, child_data p.1)) (out-Table t).entries), search (rules, the_lemmas))
-
 module _ {T : Type 0} (takes : Data → Type 0) (reads : Data → T → Type 0) (text : List ℕ) where
   pub unread : (fault : Fault) → AnswersTree text (Err fault) → ReadsText takes reads text (Err fault)
   unread fault (inl memory) = subst (λ (f : Fault). ReadsText takes reads text (Err f)) (sym memory) no_memory
@@ -107,7 +102,7 @@ module _ {T : Type 0} (takes : Data → Type 0) (reads : Data → T → Type 0) 
       → IfErr result (IsLined (takes (table_data tree.root.value)) (reads (table_data tree.root.value)) text)
       → ReadsText takes reads text result
   tree_read tree result document ok err =
-      let (members, same) = root_is_table tree.root.value in
+      let (members, same) = table_is_table tree.root.value in
       document_read (table_data tree.root.value) members result same document ok err
 
 pub ruleset ends = (unread, tree_read)

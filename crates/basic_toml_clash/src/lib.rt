@@ -3,9 +3,9 @@
 //! a [`Blank`] value stands at a new key; values and rows in which nothing can clash ([`are_plain`], [`are_simple`]),
 //! and the items of a vector that shrinks as they are taken ([`drained`]).
 //!
-//! `basic_toml_tree` makes its tables of [`Keyed`], asks for [`crossed_value`] before it takes a section list apart,
-//! keeps arrays that [`are_plain`] as they were read, takes rows that [`are_simple`] all at once, and answers the error
-//! of a [`Clash`].
+//! `basic_toml_grow` makes its tables of [`Keyed`], keeps arrays that [`are_plain`] as they were read, takes rows that
+//! [`are_simple`] all at once, and answers the [`Clash`] that stops a section. `basic_toml_tree` asks for
+//! [`crossed_value`] before it takes a section list apart, and answers the error of a clash.
 //!
 //! ```text
 //! let mut keyed = Keyed::new(alloc);

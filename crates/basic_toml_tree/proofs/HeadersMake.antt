@@ -24,12 +24,8 @@ use Rattle.basic_toml_grammar.proofs.Clash.MarksTellPlaces.{role, way}
 use Rattle.basic_toml_grammar.proofs.Clash.WhatSectionsSay.{Says, names, adds, into, passes, goes_by, on}
 use Rattle.basic_toml_grammar.proofs.Clash.WhatStandsWasMarked.{Shown, shown}
 use Rattle.basic_toml_grammar.proofs.Naming.WhereHeadersStop.{is_header}
+use Rattle.basic_toml_grow.proofs.ItemsStand.{stands_array}
 use Rattle.basic_toml_tree.specs.Outer.{stands_made}
-
--- whether it is an array of tables
-abbrev pub stands_array : Option Standing → Bool
-stands_array (Some (array n)) = true
-stands_array _ = false
 
 -- what a mark leaves, whatever comes later
 abbrev keeps : MarkKind → Option Standing → Bool

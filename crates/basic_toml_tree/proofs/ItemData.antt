@@ -4,7 +4,7 @@ use Rattle.std.proofs.Common.{sym, ◌∙◌, map, rules, Vec, Box, Global, stri
 use Rattle.std.proofs.Common.{Option, Some, None, true, false, cond}
 use Rattle.std.specs.Str.{bytes_eq}
 use Rattle.std.proofs.lemmas.List.{map-append}
-use Rattle.basic_toml_value.specs.Data.{Data, items_of, member, members_of}
+use Rattle.basic_toml_value.specs.Data.{Data, Members, items_of, member, members_of}
 use Rattle.basic_toml_value.specs.Entries.{seen, texts_of}
 use Rattle.basic_toml_value.specs.Pairs.{keys_of, value_at}
 use Rattle.basic_toml_value.specs.View.{view, entries}
@@ -14,9 +14,9 @@ use Rattle.basic_toml_grammar.specs.Mentions.{finished}
 use Rattle.basic_toml_read.specs.declared.section.Element.{Element}
 use Rattle.basic_toml_clash.specs.Plain.{plain_array, listed_data}
 use Rattle.basic_toml_clash.proofs.PlainSeen.{items_listed}
-use Rattle.basic_toml_tree.specs.declared.item.Item.{the_lemmas, Plain, Tables}
-use Rattle.basic_toml_tree.specs.declared.item.Child.{Child, out-Child}
-use Rattle.basic_toml_tree.specs.declared.item.Table.{Table, out-Table}
+use Rattle.basic_toml_grow.specs.declared.item.Item.{the_lemmas, Plain, Tables}
+use Rattle.basic_toml_grow.specs.declared.item.Child.{Child, out-Child}
+use Rattle.basic_toml_grow.specs.declared.item.Table.{Table, out-Table}
 use Rattle.basic_toml_tree.specs.Nodes.{data_among, data_at}
 use Rattle.basic_toml_tree.specs.Data.{data_of, child_data, table_data, child_pair, value_pair}
 
@@ -28,6 +28,9 @@ child_item c = search (rules, the_lemmas)
 table_members : (t : Table)
     → table_data t ≡ Data.table (members_of (map (λ p. (p.0, child_data p.1)) (out-Table t).entries))
 table_members t = search (rules, the_lemmas)
+
+pub table_is_table : (t : Table) → (members : Members) × (table_data t ≡ Data.table members)
+table_is_table t = (members_of (map (λ p. (p.0, child_data p.1)) (out-Table t).entries), table_members t)
 
 pairs_seen : (pairs : List (Pair Child)) → map (λ p. (p.0, child_data p.1)) (seen pairs) ≡ map child_pair pairs
 pairs_seen [] = refl

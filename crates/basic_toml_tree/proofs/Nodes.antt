@@ -2,7 +2,6 @@
 pub mod NodesInOrder
 pub mod NodesStand
 pub mod NodesCome
-pub mod ItemsStand
 pub mod PlainNodes
 pub mod LastSection
 pub mod MadeNodes

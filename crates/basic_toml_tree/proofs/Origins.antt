@@ -1,9 +1,4 @@
--- Where what stands in the tree comes from: what rows and headers bring, by paths.
-pub mod OriginsSeen
-pub mod RowsPlaceOrigins
-pub mod OriginsLeft
-pub mod HeadersPlaceOrigins
-pub mod ElementsPlaceOrigins
+-- Where what stands in the tree comes from: what a section list brings, by paths.
 pub mod WaysAreLocated
 pub mod SectionsPlaceOrigins
 pub mod RowsAreNodes

@@ -18,9 +18,9 @@ use Rattle.basic_toml_grammar.specs.NestingFaults.{tree_level, deep_sections}
 use Rattle.basic_toml_grammar.specs.Trie.{Trie, nothing, bare, walk, steps_to, put_section, put_sections}
 use Rattle.basic_toml_grammar.specs.Trie.{section_level_in}
 use Rattle.basic_toml_clash.specs.declared.clash.Clash.TheVariants.{Deep}
-use Rattle.basic_toml_tree.specs.Headers.{IsIn, IsKeptOut}
+use Rattle.basic_toml_grow.specs.Headers.{IsIn, IsKeptOut}
 use Rattle.basic_toml_tree.specs.Resolve.{Stands}
-use Rattle.basic_toml_tree.proofs.HeadersInATrie.{fresh, walk_fresh, steps_fresh}
+use Rattle.basic_toml_grow.proofs.HeadersInATrie.{fresh, walk_fresh, steps_fresh}
 use Rattle.basic_toml_grammar.proofs.Tries.SectionsInATrie.{sections_put, sections_data}
 use Rattle.basic_toml_grammar.proofs.Tries.StepsArePaths.{level_is_tree_level, at_section}
 use Rattle.basic_toml_grammar.proofs.Nesting.DepthIsTheHighestLevel.{fits_where_shallow}

@@ -21,11 +21,11 @@ use Rattle.basic_toml_read.specs.SectionView.{section_of, header_texts, rows_vie
 use Rattle.basic_toml_clash.specs.declared.clash.Clash.{Clash}
 use Rattle.basic_toml_clash.specs.declared.clash.Clash.TheVariants.{Memory, Deep, Header, Named, Redefined, Row}
 use Rattle.basic_toml_clash.specs.Clash.{IsFaultOf, NamesClash, NamesStop, row_stop}
-use Rattle.basic_toml_tree.specs.Headers.{IsIn, IsKeptOut}
-use Rattle.basic_toml_tree.specs.declared.item.Table.{Table}
+use Rattle.basic_toml_grow.specs.Headers.{IsIn, IsKeptOut}
+use Rattle.basic_toml_grow.specs.declared.item.Table.{Table}
 use Rattle.basic_toml_tree.specs.declared.tree.Tree.{Tree}
 use Rattle.basic_toml_clash.specs.Crossed.{IsCrossed, NoneIsCrossed, crossed_faults}
-use Rattle.basic_toml_tree.specs.Item.{table_trie}
+use Rattle.basic_toml_grow.specs.Item.{table_trie}
 use Rattle.basic_toml_grammar.specs.NamedClash as grammar
 use Rattle.basic_toml_grammar.specs.NamedClash.{dotted_fault, dotted_faults, repeated_faults_of, section_faults}
 use Rattle.basic_toml_grammar.specs.Stops.{Stop, at_header, is_named, is_passed, stops, stop_fault}
@@ -34,13 +34,13 @@ use Rattle.std.specs.List.{flat_map}
 use Rattle.basic_toml_tree.proofs.SectionsStopped.{section_stops, same_fault, first_contained}
 use Rattle.basic_toml_grammar.specs.Sections.{Key, Section}
 use Rattle.std.proofs.lemmas.Bool.{false≢true, and_parts, and_from}
-use Rattle.basic_toml_tree.specs.Origins.{Origins, table_within, rows_origins}
-use Rattle.basic_toml_tree.specs.Ways.{way, GrowsAlong, sections_origins}
-use Rattle.basic_toml_tree.proofs.Origins.OriginsSeen.{fresh_within}
+use Rattle.basic_toml_grow.specs.Origins.{Origins, table_within, rows_origins}
+use Rattle.basic_toml_grow.specs.Ways.{way, GrowsAlong, sections_origins}
+use Rattle.basic_toml_grow.proofs.Origins.OriginsSeen.{fresh_within}
 use Rattle.basic_toml_tree.proofs.Origins.SectionsPlaceOrigins.{Brought, none_brought, more_brought}
 use Rattle.basic_toml_tree.specs.Resolve.{Resolves, IsResolved, IsUnresolved, memory, deep, clash, head}
-use Rattle.basic_toml_tree.proofs.HeadersInATrie.{fresh}
-use Rattle.basic_toml_tree.proofs.RowsHaveKeys.{sections_have_keys}
+use Rattle.basic_toml_grow.proofs.HeadersInATrie.{fresh}
+use Rattle.basic_toml_grow.proofs.RowsHaveKeys.{sections_have_keys}
 use Rattle.basic_toml_tree.proofs.TrieData.{table_trie_data}
 use Rattle.basic_toml_tree.proofs.SectionsEntered.{Entered, one_more, too_deep, whole_tree}
 use Rattle.basic_toml_tree.proofs.SectionsEntered.{no_clash}

@@ -11,7 +11,7 @@ use Rattle.basic_toml_grammar.specs.TrieStops.{try_by_keys}
 use Rattle.basic_toml_grammar.specs.Trie.{Trie, nothing}
 use Rattle.basic_toml_grammar.proofs.Naming.TrieStopsAreNamed.{trie_stops_named}
 use Rattle.basic_toml_tree.specs.Resolve.{Stands}
-use Rattle.basic_toml_tree.proofs.HeadersStopped.{tried_fresh}
+use Rattle.basic_toml_grow.proofs.HeadersStopped.{tried_fresh}
 
 -- the first sections of a list with keys, and the next one
 keyed_before : (earlier : List Section) (s : Section) (later : List Section)

@@ -8,13 +8,13 @@ use Rattle.basic_toml_value.specs.Data.{Data, item, items_of, member, members_of
 use Rattle.basic_toml_grammar.specs.Standing.{Standing, table, array}
 use Rattle.basic_toml_grammar.specs.Growth as growth
 use Rattle.basic_toml_grammar.specs.Trie.{Trie, trie, bare_tries}
-use Rattle.basic_toml_tree.specs.declared.item.Item.{Item, the_lemmas}
-use Rattle.basic_toml_tree.specs.declared.item.Item.TheOpen.{Item-F, Child-F, Table-F}
-use Rattle.basic_toml_tree.specs.declared.item.Item.TheViews.{roll-Item, roll-Child, roll-Table}
-use Rattle.basic_toml_tree.specs.declared.item.Item.TheFolds.{ind-Table, map-Item}
-use Rattle.basic_toml_tree.specs.declared.item.Child.{Child}
-use Rattle.basic_toml_tree.specs.declared.item.Table.{Table}
-use Rattle.basic_toml_tree.specs.Item.{item_trie, child_trie, table_trie, tree_data, leaf, by_keys, by_numbers}
+use Rattle.basic_toml_grow.specs.declared.item.Item.{Item, the_lemmas}
+use Rattle.basic_toml_grow.specs.declared.item.Item.TheOpen.{Item-F, Child-F, Table-F}
+use Rattle.basic_toml_grow.specs.declared.item.Item.TheViews.{roll-Item, roll-Child, roll-Table}
+use Rattle.basic_toml_grow.specs.declared.item.Item.TheFolds.{ind-Table, map-Item}
+use Rattle.basic_toml_grow.specs.declared.item.Child.{Child}
+use Rattle.basic_toml_grow.specs.declared.item.Table.{Table}
+use Rattle.basic_toml_grow.specs.Item.{item_trie, child_trie, table_trie, tree_data, leaf, by_keys, by_numbers}
 use Rattle.basic_toml_tree.specs.Data.{data_of, child_data, table_data}
 
 -- the data at keys and at numbers

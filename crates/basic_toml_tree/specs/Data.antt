@@ -6,13 +6,13 @@ use Rattle.basic_toml_value.specs.declared.pairs.Pair.{Pair}
 use Rattle.basic_toml_value.specs.declared.value.Value.{Value}
 use Rattle.basic_toml_grammar.specs.Mentions.{finished}
 use Rattle.basic_toml_clash.specs.Plain.{plain_array}
-use Rattle.basic_toml_tree.specs.declared.item.Item.{fold-Item}
-use Rattle.basic_toml_tree.specs.declared.item.Item as items
-use Rattle.basic_toml_tree.specs.declared.item.Item.TheOpen.{Item-F, Child-F, Table-F}
-use Rattle.basic_toml_tree.specs.declared.item.Child as children
-use Rattle.basic_toml_tree.specs.declared.item.Child.{fold-Child}
-use Rattle.basic_toml_tree.specs.declared.item.Table as tables
-use Rattle.basic_toml_tree.specs.declared.item.Table.{fold-Table}
+use Rattle.basic_toml_grow.specs.declared.item.Item.{fold-Item}
+use Rattle.basic_toml_grow.specs.declared.item.Item as items
+use Rattle.basic_toml_grow.specs.declared.item.Item.TheOpen.{Item-F, Child-F, Table-F}
+use Rattle.basic_toml_grow.specs.declared.item.Child as children
+use Rattle.basic_toml_grow.specs.declared.item.Child.{fold-Child}
+use Rattle.basic_toml_grow.specs.declared.item.Table as tables
+use Rattle.basic_toml_grow.specs.declared.item.Table.{fold-Table}
 
 -- one level, the parts seen already; where nothing stands yet, the empty table, as in `Growth.closed`
 abbrev pub item_step : Item-F Data Data Data → Data

@@ -11,7 +11,7 @@ use Rattle.basic_toml_tree.specs.declared.spot.Spot.{Spot}
 use Rattle.basic_toml_tree.specs.declared.trail.Trail.{Trail}
 use Rattle.basic_toml_tree.specs.declared.trail.Trail.TheVariants.{Header, Row}
 use Rattle.basic_toml_tree.specs.Origin.{header_of, spot_is_made}
-use Rattle.basic_toml_tree.specs.Origins.{table_within}
+use Rattle.basic_toml_grow.specs.Origins.{table_within}
 use Rattle.basic_toml_tree.specs.Resolve.{IsResolved}
 
 -- the keys of the header of a section of a tree

@@ -1,13 +1,6 @@
-pub mod Item
-pub mod Simple
 pub mod Data
-pub mod Origins
 pub mod Nodes
 pub mod Origin
-pub mod Rows
-pub mod RowStops
-pub mod Headers
-pub mod Ways
 pub mod Outer
 pub mod Resolve
 pub mod Order

@@ -5,7 +5,7 @@ use Rattle.basic_toml_grammar.specs.Steps.{key, number, Path}
 use Rattle.basic_toml_grammar.specs.Standing.{Standing, table, array}
 use Rattle.basic_toml_tree.specs.declared.node.Node.{Node}
 use Rattle.basic_toml_tree.specs.Origin.{is_made}
-use Rattle.basic_toml_tree.specs.Origins.{Origin}
+use Rattle.basic_toml_grow.specs.Origins.{Origin}
 
 -- no key is in it
 abbrev pub no_keys : Path → Bool

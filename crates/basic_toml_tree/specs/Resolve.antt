@@ -19,9 +19,9 @@ use Rattle.basic_toml_read.specs.declared.section.Section as code
 use Rattle.basic_toml_read.specs.SectionView.{section_of}
 use Rattle.basic_toml_tree.specs.declared.tree.Tree.{Tree}
 use Rattle.basic_toml_tree.specs.Data.{table_data}
-use Rattle.basic_toml_tree.specs.Item.{table_trie}
-use Rattle.basic_toml_tree.specs.Origins.{table_within}
-use Rattle.basic_toml_tree.specs.Ways.{sections_origins}
+use Rattle.basic_toml_grow.specs.Item.{table_trie}
+use Rattle.basic_toml_grow.specs.Origins.{table_within}
+use Rattle.basic_toml_grow.specs.Ways.{sections_origins}
 
 -- a trie in which nothing stands but the root
 abbrev pub only_root : Trie

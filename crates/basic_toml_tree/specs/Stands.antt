@@ -11,19 +11,19 @@ use Rattle.basic_toml_grammar.specs.Trie.{Trie, nothing, standing, below}
 use Rattle.basic_toml_read.specs.declared.section.Raw.{Raw}
 use Rattle.basic_toml_read.specs.declared.section.Element.{Element}
 use Rattle.basic_toml_clash.specs.Plain.{plain_of, plain_data, listed_of}
-use Rattle.basic_toml_tree.specs.declared.item.Item.{Item, out-Item}
-use Rattle.basic_toml_tree.specs.declared.item.Item.TheOpen.{Item-F}
-use Rattle.basic_toml_tree.specs.declared.item.Child.{Child}
-use Rattle.basic_toml_tree.specs.declared.item.Table.{Table}
+use Rattle.basic_toml_grow.specs.declared.item.Item.{Item, out-Item}
+use Rattle.basic_toml_grow.specs.declared.item.Item.TheOpen.{Item-F}
+use Rattle.basic_toml_grow.specs.declared.item.Child.{Child}
+use Rattle.basic_toml_grow.specs.declared.item.Table.{Table}
 use Rattle.basic_toml_tree.specs.declared.tree.Tree.{Tree}
 use Rattle.basic_toml_tree.specs.declared.node.Node.{Node}
 use Rattle.basic_toml_tree.specs.declared.entries.Elements.{Elements}
 use Rattle.basic_toml_tree.specs.declared.entries.Entries.{Entries}
 use Rattle.basic_toml_tree.specs.declared.spot.Spot.{Spot}
 use Rattle.basic_toml_tree.specs.declared.spot.Spot.TheVariants as spots
-use Rattle.basic_toml_tree.specs.Item.{item_trie, leaf, table_trie}
+use Rattle.basic_toml_grow.specs.Item.{item_trie, leaf, table_trie}
 use Rattle.basic_toml_tree.specs.Origin.{spot_is_made, spot_name}
-use Rattle.basic_toml_tree.specs.Origins.{Origin, Origins, item_origins, table_within, value_origins}
+use Rattle.basic_toml_grow.specs.Origins.{Origin, Origins, item_origins, table_within, value_origins}
 use Rattle.basic_toml_tree.specs.Nodes.{node_data, elements_left, key_and_data, entries_left}
 use Rattle.basic_toml_tree.specs.Outer.{around, KeepsStart}
 use Rattle.basic_toml_tree.specs.Resolve.{IsResolved}

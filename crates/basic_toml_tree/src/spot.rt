@@ -3,7 +3,7 @@
 ghost use Rattle.std.specs.Prelude.{◌≡◌, is_some};
 ghost use Rattle.basic_toml_tree.specs.Origin.{spot_is_made, spot_name};
 
-use crate::item::{Item, Table};
+use basic_toml_grow::{Item, Table};
 use basic_toml_read::Raw;
 
 /// What a node is.

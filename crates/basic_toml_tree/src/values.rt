@@ -4,8 +4,8 @@ ghost use Rattle.basic_toml_value.specs.Data.{table as table_of_members};
 ghost use Rattle.basic_toml_value.specs.View.{view, entries};
 ghost use Rattle.basic_toml_tree.specs.Data.{data_of, child_data, table_data, child_pair, value_pair};
 
-use crate::item::{Child, Item, Table};
 use basic_toml_clash::{drained, into_plain_values, plain_values};
+use basic_toml_grow::{Child, Item, Table};
 use basic_toml_value as values;
 use basic_toml_value::{Pair, Pairs, Value};
 use std::alloc::{AllocError, Global};

@@ -16,7 +16,7 @@ use Rattle.basic_toml_read.specs.declared.section.Section as code
 use Rattle.basic_toml_read.specs.SectionView.{header_texts, key_of}
 use Rattle.basic_toml_tree.specs.declared.tree.Tree.{Tree}
 use Rattle.basic_toml_tree.specs.Origin.{header_of}
-use Rattle.basic_toml_tree.specs.Origins.{table_within}
+use Rattle.basic_toml_grow.specs.Origins.{table_within}
 use Rattle.basic_toml_tree.specs.Keys.{header_at, Leads, KeepsHeader, KeysLead, KeepsRow, RowsLead}
 use Rattle.basic_toml_tree.specs.Stands.{StandsAt, IsBeside}
 use Rattle.basic_toml_tree.specs.declared.node.Node.{Node}

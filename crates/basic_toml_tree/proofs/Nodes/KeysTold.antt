@@ -17,13 +17,13 @@ use Rattle.basic_toml_read.specs.declared.section.Section as code
 use Rattle.basic_toml_read.specs.SectionView.{section_of}
 use Rattle.basic_toml_tree.specs.declared.tree.Tree.{Tree}
 use Rattle.basic_toml_tree.specs.declared.node.Node.{Node}
-use Rattle.basic_toml_tree.specs.declared.item.Child.{Child, out-Child}
+use Rattle.basic_toml_grow.specs.declared.item.Child.{Child, out-Child}
 use Rattle.basic_toml_tree.specs.declared.spot.Spot.{Spot}
 use Rattle.basic_toml_tree.specs.declared.spot.Spot.TheVariants as spots
 use Rattle.basic_toml_tree.specs.declared.trail.Trail.{Trail}
 use Rattle.basic_toml_tree.specs.declared.trail.Trail.TheVariants.{Header, Row}
-use Rattle.basic_toml_tree.specs.Origins.{Origin, child_origins}
-use Rattle.basic_toml_tree.specs.Ways.{sections_origins}
+use Rattle.basic_toml_grow.specs.Origins.{Origin, child_origins}
+use Rattle.basic_toml_grow.specs.Ways.{sections_origins}
 use Rattle.basic_toml_grammar.specs.RowClash.{rows_clash, has_row_clash}
 use Rattle.basic_toml_grammar.specs.SectionClash.{sections_clash}
 use Rattle.basic_toml_tree.proofs.Nodes.NodesCome.{child_bears}

@@ -13,22 +13,22 @@ use Rattle.basic_toml_grammar.specs.Nodes as grammar
 use Rattle.basic_toml_grammar.proofs.Tries.MarksInATrie.{descend, standing_of}
 use Rattle.basic_toml_grammar.proofs.Tries.SectionsInATrie.{marks_put}
 use Rattle.basic_toml_read.specs.SectionView.{section_of}
-use Rattle.basic_toml_tree.specs.declared.item.Item.{Item, out-Item}
-use Rattle.basic_toml_tree.specs.declared.item.Item.TheOpen.{Item-F}
-use Rattle.basic_toml_tree.specs.declared.item.Child.{Child}
-use Rattle.basic_toml_tree.specs.declared.item.Table.{Table, out-Table}
+use Rattle.basic_toml_grow.specs.declared.item.Item.{Item, out-Item}
+use Rattle.basic_toml_grow.specs.declared.item.Item.TheOpen.{Item-F}
+use Rattle.basic_toml_grow.specs.declared.item.Child.{Child}
+use Rattle.basic_toml_grow.specs.declared.item.Table.{Table, out-Table}
 use Rattle.basic_toml_tree.specs.declared.node.Node.{Node}
 use Rattle.basic_toml_tree.specs.declared.spot.Spot.{Spot}
 use Rattle.basic_toml_tree.specs.declared.spot.Spot.TheVariants as spots
-use Rattle.basic_toml_tree.specs.Item.{item_trie, table_trie}
+use Rattle.basic_toml_grow.specs.Item.{item_trie, table_trie}
 use Rattle.basic_toml_tree.specs.Origin.{spot_is_made, is_made, spot_name, name_of, holds_tables, item_name, last_at}
 use Rattle.basic_toml_tree.specs.Origin.{start_of, outer_of, offset_of, is_array_literal}
 use Rattle.basic_toml_tree.specs.Resolve.{Stands, only_root, head}
 use Rattle.basic_toml_tree.specs.Stands.{trie_at, tree_trie, spot_trie, wraps_table, is_wrapper, is_root, IsNodeAt}
 use Rattle.basic_toml_tree.specs.Outer.{stands_made}
-use Rattle.basic_toml_tree.proofs.HeadersMake.{stands_array, made_is, array_is}
-use Rattle.basic_toml_tree.proofs.ItemTries.{table_entries_trie}
-use Rattle.basic_toml_tree.proofs.Nodes.ItemsStand.{item_standing, standing_here}
+use Rattle.basic_toml_tree.proofs.HeadersMake.{made_is, array_is}
+use Rattle.basic_toml_grow.proofs.ItemTries.{table_entries_trie}
+use Rattle.basic_toml_grow.proofs.ItemsStand.{item_standing, stands_array, standing_here}
 use Rattle.basic_toml_tree.proofs.Nodes.NodesStand.{tells_table}
 
 same_way : (p : Path) (t : Trie) → trie_at p t ≡ descend p t

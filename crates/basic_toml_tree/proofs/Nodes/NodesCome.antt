@@ -9,26 +9,26 @@ use Rattle.std.proofs.lemmas.Bool.{false≢true}
 use Rattle.basic_toml_value.specs.Pairs.{value_at}
 use Rattle.basic_toml_grammar.specs.Steps.{Step, key, number, Path}
 use Rattle.basic_toml_clash.specs.Plain.{listed, listed_of}
-use Rattle.basic_toml_tree.specs.declared.item.Item.{Item, out-Item, the_lemmas, Array, Tables}
-use Rattle.basic_toml_tree.specs.declared.item.Item as items
-use Rattle.basic_toml_tree.specs.declared.item.Item.TheOpen.{Item-F}
-use Rattle.basic_toml_tree.specs.declared.item.Item.TheViews.{roll-Item}
-use Rattle.basic_toml_tree.specs.Origins.{elements_origins}
-use Rattle.basic_toml_tree.specs.declared.item.Child.{Child, out-Child}
-use Rattle.basic_toml_tree.specs.declared.item.Table.{Table, out-Table}
+use Rattle.basic_toml_grow.specs.declared.item.Item.{Item, out-Item, the_lemmas, Array, Tables}
+use Rattle.basic_toml_grow.specs.declared.item.Item as items
+use Rattle.basic_toml_grow.specs.declared.item.Item.TheOpen.{Item-F}
+use Rattle.basic_toml_grow.specs.declared.item.Item.TheViews.{roll-Item}
+use Rattle.basic_toml_grow.specs.Origins.{elements_origins}
+use Rattle.basic_toml_grow.specs.declared.item.Child.{Child, out-Child}
+use Rattle.basic_toml_grow.specs.declared.item.Table.{Table, out-Table}
 use Rattle.basic_toml_tree.specs.declared.tree.Tree.{Tree}
 use Rattle.basic_toml_tree.specs.declared.node.Node.{Node}
 use Rattle.basic_toml_tree.specs.declared.spot.Spot.{Spot}
 use Rattle.basic_toml_tree.specs.declared.spot.Spot.TheVariants as spots
 use Rattle.basic_toml_tree.specs.Origin.{spot_is_made, holds_tables, item_name, table_is_made}
-use Rattle.basic_toml_tree.specs.Origins.{Origin, Origins, no_origins, entry, under, at_numbers, value_origin}
-use Rattle.basic_toml_tree.specs.Origins.{table_origin, array_origin, elements_within, item_origins, child_origins}
-use Rattle.basic_toml_tree.specs.Origins.{table_within}
+use Rattle.basic_toml_grow.specs.Origins.{Origin, Origins, no_origins, entry, under, at_numbers, value_origin}
+use Rattle.basic_toml_grow.specs.Origins.{table_origin, array_origin, elements_within, item_origins, child_origins}
+use Rattle.basic_toml_grow.specs.Origins.{table_within}
 use Rattle.basic_toml_tree.specs.Stands.{ItemHolds, HoldsTable, spot_origins, node_origins, spot_origin, SpotComes}
 use Rattle.basic_toml_tree.specs.Stands.{ComesFrom, tree_origins}
-use Rattle.basic_toml_tree.proofs.Nodes.ItemsStand.{shape}
-use Rattle.basic_toml_tree.proofs.Origins.OriginsSeen.{child_seen, made_seen, table_origins, table_item_seen}
-use Rattle.basic_toml_tree.proofs.Origins.OriginsSeen.{array_seen, tables_seen, seen_at_key, seen_at_none}
+use Rattle.basic_toml_grow.proofs.ItemsStand.{shape}
+use Rattle.basic_toml_grow.proofs.Origins.OriginsSeen.{child_seen, made_seen, table_origins, table_item_seen}
+use Rattle.basic_toml_grow.proofs.Origins.OriginsSeen.{array_seen, tables_seen, seen_at_key, seen_at_none}
 
 -- one step on from a node
 pub comes_on : (from node : Node) (s : Step) (tree : Tree) (p : Path)

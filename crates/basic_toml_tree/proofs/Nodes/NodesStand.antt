@@ -17,33 +17,33 @@ use Rattle.basic_toml_read.specs.declared.section.Raw as raws
 use Rattle.basic_toml_read.specs.declared.section.Element.{Element}
 use Rattle.basic_toml_clash.specs.Plain.{plain_of, plain_array}
 use Rattle.basic_toml_clash.proofs.PlainSeen.{array_of}
-use Rattle.basic_toml_tree.specs.declared.item.Item.{Item, out-Item, the_lemmas, Array, Plain, Tables}
-use Rattle.basic_toml_tree.specs.declared.item.Item.TheOpen.{Item-F}
-use Rattle.basic_toml_tree.specs.declared.item.Item.TheViews.{roll-Item}
-use Rattle.basic_toml_tree.specs.declared.item.Child.{Child}
-use Rattle.basic_toml_tree.specs.declared.item.Table.{Table, out-Table}
+use Rattle.basic_toml_grow.specs.declared.item.Item.{Item, out-Item, the_lemmas, Array, Plain, Tables}
+use Rattle.basic_toml_grow.specs.declared.item.Item.TheOpen.{Item-F}
+use Rattle.basic_toml_grow.specs.declared.item.Item.TheViews.{roll-Item}
+use Rattle.basic_toml_grow.specs.declared.item.Child.{Child}
+use Rattle.basic_toml_grow.specs.declared.item.Table.{Table, out-Table}
 use Rattle.basic_toml_tree.specs.declared.tree.Tree.{Tree}
 use Rattle.basic_toml_tree.specs.declared.node.Node.{Node}
 use Rattle.basic_toml_tree.specs.declared.spot.Spot.{Spot}
 use Rattle.basic_toml_tree.specs.declared.spot.Spot.TheVariants as spots
 use Rattle.basic_toml_clash.specs.Keyed.{values_of}
-use Rattle.basic_toml_tree.specs.Item.{item_trie, child_trie, table_trie, by_keys, by_numbers, leaf, tree_data}
+use Rattle.basic_toml_grow.specs.Item.{item_trie, child_trie, table_trie, by_keys, by_numbers, leaf, tree_data}
 use Rattle.basic_toml_tree.specs.Stands.{trie_at, tree_trie, spot_trie, wraps_table, HoldsTable, IsBelow, is_root}
 use Rattle.basic_toml_tree.specs.Keys.{KeysLead, RowsLead}
 use Rattle.basic_toml_tree.proofs.Nodes.KeysLead.{keys_beside, rows_beside}
 use Rattle.basic_toml_tree.specs.Stands.{StandsAt, StandsOn, IsBeside, is_wrapper, ItemHolds, ComesFrom, node_origins}
 use Rattle.basic_toml_tree.specs.Stands.{StartIsKept, tree_origins, IsPlainElement, spot_origins}
 use Rattle.basic_toml_tree.specs.Outer.{around}
-use Rattle.basic_toml_tree.specs.Origins.{child_origins, item_origins, table_within, value_origins}
-use Rattle.basic_toml_tree.proofs.PlainArrays.{plain_trie, plain_origins}
+use Rattle.basic_toml_grow.specs.Origins.{child_origins, item_origins, table_within, value_origins}
+use Rattle.basic_toml_grow.proofs.PlainArrays.{plain_trie, plain_origins}
 use Rattle.basic_toml_tree.proofs.Nodes.PlainNodes.{element_comes}
-use Rattle.basic_toml_tree.proofs.ItemTries.{table_entries_trie}
+use Rattle.basic_toml_grow.proofs.ItemTries.{table_entries_trie}
 use Rattle.basic_toml_clash.proofs.KeysChanged.{first_at}
-use Rattle.basic_toml_tree.proofs.Nodes.ItemsStand.{shape}
+use Rattle.basic_toml_grow.proofs.ItemsStand.{shape}
 use Rattle.basic_toml_tree.proofs.Nodes.NodesCome.{comes_on, key_comes, key_origins, literal_comes, tables_come}
 use Rattle.basic_toml_tree.proofs.Nodes.NodesCome.{table_node_comes}
 use Rattle.basic_toml_tree.proofs.Nodes.Lines.{around_key, around_number}
-use Rattle.basic_toml_tree.proofs.KeysInATrie.{tries_of}
+use Rattle.basic_toml_grow.proofs.KeysInATrie.{tries_of}
 
 at_more : (p : Path) (s : Step) (t : Trie) → trie_at (p ++ s ∷ []) t ≡ below s (trie_at p t)
 at_more [] s t = refl

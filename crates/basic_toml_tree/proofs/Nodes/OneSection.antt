@@ -17,9 +17,9 @@ use Rattle.basic_toml_grammar.specs.Entering.{keyed_within, all_keyed_within}
 use Rattle.basic_toml_grammar.specs.Nodes.{is_made}
 use Rattle.basic_toml_grammar.proofs.Clash.PathsAgree.{append_none}
 use Rattle.basic_toml_grammar.proofs.Clash.StepTestsDecide.{begins_itself, paths_same}
-use Rattle.basic_toml_tree.specs.Origins.{Origin, along}
-use Rattle.basic_toml_tree.specs.Origins.{rows_origins}
-use Rattle.basic_toml_tree.specs.Ways.{sections_origins}
+use Rattle.basic_toml_grow.specs.Origins.{Origin, along}
+use Rattle.basic_toml_grow.specs.Origins.{rows_origins}
+use Rattle.basic_toml_grow.specs.Ways.{sections_origins}
 use Rattle.basic_toml_tree.proofs.Nodes.RowKeys.{either, Of, along_bears, rows_bear}
 use Rattle.basic_toml_tree.proofs.Nodes.RowNodesTold.{some_then, located_keyed}
 use Rattle.basic_toml_tree.proofs.Nodes.RowsReach.{Told, rows_told, On, along_tells, along_there, Over, GoneOn}

@@ -8,16 +8,16 @@ use Rattle.basic_toml_grammar.specs.Trie.{nothing, standing}
 use Rattle.basic_toml_grammar.proofs.Clash.PathsAgree.{append_none}
 use Rattle.basic_toml_tree.specs.declared.tree.Tree.{Tree}
 use Rattle.basic_toml_tree.specs.declared.node.Node.{Node}
-use Rattle.basic_toml_tree.specs.Item.{table_trie}
+use Rattle.basic_toml_grow.specs.Item.{table_trie}
 use Rattle.basic_toml_tree.specs.Origin.{spot_is_made}
-use Rattle.basic_toml_tree.specs.Origins.{Origin}
+use Rattle.basic_toml_grow.specs.Origins.{Origin}
 use Rattle.basic_toml_tree.specs.Outer.{stands_made, kept_below}
 use Rattle.basic_toml_tree.specs.Stands.{trie_at, tree_trie, spot_trie, wraps_table, is_root, spot_origin, tree_origins}
 use Rattle.basic_toml_tree.specs.Stands.{StandsAt, StartIsKept}
-use Rattle.basic_toml_tree.proofs.ItemTries.{table_entries_trie}
+use Rattle.basic_toml_grow.proofs.ItemTries.{table_entries_trie}
 use Rattle.basic_toml_tree.proofs.Nodes.MadeNodes.{spot_made, root_made}
 use Rattle.basic_toml_tree.proofs.Nodes.NodesStand.{tells_table, KeepsBelow}
-use Rattle.basic_toml_tree.proofs.Origins.OriginsSeen.{seen_at_none}
+use Rattle.basic_toml_grow.proofs.Origins.OriginsSeen.{seen_at_none}
 
 module _ (tree : Tree) (from : Node) where
   root_is_made : (p : Path) → StandsAt tree p from → p ≡ [] → spot_is_made from.count from.spot ≡ true

@@ -16,9 +16,9 @@ use Rattle.basic_toml_grammar.proofs.Nesting.TreeIsAsDeepAsMentions.{Peace}
 use Rattle.basic_toml_grammar.proofs.Trees.MentionsDoNotOverlap.{mentions_peace}
 use Rattle.basic_toml_tree.specs.declared.node.Node.{Node}
 use Rattle.basic_toml_tree.specs.Origin.{outer_of, last_at}
-use Rattle.basic_toml_tree.specs.Origins.{Origin}
+use Rattle.basic_toml_grow.specs.Origins.{Origin}
 use Rattle.basic_toml_tree.specs.Outer.{around}
-use Rattle.basic_toml_tree.specs.Ways.{sections_origins}
+use Rattle.basic_toml_grow.specs.Ways.{sections_origins}
 use Rattle.basic_toml_tree.specs.Stands.{tree_trie, IsNodeAt, Foretold, StartIsKept}
 use Rattle.basic_toml_tree.proofs.Nodes.MadeNodes.{made_outer_told, made_in_trie, last_same}
 use Rattle.basic_toml_tree.proofs.Nodes.OuterNodes.{OuterBegins, outer_begins}

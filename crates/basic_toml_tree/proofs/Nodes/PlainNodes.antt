@@ -15,7 +15,7 @@ use Rattle.basic_toml_tree.specs.declared.node.Node.{Node}
 use Rattle.basic_toml_tree.specs.declared.spot.Spot.{Spot}
 use Rattle.basic_toml_tree.specs.declared.spot.Spot.TheVariants as spots
 use Rattle.basic_toml_tree.specs.Nodes as seen
-use Rattle.basic_toml_tree.specs.Origins.{under, at_numbers, value_origins, elements_origins}
+use Rattle.basic_toml_grow.specs.Origins.{under, at_numbers, value_origins, elements_origins}
 use Rattle.basic_toml_tree.specs.Stands.{SpotComes, ComesFrom, IsPlainElement, spot_origins, node_origins}
 use Rattle.basic_toml_tree.proofs.Nodes.NodesInOrder.{mapped_length}
 use Rattle.basic_toml_tree.proofs.Nodes.NodesCome.{read_mapped}

@@ -15,9 +15,9 @@ use Rattle.basic_toml_grammar.specs.NamedClash.{first_key}
 use Rattle.basic_toml_grammar.specs.Nodes.{Node, front, dotted_node, node_in, holder}
 use Rattle.basic_toml_grammar.specs.Nodes.{node_of_rows, node_of_sections}
 use Rattle.basic_toml_grammar.proofs.Clash.StepTestsDecide.{step_is}
-use Rattle.basic_toml_tree.specs.Origins.{Origin, Origins, under, table_origin, along}
-use Rattle.basic_toml_tree.specs.Origins.{row_origins, value_origins, elements_origins, rows_origins}
-use Rattle.basic_toml_tree.specs.Ways.{sections_origins}
+use Rattle.basic_toml_grow.specs.Origins.{Origin, Origins, under, table_origin, along}
+use Rattle.basic_toml_grow.specs.Origins.{row_origins, value_origins, elements_origins, rows_origins}
+use Rattle.basic_toml_grow.specs.Ways.{sections_origins}
 use Rattle.basic_toml_tree.proofs.Nodes.NodesOfValues.{one_of, in_value}
 use Rattle.basic_toml_tree.proofs.Origins.RowsAreNodes.{Same, begins_on, goes_from, rows_apart, section_same}
 

@@ -14,8 +14,8 @@ use Rattle.basic_toml_grammar.specs.Nodes as grammar
 use Rattle.basic_toml_grammar.proofs.Clash.PathsAgree.{append_none}
 use Rattle.basic_toml_tree.specs.declared.node.Node.{Node}
 use Rattle.basic_toml_tree.specs.Origin.{is_made, spot_name, name_of, start_of, last_at}
-use Rattle.basic_toml_tree.specs.Origins.{Origin}
-use Rattle.basic_toml_tree.specs.Ways.{sections_origins}
+use Rattle.basic_toml_grow.specs.Origins.{Origin}
+use Rattle.basic_toml_grow.specs.Ways.{sections_origins}
 use Rattle.basic_toml_tree.specs.Stands.{spot_origin, tree_origins, IsNodeAt, Foretold}
 use Rattle.basic_toml_tree.proofs.Nodes.MadeNodes.{made_name_told, made_start_told, made_told}
 use Rattle.basic_toml_tree.proofs.Origins.RowsAreNodes.{Same, of_node, of_origin, sections_same}

@@ -11,8 +11,8 @@ use Rattle.basic_toml_grammar.specs.IndexedPath.{Located}
 use Rattle.basic_toml_grammar.specs.SectionClash.{row_on_path, row_crossed, any_row_clashes}
 use Rattle.basic_toml_grammar.specs.Entering.{has_key, keyed_within, value_keyed}
 use Rattle.basic_toml_grammar.proofs.Clash.StepTestsDecide.{step_is, step_same}
-use Rattle.basic_toml_tree.specs.Origins.{Origin, Origins, entry, under, table_origin, along}
-use Rattle.basic_toml_tree.specs.Origins.{row_origins, value_origins, elements_origins, rows_origins}
+use Rattle.basic_toml_grow.specs.Origins.{Origin, Origins, entry, under, table_origin, along}
+use Rattle.basic_toml_grow.specs.Origins.{row_origins, value_origins, elements_origins, rows_origins}
 use Rattle.basic_toml_tree.proofs.Nodes.RowKeys.{either, or_some}
 use Rattle.basic_toml_tree.proofs.Nodes.RowNodesTold.{some_then}
 

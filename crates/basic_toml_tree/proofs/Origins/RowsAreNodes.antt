@@ -17,10 +17,10 @@ use Rattle.basic_toml_grammar.specs.Nodes.{node_by}
 use Rattle.basic_toml_grammar.specs.Nodes.{holder, node_of_rows, node_of_sections}
 use Rattle.basic_toml_grammar.proofs.Clash.ClashesAgree.{turn_eq}
 use Rattle.basic_toml_grammar.proofs.Clash.StepTestsDecide.{step_is, step_same}
-use Rattle.basic_toml_tree.specs.Origins.{Origin, Origins, under, table_origin}
-use Rattle.basic_toml_tree.specs.Origins.{along}
-use Rattle.basic_toml_tree.specs.Origins.{row_origins, value_origins, elements_origins, rows_origins}
-use Rattle.basic_toml_tree.specs.Ways.{sections_origins}
+use Rattle.basic_toml_grow.specs.Origins.{Origin, Origins, under, table_origin}
+use Rattle.basic_toml_grow.specs.Origins.{along}
+use Rattle.basic_toml_grow.specs.Origins.{row_origins, value_origins, elements_origins, rows_origins}
+use Rattle.basic_toml_grow.specs.Ways.{sections_origins}
 
 -- what both tell
 pub record Told : Type 0 where

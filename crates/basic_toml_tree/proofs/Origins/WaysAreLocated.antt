@@ -16,8 +16,8 @@ use Rattle.basic_toml_grammar.proofs.Tries.MarksInATrie.{trie_of, descend, stand
 use Rattle.basic_toml_grammar.proofs.Clash.PathsAgree.{append_none, offsets, path_is}
 use Rattle.basic_toml_grammar.proofs.Tries.SectionsInATrie.{marks_put}
 use Rattle.basic_toml_tree.specs.Resolve.{Stands}
-use Rattle.basic_toml_tree.specs.Ways.{way, way_on}
-use Rattle.basic_toml_tree.proofs.Origins.HeadersPlaceOrigins.{way_fresh}
+use Rattle.basic_toml_grow.specs.Ways.{way, way_on}
+use Rattle.basic_toml_grow.proofs.Origins.HeadersPlaceOrigins.{way_fresh}
 
 descend_on : (p q : Path) (t : Trie) → descend (p ++ q) t ≡ descend q (descend p t)
 descend_on [] q t = refl

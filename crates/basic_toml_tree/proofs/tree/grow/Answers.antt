@@ -2,10 +2,10 @@ use Rattle.std.proofs.Common.{◌<◌, length, arith, rules, set, List, subst}
 use Rattle.std.proofs.lemmas.List.{length-set, get_or-set_other}
 use Rattle.basic_toml_read.specs.declared.section.Section.{Section}
 use Rattle.basic_toml_clash.specs.Crossed.{NoneIsCrossed}
-use Rattle.basic_toml_tree.specs.Item.{table_trie}
+use Rattle.basic_toml_grow.specs.Item.{table_trie}
 use Rattle.basic_toml_tree.proofs.SectionsResolved.{want_of, goes_on_from_a_value, kept_out, none_crossed, goes_on}
 use Rattle.basic_toml_tree.proofs.SectionsResolved.{resolved, heads_kept, brings_on, brings_none, begins}
-use Rattle.basic_toml_tree.specs.Origins.{table_within}
+use Rattle.basic_toml_grow.specs.Origins.{table_within}
 use Rattle.basic_toml_tree.proofs.tree.grow.Goals as goal
 
 pub returns-in_err-at : goal.returns-in_err-at

@@ -1,8 +1,8 @@
 use Rattle.std.proofs.Common.{◌≡◌, true, map, take}
 use Rattle.basic_toml_grammar.specs.Entering.{all_keyed}
 use Rattle.basic_toml_read.specs.SectionView.{section_of}
-use Rattle.basic_toml_tree.specs.Item.{table_trie}
-use Rattle.basic_toml_tree.specs.Origins.{table_within}
+use Rattle.basic_toml_grow.specs.Item.{table_trie}
+use Rattle.basic_toml_grow.specs.Origins.{table_within}
 use Rattle.basic_toml_tree.proofs.Origins.SectionsPlaceOrigins.{Brought}
 use Rattle.basic_toml_tree.proofs.SectionsResolved.{Goes}
 use Rattle.basic_toml_tree.proofs.tree.grow.Given as goal

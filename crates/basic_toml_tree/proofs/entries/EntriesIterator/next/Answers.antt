@@ -1,6 +1,6 @@
 use Rattle.std.proofs.Common.{◌≡◌, ◌∷◌, [], ◌+◌, Some, arith, ap, length, drop, rules, sym, ◌∙◌, refl}
 use Rattle.std.specs.Prelude.{slice_get}
-use Rattle.basic_toml_tree.specs.declared.item.Table.{out-Table}
+use Rattle.basic_toml_grow.specs.declared.item.Table.{out-Table}
 use Rattle.basic_toml_tree.specs.Data.{child_data, table_data}
 use Rattle.basic_toml_tree.specs.Nodes.{node_data, entries_in, entries_left, key_and_data}
 use Rattle.basic_toml_tree.specs.Stands.{HoldsTable}

@@ -5,14 +5,14 @@ use Rattle.basic_toml_read.specs.declared.section.Element.{Element}
 use Rattle.basic_toml_grammar.specs.Mentions.{finished}
 use Rattle.basic_toml_clash.specs.Plain.{plain_array, plain_data}
 use Rattle.basic_toml_clash.proofs.PlainSeen.{array_of}
-use Rattle.basic_toml_tree.specs.declared.item.Item.{Array, Plain, Tables}
+use Rattle.basic_toml_grow.specs.declared.item.Item.{Array, Plain, Tables}
 use Rattle.basic_toml_tree.specs.Data.{data_of, child_data, table_data}
 use Rattle.basic_toml_tree.specs.Nodes.{node_data, elements_in}
 use Rattle.basic_toml_tree.proofs.Nodes.NodesInOrder.{array_elements, tables_elements, mapped_read, mapped_length, front_read}
 use Rattle.basic_toml_tree.proofs.Nodes.NodesInOrder.{last_read}
 use Rattle.basic_toml_tree.specs.declared.spot.Spot.TheVariants as spots
-use Rattle.basic_toml_tree.specs.Item.{table_trie}
-use Rattle.basic_toml_tree.specs.Origins.{child_origins, table_within}
+use Rattle.basic_toml_grow.specs.Item.{table_trie}
+use Rattle.basic_toml_grow.specs.Origins.{child_origins, table_within}
 use Rattle.basic_toml_tree.specs.Stands.{AtNumber, IsPlainElement}
 use Rattle.basic_toml_tree.proofs.Nodes.NodesStand.{literal_stands, plain_stand, tables_stand, value_stands}
 use Rattle.basic_toml_tree.proofs.Nodes.PlainNodes.{plain_answers, some_then}

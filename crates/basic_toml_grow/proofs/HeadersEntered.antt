@@ -1,0 +1,262 @@
+-- The way of a header through tables and what stands in them, as contracts say it.
+use Rattle.std.proofs.Common.{string_bytes, ◌≡◌, ℕ, suc, ◌+◌, ◌≤◌, Bool, true, false, List, [], ◌∷◌, map, Option, Some}
+use Rattle.std.proofs.Common.{None, refl, ap, sym, ◌∙◌, arith, rules, option_map, Vec, Box, Global, Result, Ok, Err}
+use Rattle.std.proofs.Common.{IsErrAnd, subst, length}
+use Rattle.basic_toml_read.specs.declared.section.Key as code
+use Rattle.basic_toml_read.specs.SectionView.{header_texts}
+use Rattle.std.specs.List.{slice_get}
+use Rattle.basic_toml_value.specs.Data.{Data, items_of}
+use Rattle.basic_toml_grammar.specs.Sections.{KeyTexts, Rows}
+use Rattle.basic_toml_grammar.specs.Mentions.{finished}
+use Rattle.basic_toml_clash.specs.Plain.{plain_array}
+use Rattle.basic_toml_grammar.specs.Trie.{Trie, nothing, no_tries, walk, steps_to, among}
+use Rattle.basic_toml_grammar.specs.Steps.{key}
+use Rattle.basic_toml_clash.specs.declared.clash.Clash.{Clash}
+use Rattle.basic_toml_grow.specs.declared.item.Item.{the_lemmas, Nothing, Tables}
+use Rattle.basic_toml_grow.specs.declared.item.Item as items
+use Rattle.basic_toml_grow.specs.declared.item.Item.TheOpen.{Item-F}
+use Rattle.basic_toml_grow.specs.declared.item.Item.TheViews.{roll-Item, out-Item, roll-out-Item}
+use Rattle.basic_toml_grow.specs.declared.item.Child.{Child, out-Child}
+use Rattle.basic_toml_grow.specs.declared.item.Table.{Table, out-Table}
+use Rattle.basic_toml_grow.specs.Item.{item_trie, child_trie, table_trie, tree_data, leaf, by_keys}
+use Rattle.basic_toml_clash.specs.Keyed.{EntersKey, with_value, values_of}
+use Rattle.basic_toml_grow.specs.Headers.{IsIn, IsKeptOut, EntersItem, entered_by, steps_by, entered_at}
+use Rattle.basic_toml_grow.specs.Headers.{steps_at, holding, Passes, PutsBack}
+use Rattle.basic_toml_grow.proofs.KeysInATrie.{tries_of, stood_there, change_put, change_refused}
+use Rattle.basic_toml_grow.proofs.ItemTries.{child_item_trie, table_entries_trie}
+use Rattle.basic_toml_grow.proofs.HeadersInATrie.{made, fresh, array_of, is_in, is_kept_out}
+use Rattle.basic_toml_grow.proofs.HeadersInATrie.{walk_fresh, steps_fresh, walk_through, steps_through, enter_latest}
+use Rattle.basic_toml_grow.proofs.HeadersInATrie.{steps_latest, through, walk_barred}
+use Rattle.basic_toml_grow.proofs.TablesOpened.{tables_trie, nothing_trie, table_item_trie}
+
+-- what a header does at a key, where nothing stands there, a table, or an array of tables
+pub into_fresh : (a : Bool) (rows : Rows) (keys : KeyTexts) (i : items.Item) (new : Trie) → i ≡ Nothing
+    → new ≡ fresh → entered_by a rows keys (item_trie i) ≡ walk a rows keys new
+into_fresh a rows keys i new is is_fresh =
+    ap (entered_by a rows keys) (ap item_trie is ∙ nothing_trie)
+    ∙ sym (walk_fresh a rows keys) ∙ ap (walk a rows keys) (sym is_fresh)
+
+pub into_table : (a : Bool) (rows : Rows) (keys : KeyTexts) (i : items.Item) (t : Box Table Global)
+    → i ≡ items.Table t → entered_by a rows keys (item_trie i) ≡ walk a rows keys (table_trie t.value)
+into_table a rows keys i t is =
+    let e = table_entries_trie t.value in
+    ap (entered_by a rows keys) (ap item_trie is ∙ table_item_trie t ∙ e)
+    ∙ ap (walk a rows keys) (sym e)
+
+pub into_latest : (a : Bool) (rows : Rows) (keys : KeyTexts) (i : items.Item) (b : Box (Vec Table Global) Global)
+    (latest : Box Table Global) → i ≡ Tables b latest
+    → entered_by a rows keys (item_trie i)
+    ≡ option_map (λ u. array_of (map table_trie b.value.items) u) (walk a rows keys (table_trie latest.value))
+into_latest a rows keys i b latest is =
+    ap (entered_by a rows keys) (ap item_trie is ∙ tables_trie b latest)
+    ∙ enter_latest a rows keys (map table_trie b.value.items) (table_trie latest.value)
+
+pub steps_into_fresh : (a : Bool) (keys : KeyTexts) (i : items.Item) (new : Trie) → i ≡ Nothing
+    → new ≡ fresh → steps_by a keys (item_trie i) ≡ suc (steps_to a keys new)
+steps_into_fresh a keys i new is is_fresh =
+    ap (steps_by a keys) (ap item_trie is ∙ nothing_trie)
+    ∙ ap suc (sym (steps_fresh a keys) ∙ ap (steps_to a keys) (sym is_fresh))
+
+pub steps_into_table : (a : Bool) (keys : KeyTexts) (i : items.Item) (t : Box Table Global)
+    → i ≡ items.Table t → steps_by a keys (item_trie i) ≡ suc (steps_to a keys (table_trie t.value))
+steps_into_table a keys i t is =
+    let e = table_entries_trie t.value in
+    ap (steps_by a keys) (ap item_trie is ∙ table_item_trie t ∙ e)
+    ∙ ap (λ t. suc (steps_to a keys t)) (sym e)
+
+pub steps_into_latest : (a : Bool) (keys : KeyTexts) (i : items.Item) (b : Box (Vec Table Global) Global) (latest : Box Table Global)
+    → i ≡ Tables b latest
+    → steps_by a keys (item_trie i) ≡ suc (suc (steps_to a keys (table_trie latest.value)))
+steps_into_latest a keys i b latest is =
+    ap (steps_by a keys) (ap item_trie is ∙ tables_trie b latest)
+    ∙ steps_latest a keys (map table_trie b.value.items) (table_trie latest.value)
+
+-- on by the keys that are left, where the key before them adds no element
+pub no_array : (a : Bool) (rows : Rows) (keys : KeyTexts) (level : ℕ) (t : Trie) (r : Result items.Item Clash) → a ≡ false
+    → EntersItem (entered_by a rows keys t) rows (level + steps_by a keys t) r
+    → EntersItem (entered_at a rows keys t) rows (level + steps_at a keys t) r
+no_array true rows keys level t r not is = cc
+no_array false rows keys level t r not is = is
+
+pub not_last : (a : Bool) (rows : Rows) (keys : List code.Key) (level : ℕ) (t : Trie) (r : Result items.Item Clash)
+    → 1 ≤ length keys
+    → EntersItem (entered_by a rows (header_texts keys) t) rows (level + steps_by a (header_texts keys) t) r
+    → EntersItem (entered_at a rows (header_texts keys) t) rows (level + steps_at a (header_texts keys) t) r
+not_last a rows [] level t r some is = absurd (omega arith)
+not_last true rows (k ∷ keys) level t r some is = is
+not_last false rows (k ∷ keys) level t r some is = is
+
+-- what the exit of a `?` answers
+pub failed : {A : Type 0} (P : Result A Clash → Type 0) (result : Result A Clash) (clash : Clash)
+    → IsErrAnd result (λ f. f ≡ clash) → P (Err clash) → P result
+failed P (Ok x) clash h p = absurd h
+failed P (Err f) clash h p = subst (λ (g : Clash). P (Err g)) (sym h) p
+
+-- what goes on from a table of its own, or from the latest one, is what goes on from the item that holds it
+pub item_in : (e : Option Trie) (rows : Rows) (level m n : ℕ) (w : Option Trie) (t : Trie) (item : items.Item)
+    (f : Trie → Trie) → e ≡ option_map f w → level + n ≡ m → IsIn w rows m t → item_trie item ≡ f t
+    → IsIn e rows (level + n) (item_trie item)
+item_in e rows level m n w t item f goes steps is made_of =
+    is_in w e rows m (level + n) t (item_trie item)
+    (goes ∙ ap (option_map f) is.gives ∙ ap Some (sym made_of)) steps is
+
+pub item_out : (e : Option Trie) (rows : Rows) (level m n : ℕ) (w : Option Trie) (clash : Clash) (f : Trie → Trie)
+    → e ≡ option_map f w → level + n ≡ m → IsKeptOut w rows m clash → IsKeptOut e rows (level + n) clash
+item_out e rows level m n w clash f goes steps out =
+    is_kept_out clash w e rows m (level + n) (λ none. goes ∙ ap (option_map f) none) steps out
+
+pub same_mapped : (e w : Option Trie) → e ≡ w → e ≡ option_map (λ t. t) w
+same_mapped e None is = is
+same_mapped e (Some t) is = is
+
+pub holds_table : (i : items.Item) (t : Box Table Global) → i ≡ items.Table t → item_trie i ≡ table_trie t.value
+holds_table i t is = ap item_trie is ∙ table_item_trie t
+
+pub holds_tables : (i : items.Item) (b : Box (Vec Table Global) Global) (latest : Box Table Global) → i ≡ Tables b latest
+    → item_trie i ≡ array_of (map table_trie b.value.items) (table_trie latest.value)
+holds_tables i b latest is = ap item_trie is ∙ tables_trie b latest
+
+-- what is none of these is a value, which bars a header
+pub other_is_leaf : (i : items.Item) → (i ≡ Nothing → ⊥) → ((t : Box Table Global) → i ≡ items.Table t → ⊥)
+    → ((b : Box (Vec Table Global) Global) (latest : Box Table Global) → i ≡ Tables b latest → ⊥)
+    → (d : Data) × (item_trie i ≡ leaf d)
+other_is_leaf i no_nothing no_table no_tables = go (out-Item i) refl
+  where
+    made : (x : Item-F items.Item Child Table) → out-Item i ≡ x → i ≡ roll-Item x
+    made x e = sym (roll-out-Item i) ∙ ap roll-Item e
+
+    is_leaf : (d : Data) → item_trie i ≡ leaf d → (d : Data) × (item_trie i ≡ leaf d)
+    is_leaf d e = (d, e)
+
+    go : (x : Item-F items.Item Child Table) → out-Item i ≡ x → (d : Data) × (item_trie i ≡ leaf d)
+    go Item-F.Nothing e = absurd (no_nothing (made Item-F.Nothing e ∙ search (rules, the_lemmas)))
+    go (Item-F.Integer z) e = is_leaf (Data.integer z) (ap item_trie (made (Item-F.Integer z) e)
+        ∙ search (rules, the_lemmas))
+    go (Item-F.Float text) e = is_leaf (Data.float text) (ap item_trie (made (Item-F.Float text) e)
+        ∙ search (rules, the_lemmas))
+    go (Item-F.Boolean b) e = is_leaf (Data.boolean b) (ap item_trie (made (Item-F.Boolean b) e)
+        ∙ search (rules, the_lemmas))
+    go (Item-F.String text) e =
+        is_leaf (Data.string text.now) (ap item_trie (made (Item-F.String text) e)
+        ∙ search (rules, the_lemmas))
+    go (Item-F.Escaped text) e =
+        is_leaf (Data.string (string_bytes text)) (ap item_trie (made (Item-F.Escaped text) e)
+        ∙ search (rules, the_lemmas))
+    go (Item-F.Array children) e =
+        is_leaf (Data.array (items_of (map tree_data (map child_trie children.items))))
+        (ap item_trie (made (Item-F.Array children) e) ∙ search (rules, the_lemmas))
+    go (Item-F.Plain es) e =
+        is_leaf (finished (plain_array es.items)) (ap item_trie (made (Item-F.Plain es) e) ∙ search (rules, the_lemmas))
+    go (Item-F.Inline t) e =
+        is_leaf (tree_data (table_trie t.value)) (ap item_trie (made (Item-F.Inline t) e) ∙ search (rules, the_lemmas))
+    go (Item-F.Table t) e = absurd (no_table t (made (Item-F.Table t) e ∙ search (rules, the_lemmas)))
+    go (Item-F.Tables b latest) e = absurd (no_tables b latest (made (Item-F.Tables b latest) e
+        ∙ search (rules, the_lemmas)))
+
+pub value_bars : (a : Bool) (rows : Rows) (keys : KeyTexts) (i : items.Item) (d : Data)
+    → item_trie i ≡ leaf d → entered_by a rows keys (item_trie i) ≡ None
+value_bars a rows keys i d is = ap (entered_by a rows keys) is ∙ walk_barred a rows keys (Some d) no_tries
+
+pub other_bars : (a : Bool) (rows : Rows) (keys : KeyTexts) (i : items.Item)
+    → (i ≡ Nothing → ⊥) → ((t : Box Table Global) → i ≡ items.Table t → ⊥)
+    → ((b : Box (Vec Table Global) Global) (latest : Box Table Global) → i ≡ Tables b latest → ⊥)
+    → entered_by a rows keys (item_trie i) ≡ None
+other_bars a rows keys i no_nothing no_table no_tables =
+    let seen = other_is_leaf i no_nothing no_table no_tables in
+    value_bars a rows keys i seen.0 seen.1
+
+-- a change at a key of a table that a header passes
+module _ (a : Bool) (rows : Rows) (k : List ℕ) (keys whole : KeyTexts) (level : ℕ) (t : Table) (blank : Child)
+    (new : List (List ℕ × Child)) (position : ℕ) (there : Child) (is_whole : whole ≡ k ∷ keys)
+    (is_nothing : child_trie blank ≡ nothing) (entered : EntersKey k blank (out-Table t).entries new position)
+    (stands : slice_get (values_of new) position ≡ Some there) where
+  walked : walk a rows whole (table_trie t)
+      ≡ through (out-Table t).named (out-Table t).dotted
+      (among (key k) (λ t. entered_at a rows keys t) (by_keys (tries_of child_trie (out-Table t).entries)))
+  walked =
+      ap (λ ks. walk a rows ks (table_trie t)) is_whole
+      ∙ ap (walk a rows (k ∷ keys)) (table_entries_trie t)
+      ∙ walk_through a rows k keys (out-Table t).passed (out-Table t).named (out-Table t).dotted
+      (by_keys (tries_of child_trie (out-Table t).entries))
+
+  steps : level + steps_to a whole (table_trie t) ≡ level + steps_at a keys (child_trie there)
+  steps = ap (λ n. level + n)
+      (ap (λ ks. steps_to a ks (table_trie t)) is_whole
+      ∙ ap (steps_to a (k ∷ keys)) (table_entries_trie t)
+      ∙ steps_through a k keys (out-Table t).passed (out-Table t).named (out-Table t).dotted
+      (by_keys (tries_of child_trie (out-Table t).entries))
+      ∙ ap (steps_at a keys)
+      (stood_there child_trie k blank (out-Table t).entries new position is_nothing entered there stands))
+
+  pub header_in : (u : Table) (other child : Child) → (out-Table u).passed ≡ true
+      → (out-Table u).named ≡ (out-Table t).named → (out-Table u).dotted ≡ (out-Table t).dotted
+      → (out-Table u).entries ≡ with_value (with_value new position other) position child
+      → IsIn (entered_at a rows keys (child_trie there)) rows (level + steps_at a keys (child_trie there))
+      (child_trie child)
+      → IsIn (walk a rows whole (table_trie t)) rows (level + steps_to a whole (table_trie t)) (table_trie u)
+  header_in u other child passed named dotted entries is =
+      let after : made true (out-Table t).named (out-Table t).dotted (by_keys (tries_of child_trie (out-Table
+      u).entries))
+      ≡ table_trie u = rw (table_entries_trie u, passed, named, dotted) refl in
+      is_in (entered_at a rows keys (child_trie there)) (walk a rows whole (table_trie t)) rows
+      (level + steps_at a keys (child_trie there)) (level + steps_to a whole (table_trie t)) (child_trie child)
+      (table_trie u)
+      (walked
+      ∙ ap (through (out-Table t).named (out-Table t).dotted)
+      (change_put child_trie k blank (out-Table t).entries new position is_nothing entered there stands
+      (λ t. entered_at a rows keys t) child other is.gives
+      ∙ ap (λ ps. Some (by_keys (tries_of child_trie ps))) (sym entries))
+      ∙ ap Some after)
+      steps is
+
+  pub header_out : (clash : Clash)
+      → IsKeptOut (entered_at a rows keys (child_trie there)) rows (level + steps_at a keys (child_trie there)) clash
+      → IsKeptOut (walk a rows whole (table_trie t)) rows (level + steps_to a whole (table_trie t)) clash
+  header_out clash out =
+      is_kept_out clash (entered_at a rows keys (child_trie there)) (walk a rows whole (table_trie t)) rows
+      (level + steps_at a keys (child_trie there)) (level + steps_to a whole (table_trie t))
+      (λ none. walked
+      ∙ ap (through (out-Table t).named (out-Table t).dotted)
+      (change_refused child_trie k blank (out-Table t).entries new position is_nothing entered there stands
+      (λ t. entered_at a rows keys t) none))
+      steps out
+
+-- the child that a header's step leaves at a position
+pub out_holding : (c : Child) (i : items.Item) → out-Child (holding c i)
+    ≡ record { start = (out-Child c).start; section = (out-Child c).section; item = i }
+out_holding c i = search (rules, the_lemmas)
+
+pub holding_trie : (c : Child) (i : items.Item) → child_trie (holding c i) ≡ item_trie i
+holding_trie c i = child_item_trie (holding c i) ∙ ap (λ o. item_trie o.item) (out_holding c i)
+
+pub passed_trie : (k : List ℕ) (o p : Table) (position : ℕ) (there : items.Item)
+    (passes : Passes k o p position there) → child_trie passes.child ≡ item_trie there
+passed_trie k o p position there passes = child_item_trie passes.child ∙ ap item_trie passes.item
+
+-- a table that a header passes, where the section is entered below it, and where it is not
+pub passed_in : (a : Bool) (rows : Rows) (k : List ℕ) (keys whole : KeyTexts) (level : ℕ) (t o p q u : Table)
+    (position : ℕ) (there item : items.Item) → whole ≡ k ∷ keys → o ≡ t → Passes k o p position there → q ≡ p
+    → PutsBack q position item u
+    → IsIn (entered_at a rows keys (item_trie there)) rows (level + steps_at a keys (item_trie there))
+    (item_trie item)
+    → IsIn (walk a rows whole (table_trie t)) rows (level + steps_to a whole (table_trie t)) (table_trie u)
+passed_in a rows k keys whole level t o p q u position there item is_whole is_old passed same puts is =
+    let passes = subst (λ (t : Table). Passes k t p position there) is_old passed in
+    let f : out-Table q ≡ out-Table p = ap out-Table same in
+    header_in a rows k keys whole level t passes.blank passes.entries position passes.child is_whole passes.is_nothing
+    passes.entered passes.stands u (holding passes.child Nothing) (holding puts.child item)
+    (puts.passed ∙ ap (λ f. f.passed) f ∙ passes.passed)
+    (puts.named ∙ ap (λ f. f.named) f ∙ passes.named)
+    (puts.dotted ∙ ap (λ f. f.dotted) f ∙ passes.dotted)
+    (puts.entries ∙ ap (λ f. with_value f.entries position (holding puts.child item)) f
+    ∙ ap (λ es. with_value es position (holding puts.child item)) passes.left)
+    (rw (passed_trie k t p position there passes, holding_trie puts.child item) is)
+
+pub passed_out : (a : Bool) (rows : Rows) (k : List ℕ) (keys whole : KeyTexts) (level : ℕ) (t o p : Table)
+    (position : ℕ) (there : items.Item) (clash : Clash) → whole ≡ k ∷ keys → o ≡ t → Passes k o p position there
+    → IsKeptOut (entered_at a rows keys (item_trie there)) rows (level + steps_at a keys (item_trie there)) clash
+    → IsKeptOut (walk a rows whole (table_trie t)) rows (level + steps_to a whole (table_trie t)) clash
+passed_out a rows k keys whole level t o p position there clash is_whole is_old passed out =
+    let passes = subst (λ (t : Table). Passes k t p position there) is_old passed in
+    header_out a rows k keys whole level t passes.blank passes.entries position passes.child is_whole passes.is_nothing
+    passes.entered passes.stands clash (rw (passed_trie k t p position there passes) out)

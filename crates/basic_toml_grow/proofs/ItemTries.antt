@@ -1,0 +1,38 @@
+-- The tries of items, one level at a time.
+use Rattle.std.proofs.Common.{◌≡◌, List, ℕ, Some, None, rules}
+use Rattle.basic_toml_grammar.specs.Standing as standings
+use Rattle.basic_toml_grammar.specs.Trie.{trie, nothing, standing}
+use Rattle.basic_toml_grow.specs.declared.item.Item.{the_lemmas}
+use Rattle.basic_toml_grow.specs.declared.item.Child.{Child, out-Child}
+use Rattle.basic_toml_grow.specs.declared.item.Table.{Table, out-Table}
+use Rattle.basic_toml_grow.specs.Item.{item_trie, child_trie, table_trie, by_keys, no_child}
+use Rattle.basic_toml_grow.specs.Simple.{with_entries}
+use Rattle.basic_toml_grow.proofs.KeysInATrie.{tries_of}
+
+-- the trie of a child is that of its item
+pub child_item_trie : (c : Child) → child_trie c ≡ item_trie (out-Child c).item
+child_item_trie c = search (rules, the_lemmas)
+
+pub no_child_trie : child_trie no_child ≡ nothing
+no_child_trie = search (rules, the_lemmas)
+
+-- the trie of a table has what is said of it, and the tries of its entries by their keys
+pub table_entries_trie : (t : Table)
+    → table_trie t
+    ≡ trie (Some (standings.table (out-Table t).passed (out-Table t).named (out-Table t).dotted)) None
+    (by_keys (tries_of child_trie (out-Table t).entries))
+unfolding tries_of
+table_entries_trie t = search (rules, the_lemmas)
+
+pub entries_with : (t : Table) (ps : List (List ℕ × Child)) → (out-Table (with_entries t ps)).entries ≡ ps
+entries_with t ps = search (rules, the_lemmas)
+
+-- other entries after other ones
+pub with_entries_twice : (t : Table) (qs ps : List (List ℕ × Child))
+    → with_entries (with_entries t qs) ps ≡ with_entries t ps
+with_entries_twice t qs ps = search (rules, the_lemmas)
+
+pub with_entries_trie : (t : Table) (ps : List (List ℕ × Child))
+    → table_trie (with_entries t ps) ≡ trie (standing (table_trie t)) None (by_keys (tries_of child_trie ps))
+unfolding tries_of
+with_entries_trie t ps = search (rules, the_lemmas)

@@ -1,0 +1,42 @@
+-- The tables of an array of tables in its trie: what is at the latest number, and at the next one.
+use Rattle.std.proofs.Common.{◌≡◌, ℕ, suc, ◌+◌, ◌<◌, List, [], ◌∷◌, ◌++◌, length, Option, Some, None, true}
+use Rattle.std.proofs.Common.{false}
+use Rattle.std.proofs.Common.{refl, arith, nat_eq, option_map}
+use Rattle.basic_toml_grammar.specs.Steps.{number}
+use Rattle.basic_toml_grammar.specs.Trie.{Trie, by, nothing, among, find}
+use Rattle.basic_toml_grow.specs.Item.{by_numbers}
+
+nat_eq-same : (n m : ℕ) → n ≡ m → nat_eq n m ≡ true
+nat_eq-same n m same = grind arith
+
+nat_eq-other : (n m : ℕ) → n < m → nat_eq n m ≡ false
+nat_eq-other n m less = grind arith
+
+module _ {A B C : Type 0} where
+  pub mapped_twice : (f : B → C) (h : A → B) (x : Option A)
+      → option_map f (option_map h x) ≡ option_map (λ a. f (h a)) x
+  mapped_twice f h None = refl
+  mapped_twice f h (Some a) = refl
+
+-- on into the latest of some tables
+pub among_latest : (k n : ℕ) (before : List Trie) (t : Trie) (g : Trie → Option Trie) → n ≡ k + length before
+    → among (number n) g (by_numbers k (before ++ t ∷ []))
+    ≡ option_map (λ u. by_numbers k (before ++ u ∷ [])) (g t)
+among_latest k n [] t g e = rw (nat_eq-same k n (omega arith)) refl
+among_latest k n (b ∷ before) t g e =
+    rw (nat_eq-other k n (omega arith), among_latest (suc k) n before t g (omega arith))
+    (mapped_twice (λ ts. by (number k) b ts) (λ u. by_numbers (suc k) (before ++ u ∷ [])) (g t))
+
+pub find_latest : (k n : ℕ) (before : List Trie) (t : Trie) → n ≡ k + length before
+    → find (number n) (by_numbers k (before ++ t ∷ [])) ≡ t
+find_latest k n [] t e = rw (nat_eq-same k n (omega arith)) refl
+find_latest k n (b ∷ before) t e =
+    rw (nat_eq-other k n (omega arith)) (find_latest (suc k) n before t (omega arith))
+
+-- one more after some tables
+pub among_next : (k n : ℕ) (before : List Trie) (g : Trie → Option Trie) → n ≡ k + length before
+    → among (number n) g (by_numbers k before) ≡ option_map (λ u. by_numbers k (before ++ u ∷ [])) (g nothing)
+among_next k n [] g e = let same : n ≡ k = omega arith in rw same refl
+among_next k n (b ∷ before) g e =
+    rw (nat_eq-other k n (omega arith), among_next (suc k) n before g (omega arith))
+    (mapped_twice (λ ts. by (number k) b ts) (λ u. by_numbers (suc k) (before ++ u ∷ [])) (g nothing))

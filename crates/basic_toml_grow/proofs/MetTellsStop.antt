@@ -1,0 +1,266 @@
+-- What a row meets tells what stops it, key by key.
+use Rattle.std.proofs.Common.{◌≡◌, ℕ, suc, ◌+◌, Bool, true, false, ◌||◌, List, [], ◌∷◌, ◌++◌, refl, sym, ap, ◌∙◌}
+use Rattle.std.proofs.Common.{Option, Some, None, length, take, map, Box, Vec, Global, subst, arith}
+use Rattle.std.proofs.Common.{cond}
+use Rattle.std.specs.Option.{option_or}
+use Rattle.std.specs.List.{slice_get}
+use Rattle.basic_toml_value.specs.Data.{Data}
+use Rattle.basic_toml_grammar.specs.Sections.{Key, KeyTexts, texts}
+use Rattle.basic_toml_grammar.specs.Steps as steps
+use Rattle.basic_toml_grammar.specs.Marks.{dotted, valued}
+use Rattle.basic_toml_grammar.specs.Standing as standings
+use Rattle.basic_toml_grammar.specs.Trie.{Trie, trie, Tries, no_tries, nothing, below, mark_here}
+use Rattle.basic_toml_grammar.specs.Stops.{Stop, at_row, last_stop, Outcome, goes_on, stops, and_on}
+use Rattle.basic_toml_grammar.specs.TrieStops.{try_here, try_step, try_put_row}
+use Rattle.basic_toml_grammar.proofs.Tries.StopsByPath.{path_here, path_stop}
+use Rattle.basic_toml_grammar.proofs.Tries.StopsForgotten.{goes, left_here}
+use Rattle.basic_toml_read.specs.declared.section.Row.{Row}
+use Rattle.basic_toml_grow.specs.declared.item.Item as items
+use Rattle.basic_toml_grow.specs.declared.item.Child.{Child, out-Child}
+use Rattle.basic_toml_grow.specs.declared.item.Item.TheOpen.{Table-F}
+use Rattle.basic_toml_grow.specs.declared.item.Item.TheViews.{out-roll-Table}
+use Rattle.basic_toml_grow.specs.declared.item.Table.{Table, out-Table, roll-Table}
+use Rattle.basic_toml_grow.specs.declared.rows.Met.{Met}
+use Rattle.basic_toml_grow.specs.declared.rows.Met.TheVariants as mets
+use Rattle.basic_toml_grow.specs.Item.{child_trie, table_trie, item_trie, by_keys, by_numbers}
+use Rattle.basic_toml_clash.specs.Keyed.{values_of, EntersKey}
+use Rattle.basic_toml_grow.specs.RowStops.{line_keys, key_at, StopsAtKey, TellsStop, TellsLast, TellsRow, TellsExtended}
+use Rattle.basic_toml_grow.proofs.KeysInATrie.{tries_of, stood_there}
+use Rattle.basic_toml_grow.proofs.ItemTries.{child_item_trie, table_entries_trie}
+use Rattle.basic_toml_grow.proofs.TablesOpened.{table_item_trie, tables_trie, nothing_trie}
+
+none_after : {A : Type 0} (xs : List A) → xs ++ [] ≡ xs
+none_after [] = refl
+none_after (x ∷ xs) = ap (λ ys. x ∷ ys) (none_after xs)
+
+one_before : {A : Type 0} (xs : List A) (y : A) (ys : List A) → (xs ++ y ∷ []) ++ ys ≡ xs ++ y ∷ ys
+one_before [] y ys = refl
+one_before (x ∷ xs) y ys = ap (λ zs. x ∷ zs) (one_before xs y ys)
+
+-- what stops one thing stops another
+pub told_on : (before : KeyTexts) (keys : List Key) (k : Key) (o p : Outcome Trie) (met : Met)
+    → ((x : Stop) → o ≡ stops x → p ≡ stops x) → TellsStop before keys k o met → TellsStop before keys k p met
+told_on before keys k o p mets.Memory on told = tt
+told_on before keys k o p mets.Row on told = on (at_row (take 1 (before ++ texts keys)) k) told
+told_on before keys k o p (mets.Header left) on told = record {
+  front = told.front;
+  there = told.there;
+  rest = told.rest;
+  parts = told.parts;
+  count = told.count;
+  stop = on (at_row (before ++ texts told.front) told.there) told.stop;
+}
+
+-- and a key further
+told_further : (before : KeyTexts) (first : Key) (keys : List Key) (k : Key) (o : Outcome Trie) (met : Met)
+    → TellsStop (before ++ first.text ∷ []) keys k o met → TellsStop before (first ∷ keys) k o met
+told_further before first keys k o mets.Memory told = tt
+told_further before first keys k o mets.Row told =
+    told ∙ ap (λ b. stops (at_row (take 1 b) k)) (one_before before first.text (texts keys))
+told_further before first keys k o (mets.Header left) told = record {
+  front = first ∷ told.front;
+  there = told.there;
+  rest = told.rest;
+  parts = ap (λ ks. first ∷ ks) told.parts;
+  count = told.count;
+  stop = told.stop ∙ ap (λ b. stops (at_row b told.there)) (one_before before first.text (texts told.front));
+}
+
+-- a header stands at the last key
+stands_last : (before : KeyTexts) (k : Key) (d : Data) (s : standings.Standing) (v : Option Data) (ts : Tries)
+    → last_stop before k (Some s) ≡ at_row before k
+    → StopsAtKey before (k ∷ []) 1 (try_here (valued d) (last_stop before k) (trie (Some s) v ts))
+stands_last before k d s v ts is = record {
+  front = [];
+  there = k;
+  rest = [];
+  parts = refl;
+  count = refl;
+  stop = ap stops (is ∙ ap (λ b. at_row b k) (sym (none_after before)));
+}
+
+pub tables_met : (c : Child) (s : ℕ) (v : Option Data) (ts : Tries)
+    → child_trie c ≡ trie (Some (standings.array s)) v ts → TellsLast (child_trie c) (mets.Header 1)
+tables_met c s v ts is = λ before k d.
+    subst (λ (t : Trie). StopsAtKey before (k ∷ []) 1 (try_here (valued d) (last_stop before k) t)) (sym is)
+    (stands_last before k d (standings.array s) v ts refl)
+
+made_last : (before : KeyTexts) (k : Key) (p n d : Bool) → (p || n) ≡ true
+    → last_stop before k (Some (standings.table p n d)) ≡ at_row before k
+made_last before k true n d made = refl
+made_last before k false true d made = refl
+made_last before k false false d made = absurd (cc)
+
+pub made_met : (c : Child) (t : Box Table Global) → (out-Child c).item ≡ items.Table t
+    → ((out-Table t.value).passed || (out-Table t.value).named) ≡ true → TellsLast (child_trie c) (mets.Header 1)
+made_met c t is made = λ before k d.
+    let o = out-Table t.value in
+    subst (λ (t : Trie). StopsAtKey before (k ∷ []) 1 (try_here (valued d) (last_stop before k) t))
+    (sym (child_item_trie c ∙ ap item_trie is ∙ table_item_trie t ∙ table_entries_trie t.value))
+    (stands_last before k d (standings.table o.passed o.named o.dotted) None
+    (by_keys (tries_of child_trie o.entries)) (made_last before k o.passed o.named o.dotted made))
+
+-- a row with a key more before its last one
+try_row_on : (before : KeyTexts) (first : Key) (ks : List Key) (k : Key) (d : Data) (t : Trie)
+    → try_put_row before (first ∷ (ks ++ k ∷ [])) d t
+    ≡ try_step (steps.key first.text)
+    (λ t. and_on (try_here dotted (λ m. at_row before first) t)
+    (λ t. try_put_row (before ++ first.text ∷ []) (ks ++ k ∷ []) d t)) t
+try_row_on before first [] k d t = refl
+try_row_on before first (l ∷ ks) k d t = refl
+
+module _ (before : Table) (k : List ℕ) (fresh : Child) (new : List (List ℕ × Child)) (position : ℕ)
+    (is_nothing : child_trie fresh ≡ nothing) (entered : EntersKey k fresh (out-Table before).entries new position)
+    (there : Child) (stands : slice_get (values_of new) position ≡ Some there) where
+  below_there : below (steps.key k) (table_trie before) ≡ child_trie there
+  below_there = ap (below (steps.key k)) (table_entries_trie before)
+      ∙ stood_there child_trie k fresh (out-Table before).entries new position is_nothing entered there stands
+
+  -- a change at the key that stops
+  step_stops : (g : Trie → Outcome Trie) (x : Stop) → g (child_trie there) ≡ stops x
+      → try_step (steps.key k) g (table_trie before) ≡ stops x
+  step_stops g x stop =
+      path_here (steps.key k ∷ []) g (λ t. stops x) (table_trie before) (ap g below_there ∙ stop)
+      ∙ path_stop (steps.key k ∷ []) x (table_trie before)
+
+  pub last_told : (met : Met) (d : Data) → TellsLast (child_trie there) met → TellsRow [] k d (table_trie before) met
+  last_told met d told = λ front offset.
+      told_on front [] (key_at offset k) (try_here (valued d) (last_stop front (key_at offset k)) (child_trie there))
+      (try_put_row front (key_at offset k ∷ []) d (table_trie before)) met
+      (λ x stop. step_stops (λ t. try_here (valued d) (last_stop front (key_at offset k)) t) x stop)
+      (told front (key_at offset k) d)
+
+  pub row_told : (met : Met) (first : Key) (ks : List Key) (last : List ℕ) (d : Data) → first.text ≡ k
+      → TellsExtended ks last d (child_trie there) met → TellsRow (first ∷ ks) last d (table_trie before) met
+  row_told met first ks last d is told = λ front offset.
+      told_on front (first ∷ ks) (key_at offset last)
+      (and_on (try_here dotted (λ m. at_row front first) (child_trie there))
+      (λ t. try_put_row (front ++ first.text ∷ []) (ks ++ key_at offset last ∷ []) d t))
+      (try_put_row front (first ∷ (ks ++ key_at offset last ∷ [])) d (table_trie before)) met
+      (λ x stop. try_row_on front first ks (key_at offset last) d (table_trie before)
+      ∙ ap (λ l. try_step (steps.key l) (λ t. and_on (try_here dotted (λ m. at_row front first) t)
+      (λ t. try_put_row (front ++ first.text ∷ []) (ks ++ key_at offset last ∷ []) d t)) (table_trie before)) is
+      ∙ step_stops (λ t. and_on (try_here dotted (λ m. at_row front first) t)
+      (λ t. try_put_row (front ++ first.text ∷ []) (ks ++ key_at offset last ∷ []) d t)) x stop)
+      (told front first offset)
+
+-- what a key that a period follows leads to
+pub extended_on : (ks : List Key) (last : List ℕ) (d : Data) (t u : Trie) (met : Met) → mark_here dotted t ≡ Some u
+    → TellsRow ks last d u met → TellsExtended ks last d t met
+extended_on ks last d t u met is told = λ before first offset.
+    let on : try_here dotted (λ m. at_row before first) t ≡ goes_on u =
+    goes (try_here dotted (λ m. at_row before first) t) u (left_here dotted (λ m. at_row before first) t ∙ is) in
+    told_on before (first ∷ ks) (key_at offset last)
+    (try_put_row (before ++ first.text ∷ []) (ks ++ key_at offset last ∷ []) d u)
+    (and_on (try_here dotted (λ m. at_row before first) t)
+    (λ t. try_put_row (before ++ first.text ∷ []) (ks ++ key_at offset last ∷ []) d t)) met
+    (λ x stop. ap (λ o. and_on o (λ t. try_put_row (before ++ first.text ∷ []) (ks ++ key_at offset last ∷ []) d t)) on
+    ∙ stop)
+    (told_further before first ks (key_at offset last)
+    (try_put_row (before ++ first.text ∷ []) (ks ++ key_at offset last ∷ []) d u) met
+    (told (before ++ first.text ∷ []) offset))
+
+length_last : (ks : List Key) (k : Key) → length (ks ++ k ∷ []) ≡ suc (length ks)
+length_last [] k = refl
+length_last (l ∷ ks) k = ap suc (length_last ks k)
+
+length_lines : (rows : List Row) → length (line_keys rows) ≡ length rows
+length_lines [] = refl
+length_lines (r ∷ rs) = ap suc (length_lines rs)
+
+stopped_here : (before : KeyTexts) (first : Key) (t : Trie) → mark_here dotted t ≡ None
+    → try_here dotted (λ m. at_row before first) t ≡ stops (at_row before first)
+stopped_here before first (trie s v ts) none = go (standings.fits dotted s) none
+  where
+    go : (b : Bool)
+        → cond b (Some (trie (Some (standings.taken dotted s)) (option_or v (standings.value_of dotted)) ts))
+        None ≡ None
+        → cond b (goes_on (trie (Some (standings.taken dotted s)) (option_or v (standings.value_of dotted)) ts))
+        (stops (at_row before first)) ≡ stops (at_row before first)
+    go true none = absurd (cc)
+    go false none = refl
+
+pub extended_refused : (rows : List Row) (last : List ℕ) (d : Data) (t : Trie) (left : ℕ) → left ≡ length rows + 2
+    → mark_here dotted t ≡ None → TellsExtended (line_keys rows) last d t (mets.Header left)
+extended_refused rows last d t left count none = λ before first offset.
+    let more = length_last (line_keys rows) (key_at offset last) in
+    let lines = length_lines rows in record {
+      front = [];
+      there = first;
+      rest = line_keys rows ++ key_at offset last ∷ [];
+      parts = refl;
+      count = omega arith;
+      stop = ap (λ o. and_on o (λ t. try_put_row (before ++ first.text ∷ [])
+          (line_keys rows ++ key_at offset last ∷ []) d t)) (stopped_here before first t none)
+          ∙ ap (λ b. stops (at_row b first)) (sym (none_after before));
+    }
+
+-- a table that dots extend
+abbrev pub dotted_fields : Table → Table-F items.Item Child Table
+dotted_fields t =
+    let o = out-Table t in
+    record { passed = o.passed; named = o.named; dotted = true; section = o.section; entries = o.entries }
+
+dotted_trie : (t : Table) → table_trie (roll-Table (dotted_fields t))
+    ≡ trie (Some (standings.table (out-Table t).passed (out-Table t).named true)) None
+    (by_keys (tries_of child_trie (out-Table t).entries))
+dotted_trie t =
+    let is : out-Table (roll-Table (dotted_fields t)) ≡ dotted_fields t = out-roll-Table (dotted_fields t) in
+    table_entries_trie (roll-Table (dotted_fields t))
+    ∙ ap (λ o. trie (Some (standings.table o.passed o.named o.dotted)) None
+    (by_keys (tries_of child_trie o.entries))) is
+
+fresh_dotted : (p n d : Bool) (ts : Tries) → trie (Some (standings.table p n d)) None ts
+    ≡ trie (Some (standings.table false false false)) None no_tries
+    → Some (trie (Some (standings.table false false true)) None no_tries)
+    ≡ Some (trie (Some (standings.table p n true)) None ts)
+fresh_dotted p n d ts is = cc
+
+pub dotted_nothing : (c : Child) (t e : Table) → (out-Child c).item ≡ items.Nothing → e ≡ t
+    → table_trie t ≡ trie (Some (standings.table false false false)) None no_tries
+    → mark_here dotted (child_trie c) ≡ Some (table_trie (roll-Table (dotted_fields e)))
+dotted_nothing c t e is same empty =
+    ap (mark_here dotted) (child_item_trie c ∙ ap item_trie is ∙ nothing_trie)
+    ∙ fresh_dotted (out-Table e).passed (out-Table e).named (out-Table e).dotted
+    (by_keys (tries_of child_trie (out-Table e).entries))
+    (sym (table_entries_trie e) ∙ ap table_trie same ∙ empty)
+    ∙ ap Some (sym (dotted_trie e))
+
+pub dotted_table : (c : Child) (t : Box Table Global) (e : Table) → (out-Child c).item ≡ items.Table t → e ≡ t.value
+    → (out-Table e).named ≡ false → mark_here dotted (child_trie c) ≡ Some (table_trie (roll-Table (dotted_fields e)))
+dotted_table c t e is same named =
+    ap (mark_here dotted)
+    (child_item_trie c ∙ ap item_trie is ∙ table_item_trie t ∙ ap table_trie (sym same) ∙ table_entries_trie e)
+    ∙ go (out-Table e).named named
+    ∙ ap Some (sym (dotted_trie e))
+  where
+    go : (n : Bool) → n ≡ false
+        → mark_here dotted (trie (Some (standings.table (out-Table e).passed n (out-Table e).dotted)) None
+        (by_keys (tries_of child_trie (out-Table e).entries)))
+        ≡ Some (trie (Some (standings.table (out-Table e).passed n true)) None
+        (by_keys (tries_of child_trie (out-Table e).entries)))
+    go false clear = refl
+    go true clear = absurd (cc)
+
+pub named_refuses : (c : Child) (t : Box Table Global) → (out-Child c).item ≡ items.Table t
+    → (out-Table t.value).named ≡ true → mark_here dotted (child_trie c) ≡ None
+named_refuses c t is named =
+    ap (mark_here dotted) (child_item_trie c ∙ ap item_trie is ∙ table_item_trie t ∙ table_entries_trie t.value)
+    ∙ go (out-Table t.value).named named
+  where
+    go : (n : Bool) → n ≡ true
+        → mark_here dotted (trie (Some (standings.table (out-Table t.value).passed n (out-Table t.value).dotted)) None
+        (by_keys (tries_of child_trie (out-Table t.value).entries))) ≡ None
+    go true set = refl
+    go false set = absurd (cc)
+
+pub tables_stand : (c : Child) (b : Box (Vec Table Global) Global) (latest : Box Table Global)
+    → (out-Child c).item ≡ items.Tables b latest → TellsLast (child_trie c) (mets.Header 1)
+tables_stand c b latest is =
+    tables_met c (suc (length (map table_trie b.value.items))) None
+    (by_numbers 0 (map table_trie b.value.items ++ table_trie latest.value ∷ []))
+    (child_item_trie c ∙ ap item_trie is ∙ tables_trie b latest)
+
+pub no_keys : (rows : List Row) → length rows ≡ 0 → line_keys rows ≡ []
+no_keys [] none = refl
+no_keys (r ∷ rs) none = absurd (omega arith)

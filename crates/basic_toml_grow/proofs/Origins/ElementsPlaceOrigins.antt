@@ -1,0 +1,201 @@
+-- A header that goes on into the latest element of an array of tables, and one that adds an element.
+use Rattle.std.proofs.Common.{◌≡◌, ℕ, zero, suc, Bool, true, false, List, [], ◌∷◌, ◌++◌, Some, None, refl, ap}
+use Rattle.std.proofs.Common.{sym, ◌∙◌, subst, map, arith, length, slice_get, Vec, Box, Global}
+use Rattle.std.proofs.Common.{nat_eq}
+use Rattle.std.specs.Prelude.{if◌then◌else◌, ◌&&◌}
+use Rattle.std.specs.Option.{option_or}
+use Rattle.std.proofs.lemmas.Bool.{false≢true}
+use Rattle.std.proofs.lemmas.List.{map-append}
+use Rattle.basic_toml_grammar.specs.Sections.{KeyTexts}
+use Rattle.basic_toml_grammar.specs.Steps.{Step, key, number, Path, begins}
+use Rattle.basic_toml_grammar.specs.Trie.{count}
+use Rattle.basic_toml_grow.specs.declared.item.Item.{Nothing, Tables}
+use Rattle.basic_toml_grow.specs.declared.item.Item as items
+use Rattle.basic_toml_grow.specs.declared.item.Table.{Table}
+use Rattle.basic_toml_grow.specs.Item.{item_trie, table_trie}
+use Rattle.basic_toml_grow.specs.Origins.{Origin, Origins, no_origins, entry, under, at_numbers, Within}
+use Rattle.basic_toml_grow.specs.Origins.{table_origin, item_origins, table_within, or_else, along}
+use Rattle.basic_toml_grow.specs.Ways.{way, way_by, GrowsAlong}
+use Rattle.basic_toml_grow.proofs.HeadersInATrie.{fresh}
+use Rattle.basic_toml_grow.proofs.TablesOpened.{tables_trie, nothing_trie}
+use Rattle.basic_toml_grow.proofs.Origins.OriginsSeen.{nothing_seen, tables_seen, table_origins, fresh_within}
+use Rattle.basic_toml_grow.proofs.Origins.OriginsSeen.{or_none}
+use Rattle.basic_toml_grow.proofs.Origins.HeadersPlaceOrigins.{way_into_latest}
+
+-- the last of a list, and the others
+module _ {A : Type 0} where
+  last_is : (xs : List A) (x : A) (n : ℕ) → n ≡ length xs → slice_get (xs ++ x ∷ []) n ≡ Some x
+  last_is [] x zero same = refl
+  last_is [] x (suc n) same = absurd (omega (arith, same))
+  last_is (y ∷ xs) x zero same = absurd (omega (arith, same))
+  last_is (y ∷ xs) x (suc n) same = last_is xs x n (omega (arith, same))
+
+  none_past : (xs : List A) (n : ℕ) → n ≡ length xs → slice_get xs n ≡ None
+  none_past [] n same = refl
+  none_past (y ∷ xs) zero same = absurd (omega (arith, same))
+  none_past (y ∷ xs) (suc n) same = none_past xs n (omega (arith, same))
+
+  other_is : (xs : List A) (x : A) (n m : ℕ) → n ≡ length xs → nat_eq m n ≡ false
+      → slice_get (xs ++ x ∷ []) m ≡ slice_get xs m
+  other_is [] x n zero same other = absurd (false≢true (sym other ∙ ap (nat_eq 0) same))
+  other_is [] x n (suc m) same other = refl
+  other_is (y ∷ xs) x n zero same other = refl
+  other_is (y ∷ xs) x zero (suc m) same other = absurd (omega (arith, same))
+  other_is (y ∷ xs) x (suc n) (suc m) same other = other_is xs x n m (omega (arith, same)) (grind (arith, other))
+
+same_numbers : (n m : ℕ) → nat_eq m n ≡ true → m ≡ n
+same_numbers n m same = grind (arith, same)
+
+-- the elements before the last one are as they were; the last has grown, or is new
+module _ (xs : List Origins) (n : ℕ) (counted : n ≡ length xs) (was now rows : Origins) (w : Path)
+    (grows : (s : Step) (q : Path) → begins (s ∷ q) w ≡ false → now (s ∷ q) ≡ or_else was (along w rows) (s ∷ q))
+    (there grown : Origins)
+    (there_last : (s : Step) (q : Path) → there (number n ∷ s ∷ q) ≡ was (s ∷ q))
+    (there_others : (m : ℕ) (q : Path) → nat_eq m n ≡ false → there (number m ∷ q)
+    ≡ under (slice_get xs m) q)
+    (there_keys : (k : List ℕ) (q : Path) → there (key k ∷ q) ≡ None) (o : Origin)
+    (grown_is : (s : Step) (q : Path) → grown (s ∷ q) ≡ at_numbers (xs ++ entry o now ∷ []) (s ∷ q)) where
+  last_grows : (q : Path) → begins q w ≡ false
+      → grown (number n ∷ q) ≡ option_or (there (number n ∷ q)) (along w rows q)
+  last_grows [] not = absurd (false≢true (sym not))
+  last_grows (s ∷ q) not =
+      grown_is (number n) (s ∷ q)
+      ∙ ap (λ o. under o (s ∷ q)) (last_is xs (entry o now) n counted)
+      ∙ grows s q not
+      ∙ ap (λ o. option_or o (along w rows (s ∷ q))) (sym (there_last s q))
+
+  pub element_grows : GrowsAlong (number n ∷ w) rows (there) (grown)
+  element_grows [] not = absurd (false≢true (sym not))
+  element_grows (key k ∷ q) not = grown_is (key k) q ∙ sym (ap (λ o. option_or o None) (there_keys k q))
+  element_grows (number m ∷ q) not = go (nat_eq m n) refl not
+    where
+      go : (b : Bool) → nat_eq m n ≡ b → (b && begins q w) ≡ false
+          → grown (number m ∷ q)
+          ≡ option_or (there (number m ∷ q)) (if nat_eq m n then along w rows q else None)
+      go true e not =
+          let same = same_numbers n m e in
+          ap (λ m. grown (number m ∷ q)) same ∙ last_grows q not
+          ∙ ap (λ m. option_or (there (number m ∷ q)) (along w rows q)) (sym same)
+          ∙ ap (λ b. option_or (there (number m ∷ q)) (if b then along w rows q else None)) (sym e)
+      go false e not =
+          grown_is (number m) q
+          ∙ ap (λ o. under o q) (other_is xs (entry o now) n m counted e)
+          ∙ sym (there_others m q e)
+          ∙ sym (or_none (there (number m ∷ q)))
+          ∙ ap (λ b. option_or (there (number m ∷ q)) (if b then along w rows q else None)) (sym e)
+
+-- an array of tables, by the origins in its elements
+abbrev of_table : ℕ → ℕ → Within → Origins
+of_table at s t = entry (table_origin t.made at s) t.below
+
+array_below : (i : items.Item) (b : Box (Vec Table Global) Global) (latest : Box Table Global) (at s : ℕ) → i ≡ Tables b latest
+    → (r : Step) (p : Path) → item_origins i at s (r ∷ p)
+    ≡ at_numbers (map (of_table at s) (map table_within b.value.items) ++ of_table at s (table_within latest.value) ∷ [])
+    (r ∷ p)
+array_below i b latest at s is r p =
+    ap (λ f. f (r ∷ p)) (ap (λ i. item_origins i at s) is ∙ tables_seen b latest at s)
+    ∙ ap (λ os. at_numbers os (r ∷ p))
+    (map-append (of_table at s) (map table_within b.value.items) (table_within latest.value ∷ []))
+
+mapped_count : {A B : Type 0} (f : A → B) (xs : List A) → length (map f xs) ≡ length xs
+mapped_count f [] = refl
+mapped_count f (x ∷ xs) = ap suc (mapped_count f xs)
+
+-- elements other than the last
+others_are : (xs : List Origins) (x : Origins) (n m : ℕ) (q : Path) → n ≡ length xs → nat_eq m n ≡ false
+    → at_numbers (xs ++ x ∷ []) (number m ∷ q) ≡ under (slice_get xs m) q
+others_are xs x n m q counted other = ap (λ o. under o q) (other_is xs x n m counted other)
+
+-- on into the latest element
+pub latest_grows : (a : Bool) (keys : KeyTexts) (rows : Origins) (there item : items.Item) (b : Box (Vec Table Global) Global)
+    (old after : Box Table Global) → there ≡ Tables b old → item ≡ Tables b after
+    → GrowsAlong (way a keys (table_trie old.value)) rows (table_origins old.value) (table_origins after.value)
+    → (at s : ℕ) → GrowsAlong (way_by a keys (item_trie there)) rows (item_origins there at s) (item_origins item at s)
+latest_grows a keys rows there item b old after is item_is grows at s =
+    subst (λ w. GrowsAlong w rows (item_origins there at s) (item_origins item at s))
+    (sym (way_into_latest a keys there b old is))
+    (element_grows xs n counted (table_origins old.value) (table_origins after.value) rows
+    (way a keys (table_trie old.value)) (λ r q not. grows (r ∷ q) not) (item_origins there at s)
+    (item_origins item at s)
+    (λ r q. was (number n) (r ∷ q) ∙ ap (λ o. under o (r ∷ q)) (last_is xs (of_table at s (table_within old.value)) n
+    counted))
+    (λ m q other. was (number m) q ∙ others_are xs (of_table at s (table_within old.value)) n m q counted other)
+    (λ k q. was (key k) q) (table_origin (table_within after.value).made at s) now)
+  where
+    xs : List Origins
+    xs = map (of_table at s) (map table_within b.value.items)
+
+    n : ℕ
+    n = length (map table_trie b.value.items)
+
+    counted : n ≡ length xs
+    counted = mapped_count table_trie b.value.items ∙ sym (mapped_count (of_table at s) (map table_within b.value.items)
+        ∙ mapped_count table_within b.value.items)
+
+    was : (r : Step) (p : Path) → item_origins there at s (r ∷ p)
+        ≡ at_numbers (xs ++ of_table at s (table_within old.value) ∷ []) (r ∷ p)
+    was r p = array_below there b old at s is r p
+
+    now : (r : Step) (p : Path) → item_origins item at s (r ∷ p)
+        ≡ at_numbers (xs ++ of_table at s (table_within after.value) ∷ []) (r ∷ p)
+    now r p = array_below item b after at s item_is r p
+
+-- one more element, after none and after some
+module _ (there : items.Item) (at s : ℕ) (before : Box (Vec Table Global) Global) (new after : Box Table Global) (rows : Origins)
+    (is_fresh : table_trie new.value ≡ fresh)
+    (put : table_origins after.value ≡ or_else (table_origins new.value) rows) where
+  abbrev xs : List Origins
+  xs = map (of_table at s) (map table_within before.value.items)
+
+  now : (r : Step) (p : Path) → item_origins (Tables before after) at s (r ∷ p)
+      ≡ at_numbers (xs ++ of_table at s (table_within after.value) ∷ []) (r ∷ p)
+  now r p = array_below (Tables before after) before after at s refl r p
+
+  grown : (r : Step) (q : Path) → begins (r ∷ q) [] ≡ false
+      → table_origins after.value (r ∷ q) ≡ or_else no_origins (along [] rows) (r ∷ q)
+  grown r q not = ap (λ f. f (r ∷ q)) put
+      ∙ ap (λ w. option_or (w.below (r ∷ q)) (rows (r ∷ q))) (fresh_within new.value is_fresh)
+
+  added : (n : ℕ) → n ≡ length xs
+      → ((r : Step) (p : Path) → item_origins there at s (r ∷ p) ≡ at_numbers xs (r ∷ p))
+      → GrowsAlong (number n ∷ []) rows (item_origins there at s) (item_origins (Tables before after) at s)
+  added n counted was =
+      element_grows xs n counted no_origins (table_origins after.value) rows [] grown (item_origins there at s)
+      (item_origins (Tables before after) at s)
+      (λ r q. was (number n) (r ∷ q) ∙ ap (λ o. under o (r ∷ q)) (none_past xs n counted))
+      (λ m q other. was (number m) q)
+      (λ k q. was (key k) q) (table_origin (table_within after.value).made at s) now
+
+  pub first_added : there ≡ Nothing → before.value.items ≡ []
+      → GrowsAlong (number (count (item_trie there)) ∷ []) rows (item_origins there at s) (item_origins (Tables before after) at s)
+  first_added is none =
+      added (count (item_trie there))
+      (ap count (ap item_trie is ∙ nothing_trie)
+      ∙ sym (ap (λ ts. length (map (of_table at s) (map table_within ts))) none))
+      (λ r p. ap (λ f. f (r ∷ p)) (ap (λ i. item_origins i at s) is ∙ nothing_seen at s)
+      ∙ sym (ap (λ ts. at_numbers (map (of_table at s) (map table_within ts)) (r ∷ p)) none ∙ nowhere r p))
+    where
+      nowhere : (r : Step) (p : Path) → at_numbers [] (r ∷ p) ≡ None
+      nowhere (key k) p = refl
+      nowhere (number n) p = refl
+
+  pub next_added : (b : Box (Vec Table Global) Global) (latest : Box Table Global) → there ≡ Tables b latest
+      → before.value.items ≡ b.value.items ++ latest.value ∷ []
+      → GrowsAlong (number (count (item_trie there)) ∷ []) rows (item_origins there at s) (item_origins (Tables before after) at s)
+  next_added b latest is more =
+      added (count (item_trie there))
+      (ap count (ap item_trie is ∙ tables_trie b latest)
+      ∙ ap suc (mapped_count table_trie b.value.items)
+      ∙ sym (ap length same ∙ one_longer (map (of_table at s) (map table_within b.value.items))
+      (of_table at s (table_within latest.value))
+      ∙ ap suc (mapped_count (of_table at s) (map table_within b.value.items) ∙ mapped_count table_within b.value.items)))
+      (λ r p. array_below there b latest at s is r p ∙ sym (ap (λ os. at_numbers os (r ∷ p)) same))
+    where
+      same : xs ≡ map (of_table at s) (map table_within b.value.items) ++ of_table at s (table_within latest.value) ∷ []
+      same = ap (λ ts. map (of_table at s) (map table_within ts)) more
+          ∙ ap (map (of_table at s)) (map-append table_within b.value.items (latest.value ∷ []))
+          ∙ map-append (of_table at s) (map table_within b.value.items) (table_within latest.value ∷ [])
+
+      one_longer : {A : Type 0} (xs : List A) (x : A) → length (xs ++ x ∷ []) ≡ suc (length xs)
+      one_longer [] x = refl
+      one_longer (y ∷ xs) x = ap suc (one_longer xs x)

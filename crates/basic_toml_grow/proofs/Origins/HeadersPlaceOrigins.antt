@@ -1,0 +1,224 @@
+-- The way of a header through the tree: what its rows bring comes at the way's end.
+use Rattle.std.proofs.Common.{◌≡◌, ℕ, Bool, true, false, ◌≤◌, List, [], ◌∷◌}
+use Rattle.std.proofs.Common.{refl, ap}
+use Rattle.std.proofs.Common.{sym, ◌∙◌, subst, map, arith, length, slice_get, Some, Vec, Box, Global, Result, Ok}
+use Rattle.std.proofs.Common.{Err}
+use Rattle.std.specs.Prelude.{IfOk, ◌&&◌}
+use Rattle.std.specs.Option.{option_or}
+use Rattle.std.proofs.lemmas.Bool.{false≢true}
+use Rattle.basic_toml_value.proofs.DistinctKeys.{bytes_eq-same}
+use Rattle.basic_toml_grammar.specs.Sections.{KeyTexts}
+use Rattle.basic_toml_read.specs.declared.section.Key.{Key}
+use Rattle.basic_toml_read.specs.SectionView.{header_texts}
+use Rattle.basic_toml_grammar.specs.Steps.{Step, key, number, Path, begins}
+use Rattle.basic_toml_grammar.specs.Trie.{Trie, nothing, find, Tries}
+use Rattle.basic_toml_clash.specs.declared.clash.Clash.{Clash}
+use Rattle.basic_toml_grow.specs.declared.item.Item.{the_lemmas, Nothing, Tables}
+use Rattle.basic_toml_grow.specs.declared.item.Item as items
+use Rattle.basic_toml_grow.specs.declared.item.Item.TheViews.{roll-Table, out-roll-Table}
+use Rattle.basic_toml_grow.specs.declared.item.Child.{Child, out-Child}
+use Rattle.basic_toml_grow.specs.declared.item.Table.{Table, out-Table}
+use Rattle.basic_toml_grow.specs.Item.{item_trie, child_trie, table_trie, by_keys}
+use Rattle.basic_toml_clash.specs.Keyed.{with_value, values_of}
+use Rattle.basic_toml_grow.specs.Headers.{holding, Passes, PutsBack}
+use Rattle.basic_toml_grow.specs.Origins.{Origins, at_keys}
+use Rattle.basic_toml_grow.specs.Origins.{child_origins, item_origins, table_within}
+use Rattle.basic_toml_grow.specs.Origins.{with_more, or_else, along}
+use Rattle.basic_toml_grow.specs.Ways.{way, way_by, way_at, GrowsAlong}
+use Rattle.basic_toml_clash.proofs.KeysChanged.{value_put}
+use Rattle.basic_toml_grow.proofs.HeadersInATrie.{made, fresh, array_of}
+use Rattle.basic_toml_grow.proofs.HeadersEntered.{out_holding, passed_trie}
+use Rattle.basic_toml_grow.proofs.ItemTries.{table_entries_trie}
+use Rattle.basic_toml_grow.proofs.KeysInATrie.{tries_of, stood_there}
+use Rattle.basic_toml_grow.proofs.LatestInATrie.{find_latest}
+use Rattle.basic_toml_grow.proofs.TablesOpened.{named_fields, numbered_fields, tables_trie, nothing_trie}
+use Rattle.basic_toml_grow.proofs.TablesOpened.{table_item_trie}
+use Rattle.basic_toml_grow.proofs.Origins.OriginsSeen.{child_seen, below_seen, nothing_seen, table_item_seen}
+use Rattle.basic_toml_grow.proofs.Origins.OriginsSeen.{table_origins, nothing_comes, fresh_within, grows_at}
+
+-- a way, a node at a time
+way_through : (a : Bool) (k : List ℕ) (keys : KeyTexts) (p n d : Bool) (ts : Tries)
+    → way a (k ∷ keys) (made p n d ts) ≡ key k ∷ way_at a keys (find (key k) ts)
+way_through true k [] p n d ts = refl
+way_through false k [] p n d ts = refl
+way_through true k (l ∷ keys) p n d ts = refl
+way_through false k (l ∷ keys) p n d ts = refl
+
+pub way_fresh : (a : Bool) (keys : KeyTexts) → way a keys fresh ≡ way a keys nothing
+way_fresh a [] = refl
+way_fresh true (k ∷ []) = refl
+way_fresh false (k ∷ []) = refl
+way_fresh a (k ∷ l ∷ keys) = refl
+
+way_latest : (a : Bool) (keys : KeyTexts) (before : List Trie) (t : Trie)
+    → way_by a keys (array_of before t) ≡ number (length before) ∷ way a keys t
+way_latest a keys before t = rw (find_latest 0 (length before) before t (omega arith)) refl
+
+pub way_into_fresh : (a : Bool) (keys : KeyTexts) (i : items.Item) (new : Trie) → i ≡ Nothing
+    → new ≡ fresh → way_by a keys (item_trie i) ≡ way a keys new
+way_into_fresh a keys i new is is_fresh =
+    ap (way_by a keys) (ap item_trie is ∙ nothing_trie)
+    ∙ sym (way_fresh a keys) ∙ ap (way a keys) (sym is_fresh)
+
+pub way_into_table : (a : Bool) (keys : KeyTexts) (i : items.Item) (t : Box Table Global)
+    → i ≡ items.Table t → way_by a keys (item_trie i) ≡ way a keys (table_trie t.value)
+way_into_table a keys i t is =
+    let e = table_entries_trie t.value in
+    ap (way_by a keys) (ap item_trie is ∙ table_item_trie t ∙ e)
+    ∙ ap (way a keys) (sym e)
+
+pub way_into_latest : (a : Bool) (keys : KeyTexts) (i : items.Item) (b : Box (Vec Table Global) Global) (latest : Box Table Global)
+    → i ≡ Tables b latest
+    → way_by a keys (item_trie i) ≡ number (length (map table_trie b.value.items)) ∷ way a keys (table_trie latest.value)
+way_into_latest a keys i b latest is =
+    ap (way_by a keys) (ap item_trie is ∙ tables_trie b latest)
+    ∙ way_latest a keys (map table_trie b.value.items) (table_trie latest.value)
+
+some_same : {A : Type 0} {x y : A} → Some x ≡ Some y → x ≡ y
+some_same is = cc
+
+-- the table that is named, and the rows that are put into it
+pub same_below : (t u : Table) → (out-Table u).entries ≡ (out-Table t).entries → table_origins u ≡ table_origins t
+same_below t u same = below_seen u ∙ sym (below_seen t ∙ ap (λ ps. at_all ps) (sym same))
+  where
+    at_all : List (List ℕ × Child) → Origins
+    at_all ps = at_keys (map (λ p. (p.0, child_origins p.1)) ps)
+
+pub opened : (t d e : Table) (n : ℕ) (rows : Origins) (r : Result (Box Table Global) Clash)
+    → d ≡ t → e ≡ roll-Table (named_fields d)
+    → IfOk r (λ after. table_within after.value
+    ≡ with_more (table_within (roll-Table (numbered_fields n e))) rows)
+    → IfOk r (λ after. table_origins after.value ≡ or_else (table_origins t) rows)
+opened t d e n rows (Err clash) same is comes = tt
+opened t d e n rows (Ok after) same is comes =
+    let a = out-roll-Table (numbered_fields n e) in
+    let b = ap out-Table is ∙ out-roll-Table (named_fields d) in
+    ap (λ w. w.below) comes
+    ∙ ap (λ f. or_else f rows) (same_below t (roll-Table (numbered_fields n e))
+    (ap (λ o. o.entries) a ∙ ap (λ o. o.entries) b ∙ ap (λ t. (out-Table t).entries) same))
+
+-- no element is added: the way is that of the keys that are left
+pub no_array_way : (a : Bool) (keys : KeyTexts) (t : Trie) → a ≡ false → way_at a keys t ≡ way_by a keys t
+no_array_way true keys t not = absurd (false≢true (sym not))
+no_array_way false keys t not = refl
+
+pub not_last_way : (a : Bool) (keys : List Key) (t : Trie) → 1 ≤ length keys
+    → way_at a (header_texts keys) t ≡ way_by a (header_texts keys) t
+not_last_way a [] t some = absurd (omega arith)
+not_last_way true (k ∷ keys) t some = refl
+not_last_way false (k ∷ keys) t some = refl
+
+pub no_keys_left : (a : Bool) (keys : List Key) (t : Table) (rows : Origins)
+    (r : Result (Box Table Global) Clash) → length keys ≡ 0
+    → IfOk r (λ after. table_origins after.value ≡ or_else (table_origins t) rows)
+    → IfOk r (λ after. GrowsAlong (way a (header_texts keys) (table_trie t)) rows (table_origins t)
+    (table_origins after.value))
+no_keys_left a (k ∷ keys) t rows r none comes = absurd (omega (arith, none))
+no_keys_left a [] t rows (Err clash) none comes = tt
+no_keys_left a [] t rows (Ok after) none comes = λ p not. ap (λ f. f p) comes
+
+-- a table that a header passes
+pub passed_grows : (a : Bool) (rows : Origins) (k : List ℕ) (keys whole : KeyTexts) (t o p q u : Table)
+    (position : ℕ) (there item : items.Item) → whole ≡ k ∷ keys → o ≡ t → Passes k o p position there → q ≡ p
+    → PutsBack q position item u
+    → ((at s : ℕ) → GrowsAlong (way_at a keys (item_trie there)) rows (item_origins there at s) (item_origins item at s))
+    → GrowsAlong (way a whole (table_trie t)) rows (table_origins t) (table_origins u)
+passed_grows a rows k keys whole t o p q u position there item is_whole is_old passed same puts grows =
+    subst (λ w. GrowsAlong w rows (table_origins t) (table_origins u)) (sym is_way) go
+  where
+    passes : Passes k t p position there
+    passes = subst (λ (t : Table). Passes k t p position there) is_old passed
+
+    w : Path
+    w = way_at a keys (item_trie there)
+
+    is_way : way a whole (table_trie t) ≡ key k ∷ w
+    is_way =
+        ap (λ ks. way a ks (table_trie t)) is_whole
+        ∙ ap (way a (k ∷ keys)) (table_entries_trie t)
+        ∙ way_through a k keys (out-Table t).passed (out-Table t).named (out-Table t).dotted
+        (by_keys (tries_of child_trie (out-Table t).entries))
+        ∙ ap (λ t. key k ∷ way_at a keys t)
+        (stood_there child_trie k passes.blank (out-Table t).entries passes.entries position passes.is_nothing
+        passes.entered passes.child passes.stands ∙ passed_trie k t p position there passes)
+
+    put : (out-Table u).entries
+        ≡ with_value (with_value passes.entries position (holding passes.child Nothing)) position
+        (holding puts.child item)
+    put =
+        puts.entries ∙ ap (λ t. with_value (out-Table t).entries position (holding puts.child item)) same
+        ∙ ap (λ es. with_value es position (holding puts.child item)) passes.left
+
+    -- the child that the item is put back into is the one that it was taken out of
+    same_child : puts.child ≡ holding passes.child Nothing
+    same_child =
+        some_same (sym puts.stands
+        ∙ ap (λ t. slice_get (values_of (out-Table t).entries) position) same
+        ∙ ap (λ es. slice_get (values_of es) position) passes.left
+        ∙ value_put passes.entries position passes.child (holding passes.child Nothing) passes.stands)
+
+    at : ℕ
+    at = (out-Child passes.child).start
+
+    s : ℕ
+    s = (out-Child passes.child).section
+
+    was : child_origins passes.child ≡ item_origins there at s
+    was = child_seen passes.child ∙ ap (λ i. item_origins i at s) passes.item
+
+    is : child_origins (holding puts.child item) ≡ item_origins item at s
+    is =
+        child_seen (holding puts.child item)
+        ∙ ap (λ o. item_origins o.item o.start o.section)
+        (out_holding puts.child item
+        ∙ ap (λ o. record { start = o.start; section = o.section; item = item })
+        (ap out-Child same_child ∙ out_holding passes.child Nothing))
+
+    below : GrowsAlong w rows (child_origins passes.child) (child_origins (holding puts.child item))
+    below y not =
+        ap (λ f. f y) is ∙ grows at s y not ∙ ap (λ f. or_else f (along w rows) y) (sym was)
+
+    go : GrowsAlong (key k ∷ w) rows (table_origins t) (table_origins u)
+    go x not =
+        grows_at t u passes.blank passes.child (holding puts.child item) (holding passes.child Nothing) k passes.entries
+        position (nothing_comes passes.blank passes.is_nothing) passes.entered passes.stands put (along w rows) x
+        (λ y is. below y (further y (sym (ap (λ x. begins x (key k ∷ w)) is) ∙ not)))
+      where
+        further : (y : Path) → begins (key k ∷ y) (key k ∷ w) ≡ false → begins y w ≡ false
+        further y not = sym (ap (λ b. b && begins y w) (bytes_eq-same k)) ∙ not
+
+-- a table below a key, which was there or is new
+held_grows : (w v : Path) (rows before after there now : Origins) → v ≡ w
+    → ((s : Step) (p : Path) → there (s ∷ p) ≡ before (s ∷ p)) → ((s : Step) (p : Path) → now (s ∷ p) ≡ after (s ∷ p))
+    → GrowsAlong w rows before after → GrowsAlong v rows there now
+held_grows w v rows before after there now same was is grows = subst (λ w. GrowsAlong w rows there now) (sym same) go
+  where
+    go : GrowsAlong w rows there now
+    go [] not = absurd (false≢true (sym not))
+    go (s ∷ p) not =
+        is s p ∙ grows (s ∷ p) not ∙ ap (λ o. option_or o (along w rows (s ∷ p))) (sym (was s p))
+
+table_held : (i : items.Item) (t : Box Table Global) (at s : ℕ) → i ≡ items.Table t → (r : Step) (p : Path)
+    → item_origins i at s (r ∷ p) ≡ table_origins t.value (r ∷ p)
+table_held i t at s is r p = ap (λ f. f (r ∷ p)) (ap (λ i. item_origins i at s) is ∙ table_item_seen t at s)
+
+pub new_table_grows : (a : Bool) (keys : KeyTexts) (rows : Origins) (there item : items.Item)
+    (new after : Box Table Global) → there ≡ Nothing → table_trie new.value ≡ fresh → item ≡ items.Table after
+    → GrowsAlong (way a keys (table_trie new.value)) rows (table_origins new.value) (table_origins after.value)
+    → (at s : ℕ) → GrowsAlong (way_by a keys (item_trie there)) rows (item_origins there at s) (item_origins item at s)
+new_table_grows a keys rows there item new after is is_fresh is_table grows at s =
+    held_grows (way a keys (table_trie new.value)) (way_by a keys (item_trie there)) rows (table_origins new.value)
+    (table_origins after.value) (item_origins there at s) (item_origins item at s)
+    (way_into_fresh a keys there (table_trie new.value) is is_fresh)
+    (λ r p. ap (λ f. f (r ∷ p)) (ap (λ i. item_origins i at s) is ∙ nothing_seen at s)
+    ∙ sym (ap (λ w. w.below (r ∷ p)) (fresh_within new.value is_fresh)))
+    (table_held item after at s is_table) grows
+
+pub table_grows : (a : Bool) (keys : KeyTexts) (rows : Origins) (there item : items.Item)
+    (old after : Box Table Global) → there ≡ items.Table old → item ≡ items.Table after
+    → GrowsAlong (way a keys (table_trie old.value)) rows (table_origins old.value) (table_origins after.value)
+    → (at s : ℕ) → GrowsAlong (way_by a keys (item_trie there)) rows (item_origins there at s) (item_origins item at s)
+table_grows a keys rows there item old after is is_table grows at s =
+    held_grows (way a keys (table_trie old.value)) (way_by a keys (item_trie there)) rows (table_origins old.value)
+    (table_origins after.value) (item_origins there at s) (item_origins item at s) (way_into_table a keys there old is)
+    (table_held there old at s is) (table_held item after at s is_table) grows

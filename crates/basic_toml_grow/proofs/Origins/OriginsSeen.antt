@@ -1,0 +1,196 @@
+-- The origins in a table and in what stands in it, one level at a time, and how they change at a key.
+use Rattle.std.proofs.Common.{◌≡◌, ◌⊎◌, inl, inr, ℕ, Bool, true, false, List, [], ◌∷◌, ◌++◌, Option, Some, None}
+use Rattle.std.proofs.Common.{refl, ap}
+use Rattle.std.proofs.Common.{sym, ◌∙◌, subst, map, rules, option_map, slice_get, Vec, Box, Global, codes}
+use Rattle.std.specs.Prelude.{◌||◌, if◌then◌else◌}
+use Rattle.std.specs.Option.{option_or}
+use Rattle.std.specs.Str.{bytes_eq}
+use Rattle.std.proofs.Math.Path.{fun_ext}
+use Rattle.std.proofs.lemmas.Slice.Eq.{bytes_eq-Decides}
+use Rattle.std.proofs.lemmas.Bool.{false≢true}
+use Rattle.basic_toml_value.specs.Pairs.{value_at}
+use Rattle.basic_toml_grammar.specs.Standing as standings
+use Rattle.basic_toml_grammar.specs.Steps.{key, number, Path}
+use Rattle.basic_toml_grammar.specs.Trie.{Trie, trie, Tries, no_tries, nothing, standing}
+use Rattle.basic_toml_grow.specs.declared.item.Item.{Item, out-Item, the_lemmas, Nothing, Array, Inline, Tables}
+use Rattle.basic_toml_grow.specs.declared.item.Item as items
+use Rattle.basic_toml_grow.specs.declared.item.Item.TheOpen.{Item-F}
+use Rattle.basic_toml_grow.specs.declared.item.Child.{Child, out-Child}
+use Rattle.basic_toml_grow.specs.declared.item.Table.{Table, out-Table}
+use Rattle.basic_toml_grow.specs.Item.{item_trie, child_trie, table_trie, by_keys}
+use Rattle.basic_toml_clash.specs.Keyed.{with_value, values_of, EntersKey}
+use Rattle.basic_toml_grow.specs.Origins.{Origin, Origins, no_origins, entry, under, at_keys, at_numbers}
+use Rattle.basic_toml_grow.specs.Origins.{elements_within, array_origin, value_origin, table_origin}
+use Rattle.basic_toml_grow.specs.Origins.{item_origins, child_origins, table_within, or_else, beyond}
+use Rattle.basic_toml_grow.proofs.ItemTries.{child_item_trie, table_entries_trie}
+use Rattle.basic_toml_clash.proofs.KeysChanged.{value_at-map, stood_or_fresh, put_at, kept_elsewhere}
+use Rattle.basic_toml_grow.proofs.KeysInATrie.{tries_of}
+use Rattle.basic_toml_grow.proofs.ItemsStand.{shape, standing_here, item_standing}
+
+-- a child and a table, by their parts
+pub child_seen : (c : Child)
+    → child_origins c ≡ item_origins (out-Child c).item (out-Child c).start (out-Child c).section
+child_seen c = search (rules, the_lemmas)
+
+pub table_seen : (t : Table)
+    → table_within t ≡ record {
+      made = (out-Table t).passed || (out-Table t).named;
+      below = at_keys (map (λ p. (p.0, child_origins p.1)) (out-Table t).entries);
+    }
+table_seen t = search (rules, the_lemmas)
+
+abbrev pub table_origins : Table → Origins
+table_origins t = (table_within t).below
+
+pub made_seen : (t : Table) → (table_within t).made ≡ ((out-Table t).passed || (out-Table t).named)
+made_seen t = ap (λ w. w.made) (table_seen t)
+
+pub below_seen : (t : Table) → table_origins t ≡ at_keys (map (λ p. (p.0, child_origins p.1)) (out-Table t).entries)
+below_seen t = ap (λ w. w.below) (table_seen t)
+
+-- items, by their parts
+pub nothing_seen : (at s : ℕ) → item_origins Nothing at s ≡ no_origins
+nothing_seen at s = search (rules, the_lemmas)
+
+pub table_item_seen : (t : Box Table Global) (at s : ℕ)
+    → item_origins (items.Table t) at s ≡ entry (table_origin (table_within t.value).made at s) (table_origins t.value)
+table_item_seen t at s = search (rules, the_lemmas)
+
+pub inline_seen : (t : Box Table Global) (at s : ℕ)
+    → item_origins (Inline t) at s ≡ entry (value_origin (codes "inline table") at s) (table_origins t.value)
+inline_seen t at s = search (rules, the_lemmas)
+
+pub array_seen : (cs : Vec Child Global) (at s : ℕ)
+    → item_origins (Array cs) at s
+    ≡ entry (value_origin (codes "array") at s) (at_numbers (map child_origins cs.items))
+array_seen cs at s = search (rules, the_lemmas)
+
+pub tables_seen : (before : Box (Vec Table Global) Global) (latest : Box Table Global) (at s : ℕ)
+    → item_origins (Tables before latest) at s
+    ≡ entry (array_origin at s)
+    (at_numbers (elements_within at s (map table_within before.value.items ++ table_within latest.value ∷ [])))
+tables_seen before latest at s = search (rules, the_lemmas)
+
+-- what stands at a key
+pub seen_at_key : (t : Table) (k : List ℕ) (p : Path)
+    → table_origins t (key k ∷ p) ≡ under (option_map child_origins (value_at (out-Table t).entries k)) p
+seen_at_key t k p =
+    ap (λ f. f (key k ∷ p)) (below_seen t)
+    ∙ ap (λ o. under o p) (value_at-map child_origins (out-Table t).entries k)
+
+pub seen_at_none : (t : Table) → table_origins t [] ≡ None
+seen_at_none t = ap (λ f. f []) (below_seen t)
+
+pub seen_at_number : (t : Table) (n : ℕ) (p : Path) → table_origins t (number n ∷ p) ≡ None
+seen_at_number t n p = ap (λ f. f (number n ∷ p)) (below_seen t)
+
+pub or_none : (o : Option Origin) → option_or o None ≡ o
+or_none None = refl
+or_none (Some o) = refl
+
+-- a table where a key is entered, and what stands there taken out
+module _ (t u : Table) (fresh there gone held : Child) (k : List ℕ) (new : List (List ℕ × Child)) (i : ℕ)
+    (is_fresh : child_origins fresh ≡ no_origins)
+    (entered : EntersKey k fresh (out-Table t).entries new i) (stands : slice_get (values_of new) i ≡ Some there)
+    (put : (out-Table u).entries ≡ with_value (with_value new i held) i gone) where
+  stood : (p : Path) → table_origins t (key k ∷ p) ≡ child_origins there p
+  stood p = seen_at_key t k p ∙ go (stood_or_fresh k fresh (out-Table t).entries new i entered there stands)
+    where
+      go : (value_at (out-Table t).entries k ≡ Some there)
+          ⊎ ((value_at (out-Table t).entries k ≡ None) × (there ≡ fresh))
+          → under (option_map child_origins (value_at (out-Table t).entries k)) p ≡ child_origins there p
+      go (inl at) = ap (λ o. under (option_map child_origins o) p) at
+      go (inr new) =
+          ap (λ o. under (option_map child_origins o) p) new.0
+          ∙ sym (ap (λ c. child_origins c p) new.1 ∙ ap (λ f. f p) is_fresh)
+
+  stands_now : (p : Path) → table_origins u (key k ∷ p) ≡ child_origins gone p
+  stands_now p =
+      seen_at_key u k p
+      ∙ ap (λ ps. under (option_map child_origins (value_at ps k)) p) put
+      ∙ ap (λ o. under (option_map child_origins o) p)
+      (put_at k fresh (out-Table t).entries new i entered there stands held gone)
+
+  elsewhere : (l : List ℕ) (p : Path) → bytes_eq l k ≡ false → table_origins u (key l ∷ p) ≡ table_origins t (key l ∷ p)
+  elsewhere l p other =
+      seen_at_key u l p
+      ∙ ap (λ ps. under (option_map child_origins (value_at ps l)) p) put
+      ∙ ap (λ o. under (option_map child_origins o) p)
+      (kept_elsewhere k fresh (out-Table t).entries new i entered there stands held gone l other)
+      ∙ sym (seen_at_key t l p)
+
+  -- what comes below the key comes into the table
+  pub grows_at : (below : Origins) (p : Path)
+      → ((q : Path) → p ≡ key k ∷ q → child_origins gone q ≡ or_else (child_origins there) below q)
+      → table_origins u p ≡ or_else (table_origins t) (beyond (key k) below) p
+  grows_at below [] more = seen_at_none u ∙ sym (ap (λ o. option_or o None) (seen_at_none t))
+  grows_at below (number n ∷ q) more =
+      seen_at_number u n q ∙ sym (ap (λ o. option_or o None) (seen_at_number t n q))
+  grows_at below (key l ∷ q) more = go (bytes_eq l k) refl
+    where
+      go : (b : Bool) → bytes_eq l k ≡ b
+          → table_origins u (key l ∷ q)
+          ≡ option_or (table_origins t (key l ∷ q)) (if bytes_eq l k then below q else None)
+      go true e =
+          let same : l ≡ k = (bytes_eq-Decides l k).0 e in
+          let there_now : child_origins gone q ≡ or_else (child_origins there) below q =
+          more q (ap (λ l. key l ∷ q) same) in
+          ap (λ l. table_origins u (key l ∷ q)) same ∙ stands_now q ∙ there_now
+          ∙ ap (λ o. option_or o (below q)) (sym (ap (λ l. table_origins t (key l ∷ q)) same ∙ stood q))
+          ∙ ap (λ b. option_or (table_origins t (key l ∷ q)) (if b then below q else None)) (sym e)
+      go false e =
+          elsewhere l q e ∙ sym (or_none (table_origins t (key l ∷ q)))
+          ∙ ap (λ b. option_or (table_origins t (key l ∷ q)) (if b then below q else None)) (sym e)
+
+-- nothing comes from where nothing stands, and from a table without entries
+item_none : (x : Item-F Item Child Table) (i : Item) (at s : ℕ) → out-Item i ≡ x → item_standing x None
+    → item_origins i at s ≡ no_origins
+item_none Item-F.Nothing i at s is stands =
+    ap (λ i. item_origins i at s) (shape i Item-F.Nothing is) ∙ search (rules, the_lemmas)
+item_none (Item-F.Table t) i at s is stands =
+    absurd (cc (stands, ap standing (table_entries_trie t.value)))
+item_none (Item-F.Tables before latest) i at s is stands = absurd (false≢true stands)
+item_none (Item-F.Integer z) i at s is stands = absurd (cc)
+item_none (Item-F.Float z) i at s is stands = absurd (cc)
+item_none (Item-F.Boolean z) i at s is stands = absurd (cc)
+item_none (Item-F.String z) i at s is stands = absurd (cc)
+item_none (Item-F.Escaped z) i at s is stands = absurd (cc)
+item_none (Item-F.Array z) i at s is stands = absurd (cc)
+item_none (Item-F.Plain z) i at s is stands = absurd (cc)
+item_none (Item-F.Inline z) i at s is stands = absurd (cc)
+
+pub nothing_comes : (c : Child) → child_trie c ≡ nothing → child_origins c ≡ no_origins
+nothing_comes c is =
+    let i = (out-Child c).item in
+    let none : standing (item_trie i) ≡ None = ap standing (sym (child_item_trie c) ∙ is) in
+    child_seen c
+    ∙ item_none (out-Item i) i (out-Child c).start (out-Child c).section refl
+    (subst (λ o. item_standing (out-Item i) o) none (standing_here i))
+
+no_entries : (ps : List (List ℕ × Child)) → by_keys (map (λ p. (p.0, child_trie p.1)) ps) ≡ no_tries → ps ≡ []
+no_entries [] e = refl
+no_entries (p ∷ ps) e = absurd (cc)
+
+pub fresh_within : (t : Table) → table_trie t ≡ trie (Some (standings.table false false false)) None no_tries
+    → table_within t ≡ record { made = false; below = no_origins }
+unfolding tries_of
+fresh_within t is =
+    let parts = sym (table_entries_trie t) ∙ is in
+    let entries : (out-Table t).entries ≡ [] = no_entries (out-Table t).entries (ap tries_in parts) in
+    let made : ((out-Table t).passed || (out-Table t).named) ≡ false = ap (λ t. is_made_in (standing t)) parts in
+    table_seen t
+    ∙ ap (λ b. record { made = b; below = at_keys (map (λ p. (p.0, child_origins p.1)) (out-Table t).entries) }) made
+    ∙ ap (λ ps. record { made = false; below = at_keys (map (λ p. (p.0, child_origins p.1)) ps) }) entries
+    ∙ ap (λ f. record { made = false; below = f }) (fun_ext none_in)
+  where
+    tries_in : Trie → Tries
+    tries_in (trie s v ts) = ts
+
+    is_made_in : Option standings.Standing → Bool
+    is_made_in (Some (standings.table p n d)) = p || n
+    is_made_in _ = true
+
+    none_in : (p : Path) → at_keys [] p ≡ None
+    none_in [] = refl
+    none_in (key k ∷ p) = refl
+    none_in (number n ∷ p) = refl

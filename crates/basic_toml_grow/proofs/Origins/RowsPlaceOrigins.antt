@@ -1,0 +1,133 @@
+-- A row put into a table: where what it makes comes from.
+use Rattle.std.proofs.Common.{◌≡◌, ℕ, Bool, false, List, [], ◌∷◌, ◌++◌, Some, refl, ap}
+use Rattle.std.proofs.Common.{sym, ◌∙◌, ap₂, map, rules, slice_get, Box, Global}
+use Rattle.std.specs.Prelude.{◌||◌}
+use Rattle.std.proofs.Math.Path.{fun_ext}
+use Rattle.basic_toml_grammar.specs.Sections.{KeyTexts}
+use Rattle.basic_toml_grammar.specs.Steps.{key, Path}
+use Rattle.basic_toml_grammar.specs.Trie.{nothing}
+use Rattle.basic_toml_grow.specs.declared.item.Item.{the_lemmas, Nothing}
+use Rattle.basic_toml_grow.specs.declared.item.Item as items
+use Rattle.basic_toml_grow.specs.declared.item.Item.TheViews.{roll-Child, roll-Table, out-roll-Table}
+use Rattle.basic_toml_grow.specs.declared.item.Child.{Child, out-Child}
+use Rattle.basic_toml_grow.specs.declared.item.Table.{Table, out-Table}
+use Rattle.basic_toml_grow.specs.Simple.{with_entries}
+use Rattle.basic_toml_grow.specs.Item.{child_trie}
+use Rattle.basic_toml_clash.specs.Keyed.{with_value, values_of, EntersKey}
+use Rattle.basic_toml_grow.specs.Origins.{Origin, Origins, no_origins, entry, at_keys, Within, table_origin}
+use Rattle.basic_toml_grow.specs.Origins.{child_origins}
+use Rattle.basic_toml_grow.specs.Origins.{item_origins, table_within, with_more, or_else, beyond, row_origins}
+use Rattle.basic_toml_grow.proofs.ItemTries.{entries_with}
+use Rattle.basic_toml_grow.proofs.KeysInATrie.{with_twice}
+use Rattle.basic_toml_grow.proofs.Origins.OriginsSeen.{child_seen, table_seen, made_seen, nothing_seen, table_item_seen}
+use Rattle.basic_toml_grow.proofs.Origins.OriginsSeen.{nothing_comes}
+use Rattle.basic_toml_grow.proofs.MetTellsStop.{dotted_fields}
+use Rattle.basic_toml_grow.proofs.Origins.OriginsSeen.{grows_at, table_origins}
+
+pub origins_on : (k : List ℕ) (ks : KeyTexts) (last : List ℕ) (o : Origin) (below : Origins)
+    → row_origins (k ∷ (ks ++ last ∷ [])) o below ≡ beyond (key k) (entry o (row_origins (ks ++ last ∷ []) o below))
+origins_on k [] last o below = refl
+origins_on k (l ∷ ks) last o below = refl
+
+abbrev within : Bool → Origins → Within
+within made below = record { made = made; below = below }
+
+pub within_is : (w v : Within) → w.made ≡ v.made → ((p : Path) → w.below p ≡ v.below p) → w ≡ v
+within_is w v made below = ap₂ within made (fun_ext below)
+
+entries_made : (t : Table) (ps : List (List ℕ × Child))
+    → (table_within (with_entries t ps)).made ≡ (table_within t).made
+entries_made t ps = made_seen (with_entries t ps) ∙ search (rules, the_lemmas) ∙ sym (made_seen t)
+
+-- a table in which a key is entered, what stands there is taken out, and another child is put in
+module _ (before : Table) (k : List ℕ) (fresh there child : Child) (new : List (List ℕ × Child)) (position : ℕ)
+    (is_nothing : child_trie fresh ≡ nothing) (entered : EntersKey k fresh (out-Table before).entries new position)
+    (stands : slice_get (values_of new) position ≡ Some there) (below : Origins)
+    (comes : child_origins child ≡ or_else (child_origins there) below) where
+  held_put : (held : Child) (u : Table) → (table_within u).made ≡ (table_within before).made
+      → (out-Table u).entries ≡ with_value (with_value new position held) position child
+      → table_within u ≡ with_more (table_within before) (beyond (key k) below)
+  held_put held u made put = within_is (table_within u) (with_more (table_within before) (beyond (key k) below)) made
+      (λ p. grows_at before u fresh there child held k new position (nothing_comes fresh is_nothing) entered stands put
+      below p (λ q is. ap (λ f. f q) comes))
+
+  pub origins_put : (mid : Table) (ps : List (List ℕ × Child)) → mid ≡ with_entries before new
+      → ps ≡ with_value (out-Table mid).entries position child
+      → table_within (with_entries mid ps) ≡ with_more (table_within before) (beyond (key k) below)
+  origins_put mid ps is_mid is_ps =
+      held_put child (with_entries mid ps)
+      (entries_made mid ps ∙ ap (λ t. (table_within t).made) is_mid ∙ entries_made before new)
+      (entries_with mid ps ∙ is_ps
+      ∙ ap (λ t. with_value (out-Table t).entries position child) is_mid
+      ∙ ap (λ qs. with_value qs position child) (entries_with before new)
+      ∙ sym (with_twice new position child child))
+
+  -- where the value is taken out first
+  pub origins_put_back : (v : Child) (first mid : Table) (qs ps : List (List ℕ × Child))
+      → first ≡ with_entries before new → qs ≡ with_value (out-Table first).entries position v
+      → mid ≡ with_entries first qs → ps ≡ with_value (out-Table mid).entries position child
+      → table_within (with_entries mid ps) ≡ with_more (table_within before) (beyond (key k) below)
+  origins_put_back v first mid qs ps is_first is_qs is_mid is_ps =
+      held_put v (with_entries mid ps)
+      (entries_made mid ps ∙ ap (λ t. (table_within t).made) is_mid ∙ entries_made first qs
+      ∙ ap (λ t. (table_within t).made) is_first ∙ entries_made before new)
+      (entries_with mid ps ∙ is_ps
+      ∙ ap (λ t. with_value (out-Table t).entries position child) is_mid
+      ∙ ap (λ ps. with_value ps position child) (entries_with first qs ∙ is_qs
+      ∙ ap (λ t. with_value (out-Table t).entries position v) is_first
+      ∙ ap (λ qs. with_value qs position v) (entries_with before new)))
+
+-- what comes where nothing stands
+pub comes_first : (there : Child) (below : Origins) → child_trie there ≡ nothing
+    → below ≡ or_else (child_origins there) below
+comes_first there below none =
+    sym (ap (λ f. or_else f below) (nothing_comes there none))
+
+-- a table that the dots of a row extend, which was there or is new
+pub extended_table : (there : Child) (old new : Box Table Global) (u : Table) (o : Origin) (row : Origins) (at s : ℕ)
+    → (out-Child there).item ≡ items.Table old → table_within u ≡ table_within old.value
+    → table_within new.value ≡ with_more (table_within u) row → at ≡ (out-Child there).start
+    → s ≡ (out-Child there).section
+    → entry (table_origin (table_within new.value).made at s) (table_origins new.value)
+    ≡ or_else (child_origins there) (entry o row)
+extended_table there old new u o row at s is same more is_at is_s =
+    ap (λ w. entry (table_origin w.made at s) w.below) (more ∙ ap (λ w. with_more w row) same)
+    ∙ ap (λ at. entry (table_origin (table_within old.value).made at s) (or_else (table_origins old.value) row)) is_at
+    ∙ ap (λ s. entry (table_origin (table_within old.value).made (out-Child there).start s)
+    (or_else (table_origins old.value) row)) is_s
+    ∙ fun_ext here
+    ∙ ap (λ f. or_else f (entry o row)) (sym (child_seen there
+    ∙ ap (λ i. item_origins i (out-Child there).start (out-Child there).section) is
+    ∙ table_item_seen old (out-Child there).start (out-Child there).section))
+  where
+    was : Origin
+    was = table_origin (table_within old.value).made (out-Child there).start (out-Child there).section
+
+    here : (p : Path) → entry was (or_else (table_origins old.value) row) p
+        ≡ or_else (entry was (table_origins old.value)) (entry o row) p
+    here [] = refl
+    here (t ∷ p) = refl
+
+pub new_table : (there : Child) (new : Box Table Global) (u : Table) (row : Origins) (at s : ℕ)
+    → (out-Child there).item ≡ Nothing → table_within u ≡ record { made = false; below = no_origins }
+    → table_within new.value ≡ with_more (table_within u) row
+    → entry (table_origin (table_within new.value).made at s) (table_origins new.value)
+    ≡ or_else (child_origins there) (entry (table_origin false at s) row)
+new_table there new u row at s is fresh more =
+    ap (λ w. entry (table_origin w.made at s) w.below) (more ∙ ap (λ w. with_more w row) fresh)
+    ∙ sym (ap (λ f. or_else f (entry (table_origin false at s) row))
+    (child_seen there ∙ ap (λ i. item_origins i (out-Child there).start (out-Child there).section) is
+    ∙ nothing_seen (out-Child there).start (out-Child there).section))
+
+-- a table that is now dotted
+pub dotted_within : (d : Table) → table_within (roll-Table (dotted_fields d)) ≡ table_within d
+dotted_within d =
+    table_seen (roll-Table (dotted_fields d))
+    ∙ ap (λ o. within (o.passed || o.named) (at_keys (map (λ p. (p.0, child_origins p.1)) o.entries)))
+    (out-roll-Table (dotted_fields d))
+    ∙ sym (table_seen d)
+
+pub child_of_table : (t : Box Table Global) (at s : ℕ)
+    → child_origins (roll-Child (record { start = at; section = s; item = items.Table t }))
+    ≡ entry (table_origin (table_within t.value).made at s) (table_origins t.value)
+child_of_table t at s = search (rules, the_lemmas)

@@ -1,0 +1,145 @@
+-- A row put into a table: its first key, and what that key leads to.
+use Rattle.std.proofs.Common.{◌≡◌, ℕ, List, [], ◌∷◌, ◌++◌, ap, ◌∙◌, refl, sym, Option, Some, None, Err, rules, length}
+use Rattle.std.proofs.Common.{arith, Box, Global, subst}
+use Rattle.std.specs.List.{slice_get}
+use Rattle.basic_toml_value.specs.Data.{Data}
+use Rattle.basic_toml_grammar.specs.Sections.{KeyTexts}
+use Rattle.basic_toml_grammar.specs.Steps as steps
+use Rattle.basic_toml_grammar.specs.Marks.{dotted}
+use Rattle.basic_toml_grammar.specs.Entering.{and_then}
+use Rattle.basic_toml_grammar.specs.Trie.{Trie, trie, nothing, standing, with_tries, mark_here, among, at_step}
+use Rattle.basic_toml_grammar.specs.Trie.{put_row}
+use Rattle.basic_toml_read.specs.KeyText.{key_text_bytes}
+use Rattle.basic_toml_read.specs.SectionView.{lined_of}
+use Rattle.basic_toml_read.specs.declared.section.Raw.{the_lemmas}
+use Rattle.basic_toml_read.specs.declared.section.Row.{Row, out-Row}
+use Rattle.basic_toml_grow.specs.declared.item.Child.{Child}
+use Rattle.basic_toml_grow.specs.declared.item.Table.{Table, out-Table}
+use Rattle.basic_toml_grow.specs.declared.rows.Met.{Met}
+use Rattle.basic_toml_grow.specs.declared.rows.Met.TheVariants as mets
+use Rattle.basic_toml_grow.specs.Simple.{with_entries}
+use Rattle.basic_toml_grow.specs.Item.{child_trie, table_trie, by_keys}
+use Rattle.basic_toml_clash.specs.Keyed.{with_value, values_of, EntersKey}
+use Rattle.basic_toml_grow.specs.Rows.{Enters, key_texts}
+use Rattle.basic_toml_grow.proofs.KeysInATrie.{tries_of, with_twice, change_put_once, change_refused}
+use Rattle.basic_toml_grow.proofs.ItemTries.{table_entries_trie, entries_with, with_entries_twice}
+use Rattle.basic_toml_grow.proofs.ItemTries.{with_entries_trie}
+
+-- the trie of a table in its place
+abbrev pub boxed_trie : Box Table Global → Trie
+boxed_trie table = table_trie table.value
+
+-- what is met, and what another change meets
+pub is_met : {A : Type 0} (f : A → Trie) (changed : Option Trie) (met : Met) → changed ≡ None
+    → Enters f changed (Err met)
+is_met f changed mets.Memory none = tt
+is_met f changed (mets.Header left) none = none
+is_met f changed mets.Row none = none
+
+pub is_met_on : {A B : Type 0} (f : A → Trie) (g : B → Trie) (changed whole : Option Trie) (met : Met)
+    → Enters f changed (Err met) → (changed ≡ None → whole ≡ None) → Enters g whole (Err met)
+is_met_on f g changed whole mets.Memory entered on = tt
+is_met_on f g changed whole (mets.Header left) entered on = on entered
+is_met_on f g changed whole mets.Row entered on = on entered
+
+-- the key of a row
+pub row_key : (row : Row) → (lined_of row).key.text ≡ key_text_bytes (out-Row row).key
+row_key row = search (rules, the_lemmas)
+
+-- no rows, and a first one
+pub no_texts : (rows : List Row) → length rows ≡ 0 → key_texts rows ≡ []
+no_texts [] none = refl
+no_texts (r ∷ rs) none = absurd (omega arith)
+
+pub first_text : (rows : List Row) (row : Row) (rest : List Row) → rows ≡ row ∷ rest
+    → key_texts rows ≡ key_text_bytes (out-Row row).key ∷ key_texts rest
+first_text rows row rest same = ap key_texts same ∙ ap (λ k. k ∷ key_texts rest) (row_key row)
+
+-- a row with a key more before its last one
+pub row_on : (k : List ℕ) (ks : KeyTexts) (last : List ℕ) (d : Data) (t : Trie)
+    → put_row (k ∷ (ks ++ last ∷ [])) d t
+    ≡ at_step (steps.key k) (λ t. and_then (mark_here dotted t) (λ t. put_row (ks ++ last ∷ []) d t)) t
+row_on k [] last d t = refl
+row_on k (l ∷ ks) last d t = refl
+
+module _ (before : Table) (k : List ℕ) (fresh : Child) (new : List (List ℕ × Child)) (position : ℕ)
+    (is_nothing : child_trie fresh ≡ nothing) (entered : EntersKey k fresh (out-Table before).entries new position)
+    (there : Child) (stands : slice_get (values_of new) position ≡ Some there) where
+  -- a change at the key, in the table
+  at_key : (g : Trie → Option Trie)
+      → at_step (steps.key k) g (table_trie before)
+      ≡ with_tries (standing (table_trie before)) None
+      (among (steps.key k) g (by_keys (tries_of child_trie (out-Table before).entries)))
+  at_key g = rw (table_entries_trie before) refl
+
+  -- the table after it
+  put_after : (g : Trie → Option Trie) (child : Child) (ps : List (List ℕ × Child))
+      → g (child_trie there) ≡ Some (child_trie child)
+      → by_keys (tries_of child_trie ps) ≡ by_keys (tries_of child_trie (with_value new position child))
+      → at_step (steps.key k) g (table_trie before)
+      ≡ Some (trie (standing (table_trie before)) None (by_keys (tries_of child_trie ps)))
+  put_after g child ps changed same =
+      at_key g
+      ∙ ap (with_tries (standing (table_trie before)) None)
+      (change_put_once child_trie k fresh (out-Table before).entries new position is_nothing entered there stands g
+      child
+      changed)
+      ∙ ap (λ ts. Some (trie (standing (table_trie before)) None ts)) (sym same)
+
+  pub step_put : (g : Trie → Option Trie) (child : Child) (mid : Table) (ps : List (List ℕ × Child))
+      → g (child_trie there) ≡ Some (child_trie child) → mid ≡ with_entries before new
+      → ps ≡ with_value (out-Table mid).entries position child
+      → at_step (steps.key k) g (table_trie before) ≡ Some (table_trie (with_entries mid ps))
+  step_put g child mid ps changed is_mid is_ps =
+      let same : ps ≡ with_value new position child = is_ps
+      ∙ ap (λ t. with_value (out-Table t).entries position child) is_mid
+      ∙ ap (λ qs. with_value qs position child) (entries_with before new) in
+      put_after g child ps changed (ap (λ ps. by_keys (tries_of child_trie ps)) same)
+      ∙ ap Some (sym (ap table_trie (ap (λ t. with_entries t ps) is_mid ∙ with_entries_twice before new ps)
+      ∙ with_entries_trie before ps))
+
+  -- where the value is taken out first
+  pub step_put_back : (g : Trie → Option Trie) (child v : Child) (first mid : Table) (qs ps : List (List ℕ × Child))
+      → g (child_trie there) ≡ Some (child_trie child) → first ≡ with_entries before new
+      → qs ≡ with_value (out-Table first).entries position v → mid ≡ with_entries first qs
+      → ps ≡ with_value (out-Table mid).entries position child
+      → at_step (steps.key k) g (table_trie before) ≡ Some (table_trie (with_entries mid ps))
+  step_put_back g child v first mid qs ps changed is_first is_qs is_mid is_ps =
+      let middle : qs ≡ with_value new position v = is_qs
+      ∙ ap (λ t. with_value (out-Table t).entries position v) is_first
+      ∙ ap (λ qs. with_value qs position v) (entries_with before new) in
+      let same : ps ≡ with_value (with_value new position v) position child =
+      is_ps
+      ∙ ap (λ t. with_value (out-Table t).entries position child) is_mid
+      ∙ ap (λ qs. with_value qs position child) (entries_with first qs ∙ middle) in
+      let tables : with_entries mid ps ≡ with_entries before ps =
+      ap (λ t. with_entries t ps) is_mid
+      ∙ with_entries_twice first qs ps
+      ∙ ap (λ t. with_entries t ps) is_first
+      ∙ with_entries_twice before new ps in
+      put_after g child ps changed
+      (ap (λ ps. by_keys (tries_of child_trie ps)) (same ∙ with_twice new position v child))
+      ∙ ap Some (sym (ap table_trie tables ∙ with_entries_trie before ps))
+
+  pub step_refused : (g : Trie → Option Trie) → g (child_trie there) ≡ None
+      → at_step (steps.key k) g (table_trie before) ≡ None
+  step_refused g refused =
+      at_key g
+      ∙ ap (with_tries (standing (table_trie before)) None)
+      (change_refused child_trie k fresh (out-Table before).entries new position is_nothing entered there stands g
+      refused)
+
+-- what stands at a position of the entries of a table
+pub stands_in : (before t : Table) (new : List (List ℕ × Child)) (position : ℕ) (there : Child)
+    → t ≡ with_entries before new → slice_get (values_of (out-Table t).entries) position ≡ Some there
+    → slice_get (values_of new) position ≡ Some there
+stands_in before t new position there same stands =
+    sym (ap (λ t. slice_get (values_of (out-Table t).entries) position) same
+    ∙ ap (λ ps. slice_get (values_of ps) position) (entries_with before new))
+    ∙ stands
+
+-- a key that is entered by another name
+pub entered_by : {k l : List ℕ} {fresh : Child} {old new : List (List ℕ × Child)} {position : ℕ} → k ≡ l
+    → EntersKey k fresh old new position → EntersKey l fresh old new position
+entered_by {fresh = fresh} {old = old} {new = new} {position = position} same entered =
+    subst (λ (k : List ℕ). EntersKey k fresh old new position) same entered

@@ -1,0 +1,311 @@
+-- Simple rows, put into a table one after another: they become its entries.
+use Rattle.std.proofs.Common.{◌≡◌, ◌==◌, ◌≤◌, ℕ, ◌+◌, Bool, true, false, ◌||◌, not, List, [], ◌∷◌, ◌++◌, length, map, Some, is_some}
+use Rattle.std.proofs.Common.{arith, suc, take, refl, sym, ap, ◌∙◌, subst, rules, ap₂, append_assoc, slice_get, string_bytes, String, Global}
+use Rattle.std.specs.Str.{bytes_eq}
+use Rattle.std.proofs.lemmas.Bool.{false≢true}
+use Rattle.std.proofs.lemmas.List.{append-nil, map-append}
+use Rattle.std.proofs.lemmas.Slice.Eq.{bytes_eq-Decides}
+use Rattle.basic_toml_value.specs.Entries.{pair_seen}
+use Rattle.basic_toml_read.specs.KeyText.{key_text_bytes}
+use Rattle.basic_toml_value.specs.Keys.{is_among}
+use Rattle.basic_toml_value.specs.Nesting.{nesting_limit}
+use Rattle.basic_toml_value.specs.Pairs.{keys_of, has_key}
+use Rattle.basic_toml_value.proofs.DistinctKeys.{bytes_eq-same, is_among-push, slice_get-last}
+use Rattle.basic_toml_grammar.specs.Marks.{valued}
+use Rattle.basic_toml_grammar.specs.Mentions.{finished}
+use Rattle.basic_toml_grammar.specs.Sections as sections
+use Rattle.basic_toml_grammar.specs.Sections.{Rows}
+use Rattle.basic_toml_grammar.specs.Trie.{Trie, mark_here}
+use Rattle.basic_toml_read.specs.SectionView.{lined_of, rows_view}
+use Rattle.basic_toml_read.specs.declared.section.Raw as raws
+use Rattle.basic_toml_read.specs.declared.section.Raw.{Raw, out-Raw, roll-Raw, roll-out-Raw}
+use Rattle.basic_toml_read.specs.declared.section.Raw.TheOpen.{Raw-F}
+use Rattle.basic_toml_read.specs.declared.section.Element.{Element}
+use Rattle.basic_toml_read.specs.declared.section.Row.{Row, out-Row}
+use Rattle.basic_toml_clash.specs.Keyed.{EntersKey, with_value, values_of}
+use Rattle.basic_toml_clash.specs.Plain.{is_plain, plain_of}
+use Rattle.basic_toml_clash.specs.Simple.{are_simple, key_of}
+use Rattle.basic_toml_clash.proofs.PlainValues.{plain_value}
+use Rattle.basic_toml_clash.proofs.SimpleRows.{first_is_simple}
+use Rattle.basic_toml_grow.specs.declared.item.Item.{the_lemmas}
+use Rattle.basic_toml_grow.specs.declared.item.Item as items
+use Rattle.basic_toml_grow.specs.declared.item.Item.TheViews.{roll-Child}
+use Rattle.basic_toml_grow.specs.declared.item.Child.{Child}
+use Rattle.basic_toml_grow.specs.declared.item.Table.{Table, out-Table}
+use Rattle.basic_toml_grow.specs.Item.{item_trie, leaf, child_trie, table_trie, no_child}
+use Rattle.basic_toml_grow.specs.Origins.{Within, item_origins, child_origins, table_within, value_origins, table_origin}
+use Rattle.basic_toml_grow.specs.Origins.{with_more, rows_origins, dotted_of}
+use Rattle.basic_toml_grow.specs.Rows.{AreIn, IsFinished, is_dot}
+use Rattle.basic_toml_grow.specs.Simple.{kept, item_of, child_of, entry_of, entries_of, with_entries}
+use Rattle.basic_toml_grow.proofs.ItemTries.{no_child_trie, entries_with, with_entries_twice}
+use Rattle.basic_toml_grow.proofs.RowValues.{row_value, value_put}
+use Rattle.basic_toml_grow.proofs.RowsEntered.{row_key, step_put}
+use Rattle.basic_toml_grow.proofs.RowsLeft.{AreLeft, all_left, none_left, nothing_left, row_entered}
+use Rattle.basic_toml_grow.proofs.Origins.OriginsLeft.{OriginsLeft, one_row, origins_entered, origins_done}
+use Rattle.basic_toml_grow.proofs.Origins.RowsPlaceOrigins.{comes_first, origins_put}
+
+-- a plain value, as the item that it is kept as
+kept_trie : (x : Raw-F Raw Element Row) (l : ℕ) → is_plain (roll-Raw x) l ≡ true
+    → item_trie (kept x) ≡ leaf (finished (plain_of (roll-Raw x)))
+kept_trie Raw-F.Dot l plain =
+    let not_plain : is_plain (roll-Raw Raw-F.Dot) l ≡ false = search (rules, raws.the_lemmas) in
+    absurd (false≢true (sym not_plain ∙ plain))
+kept_trie (Raw-F.Inline rs) l plain =
+    let not_plain : is_plain (roll-Raw (Raw-F.Inline rs)) l ≡ false = search (rules, raws.the_lemmas) in
+    absurd (false≢true (sym not_plain ∙ plain))
+kept_trie (Raw-F.Integer z) l plain = search (rules, the_lemmas, raws.the_lemmas)
+kept_trie (Raw-F.Float text) l plain = search (rules, the_lemmas, raws.the_lemmas)
+kept_trie (Raw-F.Boolean b) l plain = search (rules, the_lemmas, raws.the_lemmas)
+kept_trie (Raw-F.String text) l plain = search (rules, the_lemmas, raws.the_lemmas)
+kept_trie (Raw-F.Escaped text) l plain = search (rules, the_lemmas, raws.the_lemmas)
+kept_trie (Raw-F.Array es) l plain = search (rules, the_lemmas, raws.the_lemmas)
+
+kept_comes : (x : Raw-F Raw Element Row) (l : ℕ) → is_plain (roll-Raw x) l ≡ true → (at s : ℕ)
+    → item_origins (kept x) at s ≡ value_origins s at (plain_of (roll-Raw x))
+kept_comes Raw-F.Dot l plain at s =
+    let not_plain : is_plain (roll-Raw Raw-F.Dot) l ≡ false = search (rules, raws.the_lemmas) in
+    absurd (false≢true (sym not_plain ∙ plain))
+kept_comes (Raw-F.Inline rs) l plain at s =
+    let not_plain : is_plain (roll-Raw (Raw-F.Inline rs)) l ≡ false = search (rules, raws.the_lemmas) in
+    absurd (false≢true (sym not_plain ∙ plain))
+kept_comes (Raw-F.Integer z) l plain at s = search (rules, the_lemmas, raws.the_lemmas)
+kept_comes (Raw-F.Float text) l plain at s = search (rules, the_lemmas, raws.the_lemmas)
+kept_comes (Raw-F.Boolean b) l plain at s = search (rules, the_lemmas, raws.the_lemmas)
+kept_comes (Raw-F.String text) l plain at s = search (rules, the_lemmas, raws.the_lemmas)
+kept_comes (Raw-F.Escaped text) l plain at s = search (rules, the_lemmas, raws.the_lemmas)
+kept_comes (Raw-F.Array es) l plain at s = search (rules, the_lemmas, raws.the_lemmas)
+
+item_is : (v : Raw) (l : ℕ) → is_plain v l ≡ true → item_trie (item_of v) ≡ leaf (finished (plain_of v))
+item_is v l plain =
+    let same : roll-Raw (out-Raw v) ≡ v = roll-out-Raw v in
+    kept_trie (out-Raw v) l (ap (λ v. is_plain v l) same ∙ plain) ∙ ap (λ v. leaf (finished (plain_of v))) same
+
+item_comes : (v : Raw) (l : ℕ) → is_plain v l ≡ true → (at s : ℕ)
+    → item_origins (item_of v) at s ≡ value_origins s at (plain_of v)
+item_comes v l plain at s =
+    let same : roll-Raw (out-Raw v) ≡ v = roll-out-Raw v in
+    kept_comes (out-Raw v) l (ap (λ v. is_plain v l) same ∙ plain) at s ∙ ap (λ v. value_origins s at (plain_of v)) same
+
+-- the child of a row
+child_item : (s : ℕ) (r : Row) → child_trie (child_of s r) ≡ item_trie (item_of (out-Row r).value)
+child_item s r = search (rules, the_lemmas)
+
+child_comes : (s : ℕ) (r : Row)
+    → child_origins (child_of s r) ≡ item_origins (item_of (out-Row r).value) (out-Row r).start s
+child_comes s r = search (rules, the_lemmas)
+
+child_dotted : (s : ℕ) (r : Row) → dotted_of (child_of s r) ≡ table_origin false (out-Row r).start s
+child_dotted s r = search (rules, the_lemmas)
+
+same_value : {u v : sections.Raw} → Some u ≡ Some v → u ≡ v
+same_value e = cc
+
+pub entry_keys : (s : ℕ) (rows : List Row) → keys_of (entries_of s rows) ≡ map key_of rows
+entry_keys s [] = refl
+entry_keys s (r ∷ rs) = ap (λ ks. key_of r ∷ ks) (entry_keys s rs)
+
+-- where nothing is left all is passed
+pub none_after : {A : Type 0} (passed left whole : List A) → left ≡ [] → passed ++ left ≡ whole → passed ≡ whole
+none_after passed left whole none same = sym (append-nil passed) ∙ ap (λ l. passed ++ l) (sym none) ∙ same
+
+-- a row as the entry that it becomes
+pub same_entry : (s : ℕ) (r : Row) (key : String Global) (item : items.Item) → string_bytes key ≡ key_text_bytes (out-Row r).key
+    → item ≡ item_of (out-Row r).value
+    → pair_seen (record { key = key; value = roll-Child (record { start = (out-Row r).start; section = s; item = item }) })
+    ≡ entry_of s r
+same_entry s r key item same_key same_item =
+    ap₂ (λ k (i : items.Item). (k, roll-Child (record { start = (out-Row r).start; section = s; item = i }))) same_key
+    same_item
+
+-- a value in the place of the last
+with_last : (ps : List (List ℕ × Child)) (k : List ℕ) (c d : Child)
+    → ps ++ (k, d) ∷ [] ≡ with_value (ps ++ (k, c) ∷ []) (length ps) d
+with_last [] k c d = refl
+with_last (p ∷ ps) k c d = ap (λ ps. p ∷ ps) (with_last ps k c d)
+
+last_value : (ps : List (List ℕ × Child)) (k : List ℕ) (c : Child)
+    → slice_get (values_of (ps ++ (k, c) ∷ [])) (length ps) ≡ Some c
+last_value [] k c = refl
+last_value (p ∷ ps) k c = last_value ps k c
+
+-- a key that is put last
+keys_more : (ps : List (List ℕ × Child)) (k : List ℕ) (c : Child)
+    → keys_of (ps ++ (k, c) ∷ []) ≡ keys_of ps ++ k ∷ []
+keys_more ps k c = map-append (λ (p : List ℕ × Child). p.0) ps ((k, c) ∷ [])
+
+keys_count : (ps : List (List ℕ × Child)) → length (keys_of ps) ≡ length ps
+keys_count [] = refl
+keys_count (p ∷ ps) = ap suc (keys_count ps)
+
+front : (ks : List (List ℕ)) (k : List ℕ) → take (length ks) (ks ++ k ∷ []) ≡ ks
+front [] k = refl
+front (l ∷ ks) k = ap (λ ks. l ∷ ks) (front ks k)
+
+enters : (ps : List (List ℕ × Child)) (k : List ℕ) (c : Child) → has_key ps k ≡ false
+    → EntersKey k c ps (ps ++ (k, c) ∷ []) (length ps)
+enters ps k c absent = record {
+  at = rw (keys_more ps k c, ← keys_count ps) (slice_get-last (keys_of ps) k);
+  first = rw (keys_more ps k c, ← keys_count ps) (rw (front (keys_of ps) k) absent);
+  pairs = rw absent refl;
+}
+
+-- a table without other entries than its own
+own_entries : (t : Table) → with_entries t (out-Table t).entries ≡ t
+own_entries t = search (rules, the_lemmas)
+
+pub no_entries : (t u : Table) (b : Bool) → u ≡ t → b ≡ (length (out-Table u).entries == 0) → b ≡ true
+    → (out-Table t).entries ≡ []
+no_entries t u b same is empty =
+    ap (λ t. (out-Table t).entries) (sym same) ∙ nothing_left (out-Table u).entries (grind (arith, is, empty))
+
+-- a simple row in a table that has not its key
+module _ (s level : ℕ) (low : level ≤ nesting_limit) (t : Table) (r : Row)
+    (plain : is_plain (out-Row r).value level ≡ true) (absent : has_key (out-Table t).entries (key_of r) ≡ false) where
+  abbrev own : List (List ℕ × Child)
+  own = (out-Table t).entries
+
+  abbrev blank : List (List ℕ × Child)
+  blank = own ++ (key_of r, no_child) ∷ []
+
+  abbrev after : Table
+  after = with_entries t (own ++ entry_of s r ∷ [])
+
+  read : (lined_of r).value ≡ Some (plain_of (out-Row r).value)
+  read = row_value r ∙ (plain_value (out-Row r).value level plain).is
+
+  is_row : is_dot r ≡ false
+  is_row = ap (λ v. not (is_some v)) read
+
+  entered : EntersKey (key_of r) no_child own blank (length own)
+  entered = enters own (key_of r) no_child absent
+
+  filled : own ++ entry_of s r ∷ []
+      ≡ with_value (out-Table (with_entries t blank)).entries (length own) (child_of s r)
+  filled =
+      with_last own (key_of r) no_child (child_of s r)
+      ∙ sym (ap (λ ps. with_value ps (length own) (child_of s r)) (entries_with t blank))
+
+  is_after : with_entries (with_entries t blank) (own ++ entry_of s r ∷ []) ≡ after
+  is_after = with_entries_twice t blank (own ++ entry_of s r ∷ [])
+
+  row_in : AreIn (rows_view (r ∷ [])) level (table_trie t) (table_trie after)
+  row_in =
+      let p = plain_value (out-Row r).value level plain in
+      let here : level + length {A = Row} [] ≡ level = omega arith in
+      value_put [] r level (table_trie t) refl is_row (key_of r ∷ []) (ap (λ k. k ∷ []) (sym (row_key r)))
+      (child_trie (child_of s r)) (table_trie after)
+      (λ v seen.
+      subst (λ (l : ℕ). IsFinished v l (child_trie (child_of s r))) (sym here)
+      (subst (λ (v : sections.Raw). IsFinished v level (child_trie (child_of s r))) (same_value (sym p.is ∙ seen))
+      (record {
+        value = child_item s r ∙ item_is (out-Row r).value level plain;
+        apart = p.apart;
+        fits = p.fits;
+      })))
+      (subst (λ (l : ℕ). l ≤ nesting_limit) (sym here) low)
+      (λ d is_leaf.
+      step_put t (key_of r) no_child blank (length own) no_child_trie entered no_child (last_value own (key_of r) no_child)
+      (λ t. mark_here (valued d) t) (child_of s r) (with_entries t blank) (own ++ entry_of s r ∷ [])
+      (ap (mark_here (valued d)) no_child_trie ∙ ap Some (sym is_leaf)) refl filled
+      ∙ ap (λ t. Some (table_trie t)) is_after)
+
+  row_comes : table_within after ≡ with_more (table_within t) (rows_origins s (rows_view (r ∷ [])))
+  row_comes =
+      let p = plain_value (out-Row r).value level plain in
+      sym (ap table_within is_after)
+      ∙ origins_put t (key_of r) no_child no_child (child_of s r) blank (length own) no_child_trie entered
+      (last_value own (key_of r) no_child) (child_origins (child_of s r))
+      (comes_first no_child (child_origins (child_of s r)) no_child_trie)
+      (with_entries t blank) (own ++ entry_of s r ∷ []) refl filled
+      ∙ ap (with_more (table_within t))
+      (one_row s [] r (key_of r) (child_of s r) refl is_row refl
+      (λ v seen.
+      child_comes s r ∙ item_comes (out-Row r).value level plain (out-Row r).start s
+      ∙ ap (value_origins s (out-Row r).start) (same_value (sym p.is ∙ seen)))
+      (child_dotted s r))
+
+-- keys that are none of those entered
+abbrev AreApart : List (List ℕ × Child) → List Row → Type 0
+AreApart ps rows = (k : List ℕ) → is_among (map key_of rows) k ≡ true → has_key ps k ≡ false
+
+first_apart : (ps : List (List ℕ × Child)) (r : Row) (rs : List Row) → AreApart ps (r ∷ rs)
+    → has_key ps (key_of r) ≡ false
+first_apart ps r rs apart = apart (key_of r) (rw (bytes_eq-same (key_of r)) refl)
+
+others_apart : (s : ℕ) (ps : List (List ℕ × Child)) (r : Row) (rs : List Row) → AreApart ps (r ∷ rs)
+    → is_among (map key_of rs) (key_of r) ≡ false → AreApart (ps ++ entry_of s r ∷ []) rs
+others_apart s ps r rs apart differs k among =
+    ap (λ ks. is_among ks k) (keys_more ps (key_of r) (child_of s r))
+    ∙ is_among-push (keys_of ps) (key_of r) k
+    ∙ rw (apart k (or_true (bytes_eq k (key_of r)) (is_among (map key_of rs) k) among)) (other (bytes_eq k (key_of r)) refl)
+  where
+    or_true : (a b : Bool) → b ≡ true → (a || b) ≡ true
+    or_true true b is = refl
+    or_true false b is = is
+
+    other : (b : Bool) → bytes_eq k (key_of r) ≡ b → b ≡ false
+    other true e =
+        absurd (false≢true (sym differs
+        ∙ ap (is_among (map key_of rs)) (sym ((bytes_eq-Decides k (key_of r)).0 e)) ∙ among))
+    other false e = refl
+
+-- the rows that are left, put into a table that has none of their keys
+module _ (s level : ℕ) (low : level ≤ nesting_limit) (whole : Rows) (before : Trie) (w : Within) where
+  abbrev Done : Table → List Row → Type 0
+  Done t rest =
+      AreLeft whole level before [] [] (table_trie (with_entries t ((out-Table t).entries ++ entries_of s rest)))
+      × OriginsLeft s whole w [] [] (table_within (with_entries t ((out-Table t).entries ++ entries_of s rest)))
+
+  rest_in : (rest : List Row) (t : Table) → are_simple level rest ≡ true → AreApart (out-Table t).entries rest
+      → AreLeft whole level before [] rest (table_trie t) → OriginsLeft s whole w [] rest (table_within t)
+      → Done t rest
+  rest_in [] t simple apart left come =
+      let same : t ≡ with_entries t ((out-Table t).entries ++ []) =
+      sym (ap (with_entries t) (append-nil (out-Table t).entries) ∙ own_entries t) in (
+        subst (λ (t : Table). AreLeft whole level before [] [] (table_trie t)) same left,
+        subst (λ (t : Table). OriginsLeft s whole w [] [] (table_within t)) same come,
+      )
+  rest_in (r ∷ rs) t simple apart left come =
+      let first = first_is_simple level r rs simple in
+      let own = (out-Table t).entries in
+      let absent = first_apart own r rs apart in
+      let after = with_entries t (own ++ entry_of s r ∷ []) in
+      let entries : (out-Table after).entries ≡ own ++ entry_of s r ∷ [] = entries_with t (own ++ entry_of s r ∷ []) in
+      let row = is_row s level low t r first.plain absent in
+      let done = rest_in rs after first.others
+      (subst (λ (ps : List (List ℕ × Child)). AreApart ps rs) (sym entries) (others_apart s own r rs apart first.apart))
+      (row_entered whole level before [] r rs (table_trie t) left row (table_trie after)
+      (row_in s level low t r first.plain absent))
+      (origins_entered s whole w (table_within t) (table_within after) [] r rs refl row come
+      (row_comes s level low t r first.plain absent)) in
+      let same : with_entries after ((out-Table after).entries ++ entries_of s rs)
+      ≡ with_entries t (own ++ entries_of s (r ∷ rs)) =
+      with_entries_twice t (own ++ entry_of s r ∷ []) ((out-Table after).entries ++ entries_of s rs)
+      ∙ ap (λ ps. with_entries t (ps ++ entries_of s rs)) entries
+      ∙ ap (with_entries t) (append_assoc own (entry_of s r ∷ []) (entries_of s rs)) in (
+        subst (λ (t : Table). AreLeft whole level before [] [] (table_trie t)) same done.0,
+        subst (λ (t : Table). OriginsLeft s whole w [] [] (table_within t)) same done.1,
+      )
+
+-- all of them, put into a table without entries
+module _ (s level : ℕ) (low : level ≤ nesting_limit) (t : Table) (none : (out-Table t).entries ≡ []) (rows : List Row)
+    (simple : are_simple level rows ≡ true) where
+  abbrev full : Table
+  full = with_entries t (entries_of s rows)
+
+  all_done : AreLeft (rows_view rows) level (table_trie t) [] [] (table_trie full)
+      × OriginsLeft s (rows_view rows) (table_within t) [] [] (table_within full)
+  all_done =
+      let done = rest_in s level low (rows_view rows) (table_trie t) (table_within t) rows t simple
+      (λ k among. ap (λ ps. has_key ps k) none) (all_left rows level (table_trie t)) refl in
+      let same : with_entries t ((out-Table t).entries ++ entries_of s rows) ≡ full =
+      ap (λ ps. with_entries t (ps ++ entries_of s rows)) none in (
+        subst (λ (u : Table). AreLeft (rows_view rows) level (table_trie t) [] [] (table_trie u)) same done.0,
+        subst (λ (u : Table). OriginsLeft s (rows_view rows) (table_within t) [] [] (table_within u)) same done.1,
+      )
+
+  pub rows_in : AreIn (rows_view rows) level (table_trie t) (table_trie full)
+  rows_in = none_left rows [] level (table_trie t) (table_trie full) all_done.0
+
+  pub rows_come : table_within full ≡ with_more (table_within t) (rows_origins s (rows_view rows))
+  rows_come = origins_done s (rows_view rows) (table_within t) (table_within full) [] refl all_done.1

@@ -1,0 +1,115 @@
+-- The table that a header names, and the array of tables that it adds an element to, as contracts say it.
+use Rattle.std.proofs.Common.{◌≡◌, ℕ, ◌+◌, ◌≤◌, true, false, List, [], ◌∷◌, ◌++◌, map, Some}
+use Rattle.std.proofs.Common.{refl, ap, sym, ◌∙◌, arith, rules, option_map, Vec, Box, Global, Result, Ok, Err}
+use Rattle.std.proofs.lemmas.List.{map-append}
+use Rattle.basic_toml_value.specs.Nesting.{nesting_limit}
+use Rattle.basic_toml_grammar.specs.Sections.{Rows}
+use Rattle.basic_toml_grammar.specs.Trie.{Trie, nothing, put_rows, put_table, put_element}
+use Rattle.basic_toml_clash.specs.declared.clash.Clash.{Clash}
+use Rattle.basic_toml_grow.specs.declared.item.Item.{the_lemmas, Nothing, Tables}
+use Rattle.basic_toml_grow.specs.declared.item.Item as items
+use Rattle.basic_toml_grow.specs.declared.item.Item.TheOpen.{Table-F}
+use Rattle.basic_toml_grow.specs.declared.item.Item.TheViews.{roll-Table, out-roll-Table}
+use Rattle.basic_toml_grow.specs.declared.item.Child.{Child}
+use Rattle.basic_toml_grow.specs.declared.item.Table.{Table, out-Table}
+use Rattle.basic_toml_grow.specs.Item.{item_trie, table_trie}
+use Rattle.basic_toml_grow.specs.Rows.{EntersRows}
+use Rattle.basic_toml_grow.specs.Headers.{IsIn, IsKeptOut, EntersHeader}
+use Rattle.basic_toml_grow.proofs.ItemTries.{table_entries_trie}
+use Rattle.basic_toml_grow.proofs.HeadersInATrie.{fresh, array_of, is_in, is_kept_out, rows_in, rows_kept_out}
+use Rattle.basic_toml_grow.proofs.HeadersInATrie.{put_first, put_next}
+
+-- a table that is named takes the rows of a section
+pub named_table : (t u : Table) (rows : Rows) → (out-Table t).named ≡ false → (out-Table t).dotted ≡ false
+    → (out-Table u).passed ≡ (out-Table t).passed → (out-Table u).named ≡ true → (out-Table u).dotted ≡ false
+    → (out-Table u).entries ≡ (out-Table t).entries → put_table rows (table_trie t) ≡ put_rows rows (table_trie u)
+named_table t u rows named dotted passed names dots entries =
+    rw (table_entries_trie t, table_entries_trie u, named, dotted, passed, names, dots, entries) refl
+
+pub open_in : (rows : Rows) (level : ℕ) (t u : Trie) (r : Result (Box Table Global) Clash)
+    → put_table rows t ≡ put_rows rows u → level ≤ nesting_limit → EntersRows rows level u r
+    → EntersHeader false rows [] level t r
+open_in rows level t u (Ok after) same within are =
+    rows_in (put_table rows t) rows level (level + 0) u (table_trie after.value) same (omega arith) within are
+open_in rows level t u (Err clash) same within out =
+    rows_kept_out clash (put_table rows t) rows level (level + 0) u same (omega arith) out
+
+-- a table as the code changes it: it is named, and then it gets its section
+abbrev pub named_fields : Table → Table-F items.Item Child Table
+named_fields t =
+    let o = out-Table t in
+    record { passed = o.passed; named = true; dotted = o.dotted; section = o.section; entries = o.entries }
+
+abbrev pub numbered_fields : ℕ → Table → Table-F items.Item Child Table
+numbered_fields n t =
+    let o = out-Table t in
+    record { passed = o.passed; named = o.named; dotted = o.dotted; section = n; entries = o.entries }
+
+pub open_named : (t d e : Table) (n : ℕ) (rows : Rows) (level : ℕ) (r : Result (Box Table Global) Clash)
+    → (out-Table t).named ≡ false → (out-Table t).dotted ≡ false → d ≡ t → e ≡ roll-Table (named_fields d)
+    → level ≤ nesting_limit → EntersRows rows level (table_trie (roll-Table (numbered_fields n e))) r
+    → EntersHeader false rows [] level (table_trie t) r
+open_named t d e n rows level r named dotted same is within rows_in =
+    let a : out-Table (roll-Table (numbered_fields n e)) ≡ numbered_fields n e =
+    out-roll-Table (numbered_fields n e) in
+    let b : out-Table e ≡ named_fields d = ap out-Table is ∙ out-roll-Table (named_fields d) in
+    open_in rows level (table_trie t) (table_trie (roll-Table (numbered_fields n e))) r
+    (named_table t (roll-Table (numbered_fields n e)) rows named dotted
+    (ap (λ o. o.passed) a ∙ ap (λ o. o.passed) b ∙ ap (λ t. (out-Table t).passed) same)
+    (ap (λ o. o.named) a ∙ ap (λ o. o.named) b)
+    (ap (λ o. o.dotted) a ∙ ap (λ o. o.dotted) b ∙ ap (λ t. (out-Table t).dotted) same ∙ dotted)
+    (ap (λ o. o.entries) a ∙ ap (λ o. o.entries) b ∙ ap (λ t. (out-Table t).entries) same))
+    within rows_in
+
+pub tables_trie : (before : Box (Vec Table Global) Global) (latest : Box Table Global)
+    → item_trie (Tables before latest) ≡ array_of (map table_trie before.value.items) (table_trie latest.value)
+tables_trie before latest = search (rules, the_lemmas)
+
+pub nothing_trie : item_trie Nothing ≡ nothing
+nothing_trie = search (rules, the_lemmas)
+
+pub table_item_trie : (t : Box Table Global) → item_trie (items.Table t) ≡ table_trie t.value
+table_item_trie t = search (rules, the_lemmas)
+
+-- an array with one more element, which is its first one or not
+pub first_element : (rows : Rows) (i : items.Item) (before : List Table) → i ≡ Nothing → before ≡ []
+    → put_element rows (item_trie i) ≡ option_map (λ u. array_of (map table_trie before) u) (put_table rows fresh)
+first_element rows i before is none =
+    ap (put_element rows) (ap item_trie is ∙ nothing_trie)
+    ∙ put_first rows
+    ∙ ap (λ b. option_map (λ u. array_of (map table_trie b) u) (put_table rows fresh)) (sym none)
+
+pub next_element : (rows : Rows) (i : items.Item) (b : Box (Vec Table Global) Global) (latest : Box Table Global) (before : List Table)
+    → i ≡ Tables b latest → before ≡ b.value.items ++ latest.value ∷ []
+    → put_element rows (item_trie i) ≡ option_map (λ u. array_of (map table_trie before) u) (put_table rows fresh)
+next_element rows i b latest before is more =
+    ap (put_element rows) (ap item_trie is ∙ tables_trie b latest)
+    ∙ put_next rows (map table_trie b.value.items) (table_trie latest.value)
+    ∙ ap (λ ts. option_map (λ u. array_of ts u) (put_table rows fresh))
+    (sym (ap (map table_trie) more ∙ map-append table_trie b.value.items (latest.value ∷ [])))
+
+pub element_in : (rows : Rows) (level : ℕ) (new : Trie) (there item : items.Item) (before : Box (Vec Table Global) Global)
+    (latest : Box Table Global) → new ≡ fresh
+    → put_element rows (item_trie there)
+    ≡ option_map (λ u. array_of (map table_trie before.value.items) u) (put_table rows fresh)
+    → item ≡ Tables before latest
+    → IsIn (put_table rows new) rows ((level + 2) + 0) (table_trie latest.value)
+    → IsIn (put_element rows (item_trie there)) rows (level + 2) (item_trie item)
+element_in rows level new there item before latest is_fresh puts made_of is =
+    is_in (put_table rows new) (put_element rows (item_trie there)) rows ((level + 2) + 0) (level + 2)
+    (table_trie latest.value) (item_trie item)
+    (puts ∙ ap (λ u. option_map (λ u. array_of (map table_trie before.value.items) u) u)
+    (ap (put_table rows) (sym is_fresh) ∙ is.gives)
+    ∙ ap Some (sym (ap item_trie made_of ∙ tables_trie before latest)))
+    (omega arith) is
+
+pub element_out : (clash : Clash) (rows : Rows) (level : ℕ) (new : Trie) (there : items.Item) (before : List Table)
+    → new ≡ fresh
+    → put_element rows (item_trie there) ≡ option_map (λ u. array_of (map table_trie before) u) (put_table rows fresh)
+    → IsKeptOut (put_table rows new) rows ((level + 2) + 0) clash
+    → IsKeptOut (put_element rows (item_trie there)) rows (level + 2) clash
+element_out clash rows level new there before is_fresh puts out =
+    is_kept_out clash (put_table rows new) (put_element rows (item_trie there)) rows ((level + 2) + 0) (level + 2)
+    (λ none. puts ∙ ap (λ u. option_map (λ u. array_of (map table_trie before) u) u)
+    (ap (put_table rows) (sym is_fresh) ∙ none))
+    (omega arith) out

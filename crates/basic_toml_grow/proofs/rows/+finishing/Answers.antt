@@ -1,0 +1,367 @@
+use Rattle.std.proofs.Common.{◌≡◌, [], ◌∷◌, ◌++◌, ap, ◌∙◌, sym, subst, arith, Some, List, length, map, Bool, false, true, ◌+◌, ℕ}
+use Rattle.std.proofs.lemmas.Result.{err_from_is_err_and}
+use Rattle.basic_toml_grammar.specs.Trie.{Trie}
+use Rattle.basic_toml_read.specs.SectionView.{rows_view, elements_view, raw_of}
+use Rattle.basic_toml_read.specs.declared.section.Row.{Row}
+use Rattle.basic_toml_read.specs.declared.section.Element.{Element}
+use Rattle.basic_toml_grow.specs.declared.item.Child.{Child}
+use Rattle.basic_toml_grammar.specs.Standing as standings
+use Rattle.basic_toml_grow.specs.Item.{child_trie, table_trie}
+use Rattle.basic_toml_grow.specs.Rows.{AreIn, AreKeptOut, IsFinished, AreFinished, key_texts}
+use Rattle.basic_toml_grow.proofs.RowsEntered.{boxed_trie, row_key}
+use Rattle.basic_toml_grow.proofs.RowsLeft.{AreLeft, has_value, row_entered, row_kept_out, none_left}
+use Rattle.basic_toml_grow.proofs.RowsLeft.{row_stopped, no_value, no_rows_left}
+use Rattle.basic_toml_grow.proofs.RowValues.{value_stopped, met_stopped}
+use Rattle.basic_toml_grow.proofs.InlineTables.{inline_stopped}
+use Rattle.basic_toml_grow.proofs.ElementsLeft.{element_stopped, element_skipped}
+use Rattle.basic_toml_grammar.specs.Sections.{Elements}
+use Rattle.basic_toml_grow.proofs.ClashSaysMet.{row_offset}
+use Rattle.basic_toml_clash.specs.Clash.{NamesStop}
+use Rattle.basic_toml_grow.specs.RowStops.{line_keys, key_at, SaysHeld}
+use Rattle.basic_toml_read.specs.SectionView.{lined_of}
+use Rattle.basic_toml_grammar.specs.TrieStops.{try_put_rows, try_put_elements}
+use Rattle.basic_toml_grow.proofs.RowValues.{last_deep, value_kept_out, value_put, value_met}
+use Rattle.basic_toml_grow.proofs.InlineTables.{inline_finished, inline_kept_out}
+use Rattle.basic_toml_grow.proofs.ElementsLeft.{ElementsAreLeft, element_entered, elements_done}
+use Rattle.basic_toml_grow.specs.Origins.{table_within, with_more, rows_origins, elements_origins, child_origins}
+use Rattle.std.proofs.Common.{codes}
+use Rattle.basic_toml_grammar.specs.Sections.{Raw}
+use Rattle.basic_toml_read.proofs.ViewsSeen.{inline_of}
+use Rattle.basic_toml_grow.specs.Origins.{entry, value_origin, value_origins}
+use Rattle.basic_toml_grow.proofs.Origins.OriginsSeen.{inline_seen, fresh_within}
+use Rattle.basic_toml_grow.specs.Rows.{is_dot}
+use Rattle.basic_toml_grow.proofs.Origins.OriginsLeft.{OriginsLeft, ElementsCome, origins_entered, origins_done, no_rows_come}
+use Rattle.basic_toml_grow.proofs.Origins.OriginsLeft.{one_row, element_comes, elements_come, value_comes}
+use Rattle.basic_toml_clash.specs.Plain.{are_plain}
+use Rattle.basic_toml_grow.proofs.PlainArrays.{plain_finished, plain_come}
+use Rattle.basic_toml_clash.specs.Simple.{are_simple}
+use Rattle.basic_toml_clash.proofs.SimpleRows.{keys_differ}
+use Rattle.basic_toml_grow.specs.declared.item.Table.{Table}
+use Rattle.basic_toml_grow.proofs.SimpleRows.{no_entries, rows_in, rows_come}
+use Rattle.basic_toml_grow.proofs.rows.+finishing.Goals as goal
+
+pub take_rows-returns-then-is_empty-clause-entered : goal.take_rows-returns-then-is_empty-clause-entered
+take_rows-returns-then-is_empty-clause-entered t c =
+    let none : length c.args.rows.items ≡ 0 = grind (arith, c.is_empty.ensures, c.if-is_empty.true, c.args.rows.ok.0) in
+    no_rows_left c.args.rows.items c.args.level (table_trie c.args.table.value) none
+
+pub enter_rows-returns-in_err-table-clause-entered : goal.enter_rows-returns-in_err-table-clause-entered
+enter_rows-returns-in_err-table-clause-entered t c =
+    let p = err_from_is_err_and c.from_residual-in_err-table.result c.from_residual-in_err-table.ensures.1 in
+    let start : c.into_iter-row-iterator.result ≡ c.args.rows.items =
+    c.into_iter-row-iterator.ensures.into_iter_gives ∙ c.drained-row-items.ensures in
+    let before = table_trie c.args.table.value in
+    let now = table_trie c.loop-row.table.value in
+    let keys = c.loop-row.keys.items in
+    let rest = c.next.new.self in
+    let row = c.in-Some.row in
+    let left = subst (λ (rows : List Row). AreLeft (rows_view c.into_iter-row-iterator.result)
+    c.args.level before keys rows now)
+    c.in-Some.ensures.steps c.loop-row.invariant.0 in
+    let kept = subst (λ (ks : List Row). AreKeptOut (rows_view (ks ++ row ∷ [])) c.args.level now
+    c.in_err-table.field-0.0)
+    c.as_slice.ensures.value c.in_err-table.ensures.entered in
+    rw (p.1, p.2) (subst (λ (rows : List Row). AreKeptOut (rows_view rows) c.args.level before
+    c.in_err-table.field-0.0) start
+    (row_kept_out (rows_view c.into_iter-row-iterator.result) c.args.level before keys row rest now left
+    (sym c.is_dot.ensures ∙ c.if-is_dot.false) c.in_err-table.field-0.0 kept))
+
+pub enter_rows-returns-clause-entered : goal.enter_rows-returns-clause-entered
+enter_rows-returns-clause-entered t c =
+    let start : c.into_iter-row-iterator.result ≡ c.args.rows.items =
+    c.into_iter-row-iterator.ensures.into_iter_gives ∙ c.drained-row-items.ensures in
+    let before = table_trie c.args.table.value in
+    let now = table_trie c.loop-row.table.value in
+    let left = subst (λ (rows : List Row). AreLeft (rows_view c.into_iter-row-iterator.result)
+    c.args.level before
+    c.loop-row.keys.items rows now) c.in-None.ensures.steps.0 c.loop-row.invariant.0 in
+    subst (λ (rows : List Row). AreIn (rows_view rows) c.args.level before now) start
+    (none_left c.into_iter-row-iterator.result c.loop-row.keys.items c.args.level before now left)
+
+pub enter_rows-loop-row-preserved : goal.enter_rows-loop-row-preserved
+enter_rows-loop-row-preserved t c =
+    let before = table_trie c.args.table.value in
+    let now = table_trie c.loop-row.table.value in
+    let after = table_trie c.in_ok-table.table.value in
+    let whole = rows_view c.into_iter-row-iterator.result in
+    let keys = c.loop-row.keys.items in
+    let rest = c.next.new.self in
+    let row = c.in-Some.row in
+    let left = subst (λ (rows : List Row). AreLeft whole c.args.level before keys rows now) c.in-Some.ensures.steps
+    c.loop-row.invariant.0 in
+    let entered = subst (λ (ks : List Row). AreIn (rows_view (ks ++ row ∷ [])) c.args.level now after)
+    c.as_slice.ensures.value c.in_ok-table.ensures.entered in
+    let s = c.args.section in
+    let is_row : is_dot row ≡ false = sym c.is_dot.ensures ∙ c.if-is_dot.false in
+    let come = subst (λ (rows : List Row). OriginsLeft s whole (table_within c.args.table.value) keys rows
+    (table_within c.loop-row.table.value)) c.in-Some.ensures.steps c.loop-row.invariant.1 in
+    let more = c.in_ok-table.ensures.origins
+    ∙ ap (λ ks. with_more (table_within c.loop-row.table.value) (rows_origins s (rows_view (ks ++ row ∷ []))))
+    c.as_slice.ensures.value in (
+      subst (λ (ks : List Row). AreLeft whole c.args.level before ks rest after) (sym c.clear.ensures.items)
+          (row_entered whole c.args.level before keys row rest now left is_row after entered),
+      subst (λ (ks : List Row). OriginsLeft s whole (table_within c.args.table.value) ks rest
+          (table_within c.in_ok-table.table.value)) (sym c.clear.ensures.items)
+          (origins_entered s whole (table_within c.args.table.value) (table_within c.loop-row.table.value)
+          (table_within c.in_ok-table.table.value) keys row rest left.dots is_row come more),
+    )
+
+pub enter_value-returns-then-keys-level-clause-entered : goal.enter_value-returns-then-keys-level-clause-entered
+enter_value-returns-then-keys-level-clause-entered t c =
+    last_deep c.args.keys.now c.args.row c.args.level (table_trie c.args.table.value) c.requires.keys c.requires.row
+    (omega arith)
+
+pub enter_value-returns-in-Err-clause-entered : goal.enter_value-returns-in-Err-clause-entered
+enter_value-returns-in-Err-clause-entered t c =
+    value_kept_out c.args.keys.now c.args.row c.args.level (table_trie c.args.table.value) c.requires.keys
+    c.requires.row
+    c.in-Err.clash c.in_ok-held_by-in-Err.field-0 c.in_ok-held_by-in-Err.ensures.same c.in-Err.ensures.finished
+
+pub enter_value-returns-in-Ok-enter_row-clause-entered : goal.enter_value-returns-in-Ok-enter_row-clause-entered
+enter_value-returns-in-Ok-enter_row-clause-entered t c =
+    value_put c.args.keys.now c.args.row c.args.level (table_trie c.args.table.value) c.requires.keys c.requires.row
+    (key_texts c.args.keys.now ++ c.as_str-in-Ok.result.now ∷ [])
+    (ap (λ k. key_texts c.args.keys.now ++ k ∷ []) (c.as_str-in-Ok.ensures.value ∙ sym (row_key c.args.row)))
+    (child_trie c.in-Ok.child) (table_trie c.in-Ok-enter_row.table.value) c.in-Ok.ensures.finished (omega arith)
+    c.in-Ok-enter_row.ensures.entered
+
+pub enter_value-returns-clause-entered : goal.enter_value-returns-clause-entered
+enter_value-returns-clause-entered t c =
+    value_met c.args.keys.now c.args.row c.args.level (table_trie c.args.table.value) c.requires.keys c.requires.row
+    (key_texts c.args.keys.now ++ c.as_str-in-Ok.result.now ∷ [])
+    (ap (λ k. key_texts c.args.keys.now ++ k ∷ []) (c.as_str-in-Ok.ensures.value ∙ sym (row_key c.args.row)))
+    (child_trie c.in-Ok.child) boxed_trie c.in-Err-enter_row.met c.in_ok-row_clash-in-Err-enter_row.field-0
+    c.in_ok-row_clash-in-Err-enter_row.ensures.same c.in-Ok.ensures.finished c.in-Err-enter_row.ensures.entered
+
+pub finished_elements-loop-element-preserved : goal.finished_elements-loop-element-preserved
+finished_elements-loop-element-preserved t c =
+    let some = has_value (raw_of c.in-Some.element.value) (sym {A = Bool} c.is_dot_value.ensures
+    ∙ c.if-is_dot_value.false) in
+    let whole = elements_view c.into_iter-element-iterator.result in
+    let left = subst (λ (es : List Element). ElementsAreLeft whole c.args.level (map child_trie
+    c.loop-element.children.items)
+    (elements_view es)) c.in-Some.ensures.steps c.loop-element.invariant.0 in
+    let entered = element_entered whole c.args.level c.loop-element.children.items c.in_ok-finished.field-0
+    c.in-Some.element
+    c.next.new.self some.0 some.1 left (c.in_ok-finished.ensures.finished some.0 some.1) in
+    let s = c.args.section in
+    let come = subst (λ (es : List Element). ElementsCome s whole c.loop-element.children.items (elements_view es))
+    c.in-Some.ensures.steps c.loop-element.invariant.1 in (
+      subst (λ (cs : List Child). ElementsAreLeft whole c.args.level (map child_trie cs) (elements_view
+          c.next.new.self))
+          (sym c.in_ok-push.ensures.items) entered,
+      subst (λ (cs : List Child). ElementsCome s whole cs (elements_view c.next.new.self))
+          (sym c.in_ok-push.ensures.items)
+          (element_comes s whole c.loop-element.children.items c.in_ok-finished.field-0 c.in-Some.element
+          c.next.new.self some.0 some.1 come (c.in_ok-finished.ensures.origins some.0 some.1)),
+    )
+
+pub finished_elements-returns-clause-finished : goal.finished_elements-returns-clause-finished
+finished_elements-returns-clause-finished t c =
+    let start : c.into_iter-element-iterator.result ≡ c.args.elements.items =
+    c.into_iter-element-iterator.ensures.into_iter_gives ∙ c.drained-element-items.ensures in
+    let ts = map child_trie c.loop-element.children.items in
+    let left = subst (λ (es : List Element). ElementsAreLeft (elements_view
+    c.into_iter-element-iterator.result)
+    c.args.level ts (elements_view es)) c.in-None.ensures.steps.0 c.loop-element.invariant.0 in
+    subst (λ (es : List Element). AreFinished (elements_view es) c.args.level ts) start
+    (elements_done (elements_view c.into_iter-element-iterator.result) c.args.level ts left)
+
+pub finished-returns-in_err-table-in-Inline-clause-finished :
+    goal.finished-returns-in_err-table-in-Inline-clause-finished
+finished-returns-in_err-table-in-Inline-clause-finished t c = λ v seen.
+    let p = err_from_is_err_and c.from_residual-in_err-table-in-Inline.result
+    c.from_residual-in_err-table-in-Inline.ensures.1 in
+    rw (p.1, p.2) (inline_kept_out c.in-Inline.rows (Some (standings.table false false false))
+    (table_trie c.in_ok-new-in-Inline.field-0.value) c.args.level v c.in_err-table-in-Inline.field-0.0
+    (ap raw_of (sym c.in-Inline.is) ∙ seen) c.in_ok-new-in-Inline.ensures c.in_err-table-in-Inline.ensures.entered)
+
+pub finished-returns-in_ok-table-in-Inline-clause-finished : goal.finished-returns-in_ok-table-in-Inline-clause-finished
+finished-returns-in_ok-table-in-Inline-clause-finished t c = λ v seen.
+    subst (λ (u : Trie). IsFinished v c.args.level u) (sym c.at-in-Inline.ensures.trie)
+    (inline_finished c.in-Inline.rows c.in_ok-table-in-Inline.table (Some (standings.table false false false))
+    (table_trie c.in_ok-new-in-Inline.field-0.value) c.args.level v (ap raw_of (sym c.in-Inline.is)
+    ∙ seen) (omega arith)
+    c.in_ok-new-in-Inline.ensures c.in_ok-table-in-Inline.ensures.entered)
+
+pub enter_rows-returns-in_err-table-clause-named : goal.enter_rows-returns-in_err-table-clause-named
+enter_rows-returns-in_err-table-clause-named t c =
+    let p = err_from_is_err_and c.from_residual-in_err-table.result c.from_residual-in_err-table.ensures.1 in
+    let start : c.into_iter-row-iterator.result ≡ c.args.rows.items =
+    c.into_iter-row-iterator.ensures.into_iter_gives ∙ c.drained-row-items.ensures in
+    let before = table_trie c.args.table.value in
+    let now = table_trie c.loop-row.table.value in
+    let keys = c.loop-row.keys.items in
+    let rest = c.next.new.self in
+    let row = c.in-Some.row in
+    let clash = c.in_err-table.field-0.0 in
+    let whole = rows_view c.into_iter-row-iterator.result in
+    let left = subst (λ (rows : List Row). AreLeft whole c.args.level before keys rows now)
+    c.in-Some.ensures.steps c.loop-row.invariant.0 in
+    let named = subst (λ (ks : List Row). NamesStop (try_put_rows (rows_view (ks ++ row ∷ [])) now) clash)
+    c.as_slice.ensures.value c.in_err-table.ensures.named in
+    rw (p.1, p.2) (subst (λ (rows : List Row). NamesStop (try_put_rows (rows_view rows) before) clash) start
+    (row_stopped whole c.args.level before keys row rest now left
+    (sym c.is_dot.ensures ∙ c.if-is_dot.false) clash named))
+
+pub enter_value-returns-in-Err-clause-named : goal.enter_value-returns-in-Err-clause-named
+enter_value-returns-in-Err-clause-named t c =
+    value_stopped c.args.keys.now c.args.row c.args.level (table_trie c.args.table.value) c.requires.keys
+    c.requires.row
+    c.in-Err.clash c.in_ok-held_by-in-Err.field-0
+    (subst (λ (l : List ℕ). SaysHeld (line_keys c.args.keys.now ++ key_at (lined_of c.args.row).key.offset l ∷ [])
+    c.in-Err.clash c.in_ok-held_by-in-Err.field-0)
+    (c.as_str.ensures.value ∙ sym (row_key c.args.row))
+    (c.in_ok-held_by-in-Err.ensures.named (lined_of c.args.row).key.offset))
+    c.in-Err.ensures.named
+
+pub enter_value-returns-clause-named : goal.enter_value-returns-clause-named
+enter_value-returns-clause-named t c =
+    met_stopped c.args.keys.now c.args.row c.args.level (table_trie c.args.table.value) c.requires.keys
+    c.requires.row
+    (child_trie c.in-Ok.child) c.in-Err-enter_row.met c.in_ok-row_clash-in-Err-enter_row.field-0
+    c.as_str-in-Ok.result.now c.as_str-in-Err-enter_row.result.now c.args.row.offset
+    (c.as_str-in-Ok.ensures.value ∙ sym (row_key c.args.row))
+    (c.as_str-in-Err-enter_row.ensures.value ∙ sym (row_key c.args.row))
+    (row_offset c.args.row)
+    c.in_ok-row_clash-in-Err-enter_row.ensures.named c.in-Ok.ensures.finished c.in-Err-enter_row.ensures.named
+
+pub finished-returns-in_err-table-in-Inline-clause-named : goal.finished-returns-in_err-table-in-Inline-clause-named
+finished-returns-in_err-table-in-Inline-clause-named t c =
+    let p = err_from_is_err_and c.from_residual-in_err-table-in-Inline.result
+    c.from_residual-in_err-table-in-Inline.ensures.1 in
+    rw (p.1, p.2) (λ v seen. inline_stopped c.in-Inline.rows (Some (standings.table false false false))
+    (table_trie c.in_ok-new-in-Inline.field-0.value) v c.in_err-table-in-Inline.field-0.0
+    (ap raw_of (sym c.in-Inline.is) ∙ seen) c.in_ok-new-in-Inline.ensures c.in_err-table-in-Inline.ensures.named)
+
+pub finished_elements-returns-in_err-finished-clause-named :
+    goal.finished_elements-returns-in_err-finished-clause-named
+finished_elements-returns-in_err-finished-clause-named t c =
+    let p = err_from_is_err_and c.from_residual-in_err-finished.result c.from_residual-in_err-finished.ensures.1 in
+    let start : c.into_iter-element-iterator.result ≡ c.args.elements.items =
+    c.into_iter-element-iterator.ensures.into_iter_gives ∙ c.drained-element-items.ensures in
+    let some = has_value (raw_of c.in-Some.element.value) (sym {A = Bool} c.is_dot_value.ensures
+    ∙ c.if-is_dot_value.false) in
+    let clash = c.in_err-finished.field-0.0 in
+    let whole = elements_view c.into_iter-element-iterator.result in
+    let ts = map child_trie c.loop-element.children.items in
+    let left = subst (λ (es : List Element). ElementsAreLeft whole c.args.level ts (elements_view es))
+    c.in-Some.ensures.steps c.loop-element.invariant.0 in
+    rw (p.1, p.2) (subst (λ (es : List Element). NamesStop (try_put_elements (elements_view es)) clash) start
+    (element_stopped whole c.args.level ts c.in-Some.element c.next.new.self some.0 clash some.1 left
+    (c.in_err-finished.ensures.named some.0 some.1)))
+
+pub finished_elements-loop-element-preserved-then-is_dot_value :
+    goal.finished_elements-loop-element-preserved-then-is_dot_value
+finished_elements-loop-element-preserved-then-is_dot_value t c =
+    let whole = elements_view c.into_iter-element-iterator.result in
+    let ts = map child_trie c.loop-element.children.items in
+    let left = subst (λ (es : List Element). ElementsAreLeft whole c.args.level ts (elements_view es))
+    c.in-Some.ensures.steps c.loop-element.invariant.0 in
+    let none = no_value (raw_of c.in-Some.element.value) (sym {A = Bool} c.is_dot_value.ensures
+    ∙ c.if-is_dot_value.true) in
+    let come = subst (λ (es : List Element). ElementsCome c.args.section whole c.loop-element.children.items
+    (elements_view es)) c.in-Some.ensures.steps c.loop-element.invariant.1 in (
+      subst (λ (es : Elements). ElementsAreLeft whole c.args.level ts es)
+          (element_skipped c.in-Some.element c.next.new.self none) left,
+      subst (λ (es : Elements). ElementsCome c.args.section whole c.loop-element.children.items es)
+          (element_skipped c.in-Some.element c.next.new.self none) come,
+    )
+
+-- where what is put into the table comes from
+pub take_rows-returns-then-is_empty-clause-origins : goal.take_rows-returns-then-is_empty-clause-origins
+take_rows-returns-then-is_empty-clause-origins t c =
+    let none : length c.args.rows.items ≡ 0 = grind (arith, c.is_empty.ensures, c.if-is_empty.true, c.args.rows.ok.0) in
+    no_rows_come c.args.section c.args.rows.items (table_within c.args.table.value) none
+
+pub enter_rows-returns-clause-origins : goal.enter_rows-returns-clause-origins
+enter_rows-returns-clause-origins t c =
+    let start : c.into_iter-row-iterator.result ≡ c.args.rows.items =
+    c.into_iter-row-iterator.ensures.into_iter_gives ∙ c.drained-row-items.ensures in
+    let come = subst (λ (rows : List Row). OriginsLeft c.args.section (rows_view
+    c.into_iter-row-iterator.result) (table_within c.args.table.value) c.loop-row.keys.items rows
+    (table_within c.loop-row.table.value)) c.in-None.ensures.steps.0 c.loop-row.invariant.1 in
+    origins_done c.args.section (rows_view c.into_iter-row-iterator.result)
+    (table_within c.args.table.value) (table_within c.loop-row.table.value) c.loop-row.keys.items
+    c.loop-row.invariant.0.dots come
+    ∙ ap (λ rows. with_more (table_within c.args.table.value) (rows_origins c.args.section (rows_view rows))) start
+
+pub enter_value-returns-in-Ok-enter_row-clause-origins : goal.enter_value-returns-in-Ok-enter_row-clause-origins
+enter_value-returns-in-Ok-enter_row-clause-origins t c =
+    c.in-Ok-enter_row.ensures.origins
+    ∙ ap (with_more (table_within c.args.table.value))
+    (one_row c.args.section c.args.keys.now c.args.row c.as_str-in-Ok.result.now c.in-Ok.child c.requires.keys
+    c.requires.row c.as_str-in-Ok.ensures.value c.in-Ok.ensures.origins c.in-Ok.ensures.dotted)
+
+pub finished_elements-returns-clause-origins : goal.finished_elements-returns-clause-origins
+finished_elements-returns-clause-origins t c =
+    let start : c.into_iter-element-iterator.result ≡ c.args.elements.items =
+    c.into_iter-element-iterator.ensures.into_iter_gives ∙ c.drained-element-items.ensures in
+    let come = subst (λ (es : List Element). ElementsCome c.args.section (elements_view
+    c.into_iter-element-iterator.result) c.loop-element.children.items (elements_view es))
+    c.in-None.ensures.steps.0 c.loop-element.invariant.1 in
+    elements_come c.args.section (elements_view c.into_iter-element-iterator.result)
+    c.loop-element.children.items come
+    ∙ ap (λ es. elements_origins c.args.section (elements_view es)) start
+
+pub finished-returns-in_ok-table-in-Inline-clause-origins :
+    goal.finished-returns-in_ok-table-in-Inline-clause-origins
+finished-returns-in_ok-table-in-Inline-clause-origins t c = λ v seen.
+    let s = c.args.section in
+    let at = c.args.start in
+    let rows = rows_view c.in-Inline.rows.items in
+    let table = c.in_ok-table-in-Inline.table in
+    let comes : child_origins c.at-in-Inline.result ≡ value_origins s at (Raw.inline rows) =
+    c.at-in-Inline.ensures.origins ∙ inline_seen table at s
+    ∙ ap (λ w. entry (value_origin (codes "inline table") at s) w.below)
+    (c.in_ok-table-in-Inline.ensures.origins
+    ∙ ap (λ w. with_more w (rows_origins s rows)) (fresh_within c.in_ok-new-in-Inline.field-0.value
+    c.in_ok-new-in-Inline.ensures)) in
+    value_comes c.args.value (Raw.inline rows) (child_origins c.at-in-Inline.result) s at
+    (ap raw_of c.in-Inline.is ∙ inline_of c.in-Inline.rows) comes v seen
+
+-- an array of plain values, kept as it was read
+pub row_value-returns-then-are_plain-clause-finished : goal.row_value-returns-then-are_plain-clause-finished
+row_value-returns-then-are_plain-clause-finished t c = λ v seen.
+    let plain : are_plain (c.args.level + 1) c.in-Array.elements.items ≡ true =
+    ap (are_plain (c.args.level + 1)) (sym c.as_slice.ensures.value) ∙ sym {A = Bool} c.are_plain.ensures
+    ∙ c.if-are_plain.true in
+    subst (λ (u : Trie). IsFinished v c.args.level u) (sym c.at.ensures.trie)
+    (plain_finished c.in-Array.elements c.args.level plain v (ap raw_of (sym c.in-Array.is) ∙ seen)
+    c.if-level-lt-NESTING_LIMIT.true)
+
+pub row_value-returns-then-are_plain-clause-origins : goal.row_value-returns-then-are_plain-clause-origins
+row_value-returns-then-are_plain-clause-origins t c = λ v seen.
+    let plain : are_plain (c.args.level + 1) c.in-Array.elements.items ≡ true =
+    ap (are_plain (c.args.level + 1)) (sym c.as_slice.ensures.value) ∙ sym {A = Bool} c.are_plain.ensures
+    ∙ c.if-are_plain.true in
+    c.at.ensures.origins
+    ∙ plain_come c.in-Array.elements c.args.level plain v (ap raw_of (sym c.in-Array.is) ∙ seen)
+    c.args.start c.args.section
+
+-- simple rows, taken all at once
+pub take_rows-with_rows-requires : goal.take_rows-with_rows-requires
+take_rows-with_rows-requires t c =
+    keys_differ c.args.level c.args.rows.items (ap (are_simple c.args.level) (sym c.as_slice.ensures.value)
+    ∙ sym {A = Bool} c.are_simple.ensures ∙ c.if-are_simple.true)
+
+pub take_rows-returns-then-are_simple-clause-entered : goal.take_rows-returns-then-are_simple-clause-entered
+take_rows-returns-then-are_simple-clause-entered t c =
+    let table = c.args.table.value in
+    let rows = c.args.rows.items in
+    let none = no_entries table c.deref.result.now c.is_empty-2.result c.deref.ensures c.is_empty-2.ensures
+    c.if-is_empty-2.true in
+    let simple = ap (are_simple c.args.level) (sym c.as_slice.ensures.value)
+    ∙ sym {A = Bool} c.are_simple.ensures ∙ c.if-are_simple.true in
+    subst (λ (t : Table). AreIn (rows_view rows) c.args.level (table_trie table) (table_trie t))
+    (sym c.in_ok-with_rows.ensures) (rows_in c.args.section c.args.level (omega arith) table none rows simple)
+
+pub take_rows-returns-then-are_simple-clause-origins : goal.take_rows-returns-then-are_simple-clause-origins
+take_rows-returns-then-are_simple-clause-origins t c =
+    let table = c.args.table.value in
+    let none = no_entries table c.deref.result.now c.is_empty-2.result c.deref.ensures c.is_empty-2.ensures
+    c.if-is_empty-2.true in
+    let simple = ap (are_simple c.args.level) (sym c.as_slice.ensures.value)
+    ∙ sym {A = Bool} c.are_simple.ensures ∙ c.if-are_simple.true in
+    ap table_within c.in_ok-with_rows.ensures
+    ∙ rows_come c.args.section c.args.level (omega arith) table none c.args.rows.items simple

@@ -1,0 +1,41 @@
+use Rattle.std.proofs.Common.{◌+◌, ◌-◌, ◌*◌, map}
+use Rattle.basic_toml_read.specs.SectionView.{rows_view, elements_view}
+use Rattle.basic_toml_grow.specs.Item.{child_trie, table_trie}
+use Rattle.basic_toml_grow.specs.Origins.{table_within}
+use Rattle.basic_toml_grow.proofs.Origins.OriginsLeft.{OriginsLeft, ElementsCome}
+use Rattle.basic_toml_grow.proofs.RowsLeft.{AreLeft}
+use Rattle.basic_toml_grow.proofs.ElementsLeft.{ElementsAreLeft}
+use Rattle.basic_toml_grow.proofs.rows.+finishing.Given as goal
+
+abbrev pub decreases-take_rows : goal.decreases-take_rows
+decreases-take_rows l = 5 * (128 - l.level) + 4
+
+abbrev pub decreases-enter_rows : goal.decreases-enter_rows
+decreases-enter_rows l = 5 * (128 - l.level) + 3
+
+abbrev pub decreases-enter_value : goal.decreases-enter_value
+decreases-enter_value l = 5 * (128 - l.level) + 2
+
+abbrev pub decreases-row_value : goal.decreases-row_value
+decreases-row_value l = 5 * (128 - l.level) + 1
+
+abbrev pub decreases-finished : goal.decreases-finished
+decreases-finished l = 5 * (128 - l.level)
+
+abbrev pub decreases-finished_elements : goal.decreases-finished_elements
+decreases-finished_elements l = 5 * (128 - l.level) + 1
+
+-- what the rows that are left put into the table as it is, all put into it as it was
+abbrev pub invariant-enter_rows-loop-row : goal.invariant-enter_rows-loop-row
+invariant-enter_rows-loop-row l =
+    AreLeft (rows_view l.initial.row-iterator) l.level (table_trie l.initial.table.value) l.keys.items
+    l.row-iterator (table_trie l.table.value)
+    × OriginsLeft l.section (rows_view l.initial.row-iterator) (table_within l.initial.table.value)
+    l.keys.items l.row-iterator (table_within l.table.value)
+
+abbrev pub invariant-finished_elements-loop-element : goal.invariant-finished_elements-loop-element
+invariant-finished_elements-loop-element l =
+    ElementsAreLeft (elements_view l.initial.element-iterator) l.level (map child_trie l.children.items)
+    (elements_view l.element-iterator)
+    × ElementsCome l.section (elements_view l.initial.element-iterator) l.children.items
+    (elements_view l.element-iterator)

@@ -1,0 +1,66 @@
+-- The trie that an item stands for: what is said of each table, and what it holds. Offsets play no part.
+use Rattle.std.specs.Prelude.{ℕ, suc, List, [], ◌∷◌, ◌++◌, Some, None, length, map, string_bytes}
+use Rattle.basic_toml_value.specs.Data.{Data, items_of}
+use Rattle.basic_toml_grammar.specs.Steps.{key, number}
+use Rattle.basic_toml_grammar.specs.Mentions.{finished}
+use Rattle.basic_toml_grammar.specs.Standing as standing
+use Rattle.basic_toml_grammar.specs.Growth.{closed}
+use Rattle.basic_toml_grammar.specs.Trie.{Trie, trie, Tries, no_tries, by, nothing, bare}
+use Rattle.basic_toml_clash.specs.Plain.{plain_array}
+use Rattle.basic_toml_grow.specs.declared.item.Item.{fold-Item}
+use Rattle.basic_toml_grow.specs.declared.item.Item as items
+use Rattle.basic_toml_grow.specs.declared.item.Item.TheOpen.{Item-F, Child-F, Table-F}
+use Rattle.basic_toml_grow.specs.declared.item.Item.TheViews.{roll-Child}
+use Rattle.basic_toml_grow.specs.declared.item.Child as children
+use Rattle.basic_toml_grow.specs.declared.item.Child.{fold-Child}
+use Rattle.basic_toml_grow.specs.declared.item.Table as tables
+use Rattle.basic_toml_grow.specs.declared.item.Table.{fold-Table}
+
+-- a finished value
+abbrev pub leaf : Data → Trie
+leaf d = trie (Some standing.value) (Some d) no_tries
+
+abbrev pub by_keys : List (List ℕ × Trie) → Tries
+by_keys [] = no_tries
+by_keys (p ∷ ps) = by (key p.0) p.1 (by_keys ps)
+
+abbrev pub by_numbers : ℕ → List Trie → Tries
+by_numbers n [] = no_tries
+by_numbers n (t ∷ ts) = by (number n) t (by_numbers (suc n) ts)
+
+abbrev pub tree_data : Trie → Data
+tree_data t = closed (bare t)
+
+-- one level, the parts seen already
+abbrev pub item_grows : Item-F Trie Trie Trie → Trie
+item_grows Item-F.Nothing = nothing
+item_grows (Item-F.Integer z) = leaf (Data.integer z)
+item_grows (Item-F.Float text) = leaf (Data.float text)
+item_grows (Item-F.Boolean b) = leaf (Data.boolean b)
+item_grows (Item-F.String text) = leaf (Data.string text.now)
+item_grows (Item-F.Escaped text) = leaf (Data.string (string_bytes text))
+item_grows (Item-F.Array children) = leaf (Data.array (items_of (map tree_data children.items)))
+item_grows (Item-F.Plain elements) = leaf (finished (plain_array elements.items))
+item_grows (Item-F.Inline table) = leaf (tree_data table.value)
+item_grows (Item-F.Table table) = table.value
+item_grows (Item-F.Tables before latest) =
+    trie (Some (standing.array (suc (length before.value.items)))) None (by_numbers 0 (before.value.items ++ latest.value ∷ []))
+
+abbrev pub child_grows : Child-F Trie Trie Trie → Trie
+child_grows c = c.item
+
+abbrev pub table_grows : Table-F Trie Trie Trie → Trie
+table_grows t = trie (Some (standing.table t.passed t.named t.dotted)) None (by_keys t.entries)
+
+abbrev pub item_trie : items.Item → Trie
+item_trie = fold-Item Trie Trie Trie item_grows child_grows table_grows
+
+abbrev pub child_trie : children.Child → Trie
+child_trie = fold-Child Trie Trie Trie item_grows child_grows table_grows
+
+abbrev pub table_trie : tables.Table → Trie
+table_trie = fold-Table Trie Trie Trie item_grows child_grows table_grows
+
+-- where nothing stands yet
+abbrev pub no_child : children.Child
+no_child = roll-Child (record { start = 0; section = 0; item = items.Nothing })

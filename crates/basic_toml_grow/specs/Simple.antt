@@ -1,0 +1,45 @@
+-- Simple rows, as the entries that a table takes them as.
+use Rattle.std.specs.Prelude.{ℕ, List, map}
+use Rattle.basic_toml_read.specs.declared.section.Raw.{Raw, out-Raw}
+use Rattle.basic_toml_read.specs.declared.section.Raw.TheOpen.{Raw-F}
+use Rattle.basic_toml_read.specs.declared.section.Element.{Element}
+use Rattle.basic_toml_read.specs.declared.section.Row.{Row, out-Row}
+use Rattle.basic_toml_clash.specs.Simple.{key_of}
+use Rattle.basic_toml_grow.specs.declared.item.Item as items
+use Rattle.basic_toml_grow.specs.declared.item.Item.TheViews.{roll-Child, roll-Table}
+use Rattle.basic_toml_grow.specs.declared.item.Child.{Child}
+use Rattle.basic_toml_grow.specs.declared.item.Table.{Table, out-Table}
+
+-- a plain value as an item; what is not plain is kept as nothing
+abbrev pub kept : Raw-F Raw Element Row → items.Item
+kept Raw-F.Dot = items.Nothing
+kept (Raw-F.Integer z) = items.Integer z
+kept (Raw-F.Float text) = items.Float text
+kept (Raw-F.Boolean b) = items.Boolean b
+kept (Raw-F.String text) = items.String text
+kept (Raw-F.Escaped text) = items.Escaped text
+kept (Raw-F.Array es) = items.Plain es
+kept (Raw-F.Inline rs) = items.Nothing
+
+abbrev pub item_of : Raw → items.Item
+item_of v = kept (out-Raw v)
+
+-- a row of a section
+abbrev pub child_of : ℕ → Row → Child
+child_of s r = roll-Child (record { start = (out-Row r).start; section = s; item = item_of (out-Row r).value })
+
+abbrev pub entry_of : ℕ → Row → List ℕ × Child
+entry_of s r = (key_of r, child_of s r)
+
+abbrev pub entries_of : ℕ → List Row → List (List ℕ × Child)
+entries_of s rows = map (entry_of s) rows
+
+-- a table with other entries
+abbrev pub with_entries : Table → List (List ℕ × Child) → Table
+with_entries t ps = roll-Table (record {
+  passed = (out-Table t).passed;
+  named = (out-Table t).named;
+  dotted = (out-Table t).dotted;
+  section = (out-Table t).section;
+  entries = ps;
+})

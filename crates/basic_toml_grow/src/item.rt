@@ -1,0 +1,129 @@
+//! What stands at a key or a number of a document, while it is read and when all of it is.
+
+ghost use Rattle.std.specs.Prelude.{◌≡◌, ◌||◌, IfOk, Some, None, false};
+ghost use Rattle.basic_toml_grammar.specs.Standing.{table as table_standing};
+ghost use Rattle.basic_toml_grammar.specs.Trie.{trie, nothing, no_tries};
+ghost use Rattle.basic_toml_grow.specs.declared.item.Child.{out-Child};
+ghost use Rattle.basic_toml_grow.specs.declared.item.Table.{out-Table};
+ghost use Rattle.basic_toml_grow.specs.Item.{item_trie, child_trie, no_child, table_trie};
+ghost use Rattle.basic_toml_grow.specs.Origins.{item_origins, child_origins};
+
+use basic_toml_clash::{Blank, Keyed};
+use basic_toml_read::Element;
+use basic_toml_value::Float;
+use std::alloc::{AllocError, Global};
+
+/// What stands at a key or a number.
+#[cycle(items)]
+#[derive(Drop)]
+pub enum Item<'de> {
+    /// Nothing yet: something is about to stand here.
+    Nothing,
+    Integer(i64),
+    Float(Float),
+    Boolean(bool),
+    /// A string as it stands in the text.
+    String(&'de str),
+    /// A string of its own.
+    Escaped(String),
+    /// An array with inline tables in it.
+    Array(Vec<Child<'de>>),
+    /// An array of plain values, as it was read.
+    Plain(Vec<Element<'de>>),
+    /// An inline table.
+    Inline(Box<Table<'de>>),
+    /// A table of headers or of dotted keys.
+    Table(Box<Table<'de>>),
+    /// The tables of an array of tables: those before the latest, and the latest. Two boxes keep an item as small as a
+    /// raw value, and a table's entries as large as its rows: so one takes the memory that the other gave back.
+    Tables(Box<Vec<Table<'de>>>, Box<Table<'de>>),
+}
+
+/// An item, and where it comes from.
+#[cycle(items)]
+#[derive(Drop)]
+pub struct Child<'de> {
+    /// The byte offset of the value; of a dotted table, that of the first value whose row made it.
+    pub start: usize,
+    /// The number of the section whose row or header first mentioned it.
+    pub section: usize,
+    pub item: Item<'de>,
+}
+
+/// A table that grows: what was said of it, and its entries.
+#[cycle(items)]
+#[derive(Drop)]
+pub struct Table<'de> {
+    /// Whether a header passes through it.
+    pub passed: bool,
+    /// Whether a header names it.
+    pub named: bool,
+    /// Whether the dots of a row extend it.
+    pub dotted: bool,
+    /// The number of a section whose header names it or passes through it, if there is one.
+    pub section: usize,
+    pub entries: Keyed<Child<'de>>,
+}
+
+impl<'de> Child<'de> {
+    /// An item that comes from an offset and a section.
+    pub(crate) fn at(start: usize, section: usize, item: Item<'de>) -> Child<'de>
+        ensures trie { child_trie result ≡ item_trie item.entry }
+        ensures origins { child_origins result ≡ item_origins item.entry start section }
+        ensures start { (out-Child result).start ≡ start }
+        ensures section { (out-Child result).section ≡ section }
+    {
+        Child {
+            start,
+            section,
+            item,
+        }
+    }
+
+    /// Where nothing stands yet.
+    pub(crate) fn nothing() -> Child<'de>
+        ensures { child_trie result ≡ nothing }
+    {
+        Child::at(0, 0, Item::Nothing)
+    }
+}
+
+impl<'de> Blank for Child<'de> {
+    ghost blank = { no_child };
+
+    fn blank(_alloc: Global) -> Child<'de> {
+        Child {
+            start: 0,
+            section: 0,
+            item: Item::Nothing,
+        }
+    }
+}
+
+impl<'de> Table<'de> {
+    /// A table without entries, of which nothing is said yet.
+    ///
+    /// # Errors
+    ///
+    /// `AllocError` where memory for it is refused.
+    pub fn new(alloc: Global) -> Result<Box<Table<'de>>, AllocError>
+        ensures { IfOk result (λ table. table_trie table.value
+            ≡ trie (Some (table_standing false false false)) None no_tries) }
+    {
+        let table = Table {
+            passed: false,
+            named: false,
+            dotted: false,
+            section: 0,
+            entries: Keyed::new(alloc),
+        };
+        Ok(Box::new(alloc, table)?)
+    }
+
+    /// Whether a header names it or passes through it.
+    pub fn is_made(&self) -> bool
+        ensures { result ≡ ((out-Table self.now).passed || (out-Table self.now).named) }
+    {
+        self.passed || self.named
+    }
+}

@@ -1,0 +1,455 @@
+//! Rows: their values, and the tables that their keys lead through.
+
+ghost use Rattle.std.specs.Prelude.{◌≡◌, ◌≤◌, ◌<◌, ℕ, length, [], ◌∷◌, ◌++◌, Some, None, true, false, not, is_some, map};
+ghost use Rattle.std.specs.Prelude.{MatchOption, IfOk, IfErr, IfSome};
+ghost use Rattle.basic_toml_value.specs.Data.{Data};
+ghost use Rattle.basic_toml_grammar.specs.Sections.{Raw as spec_raw};
+ghost use Rattle.basic_toml_grammar.specs.Marks.{valued};
+ghost use Rattle.basic_toml_grammar.specs.Trie.{nothing, mark_here};
+ghost use Rattle.basic_toml_grammar.specs.TrieStops.{try_put_rows, try_put_value, try_put_elements};
+ghost use Rattle.basic_toml_read.specs.SectionView.{raw_of, rows_view, elements_view};
+ghost use Rattle.basic_toml_grow.specs.declared.item.Table.{out-Table};
+ghost use Rattle.basic_toml_grow.specs.Item.{leaf, child_trie, table_trie};
+ghost use Rattle.basic_toml_grow.specs.Origins.{child_origins, table_within, with_more, or_else, entry};
+ghost use Rattle.basic_toml_grow.specs.Origins.{row_origins, rows_origins, value_origins, elements_origins};
+ghost use Rattle.basic_toml_grow.specs.Origins.{dotted_of, table_origin};
+ghost use Rattle.basic_toml_grow.specs.Rows.{EntersRow, EntersRows, Extends, Finishes, FinishesAll, key_texts};
+ghost use Rattle.basic_toml_clash.specs.Clash.{NamesStop};
+ghost use Rattle.basic_toml_grow.specs.RowStops.{line_keys, key_at, TellsLast, TellsRow, TellsExtended, SaysMet};
+ghost use Rattle.basic_toml_grow.specs.RowStops.{SaysHeld};
+ghost use Rattle.basic_toml_grow.specs.Rows.{all_dots, is_dot, reason, met_reason};
+
+use crate::item::{Child, Item, Table};
+use crate::simple::with_rows;
+use basic_toml_clash::{Clash, are_plain, are_simple, drained, texts_of};
+use basic_toml_read::{Element, Raw, Row};
+use basic_toml_value::NESTING_LIMIT;
+use std::alloc::{AllocError, AllocFailed, Global};
+
+// Of so many rows it is asked whether they are simple, since each key is then compared with all others.
+const FEW: usize = 16;
+
+/// Why a row is not put into a table.
+#[derive(Clone, Copy, Drop)]
+enum Met {
+    Memory,
+    /// One of its keys lies on a header, with so many keys left from it on.
+    Header(usize),
+    /// Its last key stands before it, by a row.
+    Row,
+}
+
+impl From<AllocError> for Met {
+    ghost use Rattle.std.specs.Prelude.{◌≡◌};
+    ghost use Rattle.basic_toml_grow.specs.declared.rows.Met.TheVariants.{Memory};
+
+    ghost from_gives = { λ _ met. met ≡ Memory };
+
+    fn from(_error: AllocError) -> Met {
+        Met::Memory
+    }
+}
+
+impl<T: Drop> From<AllocFailed<T>> for Met {
+    ghost use Rattle.std.specs.Prelude.{◌≡◌};
+    ghost use Rattle.basic_toml_grow.specs.declared.rows.Met.TheVariants.{Memory};
+
+    ghost from_gives = { λ _ met. met ≡ Memory };
+
+    fn from(_failed: AllocFailed<T>) -> Met {
+        Met::Memory
+    }
+}
+
+// What the last key of a row meets, where something stands.
+fn what_is_met(there: &Child<'_>) -> Option<Met>
+    ensures stands { MatchOption result (child_trie there.now ≡ nothing)
+        (λ met. (d : Data) → mark_here (valued d) (child_trie there.now) ≡ None) }
+    ensures named { IfSome result (λ met. TellsLast (child_trie there.now) met) }
+{
+    match &there.item {
+        Item::Nothing => None,
+        Item::Table(table) => Some(if table.is_made() {
+            Met::Header(1)
+        } else {
+            Met::Row
+        }),
+        Item::Tables(_, _) => Some(Met::Header(1)),
+        _ => Some(Met::Row),
+    }
+}
+
+// Puts a row's value into a table, by the keys that periods follow, and then its last key. It is inlined, since most rows
+// have one key.
+#[cycle(leading)]
+#[inline(always)]
+fn enter_row<'de>(
+    alloc: Global,
+    table: Box<Table<'de>>,
+    keys: &[Row<'de>],
+    last: &str,
+    child: Child<'de>,
+) -> Result<Box<Table<'de>>, Met>
+    ensures entered { (d : Data) → child_trie child.entry ≡ leaf d
+        → EntersRow (key_texts keys.entry.now ++ last.entry.now ∷ []) d (table_trie table.entry.value) result }
+    ensures named { IfErr result (λ met. (d : Data) → child_trie child.entry ≡ leaf d
+        → TellsRow (line_keys keys.entry.now) last.entry.now d (table_trie table.entry.value) met) }
+    ensures origins { let row = row_origins (key_texts keys.entry.now ++ last.entry.now ∷ []) (dotted_of child.entry)
+        (child_origins child.entry) in
+        IfOk result (λ after. table_within after.value ≡ with_more (table_within table.entry.value) row) }
+{
+    let mut table = table;
+    let Some((row, rest)) = keys.split_first() else {
+        let position = table.entries.enter(last)?;
+        if let Some(met) = what_is_met(table.entries.value(position)) {
+            return Err(met);
+        }
+        table.entries.put(position, child);
+        return Ok(table);
+    };
+    let position = table.entries.enter_again(row.key.as_str())?;
+    let room = room_like(&table, position);
+    let there = table.entries.replace(position, Child::nothing());
+    let extended = extended(alloc, there, rest, last, child, room)?;
+    table.entries.put(position, extended);
+    Ok(table)
+}
+
+// The room that a table at this position may want: as many entries as the one before it has, since such tables are often
+// alike.
+fn room_like(table: &Table<'_>, position: usize) -> usize
+    requires { position < length (out-Table table.now).entries }
+{
+    if position == 0 {
+        return 1;
+    }
+    match &table.entries.value(position - 1).item {
+        Item::Table(before) => before.entries.len(),
+        _ => 1,
+    }
+}
+
+// The table at a key that a period follows, with the rest of the row put into it; where it is new, it has this room.
+#[cycle(leading)]
+#[inline(never)]
+fn extended<'de>(
+    alloc: Global,
+    there: Child<'de>,
+    keys: &[Row<'de>],
+    last: &str,
+    child: Child<'de>,
+    room: usize,
+) -> Result<Child<'de>, Met>
+    ensures entered { (d : Data) → child_trie child.entry ≡ leaf d
+        → Extends (key_texts keys.entry.now ++ last.entry.now ∷ []) d (child_trie there.entry) result }
+    ensures named { IfErr result (λ met. (d : Data) → child_trie child.entry ≡ leaf d
+        → TellsExtended (line_keys keys.entry.now) last.entry.now d (child_trie there.entry) met) }
+    ensures origins { let row = row_origins (key_texts keys.entry.now ++ last.entry.now ∷ []) (dotted_of child.entry)
+        (child_origins child.entry) in
+        IfOk result (λ after. child_origins after ≡ or_else (child_origins there.entry)
+        (entry (dotted_of child.entry) row)) }
+{
+    let Child {
+        start,
+        section,
+        item,
+    } = there;
+    match item {
+        Item::Nothing => {
+            let mut table = with_room(Table::new(alloc)?, room)?;
+            table.dotted = true;
+            let start = child.start;
+            let section = child.section;
+            let table = enter_row(alloc, table, keys, last, child)?;
+            Ok(Child {
+                start,
+                section,
+                item: Item::Table(table),
+            })
+        }
+        Item::Table(table) => {
+            let mut table = table;
+            if table.named {
+                return Err(Met::Header(keys.len() + 2));
+            }
+            table.dotted = true;
+            let table = enter_row(alloc, table, keys, last, child)?;
+            Ok(Child {
+                start,
+                section,
+                item: Item::Table(table),
+            })
+        }
+        _other => Err(Met::Header(keys.len() + 2)),
+    }
+}
+
+// The clash of a row with these keys that periods follow, and this last key.
+fn row_clash(
+    alloc: Global,
+    met: Met,
+    keys: &[Row<'_>],
+    last: &str,
+    offset: usize,
+) -> Result<Clash, AllocError>
+    ensures same { IfOk result (λ clash. reason clash ≡ met_reason met) }
+    ensures named { IfOk result (λ clash. SaysMet (line_keys keys.now) (key_at offset last.now) met clash) }
+{
+    match met {
+        Met::Memory => Ok(Clash::Memory),
+        Met::Row => Clash::row(alloc, texts_of(alloc, keys, 1)?, last, offset),
+        Met::Header(left) => {
+            let number = (keys.len() + 1).saturating_sub(left);
+            let path = texts_of(alloc, keys, number)?;
+            match keys.get(number) {
+                Some(row) => Clash::row(alloc, path, row.key.as_str(), row.offset),
+                None => Clash::row(alloc, path, last, offset),
+            }
+        }
+    }
+}
+
+// The clash of a value as one of the row that holds it.
+fn held_by(alloc: Global, clash: Clash, keys: &[Row<'_>], last: &str) -> Result<Clash, AllocError>
+    ensures same { IfOk result (λ held. reason held ≡ reason clash) }
+    ensures named { (offset : ℕ)
+        → IfOk result (λ held. SaysHeld (line_keys keys.now ++ key_at offset last.now ∷ []) clash held) }
+{
+    match clash {
+        Clash::Row(repeated) => {
+            let mut repeated = repeated;
+            let mut path = texts_of(alloc, keys, 1)?;
+            if keys.is_empty() {
+                path.push(String::from_str(alloc, last)?)?;
+            }
+            repeated.path = path;
+            Ok(Clash::Row(repeated))
+        }
+        clash => Ok(clash),
+    }
+}
+
+// The room that the rows of one key want, each of which makes an entry of its own.
+fn room_for(rows: &[Row<'_>]) -> usize {
+    let mut room = 0;
+    let mut goes_on = false;
+    for row in rows {
+        let is_dot = row.is_dot();
+        if !is_dot && !goes_on {
+            room += 1;
+        }
+        goes_on = is_dot;
+    }
+    room
+}
+
+// A table with room for so many more entries.
+fn with_room<'de>(table: Box<Table<'de>>, more: usize) -> Result<Box<Table<'de>>, AllocError>
+    ensures { IfOk result (λ after. after.value ≡ table.entry.value) }
+{
+    let mut table = table;
+    table.entries.reserve(more)?;
+    Ok(table)
+}
+
+/// Puts rows into a table of a level, in order: a few simple ones into a table without entries at once, others one by one.
+/// It is inlined, since most rows are simple.
+#[cycle(finishing)]
+#[inline(always)]
+pub(crate) fn take_rows<'de>(
+    alloc: Global,
+    table: Box<Table<'de>>,
+    rows: Vec<Row<'de>>,
+    section: usize,
+    level: usize,
+) -> Result<Box<Table<'de>>, Clash>
+    requires { level ≤ 128 }
+    ensures entered { EntersRows (rows_view rows.entry.items) level (table_trie table.entry.value) result }
+    ensures named { IfErr result (λ clash.
+        NamesStop (try_put_rows (rows_view rows.entry.items) (table_trie table.entry.value)) clash) }
+    ensures origins { IfOk result (λ after. table_within after.value
+        ≡ with_more (table_within table.entry.value) (rows_origins section (rows_view rows.entry.items))) }
+{
+    if rows.is_empty() {
+        return Ok(table);
+    }
+    if table.entries.is_empty() && rows.len() <= FEW && are_simple(rows.as_slice(), level) {
+        return Ok(with_rows(alloc, table, rows, section)?);
+    }
+    let room = room_for(rows.as_slice());
+    enter_rows(alloc, with_room(table, room)?, rows, section, level)
+}
+
+// Puts rows into a table of a level, one by one.
+#[cycle(finishing)]
+#[inline(never)]
+fn enter_rows<'de>(
+    alloc: Global,
+    table: Box<Table<'de>>,
+    rows: Vec<Row<'de>>,
+    section: usize,
+    level: usize,
+) -> Result<Box<Table<'de>>, Clash>
+    requires { level ≤ 128 }
+    ensures entered { EntersRows (rows_view rows.entry.items) level (table_trie table.entry.value) result }
+    ensures named { IfErr result (λ clash.
+        NamesStop (try_put_rows (rows_view rows.entry.items) (table_trie table.entry.value)) clash) }
+    ensures origins { IfOk result (λ after. table_within after.value
+        ≡ with_more (table_within table.entry.value) (rows_origins section (rows_view rows.entry.items))) }
+{
+    let mut table = table;
+    let mut keys = Vec::new(alloc);
+    for row in drained(rows) {
+        if row.is_dot() {
+            keys.push(row)?;
+            continue;
+        }
+        table = enter_value(alloc, table, keys.as_slice(), row, section, level)?;
+        keys.clear();
+    }
+    Ok(table)
+}
+
+// Puts the row of some keys that periods follow, and of one with a value, into a table of a level.
+#[cycle(finishing)]
+fn enter_value<'de>(
+    alloc: Global,
+    table: Box<Table<'de>>,
+    keys: &[Row<'de>],
+    row: Row<'de>,
+    section: usize,
+    level: usize,
+) -> Result<Box<Table<'de>>, Clash>
+    requires level { level ≤ 128 }
+    requires keys { all_dots keys.now ≡ true }
+    requires row { is_dot row ≡ false }
+    ensures entered { EntersRows (rows_view (keys.entry.now ++ row.entry ∷ [])) level (table_trie table.entry.value)
+        result }
+    ensures named { IfErr result (λ clash.
+        NamesStop (try_put_rows (rows_view (keys.entry.now ++ row.entry ∷ [])) (table_trie table.entry.value)) clash) }
+    ensures origins { let row = rows_origins section (rows_view (keys.entry.now ++ row.entry ∷ [])) in
+        IfOk result (λ after. table_within after.value ≡ with_more (table_within table.entry.value) row) }
+{
+    if keys.len() > NESTING_LIMIT - level {
+        return Err(Clash::Deep);
+    }
+    let Row {
+        key,
+        offset,
+        start,
+        value,
+    } = row;
+    match row_value(alloc, value, start, section, level + keys.len()) {
+        Err(clash) => Err(held_by(alloc, clash, keys, key.as_str())?),
+        Ok(child) => match enter_row(alloc, table, keys, key.as_str(), child) {
+            Ok(table) => Ok(table),
+            Err(met) => Err(row_clash(alloc, met, keys, key.as_str(), offset)?),
+        },
+    }
+}
+
+// The item of the value of a row, which begins at an offset, in a table of a level. An array of plain values is kept as it
+// was read. No value is looked through twice: in an array that is not plain, none is looked for.
+#[cycle(finishing)]
+#[inline(always)]
+fn row_value<'de>(
+    alloc: Global,
+    value: Raw<'de>,
+    start: usize,
+    section: usize,
+    level: usize,
+) -> Result<Child<'de>, Clash>
+    requires { level ≤ 128 }
+    ensures finished { (v : spec_raw) → raw_of value.entry ≡ Some v → Finishes v level result }
+    ensures named { IfErr result (λ clash. (v : spec_raw) → raw_of value.entry ≡ Some v
+        → NamesStop (try_put_value v) clash) }
+    ensures origins { IfOk result (λ child. (v : spec_raw) → raw_of value.entry ≡ Some v
+        → child_origins child ≡ value_origins section start v) }
+    ensures dotted { IfOk result (λ child. dotted_of child ≡ table_origin false start section) }
+{
+    match value {
+        Raw::Array(elements) => {
+            if level < NESTING_LIMIT && are_plain(elements.as_slice(), level + 1) {
+                return Ok(Child::at(start, section, Item::Plain(elements)));
+            }
+            finished(alloc, Raw::Array(elements), start, section, level)
+        }
+        value => finished(alloc, value, start, section, level),
+    }
+}
+
+// Whether a value only stands for the period after a key.
+fn is_dot_value(value: &Raw<'_>) -> bool
+    ensures { result ≡ not (is_some (raw_of value.now)) }
+{
+    matches!(value, Raw::Dot)
+}
+
+// The item of a value that begins at an offset, within a table or an array of a level. It is inlined, since most values
+// are scalars.
+#[cycle(finishing)]
+#[inline(always)]
+fn finished<'de>(
+    alloc: Global,
+    value: Raw<'de>,
+    start: usize,
+    section: usize,
+    level: usize,
+) -> Result<Child<'de>, Clash>
+    requires { level ≤ 128 }
+    ensures finished { (v : spec_raw) → raw_of value.entry ≡ Some v → Finishes v level result }
+    ensures named { IfErr result (λ clash. (v : spec_raw) → raw_of value.entry ≡ Some v
+        → NamesStop (try_put_value v) clash) }
+    ensures origins { IfOk result (λ child. (v : spec_raw) → raw_of value.entry ≡ Some v
+        → child_origins child ≡ value_origins section start v) }
+    ensures dotted { IfOk result (λ child. dotted_of child ≡ table_origin false start section) }
+{
+    match value {
+        Raw::Dot => Ok(Child::at(start, section, Item::Nothing)),
+        Raw::Integer(number) => Ok(Child::at(start, section, Item::Integer(number))),
+        Raw::Float(float) => Ok(Child::at(start, section, Item::Float(float))),
+        Raw::Boolean(truth) => Ok(Child::at(start, section, Item::Boolean(truth))),
+        Raw::String(text) => Ok(Child::at(start, section, Item::String(text))),
+        Raw::Escaped(text) => Ok(Child::at(start, section, Item::Escaped(text))),
+        Raw::Array(elements) => {
+            if level >= NESTING_LIMIT {
+                return Err(Clash::Deep);
+            }
+            let children = finished_elements(alloc, elements, section, level + 1)?;
+            Ok(Child::at(start, section, Item::Array(children)))
+        }
+        Raw::Inline(rows) => {
+            if level >= NESTING_LIMIT {
+                return Err(Clash::Deep);
+            }
+            let table = take_rows(alloc, Table::new(alloc)?, rows, section, level + 1)?;
+            Ok(Child::at(start, section, Item::Inline(table)))
+        }
+    }
+}
+
+// The items of the values of elements, within an array of a level.
+#[cycle(finishing)]
+#[inline(never)]
+fn finished_elements<'de>(
+    alloc: Global,
+    elements: Vec<Element<'de>>,
+    section: usize,
+    level: usize,
+) -> Result<Vec<Child<'de>>, Clash>
+    requires { level ≤ 128 }
+    ensures finished { FinishesAll (elements_view elements.entry.items) level result }
+    ensures named { IfErr result (λ clash. NamesStop (try_put_elements (elements_view elements.entry.items)) clash) }
+    ensures origins { IfOk result (λ children. map child_origins children.items
+        ≡ elements_origins section (elements_view elements.entry.items)) }
+{
+    let mut children = Vec::with_capacity(alloc, elements.len())?;
+    for element in drained(elements) {
+        let Element { offset, value } = element;
+        if is_dot_value(&value) {
+            continue;
+        }
+        children.push(finished(alloc, value, offset, section, level)?)?;
+    }
+    Ok(children)
+}
