@@ -36,7 +36,7 @@ use std::marker::Model;
 #[derive(Debug, Drop)]
 pub struct Error {
     kind: ErrorKind,
-    // `None` where there are no keys
+    // `None`, or a list without keys, where no key leads there
     key_path: Option<Vec<String>>,
     // the byte offset where it stands, in the text from which line and column come
     offset: Option<usize>,

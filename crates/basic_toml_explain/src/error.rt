@@ -54,7 +54,8 @@ pub enum ReadErrorKind<Word = &'static str> {
     RedefineAsArray,
     /// A key or a bracket within 128 others.
     NestedTooDeeply,
-    /// A type's own error, with its message. No call answers it yet.
+    /// A type's own error, with its message: an `Error` of `basic_toml_error` holds it, and no call that reads a text alone
+    /// answers it.
     Custom(String),
     /// Memory that was refused.
     OutOfMemory,
@@ -73,7 +74,7 @@ pub enum ReadErrorKind<Word = &'static str> {
 pub struct ReadError {
     kind: ReadErrorKind,
     offset: Option<usize>,
-    // `None` where there are no keys
+    // `None`, or a list without keys, where no key leads there
     key_path: Option<Vec<String>>,
 }
 
