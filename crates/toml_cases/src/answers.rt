@@ -1,6 +1,6 @@
 //! What a text or a list of calls gives, in the form of the line that says what it must give.
 use crate::calls::Outcome;
-use crate::escapes::{bytes_of, push_escaped};
+use crate::escapes::{bytes_of, push_escaped, spread};
 use crate::lists::{of_joined, of_reversed};
 use crate::numbers::number_of;
 use crate::sections_shown::sections_of;
@@ -130,7 +130,7 @@ pub(crate) fn answer_of(
     rest: &str,
 ) -> Result<Pair, AllocError> {
     match word {
-        "value" => plain(alloc, rest, value_of(alloc, bytes)?),
+        "value" => Ok((spread(alloc, rest)?, value_of(alloc, bytes)?)),
         "error" => plain(alloc, rest, error_of(alloc, bytes)?),
         "written" => Ok((evened(alloc, rest)?, written_of(alloc, bytes)?)),
         "unwritten" => plain(alloc, rest, unwritten_of(alloc, bytes)?),

@@ -8,6 +8,17 @@ pub(crate) struct Place<'n> {
     pub(crate) line: usize,
 }
 
+// The longest text that is printed whole.
+const LONGEST: usize = 2000;
+
+fn beginning(text: &str) -> &str {
+    if text.len() <= LONGEST {
+        text
+    } else {
+        text.get(..LONGEST).unwrap_or("a long text")
+    }
+}
+
 /// The lines to print, and the counts.
 #[derive(Drop)]
 pub(crate) struct Report {
@@ -49,6 +60,8 @@ impl Report {
             self.pass();
             return Ok(());
         }
+        let wanted = beginning(wanted);
+        let got = beginning(got);
         let what = format!(in alloc; "wanted {wanted}, got {got}")?;
         self.fail(place, what.as_str())
     }
