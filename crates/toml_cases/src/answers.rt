@@ -89,12 +89,7 @@ fn of_joined_line(alloc: Global, text: &str, rest: &str) -> Result<Pair, AllocEr
     plain(alloc, wanted, of_joined(alloc, text, more)?)
 }
 
-fn of_type(
-    alloc: Global,
-    text: &str,
-    is_root: bool,
-    rest: &str,
-) -> Result<Pair, AllocError> {
+fn of_type(alloc: Global, text: &str, is_root: bool, rest: &str) -> Result<Pair, AllocError> {
     let (kind, wanted) = rest.split_once(' ').unwrap_or((rest, ""));
     match told(alloc, kind, is_root, text)? {
         Some(got) => plain(alloc, wanted, got),
@@ -157,7 +152,11 @@ pub(crate) fn calls_answer(
         Err(error) => format!(in alloc; "refused {taken} {error}")?,
     };
     if !outcome.stayed {
-        return plain(alloc, rest, String::from_str(alloc, "refused, and then not")?);
+        return plain(
+            alloc,
+            rest,
+            String::from_str(alloc, "refused, and then not")?,
+        );
     }
     let wanted = match word {
         "written" => evened(alloc, rest)?,

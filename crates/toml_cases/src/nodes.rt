@@ -7,6 +7,7 @@ use std::alloc::{AllocError, Global};
 
 // More than the entries of a table or the elements of an array, and than the levels, of the texts that are shown.
 const MANY: usize = 40;
+
 const LEVELS: usize = 9;
 
 // A number, or `-` where there is none.

@@ -35,11 +35,7 @@ fn push_scalar(out: &mut String, kind: &str, text: &str) -> Result<(), AllocErro
 
 /// Appends a value; so many levels of it.
 #[cycle(data)]
-pub(crate) fn push_value(
-    out: &mut String,
-    value: &Value,
-    levels: usize,
-) -> Result<(), AllocError> {
+pub(crate) fn push_value(out: &mut String, value: &Value, levels: usize) -> Result<(), AllocError> {
     if levels == 0 {
         return Ok(());
     }
@@ -67,11 +63,7 @@ pub(crate) fn push_value(
 
 /// Appends a table, its keys in order; so many levels of it.
 #[cycle(data)]
-pub(crate) fn push_table(
-    out: &mut String,
-    table: &Table,
-    levels: usize,
-) -> Result<(), AllocError> {
+pub(crate) fn push_table(out: &mut String, table: &Table, levels: usize) -> Result<(), AllocError> {
     if levels == 0 {
         return Ok(());
     }

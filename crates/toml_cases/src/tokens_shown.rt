@@ -19,9 +19,7 @@ fn shown_token(
                 CowStr::Borrowed(val) => {
                     format!(in alloc; "{start}..{end} {lines} borrowed {val:?}")
                 }
-                CowStr::Owned(val) => {
-                    format!(in alloc; "{start}..{end} {lines} owned {val:?}")
-                }
+                CowStr::Owned(val) => { format!(in alloc; "{start}..{end} {lines} owned {val:?}") }
             }
         }
         other => format!(in alloc; "{start}..{end} {other:?}"),

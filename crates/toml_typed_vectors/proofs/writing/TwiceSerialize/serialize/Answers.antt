@@ -5,7 +5,7 @@ use Rattle.basic_toml_write.specs.declared.error.WriteError.{WriteError}
 use Rattle.basic_toml_write.specs.Serializer.{NoFault, PartGivesUp, Sends, Takes, Passes}
 use Rattle.basic_toml_write.specs.declared.serializer.Serializer.{Serializer}
 use Rattle.basic_toml_write.proofs.ListsAreSentInTurn.{part_after, sends_then, sends_cut, sends_never}
-use Rattle.basic_toml.proofs.tests.writing.TwiceSerialize.serialize.Goals as goal
+use Rattle.toml_typed_vectors.proofs.writing.TwiceSerialize.serialize.Goals as goal
 
 -- a table of two entries, of which each may give up
 module _ (key : Item) (xs ys : List Item) (F G : List Item → WriteError → Type 0) where

@@ -1,6 +1,6 @@
 // Each public call that can take memory, once with ample memory.
-use crate::tokens::{Error, Span, Token, Tokenizer};
-use crate::{Float, Serializer, Table, Value, float_of, from_slice, from_str, to_string};
+use basic_toml::tokens::{Error, Span, Token, Tokenizer};
+use basic_toml::{Float, Serializer, Table, Value, float_of, from_slice, from_str, to_string};
 use std::borrow::CowStr;
 use std::test::Fail;
 

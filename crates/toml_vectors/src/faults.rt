@@ -1,51 +1,7 @@
-mod memory;
-mod messages;
-mod reading;
-mod writing;
-
-use super::*;
-use std::alloc::{AllocError, Global};
+// Errors by their text, their line and column, and whether they are want of memory; and the names that are passed on.
+use basic_toml::{Error, Table, Value, WriteError, float_of, from_slice, from_str, integer_of, to_string, tokens};
+use std::alloc::AllocError;
 use std::test::Fail;
-
-/// A table that is read from nodes alone.
-#[derive(Drop)]
-struct Held {
-    table: Table,
-}
-
-impl<'de> Deserialize<'de> for Held {
-    ghost use Rattle.basic_toml_typed.specs.TypeReads.{table_reads, table_takes};
-
-    ghost reads = { λ d held. table_reads d held.table };
-
-    ghost takes = { table_takes };
-
-    fn deserialize(alloc: Global, node: Node<'_, 'de>) -> Result<Held, Error> {
-        match node.to_table(alloc)? {
-            Some(table) => Ok(Held { table }),
-            None => Err(Error::from(WriteError::UnsupportedType)),
-        }
-    }
-
-    fn from_tree(alloc: Global, tree: Tree<'de>) -> Result<Held, Error> {
-        Held::deserialize(alloc, tree.root())
-    }
-}
-
-#[test]
-fn reads_and_writes(rt: HostRuntime) -> Result<(), Fail> {
-    for (text, written) in [
-        ("", ""),
-        ("a = 7\nb = true\nc = 'x'\n", "a = 7\nb = true\nc = \"x\"\n"),
-        ("a = +1_0\n", "a = 10\n"),
-    ] {
-        let table: Table = from_str(rt.alloc(), text)?;
-        assert_eq!(rt; to_string(rt.alloc(), &table)?.as_str(), written);
-        let again: Held = from_slice(rt.alloc(), written.as_bytes())?;
-        assert_eq!(rt; to_string(rt.alloc(), &again.table)?.as_str(), written);
-    }
-    Ok(())
-}
 
 #[test]
 fn faults(rt: HostRuntime) -> Result<(), Fail> {
@@ -100,29 +56,6 @@ fn faults(rt: HostRuntime) -> Result<(), Fail> {
         let shown = format!(in rt.alloc(); "{fault}")?;
         assert_eq!(rt; shown.as_str(), text);
     }
-    Ok(())
-}
-
-fn port_of(settings: &Table) -> Option<i64> {
-    match settings.get("port") {
-        Some(Value::Integer(port)) => Some(*port),
-        _ => None,
-    }
-}
-
-fn tidied(alloc: Global, text: &str) -> Result<String, Error> {
-    let settings: Table = from_str(alloc, text)?;
-    to_string(alloc, &settings)
-}
-
-#[test]
-fn settings(rt: HostRuntime) -> Result<(), Fail> {
-    let text = "name = 'x'\n  port = +80_80";
-    assert_eq!(rt; port_of(&from_str(rt.alloc(), text)?), Some(8080));
-    assert_eq!(rt;
-        tidied(rt.alloc(), text)?.as_str(),
-        "name = \"x\"\nport = 8080\n"
-    );
     Ok(())
 }
 
