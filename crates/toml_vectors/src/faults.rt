@@ -1,5 +1,7 @@
 // Errors by their text, their line and column, and whether they are want of memory; and the names that are passed on.
-use basic_toml::{Error, Table, Value, WriteError, float_of, from_slice, from_str, integer_of, to_string, tokens};
+use basic_toml::{
+    Error, Table, Value, WriteError, float_of, from_slice, from_str, integer_of, to_string, tokens,
+};
 use std::alloc::AllocError;
 use std::test::Fail;
 
