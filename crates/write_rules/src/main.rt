@@ -1,5 +1,5 @@
-//! Writes a file of rules, a rule for each line of standard input: a number and a pattern. What is wrong goes to standard
-//! error, as `stdin: message`, and then the status is 1.
+//! Writes a file of rules, a rule for each line of standard input: a number and a pattern. What is wrong goes to
+//! standard error, as `stdin: message`, and then the status is 1.
 #![tactic(auto)]
 
 mod report;
