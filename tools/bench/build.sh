@@ -1,9 +1,10 @@
-# sh build.sh [BASIC_TOML] -- build the meter and the peers that can be built into BENCH_OUT.
+# sh build.sh meter | peers [BASIC_TOML] -- build the meter, or it and the peers that can be built, into BENCH_OUT.
 # BASIC_TOML is the folder of the source of basic-toml 0.1.10, with src/lib.rs in it. What is newer than its sources
 # stays as it is. A Debian package that is missing is installed where that is allowed and NO_APT is not set.
 set -eu
 here=$(cd "$(dirname "$0")" && pwd)
-source=${1:-}
+what=${1:-}
+source=${2:-}
 out=$BENCH_OUT
 mkdir -p "$out"
 
@@ -31,7 +32,10 @@ build_cpp() { # program, package
 rust() { rustc --cap-lints allow -C opt-level=3 -C codegen-units=1 -C debuginfo=1 "$@"; }
 
 build_basic_toml() {
-    [ -n "$source" ] || { is_left_out basic-toml "no --basic-toml FOLDER"; return 0; }
+    if [ -z "$source" ]; then
+        [ -x "$out/basic_toml" ] || is_left_out basic-toml "no --basic-toml FOLDER"
+        return 0
+    fi
     has_package librust-serde-dev || { is_left_out basic-toml "no package librust-serde-dev"; return 0; }
     command -v rustc >/dev/null || { is_left_out basic-toml "no rustc"; return 0; }
     is_stale "$out/basic_toml" "$here/peers/basic_toml.rs" "$source"/src/*.rs || return 0
@@ -46,6 +50,7 @@ build_basic_toml() {
 
 has_package valgrind || { echo "no valgrind: it counts the instructions" >&2; exit 1; }
 ! is_stale "$out/meter" "$here/meter.c" || cc -O2 -o "$out/meter" "$here/meter.c"
+[ "$what" = peers ] || exit 0
 build_cpp tomlpp libtomlplusplus-dev
 build_cpp cpptoml libcpptoml-dev
 build_basic_toml

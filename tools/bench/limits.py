@@ -46,6 +46,6 @@ def passed(tidied, read):
             lines.append(f"{again.name}: no limit")
             continue
         for what, figure, limit in zip(("reading and writing", "reading", "memory"), figures, limits):
-            if figure is None or figure > limit:
-                lines.append(f"{again.name}: {what} takes {figure} a byte, and not {limit} at most")
+            if figure is not None and figure > limit:
+                lines.append(f"{again.name}: {what} takes {figure:.2f} a byte, and not {limit} at most")
     return lines

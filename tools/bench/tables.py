@@ -30,19 +30,21 @@ def beside(families, names):
 
 
 def is_alike(one, other):
-    return (one.status == READ) == (other.status == READ) and SLOW not in (one.status, other.status)
+    """Whether both read the text, or both refused it."""
+    return all(each.instructions is not None for each in (one, other)) and any(
+        one.status in how and other.status in how for how in ((READ,), REFUSED))
 
 
 def summary(families, peers):
-    """A sentence a peer: in how many families ours takes less, of those in which both answered alike."""
+    """A sentence a peer: in how many texts ours takes less, of those that both read, or both refused."""
     lines = []
     for peer in peers:
-        both = [(f, f.figures["ours"], f.figures[peer]) for f in families if is_alike(f.figures["ours"], f.figures[peer])]
-        fewer = sum(ours.instructions < theirs.instructions for _, ours, theirs in both)
-        above = [family.title for family, ours, theirs in both if ours.memory > theirs.memory]
-        said = f"Beside {peer}, which answers {len(both)} of {len(families)} texts alike: fewer instructions in {fewer}, "
-        said += f"more memory in {len(above)}"
-        lines.append(f"- {said}{': ' + '; '.join(above) if above else ''}.")
+        pairs = [(family.figures["ours"], family.figures[peer]) for family in families]
+        both = [pair for pair in pairs if is_alike(*pair)]
+        fewer = sum(ours.instructions < theirs.instructions for ours, theirs in both)
+        more = sum(ours.memory > theirs.memory for ours, theirs in both)
+        lines.append(f"- {peer} answers {len(both)} of {len(families)} texts as ours does: of these ours takes "
+                     f"fewer instructions in {fewer}, and more memory in {more}.")
     return "\n".join(lines)
 
 
