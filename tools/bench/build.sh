@@ -40,7 +40,8 @@ build_basic_toml() {
     command -v rustc >/dev/null || { is_left_out basic-toml "no rustc"; return 0; }
     is_stale "$out/basic_toml" "$here/peers/basic_toml.rs" "$source"/src/*.rs || return 0
     serde=$(dirname "$(dpkg -L librust-serde-dev | grep '/serde-[0-9.]*/Cargo.toml$' | head -1)")
-    rust --edition 2015 --crate-name serde --crate-type rlib --cfg 'feature="std"' -o "$out/libserde.rlib" "$serde/src/lib.rs"
+    rust --edition 2015 --crate-name serde --crate-type rlib --cfg 'feature="std"' \
+        -o "$out/libserde.rlib" "$serde/src/lib.rs"
     CARGO_PKG_VERSION_MAJOR=0 CARGO_PKG_VERSION_MINOR=1 CARGO_PKG_VERSION_PATCH=10 rust --edition 2021 \
         --crate-name basic_toml --crate-type rlib --extern serde="$out/libserde.rlib" \
         -o "$out/libbasic_toml.rlib" "$source/src/lib.rs"

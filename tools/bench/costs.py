@@ -16,7 +16,8 @@ def instructions(words, text):
     command = ["valgrind", "--tool=callgrind", "--callgrind-out-file=" + os.devnull, *words]
     try:
         with open(text, "rb") as given:
-            ran = subprocess.run(command, stdin=given, stdout=subprocess.DEVNULL, stderr=subprocess.PIPE, timeout=SECONDS)
+            how = {"stdin": given, "stdout": subprocess.DEVNULL, "stderr": subprocess.PIPE}
+            ran = subprocess.run(command, timeout=SECONDS, **how)
     except subprocess.TimeoutExpired:
         return None, SLOW
     found = re.search(rb"Collected : (\d+)", ran.stderr)

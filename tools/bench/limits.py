@@ -4,8 +4,8 @@ import os
 FILE = os.path.join(os.path.dirname(os.path.realpath(__file__)), "limits")
 SHARE = 1.03  # of what was measured
 PAGES = 120000  # bytes of memory that come and go by chance
-HEAD = """# FAMILY: instructions a byte of reading and writing again, of reading alone; and memory in bytes a byte of the first.
-# `tools/bench/run --set-limits` writes this file: 3 per cent above what it measures, and for memory 120 KB besides.
+HEAD = """# FAMILY: instructions a byte of reading and writing again, of reading alone; memory in bytes a byte of the first.
+# `tools/bench/run --set-limits` writes this: 3 per cent above what it measures, and for memory 120 KB besides.
 """
 
 
