@@ -18,8 +18,6 @@ mod de;
 pub mod laws;
 mod read_back;
 mod ser;
-#[cfg(test)]
-mod tests;
 
 /// The tokens of a text, with their spans.
 pub mod tokens {

@@ -1,9 +1,16 @@
-//! Worked texts of tokens and numbers, and worked tables of values, as tests; and callers of a tokenizer and a table.
+//! Callers of a tokenizer and a table that rest on contracts alone, and tests of calls that no text shows. What texts give
+//! stands in the data of `toml_cases`.
 #![tactic(auto)]
 
 pub mod callers;
 #[cfg(test)]
-mod numbers;
+mod faults;
+#[cfg(test)]
+mod memory;
+#[cfg(test)]
+mod messages;
+#[cfg(test)]
+mod nodes;
 #[cfg(test)]
 mod tables;
 #[cfg(test)]

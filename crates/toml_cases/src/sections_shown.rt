@@ -1,0 +1,101 @@
+//! The section list of a text: each section by its offset, kind and header, each key and value by its offset.
+use crate::escapes::push_escaped;
+use basic_toml_read::{Element, Raw, Row, Section, sections};
+use std::alloc::{AllocError, Global};
+
+// Each key with its offset, `=` and the offset of the value after the last.
+#[cycle(shown)]
+fn push_rows(out: &mut String, rows: &[Row<'_>]) -> Result<(), AllocError> {
+    for row in rows {
+        let offset = row.offset;
+        write!(out, " {offset}:")?;
+        push_escaped(out, row.key.as_str())?;
+        match &row.value {
+            Raw::Dot => out.push('.')?,
+            value => {
+                let start = row.start;
+                write!(out, "={start}:")?;
+                push_raw(out, value)?;
+            }
+        }
+    }
+    Ok(())
+}
+
+#[cycle(shown)]
+fn push_elements(out: &mut String, elements: &[Element<'_>]) -> Result<(), AllocError> {
+    for element in elements {
+        let offset = element.offset;
+        write!(out, " {offset}:")?;
+        push_raw(out, &element.value)?;
+    }
+    Ok(())
+}
+
+// A string that stands in the text as it is in quotes, and one that does not after `copy`.
+#[cycle(shown)]
+fn push_raw(out: &mut String, value: &Raw<'_>) -> Result<(), AllocError> {
+    match value {
+        Raw::Dot => out.push('.'),
+        Raw::Integer(number) => {
+            let number = *number;
+            write!(out, "{number}")
+        }
+        Raw::Float(float) => out.push_str(float.as_str()),
+        Raw::Boolean(value) => {
+            let value = *value;
+            write!(out, "{value}")
+        }
+        Raw::String(text) => push_quoted(out, text),
+        Raw::Escaped(text) => {
+            out.push_str("copy ")?;
+            push_quoted(out, text.as_str())
+        }
+        Raw::Array(elements) => {
+            out.push('[')?;
+            push_elements(out, elements.as_slice())?;
+            out.push_str(" ]")
+        }
+        Raw::Inline(rows) => {
+            out.push('{')?;
+            push_rows(out, rows.as_slice())?;
+            out.push_str(" }")
+        }
+    }
+}
+
+fn push_quoted(out: &mut String, text: &str) -> Result<(), AllocError> {
+    out.push('\'')?;
+    push_escaped(out, text)?;
+    out.push('\'')
+}
+
+fn push_section(out: &mut String, section: &Section<'_>) -> Result<(), AllocError> {
+    let at = section.at();
+    let kind = if section.is_array() { "array" } else { "table" };
+    write!(out, "{at} {kind}")?;
+    for key in section.header() {
+        out.push(' ')?;
+        push_escaped(out, key.text.as_str())?;
+    }
+    out.push(':')?;
+    push_rows(out, section.rows.as_slice())?;
+    out.push(';')
+}
+
+/// The sections of a text, or the error and its offset.
+pub(crate) fn sections_of(alloc: Global, text: &str) -> Result<String, AllocError> {
+    let mut out = String::new(alloc);
+    match sections(alloc, text) {
+        Ok(list) => {
+            for section in &list {
+                push_section(&mut out, section)?;
+            }
+        }
+        Err(error) => {
+            let offset = error.place();
+            write!(out, "{error} at offset {}", offset.unwrap_or(0))?;
+        }
+    }
+    Ok(out)
+}
