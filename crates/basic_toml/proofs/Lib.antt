@@ -4,3 +4,4 @@ pub mod TextIsReadBack
 pub mod TextHasOneDocument
 pub mod RefusedTextsHaveNoDocument
 pub mod RespelledTextIsRead
+pub mod OneAnswer

@@ -1,6 +1,7 @@
 pub mod Reading
 pub mod Ser
 pub mod ReadBack
+pub mod OneAnswer
 pub mod tokens
 pub use Rattle.basic_toml_value.specs.Data
 pub use Rattle.basic_toml_value.specs.Equal

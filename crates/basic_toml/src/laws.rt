@@ -1,13 +1,15 @@
-//! Laws of what texts mean, each the contract of a function that does nothing.
+//! Laws of what texts mean and of what calls answer, each the contract of a function that does nothing.
 ghost use Rattle.std.specs.Prelude.{◌≡◌, ℕ, List};
 ghost use Rattle.basic_toml_tokens.specs.Text.{folded};
 ghost use Rattle.basic_toml_value.specs.Data.{Data};
 ghost use Rattle.basic_toml_grammar.specs.Document.{IsDocument};
 ghost use Rattle.basic_toml_grammar.specs.Faults as read;
+ghost use Rattle.basic_toml.specs.OneAnswer.{WritesOneAnswer, RoundTripsToOneAnswer, ReadingHasOneTable};
 ghost use Rattle.basic_toml.specs.Reading.{IsTextFault};
 
 pub use basic_toml_error::laws::text_goes_on_with_line;
 pub use basic_toml_typed::laws::text_numbers_differ;
+use basic_toml_write::Serialize;
 
 /// A text has at most one document.
 pub fn texts_have_one_document()
@@ -21,3 +23,28 @@ pub fn refused_texts_have_no_document()
     ensures { (text : List ℕ) (error : read.Fault) (tree : Data) → IsTextFault text error
         → IsDocument (folded text) tree → ⊥ }
 {}
+
+/// Two results that the contract of `from_str` allows for one text hold the same table, where one of them holds a
+/// `Table`; no error but want of memory stands beside it.
+#[tactic(auto, using(crate::proofs::OneAnswer::reading_has_one_table))]
+pub fn reading_has_one_table()
+    ensures { ReadingHasOneTable }
+{}
+
+/// Two results that the contract of `to_string` allows for one value agree: the same text, or the same error, but for
+/// want of memory and an error of the type's own.
+#[tactic(auto, using(crate::proofs::OneAnswer::writing))]
+pub fn writing_has_one_answer<T: Serialize>(value: &T)
+    ensures { WritesOneAnswer (T.calls value.now) (T.gives_up value.now) }
+{
+    let _ = value;
+}
+
+/// Two results that the contract of `round_trip` allows for one value agree: the same table, or the same error, but for
+/// want of memory and an error of the type's own.
+#[tactic(auto, using(crate::proofs::OneAnswer::round))]
+pub fn round_trip_has_one_answer<T: Serialize>(value: &T)
+    ensures { RoundTripsToOneAnswer (T.calls value.now) (T.gives_up value.now) }
+{
+    let _ = value;
+}

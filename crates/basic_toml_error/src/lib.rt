@@ -3,12 +3,12 @@
 //!
 //! ```text
 //! match load(rt.alloc(), text.as_str()) {
-//!     Ok(s) => println!(rt; "{}:{} verbose={}", s.host, s.port, s.verbose),
-//!     Err(e) => println!(rt; "{e}"), // missing field `host` at line 1 column 1
+//!     Ok(s) => println!(rt; "{}:{} verbose={}", s.host, s.port, s.verbose)?,
+//!     Err(e) => return report(&rt, e), // stdin:1:1: missing field `host`
 //! }
 //! ```
 //!
-//! This is from the program `load_settings`.
+//! This is from the program `load_settings`, whose `report` prints the error on standard error.
 #![tactic(auto)]
 
 mod error;

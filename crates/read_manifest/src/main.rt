@@ -1,18 +1,28 @@
-//! Reads a `Cargo.toml` from standard input and prints its package, dependencies and features, or what is wrong, and
-//! where.
+//! Reads a `Cargo.toml` from standard input and prints its package, dependencies and features. What is wrong goes to
+//! standard error, as `stdin:LINE:COLUMN: message` where it has a place, and then the status is 1.
 #![tactic(auto)]
 
 mod manifest;
+mod report;
 
 use manifest::{Dependency, Manifest, manifest_of};
+use report::report;
 use std::io;
+use std::process::ExitCode;
 
-fn main(rt: HostRuntime) -> io::Result<()> {
-    let text = io::read_to_string(rt.alloc(), rt.reader())?;
+fn main(rt: HostRuntime) -> io::Result<ExitCode> {
+    let text = match io::read_to_string(rt.alloc(), rt.reader()) {
+        Ok(text) => text,
+        Err(e) => {
+            eprintln!(rt; "stdin: {e}")?;
+            return Ok(ExitCode::FAILURE);
+        }
+    };
     match manifest_of(rt.alloc(), text.as_str()) {
-        Ok(manifest) => print(&rt, &manifest),
-        Err(e) => println!(rt; "{e}"),
+        Ok(manifest) => print(&rt, &manifest)?,
+        Err(e) => return report(&rt, e),
     }
+    Ok(ExitCode::SUCCESS)
 }
 
 fn print(rt: &HostRuntime, manifest: &Manifest) -> io::Result<()> {
