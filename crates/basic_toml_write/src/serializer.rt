@@ -38,7 +38,7 @@ use std::alloc::Global;
 /// let text = ser.finish()?; // answer = 42
 /// ```
 ///
-/// This is from `toml_typed_vectors`, which makes each call; `toml_cases` makes lists of them.
+/// This is from `toml_typed_vectors`; `toml_writer_vectors` makes each call.
 #[derive(Drop)]
 pub struct Serializer {
     emitter: Emitter,

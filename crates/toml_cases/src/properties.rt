@@ -77,9 +77,14 @@ fn written_again(alloc: Global, table: &Table) -> Result<Verdict, AllocError> {
     if again != *table {
         return Ok(Err("what is written is read as another table"));
     }
-    match to_string(alloc, &again) {
-        Ok(text) if text == written => Ok(Ok(Kind::Written)),
-        _ => Ok(Err("what is written is written otherwise again")),
+    let is_same = match to_string(alloc, &again) {
+        Ok(text) => text == written,
+        Err(_) => false,
+    };
+    if is_same {
+        Ok(Ok(Kind::Written))
+    } else {
+        Ok(Err("what is written is written otherwise again"))
     }
 }
 
@@ -104,8 +109,8 @@ enum Answer {
     Refused(String),
 }
 
-fn answer_of(alloc: Global, bytes: &[u8]) -> Result<Answer, AllocError> {
-    match from_slice::<Table>(alloc, bytes) {
+fn answer_of(alloc: Global, read: Result<Table, Error>) -> Result<Answer, AllocError> {
+    match read {
         Ok(table) => Ok(Answer::Table(table)),
         Err(error) => Ok(Answer::Refused(format!(in alloc; "{error}")?)),
     }
@@ -147,17 +152,17 @@ fn with_returns(alloc: Global, text: &str) -> Result<String, AllocError> {
 
 // A text without CR means the same with other line ends, and each with a byte order mark in front.
 fn means_the_same(alloc: Global, text: &str) -> Result<Option<&'static str>, AllocError> {
-    let answer = answer_of(alloc, text.as_bytes())?;
+    let answer = answer_of(alloc, from_str(alloc, text))?;
     if !text.contains('\r') {
         let long = with_returns(alloc, text)?;
-        let other = answer_of(alloc, long.as_bytes())?;
+        let other = answer_of(alloc, from_str(alloc, long.as_str()))?;
         if !are_same(&answer, &other, true) {
             return Ok(Some("it means something else with CR LF"));
         }
     }
     if !text.starts_with('\u{feff}') {
         let marked = format!(in alloc; "\u{feff}{text}")?;
-        let other = answer_of(alloc, marked.as_bytes())?;
+        let other = answer_of(alloc, from_str(alloc, marked.as_str()))?;
         if !are_same(&answer, &other, false) {
             return Ok(Some("it means something else with U+FEFF in front"));
         }
@@ -165,36 +170,48 @@ fn means_the_same(alloc: Global, text: &str) -> Result<Option<&'static str>, All
     Ok(None)
 }
 
+// What bytes come to that are this text: they answer as it does, and an error lies within it.
+fn as_text(
+    alloc: Global,
+    text: &str,
+    answer: &Answer,
+    place: Option<(usize, usize)>,
+) -> Result<Verdict, AllocError> {
+    let same = answer_of(alloc, from_str(alloc, text))?;
+    if !are_same(answer, &same, true) {
+        return Ok(Err("the text and its bytes are not read alike"));
+    }
+    match (answer, place) {
+        (Answer::Table(_), _) => Ok(Ok(Kind::Read)),
+        (Answer::Refused(_), Some(place)) if is_within(text.as_bytes(), place) => {
+            Ok(Ok(Kind::Refused))
+        }
+        (Answer::Refused(_), _) => Ok(Err("the error is not within the text")),
+    }
+}
+
+// What bytes come to that are no text: they are refused as such, without a place.
+fn as_no_text(answer: &Answer, place: Option<(usize, usize)>) -> Verdict {
+    match answer {
+        Answer::Refused(printed)
+            if place.is_none() && printed.as_str() == "input is not valid UTF-8" => {
+            Ok(Kind::NoText)
+        }
+        _ => Err("bytes that are no text are not refused as such"),
+    }
+}
+
 /// What bytes come to: those that are no text are refused as such, and a text as it is as a text.
 pub(crate) fn kind_of_bytes(alloc: Global, bytes: &[u8]) -> Result<Verdict, AllocError> {
-    let text = str::from_utf8(bytes);
-    match (from_slice::<Table>(alloc, bytes), text) {
-        (Ok(_), Ok(_)) => Ok(Ok(Kind::Read)),
-        (Err(error), Ok(text)) => match from_str::<Table>(alloc, text) {
-            Ok(_) => Ok(Err("the text is read, and its bytes are not")),
-            Err(same) => {
-                let printed = format!(in alloc; "{error}")?;
-                let same_printed = format!(in alloc; "{same}")?;
-                let is_within = match error.line_col() {
-                    Some(place) => is_within(bytes, place),
-                    None => false,
-                };
-                if is_within && printed == same_printed {
-                    Ok(Ok(Kind::Refused))
-                } else {
-                    Ok(Err("the error of the bytes is another"))
-                }
-            }
-        },
-        (Ok(_), Err(_)) => Ok(Err("bytes that are no text are read")),
-        (Err(error), Err(_)) => {
-            let printed = format!(in alloc; "{error}")?;
-            if error.line_col().is_none() && printed.as_str() == "input is not valid UTF-8" {
-                Ok(Ok(Kind::NoText))
-            } else {
-                Ok(Err("bytes that are no text have another error"))
-            }
-        }
+    let read = from_slice::<Table>(alloc, bytes);
+    let place = match &read {
+        Ok(_) => None,
+        Err(error) => error.line_col(),
+    };
+    let answer = answer_of(alloc, read)?;
+    match str::from_utf8(bytes) {
+        Ok(text) => as_text(alloc, text, &answer, place),
+        Err(_) => Ok(as_no_text(&answer, place)),
     }
 }
 
