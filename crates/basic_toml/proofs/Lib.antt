@@ -5,3 +5,4 @@ pub mod TextHasOneDocument
 pub mod RefusedTextsHaveNoDocument
 pub mod RespelledTextIsRead
 pub mod OneAnswer
+pub mod OrderReadBack

@@ -2,6 +2,7 @@ pub mod Reading
 pub mod Ser
 pub mod ReadBack
 pub mod OneAnswer
+pub mod OrderReadBack
 pub mod tokens
 pub use Rattle.basic_toml_value.specs.Data
 pub use Rattle.basic_toml_value.specs.Equal
@@ -20,12 +21,15 @@ pub use Rattle.basic_toml_layout.specs.Layout
 pub use Rattle.basic_toml_emit.specs.Rules
 pub use Rattle.basic_toml_layout.specs.Written
 pub use Rattle.basic_toml_write.specs.Kept
+pub use Rattle.basic_toml_write.specs.Parts
 pub use Rattle.basic_toml_write.specs.Serializer
 pub use Rattle.basic_toml_write.specs.Shapes
 pub use Rattle.basic_toml_write.specs.Spelling
 pub use Rattle.basic_toml_layout.specs.Trees
 pub use Rattle.basic_toml_write.specs.Write
 pub use Rattle.basic_toml_write.specs.Impls
+pub use Rattle.basic_toml_order.specs.RowsFirst
+pub use Rattle.basic_toml_order.specs.Writable
 pub use Rattle.basic_toml_error.specs.LineColumn
 pub use Rattle.basic_toml_error.specs.Fault
 pub use Rattle.basic_toml_error.specs.FaultText

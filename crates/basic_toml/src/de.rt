@@ -20,7 +20,7 @@ use std::alloc::Global;
 /// let settings: Table = from_str(alloc, "port = 80\n")?;
 /// ```
 ///
-/// This is from `toml_typed_vectors`. A `Table` takes every text that has a document; the program `load_settings` reads
+/// This is from `toml_vectors`. A `Table` takes every text that has a document; the program `load_settings` reads
 /// a type of its own.
 ///
 /// # Errors

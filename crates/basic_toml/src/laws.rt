@@ -4,10 +4,15 @@ ghost use Rattle.basic_toml_tokens.specs.Text.{folded};
 ghost use Rattle.basic_toml_value.specs.Data.{Data};
 ghost use Rattle.basic_toml_grammar.specs.Document.{IsDocument};
 ghost use Rattle.basic_toml_grammar.specs.Faults as read;
+ghost use Rattle.basic_toml.specs.OrderReadBack.{RowsFirstIsReadBack};
 ghost use Rattle.basic_toml.specs.OneAnswer.{WritesOneAnswer, RoundTripsToOneAnswer, ReadingHasOneTable};
 ghost use Rattle.basic_toml.specs.Reading.{IsTextFault};
 
 pub use basic_toml_error::laws::text_goes_on_with_line;
+pub use basic_toml_order::laws::{
+    has_same_maps, once_is_enough, only_unwritable_is_refused, ordered_stays, rows_come_first,
+    stays_recordable,
+};
 pub use basic_toml_typed::laws::text_numbers_differ;
 use basic_toml_write::Serialize;
 
@@ -48,3 +53,9 @@ pub fn round_trip_has_one_answer<T: Serialize>(value: &T)
 {
     let _ = value;
 }
+
+/// The text of a table with its rows first is read back as that table, wherever some order of its entries can be written.
+#[tactic(auto, using(crate::proofs::OrderReadBack::rows_first_read_back))]
+pub fn rows_first_is_read_back()
+    ensures { RowsFirstIsReadBack }
+{}

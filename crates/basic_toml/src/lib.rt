@@ -10,7 +10,7 @@
 //! let text = to_string(alloc, &settings)?; // port = 80
 //! ```
 //!
-//! This is from `toml_typed_vectors`. The programs `load_settings`, `read_manifest`, `check_keys` and `write_rules` are
+//! This is from `toml_vectors`. The programs `load_settings`, `read_manifest`, `check_keys` and `write_rules` are
 //! callers with types and checks of their own.
 #![tactic(auto)]
 
@@ -25,6 +25,7 @@ pub mod tokens {
 }
 
 pub use basic_toml_error::{Error, line_col};
+pub use basic_toml_order::{into_rows_first, rows_first};
 pub use basic_toml_tree::{Elements, Entries, Node, Tree};
 pub use basic_toml_typed::{
     Deserialize, only_fields, read_elements, read_field, read_optional, variant,

@@ -16,7 +16,7 @@ use std::alloc::Global;
 /// let text = to_string(alloc, &settings)?;
 /// ```
 ///
-/// This is from `toml_typed_vectors`; the program `write_rules` writes types of its own.
+/// This is from `toml_vectors`; the program `write_rules` writes types of its own.
 ///
 /// # Errors
 ///

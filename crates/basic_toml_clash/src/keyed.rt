@@ -6,7 +6,7 @@ ghost use Rattle.basic_toml_value.specs.Entries.{seen, texts_of};
 ghost use Rattle.basic_toml_value.specs.Index.{IsGap, IsIndex};
 ghost use Rattle.basic_toml_clash.specs.Keyed.{EntersKey};
 
-use basic_toml_value::{Found, Gap, Index, Pair};
+use basic_toml_value::{Found, Gap, Index, Key, Pair};
 use std::alloc::{AllocError, Global};
 use std::marker::Model;
 use std::mem;
@@ -48,7 +48,7 @@ fn add<V: Drop>(
 {
     let alloc = *pairs.allocator();
     let position = pairs.len();
-    let key = String::from_str(alloc, key)?;
+    let key = Key::from_str(alloc, key)?;
     make_room(pairs)?;
     index.insert(alloc, pairs, key.as_str(), gap)?;
     pairs.push_reserved(Pair { key, value });
@@ -89,9 +89,10 @@ impl<V> Model for Keyed<V> {
 }
 
 impl<V: Drop> Keyed<V> {
-    ghost use Rattle.std.specs.Prelude.{◌≡◌, ◌==◌, ◌<◌, [], ◌∷◌, ◌++◌, length, IfOk, IfSome, IsTrue, MatchOption, None, slice_get, Some, string_bytes};
+    ghost use Rattle.std.specs.Prelude.{◌≡◌, ◌==◌, ◌<◌, [], ◌∷◌, ◌++◌, length, IfOk, IfSome, IsTrue, MatchOption, None, slice_get, Some};
     ghost use Rattle.basic_toml_value.specs.Keys.{are_distinct};
     ghost use Rattle.basic_toml_value.specs.Pairs.{keys_of, value_at};
+    ghost use Rattle.basic_toml_value.specs.Key.{key_bytes};
     ghost use Rattle.basic_toml_value.specs.Entries.{seen, texts_of};
     ghost use Rattle.basic_toml_value.specs.Index.{IsIndex};
     ghost use Rattle.basic_toml_clash.specs.Keyed.{with_value, values_of};
@@ -133,7 +134,7 @@ impl<V: Drop> Keyed<V> {
     pub fn get(&self, key: &str) -> Option<&Pair<V>>
         ensures value { MatchOption result (value_at self.now key.now ≡ None)
             (λ pair. value_at self.now key.now ≡ Some pair.now.value) }
-        ensures same { IfSome result (λ pair. string_bytes pair.now.key ≡ key.now) }
+        ensures same { IfSome result (λ pair. key_bytes pair.now.key ≡ key.now) }
     {
         match self.index.search(&self.entries, key) {
             Found::At(position) => Some(&self.entries[position]),

@@ -30,7 +30,7 @@ use std::marker::Model;
 /// }
 /// ```
 ///
-/// This is from `toml_typed_vectors`. Such an error has the keys that lead to the node, and stands at its `place` where
+/// This is from `toml_callers`. Such an error has the keys that lead to the node, and stands at its `place` where
 /// the function names no other; line and column come with the text, from `from_str`. Where its words or its keys find
 /// no memory, it is want of memory instead.
 #[derive(Debug, Drop)]

@@ -36,7 +36,7 @@ fn column_at(text: &str, offset: usize) -> usize
 /// The line and the column of a byte offset in a text, both from 0; a column counts bytes. An offset past the end is
 /// taken for the end.
 ///
-/// `line_col("a\nbc", 3)` is `(1, 1)`, as `toml_typed_vectors` has it. By it the program `check_keys` tells where a
+/// `line_col("a\nbc", 3)` is `(1, 1)`, as `toml_vectors` has it. By it the program `check_keys` tells where a
 /// token stands.
 pub fn line_col(text: &str, offset: usize) -> (usize, usize)
     ensures at { result ≡ (line_at text.now offset, column_at text.now offset) }

@@ -46,6 +46,21 @@ fn wanted_at(at: usize, expected: &'static str, found: &'static str) -> ReadErro
     ReadError::at(at, ReadErrorKind::Wanted { expected, found })
 }
 
+// Whether nothing but blanks stands before an offset in its line. A byte order mark at the start is no part of a line.
+fn begins_line(text: &str, at: usize) -> bool
+    requires { IsCharBoundary text.now at }
+{
+    let before = match &text.as_bytes()[..at] {
+        [0xEF, 0xBB, 0xBF, before @ ..] => before,
+        before => before,
+    };
+    let last = before
+        .iter()
+        .rev()
+        .find(|byte| !matches!(**byte, b' ' | b'\t'));
+    matches!(last, None | Some(b'\n'))
+}
+
 // The error of what follows the comment at an offset, if one stands there and that is refused.
 fn after_comment(alloc: Global, text: &str, at: usize) -> Option<ReadError>
     requires boundary { IsCharBoundary text.now at }
@@ -60,15 +75,18 @@ fn after_comment(alloc: Global, text: &str, at: usize) -> Option<ReadError>
     None
 }
 
-// No key stands at an offset.
+// No key stands at an offset. At the beginning of a line a comment may stand in its place, so what is wrong is what
+// follows the comment.
 fn no_key(alloc: Global, text: &str, at: usize) -> ReadError
     requires boundary { IsCharBoundary text.now at }
     requires before { IsAt (folded text.now) precedes_key (text_at text.now at) }
     requires none { key_at (text_at text.now at) ≡ None }
     ensures { IsDue text.now result }
 {
-    if let Some(error) = after_comment(alloc, text, at) {
-        return error;
+    if begins_line(text, at) {
+        if let Some(error) = after_comment(alloc, text, at) {
+            return error;
+        }
     }
     match Cursor::at(text, at).key(alloc) {
         Ok(_) => wanted(alloc, text, at, "a table key"),

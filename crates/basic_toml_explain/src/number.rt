@@ -17,7 +17,7 @@ ghost use Rattle.basic_toml_explain.specs.Number.{IsFirst, LacksValue, IsJointNe
 mod fault;
 mod part;
 
-use self::fault::{begins_number, takes_no_plus, word_fault};
+use self::fault::{begins_number, look_behind, takes_no_plus, word_fault};
 use crate::cursor::Cursor;
 use crate::{ReadError, ReadErrorKind};
 use basic_toml_tokens::Token;
@@ -89,7 +89,10 @@ fn plus_error(
     match cursor.keylike(alloc) {
         Ok(Some(word)) => {
             if takes_no_plus(word.as_bytes()) {
-                return ReadError::at(at, ReadErrorKind::NumberInvalid);
+                return match look_behind(cursor, alloc, word) {
+                    Ok(()) => ReadError::at(at, ReadErrorKind::NumberInvalid),
+                    Err(error) => error,
+                };
             }
             number_error(cursor, alloc, word, wanted)
         }

@@ -1,5 +1,6 @@
 -- From a text to its section list: the grammar is unambiguous, and is what the reader computes.
 pub mod EndChangesNothing
+pub mod FrontsOfTexts
 pub mod GrammarCarried
 pub mod GrammarIsUnambiguous
 pub mod ReaderIsComplete

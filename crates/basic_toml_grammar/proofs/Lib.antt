@@ -4,7 +4,9 @@ pub mod Clash
 pub mod Tries
 pub mod Naming
 pub mod Trees
+pub mod Completion
 pub mod Nesting
+pub mod Viable
 pub mod SameMeaning
 pub mod AmongElements
 pub mod LawsHold

@@ -1,8 +1,7 @@
 -- How deep a text and its tree go: levels, depth, and where the limit is passed.
 pub mod DeepOffsetsAreOpened
 pub mod DeepStopsAreTooDeep
-pub mod DeepTextsCompleted
-pub mod DeepValuesCompleted
+pub mod DeepStopsAreHoles
 pub mod DepthIsTheHighestLevel
 pub mod LevelsAreWithinDepth
 pub mod NothingAboveTheLimit

@@ -6,4 +6,5 @@ pub mod WorkedGrammar
 pub mod WorkedNesting
 pub mod WorkedNodes
 pub mod WorkedNumbers
+pub mod WorkedViable
 pub mod WorkedWrongReadings

@@ -16,12 +16,15 @@ pub mod Document
 -- Faults and offsets
 pub mod Faults
 pub mod NumberFaults
+pub mod NumberTokens
 pub mod GrammarFaults
+pub mod Viable
 pub mod NestingFaults
 pub mod NamedClash
 pub mod Nodes
 -- Forms that only proofs go by: skip them
 pub mod Reader
+pub mod Holes
 pub mod DeepStops
 pub mod Placed
 pub mod Marks

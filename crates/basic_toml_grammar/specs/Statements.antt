@@ -24,6 +24,8 @@ use Rattle.basic_toml_grammar.specs.Levels.{highest_level}
 use Rattle.basic_toml_grammar.specs.Distinct.{is_distinct}
 use Rattle.basic_toml_grammar.specs.Document.{has_clash, tree_of_sections, IsDocument}
 use Rattle.basic_toml_grammar.specs.Grammar.{IsSectionListBy, IsSectionList}
+use Rattle.basic_toml_grammar.specs.Faults.{Fault}
+use Rattle.basic_toml_grammar.specs.Viable.{GoesOn, Viable, IsDue}
 use Rattle.basic_toml_grammar.specs.NestingFaults.{IsTooDeepAt, openers, before, tree_level}
 use Rattle.basic_toml_grammar.specs.DeepStops.{DeepStop}
 use Rattle.basic_toml_grammar.specs.Reader.{section_list_of}
@@ -95,6 +97,20 @@ abbrev pub LevelsAreWithinDepth : Type 0
 LevelsAreWithinDepth = (text : Text) (sections : List Section) → IsSectionList text sections
     → has_clash sections ≡ false
     → highest_level sections ≤ depth (tree_of_sections sections)
+
+-- the fault that a text is due is one
+abbrev pub GrammarFaultsAreOne : Type 0
+GrammarFaultsAreOne = (start : Text) (end : ℕ) (fault other : Fault) → IsDue start end fault → IsDue start end other
+    → fault ≡ other
+
+-- and a text of the grammar has none
+abbrev pub GrammarTextsHaveNone : Type 0
+GrammarTextsHaveNone = (start : Text) (end : ℕ) (sections : List Section) (fault : Fault)
+    → IsSectionList start sections → IsDue start end fault → ⊥
+
+-- where tokens may stand up to an offset, some text of the grammar has the same characters before it
+abbrev pub PassedTextIsViable : Type 0
+PassedTextIsViable = (start : Text) (end : ℕ) (at : Text) → Viable start end at → GoesOn start at (λ rest. Unit {0})
 
 -- nothing is too deep where fewer characters that lead deeper stand before it than the limit
 abbrev pub DeepOffsetsAreOpened : Type 0

@@ -1,6 +1,6 @@
 //! Laws about what a text means, each as the contract of a function that does nothing.
 
-ghost use Rattle.basic_toml_grammar.specs.Statements.{GrammarIsUnambiguous, GrammarIsRead, GrammarGivesKeys, LevelsAreWithinDepth, DeepOffsetsAreOpened, DeepStopsAreTooDeep, ShallowTextIsFree, TreeIsGrouped, KeysAreDistinct, ClashesAgree, PathsAgree, MarksFit, EveryClashIsNamed, OldDocumentsStand, OffsetsMeanNothing, ReturnsMeanNothing, ByteOrderMarkMeansNothing, OrderIsFree, PlainOrderIsFree, ReorderedMeansTheSame, PlainReorderedMeansTheSame, SameMapsAreAsDeep, EnteringAccepts, EnteringGrows, TrieIsEntering, TrieGivesLevels, StopsAreNamed, TrieStopsAreNamed};
+ghost use Rattle.basic_toml_grammar.specs.Statements.{GrammarIsUnambiguous, GrammarIsRead, GrammarGivesKeys, LevelsAreWithinDepth, DeepOffsetsAreOpened, DeepStopsAreTooDeep, ShallowTextIsFree, GrammarFaultsAreOne, GrammarTextsHaveNone, PassedTextIsViable, TreeIsGrouped, KeysAreDistinct, ClashesAgree, PathsAgree, MarksFit, EveryClashIsNamed, OldDocumentsStand, OffsetsMeanNothing, ReturnsMeanNothing, ByteOrderMarkMeansNothing, OrderIsFree, PlainOrderIsFree, ReorderedMeansTheSame, PlainReorderedMeansTheSame, SameMapsAreAsDeep, EnteringAccepts, EnteringGrows, TrieIsEntering, TrieGivesLevels, StopsAreNamed, TrieStopsAreNamed};
 
 /// The grammar gives a text at most one section list.
 pub fn grammar_is_unambiguous()
@@ -56,6 +56,22 @@ pub fn marks_fit()
 /// No level of a section list without clashes passes the depth of its tree.
 pub fn levels_are_within_depth()
     ensures { LevelsAreWithinDepth }
+{}
+
+/// The error that a text outside the grammar is due is one.
+pub fn grammar_faults_are_one()
+    ensures { GrammarFaultsAreOne }
+{}
+
+/// A text of the grammar is due none.
+pub fn grammar_texts_have_none()
+    ensures { GrammarTextsHaveNone }
+{}
+
+/// Nothing is wrong before the token at which a text stops: some text of the grammar begins with the same characters.
+#[tactic(auto, using(crate::proofs::Viable::FaultsAreOne::passed_text_is_viable))]
+pub fn passed_text_is_viable()
+    ensures { PassedTextIsViable }
 {}
 
 /// Nothing is too deep where fewer characters that lead deeper stand before it than the limit.

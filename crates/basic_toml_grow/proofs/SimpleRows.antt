@@ -1,10 +1,12 @@
 -- Simple rows, put into a table one after another: they become its entries.
 use Rattle.std.proofs.Common.{◌≡◌, ◌==◌, ◌≤◌, ℕ, ◌+◌, Bool, true, false, ◌||◌, not, List, [], ◌∷◌, ◌++◌, length, map, Some, is_some}
-use Rattle.std.proofs.Common.{arith, suc, take, refl, sym, ap, ◌∙◌, subst, rules, ap₂, append_assoc, slice_get, string_bytes, String, Global}
+use Rattle.std.proofs.Common.{arith, suc, take, refl, sym, ap, ◌∙◌, subst, rules, ap₂, append_assoc, slice_get}
 use Rattle.std.specs.Str.{bytes_eq}
 use Rattle.std.proofs.lemmas.Bool.{false≢true}
 use Rattle.std.proofs.lemmas.List.{append-nil, map-append}
 use Rattle.std.proofs.lemmas.Slice.Eq.{bytes_eq-Decides}
+use Rattle.basic_toml_value.specs.Key.{key_bytes}
+use Rattle.basic_toml_value.specs.declared.key.Key.{Key}
 use Rattle.basic_toml_value.specs.Entries.{pair_seen}
 use Rattle.basic_toml_read.specs.KeyText.{key_text_bytes}
 use Rattle.basic_toml_value.specs.Keys.{is_among}
@@ -109,7 +111,7 @@ pub none_after : {A : Type 0} (passed left whole : List A) → left ≡ [] → p
 none_after passed left whole none same = sym (append-nil passed) ∙ ap (λ l. passed ++ l) (sym none) ∙ same
 
 -- a row as the entry that it becomes
-pub same_entry : (s : ℕ) (r : Row) (key : String Global) (item : items.Item) → string_bytes key ≡ key_text_bytes (out-Row r).key
+pub same_entry : (s : ℕ) (r : Row) (key : Key) (item : items.Item) → key_bytes key ≡ key_text_bytes (out-Row r).key
     → item ≡ item_of (out-Row r).value
     → pair_seen (record { key = key; value = roll-Child (record { start = (out-Row r).start; section = s; item = item }) })
     ≡ entry_of s r

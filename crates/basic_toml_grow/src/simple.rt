@@ -8,7 +8,7 @@ ghost use Rattle.basic_toml_grow.specs.Simple.{entries_of as new_entries, item_o
 
 use crate::item::{Child, Item, Table};
 use basic_toml_read::{Raw, Row};
-use basic_toml_value::Pair;
+use basic_toml_value::{Key, Pair};
 use std::alloc::{AllocError, Global};
 
 // The item of a plain value. What is not plain is kept as nothing.
@@ -44,7 +44,7 @@ fn entries_of<'de>(
             start,
             value,
         } = row;
-        let key = String::from_str(alloc, key.as_str())?;
+        let key = Key::from_str(alloc, key.as_str())?;
         let item = item_of(value);
         entries.push_reserved(Pair {
             key,

@@ -142,7 +142,7 @@ pub(crate) fn list<'de>(alloc: Global, text: &'de str) -> Result<Vec<Section<'de
 /// feeds alone has no sections, and asks for no memory.
 ///
 /// `sections(alloc, "a = 1\n[b]\n")` has two: a row `a`, and the header `b` without rows. `basic_toml` calls it, and so
-/// do the tests of `toml_reader_vectors`.
+/// do the cases of `toml_cases`.
 pub fn sections<'de>(alloc: Global, text: &'de str) -> Result<Vec<Section<'de>>, ReadError>
     ensures { AnswersSections text.now result }
 {

@@ -11,7 +11,7 @@
 //! // 4..7 String { val: "b", .. }, and None
 //! ```
 //!
-//! This is from `toml_typed_vectors`; the program `check_keys` goes through a text by `while let`.
+//! This is from `toml_vectors`; the program `check_keys` goes through a text by `while let`.
 #![tactic(auto)]
 
 mod class;

@@ -79,7 +79,7 @@ impl<'de> Tree<'de> {
 /// `DottedKeyInvalidType` comes before every other clash. `NestedTooDeeply` comes where the tree is deeper than 128,
 /// at a section that makes it so, and `OutOfMemory` where memory is refused. All but the last have a byte offset.
 ///
-/// `basic_toml` calls it, and so do the tests of `toml_tree_vectors`.
+/// `basic_toml` calls it, and so do the cases of `toml_cases`.
 #[tactic(auto, using(crate::proofs::OrderIsFree::in_any_order))]
 pub fn resolve<'de>(alloc: Global, sections: Vec<Section<'de>>) -> Result<Tree<'de>, ReadError>
     ensures resolves { Resolves sections.entry.items result }

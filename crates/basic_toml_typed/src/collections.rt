@@ -11,7 +11,7 @@ use std::alloc::{AllocError, Global};
 use std::collections::BTreeMap;
 
 /// Reads the elements of an array in order (TOML v0.5.0, "Array" and "Array of Tables"). `Steps` of
-/// `toml_typed_vectors` is read by it.
+/// `toml_callers` is read by it.
 ///
 /// # Errors
 ///

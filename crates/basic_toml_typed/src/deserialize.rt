@@ -29,7 +29,7 @@ use std::alloc::Global;
 /// }
 /// ```
 ///
-/// This is from `toml_typed_vectors`, which has a type of each shape; `load_settings` has a record with defaults.
+/// This is from `toml_callers`, which has a type of each shape; `load_settings` has a record with defaults.
 pub trait Deserialize<'de>: Sized {
     // Which values are read from which data.
     ghost reads: { Data → Self → Type 0 };

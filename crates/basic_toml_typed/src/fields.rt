@@ -136,7 +136,7 @@ fn position_of(names: &[&str], text: &str) -> Option<usize>
 /// }
 /// ```
 ///
-/// This is from `toml_typed_vectors`.
+/// This is from `toml_callers`.
 ///
 /// # Errors
 ///

@@ -2,6 +2,7 @@
 use Rattle.std.proofs.Common.{◌≡◌, ℕ, zero, suc, ◌<◌, ◌≤◌, Bool, true, false, not, ◌&&◌, ◌||◌, ◌==◌, if◌then◌else◌}
 use Rattle.std.proofs.Common.{List, [], ◌∷◌, codes, refl, sym, ap, ◌∙◌, ◌⊎◌, inl, inr, IsTrue, arith}
 use Rattle.std.specs.Char.{is_digit}
+use Rattle.std.specs.List.{list_all}
 use Rattle.std.specs.Str.{bytes_eq, IsAscii}
 use Rattle.std.proofs.lemmas.Bool.{cases_Bool, eqb-true}
 use Rattle.std.proofs.lemmas.Bool.Decides.{nat_tests}
@@ -10,7 +11,7 @@ use Rattle.std.proofs.lemmas.Slice.Eq.{bytes_eq-Decides}
 use Rattle.basic_toml_value.specs.Numbers.{plus, minus, period, underscore, is_sign, is_exponent_letter, goes_on}
 use Rattle.basic_toml_value.specs.Numbers.{is_digits, is_whole, without_sign, is_part, part_of, after_part}
 use Rattle.basic_toml_value.specs.Numbers.{is_exponent, is_tail, is_special, is_unsigned_float, canonical}
-use Rattle.basic_toml_value.specs.Numbers.{is_canonical}
+use Rattle.basic_toml_value.specs.Numbers.{is_canonical, stays}
 use Rattle.basic_toml_value.proofs.Booleans.{and_cases, or_cases}
 
 digit_range : (c : ℕ) → is_digit c 10 ≡ true → (48 ≤ c) × (c ≤ 57)
@@ -40,6 +41,14 @@ canonical-canonical (c ∷ cs) =
             (ap (λ l. c ∷ l) (canonical-canonical cs))
       ]
     ]
+
+-- where every byte stays, the text is its own canonical form
+pub canonical_of_staying : (cs : List ℕ) → IsTrue (list_all stays cs) → canonical cs ≡ cs
+canonical_of_staying [] all = refl
+canonical_of_staying (c ∷ cs) all =
+    let parts = and_cases (stays c) (list_all stays cs) all in
+    canonical-keeps c cs (grind (arith, parts.0, nat_tests)) (grind (arith, parts.0, nat_tests))
+    ∙ ap (λ rest. c ∷ rest) (canonical_of_staying cs parts.1)
 
 -- what a test by cases says of its cases
 run_cases : (digit line must_follow more ends : Bool)

@@ -5,6 +5,7 @@ pub mod DistinctKeys
 pub mod IndexAfterInsert
 pub mod IndexGrows
 pub mod InsertByShift
+pub mod KeyIsText
 pub mod KeysOfSlots
 pub mod LastEightBytes
 pub mod LengthsDecide

@@ -107,6 +107,10 @@ is_special cs = bytes_eq cs (codes "inf") || bytes_eq cs (codes "nan")
 abbrev pub is_unsigned_float : List ℕ → Bool
 is_unsigned_float cs = is_special cs || (is_whole (part_of cs) && is_tail (after_part cs))
 
+-- neither left out of a canonical text nor changed in it
+abbrev pub stays : ℕ → Bool
+stays c = not (c == plus || (c == underscore || c == 101))
+
 -- without plus signs and underscores, `e` written `E`
 abbrev pub canonical : List ℕ → List ℕ
 canonical cs = map (λ c. if c == 101 then 69 else c) (filter (λ c. not (c == plus || c == underscore)) cs)

@@ -1,5 +1,6 @@
 //! A float, held as its canonical text.
 ghost use Rattle.std.specs.Prelude.{◌≡◌, IfOk, Some, nat_eq, string_bytes};
+ghost use Rattle.std.specs.List.{list_all};
 ghost use Rattle.std.specs.Cmp.Rules.{comparing};
 ghost use Rattle.std.specs.Cmp.Lexicographic.{pointwise};
 ghost use Rattle.std.proofs.Common.{rules};
@@ -78,11 +79,28 @@ pub fn float_of(alloc: Global, text: &str) -> Result<Option<Float>, AllocError>
     Float::parse(alloc, text)
 }
 
+// Whether a byte is neither left out of the canonical text nor changed in it.
+fn stays(byte: u8) -> bool
+    ensures { result ≡ spec.stays byte }
+{
+    byte != b'+' && byte != b'_' && byte != b'e'
+}
+
+fn all_stay(text: &[u8]) -> bool
+    ensures { result ≡ list_all spec.stays text.now }
+{
+    text.iter().all(|byte| stays(*byte))
+}
+
 // The text without plus signs and underscores, with `E` for `e`.
+#[tactic(auto, using(crate::proofs::Canonical::canonical_of_staying))]
 fn canonical(alloc: Global, text: &str) -> Result<String, AllocError>
     requires { IsAscii text.now }
     ensures { IfOk result (λ kept. string_bytes kept ≡ spec.canonical text.now) }
 {
+    if all_stay(text.as_bytes()) {
+        return String::from_str(alloc, text);
+    }
     let mut kept = String::with_capacity(alloc, text.len())?;
     for byte in text.as_bytes() {
         if *byte != b'+' && *byte != b'_' {

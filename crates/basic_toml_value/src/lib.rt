@@ -9,17 +9,19 @@
 //! let float = Float::parse(alloc, "+1.50e3")?; // 1.50E3, as text
 //! ```
 //!
-//! This is from `toml_typed_vectors`; `toml_vectors` makes each call once.
+//! This is from `toml_vectors`, which makes each call once.
 #![tactic(auto)]
 
 mod float;
 mod index;
+mod key;
 mod numbers;
 mod pairs;
 mod value;
 
 pub use float::{Float, float_of};
 pub use index::{Found, Gap, Index, Texts};
+pub use key::Key;
 pub use numbers::{integer_of, is_digits, is_whole, split_part};
 pub use pairs::{Iter, Pair, Pairs, PushRefusal};
 pub use value::{NESTING_LIMIT, Table, Value};

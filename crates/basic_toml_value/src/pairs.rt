@@ -8,6 +8,7 @@ ghost use Rattle.basic_toml_value.specs.Entries.{seen, texts_of};
 ghost use Rattle.basic_toml_value.specs.Pairs.{keys_of, has_key, value_at};
 
 use crate::index::{Found, Gap, Index, Texts};
+use crate::key::Key;
 use std::alloc::Global;
 use std::fmt;
 use std::marker::Model;
@@ -25,7 +26,7 @@ pub enum PushRefusal {
 #[derive(Drop)]
 pub struct Pair<V> {
     /// The key.
-    pub key: String,
+    pub key: Key,
     /// Its value.
     pub value: V,
 }
@@ -166,6 +167,15 @@ impl<V> Pairs<V> {
         self.entries.as_slice()
     }
 
+    /// The pairs in order, moved out of the table.
+    #[tactic(auto, using(crate::proofs::SeenPairs::seen_pairs))]
+    pub fn into_entries(self) -> Vec<Pair<V>>
+        ensures pairs { seen result.items ≡ self }
+        ensures distinct { IsTrue (are_distinct (texts_of result.items)) }
+    {
+        self.entries
+    }
+
     // The index of the keys.
     #[tactic(auto, using(crate::proofs::SeenPairs::seen_pairs))]
     pub(crate) fn index(&self) -> &Index
@@ -202,7 +212,7 @@ fn put<V>(
 ) -> Result<(), (String, V)>
     requires index { IsIndex (texts_of entries.old.items) index.old }
     requires gap { IsGap (texts_of entries.old.items) index.old (string_bytes key) gap }
-    ensures ok { OnOk result (entries.new.items ≡ entries.old.items ++ record { key = key; value = value } ∷ []) }
+    ensures ok { OnOk result (seen entries.new.items ≡ seen entries.old.items ++ (string_bytes key, value) ∷ []) }
     ensures index { IsIndex (texts_of entries.new.items) index.new }
     ensures err_unchanged { OnErr result (entries.new.items ≡ entries.old.items) }
     ensures pair_back { IfErr result (λ e. (e.0 ≡ key) × (e.1 ≡ value)) }
@@ -214,10 +224,9 @@ fn put<V>(
     if index.insert(alloc, entries, key.as_str(), gap).is_err() {
         return Err((key, value));
     }
-    match entries.push(Pair { key, value }) {
-        Ok(()) => Ok(()),
-        Err(_) => unreachable!(),
-    }
+    let key = Key::of(key);
+    entries.push_reserved(Pair { key, value });
+    Ok(())
 }
 
 impl<V: fmt::Debug> fmt::Debug for Pairs<V> {

@@ -1,9 +1,10 @@
 //! Values, and tables of them.
-ghost use Rattle.std.specs.Prelude.{◌≡◌, ◌&&◌, IfOk, length, map, option_map, string_bytes};
+ghost use Rattle.std.specs.Prelude.{◌≡◌, ◌&&◌, IfOk, length, map, option_map};
 ghost use Rattle.std.specs.Option.{option_copied};
 ghost use Rattle.std.specs.Ordering.{on};
 ghost use Rattle.std.specs.Str.{bytes_eq};
 ghost use Rattle.basic_toml_value.specs.Data.{integer_in, float_in, boolean_in, string_in, array_in, table_in};
+ghost use Rattle.basic_toml_value.specs.Key.{key_bytes};
 ghost use Rattle.basic_toml_value.specs.Entries.{seen, texts_of};
 ghost use Rattle.basic_toml_value.specs.Equal.{data_eq, items_eq, members_eq};
 ghost use Rattle.basic_toml_value.specs.View.{view, entries, items_view};
@@ -269,7 +270,7 @@ fn same_entries(left: &[Pair<Value>], right: &[Pair<Value>]) -> bool
 
 #[cycle(same)]
 fn same_pairs(left: &Pair<Value>, right: &Pair<Value>) -> bool
-    ensures { result ≡ (bytes_eq (string_bytes left.now.key) (string_bytes right.now.key)
+    ensures { result ≡ (bytes_eq (key_bytes left.now.key) (key_bytes right.now.key)
         && data_eq (view left.now.value) (view right.now.value)) }
 {
     left.key.as_str() == right.key.as_str() && same_values(&left.value, &right.value)

@@ -4,11 +4,13 @@ use Rattle.std.proofs.Common.{rules, String, Global, ℤ}
 use Rattle.std.proofs.lemmas.List.Elements.{All-nil, All-cons, All-append}
 use Rattle.std.proofs.lemmas.Str.{IsUtf8-string_bytes}
 use Rattle.basic_toml_value.specs.Data.{Data, integer, string, array, table, Items, Members}
+use Rattle.basic_toml_value.specs.Key.{key_bytes}
 use Rattle.basic_toml_value.specs.Entries.{seen}
 use Rattle.basic_toml_value.specs.View.{view, entries, items_view}
 use Rattle.basic_toml_value.specs.declared.pairs.Pair.{Pair}
 use Rattle.basic_toml_value.specs.declared.value.Value.{Value, the_lemmas}
 use Rattle.basic_toml_value.specs.declared.value.Value.TheVariants.{Integer as Whole, String as Text}
+use Rattle.basic_toml_value.proofs.KeyIsText.{IsUtf8-key_bytes}
 use Rattle.basic_toml_layout.specs.Written as w
 use Rattle.basic_toml_layout.specs.Written.{text}
 use Rattle.basic_toml_emit.specs.Items.{Item, a_scalar, open_array, open_table, close, field, element_prefix}
@@ -63,6 +65,6 @@ pub recordable_member : (ps : List (Pair Value)) (i : ℕ) (p : Pair Value) → 
     → AreRecordable (members_calls (entries (seen (drop i ps))))
 recordable_member ps i p lt read one more =
     subst (λ z. AreRecordable (members_calls (entries (seen z)))) (sym (drop_at ps i p lt read))
-    (All-cons IsRecordable (field (string_bytes p.key))
-    (data_calls (view p.value) ++ members_calls (entries (seen (drop (i + 1) ps)))) (IsUtf8-string_bytes p.key)
+    (All-cons IsRecordable (field (key_bytes p.key))
+    (data_calls (view p.value) ++ members_calls (entries (seen (drop (i + 1) ps)))) (IsUtf8-key_bytes p.key)
     (All-append IsRecordable (data_calls (view p.value)) (members_calls (entries (seen (drop (i + 1) ps)))) one more))

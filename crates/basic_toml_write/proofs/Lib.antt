@@ -1,4 +1,5 @@
 pub mod RecordIsSent
+pub mod PartsMayGiveUp
 pub mod ValuesThatFit
 pub mod FittingValueIsTaken
 pub mod TakenListSpells

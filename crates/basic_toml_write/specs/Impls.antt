@@ -8,7 +8,7 @@ use Rattle.basic_toml_layout.specs.Written as w
 use Rattle.basic_toml_write.specs.declared.error.WriteError.{WriteError}
 use Rattle.basic_toml_emit.specs.Items.{Item, a_scalar, an_absent, open_array, open_table, close, field, some_prefix}
 use Rattle.basic_toml_emit.specs.Items.{element_prefix}
-use Rattle.basic_toml_write.specs.Serializer.{NoFault, PartGivesUp}
+use Rattle.basic_toml_write.specs.Serializer.{PartGivesUp}
 
 abbrev pub scalar_calls : w.Scalar → List Item
 scalar_calls l = a_scalar l ∷ []
@@ -18,10 +18,12 @@ option_calls calls None = an_absent ∷ []
 option_calls calls (Some x) = some_prefix ∷ calls x
 
 -- an option gives up as what it holds
-abbrev pub OptionGivesUp : {A : Type 0} → (A → List Item → WriteError → Type 0) → Option A → List Item → WriteError
-    → Type 0
-OptionGivesUp GivesUp None = NoFault
-OptionGivesUp GivesUp (Some x) = PartGivesUp (some_prefix ∷ []) (GivesUp x)
+pub record OptionGivesUp {A : Type 0} (GivesUp : A → List Item → WriteError → Type 0) (option : Option A)
+    (sent : List Item) (e : WriteError)
+    : Type 0 where
+  pub held : A
+  pub is : option ≡ Some held
+  pub gives_up : PartGivesUp (some_prefix ∷ []) (GivesUp held) sent e
 
 -- A value that opens with an item and sends parts in turn, each after its prefix, gives up as one of them does, once
 -- those before it were sent.

@@ -119,6 +119,7 @@ impl<T: Serialize> Serialize for Option<T> {
 
     ghost gives_up = { OptionGivesUp T.gives_up };
 
+    #[tactic(auto, using(crate::proofs::RecordIsSent::option_sent, crate::proofs::ListsAreSentInTurn::sends_never))]
     fn serialize(&self, _alloc: Global, ser: &mut Serializer) -> Result<(), WriteError> {
         match self {
             None => ser.serialize_none(),

@@ -11,11 +11,9 @@ use std::alloc::Global;
 ///
 /// ```text
 /// impl Serialize for Rule {
-///     ghost calls = { λ r.
-///         open_table
-///         ∷ field (codes "pattern") ∷ a_scalar (written.text (string_bytes r.pattern))
-///         ∷ field (codes "limit") ∷ a_scalar (written.integer (pos r.limit))
-///         ∷ close ∷ [] };
+///     ghost calls = { λ r. a_record
+///         (a_field (codes "pattern") (⟦<String as Serialize>⟧.calls r.pattern)
+///         (a_field (codes "limit") (⟦<u32 as Serialize>⟧.calls r.limit) the_end)) };
 ///
 ///     fn serialize(&self, _alloc: Global, ser: &mut Serializer) -> Result<(), WriteError> {
 ///         ser.serialize_struct("Rule", 2)?;
@@ -26,7 +24,9 @@ use std::alloc::Global;
 /// }
 /// ```
 ///
-/// This is from the program `write_rules`, which has the proof too.
+/// This is from the program `write_rules`. It takes no proof: each call says what it leaves for the calls after it. So
+/// do arrays by `an_array` and `an_element`, maps by fields or by `a_key` and `a_value`, and an enum by the calls of its
+/// variants.
 pub trait Serialize {
     ghost use Rattle.basic_toml_write.specs.declared.error.WriteError.{WriteError};
     ghost use Rattle.basic_toml_emit.specs.Items.{Item};

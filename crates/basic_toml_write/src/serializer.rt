@@ -1,5 +1,5 @@
 //! The serializer.
-ghost use Rattle.std.specs.Prelude.{◌≡◌, ℕ, List, [], ◌∷◌, ◌++◌, Result, pos, OnOk, IfErr, MatchOption, None, Err, is_some, ⊤, encode_utf8};
+ghost use Rattle.std.specs.Prelude.{◌≡◌, ℕ, List, [], ◌∷◌, ◌++◌, Result, pos, OnOk, IfOk, IfErr, MatchOption, None, Err, is_some, ⊤, encode_utf8};
 ghost use Rattle.basic_toml_emit.specs.Items.{Item, a_scalar, an_absent, open_array, open_table, close, key, field, some_prefix, value_prefix, element_prefix};
 ghost use Rattle.basic_toml_layout.specs.Written as w;
 ghost use Rattle.basic_toml_emit.specs.Recorded.{item_of};
@@ -38,7 +38,7 @@ use std::alloc::Global;
 /// let text = ser.finish()?; // answer = 42
 /// ```
 ///
-/// This is from `toml_typed_vectors`; `toml_writer_vectors` makes each call.
+/// This is from `toml_vectors`, whose tests make each call.
 #[derive(Drop)]
 pub struct Serializer {
     emitter: Emitter,
@@ -58,6 +58,7 @@ impl Serializer {
     ghost use Rattle.basic_toml_write.specs.Impls.{data_calls};
     ghost use Rattle.basic_toml_write.specs.Serializer.{Sends};
     ghost use Rattle.basic_toml_write.specs.Serializer.{HasRecorded, NoFault, Takes, Passes, Refused, Finishes, error_of};
+    ghost use Rattle.basic_toml_write.specs.Parts.{Opens, FailsToOpen, Adds, FailsToAdd, Never, the_end, a_some};
     ghost use Rattle.basic_toml_write.specs.Write.{IsLayout, Succeeds};
 
     /// A serializer without any calls yet. Takes no memory.
@@ -298,43 +299,57 @@ impl Serializer {
     }
 
     /// Opens an array; its length is not looked at.
+    #[tactic(auto, using(crate::proofs::RecordIsSent::opens, crate::proofs::RecordIsSent::fails_to_open))]
     pub fn serialize_seq(&mut self, _len: Option<usize>) -> Result<(), WriteError>
-        ensures { Takes (open_array ∷ []) self.old self.new result }
+        ensures takes { Takes (open_array ∷ []) self.old self.new result }
+        ensures opens { IfOk result (λ _. Opens open_array self.old self.new) }
+        ensures fails { IfErr result (FailsToOpen open_array self.old self.new) }
     {
         self.take(Call::OpenArray)
     }
 
     /// Opens an array; its length is not looked at.
     pub fn serialize_tuple(&mut self, len: usize) -> Result<(), WriteError>
-        ensures { Takes (open_array ∷ []) self.old self.new result }
+        ensures takes { Takes (open_array ∷ []) self.old self.new result }
+        ensures opens { IfOk result (λ _. Opens open_array self.old self.new) }
+        ensures fails { IfErr result (FailsToOpen open_array self.old self.new) }
     {
         self.serialize_seq(Some(len))
     }
 
     /// Opens an array; its length is not looked at.
     pub fn serialize_tuple_struct(&mut self, _name: &str, len: usize) -> Result<(), WriteError>
-        ensures { Takes (open_array ∷ []) self.old self.new result }
+        ensures takes { Takes (open_array ∷ []) self.old self.new result }
+        ensures opens { IfOk result (λ _. Opens open_array self.old self.new) }
+        ensures fails { IfErr result (FailsToOpen open_array self.old self.new) }
     {
         self.serialize_tuple(len)
     }
 
     /// Opens a table; its length is not looked at.
+    #[tactic(auto, using(crate::proofs::RecordIsSent::opens, crate::proofs::RecordIsSent::fails_to_open))]
     pub fn serialize_map(&mut self, _len: Option<usize>) -> Result<(), WriteError>
-        ensures { Takes (open_table ∷ []) self.old self.new result }
+        ensures takes { Takes (open_table ∷ []) self.old self.new result }
+        ensures opens { IfOk result (λ _. Opens open_table self.old self.new) }
+        ensures fails { IfErr result (FailsToOpen open_table self.old self.new) }
     {
         self.take(Call::OpenTable)
     }
 
     /// Opens a table; its length is not looked at.
     pub fn serialize_struct(&mut self, _name: &str, len: usize) -> Result<(), WriteError>
-        ensures { Takes (open_table ∷ []) self.old self.new result }
+        ensures takes { Takes (open_table ∷ []) self.old self.new result }
+        ensures opens { IfOk result (λ _. Opens open_table self.old self.new) }
+        ensures fails { IfErr result (FailsToOpen open_table self.old self.new) }
     {
         self.serialize_map(Some(len))
     }
 
     /// Closes the innermost array or table.
+    #[tactic(auto, using(crate::proofs::RecordIsSent::closes))]
     pub fn end(&mut self) -> Result<(), WriteError>
-        ensures { Takes (close ∷ []) self.old self.new result }
+        ensures takes { Takes (close ∷ []) self.old self.new result }
+        ensures closes { Sends the_end NoFault self.old self.new result }
     {
         self.take(Call::Close)
     }
@@ -399,47 +414,65 @@ impl Serializer {
     }
 
     /// Writes an option that is there.
+    #[tactic(auto, using(crate::proofs::RecordIsSent::sends_whole))]
     pub fn serialize_some<T: Serialize>(&mut self, value: &T) -> Result<(), WriteError>
-        ensures { Passes (some_prefix ∷ []) (T.calls value.now) (T.gives_up value.now) self.old self.new result }
+        ensures passes { Passes (some_prefix ∷ []) (T.calls value.now) (T.gives_up value.now) self.old self.new result }
+        ensures alone { Never (T.gives_up value.now) → Sends (a_some (T.calls value.now)) NoFault self.old self.new
+            result }
     {
         self.after(Call::SomePrefix, value)
     }
 
     /// Writes the value that a newtype holds.
+    #[tactic(auto, using(crate::proofs::RecordIsSent::sends_same, crate::proofs::RecordIsSent::sends_whole))]
     pub fn serialize_newtype_struct<T: Serialize>(
         &mut self,
         _name: &str,
         value: &T,
     ) -> Result<(), WriteError>
-        ensures { Passes [] (T.calls value.now) (T.gives_up value.now) self.old self.new result }
+        ensures passes { Passes [] (T.calls value.now) (T.gives_up value.now) self.old self.new result }
+        ensures same { Sends (T.calls value.now) (T.gives_up value.now) self.old self.new result }
+        ensures alone { Never (T.gives_up value.now) → Sends (T.calls value.now) NoFault self.old self.new result }
     {
         self.part(value)
     }
 
     /// Sets the key of the next entry to a text that is given by its own calls. `KeyNotString` where they make no text.
+    #[tactic(auto, using(crate::proofs::RecordIsSent::adds, crate::proofs::RecordIsSent::fails_to_add))]
     pub fn serialize_key<T: Serialize>(&mut self, value: &T) -> Result<(), WriteError>
-        ensures { Passes (key ∷ []) (T.calls value.now) (T.gives_up value.now) self.old self.new result }
+        ensures passes { Passes (key ∷ []) (T.calls value.now) (T.gives_up value.now) self.old self.new result }
+        ensures adds { IfOk result (λ _. Adds key (T.calls value.now) self.old self.new) }
+        ensures fails { IfErr result (FailsToAdd key (T.calls value.now) (T.gives_up value.now) self.old self.new) }
     {
         self.after(Call::Key, value)
     }
 
     /// Writes the value of the entry whose key is set.
+    #[tactic(auto, using(crate::proofs::RecordIsSent::adds, crate::proofs::RecordIsSent::fails_to_add))]
     pub fn serialize_value<T: Serialize>(&mut self, value: &T) -> Result<(), WriteError>
-        ensures { Passes (value_prefix ∷ []) (T.calls value.now) (T.gives_up value.now) self.old self.new result }
+        ensures passes { Passes (value_prefix ∷ []) (T.calls value.now) (T.gives_up value.now) self.old self.new result }
+        ensures adds { IfOk result (λ _. Adds value_prefix (T.calls value.now) self.old self.new) }
+        ensures fails { IfErr result (FailsToAdd value_prefix (T.calls value.now) (T.gives_up value.now) self.old self.new) }
     {
         self.after(Call::ValuePrefix, value)
     }
 
     /// Sets the key of the next entry, and writes its value.
+    #[tactic(auto, using(crate::proofs::RecordIsSent::adds, crate::proofs::RecordIsSent::fails_to_add))]
     pub fn serialize_field<T: Serialize>(&mut self, name: &str, value: &T) -> Result<(), WriteError>
-        ensures { Passes (field name.now ∷ []) (T.calls value.now) (T.gives_up value.now) self.old self.new result }
+        ensures passes { Passes (field name.now ∷ []) (T.calls value.now) (T.gives_up value.now) self.old self.new result }
+        ensures adds { IfOk result (λ _. Adds (field name.now) (T.calls value.now) self.old self.new) }
+        ensures fails { IfErr result (FailsToAdd (field name.now) (T.calls value.now) (T.gives_up value.now) self.old self.new) }
     {
         self.after(Call::Field(name), value)
     }
 
     /// Writes an element of the innermost array.
+    #[tactic(auto, using(crate::proofs::RecordIsSent::adds, crate::proofs::RecordIsSent::fails_to_add))]
     pub fn serialize_element<T: Serialize>(&mut self, value: &T) -> Result<(), WriteError>
-        ensures { Passes (element_prefix ∷ []) (T.calls value.now) (T.gives_up value.now) self.old self.new result }
+        ensures passes { Passes (element_prefix ∷ []) (T.calls value.now) (T.gives_up value.now) self.old self.new result }
+        ensures adds { IfOk result (λ _. Adds element_prefix (T.calls value.now) self.old self.new) }
+        ensures fails { IfErr result (FailsToAdd element_prefix (T.calls value.now) (T.gives_up value.now) self.old self.new) }
     {
         self.after(Call::ElementPrefix, value)
     }

@@ -4,12 +4,12 @@ use crate::escapes::{bytes_of, push_escaped, spread};
 use crate::lists::{of_joined, of_reversed};
 use crate::numbers::number_of;
 use crate::sections_shown::sections_of;
-use crate::tagged::json_of;
 use crate::targets::told;
 use crate::tokens_shown::tokens_of;
 use basic_toml::{Table, from_slice, to_string};
 use std::alloc::{AllocError, Global};
 use std::str;
+use toml_json_text::{Form, json_of};
 
 /// What is wanted and what came out.
 type Pair = (String, String);
@@ -35,7 +35,7 @@ fn escaped(alloc: Global, text: &str) -> Result<String, AllocError> {
 // The table as JSON, or that it is refused.
 fn value_of(alloc: Global, bytes: &[u8]) -> Result<String, AllocError> {
     match from_slice::<Table>(alloc, bytes) {
-        Ok(table) => json_of(alloc, &table),
+        Ok(table) => json_of(alloc, Form::Tagged, &table),
         Err(error) => format!(in alloc; "error {error}"),
     }
 }
@@ -43,7 +43,7 @@ fn value_of(alloc: Global, bytes: &[u8]) -> Result<String, AllocError> {
 // The printed error; the line and the column that it has are those that it prints.
 fn error_of(alloc: Global, bytes: &[u8]) -> Result<String, AllocError> {
     match from_slice::<Table>(alloc, bytes) {
-        Ok(table) => json_of(alloc, &table),
+        Ok(table) => json_of(alloc, Form::Tagged, &table),
         Err(error) => {
             let shown = format!(in alloc; "{error}")?;
             let Some((line, column)) = error.line_col() else {

@@ -1,8 +1,8 @@
 //! Section lists that a caller reorders or joins: their tables, or the clash that is named.
-use crate::tagged::json_of;
 use basic_toml_read::{ReadError, Section, sections};
 use basic_toml_tree::resolve;
 use std::alloc::{AllocError, Global};
+use toml_json_text::{Form, json_of};
 
 fn reversed<'t>(alloc: Global, list: Vec<Section<'t>>) -> Result<Vec<Section<'t>>, AllocError> {
     let mut list = list;
@@ -23,7 +23,7 @@ fn refused(alloc: Global, error: &ReadError) -> Result<String, AllocError> {
 // The table of the list's tree, or its error.
 fn resolved(alloc: Global, list: Vec<Section<'_>>) -> Result<String, AllocError> {
     match resolve(alloc, list) {
-        Ok(tree) => json_of(alloc, &tree.into_table(alloc)?),
+        Ok(tree) => json_of(alloc, Form::Tagged, &tree.into_table(alloc)?),
         Err(error) => refused(alloc, &error),
     }
 }

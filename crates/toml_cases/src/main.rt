@@ -15,7 +15,6 @@ mod random;
 mod report;
 mod sections_shown;
 mod sentences;
-mod tagged;
 mod targets;
 mod tokens_shown;
 

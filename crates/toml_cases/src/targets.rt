@@ -1,11 +1,11 @@
 //! What each type of `basic_toml` reads from a text, at its root or at the key `v`.
 use crate::escapes::push_escaped;
-use crate::tagged::{json_of, json_of_value};
 use basic_toml::{Deserialize, Error, Float, Table, Value, from_str};
 use std::alloc::{AllocError, Global};
 use std::borrow::CowStr;
 use std::collections::BTreeMap;
 use std::fmt;
+use toml_json_text::{Form, json_of, json_of_value};
 
 type Answer<T> = Result<Option<T>, Error>;
 
@@ -60,7 +60,7 @@ fn of_cow(alloc: Global, answer: Answer<CowStr<'_>>) -> Result<String, AllocErro
 
 fn of_value(alloc: Global, answer: Answer<Value>) -> Result<String, AllocError> {
     match answer {
-        Ok(Some(value)) => json_of_value(alloc, &value),
+        Ok(Some(value)) => json_of_value(alloc, Form::Tagged, &value),
         Ok(None) => String::from_str(alloc, "nothing"),
         Err(error) => format!(in alloc; "{error}"),
     }
@@ -68,7 +68,7 @@ fn of_value(alloc: Global, answer: Answer<Value>) -> Result<String, AllocError> 
 
 fn of_table(alloc: Global, answer: Answer<Table>) -> Result<String, AllocError> {
     match answer {
-        Ok(Some(table)) => json_of(alloc, &table),
+        Ok(Some(table)) => json_of(alloc, Form::Tagged, &table),
         Ok(None) => String::from_str(alloc, "nothing"),
         Err(error) => format!(in alloc; "{error}"),
     }

@@ -10,7 +10,7 @@ use basic_toml::{
 use std::alloc::Global;
 use std::collections::BTreeMap;
 use std::io;
-use toml_typed_vectors::types::{Color, Lower, NonEmpty, Parent, Strict, Title};
+use toml_callers::types::{Color, Lower, NonEmpty, Parent, Strict, Title};
 
 /// A record of a text, a number, a list, a map and what may be absent.
 #[derive(Debug, Drop)]

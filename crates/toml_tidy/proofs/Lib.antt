@@ -1,2 +1,1 @@
-pub mod FrontIsAppended
 pub mod RunEnds

@@ -3,7 +3,8 @@ use Rattle.std.proofs.Common.{◌≡◌, ◌≢◌, ℕ, zero, suc, List, ◌++�
 use Rattle.std.specs.Io.KnownBytes.{Appends}
 use Rattle.std.proofs.KnownBytes.{Keeps-refl}
 use Rattle.toml_answer.specs.Due as answer
-use Rattle.toml_tidy.specs.Run.{IsDue, tidied, error, AppendsFront, Ends, done, not_answered, not_written_all}
+use Rattle.toml_streams.specs.Streams.{AppendsFront}
+use Rattle.toml_tidy.specs.Run.{IsDue, tidied, error, Ends, done, not_answered, not_written_all}
 
 pub tidied_text : (input text : List ℕ) (place : Option (ℕ × ℕ)) (status : ℕ) → answer.IsDue input status text place
     → status ≡ 0 → IsDue input status text

@@ -1,17 +1,14 @@
 -- What the program writes for the bytes that it reads, and how a run ends. (own)
-use Rattle.std.specs.Prelude.{ℕ, suc, List, ◌++◌, take, codes, Option}
+use Rattle.std.specs.Prelude.{ℕ, suc, List, ◌++◌, codes, Option}
 use Rattle.std.specs.Io.KnownBytes.{Appends, Keeps}
 use Rattle.toml_answer.specs.Due as answer
+use Rattle.toml_streams.specs.Streams.{AppendsFront}
 
 -- The status, and the text to write: the text that is due, with a line feed behind an error.
 pub data IsDue (input : List ℕ) : ℕ → List ℕ → Type 0 where
   tidied : {text : List ℕ} {place : Option (ℕ × ℕ)} → answer.IsDue input 0 text place → IsDue input 0 text
   error : {status : ℕ} {text : List ℕ} {place : Option (ℕ × ℕ)} → answer.IsDue input (suc status) text place
       → IsDue input (suc status) (text ++ codes "\n")
-
--- a front of the text was written
-abbrev pub AppendsFront : Option (List ℕ) → Option (List ℕ) → List ℕ → Type 0
-AppendsFront old new text = (n : ℕ) × Appends old new (take n text)
 
 -- how a run ends that reads these bytes, with its status
 pub data Ends (input : List ℕ) (old new : Option (List ℕ)) : ℕ → Type 0 where

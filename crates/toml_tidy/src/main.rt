@@ -2,11 +2,11 @@
 //!
 //! It ends with status 0 where the text was read and written; with 1 where the text was refused, and 2 where its table
 //! cannot be written, and then what it writes is the error and a line feed; and with 3 where reading, writing or memory
-//! failed. Where reading or memory failed, it writes nothing.
+//! failed. Where reading or memory failed, it writes nothing. `--help` and `--version` print what they say; any other
+//! argument is refused with status 3, on standard error, and nothing is read.
 #![tactic(auto)]
 
 mod answer;
-mod bytes;
 #[cfg(test)]
 mod tests;
 
@@ -14,12 +14,26 @@ ghost use Rattle.std.specs.Prelude.{IfSome};
 ghost use Rattle.toml_tidy.specs.Run.{Ends};
 
 use answer::answer;
-use bytes::{read_all, write_all};
 use std::alloc::Global;
+use std::env;
 use std::io::{self, Read, Write};
 use std::process::ExitCode;
+use toml_streams::{read_all, write_all};
 
 const FAILED: u8 = 3;
+
+const HELP: &str = "\
+toml_tidy < FILE
+
+Reads TOML (v0.5.0, without dates and times) and writes the same data anew: rows as key = value, sections with their
+headers, keys in their order. Comments and layout are not kept.
+
+  --help     print this
+  --version  print the version
+
+Status: 0; 1 where the text is refused and 2 where it cannot be written in its order, with what is wrong, in one line,
+in place of the text; 3 where reading, writing or memory failed.
+";
 
 /// Reads all bytes, writes what is due for them and nothing else, and answers the status.
 ///
@@ -40,8 +54,53 @@ pub fn run<R: Read, W: Write>(alloc: Global, reader: &mut R, writer: &mut W) -> 
     }
 }
 
+/// What the program is asked to do.
+enum Request {
+    Tidy,
+    Help,
+    Version,
+    Refused,
+}
+
+// What the words behind the program's name ask for: at most one is taken.
+fn request_of(words: &[String]) -> Request {
+    let mut words = words.iter();
+    let Some(word) = words.next() else {
+        return Request::Tidy;
+    };
+    match (word.as_str(), words.next()) {
+        ("--help", None) => Request::Help,
+        ("--version", None) => Request::Version,
+        _ => Request::Refused,
+    }
+}
+
+fn status_of(rt: &HostRuntime) -> io::Result<u8> {
+    let words: Vec<String> = env::args(rt)?.skip(1).collect(rt.alloc())?;
+    match request_of(words.as_slice()) {
+        Request::Tidy => {
+            let mut reader = rt.reader();
+            let mut writer = io::writer(rt);
+            Ok(run(rt.alloc(), &mut reader, &mut writer))
+        }
+        Request::Help => {
+            print!(rt; "{HELP}")?;
+            Ok(0)
+        }
+        Request::Version => {
+            println!(rt; "toml_tidy 0.1.0")?;
+            Ok(0)
+        }
+        Request::Refused => {
+            eprintln!(rt; "usage: toml_tidy < FILE; toml_tidy --help says more")?;
+            Ok(FAILED)
+        }
+    }
+}
+
 fn main(rt: HostRuntime) -> ExitCode {
-    let mut reader = rt.reader();
-    let mut writer = io::writer(&rt);
-    ExitCode::from(run(rt.alloc(), &mut reader, &mut writer))
+    match status_of(&rt) {
+        Ok(status) => ExitCode::from(status),
+        Err(_) => ExitCode::from(FAILED),
+    }
 }

@@ -1,10 +1,15 @@
-//! Callers of a tokenizer and a table that rest on contracts alone, and tests of calls that no text shows. What texts give
-//! stands in the data of `toml_cases`.
+//! Tests of what no text shows: calls of the library, what a caller's own types read and write or the errors that they
+//! answer, and the calls that the documentation shows. What texts give stands in the data of `toml_cases`.
 #![tactic(auto)]
 
-pub mod callers;
+#[cfg(test)]
+mod examples;
 #[cfg(test)]
 mod faults;
+#[cfg(test)]
+mod held;
+#[cfg(test)]
+mod kinds;
 #[cfg(test)]
 mod memory;
 #[cfg(test)]
@@ -12,6 +17,16 @@ mod messages;
 #[cfg(test)]
 mod nodes;
 #[cfg(test)]
+mod parts;
+#[cfg(test)]
+mod rows;
+#[cfg(test)]
 mod tables;
 #[cfg(test)]
 mod tokens;
+#[cfg(test)]
+mod worked;
+#[cfg(test)]
+mod writing;
+#[cfg(test)]
+mod written;

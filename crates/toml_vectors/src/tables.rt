@@ -1,5 +1,5 @@
 // Tables and their values, each call once: that it succeeds with ample memory.
-use basic_toml_value::{Float, Index, Pair, PushRefusal, Table, Value};
+use basic_toml_value::{Float, Index, Key, Pair, PushRefusal, Table, Value};
 use std::alloc::{AllocError, Global};
 use std::test::Fail;
 
@@ -96,9 +96,22 @@ fn tells_keys_of_one_ending_apart(rt: HostRuntime) -> Result<(), Fail> {
 }
 
 #[test]
+fn copies_short_and_long_keys(rt: HostRuntime) -> Result<(), Fail> {
+    let mut text = String::new(rt.alloc());
+    for _ in 0..30_u32 {
+        let key = Key::from_str(rt.alloc(), text.as_str())?;
+        let copy = key.clone()?;
+        assert_eq!(rt; key.as_str(), text.as_str());
+        assert_eq!(rt; copy.as_str(), text.as_str());
+        text.push('k')?;
+    }
+    Ok(())
+}
+
+#[test]
 fn makes_tables_of_parts(rt: HostRuntime) -> Result<(), Fail> {
     let mut entries = Vec::new(rt.alloc());
-    let key = String::from_str(rt.alloc(), "a")?;
+    let key = Key::from_str(rt.alloc(), "a")?;
     entries.push(Pair {
         key,
         value: Value::Integer(1),

@@ -1,8 +1,8 @@
 // Calls of a tokenizer.
-use crate::callers::rest;
 use basic_toml_tokens::{Error, Span, Token, Tokenizer};
 use std::borrow::CowStr;
 use std::test::Fail;
+use toml_callers::readers::rest;
 
 #[test]
 fn rest_of_a_text(rt: HostRuntime) {

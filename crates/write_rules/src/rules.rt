@@ -1,7 +1,6 @@
 //! Rules for a checker, as a caller's own types write them.
-ghost use Rattle.std.specs.Prelude.{◌∷◌, ◌++◌, [], codes, pos, string_bytes};
-ghost use Rattle.basic_toml.specs.Items.{a_scalar, open_table, field, close};
-ghost use Rattle.basic_toml.specs.Written as written;
+ghost use Rattle.std.specs.Prelude.{codes};
+ghost use Rattle.basic_toml.specs.Parts.{a_record, a_field, the_end};
 ghost use Rattle.basic_toml.specs.ReadBack.{RoundTrips};
 ghost use Rattle.basic_toml.specs.Ser.{Writes};
 
@@ -16,11 +15,9 @@ pub struct Rule {
 }
 
 impl Serialize for Rule {
-    ghost calls = { λ r.
-        open_table
-        ∷ field (codes "pattern") ∷ a_scalar (written.text (string_bytes r.pattern))
-        ∷ field (codes "limit") ∷ a_scalar (written.integer (pos r.limit))
-        ∷ close ∷ [] };
+    ghost calls = { λ r. a_record
+        (a_field (codes "pattern") (⟦<String as Serialize>⟧.calls r.pattern)
+        (a_field (codes "limit") (⟦<u32 as Serialize>⟧.calls r.limit) the_end)) };
 
     fn serialize(&self, _alloc: Global, ser: &mut Serializer) -> Result<(), WriteError> {
         ser.serialize_struct("Rule", 2)?;
@@ -38,11 +35,9 @@ pub struct RuleFile {
 }
 
 impl Serialize for RuleFile {
-    ghost calls = { λ f.
-        open_table
-        ∷ field (codes "title") ∷ a_scalar (written.text (string_bytes f.title))
-        ∷ field (codes "rule") ∷ ⟦<Vec<Rule> as Serialize>⟧.calls f.rules
-        ++ (close ∷ []) };
+    ghost calls = { λ f. a_record
+        (a_field (codes "title") (⟦<String as Serialize>⟧.calls f.title)
+        (a_field (codes "rule") (⟦<Vec<Rule> as Serialize>⟧.calls f.rules) the_end)) };
 
     fn serialize(&self, _alloc: Global, ser: &mut Serializer) -> Result<(), WriteError> {
         ser.serialize_struct("RuleFile", 2)?;

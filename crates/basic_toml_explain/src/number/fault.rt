@@ -1,5 +1,5 @@
 //! Where a number is at fault. The cursor stands after the number's first word.
-ghost use Rattle.std.specs.Prelude.{◌≡◌, ◌+◌, ◌-◌, ◌<◌, ◌^◌, None, length};
+ghost use Rattle.std.specs.Prelude.{◌≡◌, ◌+◌, ◌-◌, ◌<◌, ◌^◌, None, length, IfErr};
 ghost use Rattle.std.specs.Str.{IsCharBoundary};
 ghost use Rattle.std.specs.List.{list_any};
 ghost use Rattle.basic_toml_value.specs.Numbers as numbers;
@@ -9,7 +9,7 @@ ghost use Rattle.basic_toml_tokens.specs.Reading.{text_of};
 ghost use Rattle.basic_toml_grammar.specs.Reader.{char_at};
 ghost use Rattle.basic_toml_grammar.specs.NumberFaults as spec;
 ghost use Rattle.basic_toml_explain.specs.NumberFault.{plus_rest, mark_rest, word_rest, Finds};
-ghost use Rattle.basic_toml_explain.specs.Cursor.{Leads, EndsWithWord, IsAfterWord};
+ghost use Rattle.basic_toml_explain.specs.Cursor.{Leads, EndsWithWord, IsAfterWord, IsStopped};
 
 use super::part::{part_fault, signed_part_fault};
 use crate::ReadError;
@@ -171,6 +171,25 @@ pub(crate) fn word_fault(
         return fraction_fault(cursor, alloc, start, text);
     }
     Ok(whole_fault(start, word))
+}
+
+/// Looks at the tokens behind a word that no plus may stand before. One that is refused is the error: the token behind a
+/// word with a minus and without an exponent, and the one behind a period there.
+pub(crate) fn look_behind(
+    cursor: &mut Cursor<'_>,
+    alloc: Global,
+    word: &str,
+) -> Result<(), ReadError>
+    ensures { IfErr result (λ fault. IsStopped (text_of cursor.old) fault) }
+{
+    let text = word.as_bytes();
+    if is_prefixed(text) || has_mark(text) {
+        return Ok(());
+    }
+    if cursor.eat(alloc, Token::Period)? {
+        cursor.next(alloc)?;
+    }
+    Ok(())
 }
 
 // Where an exponent begins in the word.

@@ -1,7 +1,7 @@
 -- The grammar gives a text at most one section list.
 use Rattle.std.proofs.Common.{◌≡◌, ℕ, ◌==◌, Bool, true, false, cond, List, [], ◌∷◌, Some, refl, ap, sym, ◌∙◌, subst}
 use Rattle.std.proofs.Common.{inl, inr, arith, eqb-true}
-use Rattle.std.specs.Prelude.{◌||◌, ◌⊎◌, encode_utf8_all}
+use Rattle.std.specs.Prelude.{◌⊎◌, encode_utf8_all}
 use Rattle.std.proofs.lemmas.Bool.{false≢true, or_cases, or_left, or_right}
 use Rattle.basic_toml_tokens.specs.Text.{Text, StartsWith, run, after_run, is_keylike, after_blanks}
 use Rattle.basic_toml_tokens.specs.Strings.{IsString, Opens, one_line, multiline, is_quote}
@@ -14,6 +14,7 @@ use Rattle.basic_toml_grammar.specs.Grammar.{last_row, more_rows, IsRow, assigne
 use Rattle.basic_toml_grammar.specs.Grammar.{over, header_next, empty_line, row_line, IsHeader, table}
 use Rattle.basic_toml_grammar.specs.Grammar.{array_of_tables, IsSections, no_more, section, with_root}
 use Rattle.basic_toml_grammar.specs.Grammar.{IsSectionListBy}
+use Rattle.basic_toml_grammar.specs.Holes.{begins_key, begins_value}
 
 -- one sign stands at the front
 pub sign_same : {c d p q : ℕ} {text r r' : Text} → StartsWith c text p r → StartsWith d text q r' → (p ≡ q) × (c ≡ d)
@@ -82,16 +83,13 @@ string_offset s t = go s.opens t.opens
     go (multiline e q n) (one_line f r m) = (sign_same e f).0
     go (multiline e q n) (multiline f r m) = (sign_same e f).0
 
-abbrev pub begins_key : ℕ → Bool
-begins_key c = is_keylike c || is_quote c
-
 pub key_heads : {text rest : Text} {k : Key} → IsKey text k rest → Heads begins_key text
 key_heads (bare {p = p} {c = c} {next = next} e w) =
     record { offset = p; char = c; next = next; sign = e; kind = or_left _ _ w }
 key_heads (quoted s) = let h = string_heads s in
     record { offset = h.offset; char = h.char; next = h.next; sign = h.sign; kind = or_right _ _ h.kind }
 
-key_same : {text r r' : Text} {k k' : Key} → IsKey text k r → IsKey text k' r' → (k ≡ k') × (r ≡ r')
+pub key_same : {text r r' : Text} {k k' : Key} → IsKey text k r → IsKey text k' r' → (k ≡ k') × (r ≡ r')
 key_same {text = text} (bare e w) (bare f x) =
     (ap (λ p. record { offset = p; text = run is_keylike text }) (sign_same e f).0, refl)
 key_same (bare {p = p} {c = c} {next = next} e w) (quoted s) =
@@ -106,7 +104,7 @@ key_same (quoted {p = p} {value = v} s) (quoted {p = q} {value = w} t) =
     )
 
 -- keys up to a sign that is no period
-keys_same : {c d p q : ℕ} {text r r' n n' : Text} {ks ks' : List Key} → IsKeys text ks r → IsKeys text ks' r'
+pub keys_same : {c d p q : ℕ} {text r r' n n' : Text} {ks ks' : List Key} → IsKeys text ks r → IsKeys text ks' r'
     → StartsWith c (after_blanks r) p n → (c ≡ 46 → ⊥) → StartsWith d (after_blanks r') q n' → (d ≡ 46 → ⊥)
     → (ks ≡ ks') × (r ≡ r')
 keys_same (one k) (one l) s a t b = let h = key_same k l in (ap (λ k. k ∷ []) h.0, h.1)
@@ -123,10 +121,7 @@ pub keys_heads : {text rest : Text} {ks : List Key} → IsKeys text ks rest → 
 keys_heads (one k) = key_heads k
 keys_heads (more k e ks) = key_heads k
 
-abbrev pub begins_value : ℕ → Bool
-begins_value c = (is_wordlike c || is_quote c) || (c == 91 || c == 123)
-
-word_sign : (f : ℕ → Bool) {c d p q : ℕ} {text r r' : Text} → StartsWith c text p r → f c ≡ true
+pub word_sign : (f : ℕ → Bool) {c d p q : ℕ} {text r r' : Text} → StartsWith c text p r → f c ≡ true
     → StartsWith d text q r' → f d ≡ false → ⊥
 word_sign f {c = c} {p = p} {r = r} s w t e =
     heads_not {f = f} (record { offset = p; char = c; next = r; sign = s; kind = w }) t e
@@ -157,7 +152,7 @@ module _ (comment : ℕ → Bool) where
   fields_heads (more_rows r e rs) = row_heads r
 
   mutual
-    value_same : {text r r' : Text} {p p' : ℕ} {v v' : Raw} → IsValue comment text p v r
+    pub value_same : {text r r' : Text} {p p' : ℕ} {v v' : Raw} → IsValue comment text p v r
         → IsValue comment text p' v' r' → (p ≡ p') × (v ≡ v') × (r ≡ r')
     value_same {text = text} (word {p = p} {v = v} e w x) (word {p = q} {v = u} f y z) =
         let h : Some v ≡ Some u = sym x ∙ z in
@@ -240,7 +235,7 @@ module _ (comment : ℕ → Bool) where
           k.1,
         )
 
-    row_same : {text r r' : Text} {ks ks' : List Key} {p p' : ℕ} {v v' : Raw} → IsRow comment text ks p v r
+    pub row_same : {text r r' : Text} {ks ks' : List Key} {p p' : ℕ} {v v' : Raw} → IsRow comment text ks p v r
         → IsRow comment text ks' p' v' r'
         → (ks ≡ ks') × (p ≡ p') × (v ≡ v') × (r ≡ r')
     row_same (assigned {p = p} {v = v} {rest = r₁} ks e x) (assigned ls f y) =
@@ -270,7 +265,7 @@ module _ (comment : ℕ → Bool) where
       go h (at_feed s) = false≢true (sym (plain h.char 10 h.kind refl) ∙ ap (λ c. c == 10) (sign_same (as_it_is h) s).1)
       go h (at_end s) = no_sign s (as_it_is h)
 
-  ends_same : {text r r' : Text} → EndsLine comment text r → EndsLine comment text r' → r ≡ r'
+  pub ends_same : {text r r' : Text} → EndsLine comment text r → EndsLine comment text r' → r ≡ r'
   ends_same (at_feed e) (at_feed f) = (sign_same e f).2
   ends_same (at_feed e) (at_end f) = absurd (no_sign f e)
   ends_same (at_end e) (at_feed f) = absurd (no_sign e f)
@@ -285,7 +280,7 @@ module _ (comment : ℕ → Bool) where
   pub no_row : {rest : Text} {ks : List Key} {p : ℕ} {v : Raw} → IsRow comment [] ks p v rest → ⊥
   no_row r = let h = row_heads r in no_sign refl h.sign
 
-  rows_same : {text r r' : Text} {rs rs' : Rows} → IsRows comment text rs r → IsRows comment text rs' r' → (rs ≡ rs')
+  pub rows_same : {text r r' : Text} {rs rs' : Rows} → IsRows comment text rs r → IsRows comment text rs' r' → (rs ≡ rs')
       × (r ≡ r')
   rows_same over over = (refl, refl)
   rows_same over (header_next e) = absurd (no_sign refl e)
@@ -315,7 +310,7 @@ pub no_header : {rest : Text} {ks : List Key} {p : ℕ} {a : Bool} → IsHeader 
 no_header (table e ks f) = no_sign refl e
 no_header (array_of_tables e f ks g h) = no_sign refl e
 
-header_same : {text r r' : Text} {ks ks' : List Key} {p p' : ℕ} {a a' : Bool} → IsHeader text p ks a r
+pub header_same : {text r r' : Text} {ks ks' : List Key} {p p' : ℕ} {a a' : Bool} → IsHeader text p ks a r
     → IsHeader text p' ks' a' r'
     → (p ≡ p') × (ks ≡ ks') × (a ≡ a') × (r ≡ r')
 header_same (table {keys = ks} {mid = m} e xs f) (table g ys h) =
@@ -335,7 +330,7 @@ header_same (array_of_tables {keys = ks} {mid = m} e b xs f c) (array_of_tables 
     let l = sign_same (sym (ap after_blanks k.1) ∙ f) h in
     (s.0, k.0, refl, (sign_same (sym l.2 ∙ c) i).2)
 
-sections_same : {comment : ℕ → Bool} {text : Text} {ss ss' : List Section} → IsSections comment text ss
+pub sections_same : {comment : ℕ → Bool} {text : Text} {ss ss' : List Section} → IsSections comment text ss
     → IsSections comment text ss' → ss ≡ ss'
 sections_same no_more no_more = refl
 sections_same no_more (section h e rs ss) = absurd (no_header h)

@@ -15,13 +15,14 @@ use Rattle.basic_toml_grammar.specs.Grammar.{none, some, IsFieldsOn, last_row, m
 use Rattle.basic_toml_grammar.specs.Grammar.{at_feed, at_end, IsRows, over, header_next, empty_line, row_line}
 use Rattle.basic_toml_grammar.specs.Grammar.{IsHeader, table, array_of_tables, IsSections, no_more, section}
 use Rattle.basic_toml_grammar.specs.Grammar.{IsSectionList}
+use Rattle.basic_toml_grammar.specs.Holes.{begins_key, begins_value}
 use Rattle.basic_toml_grammar.specs.Reader.{char_at, string_at, bare_key_at, quoted_key, key_at, if_found, keys_at}
 use Rattle.basic_toml_grammar.specs.Reader.{word_at, string_value_at, value_at, elements_at, fields_at, fields_on_at}
 use Rattle.basic_toml_grammar.specs.Reader.{row_at, end_of, line_end_at, rows_at, header_at, sections_at}
 use Rattle.basic_toml_grammar.specs.Reader.{section_list_of}
 use Rattle.basic_toml_grammar.proofs.Grammar.StringsAreRead.{string_found, sign_length, length_run, string_shorter}
 use Rattle.basic_toml_grammar.proofs.Grammar.GrammarIsUnambiguous.{Heads, heads_not, string_heads, key_quote}
-use Rattle.basic_toml_grammar.proofs.Grammar.GrammarIsUnambiguous.{word_quote, begins_key, keys_heads, begins_value}
+use Rattle.basic_toml_grammar.proofs.Grammar.GrammarIsUnambiguous.{word_quote, keys_heads}
 use Rattle.basic_toml_grammar.proofs.Grammar.GrammarIsUnambiguous.{value_heads, row_heads, fields_heads, row_or_end}
 use Rattle.basic_toml_grammar.proofs.Grammar.GrammarIsUnambiguous.{bracket_or_end, no_row, no_sign, no_header}
 use Rattle.basic_toml_grammar.proofs.Grammar.ReaderIsSound.{sign_read, line_end_read, list_read}
@@ -269,7 +270,7 @@ bracket_missed text absent = go (char_at 91 text) refl
     go (Some s) e = absurd (absent s.0 s.1 (sign_read 91 text s e))
 
 -- after the end of a line
-ends_found : {text next : Text} → EndsLine is_comment text next → line_end_at text ≡ Some next
+pub ends_found : {text next : Text} → EndsLine is_comment text next → line_end_at text ≡ Some next
 ends_found (at_feed s) = ap end_of s
 ends_found (at_end s) = ap end_of s
 

@@ -41,12 +41,12 @@ pub run_ends : (f : ℕ → Bool) (text : Text) → IsEnd text (after_run f text
 run_ends f [] = all
 run_ends f (x ∷ text) = test_ends (f x.1) (run_ends f text)
 
-drop_ends : (n : ℕ) (text : Text) → IsEnd text (drop n text)
+pub drop_ends : (n : ℕ) (text : Text) → IsEnd text (drop n text)
 drop_ends zero text = all
 drop_ends (suc n) [] = all
 drop_ends (suc n) (x ∷ text) = further (drop_ends n text)
 
-feed_ends : (text : Text) → IsEnd text (after_feed text)
+pub feed_ends : (text : Text) → IsEnd text (after_feed text)
 feed_ends [] = all
 feed_ends (x ∷ text) = test_ends (x.1 == 10) all
 
@@ -70,11 +70,11 @@ piece_ends (unicode {n = n} {digits = digits} d s t e l v) =
 piece_ends (continuation {next = next} {after = after} d m s t) =
     ends_on (sign_ends s) (ends_on (run_ends is_blank next) (ends_on (sign_ends t) (run_ends is_space after)))
 
-pieces_end : {k : Quotes} {text rest : Text} {v : List ℕ} → Pieces k text v rest → IsEnd text rest
+pub pieces_end : {k : Quotes} {text rest : Text} {v : List ℕ} → Pieces k text v rest → IsEnd text rest
 pieces_end none = all
 pieces_end (piece p ps) = ends_on (piece_ends p) (pieces_end ps)
 
-closer_ends : {k : Quotes} {text rest : Text} {v : List ℕ} → Closes k text v rest → IsEnd text rest
+pub closer_ends : {k : Quotes} {text rest : Text} {v : List ℕ} → Closes k text v rest → IsEnd text rest
 closer_ends (one m s) = sign_ends s
 closer_ends (several {n = n} {text = text} m c l) = drop_ends (min n 5) text
 

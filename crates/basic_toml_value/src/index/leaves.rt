@@ -1,5 +1,5 @@
 //! Slots in leaves: the keys that they stand for rise from slot to slot and from leaf to leaf. No leaf is empty, and
-//! one that has outgrown `LEAF` slots is split in two; where memory is refused for that, it stays long.
+//! one that gets a slot more than fills it is split in two; where memory is refused for that, it stays long.
 ghost use Rattle.std.specs.Prelude.{◌≡◌, ◌≤◌, ◌<◌, ◌+◌, ◌-◌, ◌↔◌, [], ◌∷◌, ◌++◌, length, true, false};
 ghost use Rattle.std.specs.Prelude.{IsTrue, IfOk, OnOk, OnErr, slice_get, Some, insert as insert_at};
 ghost use Rattle.std.specs.List.{list_all};
@@ -13,7 +13,7 @@ use crate::index::ending::ending_of;
 use crate::index::{Found, Gap, Texts};
 use std::alloc::{AllocError, Global};
 
-// How many slots a leaf may hold.
+// How many slots any leaf has room for.
 const LEAF: usize = 128;
 
 // The position of a text, with the text's ending.
@@ -196,14 +196,23 @@ pub fn insert(leaves: &mut Vec<Leaf>, gap: Gap, position: usize) -> Result<(), A
         position,
     };
     let len = leaf(leaves.as_slice(), gap.leaf).len();
-    if len >= LEAF && gap.slot == len && gap.leaf + 1 == leaves.len() {
+    let is_full = is_full(len, leaves.len());
+    if is_full && gap.slot == len && gap.leaf + 1 == leaves.len() {
         return append(leaves, slot, LEAF);
     }
     place(leaves, gap.leaf, gap.slot, slot)?;
-    if len >= LEAF {
+    if is_full {
         split(leaves, gap.leaf);
     }
     Ok(())
+}
+
+// Whether so many slots fill a leaf, one of so many leaves: `LEAF` slots, and twice the square root of the leaves, about.
+// A split moves the list of leaves, so the more of them there are, the rarer it has to be.
+fn is_full(slots: usize, leaves: usize) -> bool
+    ensures { IsTrue result → 2 ≤ slots }
+{
+    slots >= LEAF && leaves / slots <= slots / 4
 }
 
 // Puts a slot into a leaf of its own after the others, with room for so many.

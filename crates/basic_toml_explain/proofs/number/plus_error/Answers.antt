@@ -3,7 +3,7 @@ use Rattle.basic_toml_tokens.specs.Text.{text_at, run, after_run, offset_in, is_
 use Rattle.basic_toml_tokens.specs.Reading.{Reading, text_of}
 use Rattle.basic_toml_grammar.specs.Grammar.{is_wordlike}
 use Rattle.basic_toml_grammar.specs.NumberFaults as faults
-use Rattle.basic_toml_explain.specs.Cursor.{IsStopped}
+use Rattle.basic_toml_explain.specs.Cursor.{Leads, IsStopped}
 use Rattle.basic_toml_explain.specs.Number.{invalid, stopped}
 use Rattle.basic_toml_explain.proofs.TakenTokenStands.{stopped_on, offset_here, after_same, front_is}
 use Rattle.basic_toml_explain.proofs.PlusWordIsNone.{plus_leads, plus_fault_is, plus_none, plus_stop}
@@ -30,8 +30,9 @@ returns-in-Err c =
     let taken = subst (λ (r : Reading). IsStopped (text_of r) fault) c.current-at.ensures.same c.in-Err.ensures in
     stopped (stopped_on (plus_leads c.args.start old c.requires.sign) taken)
 
-pub returns-then-takes_no_plus : goal.returns-then-takes_no_plus
-returns-then-takes_no_plus c =
+-- the word itself is at fault, where no token behind it is refused
+pub returns-in-Ok : goal.returns-in-Ok
+returns-in-Ok c =
     let old = c.args.cursor.now in
     let end = length old.text in
     let mid = c.keylike.new.self in
@@ -51,6 +52,16 @@ returns-then-takes_no_plus c =
     (faults.word_fault end (offset_in end (text_of old)) w (after_run is_keylike (text_of old)))) takes ∙
     ap (λ (n : ℕ). Some n) offset in
     rw c.at.ensures (invalid fault_is)
+
+pub returns-in-Err-look_behind : goal.returns-in-Err-look_behind
+returns-in-Err-look_behind c =
+    let old = c.args.cursor.now in
+    let mid = c.keylike.new.self in
+    let (b, same) = after_same c.current-at.new.self old mid c.in-Ok-Some.word.now c.current-at.ensures.same
+    (rw c.in-Ok-Some.field-0-is at c.in-Ok-Some.ensures) in
+    let word_leads = subst (λ (t : List ℕ). Leads (text_at t old.offset) (text_of mid)) same b.leads in
+    stopped (stopped_on (plus_leads c.args.start old c.requires.sign)
+    (stopped_on word_leads c.in-Err-look_behind.ensures))
 
 pub number_error-requires-clause-no_value : goal.number_error-requires-clause-no_value
 number_error-requires-clause-no_value c =

@@ -9,7 +9,7 @@ pub returns-in_err-serialize_seq : goal.returns-in_err-serialize_seq
 returns-in_err-serialize_seq g c =
     let p = err_from_is_err_and c.from_residual.result c.from_residual.ensures.1 in
     rw (p.1, p.2) (parts_unopened open_array (λ x. element_prefix) g.T.Serialize.calls g.T.Serialize.gives_up
-    c.args.elements.now c.args.ser.now c.serialize_seq.new.self _ c.in_err-serialize_seq.ensures)
+    c.args.elements.now c.args.ser.now c.serialize_seq.new.self _ c.in_err-serialize_seq.ensures.takes)
 
 pub returns-in_err-serialize_element : goal.returns-in_err-serialize_element
 returns-in_err-serialize_element g c =
@@ -20,7 +20,7 @@ returns-in_err-serialize_element g c =
     (drop (suc c.loop-element.element-index) c.args.elements.now)
     (take_split c.args.elements.now c.loop-element.element-index c.element-item.result c.loop-element-test.true
     c.element-item.is) c.args.ser.now c.loop-element.ser c.serialize_element.new.self _ c.loop-element.invariant
-    c.in_err-serialize_element.ensures)
+    c.in_err-serialize_element.ensures.passes)
 
 pub loop-element-preserved : goal.loop-element-preserved
 loop-element-preserved g c =
@@ -30,10 +30,10 @@ loop-element-preserved g c =
     c.element-item.is)
     (parts_next open_array (λ x. element_prefix) g.T.Serialize.calls g.T.Serialize.gives_up
     (take c.loop-element.element-index c.args.elements.now) c.element-item.result c.args.ser.now
-    c.loop-element.ser c.serialize_element.new.self c.loop-element.invariant c.in_ok-serialize_element.ensures)
+    c.loop-element.ser c.serialize_element.new.self c.loop-element.invariant c.in_ok-serialize_element.ensures.passes)
 
 pub returns : goal.returns
 returns g c = parts_closed open_array (λ x. element_prefix) g.T.Serialize.calls g.T.Serialize.gives_up
     c.args.elements.now (take c.loop-element.element-index c.args.elements.now)
     (take_all c.args.elements.now c.loop-element.element-index c.loop-element-test.false) c.args.ser.now
-    c.loop-element.ser c.end.new.self c.end.result c.loop-element.invariant c.end.ensures
+    c.loop-element.ser c.end.new.self c.end.result c.loop-element.invariant c.end.ensures.takes

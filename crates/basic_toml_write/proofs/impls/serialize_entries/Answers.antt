@@ -11,7 +11,7 @@ returns-in_err-serialize_map g c =
     let p = err_from_is_err_and c.from_residual.result c.from_residual.ensures.1 in
     rw (p.1, p.2) (parts_unopened open_table (λ p. field p.0)
     (λ p. g.V.Serialize.calls p.1) (λ p. g.V.Serialize.gives_up p.1) c.args.pairs.now c.args.ser.now
-    c.serialize_map.new.self _ c.in_err-serialize_map.ensures)
+    c.serialize_map.new.self _ c.in_err-serialize_map.ensures.takes)
 
 pub returns-in_err-serialize_field : goal.returns-in_err-serialize_field
 returns-in_err-serialize_field g c =
@@ -23,14 +23,14 @@ returns-in_err-serialize_field g c =
     (rest c.next.new.self) (yields_split pair_of c.args.pairs.now c.loop-key.yielded (rest c.loop-key.key-iterator)
     (rest c.next.new.self) c.next.result c.next.ensures.steps c.loop-key.invariant.left
     (c.in-Some.key, c.in-Some.value) c.in-Some.is) c.args.ser.now c.loop-key.ser c.serialize_field.new.self _
-    c.loop-key.invariant.sent c.in_err-serialize_field.ensures)
+    c.loop-key.invariant.sent c.in_err-serialize_field.ensures.passes)
 
 pub loop-key-preserved : goal.loop-key-preserved
 loop-key-preserved g c = record {
   sent = parts_yield open_table (λ p. field p.0)
       (λ p. g.V.Serialize.calls p.1) (λ p. g.V.Serialize.gives_up p.1) pair_of
       c.loop-key.yielded (c.in-Some.key, c.in-Some.value) c.args.ser.now c.loop-key.ser c.serialize_field.new.self
-      c.loop-key.invariant.sent c.in_ok-serialize_field.ensures;
+      c.loop-key.invariant.sent c.in_ok-serialize_field.ensures.passes;
   left = yields_next pair_of c.args.pairs.now c.loop-key.yielded (rest c.loop-key.key-iterator) (rest c.next.new.self)
       c.next.result c.next.ensures.steps c.loop-key.invariant.left (c.in-Some.key, c.in-Some.value) c.in-Some.is;
 }
@@ -41,4 +41,4 @@ returns g c = parts_closed open_table (λ p. field p.0)
     c.args.pairs.now (map pair_of c.loop-key.yielded)
     (yields_end pair_of c.args.pairs.now c.loop-key.yielded (rest c.loop-key.key-iterator) (rest c.next.new.self)
     c.next.result c.next.ensures.steps c.loop-key.invariant.left c.in-None.is) c.args.ser.now c.loop-key.ser
-    c.end.new.self c.end.result c.loop-key.invariant.sent c.end.ensures
+    c.end.new.self c.end.result c.loop-key.invariant.sent c.end.ensures.takes

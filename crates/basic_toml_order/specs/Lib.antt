@@ -1,0 +1,4 @@
+pub mod RowsFirst
+pub mod Sound
+pub mod Writable
+pub mod Statements

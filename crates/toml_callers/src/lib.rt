@@ -1,0 +1,8 @@
+//! Types as a caller writes them, and callers that rest on contracts alone: all proved, and tried by `toml_vectors`.
+#![tactic(auto)]
+
+pub mod forms;
+pub mod readers;
+pub mod records;
+pub mod types;
+pub mod writers;

@@ -1,0 +1,2 @@
+pub mod VerdictsAreSaid
+pub mod FilesInTurn

@@ -1,0 +1,2 @@
+pub mod FoundParts
+pub mod ReadingFinds

@@ -1,0 +1,191 @@
+//! What is wrong with bytes, and where.
+ghost use Rattle.std.specs.Prelude.{◌≡◌, Some, IfOk, string_bytes, true, false};
+ghost use Rattle.basic_toml.specs.Reading.{GivesTree};
+ghost use Rattle.toml_findings.specs.Findings as spec;
+ghost use Rattle.basic_toml_explain.specs.Error.{kind_of};
+
+use crate::dates::is_date_or_time;
+use crate::excerpt::{excerpt_of, line_of};
+use crate::front::valid_front;
+use basic_toml_error::line_col;
+use basic_toml_explain::{ReadError, ReadErrorKind};
+use basic_toml_read::sections;
+use basic_toml_tree::{Tree, resolve};
+use std::alloc::{AllocError, Global};
+use std::fmt;
+
+/// Why bytes are no TOML, and where.
+///
+/// It prints as `LINE:COLUMN: message`, the line of the text, and a line with a caret below the place; and where what is
+/// refused begins as a date or a time does, a line more that says that those are not read. Each ends with a line feed.
+#[derive(Debug, Drop)]
+pub struct Finding {
+    /// What is wrong, and the keys that lead there.
+    pub message: String,
+    /// The line where it stands, from 1.
+    pub line: usize,
+    /// The column where it stands, from 1, in bytes.
+    pub column: usize,
+    /// That line, cut around the place where it is long: up to 60 characters before the place, and 40 from it on. A
+    /// control character other than a tab stands as U+FFFD.
+    pub source: String,
+    /// What stands below that line: a space for each character, a tab for a tab, and a caret below the place.
+    pub caret: String,
+    /// Whether it begins as a date or a time does, which are not read.
+    pub is_date_or_time: bool,
+}
+
+impl fmt::Display for Finding {
+    ghost use Rattle.toml_findings.specs.Findings.{finding_of, finding_text};
+
+    ghost output = { λ f. Some (finding_text (finding_of f)) };
+
+    fn fmt<W: fmt::Write>(&self, f: &mut fmt::Formatter<W>) -> fmt::Result {
+        let line = self.line;
+        let column = self.column;
+        let message = self.message.as_str();
+        let source = self.source.as_str();
+        let caret = self.caret.as_str();
+        let note = note(self.is_date_or_time);
+        write!(f, "{line}:{column}: {message}\n{source}\n{caret}\n{note}")
+    }
+}
+
+fn note(is_date_or_time: bool) -> &'static str
+    ensures { result.now ≡ spec.note is_date_or_time }
+{
+    if is_date_or_time {
+        "note: dates and times are not read\n"
+    } else {
+        ""
+    }
+}
+
+/// Why there is no tree.
+#[derive(Debug, Drop)]
+pub enum Unread {
+    /// What is wrong with the bytes.
+    Refused(Finding),
+    /// Memory was refused.
+    OutOfMemory,
+}
+
+impl From<AllocError> for Unread {
+    ghost use Rattle.toml_findings.specs.declared.finding.Unread.TheVariants.{OutOfMemory};
+
+    ghost from_gives = { λ _ e. e ≡ OutOfMemory };
+
+    fn from(_error: AllocError) -> Unread {
+        Unread::OutOfMemory
+    }
+}
+
+/// The tree of the document of some bytes (TOML v0.5.0, without dates and times). `toml_json` calls it.
+///
+/// # Errors
+///
+/// What is wrong with them: an error of the grammar or of a clash, where it stands; bytes that are not UTF-8 are wrong
+/// at the first that is none, and of its line the part before it is shown. And want of memory.
+pub fn read<'de>(alloc: Global, input: &'de [u8]) -> Result<Tree<'de>, Unread>
+    ensures { spec.Reads input.now result }
+{
+    match simdutf8::compat::from_utf8(input) {
+        Ok(text) => read_text(alloc, text),
+        Err(_) => {
+            let finding = not_utf8(alloc, input)?;
+            Err(Unread::Refused(finding))
+        }
+    }
+}
+
+/// What is wrong with the bytes of a text; `None` where they are TOML. `toml_check` calls it.
+///
+/// # Errors
+///
+/// Want of memory alone.
+pub fn check(alloc: Global, input: &[u8]) -> Result<Option<Finding>, AllocError>
+    ensures { IfOk result (λ finding. spec.Finds input.now finding) }
+{
+    match read(alloc, input) {
+        Ok(_) => Ok(None),
+        Err(Unread::Refused(finding)) => Ok(Some(finding)),
+        Err(Unread::OutOfMemory) => Err(AllocError),
+    }
+}
+
+#[tactic(auto, using(crate::proofs::ReadingFinds::read_or_refused))]
+fn read_text<'de>(alloc: Global, text: &'de str) -> Result<Tree<'de>, Unread>
+    ensures { spec.Reads text.now result }
+{
+    match tree_in(alloc, text) {
+        Ok(tree) => Ok(tree),
+        Err(error) => {
+            let finding = refusal(alloc, text, &error)?;
+            Err(Unread::Refused(finding))
+        }
+    }
+}
+
+// The tree of a text's document, or why there is none.
+#[tactic(auto, using(basic_toml::proofs::ReadingEnds::tree_given))]
+fn tree_in<'de>(alloc: Global, text: &'de str) -> Result<Tree<'de>, ReadError>
+    ensures { GivesTree text.now result }
+{
+    let sections = sections(alloc, text)?;
+    resolve(alloc, sections)
+}
+
+// What is told of an error; want of memory alone has no place.
+fn refusal(alloc: Global, text: &str, error: &ReadError) -> Result<Finding, AllocError>
+    ensures { IfOk result (λ finding. spec.IsRefusal text.now error.now (spec.finding_of finding)) }
+{
+    let Some(offset) = error.place() else {
+        return Err(AllocError);
+    };
+    let message = format!(in alloc; "{error}")?;
+    let is_date_or_time = refuses_value(error.kind()) && is_date_or_time(text, offset);
+    found(alloc, text, offset, message, is_date_or_time)
+}
+
+// A number, or a colon where another thing is wanted: so a date or a time is refused.
+fn refuses_value(kind: &ReadErrorKind) -> bool
+    ensures { result ≡ spec.refuses_value (kind_of kind.now) }
+{
+    match kind {
+        ReadErrorKind::NumberInvalid => true,
+        ReadErrorKind::Wanted { found, .. } => *found == "a colon",
+        _ => false,
+    }
+}
+
+// What is told of bytes that are not UTF-8.
+fn not_utf8(alloc: Global, input: &[u8]) -> Result<Finding, AllocError>
+    ensures { IfOk result (λ finding. spec.finding_of finding ≡ spec.not_utf8 input.now) }
+{
+    let front = valid_front(input);
+    let message = String::from_str(alloc, "input is not valid UTF-8")?;
+    found(alloc, front, front.len(), message, false)
+}
+
+// A message at an offset of a text.
+fn found(
+    alloc: Global,
+    text: &str,
+    offset: usize,
+    message: String,
+    is_date_or_time: bool,
+) -> Result<Finding, AllocError>
+    ensures { IfOk result (λ finding. spec.finding_of finding
+        ≡ spec.found text.now offset (string_bytes message) is_date_or_time) }
+{
+    let (line, column) = line_col(text, offset);
+    let shown = excerpt_of(alloc, line_of(text, line), column)?;
+    Ok(Finding {
+        message,
+        line: line + 1,
+        column: column + 1,
+        source: shown.source,
+        caret: shown.caret,
+        is_date_or_time,
+    })
+}

@@ -1,0 +1,25 @@
+//! What is wrong with the bytes of a text, and where, as programs tell it to people and to their editors.
+//!
+//! `toml_check` prints it for each file, and `toml_json` for its standard input.
+//!
+//! ```text
+//! if let Some(finding) = check(alloc, b"port = 80a\n")? {
+//!     eprint!(rt; "settings.toml:{finding}")?;
+//! }
+//! ```
+//!
+//! prints
+//!
+//! ```text
+//! settings.toml:1:8: invalid number
+//! port = 80a
+//!        ^
+//! ```
+#![tactic(auto)]
+
+mod dates;
+mod excerpt;
+mod finding;
+mod front;
+
+pub use finding::{Finding, Unread, check, read};

@@ -1,0 +1,2 @@
+pub mod AnswersAreDue
+pub mod RunEnds

@@ -1,0 +1,72 @@
+// The calls that the documentation of `basic_toml` and of the crates below it shows.
+use basic_toml::tokens::{Span, Tokenizer};
+use basic_toml::{
+    Float, PushRefusal, Serializer, Table, Value, from_str, integer_of, into_rows_first, line_col,
+    rows_first, to_string,
+};
+use std::test::Fail;
+
+#[test]
+fn reads_and_writes_a_table(rt: HostRuntime) -> Result<(), Fail> {
+    let alloc = rt.alloc();
+    let settings: Table = from_str(alloc, "port = 80\n")?;
+    let port = settings.get("port");
+    assert!(rt; port.is_some_and(|value| *value == Value::Integer(80)));
+    let text = to_string(alloc, &settings)?;
+    assert_eq!(rt; text.as_str(), "port = 80\n");
+    Ok(())
+}
+
+#[test]
+fn fills_a_table(rt: HostRuntime) -> Result<(), Fail> {
+    let alloc = rt.alloc();
+    let mut table = Table::new(alloc);
+    let first = table.push(String::from_str(alloc, "port")?, Value::Integer(80));
+    assert!(rt; first.is_ok());
+    let second = table.push(String::from_str(alloc, "port")?, Value::Integer(81));
+    assert!(rt; matches!(&second, Err((PushRefusal::KeyPresent, _, _))));
+    let port = table.get("port");
+    assert!(rt; port.is_some_and(|value| *value == Value::Integer(80)));
+    assert_eq!(rt; integer_of("0x50"), Some(80));
+    let float = Float::parse(alloc, "+1.50e3")?;
+    assert!(rt; matches!(&float, Some(float) if float.as_str() == "1.50E3"));
+    Ok(())
+}
+
+#[test]
+fn takes_tokens(rt: HostRuntime) -> Result<(), Fail> {
+    let alloc = rt.alloc();
+    let mut tokens = Tokenizer::new("a = 'b'");
+    for (start, end) in [(0, 1), (1, 2), (2, 3), (3, 4), (4, 7)] {
+        let next = tokens.next(alloc)?;
+        assert!(rt; matches!(&next, Some((span, _)) if *span == Span { start, end }));
+    }
+    assert!(rt; tokens.next(alloc)?.is_none());
+    assert_eq!(rt; line_col("a\nbc", 3), (1, 1));
+    Ok(())
+}
+
+#[test]
+fn makes_calls(rt: HostRuntime) -> Result<(), Fail> {
+    let alloc = rt.alloc();
+    let mut ser = Serializer::new(alloc);
+    ser.serialize_map(None)?;
+    ser.serialize_field("answer", &42u8)?;
+    ser.end()?;
+    let text = ser.finish()?;
+    assert_eq!(rt; text.as_str(), "answer = 42\n");
+    Ok(())
+}
+
+#[test]
+fn puts_rows_first(rt: HostRuntime) -> Result<(), Fail> {
+    let alloc = rt.alloc();
+    let table: Table = from_str(alloc, "size = { width = 2 }\nname = \"box\"\n")?;
+    assert!(rt; to_string(alloc, &table).is_err());
+    let copy = rows_first(alloc, &table)?;
+    let moved = into_rows_first(alloc, table)?;
+    assert!(rt; copy == moved);
+    let text = to_string(alloc, &moved)?;
+    assert_eq!(rt; text.as_str(), "name = \"box\"\n\n[size]\nwidth = 2\n");
+    Ok(())
+}

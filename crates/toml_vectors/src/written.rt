@@ -1,0 +1,110 @@
+// What is written of records and of other forms.
+use basic_toml::{Float, to_string};
+use std::alloc::{AllocError, Global};
+use std::collections::BTreeMap;
+use std::test::Fail;
+use toml_callers::forms::{Entry, Point, Present, Wrapper};
+use toml_callers::records::{Choice, Job, Rule, Server};
+
+fn rule(alloc: Global, pattern: &str, limit: u32) -> Result<Rule, AllocError> {
+    let pattern = String::from_str(alloc, pattern)?;
+    Ok(Rule { pattern, limit })
+}
+
+fn rules(alloc: Global) -> Result<Vec<Rule>, AllocError> {
+    vec![in alloc; rule(alloc, "*.md", 80)?, rule(alloc, "*.rs", 120)?].map_err(AllocError::from)
+}
+
+fn server(alloc: Global) -> Result<Server, AllocError> {
+    Ok(Server {
+        verbose: true,
+        port: Some(80),
+        host_name: String::from_str(alloc, "localhost")?,
+        rules: rules(alloc)?,
+        backup: None,
+    })
+}
+
+fn job(alloc: Global, choice: Choice) -> Result<Job, AllocError> {
+    let mut limits = BTreeMap::new(alloc);
+    limits
+        .insert(String::from_str(alloc, "low")?, 1)
+        .map_err(AllocError::from)?;
+    let mut by_name = BTreeMap::new(alloc);
+    by_name
+        .insert(String::from_str(alloc, "all")?, rules(alloc)?)
+        .map_err(AllocError::from)?;
+    let row = vec![in alloc; 1, -2].map_err(AllocError::from)?;
+    Ok(Job {
+        name: String::from_str(alloc, "nightly")?,
+        priority: -7,
+        retries: 3,
+        seed: 9223372036854775807,
+        enabled: false,
+        mark: '\u{e9}',
+        owner: None,
+        timeout: Some(60),
+        ratio: Float::parse(alloc, "0.5")?,
+        tags: vec![in alloc; String::from_str(alloc, "a b")?].map_err(AllocError::from)?,
+        grid: vec![in alloc; row, Vec::new(alloc)].map_err(AllocError::from)?,
+        choice,
+        limits,
+        server: server(alloc)?,
+        fallback: Some(server(alloc)?),
+        rules: by_name,
+    })
+}
+
+#[test]
+fn writes_records(rt: HostRuntime) -> Result<(), Fail> {
+    let alloc = rt.alloc();
+    let rule = rule(alloc, "*.md", 80)?;
+    assert_eq!(rt;
+        to_string(alloc, &rule)?.as_str(),
+        "pattern = \"*.md\"\nlimit = 80\n"
+    );
+    let server = server(alloc)?;
+    assert_eq!(rt;
+        to_string(alloc, &server)?.as_str(),
+        "verbose = true\nport = 80\nhost_name = \"localhost\"\n\n[[rules]]\npattern = \"*.md\"\nlimit = 80\n\n[[rules]]\npattern = \"*.rs\"\nlimit = 120\n"
+    );
+    Ok(())
+}
+
+#[test]
+fn writes_a_record_of_many_fields(rt: HostRuntime) -> Result<(), Fail> {
+    let alloc = rt.alloc();
+    let start =
+        "name = \"nightly\"\npriority = -7\nretries = 3\nseed = 9223372036854775807\nenabled = false\nmark = \"\u{e9}\"\ntimeout = 60\nratio = 0.5\ntags = [\"a b\"]\ngrid = [[1, -2], []]\n";
+    let rest =
+        "\n[limits]\nlow = 1\n\n[server]\nverbose = true\nport = 80\nhost_name = \"localhost\"\n\n[[server.rules]]\npattern = \"*.md\"\nlimit = 80\n\n[[server.rules]]\npattern = \"*.rs\"\nlimit = 120\n\n[fallback]\nverbose = true\nport = 80\nhost_name = \"localhost\"\n\n[[fallback.rules]]\npattern = \"*.md\"\nlimit = 80\n\n[[fallback.rules]]\npattern = \"*.rs\"\nlimit = 120\n[[rules.all]]\npattern = \"*.md\"\nlimit = 80\n\n[[rules.all]]\npattern = \"*.rs\"\nlimit = 120\n";
+    let named = job(alloc, Choice::Named(String::from_str(alloc, "short")?))?;
+    assert_eq!(rt;
+        to_string(alloc, &named)?.as_str(),
+        format!(in alloc; "{start}choice = \"short\"\n{rest}")?.as_str()
+    );
+    let whole = job(alloc, Choice::Whole(rule(alloc, "*.c", 72)?))?;
+    assert_eq!(rt;
+        to_string(alloc, &whole)?.as_str(),
+        format!(in alloc; "{start}\n[choice]\npattern = \"*.c\"\nlimit = 72\n{rest}")?.as_str()
+    );
+    Ok(())
+}
+
+#[test]
+fn writes_other_forms(rt: HostRuntime) -> Result<(), Fail> {
+    let alloc = rt.alloc();
+    let point = Point {
+        x: 1,
+        name: Some(String::from_str(alloc, "one")?),
+    };
+    let entry = Entry {
+        key: String::from_str(alloc, "a b")?,
+        value: vec![in alloc; point].map_err(AllocError::from)?,
+    };
+    assert_eq!(rt;
+        to_string(alloc, &Present(Wrapper(entry)))?.as_str(),
+        "\"a b\" = [[1, \"one\"]]\n"
+    );
+    Ok(())
+}
