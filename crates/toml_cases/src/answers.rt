@@ -91,8 +91,8 @@ fn of_joined_line(alloc: Global, text: &str, rest: &str) -> Result<Pair, AllocEr
 
 fn of_type(alloc: Global, text: &str, is_root: bool, rest: &str) -> Result<Pair, AllocError> {
     let (kind, wanted) = rest.split_once(' ').unwrap_or((rest, ""));
-    match told(alloc, kind, is_root, text)? {
-        Some(got) => plain(alloc, wanted, got),
+    match told(alloc, kind, is_root, text) {
+        Some(got) => plain(alloc, wanted, got?),
         None => plain(alloc, wanted, String::from_str(alloc, "no such type")?),
     }
 }
