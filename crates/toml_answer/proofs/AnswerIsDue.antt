@@ -35,18 +35,18 @@ pairs_calls view [] = refl
 pairs_calls view (p ∷ pairs) =
     ap (λ (is : List Item). field p.0 ∷ (data_calls (view p.1) ++ is)) (pairs_calls view pairs)
 
--- an error that was told is due where it is no want of memory
-pub told_due : (Due : ℕ → List ℕ → Option (ℕ × ℕ) → Type 0) {E : Type 0} (status : ℕ) (fault : Fault)
+-- an error's answer is due where it is no want of memory
+pub error_due : (Due : ℕ → List ℕ → Option (ℕ × ℕ) → Type 0) {E : Type 0} (status : ℕ) (fault : Fault)
     (result : Result Answer E) → IfOk result (λ a. a.status ≡ status)
     → IfOk result (λ a. string_bytes a.text ≡ fault_text fault) → IfOk result (λ a. a.line_col ≡ fault.line_column)
     → IfOk result (λ a. fault.kind ≢ out_of_memory)
     → (fault.kind ≢ out_of_memory → Due status (fault_text fault) fault.line_column)
     → IfOk result (λ a. Due a.status (string_bytes a.text) a.line_col)
-told_due Due status fault (Ok a) is says stands kind due =
+error_due Due status fault (Ok a) is says stands kind due =
     subst (λ (n : ℕ). Due n (string_bytes a.text) a.line_col) (sym is)
     (subst (λ (t : List ℕ). Due status t a.line_col) (sym says)
     (subst (Due status (fault_text fault)) (sym stands) (due kind)))
-told_due Due status fault (Err e) is says stands kind due = tt
+error_due Due status fault (Err e) is says stands kind due = tt
 
 -- a text that is that of the data is due
 pub text_due : (d : Data) (text : List ℕ) → IsDataText d text → IsWriting d 0 text None

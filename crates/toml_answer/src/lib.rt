@@ -54,9 +54,9 @@ pub fn answer_to(alloc: Global, order: Order, input: &[u8]) -> Result<Answer, Al
     match from_slice::<Table>(alloc, input) {
         Ok(table) => {
             let table = in_order(alloc, order, table)?;
-            written(alloc, &table)
+            text_answer(alloc, &table)
         }
-        Err(fault) => told(alloc, REFUSED, fault),
+        Err(fault) => error_answer(alloc, REFUSED, fault),
     }
 }
 
@@ -70,7 +70,7 @@ fn in_order(alloc: Global, order: Order, table: Table) -> Result<Table, AllocErr
 }
 
 // The text of a table, or the error that its calls meet.
-fn written(alloc: Global, table: &Table) -> Result<Answer, AllocError>
+fn text_answer(alloc: Global, table: &Table) -> Result<Answer, AllocError>
     ensures { IfOk result
         (λ a. spec.IsWriting (d.table (entries table.now)) a.status (string_bytes a.text) a.line_col) }
 {
@@ -80,12 +80,12 @@ fn written(alloc: Global, table: &Table) -> Result<Answer, AllocError>
             text,
             line_col: None,
         }),
-        Err(fault) => told(alloc, NOT_WRITTEN, fault),
+        Err(fault) => error_answer(alloc, NOT_WRITTEN, fault),
     }
 }
 
 // An error's text and place under a status; none is due for want of memory.
-fn told(alloc: Global, status: u8, fault: Error) -> Result<Answer, AllocError>
+fn error_answer(alloc: Global, status: u8, fault: Error) -> Result<Answer, AllocError>
     ensures status { IfOk result (λ a. a.status ≡ status) }
     ensures text { IfOk result (λ a. string_bytes a.text ≡ fault_text fault) }
     ensures place { IfOk result (λ a. a.line_col ≡ fault.line_column) }

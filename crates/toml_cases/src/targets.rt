@@ -180,7 +180,7 @@ fn of_integer(
 }
 
 /// What the type of this name reads, or its error; none where no type has the name.
-pub(crate) fn told(
+pub(crate) fn read_as(
     alloc: Global,
     kind: &str,
     is_root: bool,
