@@ -97,12 +97,11 @@ impl Error {
         Message(&self.kind)
     }
 
-    /// The keys that lead to the error, the outermost first.
+    /// The keys that lead to the error, the outermost first, and none where no key does.
     ///
-    /// Those of an error of a clash are the keys of its section, and the first key of its row where the row has several
-    /// or an inline table; those of a type's own error are the keys of the section and the first key of the row that
-    /// hold the node. Element numbers, and keys inside a row's value, are not among them. Errors of the grammar and of
-    /// the writer, want of memory and bytes that are not UTF-8 have no keys.
+    /// An error of a clash has those of the section or the header, and in some rows the first key of the row; a type's
+    /// own error has those of the section, and the first key of the row, that hold the node. Keys within a row's value
+    /// are not among them, nor are numbers of elements. Other errors have none, those of the writer too.
     pub fn key_path(&self) -> &[String]
         ensures { map string_bytes result.now ≡ self.now.key_path }
     {
@@ -112,7 +111,7 @@ impl Error {
         }
     }
 
-    /// How many bytes of the text stand before the place of the error; the end of the text is a place too.
+    /// The byte offset of the error in the text, from 0; at the end of the text it is the text's length.
     ///
     /// `None` for errors of the writer, for want of memory and for bytes that are not UTF-8, and for a type's own error
     /// at the table of a text without rows and headers, which has no place.
