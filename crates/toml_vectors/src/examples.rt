@@ -137,5 +137,9 @@ fn asks_errors(rt: HostRuntime) -> Result<(), Fail> {
         }
         assert_eq!(rt; error.offset(), offset);
     }
+    let deep = Error::from(WriteError::NestedTooDeeply);
+    assert!(rt; matches!(deep.kind(), ErrorKind::Writing(WriteError::NestedTooDeeply)));
+    let refused = Error::from(AllocError);
+    assert!(rt; matches!(refused.kind(), ErrorKind::Reading(ReadErrorKind::OutOfMemory)));
     Ok(())
 }
