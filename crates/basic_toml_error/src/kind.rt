@@ -93,6 +93,8 @@ pub struct Message<'a>(pub(crate) &'a ErrorKind);
 
 impl<'a> Model for Message<'a> {
     ghost use Rattle.std.specs.Prelude.{ℕ, List};
+    ghost use Rattle.basic_toml_error.specs.FaultText.{message};
+    ghost use Rattle.basic_toml_error.specs.KindView.{kind_of};
 
     ghost Value = { List ℕ };
 
