@@ -140,6 +140,11 @@ fn asks_errors(rt: HostRuntime) -> Result<(), Fail> {
     let deep = Error::from(WriteError::NestedTooDeeply);
     assert!(rt; matches!(deep.kind(), ErrorKind::Writing(WriteError::NestedTooDeeply)));
     let refused = Error::from(AllocError);
-    assert!(rt; matches!(refused.kind(), ErrorKind::Reading(ReadErrorKind::OutOfMemory)));
+    assert!(rt;
+        matches!(
+            refused.kind(),
+            ErrorKind::Reading(ReadErrorKind::OutOfMemory)
+        )
+    );
     Ok(())
 }
