@@ -88,8 +88,8 @@ impl Error {
         &self.kind
     }
 
-    /// What is wrong, without the keys and the place, to be printed. The error prints as its message, then its keys, then
-    /// its line and its column.
+    /// What is wrong, without the keys and the place, to be printed. The error prints as its message, then its keys,
+    /// then its line and its column.
     ///
     /// Of the text `"[a.b]\nc.d = 1\nc.d = 2\n"` it is ``duplicate key: `d` ``, as `toml_vectors` has it.
     pub fn message(&self) -> Message<'_>
