@@ -81,16 +81,17 @@ impl Error {
     ghost use Rattle.basic_toml_error.specs.NodeFaults.{type_message, value_message, length_message, missing_message};
     ghost use Rattle.basic_toml_error.specs.NodeFaults.{unknown_field_message, unknown_variant_message};
 
-    /// What is wrong, for a caller to match on.
+    /// What is wrong, for a caller to match on; [`ErrorKind`] has an example.
     pub fn kind(&self) -> &ErrorKind
         ensures { kind_of result.now ≡ self.now.kind }
     {
         &self.kind
     }
 
-    /// What is wrong, as a text without the keys and the place: ``duplicate key: `b` ``.
+    /// What is wrong, without the keys and the place, to be printed. The error prints as its message, then its keys,
+    /// then its line and its column.
     ///
-    /// The error prints as its message, then its keys, then its line and its column.
+    /// Of the text `"[a.b]\nc.d = 1\nc.d = 2\n"` it is ``duplicate key: `d` ``, as `toml_vectors` has it.
     pub fn message(&self) -> Message<'_>
         ensures { result ≡ text.message self.now.kind }
     {
@@ -102,6 +103,8 @@ impl Error {
     /// An error of a clash has those of the section or the header, and in some rows the first key of the row; a type's
     /// own error has those of the section, and the first key of the row, that hold the node. Keys within a row's value
     /// are not among them, nor are numbers of elements. Other errors have none, those of the writer too.
+    ///
+    /// Of the text `"[a.b]\nc.d = 1\nc.d = 2\n"` they are `a`, `b` and `c`, as `toml_vectors` has it.
     pub fn key_path(&self) -> &[String]
         ensures { map string_bytes result.now ≡ self.now.key_path }
     {
@@ -115,13 +118,21 @@ impl Error {
     ///
     /// `None` for errors of the writer, for want of memory and for bytes that are not UTF-8, and for a type's own error
     /// at the table of a text without rows and headers, which has no place.
+    ///
+    /// Of the text `"[a.b]\nc.d = 1\nc.d = 2\n"` it is 16, where the second `d` stands, as `toml_vectors` has it.
     pub fn offset(&self) -> Option<usize>
         ensures { result ≡ self.now.offset }
     {
         self.offset
     }
 
-    /// The line and the column of the error's offset, both from 0: the text of the error counts both from 1.
+    /// The line and the column of the error's offset, both counted from 0: the text of the error counts them from 1. A
+    /// column counts bytes.
+    ///
+    /// `None` where the error has no offset, and of an error that a type makes at a node, until `from_str` answers it.
+    ///
+    /// Of the text `"[a.b]\nc.d = 1\nc.d = 2\n"` they are `(2, 2)`, and it prints ` at line 3 column 3`, as
+    /// `toml_vectors` has it.
     pub fn line_col(&self) -> Option<(usize, usize)>
         ensures { result ≡ self.now.line_column }
     {

@@ -1,4 +1,5 @@
-//! What can go wrong: the error of reading and writing, its text, and the line and the column where it stands.
+//! What can go wrong: the error of reading and writing, its kind, its text, the keys that lead there, and the offset,
+//! the line and the column where it stands.
 //! `basic_toml` passes on its names.
 //!
 //! ```text

@@ -89,13 +89,14 @@ fn asks_errors(rt: HostRuntime) -> Result<(), Fail> {
     let alloc = rt.alloc();
     let table: Table = from_str(alloc, "size = { width = 2 }\nname = \"box\"\n")?;
     let no_keys: &[&str] = &[];
-    for (error, words, message, keys, offset) in [
+    for (error, words, message, keys, offset, place) in [
         (
             from_str::<Table>(alloc, "a = 1\nb = 01\n").err(),
             "invalid number",
             "invalid number",
             no_keys,
             Some(11),
+            Some((1, 5)),
         ),
         (
             from_str::<Table>(alloc, "[a.b]\nc.d = 1\nc.d = 2\n").err(),
@@ -103,6 +104,7 @@ fn asks_errors(rt: HostRuntime) -> Result<(), Fail> {
             "duplicate key: `d`",
             &["a", "b", "c"],
             Some(16),
+            Some((2, 2)),
         ),
         (
             from_str::<Parent<Child>>(alloc, "p_a = 'a'\np_b = 1\n").err(),
@@ -110,6 +112,7 @@ fn asks_errors(rt: HostRuntime) -> Result<(), Fail> {
             "invalid type: integer `1`, expected a sequence",
             &["p_b"],
             Some(16),
+            Some((1, 6)),
         ),
         (
             to_string(alloc, &table).err(),
@@ -117,12 +120,14 @@ fn asks_errors(rt: HostRuntime) -> Result<(), Fail> {
             "values must be emitted before tables",
             no_keys,
             None,
+            None,
         ),
         (
             from_slice::<Table>(alloc, b"a\xff").err(),
             "input is not valid UTF-8",
             "input is not valid UTF-8",
             no_keys,
+            None,
             None,
         ),
     ] {
@@ -136,6 +141,7 @@ fn asks_errors(rt: HostRuntime) -> Result<(), Fail> {
             assert_eq!(rt; key.as_str(), *name);
         }
         assert_eq!(rt; error.offset(), offset);
+        assert_eq!(rt; error.line_col(), place);
     }
     let deep = Error::from(WriteError::NestedTooDeeply);
     assert!(rt; matches!(deep.kind(), ErrorKind::Writing(WriteError::NestedTooDeeply)));
