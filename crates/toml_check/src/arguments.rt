@@ -15,10 +15,7 @@ pub enum Request {
 
 /// What the words behind the program's name ask for: the first word that is no option of a check decides; without a
 /// file, standard input is checked.
-pub fn request_of(
-    alloc: Global,
-    words: impl Iterator<Item = String> + Drop,
-) -> Result<Request, AllocError> {
+pub fn request_of(alloc: Global, words: Vec<String>) -> Result<Request, AllocError> {
     let mut names = Vec::new(alloc);
     let mut is_quiet = false;
     let mut are_names = false;

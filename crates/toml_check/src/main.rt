@@ -62,7 +62,8 @@ fn main(rt: HostRuntime) -> ExitCode {
 
 fn status_of(rt: &HostRuntime) -> io::Result<u8> {
     let alloc = rt.alloc();
-    match request_of(alloc, env::args(rt)?.skip(1))? {
+    let words: Vec<String> = env::args(rt)?.skip(1).collect(alloc)?;
+    match request_of(alloc, words)? {
         Request::Help => {
             print!(rt; "{HELP}")?;
             Ok(0)
