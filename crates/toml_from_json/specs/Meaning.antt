@@ -49,12 +49,13 @@ abbrev pub found : {A : Type 0} → (A → Data) → Fault → Option A → Mean
 found make f (Some x) = Ok (make x)
 found make f None = no f
 
+abbrev pub or_else : {A B : Type 0} → (A → B) → Option A → B → B
+or_else make (Some x) other = make x
+or_else make None other = other
+
 abbrev pub number_data : List ℕ → Meaning Data
-number_data text = or_float (integer_of text)
-  where
-    abbrev or_float : Option ℤ → Meaning Data
-    or_float (Some z) = Ok (integer z)
-    or_float None = found float fault.IntegerOutOfRange (float_of text)
+number_data text =
+    or_else (λ z. Ok (integer z)) (integer_of text) (found float fault.IntegerOutOfRange (float_of text))
 
 -- a scalar that stands without its type
 abbrev pub untyped : Form → Meaning Data → Meaning Data
@@ -77,11 +78,7 @@ tag_of (json.member k i (json.member l j (json.member m h ms))) = None
 
 -- a whole number is a float with `.0` behind it
 abbrev pub float_or_whole : List ℕ → Option (List ℕ)
-float_or_whole text = or_whole (float_of text)
-  where
-    abbrev or_whole : Option (List ℕ) → Option (List ℕ)
-    or_whole (Some t) = Some t
-    or_whole None = float_of (text ++ codes ".0")
+float_or_whole text = or_else Some (float_of text) (float_of (text ++ codes ".0"))
 
 abbrev pub truth_of : List ℕ → Option Bool
 truth_of text =
@@ -127,6 +124,10 @@ abbrev mutual
       and_then (at_key k (data_of form j)) (λ d. if is_among keys k then Err (fault.RepeatedKey, k)
       else mapped (member k d) (members_of form (keys ++ (k ∷ [])) ms))
 
+-- an object that is a value
+abbrev pub object_value : Form → json.Members → Meaning Data
+object_value form ms = object_data form ms (mapped table (members_of form [] ms))
+
 -- the top level
 abbrev pub members_in : Form → Json → Meaning Members
 members_in form (json.object ms) = members_of form [] ms
@@ -151,3 +152,8 @@ IsUnder key (Refused r) (Refused s) = (s.fault ≡ r.fault) × (string_bytes s.p
 IsUnder key (Refused r) OutOfMemory = ⊤
 IsUnder key OutOfMemory (Refused s) = ⊥
 IsUnder key OutOfMemory OutOfMemory = ⊤
+
+-- the key is there already
+abbrev pub IsRepeated : List ℕ → Bool → NoTable → Type 0
+IsRepeated key present (Refused r) = (present ≡ true) × (r.fault ≡ fault.RepeatedKey) × (string_bytes r.path ≡ key)
+IsRepeated key present OutOfMemory = ⊤

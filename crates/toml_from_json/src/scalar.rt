@@ -1,4 +1,10 @@
 //! Scalars, plain and with their types.
+ghost use Rattle.std.specs.Prelude.{◌≡◌, Ok, IfOk, IfErr, option_map};
+ghost use Rattle.basic_toml_value.specs.View.{view};
+ghost use Rattle.json.specs.Value.{members_view};
+ghost use Rattle.toml_from_json.specs.Meaning as spec;
+ghost use Rattle.toml_from_json.specs.Meaning.{IsRefused, number_data, tagged_data};
+
 use crate::refusal::{Fault, NoTable, refused};
 use basic_toml_value::{Float, Value, integer_of};
 use json::Value as Json;
@@ -6,6 +12,8 @@ use std::alloc::{AllocError, Global};
 
 /// A number of JSON: an integer where it is whole, else a float by its text.
 pub fn number_of(alloc: Global, text: &str) -> Result<Value, NoTable>
+    ensures ok { IfOk result (λ value. number_data text.now ≡ Ok (view value)) }
+    ensures err { IfErr result (IsRefused (number_data text.now)) }
 {
     if let Some(number) = integer_of(text) {
         return Ok(Value::Integer(number));
@@ -17,29 +25,39 @@ pub fn number_of(alloc: Global, text: &str) -> Result<Value, NoTable>
 }
 
 /// The type and the text of a scalar with its type: an object of these two keys alone, both of them strings.
-pub fn tag_of<'t>(members: &'t [(&str, Json<'_>)]) -> Option<(&'t str, &'t str)>
+#[tactic(auto, using(crate::proofs::PartsInTurn::no_tag))]
+pub fn tag_of<'t>(members: &[(&'t str, Json<'t>)]) -> Option<(&'t str, &'t str)>
+    ensures { option_map (λ t. (t.0.now, t.1.now)) result ≡ spec.tag_of (members_view members.now) }
 {
-    if members.len() != 2 {
-        return None;
+    match members {
+        [first, second] => tag(first.0, first.1.as_str(), second.0, second.1.as_str()),
+        _ => None,
     }
-    let (first, one) = &members[0];
-    let (second, other) = &members[1];
-    match (one, other) {
-        (Json::String(one), Json::String(other)) => {
-            if *first == "type" && *second == "value" {
-                Some((*one, *other))
-            } else if *first == "value" && *second == "type" {
-                Some((*other, *one))
-            } else {
-                None
-            }
-        }
+}
+
+fn tag<'t>(
+    first: &str,
+    one: Option<&'t str>,
+    second: &str,
+    other: Option<&'t str>,
+) -> Option<(&'t str, &'t str)>
+    ensures { option_map (λ t. (t.0.now, t.1.now)) result
+        ≡ spec.tag first.now (option_map (λ t. t.now) one.entry) second.now (option_map (λ t. t.now) other.entry) }
+{
+    let (Some(one), Some(other)) = (one, other) else {
+        return None;
+    };
+    match (first, second) {
+        ("type", "value") => Some((one, other)),
+        ("value", "type") => Some((other, one)),
         _ => None,
     }
 }
 
 /// A scalar, by its type and its text.
 pub fn tagged_of(alloc: Global, kind: &str, text: &str) -> Result<Value, NoTable>
+    ensures ok { IfOk result (λ value. tagged_data kind.now text.now ≡ Ok (view value)) }
+    ensures err { IfErr result (IsRefused (tagged_data kind.now text.now)) }
 {
     match kind {
         "integer" => match integer_of(text) {
@@ -66,6 +84,7 @@ pub fn tagged_of(alloc: Global, kind: &str, text: &str) -> Result<Value, NoTable
 
 // A float; a whole number is one with `.0` behind it.
 fn float_or_whole(alloc: Global, text: &str) -> Result<Option<Float>, AllocError>
+    ensures { IfOk result (λ found. found ≡ spec.float_or_whole text.now) }
 {
     match Float::parse(alloc, text)? {
         Some(float) => Ok(Some(float)),
