@@ -1,6 +1,6 @@
 -- What an array and an object mean, by their parts in turn.
-use Rattle.std.proofs.Common.{◌≡◌, ℕ, zero, suc, ◌+◌, ◌<◌, ◌≤◌, false, List, [], ◌∷◌, ◌++◌, map, length, drop}
-use Rattle.std.proofs.Common.{get_or, refl, sym, ap, if◌then◌else◌, None, ◌∙◌, subst, arith, Ok, Err, Vec}
+use Rattle.std.proofs.Common.{◌≡◌, ℕ, zero, suc, ◌+◌, ◌<◌, ◌≤◌, false, List, [], ◌∷◌, ◌++◌, length, drop}
+use Rattle.std.proofs.Common.{get_or, refl, sym, ap, if◌then◌else◌, None, ◌∙◌, arith, Ok, Err, Vec}
 use Rattle.std.proofs.lemmas.List.{drop_more}
 use Rattle.std.specs.Borrow.{Bor}
 use Rattle.std.specs.declared.alloc.Global.{Global}

@@ -4,7 +4,7 @@
 -- In the plain form a number is an integer where TOML reads it as one, and else a float by its text. In the tagged form
 -- scalars stand with their types, as the toml-test suite has them: an object of the keys `type` and `value` alone, both
 -- strings.
-use Rattle.std.specs.Prelude.{◌≡◌, ℕ, ℤ, Bool, true, false, if◌then◌else◌, ◌&&◌, List, [], ◌∷◌, ◌++◌, codes, Option, Some}
+use Rattle.std.specs.Prelude.{◌≡◌, ℕ, Bool, true, false, if◌then◌else◌, ◌&&◌, List, [], ◌∷◌, ◌++◌, codes, Option, Some}
 use Rattle.std.specs.Prelude.{None, Result, Ok, Err, ⊤, string_bytes}
 use Rattle.std.specs.Str.{bytes_eq}
 use Rattle.json.specs.Json as json

@@ -50,9 +50,7 @@ fn value_of<'t>(alloc: Global, form: Form, json: &Json<'t>) -> Result<Value, NoT
             Form::Plain => Ok(Value::String(String::from_str(alloc, *text)?)),
             Form::Tagged => Err(refused(alloc, Fault::NoType)),
         },
-        Json::Array(values) => Ok(Value::Array(
-            elements_of(alloc, form, values.as_slice())?,
-        )),
+        Json::Array(values) => Ok(Value::Array(elements_of(alloc, form, values.as_slice())?)),
         Json::Object(members) => object_of(alloc, form, members.as_slice()),
     }
 }

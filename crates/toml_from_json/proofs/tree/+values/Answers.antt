@@ -1,8 +1,8 @@
-use Rattle.std.proofs.Common.{◌≡◌, rules, arith, ◌+◌, ◌*◌, ◌<◌, length, ap, sym, subst, IfErr}
+use Rattle.std.proofs.Common.{◌≡◌, rules, arith, ◌*◌, length, ap, sym, subst, IfErr}
 use Rattle.json.specs.Json as json
 use Rattle.json.specs.Json.{Json}
 use Rattle.toml_from_json.specs.Meaning.{IsRefused, data_of}
-use Rattle.json.specs.Tree.{json_tokens, items_tokens, members_tokens}
+use Rattle.json.specs.Tree.{json_tokens}
 use Rattle.json.specs.Value as j
 use Rattle.json.specs.Value.{value_view}
 use Rattle.json.proofs.Trees.{item_smaller, member_smaller}
@@ -42,7 +42,7 @@ members_of-returns-clause-ok t c =
 pub value_of-object_of-requires : goal.value_of-object_of-requires
 value_of-object_of-requires t c =
     let seen : value_view c.args.json.now ≡ json.object (j.members_view c.as_slice-in-Object.result.now) =
-        search (rules, object_seen)
+    search (rules, object_seen)
     in
     let longer = ap (λ (x : Json). 2 * length (json_tokens x)) seen in
     (rw (sym c.decreases) (omega arith), tt)
@@ -53,6 +53,6 @@ value_of-returns-in-Object-clause-ok t c = search (rules, object_seen)
 pub value_of-returns-in-Object-clause-err : goal.value_of-returns-in-Object-clause-err
 value_of-returns-in-Object-clause-err t c =
     let seen : value_view c.args.json.now ≡ json.object (j.members_view c.as_slice-in-Object.result.now) =
-        search (rules, object_seen)
+    search (rules, object_seen)
     in
     subst (λ (x : Json). IfErr c.object_of.result (IsRefused (data_of c.args.form x))) (sym seen) c.object_of.ensures.err
