@@ -6,6 +6,7 @@
 //! of its own. What is wrong goes to standard error, and then nothing to standard output.
 #![tactic(auto)]
 
+mod answer;
 mod run;
 
 use run::{FAILED, run};

@@ -8,7 +8,7 @@ use Rattle.toml_from_json.specs.declared.refusal.Fault.TheVariants.{LocalDateTim
 abbrev pub fault_text : Fault → List ℕ
 fault_text Null = codes "null"
 fault_text IntegerOutOfRange = codes "integer outside i64"
-fault_text RepeatedKey = codes "repeated key"
+fault_text RepeatedKey = codes "second value"
 fault_text NoObject = codes "the top level is no object"
 fault_text NoType = codes "value without a type"
 fault_text UnknownType = codes "unknown type"

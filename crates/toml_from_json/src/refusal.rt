@@ -42,7 +42,7 @@ impl fmt::Display for Fault {
         match self {
             Fault::Null => f.write_str("null"),
             Fault::IntegerOutOfRange => f.write_str("integer outside i64"),
-            Fault::RepeatedKey => f.write_str("repeated key"),
+            Fault::RepeatedKey => f.write_str("second value"),
             Fault::NoObject => f.write_str("the top level is no object"),
             Fault::NoType => f.write_str("value without a type"),
             Fault::UnknownType => f.write_str("unknown type"),
