@@ -1,6 +1,7 @@
 -- What a call gives to its caller: an answer, and text in memory of the caller's. (own)
 use Rattle.std.specs.Prelude.{◌≡◌, ℕ, true, false, List, ◌++◌, take, drop, length, Option, Some, None}
 use Rattle.toml_answer.specs.Due.{IsDue}
+use Rattle.toml_answer.specs.declared.Order.TheVariants.{AsRead}
 use Rattle.toml_c.specs.declared.TomlAnswer.{TomlAnswer}
 
 -- memory with as much of a text at its front as it has room for, and behind it what was there
@@ -15,6 +16,6 @@ answered status n (Some p) = record { status = status; has_place = true; line = 
 -- What is due for the bytes, and as much of its text as there is room for; or, where memory was refused, the memory as
 -- it was.
 pub data Tidies (input old new : List ℕ) : TomlAnswer → Type 0 where
-  due : {status : ℕ} {text : List ℕ} {place : Option (ℕ × ℕ)} → IsDue input status text place
+  due : {status : ℕ} {text : List ℕ} {place : Option (ℕ × ℕ)} → IsDue AsRead input status text place
       → new ≡ with_front old text → Tidies input old new (answered status (length text) place)
   no_memory : new ≡ old → Tidies input old new (answered 3 0 None)

@@ -8,7 +8,7 @@ ghost use Rattle.std.specs.Prelude.{◌≡◌};
 ghost use Rattle.toml_c.specs.Answers.{with_front, answered, Tidies};
 
 use std::alloc::Global;
-use toml_answer::answer_to;
+use toml_answer::{Order, answer_to};
 
 const OUT_OF_MEMORY: u32 = 3;
 
@@ -38,7 +38,7 @@ pub struct TomlAnswer {
 pub extern "C" fn toml_c_tidy(alloc: Global, input: &[u8], output: &mut [u8]) -> TomlAnswer
     ensures { Tidies input.now output.old output.new result }
 {
-    match answer_to(alloc, input) {
+    match answer_to(alloc, Order::AsRead, input) {
         Ok(answer) => {
             let text = answer.text.as_bytes();
             put(output, text);
