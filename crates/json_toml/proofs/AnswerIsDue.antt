@@ -7,6 +7,7 @@ use Rattle.basic_toml.specs.Nesting.{nesting_limit}
 use Rattle.basic_toml.specs.Fault.{Fault, out_of_memory, want_of_memory}
 use Rattle.basic_toml.specs.Items.{Item, field}
 use Rattle.basic_toml.specs.Impls.{data_calls, members_calls}
+use Rattle.basic_toml.specs.LineColumn.{line_at, column_at}
 use Rattle.basic_toml.specs.Layout.{layout}
 use Rattle.basic_toml.specs.RowsFirst.{rows_first}
 use Rattle.basic_toml.specs.Ser.{IsDataText}
@@ -21,7 +22,7 @@ use Rattle.toml_from_json.specs.Meaning.{members_in}
 use Rattle.toml_from_json.specs.declared.refusal.Fault as code
 use Rattle.toml_from_json.specs.RefusalText.{refusal_text}
 use Rattle.json_toml.specs.declared.answer.Answer.{Answer}
-use Rattle.json_toml.specs.Run.{told, not_written_text, IsTableDue, written, unwritable, IsJsonDue, meant, refused, IsDue, json}
+use Rattle.json_toml.specs.Run.{told, not_written_text, IsTableDue, written, unwritable, IsJsonDue, meant, refused, IsDue, json, no_json, no_json_text}
 
 -- the calls of pairs are those of their data
 pub pairs_calls : {V : Type 0} (view : V → Data) (pairs : List (List ℕ × V))
@@ -37,7 +38,11 @@ pub json_due : {E : Type 0} (form : Form) (input : List ℕ) (j : Json) (result 
 json_due form input j (Ok a) utf8 is due = json utf8 is due
 json_due form input j (Err e) utf8 is due = tt
 
-pub ruleset due_text = (json_due)
+pub no_json_due : (form : Form) (input : List ℕ) (offset : ℕ) (text : List ℕ) → IsUtf8 input → document input ≡ None
+    → text ≡ no_json_text (line_at input offset) (column_at input offset) → IsDue form input 1 text
+no_json_due form input offset text utf8 none says = no_json offset utf8 none says
+
+pub ruleset due_text = (json_due, no_json_due)
 
 pub table_due : {E : Type 0} (form : Form) (j : Json) (members : Members) (result : Result Answer E)
     → members_in form j ≡ Ok members → IfOk result (λ a. IsTableDue (table members) a.status (string_bytes a.text))

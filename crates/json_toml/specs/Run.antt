@@ -49,7 +49,7 @@ pub data IsJsonDue (form : Form) (j : Json) : ℕ → List ℕ → Type 0 where
 pub data IsDue (form : Form) (input : List ℕ) : ℕ → List ℕ → Type 0 where
   json : {j : Json} {status : ℕ} {text : List ℕ} → IsUtf8 input → document input ≡ Some j
       → IsJsonDue form j status text → IsDue form input status text
-  no_json : {offset : ℕ} {text : List ℕ} → IsUtf8 input → document input ≡ None
+  no_json : (offset : ℕ) {text : List ℕ} → IsUtf8 input → document input ≡ None
       → text ≡ no_json_text (line_at input offset) (column_at input offset) → IsDue form input 1 text
   not_utf8 : {text : List ℕ} → (IsUtf8 input → ⊥) → text ≡ told (codes "input is not valid UTF-8")
       → IsDue form input 1 text
