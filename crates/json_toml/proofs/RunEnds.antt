@@ -24,16 +24,18 @@ module _ (form : Form) (remaining output output' errors errors' : Option (List �
         go None all = tt
         go (Some input) all = subst P (same ∙ all) holds
 
+    due_written : status ≡ 0 → IsDue form bytes 0 text
+    due_written none = subst (λ (n : ℕ). IsDue form bytes n text) none due
+
     pub written : status ≡ 0 → Appends output output' piece
-        → IfSome remaining (λ input. Ends form input output output' errors errors status)
-    written none put = known (λ input. Ends form input output output' errors errors status)
-        (done due (rw none (subst (Appends output output') whole put)) (rw none (Appends-nil errors)))
+        → IfSome remaining (λ input. Ends form input output output' errors errors 0)
+    written none put = known (λ input. Ends form input output output' errors errors 0)
+        (done (due_written none) (subst (Appends output output') whole put) (Appends-nil errors))
 
     pub written_front : status ≡ 0 → AppendsFront output output' piece
         → IfSome remaining (λ input. Ends form input output output' errors errors 3)
     written_front none front = known (λ input. Ends form input output output' errors errors 3)
-        (not_written_all due (rw none (subst (AppendsFront output output') whole front))
-        (rw none (0, Appends-nil errors)))
+        (not_written_all (due_written none) (subst (AppendsFront output output') whole front) (0, Appends-nil errors))
 
     not_zero : (n : ℕ) → n ≢ 0 → to_errors n text ≡ text
     not_zero zero never = absurd (never refl)

@@ -32,12 +32,13 @@ pub fn run<R: Read, W: Write, E: Write>(
     let Ok(answer) = answer_to(alloc, form, input.as_slice()) else {
         return FAILED;
     };
-    let put = if answer.status == WRITTEN {
-        write_all(output, answer.text.as_bytes())
-    } else {
-        write_all(errors, answer.text.as_bytes())
-    };
-    match put {
+    if answer.status == WRITTEN {
+        return match write_all(output, answer.text.as_bytes()) {
+            Ok(()) => WRITTEN,
+            Err(_) => FAILED,
+        };
+    }
+    match write_all(errors, answer.text.as_bytes()) {
         Ok(()) => answer.status,
         Err(_) => FAILED,
     }
