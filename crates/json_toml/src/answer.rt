@@ -86,11 +86,7 @@ impl From<AllocError> for NoJson {
 }
 
 // The JSON that a text is.
-fn json_in<'t>(
-    alloc: Global,
-    text: &'t str,
-    scratch: &'t mut Scratch,
-) -> Result<Json<'t>, NoJson>
+fn json_in<'t>(alloc: Global, text: &'t str, scratch: &'t mut Scratch) -> Result<Json<'t>, NoJson>
     ensures ok { IfOk result (λ json. document text.now ≡ Some (value_view json)) }
     ensures none { IfErr result (IsNone (document text.now)) }
 {
