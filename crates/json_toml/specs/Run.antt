@@ -1,5 +1,5 @@
 -- What the program writes for the bytes that it reads, and how a run ends. (own)
-use Rattle.std.specs.Prelude.{◌≡◌, ℕ, zero, suc, ◌+◌, IsUtf8, true, false, List, [], ◌++◌, codes, decimal, Option, Some, None}
+use Rattle.std.specs.Prelude.{◌≡◌, ◌⊎◌, ℕ, zero, suc, ◌+◌, IsUtf8, true, false, List, [], ◌++◌, codes, decimal, Option, Some, None}
 use Rattle.std.specs.Prelude.{Ok, Err}
 use Rattle.std.specs.Io.KnownBytes.{Appends, Keeps}
 use Rattle.json.specs.Json.{Json, document}
@@ -53,6 +53,11 @@ pub data IsDue (form : Form) (input : List ℕ) : ℕ → List ℕ → Type 0 wh
       → text ≡ no_json_text (line_at input offset) (column_at input offset) → IsDue form input 1 text
   not_utf8 : {text : List ℕ} → (IsUtf8 input → ⊥) → text ≡ told (codes "input is not valid UTF-8")
       → IsDue form input 1 text
+
+-- the text was written, or writing failed and a front of it was
+abbrev pub Puts : Option (List ℕ) → Option (List ℕ) → ℕ → List ℕ → ℕ → Type 0
+Puts old new status text result =
+    ((result ≡ status) × Appends old new text) ⊎ ((result ≡ 3) × AppendsFront old new text)
 
 -- TOML goes to standard output, and all else to standard error
 abbrev pub to_output : ℕ → List ℕ → List ℕ

@@ -2,7 +2,7 @@
 ghost use Rattle.std.specs.Prelude.{◌≡◌, IfSome, string_bytes};
 ghost use Rattle.json_toml.specs.Run as spec;
 
-use crate::answer::{WRITTEN, answer_to};
+use crate::answer::{Answer, WRITTEN, answer_to};
 use std::alloc::Global;
 use std::io::{Read, Write};
 use toml_json_text::Form;
@@ -33,12 +33,17 @@ pub fn run<R: Read, W: Write, E: Write>(
         return FAILED;
     };
     if answer.status == WRITTEN {
-        return match write_all(output, answer.text.as_bytes()) {
-            Ok(()) => WRITTEN,
-            Err(_) => FAILED,
-        };
+        return put(output, &answer);
     }
-    match write_all(errors, answer.text.as_bytes()) {
+    put(errors, &answer)
+}
+
+// Writes the text of an answer; answers its status, or that writing failed.
+fn put<W: Write>(writer: &mut W, answer: &Answer) -> u8
+    ensures { spec.Puts (W.contents writer.old) (W.contents writer.new) answer.now.status
+        (string_bytes answer.now.text) result }
+{
+    match write_all(writer, answer.text.as_bytes()) {
         Ok(()) => answer.status,
         Err(_) => FAILED,
     }
