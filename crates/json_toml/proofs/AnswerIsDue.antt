@@ -1,6 +1,6 @@
 -- What is due, from what reading and writing answered.
 use Rattle.std.proofs.Common.{◌≡◌, ◌≢◌, ◌⊎◌, inl, inr, ℕ, Bool, true, false, List, [], ◌∷◌, ◌++◌, map, flat_map}
-use Rattle.std.proofs.Common.{IsUtf8, refl, ap, sym, ◌∙◌, subst, Result, Ok, Err, Some, None, IfOk, MatchResult, string_bytes}
+use Rattle.std.proofs.Common.{IsUtf8, refl, ap, sym, ◌∙◌, subst, Result, Ok, Err, Some, None, IfOk, string_bytes}
 use Rattle.json.specs.Json.{Json, document}
 use Rattle.basic_toml.specs.Data.{Data, Members, members_of, table}
 use Rattle.basic_toml.specs.Nesting.{nesting_limit}

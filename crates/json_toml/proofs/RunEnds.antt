@@ -1,8 +1,6 @@
 -- How a run ends, from what each step of it answered.
 use Rattle.std.proofs.Common.{◌≡◌, ◌≢◌, inl, inr, ℕ, zero, suc, List, [], sym, ◌∙◌, subst, refl, Option, Some, None, IfSome}
-use Rattle.std.specs.Io.KnownBytes.{Appends}
 use Rattle.std.proofs.KnownBytes.{Keeps-refl, Appends-nil}
-use Rattle.toml_streams.specs.Streams.{AppendsFront}
 use Rattle.toml_json_text.specs.declared.form.Form.{Form}
 use Rattle.json_toml.specs.Run.{IsDue, Puts, Ends, done, not_answered, not_written_all, to_output, to_errors}
 
