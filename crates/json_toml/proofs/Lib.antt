@@ -1,0 +1,2 @@
+pub mod AnswerIsDue
+pub mod RunEnds
