@@ -22,7 +22,10 @@ drop_at : (names : List (String Global)) (i : ℕ) (name : String Global) → i 
     ≡ string_bytes name ∷ map string_bytes (drop (i + 1) names)
 drop_at [] i name lt read = absurd (omega arith)
 drop_at (x ∷ xs) zero name lt read = ap (λ (n : String Global). string_bytes n ∷ map string_bytes xs) (sym read)
-drop_at (x ∷ xs) (suc i) name lt read = drop_at xs i name (omega arith) read
+drop_at (x ∷ xs) (suc i) name lt read =
+    let same : suc (i + 1) ≡ suc i + 1 = omega arith in
+    drop_at xs i name (omega arith) read
+    ∙ ap (λ (n : ℕ). string_bytes name ∷ map string_bytes (drop n (x ∷ xs))) same
 
 module _ (quiet : Bool) (bytes : List ℕ → Option (List ℕ)) (names : List (String Global)) where
   -- what a run over the files from one on ends as, the whole run ends as, with the highest status so far
@@ -74,7 +77,9 @@ module _ (quiet : Bool) (bytes : List ℕ → Option (List ℕ)) (names : List (
   max-zero n = omega arith
 
   pub begins : (old : Option (List ℕ)) → IsPartOf 0 old old 0
-  begins old new others run = run
+  begins old new others run =
+      let same : others ≡ max 0 others = omega arith in
+      subst (λ (n : ℕ). ChecksAll quiet bytes (map string_bytes names) old new n) same run
 
   drop_all : (xs : List (String Global)) (i : ℕ) → length xs ≡ i → map string_bytes (drop i xs) ≡ []
   drop_all [] zero e = refl

@@ -12,18 +12,18 @@ use Rattle.toml_json.specs.declared.run.Answer.{Answer}
 use Rattle.toml_json.specs.declared.run.Answer.TheVariants.{Json, Refused}
 use Rattle.toml_json.specs.Run.{json_line, refusal_text, IsAnswer, IsJson, IsRefusal, written, refused}
 
-json_due : (form : Form) (input : List ℕ) (tree : Tree) (members : Members) (answer : Answer)
-    → Reads input (Ok tree) → table members ≡ table_data tree.root.value → IsJson (json_line form (table members)) answer
+json_due : (form : Form) (input : List ℕ) (tree : Tree) (ms : Members) (answer : Answer)
+    → Reads input (Ok tree) → table ms ≡ table_data tree.root.value → IsJson (json_line form (table ms)) answer
     → IsAnswer form input answer
-json_due form input tree members (Json text) (utf8, document) same says =
+json_due form input tree ms (Json text) (utf8, document) same says =
     written utf8 document (says ∙ ap (json_line form) same)
-json_due form input tree members (Refused text) is same says = absurd says
+json_due form input tree ms (Refused text) is same says = absurd says
 
-pub json_answered : {E : Type 0} (form : Form) (input : List ℕ) (tree : Tree) (members : Members)
-    (result : Result Answer E) → Reads input (Ok tree) → table members ≡ table_data tree.root.value
-    → IfOk result (IsJson (json_line form (table members))) → IfOk result (IsAnswer form input)
-json_answered form input tree members (Ok answer) is same says = json_due form input tree members answer is same says
-json_answered form input tree members (Err e) is same says = tt
+pub json_answered : {E : Type 0} (form : Form) (input : List ℕ) (tree : Tree) (ms : Members)
+    (result : Result Answer E) → Reads input (Ok tree) → table ms ≡ table_data tree.root.value
+    → IfOk result (IsJson (json_line form (table ms))) → IfOk result (IsAnswer form input)
+json_answered form input tree ms (Ok answer) is same says = json_due form input tree ms answer is same says
+json_answered form input tree ms (Err e) is same says = tt
 
 refusal_due : (form : Form) (input : List ℕ) (finding : code.Finding) (answer : Answer)
     → Reads input (Err (unread.Refused finding)) → IsRefusal (refusal_text (finding_of finding)) answer
@@ -36,5 +36,3 @@ pub refusal_answered : {E : Type 0} (form : Form) (input : List ℕ) (finding : 
     → IfOk result (IsAnswer form input)
 refusal_answered form input finding (Ok answer) wrong says = refusal_due form input finding answer wrong says
 refusal_answered form input finding (Err e) wrong says = tt
-
-pub ruleset due_answer = (json_answered, refusal_answered)

@@ -61,7 +61,6 @@ enum Answer {
     Refused(String),
 }
 
-#[tactic(auto, using(crate::proofs::AnswersAreDue::due_answer))]
 fn answer_to(alloc: Global, form: Form, input: &[u8]) -> Result<Answer, AllocError>
     ensures { IfOk result (λ answer. spec.IsAnswer form input.now answer) }
 {
@@ -70,7 +69,7 @@ fn answer_to(alloc: Global, form: Form, input: &[u8]) -> Result<Answer, AllocErr
             let table = tree.into_table(alloc)?;
             json_line(alloc, form, &table)
         }
-        Err(Unread::Refused(finding)) => refusal(alloc, &finding),
+        Err(Unread::Refused(finding)) => refusal(alloc, finding),
         Err(Unread::OutOfMemory) => Err(AllocError),
     }
 }
@@ -83,8 +82,8 @@ fn json_line(alloc: Global, form: Form, table: &Table) -> Result<Answer, AllocEr
     Ok(Answer::Json(text))
 }
 
-fn refusal(alloc: Global, finding: &Finding) -> Result<Answer, AllocError>
-    ensures { IfOk result (λ answer. spec.IsRefusal (spec.refusal_text (finding_of finding.now)) answer) }
+fn refusal(alloc: Global, finding: Finding) -> Result<Answer, AllocError>
+    ensures { IfOk result (λ answer. spec.IsRefusal (spec.refusal_text (finding_of finding)) answer) }
 {
     Ok(Answer::Refused(format!(in alloc; "stdin:{finding}")?))
 }
