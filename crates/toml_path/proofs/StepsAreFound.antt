@@ -10,7 +10,14 @@ use Rattle.toml_path.specs.declared.path.Sign.TheVariants.{Period, Open, Close}
 use Rattle.toml_path.specs.Path.{Step, key, element, IsAt, IsElementAt, IsStepAt, by_key, by_number, Answers, sign_of}
 use Rattle.toml_path.specs.Path.{number_of, AreSteps, over, more, IsPath, empty, begun}
 use Rattle.std.proofs.Common.{length, ◌<◌, ◌≤◌, arith}
-use Rattle.std.proofs.lemmas.List.{append_assoc, append-nil}
+use Rattle.std.proofs.lemmas.List.{append_assoc, append-nil, map-append}
+use Rattle.std.proofs.Common.{true, false, ◌==◌, map, Global}
+use Rattle.std.proofs.lemmas.Bool.{true≢false, eqb-true}
+use Rattle.std.specs.Cow.{cow_str_bytes}
+use Rattle.std.specs.declared.borrow.CowStr.{CowStr}
+use Rattle.toml_path.specs.Path.{step_of}
+use Rattle.toml_path.specs.declared.path.Step as code
+use Rattle.toml_path.specs.declared.path.Step.TheVariants.{Key}
 
 -- what is made of the only token
 pub made : {A : Type 0} (f : Lexeme → Option A) (text : List ℕ) (at : ℕ) (new : Reading) (l : Lexeme) (o : Option A)
@@ -301,3 +308,49 @@ empty_path text is = (empty is, λ others path. only path)
     only : {others : List Step} → IsPath text others → others ≡ []
     only (empty _) = refl
     only (begun {end = end} (l, token, _) steps) = absurd (not_empty text 0 end l token is)
+
+-- ---- of the calls of the loop
+
+pub nil_of : (xs : List ℕ) → (length xs == 0) ≡ true → xs ≡ []
+nil_of [] is = refl
+nil_of (x ∷ xs) is = absurd (let none = eqb-true (length (x ∷ xs)) 0 is in omega (arith, none))
+
+pub not_nil : (xs : List ℕ) → (length xs == 0) ≡ false → xs ≡ [] → ⊥
+not_nil [] filled is = true≢false filled
+not_nil (x ∷ xs) filled is = absurd (cc is)
+
+pub first_at : (text t : List ℕ) (at : ℕ) (new : Reading) (o o' : Option (CowStr Global)) → t ≡ text → at ≡ 0 → o ≡ o'
+    → Answers (IsAt key_of) t at new (option_map cow_str_bytes o)
+    → Answers (IsAt key_of) text 0 new (option_map cow_str_bytes o')
+first_at text t at new o o' text-is at-is o-is answers =
+    subst (λ (p : Option (CowStr Global)). Answers (IsAt key_of) text 0 new (option_map cow_str_bytes p)) o-is
+    (subst (λ (n : ℕ). Answers (IsAt key_of) text n new (option_map cow_str_bytes o)) at-is
+    (subst (λ (s : List ℕ). Answers (IsAt key_of) s at new (option_map cow_str_bytes o)) text-is answers))
+
+pub step_at : (text : List ℕ) (old mid new : Reading) (o o' : Option code.Step) → mid ≡ old → old.text ≡ text → o ≡ o'
+    → Answers IsStepAt mid.text mid.offset new (option_map step_of o)
+    → Answers IsStepAt text old.offset new (option_map step_of o')
+step_at text old mid new o o' mid-is text-is o-is answers =
+    subst (λ (p : Option code.Step). Answers IsStepAt text old.offset new (option_map step_of p)) o-is
+    (subst (λ (s : List ℕ). Answers IsStepAt s old.offset new (option_map step_of o)) text-is
+    (subst (λ (r : Reading). Answers IsStepAt r.text r.offset new (option_map step_of o)) mid-is answers))
+
+pub begun_with : (text : List ℕ) (new : Reading) (old all : List code.Step) (first : CowStr Global) → old ≡ []
+    → all ≡ old ++ Key first ∷ [] → Answers (IsAt key_of) text 0 new (Some (cow_str_bytes first))
+    → SoFar text (map step_of all) new.offset × (new.text ≡ text)
+begun_with text new old all first nil is answers = (
+  subst (λ (steps : List code.Step). SoFar text (map step_of steps) new.offset)
+      (sym (is ∙ ap (λ (s : List code.Step). s ++ Key first ∷ []) nil))
+      (begun_by text new (cow_str_bytes first) answers),
+  answers.0,
+)
+
+pub gone_with : (text : List ℕ) (at : ℕ) (new : Reading) (old all : List code.Step) (step : code.Step)
+    → SoFar text (map step_of old) at → all ≡ old ++ step ∷ [] → Answers IsStepAt text at new (Some (step_of step))
+    → SoFar text (map step_of all) new.offset × (new.text ≡ text)
+gone_with text at new old all step sofar is answers = (
+  subst (λ (steps : List Step). SoFar text steps new.offset)
+      (sym (ap (map step_of) is ∙ map-append step_of old (step ∷ [])))
+      (gone_on text (map step_of old) at new (step_of step) sofar answers),
+  answers.0,
+)

@@ -1,7 +1,8 @@
 -- What stands at the end of a path. (own)
 use Rattle.std.specs.Prelude.{ℕ, zero, suc, List, [], ◌∷◌, Option, Some, None, cond}
+use Rattle.std.specs.Option.{option_and_then}
 use Rattle.std.specs.Str.{bytes_eq}
-use Rattle.basic_toml_value.specs.Data.{Data, array, table, Items, no_items, item, Members, no_members, member}
+use Rattle.basic_toml_value.specs.Data.{Data, array_in, table_in, Items, no_items, item, Members, no_members, member}
 use Rattle.toml_path.specs.Path.{Step, key, element}
 
 -- the value at a key
@@ -17,15 +18,10 @@ at_number (suc n) (item d items) = at_number n items
 
 -- a step ahead
 abbrev pub after : Data → Step → Option Data
-after (table members) (key name) = at_key name members
-after (array items) (element n) = at_number n items
-after _ _ = None
-
-abbrev pub and_then : Option Data → (Data → Option Data) → Option Data
-and_then None next = None
-and_then (Some d) next = next d
+after d (key name) = option_and_then (at_key name) (table_in d)
+after d (element n) = option_and_then (at_number n) (array_in d)
 
 -- at the end of the steps
 abbrev pub data_at : Data → List Step → Option Data
 data_at d [] = Some d
-data_at d (step ∷ steps) = and_then (after d step) (λ next. data_at next steps)
+data_at d (step ∷ steps) = option_and_then (λ next. data_at next steps) (after d step)

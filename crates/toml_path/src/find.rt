@@ -22,9 +22,14 @@ pub fn value_at<'t>(value: &'t Value, steps: &[Step<'_>]) -> Option<&'t Value>
 fn after<'t>(value: &'t Value, step: &Step<'_>) -> Option<&'t Value>
     ensures { option_map (λ found. view found.now) result ≡ spec.after (view value.now) (step_of step.now) }
 {
-    match (value, step) {
-        (Value::Table(table), Step::Key(key)) => table.get(key.as_str()),
-        (Value::Array(values), Step::Element(number)) => values.get(*number),
-        _ => None,
+    match step {
+        Step::Key(key) => match value.as_table() {
+            Some(table) => table.get(key.as_str()),
+            None => None,
+        },
+        Step::Element(number) => match value.as_array() {
+            Some(values) => values.get(*number),
+            None => None,
+        },
     }
 }

@@ -1,4 +1,3 @@
-use Rattle.std.proofs.Common.{Some, subst, sym, ◌∙◌}
 use Rattle.toml_path.proofs.StepsAreFound.{element_found, element_open, element_none}
 use Rattle.toml_path.proofs.path.element.Goals as goal
 

@@ -1,4 +1,4 @@
-use Rattle.std.proofs.Common.{ap, sym, subst}
+use Rattle.std.proofs.Common.{sym, subst}
 use Rattle.std.specs.Prelude.{option_map}
 use Rattle.basic_toml_tokens.specs.Token.{TokenAt, lexeme_of}
 use Rattle.toml_path.specs.Path.{Answers, sign_of}

@@ -1,4 +1,4 @@
-use Rattle.std.proofs.Common.{◌≡◌, Some, ap, subst, ◌∙◌, option_map}
+use Rattle.std.proofs.Common.{Some, ap, subst, ◌∙◌, option_map}
 use Rattle.std.specs.Cow.{cow_str_bytes}
 use Rattle.toml_path.specs.Path.{Answers, IsStepAt, key, element}
 use Rattle.toml_path.proofs.StepsAreFound.{step_by_key, step_by_number, no_step}
