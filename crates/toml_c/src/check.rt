@@ -139,14 +139,5 @@ fn told(alloc: Global, text: &str, error: &ReadError) -> Result<Refusal, AllocEr
 fn joined(alloc: Global, keys: &[String]) -> Result<String, AllocError>
     ensures { IfOk result (λ text. string_bytes text ≡ joined (map string_bytes keys.now)) }
 {
-    let mut text = String::new(alloc);
-    let Some((first, others)) = keys.split_first() else {
-        return Ok(text);
-    };
-    text.push_str(first.as_str())?;
-    for key in others {
-        text.push('.')?;
-        text.push_str(key.as_str())?;
-    }
-    Ok(text)
+    keys.join(alloc, ".")
 }
