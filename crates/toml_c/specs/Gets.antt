@@ -19,7 +19,7 @@ kind_of (integer z) = 2
 kind_of (float text) = 3
 kind_of (boolean b) = 4
 kind_of (array items) = 5
-kind_of (table members) = 6
+kind_of (table ms) = 6
 
 abbrev pub items_count : Items → ℕ
 items_count no_items = 0
@@ -27,20 +27,23 @@ items_count (item d items) = items_count items + 1
 
 abbrev pub members_count : Members → ℕ
 members_count no_members = 0
-members_count (member key d members) = members_count members + 1
+members_count (member key d ms) = members_count ms + 1
 
 abbrev pub truth_number : Bool → ℤ
 truth_number true = pos 1
 truth_number false = pos 0
 
--- an integer, 1 for true, how many elements or keys there are
+-- an integer, 1 for true
 abbrev pub number_of : Data → ℤ
-number_of (string text) = pos 0
 number_of (integer z) = z
-number_of (float text) = pos 0
 number_of (boolean b) = truth_number b
-number_of (array items) = pos (items_count items)
-number_of (table members) = pos (members_count members)
+number_of _ = pos 0
+
+-- how many elements or keys there are
+abbrev pub count_of : Data → ℕ
+count_of (array items) = items_count items
+count_of (table ms) = members_count ms
+count_of _ = 0
 
 abbrev pub truth_text : Bool → List ℕ
 truth_text true = codes "true"
@@ -53,13 +56,19 @@ text_of (integer z) = signed_decimal z
 text_of (float text) = text
 text_of (boolean b) = truth_text b
 text_of (array items) = []
-text_of (table members) = []
+text_of (table ms) = []
 
 abbrev pub not_found : ℕ → TomlValue
-not_found status = record { status = status; kind = 0; number = pos 0; length = 0 }
+not_found status = record { status = status; kind = 0; number = pos 0; count = 0; length = 0 }
 
 abbrev pub found : Data → TomlValue
-found d = record { status = 0; kind = kind_of d; number = number_of d; length = length (text_of d) }
+found d = record {
+  status = 0;
+  kind = kind_of d;
+  number = number_of d;
+  count = count_of d;
+  length = length (text_of d);
+}
 
 -- What stands in data at the end of steps, and as much of its text as there is room for; else the memory is as it was.
 pub data FindsIn (tree : Data) (steps : List Step) (old new : List ℕ) : TomlValue → Type 0 where

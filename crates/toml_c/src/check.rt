@@ -102,6 +102,7 @@ fn not_utf8(alloc: Global) -> Result<Refusal, AllocError>
     })
 }
 
+#[tactic(auto, using(crate::proofs::WhyRefused::held_or_refused))]
 fn refusal_in(alloc: Global, text: &str) -> Result<Option<Refusal>, AllocError>
     ensures { IfOk result (λ refusal. spec.Answers text.now refusal) }
 {

@@ -24,8 +24,10 @@ pub struct TomlValue {
     pub status: u32,
     /// 1 for a string, 2 for an integer, 3 for a float, 4 for a boolean, 5 for an array, 6 for a table; else 0.
     pub kind: u32,
-    /// An integer; 1 for `true`; how many elements or keys an array or a table has; else 0.
+    /// An integer; 1 for `true`; else 0.
     pub number: i64,
+    /// How many elements or keys an array or a table has; else 0.
+    pub count: usize,
     /// How many bytes the text has, whether or not there was room for them.
     pub length: usize,
 }
@@ -58,6 +60,7 @@ fn not_found(status: u32) -> TomlValue
         status,
         kind: 0,
         number: 0,
+        count: 0,
         length: 0,
     }
 }
@@ -102,6 +105,7 @@ fn tell(alloc: Global, value: &Value, output: &mut [u8]) -> TomlValue
                 status: DONE,
                 kind: kind_of(value),
                 number: number_of(value),
+                count: count_of(value),
                 length: text.len(),
             }
         }
@@ -127,10 +131,20 @@ fn number_of(value: &Value) -> i64
 {
     match value {
         Value::Integer(number) => *number,
-        Value::Boolean(truth) => *truth as i64,
-        Value::Array(values) => values.len() as i64,
-        Value::Table(table) => table.entries().len() as i64,
-        Value::String(_) | Value::Float(_) => 0,
+        Value::Boolean(truth) => { if *truth { 1 } else { 0 } }
+        _ => 0,
+    }
+}
+
+fn count_of(value: &Value) -> usize
+    ensures { result ≡ spec.count_of (view value.now) }
+{
+    if let Some(values) = value.as_array() {
+        return values.len();
+    }
+    match value.as_table() {
+        Some(table) => table.len(),
+        None => 0,
     }
 }
 

@@ -64,9 +64,5 @@ fn due(alloc: Global, form: Form, input: &[u8]) -> Result<Due, AllocError>
 fn form_of(is_tagged: bool) -> Form
     ensures { result ≡ spec.form_of is_tagged }
 {
-    if is_tagged {
-        Form::Tagged
-    } else {
-        Form::Plain
-    }
+    if is_tagged { Form::Tagged } else { Form::Plain }
 }

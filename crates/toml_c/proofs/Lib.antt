@@ -1,0 +1,3 @@
+pub mod DocumentIsRead
+pub mod ValueIsTold
+pub mod WhyRefused
