@@ -24,7 +24,8 @@ pub mod tokens {
     pub use basic_toml_tokens::{Error, Span, Token, Tokenizer};
 }
 
-pub use basic_toml_error::{Error, line_col};
+pub use basic_toml_error::{Error, ErrorKind, Message, line_col};
+pub use basic_toml_explain::{KeyPath, ReadErrorKind};
 pub use basic_toml_order::{into_rows_first, rows_first};
 pub use basic_toml_tree::{Elements, Entries, Node, Tree};
 pub use basic_toml_typed::{

@@ -1,9 +1,10 @@
 //! What can go wrong.
 ghost use Rattle.std.specs.Prelude.{◌≡◌, ◌≤◌, Some, IsTrue, ◌↔◌, ◌⊎◌, IfOk, IfErr, [], codes, map, length, string_bytes};
+ghost use Rattle.basic_toml_error.specs.FaultText as text;
 ghost use Rattle.basic_toml_error.specs.KindView.{kind_of};
 
 use crate::key_path::copied;
-use crate::kind::ErrorKind;
+use crate::kind::{ErrorKind, Message};
 use crate::line_column::line_column_of;
 use crate::message::{
     length_message, missing_message, type_message, unknown_field_message, unknown_variant_message,
@@ -63,11 +64,7 @@ impl fmt::Display for Error {
     ghost output = { λ e. Some (fault_text e) };
 
     fn fmt<W: fmt::Write>(&self, f: &mut fmt::Formatter<W>) -> fmt::Result {
-        let kind = &self.kind;
-        write!(f, "{kind}")?;
-        if let Some(keys) = &self.key_path {
-            write!(f, "{}", KeyPath(keys.as_slice()))?;
-        }
+        write!(f, "{}{}", self.message(), KeyPath(self.key_path()))?;
         if let Some((line, column)) = self.line_column {
             write!(f, " at line {} column {}", line + 1, column + 1)?;
         }
@@ -84,7 +81,47 @@ impl Error {
     ghost use Rattle.basic_toml_error.specs.NodeFaults.{type_message, value_message, length_message, missing_message};
     ghost use Rattle.basic_toml_error.specs.NodeFaults.{unknown_field_message, unknown_variant_message};
 
-    /// The line and the column where the error stands, both from 0, if it has an offset; a column counts bytes.
+    /// What is wrong, for a caller to match on.
+    pub fn kind(&self) -> &ErrorKind
+        ensures { kind_of result.now ≡ self.now.kind }
+    {
+        &self.kind
+    }
+
+    /// What is wrong, as a text without the keys and the place: ``duplicate key: `b` ``.
+    ///
+    /// The error prints as its message, then its keys, then its line and its column.
+    pub fn message(&self) -> Message<'_>
+        ensures { result ≡ text.message self.now.kind }
+    {
+        Message(&self.kind)
+    }
+
+    /// The keys that lead to the error, the outermost first, and none where no key does.
+    ///
+    /// An error of a clash has those of the section or the header, and in some rows the first key of the row; a type's
+    /// own error has those of the section, and the first key of the row, that hold the node. Keys within a row's value
+    /// are not among them, nor are numbers of elements. Other errors have none, those of the writer too.
+    pub fn key_path(&self) -> &[String]
+        ensures { map string_bytes result.now ≡ self.now.key_path }
+    {
+        match &self.key_path {
+            Some(keys) => keys.as_slice(),
+            None => &[],
+        }
+    }
+
+    /// The byte offset of the error in the text, from 0; at the end of the text it is the text's length.
+    ///
+    /// `None` for errors of the writer, for want of memory and for bytes that are not UTF-8, and for a type's own error
+    /// at the table of a text without rows and headers, which has no place.
+    pub fn offset(&self) -> Option<usize>
+        ensures { result ≡ self.now.offset }
+    {
+        self.offset
+    }
+
+    /// The line and the column of the error's offset, both from 0: the text of the error counts both from 1.
     pub fn line_col(&self) -> Option<(usize, usize)>
         ensures { result ≡ self.now.line_column }
     {

@@ -9,12 +9,29 @@ use basic_toml_explain::ReadErrorKind;
 use basic_toml_write::WriteError;
 use std::alloc::{AllocError, Global};
 use std::fmt;
+use std::marker::Model;
 
-/// What an error is. It owns its words: `Error` borrows nothing.
+/// What is wrong, for a caller to match on. It prints as the error's message.
+///
+/// A repeated key, a level too deep, a type's own message and refused memory are kinds of reading and of writing.
+///
+/// ```text
+/// match error.kind() {
+///     ErrorKind::Reading(ReadErrorKind::DuplicateKey(key)) => format!(in alloc; "{key} stands twice"),
+///     ErrorKind::Writing(WriteError::ValueAfterTable) => format!(in alloc; "rows go first"),
+///     _ => format!(in alloc; "{}", error.message()),
+/// }
+/// ```
+///
+/// This is from `toml_vectors`.
 #[derive(Debug, Drop)]
-pub(crate) enum ErrorKind {
+#[non_exhaustive]
+pub enum ErrorKind {
+    /// A text that is not read: an error of the grammar, a clash, or a type's own error. It owns its words.
     Reading(ReadErrorKind<String>),
+    /// A value that is not written.
     Writing(WriteError),
+    /// Bytes that are not UTF-8.
     NotUtf8,
 }
 
@@ -67,5 +84,27 @@ impl fmt::Display for ErrorKind {
             ErrorKind::Writing(error) => write!(f, "{error}"),
             ErrorKind::NotUtf8 => write!(f, "input is not valid UTF-8"),
         }
+    }
+}
+
+/// The message of an error: its text without the keys and the place. It takes no memory.
+#[derive(Drop)]
+pub struct Message<'a>(pub(crate) &'a ErrorKind);
+
+impl<'a> Model for Message<'a> {
+    ghost use Rattle.std.specs.Prelude.{ℕ, List};
+    ghost use Rattle.basic_toml_error.specs.FaultText.{message};
+    ghost use Rattle.basic_toml_error.specs.KindView.{kind_of};
+
+    ghost Value = { List ℕ };
+
+    ghost view = { λ m. message (kind_of m.0.now) };
+}
+
+impl<'a> fmt::Display for Message<'a> {
+    ghost output = { λ text. Some text };
+
+    fn fmt<W: fmt::Write>(&self, f: &mut fmt::Formatter<W>) -> fmt::Result {
+        write!(f, "{}", self.0)
     }
 }

@@ -1,5 +1,5 @@
 //! What can go wrong: the error of reading and writing, its text, and the line and the column where it stands.
-//! `basic_toml` passes on both of its names.
+//! `basic_toml` passes on its names.
 //!
 //! ```text
 //! match load(rt.alloc(), text.as_str()) {
@@ -19,4 +19,5 @@ mod line_column;
 mod message;
 
 pub use error::Error;
+pub use kind::{ErrorKind, Message};
 pub use line_column::line_col;

@@ -16,7 +16,8 @@ use Rattle.basic_toml.specs.tokens.Text.{folded}
 use Rattle.basic_toml.specs.Impls.{data_calls, members_calls}
 use Rattle.basic_toml.specs.Ser.{IsDataText, IsFirstFault}
 use Rattle.toml_answer.specs.declared.Answer.{Answer}
-use Rattle.toml_answer.specs.Due.{IsDue, tidied, refused, not_utf8, unwritable}
+use Rattle.toml_answer.specs.declared.Order.{Order}
+use Rattle.toml_answer.specs.Due.{IsDue, of_document, refused, not_utf8, IsWriting, writable, unwritable, in_order}
 
 -- bytes are UTF-8, or are not
 utf8_or_not : (bytes : List ℕ) → IsUtf8 bytes ⊎ (IsUtf8 bytes → ⊥)
@@ -34,17 +35,33 @@ pairs_calls view [] = refl
 pairs_calls view (p ∷ pairs) =
     ap (λ (is : List Item). field p.0 ∷ (data_calls (view p.1) ++ is)) (pairs_calls view pairs)
 
--- an error that was told is due where it is no want of memory
-pub told_due : {E : Type 0} (input : List ℕ) (status : ℕ) (fault : Fault) (result : Result Answer E)
-    → IfOk result (λ a. a.status ≡ status) → IfOk result (λ a. string_bytes a.text ≡ fault_text fault)
-    → IfOk result (λ a. a.line_col ≡ fault.line_column) → IfOk result (λ a. fault.kind ≢ out_of_memory)
-    → (fault.kind ≢ out_of_memory → IsDue input status (fault_text fault) fault.line_column)
-    → IfOk result (λ a. IsDue input a.status (string_bytes a.text) a.line_col)
-told_due input status fault (Ok a) is says stands kind due =
-    subst (λ (n : ℕ). IsDue input n (string_bytes a.text) a.line_col) (sym is)
-    (subst (λ (t : List ℕ). IsDue input status t a.line_col) (sym says)
-    (subst (IsDue input status (fault_text fault)) (sym stands) (due kind)))
-told_due input status fault (Err e) is says stands kind due = tt
+-- an error's answer is due where it is no want of memory
+pub error_due : (Due : ℕ → List ℕ → Option (ℕ × ℕ) → Type 0) {E : Type 0} (status : ℕ) (fault : Fault)
+    (result : Result Answer E) → IfOk result (λ a. a.status ≡ status)
+    → IfOk result (λ a. string_bytes a.text ≡ fault_text fault) → IfOk result (λ a. a.line_col ≡ fault.line_column)
+    → IfOk result (λ a. fault.kind ≢ out_of_memory)
+    → (fault.kind ≢ out_of_memory → Due status (fault_text fault) fault.line_column)
+    → IfOk result (λ a. Due a.status (string_bytes a.text) a.line_col)
+error_due Due status fault (Ok a) is says stands kind due =
+    subst (λ (n : ℕ). Due n (string_bytes a.text) a.line_col) (sym is)
+    (subst (λ (t : List ℕ). Due status t a.line_col) (sym says)
+    (subst (Due status (fault_text fault)) (sym stands) (due kind)))
+error_due Due status fault (Err e) is says stands kind due = tt
+
+-- a text that is that of the data is due
+pub text_due : (d : Data) (text : List ℕ) → IsDataText d text → IsWriting d 0 text None
+text_due d text is = subst (λ (s : List ℕ). IsWriting d 0 s None) (sym is.laid_out) (writable is.supported)
+
+-- an error of writing, that is no want of memory and none of the type's own, is the first that the calls meet
+pub unwritable_due : (d : Data) (fault : Fault) (calls : List Item) (own : Type 0) → calls ≡ data_calls d
+    → (own → ⊥) → (fault ≡ want_of_memory) ⊎ (own ⊎ IsFirstFault calls fault) → fault.kind ≢ out_of_memory
+    → IsWriting d 2 (fault_text fault) fault.line_column
+unwritable_due d fault calls own made never (inl memory) kind =
+    absurd (kind (ap (λ (f : Fault). f.kind) memory))
+unwritable_due d fault calls own made never (inr (inl up)) kind = absurd (never up)
+unwritable_due d fault calls own made never (inr (inr r)) kind =
+    subst (λ (f : Fault). IsWriting d 2 (fault_text f) f.line_column) (sym r.named)
+    (unwritable (subst (λ (is : List Item). outcome nesting_limit is ≡ Err r.error) made r.met))
 
 -- a type T that is read from tables, all of which it takes, and shows its members
 module _ {T : Type 0} (takes : Data → Type 0) (entries : T → Members) where
@@ -62,42 +79,33 @@ module _ {T : Type 0} (takes : Data → Type 0) (entries : T → Members) where
     | inr not ↦ absurd (let wrong : Ok t ≡ Err not_text = other not in cc)
   ]
 
-  pub tidied_due : (input text : List ℕ) (t : T) → (IsUtf8 input → ReadsText takes reads_table input (Ok t))
-      → ((IsUtf8 input → ⊥) → Ok t ≡ Err not_text)
-      → IsDataText (table (entries t)) text → IsDue input 0 text None
-  tidied_due input text t answers other is =
-      let (utf8, document) = read_as input t answers other in
-      subst (λ (s : List ℕ). IsDue input 0 s None) (sym is.laid_out) (tidied utf8 document is.supported)
-
-  -- an error of writing, that is no want of memory and none of the type's own, is the first that the calls meet
-  pub unwritable_due : (input : List ℕ) (t : T) (fault : Fault) (calls : List Item) (own : Type 0)
+  -- what came of writing what was read is due
+  pub writing_due : {E : Type 0} (order : Order) (input : List ℕ) (t : T) (d : Data) (result : Result Answer E)
       → (IsUtf8 input → ReadsText takes reads_table input (Ok t)) → ((IsUtf8 input → ⊥) → Ok t ≡ Err not_text)
-      → calls ≡ data_calls (table (entries t)) → (own → ⊥) → (fault ≡ want_of_memory)
-      ⊎ (own ⊎ IsFirstFault calls fault) → fault.kind ≢ out_of_memory
-      → IsDue input 2 (fault_text fault) fault.line_column
-  unwritable_due input t fault calls own answers other made never (inl memory) kind =
-      absurd (kind (ap (λ (f : Fault). f.kind) memory))
-  unwritable_due input t fault calls own answers other made never (inr (inl up)) kind = absurd (never up)
-  unwritable_due input t fault calls own answers other made never (inr (inr r)) kind =
+      → d ≡ in_order order (table (entries t))
+      → IfOk result (λ a. IsWriting d a.status (string_bytes a.text) a.line_col)
+      → IfOk result (λ a. IsDue order input a.status (string_bytes a.text) a.line_col)
+  writing_due order input t d (Ok a) answers other same writing =
       let (utf8, document) = read_as input t answers other in
-      subst (λ (f : Fault). IsDue input 2 (fault_text f) f.line_column) (sym r.named)
-      (unwritable utf8 document (subst (λ (is : List Item). outcome nesting_limit is ≡ Err r.error) made r.met))
+      of_document utf8 document
+      (subst (λ (x : Data). IsWriting x a.status (string_bytes a.text) a.line_col) same writing)
+  writing_due order input t d (Err e) answers other same writing = tt
 
   -- an error that is no want of memory is one of a text without a document, since every table is taken
-  text_refused : (input : List ℕ) (fault : Fault) → ((members : Members) → takes (table members)) → IsUtf8 input
-      → fault.kind ≢ out_of_memory → ReadsText takes reads_table input (Err fault)
-      → IsDue input 1 (fault_text fault) fault.line_column
-  text_refused input _ taken utf8 kind no_memory = absurd (kind refl)
-  text_refused input _ taken utf8 kind (no_document none why) = refused utf8 why
-  text_refused input fault taken utf8 kind (not_taken {members = members} document (own, only, same)) =
+  text_refused : (order : Order) (input : List ℕ) (fault : Fault) → ((members : Members) → takes (table members))
+      → IsUtf8 input → fault.kind ≢ out_of_memory → ReadsText takes reads_table input (Err fault)
+      → IsDue order input 1 (fault_text fault) fault.line_column
+  text_refused order input _ taken utf8 kind no_memory = absurd (kind refl)
+  text_refused order input _ taken utf8 kind (no_document none why) = refused utf8 why
+  text_refused order input fault taken utf8 kind (not_taken {members = members} document (own, only, same)) =
       absurd (kind (ap (λ (f : Fault). f.kind) (same ∙ ap (lined input) (only.taken (taken members)))))
 
-  pub refused_due : (input : List ℕ) (fault : Fault) → ((members : Members) → takes (table members))
+  pub refused_due : (order : Order) (input : List ℕ) (fault : Fault) → ((members : Members) → takes (table members))
       → (IsUtf8 input → ReadsText takes reads_table input (Err fault))
       → ((IsUtf8 input → ⊥) → ◌≡◌ {A = Result T Fault} (Err fault) (Err not_text))
-      → fault.kind ≢ out_of_memory → IsDue input 1 (fault_text fault) fault.line_column
-  refused_due input fault taken answers other kind = elim (utf8_or_not input) [
-    | inl utf8 ↦ text_refused input fault taken utf8 kind (answers utf8)
+      → fault.kind ≢ out_of_memory → IsDue order input 1 (fault_text fault) fault.line_column
+  refused_due order input fault taken answers other kind = elim (utf8_or_not input) [
+    | inl utf8 ↦ text_refused order input fault taken utf8 kind (answers utf8)
     | inr not ↦ (let is : fault ≡ not_text = cc (other not) in
-        subst (λ (f : Fault). IsDue input 1 (fault_text f) f.line_column) (sym is) (not_utf8 not))
+        subst (λ (f : Fault). IsDue order input 1 (fault_text f) f.line_column) (sym is) (not_utf8 not))
   ]

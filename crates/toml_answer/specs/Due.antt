@@ -1,7 +1,7 @@
 -- What is due for the bytes of a text. (own)
 use Rattle.std.specs.Prelude.{◌≡◌, ℕ, IsUtf8, false, List, Option, None, Err}
 use Rattle.basic_toml.specs.Calls.{outcome}
-use Rattle.basic_toml.specs.Data.{Members, table}
+use Rattle.basic_toml.specs.Data.{Data, Members, table}
 use Rattle.basic_toml.specs.Nesting.{nesting_limit}
 use Rattle.basic_toml.specs.Document.{IsDocument}
 use Rattle.basic_toml.specs.Fault.{without_offset, not_text}
@@ -10,23 +10,34 @@ use Rattle.basic_toml.specs.FaultText.{fault_text}
 use Rattle.basic_toml.specs.Layout.{layout}
 use Rattle.basic_toml.specs.ReadFaults.{fault_in}
 use Rattle.basic_toml.specs.Reading.{IsTextFault}
+use Rattle.basic_toml.specs.RowsFirst.{rows_first}
 use Rattle.basic_toml.specs.Rules.{CallFault}
 use Rattle.basic_toml.specs.Shapes.{is_unsupported}
 use Rattle.basic_toml.specs.Trees.{written_of}
 use Rattle.basic_toml.specs.Impls.{data_calls}
 use Rattle.basic_toml.specs.Ser.{fault_kind}
 use Rattle.basic_toml.specs.tokens.Text.{folded}
+use Rattle.toml_answer.specs.declared.Order.{Order}
+use Rattle.toml_answer.specs.declared.Order.TheVariants.{AsRead, RowsFirst}
 
--- The status, the text, and the line and the column: the layout of the document, where no unsupported shape occurs in
--- it; the first error that the calls of the document meet; an error of a text without a document; or that the bytes are
--- no text.
-pub data IsDue (input : List ℕ) : ℕ → List ℕ → Option (ℕ × ℕ) → Type 0 where
-  tidied : {members : Members} → IsUtf8 input → IsDocument (folded input) (table members)
-      → is_unsupported nesting_limit (written_of (table members)) ≡ false
-      → IsDue input 0 (layout (written_of (table members))) None
+-- the data in the order that is asked for
+abbrev pub in_order : Order → Data → Data
+in_order AsRead d = d
+in_order RowsFirst d = rows_first d
+
+-- The status, the text and the place of writing some data: its layout, where no unsupported shape occurs in it; else the
+-- first error that its calls meet.
+pub data IsWriting (d : Data) : ℕ → List ℕ → Option (ℕ × ℕ) → Type 0 where
+  writable : is_unsupported nesting_limit (written_of d) ≡ false → IsWriting d 0 (layout (written_of d)) None
+  unwritable : {error : CallFault} → outcome nesting_limit (data_calls d) ≡ Err error
+      → IsWriting d 2 (fault_text (without_offset (fault_kind error))) None
+
+-- The status, the text, and the line and the column: those of writing the document in its order; an error of a text
+-- without a document; or that the bytes are no text.
+pub data IsDue (order : Order) (input : List ℕ) : ℕ → List ℕ → Option (ℕ × ℕ) → Type 0 where
+  of_document : {members : Members} {status : ℕ} {text : List ℕ} {place : Option (ℕ × ℕ)} → IsUtf8 input
+      → IsDocument (folded input) (table members) → IsWriting (in_order order (table members)) status text place
+      → IsDue order input status text place
   refused : {error : read.Fault} → IsUtf8 input → IsTextFault input error
-      → IsDue input 1 (fault_text (fault_in input error)) (fault_in input error).line_column
-  not_utf8 : (IsUtf8 input → ⊥) → IsDue input 1 (fault_text not_text) None
-  unwritable : {members : Members} {error : CallFault} → IsUtf8 input → IsDocument (folded input) (table members)
-      → outcome nesting_limit (data_calls (table members)) ≡ Err error
-      → IsDue input 2 (fault_text (without_offset (fault_kind error))) None
+      → IsDue order input 1 (fault_text (fault_in input error)) (fault_in input error).line_column
+  not_utf8 : (IsUtf8 input → ⊥) → IsDue order input 1 (fault_text not_text) None

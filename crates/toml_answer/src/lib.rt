@@ -4,11 +4,14 @@
 #![tactic(auto)]
 
 ghost use Rattle.std.specs.Prelude.{◌≡◌, ◌≢◌, IfOk, string_bytes};
+ghost use Rattle.basic_toml.specs.Data as d;
 ghost use Rattle.basic_toml.specs.Fault.{out_of_memory};
 ghost use Rattle.basic_toml.specs.FaultText.{fault_text};
+ghost use Rattle.basic_toml.specs.View.{entries};
+ghost use Rattle.toml_answer.specs.Due as spec;
 ghost use Rattle.toml_answer.specs.Due.{IsDue};
 
-use basic_toml::{Error, Table, from_slice, to_string};
+use basic_toml::{Error, Table, from_slice, into_rows_first, to_string};
 use std::alloc::{AllocError, Global};
 
 /// The status of a text that was read and written.
@@ -31,29 +34,58 @@ pub struct Answer {
     pub line_col: Option<(usize, usize)>,
 }
 
-/// Reads a text and writes its data anew.
+/// In which order the entries of each table are written.
+#[derive(Clone, Copy, Debug)]
+pub enum Order {
+    /// As they were read.
+    AsRead,
+    /// Rows before sections, at every depth, as [`into_rows_first`] has them.
+    RowsFirst,
+}
+
+/// Reads a text and writes its data anew, in this order.
 ///
 /// # Errors
 ///
 /// Want of memory alone; every error of reading and of writing is an answer.
-pub fn answer_to(alloc: Global, input: &[u8]) -> Result<Answer, AllocError>
-    ensures { IfOk result (λ a. IsDue input.now a.status (string_bytes a.text) a.line_col) }
+pub fn answer_to(alloc: Global, order: Order, input: &[u8]) -> Result<Answer, AllocError>
+    ensures { IfOk result (λ a. IsDue order input.now a.status (string_bytes a.text) a.line_col) }
 {
     match from_slice::<Table>(alloc, input) {
-        Ok(table) => match to_string(alloc, &table) {
-            Ok(text) => Ok(Answer {
-                status: TIDIED,
-                text,
-                line_col: None,
-            }),
-            Err(fault) => told(alloc, NOT_WRITTEN, fault),
-        },
-        Err(fault) => told(alloc, REFUSED, fault),
+        Ok(table) => {
+            let table = in_order(alloc, order, table)?;
+            text_answer(alloc, &table)
+        }
+        Err(fault) => error_answer(alloc, REFUSED, fault),
+    }
+}
+
+fn in_order(alloc: Global, order: Order, table: Table) -> Result<Table, AllocError>
+    ensures { IfOk result (λ t. d.table (entries t) ≡ spec.in_order order (d.table (entries table))) }
+{
+    match order {
+        Order::AsRead => Ok(table),
+        Order::RowsFirst => into_rows_first(alloc, table),
+    }
+}
+
+// The text of a table, or the error that its calls meet.
+fn text_answer(alloc: Global, table: &Table) -> Result<Answer, AllocError>
+    ensures { IfOk result
+        (λ a. spec.IsWriting (d.table (entries table.now)) a.status (string_bytes a.text) a.line_col) }
+{
+    match to_string(alloc, table) {
+        Ok(text) => Ok(Answer {
+            status: TIDIED,
+            text,
+            line_col: None,
+        }),
+        Err(fault) => error_answer(alloc, NOT_WRITTEN, fault),
     }
 }
 
 // An error's text and place under a status; none is due for want of memory.
-fn told(alloc: Global, status: u8, fault: Error) -> Result<Answer, AllocError>
+fn error_answer(alloc: Global, status: u8, fault: Error) -> Result<Answer, AllocError>
     ensures status { IfOk result (λ a. a.status ≡ status) }
     ensures text { IfOk result (λ a. string_bytes a.text ≡ fault_text fault) }
     ensures place { IfOk result (λ a. a.line_col ≡ fault.line_column) }

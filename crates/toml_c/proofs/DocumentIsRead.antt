@@ -1,18 +1,16 @@
 -- The document of bytes, or why they have none, from what reading a table answered.
-use Rattle.std.proofs.Common.{◌≡◌, ◌≢◌, ◌⊎◌, inl, inr, Bool, true, false, ℕ, List, IsUtf8, refl, sym, subst, ◌∙◌}
+use Rattle.std.proofs.Common.{◌≡◌, ◌≢◌, ◌⊎◌, inl, inr, Bool, true, false, ℕ, List, IsUtf8, refl, ap, sym, subst, ◌∙◌}
 use Rattle.std.proofs.Common.{Result, Ok, Err, IfOk, IfErr}
 use Rattle.std.specs.Str.{is_utf8}
 use Rattle.std.proofs.lemmas.Str.{IsUtf8-from_is_utf8, is_utf8-from_IsUtf8}
 use Rattle.basic_toml.specs.Data.{Data, Members, table}
 use Rattle.basic_toml.specs.Document.{IsDocument}
 use Rattle.basic_toml.specs.Fault.{Fault, out_of_memory, not_text}
-use Rattle.basic_toml.specs.FaultText.{fault_text}
-use Rattle.basic_toml.specs.Reading.{ReadsText, value_read}
+use Rattle.basic_toml.specs.Reading.{ReadsText, value_read, no_memory, no_document, not_taken}
+use Rattle.basic_toml.specs.ReadFaults.{lined}
 use Rattle.basic_toml.specs.tokens.Text.{folded}
 use Rattle.basic_toml.proofs.RefusedTextsHaveNoDocument.{refused_has_no_document}
-use Rattle.toml_answer.specs.Due.{IsDue, refused, not_utf8}
-use Rattle.toml_answer.proofs.AnswerIsDue.{refused_due}
-use Rattle.toml_c.specs.Answers.{Holds}
+use Rattle.toml_c.specs.Answers.{Holds, IsRefusal, refused, not_utf8}
 
 -- bytes are UTF-8, or are not
 utf8_or_not : (bytes : List ℕ) → IsUtf8 bytes ⊎ (IsUtf8 bytes → ⊥)
@@ -39,16 +37,25 @@ module _ {T : Type 0} (takes : Data → Type 0) (entries : T → Members) where
   ]
   held input (Err e) answers other = tt
 
+  -- an error that is no want of memory is one of a text without a document, since every table is taken
+  text_refused : (input : List ℕ) (fault : Fault) → ((members : Members) → takes (table members)) → IsUtf8 input
+      → fault.kind ≢ out_of_memory → ReadsText takes reads_table input (Err fault) → IsRefusal input fault
+  text_refused input _ taken utf8 kind no_memory = absurd (kind refl)
+  text_refused input _ taken utf8 kind (no_document none why) = refused utf8 why
+  text_refused input fault taken utf8 kind (not_taken {members = members} document (own, only, same)) =
+      absurd (kind (ap (λ (f : Fault). f.kind) (same ∙ ap (lined input) (only.taken (taken members)))))
+
   pub not_held : (input : List ℕ) (r : Result T Fault) → ((members : Members) → takes (table members))
       → (IsUtf8 input → ReadsText takes reads_table input r) → ((IsUtf8 input → ⊥) → r ≡ Err not_text)
-      → IfErr r (λ e. e.kind ≢ out_of_memory → IsDue input 1 (fault_text e) e.line_column)
+      → IfErr r (λ e. e.kind ≢ out_of_memory → IsRefusal input e)
   not_held input (Ok t) taken answers other = tt
-  not_held input (Err e) taken answers other = refused_due takes entries input e taken answers other
+  not_held input (Err e) taken answers other = λ kind. elim (utf8_or_not input) [
+    | inl utf8 ↦ text_refused input e taken utf8 kind (answers utf8)
+    | inr not ↦ (let is : e ≡ not_text = cc (other not) in subst (IsRefusal input) (sym is) (not_utf8 not))
+  ]
 
--- what is due as an error has no document
-pub due_has_none : (input text : List ℕ) (place : _) → IsDue input 1 text place → (tree : Data) → Holds input tree → ⊥
-due_has_none input text place due tree (utf8, document) = go due
-  where
-    go : {text : List ℕ} {place : _} → IsDue input 1 text place → ⊥
-    go (refused {error = error} _ why) = refused_has_no_document input error tree why document
-    go (not_utf8 not) = not utf8
+-- bytes with such an error have no document
+pub none_held : (input : List ℕ) (fault : Fault) → IsRefusal input fault → (tree : Data) → Holds input tree → ⊥
+none_held input _ (refused {error = error} _ why) tree (utf8, document) =
+    refused_has_no_document input error tree why document
+none_held input _ (not_utf8 not) tree (utf8, document) = not utf8

@@ -1,3 +1,3 @@
 pub mod DocumentIsRead
+pub mod KeysJoined
 pub mod ValueIsTold
-pub mod WhyRefused

@@ -1,14 +1,13 @@
 //! What is wrong with a text, and where.
-ghost use Rattle.std.specs.Prelude.{◌≡◌, IfOk, map, string_bytes};
-ghost use Rattle.basic_toml.specs.Reading.{GivesTree};
-ghost use Rattle.basic_toml_explain.specs.ReadErrorText.{joined};
+ghost use Rattle.std.specs.Prelude.{◌≡◌, ◌≢◌, IfOk, map, string_bytes};
+ghost use Rattle.basic_toml.specs.Fault.{out_of_memory};
+ghost use Rattle.basic_toml.specs.FaultText.{message};
+ghost use Rattle.basic_toml.specs.ReadErrorText.{joined};
 ghost use Rattle.toml_c.specs.Checks as spec;
 
 use crate::answer::{DONE, OUT_OF_MEMORY, REFUSED, put};
-use basic_toml_error::line_col;
-use basic_toml_explain::ReadError;
-use basic_toml_read::sections;
-use basic_toml_tree::{Tree, resolve};
+use crate::document::table_of;
+use basic_toml::Error;
 use std::alloc::{AllocError, Global};
 
 /// What is wrong with a text.
@@ -43,16 +42,18 @@ pub extern "C" fn toml_c_check(
 ) -> TomlFinding
     ensures { spec.Checks input.now message.old message.new key_path.old key_path.new result }
 {
-    match refusal_of(alloc, input) {
-        Ok(None) => found(DONE, None, 0, 0),
-        Ok(Some(refusal)) => {
-            let words = refusal.message.as_bytes();
-            let keys = refusal.key_path.as_bytes();
-            put(message, words);
-            put(key_path, keys);
-            found(REFUSED, refusal.line_col, words.len(), keys.len())
-        }
-        Err(_) => found(OUT_OF_MEMORY, None, 0, 0),
+    match table_of(alloc, input) {
+        Ok(_) => found(DONE, None, 0, 0),
+        Err(error) => match told(alloc, &error) {
+            Ok(told) => {
+                let words = told.message.as_bytes();
+                let keys = told.key_path.as_bytes();
+                put(message, words);
+                put(key_path, keys);
+                found(REFUSED, error.line_col(), words.len(), keys.len())
+            }
+            Err(_) => found(OUT_OF_MEMORY, None, 0, 0),
+        },
     }
 }
 
@@ -75,69 +76,32 @@ fn found(
     }
 }
 
-// Why bytes are no TOML.
+// What is told of an error.
 #[derive(Drop)]
-struct Refusal {
+struct Told {
     message: String,
     key_path: String,
-    line_col: Option<(usize, usize)>,
 }
 
-fn refusal_of(alloc: Global, input: &[u8]) -> Result<Option<Refusal>, AllocError>
-    ensures { IfOk result (λ refusal. spec.Answers input.now refusal) }
+// Nothing is told of want of memory.
+fn told(alloc: Global, error: &Error) -> Result<Told, AllocError>
+    ensures message { IfOk result (λ t. string_bytes t.message ≡ message error.now.kind) }
+    ensures keys { IfOk result (λ t. string_bytes t.key_path ≡ joined error.now.key_path) }
+    ensures kind { IfOk result (λ _. error.now.kind ≢ out_of_memory) }
 {
-    match simdutf8::compat::from_utf8(input) {
-        Ok(text) => refusal_in(alloc, text),
-        Err(_) => Ok(Some(not_utf8(alloc)?)),
-    }
-}
-
-fn not_utf8(alloc: Global) -> Result<Refusal, AllocError>
-    ensures { IfOk result (λ refusal. spec.refusal_of refusal ≡ spec.not_utf8) }
-{
-    Ok(Refusal {
-        message: String::from_str(alloc, "input is not valid UTF-8")?,
-        key_path: String::new(alloc),
-        line_col: None,
-    })
-}
-
-#[tactic(auto, using(crate::proofs::WhyRefused::held_or_refused))]
-fn refusal_in(alloc: Global, text: &str) -> Result<Option<Refusal>, AllocError>
-    ensures { IfOk result (λ refusal. spec.Answers text.now refusal) }
-{
-    match tree_in(alloc, text) {
-        Ok(_) => Ok(None),
-        Err(error) => Ok(Some(told(alloc, text, &error)?)),
-    }
-}
-
-// The tree of a text's document, or why there is none.
-#[tactic(auto, using(basic_toml::proofs::ReadingEnds::tree_given))]
-fn tree_in<'de>(alloc: Global, text: &'de str) -> Result<Tree<'de>, ReadError>
-    ensures { GivesTree text.now result }
-{
-    let sections = sections(alloc, text)?;
-    resolve(alloc, sections)
-}
-
-// What is told of an error; want of memory alone has no place.
-fn told(alloc: Global, text: &str, error: &ReadError) -> Result<Refusal, AllocError>
-    ensures { IfOk result (λ refusal. spec.Tells text.now error.now (spec.refusal_of refusal)) }
-{
-    let Some(offset) = error.place() else {
+    if error.is_out_of_memory() {
         return Err(AllocError);
-    };
-    let kind = error.kind();
-    Ok(Refusal {
-        message: format!(in alloc; "{kind}")?,
-        key_path: joined(alloc, error.key_path())?,
-        line_col: Some(line_col(text, offset)),
+    }
+    let message = error.message();
+    Ok(Told {
+        message: format!(in alloc; "{message}")?,
+        key_path: with_periods(alloc, error.key_path())?,
     })
 }
 
 // Keys with periods between them.
-fn joined(alloc: Global, keys: &[String]) -> Result<String, AllocError>
+#[tactic(auto, using(crate::proofs::KeysJoined::joined_by))]
+fn with_periods(alloc: Global, keys: &[String]) -> Result<String, AllocError>
     ensures { IfOk result (λ text. string_bytes text ≡ joined (map string_bytes keys.now)) }
 {
     keys.join(alloc, ".")

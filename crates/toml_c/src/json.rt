@@ -1,9 +1,12 @@
 //! A document as JSON.
-ghost use Rattle.std.specs.Prelude.{◌≡◌, IfOk, string_bytes};
+ghost use Rattle.std.specs.Prelude.{◌≡◌, ◌≢◌, IfOk, string_bytes};
+ghost use Rattle.basic_toml.specs.Fault.{out_of_memory};
+ghost use Rattle.basic_toml.specs.FaultText.{fault_text};
 ghost use Rattle.toml_c.specs.Jsons as spec;
 
 use crate::answer::{DONE, OUT_OF_MEMORY, REFUSED, TomlAnswer, answered, put};
 use crate::document::table_of;
+use basic_toml::Error;
 use std::alloc::{AllocError, Global};
 use toml_json_text::{Form, json_of};
 
@@ -21,7 +24,7 @@ pub extern "C" fn toml_c_json(
 ) -> TomlAnswer
     ensures { spec.Jsons (spec.form_of is_tagged) input.now output.old output.new result }
 {
-    match due(alloc, form_of(is_tagged), input) {
+    match json_due(alloc, form_of(is_tagged), input) {
         Ok(due) => {
             let text = due.text.as_bytes();
             put(output, text);
@@ -39,7 +42,7 @@ struct Due {
     line_col: Option<(usize, usize)>,
 }
 
-fn due(alloc: Global, form: Form, input: &[u8]) -> Result<Due, AllocError>
+fn json_due(alloc: Global, form: Form, input: &[u8]) -> Result<Due, AllocError>
     ensures { IfOk result (λ d. spec.IsJsonDue form input.now d.status (string_bytes d.text) d.line_col) }
 {
     match table_of(alloc, input) {
@@ -48,17 +51,23 @@ fn due(alloc: Global, form: Form, input: &[u8]) -> Result<Due, AllocError>
             text: json_of(alloc, form, &table)?,
             line_col: None,
         }),
-        Err(error) => {
-            if error.is_out_of_memory() {
-                return Err(AllocError);
-            }
-            Ok(Due {
-                status: REFUSED,
-                text: format!(in alloc; "{error}")?,
-                line_col: error.line_col(),
-            })
-        }
+        Err(error) => Ok(Due {
+            status: REFUSED,
+            text: error_text(alloc, &error)?,
+            line_col: error.line_col(),
+        }),
     }
+}
+
+// None is due for want of memory.
+fn error_text(alloc: Global, error: &Error) -> Result<String, AllocError>
+    ensures text { IfOk result (λ text. string_bytes text ≡ fault_text error.now) }
+    ensures kind { IfOk result (λ _. error.now.kind ≢ out_of_memory) }
+{
+    if error.is_out_of_memory() {
+        return Err(AllocError);
+    }
+    format!(in alloc; "{error}")
 }
 
 fn form_of(is_tagged: bool) -> Form

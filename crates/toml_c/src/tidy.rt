@@ -3,7 +3,7 @@ ghost use Rattle.toml_c.specs.Answers.{Tidies};
 
 use crate::answer::{OUT_OF_MEMORY, TomlAnswer, answered, put};
 use std::alloc::Global;
-use toml_answer::answer_to;
+use toml_answer::{Order, answer_to};
 
 /// Reads a text and writes its data anew: the text, or an error's message, goes to the front of `output`, as much of it
 /// as there is room for.
@@ -14,7 +14,7 @@ use toml_answer::answer_to;
 pub extern "C" fn toml_c_tidy(alloc: Global, input: &[u8], output: &mut [u8]) -> TomlAnswer
     ensures { Tidies input.now output.old output.new result }
 {
-    match answer_to(alloc, input) {
+    match answer_to(alloc, Order::AsRead, input) {
         Ok(answer) => {
             let text = answer.text.as_bytes();
             put(output, text);

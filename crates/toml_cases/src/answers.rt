@@ -4,7 +4,7 @@ use crate::escapes::{bytes_of, push_escaped, spread};
 use crate::lists::{of_joined, of_reversed};
 use crate::numbers::number_of;
 use crate::sections_shown::sections_of;
-use crate::targets::told;
+use crate::targets::read_as;
 use crate::tokens_shown::tokens_of;
 use basic_toml::{Table, from_slice, to_string};
 use std::alloc::{AllocError, Global};
@@ -91,8 +91,8 @@ fn of_joined_line(alloc: Global, text: &str, rest: &str) -> Result<Pair, AllocEr
 
 fn of_type(alloc: Global, text: &str, is_root: bool, rest: &str) -> Result<Pair, AllocError> {
     let (kind, wanted) = rest.split_once(' ').unwrap_or((rest, ""));
-    match told(alloc, kind, is_root, text)? {
-        Some(got) => plain(alloc, wanted, got),
+    match read_as(alloc, kind, is_root, text) {
+        Some(got) => plain(alloc, wanted, got?),
         None => plain(alloc, wanted, String::from_str(alloc, "no such type")?),
     }
 }

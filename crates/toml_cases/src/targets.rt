@@ -7,14 +7,12 @@ use std::collections::BTreeMap;
 use std::fmt;
 use toml_json_text::{Form, json_of, json_of_value};
 
-type Answer<T> = Result<Option<T>, Error>;
-
 // What a type reads at the root, or at the key `v`.
 fn read_at<'de, T: Deserialize<'de> + Drop>(
     alloc: Global,
     is_root: bool,
     text: &'de str,
-) -> Answer<T> {
+) -> Result<Option<T>, Error> {
     if is_root {
         return Ok(Some(from_str(alloc, text)?));
     }
@@ -22,65 +20,45 @@ fn read_at<'de, T: Deserialize<'de> + Drop>(
     Ok(map.remove("v"))
 }
 
-fn displayed<T: fmt::Display + Drop>(
+// What a number or a truth is printed as, or the error.
+fn printed<'de, T: Deserialize<'de> + fmt::Display + Drop>(
     alloc: Global,
-    answer: Answer<T>,
+    is_root: bool,
+    text: &'de str,
 ) -> Result<String, AllocError> {
-    match answer {
+    match read_at::<T>(alloc, is_root, text) {
         Ok(Some(value)) => format!(in alloc; "{value}"),
         Ok(None) => String::from_str(alloc, "nothing"),
         Err(error) => format!(in alloc; "{error}"),
     }
 }
 
-fn of_text(alloc: Global, how: &str, text: &str) -> Result<String, AllocError> {
-    let mut out = String::from_str(alloc, how)?;
+// A value as a case shows it.
+trait Show {
+    fn show(&self, alloc: Global, out: &mut String) -> Result<(), AllocError>;
+}
+
+// What a value is shown as, or the error.
+fn shown<'de, T: Deserialize<'de> + Show + Drop>(
+    alloc: Global,
+    is_root: bool,
+    text: &'de str,
+) -> Result<String, AllocError> {
+    match read_at::<T>(alloc, is_root, text) {
+        Ok(Some(value)) => {
+            let mut out = String::new(alloc);
+            value.show(alloc, &mut out)?;
+            Ok(out)
+        }
+        Ok(None) => String::from_str(alloc, "nothing"),
+        Err(error) => format!(in alloc; "{error}"),
+    }
+}
+
+fn push_quoted(out: &mut String, text: &str) -> Result<(), AllocError> {
     out.push('\'')?;
-    push_escaped(&mut out, text)?;
-    out.push('\'')?;
-    Ok(out)
-}
-
-fn of_string(alloc: Global, answer: Answer<String>) -> Result<String, AllocError> {
-    match answer {
-        Ok(Some(value)) => of_text(alloc, "", value.as_str()),
-        Ok(None) => String::from_str(alloc, "nothing"),
-        Err(error) => format!(in alloc; "{error}"),
-    }
-}
-
-fn of_cow(alloc: Global, answer: Answer<CowStr<'_>>) -> Result<String, AllocError> {
-    match answer {
-        Ok(Some(CowStr::Borrowed(text))) => of_text(alloc, "borrowed ", text),
-        Ok(Some(CowStr::Owned(text))) => of_text(alloc, "owned ", text.as_str()),
-        Ok(None) => String::from_str(alloc, "nothing"),
-        Err(error) => format!(in alloc; "{error}"),
-    }
-}
-
-fn of_value(alloc: Global, answer: Answer<Value>) -> Result<String, AllocError> {
-    match answer {
-        Ok(Some(value)) => json_of_value(alloc, Form::Tagged, &value),
-        Ok(None) => String::from_str(alloc, "nothing"),
-        Err(error) => format!(in alloc; "{error}"),
-    }
-}
-
-fn of_table(alloc: Global, answer: Answer<Table>) -> Result<String, AllocError> {
-    match answer {
-        Ok(Some(table)) => json_of(alloc, Form::Tagged, &table),
-        Ok(None) => String::from_str(alloc, "nothing"),
-        Err(error) => format!(in alloc; "{error}"),
-    }
-}
-
-fn of_option(alloc: Global, answer: Answer<Option<bool>>) -> Result<String, AllocError> {
-    match answer {
-        Ok(Some(Some(truth))) => format!(in alloc; "some {truth}"),
-        Ok(Some(None)) => String::from_str(alloc, "none"),
-        Ok(None) => String::from_str(alloc, "nothing"),
-        Err(error) => format!(in alloc; "{error}"),
-    }
+    push_escaped(out, text)?;
+    out.push('\'')
 }
 
 fn push_list(out: &mut String, list: &[i64]) -> Result<(), AllocError> {
@@ -95,67 +73,90 @@ fn push_list(out: &mut String, list: &[i64]) -> Result<(), AllocError> {
     out.push(']')
 }
 
-fn of_list(alloc: Global, answer: Answer<Vec<i64>>) -> Result<String, AllocError> {
-    match answer {
-        Ok(Some(list)) => {
-            let mut out = String::new(alloc);
-            push_list(&mut out, list.as_slice())?;
-            Ok(out)
-        }
-        Ok(None) => String::from_str(alloc, "nothing"),
-        Err(error) => format!(in alloc; "{error}"),
+impl Show for String {
+    fn show(&self, _alloc: Global, out: &mut String) -> Result<(), AllocError> {
+        push_quoted(out, self.as_str())
     }
 }
 
-fn of_bytes(alloc: Global, answer: Answer<Vec<u8>>) -> Result<String, AllocError> {
-    match answer {
-        Ok(Some(list)) => format!(in alloc; "{} bytes", list.len()),
-        Ok(None) => String::from_str(alloc, "nothing"),
-        Err(error) => format!(in alloc; "{error}"),
-    }
-}
-
-fn of_map(alloc: Global, answer: Answer<BTreeMap<String, i64>>) -> Result<String, AllocError> {
-    match answer {
-        Ok(Some(map)) => {
-            let mut out = String::new(alloc);
-            for (key, number) in map.iter() {
-                let number = *number;
-                push_escaped(&mut out, key.as_str())?;
-                write!(out, ":{number};")?;
+impl<'a> Show for CowStr<'a> {
+    fn show(&self, _alloc: Global, out: &mut String) -> Result<(), AllocError> {
+        match self {
+            CowStr::Borrowed(text) => {
+                out.push_str("borrowed ")?;
+                push_quoted(out, text)
             }
-            Ok(out)
-        }
-        Ok(None) => String::from_str(alloc, "nothing"),
-        Err(error) => format!(in alloc; "{error}"),
-    }
-}
-
-fn of_lists(
-    alloc: Global,
-    answer: Answer<BTreeMap<String, Vec<i64>>>,
-) -> Result<String, AllocError> {
-    match answer {
-        Ok(Some(map)) => {
-            let mut out = String::new(alloc);
-            for (key, list) in map.iter() {
-                push_escaped(&mut out, key.as_str())?;
-                out.push(':')?;
-                push_list(&mut out, list.as_slice())?;
-                out.push(';')?;
+            CowStr::Owned(text) => {
+                out.push_str("owned ")?;
+                push_quoted(out, text.as_str())
             }
-            Ok(out)
         }
-        Ok(None) => String::from_str(alloc, "nothing"),
-        Err(error) => format!(in alloc; "{error}"),
     }
 }
 
-fn of_float(alloc: Global, answer: Answer<Float>) -> Result<String, AllocError> {
-    match answer {
-        Ok(Some(float)) => String::from_str(alloc, float.as_str()),
-        Ok(None) => String::from_str(alloc, "nothing"),
-        Err(error) => format!(in alloc; "{error}"),
+impl Show for Float {
+    fn show(&self, _alloc: Global, out: &mut String) -> Result<(), AllocError> {
+        out.push_str(self.as_str())
+    }
+}
+
+impl Show for Value {
+    fn show(&self, alloc: Global, out: &mut String) -> Result<(), AllocError> {
+        let json = json_of_value(alloc, Form::Tagged, self)?;
+        out.push_str(json.as_str())
+    }
+}
+
+impl Show for Table {
+    fn show(&self, alloc: Global, out: &mut String) -> Result<(), AllocError> {
+        let json = json_of(alloc, Form::Tagged, self)?;
+        out.push_str(json.as_str())
+    }
+}
+
+impl Show for Option<bool> {
+    fn show(&self, _alloc: Global, out: &mut String) -> Result<(), AllocError> {
+        match self {
+            Some(true) => out.push_str("some true"),
+            Some(false) => out.push_str("some false"),
+            None => out.push_str("none"),
+        }
+    }
+}
+
+impl Show for Vec<i64> {
+    fn show(&self, _alloc: Global, out: &mut String) -> Result<(), AllocError> {
+        push_list(out, self.as_slice())
+    }
+}
+
+impl Show for Vec<u8> {
+    fn show(&self, _alloc: Global, out: &mut String) -> Result<(), AllocError> {
+        let length = self.len();
+        write!(out, "{length} bytes")
+    }
+}
+
+impl Show for BTreeMap<String, i64> {
+    fn show(&self, _alloc: Global, out: &mut String) -> Result<(), AllocError> {
+        for (key, number) in self.iter() {
+            let number = *number;
+            push_escaped(out, key.as_str())?;
+            write!(out, ":{number};")?;
+        }
+        Ok(())
+    }
+}
+
+impl Show for BTreeMap<String, Vec<i64>> {
+    fn show(&self, _alloc: Global, out: &mut String) -> Result<(), AllocError> {
+        for (key, list) in self.iter() {
+            push_escaped(out, key.as_str())?;
+            out.push(':')?;
+            push_list(out, list.as_slice())?;
+            out.push(';')?;
+        }
+        Ok(())
     }
 }
 
@@ -164,41 +165,39 @@ fn of_integer(
     kind: &str,
     is_root: bool,
     text: &str,
-) -> Result<Option<String>, AllocError> {
-    let shown = match kind {
-        "i8" => displayed(alloc, read_at::<i8>(alloc, is_root, text))?,
-        "i16" => displayed(alloc, read_at::<i16>(alloc, is_root, text))?,
-        "i32" => displayed(alloc, read_at::<i32>(alloc, is_root, text))?,
-        "i64" => displayed(alloc, read_at::<i64>(alloc, is_root, text))?,
-        "u8" => displayed(alloc, read_at::<u8>(alloc, is_root, text))?,
-        "u16" => displayed(alloc, read_at::<u16>(alloc, is_root, text))?,
-        "u32" => displayed(alloc, read_at::<u32>(alloc, is_root, text))?,
-        "u64" => displayed(alloc, read_at::<u64>(alloc, is_root, text))?,
-        _ => return Ok(None),
-    };
-    Ok(Some(shown))
+) -> Option<Result<String, AllocError>> {
+    match kind {
+        "i8" => Some(printed::<i8>(alloc, is_root, text)),
+        "i16" => Some(printed::<i16>(alloc, is_root, text)),
+        "i32" => Some(printed::<i32>(alloc, is_root, text)),
+        "i64" => Some(printed::<i64>(alloc, is_root, text)),
+        "u8" => Some(printed::<u8>(alloc, is_root, text)),
+        "u16" => Some(printed::<u16>(alloc, is_root, text)),
+        "u32" => Some(printed::<u32>(alloc, is_root, text)),
+        "u64" => Some(printed::<u64>(alloc, is_root, text)),
+        _ => None,
+    }
 }
 
 /// What the type of this name reads, or its error; none where no type has the name.
-pub(crate) fn told(
+pub(crate) fn read_as(
     alloc: Global,
     kind: &str,
     is_root: bool,
     text: &str,
-) -> Result<Option<String>, AllocError> {
-    let shown = match kind {
-        "bool" => displayed(alloc, read_at::<bool>(alloc, is_root, text))?,
-        "float" => of_float(alloc, read_at(alloc, is_root, text))?,
-        "string" => of_string(alloc, read_at(alloc, is_root, text))?,
-        "cow" => of_cow(alloc, read_at(alloc, is_root, text))?,
-        "any" => of_value(alloc, read_at(alloc, is_root, text))?,
-        "table" => of_table(alloc, read_at(alloc, is_root, text))?,
-        "option-bool" => of_option(alloc, read_at(alloc, is_root, text))?,
-        "list-i64" => of_list(alloc, read_at(alloc, is_root, text))?,
-        "list-u8" => of_bytes(alloc, read_at(alloc, is_root, text))?,
-        "map-i64" => of_map(alloc, read_at(alloc, is_root, text))?,
-        "map-list" => of_lists(alloc, read_at(alloc, is_root, text))?,
-        _ => return of_integer(alloc, kind, is_root, text),
-    };
-    Ok(Some(shown))
+) -> Option<Result<String, AllocError>> {
+    match kind {
+        "bool" => Some(printed::<bool>(alloc, is_root, text)),
+        "float" => Some(shown::<Float>(alloc, is_root, text)),
+        "string" => Some(shown::<String>(alloc, is_root, text)),
+        "cow" => Some(shown::<CowStr<'_>>(alloc, is_root, text)),
+        "any" => Some(shown::<Value>(alloc, is_root, text)),
+        "table" => Some(shown::<Table>(alloc, is_root, text)),
+        "option-bool" => Some(shown::<Option<bool>>(alloc, is_root, text)),
+        "list-i64" => Some(shown::<Vec<i64>>(alloc, is_root, text)),
+        "list-u8" => Some(shown::<Vec<u8>>(alloc, is_root, text)),
+        "map-i64" => Some(shown::<BTreeMap<String, i64>>(alloc, is_root, text)),
+        "map-list" => Some(shown::<BTreeMap<String, Vec<i64>>>(alloc, is_root, text)),
+        _ => of_integer(alloc, kind, is_root, text),
+    }
 }

@@ -1,5 +1,7 @@
 //! `toml_tidy` reads a TOML text from standard input and writes it anew to standard output.
 //!
+//! With `--rows-first` the rows of each table come before its sections, so that more tables can be written.
+//!
 //! It ends with status 0 where the text was read and written; with 1 where the text was refused, and 2 where its table
 //! cannot be written, and then what it writes is the error and a line feed; and with 3 where reading, writing or memory
 //! failed. Where reading or memory failed, it writes nothing. `--help` and `--version` print what they say; any other
@@ -18,34 +20,37 @@ use std::alloc::Global;
 use std::env;
 use std::io::{self, Read, Write};
 use std::process::ExitCode;
+use toml_answer::Order;
 use toml_streams::{read_all, write_all};
 
 const FAILED: u8 = 3;
 
 const HELP: &str = "\
-toml_tidy < FILE
+toml_tidy [--rows-first] < FILE
 
 Reads TOML (v0.5.0, without dates and times) and writes the same data anew: rows as key = value, sections with their
 headers, keys in their order. Comments and layout are not kept.
 
-  --help     print this
-  --version  print the version
+  --rows-first  in each table, write the rows before the sections; so every
+                table can be written whose arrays hold tables alone or none
+  --help        print this
+  --version     print the version
 
 Status: 0; 1 where the text is refused and 2 where it cannot be written in its order, with what is wrong, in one line,
 in place of the text; 3 where reading, writing or memory failed.
 ";
 
-/// Reads all bytes, writes what is due for them and nothing else, and answers the status.
+/// Reads all bytes, writes what is due for them in this order and nothing else, and answers the status.
 ///
 /// An interrupted read or write counts as failed, and so does a write that takes no byte.
-pub fn run<R: Read, W: Write>(alloc: Global, reader: &mut R, writer: &mut W) -> u8
+pub fn run<R: Read, W: Write>(alloc: Global, order: Order, reader: &mut R, writer: &mut W) -> u8
     ensures { IfSome (R.remaining reader.old)
-        (λ input. Ends input (W.contents writer.old) (W.contents writer.new) result) }
+        (λ input. Ends order input (W.contents writer.old) (W.contents writer.new) result) }
 {
     let Ok(input) = read_all(alloc, reader) else {
         return FAILED;
     };
-    let Ok((status, text)) = answer(alloc, input.as_slice()) else {
+    let Ok((status, text)) = answer(alloc, order, input.as_slice()) else {
         return FAILED;
     };
     match write_all(writer, text.as_bytes()) {
@@ -56,7 +61,7 @@ pub fn run<R: Read, W: Write>(alloc: Global, reader: &mut R, writer: &mut W) -> 
 
 /// What the program is asked to do.
 enum Request {
-    Tidy,
+    Tidy(Order),
     Help,
     Version,
     Refused,
@@ -66,9 +71,10 @@ enum Request {
 fn request_of(words: &[String]) -> Request {
     let mut words = words.iter();
     let Some(word) = words.next() else {
-        return Request::Tidy;
+        return Request::Tidy(Order::AsRead);
     };
     match (word.as_str(), words.next()) {
+        ("--rows-first", None) => Request::Tidy(Order::RowsFirst),
         ("--help", None) => Request::Help,
         ("--version", None) => Request::Version,
         _ => Request::Refused,
@@ -78,10 +84,10 @@ fn request_of(words: &[String]) -> Request {
 fn status_of(rt: &HostRuntime) -> io::Result<u8> {
     let words: Vec<String> = env::args(rt)?.skip(1).collect(rt.alloc())?;
     match request_of(words.as_slice()) {
-        Request::Tidy => {
+        Request::Tidy(order) => {
             let mut reader = rt.reader();
             let mut writer = io::writer(rt);
-            Ok(run(rt.alloc(), &mut reader, &mut writer))
+            Ok(run(rt.alloc(), order, &mut reader, &mut writer))
         }
         Request::Help => {
             print!(rt; "{HELP}")?;
@@ -92,7 +98,7 @@ fn status_of(rt: &HostRuntime) -> io::Result<u8> {
             Ok(0)
         }
         Request::Refused => {
-            eprintln!(rt; "usage: toml_tidy < FILE; toml_tidy --help says more")?;
+            eprintln!(rt; "usage: toml_tidy [--rows-first] < FILE; toml_tidy --help says more")?;
             Ok(FAILED)
         }
     }

@@ -3,6 +3,7 @@ mod texts;
 use super::run;
 use std::io::{self, Read, Write};
 use std::test::Fail;
+use toml_answer::Order;
 
 /// Gives at most so many bytes at a call, and fails once, after some calls.
 #[derive(Drop)]
@@ -85,7 +86,35 @@ fn runs(rt: HostRuntime) -> Result<(), Fail> {
     ] {
         let mut reader = input;
         let mut writer = Vec::new(rt.alloc());
-        let ended = run(rt.alloc(), &mut reader, &mut writer);
+        let ended = run(rt.alloc(), Order::AsRead, &mut reader, &mut writer);
+        assert_eq!(rt; ended, status, "at {text}");
+        assert_eq!(rt; writer.as_slice(), text.as_bytes());
+    }
+    Ok(())
+}
+
+#[test]
+fn runs_with_rows_first(rt: HostRuntime) -> Result<(), Fail> {
+    for (input, status, text) in [
+        (
+            b"a = {x = 1}\nb = 2\n".as_slice(),
+            0,
+            "b = 2\n\n[a]\nx = 1\n",
+        ),
+        (
+            b"[a.b]\nx = 1\n[a]\ny = 2\n".as_slice(),
+            0,
+            "[a]\ny = 2\n\n[a.b]\nx = 1\n",
+        ),
+        (
+            b"a = {x = 1}\na = 2\n".as_slice(),
+            1,
+            "duplicate key: `a` at line 2 column 1\n",
+        ),
+    ] {
+        let mut reader = input;
+        let mut writer = Vec::new(rt.alloc());
+        let ended = run(rt.alloc(), Order::RowsFirst, &mut reader, &mut writer);
         assert_eq!(rt; ended, status, "at {text}");
         assert_eq!(rt; writer.as_slice(), text.as_bytes());
     }
@@ -122,7 +151,7 @@ fn fails_at_each_call(rt: HostRuntime) -> Result<(), Fail> {
                         calls_before_fault: writes,
                         is_interrupted,
                     };
-                    let ended = run(rt.alloc(), &mut reader, &mut writer);
+                    let ended = run(rt.alloc(), Order::AsRead, &mut reader, &mut writer);
                     let is_read = reads > input.len().div_ceil(most);
                     let taken = if is_read {
                         writes.saturating_mul(most)
@@ -158,6 +187,9 @@ impl Write for Full {
 fn fails_where_no_byte_is_taken(rt: HostRuntime) {
     for (input, status) in [(b"a = 7".as_slice(), 3), (b"a = [1", 3), (b"", 0)] {
         let mut reader = input;
-        assert_eq!(rt; run(rt.alloc(), &mut reader, &mut Full), status);
+        assert_eq!(rt;
+            run(rt.alloc(), Order::AsRead, &mut reader, &mut Full),
+            status
+        );
     }
 }

@@ -1,10 +1,12 @@
 // The calls that the documentation of `basic_toml` and of the crates below it shows.
 use basic_toml::tokens::{Span, Tokenizer};
 use basic_toml::{
-    Float, PushRefusal, Serializer, Table, Value, from_str, integer_of, into_rows_first, line_col,
-    rows_first, to_string,
+    Error, ErrorKind, Float, PushRefusal, ReadErrorKind, Serializer, Table, Value, WriteError,
+    from_slice, from_str, integer_of, into_rows_first, line_col, rows_first, to_string,
 };
+use std::alloc::{AllocError, Global};
 use std::test::Fail;
+use toml_callers::types::{Child, Parent};
 
 #[test]
 fn reads_and_writes_a_table(rt: HostRuntime) -> Result<(), Fail> {
@@ -68,5 +70,76 @@ fn puts_rows_first(rt: HostRuntime) -> Result<(), Fail> {
     assert!(rt; copy == moved);
     let text = to_string(alloc, &moved)?;
     assert_eq!(rt; text.as_str(), "name = \"box\"\n\n[size]\nwidth = 2\n");
+    Ok(())
+}
+
+// What a caller tells of an error: by its kind, or else its message.
+fn told(alloc: Global, error: &Error) -> Result<String, AllocError> {
+    match error.kind() {
+        ErrorKind::Reading(ReadErrorKind::DuplicateKey(key)) => {
+            format!(in alloc; "{key} stands twice")
+        }
+        ErrorKind::Writing(WriteError::ValueAfterTable) => format!(in alloc; "rows go first"),
+        _ => format!(in alloc; "{}", error.message()),
+    }
+}
+
+#[test]
+fn asks_errors(rt: HostRuntime) -> Result<(), Fail> {
+    let alloc = rt.alloc();
+    let table: Table = from_str(alloc, "size = { width = 2 }\nname = \"box\"\n")?;
+    let no_keys: &[&str] = &[];
+    for (error, words, message, keys, offset) in [
+        (
+            from_str::<Table>(alloc, "a = 1\nb = 01\n").err(),
+            "invalid number",
+            "invalid number",
+            no_keys,
+            Some(11),
+        ),
+        (
+            from_str::<Table>(alloc, "[a.b]\nc.d = 1\nc.d = 2\n").err(),
+            "d stands twice",
+            "duplicate key: `d`",
+            &["a", "b", "c"],
+            Some(16),
+        ),
+        (
+            from_str::<Parent<Child>>(alloc, "p_a = 'a'\np_b = 1\n").err(),
+            "invalid type: integer `1`, expected a sequence",
+            "invalid type: integer `1`, expected a sequence",
+            &["p_b"],
+            Some(16),
+        ),
+        (
+            to_string(alloc, &table).err(),
+            "rows go first",
+            "values must be emitted before tables",
+            no_keys,
+            None,
+        ),
+        (
+            from_slice::<Table>(alloc, b"a\xff").err(),
+            "input is not valid UTF-8",
+            "input is not valid UTF-8",
+            no_keys,
+            None,
+        ),
+    ] {
+        let error = error.ok_or(message)?;
+        let told = told(alloc, &error)?;
+        assert_eq!(rt; told.as_str(), words);
+        let shown = format!(in alloc; "{}", error.message())?;
+        assert_eq!(rt; shown.as_str(), message);
+        assert_eq!(rt; error.key_path().len(), keys.len());
+        for (key, name) in error.key_path().iter().zip(keys) {
+            assert_eq!(rt; key.as_str(), *name);
+        }
+        assert_eq!(rt; error.offset(), offset);
+    }
+    let deep = Error::from(WriteError::NestedTooDeeply);
+    assert!(rt; matches!(deep.kind(), ErrorKind::Writing(WriteError::NestedTooDeeply)));
+    let refused = Error::from(AllocError);
+    assert!(rt; matches!(refused.kind(), ErrorKind::Reading(ReadErrorKind::OutOfMemory)));
     Ok(())
 }

@@ -2,6 +2,7 @@
 use crate::run;
 use std::alloc::{AllocError, Global};
 use std::test::Fail;
+use toml_answer::Order;
 
 const FRUIT: &str = "
 [[fruit]]
@@ -88,7 +89,7 @@ const WRITTEN: [&str; 19] = [
 fn tidied(alloc: Global, input: &[u8]) -> (u8, Vec<u8>) {
     let mut reader = input;
     let mut writer = Vec::new(alloc);
-    let status = run(alloc, &mut reader, &mut writer);
+    let status = run(alloc, Order::AsRead, &mut reader, &mut writer);
     (status, writer)
 }
 

@@ -1,11 +1,12 @@
 use Rattle.std.proofs.Common.{◌≡◌, ℕ, List, length, refl, sym, ◌∙◌, ap, subst, Option}
 use Rattle.toml_answer.specs.Due.{IsDue}
+use Rattle.toml_answer.specs.declared.Order.TheVariants.{AsRead}
 use Rattle.toml_c.specs.declared.answer.TomlAnswer.{TomlAnswer}
 use Rattle.toml_c.specs.Answers.{with_front, answered, Tidies, due, no_memory}
 use Rattle.toml_c.proofs.tidy.toml_c_tidy.Goals as goal
 
 tidied : (input old new text bytes : List ℕ) (status : ℕ) (place : Option (ℕ × ℕ)) (answer : TomlAnswer)
-    → IsDue input status text place → bytes ≡ text → new ≡ with_front old bytes
+    → IsDue AsRead input status text place → bytes ≡ text → new ≡ with_front old bytes
     → answer ≡ answered status (length bytes) place → Tidies input old new answer
 tidied input old new text bytes status place answer is_due same is_put is =
     subst (Tidies input old new) (sym (is ∙ ap (λ b. answered status (length b) place) same))
