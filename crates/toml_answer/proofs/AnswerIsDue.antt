@@ -1,6 +1,6 @@
 -- What is due, from what reading and writing answered.
 use Rattle.std.proofs.Common.{◌≡◌, ◌≢◌, ◌⊎◌, inl, inr, ℕ, Bool, true, false, List, [], ◌∷◌, ◌++◌, map, flat_map}
-use Rattle.std.proofs.Common.{IsUtf8, refl, ap, sym, ◌∙◌, subst, Result, Ok, Err, None, IfOk, string_bytes}
+use Rattle.std.proofs.Common.{Option, IsUtf8, refl, ap, sym, ◌∙◌, subst, Result, Ok, Err, None, IfOk, string_bytes}
 use Rattle.std.specs.Str.{is_utf8}
 use Rattle.std.proofs.lemmas.Str.{IsUtf8-from_is_utf8, is_utf8-from_IsUtf8}
 use Rattle.basic_toml.specs.Data.{Data, Members, members_of, table}

@@ -44,7 +44,7 @@ pub extern "C" fn toml_c_check(
 {
     match table_of(alloc, input) {
         Ok(_) => found(DONE, None, 0, 0),
-        Err(error) => match told(alloc, &error) {
+        Err(error) => match words_of(alloc, &error) {
             Ok(told) => {
                 let words = told.message.as_bytes();
                 let keys = told.key_path.as_bytes();
@@ -78,13 +78,13 @@ fn found(
 
 // What is told of an error.
 #[derive(Drop)]
-struct Told {
+struct Words {
     message: String,
     key_path: String,
 }
 
 // Nothing is told of want of memory.
-fn told(alloc: Global, error: &Error) -> Result<Told, AllocError>
+fn words_of(alloc: Global, error: &Error) -> Result<Words, AllocError>
     ensures message { IfOk result (λ t. string_bytes t.message ≡ message error.now.kind) }
     ensures keys { IfOk result (λ t. string_bytes t.key_path ≡ joined error.now.key_path) }
     ensures kind { IfOk result (λ _. error.now.kind ≢ out_of_memory) }
@@ -93,7 +93,7 @@ fn told(alloc: Global, error: &Error) -> Result<Told, AllocError>
         return Err(AllocError);
     }
     let message = error.message();
-    Ok(Told {
+    Ok(Words {
         message: format!(in alloc; "{message}")?,
         key_path: with_periods(alloc, error.key_path())?,
     })

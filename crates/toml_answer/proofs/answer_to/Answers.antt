@@ -6,14 +6,14 @@ use Rattle.toml_answer.specs.Due.{IsDue}
 use Rattle.toml_answer.proofs.AnswerIsDue.{error_due, writing_due, refused_due}
 use Rattle.toml_answer.proofs.answer_to.Goals as goal
 
-pub returns-in-Ok : goal.returns-in-Ok
-returns-in-Ok c =
+pub returns-in_ok-table-in-Ok : goal.returns-in_ok-table-in-Ok
+returns-in_ok-table-in-Ok c =
     writing_due table_takes entries c.args.order c.args.input.now c.in-Ok.table
-    (table (entries c.in-Ok.table-2)) c.text_answer.result c.in-Ok.ensures.text c.in-Ok.ensures.other c.in_order.ensures
+    (table (entries c.in_ok-table-in-Ok.table)) c.text_answer.result c.in-Ok.ensures.text c.in-Ok.ensures.other c.in_ok-table-in-Ok.ensures
     c.text_answer.ensures
 
-pub returns : goal.returns
-returns c =
+pub returns-in-Err : goal.returns-in-Err
+returns-in-Err c =
     error_due (IsDue c.args.order c.args.input.now) 1 c.in-Err.fault c.error_answer.result c.error_answer.ensures.status
     c.error_answer.ensures.text c.error_answer.ensures.place c.error_answer.ensures.fault
     (refused_due table_takes entries c.args.order c.args.input.now c.in-Err.fault (λ members. refl)

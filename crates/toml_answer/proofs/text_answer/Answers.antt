@@ -12,8 +12,8 @@ returns-in-Ok c =
     text_due (table (entries c.args.table.now)) _
     (c.in-Ok.ensures.of_data (table (entries c.args.table.now)) made)
 
-pub returns : goal.returns
-returns c =
+pub returns-in-Err : goal.returns-in-Err
+returns-in-Err c =
     let made = ap (λ (is : List Item). open_table ∷ (is ++ (close ∷ []))) (pairs_calls view c.args.table.now) in
     error_due (IsWriting (table (entries c.args.table.now))) 2 c.in-Err.fault c.error_answer.result c.error_answer.ensures.status
     c.error_answer.ensures.text c.error_answer.ensures.place c.error_answer.ensures.fault
