@@ -79,7 +79,8 @@ enum toml_kind {
 struct toml_value {
     uint32_t status; /* TOML_DONE, TOML_REFUSED, TOML_NOT_FOUND, TOML_OUT_OF_MEMORY or TOML_NO_PATH */
     uint32_t kind;   /* one of enum toml_kind */
-    int64_t number;  /* an integer; 1 for true; how many elements or keys an array or a table has; else 0 */
+    int64_t number;  /* an integer; 1 for true; else 0 */
+    size_t count;    /* how many elements or keys an array or a table has; else 0 */
     size_t length;   /* how many bytes its text has */
 };
 

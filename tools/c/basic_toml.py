@@ -52,6 +52,7 @@ class Value(ctypes.Structure):
         ("status", ctypes.c_uint32),
         ("kind", ctypes.c_uint32),
         ("number", ctypes.c_int64),
+        ("count", ctypes.c_size_t),
         ("length", ctypes.c_size_t),
     ]
 
@@ -175,4 +176,4 @@ class Library:
             return bool(value.number)
         if value.kind == INTEGER:
             return value.number
-        return ("array" if value.kind == ARRAY else "table", value.number)
+        return ("array" if value.kind == ARRAY else "table", value.count)

@@ -83,7 +83,7 @@ static int get(const uint8_t *input, size_t length, const char *path, struct roo
         printf("%s ", kinds[value.kind]);
         if (value.kind != TOML_ARRAY && value.kind != TOML_TABLE)
             return line_out(stdout, text, value.length, TOML_DONE);
-        printf("of %lld\n", (long long)value.number);
+        printf("of %zu\n", value.count);
         return fflush(stdout) ? TOML_OUT_OF_MEMORY : TOML_DONE;
     case TOML_REFUSED:
         fputs("the text is refused\n", stderr);
