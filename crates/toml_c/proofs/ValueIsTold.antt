@@ -1,24 +1,28 @@
 -- What is told of a value, from what was found.
-use Rattle.std.proofs.Common.{◌≡◌, ℕ, ℤ, ◌+◌, List, [], ◌∷◌, Option, Some, None, length, map, refl, sym, ap, subst, ◌∙◌}
+use Rattle.std.proofs.Common.{◌≡◌, ℕ, ℤ, ◌+◌, List, [], ◌∷◌, Option, Some, None, length, map, refl, sym, ap, subst, ◌∙◌, arith, rules, true, false, Bool}
 use Rattle.std.specs.Borrow.{Bor}
 use Rattle.basic_toml.specs.Data.{Data, integer, float, boolean, string, array, table, Items, Members, members_of}
 use Rattle.basic_toml.specs.Data.{array_in, table_in}
+use Rattle.basic_toml.specs.Fault.{Fault}
 use Rattle.basic_toml.specs.View.{view, entries, items_view}
-use Rattle.basic_toml_value.specs.declared.value.Value.{Value}
+use Rattle.basic_toml_value.specs.declared.value.Value.{Value, the_lemmas}
+use Rattle.basic_toml_value.specs.declared.value.Value.TheVariants as in_code
 use Rattle.toml_path.specs.Find.{data_at}
 use Rattle.toml_path.specs.Path.{Step}
-use Rattle.toml_c.specs.Answers.{with_front}
+use Rattle.toml_c.specs.Answers.{with_front, Holds, IsRefusal}
 use Rattle.toml_c.specs.declared.get.TomlValue.{TomlValue}
 use Rattle.toml_c.specs.Gets.{kind_of, number_of, count_of, text_of, items_count, members_count, found, not_found}
-use Rattle.toml_c.specs.Gets.{Tells, told, untold, FindsIn, stands, nothing, no_memory}
+use Rattle.toml_c.specs.Gets.{Tells, told, untold, FindsIn, stands, nothing, no_memory, Finds, read, refused, unread}
+use Rattle.toml_c.specs.Gets.{Gets, along, malformed, no_steps, HasSteps}
+use Rattle.toml_c.proofs.DocumentIsRead.{none_held}
 
 items_counted : (values : List Value) → items_count (items_view values) ≡ length values
 items_counted [] = refl
-items_counted (v ∷ vs) = ap (λ n. n + 1) (items_counted vs)
+items_counted (v ∷ vs) = let rest = items_counted vs in omega (arith, rest)
 
 members_counted : (pairs : List (List ℕ × Value)) → members_count (entries pairs) ≡ length pairs
 members_counted [] = refl
-members_counted (p ∷ ps) = ap (λ n. n + 1) (members_counted ps)
+members_counted (p ∷ ps) = let rest = members_counted ps in omega (arith, rest)
 
 array_count : (d : Data) (items : Items) → Some items ≡ array_in d → items_count items ≡ count_of d
 array_count (array other) items is = let same : items ≡ other = cc is in ap items_count same
@@ -80,3 +84,29 @@ pub finds_nothing : (tree : Data) (steps : List Step) (old : List ℕ) (value : 
     → None ≡ data_at tree steps → value ≡ not_found 2 → FindsIn tree steps old old value
 finds_nothing tree steps old value is value-is =
     subst (FindsIn tree steps old old) (sym value-is) (nothing (sym is) refl)
+
+-- the root of a document
+root : (pairs : List (List ℕ × Value)) → view (in_code.Table pairs) ≡ table (entries pairs)
+root pairs = search (rules, the_lemmas)
+
+pub finds_in_document : (input : List ℕ) (pairs : List (List ℕ × Value)) (steps : List Step) (old new : List ℕ)
+    (value : TomlValue) → Holds input (table (entries pairs)) → FindsIn (view (in_code.Table pairs)) steps old new value
+    → Finds input steps old new value
+finds_in_document input pairs steps old new value held finds =
+    read held (subst (λ (d : Data). FindsIn d steps old new value) (root pairs) finds)
+
+pub finds_no_document : (input : List ℕ) (steps : List Step) (old : List ℕ) (fault : Fault) (value : TomlValue)
+    → IsRefusal input fault → value ≡ not_found 1 → Finds input steps old old value
+finds_no_document input steps old fault value is_refusal is =
+    subst (Finds input steps old old) (sym is) (refused (none_held input fault is_refusal) refl)
+
+pub finds_no_memory : (input : List ℕ) (steps : List Step) (old : List ℕ) (value : TomlValue) → value ≡ not_found 3
+    → Finds input steps old old value
+finds_no_memory input steps old value is = subst (Finds input steps old old) (sym is) (unread refl)
+
+pub gets_malformed : (input path old : List ℕ) (value : TomlValue) → ((steps : List Step) → HasSteps path steps → ⊥)
+    → value ≡ not_found 4 → Gets input path old old value
+gets_malformed input path old value none is = subst (Gets input path old old) (sym is) (malformed none refl)
+
+pub gets_no_steps : (input path old : List ℕ) (value : TomlValue) → value ≡ not_found 3 → Gets input path old old value
+gets_no_steps input path old value is = subst (Gets input path old old) (sym is) (no_steps refl)

@@ -100,7 +100,7 @@ fn words_of(alloc: Global, error: &Error) -> Result<Words, AllocError>
 }
 
 // Keys with periods between them.
-#[tactic(auto, using(crate::proofs::KeysJoined::joined_by))]
+
 fn with_periods(alloc: Global, keys: &[String]) -> Result<String, AllocError>
     ensures { IfOk result (λ text. string_bytes text ≡ joined (map string_bytes keys.now)) }
 {
