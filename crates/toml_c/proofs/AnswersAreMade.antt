@@ -1,5 +1,5 @@
 -- The answers of the calls, from what is due.
-use Rattle.std.proofs.Common.{◌≡◌, ℕ, Bool, List, length, Option, None, refl, sym, ap, subst, ◌∙◌}
+use Rattle.std.proofs.Common.{◌≡◌, ℕ, List, length, Option, None, refl, sym, ap, subst, ◌∙◌}
 use Rattle.basic_toml.specs.Data.{Data}
 use Rattle.basic_toml.specs.Fault.{Fault}
 use Rattle.basic_toml.specs.FaultText.{fault_text, message}

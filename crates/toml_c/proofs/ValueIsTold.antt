@@ -1,7 +1,6 @@
 -- What is told of a value, from what was found.
-use Rattle.std.proofs.Common.{◌≡◌, ℕ, ℤ, ◌+◌, List, [], ◌∷◌, Option, Some, None, length, map, refl, sym, ap, subst, ◌∙◌, arith, rules, true, false, Bool}
-use Rattle.std.specs.Borrow.{Bor}
-use Rattle.basic_toml.specs.Data.{Data, integer, float, boolean, string, array, table, Items, Members, members_of}
+use Rattle.std.proofs.Common.{◌≡◌, ℕ, ℤ, List, [], ◌∷◌, Some, None, length, refl, sym, ap, subst, ◌∙◌, arith, rules}
+use Rattle.basic_toml.specs.Data.{Data, integer, float, boolean, string, array, table, Items, Members}
 use Rattle.basic_toml.specs.Data.{array_in, table_in}
 use Rattle.basic_toml.specs.Fault.{Fault}
 use Rattle.basic_toml.specs.View.{view, entries, items_view}
@@ -11,9 +10,9 @@ use Rattle.toml_path.specs.Find.{data_at}
 use Rattle.toml_path.specs.Path.{Step}
 use Rattle.toml_c.specs.Answers.{with_front, Holds, IsRefusal}
 use Rattle.toml_c.specs.declared.get.TomlValue.{TomlValue}
-use Rattle.toml_c.specs.Gets.{kind_of, number_of, count_of, text_of, items_count, members_count, found, not_found}
+use Rattle.toml_c.specs.Gets.{kind_of, number_of, count_of, text_of, items_count, members_count, not_found}
 use Rattle.toml_c.specs.Gets.{Tells, told, untold, FindsIn, stands, nothing, no_memory, Finds, read, refused, unread}
-use Rattle.toml_c.specs.Gets.{Gets, along, malformed, no_steps, HasSteps}
+use Rattle.toml_c.specs.Gets.{Gets, malformed, no_steps, HasSteps}
 use Rattle.toml_c.proofs.DocumentIsRead.{none_held}
 
 items_counted : (values : List Value) → items_count (items_view values) ≡ length values

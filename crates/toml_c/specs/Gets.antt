@@ -1,5 +1,5 @@
 -- What `toml_c_get` gives to its caller. (own)
-use Rattle.std.specs.Prelude.{◌≡◌, ℕ, ℤ, pos, IsUtf8, Bool, true, false, List, [], ◌+◌, length, map, Option, Some, None}
+use Rattle.std.specs.Prelude.{◌≡◌, ℕ, ℤ, pos, IsUtf8, Bool, true, false, List, [], ◌+◌, length, map, Some, None}
 use Rattle.std.specs.Prelude.{Result, Ok, Err, Vec, codes}
 use Rattle.std.specs.Fmt.{signed_decimal}
 use Rattle.std.specs.declared.alloc.Global.{Global}
@@ -8,7 +8,7 @@ use Rattle.basic_toml.specs.Data.{Members, no_members, member}
 use Rattle.toml_c.specs.Answers.{with_front, Holds}
 use Rattle.toml_c.specs.declared.get.TomlValue.{TomlValue}
 use Rattle.toml_path.specs.Find.{data_at}
-use Rattle.toml_path.specs.Path.{Step, IsPath, AnswersSteps, step_of}
+use Rattle.toml_path.specs.Path.{Step, IsPath, step_of}
 use Rattle.toml_path.specs.declared.path.PathError.{PathError}
 use Rattle.toml_path.specs.declared.path.PathError.TheVariants.{Malformed, OutOfMemory}
 use Rattle.toml_path.specs.declared.path.Step as code

@@ -1,4 +1,3 @@
-use Rattle.std.proofs.Common.{string_bytes}
 use Rattle.basic_toml.specs.Data.{table}
 use Rattle.basic_toml.specs.View.{entries}
 use Rattle.toml_c.proofs.AnswersAreMade.{json_written, json_refused}
