@@ -33,25 +33,25 @@ struct toml_answer {
 };
 
 /* In every call a text and the memory for an answer come as a pointer and a length. No pointer is null, also where its
-   length is 0, and no memory that is written to overlaps another. A text goes to the front of the memory for it: as much
-   of it as there is room for, in UTF-8 and with no byte 0 behind it; the bytes behind it stay as they were. A length in
-   the answer above that of the memory asks for another call, with more room. With TOML_OUT_OF_MEMORY nothing is written.
-   Input that is not UTF-8 is refused. */
+   length is 0, and no memory that is written to overlaps another. A text goes to the front of the memory for it: as
+   much of it as there is room for, in UTF-8 and with no byte 0 behind it; the bytes behind it stay as they were. A
+   length in the answer above that of the memory asks for another call, with more room. With TOML_OUT_OF_MEMORY nothing
+   is written. Input that is not UTF-8 is refused. */
 
 /* Reads a TOML text and writes its data anew: to `output` goes the text written anew, or, with TOML_REFUSED and
    TOML_NOT_WRITTEN, the error's message with its keys and its place. */
 struct toml_answer toml_c_tidy(const uint8_t *input, size_t input_length, uint8_t *output, size_t output_length);
 
 /* Reads a TOML text and writes its data as JSON, on one line, the keys in the order of the text: `inf` and `nan` as
-   strings, and with `is_tagged` each scalar with its type, as {"type":"integer","value":"80"}. To `output` goes the JSON,
-   or, with TOML_REFUSED, the error's message with its keys and its place. */
+   strings, and with `is_tagged` each scalar with its type, as {"type":"integer","value":"80"}. To `output` goes the
+   JSON, or, with TOML_REFUSED, the error's message with its keys and its place. */
 struct toml_answer toml_c_json(const uint8_t *input, size_t input_length, bool is_tagged, uint8_t *output,
                                size_t output_length);
 
 /* What is wrong with a text. */
 struct toml_finding {
     uint32_t status;        /* TOML_DONE, TOML_REFUSED or TOML_OUT_OF_MEMORY */
-    bool has_place;         /* whether it stands at a line and a column: all errors do but that of bytes that are no text */
+    bool has_place;         /* whether it stands at a line and a column: all do but bytes that are no text */
     size_t line;            /* from 0; else 0 */
     size_t column;          /* from 0 and in bytes; else 0 */
     size_t message_length;  /* how many bytes the message has */
@@ -59,8 +59,8 @@ struct toml_finding {
 };
 
 /* Reads a TOML text and says what is wrong with it. With TOML_REFUSED the message goes to `message`, and the keys that
-   lead to the error to `key_path`, with periods between them: `duplicate key: `b`` and `a` for "[a]\nb = 1\nb = 2". Else
-   nothing is written. */
+   lead to the error to `key_path`, with periods between them: `duplicate key: `b`` and `a` for "[a]\nb = 1\nb = 2".
+   Else nothing is written. */
 struct toml_finding toml_c_check(const uint8_t *input, size_t input_length, uint8_t *message, size_t message_room,
                                  uint8_t *key_path, size_t key_path_room);
 

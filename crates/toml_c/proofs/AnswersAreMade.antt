@@ -50,7 +50,8 @@ pub check_refused : (input old new old_keys new_keys words keys : List ℕ) (fau
     (value : TomlFinding) → IsRefusal input fault → words ≡ message fault.kind → keys ≡ joined fault.key_path
     → new ≡ with_front old words → new_keys ≡ with_front old_keys keys → place ≡ fault.line_column
     → value ≡ found 1 place (length words) (length keys) → Checks input old new old_keys new_keys value
-check_refused input old new old_keys new_keys words keys fault place value why words-are keys-are put put-keys place-is is =
+check_refused input old new old_keys new_keys words keys fault place value why words-are keys-are put put-keys
+    place-is is =
     subst (Checks input old new old_keys new_keys)
     (sym (is ∙ ap (λ (p : Option (ℕ × ℕ)). found 1 p (length words) (length keys)) place-is
     ∙ ap (λ (w : List ℕ). found 1 fault.line_column (length w) (length keys)) words-are

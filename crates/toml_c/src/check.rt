@@ -28,8 +28,8 @@ pub struct TomlFinding {
     pub key_path_length: usize,
 }
 
-/// Reads a text and says what is wrong with it: the message goes to the front of `message`, and the keys that lead to the
-/// error to that of `key_path`, with periods between them, as much of each as there is room for.
+/// Reads a text and says what is wrong with it: the message goes to the front of `message`, and the keys that lead to
+/// the error to that of `key_path`, with periods between them, as much of each as there is room for.
 ///
 /// A length above that of the memory asks for another call, with more room. Where the text is TOML, and where memory is
 /// refused, nothing is written.

@@ -19,8 +19,8 @@ const NO_PATH: u32 = 4;
 #[repr(C)]
 #[derive(Clone, Copy, Debug)]
 pub struct TomlValue {
-    /// 0 where it was found, 1 where the text was refused, 2 where nothing stands at the path, 3 where memory was refused,
-    /// and 4 where the path is malformed.
+    /// 0 where it was found, 1 where the text was refused, 2 where nothing stands at the path, 3 where memory was
+    /// refused, and 4 where the path is malformed.
     pub status: u32,
     /// 1 for a string, 2 for an integer, 3 for a float, 4 for a boolean, 5 for an array, 6 for a table; else 0.
     pub kind: u32,
@@ -32,9 +32,9 @@ pub struct TomlValue {
     pub length: usize,
 }
 
-/// Reads a text and finds the value at a path, as `dependencies.serde.version` or `bin[1].name`; the empty path leads to
-/// the whole table. The text of a scalar goes to the front of `output`, as much of it as there is room for: that of a
-/// string, a float, an integer, or `true` or `false`. An array and a table have none.
+/// Reads a text and finds the value at a path, as `dependencies.serde.version` or `bin[1].name`; the empty path leads
+/// to the whole table. The text of a scalar goes to the front of `output`, as much of it as there is room for: that of
+/// a string, a float, an integer, or `true` or `false`. An array and a table have none.
 ///
 /// A length above that of `output` asks for another call, with more room. Where nothing is found, nothing is written.
 #[unsafe(no_mangle)]

@@ -10,9 +10,9 @@ use basic_toml::Error;
 use std::alloc::{AllocError, Global};
 use toml_json_text::{Form, json_of};
 
-/// Reads a text and writes its data as JSON, on one line, its keys in order; tagged, with the types of its scalars, as the
-/// toml-test suite has them. The JSON, or an error's message, goes to the front of `output`, as much of it as there is
-/// room for.
+/// Reads a text and writes its data as JSON, on one line, its keys in order; tagged, with the types of its scalars, as
+/// the toml-test suite has them. The JSON, or an error's message, goes to the front of `output`, as much of it as there
+/// is room for.
 ///
 /// The answer is as that of `toml_c_tidy`, with no status 2.
 #[unsafe(no_mangle)]

@@ -111,13 +111,14 @@ element_open text at mid new n o s number o-is sign not =
     let (same, there, only) = subst (Answers (IsAt number_of) text at mid) o-is number in
     λ other end (to, other-number, close).
     let (_, to-same) = only other to other-number in
-    closes_not text mid.offset new s (subst (λ (t : List ℕ). Answers (IsAt sign_of) t mid.offset new s) same sign) not end
-    (subst (λ (x : ℕ). TokenAt text x right_bracket end) to-same close)
+    closes_not text mid.offset new s (subst (λ (t : List ℕ). Answers (IsAt sign_of) t mid.offset new s) same sign) not
+    end (subst (λ (x : ℕ). TokenAt text x right_bracket end) to-same close)
   where
     closes_not : (text : List ℕ) (at : ℕ) (new : Reading) (s : Option Sign) → Answers (IsAt sign_of) text at new s
         → (s ≡ Some Close → ⊥) → (end : ℕ) → TokenAt text at right_bracket end → ⊥
     closes_not text at new None none not end there = no_sign text at new none Close end there
-    closes_not text at new (Some s) one not end there = not (ap Some (sym (only_sign text at new s one Close end there).0))
+    closes_not text at new (Some s) one not end there =
+        not (ap Some (sym (only_sign text at new s one Close end there).0))
 
 pub element_none : (text : List ℕ) (at : ℕ) (mid new : Reading) (o : Option ℕ) → Answers (IsAt number_of) text at mid o
     → o ≡ None → Answers IsElementAt text at new None
@@ -298,7 +299,8 @@ ended text came at sofar is = (
   where
     none : (rest : List Step) → AreSteps text at rest → (others : List Step) → others ≡ came ++ rest → others ≡ came
     none _ (over at-end) others same = same ∙ append-nil came
-    none _ (more first left) others same = absurd (let (further, within) = end_of first in omega (arith, further, within, is))
+    none _ (more first left) others same =
+        absurd (let (further, within) = end_of first in omega (arith, further, within, is))
 
 -- the empty path
 pub empty_path : (text : List ℕ) → text ≡ []

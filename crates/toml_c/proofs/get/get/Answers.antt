@@ -17,7 +17,7 @@ returns-in-Err c =
 pub returns-in-Err-2 : goal.returns-in-Err-2
 returns-in-Err-2 c =
     let same : c.in-Err.error ≡ c.in-Err-2.field-0 = cc (sym c.in-Err.is ∙ c.in-Err-2.is) in
-    let why = c.in-Err-2.ensures.err (λ e. let yes = c.is_out_of_memory.ensures.1 (ap (λ (f : Fault). f.kind) same ∙ e) in
-    let no = c.if-is_out_of_memory.false in cc) in
+    let why = c.in-Err-2.ensures.err (λ e. let yes = c.is_out_of_memory.ensures.1 (ap (λ (f : Fault). f.kind) same ∙ e)
+    in let no = c.if-is_out_of_memory.false in cc) in
     finds_no_document c.args.input.now (steps_seen c.args.steps.now) c.args.output.now c.in-Err-2.field-0
     c.not_found-in-Err-2.result why c.not_found-in-Err-2.ensures

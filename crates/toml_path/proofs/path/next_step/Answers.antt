@@ -9,14 +9,16 @@ returns-in-Some c =
     subst (λ o. Answers IsStepAt c.args.tokens.now.text c.args.tokens.now.offset c.key.new.tokens
     (option_map key (option_map cow_str_bytes o))) c.in-Some.is
     (step_by_key c.args.tokens.now.text c.args.tokens.now.offset c.next_sign.new.tokens c.key.new.tokens _ _
-    c.in_ok-next_sign.ensures (c.in-Some-Period.is ∙ ap Some c.in-Some-Period.field-0-is) c.in_ok-key-in-Some-Period.ensures)
+    c.in_ok-next_sign.ensures (c.in-Some-Period.is ∙ ap Some c.in-Some-Period.field-0-is)
+    c.in_ok-key-in-Some-Period.ensures)
 
 pub returns-in-Some-2 : goal.returns-in-Some-2
 returns-in-Some-2 c =
     subst (λ o. Answers IsStepAt c.args.tokens.now.text c.args.tokens.now.offset c.element.new.tokens
     (option_map element o)) c.in-Some-2.is
     (step_by_number c.args.tokens.now.text c.args.tokens.now.offset c.next_sign.new.tokens c.element.new.tokens _ _
-    c.in_ok-next_sign.ensures (c.in-Some-Open.is ∙ ap Some c.in-Some-Open.field-0-is) c.in_ok-number-in-Some-Open.ensures)
+    c.in_ok-next_sign.ensures (c.in-Some-Open.is ∙ ap Some c.in-Some-Open.field-0-is)
+    c.in_ok-number-in-Some-Open.ensures)
 
 pub returns-in-Some-Close : goal.returns-in-Some-Close
 returns-in-Some-Close c =
@@ -34,11 +36,13 @@ returns-in-None-2 c =
     subst (λ o. Answers IsStepAt c.args.tokens.now.text c.args.tokens.now.offset c.key.new.tokens
     (option_map key (option_map cow_str_bytes o))) c.in-None-2.is
     (step_by_key c.args.tokens.now.text c.args.tokens.now.offset c.next_sign.new.tokens c.key.new.tokens _ _
-    c.in_ok-next_sign.ensures (c.in-Some-Period.is ∙ ap Some c.in-Some-Period.field-0-is) c.in_ok-key-in-Some-Period.ensures)
+    c.in_ok-next_sign.ensures (c.in-Some-Period.is ∙ ap Some c.in-Some-Period.field-0-is)
+    c.in_ok-key-in-Some-Period.ensures)
 
 pub returns-in-None-3 : goal.returns-in-None-3
 returns-in-None-3 c =
     subst (λ o. Answers IsStepAt c.args.tokens.now.text c.args.tokens.now.offset c.element.new.tokens
     (option_map element o)) c.in-None-3.is
     (step_by_number c.args.tokens.now.text c.args.tokens.now.offset c.next_sign.new.tokens c.element.new.tokens _ _
-    c.in_ok-next_sign.ensures (c.in-Some-Open.is ∙ ap Some c.in-Some-Open.field-0-is) c.in_ok-number-in-Some-Open.ensures)
+    c.in_ok-next_sign.ensures (c.in-Some-Open.is ∙ ap Some c.in-Some-Open.field-0-is)
+    c.in_ok-number-in-Some-Open.ensures)

@@ -10,7 +10,8 @@ pub returns-then-is_empty : goal.returns-then-is_empty
 returns-then-is_empty c =
     let is = nil_of c.args.path.now (sym c.if-is_empty.ensures) in
     subst (λ (steps : List code.Step). IsPath c.args.path.now (map step_of steps)
-    × ((others : List Step) → IsPath c.args.path.now others → others ≡ map step_of steps)) (sym c.new-steps.ensures.items)
+    × ((others : List Step) → IsPath c.args.path.now others → others ≡ map step_of steps))
+    (sym c.new-steps.ensures.items)
     (empty_path c.args.path.now is)
 
 pub at-tokens-requires : goal.at-tokens-requires
