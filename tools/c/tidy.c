@@ -1,31 +1,7 @@
 /* tidy: reads a TOML text from standard input and writes its data anew to standard output, or says on standard error
    what is wrong, and where. It ends with the answer's status. */
 #include "basic_toml.h"
-
-#include <stdio.h>
-#include <stdlib.h>
-
-/* All of a file, in memory that the caller frees; NULL where reading or memory failed. */
-static uint8_t *read_all(FILE *file, size_t *length)
-{
-    size_t room = 4096, got;
-    uint8_t *bytes = malloc(room), *more;
-    *length = 0;
-    while (bytes && (got = fread(bytes + *length, 1, room - *length, file)) > 0) {
-        *length += got;
-        if (*length < room)
-            continue;
-        room *= 2;
-        if (!(more = realloc(bytes, room)))
-            free(bytes);
-        bytes = more;
-    }
-    if (bytes && ferror(file)) {
-        free(bytes);
-        bytes = NULL;
-    }
-    return bytes;
-}
+#include "read_all.h"
 
 int main(void)
 {
@@ -48,7 +24,7 @@ int main(void)
         output = more;
         answer = toml_c_tidy(input, length, output, room);
     }
-    if (answer.status == TOML_TIDIED) {
+    if (answer.status == TOML_DONE) {
         if (fwrite(output, 1, answer.length, stdout) < answer.length || fflush(stdout))
             answer.status = TOML_OUT_OF_MEMORY;
     } else if (answer.status == TOML_OUT_OF_MEMORY) {

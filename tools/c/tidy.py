@@ -17,7 +17,7 @@ def main():
         print(f"{where}{error}", file=sys.stderr)
         return error.status
     sys.stdout.buffer.write(text)
-    return basic_toml.TIDIED
+    return basic_toml.DONE
 
 
 if __name__ == "__main__":

@@ -1,8 +1,15 @@
 -- What a call gives to its caller: an answer, and text in memory of the caller's. (own)
-use Rattle.std.specs.Prelude.{◌≡◌, ℕ, true, false, List, ◌++◌, take, drop, length, Option, Some, None}
+use Rattle.std.specs.Prelude.{◌≡◌, ℕ, true, false, IsUtf8, List, ◌++◌, take, drop, length, Option, Some, None}
+use Rattle.basic_toml.specs.Data.{Data}
+use Rattle.basic_toml.specs.Document.{IsDocument}
+use Rattle.basic_toml.specs.Fault.{Fault, not_text}
+use Rattle.basic_toml.specs.Faults as read
+use Rattle.basic_toml.specs.ReadFaults.{fault_in}
+use Rattle.basic_toml.specs.Reading.{IsTextFault}
+use Rattle.basic_toml.specs.tokens.Text.{folded}
 use Rattle.toml_answer.specs.Due.{IsDue}
 use Rattle.toml_answer.specs.declared.Order.TheVariants.{AsRead}
-use Rattle.toml_c.specs.declared.TomlAnswer.{TomlAnswer}
+use Rattle.toml_c.specs.declared.answer.TomlAnswer.{TomlAnswer}
 
 -- memory with as much of a text at its front as it has room for, and behind it what was there
 abbrev pub with_front : {A : Type 0} → List A → List A → List A
@@ -19,3 +26,12 @@ pub data Tidies (input old new : List ℕ) : TomlAnswer → Type 0 where
   due : {status : ℕ} {text : List ℕ} {place : Option (ℕ × ℕ)} → IsDue AsRead input status text place
       → new ≡ with_front old text → Tidies input old new (answered status (length text) place)
   no_memory : new ≡ old → Tidies input old new (answered 3 0 None)
+
+-- bytes that are a text with this document
+abbrev pub Holds : List ℕ → Data → Type 0
+Holds input tree = IsUtf8 input × IsDocument (folded input) tree
+
+-- why bytes have no document: an error that their text allows, or that they are no text
+pub data IsRefusal (input : List ℕ) : Fault → Type 0 where
+  refused : {error : read.Fault} → IsUtf8 input → IsTextFault input error → IsRefusal input (fault_in input error)
+  not_utf8 : (IsUtf8 input → ⊥) → IsRefusal input not_text

@@ -1,1 +1,4 @@
 pub mod Answers
+pub mod Checks
+pub mod Gets
+pub mod Jsons

@@ -4,7 +4,9 @@ use Rattle.std.specs.Io.KnownBytes.{Appends, Keeps}
 use Rattle.basic_toml.specs.tokens.Text.{folded}
 use Rattle.basic_toml.specs.Data.{Data, Members, table}
 use Rattle.basic_toml.specs.Document.{IsDocument}
-use Rattle.toml_findings.specs.Findings.{Finding, IsFinding, finding_text}
+use Rattle.toml_findings.specs.declared.finding.Unread.{Unread}
+use Rattle.toml_findings.specs.declared.finding.Unread.TheVariants as unread
+use Rattle.toml_findings.specs.Findings.{Finding, IsFinding, finding_of, finding_text}
 use Rattle.toml_json_text.specs.declared.form.Form.{Form}
 use Rattle.toml_json_text.specs.Json.{json}
 use Rattle.toml_streams.specs.Streams.{AppendsFront}
@@ -31,14 +33,19 @@ abbrev pub IsAnswer : Form → List ℕ → Answer → Type 0
 IsAnswer form input (Json text) = IsDue form input 0 (string_bytes text) []
 IsAnswer form input (Refused text) = IsDue form input 1 [] (string_bytes text)
 
--- the answer is this JSON, or this refusal
+-- the answer is this JSON, or this of a refused text
 abbrev pub IsJson : List ℕ → Answer → Type 0
 IsJson bytes (Json text) = string_bytes text ≡ bytes
 IsJson bytes (Refused text) = ⊥
 
-abbrev pub IsRefusal : List ℕ → Answer → Type 0
-IsRefusal bytes (Json text) = ⊥
-IsRefusal bytes (Refused text) = string_bytes text ≡ bytes
+abbrev pub IsText : List ℕ → Answer → Type 0
+IsText bytes (Json text) = ⊥
+IsText bytes (Refused text) = string_bytes text ≡ bytes
+
+-- the answer is that of a text which was not read
+abbrev pub IsRefusal : Unread → Answer → Type 0
+IsRefusal (unread.Refused finding) answer = IsText (refusal_text (finding_of finding)) answer
+IsRefusal unread.OutOfMemory answer = ⊥
 
 -- how a run ends that reads these bytes, by what standard output and standard error hold before and after it, with its
 -- status

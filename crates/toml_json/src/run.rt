@@ -2,13 +2,12 @@
 ghost use Rattle.std.specs.Prelude.{◌≡◌, IfOk, IfSome, string_bytes};
 ghost use Rattle.basic_toml.specs.Data.{table as table_of_members};
 ghost use Rattle.basic_toml.specs.View.{entries};
-ghost use Rattle.toml_findings.specs.Findings.{finding_of};
 ghost use Rattle.toml_json.specs.Run as spec;
 
 use basic_toml::Table;
 use std::alloc::{AllocError, Global};
 use std::io::{Read, Write};
-use toml_findings::{Finding, Unread, read};
+use toml_findings::{Unread, read};
 use toml_json_text::{Form, json_of};
 use toml_streams::{read_all, write_all};
 
@@ -69,8 +68,7 @@ fn answer_to(alloc: Global, form: Form, input: &[u8]) -> Result<Answer, AllocErr
             let table = tree.into_table(alloc)?;
             json_line(alloc, form, &table)
         }
-        Err(Unread::Refused(finding)) => refusal(alloc, finding),
-        Err(Unread::OutOfMemory) => Err(AllocError),
+        Err(unread) => refusal(alloc, unread),
     }
 }
 
@@ -82,8 +80,11 @@ fn json_line(alloc: Global, form: Form, table: &Table) -> Result<Answer, AllocEr
     Ok(Answer::Json(text))
 }
 
-fn refusal(alloc: Global, finding: Finding) -> Result<Answer, AllocError>
-    ensures { IfOk result (λ answer. spec.IsRefusal (spec.refusal_text (finding_of finding)) answer) }
+fn refusal(alloc: Global, unread: Unread) -> Result<Answer, AllocError>
+    ensures { IfOk result (spec.IsRefusal unread) }
 {
-    Ok(Answer::Refused(format!(in alloc; "stdin:{finding}")?))
+    match unread {
+        Unread::Refused(finding) => Ok(Answer::Refused(format!(in alloc; "stdin:{finding}")?)),
+        Unread::OutOfMemory => Err(AllocError),
+    }
 }

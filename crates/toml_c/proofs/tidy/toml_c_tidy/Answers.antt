@@ -1,9 +1,9 @@
 use Rattle.std.proofs.Common.{◌≡◌, ℕ, List, length, refl, sym, ◌∙◌, ap, subst, Option}
 use Rattle.toml_answer.specs.Due.{IsDue}
 use Rattle.toml_answer.specs.declared.Order.TheVariants.{AsRead}
-use Rattle.toml_c.specs.declared.TomlAnswer.{TomlAnswer}
+use Rattle.toml_c.specs.declared.answer.TomlAnswer.{TomlAnswer}
 use Rattle.toml_c.specs.Answers.{with_front, answered, Tidies, due, no_memory}
-use Rattle.toml_c.proofs.toml_c_tidy.Goals as goal
+use Rattle.toml_c.proofs.tidy.toml_c_tidy.Goals as goal
 
 tidied : (input old new text bytes : List ℕ) (status : ℕ) (place : Option (ℕ × ℕ)) (answer : TomlAnswer)
     → IsDue AsRead input status text place → bytes ≡ text → new ≡ with_front old bytes

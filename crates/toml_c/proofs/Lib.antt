@@ -1,0 +1,4 @@
+pub mod AnswersAreMade
+pub mod DocumentIsRead
+pub mod KeysJoined
+pub mod ValueIsTold

@@ -1,0 +1,2 @@
+pub mod StepsAreFound
+pub mod ValuesAreFound
