@@ -6,4 +6,5 @@ pub mod SignsFollow
 pub mod TextsCompleted
 pub mod TokensFollow
 pub mod TokensLead
+pub mod TokensPass
 pub mod ValuesCompleted

@@ -1,9 +1,20 @@
 -- Holes and viable prefixes: what may stand where a reading of the grammar stands, and the fault that a text is due.
 pub mod FaultsAreOne
+pub mod FractionsHaveNoFault
+pub mod GapsEnd
+pub mod HolesAreDue
+pub mod HolesAreWithin
+pub mod HolesAtTheEnd
 pub mod HolesCarried
 pub mod HolesHold
 pub mod NumberParts
+pub mod NumbersAreDue
+pub mod NumbersOnTheWay
+pub mod RowsHead
+pub mod SignsAtHoles
 pub mod TextsCarried
 pub mod TextsHold
 pub mod TokensAtHoles
+pub mod TokensBegin
+pub mod ValuesFollowed
 pub mod ValuesHaveNoFault

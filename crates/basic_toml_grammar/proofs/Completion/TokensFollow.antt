@@ -10,7 +10,7 @@ use Rattle.basic_toml_tokens.specs.TokenAt.{Lexeme, whitespace, comment, keylike
 use Rattle.basic_toml_grammar.specs.Sections.{Section}
 use Rattle.basic_toml_grammar.specs.Grammar.{IsSectionList}
 use Rattle.basic_toml_grammar.specs.Holes.{Hole, HoleInText}
-use Rattle.basic_toml_grammar.specs.Viable.{GoesOn, SameToken, NumberFails, Viable}
+use Rattle.basic_toml_grammar.specs.Viable.{GoesOn, SameToken, Viable}
 use Rattle.basic_toml_grammar.proofs.Grammar.EndChangesNothing.{Parts, at_end, past, beyond, stops, Ends, joins, Meets}
 use Rattle.basic_toml_grammar.proofs.Grammar.EndChangesNothing.{same, apart, same_ends, run_to, begun_to, sign_kept}
 use Rattle.basic_toml_grammar.proofs.Grammar.FrontsOfTexts.{front_of, parts_of, parts_same}
@@ -21,8 +21,8 @@ use Rattle.basic_toml_grammar.proofs.Completion.Fillers as fillers
 use Rattle.basic_toml_grammar.proofs.Completion.ValuesCompleted.{placed, spot, there, Leads}
 use Rattle.basic_toml_grammar.proofs.Completion.TextsCompleted.{text_fed}
 use Rattle.basic_toml_grammar.proofs.Completion.CompletedBytes.{bytes_of}
-use Rattle.basic_toml_grammar.proofs.Completion.TokensLead.{Led, LedBy, at_start, after, by_none, by, no_comment, loose, allowed}
-use Rattle.basic_toml_grammar.proofs.Completion.TokensLead.{lead_text}
+use Rattle.basic_toml_grammar.proofs.Completion.TokensPass.{Led, LedBy, at_start, after, by_none, by, no_comment, loose}
+use Rattle.basic_toml_grammar.proofs.Completion.TokensLead.{allowed, lead_text}
 
 -- A token that ends before `here` ends before `there`.
 abbrev TokenEnds : Lexeme → Text → Text → Type 0
@@ -110,9 +110,9 @@ itself (x ∷ here) (string _ _ _) = same refl refl
 itself here _ = tt
 
 -- what goes on otherwise from where tokens lead
-led_parts : {start text : Text} (there : Text) → Led start text → (other : Text) × Parts text there start other
+led_parts : {start : Text} {end : ℕ} {text : Text} (there : Text) → Led start end text → (other : Text) × Parts text there start other
 led_parts there at_start = (there, at_end refl refl)
-led_parts there (after {l = l} {rest = rest} r t) =
+led_parts there (after {l = l} {rest = rest} r t q) =
     let k = token_kept t (itself rest l) in
     let f = front_of k.parts in
     let (o, p) = led_parts (f.chars ++ there) r in
@@ -183,13 +183,8 @@ last_ends Hole.after_element false l o at cs e ok = sign_ends l o 93 at cs refl 
 last_ends Hole.after_field false l o at cs e ok = sign_ends l o 125 at cs refl refl refl e ok
 last_ends Hole.after_line false l o at cs e ok = end_ends l o at cs e
 
--- Tokens lead there from the start, and each of them may stand.
-pub data Follows (start : Text) : Text → Type 0 where
-  from_start : Follows start start
-  and_then : {text rest : Text} → Follows start text → GoesOn start text (SameToken text rest) → Follows start rest
-
 -- before a text of the grammar goes on otherwise
-module _ (start : Text) (bytes : List ℕ) (utf8 : IsUtf8 bytes) (sections : List Section)
+module _ (start : Text) (end : ℕ) (bytes : List ℕ) (utf8 : IsUtf8 bytes) (sections : List Section)
     (grammar : IsSectionList (folded bytes) sections) where
   -- a token moved to it
   record Moved (text rest : Text) : Type 0 where
@@ -198,7 +193,7 @@ module _ (start : Text) (bytes : List ℕ) (utf8 : IsUtf8 bytes) (sections : Lis
     alike : Alike text other
     goes : GoesOn start text (SameToken text rest)
 
-  moved : {l : Lexeme} {text rest there : Text} → Led start text → IsToken [] text l rest → TokenEnds l rest there
+  moved : {l : Lexeme} {text rest there : Text} → Led start end text → IsToken [] text l rest → TokenEnds l rest there
       → Parts rest there start (folded bytes) → Moved text rest
   moved {l = l} {text = text} {there = there} r t ends k =
       let c = token_kept t ends in
@@ -233,38 +228,31 @@ module _ (start : Text) (bytes : List ℕ) (utf8 : IsUtf8 bytes) (sections : Lis
         };
       }
 
-  walk : {text there : Text} → Led start text → Alike text there → Parts text there start (folded bytes)
-      → Follows start text
-  walk at_start a k = from_start
-  walk (after {l = l} r t) a k =
-      let m = moved r t (alike_ends l a) k in and_then (walk r m.alike m.parts) m.goes
+  walk : {text there : Text} → Led start end text → Alike text there → Parts text there start (folded bytes)
+      → Viable start end text
+  walk at_start a k = Viable.at_start
+  walk (after {l = l} r t q) a k =
+      let m = moved r t (alike_ends l a) k in
+      Viable.after (walk r m.alike m.parts) (record { follows = m.goes; number = q })
 
-  walk_by : {kind : Lexeme → Bool} {text there : Text} → LedBy start kind text
+  walk_by : {kind : Lexeme → Bool} {text there : Text} → LedBy start end kind text
       → ((l : Lexeme) → kind l ≡ true → TokenEnds l text there) → Parts text there start (folded bytes)
-      → Follows start text
-  walk_by by_none ends k = from_start
-  walk_by (by {l = l} r t ok) ends k =
-      let m = moved r t (ends l ok) k in and_then (walk r m.alike m.parts) m.goes
+      → Viable start end text
+  walk_by by_none ends k = Viable.at_start
+  walk_by (by {l = l} r t q ok) ends k =
+      let m = moved r t (ends l ok) k in
+      Viable.after (walk r m.alike m.parts) (record { follows = m.goes; number = q })
 
--- up to a hole
-pub tokens_follow : (bytes : List ℕ) → IsUtf8 bytes → {h : Hole} {at : Text} → HoleInText (folded bytes) h at
-    → Follows (folded bytes) at
-tokens_follow bytes utf8 {h = h} {at = at} d =
+-- What stands before a hole is viable.
+pub hole_is_viable : (bytes : List ℕ) → IsUtf8 bytes → (end : ℕ) {h : Hole} {at : Text}
+    → HoleInText (folded bytes) h at → Viable (folded bytes) end at
+hole_is_viable bytes utf8 end {h = h} {at = at} d =
     let o = offset_in (length bytes) at in
     let gap = text_gap d in
     let x = usual_filler h in
     let g = text_fed o d x in
     let b = bytes_of gap g.total g.visible bytes utf8 g.parts in
-    walk_by (folded bytes) b.bytes b.utf8 (fill_text (spot o gap) d x)
-    (subst (λ (t : Text). IsSectionList t (fill_text (spot o gap) d x)) (sym b.same) g.holds) (lead_text d)
+    walk_by (folded bytes) end b.bytes b.utf8 (fill_text (spot o gap) d x)
+    (subst (λ (t : Text). IsSectionList t (fill_text (spot o gap) d x)) (sym b.same) g.holds) (lead_text end d)
     (λ l ok. last_ends h gap l o at g.total g.leads ok)
     (subst (λ (t : Text). Parts at (there o gap g.total) (folded bytes) t) (sym b.same) g.parts)
-
--- so it is viable, where no number at fault begins on the way
-pub follows_viable : {start at : Text} (end : ℕ) → Follows start at
-    → ((text rest : Text) → Follows start text → GoesOn start text (SameToken text rest) → (offset : ℕ)
-    → NumberFails start end text offset → ⊥)
-    → Viable start end at
-follows_viable end from_start none = Viable.at_start
-follows_viable end (and_then {text = text} {rest = rest} f g) none =
-    Viable.after (follows_viable end f none) (record { follows = g; number = λ offset n. none text rest f g offset n })

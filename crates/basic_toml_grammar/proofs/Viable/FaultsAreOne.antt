@@ -143,7 +143,7 @@ alike_kind : {l l' : Lexeme} (want : Want) → Alike l l'
 alike_kind want same = refl
 alike_kind want (strings {source = s} {other = t} {value = v} {m = m}) = string_kind want m s t v
 
-no_token_at_end : {source : List ℕ} {rest : Text} {l : Lexeme} → IsToken source [] l rest → ⊥
+pub no_token_at_end : {source : List ℕ} {rest : Text} {l : Lexeme} → IsToken source [] l rest → ⊥
 no_token_at_end (token.punctuation s e) = no_sign refl s
 no_token_at_end (token.blanks s w) = no_sign refl s
 no_token_at_end (token.word s w) = no_sign refl s

@@ -1,154 +1,241 @@
--- A reading that stands at a hole stands at it in each text that is the same up to the hole and the character there.
-use Rattle.std.proofs.Common.{◌≡◌, ℕ, ◌==◌, Bool, true, false, cond, [], ◌∷◌, Some, None, refl, ap, sym, ◌∙◌, subst}
+-- A reading that stands at a hole stands at it in each text that is the same up to the hole and goes on there with the
+-- same character; or with one that joins nothing before it, where that may be read on to.
+use Rattle.std.proofs.Common.{◌≡◌, ℕ, ◌<◌, ◌==◌, Bool, true, false, cond, [], Some, None, length, refl, ap, sym, ◌∙◌}
+use Rattle.std.proofs.Common.{subst, arith}
 use Rattle.basic_toml_tokens.specs.Text.{Text, is_comment}
-use Rattle.basic_toml_grammar.specs.Reader.{char_at}
+use Rattle.basic_toml_grammar.specs.Grammar.{after_comment_by}
+use Rattle.basic_toml_grammar.specs.Reader.{char_at, end_of}
 use Rattle.basic_toml_grammar.specs.Holes as holes
 use Rattle.basic_toml_grammar.specs.Holes.{Hole, HoleInKeys, HoleInValue, HoleInElements, HoleInFields, HoleInFieldsOn}
 use Rattle.basic_toml_grammar.specs.Holes.{HoleInRow}
-use Rattle.basic_toml_grammar.proofs.Grammar.EndChangesNothing.{Parts, same, Cut, Carried, Clear, same_clear}
+use Rattle.basic_toml_grammar.proofs.Grammar.EndChangesNothing.{Parts, at_end, past, Meets, same, same_ends, Ends}
+use Rattle.basic_toml_grammar.proofs.Grammar.EndChangesNothing.{Carried, Clear, same_clear, clear_past}
 use Rattle.basic_toml_grammar.proofs.Grammar.EndChangesNothing.{sign_carried, blanks_carried, gap_carried}
-use Rattle.basic_toml_grammar.proofs.Grammar.StringsCarried.{Alike, alike_past}
+use Rattle.basic_toml_grammar.proofs.Grammar.StringsCarried.{Alike}
 use Rattle.basic_toml_grammar.proofs.Grammar.GrammarCarried.{key_carried, keys_carried, sign_among_blanks}
 use Rattle.basic_toml_grammar.proofs.Grammar.GrammarCarried.{sign_among_gaps, value_carried, row_carried}
+use Rattle.basic_toml_grammar.proofs.Grammar.ReaderIsComplete.{value_shorter, row_shorter, gap_length, blanks_length}
+use Rattle.basic_toml_grammar.proofs.Grammar.ReaderIsComplete.{shorter_after_blanks, shorter_after_gap}
+use Rattle.basic_toml_grammar.proofs.Grammar.StringsAreRead.{sign_length}
+use Rattle.basic_toml_grammar.proofs.Completion.Fillers.{value_gap, elements_gap, fields_gap, fields_on_gap, row_gap}
+use Rattle.basic_toml_grammar.proofs.Viable.HolesAreWithin.{keys_past, row_past}
+use Rattle.basic_toml_grammar.proofs.Viable.HolesAreWithin.{elements_within, fields_within, fields_on_within}
+
+-- a sign that is missed in the one is missed in the other
+abbrev pub Misses : ℕ → Text → Text → Type 0
+Misses c here there = char_at c here ≡ None → char_at c there ≡ None
+
+-- The first text goes on with `here` at a hole, the second with `there`.
+pub record Turn (h : Hole) (here there : Text) : Type 0 where
+  pub meets : Meets here there
+  pub line : h ≡ Hole.after_line → Ends (λ c. c == 35) here there × Ends is_comment here there
+  pub value : h ≡ Hole.value → Misses 93 here there
+  pub key : h ≡ Hole.key → Misses 125 here there
+
+-- and where a line or a header may begin
+pub record Opening (here there : Text) : Type 0 where
+  pub bracket : Misses 91 here there
+  pub hash : Misses 35 here there
+  pub line_end : char_at 35 here ≡ None → end_of (after_comment_by is_comment here) ≡ None
+      → end_of (after_comment_by is_comment there) ≡ None
 
 pub taken : {A : Type 0} (b : Bool) (x y : A) → cond b (Some x) None ≡ None → cond b (Some y) None ≡ None
 taken true x y e = cc
 taken false x y e = refl
 
-module _ {here there : Text} (alike : Alike here there) where
-  -- what is the same up to there begins with the same character
-  pub cut_of : {text other : Text} → Parts here there text other → Cut here there text other
-  cut_of k = let a = alike_past alike k in record { parts = k; meets = same a.here a.there }
+-- of texts that are the same up to there
+pub misses : {here there text other : Text} (c : ℕ) → char_at c text ≡ None → Parts here there text other
+    → Misses c here there → char_at c other ≡ None
+misses c m (at_end t o) f = ap (char_at c) o ∙ f (sym (ap (char_at c) t) ∙ m)
+misses c m (past {x = x} {text = text} {other = other} k) f = taken (x.1 == c) (x.0, text) (x.0, other) m
 
-  pub clear : {text other : Text} → Cut here there text other → Clear is_comment text other
-  clear k = let a = alike_past alike k.parts in same_clear a.here a.there
+pub misses_past : {here there text other : Text} (c : ℕ) → char_at c text ≡ None → Parts here there text other
+    → length here < length text → char_at c other ≡ None
+misses_past c m (at_end t o) l = absurd (omega (arith, ap length t))
+misses_past c m (past {x = x} {text = text} {other = other} k) l = taken (x.1 == c) (x.0, text) (x.0, other) m
 
-  pub not_over : {text other : Text} → Cut here there text other → text ≡ [] → ⊥
-  not_over k e = let a = alike_past alike k.parts in let no : [] ≡ a.first ∷ a.next = sym e ∙ a.here in cc
+clear_behind : {here there text other : Text} → Parts here there text other → length here < length text
+    → Clear is_comment text other
+clear_behind (at_end t o) l = absurd (omega (arith, ap length t))
+clear_behind (past k) l = same_clear refl refl
 
-  pub first_same : {x : ℕ × ℕ} {text other : Text} → Cut here there (x ∷ text) other → (t : Text) × (other ≡ x ∷ t)
-  first_same {x = x} {text = text} k =
-      let a = alike_past alike k.parts in
-      let both : x ∷ text ≡ a.first ∷ a.next = a.here in
-      let first : a.first ≡ x = cc in
-      (a.next', a.there ∙ ap (λ (y : ℕ × ℕ). y ∷ a.next') first)
+-- what is the same character goes on so everywhere
+pub alike_turn : {here there : Text} (h : Hole) → Alike here there → Turn h here there
+alike_turn {here = here} {there = there} h a = record {
+  meets = same a.here a.there;
+  line = λ e. (same_ends (λ c. c == 35) a.here a.there, same_ends is_comment a.here a.there);
+  value = λ e m. missed 93 m;
+  key = λ e m. missed 125 m;
+}
+  where
+    missed : (c : ℕ) → Misses c here there
+    missed c m = ap (char_at c) a.there
+        ∙ taken (a.first.1 == c) (a.first.0, a.next) (a.first.0, a.next') (sym (ap (char_at c) a.here) ∙ m)
 
-  -- a sign that is missed
-  pub misses : (c : ℕ) {text other : Text} → char_at c text ≡ None → Cut here there text other → char_at c other ≡ None
-  misses c m k =
-      let a = alike_past alike k.parts in
-      ap (char_at c) a.there
-      ∙ taken (a.first.1 == c) (a.first.0, a.next) (a.first.0, a.next') (sym (ap (char_at c) a.here) ∙ m)
+-- a gap before the hole ends there in both
+abbrev pub Gapped : Bool → Text → Text → Type 0
+Gapped gap here there = gap ≡ true → Clear is_comment here there
 
-  pub keys_hole : {h : Hole} {text at at' : Text} → HoleInKeys text h at → Cut here there at at'
-      → Carried here there text (λ t. HoleInKeys t h at')
-  keys_hole {at' = at'} holes.this_key k = record { other = at'; cut = k; holds = holes.this_key }
-  keys_hole {h = h} {at' = at'} (holes.later_key {mid = mid} {next = next} key s d) k =
-      let x = keys_hole d k in
-      let m = sign_among_blanks mid next s x.cut in
-      let r = key_carried key m.cut in
+pub keys_hole : {h : Hole} {text at at' : Text} → HoleInKeys text h at → Turn h at at'
+    → Carried at at' text (λ t. HoleInKeys t h at')
+keys_hole {at' = at'} holes.this_key turn =
+    record { other = at'; cut = record { parts = at_end refl refl; meets = turn.meets }; holds = holes.this_key }
+keys_hole {h = h} {at' = at'} (holes.later_key {mid = mid} {next = next} key s d) turn =
+    let x = keys_hole d turn in
+    let m = sign_among_blanks mid next s x.cut in
+    let r = key_carried key m.cut in
+    record {
+      other = r.other;
+      cut = r.cut;
+      holds = holes.later_key r.holds m.holds.sign
+          (subst (λ (t : Text). HoleInKeys t h at') (sym m.holds.on) x.holds);
+    }
+
+mutual
+  value_hole : {h : Hole} {text at at' : Text} (d : HoleInValue text h at) → Turn h at at'
+      → Gapped (value_gap d) at at' → Carried at at' text (λ t. HoleInValue t h at')
+  value_hole {at' = at'} holes.this_value turn gap =
+      record { other = at'; cut = record { parts = at_end refl refl; meets = turn.meets }; holds = holes.this_value }
+  value_hole {h = h} {at' = at'} (holes.array {next = next} s d) turn gap =
+      let x = elements_hole d turn gap in
+      let g = gap_carried is_comment next x.cut (elements_clear d gap x.cut.parts) in
+      let r = sign_carried s g.cut.parts in
       record {
         other = r.other;
         cut = r.cut;
-        holds = holes.later_key r.holds m.holds.sign
-            (subst (λ (t : Text). HoleInKeys t h at') (sym m.holds.on) x.holds);
+        holds = holes.array r.holds (subst (λ (t : Text). HoleInElements t h at') (sym g.holds) x.holds);
+      }
+  value_hole {h = h} {at' = at'} (holes.inline {next = next} s d) turn gap =
+      let x = fields_hole d turn gap in
+      let g = blanks_carried next x.cut in
+      let r = sign_carried s g.cut.parts in
+      record {
+        other = r.other;
+        cut = r.cut;
+        holds = holes.inline r.holds (subst (λ (t : Text). HoleInFields t h at') (sym g.holds) x.holds);
       }
 
-  mutual
-    value_hole : {h : Hole} {text at at' : Text} → HoleInValue text h at → Cut here there at at'
-        → Carried here there text (λ t. HoleInValue t h at')
-    value_hole {at' = at'} holes.this_value k = record { other = at'; cut = k; holds = holes.this_value }
-    value_hole {h = h} {at' = at'} (holes.array {next = next} s d) k =
-        let x = elements_hole d k in
-        let g = gap_carried is_comment next x.cut (clear x.cut) in
-        let r = sign_carried s g.cut.parts in
-        record {
-          other = r.other;
-          cut = r.cut;
-          holds = holes.array r.holds (subst (λ (t : Text). HoleInElements t h at') (sym g.holds) x.holds);
-        }
-    value_hole {h = h} {at' = at'} (holes.inline {next = next} s d) k =
-        let x = fields_hole d k in
-        let g = blanks_carried next x.cut in
-        let r = sign_carried s g.cut.parts in
-        record {
-          other = r.other;
-          cut = r.cut;
-          holds = holes.inline r.holds (subst (λ (t : Text). HoleInFields t h at') (sym g.holds) x.holds);
-        }
+  elements_clear : {h : Hole} {text other at at' : Text} (d : HoleInElements text h at)
+      → Gapped (elements_gap d) at at' → Parts at at' text other → Clear is_comment text other
+  elements_clear (holes.in_element m holes.this_value) gap k = clear_past (gap refl) k
+  elements_clear (holes.in_element m (holes.array {next = next} s d)) gap k =
+      clear_behind k (omega (arith, sign_length s, gap_length next, elements_within d))
+  elements_clear (holes.in_element m (holes.inline {next = next} s d)) gap k =
+      clear_behind k (omega (arith, sign_length s, blanks_length next, fields_within d))
+  elements_clear (holes.after_this {mid = mid} v) gap k =
+      clear_behind k (omega (arith, value_shorter v, gap_length mid))
+  elements_clear (holes.later_element {mid = mid} {next = next} v s d) gap k =
+      clear_behind k (omega (arith, value_shorter v, shorter_after_gap mid s, gap_length next, elements_within d))
 
-    elements_hole : {h : Hole} {text at at' : Text} → HoleInElements text h at → Cut here there at at'
-        → Carried here there text (λ t. HoleInElements t h at')
-    elements_hole (holes.in_element m d) k =
-        let x = value_hole d k in
-        record { other = x.other; cut = x.cut; holds = holes.in_element (misses _ m x.cut) x.holds }
-    elements_hole (holes.after_this {mid = mid} v) k =
-        let g = gap_carried is_comment mid k (clear k) in
-        let r = value_carried v g.cut in
-        record {
-          other = r.other;
-          cut = r.cut;
-          holds = subst (λ (t : Text). HoleInElements r.other Hole.after_element t) g.holds (holes.after_this r.holds);
-        }
-    elements_hole {h = h} {at' = at'} (holes.later_element {mid = mid} {next = next} v s d) k =
-        let x = elements_hole d k in
-        let m = sign_among_gaps mid next s x.cut.parts (clear x.cut) in
-        let r = value_carried v m.cut in
-        record {
-          other = r.other;
-          cut = r.cut;
-          holds = holes.later_element r.holds m.holds.sign
-              (subst (λ (t : Text). HoleInElements t h at') (sym m.holds.on) x.holds);
-        }
+  elements_hole : {h : Hole} {text at at' : Text} (d : HoleInElements text h at) → Turn h at at'
+      → Gapped (elements_gap d) at at' → Carried at at' text (λ t. HoleInElements t h at')
+  elements_hole {at' = at'} (holes.in_element m holes.this_value) turn gap = record {
+    other = at';
+    cut = record { parts = at_end refl refl; meets = turn.meets };
+    holds = holes.in_element (turn.value refl m) holes.this_value;
+  }
+  elements_hole (holes.in_element m (holes.array {next = next} s d)) turn gap =
+      let x = value_hole (holes.array s d) turn gap in
+      record {
+        other = x.other;
+        cut = x.cut;
+        holds = holes.in_element (misses_past 93 m x.cut.parts
+            (omega (arith, sign_length s, gap_length next, elements_within d))) x.holds;
+      }
+  elements_hole (holes.in_element m (holes.inline {next = next} s d)) turn gap =
+      let x = value_hole (holes.inline s d) turn gap in
+      record {
+        other = x.other;
+        cut = x.cut;
+        holds = holes.in_element (misses_past 93 m x.cut.parts
+            (omega (arith, sign_length s, blanks_length next, fields_within d))) x.holds;
+      }
+  elements_hole (holes.after_this {mid = mid} v) turn gap =
+      let g = gap_carried is_comment mid (record { parts = at_end refl refl; meets = turn.meets }) (gap refl) in
+      let r = value_carried v g.cut in
+      record {
+        other = r.other;
+        cut = r.cut;
+        holds = subst (λ (t : Text). HoleInElements r.other Hole.after_element t) g.holds (holes.after_this r.holds);
+      }
+  elements_hole {h = h} {at' = at'} (holes.later_element {mid = mid} {next = next} v s d) turn gap =
+      let x = elements_hole d turn gap in
+      let m = sign_among_gaps mid next s x.cut.parts (elements_clear d gap x.cut.parts) in
+      let r = value_carried v m.cut in
+      record {
+        other = r.other;
+        cut = r.cut;
+        holds = holes.later_element r.holds m.holds.sign
+            (subst (λ (t : Text). HoleInElements t h at') (sym m.holds.on) x.holds);
+      }
 
-    fields_hole : {h : Hole} {text at at' : Text} → HoleInFields text h at → Cut here there at at'
-        → Carried here there text (λ t. HoleInFields t h at')
-    fields_hole (holes.fields m d) k =
-        let x = fields_on_hole d k in
-        record { other = x.other; cut = x.cut; holds = holes.fields (misses _ m x.cut) x.holds }
+  fields_hole : {h : Hole} {text at at' : Text} (d : HoleInFields text h at) → Turn h at at'
+      → Gapped (fields_gap d) at at' → Carried at at' text (λ t. HoleInFields t h at')
+  fields_hole (holes.fields m d) turn gap =
+      let x = fields_on_hole d turn gap in
+      record { other = x.other; cut = x.cut; holds = holes.fields (no_brace d turn m x.cut.parts) x.holds }
 
-    fields_on_hole : {h : Hole} {text at at' : Text} → HoleInFieldsOn text h at → Cut here there at at'
-        → Carried here there text (λ t. HoleInFieldsOn t h at')
-    fields_on_hole (holes.in_row d) k =
-        let x = row_hole d k in record { other = x.other; cut = x.cut; holds = holes.in_row x.holds }
-    fields_on_hole (holes.after_row {mid = mid} x) k =
-        let g = blanks_carried mid k in
-        let r = row_carried x g.cut in
-        record {
-          other = r.other;
-          cut = r.cut;
-          holds = subst (λ (t : Text). HoleInFieldsOn r.other Hole.after_field t) g.holds (holes.after_row r.holds);
-        }
-    fields_on_hole {h = h} {at' = at'} (holes.later_row {mid = mid} {next = next} x s d) k =
-        let y = fields_on_hole d k in
-        let m = sign_among_blanks mid next s y.cut in
-        let r = row_carried x m.cut in
-        record {
-          other = r.other;
-          cut = r.cut;
-          holds = holes.later_row r.holds m.holds.sign
-              (subst (λ (t : Text). HoleInFieldsOn t h at') (sym m.holds.on) y.holds);
-        }
+  no_brace : {h : Hole} {text other at at' : Text} (d : HoleInFieldsOn text h at) → Turn h at at'
+      → char_at 125 text ≡ None → Parts at at' text other → char_at 125 other ≡ None
+  no_brace (holes.in_row (holes.in_keys holes.this_key)) turn m k = misses 125 m k (turn.key refl)
+  no_brace (holes.in_row (holes.in_keys (holes.later_key key s d))) turn m k =
+      misses_past 125 m k (keys_past (holes.later_key key s d) refl)
+  no_brace (holes.in_row (holes.after_keys ks)) turn m k = misses_past 125 m k (row_past (holes.after_keys ks) refl)
+  no_brace (holes.in_row (holes.in_value ks s d)) turn m k =
+      misses_past 125 m k (row_past (holes.in_value ks s d) refl)
+  no_brace (holes.after_row {mid = mid} w) turn m k =
+      misses_past 125 m k (omega (arith, row_shorter w, blanks_length mid))
+  no_brace (holes.later_row {mid = mid} {next = next} w s d) turn m k =
+      misses_past 125 m k (omega (
+        arith,
+        row_shorter w,
+        shorter_after_blanks mid s,
+        blanks_length next,
+        fields_on_within d,
+      ))
 
-    pub row_hole : {h : Hole} {text at at' : Text} → HoleInRow text h at → Cut here there at at'
-        → Carried here there text (λ t. HoleInRow t h at')
-    row_hole (holes.in_keys d) k =
-        let x = keys_hole d k in record { other = x.other; cut = x.cut; holds = holes.in_keys x.holds }
-    row_hole (holes.after_keys {mid = mid} ks) k =
-        let g = blanks_carried mid k in
-        let r = keys_carried ks g.cut in
-        record {
-          other = r.other;
-          cut = r.cut;
-          holds = subst (λ (t : Text). HoleInRow r.other Hole.after_keys t) g.holds (holes.after_keys r.holds);
-        }
-    row_hole {h = h} {at' = at'} (holes.in_value {mid = mid} {next = next} ks s d) k =
-        let y = value_hole d k in
-        let m = sign_among_blanks mid next s y.cut in
-        let r = keys_carried ks m.cut in
-        record {
-          other = r.other;
-          cut = r.cut;
-          holds = holes.in_value r.holds m.holds.sign
-              (subst (λ (t : Text). HoleInValue t h at') (sym m.holds.on) y.holds);
-        }
+  fields_on_hole : {h : Hole} {text at at' : Text} (d : HoleInFieldsOn text h at) → Turn h at at'
+      → Gapped (fields_on_gap d) at at' → Carried at at' text (λ t. HoleInFieldsOn t h at')
+  fields_on_hole (holes.in_row d) turn gap =
+      let x = row_hole d turn gap in record { other = x.other; cut = x.cut; holds = holes.in_row x.holds }
+  fields_on_hole (holes.after_row {mid = mid} x) turn gap =
+      let g = blanks_carried mid (record { parts = at_end refl refl; meets = turn.meets }) in
+      let r = row_carried x g.cut in
+      record {
+        other = r.other;
+        cut = r.cut;
+        holds = subst (λ (t : Text). HoleInFieldsOn r.other Hole.after_field t) g.holds (holes.after_row r.holds);
+      }
+  fields_on_hole {h = h} {at' = at'} (holes.later_row {mid = mid} {next = next} x s d) turn gap =
+      let y = fields_on_hole d turn gap in
+      let m = sign_among_blanks mid next s y.cut in
+      let r = row_carried x m.cut in
+      record {
+        other = r.other;
+        cut = r.cut;
+        holds = holes.later_row r.holds m.holds.sign
+            (subst (λ (t : Text). HoleInFieldsOn t h at') (sym m.holds.on) y.holds);
+      }
+
+  pub row_hole : {h : Hole} {text at at' : Text} (d : HoleInRow text h at) → Turn h at at'
+      → Gapped (row_gap d) at at' → Carried at at' text (λ t. HoleInRow t h at')
+  row_hole (holes.in_keys d) turn gap =
+      let x = keys_hole d turn in record { other = x.other; cut = x.cut; holds = holes.in_keys x.holds }
+  row_hole (holes.after_keys {mid = mid} ks) turn gap =
+      let g = blanks_carried mid (record { parts = at_end refl refl; meets = turn.meets }) in
+      let r = keys_carried ks g.cut in
+      record {
+        other = r.other;
+        cut = r.cut;
+        holds = subst (λ (t : Text). HoleInRow r.other Hole.after_keys t) g.holds (holes.after_keys r.holds);
+      }
+  row_hole {h = h} {at' = at'} (holes.in_value {mid = mid} {next = next} ks s d) turn gap =
+      let y = value_hole d turn gap in
+      let m = sign_among_blanks mid next s y.cut in
+      let r = keys_carried ks m.cut in
+      record {
+        other = r.other;
+        cut = r.cut;
+        holds = holes.in_value r.holds m.holds.sign
+            (subst (λ (t : Text). HoleInValue t h at') (sym m.holds.on) y.holds);
+      }

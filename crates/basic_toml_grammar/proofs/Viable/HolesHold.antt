@@ -18,6 +18,25 @@ pub sign_fits : {h : Hole} {c p : ℕ} {text rest : Text} → StartsWith c text 
 sign_fits {c = c} {p = p} {rest = rest} s e =
     record { offset = p; char = c; rest = rest; starts = s; fit = e }
 
+-- a value at the front
+pub record HasValue (text : Text) : Type 0 where
+  pub offset : ℕ
+  pub value : Raw
+  pub rest : Text
+  pub is : IsValue is_comment text offset value rest
+
+-- What stands at a hole: a character that fits, and a value where one has to come.
+pub record Fills (h : Hole) (text : Text) : Type 0 where
+  pub fits : Fits h text
+  pub value : h ≡ Hole.value → HasValue text
+
+pub filled : {h : Hole} {text : Text} → (h ≡ Hole.value → ⊥) → Fits h text → Fills h text
+filled n f = record { fits = f; value = λ e. absurd (n e) }
+
+pub keys_no_value : {h : Hole} {text at : Text} → HoleInKeys text h at → h ≡ Hole.value → ⊥
+keys_no_value holes.this_key e = cc
+keys_no_value (holes.later_key k s d) e = keys_no_value d e
+
 pub clash : {A : Type 0} {x : A} → None ≡ Some x → ⊥
 clash e = cc
 
@@ -47,8 +66,13 @@ keys_next (more {next = n} {rest = r₁} {keys = ks} k e xs) (more {next = n'} l
 
 mutual
   value_holds : {h : Hole} {text at r : Text} {p : ℕ} {v : Raw} → HoleInValue text h at → IsValue is_comment text p v r
-      → Fits h at
-  value_holds holes.this_value v = let x = value_heads is_comment v in sign_fits x.sign x.kind
+      → Fills h at
+  value_holds holes.this_value v =
+      let x = value_heads is_comment v in
+      record {
+        fits = sign_fits x.sign x.kind;
+        value = λ e. record { offset = _; value = _; rest = _; is = v };
+      }
   value_holds (holes.array e d) (word f w x) = absurd (word_sign is_wordlike f w e refl)
   value_holds (holes.array e d) (string s) = absurd (heads_not (string_heads s) e refl)
   value_holds {h = h} {at = at} (holes.array {next = n} e d) (array {next = n'} f es) =
@@ -63,15 +87,15 @@ mutual
       fields_hold (subst (λ m. HoleInFields (after_blanks m) h at) m d) rs
 
   elements_hold : {h : Hole} {text at r : Text} {es : Elements} → HoleInElements text h at
-      → IsElements is_comment text es r → Fits h at
+      → IsElements is_comment text es r → Fills h at
   elements_hold (holes.in_element m d) (close e) = absurd (missed m e refl)
   elements_hold (holes.in_element m d) (last v e) = value_holds d v
   elements_hold (holes.in_element m d) (and_more v e es) = value_holds d v
   elements_hold (holes.after_this v) (close e) = absurd (heads_not (value_heads is_comment v) e refl)
   elements_hold (holes.after_this v) (last w e) =
-      sign_fits (ap (after_gap is_comment) (value_same is_comment v w).2 ∙ e) refl
+      filled (λ h. cc) (sign_fits (ap (after_gap is_comment) (value_same is_comment v w).2 ∙ e) refl)
   elements_hold (holes.after_this v) (and_more w e es) =
-      sign_fits (ap (after_gap is_comment) (value_same is_comment v w).2 ∙ e) refl
+      filled (λ h. cc) (sign_fits (ap (after_gap is_comment) (value_same is_comment v w).2 ∙ e) refl)
   elements_hold (holes.later_element v e d) (close f) = absurd (heads_not (value_heads is_comment v) f refl)
   elements_hold (holes.later_element v e d) (last w f) =
       absurd (word_sign (λ c. c == 44) (sym (ap (after_gap is_comment) (value_same is_comment v w).2) ∙ e) refl f refl)
@@ -80,18 +104,18 @@ mutual
       elements_hold (subst (λ m. HoleInElements (after_gap is_comment m) h at) m d) es
 
   fields_hold : {h : Hole} {text at r : Text} {rs : Rows} → HoleInFields text h at → IsFields is_comment text rs r
-      → Fits h at
+      → Fills h at
   fields_hold (holes.fields m d) (none e) = absurd (missed m e refl)
   fields_hold (holes.fields m d) (some rs) = fields_on_hold d rs
 
   fields_on_hold : {h : Hole} {text at r : Text} {rs : Rows} → HoleInFieldsOn text h at
-      → IsFieldsOn is_comment text rs r → Fits h at
+      → IsFieldsOn is_comment text rs r → Fills h at
   fields_on_hold (holes.in_row d) (last_row x e) = row_holds d x
   fields_on_hold (holes.in_row d) (more_rows x e rs) = row_holds d x
   fields_on_hold (holes.after_row x) (last_row y e) =
-      sign_fits (ap after_blanks (row_same is_comment x y).3 ∙ e) refl
+      filled (λ h. cc) (sign_fits (ap after_blanks (row_same is_comment x y).3 ∙ e) refl)
   fields_on_hold (holes.after_row x) (more_rows y e rs) =
-      sign_fits (ap after_blanks (row_same is_comment x y).3 ∙ e) refl
+      filled (λ h. cc) (sign_fits (ap after_blanks (row_same is_comment x y).3 ∙ e) refl)
   fields_on_hold (holes.later_row x e d) (last_row y f) =
       absurd (word_sign (λ c. c == 44) (sym (ap after_blanks (row_same is_comment x y).3) ∙ e) refl f refl)
   fields_on_hold {h = h} {at = at} (holes.later_row {next = n} x e d) (more_rows {next = n'} y f rs) =
@@ -99,9 +123,11 @@ mutual
       fields_on_hold (subst (λ m. HoleInFieldsOn (after_blanks m) h at) m d) rs
 
   pub row_holds : {h : Hole} {text at r : Text} {ks : List Key} {p : ℕ} {v : Raw} → HoleInRow text h at
-      → IsRow is_comment text ks p v r → Fits h at
-  row_holds (holes.in_keys d) (assigned ks e v) = keys_hold d ks e (λ e. omega (arith, e))
-  row_holds (holes.after_keys ks) (assigned ls e v) = keys_next ks ls e (λ e. omega (arith, e)) refl refl
+      → IsRow is_comment text ks p v r → Fills h at
+  row_holds (holes.in_keys d) (assigned ks e v) =
+      filled (keys_no_value d) (keys_hold d ks e (λ e. omega (arith, e)))
+  row_holds (holes.after_keys ks) (assigned ls e v) =
+      filled (λ h. cc) (keys_next ks ls e (λ e. omega (arith, e)) refl refl)
   row_holds {h = h} {at = at} (holes.in_value {next = n} ks e d) (assigned {next = n'} ls f v) =
       let k = keys_same ks ls e (λ e. omega (arith, e)) f (λ e. omega (arith, e)) in
       let m : n ≡ n' = (sign_same (sym (ap after_blanks k.1) ∙ e) f).2 in

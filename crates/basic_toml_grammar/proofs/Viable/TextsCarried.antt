@@ -1,21 +1,32 @@
--- So it is with lines, headers, sections and texts: a reading that stands at a hole stands at it in each text that is
--- the same up to the hole and the character there.
-use Rattle.std.proofs.Common.{◌≡◌, ℕ, ◌==◌, Bool, true, false, cond, List, ◌∷◌, Some, None, refl, ap, sym, ◌∙◌, subst}
-use Rattle.basic_toml_tokens.specs.Text.{Text, StartsWith, after_run, is_comment, after_blanks}
+-- So it is with lines, headers, sections and texts.
+use Rattle.std.proofs.Common.{◌≡◌, ℕ, ◌<◌, ◌==◌, Bool, true, false, cond, List, [], ◌∷◌, Some, None, length, refl, ap}
+use Rattle.std.proofs.Common.{sym, ◌∙◌, subst, arith}
+use Rattle.std.specs.Prelude.{not}
+use Rattle.std.proofs.lemmas.Bool.{false≢true}
+use Rattle.basic_toml_tokens.specs.Text.{Text, StartsWith, after_run, is_blank, is_comment, after_blanks}
 use Rattle.basic_toml_grammar.specs.Sections.{Key}
-use Rattle.basic_toml_grammar.specs.Grammar.{IsKeys, IsRow, EndsLine, IsHeader, table, array_of_tables}
-use Rattle.basic_toml_grammar.specs.Grammar.{after_comment_by}
+use Rattle.basic_toml_grammar.specs.Grammar.{IsKeys, IsRow, EndsLine, at_feed, at_end as line_at_end, IsHeader, table}
+use Rattle.basic_toml_grammar.specs.Grammar.{array_of_tables, after_comment_by}
 use Rattle.basic_toml_grammar.specs.Reader.{char_at, end_of}
 use Rattle.basic_toml_grammar.specs.Holes as holes
 use Rattle.basic_toml_grammar.specs.Holes.{Hole, HoleInKeys, HoleInRow, HoleInRows, HoleInHeader, HoleInSections}
 use Rattle.basic_toml_grammar.specs.Holes.{HoleInText}
-use Rattle.basic_toml_grammar.proofs.Grammar.EndChangesNothing.{same_ends, comment_to, Cut, Carried, carried}
+use Rattle.basic_toml_grammar.proofs.Grammar.EndChangesNothing.{Parts, at_end, past, stops, same, Ends, Cut}
+use Rattle.basic_toml_grammar.proofs.Grammar.EndChangesNothing.{same_clear}
+use Rattle.basic_toml_grammar.proofs.Grammar.EndChangesNothing.{comment_to, run_to, Carried, carried}
 use Rattle.basic_toml_grammar.proofs.Grammar.EndChangesNothing.{sign_carried, blanks_carried}
-use Rattle.basic_toml_grammar.proofs.Grammar.StringsCarried.{Alike, alike_past}
+use Rattle.basic_toml_grammar.proofs.Grammar.StringsCarried.{Alike}
+use Rattle.basic_toml_grammar.proofs.Grammar.GrammarIsUnambiguous.{no_sign}
+use Rattle.basic_toml_grammar.proofs.Grammar.ReaderIsComplete.{blanks_length}
 use Rattle.basic_toml_grammar.proofs.Grammar.GrammarCarried.{keys_carried, sign_after_blanks, row_carried, line_carried}
 use Rattle.basic_toml_grammar.proofs.Grammar.GrammarCarried.{rows_some, rows_carried, header_carried}
-use Rattle.basic_toml_grammar.proofs.Viable.HolesCarried as holes_carried
-use Rattle.basic_toml_grammar.proofs.Viable.HolesCarried.{taken}
+use Rattle.basic_toml_grammar.proofs.Completion.Fillers.{rows_gap, sections_gap, text_gap}
+use Rattle.basic_toml_grammar.proofs.Completion.TextsCompleted.{no_hole_in_rows, rows_on, sections_on}
+use Rattle.basic_toml_grammar.proofs.Completion.HeadersFollow.{row_opens, rows_open, header_opens, sections_open}
+use Rattle.basic_toml_grammar.proofs.Completion.HeadersFollow.{text_opens}
+use Rattle.basic_toml_grammar.proofs.Viable.HolesAreWithin.{keys_past, row_past}
+use Rattle.basic_toml_grammar.proofs.Viable.HolesCarried.{Turn, Opening, Gapped, taken, misses, misses_past, keys_hole}
+use Rattle.basic_toml_grammar.proofs.Viable.HolesCarried.{row_hole, alike_turn}
 
 -- where no comment stands, the first character tells whether the line ends
 no_end : (b : Bool) (x : ℕ × ℕ) (t u : Text) (p : ℕ × Text) (r s : Text) → cond b (Some p) None ≡ None
@@ -49,199 +60,271 @@ sections_bracketed (holes.after_header x) = header_bracketed x
 sections_bracketed (holes.in_rows x e d) = header_bracketed x
 sections_bracketed (holes.later_section x e rs d) = header_bracketed x
 
-module _ {here there : Text} (alike : Alike here there) where
-  -- nor does the line end in the other text
-  no_line_end : {text other : Text} → char_at 35 text ≡ None → end_of (after_comment_by is_comment text) ≡ None
-      → Cut here there text other → end_of (after_comment_by is_comment other) ≡ None
-  no_line_end m e k =
-      let a = alike_past alike k.parts in
-      ap (λ (t : Text). end_of (after_comment_by is_comment t)) a.there
-      ∙ no_end (a.first.1 == 35) a.first a.next a.next' (a.first.0, a.next) (after_run is_comment a.next)
-      (after_run is_comment a.next') (sym (ap (char_at 35) a.here) ∙ m)
-      (sym (ap (λ (t : Text). end_of (after_comment_by is_comment t)) a.here) ∙ e)
+-- where a line or a header may begin, it may begin with what stands there in both
+abbrev pub Opened : Bool → Text → Text → Type 0
+Opened bare here there = bare ≡ true → Opening here there
 
-  comment_hole : {at at' : Text} (text : Text) → at ≡ after_comment_by is_comment text → Cut here there at at'
-      → Carried here there text (λ t. after_comment_by is_comment t ≡ at')
-  comment_hole text e k =
-      let a = alike_past alike k.parts in
-      carried (comment_to is_comment text e (same_ends (λ c. c == 35) a.here a.there)
-      (same_ends is_comment a.here a.there)) k
+-- a line that is not over
+not_over : {here there text other : Text} → Parts here there text other → char_at 35 text ≡ None
+    → end_of (after_comment_by is_comment text) ≡ None → Opening here there
+    → end_of (after_comment_by is_comment other) ≡ None
+not_over (at_end t o) m e f =
+    ap (λ (t : Text). end_of (after_comment_by is_comment t)) o
+    ∙ f.line_end (sym (ap (char_at 35) t) ∙ m) (sym (ap (λ (t : Text). end_of (after_comment_by is_comment t)) t) ∙ e)
+not_over (past {x = x} {text = text} {other = other} k) m e f =
+    no_end (x.1 == 35) x text other (x.0, text) (after_run is_comment text) (after_run is_comment other) m e
 
-  -- the end of a line, after blanks and a comment
-  line_hole : {at at' : Text} (mid : Text) → at ≡ after_comment_by is_comment (after_blanks mid)
-      → Cut here there at at' → Carried here there mid (λ t. after_comment_by is_comment (after_blanks t) ≡ at')
-  line_hole mid e k =
-      let m = comment_hole (after_blanks mid) e k in
-      let r = blanks_carried mid m.cut in
-      record { other = r.other; cut = r.cut; holds = ap (after_comment_by is_comment) r.holds ∙ m.holds }
+-- an empty line before a hole
+hole_below : {h : Hole} {next at : Text} (text : Text) → EndsLine is_comment text next → HoleInRows next h at
+    → HoleInRows text h at
+hole_below [] (at_feed s) d = absurd (no_sign refl s)
+hole_below [] (line_at_end e) d = absurd (no_hole_in_rows d)
+hole_below (x ∷ text) e d = holes.after_empty e d
 
-  pub rows_hole : {h : Hole} {text at at' : Text} → HoleInRows text h at → Cut here there at at'
-      → Carried here there text (λ t. HoleInRows t h at')
-  rows_hole {h = h} {at' = at'} (holes.this_row {text = text} b c m d) k =
-      let x = holes_carried.row_hole alike d k in
-      let r = blanks_carried text x.cut in
-      let same = sym r.holds in
-      record {
-        other = r.other;
-        cut = r.cut;
-        holds = holes.this_row (subst (λ (t : Text). char_at 91 t ≡ None) same (holes_carried.misses alike 91 b x.cut))
-            (subst (λ (t : Text). char_at 35 t ≡ None) same (holes_carried.misses alike 35 c x.cut))
-            (subst (λ (t : Text). end_of (after_comment_by is_comment t) ≡ None) same (no_line_end c m x.cut))
-            (subst (λ (t : Text). HoleInRow t h at') same x.holds);
-      }
-  rows_hole (holes.after_comment {q = q} {text = text} s) k =
-      let m = comment_hole (after_blanks text) refl k in
-      let first = holes_carried.first_same alike (subst (λ (t : Text). Cut here there t m.other) s m.cut) in
-      let sign = first.1 in
-      let r = blanks_carried text m.cut in
-      record {
-        other = r.other;
-        cut = r.cut;
-        holds = subst (λ (t : Text). HoleInRows r.other Hole.after_line t)
-            (ap (after_comment_by is_comment) r.holds ∙ m.holds) (holes.after_comment {q = q} (r.holds ∙ sign));
-      }
-  rows_hole (holes.after_row {keys = ks} {q = q} {v = v} {text = text} {mid = mid} x) k =
-      let m = line_hole mid refl k in
-      let y = row_carried x m.cut in
-      let r = blanks_carried text y.cut in
-      record {
-        other = r.other;
-        cut = r.cut;
-        holds = subst (λ (t : Text). HoleInRows r.other Hole.after_line t) m.holds
-            (holes.after_row (subst (λ (t : Text). IsRow is_comment t ks q v m.other) (sym r.holds) y.holds));
-      }
-  rows_hole {h = h} {at' = at'} (holes.after_empty e d) k =
-      let x = rows_hole d k in
-      let r = line_carried e (holes_carried.not_over alike x.cut) x.cut.parts in
-      let (t, same) = holes_carried.first_same alike r.cut in
-      record {
-        other = r.other;
-        cut = r.cut;
-        holds = subst (λ (t : Text). HoleInRows t h at') (sym same)
-            (holes.after_empty (subst (λ (t : Text). EndsLine is_comment t x.other) same r.holds) x.holds);
-      }
-  rows_hole (holes.later_row {keys = ks} {q = q} {v = v} {text = text} x e d) k =
-      let y = rows_hole d k in
-      let i = line_carried e (holes_carried.not_over alike y.cut) y.cut.parts in
-      let z = row_carried x i.cut in
-      let r = blanks_carried text z.cut in
-      record {
-        other = r.other;
-        cut = r.cut;
-        holds = holes.later_row (subst (λ (t : Text). IsRow is_comment t ks q v i.other) (sym r.holds) z.holds)
-            i.holds y.holds;
-      }
+-- what stands there where the hole is not at the front
+opening_past : {here there text other : Text} → Parts here there text other → length here < length text
+    → Opening text other
+opening_past (at_end t o) l = absurd (omega (arith, ap length t))
+opening_past (past {x = x} {text = text} {other = other} k) l = record {
+  bracket = λ m. taken (x.1 == 91) (x.0, text) (x.0, other) m;
+  hash = λ m. taken (x.1 == 35) (x.0, text) (x.0, other) m;
+  line_end = λ m e. no_end (x.1 == 35) x text other (x.0, text) (after_run is_comment text)
+      (after_run is_comment other) m e;
+}
 
-  header_hole : {h : Hole} {text at at' : Text} → HoleInHeader text h at → Cut here there at at'
-      → Carried here there text (λ t. HoleInHeader t h at')
-  header_hole {h = h} {at' = at'} (holes.table_keys {next = next} s m d) k =
-      let x = holes_carried.keys_hole alike d k in
-      let b = blanks_carried next x.cut in
-      let r = sign_carried s b.cut.parts in
-      record {
-        other = r.other;
-        cut = r.cut;
-        holds = holes.table_keys r.holds (holes_carried.misses alike 91 m b.cut)
-            (subst (λ (t : Text). HoleInKeys t h at') (sym b.holds) x.holds);
-      }
-  header_hole (holes.table_end {keys = ks} {next = next} {mid = mid} s xs) k =
-      let g = blanks_carried mid k in
-      let x = keys_carried xs g.cut in
-      let b = blanks_carried next x.cut in
-      let r = sign_carried s b.cut.parts in
-      record {
-        other = r.other;
-        cut = r.cut;
-        holds = subst (λ (t : Text). HoleInHeader r.other Hole.after_header_keys t) g.holds
-            (holes.table_end r.holds (subst (λ (t : Text). IsKeys t ks g.other) (sym b.holds) x.holds));
-      }
-  header_hole {h = h} {at' = at'} (holes.array_keys {inner = inner} s t d) k =
-      let x = holes_carried.keys_hole alike d k in
-      let b = blanks_carried inner x.cut in
-      let i = sign_carried t b.cut.parts in
-      let r = sign_carried s i.cut.parts in
-      record {
-        other = r.other;
-        cut = r.cut;
-        holds = holes.array_keys r.holds i.holds
-            (subst (λ (t : Text). HoleInKeys t h at') (sym b.holds) x.holds);
-      }
-  header_hole (holes.array_end {keys = ks} {inner = inner} {mid = mid} s t xs) k =
-      let g = blanks_carried mid k in
-      let x = keys_carried xs g.cut in
-      let b = blanks_carried inner x.cut in
-      let i = sign_carried t b.cut.parts in
-      let r = sign_carried s i.cut.parts in
-      record {
-        other = r.other;
-        cut = r.cut;
-        holds = subst (λ (t : Text). HoleInHeader r.other Hole.after_header_keys t) g.holds
-            (holes.array_end r.holds i.holds (subst (λ (t : Text). IsKeys t ks g.other) (sym b.holds) x.holds));
-      }
-  header_hole (holes.array_last {keys = ks} {inner = inner} {mid = mid} s t xs e) k =
-      let g = sign_after_blanks mid e k in
-      let x = keys_carried xs g.cut in
-      let b = blanks_carried inner x.cut in
-      let i = sign_carried t b.cut.parts in
-      let r = sign_carried s i.cut.parts in
-      record {
-        other = r.other;
-        cut = r.cut;
-        holds = holes.array_last r.holds i.holds
-            (subst (λ (t : Text). IsKeys t ks g.other) (sym b.holds) x.holds) g.holds;
-      }
+opening_front : {here there text other : Text} → Parts here there text other → Opening here there → Opening text other
+opening_front k f = record {
+  bracket = λ m. misses 91 m k f.bracket;
+  hash = λ m. misses 35 m k f.hash;
+  line_end = λ m e. not_over k m e f;
+}
 
-  sections_hole : {h : Hole} {text at at' : Text} → HoleInSections text h at → Cut here there at at'
-      → Carried here there text (λ t. HoleInSections t h at')
-  sections_hole {h = h} {at' = at'} (holes.in_header {text = text} d) k =
-      let x = header_hole d k in
-      let r = blanks_carried text x.cut in
-      record {
-        other = r.other;
-        cut = r.cut;
-        holds = holes.in_header (subst (λ (t : Text). HoleInHeader t h at') (sym r.holds) x.holds);
-      }
-  sections_hole (holes.after_header {keys = ks} {is_array = a} {q = q} {text = text} {mid = mid} x) k =
-      let m = line_hole mid refl k in
-      let y = header_carried x m.cut in
-      let r = blanks_carried text y.cut in
-      record {
-        other = r.other;
-        cut = r.cut;
-        holds = subst (λ (t : Text). HoleInSections r.other Hole.after_line t) m.holds
-            (holes.after_header (subst (λ (t : Text). IsHeader t q ks a m.other) (sym r.holds) y.holds));
-      }
-  sections_hole (holes.in_rows {keys = ks} {is_array = a} {q = q} {text = text} x e d) k =
-      let y = rows_hole d k in
-      let i = line_carried e (holes_carried.not_over alike y.cut) y.cut.parts in
-      let z = header_carried x i.cut in
-      let r = blanks_carried text z.cut in
-      record {
-        other = r.other;
-        cut = r.cut;
-        holds = holes.in_rows (subst (λ (t : Text). IsHeader t q ks a i.other) (sym r.holds) z.holds) i.holds
-            y.holds;
-      }
-  sections_hole (holes.later_section {keys = ks} {is_array = a} {q = q} {text = text} x e rs d) k =
-      let y = sections_hole d k in
-      let b = sections_bracketed y.holds in
-      let m = rows_carried rs (holes_carried.not_over alike y.cut) y.cut.parts b.offset b.next b.sign in
-      let i = line_carried e (rows_some rs (holes_carried.not_over alike y.cut)) m.parts in
-      let z = header_carried x i.cut in
-      let r = blanks_carried text z.cut in
-      record {
-        other = r.other;
-        cut = r.cut;
-        holds = holes.later_section (subst (λ (t : Text). IsHeader t q ks a i.other) (sym r.holds) z.holds) i.holds
-            m.holds y.holds;
-      }
+comment_hole : {at at' : Text} (text : Text) → at ≡ after_comment_by is_comment text → Ends (λ c. c == 35) at at'
+    → Ends is_comment at at' → Cut at at' at at' → Carried at at' text (λ t. after_comment_by is_comment t ≡ at')
+comment_hole text e a b k = carried (comment_to is_comment text e a b) k
 
-  pub text_hole : {h : Hole} {text at at' : Text} → HoleInText text h at → Cut here there at at'
-      → Carried here there text (λ t. HoleInText t h at')
-  text_hole (holes.root d) k =
-      let x = rows_hole d k in record { other = x.other; cut = x.cut; holds = holes.root x.holds }
-  text_hole (holes.headed rs d) k =
-      let y = sections_hole d k in
-      let b = sections_bracketed y.holds in
-      let m = rows_carried rs (holes_carried.not_over alike y.cut) y.cut.parts b.offset b.next b.sign in
-      record { other = m.other; cut = holes_carried.cut_of alike m.parts; holds = holes.headed m.holds y.holds }
+whole : {h : Hole} {at at' : Text} → Turn h at at' → Cut at at' at at'
+whole turn = record { parts = at_end refl refl; meets = turn.meets }
+
+-- the end of a line, after blanks and a comment
+line_hole : {at at' : Text} (mid : Text) → at ≡ after_comment_by is_comment (after_blanks mid)
+    → Turn Hole.after_line at at'
+    → Carried at at' mid (λ t. after_comment_by is_comment (after_blanks t) ≡ at')
+line_hole mid e turn =
+    let m = comment_hole (after_blanks mid) e (turn.line refl).0 (turn.line refl).1 (whole turn) in
+    let r = blanks_carried mid m.cut in
+    record { other = r.other; cut = r.cut; holds = ap (after_comment_by is_comment) r.holds ∙ m.holds }
+
+pub rows_hole : {h : Hole} {text at at' : Text} (d : HoleInRows text h at) → Turn h at at'
+    → Gapped (rows_gap d) at at' → Opened (rows_open d) at at' → Carried at at' text (λ t. HoleInRows t h at')
+rows_hole {h = h} {at = at} {at' = at'} (holes.this_row {text = text} b c m d) turn gap unlocked =
+    let x = row_hole d turn gap in
+    let r = blanks_carried text x.cut in
+    let same = sym r.holds in
+    let o : Opening (after_blanks text) x.other = opens (row_opens d) refl unlocked x.cut.parts in
+    record {
+      other = r.other;
+      cut = r.cut;
+      holds = holes.this_row (subst (λ (t : Text). char_at 91 t ≡ None) same (o.bracket b))
+          (subst (λ (t : Text). char_at 35 t ≡ None) same (o.hash c))
+          (subst (λ (t : Text). end_of (after_comment_by is_comment t) ≡ None) same (o.line_end c m))
+          (subst (λ (t : Text). HoleInRow t h at') same x.holds);
+    }
+  where
+    opens : {other : Text} (f : Bool) → row_opens d ≡ f → Opened f at at' → Parts at at' (after_blanks text) other
+        → Opening (after_blanks text) other
+    opens true e unlocked k = opening_front k (unlocked refl)
+    opens false e unlocked k = opening_past k (row_past d e)
+rows_hole (holes.after_comment {q = q} {text = text} {next = next} s) turn gap unlocked =
+    let inner : after_comment_by is_comment (after_blanks text) ≡ after_run is_comment next =
+    ap (after_comment_by is_comment) s in
+    let e = (turn.line refl).1 in
+    let k = carried (run_to is_comment next inner e) (whole turn) in
+    let g = sign_carried {c = 35} s k.cut.parts in
+    let r = blanks_carried text g.cut in
+    record {
+      other = r.other;
+      cut = r.cut;
+      holds = subst (λ (t : Text). HoleInRows r.other Hole.after_line t)
+          (ap (after_comment_by is_comment) (r.holds ∙ g.holds) ∙ k.holds.0)
+          (holes.after_comment {q = q} (r.holds ∙ g.holds));
+    }
+rows_hole (holes.after_row {keys = ks} {q = q} {v = v} {text = text} {mid = mid} x) turn gap unlocked =
+    let m = line_hole mid refl turn in
+    let y = row_carried x m.cut in
+    let r = blanks_carried text y.cut in
+    record {
+      other = r.other;
+      cut = r.cut;
+      holds = subst (λ (t : Text). HoleInRows r.other Hole.after_line t) m.holds
+          (holes.after_row (subst (λ (t : Text). IsRow is_comment t ks q v m.other) (sym r.holds) y.holds));
+    }
+rows_hole (holes.after_empty e d) turn gap unlocked =
+    let x = rows_hole d turn gap unlocked in
+    let r = line_carried e (rows_on d) x.cut.parts in
+    record { other = r.other; cut = r.cut; holds = hole_below r.other r.holds x.holds }
+rows_hole (holes.later_row {keys = ks} {q = q} {v = v} {text = text} x e d) turn gap unlocked =
+    let y = rows_hole d turn gap unlocked in
+    let i = line_carried e (rows_on d) y.cut.parts in
+    let z = row_carried x i.cut in
+    let r = blanks_carried text z.cut in
+    record {
+      other = r.other;
+      cut = r.cut;
+      holds = holes.later_row (subst (λ (t : Text). IsRow is_comment t ks q v i.other) (sym r.holds) z.holds)
+          i.holds y.holds;
+    }
+
+blanks_skipped : (next : Text) → stops is_blank next ≡ false → length (after_blanks next) < length next
+blanks_skipped [] e = absurd (false≢true (sym e))
+blanks_skipped (x ∷ t) e = go (is_blank x.1) refl
+  where
+    go : (b : Bool) → is_blank x.1 ≡ b → length (cond b (after_blanks t) (x ∷ t)) < length (x ∷ t)
+    go true f = omega (arith, blanks_length t)
+    go false f = absurd (false≢true (sym e ∙ ap not f))
+
+-- no second bracket stands there in the other, either
+no_bracket : {h : Hole} {q : ℕ} {text next at at' other : Text} (s : StartsWith 91 text q next)
+    (m : char_at 91 next ≡ None) (d : HoleInKeys (after_blanks next) h at)
+    → Opened (header_opens (holes.table_keys s m d)) at at' → Parts at at' next other → char_at 91 other ≡ None
+no_bracket {next = next} {at' = at'} {other = other} s m holes.this_key unlocked k = go (stops is_blank next) refl unlocked
+  where
+    go : (b : Bool) → stops is_blank next ≡ b → Opened b (after_blanks next) at' → char_at 91 other ≡ None
+    go true e unlocked = misses 91 m k (unlocked refl).bracket
+    go false e unlocked = misses_past 91 m k (blanks_skipped next e)
+no_bracket {next = next} s m (holes.later_key key t d) unlocked k =
+    misses_past 91 m k (omega (arith, keys_past (holes.later_key key t d) refl, blanks_length next))
+
+header_hole : {h : Hole} {text at at' : Text} (d : HoleInHeader text h at) → Turn h at at'
+    → Opened (header_opens d) at at' → Carried at at' text (λ t. HoleInHeader t h at')
+header_hole {h = h} {at' = at'} (holes.table_keys {next = next} s m d) turn unlocked =
+    let x = keys_hole d turn in
+    let b = blanks_carried next x.cut in
+    let r = sign_carried s b.cut.parts in
+    record {
+      other = r.other;
+      cut = r.cut;
+      holds = holes.table_keys r.holds (no_bracket s m d unlocked b.cut.parts)
+          (subst (λ (t : Text). HoleInKeys t h at') (sym b.holds) x.holds);
+    }
+header_hole (holes.table_end {keys = ks} {next = next} {mid = mid} s xs) turn unlocked =
+    let g = blanks_carried mid (whole turn) in
+    let x = keys_carried xs g.cut in
+    let b = blanks_carried next x.cut in
+    let r = sign_carried s b.cut.parts in
+    record {
+      other = r.other;
+      cut = r.cut;
+      holds = subst (λ (t : Text). HoleInHeader r.other Hole.after_header_keys t) g.holds
+          (holes.table_end r.holds (subst (λ (t : Text). IsKeys t ks g.other) (sym b.holds) x.holds));
+    }
+header_hole {h = h} {at' = at'} (holes.array_keys {inner = inner} s t d) turn unlocked =
+    let x = keys_hole d turn in
+    let b = blanks_carried inner x.cut in
+    let i = sign_carried t b.cut.parts in
+    let r = sign_carried s i.cut.parts in
+    record {
+      other = r.other;
+      cut = r.cut;
+      holds = holes.array_keys r.holds i.holds
+          (subst (λ (t : Text). HoleInKeys t h at') (sym b.holds) x.holds);
+    }
+header_hole (holes.array_end {keys = ks} {inner = inner} {mid = mid} s t xs) turn unlocked =
+    let g = blanks_carried mid (whole turn) in
+    let x = keys_carried xs g.cut in
+    let b = blanks_carried inner x.cut in
+    let i = sign_carried t b.cut.parts in
+    let r = sign_carried s i.cut.parts in
+    record {
+      other = r.other;
+      cut = r.cut;
+      holds = subst (λ (t : Text). HoleInHeader r.other Hole.after_header_keys t) g.holds
+          (holes.array_end r.holds i.holds (subst (λ (t : Text). IsKeys t ks g.other) (sym b.holds) x.holds));
+    }
+header_hole (holes.array_last {keys = ks} {inner = inner} {mid = mid} s t xs e) turn unlocked =
+    let g = sign_after_blanks mid e (whole turn) in
+    let x = keys_carried xs g.cut in
+    let b = blanks_carried inner x.cut in
+    let i = sign_carried t b.cut.parts in
+    let r = sign_carried s i.cut.parts in
+    record {
+      other = r.other;
+      cut = r.cut;
+      holds = holes.array_last r.holds i.holds
+          (subst (λ (t : Text). IsKeys t ks g.other) (sym b.holds) x.holds) g.holds;
+    }
+
+sections_hole : {h : Hole} {text at at' : Text} (d : HoleInSections text h at) → Turn h at at'
+    → Gapped (sections_gap d) at at' → Opened (sections_open d) at at'
+    → Carried at at' text (λ t. HoleInSections t h at')
+sections_hole {h = h} {at' = at'} (holes.in_header {text = text} d) turn gap unlocked =
+    let x = header_hole d turn unlocked in
+    let r = blanks_carried text x.cut in
+    record {
+      other = r.other;
+      cut = r.cut;
+      holds = holes.in_header (subst (λ (t : Text). HoleInHeader t h at') (sym r.holds) x.holds);
+    }
+sections_hole (holes.after_header {keys = ks} {is_array = a} {q = q} {text = text} {mid = mid} x) turn gap unlocked =
+    let m = line_hole mid refl turn in
+    let y = header_carried x m.cut in
+    let r = blanks_carried text y.cut in
+    record {
+      other = r.other;
+      cut = r.cut;
+      holds = subst (λ (t : Text). HoleInSections r.other Hole.after_line t) m.holds
+          (holes.after_header (subst (λ (t : Text). IsHeader t q ks a m.other) (sym r.holds) y.holds));
+    }
+sections_hole (holes.in_rows {keys = ks} {is_array = a} {q = q} {text = text} x e d) turn gap unlocked =
+    let y = rows_hole d turn gap unlocked in
+    let i = line_carried e (rows_on d) y.cut.parts in
+    let z = header_carried x i.cut in
+    let r = blanks_carried text z.cut in
+    record {
+      other = r.other;
+      cut = r.cut;
+      holds = holes.in_rows (subst (λ (t : Text). IsHeader t q ks a i.other) (sym r.holds) z.holds) i.holds
+          y.holds;
+    }
+sections_hole (holes.later_section {keys = ks} {is_array = a} {q = q} {text = text} x e rs d) turn gap unlocked =
+    let y = sections_hole d turn gap unlocked in
+    let b = sections_bracketed y.holds in
+    let m = rows_carried rs (sections_on d) y.cut.parts b.offset b.next b.sign in
+    let i = line_carried e (rows_some rs (sections_on d)) m.parts in
+    let z = header_carried x i.cut in
+    let r = blanks_carried text z.cut in
+    record {
+      other = r.other;
+      cut = r.cut;
+      holds = holes.later_section (subst (λ (t : Text). IsHeader t q ks a i.other) (sym r.holds) z.holds) i.holds
+          m.holds y.holds;
+    }
+
+-- what begins with the same character
+alike_opening : {here there : Text} → Alike here there → Opening here there
+alike_opening {here = here} {there = there} a =
+    subst (λ (t : Text). Opening t there) (sym a.here) (subst (λ (t : Text). Opening (a.first ∷ a.next) t) (sym a.there)
+    (opening_past {here = a.next} {there = a.next'} (past (at_end refl refl)) (omega arith)))
+
+-- what is the same up to there, and the reading of it
+pub record TextCarried (here there text : Text) (Holds : Text → Type 0) : Type 0 where
+  pub other : Text
+  pub parts : Parts here there text other
+  pub holds : Holds other
+
+pub text_turned : {h : Hole} {text at at' : Text} (d : HoleInText text h at) → Turn h at at'
+    → Gapped (text_gap d) at at' → Opened (text_opens d) at at' → TextCarried at at' text (λ t. HoleInText t h at')
+text_turned (holes.root d) turn gap unlocked =
+    let x = rows_hole d turn gap unlocked in
+    record { other = x.other; parts = x.cut.parts; holds = holes.root x.holds }
+text_turned (holes.headed rs d) turn gap unlocked =
+    let y = sections_hole d turn gap unlocked in
+    let b = sections_bracketed y.holds in
+    let m = rows_carried rs (sections_on d) y.cut.parts b.offset b.next b.sign in
+    record { other = m.other; parts = m.parts; holds = holes.headed m.holds y.holds }
+
+-- where both go on with the same character
+pub text_hole : {h : Hole} {text at at' : Text} → Alike at at' → HoleInText text h at
+    → TextCarried at at' text (λ t. HoleInText t h at')
+text_hole {h = h} a d =
+    text_turned d (alike_turn h a) (λ e. same_clear a.here a.there) (λ e. alike_opening a)

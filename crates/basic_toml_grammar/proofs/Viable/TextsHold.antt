@@ -14,20 +14,22 @@ use Rattle.basic_toml_grammar.proofs.Grammar.GrammarIsUnambiguous.{row_heads, ro
 use Rattle.basic_toml_grammar.proofs.Grammar.GrammarIsUnambiguous.{bracket_or_end, no_row, rows_same, no_header}
 use Rattle.basic_toml_grammar.proofs.Grammar.GrammarIsUnambiguous.{header_same}
 use Rattle.basic_toml_grammar.proofs.Grammar.ReaderIsComplete.{ends_found}
-use Rattle.basic_toml_grammar.proofs.Viable.HolesHold.{sign_fits, clash, missed, keys_hold, keys_next, row_holds}
+use Rattle.basic_toml_grammar.proofs.Viable.HolesHold.{Fills, filled, sign_fits, clash, missed, keys_hold}
+use Rattle.basic_toml_grammar.proofs.Viable.HolesHold.{keys_next, keys_no_value, row_holds}
 
 -- a character that fits; or the end of the text, where a line may end
 pub data FitsOrEnds : Hole → Text → Type 0 where
-  fit : {h : Hole} {at : Text} → Fits h at → FitsOrEnds h at
+  fit : {h : Hole} {at : Text} → Fills h at → FitsOrEnds h at
   ends : {at : Text} → at ≡ [] → FitsOrEnds Hole.after_line at
 
 pub not_at_end : {h : Hole} {x : ℕ × ℕ} {at text : Text} → FitsOrEnds h at → at ≡ x ∷ text → Fits h at
-not_at_end (fit f) e = f
+not_at_end (fit f) e = f.fits
 not_at_end {x = x} {text = text} (ends n) e = let over : [] ≡ x ∷ text = sym n ∙ e in cc
 
 line_fits : {mid mid' next : Text} → mid ≡ mid' → EndsLine is_comment mid' next
     → FitsOrEnds Hole.after_line (after_comment_by is_comment (after_blanks mid))
-line_fits m (at_feed s) = fit (sign_fits (ap (λ (t : Text). after_comment_by is_comment (after_blanks t)) m ∙ s) refl)
+line_fits m (at_feed s) =
+    fit (filled (λ h. cc) (sign_fits (ap (λ (t : Text). after_comment_by is_comment (after_blanks t)) m ∙ s) refl))
 line_fits m (at_end s) = ends (ap (λ (t : Text). after_comment_by is_comment (after_blanks t)) m ∙ s)
 
 rows_hold : {h : Hole} {text at r : Text} {rs : Rows} → HoleInRows text h at → IsRows is_comment text rs r
@@ -54,6 +56,13 @@ rows_hold (holes.later_row x e d) (empty_line f rs) = absurd (row_or_end is_comm
 rows_hold {h = h} {at = at} (holes.later_row {next = n} x e d) (row_line y f ys) =
     let m = ends_same is_comment (subst (λ (t : Text). EndsLine is_comment t n) (row_same is_comment x y).3 e) f in
     rows_hold (subst (λ (t : Text). HoleInRows t h at) m d) ys
+
+pub header_no_value : {h : Hole} {text at : Text} → HoleInHeader text h at → h ≡ Hole.value → ⊥
+header_no_value (holes.table_keys e m d) h = keys_no_value d h
+header_no_value (holes.table_end e ks) h = cc
+header_no_value (holes.array_keys e b d) h = keys_no_value d h
+header_no_value (holes.array_end e b ks) h = cc
+header_no_value (holes.array_last e b ks s) h = cc
 
 header_holds : {h : Hole} {text at r : Text} {ks : List Key} {p : ℕ} {a : Bool} → HoleInHeader text h at
     → IsHeader text p ks a r → Fits h at
@@ -96,7 +105,7 @@ sections_hold (holes.in_header d) no_more = absurd (no_hole d)
     no_hole (holes.array_keys e b d) = no_sign refl e
     no_hole (holes.array_end e b ks) = no_sign refl e
     no_hole (holes.array_last e b ks s) = no_sign refl e
-sections_hold (holes.in_header d) (section x e rs ss) = fit (header_holds d x)
+sections_hold (holes.in_header d) (section x e rs ss) = fit (filled (header_no_value d) (header_holds d x))
 sections_hold (holes.after_header y) no_more = absurd (no_header y)
 sections_hold (holes.after_header y) (section x e rs ss) = line_fits (header_same y x).3 e
 sections_hold (holes.in_rows y f d) no_more = absurd (no_header y)

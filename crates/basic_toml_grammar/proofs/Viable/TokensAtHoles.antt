@@ -1,19 +1,18 @@
 -- A token may stand at a hole only where its first character fits.
-use Rattle.std.proofs.Common.{◌≡◌, ℕ, ◌≤◌, ◌++◌, Bool, true, false, cond, drop, List, [], ◌∷◌, length, refl, ap, sym, ◌∙◌, subst, arith}
+use Rattle.std.proofs.Common.{◌≡◌, ℕ, ◌≤◌, ◌++◌, Bool, true, false, cond, drop, List, [], ◌∷◌, length, ap, sym, ◌∙◌, subst, arith}
 use Rattle.basic_toml_tokens.specs.Text.{Text, StartsWith, folded, after_run, is_blank, is_keylike, is_comment}
 use Rattle.basic_toml_tokens.specs.Strings.{Quotes, Opens, one_line, multiline}
 use Rattle.basic_toml_tokens.specs.TokenAt as token
 use Rattle.basic_toml_tokens.specs.TokenAt.{Lexeme, IsToken}
 use Rattle.basic_toml_grammar.specs.Holes.{Hole, HoleInText, fits, Fits}
 use Rattle.basic_toml_grammar.specs.Viable.{GoesOn, SameToken, MayStand}
-use Rattle.basic_toml_grammar.proofs.Grammar.EndChangesNothing.{Parts, at_end, Carried}
+use Rattle.basic_toml_grammar.proofs.Grammar.EndChangesNothing.{Parts}
 use Rattle.basic_toml_grammar.proofs.Grammar.FrontsOfTexts.{parts_of, parts_same}
 use Rattle.basic_toml_grammar.proofs.Grammar.StringsCarried.{Alike}
-use Rattle.basic_toml_grammar.proofs.Viable.HolesCarried.{cut_of}
 use Rattle.basic_toml_grammar.proofs.Grammar.GrammarIsUnambiguous.{heads_not}
 use Rattle.basic_toml_grammar.proofs.Grammar.RestsAreEnds.{IsEnd, all, further, ends_on, run_ends, drop_ends, feed_ends}
 use Rattle.basic_toml_grammar.proofs.Grammar.RestsAreEnds.{pieces_end, closer_ends}
-use Rattle.basic_toml_grammar.proofs.Viable.TextsCarried.{text_hole}
+use Rattle.basic_toml_grammar.proofs.Viable.TextsCarried.{TextCarried, text_hole}
 use Rattle.basic_toml_grammar.proofs.Viable.TextsHold.{not_at_end, text_holds}
 
 end_shorter : {text rest : Text} → IsEnd text rest → length rest ≤ length text
@@ -84,11 +83,11 @@ hole_fits {start = start} {at = at} {rest = rest} {h = h} d g = go g.next.chars 
         whole : Parts at g.rest start (folded g.bytes)
         whole = subst (λ (t : Text). Parts at g.rest start t) (sym g.same) (parts_of g.front g.before)
 
-        carried : Carried at g.rest start (λ t. HoleInText t h g.rest)
-        carried = text_hole alike d (cut_of alike (at_end refl refl))
+        carried : TextCarried at g.rest start (λ t. HoleInText t h g.rest)
+        carried = text_hole alike d
 
         same : carried.other ≡ folded g.bytes
-        same = parts_same carried.cut.parts whole
+        same = parts_same carried.parts whole
 
 -- so no token may stand at a hole that its first character does not fit
 pub no_fit : {h : Hole} {c p : ℕ} {at rest : Text} → Fits h at → StartsWith c at p rest → fits h c ≡ false → ⊥
