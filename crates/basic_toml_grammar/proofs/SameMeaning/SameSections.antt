@@ -52,7 +52,7 @@ pub data SameSections : List Section → List Section → Type 0 where
       → SameSections (s ∷ ss) (t ∷ ts)
 
 mutual
-  itself : (v : Raw) → SameRaw v v
+  pub itself : (v : Raw) → SameRaw v v
   itself (Raw.integer z) = same_integer
   itself (Raw.float t) = same_float
   itself (Raw.boolean b) = same_boolean

@@ -251,8 +251,8 @@ none_of f w c e = go (f c) refl
 words_there : (b : Bool) (x y : ℕ × ℕ) (text other : Text) → is_wordlike x.1 ≡ true → is_wordlike y.1 ≡ true
     → After b (x ∷ text) (y ∷ other) → Sign b x.1 text (y ∷ other)
 words_there b x y text other e f a =
-    let here : stands (x ∷ text) ≡ false = still {p = x.0} {c = x.1} {next = text} refl (word_is_seen x.1 e) in
-    let there : stands (y ∷ other) ≡ false = still {p = y.0} {c = y.1} {next = other} refl (word_is_seen y.1 f) in
+    let here : stands (x ∷ text) ≡ false = still {next = text} {p = x.0} {c = x.1} refl (word_is_seen x.1 e) in
+    let there : stands (y ∷ other) ≡ false = still {next = other} {p = y.0} {c = y.1} refl (word_is_seen y.1 f) in
     sign_there {p = x.0} (subst (λ t. Alike b t (y ∷ other)) (spaces_still (x ∷ text) here)
     (subst (λ t. Alike b (after_spaces (x ∷ text)) t) (spaces_still (y ∷ other) there) a))
     refl (word_is_sign x.1 e)
@@ -272,7 +272,7 @@ heads_alike f w b c (x ∷ text) (y ∷ other) e g a = go (is_wordlike x.1) refl
     go false h = none_of f w x.1 h ∙ sym (none_of f w y.1 (sym same ∙ h))
     go true h =
         let z = words_there b x y text other h (sym same ∙ h) a in
-        sym (ap f (sign_same {p = y.0} {c = y.1} {r = other} refl z.sign).1)
+        sym (ap f (sign_same {c = y.1} {p = y.0} {r = other} refl z.sign).1)
 
 pub record Run (f : ℕ → Bool) (b : Bool) (text other : Text) : Type 0 where
   pub same : run f text ≡ run f other

@@ -21,7 +21,7 @@ run_stops f (x ∷ text) {q = q} {c = c} {next = next} e = go (f x.1) refl (λ e
     go : (b : Bool) → f x.1 ≡ b → (after_run f text ≡ (q, c) ∷ next → f c ≡ false)
         → cond b (after_run f text) (x ∷ text) ≡ (q, c) ∷ next → f c ≡ false
     go true g ih e = ih e
-    go false g ih e = ap f (sym (sign_same {p = x.0} {c = x.1} {r = text} refl e).1) ∙ g
+    go false g ih e = ap f (sym (sign_same {c = x.1} {p = x.0} {r = text} refl e).1) ∙ g
 
 -- after line feeds, where one stands at the front
 abbrev pub past_feeds : Text → Text

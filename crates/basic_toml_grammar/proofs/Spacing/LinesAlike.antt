@@ -221,7 +221,7 @@ next_bracket {c = c} {p = p} {text = text} {other = y ∷ other} {next = next} s
     let same : y.1 ≡ c = u y.1 (sym g ∙ ap (goes_on true c) s ∙ j) in
     let seen : is_seen y.1 ≡ true = ap is_seen same ∙ e in
     let here : stands text ≡ false = still s e in
-    let there : stands (y ∷ other) ≡ false = still {p = y.0} {c = y.1} {next = other} refl seen in
+    let there : stands (y ∷ other) ≡ false = still {next = other} {p = y.0} {c = y.1} refl seen in
     sign_there (subst (λ t. Alike true t (y ∷ other))
     (spaces_still text here)
     (subst (λ t. Alike true (after_spaces text) t)

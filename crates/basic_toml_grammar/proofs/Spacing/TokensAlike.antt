@@ -81,8 +81,8 @@ record Joined (b : Bool) (c : ℕ) (text other : Text) : Type 0 where
 on_sign : (b : Bool) (p q c : ℕ) (text other : Text) → is_seen c ≡ true → is_sign c ≡ true → Joined b c text other
     → After b ((p, c) ∷ text) ((q, c) ∷ other)
 on_sign b p q c text other e f j =
-    let here : stands ((p, c) ∷ text) ≡ false = still {p = p} {c = c} {next = text} refl e in
-    let there : stands ((q, c) ∷ other) ≡ false = still {p = q} {c = c} {next = other} refl e in
+    let here : stands ((p, c) ∷ text) ≡ false = still {next = text} {p = p} {c = c} refl e in
+    let there : stands ((q, c) ∷ other) ≡ false = still {next = other} {p = q} {c = c} refl e in
     subst (λ t. Alike b t (after_spaces ((q, c) ∷ other))) (sym (spaces_still ((p, c) ∷ text) here))
     (subst (λ t. Alike b ((p, c) ∷ text) t) (sym (spaces_still ((q, c) ∷ other) there))
     (both_sign f j.joined j.after))

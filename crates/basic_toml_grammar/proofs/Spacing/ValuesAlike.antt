@@ -173,7 +173,7 @@ mutual
       }
   value_there (inline {next = next} s rs) a =
       let z = sign_there a s refl in
-      let x = fields_there next z.rest rs z.after in
+      let x = fields_there next z.rest refl rs z.after in
       record {
         offset = z.offset;
         value = Raw.inline x.rows;
@@ -220,11 +220,10 @@ mutual
         after = y.after;
       }
 
-  fields_there : {b : Bool} {rest : Text} {rs : Rows} (text other : Text)
-      → IsFields is_comment (after_blanks text) rs rest
-      → After b text other → RowsThere Fields rs rest (after_blanks other)
-  fields_there {b = b} text other (none s) a =
-      let z = sign_after_blanks text other a s refl refl in
+  fields_there : {b : Bool} {front rest : Text} {rs : Rows} (text other : Text) → front ≡ after_blanks text
+      → IsFields is_comment front rs rest → After b text other → RowsThere Fields rs rest (after_blanks other)
+  fields_there {b = b} text other e (none s) a =
+      let z = sign_after_blanks text other a (sym e ∙ s) refl refl in
       record {
         rows = no_rows;
         left = z.rest;
@@ -233,8 +232,10 @@ mutual
         bracketed = b;
         after = z.after;
       }
-  fields_there text other (some xs) a =
-      let x = fields_on_there xs (blanks_alike text other a (seen_heads key_is_seen (fields_heads is_comment xs))) in
+  fields_there {b = b} text other e (some xs) a =
+      let h = seen_heads key_is_seen (fields_heads is_comment xs) in
+      let x = fields_on_there xs (subst (λ t. Alike b t (after_blanks other)) (sym e)
+      (blanks_alike text other a (subst (Heads is_seen) e h))) in
       record {
         rows = x.rows;
         left = x.left;
