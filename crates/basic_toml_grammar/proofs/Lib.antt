@@ -8,5 +8,6 @@ pub mod Completion
 pub mod Nesting
 pub mod Viable
 pub mod SameMeaning
+pub mod Spacing
 pub mod AmongElements
 pub mod LawsHold

@@ -5,6 +5,7 @@ pub mod OldDocumentsStand
 pub mod OrderIsFree
 pub mod ReorderedMeanTheSame
 pub mod RespelledMeanTheSame
+pub mod RowsMeanTheSame
 pub mod SameChars
 pub mod SameMapsReordered
 pub mod SameSections

@@ -6,5 +6,6 @@ pub mod WorkedGrammar
 pub mod WorkedNesting
 pub mod WorkedNodes
 pub mod WorkedNumbers
+pub mod WorkedSpacing
 pub mod WorkedViable
 pub mod WorkedWrongReadings

@@ -36,4 +36,6 @@ pub mod TrieStops
 -- What the laws say
 pub mod OldRules
 pub mod Respelled
+pub mod Respaced
 pub mod Statements
+pub mod RowOrder

@@ -31,6 +31,7 @@ use Rattle.basic_toml_grammar.specs.DeepStops.{DeepStop}
 use Rattle.basic_toml_grammar.specs.Reader.{section_list_of}
 use Rattle.basic_toml_grammar.specs.Respelled.{characters, with_returns, has_return, with_byte_order_mark}
 use Rattle.basic_toml_grammar.specs.Respelled.{has_byte_order_mark}
+use Rattle.basic_toml_grammar.specs.Respaced.{Respaced}
 use Rattle.basic_toml_grammar.specs.OldRules.{has_no_delete, WasDocument}
 
 -- the grammar gives a text at most one section list
@@ -91,6 +92,11 @@ ReturnsMeanNothing = (bytes : List ℕ) (tree : Data) → IsUtf8 bytes → has_r
 abbrev pub ByteOrderMarkMeansNothing : Type 0
 ByteOrderMarkMeansNothing = (bytes : List ℕ) (tree : Data) → has_byte_order_mark bytes ≡ false
     → IsDocument (folded bytes) tree ↔ IsDocument (folded (with_byte_order_mark bytes)) tree
+
+-- and so do blanks, comments and empty lines that come or go
+abbrev pub RespacedMeansNothing : Type 0
+RespacedMeansNothing = (text other : Text) (tree : Data) → Respaced text other
+    → IsDocument text tree ↔ IsDocument other tree
 
 -- no level of a list without clashes passes the depth of its tree, so what has a document fits the limit
 abbrev pub LevelsAreWithinDepth : Type 0

@@ -1,6 +1,7 @@
 //! Laws about what a text means, each as the contract of a function that does nothing.
 
-ghost use Rattle.basic_toml_grammar.specs.Statements.{GrammarIsUnambiguous, GrammarIsRead, GrammarGivesKeys, LevelsAreWithinDepth, DeepOffsetsAreOpened, DeepStopsAreTooDeep, ShallowTextIsFree, GrammarFaultsAreOne, GrammarTextsHaveNone, PassedTextIsViable, TreeIsGrouped, KeysAreDistinct, ClashesAgree, PathsAgree, MarksFit, EveryClashIsNamed, OldDocumentsStand, OffsetsMeanNothing, ReturnsMeanNothing, ByteOrderMarkMeansNothing, OrderIsFree, PlainOrderIsFree, ReorderedMeansTheSame, PlainReorderedMeansTheSame, SameMapsAreAsDeep, EnteringAccepts, EnteringGrows, TrieIsEntering, TrieGivesLevels, StopsAreNamed, TrieStopsAreNamed};
+ghost use Rattle.basic_toml_grammar.specs.Statements.{GrammarIsUnambiguous, GrammarIsRead, GrammarGivesKeys, LevelsAreWithinDepth, DeepOffsetsAreOpened, DeepStopsAreTooDeep, ShallowTextIsFree, GrammarFaultsAreOne, GrammarTextsHaveNone, PassedTextIsViable, TreeIsGrouped, KeysAreDistinct, ClashesAgree, PathsAgree, MarksFit, EveryClashIsNamed, OldDocumentsStand, OffsetsMeanNothing, ReturnsMeanNothing, ByteOrderMarkMeansNothing, RespacedMeansNothing, OrderIsFree, PlainOrderIsFree, ReorderedMeansTheSame, PlainReorderedMeansTheSame, SameMapsAreAsDeep, EnteringAccepts, EnteringGrows, TrieIsEntering, TrieGivesLevels, StopsAreNamed, TrieStopsAreNamed};
+ghost use Rattle.basic_toml_grammar.specs.RowOrder.{RowOrderMeansNothing};
 
 /// The grammar gives a text at most one section list.
 pub fn grammar_is_unambiguous()
@@ -111,6 +112,12 @@ pub fn byte_order_mark_means_nothing()
     ensures { ByteOrderMarkMeansNothing }
 {}
 
+/// Texts that differ in blanks, comments and empty lines alone have the same document.
+#[tactic(auto, using(crate::proofs::Spacing::TokensAlike::respaced_means_nothing))]
+pub fn respaced_means_nothing()
+    ensures { RespacedMeansNothing }
+{}
+
 /// Whether a list clashes does not depend on the order of its sections, where each keeps its path.
 #[tactic(auto, using(crate::proofs::LawsHold::order))]
 pub fn order_is_free()
@@ -133,6 +140,12 @@ pub fn reordered_means_the_same()
 #[tactic(auto, using(crate::proofs::SameMeaning::ReorderedMeanTheSame::plain_reordered_means_the_same))]
 pub fn plain_reordered_means_the_same()
     ensures { PlainReorderedMeansTheSame }
+{}
+
+/// Lists without clashes that differ in the order of the rows of each section mean the same maps.
+#[tactic(auto, using(crate::proofs::SameMeaning::RowsMeanTheSame::row_order_means_nothing))]
+pub fn row_order_means_nothing()
+    ensures { RowOrderMeansNothing }
 {}
 
 /// Trees of the same maps are equally deep.

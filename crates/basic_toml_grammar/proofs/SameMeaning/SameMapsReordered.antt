@@ -229,7 +229,7 @@ later before (s ∷ ss) {m = m} a =
         }
 
 -- no mention of a list goes back in an array
-placed_order : (before : List Placed) (ss : List Section) → InOrder (placed_mentions (placed_from before ss))
+pub placed_order : (before : List Placed) (ss : List Section) → InOrder (placed_mentions (placed_from before ss))
 placed_order before [] = none
 placed_order before (s ∷ ss) =
     order-append (section_order (path_of l) (section_mentions (path_of l) l.rows)
@@ -247,7 +247,7 @@ placed_order before (s ∷ ss) =
         (below_section (path_of l) l.rows a)) r.between
 
 -- the same mentions in each order
-reordered_back : {A : Type 0} {xs ys : List A} → Reordered A xs ys → Reordered A ys xs
+pub reordered_back : {A : Type 0} {xs ys : List A} → Reordered A xs ys → Reordered A ys xs
 reordered_back same = same
 reordered_back (kept r) = kept (reordered_back r)
 reordered_back turned = turned

@@ -52,7 +52,7 @@ pub data SameSections : List Section → List Section → Type 0 where
       → SameSections (s ∷ ss) (t ∷ ts)
 
 mutual
-  itself : (v : Raw) → SameRaw v v
+  pub itself : (v : Raw) → SameRaw v v
   itself (Raw.integer z) = same_integer
   itself (Raw.float t) = same_float
   itself (Raw.boolean b) = same_boolean
@@ -283,7 +283,7 @@ sections_same (suc n) (more {p = p} {q = q} {c = c} {text = text} {other = other
     whole : SameChars ((p, c) ∷ text) ((q, c) ∷ other)
     whole = more h
 
-root_same : {rs qs : Rows} {ss ts : List Section} → SameRows rs qs → SameSections ss ts
+pub root_same : {rs qs : Rows} {ss ts : List Section} → SameRows rs qs → SameSections ss ts
     → SameSections (with_root rs ss) (with_root qs ts)
 root_same no_more_rows h = h
 root_same (one_row k v rs) h = one_section (record { header = refl; is_array = refl; rows = one_row k v rs }) h

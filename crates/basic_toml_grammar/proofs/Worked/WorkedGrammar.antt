@@ -10,13 +10,13 @@ use Rattle.basic_toml_grammar.specs.NestingFaults.{IsTooDeepAt, here, further}
 use Rattle.basic_toml_grammar.proofs.Grammar.ReaderIsSound.{list_read}
 use Rattle.basic_toml_grammar.proofs.Grammar.ReaderIsComplete.{list_found}
 
-abbrev text : List ℕ → Text
+abbrev pub text : List ℕ → Text
 text bytes = folded bytes
 
-abbrev k : ℕ → List ℕ → Key
+abbrev pub k : ℕ → List ℕ → Key
 k offset t = record { offset = offset; text = t }
 
-abbrev int : ℕ → Raw
+abbrev pub int : ℕ → Raw
 int n = Raw.integer (pos n)
 
 a_row : IsSectionList (text (codes "a = 1\n"))
