@@ -1,8 +1,8 @@
 -- Texts that differ in blanks, comments and empty lines alone: those that have the same tokens.
--- A string is one token, by what it stands for, on whatever lines and between whatever quotes. So is a word, the
--- longest run of the characters of bare keys, numbers and periods. In a line that begins with a bracket, so are
--- brackets of one kind, one after another. Every other character is a token of its own. Blanks and comments before a
--- token are left out. Line feeds one after another are one token, and none stands at the start or at the end.
+-- A string is one token, by what it stands for and whether it is multiline. So is a word, the longest run of the
+-- characters of bare keys, numbers and periods. In a line that begins with a bracket, so are brackets of one kind, one
+-- after another. Every other character is a token of its own. Blanks and comments before a token are left out. Line
+-- feeds one after another are one token, and none stands at the start or at the end.
 use Rattle.std.specs.Prelude.{◌≡◌, ℕ, Bool, true, false, not, ◌&&◌, ◌||◌, ◌==◌, List, [], ◌∷◌}
 use Rattle.basic_toml_tokens.specs.Ascii as ascii
 use Rattle.basic_toml_tokens.specs.Text.{Text, StartsWith, run, after_run, is_comment, after_blanks}

@@ -1,10 +1,9 @@
 -- The rows of sections in another order make trees of the same maps.
-use Rattle.std.proofs.Common.{◌≡◌, ◌⊎◌, inl, inr, ℕ, suc, Bool, true, false, cond, List, [], ◌∷◌, ◌++◌, map, refl, ap}
+use Rattle.std.proofs.Common.{◌≡◌, ◌⊎◌, inl, inr, ℕ, suc, false, cond, List, [], ◌∷◌, ◌++◌, map, refl, ap}
 use Rattle.std.proofs.Common.{sym, ◌∙◌, subst, Some, None}
 use Rattle.std.specs.Prelude.{◌&&◌}
 use Rattle.std.proofs.lemmas.Bool.{or_parts}
 use Rattle.basic_toml_value.specs.Data.{Data}
-use Rattle.basic_toml_value.specs.SameMaps.{SameMaps}
 use Rattle.basic_toml_grammar.specs.Sections.{KeyTexts, texts, Rows, no_rows, row, Section}
 use Rattle.basic_toml_grammar.specs.Steps.{Path, path_eq, steps_of}
 use Rattle.basic_toml_grammar.specs.RowClash.{has_row_clash}
@@ -14,8 +13,6 @@ use Rattle.basic_toml_grammar.specs.Tree.{Mention}
 use Rattle.basic_toml_grammar.specs.Mentions.{finished, row_mentions, section_mentions, mentions}
 use Rattle.basic_toml_grammar.specs.Placed.{Placed, step_into, adds_element, path_of, elements_at, target_from}
 use Rattle.basic_toml_grammar.specs.Placed.{element_from, placed_by, placed_after, placed_from, placed}
-use Rattle.basic_toml_grammar.specs.Entering.{all_keyed}
-use Rattle.basic_toml_grammar.specs.Document.{has_clash, tree_of_sections}
 use Rattle.basic_toml_grammar.specs.Statements.{Reordered, same, kept, turned, and_on}
 use Rattle.basic_toml_grammar.specs.RowOrder.{pairs_of, RowsReordered, RowOrderMeansNothing}
 use Rattle.basic_toml_grammar.proofs.AmongElements.{Among, first, next, among_left, among_right, among_either}

@@ -2,17 +2,17 @@
 use Rattle.std.proofs.Common.{◌≡◌, ◌⊎◌, inl, inr, ℕ, ◌==◌, Bool, true, false, cond, List, [], ◌∷◌, refl, ap, sym}
 use Rattle.std.proofs.Common.{◌∙◌, subst}
 use Rattle.std.specs.Prelude.{◌&&◌, ◌||◌, not}
-use Rattle.std.proofs.lemmas.Bool.{false≢true, eqb-true, or_left, or_right, or_cases, or_parts, or_from, and_parts}
+use Rattle.std.proofs.lemmas.Bool.{false≢true, eqb-true, or_left, or_cases, and_parts}
 use Rattle.basic_toml_tokens.specs.Text.{Text, StartsWith, run, after_run, is_keylike, is_comment, after_blanks}
 use Rattle.basic_toml_tokens.specs.Strings.{is_quote, IsString}
 use Rattle.basic_toml_tokens.proofs.TokenIsUnique.{string_same}
 use Rattle.basic_toml_grammar.specs.Grammar.{is_wordlike}
-use Rattle.basic_toml_grammar.specs.Respaced.{after_spaces, at_token, is_bracket, joins, is_sign, begins_with_bracket}
+use Rattle.basic_toml_grammar.specs.Respaced.{after_spaces, at_token, joins, is_sign, begins_with_bracket}
 use Rattle.basic_toml_grammar.specs.Holes.{begins_key, begins_value}
 use Rattle.basic_toml_grammar.proofs.Grammar.GrammarCarried.{begins_element, element_seen}
-use Rattle.basic_toml_grammar.proofs.Grammar.GrammarIsUnambiguous.{sign_same, no_sign, Heads, heads_not, string_heads}
+use Rattle.basic_toml_grammar.proofs.Grammar.GrammarIsUnambiguous.{sign_same, Heads, heads_not, string_heads}
 use Rattle.basic_toml_grammar.proofs.Spacing.GapsSkipped.{apart, past_feeds, gap_past, begins_space, stands}
-use Rattle.basic_toml_grammar.proofs.Spacing.GapsSkipped.{spaces_still, gap_still, past_still, gap_stops}
+use Rattle.basic_toml_grammar.proofs.Spacing.GapsSkipped.{spaces_still, past_still}
 use Rattle.basic_toml_grammar.proofs.Spacing.GapsSkipped.{spaces_are_blanks, blanks_are_spaces}
 
 -- whether the first character of a text belongs to the token that c is of

@@ -4,15 +4,15 @@ use Rattle.std.proofs.Common.{◌∙◌, subst}
 use Rattle.std.specs.Prelude.{◌&&◌}
 use Rattle.std.proofs.lemmas.Bool.{false≢true, eqb-true}
 use Rattle.basic_toml_tokens.specs.Text.{Text, StartsWith, is_comment, after_blanks}
-use Rattle.basic_toml_grammar.specs.Sections.{Key, texts, Raw, Rows, no_rows, row, Section}
-use Rattle.basic_toml_grammar.specs.Grammar.{after_comment_by, EndsLine, at_feed, at_end, IsRow, IsRows, over}
+use Rattle.basic_toml_grammar.specs.Sections.{Key, texts, Rows, no_rows, row, Section}
+use Rattle.basic_toml_grammar.specs.Grammar.{EndsLine, at_feed, at_end, IsRows, over}
 use Rattle.basic_toml_grammar.specs.Grammar.{header_next, empty_line, row_line, IsHeader, table, array_of_tables}
 use Rattle.basic_toml_grammar.specs.Grammar.{IsSections, no_more, section, with_root, IsSectionList}
 use Rattle.basic_toml_grammar.specs.Respaced.{after_spaces, at_token, is_sign, begins_with_bracket}
 use Rattle.basic_toml_grammar.proofs.Grammar.GrammarCarried.{line_before}
 use Rattle.basic_toml_grammar.proofs.Grammar.GrammarIsUnambiguous.{sign_same, no_sign, Heads, heads_not, string_heads}
 use Rattle.basic_toml_grammar.proofs.Grammar.GrammarIsUnambiguous.{keys_heads, row_heads, no_header}
-use Rattle.basic_toml_grammar.proofs.SameMeaning.SameSections.{SameRaw, SameRows, no_more_rows, one_row, SameSection}
+use Rattle.basic_toml_grammar.proofs.SameMeaning.SameSections.{SameRows, no_more_rows, one_row}
 use Rattle.basic_toml_grammar.proofs.SameMeaning.SameSections.{SameSections, no_more_sections, one_section, root_same}
 use Rattle.basic_toml_grammar.proofs.Spacing.GapsSkipped.{past_feeds, gap_past, stands, spaces_still}
 use Rattle.basic_toml_grammar.proofs.Spacing.GapsSkipped.{past_still, gap_stops}
@@ -21,7 +21,7 @@ use Rattle.basic_toml_grammar.proofs.Spacing.FrontsAlike.{Alike, both_over, both
 use Rattle.basic_toml_grammar.proofs.Spacing.FrontsAlike.{LinesAlike, goes_on, Sign, sign_there, is_seen, seen_parts}
 use Rattle.basic_toml_grammar.proofs.Spacing.FrontsAlike.{seen_hash, still, seen_there, blanks_alike}
 use Rattle.basic_toml_grammar.proofs.Spacing.FrontsAlike.{sign_after_blanks, key_is_seen, seen_heads, not_over}
-use Rattle.basic_toml_grammar.proofs.Spacing.ValuesAlike.{KeysThere, keys_there, RowThere, row_there}
+use Rattle.basic_toml_grammar.proofs.Spacing.ValuesAlike.{keys_there, row_there}
 
 -- ends of lines
 pub record LineThere (rest other : Text) : Type 0 where

@@ -1,18 +1,18 @@
 -- Texts of the same tokens are alike from their first token on, and so mean the same.
 use Rattle.std.proofs.Common.{◌≡◌, ◌⊎◌, inl, inr, ℕ, ◌==◌, Bool, true, false, cond, List, [], ◌∷◌, refl, ap, sym}
 use Rattle.std.proofs.Common.{◌∙◌, subst}
-use Rattle.std.specs.Prelude.{◌&&◌, ◌||◌}
-use Rattle.std.proofs.lemmas.Bool.{false≢true, eqb-true, or_cases, and_parts}
-use Rattle.basic_toml_tokens.specs.Text.{Text, run, after_run, is_comment}
+use Rattle.std.specs.Prelude.{◌&&◌}
+use Rattle.std.proofs.lemmas.Bool.{eqb-true, or_cases, and_parts}
+use Rattle.basic_toml_tokens.specs.Text.{Text, run, after_run}
 use Rattle.basic_toml_tokens.specs.Strings.{is_quote}
 use Rattle.basic_toml_value.specs.Data.{Data}
 use Rattle.basic_toml_grammar.specs.Grammar.{is_wordlike}
-use Rattle.basic_toml_grammar.specs.Document.{document_of, IsDocument}
+use Rattle.basic_toml_grammar.specs.Document.{IsDocument}
 use Rattle.basic_toml_grammar.specs.Respaced.{Token, newline, characters, quoted, after_spaces, at_token, is_bracket}
 use Rattle.basic_toml_grammar.specs.Respaced.{joins, is_sign, begins_with_bracket, HasTokens, no_more, feeds, signs}
 use Rattle.basic_toml_grammar.specs.Respaced.{string, Respaced}
 use Rattle.basic_toml_grammar.specs.Statements.{RespacedMeansNothing}
-use Rattle.basic_toml_grammar.proofs.Grammar.GrammarIsUnambiguous.{sign_same, string_heads}
+use Rattle.basic_toml_grammar.proofs.Grammar.GrammarIsUnambiguous.{string_heads}
 use Rattle.basic_toml_grammar.proofs.SameMeaning.OffsetsForgotten.{document_same}
 use Rattle.basic_toml_grammar.proofs.Spacing.GapsSkipped.{apart, gap_past, stands, spaces_still, gap_still, gap_stops}
 use Rattle.basic_toml_grammar.proofs.Spacing.FrontsAlike.{goes_on, Alike, both_over, both_feed, both_sign, both_string}

@@ -1,7 +1,7 @@
 -- Keys, values and rows of two texts that are alike: where one stands in one, one of the same meaning stands in the
 -- other.
 use Rattle.std.proofs.Common.{◌≡◌, ℕ, Bool, List, [], ◌∷◌, refl, ap, sym, ◌∙◌, subst, true}
-use Rattle.std.specs.Prelude.{encode_utf8_all, Some}
+use Rattle.std.specs.Prelude.{encode_utf8_all}
 use Rattle.std.proofs.lemmas.Bool.{or_left}
 use Rattle.basic_toml_tokens.specs.Text.{Text, StartsWith, run, after_run, is_keylike, is_comment, after_blanks}
 use Rattle.basic_toml_grammar.specs.Sections.{Key, texts, Raw, Elements, no_elements, element, Rows, no_rows, row}
@@ -9,16 +9,15 @@ use Rattle.basic_toml_grammar.specs.Grammar.{IsKey, bare, quoted, IsKeys, one, m
 use Rattle.basic_toml_grammar.specs.Grammar.{word_offset}
 use Rattle.basic_toml_grammar.specs.Grammar.{IsValue, word, string, array, inline, IsElements, close, last, and_more}
 use Rattle.basic_toml_grammar.specs.Grammar.{IsFields, none, some, IsFieldsOn, last_row, more_rows, IsRow, assigned}
-use Rattle.basic_toml_grammar.specs.Respaced.{after_spaces, at_token, is_sign}
-use Rattle.basic_toml_grammar.proofs.Grammar.GrammarCarried.{elements_heads}
-use Rattle.basic_toml_grammar.proofs.Grammar.GrammarIsUnambiguous.{Heads, key_heads, keys_heads, value_heads}
-use Rattle.basic_toml_grammar.proofs.Grammar.GrammarIsUnambiguous.{row_heads, fields_heads}
+use Rattle.basic_toml_grammar.specs.Respaced.{at_token, is_sign}
+use Rattle.basic_toml_grammar.proofs.Grammar.GrammarIsUnambiguous.{Heads, keys_heads, value_heads}
+use Rattle.basic_toml_grammar.proofs.Grammar.GrammarIsUnambiguous.{fields_heads}
 use Rattle.basic_toml_grammar.proofs.SameMeaning.SameSections.{SameRaw, same_array, same_inline, same_string, itself}
 use Rattle.basic_toml_grammar.proofs.SameMeaning.SameSections.{SameElements, no_more_elements, one_element, SameRows}
 use Rattle.basic_toml_grammar.proofs.SameMeaning.SameSections.{no_more_rows, one_row}
 use Rattle.basic_toml_grammar.proofs.Spacing.FrontsAlike.{Alike, After, Sign, sign_there, string_there, is_seen}
 use Rattle.basic_toml_grammar.proofs.Spacing.FrontsAlike.{blanks_alike, sign_after_blanks, gaps_alike, key_is_seen}
-use Rattle.basic_toml_grammar.proofs.Spacing.FrontsAlike.{value_is_seen, element_is_seen, seen_heads, run_there}
+use Rattle.basic_toml_grammar.proofs.Spacing.FrontsAlike.{value_is_seen, seen_heads, run_there}
 
 pub record KeyThere (b : Bool) (k : Key) (rest other : Text) : Type 0 where
   pub key : Key

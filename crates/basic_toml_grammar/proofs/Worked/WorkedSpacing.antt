@@ -1,8 +1,8 @@
 -- Worked texts that differ in blanks, comments and empty lines, and texts that differ in more; rows in another order.
-use Rattle.std.proofs.Common.{◌≡◌, ℕ, Bool, true, false, List, [], ◌∷◌, Option, Some, None, refl, ap, sym, ◌∙◌, codes}
+use Rattle.std.proofs.Common.{◌≡◌, ℕ, false, List, [], ◌∷◌, Option, Some, None, refl, ap, ◌∙◌, codes}
 use Rattle.std.specs.Str.{chars}
 use lib.Utf8.{encode}
-use Rattle.basic_toml_tokens.specs.Text.{Text, folded}
+use Rattle.basic_toml_tokens.specs.Text.{Text}
 use Rattle.basic_toml_value.specs.Data.{Data}
 use Rattle.basic_toml_grammar.specs.Sections.{Raw, Rows, no_rows, row, Section}
 use Rattle.basic_toml_grammar.specs.Document.{document_of, IsDocument}
