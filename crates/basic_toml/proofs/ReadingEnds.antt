@@ -26,6 +26,8 @@ use Rattle.basic_toml_error.specs.ReadFaults.{fault_in, lined}
 use Rattle.basic_toml.specs.Reading.{IsTextFault, outside, deep, deep_tree, clash, OnlyMemory, IsLined, ReadsText}
 use Rattle.basic_toml.proofs.RefusedTextsHaveNoDocument.{refused_has_no_document}
 use Rattle.basic_toml.specs.Reading.{value_read, no_memory, no_document, not_taken, GivesTree, AnswersTree}
+use Rattle.basic_toml.specs.Reading.{ReadsTree, no_memory_for_tree, no_tree}
+use Rattle.basic_toml.specs.Reading as ending
 
 -- the tree of a section list is its document, where nothing clashes and it fits
 document_found : (sections : List Section) (tree : Data) → has_clash sections ≡ false
@@ -106,3 +108,14 @@ module _ {T : Type 0} (takes : Data → Type 0) (reads : Data → T → Type 0) 
       document_read (table_data tree.root.value) members result same document ok err
 
 pub ruleset ends = (unread, tree_read)
+
+-- the tree, or why there is none
+pub ends_in_tree : (text : List ℕ) (result : Result Tree Fault) → AnswersTree text result → ReadsTree text result
+ends_in_tree text (Ok tree) document = ending.tree_read document
+ends_in_tree text (Err fault) (inl memory) =
+    subst (λ (f : Fault). ReadsTree text (Err f)) (sym memory) no_memory_for_tree
+ends_in_tree text (Err fault) (inr (error, why, same)) =
+    subst (λ (f : Fault). ReadsTree text (Err f)) (sym same)
+    (no_tree (λ tree document. refused_has_no_document text error tree why document) why)
+
+pub ruleset tree_ends = (ends_in_tree)

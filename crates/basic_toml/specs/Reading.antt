@@ -63,3 +63,11 @@ abbrev pub AnswersTree : List ℕ → Result Tree Fault → Type 0
 AnswersTree text (Ok tree) = IsDocument (folded text) (table_data tree.root.value)
 AnswersTree text (Err fault) = (fault ≡ want_of_memory)
     ⊎ ((error : read.Fault) × IsTextFault text error × (fault ≡ fault_in text error))
+
+-- The tree of the text's document; or want of memory; or the error of a text without a document, with the line and the
+-- column of its offset.
+pub data ReadsTree (text : List ℕ) : Result Tree Fault → Type 0 where
+  tree_read : {tree : Tree} → IsDocument (folded text) (table_data tree.root.value) → ReadsTree text (Ok tree)
+  no_memory_for_tree : ReadsTree text (Err want_of_memory)
+  no_tree : {error : read.Fault} → ((tree : Data) → IsDocument (folded text) tree → ⊥) → IsTextFault text error
+      → ReadsTree text (Err (fault_in text error))

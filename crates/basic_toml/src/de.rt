@@ -7,7 +7,7 @@ ghost use Rattle.basic_toml_grammar.specs.OldRules.{has_no_delete, WasDocument};
 ghost use Rattle.basic_toml_grammar.specs.Respelled.{with_returns, has_return, with_byte_order_mark, has_byte_order_mark};
 ghost use Rattle.basic_toml_tree.specs.Data.{table_data};
 ghost use Rattle.basic_toml_error.specs.Fault.{not_text};
-ghost use Rattle.basic_toml.specs.Reading.{IsLined, ReadsText, ReadsData, GivesTree, AnswersTree};
+ghost use Rattle.basic_toml.specs.Reading.{IsLined, ReadsText, ReadsData, GivesTree, AnswersTree, ReadsTree};
 
 use crate::{Deserialize, Error};
 use basic_toml_read::{ReadError, sections};
@@ -50,12 +50,12 @@ fn read_text<'de, T: Deserialize<'de>>(alloc: Global, text: &'de str) -> Result<
     ensures { ReadsText T.takes T.reads text.now result }
 {
     let tree = tree_of(alloc, text)?;
-    read_tree(alloc, tree, text)
+    read_from(alloc, tree, text)
 }
 
 // What a type reads from the tree of a text; its error with the line and the column of its offset.
 #[tactic(auto, using(crate::proofs::ReadingEnds::read_lined))]
-fn read_tree<'de, T: Deserialize<'de>>(
+fn read_from<'de, T: Deserialize<'de>>(
     alloc: Global,
     tree: Tree<'de>,
     text: &str,
@@ -68,6 +68,25 @@ fn read_tree<'de, T: Deserialize<'de>>(
         Ok(value) => Ok(value),
         Err(error) => Err(error.with_line(text)),
     }
+}
+
+/// The tree of a text's document (TOML v0.5.0, "Spec"), whose nodes are read from `root`.
+///
+/// ```text
+/// let tree = read_tree(alloc, "port = 80\n")?;
+/// let port = tree.root().get("port"); // a node with the integer 80
+/// ```
+///
+/// `basic_toml_serde` reads the types that it derives from such a tree.
+///
+/// # Errors
+///
+/// Those that [`from_str`] has where the text has no document, with the line and the column; and `out of memory`.
+#[tactic(auto, using(crate::proofs::ReadingEnds::tree_ends))]
+pub fn read_tree<'de>(alloc: Global, text: &'de str) -> Result<Tree<'de>, Error>
+    ensures { ReadsTree text.now result }
+{
+    tree_of(alloc, text)
 }
 
 // The tree of a text's document, or its error with line and column.

@@ -33,6 +33,6 @@ pub use basic_toml_typed::{
 };
 pub use basic_toml_value::{Float, PushRefusal, Table, Value, float_of, integer_of};
 pub use basic_toml_write::{Serialize, Serializer, WriteError};
-pub use de::{from_slice, from_str};
+pub use de::{from_slice, from_str, read_tree};
 pub use read_back::round_trip;
 pub use ser::to_string;
