@@ -77,7 +77,7 @@ fn read_from<'de, T: Deserialize<'de>>(
 /// let port = tree.root().get("port"); // a node with the integer 80
 /// ```
 ///
-/// `basic_toml_serde` reads the types that it derives from such a tree.
+/// This is from `toml_vectors`. It serves whoever reads types by a trait of their own from the nodes.
 ///
 /// # Errors
 ///

@@ -2,7 +2,7 @@
 use basic_toml::tokens::{Span, Tokenizer};
 use basic_toml::{
     Error, ErrorKind, Float, PushRefusal, ReadErrorKind, Serializer, Table, Value, WriteError,
-    from_slice, from_str, integer_of, into_rows_first, line_col, rows_first, to_string,
+    from_slice, from_str, integer_of, into_rows_first, line_col, read_tree, rows_first, to_string,
 };
 use std::alloc::{AllocError, Global};
 use std::test::Fail;
@@ -16,6 +16,14 @@ fn reads_and_writes_a_table(rt: HostRuntime) -> Result<(), Fail> {
     assert!(rt; port.is_some_and(|value| *value == Value::Integer(80)));
     let text = to_string(alloc, &settings)?;
     assert_eq!(rt; text.as_str(), "port = 80\n");
+    Ok(())
+}
+
+#[test]
+fn reads_a_tree(rt: HostRuntime) -> Result<(), Fail> {
+    let tree = read_tree(rt.alloc(), "port = 80\n")?;
+    let port = tree.root().get("port");
+    assert!(rt; port.is_some_and(|node| node.as_integer() == Some(80)));
     Ok(())
 }
 
