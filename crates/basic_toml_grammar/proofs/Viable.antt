@@ -16,5 +16,7 @@ pub mod TextsCarried
 pub mod TextsHold
 pub mod TokensAtHoles
 pub mod TokensBegin
+pub mod UnquotedIsDue
+pub mod UnquotedWords
 pub mod ValuesFollowed
 pub mod ValuesHaveNoFault
