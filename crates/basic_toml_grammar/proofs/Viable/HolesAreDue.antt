@@ -17,7 +17,6 @@ use Rattle.basic_toml_grammar.specs.Holes.{Hole, HoleInText, fits, begins_value}
 use Rattle.basic_toml_grammar.specs.Viable as viable
 use Rattle.basic_toml_grammar.specs.Viable.{RefusesToken, Want, wants}
 use Rattle.basic_toml_grammar.specs.Viable.{mismatch_kind, SignMayStand, IsWanted, IsDue}
-use Rattle.basic_toml_grammar.proofs.Grammar.EndChangesNothing.{stops}
 use Rattle.basic_toml_grammar.proofs.Grammar.GrammarCarried.{Seen}
 use Rattle.basic_toml_grammar.proofs.Completion.Fillers as fillers
 use Rattle.basic_toml_grammar.proofs.Completion.Fillers.{Filler, text_gap}

@@ -1,6 +1,6 @@
 -- Where a value has to come and a word stands that is neither a value nor the beginning of a number, it is due that
 -- strings are quoted.
-use Rattle.std.proofs.Common.{◌≡◌, ℕ, ◌==◌, Bool, true, false, cond, List, ◌∷◌, [], length, Some, None}
+use Rattle.std.proofs.Common.{◌≡◌, ℕ, Bool, true, cond, List, ◌∷◌, [], length, None}
 use Rattle.std.proofs.Common.{refl, ap, sym, ◌∙◌, subst}
 use Rattle.std.specs.Prelude.{not, IsUtf8}
 use Rattle.std.proofs.lemmas.Bool.{or_left}

@@ -1,14 +1,14 @@
 -- A word that is not quoted is no value, and begins none.
 use Rattle.std.proofs.Common.{◌≡◌, ◌⊎◌, inl, inr, ℕ, ◌-◌, ◌==◌, ◌&&◌, ◌||◌, Bool, true, false, cond, List, []}
-use Rattle.std.proofs.Common.{◌∷◌, ◌++◌, Option, Some, None, is_none, refl, ap, sym, ◌∙◌, subst, codes, eqb-true, arith}
+use Rattle.std.proofs.Common.{◌∷◌, ◌++◌, Some, is_none, refl, ap, sym, ◌∙◌, subst, codes, eqb-true, arith}
 use Rattle.std.proofs.Common.{nat_lt, nat_le}
-use Rattle.std.specs.Prelude.{not, ℤ}
+use Rattle.std.specs.Prelude.{not}
 use Rattle.std.specs.Char.{is_digit, is_ascii_digit}
 use Rattle.std.specs.Str.{bytes_eq}
 use Rattle.std.proofs.lemmas.Bool.{false≢true, and_parts, and_from, or_cases, or_parts, ltb-true, ltb-false, le-leb}
 use Rattle.std.proofs.lemmas.List.{append-nil}
 use Rattle.std.proofs.lemmas.Slice.Eq.{bytes_eq-Decides}
-use Rattle.basic_toml_tokens.specs.Text.{Text, run, is_keylike}
+use Rattle.basic_toml_tokens.specs.Text.{Text, run}
 use Rattle.basic_toml_value.specs.Numbers.{integer_of, float_of, decimal, after_zero, goes_on, is_whole, part_of}
 use Rattle.basic_toml_value.specs.Numbers.{after_part, is_tail, is_special, is_unsigned_float}
 use Rattle.basic_toml_grammar.specs.Sections.{Raw}
