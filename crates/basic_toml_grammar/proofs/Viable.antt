@@ -7,6 +7,7 @@ pub mod HolesAreWithin
 pub mod HolesAtTheEnd
 pub mod HolesCarried
 pub mod HolesHold
+pub mod MultilineKeys
 pub mod NumberParts
 pub mod NumbersAreDue
 pub mod NumbersOnTheWay
