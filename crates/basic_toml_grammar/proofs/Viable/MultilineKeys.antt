@@ -7,7 +7,8 @@ use Rattle.basic_toml_tokens.specs.Text.{Text, folded, offset_in}
 use Rattle.basic_toml_tokens.specs.Strings.{IsString}
 use Rattle.basic_toml_tokens.specs.TokenAt as token
 use Rattle.basic_toml_tokens.specs.TokenAt.{Lexeme, newline, equals, period, comma, colon, plus, left_brace}
-use Rattle.basic_toml_tokens.specs.TokenAt.{right_brace, left_bracket, right_bracket, keylike, string, punctuation_of, IsToken}
+use Rattle.basic_toml_tokens.specs.TokenAt.{right_brace, left_bracket, right_bracket, keylike, string}
+use Rattle.basic_toml_tokens.specs.TokenAt.{punctuation_of, IsToken}
 use Rattle.basic_toml_tokens.proofs.TokenIsUnique.{token_same}
 use Rattle.basic_toml_grammar.specs.Sections.{Key}
 use Rattle.basic_toml_grammar.specs.Faults.{multiline_string_key}

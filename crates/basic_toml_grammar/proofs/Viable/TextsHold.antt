@@ -29,7 +29,8 @@ not_at_end {x = x} {text = text} (ends n) e = let over : [] ≡ x ∷ text = sym
 line_fits : {mid mid' next : Text} → mid ≡ mid' → EndsLine is_comment mid' next
     → FitsOrEnds Hole.after_line (after_comment_by is_comment (after_blanks mid))
 line_fits m (at_feed s) =
-    fit (filled (λ h. cc) (λ h. cc) (sign_fits (ap (λ (t : Text). after_comment_by is_comment (after_blanks t)) m ∙ s) refl))
+    fit (filled (λ h. cc) (λ h. cc)
+    (sign_fits (ap (λ (t : Text). after_comment_by is_comment (after_blanks t)) m ∙ s) refl))
 line_fits m (at_end s) = ends (ap (λ (t : Text). after_comment_by is_comment (after_blanks t)) m ∙ s)
 
 rows_hold : {h : Hole} {text at r : Text} {rs : Rows} → HoleInRows text h at → IsRows is_comment text rs r
@@ -71,8 +72,9 @@ header_holds {h = h} {at = at} (holes.table_keys e m d) (table f xs g) =
 header_holds (holes.table_keys e m d) (array_of_tables f b xs g i) =
     absurd (missed m ((sign_same e f).2 ∙ b) refl)
 header_holds (holes.table_end {keys = ks} {mid = mid} e ks') (table f xs g) =
-    filled (λ h. cc) (λ h. cc) (keys_next (subst (λ (t : Text). IsKeys (after_blanks t) ks mid) (sign_same e f).2 ks') xs
-    g (λ e. omega (arith, e)) refl refl)
+    filled (λ h. cc) (λ h. cc)
+    (keys_next (subst (λ (t : Text). IsKeys (after_blanks t) ks mid) (sign_same e f).2 ks') xs g
+    (λ e. omega (arith, e)) refl refl)
 header_holds (holes.table_end {keys = ks} {mid = mid} e ks') (array_of_tables f b xs g i) =
     absurd (heads_not (keys_heads (subst (λ (t : Text). IsKeys (after_blanks t) ks mid) (sign_same e f).2 ks'))
     (ap after_blanks b) refl)
