@@ -7,6 +7,7 @@ pub mod HolesAreWithin
 pub mod HolesAtTheEnd
 pub mod HolesCarried
 pub mod HolesHold
+pub mod MultilineKeys
 pub mod NumberParts
 pub mod NumbersAreDue
 pub mod NumbersOnTheWay
@@ -16,5 +17,7 @@ pub mod TextsCarried
 pub mod TextsHold
 pub mod TokensAtHoles
 pub mod TokensBegin
+pub mod UnquotedIsDue
+pub mod UnquotedWords
 pub mod ValuesFollowed
 pub mod ValuesHaveNoFault

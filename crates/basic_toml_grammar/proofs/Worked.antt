@@ -3,6 +3,7 @@ pub mod WorkedChanges
 pub mod WorkedDocuments
 pub mod WorkedFaults
 pub mod WorkedGrammar
+pub mod WorkedHoles
 pub mod WorkedNesting
 pub mod WorkedNodes
 pub mod WorkedNumbers

@@ -12,7 +12,7 @@ use Rattle.basic_toml_grammar.specs.Grammar.{IsElements, close, last, and_more, 
 use Rattle.basic_toml_grammar.specs.Grammar.{last_row, more_rows, IsRow, assigned, EndsLine, at_feed, at_end, IsRows}
 use Rattle.basic_toml_grammar.specs.Grammar.{over, header_next, empty_line, row_line, IsHeader, table}
 use Rattle.basic_toml_grammar.specs.Grammar.{array_of_tables, to_period}
-use Rattle.basic_toml_grammar.proofs.Grammar.EndChangesNothing.{Parts, at_end, same, stops, Ends}
+use Rattle.basic_toml_grammar.proofs.Grammar.EndChangesNothing.{Parts, at_end, stops, Ends}
 use Rattle.basic_toml_grammar.proofs.Grammar.EndChangesNothing.{same_ends, Cut, Kept, kept, Carried, carried}
 use Rattle.basic_toml_grammar.proofs.Grammar.EndChangesNothing.{run_to, comment_to, gap_to, begins_gap, in_gap, Clear}
 use Rattle.basic_toml_grammar.proofs.Grammar.EndChangesNothing.{same_clear, keys_join, words_join, sign_carried}

@@ -11,7 +11,7 @@ use Rattle.basic_toml_tokens.specs.Strings.{Quotes, is_quote, count_of, is_plain
 use Rattle.basic_toml_tokens.specs.Strings.{IsPiece, content, delimiters, letter, unicode, continuation, Pieces, none}
 use Rattle.basic_toml_tokens.specs.Strings.{piece, Closes, one, several, after_feed, Opens, one_line, multiline}
 use Rattle.basic_toml_tokens.specs.Strings.{IsString}
-use Rattle.basic_toml_grammar.proofs.Grammar.EndChangesNothing.{Parts, at_end, past, beyond, Meets, same, same_ends}
+use Rattle.basic_toml_grammar.proofs.Grammar.EndChangesNothing.{Parts, at_end, past, beyond, Meets, same_ends}
 use Rattle.basic_toml_grammar.proofs.Grammar.EndChangesNothing.{ends, stops, quotes_join, Cut, Kept, kept}
 use Rattle.basic_toml_grammar.proofs.Grammar.EndChangesNothing.{Carried, run_to, drop_to, sign_kept, sign_carried}
 use Rattle.basic_toml_grammar.proofs.Grammar.EndChangesNothing.{begun_carried, run_dropped, run_taken, run_shorter}

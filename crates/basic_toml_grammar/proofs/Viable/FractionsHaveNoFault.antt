@@ -9,7 +9,7 @@ use Rattle.basic_toml_tokens.specs.Text.{Text, offset_in, run, after_run, is_key
 use Rattle.basic_toml_value.specs.Numbers.{is_digits, is_whole, part_of}
 use Rattle.basic_toml_value.specs.Numbers.{after_part, is_exponent_letter, is_exponent}
 use Rattle.basic_toml_value.specs.Numbers.{without_sign}
-use Rattle.basic_toml_grammar.specs.Grammar.{is_wordlike, word}
+use Rattle.basic_toml_grammar.specs.Grammar.{is_wordlike}
 use Rattle.basic_toml_grammar.specs.NumberFaults.{part_fault, without_minus, left_fault}
 use Rattle.basic_toml_grammar.specs.NumberFaults.{plus_word_fault, near_power_fault, power_fault, exponent_fault}
 use Rattle.basic_toml_grammar.specs.NumberFaults.{end_before, fraction_parts_fault, after_period_fault}

@@ -99,6 +99,50 @@ loose {h = h} d value element = go (text_gap d) refl
     go false e = e
     go true e = absurd (neither (after_gap_is d e).hole)
 
+-- after an element a gap stands
+keys_no_element : {text at : Text} → HoleInKeys text Hole.after_element at → ⊥
+keys_no_element (holes.later_key k s d) = keys_no_element d
+
+mutual
+  value_spaced : {text at : Text} (d : HoleInValue text Hole.after_element at) → value_gap d ≡ true
+  value_spaced (holes.array s d) = elements_spaced d
+  value_spaced (holes.inline s d) = fields_spaced d
+
+  elements_spaced : {text at : Text} (d : HoleInElements text Hole.after_element at) → elements_gap d ≡ true
+  elements_spaced (holes.in_element m (holes.array s d)) = elements_spaced d
+  elements_spaced (holes.in_element m (holes.inline s d)) = fields_spaced d
+  elements_spaced (holes.after_this v) = refl
+  elements_spaced (holes.later_element v s d) = elements_spaced d
+
+  fields_spaced : {text at : Text} (d : HoleInFields text Hole.after_element at) → fields_gap d ≡ true
+  fields_spaced (holes.fields m d) = fields_on_spaced d
+
+  fields_on_spaced : {text at : Text} (d : HoleInFieldsOn text Hole.after_element at) → fields_on_gap d ≡ true
+  fields_on_spaced (holes.in_row d) = row_spaced d
+  fields_on_spaced (holes.later_row w s d) = fields_on_spaced d
+
+  row_spaced : {text at : Text} (d : HoleInRow text Hole.after_element at) → row_gap d ≡ true
+  row_spaced (holes.in_keys d) = absurd (keys_no_element d)
+  row_spaced (holes.in_value ks s d) = value_spaced d
+
+rows_spaced : {text at : Text} (d : HoleInRows text Hole.after_element at) → rows_gap d ≡ true
+rows_spaced (holes.this_row b c m d) = row_spaced d
+rows_spaced (holes.after_empty x d) = rows_spaced d
+rows_spaced (holes.later_row w x d) = rows_spaced d
+
+header_no_element : {text at : Text} → HoleInHeader text Hole.after_element at → ⊥
+header_no_element (holes.table_keys s m d) = keys_no_element d
+header_no_element (holes.array_keys s t d) = keys_no_element d
+
+sections_spaced : {text at : Text} (d : HoleInSections text Hole.after_element at) → sections_gap d ≡ true
+sections_spaced (holes.in_header d) = absurd (header_no_element d)
+sections_spaced (holes.in_rows w x d) = rows_spaced d
+sections_spaced (holes.later_section w x rs d) = sections_spaced d
+
+pub spaced : {start at : Text} (d : HoleInText start Hole.after_element at) → text_gap d ≡ true
+spaced (holes.root d) = rows_spaced d
+spaced (holes.headed rs d) = sections_spaced d
+
 -- no header may stand where a line ends
 rows_closed : {text at : Text} (d : HoleInRows text Hole.after_line at) → rows_open d ≡ false
 rows_closed (holes.this_row b c m (holes.in_keys d)) = absurd (keys_no_line d)

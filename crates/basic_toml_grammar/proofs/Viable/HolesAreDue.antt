@@ -17,7 +17,6 @@ use Rattle.basic_toml_grammar.specs.Holes.{Hole, HoleInText, fits, begins_value}
 use Rattle.basic_toml_grammar.specs.Viable as viable
 use Rattle.basic_toml_grammar.specs.Viable.{RefusesToken, Want, wants}
 use Rattle.basic_toml_grammar.specs.Viable.{mismatch_kind, SignMayStand, IsWanted, IsDue}
-use Rattle.basic_toml_grammar.proofs.Grammar.EndChangesNothing.{stops}
 use Rattle.basic_toml_grammar.proofs.Grammar.GrammarCarried.{Seen}
 use Rattle.basic_toml_grammar.proofs.Completion.Fillers as fillers
 use Rattle.basic_toml_grammar.proofs.Completion.Fillers.{Filler, text_gap}
@@ -161,19 +160,28 @@ module _ (bytes : List ℕ) (utf8 : IsUtf8 bytes) (outside : Outside (folded byt
         (viable.later (not_there d m 91 (header (λ e. cc) (closed d)) refl)
         (viable.this (sign_follows bytes utf8 d fillers.line_end (seen d))))))))
 
+    -- where a key has to come no other sign may stand, but a bracket that begins a header
+    module _ (d : HoleInText (folded bytes) Hole.key ((p, c) ∷ next)) where
+      not_at_key : (k : ℕ) → Sign k Hole.key (text_opens d) → fits Hole.key k ≡ false
+          → SignMayStand (folded bytes) (length bytes) (Some k) ((p, c) ∷ next) → ⊥
+      not_at_key k s f g = sign_misfits d s (record { gap = λ e. ap not begins; line = λ e. cc }) f g
+
+      pub key_is_wanted : IsWanted (folded bytes) (length bytes) ((p, c) ∷ next) wants Want.table_key
+      key_is_wanted =
+          viable.later (not_at_key 123 (brace (λ e. cc)) refl)
+          (viable.later (not_at_key 61 (equals (λ e. cc)) refl)
+          (viable.later (not_at_key 93 (bracket (λ e. cc)) refl)
+          (viable.later (not_at_key 44 (comma (λ e. cc)) refl) (key (text_opens d) refl))))
+        where
+          key : (b : Bool) → text_opens d ≡ b
+              → IsWanted (folded bytes) (length bytes) ((p, c) ∷ next)
+              ((Some 91, Want.table_key) ∷ (None, Want.newline) ∷ []) Want.table_key
+          key true o = viable.this (bracket_follows bytes utf8 d o)
+          key false o = viable.later (not_at_key 91 (header (λ e. cc) o) refl)
+              (viable.later (λ g. end_misfits d o (λ e. cc) g) viable.otherwise)
+
     pub key_is_due : HoleInText (folded bytes) Hole.key ((p, c) ∷ next) → fits Hole.key c ≡ false → Due Want.table_key
-    key_is_due d m = due d m (no_value d m (brace (λ e. cc)) refl)
-        (viable.later (not_there d m 123 (brace (λ e. cc)) refl)
-        (viable.later (not_there d m 61 (equals (λ e. cc)) refl)
-        (viable.later (not_there d m 93 (bracket (λ e. cc)) refl)
-        (viable.later (not_there d m 44 (comma (λ e. cc)) refl) (key (text_opens d) refl)))))
-      where
-        key : (b : Bool) → text_opens d ≡ b
-            → IsWanted (folded bytes) (length bytes) ((p, c) ∷ next) ((Some 91, Want.table_key) ∷ (None, Want.newline) ∷ [])
-            Want.table_key
-        key true o = viable.this (bracket_follows bytes utf8 d o)
-        key false o = viable.later (not_there d m 91 (header (λ e. cc) o) refl)
-            (viable.later (λ g. end_misfits d o (λ e. cc) g) viable.otherwise)
+    key_is_due d m = due d m (no_value d m (brace (λ e. cc)) refl) (key_is_wanted d)
 
     -- where no value begins
     pub value_is_due : HoleInText (folded bytes) Hole.value ((p, c) ∷ next) → fits Hole.value c ≡ false → Due Want.value

@@ -10,6 +10,7 @@ use Rattle.basic_toml_grammar.specs.Holes.{Hole, HoleInText, fits}
 use Rattle.basic_toml_grammar.specs.Viable as viable
 use Rattle.basic_toml_grammar.specs.Viable.{GoesOn, Begins, HasSignAfterFeed, Want, wants, mismatch_kind}
 use Rattle.basic_toml_grammar.specs.Viable.{SignMayStand, IsWanted, IsDue}
+use Rattle.basic_toml_grammar.proofs.Grammar.EndChangesNothing.{begins_gap}
 use Rattle.basic_toml_grammar.proofs.Completion.Fillers as fillers
 use Rattle.basic_toml_grammar.proofs.Completion.Fillers.{Filler, text_gap}
 use Rattle.basic_toml_grammar.proofs.Completion.HeadersFollow.{text_opens, bracket_follows}
@@ -17,9 +18,9 @@ use Rattle.basic_toml_grammar.proofs.Completion.SignsFollow.{sign_follows, sign_
 use Rattle.basic_toml_grammar.proofs.Completion.TokensFollow.{hole_is_viable}
 use Rattle.basic_toml_grammar.proofs.Viable.FaultsAreOne.{no_token_at_end}
 use Rattle.basic_toml_grammar.proofs.Viable.SignsAtHoles.{Sign, brace, equals, bracket, comma, header, sign_misfits}
-use Rattle.basic_toml_grammar.proofs.Viable.SignsAtHoles.{end_misfits, feed_misfits}
+use Rattle.basic_toml_grammar.proofs.Viable.SignsAtHoles.{end_misfits, feed_misfits, fed_misfits}
 use Rattle.basic_toml_grammar.proofs.Viable.NumbersOnTheWay.{no_number}
-use Rattle.basic_toml_grammar.proofs.Viable.GapsEnd.{loose}
+use Rattle.basic_toml_grammar.proofs.Viable.GapsEnd.{loose, spaced}
 use Rattle.basic_toml_grammar.proofs.Viable.HolesAreDue.{Outside}
 
 fed : {start : Text} {sign : Option ℕ} → GoesOn start [] (HasSignAfterFeed sign) → GoesOn start [] (Begins 10)
@@ -90,6 +91,19 @@ module _ (bytes : List ℕ) (utf8 : IsUtf8 bytes) (outside : Outside (folded byt
       over d (viable.later (not_there d t (λ e. cc) refl 123 (brace (λ e. cc)) refl)
       (viable.later (not_there d t (λ e. cc) refl 61 (equals (λ e. cc)) refl)
       (viable.this (there d t (λ e. cc) refl fillers.second_end))))
+
+  -- after an element a line feed may stand: a right bracket may behind it, and neither a brace nor an equals
+  pub element_end_at_end : HoleInText (folded bytes) Hole.after_element [] → Over Want.right_bracket
+  element_end_at_end d =
+      over d (viable.later (not_fed 123 refl refl) (viable.later (not_fed 61 refl refl) (viable.this (inl closes))))
+    where
+      closes : GoesOn (folded bytes) [] (HasSignAfterFeed (Some 93))
+      closes = sign_follows_feed bytes utf8 d fillers.array_end (spaced d)
+
+      not_fed : (k : ℕ) → begins_gap k ≡ false → fits Hole.after_element k ≡ false
+          → SignMayStand (folded bytes) (length bytes) (Some k) [] → ⊥
+      not_fed k n f (inl g) = fed_misfits d n f g
+      not_fed k n f (inr g) = g.0 (fed closes)
 
   pub field_end_at_end : HoleInText (folded bytes) Hole.after_field [] → Over Want.comma
   field_end_at_end d =

@@ -1,15 +1,16 @@
 -- A reading that stands at a hole stands at it in each text that is the same up to the hole and goes on there with the
 -- same character; or with one that joins nothing before it, where that may be read on to.
-use Rattle.std.proofs.Common.{◌≡◌, ℕ, ◌<◌, ◌==◌, Bool, true, false, cond, [], Some, None, length, refl, ap, sym, ◌∙◌}
+use Rattle.std.proofs.Common.{◌≡◌, ℕ, ◌<◌, ◌==◌, Bool, true, false, cond, Some, None, length, refl, ap, sym, ◌∙◌}
 use Rattle.std.proofs.Common.{subst, arith}
 use Rattle.basic_toml_tokens.specs.Text.{Text, is_comment}
-use Rattle.basic_toml_grammar.specs.Grammar.{after_comment_by}
+use Rattle.basic_toml_grammar.specs.Grammar.{after_comment_by, after_gap_from}
 use Rattle.basic_toml_grammar.specs.Reader.{char_at, end_of}
 use Rattle.basic_toml_grammar.specs.Holes as holes
 use Rattle.basic_toml_grammar.specs.Holes.{Hole, HoleInKeys, HoleInValue, HoleInElements, HoleInFields, HoleInFieldsOn}
 use Rattle.basic_toml_grammar.specs.Holes.{HoleInRow}
 use Rattle.basic_toml_grammar.proofs.Grammar.EndChangesNothing.{Parts, at_end, past, Meets, same, same_ends, Ends}
-use Rattle.basic_toml_grammar.proofs.Grammar.EndChangesNothing.{Carried, Clear, same_clear, clear_past}
+use Rattle.basic_toml_grammar.proofs.Grammar.EndChangesNothing.{Carried, carried, Clear, same_clear, clear_past, stops}
+use Rattle.basic_toml_grammar.proofs.Grammar.EndChangesNothing.{begins_gap, in_gap, outside_over, inside_over, gap_on}
 use Rattle.basic_toml_grammar.proofs.Grammar.EndChangesNothing.{sign_carried, blanks_carried, gap_carried}
 use Rattle.basic_toml_grammar.proofs.Grammar.StringsCarried.{Alike}
 use Rattle.basic_toml_grammar.proofs.Grammar.GrammarCarried.{key_carried, keys_carried, sign_among_blanks}
@@ -25,9 +26,11 @@ use Rattle.basic_toml_grammar.proofs.Viable.HolesAreWithin.{elements_within, fie
 abbrev pub Misses : ℕ → Text → Text → Type 0
 Misses c here there = char_at c here ≡ None → char_at c there ≡ None
 
--- The first text goes on with `here` at a hole, the second with `there`.
-pub record Turn (h : Hole) (here there : Text) : Type 0 where
+-- The first text goes on with `here` at a hole, the second with `there`. The hole stands at `end` in the second: behind
+-- `there` only after an element, where a gap goes on.
+pub record Turn (h : Hole) (here there end : Text) : Type 0 where
   pub meets : Meets here there
+  pub lands : (h ≡ Hole.after_element → ⊥) → there ≡ end
   pub line : h ≡ Hole.after_line → Ends (λ c. c == 35) here there × Ends is_comment here there
   pub value : h ≡ Hole.value → Misses 93 here there
   pub key : h ≡ Hole.key → Misses 125 here there
@@ -60,9 +63,10 @@ clear_behind (at_end t o) l = absurd (omega (arith, ap length t))
 clear_behind (past k) l = same_clear refl refl
 
 -- what is the same character goes on so everywhere
-pub alike_turn : {here there : Text} (h : Hole) → Alike here there → Turn h here there
+pub alike_turn : {here there : Text} (h : Hole) → Alike here there → Turn h here there there
 alike_turn {here = here} {there = there} h a = record {
   meets = same a.here a.there;
+  lands = λ e. refl;
   line = λ e. (same_ends (λ c. c == 35) a.here a.there, same_ends is_comment a.here a.there);
   value = λ e m. missed 93 m;
   key = λ e m. missed 125 m;
@@ -72,15 +76,32 @@ alike_turn {here = here} {there = there} h a = record {
     missed c m = ap (char_at c) a.there
         ∙ taken (a.first.1 == c) (a.first.0, a.next) (a.first.0, a.next') (sym (ap (char_at c) a.here) ∙ m)
 
--- a gap before the hole ends there in both
-abbrev pub Gapped : Bool → Text → Text → Type 0
-Gapped gap here there = gap ≡ true → Clear is_comment here there
+-- a gap that ends before `here` goes on up to `end`
+pub record Passes (here there end : Text) : Type 0 where
+  pub outside : stops begins_gap here ≡ true → after_gap_from is_comment false there ≡ end
+  pub inside : stops (in_gap is_comment) here ≡ true → after_gap_from is_comment true there ≡ end
+  pub clear : there ≡ end → Clear is_comment here there
 
-pub keys_hole : {h : Hole} {text at at' : Text} → HoleInKeys text h at → Turn h at at'
-    → Carried at at' text (λ t. HoleInKeys t h at')
-keys_hole {at' = at'} holes.this_key turn =
-    record { other = at'; cut = record { parts = at_end refl refl; meets = turn.meets }; holds = holes.this_key }
-keys_hole {h = h} {at' = at'} (holes.later_key {mid = mid} {next = next} key s d) turn =
+-- or ends there
+pub passes : {here there : Text} → Clear is_comment here there → Passes here there there
+passes {there = there} c = record {
+  outside = λ s. outside_over is_comment there (c.outside s);
+  inside = λ s. inside_over is_comment there (c.inside s);
+  clear = λ e. c;
+}
+
+-- where the hole stands after a gap
+abbrev pub Gapped : Bool → Text → Text → Text → Type 0
+Gapped gap here there end = gap ≡ true → Passes here there end
+
+pub keys_hole : {h : Hole} {text at at' end : Text} → HoleInKeys text h at → Turn h at at' end
+    → Carried at at' text (λ t. HoleInKeys t h end)
+keys_hole {at' = at'} holes.this_key turn = record {
+  other = at';
+  cut = record { parts = at_end refl refl; meets = turn.meets };
+  holds = subst (λ (t : Text). HoleInKeys at' Hole.key t) (turn.lands (λ e. cc)) holes.this_key;
+}
+keys_hole {h = h} {end = end} (holes.later_key {mid = mid} {next = next} key s d) turn =
     let x = keys_hole d turn in
     let m = sign_among_blanks mid next s x.cut in
     let r = key_carried key m.cut in
@@ -88,51 +109,56 @@ keys_hole {h = h} {at' = at'} (holes.later_key {mid = mid} {next = next} key s d
       other = r.other;
       cut = r.cut;
       holds = holes.later_key r.holds m.holds.sign
-          (subst (λ (t : Text). HoleInKeys t h at') (sym m.holds.on) x.holds);
+          (subst (λ (t : Text). HoleInKeys t h end) (sym m.holds.on) x.holds);
     }
 
 mutual
-  value_hole : {h : Hole} {text at at' : Text} (d : HoleInValue text h at) → Turn h at at'
-      → Gapped (value_gap d) at at' → Carried at at' text (λ t. HoleInValue t h at')
-  value_hole {at' = at'} holes.this_value turn gap =
-      record { other = at'; cut = record { parts = at_end refl refl; meets = turn.meets }; holds = holes.this_value }
-  value_hole {h = h} {at' = at'} (holes.array {next = next} s d) turn gap =
+  value_hole : {h : Hole} {text at at' end : Text} (d : HoleInValue text h at) → Turn h at at' end
+      → Gapped (value_gap d) at at' end → Carried at at' text (λ t. HoleInValue t h end)
+  value_hole {at' = at'} holes.this_value turn gap = record {
+    other = at';
+    cut = record { parts = at_end refl refl; meets = turn.meets };
+    holds = subst (λ (t : Text). HoleInValue at' Hole.value t) (turn.lands (λ e. cc)) holes.this_value;
+  }
+  value_hole {h = h} {end = end} (holes.array {next = next} s d) turn gap =
       let x = elements_hole d turn gap in
-      let g = gap_carried is_comment next x.cut (elements_clear d gap x.cut.parts) in
+      let g = gap_carried is_comment next x.cut (elements_clear d turn gap x.cut.parts) in
       let r = sign_carried s g.cut.parts in
       record {
         other = r.other;
         cut = r.cut;
-        holds = holes.array r.holds (subst (λ (t : Text). HoleInElements t h at') (sym g.holds) x.holds);
+        holds = holes.array r.holds (subst (λ (t : Text). HoleInElements t h end) (sym g.holds) x.holds);
       }
-  value_hole {h = h} {at' = at'} (holes.inline {next = next} s d) turn gap =
+  value_hole {h = h} {end = end} (holes.inline {next = next} s d) turn gap =
       let x = fields_hole d turn gap in
       let g = blanks_carried next x.cut in
       let r = sign_carried s g.cut.parts in
       record {
         other = r.other;
         cut = r.cut;
-        holds = holes.inline r.holds (subst (λ (t : Text). HoleInFields t h at') (sym g.holds) x.holds);
+        holds = holes.inline r.holds (subst (λ (t : Text). HoleInFields t h end) (sym g.holds) x.holds);
       }
 
-  elements_clear : {h : Hole} {text other at at' : Text} (d : HoleInElements text h at)
-      → Gapped (elements_gap d) at at' → Parts at at' text other → Clear is_comment text other
-  elements_clear (holes.in_element m holes.this_value) gap k = clear_past (gap refl) k
-  elements_clear (holes.in_element m (holes.array {next = next} s d)) gap k =
+  elements_clear : {h : Hole} {text other at at' end : Text} (d : HoleInElements text h at) → Turn h at at' end
+      → Gapped (elements_gap d) at at' end → Parts at at' text other → Clear is_comment text other
+  elements_clear (holes.in_element m holes.this_value) turn gap k =
+      clear_past ((gap refl).clear (turn.lands (λ e. cc))) k
+  elements_clear (holes.in_element m (holes.array {next = next} s d)) turn gap k =
       clear_behind k (omega (arith, sign_length s, gap_length next, elements_within d))
-  elements_clear (holes.in_element m (holes.inline {next = next} s d)) gap k =
+  elements_clear (holes.in_element m (holes.inline {next = next} s d)) turn gap k =
       clear_behind k (omega (arith, sign_length s, blanks_length next, fields_within d))
-  elements_clear (holes.after_this {mid = mid} v) gap k =
+  elements_clear (holes.after_this {mid = mid} v) turn gap k =
       clear_behind k (omega (arith, value_shorter v, gap_length mid))
-  elements_clear (holes.later_element {mid = mid} {next = next} v s d) gap k =
+  elements_clear (holes.later_element {mid = mid} {next = next} v s d) turn gap k =
       clear_behind k (omega (arith, value_shorter v, shorter_after_gap mid s, gap_length next, elements_within d))
 
-  elements_hole : {h : Hole} {text at at' : Text} (d : HoleInElements text h at) → Turn h at at'
-      → Gapped (elements_gap d) at at' → Carried at at' text (λ t. HoleInElements t h at')
+  elements_hole : {h : Hole} {text at at' end : Text} (d : HoleInElements text h at) → Turn h at at' end
+      → Gapped (elements_gap d) at at' end → Carried at at' text (λ t. HoleInElements t h end)
   elements_hole {at' = at'} (holes.in_element m holes.this_value) turn gap = record {
     other = at';
     cut = record { parts = at_end refl refl; meets = turn.meets };
-    holds = holes.in_element (turn.value refl m) holes.this_value;
+    holds = subst (λ (t : Text). HoleInElements at' Hole.value t) (turn.lands (λ e. cc))
+        (holes.in_element (turn.value refl m) holes.this_value);
   }
   elements_hole (holes.in_element m (holes.array {next = next} s d)) turn gap =
       let x = value_hole (holes.array s d) turn gap in
@@ -151,31 +177,33 @@ mutual
             (omega (arith, sign_length s, blanks_length next, fields_within d))) x.holds;
       }
   elements_hole (holes.after_this {mid = mid} v) turn gap =
-      let g = gap_carried is_comment mid (record { parts = at_end refl refl; meets = turn.meets }) (gap refl) in
+      let p = gap refl in
+      let g = carried (gap_on is_comment false mid refl p.outside p.inside)
+      (record { parts = at_end refl refl; meets = turn.meets }) in
       let r = value_carried v g.cut in
       record {
         other = r.other;
         cut = r.cut;
         holds = subst (λ (t : Text). HoleInElements r.other Hole.after_element t) g.holds (holes.after_this r.holds);
       }
-  elements_hole {h = h} {at' = at'} (holes.later_element {mid = mid} {next = next} v s d) turn gap =
+  elements_hole {h = h} {end = end} (holes.later_element {mid = mid} {next = next} v s d) turn gap =
       let x = elements_hole d turn gap in
-      let m = sign_among_gaps mid next s x.cut.parts (elements_clear d gap x.cut.parts) in
+      let m = sign_among_gaps mid next s x.cut.parts (elements_clear d turn gap x.cut.parts) in
       let r = value_carried v m.cut in
       record {
         other = r.other;
         cut = r.cut;
         holds = holes.later_element r.holds m.holds.sign
-            (subst (λ (t : Text). HoleInElements t h at') (sym m.holds.on) x.holds);
+            (subst (λ (t : Text). HoleInElements t h end) (sym m.holds.on) x.holds);
       }
 
-  fields_hole : {h : Hole} {text at at' : Text} (d : HoleInFields text h at) → Turn h at at'
-      → Gapped (fields_gap d) at at' → Carried at at' text (λ t. HoleInFields t h at')
+  fields_hole : {h : Hole} {text at at' end : Text} (d : HoleInFields text h at) → Turn h at at' end
+      → Gapped (fields_gap d) at at' end → Carried at at' text (λ t. HoleInFields t h end)
   fields_hole (holes.fields m d) turn gap =
       let x = fields_on_hole d turn gap in
       record { other = x.other; cut = x.cut; holds = holes.fields (no_brace d turn m x.cut.parts) x.holds }
 
-  no_brace : {h : Hole} {text other at at' : Text} (d : HoleInFieldsOn text h at) → Turn h at at'
+  no_brace : {h : Hole} {text other at at' end : Text} (d : HoleInFieldsOn text h at) → Turn h at at' end
       → char_at 125 text ≡ None → Parts at at' text other → char_at 125 other ≡ None
   no_brace (holes.in_row (holes.in_keys holes.this_key)) turn m k = misses 125 m k (turn.key refl)
   no_brace (holes.in_row (holes.in_keys (holes.later_key key s d))) turn m k =
@@ -194,8 +222,8 @@ mutual
         fields_on_within d,
       ))
 
-  fields_on_hole : {h : Hole} {text at at' : Text} (d : HoleInFieldsOn text h at) → Turn h at at'
-      → Gapped (fields_on_gap d) at at' → Carried at at' text (λ t. HoleInFieldsOn t h at')
+  fields_on_hole : {h : Hole} {text at at' end : Text} (d : HoleInFieldsOn text h at) → Turn h at at' end
+      → Gapped (fields_on_gap d) at at' end → Carried at at' text (λ t. HoleInFieldsOn t h end)
   fields_on_hole (holes.in_row d) turn gap =
       let x = row_hole d turn gap in record { other = x.other; cut = x.cut; holds = holes.in_row x.holds }
   fields_on_hole (holes.after_row {mid = mid} x) turn gap =
@@ -204,9 +232,10 @@ mutual
       record {
         other = r.other;
         cut = r.cut;
-        holds = subst (λ (t : Text). HoleInFieldsOn r.other Hole.after_field t) g.holds (holes.after_row r.holds);
+        holds = subst (λ (t : Text). HoleInFieldsOn r.other Hole.after_field t) (g.holds ∙ turn.lands (λ e. cc))
+            (holes.after_row r.holds);
       }
-  fields_on_hole {h = h} {at' = at'} (holes.later_row {mid = mid} {next = next} x s d) turn gap =
+  fields_on_hole {h = h} {end = end} (holes.later_row {mid = mid} {next = next} x s d) turn gap =
       let y = fields_on_hole d turn gap in
       let m = sign_among_blanks mid next s y.cut in
       let r = row_carried x m.cut in
@@ -214,11 +243,11 @@ mutual
         other = r.other;
         cut = r.cut;
         holds = holes.later_row r.holds m.holds.sign
-            (subst (λ (t : Text). HoleInFieldsOn t h at') (sym m.holds.on) y.holds);
+            (subst (λ (t : Text). HoleInFieldsOn t h end) (sym m.holds.on) y.holds);
       }
 
-  pub row_hole : {h : Hole} {text at at' : Text} (d : HoleInRow text h at) → Turn h at at'
-      → Gapped (row_gap d) at at' → Carried at at' text (λ t. HoleInRow t h at')
+  pub row_hole : {h : Hole} {text at at' end : Text} (d : HoleInRow text h at) → Turn h at at' end
+      → Gapped (row_gap d) at at' end → Carried at at' text (λ t. HoleInRow t h end)
   row_hole (holes.in_keys d) turn gap =
       let x = keys_hole d turn in record { other = x.other; cut = x.cut; holds = holes.in_keys x.holds }
   row_hole (holes.after_keys {mid = mid} ks) turn gap =
@@ -227,9 +256,10 @@ mutual
       record {
         other = r.other;
         cut = r.cut;
-        holds = subst (λ (t : Text). HoleInRow r.other Hole.after_keys t) g.holds (holes.after_keys r.holds);
+        holds = subst (λ (t : Text). HoleInRow r.other Hole.after_keys t) (g.holds ∙ turn.lands (λ e. cc))
+            (holes.after_keys r.holds);
       }
-  row_hole {h = h} {at' = at'} (holes.in_value {mid = mid} {next = next} ks s d) turn gap =
+  row_hole {h = h} {end = end} (holes.in_value {mid = mid} {next = next} ks s d) turn gap =
       let y = value_hole d turn gap in
       let m = sign_among_blanks mid next s y.cut in
       let r = keys_carried ks m.cut in
@@ -237,5 +267,5 @@ mutual
         other = r.other;
         cut = r.cut;
         holds = holes.in_value r.holds m.holds.sign
-            (subst (λ (t : Text). HoleInValue t h at') (sym m.holds.on) y.holds);
+            (subst (λ (t : Text). HoleInValue t h end) (sym m.holds.on) y.holds);
       }

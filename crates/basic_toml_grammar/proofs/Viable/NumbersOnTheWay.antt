@@ -106,18 +106,19 @@ cut (behind {x = x} w q) s =
     }
 
 -- a value that begins so is a word
-word_rest : {x : ℕ × ℕ} {text rest : Text} {q : ℕ} {v : Raw} → is_wordlike x.1 ≡ true
-    → IsValue is_comment (x ∷ text) q v rest → rest ≡ after_run is_wordlike (x ∷ text)
-word_rest w (word s y e) = refl
-word_rest {x = x} w (string s) =
+pub word_read : {x : ℕ × ℕ} {text rest : Text} {q : ℕ} {v : Raw} → is_wordlike x.1 ≡ true
+    → IsValue is_comment (x ∷ text) q v rest
+    → (word_value (run is_wordlike (x ∷ text)) ≡ Some v) × (rest ≡ after_run is_wordlike (x ∷ text))
+word_read w (word s y e) = (e, refl)
+word_read {x = x} w (string s) =
     let h = string_heads s in
     absurd (heads_not {c = x.1} {p = x.0} h refl (quote (is_quote x.1) refl))
   where
     quote : (b : Bool) → is_quote x.1 ≡ b → is_quote x.1 ≡ false
     quote false e = e
     quote true e = absurd (word_quote x.1 w e)
-word_rest {x = x} w (array s es) = absurd (word_sign is_wordlike {c = x.1} {p = x.0} refl w s refl)
-word_rest {x = x} w (inline s rs) = absurd (word_sign is_wordlike {c = x.1} {p = x.0} refl w s refl)
+word_read {x = x} w (array s es) = absurd (word_sign is_wordlike {c = x.1} {p = x.0} refl w s refl)
+word_read {x = x} w (inline s rs) = absurd (word_sign is_wordlike {c = x.1} {p = x.0} refl w s refl)
 
 -- no value may stand within a word
 no_value_within : {start text left : Text} {x : ℕ × ℕ} → HoleInText start Hole.value (x ∷ text)
@@ -145,7 +146,7 @@ no_value_within {start = start} {text = text} {left = left} {x = x} d w q g = go
 
     then : HasValue (x ∷ k.other) → ⊥
     then v =
-        let rest : v.rest ≡ (n.offset, 123) ∷ n.rest = word_rest w v.is
+        let rest : v.rest ≡ (n.offset, 123) ∷ n.rest = (word_read w v.is).1
         ∙ ap (λ (b : Bool). cond b (after_run is_wordlike k.other) (x ∷ k.other)) w ∙ k.ends ∙ n.starts in
         let f = value_followed n.offset n.rest there
         (subst (λ (t : Text). IsValue is_comment (x ∷ k.other) v.offset v.value t) rest v.is) in

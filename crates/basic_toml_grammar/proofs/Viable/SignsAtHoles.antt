@@ -1,31 +1,33 @@
 -- A sign that joins nothing before it may stand at a hole only where it fits; nor may the text end there.
-use Rattle.std.proofs.Common.{◌≡◌, ℕ, ◌==◌, ◌||◌, Bool, true, false, cond, [], ◌∷◌, Some, None, refl, ap, sym, ◌∙◌, subst}
+use Rattle.std.proofs.Common.{◌≡◌, ℕ, ◌==◌, ◌||◌, Bool, true, false, cond, [], ◌∷◌, length, Some, None, refl, ap, sym}
+use Rattle.std.proofs.Common.{◌∙◌, subst, arith}
 use Rattle.std.specs.Prelude.{not}
 use Rattle.std.proofs.lemmas.Bool.{or_parts, false≢true}
 use Rattle.basic_toml_tokens.specs.Text.{Text, after_run, is_blank, is_comment}
-use Rattle.basic_toml_grammar.specs.Grammar.{after_comment_by}
+use Rattle.basic_toml_grammar.specs.Grammar.{after_comment_by, after_gap_from}
 use Rattle.basic_toml_grammar.specs.Reader.{char_at, end_of}
 use Rattle.basic_toml_grammar.specs.Holes.{Hole, HoleInText, fits, Fits}
-use Rattle.basic_toml_grammar.specs.Viable.{GoesOn, Begins}
+use Rattle.basic_toml_grammar.specs.Viable.{GoesOn, Begins, HasSignAfterFeed}
 use Rattle.basic_toml_grammar.proofs.Grammar.EndChangesNothing.{Parts, stops, joins, begins_gap, in_gap, apart}
+use Rattle.basic_toml_grammar.proofs.Grammar.EndChangesNothing.{outside_over}
 use Rattle.basic_toml_grammar.proofs.Grammar.FrontsOfTexts.{parts_of, parts_same}
 use Rattle.basic_toml_grammar.proofs.Grammar.GrammarCarried.{Seen}
 use Rattle.basic_toml_grammar.proofs.Completion.Fillers.{text_gap}
 use Rattle.basic_toml_grammar.proofs.Completion.HeadersFollow.{text_opens}
-use Rattle.basic_toml_grammar.proofs.Viable.HolesCarried.{Turn, Gapped}
+use Rattle.basic_toml_grammar.proofs.Viable.HolesCarried.{Turn, passes, Gapped}
 use Rattle.basic_toml_grammar.proofs.Viable.TextsCarried.{TextCarried, Opened, text_turned}
 use Rattle.basic_toml_grammar.proofs.Viable.HolesHold.{clash}
-use Rattle.basic_toml_grammar.proofs.Viable.TextsHold.{FitsOrEnds, fit, not_at_end, text_holds}
+use Rattle.basic_toml_grammar.proofs.Viable.TextsHold.{FitsOrEnds, not_at_end, text_holds}
 use Rattle.basic_toml_grammar.proofs.Viable.TokensAtHoles.{no_fit}
 
 -- the hole stands in another text of the grammar
-pub hole_elsewhere : {start at : Text} {h : Hole} {Next : Text → Type 0} (d : HoleInText start h at)
-    (g : GoesOn start at Next) → Turn h at g.rest → Gapped (text_gap d) at g.rest → Opened (text_opens d) at g.rest
-    → FitsOrEnds h g.rest
-hole_elsewhere {start = start} {at = at} {h = h} d g turn gap unlocked =
-    let t : TextCarried at g.rest start (λ t. HoleInText t h g.rest) = text_turned d turn gap unlocked in
+pub hole_elsewhere : {start at end : Text} {h : Hole} {Next : Text → Type 0} (d : HoleInText start h at)
+    (g : GoesOn start at Next) → Turn h at g.rest end → Gapped (text_gap d) at g.rest end
+    → Opened (text_opens d) at g.rest → FitsOrEnds h end
+hole_elsewhere {start = start} {at = at} {end = end} {h = h} d g turn gap unlocked =
+    let t : TextCarried at g.rest start (λ t. HoleInText t h end) = text_turned d turn gap unlocked in
     let whole = subst (λ (t : Text). Parts at g.rest start t) (sym g.same) (parts_of g.front g.before) in
-    text_holds (subst (λ (t : Text). HoleInText t h g.rest) (parts_same t.parts whole) t.holds) g.grammar
+    text_holds (subst (λ (t : Text). HoleInText t h end) (parts_same t.parts whole) t.holds) g.grammar
 
 -- Of a sign: it joins nothing, and begins no gap. Where it would be read otherwise than as what has to come, it is not
 -- that sign.
@@ -83,19 +85,20 @@ sign_misfits {start = start} {at = at} {h = h} {c = c} d s z misfit g =
     stopped : (f : ℕ → Bool) → f c ≡ false → stops f g.rest ≡ true
     stopped f e = ap (stops f) n.starts ∙ ap not e
 
-    turn : Turn h at g.rest
+    turn : Turn h at g.rest g.rest
     turn = record {
       meets = apart (stopped joins s.apart);
+      lands = λ e. refl;
       line = λ e. (λ k. stopped (λ c. c == 35) no_hash, λ k. absurd (false≢true (sym (z.line e) ∙ k)));
       value = λ e m. none 93 (s.value e);
       key = λ e m. none 125 (s.key e);
     }
 
-    gap : Gapped (text_gap d) at g.rest
-    gap e = record {
+    gap : Gapped (text_gap d) at g.rest g.rest
+    gap e = passes (record {
       outside = λ k. stopped begins_gap s.no_gap;
       inside = λ k. absurd (false≢true (sym (z.gap e) ∙ k));
-    }
+    })
 
     line_on : end_of (after_comment_by is_comment g.rest) ≡ None
     line_on = ap (λ (t : Text). end_of (after_comment_by is_comment t)) n.starts
@@ -121,16 +124,17 @@ end_misfits {start = start} {at = at} {h = h} d bare line g =
     stopped : (f : ℕ → Bool) → stops f g.rest ≡ true
     stopped f = ap (stops f) g.next
 
-    turn : Turn h at g.rest
+    turn : Turn h at g.rest g.rest
     turn = record {
       meets = apart (stopped joins);
+      lands = λ e. refl;
       line = λ e. absurd (line e);
       value = λ e m. ap (char_at 93) g.next;
       key = λ e m. ap (char_at 125) g.next;
     }
 
-    gap : Gapped (text_gap d) at g.rest
-    gap e = record { outside = λ k. stopped begins_gap; inside = λ k. stopped (in_gap is_comment) }
+    gap : Gapped (text_gap d) at g.rest g.rest
+    gap e = passes (record { outside = λ k. stopped begins_gap; inside = λ k. stopped (in_gap is_comment) })
 
     unlocked : Opened (text_opens d) at g.rest
     unlocked e = absurd (false≢true (sym bare ∙ e))
@@ -144,20 +148,56 @@ feed_misfits {start = start} {h = h} d loose line misfit g =
     n : Begins 10 g.rest
     n = g.next
 
-    turn : Turn h [] g.rest
+    turn : Turn h [] g.rest g.rest
     turn = record {
       meets = apart (ap (stops joins) n.starts);
+      lands = λ e. refl;
       line = λ e. absurd (line e);
       value = λ e m. ap (char_at 93) n.starts;
       key = λ e m. ap (char_at 125) n.starts;
     }
 
-    gap : Gapped (text_gap d) [] g.rest
+    gap : Gapped (text_gap d) [] g.rest g.rest
     gap e = absurd (false≢true (sym loose ∙ e))
 
     unlocked : Opened (text_opens d) [] g.rest
     unlocked e = record {
       bracket = λ m. ap (char_at 91) n.starts;
       hash = λ m. ap (char_at 35) n.starts;
+      line_end = λ m k. absurd (clash (sym k));
+    }
+
+-- after an element no sign may stand behind a line feed that does not fit
+pub fed_misfits : {start : Text} {c : ℕ} (d : HoleInText start Hole.after_element []) → begins_gap c ≡ false
+    → fits Hole.after_element c ≡ false → GoesOn start [] (HasSignAfterFeed (Some c)) → ⊥
+fed_misfits {start = start} {c = c} d no_gap misfit g =
+    no_fit (not_at_end (hole_elsewhere d g turn gap unlocked) n.starts) n.starts misfit
+  where
+    n : Begins c g.next.rest
+    n = g.next.next
+
+    turn : Turn Hole.after_element [] g.rest g.next.rest
+    turn = record {
+      meets = apart (ap (stops joins) g.next.feed);
+      lands = λ e. absurd (e refl);
+      line = λ e. let no : ⊥ = cc in absurd no;
+      value = λ e m. ap (char_at 93) g.next.feed;
+      key = λ e m. ap (char_at 125) g.next.feed;
+    }
+
+    on : after_gap_from is_comment false g.next.rest ≡ g.next.rest
+    on = outside_over is_comment g.next.rest (ap (stops begins_gap) n.starts ∙ ap not no_gap)
+
+    gap : Gapped (text_gap d) [] g.rest g.next.rest
+    gap e = record {
+      outside = λ s. ap (after_gap_from is_comment false) g.next.feed ∙ on;
+      inside = λ s. ap (after_gap_from is_comment true) g.next.feed ∙ on;
+      clear = λ same. absurd (let l = ap length same in let m = ap length g.next.feed in omega (arith, l, m));
+    }
+
+    unlocked : Opened (text_opens d) [] g.rest
+    unlocked e = record {
+      bracket = λ m. ap (char_at 91) g.next.feed;
+      hash = λ m. ap (char_at 35) g.next.feed;
       line_end = λ m k. absurd (clash (sym k));
     }

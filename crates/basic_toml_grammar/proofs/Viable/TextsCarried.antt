@@ -11,7 +11,7 @@ use Rattle.basic_toml_grammar.specs.Reader.{char_at, end_of}
 use Rattle.basic_toml_grammar.specs.Holes as holes
 use Rattle.basic_toml_grammar.specs.Holes.{Hole, HoleInKeys, HoleInRow, HoleInRows, HoleInHeader, HoleInSections}
 use Rattle.basic_toml_grammar.specs.Holes.{HoleInText}
-use Rattle.basic_toml_grammar.proofs.Grammar.EndChangesNothing.{Parts, at_end, past, stops, same, Ends, Cut}
+use Rattle.basic_toml_grammar.proofs.Grammar.EndChangesNothing.{Parts, at_end, past, stops, Ends, Cut}
 use Rattle.basic_toml_grammar.proofs.Grammar.EndChangesNothing.{same_clear}
 use Rattle.basic_toml_grammar.proofs.Grammar.EndChangesNothing.{comment_to, run_to, Carried, carried}
 use Rattle.basic_toml_grammar.proofs.Grammar.EndChangesNothing.{sign_carried, blanks_carried}
@@ -25,8 +25,8 @@ use Rattle.basic_toml_grammar.proofs.Completion.TextsCompleted.{no_hole_in_rows,
 use Rattle.basic_toml_grammar.proofs.Completion.HeadersFollow.{row_opens, rows_open, header_opens, sections_open}
 use Rattle.basic_toml_grammar.proofs.Completion.HeadersFollow.{text_opens}
 use Rattle.basic_toml_grammar.proofs.Viable.HolesAreWithin.{keys_past, row_past}
-use Rattle.basic_toml_grammar.proofs.Viable.HolesCarried.{Turn, Opening, Gapped, taken, misses, misses_past, keys_hole}
-use Rattle.basic_toml_grammar.proofs.Viable.HolesCarried.{row_hole, alike_turn}
+use Rattle.basic_toml_grammar.proofs.Viable.HolesCarried.{Turn, Opening, passes, Gapped, taken, misses, misses_past}
+use Rattle.basic_toml_grammar.proofs.Viable.HolesCarried.{keys_hole, row_hole, alike_turn}
 
 -- where no comment stands, the first character tells whether the line ends
 no_end : (b : Bool) (x : ℕ × ℕ) (t u : Text) (p : ℕ × Text) (r s : Text) → cond b (Some p) None ≡ None
@@ -103,21 +103,25 @@ comment_hole : {at at' : Text} (text : Text) → at ≡ after_comment_by is_comm
     → Ends is_comment at at' → Cut at at' at at' → Carried at at' text (λ t. after_comment_by is_comment t ≡ at')
 comment_hole text e a b k = carried (comment_to is_comment text e a b) k
 
-whole : {h : Hole} {at at' : Text} → Turn h at at' → Cut at at' at at'
+whole : {h : Hole} {at at' end : Text} → Turn h at at' end → Cut at at' at at'
 whole turn = record { parts = at_end refl refl; meets = turn.meets }
 
 -- the end of a line, after blanks and a comment
-line_hole : {at at' : Text} (mid : Text) → at ≡ after_comment_by is_comment (after_blanks mid)
-    → Turn Hole.after_line at at'
-    → Carried at at' mid (λ t. after_comment_by is_comment (after_blanks t) ≡ at')
+line_hole : {at at' end : Text} (mid : Text) → at ≡ after_comment_by is_comment (after_blanks mid)
+    → Turn Hole.after_line at at' end
+    → Carried at at' mid (λ t. after_comment_by is_comment (after_blanks t) ≡ end)
 line_hole mid e turn =
     let m = comment_hole (after_blanks mid) e (turn.line refl).0 (turn.line refl).1 (whole turn) in
     let r = blanks_carried mid m.cut in
-    record { other = r.other; cut = r.cut; holds = ap (after_comment_by is_comment) r.holds ∙ m.holds }
+    record {
+      other = r.other;
+      cut = r.cut;
+      holds = ap (after_comment_by is_comment) r.holds ∙ m.holds ∙ turn.lands (λ e. cc);
+    }
 
-pub rows_hole : {h : Hole} {text at at' : Text} (d : HoleInRows text h at) → Turn h at at'
-    → Gapped (rows_gap d) at at' → Opened (rows_open d) at at' → Carried at at' text (λ t. HoleInRows t h at')
-rows_hole {h = h} {at = at} {at' = at'} (holes.this_row {text = text} b c m d) turn gap unlocked =
+pub rows_hole : {h : Hole} {text at at' end : Text} (d : HoleInRows text h at) → Turn h at at' end
+    → Gapped (rows_gap d) at at' end → Opened (rows_open d) at at' → Carried at at' text (λ t. HoleInRows t h end)
+rows_hole {h = h} {at = at} {at' = at'} {end = end} (holes.this_row {text = text} b c m d) turn gap unlocked =
     let x = row_hole d turn gap in
     let r = blanks_carried text x.cut in
     let same = sym r.holds in
@@ -128,7 +132,7 @@ rows_hole {h = h} {at = at} {at' = at'} (holes.this_row {text = text} b c m d) t
       holds = holes.this_row (subst (λ (t : Text). char_at 91 t ≡ None) same (o.bracket b))
           (subst (λ (t : Text). char_at 35 t ≡ None) same (o.hash c))
           (subst (λ (t : Text). end_of (after_comment_by is_comment t) ≡ None) same (o.line_end c m))
-          (subst (λ (t : Text). HoleInRow t h at') same x.holds);
+          (subst (λ (t : Text). HoleInRow t h end) same x.holds);
     }
   where
     opens : {other : Text} (f : Bool) → row_opens d ≡ f → Opened f at at' → Parts at at' (after_blanks text) other
@@ -146,7 +150,7 @@ rows_hole (holes.after_comment {q = q} {text = text} {next = next} s) turn gap u
       other = r.other;
       cut = r.cut;
       holds = subst (λ (t : Text). HoleInRows r.other Hole.after_line t)
-          (ap (after_comment_by is_comment) (r.holds ∙ g.holds) ∙ k.holds.0)
+          (ap (after_comment_by is_comment) (r.holds ∙ g.holds) ∙ k.holds.0 ∙ turn.lands (λ e. cc))
           (holes.after_comment {q = q} (r.holds ∙ g.holds));
     }
 rows_hole (holes.after_row {keys = ks} {q = q} {v = v} {text = text} {mid = mid} x) turn gap unlocked =
@@ -195,9 +199,9 @@ no_bracket {next = next} {at' = at'} {other = other} s m holes.this_key unlocked
 no_bracket {next = next} s m (holes.later_key key t d) unlocked k =
     misses_past 91 m k (omega (arith, keys_past (holes.later_key key t d) refl, blanks_length next))
 
-header_hole : {h : Hole} {text at at' : Text} (d : HoleInHeader text h at) → Turn h at at'
-    → Opened (header_opens d) at at' → Carried at at' text (λ t. HoleInHeader t h at')
-header_hole {h = h} {at' = at'} (holes.table_keys {next = next} s m d) turn unlocked =
+header_hole : {h : Hole} {text at at' end : Text} (d : HoleInHeader text h at) → Turn h at at' end
+    → Opened (header_opens d) at at' → Carried at at' text (λ t. HoleInHeader t h end)
+header_hole {h = h} {end = end} (holes.table_keys {next = next} s m d) turn unlocked =
     let x = keys_hole d turn in
     let b = blanks_carried next x.cut in
     let r = sign_carried s b.cut.parts in
@@ -205,7 +209,7 @@ header_hole {h = h} {at' = at'} (holes.table_keys {next = next} s m d) turn unlo
       other = r.other;
       cut = r.cut;
       holds = holes.table_keys r.holds (no_bracket s m d unlocked b.cut.parts)
-          (subst (λ (t : Text). HoleInKeys t h at') (sym b.holds) x.holds);
+          (subst (λ (t : Text). HoleInKeys t h end) (sym b.holds) x.holds);
     }
 header_hole (holes.table_end {keys = ks} {next = next} {mid = mid} s xs) turn unlocked =
     let g = blanks_carried mid (whole turn) in
@@ -215,10 +219,10 @@ header_hole (holes.table_end {keys = ks} {next = next} {mid = mid} s xs) turn un
     record {
       other = r.other;
       cut = r.cut;
-      holds = subst (λ (t : Text). HoleInHeader r.other Hole.after_header_keys t) g.holds
+      holds = subst (λ (t : Text). HoleInHeader r.other Hole.after_header_keys t) (g.holds ∙ turn.lands (λ e. cc))
           (holes.table_end r.holds (subst (λ (t : Text). IsKeys t ks g.other) (sym b.holds) x.holds));
     }
-header_hole {h = h} {at' = at'} (holes.array_keys {inner = inner} s t d) turn unlocked =
+header_hole {h = h} {end = end} (holes.array_keys {inner = inner} s t d) turn unlocked =
     let x = keys_hole d turn in
     let b = blanks_carried inner x.cut in
     let i = sign_carried t b.cut.parts in
@@ -227,7 +231,7 @@ header_hole {h = h} {at' = at'} (holes.array_keys {inner = inner} s t d) turn un
       other = r.other;
       cut = r.cut;
       holds = holes.array_keys r.holds i.holds
-          (subst (λ (t : Text). HoleInKeys t h at') (sym b.holds) x.holds);
+          (subst (λ (t : Text). HoleInKeys t h end) (sym b.holds) x.holds);
     }
 header_hole (holes.array_end {keys = ks} {inner = inner} {mid = mid} s t xs) turn unlocked =
     let g = blanks_carried mid (whole turn) in
@@ -238,7 +242,7 @@ header_hole (holes.array_end {keys = ks} {inner = inner} {mid = mid} s t xs) tur
     record {
       other = r.other;
       cut = r.cut;
-      holds = subst (λ (t : Text). HoleInHeader r.other Hole.after_header_keys t) g.holds
+      holds = subst (λ (t : Text). HoleInHeader r.other Hole.after_header_keys t) (g.holds ∙ turn.lands (λ e. cc))
           (holes.array_end r.holds i.holds (subst (λ (t : Text). IsKeys t ks g.other) (sym b.holds) x.holds));
     }
 header_hole (holes.array_last {keys = ks} {inner = inner} {mid = mid} s t xs e) turn unlocked =
@@ -250,20 +254,21 @@ header_hole (holes.array_last {keys = ks} {inner = inner} {mid = mid} s t xs e) 
     record {
       other = r.other;
       cut = r.cut;
-      holds = holes.array_last r.holds i.holds
-          (subst (λ (t : Text). IsKeys t ks g.other) (sym b.holds) x.holds) g.holds;
+      holds = subst (λ (t : Text). HoleInHeader r.other Hole.second_bracket t) (turn.lands (λ e. cc))
+          (holes.array_last r.holds i.holds
+          (subst (λ (t : Text). IsKeys t ks g.other) (sym b.holds) x.holds) g.holds);
     }
 
-sections_hole : {h : Hole} {text at at' : Text} (d : HoleInSections text h at) → Turn h at at'
-    → Gapped (sections_gap d) at at' → Opened (sections_open d) at at'
-    → Carried at at' text (λ t. HoleInSections t h at')
-sections_hole {h = h} {at' = at'} (holes.in_header {text = text} d) turn gap unlocked =
+sections_hole : {h : Hole} {text at at' end : Text} (d : HoleInSections text h at) → Turn h at at' end
+    → Gapped (sections_gap d) at at' end → Opened (sections_open d) at at'
+    → Carried at at' text (λ t. HoleInSections t h end)
+sections_hole {h = h} {end = end} (holes.in_header {text = text} d) turn gap unlocked =
     let x = header_hole d turn unlocked in
     let r = blanks_carried text x.cut in
     record {
       other = r.other;
       cut = r.cut;
-      holds = holes.in_header (subst (λ (t : Text). HoleInHeader t h at') (sym r.holds) x.holds);
+      holds = holes.in_header (subst (λ (t : Text). HoleInHeader t h end) (sym r.holds) x.holds);
     }
 sections_hole (holes.after_header {keys = ks} {is_array = a} {q = q} {text = text} {mid = mid} x) turn gap unlocked =
     let m = line_hole mid refl turn in
@@ -312,8 +317,9 @@ pub record TextCarried (here there text : Text) (Holds : Text → Type 0) : Type
   pub parts : Parts here there text other
   pub holds : Holds other
 
-pub text_turned : {h : Hole} {text at at' : Text} (d : HoleInText text h at) → Turn h at at'
-    → Gapped (text_gap d) at at' → Opened (text_opens d) at at' → TextCarried at at' text (λ t. HoleInText t h at')
+pub text_turned : {h : Hole} {text at at' end : Text} (d : HoleInText text h at) → Turn h at at' end
+    → Gapped (text_gap d) at at' end → Opened (text_opens d) at at'
+    → TextCarried at at' text (λ t. HoleInText t h end)
 text_turned (holes.root d) turn gap unlocked =
     let x = rows_hole d turn gap unlocked in
     record { other = x.other; parts = x.cut.parts; holds = holes.root x.holds }
@@ -327,4 +333,4 @@ text_turned (holes.headed rs d) turn gap unlocked =
 pub text_hole : {h : Hole} {text at at' : Text} → Alike at at' → HoleInText text h at
     → TextCarried at at' text (λ t. HoleInText t h at')
 text_hole {h = h} a d =
-    text_turned d (alike_turn h a) (λ e. same_clear a.here a.there) (λ e. alike_opening a)
+    text_turned d (alike_turn h a) (λ e. passes (same_clear a.here a.there)) (λ e. alike_opening a)

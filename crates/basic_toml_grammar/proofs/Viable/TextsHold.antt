@@ -29,7 +29,8 @@ not_at_end {x = x} {text = text} (ends n) e = let over : [] ≡ x ∷ text = sym
 line_fits : {mid mid' next : Text} → mid ≡ mid' → EndsLine is_comment mid' next
     → FitsOrEnds Hole.after_line (after_comment_by is_comment (after_blanks mid))
 line_fits m (at_feed s) =
-    fit (filled (λ h. cc) (sign_fits (ap (λ (t : Text). after_comment_by is_comment (after_blanks t)) m ∙ s) refl))
+    fit (filled (λ h. cc) (λ h. cc)
+    (sign_fits (ap (λ (t : Text). after_comment_by is_comment (after_blanks t)) m ∙ s) refl))
 line_fits m (at_end s) = ends (ap (λ (t : Text). after_comment_by is_comment (after_blanks t)) m ∙ s)
 
 rows_hold : {h : Hole} {text at r : Text} {rs : Rows} → HoleInRows text h at → IsRows is_comment text rs r
@@ -65,14 +66,15 @@ header_no_value (holes.array_end e b ks) h = cc
 header_no_value (holes.array_last e b ks s) h = cc
 
 header_holds : {h : Hole} {text at r : Text} {ks : List Key} {p : ℕ} {a : Bool} → HoleInHeader text h at
-    → IsHeader text p ks a r → Fits h at
+    → IsHeader text p ks a r → Fills h at
 header_holds {h = h} {at = at} (holes.table_keys e m d) (table f xs g) =
     keys_hold (subst (λ (t : Text). HoleInKeys (after_blanks t) h at) (sign_same e f).2 d) xs g (λ e. omega (arith, e))
 header_holds (holes.table_keys e m d) (array_of_tables f b xs g i) =
     absurd (missed m ((sign_same e f).2 ∙ b) refl)
 header_holds (holes.table_end {keys = ks} {mid = mid} e ks') (table f xs g) =
-    keys_next (subst (λ (t : Text). IsKeys (after_blanks t) ks mid) (sign_same e f).2 ks') xs g
-    (λ e. omega (arith, e)) refl refl
+    filled (λ h. cc) (λ h. cc)
+    (keys_next (subst (λ (t : Text). IsKeys (after_blanks t) ks mid) (sign_same e f).2 ks') xs g
+    (λ e. omega (arith, e)) refl refl)
 header_holds (holes.table_end {keys = ks} {mid = mid} e ks') (array_of_tables f b xs g i) =
     absurd (heads_not (keys_heads (subst (λ (t : Text). IsKeys (after_blanks t) ks mid) (sign_same e f).2 ks'))
     (ap after_blanks b) refl)
@@ -85,7 +87,8 @@ header_holds (holes.array_end e b ks) (table f xs g) =
     absurd (heads_not (keys_heads xs) (ap after_blanks (sym (sign_same e f).2 ∙ b)) refl)
 header_holds (holes.array_end {keys = ks} {mid = mid} e b ks') (array_of_tables f c xs g i) =
     let m = sign_same (sym (sign_same e f).2 ∙ b) c in
-    keys_next (subst (λ (t : Text). IsKeys (after_blanks t) ks mid) m.2 ks') xs g (λ e. omega (arith, e)) refl refl
+    filled (λ h. cc) (λ h. cc)
+    (keys_next (subst (λ (t : Text). IsKeys (after_blanks t) ks mid) m.2 ks') xs g (λ e. omega (arith, e)) refl refl)
 header_holds (holes.array_last e b ks s) (table f xs g) =
     absurd (heads_not (keys_heads xs) (ap after_blanks (sym (sign_same e f).2 ∙ b)) refl)
 header_holds (holes.array_last {keys = ks} {mid = mid} e b ks' s) (array_of_tables f c xs g i) =
@@ -93,7 +96,7 @@ header_holds (holes.array_last {keys = ks} {mid = mid} e b ks' s) (array_of_tabl
     let k = keys_same (subst (λ (t : Text). IsKeys (after_blanks t) ks mid) m.2 ks') xs s (λ e. omega (arith, e)) g
     (λ e. omega (arith, e)) in
     let l = sign_same (sym (ap after_blanks k.1) ∙ s) g in
-    sign_fits (l.2 ∙ i) refl
+    filled (λ h. cc) (λ h. cc) (sign_fits (l.2 ∙ i) refl)
 
 sections_hold : {h : Hole} {text at : Text} {ss : List Section} → HoleInSections text h at
     → IsSections is_comment text ss → FitsOrEnds h at
@@ -105,7 +108,7 @@ sections_hold (holes.in_header d) no_more = absurd (no_hole d)
     no_hole (holes.array_keys e b d) = no_sign refl e
     no_hole (holes.array_end e b ks) = no_sign refl e
     no_hole (holes.array_last e b ks s) = no_sign refl e
-sections_hold (holes.in_header d) (section x e rs ss) = fit (filled (header_no_value d) (header_holds d x))
+sections_hold (holes.in_header d) (section x e rs ss) = fit (header_holds d x)
 sections_hold (holes.after_header y) no_more = absurd (no_header y)
 sections_hold (holes.after_header y) (section x e rs ss) = line_fits (header_same y x).3 e
 sections_hold (holes.in_rows y f d) no_more = absurd (no_header y)

@@ -13,7 +13,7 @@ use Rattle.basic_toml_grammar.proofs.Grammar.GrammarIsUnambiguous.{heads_not}
 use Rattle.basic_toml_grammar.proofs.Grammar.RestsAreEnds.{IsEnd, all, further, ends_on, run_ends, drop_ends, feed_ends}
 use Rattle.basic_toml_grammar.proofs.Grammar.RestsAreEnds.{pieces_end, closer_ends}
 use Rattle.basic_toml_grammar.proofs.Viable.TextsCarried.{TextCarried, text_hole}
-use Rattle.basic_toml_grammar.proofs.Viable.TextsHold.{not_at_end, text_holds}
+use Rattle.basic_toml_grammar.proofs.Viable.TextsHold.{FitsOrEnds, not_at_end, text_holds}
 
 end_shorter : {text rest : Text} → IsEnd text rest → length rest ≤ length text
 end_shorter all = omega arith
@@ -54,40 +54,48 @@ token_past (token.quoted s) = string_past s.opens (ends_on (pieces_end s.pieces)
       end = ends_on (drop_ends 2 next) (ends_on (feed_ends (drop 2 next)) e);
     }
 
-pub hole_fits : {start at rest : Text} {h : Hole} → HoleInText start h at → GoesOn start at (SameToken at rest)
-    → Fits h at
-hole_fits {start = start} {at = at} {rest = rest} {h = h} d g = go g.next.chars g.next.split g.next.other_split
+-- a token begins with the same character everywhere
+pub token_alike : {at rest other : Text} → SameToken at rest other → Alike at other
+token_alike {at = at} {rest = rest} {other = other} s = go s.chars s.split s.other_split
   where
-    go : (cs : Text) → at ≡ cs ++ rest → g.rest ≡ cs ++ g.next.more → Fits h at
+    go : (cs : Text) → at ≡ cs ++ rest → other ≡ cs ++ s.more → Alike at other
     go [] e f =
-        let p = token_past g.next.here in
+        let p = token_past s.here in
         let l = end_shorter p.end in
         let m = ap length e in
         let n = ap length p.is in
         absurd (omega (arith, l, m, n))
-    go (c ∷ cs) e f =
-        let x = not_at_end (text_holds (subst (λ (t : Text). HoleInText t h g.rest) same carried.holds) g.grammar) f in
-        let here : c ∷ (cs ++ g.next.more) ≡ (x.offset, x.char) ∷ x.rest = sym f ∙ x.starts in
-        let first : c ≡ (x.offset, x.char) = cc in
-        record {
-          offset = x.offset;
-          char = x.char;
-          rest = cs ++ rest;
-          starts = e ∙ ap (λ (y : ℕ × ℕ). y ∷ (cs ++ rest)) first;
-          fit = x.fit;
-        }
-      where
-        alike : Alike at g.rest
-        alike = record { first = c; next = cs ++ rest; next' = cs ++ g.next.more; here = e; there = f }
+    go (c ∷ cs) e f = record { first = c; next = cs ++ rest; next' = cs ++ s.more; here = e; there = f }
 
-        whole : Parts at g.rest start (folded g.bytes)
-        whole = subst (λ (t : Text). Parts at g.rest start t) (sym g.same) (parts_of g.front g.before)
+-- in the other text, too, it stands at the hole
+pub token_holds : {start at rest : Text} {h : Hole} → HoleInText start h at
+    → (g : GoesOn start at (SameToken at rest)) → FitsOrEnds h g.rest
+token_holds {start = start} {at = at} {h = h} d g =
+    text_holds (subst (λ (t : Text). HoleInText t h g.rest) same carried.holds) g.grammar
+  where
+    whole : Parts at g.rest start (folded g.bytes)
+    whole = subst (λ (t : Text). Parts at g.rest start t) (sym g.same) (parts_of g.front g.before)
 
-        carried : TextCarried at g.rest start (λ t. HoleInText t h g.rest)
-        carried = text_hole alike d
+    carried : TextCarried at g.rest start (λ t. HoleInText t h g.rest)
+    carried = text_hole (token_alike g.next) d
 
-        same : carried.other ≡ folded g.bytes
-        same = parts_same carried.parts whole
+    same : carried.other ≡ folded g.bytes
+    same = parts_same carried.parts whole
+
+pub hole_fits : {start at rest : Text} {h : Hole} → HoleInText start h at → GoesOn start at (SameToken at rest)
+    → Fits h at
+hole_fits d g =
+    let a = token_alike g.next in
+    let x = not_at_end (token_holds d g) a.there in
+    let here : a.first ∷ a.next' ≡ (x.offset, x.char) ∷ x.rest = sym a.there ∙ x.starts in
+    let first : a.first ≡ (x.offset, x.char) = cc in
+    record {
+      offset = x.offset;
+      char = x.char;
+      rest = a.next;
+      starts = a.here ∙ ap (λ (y : ℕ × ℕ). y ∷ a.next) first;
+      fit = x.fit;
+    }
 
 -- so no token may stand at a hole that its first character does not fit
 pub no_fit : {h : Hole} {c p : ℕ} {at rest : Text} → Fits h at → StartsWith c at p rest → fits h c ≡ false → ⊥

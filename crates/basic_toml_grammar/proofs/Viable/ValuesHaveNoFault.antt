@@ -219,10 +219,10 @@ module _ (end start : ℕ) {rest : Text} (w : List ℕ) (keys : AllKeys w) (next
           either p (or_cases (is_special (u ++ ws)) (is_whole (part_of (u ++ ws)) && is_tail (after_part (u ++ ws))) e)
 
 -- an integer or a float
-abbrev Number : List ℕ → Type 0
+abbrev pub Number : List ℕ → Type 0
 Number w = (is_none (integer_of w) ≡ false) ⊎ (is_unsigned_float (without_sign w) ≡ true)
 
-number_is : {v : Raw} (w : List ℕ) → number_value (integer_of w) (float_of w) ≡ Some v → Number w
+pub number_is : {v : Raw} (w : List ℕ) → number_value (integer_of w) (float_of w) ≡ Some v → Number w
 number_is {v = v} w e = go (integer_of w) (is_unsigned_float (without_sign w)) e
   where
     go : (i : Option ℤ) (b : Bool) → number_value i (cond b (Some (canonical w)) None) ≡ Some v
@@ -231,7 +231,7 @@ number_is {v = v} w e = go (integer_of w) (is_unsigned_float (without_sign w)) e
     go None true e = inr refl
     go None false e = cc
 
-decimal_whole : (negative : Bool) (cs : List ℕ) → is_none (decimal negative cs) ≡ false → is_whole cs ≡ true
+pub decimal_whole : (negative : Bool) (cs : List ℕ) → is_none (decimal negative cs) ≡ false → is_whole cs ≡ true
 decimal_whole negative cs e = there_is (is_whole cs) _ e
 
 -- after a plus

@@ -74,7 +74,7 @@ stuck : {text at : Text} {end : ℕ} {fault : Fault} → RefusesToken at fault �
     → MayStand text end at rest → ⊥
 stuck r rest m = token_or_fault m.follows.next.here r.is_fault
 
-outside : (text : Text) → section_list_of text ≡ None → (sections : List Section) → IsSectionList text sections → ⊥
+pub outside : (text : Text) → section_list_of text ≡ None → (sections : List Section) → IsSectionList text sections → ⊥
 outside text e sections g = let no : None ≡ Some sections = sym e ∙ list_found text sections g in cc
 
 -- one fault has one offset
