@@ -92,65 +92,67 @@ fn told(alloc: Global, error: &Error) -> Result<String, AllocError> {
     }
 }
 
-// All that a caller can ask of an error: what it tells of it, the message, the offset, line and column, the keys.
-fn answers(alloc: Global, error: Option<Error>) -> Result<String, Fail> {
-    let error = error.ok_or("no error")?;
-    let told = told(alloc, &error)?;
-    let mut text = format!(in alloc; "{told}; {}; ", error.message())?;
-    match (error.offset(), error.line_col()) {
-        (Some(offset), Some((line, column))) => {
-            text.push_str(format!(in alloc; "{offset}, {line}:{column};")?.as_str())?
-        }
-        _ => text.push_str("nowhere;")?,
-    }
-    for key in error.key_path() {
-        text.push(' ')?;
-        text.push_str(key.as_str())?;
-    }
-    Ok(text)
-}
-
 #[test]
-fn asks_errors_of_reading(rt: HostRuntime) -> Result<(), Fail> {
-    let alloc = rt.alloc();
-    let number = from_str::<Table>(alloc, "a = 1\nb = 01\n").err();
-    let wanted = "invalid number; invalid number; 11, 1:5;";
-    assert_eq!(rt; answers(alloc, number)?.as_str(), wanted);
-    let clash = from_str::<Table>(alloc, "[a.b]\nc.d = 1\nc.d = 2\n").err();
-    let wanted = "d stands twice; duplicate key: `d`; 16, 2:2; a b c";
-    assert_eq!(rt; answers(alloc, clash)?.as_str(), wanted);
-    let bytes = from_slice::<Table>(alloc, b"a\xff").err();
-    let wanted = "input is not valid UTF-8; input is not valid UTF-8; nowhere;";
-    assert_eq!(rt; answers(alloc, bytes)?.as_str(), wanted);
-    Ok(())
-}
-
-#[test]
-fn asks_errors_of_types(rt: HostRuntime) -> Result<(), Fail> {
-    let alloc = rt.alloc();
-    let error = from_str::<Parent<Child>>(alloc, "p_a = 'a'\np_b = 1\n").err();
-    let message = "invalid type: integer `1`, expected a sequence";
-    let wanted = format!(in alloc; "{message}; {message}; 16, 1:6; p_b")?;
-    assert_eq!(rt; answers(alloc, error)?.as_str(), wanted.as_str());
-    Ok(())
-}
-
-#[test]
-fn asks_errors_of_writing(rt: HostRuntime) -> Result<(), Fail> {
+fn asks_errors(rt: HostRuntime) -> Result<(), Fail> {
     let alloc = rt.alloc();
     let table: Table = from_str(alloc, "size = { width = 2 }\nname = \"box\"\n")?;
-    let wanted = "rows go first; values must be emitted before tables; nowhere;";
-    assert_eq!(rt;
-        answers(alloc, to_string(alloc, &table).err())?.as_str(),
-        wanted
-    );
+    let no_keys: &[&str] = &[];
+    for (error, words, message, keys, offset, place) in [
+        (
+            from_str::<Table>(alloc, "a = 1\nb = 01\n").err(),
+            "invalid number",
+            "invalid number",
+            no_keys,
+            Some(11),
+            Some((1, 5)),
+        ),
+        (
+            from_str::<Table>(alloc, "[a.b]\nc.d = 1\nc.d = 2\n").err(),
+            "d stands twice",
+            "duplicate key: `d`",
+            &["a", "b", "c"],
+            Some(16),
+            Some((2, 2)),
+        ),
+        (
+            from_str::<Parent<Child>>(alloc, "p_a = 'a'\np_b = 1\n").err(),
+            "invalid type: integer `1`, expected a sequence",
+            "invalid type: integer `1`, expected a sequence",
+            &["p_b"],
+            Some(16),
+            Some((1, 6)),
+        ),
+        (
+            to_string(alloc, &table).err(),
+            "rows go first",
+            "values must be emitted before tables",
+            no_keys,
+            None,
+            None,
+        ),
+        (
+            from_slice::<Table>(alloc, b"a\xff").err(),
+            "input is not valid UTF-8",
+            "input is not valid UTF-8",
+            no_keys,
+            None,
+            None,
+        ),
+    ] {
+        let error = error.ok_or(message)?;
+        let told = told(alloc, &error)?;
+        assert_eq!(rt; told.as_str(), words);
+        let shown = format!(in alloc; "{}", error.message())?;
+        assert_eq!(rt; shown.as_str(), message);
+        assert_eq!(rt; error.key_path().len(), keys.len());
+        for (key, name) in error.key_path().iter().zip(keys) {
+            assert_eq!(rt; key.as_str(), *name);
+        }
+        assert_eq!(rt; error.offset(), offset);
+        assert_eq!(rt; error.line_col(), place);
+    }
     let deep = Error::from(WriteError::NestedTooDeeply);
     assert!(rt; matches!(deep.kind(), ErrorKind::Writing(WriteError::NestedTooDeeply)));
-    Ok(())
-}
-
-#[test]
-fn asks_want_of_memory(rt: HostRuntime) -> Result<(), Fail> {
     let refused = Error::from(AllocError);
     assert!(rt;
         matches!(
