@@ -93,64 +93,63 @@ fn told(alloc: Global, error: &Error) -> Result<String, AllocError> {
 }
 
 #[test]
-fn asks_errors(rt: HostRuntime) -> Result<(), Fail> {
+fn asks_an_error_of_reading(rt: HostRuntime) -> Result<(), Fail> {
+    let alloc = rt.alloc();
+    let read = from_str::<Table>(alloc, "[a.b]\nc.d = 1\nc.d = 2\n");
+    let error = read.err().ok_or("read")?;
+    assert_eq!(rt; told(alloc, &error)?.as_str(), "d stands twice");
+    let message = format!(in alloc; "{}", error.message())?;
+    assert_eq!(rt; message.as_str(), "duplicate key: `d`");
+    assert_eq!(rt; error.key_path().len(), 3);
+    for (key, name) in error.key_path().iter().zip(["a", "b", "c"]) {
+        assert_eq!(rt; key.as_str(), name);
+    }
+    assert_eq!(rt;
+        (error.offset(), error.line_col()),
+        (Some(16), Some((2, 2)))
+    );
+    Ok(())
+}
+
+#[test]
+fn asks_an_error_of_a_type(rt: HostRuntime) -> Result<(), Fail> {
+    let alloc = rt.alloc();
+    let read = from_str::<Parent<Child>>(alloc, "p_a = 'a'\np_b = 1\n");
+    let error = read.err().ok_or("read")?;
+    assert_eq!(rt;
+        told(alloc, &error)?.as_str(),
+        "invalid type: integer `1`, expected a sequence"
+    );
+    assert_eq!(rt; error.key_path().len(), 1);
+    assert_eq!(rt;
+        (error.offset(), error.line_col()),
+        (Some(16), Some((1, 6)))
+    );
+    Ok(())
+}
+
+// An error of writing, and one of bytes, has no keys and no place.
+#[test]
+fn asks_an_error_without_a_place(rt: HostRuntime) -> Result<(), Fail> {
     let alloc = rt.alloc();
     let table: Table = from_str(alloc, "size = { width = 2 }\nname = \"box\"\n")?;
-    let no_keys: &[&str] = &[];
-    for (error, words, message, keys, offset, place) in [
-        (
-            from_str::<Table>(alloc, "a = 1\nb = 01\n").err(),
-            "invalid number",
-            "invalid number",
-            no_keys,
-            Some(11),
-            Some((1, 5)),
-        ),
-        (
-            from_str::<Table>(alloc, "[a.b]\nc.d = 1\nc.d = 2\n").err(),
-            "d stands twice",
-            "duplicate key: `d`",
-            &["a", "b", "c"],
-            Some(16),
-            Some((2, 2)),
-        ),
-        (
-            from_str::<Parent<Child>>(alloc, "p_a = 'a'\np_b = 1\n").err(),
-            "invalid type: integer `1`, expected a sequence",
-            "invalid type: integer `1`, expected a sequence",
-            &["p_b"],
-            Some(16),
-            Some((1, 6)),
-        ),
-        (
-            to_string(alloc, &table).err(),
-            "rows go first",
-            "values must be emitted before tables",
-            no_keys,
-            None,
-            None,
-        ),
+    for (error, words) in [
+        (to_string(alloc, &table).err(), "rows go first"),
         (
             from_slice::<Table>(alloc, b"a\xff").err(),
             "input is not valid UTF-8",
-            "input is not valid UTF-8",
-            no_keys,
-            None,
-            None,
         ),
     ] {
-        let error = error.ok_or(message)?;
-        let told = told(alloc, &error)?;
-        assert_eq!(rt; told.as_str(), words);
-        let shown = format!(in alloc; "{}", error.message())?;
-        assert_eq!(rt; shown.as_str(), message);
-        assert_eq!(rt; error.key_path().len(), keys.len());
-        for (key, name) in error.key_path().iter().zip(keys) {
-            assert_eq!(rt; key.as_str(), *name);
-        }
-        assert_eq!(rt; error.offset(), offset);
-        assert_eq!(rt; error.line_col(), place);
+        let error = error.ok_or(words)?;
+        assert_eq!(rt; told(alloc, &error)?.as_str(), words);
+        assert!(rt; error.key_path().is_empty());
+        assert_eq!(rt; (error.offset(), error.line_col()), (None, None));
     }
+    Ok(())
+}
+
+#[test]
+fn asks_the_kind_of_an_error(rt: HostRuntime) {
     let deep = Error::from(WriteError::NestedTooDeeply);
     assert!(rt; matches!(deep.kind(), ErrorKind::Writing(WriteError::NestedTooDeeply)));
     let refused = Error::from(AllocError);
@@ -160,5 +159,4 @@ fn asks_errors(rt: HostRuntime) -> Result<(), Fail> {
             ErrorKind::Reading(ReadErrorKind::OutOfMemory)
         )
     );
-    Ok(())
 }

@@ -25,8 +25,6 @@ mod tables;
 #[cfg(test)]
 mod tokens;
 #[cfg(test)]
-mod worked;
-#[cfg(test)]
 mod writing;
 #[cfg(test)]
 mod written;

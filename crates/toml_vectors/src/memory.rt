@@ -59,12 +59,9 @@ fn tokens(rt: HostRuntime) -> Result<(), Fail> {
 }
 
 #[test]
-fn calls(rt: HostRuntime) -> Result<(), Fail> {
-    let float = Float::parse(rt.alloc(), "1.5")?.ok_or("no float")?;
+fn calls_of_integers(rt: HostRuntime) -> Result<(), Fail> {
     let mut ser = Serializer::new(rt.alloc());
     ser.serialize_map(None)?;
-    ser.serialize_key(&"boolean")?;
-    ser.serialize_bool(true)?;
     ser.serialize_key(&"integers")?;
     ser.serialize_tuple(8)?;
     ser.serialize_element(&1_i8)?;
@@ -76,6 +73,21 @@ fn calls(rt: HostRuntime) -> Result<(), Fail> {
     ser.serialize_element(&7_u32)?;
     ser.serialize_element(&8_u64)?;
     ser.end()?;
+    ser.end()?;
+    assert_eq!(rt;
+        ser.finish()?.as_str(),
+        "integers = [1, 2, 3, 4, 5, 6, 7, 8]\n"
+    );
+    Ok(())
+}
+
+#[test]
+fn calls_of_scalars(rt: HostRuntime) -> Result<(), Fail> {
+    let float = Float::parse(rt.alloc(), "1.5")?.ok_or("no float")?;
+    let mut ser = Serializer::new(rt.alloc());
+    ser.serialize_map(None)?;
+    ser.serialize_key(&"boolean")?;
+    ser.serialize_bool(true)?;
     ser.serialize_key(&"float")?;
     ser.serialize_float(&float)?;
     ser.serialize_key(&"character")?;
@@ -86,42 +98,57 @@ fn calls(rt: HostRuntime) -> Result<(), Fail> {
     ser.serialize_bytes(&[1, 255])?;
     ser.serialize_key(&"variant")?;
     ser.serialize_unit_variant("Color", 0, "Red")?;
+    ser.end()?;
+    assert_eq!(rt;
+        ser.finish()?.as_str(),
+        "boolean = true\n\
+         float = 1.5\n\
+         character = \"c\"\n\
+         string = \"s\"\n\
+         bytes = [1, 255]\n\
+         variant = \"Red\"\n"
+    );
+    Ok(())
+}
+
+#[test]
+fn calls_of_values(rt: HostRuntime) -> Result<(), Fail> {
+    let mut ser = Serializer::new(rt.alloc());
+    ser.serialize_map(None)?;
     ser.serialize_key(&"option")?;
     ser.serialize_some(&1_u8)?;
     ser.serialize_key(&"absent")?;
     ser.serialize_none()?;
     ser.serialize_key(&"newtype")?;
     ser.serialize_newtype_struct("Port", &80_u16)?;
+    ser.serialize_key(&"value")?;
+    ser.serialize_value(&1_u8)?;
+    ser.serialize_field("field", &1_u8)?;
+    ser.end()?;
+    assert_eq!(rt;
+        ser.finish()?.as_str(),
+        "option = 1\nnewtype = 80\nvalue = 1\nfield = 1\n"
+    );
+    Ok(())
+}
+
+#[test]
+fn calls_of_empty_forms(rt: HostRuntime) -> Result<(), Fail> {
+    let mut ser = Serializer::new(rt.alloc());
+    ser.serialize_map(None)?;
     ser.serialize_key(&"array")?;
     ser.serialize_seq(None)?;
     ser.end()?;
     ser.serialize_key(&"pair")?;
     ser.serialize_tuple_struct("Pair", 0)?;
     ser.end()?;
-    ser.serialize_key(&"value")?;
-    ser.serialize_value(&1_u8)?;
-    ser.serialize_field("field", &1_u8)?;
     ser.serialize_key(&"table")?;
     ser.serialize_struct("Empty", 0)?;
     ser.end()?;
     ser.end()?;
     assert_eq!(rt;
         ser.finish()?.as_str(),
-        "boolean = true\n\
-         integers = [1, 2, 3, 4, 5, 6, 7, 8]\n\
-         float = 1.5\n\
-         character = \"c\"\n\
-         string = \"s\"\n\
-         bytes = [1, 255]\n\
-         variant = \"Red\"\n\
-         option = 1\n\
-         newtype = 80\n\
-         array = []\n\
-         pair = []\n\
-         value = 1\n\
-         field = 1\n\
-         \n\
-         [table]\n"
+        "array = []\npair = []\n\n[table]\n"
     );
     Ok(())
 }

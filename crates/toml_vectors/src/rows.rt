@@ -1,6 +1,7 @@
 // Texts that types of a caller's own read, or the errors that they answer.
 use basic_toml::{Deserialize, Error, Float, Value, from_str};
 use std::alloc::{AllocError, Global};
+use std::borrow::CowStr;
 use std::collections::BTreeMap;
 use std::test::Fail;
 use toml_callers::types::{
@@ -143,10 +144,12 @@ fn choices_of_one(rt: HostRuntime) -> Result<(), Fail> {
 #[test]
 fn fields_of_another_type(rt: HostRuntime) -> Result<(), Fail> {
     let alloc = rt.alloc();
+    assert_eq!(rt; told::<Sole<u8>>(alloc, "value = 255")?.as_str(), "read");
     assert_eq!(rt;
         told::<Sole<u8>>(alloc, "value = 256")?.as_str(),
         "invalid value: integer `256`, expected u8 for key `value` at line 1 column 9"
     );
+    assert_eq!(rt; told::<Sole<Float>>(alloc, "value = 1.0")?.as_str(), "read");
     assert_eq!(rt;
         told::<Sole<Float>>(alloc, "value = 1")?.as_str(),
         "invalid type: integer `1`, expected a float for key `value` at line 1 column 9"
@@ -171,6 +174,10 @@ fn clashes_come_before_types(rt: HostRuntime) -> Result<(), Fail> {
     assert_eq!(rt;
         told::<Child>(rt.alloc(), "c_a = 'a'\nc_b = 'b'\n[y]\n[y]\n")?.as_str(),
         "redefinition of table `y` for key `y` at line 4 column 1"
+    );
+    assert_eq!(rt;
+        told::<Sole<i64>>(rt.alloc(), "value = 1\n[y]\n")?.as_str(),
+        "read"
     );
     assert_eq!(rt;
         told::<Sole<i64>>(rt.alloc(), "value = 1\n[y]\n[y]\n")?.as_str(),
@@ -209,6 +216,15 @@ fn titles(rt: HostRuntime) -> Result<(), Fail> {
         told::<Title<'static>>(rt.alloc(), "title = 'a'\nrate = 1\n")?.as_str(),
         "invalid type: integer `1`, expected a float for key `rate` at line 2 column 8"
     );
+    Ok(())
+}
+
+#[test]
+fn a_string_without_an_escape_is_borrowed(rt: HostRuntime) -> Result<(), Fail> {
+    let plain: Title<'static> = from_str(rt.alloc(), "title = 'a'")?;
+    assert!(rt; matches!(&plain.title, CowStr::Borrowed("a")));
+    let escaped: Title<'static> = from_str(rt.alloc(), "title = \"\\u0061\"")?;
+    assert!(rt; matches!(&escaped.title, CowStr::Owned(text) if text.as_str() == "a"));
     Ok(())
 }
 
