@@ -1,14 +1,22 @@
 -- Each of writing, the round trip and reading into a table has one answer.
-use Rattle.std.proofs.Common.{◌≡◌, ◌⊎◌, ℕ, List, sym, ap, ◌∙◌, refl, Result, Ok, Err}
+use Rattle.std.proofs.Common.{◌≡◌, ◌⊎◌, ℕ, List, length, sym, ap, ◌∙◌, refl, subst, Result, Ok, Err}
 use Rattle.std.proofs.Common.{inl, inr}
 use Rattle.basic_toml_emit.specs.Items.{Item}
 use Rattle.basic_toml_emit.specs.Rules as rules
 use Rattle.basic_toml_write.specs.declared.error.WriteError.{WriteError}
-use Rattle.basic_toml_error.specs.Fault.{Fault, want_of_memory, without_offset}
-use Rattle.basic_toml_error.specs.ReadFaults.{lined}
-use Rattle.basic_toml.specs.Reading.{value_read, no_memory, no_document, not_taken}
+use Rattle.basic_toml_error.specs.Fault.{Fault, reading, want_of_memory, without_offset}
+use Rattle.basic_toml_error.specs.ReadFaults.{fault_in, lined}
+use Rattle.basic_toml_tokens.specs.Text.{folded}
+use Rattle.basic_toml_grammar.specs.Faults as read
+use Rattle.basic_toml_grammar.specs.Sections.{Section}
+use Rattle.basic_toml_grammar.proofs.LawsHold.{unambiguous, keyed}
+use Rattle.basic_toml_grammar.proofs.Viable.FaultsAreOne.{grammar_faults_are_one}
+use Rattle.basic_toml_tree.specs.FirstStop.{SectionsFault, IsTooDeep}
+use Rattle.basic_toml_tree.proofs.SectionsFaultIsOne.{sections_fault_is_one}
+use Rattle.basic_toml.specs.Reading.{value_read, no_memory, no_document, not_taken, IsTextFault, outside, deep, no_tree}
 use Rattle.basic_toml.specs.Ser.{IsFirstFault, IsOwnFault, fault_kind}
 use Rattle.basic_toml.specs.OneAnswer.{IsOpen, WritesOneAnswer, RoundTripsToOneAnswer, ReadingHasOneTable}
+use Rattle.basic_toml.specs.OneAnswer.{IsOfNesting, ReadingHasOneError}
 use Rattle.basic_toml.proofs.TextHasOneDocument.{one_document}
 
 module _ (calls : List Item) (gives_up : List Item → WriteError → Type 0) where
@@ -47,9 +55,40 @@ module _ (calls : List Item) (gives_up : List Item → WriteError → Type 0) wh
   round (Err f) (Ok t) p q = swapped (p.succeeds q.table.value q.table.spelled q.table.supported)
   round (Err f) (Err g) p q = errors_agree p.refused q.refused
 
+-- the errors of a text are one
+of_sections : (text : List ℕ) (e f : read.Fault) → (e ≡ f) ⊎ (IsTooDeep e ⊎ IsTooDeep f)
+    → IsOfNesting (fault_in text e) ⊎ (IsOfNesting (fault_in text f) ⊎ (fault_in text e ≡ fault_in text f))
+of_sections text e f (inl same) = inr (inr (ap (fault_in text) same))
+of_sections text e f (inr (inl nested)) = inl (inr (ap reading nested))
+of_sections text e f (inr (inr nested)) = inr (inl (inr (ap reading nested)))
+
+one_error : (text : List ℕ) (e f : read.Fault) → IsTextFault text e → IsTextFault text f
+    → IsOfNesting (fault_in text e) ⊎ (IsOfNesting (fault_in text f) ⊎ (fault_in text e ≡ fault_in text f))
+one_error text e f (outside p) (outside q) =
+    inr (inr (ap (fault_in text) (grammar_faults_are_one (folded text) (length text) e f p q)))
+one_error text e f (outside p) (no_tree {sections = sections} grammar why) = absurd (p.outside sections grammar)
+one_error text e f (no_tree {sections = sections} grammar why) (outside q) = absurd (q.outside sections grammar)
+one_error text e f (no_tree {sections = ss} g p) (no_tree {sections = ts} h q) =
+    let same : ts ≡ ss = unambiguous _ (folded text) ts ss h g in
+    of_sections text e f (sections_fault_is_one ss e f (keyed (folded text) ss g) p
+    (subst (λ (us : List Section). SectionsFault us f) same q))
+one_error text _ f (deep p) q = inl (inr refl)
+one_error text e _ (outside p) (deep q) = inr (inl (inr refl))
+one_error text e _ (no_tree g p) (deep q) = inr (inl (inr refl))
+
 pub reading_has_one_table : ReadingHasOneTable
 reading_has_one_table text t (Ok u) (value_read d r) (value_read e s) = sym r ∙ one_document text _ _ d e ∙ s
 reading_has_one_table text t (Err f) (value_read d r) no_memory = refl
 reading_has_one_table text t (Err f) (value_read d r) (no_document none _) = absurd (none _ d)
-reading_has_one_table text t (Err f) (value_read d r) (not_taken e (own, only, named)) =
-    named ∙ ap (lined text) (only.taken refl)
+reading_has_one_table text t (Err f) (value_read d r) (not_taken e (own, only, one, same)) =
+    same ∙ ap (lined text) (only.taken refl)
+
+pub reading_has_one_error : ReadingHasOneError
+reading_has_one_error text f g no_memory q = inl (inl refl)
+reading_has_one_error text f g (not_taken e (own, only, one, same)) q =
+    inl (inl (same ∙ ap (lined text) (only.taken refl)))
+reading_has_one_error text f g (no_document none p) no_memory = inr (inl (inl refl))
+reading_has_one_error text f g (no_document none p) (not_taken e (own, only, one, same)) =
+    inr (inl (inl (same ∙ ap (lined text) (only.taken refl))))
+reading_has_one_error text f g (no_document {error = d} none p) (no_document {error = e} other q) =
+    one_error text d e p q

@@ -1,5 +1,5 @@
 -- How reading ends, from what the section list, the tree and the type answered.
-use Rattle.std.proofs.Common.{◌≡◌, ◌⊎◌, inl, inr, ℕ, ◌≤◌, false, List, map, refl, sym, ap, subst, Result, Ok, Err}
+use Rattle.std.proofs.Common.{◌≡◌, ◌⊎◌, inl, inr, ℕ, ◌≤◌, false, List, [], map, refl, sym, ap, subst, Result, Ok, Err}
 use Rattle.std.proofs.Common.{Some, IfOk, IfErr, ◌∙◌}
 use Rattle.std.proofs.lemmas.Bool.{le-leb}
 use Rattle.basic_toml_tokens.specs.Text.{folded}
@@ -16,17 +16,21 @@ use Rattle.basic_toml_read.specs.declared.section.Section as code
 use Rattle.basic_toml_read.specs.SectionView.{section_of}
 use Rattle.basic_toml_read.specs.SectionsAnswer as answer
 use Rattle.basic_toml_read.specs.SectionsAnswer.{IsRefused}
+use Rattle.basic_toml_tree.specs.declared.node.Node.{Node}
 use Rattle.basic_toml_tree.specs.declared.tree.Tree.{Tree}
 use Rattle.basic_toml_tree.specs.Data.{table_data}
 use Rattle.basic_toml_tree.specs.Resolve as resolve
 use Rattle.basic_toml_tree.specs.Resolve.{Resolves, IsResolved, IsUnresolved}
+use Rattle.basic_toml_tree.specs.Stands.{StandsAt}
 use Rattle.basic_toml_tree.proofs.ItemData.{table_is_table}
 use Rattle.basic_toml_error.specs.Fault.{Fault, want_of_memory}
 use Rattle.basic_toml_error.specs.ReadFaults.{fault_in, lined}
-use Rattle.basic_toml.specs.Reading.{IsTextFault, outside, deep, deep_tree, clash, OnlyMemory, IsLined, ReadsText}
+use Rattle.basic_toml_typed.specs.TypeAnswers.{AtRoot}
+use Rattle.basic_toml.specs.Reading.{IsTextFault, outside, deep, no_tree, OnlyMemory, OrMemory, IsLined, ReadsText}
+use Rattle.basic_toml.specs.Reading.{IsTreeOf, AtDocument}
 use Rattle.basic_toml.proofs.RefusedTextsHaveNoDocument.{refused_has_no_document}
 use Rattle.basic_toml.specs.Reading.{value_read, no_memory, no_document, not_taken, GivesTree, AnswersTree}
-use Rattle.basic_toml.specs.Reading.{ReadsTree, no_memory_for_tree, no_tree}
+use Rattle.basic_toml.specs.Reading.{ReadsTree, no_memory_for_tree, no_document_for_tree}
 use Rattle.basic_toml.specs.Reading as ending
 
 -- the tree of a section list is its document, where nothing clashes and it fits
@@ -47,8 +51,7 @@ not_listed text _ (answer.outside allowed) = inr (outside allowed)
 not_resolved : (text : List ℕ) (sections : List Section) (error : read.Fault) → IsSectionList (folded text) sections
     → IsUnresolved sections error → (error ≡ explain.want_of_memory) ⊎ IsTextFault text error
 not_resolved text sections _ grammar resolve.memory = inl refl
-not_resolved text sections _ grammar (resolve.deep there) = inr (deep_tree grammar there)
-not_resolved text sections _ grammar (resolve.clash clashes) = inr (clash grammar clashes)
+not_resolved text sections _ grammar (resolve.refused why) = inr (no_tree grammar why)
 
 pub refused : (text : List ℕ) (error : read.Fault) → IsRefused text error → GivesTree text (Err error)
 refused text error why = not_listed text error why
@@ -60,7 +63,13 @@ resolved text list (Ok tree) grammar is =
     record {
       sections = map section_of list;
       grammar = grammar;
-      means = document_found (map section_of list) (table_data tree.root.value) there.clash there.fits there.grown;
+      resolved = there;
+      document = record {
+        sections = map section_of list;
+        grammar = grammar;
+        means =
+            document_found (map section_of list) (table_data tree.root.value) there.clash there.fits there.grown;
+      };
     }
 resolved text list (Err error) grammar why =
     not_resolved text (map section_of list) error grammar (why (keyed (folded text) (map section_of list) grammar))
@@ -77,37 +86,71 @@ located_error text error fault (inr why) (inr same) = inr (error, why, same)
 pub ruleset with_lines = (located_error)
 
 -- the error of a type with its line and its column
-pub lined_error : {T : Type 0} (takes : Type 0) (reads : T → Type 0) (text : List ℕ) (own fault : Fault)
-    → OnlyMemory takes reads own → fault ≡ lined text own → IsLined takes reads text fault
-lined_error takes reads text own fault only same = (own, only, same)
+pub lined_error : {T : Type 0} (takes : Type 0) (reads : T → Type 0) (IsNamed : Fault → Type 0) (text : List ℕ)
+    → (own fault : Fault) → OnlyMemory takes reads own → IsNamed own → fault ≡ lined text own
+    → IsLined takes reads IsNamed text fault
+lined_error takes reads IsNamed text own fault only named same = (own, only, named, same)
 
 pub ruleset read_lined = (lined_error)
 
-module _ {T : Type 0} (takes : Data → Type 0) (reads : Data → T → Type 0) (text : List ℕ) where
-  pub unread : (fault : Fault) → AnswersTree text (Err fault) → ReadsText takes reads text (Err fault)
-  unread fault (inl memory) = subst (λ (f : Fault). ReadsText takes reads text (Err f)) (sym memory) no_memory
+-- what holds at the root of the tree of a text holds at the document of the text
+at_document : (Holds : Node → Type 0) (text : List ℕ) (tree : Tree) → IsTreeOf text tree → AtRoot Holds tree
+    → AtDocument Holds text
+at_document Holds text tree of (root, same, stands, holds) = (
+  root,
+  record {
+    sections = of.sections;
+    grammar = of.grammar;
+    stands = record {
+      resolved = subst (IsResolved of.sections) (sym stands.within) of.resolved;
+      keyed = keyed (folded text) of.sections of.grammar;
+      stands = subst (λ (t : Tree). StandsAt t [] root) (sym stands.within) stands;
+    };
+    document = subst (IsDocument (folded text)) (sym same) of.document;
+  },
+  holds,
+)
+
+module _ {T : Type 0} (takes : Data → Type 0) (reads : Data → T → Type 0) (faults : Node → Fault → Type 0)
+    (text : List ℕ) where
+  pub unread : (fault : Fault) → AnswersTree text (Err fault) → ReadsText takes reads faults text (Err fault)
+  unread fault (inl memory) = subst (λ (f : Fault). ReadsText takes reads faults text (Err f)) (sym memory) no_memory
   unread fault (inr (error, why, same)) =
-      subst (λ (f : Fault). ReadsText takes reads text (Err f)) (sym same)
+      subst (λ (f : Fault). ReadsText takes reads faults text (Err f)) (sym same)
       (no_document (λ tree document. refused_has_no_document text error tree why document) why)
 
+  abbrev named_there : Fault → Type 0
+  named_there own = AtDocument (λ root. OrMemory (faults root) own) text
+
   document_read : (d : Data) (members : Members) (result : Result T Fault) → d ≡ table members
-      → IsDocument (folded text) d → IfOk result (reads d) → IfErr result (IsLined (takes d) (reads d) text)
-      → ReadsText takes reads text result
+      → IsDocument (folded text) d → IfOk result (reads d) → IfErr result (IsLined (takes d) (reads d) named_there text)
+      → ReadsText takes reads faults text result
   document_read d ms (Ok value) same document ok err =
       value_read (subst (IsDocument (folded text)) same document) (subst (λ (x : Data). reads x value) same ok)
   document_read d ms (Err fault) same document ok err =
       not_taken (subst (IsDocument (folded text)) same document)
-      (subst (λ (x : Data). IsLined (takes x) (reads x) text fault) same err)
+      (subst (λ (x : Data). IsLined (takes x) (reads x) named_there text fault) same err)
+
+  abbrev named_at : Tree → Fault → Type 0
+  named_at tree own = AtRoot (λ root. OrMemory (faults root) own) tree
+
+  lined_there : (d : Data) (tree : Tree) (result : Result T Fault) → IsTreeOf text tree
+      → IfErr result (IsLined (takes d) (reads d) (named_at tree) text)
+      → IfErr result (IsLined (takes d) (reads d) named_there text)
+  lined_there d tree (Ok value) of err = tt
+  lined_there d tree (Err fault) of (own, only, named, same) =
+      (own, only, at_document (λ root. OrMemory (faults root) own) text tree of named, same)
 
   pub tree_read : (tree : Tree) (result : Result T Fault) → AnswersTree text (Ok tree)
       → IfOk result (reads (table_data tree.root.value))
-      → IfErr result (IsLined (takes (table_data tree.root.value)) (reads (table_data tree.root.value)) text)
-      → ReadsText takes reads text result
-  tree_read tree result document ok err =
+      → IfErr result (IsLined (takes (table_data tree.root.value)) (reads (table_data tree.root.value)) (named_at tree) text)
+      → ReadsText takes reads faults text result
+  tree_read tree result of ok err =
       let (members, same) = table_is_table tree.root.value in
-      document_read (table_data tree.root.value) members result same document ok err
+      document_read (table_data tree.root.value) members result same of.document ok
+      (lined_there (table_data tree.root.value) tree result of err)
 
-pub ruleset ends = (unread, tree_read)
+pub ruleset ends = (unread)
 
 -- the tree, or why there is none
 pub ends_in_tree : (text : List ℕ) (result : Result Tree Fault) → AnswersTree text result → ReadsTree text result
@@ -116,6 +159,6 @@ ends_in_tree text (Err fault) (inl memory) =
     subst (λ (f : Fault). ReadsTree text (Err f)) (sym memory) no_memory_for_tree
 ends_in_tree text (Err fault) (inr (error, why, same)) =
     subst (λ (f : Fault). ReadsTree text (Err f)) (sym same)
-    (no_tree (λ tree document. refused_has_no_document text error tree why document) why)
+    (no_document_for_tree (λ tree document. refused_has_no_document text error tree why document) why)
 
 pub ruleset tree_ends = (ends_in_tree)

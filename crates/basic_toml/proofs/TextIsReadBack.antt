@@ -17,25 +17,26 @@ use Rattle.basic_toml.specs.Reading.{ReadsText, value_read, no_memory, no_docume
 use Rattle.basic_toml_error.specs.ReadFaults.{lined}
 use Rattle.basic_toml.specs.ReadBack.{RoundTrips}
 use Rattle.basic_toml.specs.Ser.{Writes, MeansKept, IsTextOf}
+use Rattle.basic_toml_typed.specs.TypeFaults.{table_faults}
 use Rattle.basic_toml_typed.specs.TypeReads.{table_reads, table_takes}
 use Rattle.basic_toml.proofs.TextHasOneDocument.{one_document}
 
 -- the table that is read is the tree of the document
 table_is : (text : List ℕ) (tree : Data) → IsDocument (folded text) tree → (pairs : List (List ℕ × Value))
-    → ReadsText table_takes table_reads text (Ok pairs) → Data.table (entries pairs) ≡ tree
+    → ReadsText table_takes table_reads table_faults text (Ok pairs) → Data.table (entries pairs) ≡ tree
 table_is text tree means pairs (value_read {members = m} document read) =
     sym read ∙ one_document text (Data.table m) tree document means
 
 -- and an error is want of memory
 only_memory : (text : List ℕ) (tree : Data) → IsDocument (folded text) tree → (fault : Fault)
-    → ReadsText table_takes table_reads text (Err fault) → fault ≡ want_of_memory
+    → ReadsText table_takes table_reads table_faults text (Err fault) → fault ≡ want_of_memory
 only_memory text tree means _ no_memory = refl
 only_memory text tree means _ (no_document none because) = absurd (none tree means)
-only_memory text tree means fault (not_taken document (own, only, same)) = same ∙ ap (lined text) (only.taken refl)
+only_memory text tree means fault (not_taken document (own, only, one, same)) = same ∙ ap (lined text) (only.taken refl)
 
 module _ (calls : List Item) (gives_up : List Item → WriteError → Type 0) where
   pub read_back : (s : String Global) (result : Result (List (List ℕ × Value)) Fault) → Writes calls gives_up (Ok s)
-      → MeansKept calls (string_bytes s) → ReadsText table_takes table_reads (string_bytes s) result
+      → MeansKept calls (string_bytes s) → ReadsText table_takes table_reads table_faults (string_bytes s) result
       → RoundTrips calls gives_up result
   read_back s (Ok pairs) written means read =
       let is : (w : Written) → Spells calls w → Data.table (entries pairs) ≡ tree_of (kept w) =

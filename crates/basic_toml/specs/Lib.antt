@@ -43,4 +43,5 @@ pub use Rattle.basic_toml_error.specs.NodeFaults
 pub use Rattle.basic_toml_typed.specs.FieldKeys
 pub use Rattle.basic_toml_typed.specs.TypeAnswers
 pub use Rattle.basic_toml_typed.specs.TypeReads
+pub use Rattle.basic_toml_typed.specs.TypeFaults
 pub use Rattle.basic_toml_typed.specs.FieldFaults

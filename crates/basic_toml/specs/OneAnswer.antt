@@ -1,6 +1,6 @@
 -- What it means that a call has one answer: of two results that meet its contract, the values are the same, a value and
--- an error do not come of the same arguments, and the errors are the same. Left aside are want of memory and errors of
--- a type's own. (own)
+-- an error do not come of the same arguments, and the errors are the same. Left aside are want of memory, errors of a
+-- type's own, and of reading those of nesting. (own)
 use Rattle.std.specs.Prelude.{◌≡◌, ◌⊎◌, ℕ, List, Result, Ok, Err, String, string_bytes}
 use Rattle.std.specs.declared.alloc.Global.{Global}
 use Rattle.basic_toml_value.specs.Data.{Data}
@@ -8,7 +8,9 @@ use Rattle.basic_toml_value.specs.View.{entries}
 use Rattle.basic_toml_value.specs.declared.value.Value.{Value}
 use Rattle.basic_toml_emit.specs.Items.{Item}
 use Rattle.basic_toml_write.specs.declared.error.WriteError.{WriteError}
-use Rattle.basic_toml_error.specs.Fault.{Fault, want_of_memory}
+use Rattle.basic_toml_grammar.specs.Faults.{nested_too_deeply}
+use Rattle.basic_toml_error.specs.Fault.{Fault, reading, want_of_memory}
+use Rattle.basic_toml_typed.specs.TypeFaults.{table_faults}
 use Rattle.basic_toml_typed.specs.TypeReads.{table_reads, table_takes}
 use Rattle.basic_toml.specs.Reading.{ReadsText}
 use Rattle.basic_toml.specs.ReadBack.{RoundTrips}
@@ -46,5 +48,14 @@ RoundTripsToOneAnswer calls gives_up = (a b : Result (List (List ℕ × Value)) 
 -- `from_str` into a `Table` gives one table, and no error but want of memory where it gives one
 abbrev pub ReadingHasOneTable : Type 0
 ReadingHasOneTable = (text : List ℕ) (table : List (List ℕ × Value)) (b : Result (List (List ℕ × Value)) Fault)
-    → ReadsText table_takes table_reads text (Ok table) → ReadsText table_takes table_reads text b
+    → ReadsText table_takes table_reads table_faults text (Ok table) → ReadsText table_takes table_reads table_faults text b
     → Agree SameData (λ f. f ≡ want_of_memory) (Ok table) b
+
+-- want of memory, or an error of nesting
+abbrev pub IsOfNesting : Fault → Type 0
+IsOfNesting f = (f ≡ want_of_memory) ⊎ (f.kind ≡ reading nested_too_deeply)
+
+-- and where it gives none one error, but where the text is nested too deeply as well
+abbrev pub ReadingHasOneError : Type 0
+ReadingHasOneError = (text : List ℕ) (f g : Fault) → ReadsText table_takes table_reads table_faults text (Err f)
+    → ReadsText table_takes table_reads table_faults text (Err g) → IsOfNesting f ⊎ (IsOfNesting g ⊎ (f ≡ g))

@@ -6,6 +6,7 @@ ghost use Rattle.basic_toml_grammar.specs.Document.{IsDocument};
 ghost use Rattle.basic_toml_grammar.specs.OldRules.{has_no_delete, WasDocument};
 ghost use Rattle.basic_toml_grammar.specs.Respelled.{with_returns, has_return, with_byte_order_mark, has_byte_order_mark};
 ghost use Rattle.basic_toml_tree.specs.Data.{table_data};
+ghost use Rattle.basic_toml_typed.specs.TypeAnswers.{AtRoot, OrMemory};
 ghost use Rattle.basic_toml_error.specs.Fault.{not_text};
 ghost use Rattle.basic_toml.specs.Reading.{IsLined, ReadsText, ReadsData, GivesTree, AnswersTree, ReadsTree};
 
@@ -27,14 +28,14 @@ use std::alloc::Global;
 ///
 /// Where the text has no document: an error of the grammar; where its rows and sections clash, an error of a clash;
 /// `nested too deeply` where it is nested more than 128 deep. Where a type reads nothing from the document, the type's
-/// own error; and `out of memory` where a growth was refused.
+/// own error, one that it names by its `faults`; and `out of memory` where a growth was refused.
 ///
 /// # Other spellings
 ///
 /// What is read stays the same where each LF is written CR LF, and where one U+FEFF stands in front; and a text without
 /// U+007F reads as the document that it had by the older rules.
 pub fn from_str<'de, T: Deserialize<'de>>(alloc: Global, s: &'de str) -> Result<T, Error>
-    ensures read { ReadsText T.takes T.reads s.now result }
+    ensures read { ReadsText T.takes T.reads T.faults s.now result }
     ensures line_feeds { has_return s.now ≡ false → (tree : Data) → IsDocument (folded (with_returns s.now)) tree
         → ReadsData T.takes T.reads tree result }
     ensures mark { has_byte_order_mark s.now ≡ false → (tree : Data)
@@ -47,7 +48,7 @@ pub fn from_str<'de, T: Deserialize<'de>>(alloc: Global, s: &'de str) -> Result<
 
 #[tactic(auto, using(crate::proofs::ReadingEnds::ends))]
 fn read_text<'de, T: Deserialize<'de>>(alloc: Global, text: &'de str) -> Result<T, Error>
-    ensures { ReadsText T.takes T.reads text.now result }
+    ensures { ReadsText T.takes T.reads T.faults text.now result }
 {
     let tree = tree_of(alloc, text)?;
     read_from(alloc, tree, text)
@@ -62,7 +63,8 @@ fn read_from<'de, T: Deserialize<'de>>(
 ) -> Result<T, Error>
     ensures ok { IfOk result (λ value. T.reads (table_data tree.entry.root.value) value) }
     ensures err { IfErr result (IsLined (T.takes (table_data tree.entry.root.value))
-        (T.reads (table_data tree.entry.root.value)) text.now) }
+        (T.reads (table_data tree.entry.root.value))
+        (λ own. AtRoot (λ root. OrMemory (T.faults root) own) tree.entry) text.now) }
 {
     match T::from_tree(alloc, tree) {
         Ok(value) => Ok(value),
@@ -115,7 +117,7 @@ fn tree_in<'de>(alloc: Global, text: &'de str) -> Result<Tree<'de>, ReadError>
 ///
 /// `input is not valid UTF-8` where they are not, and the errors of [`from_str`].
 pub fn from_slice<'de, T: Deserialize<'de>>(alloc: Global, bytes: &'de [u8]) -> Result<T, Error>
-    ensures text { IsUtf8 bytes.now → ReadsText T.takes T.reads bytes.now result }
+    ensures text { IsUtf8 bytes.now → ReadsText T.takes T.reads T.faults bytes.now result }
     ensures other { ¬ IsUtf8 bytes.now → result ≡ Err not_text }
 {
     match simdutf8::compat::from_utf8(bytes) {

@@ -6,6 +6,7 @@ ghost use Rattle.basic_toml_grammar.specs.Document.{IsDocument};
 ghost use Rattle.basic_toml_grammar.specs.Faults as read;
 ghost use Rattle.basic_toml.specs.OrderReadBack.{RowsFirstIsReadBack};
 ghost use Rattle.basic_toml.specs.OneAnswer.{WritesOneAnswer, RoundTripsToOneAnswer, ReadingHasOneTable};
+ghost use Rattle.basic_toml.specs.OneAnswer.{ReadingHasOneError};
 ghost use Rattle.basic_toml.specs.Reading.{IsTextFault};
 
 pub use basic_toml_error::laws::text_goes_on_with_line;
@@ -13,6 +14,7 @@ pub use basic_toml_order::laws::{
     has_same_maps, once_is_enough, only_unwritable_is_refused, ordered_stays, rows_come_first,
     stays_recordable,
 };
+pub use basic_toml_tree::laws::sections_fault_is_one;
 pub use basic_toml_typed::laws::text_numbers_differ;
 use basic_toml_write::Serialize;
 
@@ -34,6 +36,13 @@ pub fn refused_texts_have_no_document()
 #[tactic(auto, using(crate::proofs::OneAnswer::reading_has_one_table))]
 pub fn reading_has_one_table()
     ensures { ReadingHasOneTable }
+{}
+
+/// Two errors that the contract of `from_str` into a `Table` allows for one text are the same, but for want of memory and
+/// `NestedTooDeeply`.
+#[tactic(auto, using(crate::proofs::OneAnswer::reading_has_one_error))]
+pub fn reading_has_one_error()
+    ensures { ReadingHasOneError }
 {}
 
 /// Two results that the contract of `to_string` allows for one value agree: the same text, or the same error, but for

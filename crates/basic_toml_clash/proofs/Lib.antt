@@ -1,4 +1,5 @@
-pub mod FaultsGathered
+pub mod CrossedIsFault
+pub mod FirstGathered
 pub mod HeadersNamed
 pub mod KeysSeen
 pub mod KeysChanged
@@ -7,6 +8,7 @@ pub mod RowsGetNoLonger
 pub mod RowsGoOn
 pub mod RowsOfKeys
 pub mod TrailGrows
+pub mod ValuesOnTheWay
 pub mod DataParts
 pub mod PlainSeen
 pub mod PlainValues

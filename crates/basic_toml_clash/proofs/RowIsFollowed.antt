@@ -1,23 +1,42 @@
 -- The next row of the code's rows is followed, or goes on from a value.
-use Rattle.std.proofs.Common.{◌≡◌, ℕ, suc, ◌+◌, ◌-◌, ◌<◌, ◌≤◌, true, List, sym, ap, ◌∙◌, take, drop, map}
-use Rattle.std.proofs.Common.{length, get_or}
+use Rattle.std.proofs.Common.{◌≡◌, ℕ, suc, ◌+◌, ◌-◌, ◌<◌, ◌≤◌, true, List, refl, sym, ap, ◌∙◌, take, drop, map}
+use Rattle.std.proofs.Common.{length, get_or, Some}
 use Rattle.std.proofs.Common.{None, Err, is_some, arith, subst}
+use Rattle.std.specs.Prelude.{if◌then◌else◌}
 use Rattle.std.specs.List.{AllWithin}
-use Rattle.basic_toml_grammar.specs.Sections.{Key, KeyTexts, texts, Raw, Rows, row}
+use Rattle.std.specs.Option.{option_or}
+use Rattle.basic_toml_grammar.specs.Sections.{Key, KeyTexts, texts, Raw, Rows, no_rows, row}
 use Rattle.basic_toml_read.specs.declared.section.Row.{Row, out-Row}
 use Rattle.basic_toml_read.specs.SectionView.{lined_of, rows_view}
 use Rattle.basic_toml_clash.specs.declared.crossed.Trail.{Trail}
 use Rattle.basic_toml_clash.specs.declared.crossed.Crossed.{Crossed}
 use Rattle.basic_toml_clash.specs.declared.crossed.Crossed.TheVariants.{Memory, At}
-use Rattle.basic_toml_clash.specs.Crossed.{faults_between, Looks}
-use Rattle.basic_toml_clash.specs.Trail.{ends_of, path_of, Follows, FollowsTo, GoesOnFrom}
-use Rattle.basic_toml_clash.proofs.RowsGoOn.{Reached, row_followed, row_goes_on}
+use Rattle.basic_toml_clash.specs.Crossed.{same_keys, no_ends, and_end, crossed_after, crossed_between, Looks}
+use Rattle.basic_toml_clash.specs.Trail.{Ends, ends_of, no_trail, path_of, value_on, Follows, FollowsTo}
 use Rattle.basic_toml_clash.proofs.RowsOfKeys.{lined_is, next_row, some_value, texts_are}
+use Rattle.basic_toml_clash.proofs.TrailGrows.{nowhere}
+use Rattle.basic_toml_clash.proofs.ValuesOnTheWay.{same_on, follows_so}
+
+-- Rows are followed, and these are left.
+pub record Passed (all left : Rows) (trail : Ends) : Type 0 where
+  pub ends : Ends
+  pub same : (p : KeyTexts) → trail p ≡ ends p
+  pub crossed : crossed_between all ≡ crossed_after ends left
+
+pub none_passed : (rows : Rows) (trail : Trail) → trail ≡ no_trail → Passed rows rows (ends_of trail)
+none_passed rows trail is = record {
+  ends = no_ends;
+  same = λ p. ap (λ t. ends_of t p) is ∙ nowhere p;
+  crossed = refl;
+}
+
+pub all_passed : (all : Rows) (trail : Ends) → Passed all no_rows trail → crossed_between all ≡ None
+all_passed all trail passed = passed.crossed
 
 module _ (rs : List Row) (first last : ℕ) (r : Row) (trail : Trail) (from : first ≤ last) (within : last < length rs)
     (read : r ≡ get_or rs last r) (dots : AllWithin (λ r. (lined_of r).value ≡ None) rs first last)
     (valued : is_some (lined_of r).value ≡ true)
-    (reached : Reached (rows_view rs) (rows_view (drop first rs)) (ends_of trail)) where
+    (passed : Passed (rows_view rs) (rows_view (drop first rs)) (ends_of trail)) where
   -- the keys of the row, and its value
   abbrev keys_here : List Key
   keys_here = map (λ r. (lined_of r).key) (take (suc (last - first)) (drop first rs))
@@ -43,24 +62,36 @@ module _ (rs : List Row) (first last : ℕ) (r : Row) (trail : Trail) (from : fi
   start_is : (out-Row r).start ≡ (lined_of r).start
   start_is = sym (ap (λ l. l.start) (lined_is r))
 
-  reached_row : Reached (rows_view rs) (row keys_here (lined_of r).start value_here (rows_view (drop (suc last) rs)))
-      (ends_of trail)
-  reached_row = subst (λ (left : Rows). Reached (rows_view rs) left (ends_of trail)) row_is reached
+  crossed_is : crossed_between (rows_view rs)
+      ≡ option_or (value_on passed.ends (texts keys_here))
+      (crossed_after (and_end passed.ends (texts keys_here) (lined_of r).start) (rows_view (drop (suc last) rs)))
+  crossed_is = passed.crossed ∙ ap (crossed_after passed.ends) row_is
+
+  on_is : value_on passed.ends (texts keys_here) ≡ value_on (ends_of trail) path_here
+  on_is =
+      ap (value_on passed.ends) (sym path_is)
+      ∙ sym (same_on (ends_of trail) passed.ends passed.same path_here)
 
   pub gone_on : (after : Trail) → Follows (ends_of trail) (ends_of after) path_here (out-Row r).start
-      → Reached (rows_view rs) (rows_view (drop (last + 1) rs)) (ends_of after)
+      → Passed (rows_view rs) (rows_view (drop (last + 1) rs)) (ends_of after)
   gone_on after follows =
       let next : suc last ≡ last + 1 = omega arith in
-      subst (λ (n : ℕ). Reached (rows_view rs) (rows_view (drop n rs)) (ends_of after)) next
-      (row_followed (rows_view rs) (rows_view (drop (suc last) rs)) (ends_of trail) (ends_of after) keys_here
-      (lined_of r).start value_here reached_row
-      (subst (λ (path : KeyTexts). Follows (ends_of trail) (ends_of after) path (lined_of r).start) path_is
-      (subst (λ (start : ℕ). Follows (ends_of trail) (ends_of after) path_here start) start_is follows)))
+      let here : value_on passed.ends (texts keys_here) ≡ None = on_is ∙ follows.free in
+      let own : Follows (ends_of trail) (ends_of after) (texts keys_here) (lined_of r).start =
+      subst (λ (path : KeyTexts). Follows (ends_of trail) (ends_of after) path (lined_of r).start) path_is
+      (subst (λ (start : ℕ). Follows (ends_of trail) (ends_of after) path_here start) start_is follows) in
+      subst (λ (n : ℕ). Passed (rows_view rs) (rows_view (drop n rs)) (ends_of after)) next
+      (record {
+        ends = and_end passed.ends (texts keys_here) (lined_of r).start;
+        same = λ p. follows_so (ends_of trail) (texts keys_here) (lined_of r).start (ends_of after) own p
+            ∙ ap (λ o. option_or o (if same_keys p (texts keys_here) then Some (lined_of r).start else None))
+            (passed.same p);
+        crossed = crossed_is ∙ ap (λ o. option_or o (crossed_after
+            (and_end passed.ends (texts keys_here) (lined_of r).start) (rows_view (drop (suc last) rs)))) here;
+      })
 
   pub stopped : (e : Crossed) → FollowsTo trail path_here (out-Row r).start (Err e)
-      → Looks (faults_between (rows_view rs)) (Err e)
+      → Looks (crossed_between (rows_view rs)) (Err e)
   stopped Memory goes = tt
-  stopped (At at) goes =
-      row_goes_on (rows_view rs) (rows_view (drop (suc last) rs)) (ends_of trail) (ends_of trail) keys_here
-      (lined_of r).start value_here reached_row at
-      (subst (λ (path : KeyTexts). GoesOnFrom (ends_of trail) path at) path_is goes)
+  stopped (At at) goes = crossed_is ∙ ap (λ o. option_or o (crossed_after
+      (and_end passed.ends (texts keys_here) (lined_of r).start) (rows_view (drop (suc last) rs)))) (on_is ∙ goes)

@@ -8,8 +8,7 @@ use Rattle.basic_toml_grammar.specs.Steps.{properly_begins, steps_of}
 use Rattle.basic_toml_grammar.specs.NamedClash.{extending_faults}
 use Rattle.basic_toml_read.specs.declared.section.Row.{Row}
 use Rattle.basic_toml_read.specs.SectionView.{Lined, lined_of, with_key, with_row, rows_from, rows_view}
-use Rattle.basic_toml_clash.specs.Crossed.{faults_between}
-use Rattle.basic_toml_clash.proofs.RowsGoOn.{KeysLeft, keys_left}
+use Rattle.basic_toml_clash.proofs.RowsGoOn.{faults_between, KeysLeft, keys_left}
 
 -- after a key, how many the row has so far, and how many the row before it has
 abbrev pub keys_after : Option Raw → ℕ → ℕ

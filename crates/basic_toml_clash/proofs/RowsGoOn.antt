@@ -10,8 +10,14 @@ use Rattle.basic_toml_grammar.specs.Sections.{Key, KeyTexts, texts, Raw, Rows, n
 use Rattle.basic_toml_grammar.specs.Steps.{Path, begins, properly_begins, steps_of}
 use Rattle.basic_toml_grammar.specs.Faults.{Fault}
 use Rattle.basic_toml_grammar.specs.NamedClash.{dotted_fault, extending_faults, dotted_faults, dotted_faults_in}
-use Rattle.basic_toml_clash.specs.Crossed.{faults_between}
-use Rattle.basic_toml_clash.specs.Trail.{Ends, Follows, GoesOnFrom}
+use Rattle.basic_toml_clash.specs.Crossed.{no_ends}
+use Rattle.basic_toml_clash.specs.Trail.{Ends, Follows, value_on}
+use Rattle.basic_toml_clash.proofs.ValuesOnTheWay.{GoesOnFrom, goes_on_from, none_on}
+
+-- the faults of rows among themselves, those in their values apart
+abbrev pub faults_between : Rows → List Fault
+faults_between no_rows = []
+faults_between (row keys at value rows) = extending_faults at (steps_of (texts keys)) rows ++ faults_between rows
 
 -- the faults in the values of rows
 abbrev pub value_faults : Rows → List Fault
@@ -116,6 +122,9 @@ pub record Reached (all left : Rows) (ends : Ends) : Type 0 where
   pub none : ((p : KeyTexts) (s : ℕ) → ends p ≡ Some s → extending_faults s (steps_of p) left ≡ [])
       → faults_between left ≡ [] → faults_between all ≡ []
 
+pub reached_first : (rows : Rows) → Reached rows rows no_ends
+reached_first rows = record { told = λ p s there. absurd (cc); own = λ f there. there; none = λ clear none. none }
+
 pub all_followed : (all : Rows) (ends : Ends) → Reached all no_rows ends → faults_between all ≡ []
 all_followed all ends reached = reached.none (λ p s there. refl) refl
 
@@ -162,7 +171,7 @@ module _ (all left : Rows) (ends after : Ends) (keys : List Key) (at : ℕ) (val
           → cond b (dotted_fault s ∷ extending_faults s (steps_of p) left) (extending_faults s (steps_of p) left) ≡ []
       cleared p s true properly there clear =
           let more = keys_left p path properly in
-          let never : ends p ≡ None = follows.free p more.1 more.0 more.2 in
+          let never : ends p ≡ None = none_on ends path p more.1 more.0 follows.free more.2 in
           absurd (cc)
       cleared p s false properly there clear = clear
 
@@ -176,12 +185,16 @@ module _ (all left : Rows) (ends after : Ends) (keys : List Key) (at : ℕ) (val
           (clear p s (follows.kept p s there)))
           (rw (here, empty) refl)
 
-  -- the next row goes on from a value
-  pub row_goes_on : Reached all (row keys at value left) ends → (start : ℕ) → GoesOnFrom ends (texts keys) start
+  goes_on_by : Reached all (row keys at value left) ends → (start : ℕ) → GoesOnFrom ends (texts keys) start
       → Contains (faults_between all) (dotted_fault start)
-  row_goes_on reached start goes =
+  goes_on_by reached start goes =
       reached.told goes.front start goes.there (dotted_fault start)
       (rw begun (first_contained (dotted_fault start) (extending_faults start (steps_of goes.front) left)))
     where
       begun : properly_begins (steps_of goes.front) (steps_of path) ≡ true
       begun = rw (goes.parts) (goes_on goes.front goes.k goes.rest)
+
+  -- the next row goes on from a value
+  pub row_goes_on : Reached all (row keys at value left) ends → (start : ℕ) → value_on ends (texts keys) ≡ Some start
+      → Contains (faults_between all) (dotted_fault start)
+  row_goes_on reached start on = goes_on_by reached start (goes_on_from ends (texts keys) start on)

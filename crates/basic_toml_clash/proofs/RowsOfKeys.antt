@@ -1,47 +1,57 @@
 -- The rows that keys and values stand for, and where a row ends among them.
-use Rattle.std.proofs.Common.{◌≡◌, ℕ, suc, zero, ◌+◌, ◌<◌, ◌≤◌, true, List, [], ◌∷◌, ◌++◌, refl, ap}
+use Rattle.std.proofs.Common.{◌≡◌, ℕ, suc, zero, ◌+◌, ◌<◌, ◌≤◌, true, List, [], ◌∷◌, refl, ap}
 use Rattle.std.proofs.Common.{◌∙◌, take, drop}
 use Rattle.std.proofs.Common.{Some, None, is_some, map, arith, length, get_or, Option, subst, rules}
-use Rattle.std.specs.List.{flat_map}
-use Rattle.std.proofs.lemmas.List.Folds.{flat_map-map}
+use Rattle.std.specs.Option.{option_or}
 use Rattle.basic_toml_read.specs.KeyText.{key_text_bytes}
 use Rattle.basic_toml_read.specs.declared.section.Raw.{the_lemmas}
 use Rattle.basic_toml_read.specs.declared.section.Element.{Element, out-Element}
 use Rattle.basic_toml_read.specs.declared.section.Row.{Row, out-Row}
-use Rattle.basic_toml_grammar.specs.Sections.{Key, texts, Raw, Rows, no_rows, row}
-use Rattle.basic_toml_grammar.specs.NamedClash.{dotted_faults_among}
+use Rattle.basic_toml_grammar.specs.Sections.{Key, texts, Raw, Rows, no_rows, row, Section}
 use Rattle.basic_toml_read.specs.SectionView.{Lined, Placed, with_key, with_row, rows_from, with_element}
 use Rattle.basic_toml_read.specs.SectionView.{elements_from}
-use Rattle.basic_toml_read.specs.SectionView.{raw_of, placed_of, lined_of, elements_view, rows_view}
-use Rattle.basic_toml_clash.specs.Crossed.{faults_in}
+use Rattle.basic_toml_read.specs.SectionView.{raw_of, placed_of, lined_of, elements_view, rows_view, section_of}
+use Rattle.basic_toml_read.specs.declared.section.Section as code
+use Rattle.basic_toml_clash.specs.Crossed.{crossed_of, crossed_among, crossed_within, crossed_in, first_crossed}
+use Rattle.basic_toml_clash.specs.Crossed.{crossed_where}
 use Rattle.basic_toml_clash.specs.Trail.{path_of}
-use Rattle.basic_toml_clash.proofs.RowsGoOn.{value_faults}
+use Rattle.basic_toml_clash.proofs.FirstGathered.{first_in}
 
--- the faults in the values of rows are those in the values that stand at some key
-values_with_key : (k : Key) (rows : Rows) → value_faults (with_key k rows) ≡ value_faults rows
+-- what is crossed within the values of rows is so in those that stand at some key
+values_with_key : (k : Key) (rows : Rows) → crossed_within (with_key k rows) ≡ crossed_within rows
 values_with_key k no_rows = refl
 values_with_key k (row keys at value rows) = refl
 
-pub values_of_lines : (ls : List Lined) → value_faults (rows_from ls) ≡ flat_map (λ l. faults_in l.value) ls
+pub values_of_lines : (ls : List Lined) → crossed_within (rows_from ls) ≡ first_in (λ l. crossed_where l.value) ls
 values_of_lines [] = refl
 values_of_lines (l ∷ ls) = go l.value (values_of_lines ls)
   where
-    go : (value : Option Raw) → value_faults (rows_from ls) ≡ flat_map (λ l. faults_in l.value) ls
-        → value_faults (with_row l.key l.start value (rows_from ls))
-        ≡ faults_in value ++ flat_map (λ l. faults_in l.value) ls
+    go : (value : Option Raw) → crossed_within (rows_from ls) ≡ first_in (λ l. crossed_where l.value) ls
+        → crossed_within (with_row l.key l.start value (rows_from ls))
+        ≡ option_or (crossed_where value) (first_in (λ l. crossed_where l.value) ls)
     go None same = values_with_key l.key (rows_from ls) ∙ same
-    go (Some v) same = ap (λ fs. faults_in (Some v) ++ fs) same
+    go (Some v) same = ap (λ o. option_or (crossed_of v) o) same
 
 pub values_of_elements : (es : List Placed)
-    → dotted_faults_among (elements_from es) ≡ flat_map (λ e. faults_in e.value) es
+    → crossed_among (elements_from es) ≡ first_in (λ e. crossed_where e.value) es
 values_of_elements [] = refl
 values_of_elements (e ∷ es) = go e.value (values_of_elements es)
   where
-    go : (value : Option Raw) → dotted_faults_among (elements_from es) ≡ flat_map (λ e. faults_in e.value) es
-        → dotted_faults_among (with_element e.offset value (elements_from es))
-        ≡ faults_in value ++ flat_map (λ e. faults_in e.value) es
+    go : (value : Option Raw) → crossed_among (elements_from es) ≡ first_in (λ e. crossed_where e.value) es
+        → crossed_among (with_element e.offset value (elements_from es))
+        ≡ option_or (crossed_where value) (first_in (λ e. crossed_where e.value) es)
     go None same = same
-    go (Some v) same = ap (λ fs. faults_in (Some v) ++ fs) same
+    go (Some v) same = ap (λ o. option_or (crossed_of v) o) same
+
+-- and so of what a list is seen as
+pub first_of_map : {A B : Type 0} (f : B → Option ℕ) (v : A → B) (xs : List A)
+    → first_in f (map v xs) ≡ first_in (λ x. f (v x)) xs
+first_of_map f v [] = refl
+first_of_map f v (x ∷ xs) = ap (λ o. option_or (f (v x)) o) (first_of_map f v xs)
+
+pub first_of_sections : (ss : List Section) → first_crossed ss ≡ first_in (λ s. crossed_in s.rows) ss
+first_of_sections [] = refl
+first_of_sections (s ∷ ss) = ap (λ o. option_or (crossed_in s.rows) o) (first_of_sections ss)
 
 -- rows as they stand somewhere
 module _ {A : Type 0} (f : A → Lined) where
@@ -99,13 +109,18 @@ pub placed_is : (e : Element)
     → placed_of e ≡ record { offset = (out-Element e).offset; value = raw_of (out-Element e).value }
 placed_is e = search (rules, the_lemmas)
 
-pub row_values : (rs : List Row) → value_faults (rows_view rs) ≡ flat_map (λ r. faults_in (lined_of r).value) rs
-row_values rs = values_of_lines (map lined_of rs) ∙ flat_map-map (λ l. faults_in l.value) lined_of rs
+pub row_values : (rs : List Row)
+    → crossed_within (rows_view rs) ≡ first_in (λ r. crossed_where (lined_of r).value) rs
+row_values rs = values_of_lines (map lined_of rs) ∙ first_of_map (λ l. crossed_where l.value) lined_of rs
 
 pub element_values : (es : List Element)
-    → dotted_faults_among (elements_view es) ≡ flat_map (λ e. faults_in (placed_of e).value) es
-element_values es = values_of_elements (map placed_of es) ∙ flat_map-map (λ e. faults_in e.value) placed_of es
+    → crossed_among (elements_view es) ≡ first_in (λ e. crossed_where (placed_of e).value) es
+element_values es = values_of_elements (map placed_of es) ∙ first_of_map (λ e. crossed_where e.value) placed_of es
 
 pub texts_are : (rs : List Row) → texts (map (λ r. (lined_of r).key) rs) ≡ path_of rs
 texts_are [] = refl
 texts_are (r ∷ rs) = ap (λ path. (lined_of r).key.text ∷ path) (texts_are rs)
+
+pub section_values : (ss : List code.Section)
+    → first_crossed (map section_of ss) ≡ first_in (λ s. crossed_in (section_of s).rows) ss
+section_values ss = first_of_sections (map section_of ss) ∙ first_of_map (λ s. crossed_in s.rows) section_of ss

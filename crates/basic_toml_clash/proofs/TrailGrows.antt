@@ -1,7 +1,8 @@
 -- A row is followed by a trail, one key after another.
-use Rattle.std.proofs.Common.{◌≡◌, ◌⊎◌, inl, inr, ℕ, true, false, List, [], ◌∷◌, ◌++◌, refl, sym, ap, ◌∙◌, map, rules}
+use Rattle.std.proofs.Common.{◌≡◌, ◌⊎◌, inl, inr, ℕ, true, false, List, [], ◌∷◌, refl, sym, ap, ◌∙◌, map, rules}
 use Rattle.std.proofs.Common.{Option, Some, None, option_map, Bool, Err}
 use Rattle.std.specs.List.{slice_get}
+use Rattle.std.specs.Option.{option_or}
 use Rattle.std.specs.Str.{bytes_eq}
 use Rattle.std.proofs.lemmas.Slice.Eq.{bytes_eq-Decides}
 use Rattle.basic_toml_value.specs.Pairs.{value_at}
@@ -10,8 +11,8 @@ use Rattle.basic_toml_clash.specs.declared.crossed.Trail.{Trail, out-Trail, roll
 use Rattle.basic_toml_clash.specs.declared.crossed.Trail.TheOpen.{Trail-F}
 use Rattle.basic_toml_clash.specs.declared.crossed.Crossed.{Crossed}
 use Rattle.basic_toml_clash.specs.declared.crossed.Crossed.TheVariants.{Memory, At}
-use Rattle.basic_toml_clash.specs.Trail.{Ends, ends_below, ends_from, ends_of, no_trail, Follows, FollowsTo}
-use Rattle.basic_toml_clash.specs.Trail.{GoesOnFrom}
+use Rattle.basic_toml_clash.specs.Trail.{Ends, ends_below, ends_from, ends_of, no_trail, value_on, Follows, FollowsTo}
+use Rattle.basic_toml_clash.proofs.ValuesOnTheWay.{same_on}
 use Rattle.basic_toml_clash.specs.Keyed.{with_value, values_of, EntersKey}
 use Rattle.basic_toml_clash.proofs.KeysChanged.{value_at-map, stood_or_fresh, put_at, kept_elsewhere}
 
@@ -48,6 +49,12 @@ ends_at_key t k path =
     ap (λ e. e (k ∷ path)) (trail_ends t)
     ∙ ap (λ o. ends_below o path) (value_at-map ends_of (out-Trail t).below k)
 
+-- the values on the way by a key at which none ends
+goes_deeper : (before there : Ends) (k : List ℕ) → before [] ≡ None → ((p : KeyTexts) → before (k ∷ p) ≡ there p)
+    → (path : KeyTexts) → value_on before (k ∷ path) ≡ value_on there path
+goes_deeper before there k none was path =
+    ap (λ o. option_or o (value_on (λ p. before (k ∷ p)) path)) none ∙ same_on (λ p. before (k ∷ p)) there was path
+
 -- a row that goes on by a key
 module _ (before after there gone : Ends) (k : List ℕ) (at_none : before [] ≡ None) (still_none : after [] ≡ None)
     (was : (p : KeyTexts) → before (k ∷ p) ≡ there p) (is : (p : KeyTexts) → after (k ∷ p) ≡ gone p)
@@ -55,19 +62,12 @@ module _ (before after there gone : Ends) (k : List ℕ) (at_none : before [] �
   pub follows_deeper : (path : KeyTexts) (start : ℕ) → Follows there gone path start
       → Follows before after (k ∷ path) start
   follows_deeper path start deeper = record {
-    free = free;
+    free = goes_deeper before there k at_none was path ∙ deeper.free;
     kept = kept;
     stands = (deeper.stands.0, is path ∙ deeper.stands.1);
     told = told;
   }
     where
-      free : (front rest : KeyTexts) (l : List ℕ) → k ∷ path ≡ front ++ l ∷ rest → before front ≡ None
-      free [] rest l parts = at_none
-      free (m ∷ front) rest l parts =
-          let same : k ≡ m = cc in
-          let more : path ≡ front ++ l ∷ rest = cc in
-          rw (← same) (was front ∙ deeper.free front rest l more)
-
       kept_at : (l : List ℕ) (p : KeyTexts) (s : ℕ) (b : Bool) → bytes_eq l k ≡ b → before (l ∷ p) ≡ Some s
           → after (l ∷ p) ≡ Some s
       kept_at l p s true same at =
@@ -95,16 +95,6 @@ module _ (before after there gone : Ends) (k : List ℕ) (at_none : before [] �
       told [] s at = absurd (cc)
       told (l ∷ p) s at = told_at l p s (bytes_eq l k) refl at
 
-pub goes_deeper : (before there : Ends) (k : List ℕ) → ((p : KeyTexts) → before (k ∷ p) ≡ there p)
-    → (path : KeyTexts) (at : ℕ) → GoesOnFrom there path at → GoesOnFrom before (k ∷ path) at
-goes_deeper before there k was path at deeper = record {
-  front = k ∷ deeper.front;
-  k = deeper.k;
-  rest = deeper.rest;
-  parts = ap (λ p. k ∷ p) deeper.parts;
-  there = was deeper.front ∙ deeper.there;
-}
-
 -- a trail where a key is entered, and what stands there taken out
 module _ (t fresh there : Trail) (k : List ℕ) (new : List (List ℕ × Trail)) (i : ℕ)
     (is_fresh : (p : KeyTexts) → ends_of fresh p ≡ None)
@@ -120,10 +110,11 @@ module _ (t fresh there : Trail) (k : List ℕ) (new : List (List ℕ × Trail))
           ∙ sym (ap (λ t. ends_of t p) new.1 ∙ is_fresh p)
 
   -- what went wrong below goes wrong here
-  pub fault_below : (path : KeyTexts) (start : ℕ) (e : Crossed) → FollowsTo there path start (Err e)
-      → FollowsTo t (k ∷ path) start (Err e)
-  fault_below path start Memory goes = tt
-  fault_below path start (At at) goes = goes_deeper (ends_of t) (ends_of there) k stood path at goes
+  pub fault_below : (out-Trail t).end ≡ None → (path : KeyTexts) (start : ℕ) (e : Crossed)
+      → FollowsTo there path start (Err e) → FollowsTo t (k ∷ path) start (Err e)
+  fault_below t_end path start Memory goes = tt
+  fault_below t_end path start (At at) goes =
+      goes_deeper (ends_of t) (ends_of there) k (ap (λ e. e []) (trail_ends t) ∙ t_end) stood path ∙ goes
 
   -- what has gone on is put in
   module _ (held gone u : Trail) (t_end : (out-Trail t).end ≡ None) (u_end : (out-Trail u).end ≡ None)

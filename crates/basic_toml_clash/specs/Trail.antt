@@ -1,5 +1,6 @@
 -- Where the values of rows begin, by their paths, and how a row goes on from them.
-use Rattle.std.specs.Prelude.{◌≡◌, ◌⊎◌, ⊤, ℕ, List, [], ◌∷◌, ◌++◌, Option, Some, None, map, Result, Ok, Err}
+use Rattle.std.specs.Prelude.{◌≡◌, ◌⊎◌, ⊤, ℕ, List, [], ◌∷◌, Option, Some, None, map, Result, Ok, Err}
+use Rattle.std.specs.Option.{option_or}
 use Rattle.basic_toml_value.specs.Pairs.{value_at}
 use Rattle.basic_toml_grammar.specs.Sections.{KeyTexts}
 use Rattle.basic_toml_read.specs.declared.section.Row as rows
@@ -36,22 +37,20 @@ no_trail = roll-Trail (record { end = None; below = [] })
 abbrev pub path_of : List rows.Row → KeyTexts
 path_of keys = map (λ r. (lined_of r).key.text) keys
 
+-- Where the value begins that a path goes on from: of those on its way, the one with the fewest keys.
+abbrev pub value_on : Ends → KeyTexts → Option ℕ
+value_on ends [] = None
+value_on ends (k ∷ path) = option_or (ends []) (value_on (λ p. ends (k ∷ p)) path)
+
 -- A row with this path and start goes on from no value, and its own is remembered, after those of before.
 pub record Follows (before after : Ends) (path : KeyTexts) (start : ℕ) : Type 0 where
-  pub free : (front rest : KeyTexts) (k : List ℕ) → path ≡ front ++ k ∷ rest → before front ≡ None
+  pub free : value_on before path ≡ None
   pub kept : (p : KeyTexts) (s : ℕ) → before p ≡ Some s → after p ≡ Some s
   pub stands : (s : ℕ) × (after path ≡ Some s)
   pub told : (p : KeyTexts) (s : ℕ) → after p ≡ Some s → (before p ≡ Some s) ⊎ ((p ≡ path) × (s ≡ start))
 
--- a row with this path goes on from the value that begins here
-pub record GoesOnFrom (before : Ends) (path : KeyTexts) (at : ℕ) : Type 0 where
-  pub front : KeyTexts
-  pub k : List ℕ
-  pub rest : KeyTexts
-  pub parts : path ≡ front ++ k ∷ rest
-  pub there : before front ≡ Some at
-
+-- one more row is followed, or goes on from the value that begins there
 abbrev pub FollowsTo : Trail → KeyTexts → ℕ → Result Trail Crossed → Type 0
 FollowsTo before path start (Ok after) = Follows (ends_of before) (ends_of after) path start
 FollowsTo before path start (Err Memory) = ⊤
-FollowsTo before path start (Err (At at)) = GoesOnFrom (ends_of before) path at
+FollowsTo before path start (Err (At at)) = value_on (ends_of before) path ≡ Some at

@@ -1,12 +1,12 @@
 //! Rows that go on from a value: the clash that comes before all others.
 
-ghost use Rattle.std.specs.Prelude.{◌≡◌, ◌≤◌, ◌<◌, [], None, false, IfNone, IfOk, IfSome, is_some};
+ghost use Rattle.std.specs.Prelude.{◌≡◌, ◌≤◌, ◌<◌, None, false, IfNone, IfOk, IfSome, is_some, map};
 ghost use Rattle.std.specs.Prelude.{length, true};
 ghost use Rattle.std.specs.List.{AllWithin, HoldsAt};
 ghost use Rattle.std.specs.Option.{ForSome};
-ghost use Rattle.basic_toml_grammar.specs.NamedClash.{dotted_faults, dotted_faults_among};
-ghost use Rattle.basic_toml_read.specs.SectionView.{elements_view, lined_of, raw_of, rows_view};
-ghost use Rattle.basic_toml_clash.specs.Crossed.{faults_between, faults_in, IsCrossed, Looks, NoneIsCrossed};
+ghost use Rattle.basic_toml_read.specs.SectionView.{elements_view, lined_of, raw_of, rows_view, section_of};
+ghost use Rattle.basic_toml_clash.specs.Crossed.{crossed_between, crossed_among, crossed_in, crossed_where};
+ghost use Rattle.basic_toml_clash.specs.Crossed.{first_crossed, Looks};
 ghost use Rattle.basic_toml_clash.specs.Trail.{FollowsTo, no_trail, path_of};
 ghost use Rattle.basic_toml_clash.specs.declared.crossed.Crossed.TheVariants.{Memory};
 
@@ -90,7 +90,7 @@ fn last_key(rows: &[Row<'_>], first: usize) -> Option<usize>
 
 // Whether some row has more keys than the one before it.
 fn has_longer(rows: &[Row<'_>]) -> bool
-    ensures { result ≡ false → faults_between (rows_view rows.now) ≡ [] }
+    ensures { result ≡ false → crossed_between (rows_view rows.now) ≡ None }
 {
     let mut most = usize::MAX;
     let mut keys = 0;
@@ -110,7 +110,7 @@ fn has_longer(rows: &[Row<'_>]) -> bool
 
 // Looks for a row that goes on from the value of one before it. It has more keys than that one.
 fn look_between(alloc: Global, rows: &[Row<'_>]) -> Result<(), Crossed>
-    ensures { Looks (faults_between (rows_view rows.now)) result }
+    ensures { Looks (crossed_between (rows_view rows.now)) result }
 {
     if !has_longer(rows) {
         return Ok(());
@@ -122,7 +122,7 @@ fn look_between(alloc: Global, rows: &[Row<'_>]) -> Result<(), Crossed>
 // one before it.
 #[inline(never)]
 fn follow_rows(alloc: Global, rows: &[Row<'_>]) -> Result<(), Crossed>
-    ensures { Looks (faults_between (rows_view rows.now)) result }
+    ensures { Looks (crossed_between (rows_view rows.now)) result }
 {
     let mut trail = Trail::blank(alloc);
     let mut first = 0;
@@ -136,7 +136,7 @@ fn follow_rows(alloc: Global, rows: &[Row<'_>]) -> Result<(), Crossed>
 
 #[cycle(looking)]
 fn look_through(alloc: Global, rows: &[Row<'_>]) -> Result<(), Crossed>
-    ensures { Looks (dotted_faults (rows_view rows.now)) result }
+    ensures { Looks (crossed_in (rows_view rows.now)) result }
 {
     look_between(alloc, rows)?;
     for row in rows {
@@ -147,7 +147,7 @@ fn look_through(alloc: Global, rows: &[Row<'_>]) -> Result<(), Crossed>
 
 #[cycle(looking)]
 fn look_into(alloc: Global, value: &Raw<'_>) -> Result<(), Crossed>
-    ensures { Looks (faults_in (raw_of value.now)) result }
+    ensures { Looks (crossed_where (raw_of value.now)) result }
 {
     match value {
         Raw::Array(elements) => look_among(alloc, elements.as_slice()),
@@ -158,7 +158,7 @@ fn look_into(alloc: Global, value: &Raw<'_>) -> Result<(), Crossed>
 
 #[cycle(looking)]
 fn look_among(alloc: Global, elements: &[Element<'_>]) -> Result<(), Crossed>
-    ensures { Looks (dotted_faults_among (elements_view elements.now)) result }
+    ensures { Looks (crossed_among (elements_view elements.now)) result }
 {
     for element in elements {
         look_into(alloc, &element.value)?;
@@ -166,15 +166,17 @@ fn look_among(alloc: Global, elements: &[Element<'_>]) -> Result<(), Crossed>
     Ok(())
 }
 
-/// The byte offset where a value begins that a later row of its table goes on from, in any section, and none where
-/// no row does: after `a = 1` the row `a.b = 2` goes on from the value at `1` (TOML v0.5.0, "Table": dotted keys).
+/// The byte offset where the first value begins that a later row of its table goes on from, in any section, and none
+/// where no row does: after `a = 1` the row `a.b = 2` goes on from the value at `1` (TOML v0.5.0, "Table": dotted keys).
+///
+/// The first is that of the first row that goes on from a value, and of several values on its way the one with the fewest
+/// keys; the rows of a table among themselves come before those within their values.
 ///
 /// # Errors
 ///
 /// `AllocError` where memory is refused.
 pub fn crossed_value(alloc: Global, sections: &[Section<'_>]) -> Result<Option<usize>, AllocError>
-    ensures none { IfOk result (λ found. IfNone found (NoneIsCrossed sections.now)) }
-    ensures some { IfOk result (λ found. IfSome found (λ at. IsCrossed sections.now at)) }
+    ensures { IfOk result (λ found. found ≡ first_crossed (map section_of sections.now)) }
 {
     for section in sections {
         match look_through(alloc, section.rows.as_slice()) {

@@ -1,16 +1,17 @@
--- A number without a fault, with nothing of a word after it, has a value.
+-- The characters of a number without a fault have a value.
 use Rattle.std.proofs.Common.{◌⊎◌, inl, inr, ◌≡◌, ℕ, ◌+◌, ◌==◌, ◌&&◌, ◌||◌, Bool, true, false, cond, List, [], ◌∷◌}
 use Rattle.std.proofs.Common.{◌++◌, refl, ap, sym, ◌∙◌, subst, Option, Some, None, is_none}
 use Rattle.std.specs.Prelude.{ℤ}
 use Rattle.std.specs.Option.{option_or}
 use Rattle.std.specs.List.{list_any}
 use Rattle.std.specs.Str.{bytes_eq}
-use Rattle.std.proofs.lemmas.List.{append-nil}
+use Rattle.std.proofs.lemmas.List.{append-nil, append_assoc}
 use Rattle.std.proofs.lemmas.Bool.{both_ways, eqb-true, ne_eqb, or_cases}
 use Rattle.basic_toml_tokens.specs.Text.{Text, offset_in, run, after_run, is_keylike}
 use Rattle.basic_toml_value.specs.Numbers.{integer_of, float_of, is_digits, is_whole, is_part, part_of, after_part}
 use Rattle.basic_toml_value.specs.Numbers.{is_exponent_letter, is_exponent, is_tail, is_special, is_unsigned_float}
 use Rattle.basic_toml_value.specs.Numbers.{without_sign, canonical}
+use Rattle.basic_toml_grammar.specs.NumberTokens.{plus_rest, mark_rest, period_rest, word_rest}
 use Rattle.basic_toml_grammar.specs.Sections.{Raw}
 use Rattle.basic_toml_grammar.specs.Grammar.{is_wordlike, number_value}
 use Rattle.basic_toml_grammar.specs.Reader.{char_at}
@@ -19,15 +20,14 @@ use Rattle.basic_toml_grammar.specs.NumberFaults.{signed_part_fault, without_min
 use Rattle.basic_toml_grammar.specs.NumberFaults.{plus_power_fault, near_power_fault, power_fault, exponent_fault}
 use Rattle.basic_toml_grammar.specs.NumberFaults.{float_fault, fraction_parts_fault, after_period_fault, outside}
 use Rattle.basic_toml_grammar.specs.NumberFaults.{whole_fault, unmarked_fault, is_prefixed, word_fault}
-use Rattle.basic_toml_explain.specs.NumberFault.{plus_rest, mark_rest, period_rest, word_rest}
 use Rattle.basic_toml_grammar.proofs.Grammar.ReaderIsSound.{sign_read}
 
 -- neither of two is there
-first_none : {A : Type 0} (a b : Option A) → option_or a b ≡ None → a ≡ None
+pub first_none : {A : Type 0} (a b : Option A) → option_or a b ≡ None → a ≡ None
 first_none None b e = refl
 first_none (Some x) b e = e
 
-second_none : {A : Type 0} (a b : Option A) → option_or a b ≡ None → b ≡ None
+pub second_none : {A : Type 0} (a b : Option A) → option_or a b ≡ None → b ≡ None
 second_none None b e = e
 second_none (Some x) b e = cc
 
@@ -35,18 +35,18 @@ fine_from : (b : Bool) (start : ℕ) → cond b None (Some start) ≡ None → b
 fine_from true start e = refl
 fine_from false start e = cc
 
-nothing_left : (start : ℕ) (left : List ℕ) → left_fault start left ≡ None → left ≡ []
+pub nothing_left : (start : ℕ) (left : List ℕ) → left_fault start left ≡ None → left ≡ []
 nothing_left start [] e = refl
 nothing_left start (c ∷ cs) e = cc
 
 -- a part that is fine
-part_fine : (zeros_may_lead : Bool) (start at : ℕ) (cs : List ℕ) → part_fault zeros_may_lead start at cs ≡ None
+pub part_fine : (zeros_may_lead : Bool) (start at : ℕ) (cs : List ℕ) → part_fault zeros_may_lead start at cs ≡ None
     → is_fine zeros_may_lead (part_of cs) ≡ true
 part_fine z start at cs e =
     let after = option_or (cond z None (after_zero at cs)) (cond (is_fine z (part_of cs)) None (Some start)) in
     fine_from _ start (second_none (cond z None (after_zero at cs)) _ (second_none (leading_underscore at cs) after e))
 
-signed_fine : (zeros_may_lead : Bool) (start : ℕ) (cs : List ℕ) → signed_part_fault zeros_may_lead start cs ≡ None
+pub signed_fine : (zeros_may_lead : Bool) (start : ℕ) (cs : List ℕ) → signed_part_fault zeros_may_lead start cs ≡ None
     → is_fine zeros_may_lead (part_of (without_minus cs)) ≡ true
 signed_fine z start [] e = cc
 signed_fine z start (c ∷ cs) e = go (c == 45) e
@@ -113,6 +113,82 @@ run_at_sign : (c : ℕ) (t rest : Text) (p : ℕ) → char_at c t ≡ Some (p, r
 run_at_sign c t rest p e h = ap (run is_wordlike) (sign_read c t (p, rest) e) ∙
     ap (λ (b : Bool). cond b (c ∷ run is_wordlike rest) []) h
 
+-- the characters of a number behind its first word, as far as it has no fault
+abbrev plus_taken : Option (ℕ × Text) → List ℕ
+plus_taken None = []
+plus_taken (Some s) = 43 ∷ run is_keylike s.1
+
+abbrev mark_taken : List ℕ → Text → List ℕ
+mark_taken (c ∷ []) text = plus_taken (char_at 43 text)
+mark_taken _ text = []
+
+abbrev period_taken : Option (ℕ × Text) → List ℕ
+period_taken None = []
+period_taken (Some s) = 46 ∷ run is_keylike s.1 ++ mark_taken (after_part (run is_keylike s.1)) (after_run is_keylike s.1)
+
+abbrev pub word_taken : List ℕ → Text → List ℕ
+word_taken word text =
+    cond (is_prefixed word) [] (cond (list_any is_exponent_letter word)
+    (mark_taken (after_part (without_minus word)) text) (period_taken (char_at 46 text)))
+
+-- they stand before its end
+plus_splits : (o : Option (ℕ × Text)) (t : Text) → char_at 43 t ≡ o
+    → run is_wordlike t ≡ plus_taken o ++ run is_wordlike (plus_rest o t)
+plus_splits None t e = refl
+plus_splits (Some s) t e = run_at_sign 43 t s.1 s.0 e refl ∙ ap (λ (w : List ℕ). 43 ∷ w) (run_splits s.1)
+
+mark_splits : (left : List ℕ) (t : Text) → run is_wordlike t ≡ mark_taken left t ++ run is_wordlike (mark_rest left t)
+mark_splits [] t = refl
+mark_splits (c ∷ []) t = plus_splits (char_at 43 t) t refl
+mark_splits (c ∷ d ∷ ds) t = refl
+
+period_splits : (o : Option (ℕ × Text)) (t : Text) → char_at 46 t ≡ o
+    → run is_wordlike t ≡ period_taken o ++ run is_wordlike (period_rest o t)
+period_splits None t e = refl
+period_splits (Some s) t e =
+    let f = run is_keylike s.1 in
+    let r = after_run is_keylike s.1 in
+    run_at_sign 46 t s.1 s.0 e refl
+    ∙ ap (λ (w : List ℕ). 46 ∷ w) (run_splits s.1 ∙ ap (λ (w : List ℕ). f ++ w) (mark_splits (after_part f) r)
+    ∙ sym (append_assoc f (mark_taken (after_part f) r) (run is_wordlike (mark_rest (after_part f) r))))
+
+pub word_splits : (word : List ℕ) (t : Text)
+    → run is_wordlike t ≡ word_taken word t ++ run is_wordlike (word_rest word t)
+word_splits word t = go (is_prefixed word) (list_any is_exponent_letter word)
+  where
+    go : (p m : Bool) → run is_wordlike t
+        ≡ cond p [] (cond m (mark_taken (after_part (without_minus word)) t) (period_taken (char_at 46 t)))
+        ++ run is_wordlike (cond p t (cond m (mark_rest (after_part (without_minus word)) t) (period_rest (char_at 46 t) t)))
+    go true m = refl
+    go false true = mark_splits (after_part (without_minus word)) t
+    go false false = period_splits (char_at 46 t) t refl
+
+-- they begin with a plus or a period
+abbrev Signed : List ℕ → Type 0
+Signed ys = (ys ≡ []) ⊎ ((d : ℕ) × (ds : List ℕ) × (ys ≡ d ∷ ds) × ((d == 43 || d == 46) ≡ true))
+
+plus_begins : (o : Option (ℕ × Text)) → Signed (plus_taken o)
+plus_begins None = inl refl
+plus_begins (Some s) = inr (43, run is_keylike s.1, refl, refl)
+
+mark_begins : (left : List ℕ) (t : Text) → Signed (mark_taken left t)
+mark_begins [] t = inl refl
+mark_begins (c ∷ []) t = plus_begins (char_at 43 t)
+mark_begins (c ∷ d ∷ ds) t = inl refl
+
+period_begins : (o : Option (ℕ × Text)) → Signed (period_taken o)
+period_begins None = inl refl
+period_begins (Some s) = inr (46, _, refl, refl)
+
+pub taken_begins : (word : List ℕ) (t : Text) → Signed (word_taken word t)
+taken_begins word t = go (is_prefixed word) (list_any is_exponent_letter word)
+  where
+    go : (p m : Bool)
+        → Signed (cond p [] (cond m (mark_taken (after_part (without_minus word)) t) (period_taken (char_at 46 t))))
+    go true m = inl refl
+    go false true = mark_begins (after_part (without_minus word)) t
+    go false false = period_begins (char_at 46 t)
+
 mark_apart : (c n : ℕ) → is_exponent_letter c ≡ true → is_exponent_letter n ≡ false → (c == n) ≡ false
 mark_apart c n h k = ne_eqb c n (λ e. both_ways (is_exponent_letter n) k (rw e at h))
 
@@ -121,27 +197,21 @@ abbrev IsEnd : List ℕ → List ℕ → Type 0
 IsEnd left xs = ((left ≡ []) × (xs ≡ []))
     ⊎ ((c : ℕ) × (cs : List ℕ) × (left ≡ c ∷ cs) × (is_exponent_letter c ≡ true) × (is_exponent xs ≡ true))
 
-plus_exponent : (end start : ℕ) (c : ℕ) (t : Text) (o : Option (ℕ × Text)) → char_at 43 t ≡ o
-    → is_exponent_letter c ≡ true → plus_power_fault end start o ≡ None → run is_wordlike (plus_rest o t) ≡ []
-    → is_exponent (c ∷ run is_wordlike t) ≡ true
-plus_exponent end start c t None s m e over = cc
-plus_exponent end start c t (Some s) there m e over = go (run is_keylike s.1) refl e
+plus_exponent : (end start : ℕ) (c : ℕ) (o : Option (ℕ × Text)) → is_exponent_letter c ≡ true
+    → plus_power_fault end start o ≡ None → is_exponent (c ∷ plus_taken o) ≡ true
+plus_exponent end start c None m e = cc
+plus_exponent end start c (Some s) m e = go (run is_keylike s.1) e
   where
-    go : (w : List ℕ) → run is_keylike s.1 ≡ w → plus_word_fault (offset_in end s.1) start w ≡ None
-        → is_exponent (c ∷ run is_wordlike t) ≡ true
-    go [] h e = cc
-    go (d ∷ ds) h e =
+    go : (w : List ℕ) → plus_word_fault (offset_in end s.1) start w ≡ None → is_exponent (c ∷ 43 ∷ w) ≡ true
+    go [] e = cc
+    go (d ∷ ds) e =
         let at = offset_in end s.1 in
         let fine : is_digits 10 (part_of (d ∷ ds)) ≡ true =
         part_fine true at at (d ∷ ds) (first_none (part_fault true at at (d ∷ ds)) _ e) in
         let whole : part_of (d ∷ ds) ≡ d ∷ ds =
         whole_part (d ∷ ds) (nothing_left start _ (second_none (part_fault true at at (d ∷ ds)) _ e)) in
-        let word : run is_wordlike s.1 ≡ d ∷ ds = run_splits s.1 ∙ ap (λ (t : List ℕ). run is_keylike s.1 ++ t) over ∙
-        append-nil (run is_keylike s.1) ∙ h in
-        let text : run is_wordlike t ≡ 43 ∷ d ∷ ds = run_at_sign 43 t s.1 s.0 there refl ∙
-        ap (λ (w : List ℕ). 43 ∷ w) word in
         let digits : is_digits 10 (d ∷ ds) ≡ true = ap (is_digits 10) (sym whole) ∙ fine in
-        ap (λ (w : List ℕ). is_exponent (c ∷ w)) text ∙ ap (λ (b : Bool). b && is_digits 10 (d ∷ ds)) m ∙ digits
+        ap (λ (b : Bool). b && is_digits 10 (d ∷ ds)) m ∙ digits
 
 near_exponent : (start at c d : ℕ) (ds : List ℕ) → is_exponent_letter c ≡ true
     → near_power_fault at start (d ∷ ds) ≡ None → is_exponent (c ∷ d ∷ ds) ≡ true
@@ -161,23 +231,22 @@ near_exponent start at c d ds m e =
     go true h false f = let z : is_digits 10 (43 ∷ ds) ≡ true = rw (eqb-true d 43 h) at f in cc
 
 exponent_end : (end start at : ℕ) (left : List ℕ) (t : Text) → exponent_fault end start at left t ≡ None
-    → run is_wordlike (mark_rest left t) ≡ [] → IsEnd left (left ++ run is_wordlike t)
-exponent_end end start at [] t e over = inl (refl, over)
-exponent_end end start at (c ∷ cs) t e over = go (is_exponent_letter c) refl cs e over
+    → IsEnd left (left ++ mark_taken left t)
+exponent_end end start at [] t e = inl (refl, refl)
+exponent_end end start at (c ∷ cs) t e = go (is_exponent_letter c) refl cs e
   where
     go : (b : Bool) → is_exponent_letter c ≡ b → (cs : List ℕ)
         → cond b (power_fault end start (at + 1) cs t) (Some start) ≡ None
-        → run is_wordlike (mark_rest (c ∷ cs) t) ≡ [] → IsEnd (c ∷ cs) (c ∷ cs ++ run is_wordlike t)
-    go false m cs e over = cc
-    go true m [] e over = inr (c, [], refl, m, plus_exponent end start c t (char_at 43 t) refl m e over)
-    go true m (d ∷ ds) e over =
+        → IsEnd (c ∷ cs) (c ∷ cs ++ mark_taken (c ∷ cs) t)
+    go false m cs e = cc
+    go true m [] e = inr (c, [], refl, m, plus_exponent end start c (char_at 43 t) m e)
+    go true m (d ∷ ds) e =
         inr (
           c,
           d ∷ ds,
           refl,
           m,
-          ap (λ (w : List ℕ). is_exponent (c ∷ d ∷ ds ++ w)) over ∙
-              ap (λ (w : List ℕ). is_exponent (c ∷ d ∷ w)) (append-nil ds) ∙ near_exponent start (at + 1) c d ds m e,
+          ap (λ (w : List ℕ). is_exponent (c ∷ d ∷ w)) (append-nil ds) ∙ near_exponent start (at + 1) c d ds m e,
         )
 
 -- a float has a value
@@ -267,8 +336,8 @@ module _ (end start c : ℕ) (cs : List ℕ) (text : Text) (letter : is_keylike 
   u = without_minus w
 
   -- with nothing after the word
-  alone : (word_over : run is_wordlike text ≡ []) → HasValue w → HasValue (w ++ run is_wordlike text)
-  alone over h = subst HasValue (sym (ap (λ (t : List ℕ). w ++ t) over ∙ append-nil w)) h
+  alone : HasValue w → HasValue (w ++ [])
+  alone h = subst HasValue (sym (append-nil w)) h
 
   after_sign : (ys : List ℕ) → without_sign (w ++ ys) ≡ u ++ ys
   after_sign ys = without_append c cs ys ∙ ap (λ (t : List ℕ). t ++ ys) (sign_is_minus c cs letter)
@@ -279,12 +348,12 @@ module _ (end start c : ℕ) (cs : List ℕ) (text : Text) (letter : is_keylike 
       float_value (w ++ ys) (ap is_unsigned_float (after_sign ys) ∙ float_from (u ++ ys) part after k h t)
 
   marked : list_any is_exponent_letter w ≡ true → float_fault end start w text ≡ None
-      → run is_wordlike (mark_rest (after_part u) text) ≡ [] → HasValue (w ++ run is_wordlike text)
-  marked mark e over =
-      let ys = run is_wordlike text in
+      → HasValue (w ++ mark_taken (after_part u) text)
+  marked mark e =
+      let ys = mark_taken (after_part u) text in
       let fine : is_whole (part_of u) ≡ true =
       signed_fine false start w (first_none (signed_part_fault false start w) _ e) in
-      elim (exponent_end end start _ (after_part u) text (second_none (signed_part_fault false start w) _ e) over) [
+      elim (exponent_end end start _ (after_part u) text (second_none (signed_part_fault false start w) _ e)) [
         | inl h ↦ absurd (marks_left u (marks_after w mark) h.0)
         | inr h ↦ (floats ys (part_of u) (h.0 ∷ h.1 ++ ys) (cut_on u h.0 h.1 ys h.2) fine
             (tail_from h.0 (h.1 ++ ys) h.3 (ap (λ (t : List ℕ). is_exponent (t ++ ys)) (sym h.2) ∙ h.4)))
@@ -317,20 +386,18 @@ module _ (end start c : ℕ) (cs : List ℕ) (text : Text) (letter : is_keylike 
       ∙ ap (λ (b : Bool). bytes_eq (d ∷ l ++ zs) [] || b) (ap (λ (t : List ℕ). is_exponent (t ++ zs)) (sym left_is) ∙
       exponent) ∙ or_true (bytes_eq (d ∷ l ++ zs) [])
 
-  fractioned : (s : ℕ × Text) → char_at 46 text ≡ Some s
-      → after_period_fault end start w (run is_keylike s.1) s.1 ≡ None
-      → run is_wordlike (mark_rest (after_part (run is_keylike s.1)) (after_run is_keylike s.1)) ≡ []
-      → HasValue (w ++ run is_wordlike text)
-  fractioned s there e over = go (run is_keylike s.1) refl e
+  fractioned : (s : ℕ × Text) → after_period_fault end start w (run is_keylike s.1) s.1 ≡ None
+      → HasValue (w ++ period_taken (Some s))
+  fractioned s e = go (run is_keylike s.1) e
     where
-      go : (f : List ℕ) → run is_keylike s.1 ≡ f → after_period_fault end start w f s.1 ≡ None
-          → HasValue (w ++ run is_wordlike text)
-      go [] f_is e = cc
-      go (d ∷ ds) f_is e =
+      go : (f : List ℕ) → after_period_fault end start w f s.1 ≡ None
+          → HasValue (w ++ (46 ∷ f ++ mark_taken (after_part f) (after_run is_keylike s.1)))
+      go [] e = cc
+      go (d ∷ ds) e =
           let f = d ∷ ds in
           let at = offset_in end s.1 in
           let t = after_run is_keylike s.1 in
-          let zs = run is_wordlike t in
+          let zs = mark_taken (after_part f) t in
           let parts = first_none (fraction_parts_fault start w at f) _ e in
           let whole = signed_fine false start w (first_none (signed_part_fault false start w) _ parts) in
           let others = second_none (signed_part_fault false start w) _ parts in
@@ -338,31 +405,23 @@ module _ (end start c : ℕ) (cs : List ℕ) (text : Text) (letter : is_keylike 
           nothing_left start (after_part u) (first_none (left_fault start (after_part u)) _ others) in
           let fine : is_digits 10 (part_of f) ≡ true =
           part_fine true at at f (second_none (left_fault start (after_part u)) _ others) in
-          let ends = exponent_end end start _ (after_part f) t (second_none (fraction_parts_fault start w at f) _ e)
-          (ap (λ (f : List ℕ). run is_wordlike (mark_rest (after_part f) t)) (sym f_is) ∙ over) in
-          let ys_is : run is_wordlike text ≡ 46 ∷ f ++ zs =
-          run_at_sign 46 text s.1 s.0 there refl ∙ ap (λ (w : List ℕ). 46 ∷ w) (run_splits s.1) ∙
-          ap (λ (v : List ℕ). 46 ∷ v ++ zs) f_is in
-          subst (λ (ys : List ℕ). HasValue (w ++ ys)) (sym ys_is)
-          (floats (46 ∷ f ++ zs) (part_of u) (46 ∷ f ++ zs) (cut_at u 46 (f ++ zs) none_left refl) whole
-          (fraction_tail f zs fine ends))
+          let ends = exponent_end end start _ (after_part f) t
+          (second_none (fraction_parts_fault start w at f) _ e) in
+          floats (46 ∷ f ++ zs) (part_of u) (46 ∷ f ++ zs) (cut_at u 46 (f ++ zs) none_left refl) whole
+          (fraction_tail f zs fine ends)
 
-  -- a number that has no fault, and after which no word goes on
-  pub number_has_value : word_fault end start w text ≡ None → run is_wordlike (word_rest w text) ≡ []
-      → HasValue (w ++ run is_wordlike text)
-  number_has_value e over = go (is_prefixed w) (list_any is_exponent_letter w) refl e over
+  -- a number that has no fault
+  pub number_has_value : word_fault end start w text ≡ None → HasValue (w ++ word_taken w text)
+  number_has_value e = go (is_prefixed w) (list_any is_exponent_letter w) refl e
     where
-      with_period : (o : Option (ℕ × Text)) → char_at 46 text ≡ o → unmarked_fault end start w o ≡ None
-          → run is_wordlike (period_rest o text) ≡ [] → HasValue (w ++ run is_wordlike text)
-      with_period None there e over = alone over (unmarked e)
-      with_period (Some s) there e over = fractioned s there e over
+      with_period : (o : Option (ℕ × Text)) → unmarked_fault end start w o ≡ None → HasValue (w ++ period_taken o)
+      with_period None e = alone (unmarked e)
+      with_period (Some s) e = fractioned s e
 
       go : (p m : Bool) → list_any is_exponent_letter w ≡ m
           → cond p (outside (start + 2) w)
           (cond m (float_fault end start w text) (unmarked_fault end start w (char_at 46 text))) ≡ None
-          → run is_wordlike (cond p text
-          (cond m (mark_rest (after_part u) text) (period_rest (char_at 46 text) text))) ≡ []
-          → HasValue (w ++ run is_wordlike text)
-      go true m h e over = alone over (integer_value w (inside_is (start + 2) w e))
-      go false true h e over = marked h e over
-      go false false h e over = with_period (char_at 46 text) refl e over
+          → HasValue (w ++ cond p [] (cond m (mark_taken (after_part u) text) (period_taken (char_at 46 text))))
+      go true m h e = alone (integer_value w (inside_is (start + 2) w e))
+      go false true h e = marked h e
+      go false false h e = with_period (char_at 46 text) e

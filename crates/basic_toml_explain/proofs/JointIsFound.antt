@@ -14,7 +14,9 @@ use Rattle.basic_toml_tokens.specs.Descriptions.{description_of}
 use Rattle.basic_toml_grammar.specs.Faults.{wanted, Fault}
 use Rattle.basic_toml_grammar.specs.GrammarFaults.{fault_at}
 use Rattle.basic_toml_grammar.specs.Grammar.{is_wordlike}
+use Rattle.basic_toml_explain.specs.Cursor.{IsStopped}
 use Rattle.basic_toml_explain.specs.Number.{IsJointNext, is_joint}
+use Rattle.basic_toml_explain.proofs.TakenTokenStands.{word_accepts}
 
 joint_at : (source : List ℕ) (x : ℕ × ℕ) (text : Text) → is_wordlike x.1 ≡ true → is_keylike x.1 ≡ false
     → (l : Lexeme) × (rest : Text) × IsToken source (x ∷ text) l rest × (is_joint l ≡ true)
@@ -46,7 +48,7 @@ pub joint_found : (old new : Reading) (span : Span) (t : Token) (expected found 
     → run is_keylike (text_of old) ≡ [] → found ≡ description_of (lexeme_of t) → at ≡ old.offset
     → fault ≡ fault_at (wanted expected found) at → IsJointNext expected old fault
 joint_found old new span t expected found at fault h some none found_is at_is e =
-    inl (
+    inr (
       lexeme_of t,
       span.end,
       h.taken.stands,
@@ -54,3 +56,9 @@ joint_found old new span t expected found at fault h some none found_is at_is e 
       e ∙ ap (λ (f : List ℕ). fault_at (wanted expected f) at) found_is ∙
           ap (fault_at (wanted expected (description_of (lexeme_of t)))) at_is,
     )
+
+-- no token is refused there
+pub joint_stopped : (old : Reading) (expected : List ℕ) (fault : Fault) → IsStopped (text_of old) fault
+    → (run is_wordlike (text_of old) ≡ [] → ⊥) → IsJointNext expected old fault
+joint_stopped old expected fault (inl m) some = inl m
+joint_stopped old expected fault (inr r) some = absurd (word_accepts (text_of old) some fault r)

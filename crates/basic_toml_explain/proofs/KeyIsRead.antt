@@ -27,7 +27,7 @@ use Rattle.basic_toml_explain.specs.Key as keyed
 use Rattle.basic_toml_explain.specs.Key.{IsKeyStop}
 use Rattle.basic_toml_grammar.proofs.Grammar.ReaderIsSound.{key_read}
 use Rattle.basic_toml_grammar.proofs.Grammar.ReaderIsComplete.{key_found}
-use Rattle.basic_toml_explain.proofs.TakenTokenStands.{code_is, stopped}
+use Rattle.basic_toml_explain.proofs.TakenTokenStands.{code_is}
 use Rattle.basic_toml_explain.proofs.WordStopIsDue.{offset_of_token}
 
 -- no punctuation is a key
@@ -129,7 +129,7 @@ KeyMissing old fault = (fault ≡ want_of_memory)
 
 stops_key : (old new : Reading) (error : Error) → Stops old new error → KeyMissing old (token_fault error)
 stops_key old new error (inl h) =
-    inr (at_fault (text_of old) h.1.fault_is, keyed.stopped (stopped old new error (inl h)))
+    inr (at_fault (text_of old) h.1.fault_is, keyed.refused h.1.fault_is)
 stops_key old new error (inr h) = inl (ap token_fault h.0)
 
 multiline_key : (old new : Reading) (error : Error) → IsMultilineKey old new error → KeyMissing old (token_fault error)

@@ -1,12 +1,14 @@
-pub mod RefusedAfterComment
+pub mod RefusedBehind
 pub mod TakenTokenStands
+pub mod TokensBehind
 pub mod NumberFaultIsFound
 pub mod FaultlessNumberHasValue
 pub mod JointIsFound
 pub mod WordStopIsDue
 pub mod PlusWordIsNone
 pub mod KeyIsRead
-pub mod StopsAreAllowed
-pub mod ErrorsAreAllowed
+pub mod WholeIsWritten
+pub mod WhatBegins
+pub mod ErrorsAreDue
 pub mod WorkedErrorTexts
 pub mod KeysJoined

@@ -3,7 +3,7 @@ use Rattle.std.proofs.Common.{inl, inr, ◌≡◌, ℕ, ◌-◌, ◌==◌, ◌&&
 use Rattle.std.proofs.Common.{◌∷◌, ◌++◌, length, refl, ap, sym, ◌∙◌, subst, arith, Option, Some, None}
 use Rattle.std.proofs.lemmas.Bool.{both_ways, eqb-true, ne_eqb, or_cases, or_parts}
 use Rattle.basic_toml_tokens.specs.Text.{Text, offset_in, text_at, run, after_run, is_keylike}
-use Rattle.basic_toml_tokens.specs.TokenAt.{Lexeme, IsToken, punctuation, plus}
+use Rattle.basic_toml_tokens.specs.TokenAt.{Lexeme, IsToken, plus}
 use Rattle.basic_toml_tokens.specs.declared.span.Span.{Span}
 use Rattle.basic_toml_tokens.specs.declared.token.Token.{Token}
 use Rattle.basic_toml_tokens.specs.Reading.{Reading, text_of, between}
@@ -17,15 +17,20 @@ use Rattle.basic_toml_grammar.specs.Entering.{and_then}
 use Rattle.basic_toml_grammar.specs.Grammar.{is_wordlike, number_value, word_value, word_offset}
 use Rattle.basic_toml_grammar.specs.Reader.{Valued, word_at}
 use Rattle.basic_toml_grammar.specs.NumberFaults.{is_prefixed, takes_no_plus, plus_fault, word_fault, number_fault}
-use Rattle.basic_toml_explain.specs.Cursor.{Leads, here, over, IsAfterWord}
+use Rattle.basic_toml_grammar.specs.NumberFaults.{without_minus}
+use Rattle.basic_toml_grammar.specs.NumberTokens.{behind_word, behind_number, word_rest, number_rest, IsWhole, signed}
+use Rattle.basic_toml_grammar.specs.Viable.{FirstRefusal}
+use Rattle.basic_toml_explain.specs.Cursor.{IsStopped, Accepts, IsAfterWord}
+use Rattle.basic_toml_explain.specs.NumberFault.{IsStoppedBehind, NoneRefused}
 use Rattle.basic_toml_grammar.specs.Faults.{Fault}
-use Rattle.basic_toml_explain.specs.Number.{IsNumberStop, invalid, goes_on, stopped}
-use Rattle.basic_toml_explain.proofs.TakenTokenStands.{sign_is, stopped_on, ends_on}
+use Rattle.basic_toml_explain.specs.Number.{IsNumberStop, invalid, refused, goes_on, no_memory}
+use Rattle.basic_toml_explain.proofs.RefusedBehind.{accepts_token, none_and}
+use Rattle.basic_toml_explain.proofs.TakenTokenStands.{sign_is, refused_over}
 use Rattle.basic_toml_explain.proofs.FaultlessNumberHasValue.{run_splits}
 use Rattle.basic_toml_explain.proofs.WordStopIsDue.{run_first, offset_of_word}
 
 -- a word that goes on begins with no prefix that it did not begin with
-second_sign : (c d : ℕ) → (d == 43 || d == 46) ≡ true → (c == 48 && (d == 120 || (d == 111 || d == 98))) ≡ false
+pub second_sign : (c d : ℕ) → (d == 43 || d == 46) ≡ true → (c == 48 && (d == 120 || (d == 111 || d == 98))) ≡ false
 second_sign c d h = elim (or_cases (d == 43) (d == 46) h) [
   | inl e ↦ (rw (eqb-true d 43 e) (never (c == 48)))
   | inr e ↦ (rw (eqb-true d 46 e) (never (c == 48)))
@@ -111,12 +116,35 @@ word_value_none (x ∷ t) e = go (word_value (run is_wordlike (x ∷ t))) e
 
 -- the plus at `start`, and the text after it
 module _ (start : ℕ) (old : Reading) (there : text_at old.text start ≡ (start, 43) ∷ text_of old) where
-  pub plus_leads : Leads (text_at old.text start) (text_of old)
-  plus_leads = over {source = []} (punctuation there refl) here
-
   pub plus_fault_is : (end : ℕ)
       → number_fault end (text_at old.text start) ≡ plus_fault end (run is_keylike (text_of old)) (text_of old)
   plus_fault_is end = ap (number_fault end) there
+
+  -- where no word follows
+  pub plus_alone : run is_keylike (text_of old) ≡ [] → behind_number (text_at old.text start) ≡ text_of old ∷ []
+  plus_alone none = ap behind_number there
+      ∙ ap (λ (v : List ℕ). text_of old ∷ behind_word v v (after_run is_keylike (text_of old))) none
+
+  pub plus_refused : (expected : List ℕ) (fault : Fault) → IsStopped (text_of old) fault
+      → IsNumberStop (length old.text) expected (number_fault (length old.text) (text_at old.text start))
+      (behind_number (text_at old.text start)) (number_rest (text_at old.text start)) fault
+  plus_refused expected fault (inl m) = subst (IsNumberStop (length old.text) expected
+      (number_fault (length old.text) (text_at old.text start)) (behind_number (text_at old.text start))
+      (number_rest (text_at old.text start))) (sym m) no_memory
+  plus_refused expected fault (inr r) =
+      let none = keys_over (text_of old) (refused_over (text_of old) r) in
+      refused (plus_fault_is (length old.text)
+      ∙ ap (λ (w : List ℕ). plus_fault (length old.text) w (text_of old)) none)
+      (subst (λ (ts : List Text). FirstRefusal ts fault) (sym (plus_alone none)) (FirstRefusal.this r))
+    where
+      keys_over : (t : Text) → run is_wordlike t ≡ [] → run is_keylike t ≡ []
+      keys_over t e = go (run is_keylike t) refl
+        where
+          go : (w : List ℕ) → run is_keylike t ≡ w → w ≡ []
+          go [] h = refl
+          go (c ∷ cs) h =
+              let no : c ∷ cs ++ run is_wordlike (after_run is_keylike t) ≡ [] =
+              ap (λ (w : List ℕ). w ++ run is_wordlike (after_run is_keylike t)) (sym h) ∙ sym (run_splits t) ∙ e in cc
 
   -- what a plus and the word after it write
   plus_writes : (w : List ℕ) (mid : Reading) (text : List ℕ) → IsAfterWord old.offset w mid → mid.text ≡ old.text
@@ -146,40 +174,102 @@ module _ (start : ℕ) (old : Reading) (there : text_at old.text start ≡ (star
       sym (plus_writes w mid text b same takes text_is)
       ∙ ap (λ (t : Text). word_value (run is_wordlike t)) (sym there) ∙ word_value_none (text_at old.text start) none
 
--- a stop after the plus
-pub stop_on : {end : ℕ} {expected : List ℕ} {at : Option ℕ} {text mid : Text} {fault : Fault} → Leads text mid
-    → IsNumberStop end expected at mid fault → IsNumberStop end expected at text fault
-stop_on l (invalid e) = invalid e
-stop_on l (goes_on e t j) = goes_on (ends_on l e) t j
-stop_on l (stopped s) = stopped (stopped_on l s)
+-- behind a plus and the word after it
+module _ (start : ℕ) (old : Reading) (there : text_at old.text start ≡ (start, 43) ∷ text_of old) (w : List ℕ)
+    (mid : Reading) (b : IsAfterWord old.offset w mid) (same : mid.text ≡ old.text) where
+  text_is : text_at mid.text old.offset ≡ text_of old
+  text_is = ap (λ (t : List ℕ). text_at t old.offset) same
 
-pub plus_stop : (start : ℕ) (old : Reading) → text_at old.text start ≡ (start, 43) ∷ text_of old
-    → (expected w : List ℕ) (mid : Reading) (fault : Fault) → IsAfterWord old.offset w mid → mid.text ≡ old.text
-    → takes_no_plus w ≡ false
-    → IsNumberStop (length mid.text) expected (word_fault (length mid.text) (mid.offset - length w) w (text_of mid))
-    (text_at mid.text (mid.offset - length w)) fault
-    → IsNumberStop (length old.text) expected (number_fault (length old.text) (text_at old.text start))
-    (text_at old.text start) fault
-plus_stop start old there expected w mid fault b same takes h =
-    let end = length old.text in
-    let offset_same : mid.offset - length w ≡ old.offset = omega (arith, b.offset) in
-    let text_is : text_at mid.text old.offset ≡ text_of old = ap (λ (t : List ℕ). text_at t old.offset) same in
-    let run_is : run is_keylike (text_of old) ≡ w = ap (run is_keylike) (sym text_is) ∙ b.is in
-    let rest_is : text_of mid ≡ after_run is_keylike (text_of old) = b.rest ∙ ap (after_run is_keylike) text_is in
-    let begins : offset_in end (text_of old) ≡ old.offset = ap (offset_in end) (sym text_is) ∙
-    offset_of_word old.offset end w mid b in
-    let at_is : number_fault end (text_at old.text start) ≡ word_fault end old.offset w (text_of mid) =
-    plus_fault_is start old there end ∙ ap (λ (v : List ℕ). plus_fault end v (text_of old)) run_is
-    ∙ ap (λ (b : Bool). cond b (Some (offset_in end (text_of old)))
-    (word_fault end (offset_in end (text_of old)) w (after_run is_keylike (text_of old)))) takes
-    ∙ ap (λ (n : ℕ). word_fault end n w (after_run is_keylike (text_of old))) begins ∙
-    ap (word_fault end old.offset w) (sym rest_is) in
-    let placed = subst (λ (n : ℕ). IsNumberStop (length mid.text) expected
-    (word_fault (length mid.text) n w (text_of mid)) (text_at mid.text n) fault) offset_same h in
-    let ended = subst (λ (t : List ℕ). IsNumberStop (length t) expected
-    (word_fault (length t) old.offset w (text_of mid)) (text_at t old.offset) fault) same placed in
-    stop_on (plus_leads start old there)
-    (subst (λ (o : Option ℕ). IsNumberStop end expected o (text_of old) fault) (sym at_is) ended)
+  pub plus_run : run is_keylike (text_of old) ≡ w
+  plus_run = ap (run is_keylike) (sym text_is) ∙ b.is
+
+  rest_is : text_of mid ≡ after_run is_keylike (text_of old)
+  rest_is = b.rest ∙ ap (after_run is_keylike) text_is
+
+  pub plus_accepts : Accepts (text_of old)
+  plus_accepts = subst Accepts text_is (accepts_token b.token.1)
+
+  pub behind_plus_is : behind_number (text_at old.text start) ≡ text_of old ∷ behind_word w w (text_of mid)
+  behind_plus_is =
+      ap behind_number there
+      ∙ ap (λ (v : List ℕ). text_of old ∷ behind_word v v (after_run is_keylike (text_of old))) plus_run
+      ∙ ap (λ (t : Text). text_of old ∷ behind_word w w t) (sym rest_is)
+
+  -- a word that no plus may stand before
+  pub plus_takes : (end : ℕ) → takes_no_plus w ≡ true
+      → number_fault end (text_at old.text start) ≡ Some (offset_in end (text_of old))
+  plus_takes end takes =
+      plus_fault_is start old there end ∙ ap (λ (v : List ℕ). plus_fault end v (text_of old)) plus_run
+      ∙ ap (λ (b : Bool). cond b (Some (offset_in end (text_of old)))
+      (word_fault end (offset_in end (text_of old)) w (after_run is_keylike (text_of old)))) takes
+
+  pub plus_free : NoneRefused (behind_word w w (text_of mid)) → NoneRefused (behind_number (text_at old.text start))
+  plus_free n = subst NoneRefused (sym behind_plus_is) (none_and plus_accepts n)
+
+  pub plus_behind : (expected : List ℕ) (fault : Fault) → takes_no_plus w ≡ true
+      → IsStoppedBehind (behind_word w w (text_of mid)) fault
+      → IsNumberStop (length old.text) expected (number_fault (length old.text) (text_at old.text start))
+      (behind_number (text_at old.text start)) (number_rest (text_at old.text start)) fault
+  plus_behind expected fault takes (inl m) = subst (IsNumberStop (length old.text) expected
+      (number_fault (length old.text) (text_at old.text start)) (behind_number (text_at old.text start))
+      (number_rest (text_at old.text start))) (sym m) no_memory
+  plus_behind expected fault takes (inr f) =
+      refused (plus_takes (length old.text) takes)
+      (subst (λ (ts : List Text). FirstRefusal ts fault) (sym behind_plus_is) (FirstRefusal.later plus_accepts f))
+
+  no_minus : takes_no_plus w ≡ false → without_minus w ≡ w
+  no_minus takes = go w takes
+    where
+      go : (w : List ℕ) → takes_no_plus w ≡ false → without_minus w ≡ w
+      go [] e = refl
+      go (c ∷ cs) e = ap (λ (b : Bool). cond b cs (c ∷ cs)) (or_parts (c == 45) (is_prefixed (c ∷ cs)) e).0
+
+  -- the number after the plus is over there, too
+  plus_rest_is : number_rest (text_at old.text start) ≡ word_rest w (text_of mid)
+  plus_rest_is =
+      ap number_rest there
+      ∙ ap (λ (v : List ℕ). word_rest v (after_run is_keylike (text_of old))) plus_run
+      ∙ ap (word_rest w) (sym rest_is)
+
+  -- a stop after the plus
+  stop_on : {end : ℕ} {expected : List ℕ} {at : Option ℕ} {behind : List Text} {stop : Text} {fault : Fault}
+      → IsNumberStop end expected at behind stop fault → IsNumberStop end expected at (text_of old ∷ behind) stop fault
+  stop_on (invalid e n) = invalid e (none_and plus_accepts n)
+  stop_on (refused e f) = refused e (FirstRefusal.later plus_accepts f)
+  stop_on (goes_on none t j) = goes_on none t j
+  stop_on no_memory = no_memory
+
+  pub plus_stop : (expected : List ℕ) (fault : Fault) → takes_no_plus w ≡ false
+      → IsNumberStop (length mid.text) expected (word_fault (length mid.text) (mid.offset - length w) w (text_of mid))
+      (behind_word w (without_minus w) (text_of mid)) (word_rest w (text_of mid)) fault
+      → IsNumberStop (length old.text) expected (number_fault (length old.text) (text_at old.text start))
+      (behind_number (text_at old.text start)) (number_rest (text_at old.text start)) fault
+  plus_stop expected fault takes h =
+      let end = length old.text in
+      let stop = word_rest w (text_of mid) in
+      let offset_same : mid.offset - length w ≡ old.offset = omega (arith, b.offset) in
+      let begins : offset_in end (text_of old) ≡ old.offset = ap (offset_in end) (sym text_is) ∙
+      offset_of_word old.offset end w mid b in
+      let at_is : number_fault end (text_at old.text start) ≡ word_fault end old.offset w (text_of mid) =
+      plus_fault_is start old there end ∙ ap (λ (v : List ℕ). plus_fault end v (text_of old)) plus_run
+      ∙ ap (λ (b : Bool). cond b (Some (offset_in end (text_of old)))
+      (word_fault end (offset_in end (text_of old)) w (after_run is_keylike (text_of old)))) takes
+      ∙ ap (λ (n : ℕ). word_fault end n w (after_run is_keylike (text_of old))) begins ∙
+      ap (word_fault end old.offset w) (sym rest_is) in
+      let placed = subst (λ (n : ℕ). IsNumberStop (length mid.text) expected
+      (word_fault (length mid.text) n w (text_of mid)) (behind_word w (without_minus w) (text_of mid)) stop fault)
+      offset_same h in
+      let ended = subst (λ (t : List ℕ). IsNumberStop (length t) expected
+      (word_fault (length t) old.offset w (text_of mid)) (behind_word w (without_minus w) (text_of mid)) stop fault)
+      same placed in
+      let plain = subst (λ (v : List ℕ). IsNumberStop end expected (word_fault end old.offset w (text_of mid))
+      (behind_word w v (text_of mid)) stop fault) (no_minus takes) ended in
+      subst (λ (t : Text). IsNumberStop end expected (number_fault end (text_at old.text start))
+      (behind_number (text_at old.text start)) t fault) (sym plus_rest_is)
+      (subst (λ (ts : List Text). IsNumberStop end expected (number_fault end (text_at old.text start)) ts stop fault)
+      (sym behind_plus_is)
+      (subst (λ (o : Option ℕ). IsNumberStop end expected o (text_of old ∷ behind_word w w (text_of mid)) stop fault)
+      (sym at_is) (stop_on plain)))
 
 -- a plus that was taken
 pub plus_taken : (old new : Reading) (span : Span) (t : Token) → Takes old new span t → lexeme_of t ≡ plus
@@ -205,3 +295,14 @@ pub plus_length : (old mid new : Reading) (span : Span) (t : Token) → Takes mi
     → length new.text ≡ length old.text
 plus_length old mid new span t h same =
     ap length (ap (λ (r : Reading). r.text) h.after ∙ ap (λ (r : Reading). r.text) same)
+
+-- a number that begins with the plus
+pub plus_whole : (old mid new : Reading) (span : Span) (t : Token) (at : ℕ) → Takes mid new span t → lexeme_of t ≡ plus
+    → mid ≡ old → at ≡ old.offset → number_fault (length old.text) (text_of old) ≡ None
+    → IsWhole (length old.text) (text_of old)
+plus_whole old mid new span t at h e same at_is none =
+    let front = plus_front old mid new span t at h same at_is in
+    let sign = ap (text_at new.text) (at_is ∙ sym (ap (λ (r : Reading). r.offset) same)) ∙ plus_taken mid new span t h e in
+    let here : text_of old ≡ (mid.offset, 43) ∷ text_of new = sym front ∙ sign in
+    subst (IsWhole (length old.text)) (sym here)
+    (signed (subst (λ (u : Text). number_fault (length old.text) u ≡ None) here none))

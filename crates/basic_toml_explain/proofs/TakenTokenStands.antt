@@ -25,21 +25,22 @@ use Rattle.basic_toml_tokens.proofs.TokenIsUnique.{token_same}
 use Rattle.basic_toml_grammar.specs.Faults.{Fault}
 use Rattle.basic_toml_explain.specs.Error.{token_fault}
 use Rattle.basic_toml_grammar.specs.Reader.{char_at}
+use Rattle.basic_toml_grammar.specs.Viable.{RefusesToken}
 use Rattle.basic_toml_grammar.specs.Grammar.{is_wordlike}
-use Rattle.basic_toml_explain.specs.Cursor.{Leads, here, over, IsStopped, EndsWithWord, IsWordOf, IsAfterWord}
+use Rattle.basic_toml_explain.specs.Cursor.{IsStopped, Accepts, IsWordOf}
+use Rattle.basic_toml_explain.specs.Cursor.{IsAfterWord}
 use Rattle.basic_toml_explain.specs.Cursor.{TakesWord, EatsPunctuation}
 use Rattle.basic_toml_explain.specs.Cursor.{code_of, is_word_token}
+use Rattle.basic_toml_explain.proofs.RefusedBehind.{fault_told, accepts_end, accepts_token}
 
 -- a tokenizer that stops
 pub stopped : (old new : Reading) (error : Error) → Stops old new error → IsStopped (text_of old) (token_fault error)
 stopped old new error (inl h) =
     inr (record {
-      stop = text_of old;
-      rest = text_at old.text h.0;
       error = error;
-      leads = here;
-      stands = h.1.fault_is;
-      told = refl;
+      rest = text_at old.text h.0;
+      is_fault = h.1.fault_is;
+      names = fault_told h.1.fault_is;
     })
 stopped old new error (inr h) = inl (ap token_fault h.0)
 
@@ -112,11 +113,10 @@ eats l old new true s h =
           ap (λ (q : ℕ). Some (q, text_at old.text new.offset)) here_is
           ∙ ap (λ (t : Text). Some (old.offset, t)) same,
       h.1,
-      over h.0.token (subst (λ (t : Text). Leads (text_at old.text new.offset) t) same here),
       subst (λ (t : List ℕ). IsCharBoundary t new.offset) (sym h.1) h.0.boundary,
     )
-eats l old new false s (inl e, same) = (ap (char_at (code_of l)) e, same)
-eats l old new false s (inr h, same) = (sign_missing (text_of old) h.2.token s h.3, same)
+eats l old new false s (inl e, same) = (ap (char_at (code_of l)) e, same, accepts_end e)
+eats l old new false s (inr h, same) = (sign_missing (text_of old) h.2.token s h.3, same, accepts_token h.2.token)
 
 pub peeked : (old new : Reading) (error : Error) → Peeks old new error → IsStopped (text_of old) (token_fault error)
 peeked old new error h = stopped old h.1.0 error h.1.1
@@ -170,9 +170,11 @@ no_word source (x ∷ text) h = go (is_keylike x.1) refl
 
 pub takes_word : (old new : Reading) (span : Span) (t : Token) (o : Option (Bor (List ℕ))) → Takes old new span t
     → IsWordOf (lexeme_of t) o → TakesWord old new (Ok o)
-takes_word old new span t None h none =
-    no_word (between old.text old.offset span.end) (text_of old)
-    (λ w rest mine. none w (token_same h.taken.stands.token mine).0)
+takes_word old new span t None h none = (
+  no_word (between old.text old.offset span.end) (text_of old)
+      (λ w rest mine. none w (token_same h.taken.stands.token mine).0),
+  accepts_token h.taken.stands.token,
+)
 takes_word old new span t (Some w) h e =
     let stands = h.taken.stands in
     let (is, rest, some) = word_is w.now stands.token e in
@@ -198,7 +200,6 @@ takes_word old new span t (Some w) h e =
         offset = omega (arith, long);
         begins = begins;
         ends = stands.boundary;
-        leads = over stands.token here;
         token = (
           between old.text old.offset span.end,
           subst (λ (l : Lexeme). IsToken (between old.text old.offset span.end) (text_of old) l
@@ -218,6 +219,23 @@ wordlike_token source x text h = elim (or_cases (is_keylike x.1) (x.1 == 43 || x
     | inr k ↦ (period, text, punctuation refl (ap punctuation_of (eqb-true x.1 46 k)), refl)
   ])
 ]
+
+-- so none is refused
+pub word_accepts : (text : Text) → (run is_wordlike text ≡ [] → ⊥) → Accepts text
+word_accepts [] some = absurd (some refl)
+word_accepts (x ∷ text) some = go (is_wordlike x.1) refl
+  where
+    go : (b : Bool) → is_wordlike x.1 ≡ b → Accepts (x ∷ text)
+    go true e = accepts_token (wordlike_token [] x text e).2
+    go false e = absurd (some (ap (λ (b : Bool). cond b (x.1 ∷ run is_wordlike text) []) e))
+
+-- and where one is refused no word goes on
+pub refused_over : {fault : Fault} (text : Text) → RefusesToken text fault → run is_wordlike text ≡ []
+refused_over {fault = fault} text r = go (run is_wordlike text) refl
+  where
+    go : (w : List ℕ) → run is_wordlike text ≡ w → run is_wordlike text ≡ []
+    go [] e = e
+    go (c ∷ cs) e = absurd (word_accepts text (λ n. let z : [] ≡ c ∷ cs = sym n ∙ e in cc) fault r)
 
 -- at another token
 pub over_at_token : {source : List ℕ} {rest : Text} {l : Lexeme} (text : Text) → IsToken source text l rest
@@ -243,27 +261,6 @@ run_within (x ∷ text) = go (is_keylike x.1) refl (run_within text)
         ≡ cond (b || (x.1 == 43 || x.1 == 46)) (after_run is_wordlike text) (x ∷ text)
     go true e h = h
     go false e h = ap (λ (b : Bool). cond (b || (x.1 == 43 || x.1 == 46)) (after_run is_wordlike text) (x ∷ text)) e
-
-pub leads_on : {text mid stop : Text} → Leads text mid → Leads mid stop → Leads text stop
-leads_on here m = m
-leads_on (over t l) m = over t (leads_on l m)
-
--- a stop further on
-pub stopped_on : {text mid : Text} {fault : Fault} → Leads text mid → IsStopped mid fault → IsStopped text fault
-stopped_on l (inl e) = inl e
-stopped_on l (inr r) = inr
-    (record {
-      stop = r.stop;
-      rest = r.rest;
-      error = r.error;
-      leads = leads_on l r.leads;
-      stands = r.stands;
-      told =
-          r.told;
-    })
-
-pub ends_on : {text mid stop : Text} → Leads text mid → EndsWithWord mid stop → EndsWithWord text stop
-ends_on l e = record { front = e.front; leads = leads_on l e.leads; source = e.source; word = e.word; token = e.token }
 
 -- the offset of a text, at its end too
 pub offset_here : (bytes : List ℕ) (at : ℕ) → IsUtf8 bytes → IsCharBoundary bytes at

@@ -4,45 +4,25 @@ use Rattle.std.specs.Prelude.{Ok, Err}
 use Rattle.std.specs.Borrow.{Bor}
 use Rattle.std.specs.Str.{IsCharBoundary}
 use Rattle.basic_toml_tokens.specs.Ascii as ascii
-use Rattle.basic_toml_tokens.specs.declared.error.Error.{Error}
 use Rattle.basic_toml_tokens.specs.declared.span.Span.{Span}
 use Rattle.basic_toml_tokens.specs.declared.token.Token.{Token}
 use Rattle.basic_toml_tokens.specs.Text.{Text, text_at, run, after_run, is_keylike}
 use Rattle.basic_toml_tokens.specs.TokenAt.{Lexeme, newline, equals, period, comma, colon, plus, left_brace}
 use Rattle.basic_toml_tokens.specs.TokenAt.{right_brace, left_bracket, right_bracket, keylike, IsToken}
-use Rattle.basic_toml_tokens.specs.Faults.{IsFault}
 use Rattle.basic_toml_tokens.specs.Tokenizer.{Takes}
 use Rattle.basic_toml_tokens.specs.Reading.{Reading, text_of}
 use Rattle.basic_toml_grammar.specs.Faults.{Fault}
-use Rattle.basic_toml_explain.specs.Error.{token_fault, want_of_memory}
+use Rattle.basic_toml_explain.specs.Error.{want_of_memory}
 use Rattle.basic_toml_grammar.specs.Reader.{char_at}
+use Rattle.basic_toml_grammar.specs.Viable.{RefusesToken}
 
--- tokens lead from a text to the rest after them
-pub data Leads : Text → Text → Type 0 where
-  here : {text : Text} → Leads text text
-  over : {source : List ℕ} {text mid rest : Text} {l : Lexeme} → IsToken source text l mid → Leads mid rest
-      → Leads text rest
-
--- and the last of them is a word
-pub record EndsWithWord (text rest : Text) : Type 0 where
-  pub front : Text
-  pub leads : Leads text front
-  pub source : List ℕ
-  pub word : List ℕ
-  pub token : IsToken source front (keylike word) rest
-
--- no token stands where tokens lead to, and the fault says why
-pub record IsRefused (text : Text) (fault : Fault) : Type 0 where
-  pub stop : Text
-  pub rest : Text
-  pub error : Error
-  pub leads : Leads text stop
-  pub stands : IsFault stop error rest
-  pub told : fault ≡ token_fault error
-
--- or memory was refused
+-- no token stands there, for this fault; or memory was refused
 abbrev pub IsStopped : Text → Fault → Type 0
-IsStopped text fault = (fault ≡ want_of_memory) ⊎ IsRefused text fault
+IsStopped text fault = (fault ≡ want_of_memory) ⊎ RefusesToken text fault
+
+-- a token stands there, or the text is over
+abbrev pub Accepts : Text → Type 0
+Accepts text = (fault : Fault) → RefusesToken text fault → ⊥
 
 -- the token at the offset, or the end
 abbrev pub TakesToken : Reading → Reading → Result (Option (Span × Token)) Fault → Type 0
@@ -79,8 +59,8 @@ code_of _ = 0
 -- this character, if it stands there
 abbrev pub EatsPunctuation : ℕ → Reading → Reading → Result Bool Fault → Type 0
 EatsPunctuation c old new (Ok true) = (char_at c (text_of old) ≡ Some (old.offset, text_of new))
-    × (new.text ≡ old.text) × Leads (text_of old) (text_of new) × IsCharBoundary new.text new.offset
-EatsPunctuation c old new (Ok false) = (char_at c (text_of old) ≡ None) × (new ≡ old)
+    × (new.text ≡ old.text) × IsCharBoundary new.text new.offset
+EatsPunctuation c old new (Ok false) = (char_at c (text_of old) ≡ None) × (new ≡ old) × Accepts (text_of old)
 EatsPunctuation c old new (Err fault) = IsStopped (text_of old) fault
 
 -- The word at `start`, up to the offset of the reading: the longest run of keylike characters.
@@ -91,11 +71,10 @@ pub record IsAfterWord (start : ℕ) (word : List ℕ) (r : Reading) : Type 0 wh
   pub offset : start + length word ≡ r.offset
   pub begins : IsCharBoundary r.text start
   pub ends : IsCharBoundary r.text r.offset
-  pub leads : Leads (text_at r.text start) (text_of r)
   pub token : (source : List ℕ) × IsToken source (text_at r.text start) (keylike word) (text_of r)
 
 -- the word at the offset, if one stands there
 abbrev pub TakesWord : Reading → Reading → Result (Option (Bor (List ℕ))) Fault → Type 0
 TakesWord old new (Ok (Some word)) = IsAfterWord old.offset word.now new × (new.text ≡ old.text)
-TakesWord old new (Ok None) = run is_keylike (text_of old) ≡ []
+TakesWord old new (Ok None) = (run is_keylike (text_of old) ≡ []) × Accepts (text_of old)
 TakesWord old new (Err fault) = IsStopped (text_of old) fault

@@ -4,15 +4,18 @@ use Rattle.basic_toml_tokens.specs.declared.error.Error.{Error}
 use Rattle.basic_toml_tokens.specs.Text.{Text, text_at, folded}
 use Rattle.basic_toml_tokens.specs.TokenAt.{Lexeme}
 use Rattle.basic_toml_tokens.specs.Faults.{IsFault}
+use Rattle.basic_toml_grammar.specs.Sections.{Section}
+use Rattle.basic_toml_grammar.specs.Grammar.{IsSectionList}
 use Rattle.basic_toml_grammar.specs.Faults.{nested_too_deeply, wanted, Fault}
-use Rattle.basic_toml_grammar.specs.GrammarFaults.{fault_at, Stands, StandsIn}
+use Rattle.basic_toml_grammar.specs.GrammarFaults.{fault_at, Stands}
+use Rattle.basic_toml_grammar.specs.Viable as viable
 use Rattle.basic_toml_explain.specs.declared.stop.End.{End}
 use Rattle.basic_toml_explain.specs.declared.stop.End.TheVariants.{Newline, Bracket, Comma}
 use Rattle.basic_toml_explain.specs.declared.stop.Stop.{Stop}
 use Rattle.basic_toml_explain.specs.declared.stop.Why.{Why}
 use Rattle.basic_toml_explain.specs.declared.stop.Why.TheVariants.{Memory, Deep}
 use Rattle.basic_toml_explain.specs.Error.{token_fault, want_of_memory}
-use Rattle.basic_toml_explain.specs.StopPlaces.{StopStands}
+use Rattle.basic_toml_explain.specs.StopHoles.{StopsInText}
 
 -- what is wanted after a value
 abbrev pub end_word : End → List ℕ
@@ -28,9 +31,13 @@ pub data IsWanting (bytes : List ℕ) (at : ℕ) (expected : List ℕ) : Fault �
       → IsWanting bytes at expected (token_fault error)
   no_memory : IsWanting bytes at expected want_of_memory
 
--- a fault that stands in the text, or want of memory
+-- the text has no section list
+abbrev pub IsOutside : List ℕ → Type 0
+IsOutside bytes = (sections : List Section) → IsSectionList (folded bytes) sections → ⊥
+
+-- the fault that the text is due, or want of memory
 abbrev pub IsDue : List ℕ → Fault → Type 0
-IsDue bytes fault = (fault ≡ want_of_memory) ⊎ StandsIn (folded bytes) (length bytes) fault
+IsDue bytes fault = (fault ≡ want_of_memory) ⊎ (IsOutside bytes → viable.IsDue (folded bytes) (length bytes) fault)
 
 -- the fault where reading stopped
 abbrev pub ExplainsWhy : List ℕ → Why → ℕ → Fault → Type 0
@@ -43,4 +50,4 @@ Explains bytes stop fault = ExplainsWhy bytes stop.why stop.at fault
 
 -- the stop stands in the text
 abbrev pub Stops : List ℕ → Stop → Type 0
-Stops bytes stop = StopStands (folded bytes) bytes stop.why stop.at
+Stops bytes stop = StopsInText (folded bytes) bytes stop.why stop.at

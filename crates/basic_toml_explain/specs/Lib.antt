@@ -4,7 +4,7 @@ pub mod NumberFault
 pub mod Number
 pub mod Key
 pub mod Stop
-pub mod StopPlaces
+pub mod StopHoles
 pub mod Explain
 pub mod ReadErrorText
 pub mod KeyPath

@@ -8,6 +8,7 @@ ghost use Rattle.basic_toml_value.specs.Numbers as numbers;
 ghost use Rattle.basic_toml_grammar.specs.Grammar as grammar;
 ghost use Rattle.basic_toml_grammar.specs.Grammar.{is_wordlike};
 ghost use Rattle.basic_toml_grammar.specs.NumberFaults as faults;
+ghost use Rattle.basic_toml_grammar.specs.NumberTokens.{behind_word, behind_number, word_rest, number_rest};
 ghost use Rattle.basic_toml_grammar.specs.Reader.{word_at};
 ghost use Rattle.basic_toml_grammar.specs.Faults as kinds;
 ghost use Rattle.basic_toml_grammar.specs.GrammarFaults.{fault_at};
@@ -57,7 +58,8 @@ pub(crate) fn number(
     alloc: Global,
     wanted: &'static str,
 ) -> Result<(), ReadError>
-    requires { word_at (text_of cursor.old) ≡ None }
+    requires none { word_at (text_of cursor.old) ≡ None }
+    requires some { run is_wordlike (text_of cursor.old) ≡ [] → ⊥ }
     ensures { LacksValue wanted.now cursor.old result }
 {
     let start = cursor.current();
@@ -82,8 +84,8 @@ fn plus_error(
     requires sign { text_at cursor.old.text start ≡ (start, 43) ∷ text_of cursor.old }
     requires no_value { word_at (text_at cursor.old.text start) ≡ None }
     ensures { let front = text_at cursor.old.text start in
-        IsNumberStop (length cursor.old.text) wanted.now (faults.number_fault (length cursor.old.text) front) front
-        result }
+        IsNumberStop (length cursor.old.text) wanted.now (faults.number_fault (length cursor.old.text) front)
+        (behind_number front) (number_rest front) result }
 {
     let at = cursor.current();
     match cursor.keylike(alloc) {
@@ -132,7 +134,8 @@ fn number_error(
     ensures { let start = cursor.old.offset - length word.now in
         IsNumberStop (length cursor.old.text) wanted.now
         (faults.word_fault (length cursor.old.text) start word.now (text_of cursor.old))
-        (text_at cursor.old.text start) result }
+        (behind_word word.now (faults.without_minus word.now) (text_of cursor.old))
+        (word_rest word.now (text_of cursor.old)) result }
 {
     match word_fault(cursor, alloc, word) {
         Ok(Some(offset)) => ReadError::at(offset, ReadErrorKind::NumberInvalid),

@@ -1,4 +1,5 @@
 -- Holes and viable prefixes: what may stand where a reading of the grammar stands, and the fault that a text is due.
+pub mod BehindValues
 pub mod FaultsAreOne
 pub mod FractionsHaveNoFault
 pub mod GapsEnd
@@ -10,7 +11,10 @@ pub mod HolesHold
 pub mod MultilineKeys
 pub mod NumberParts
 pub mod NumbersAreDue
+pub mod NumbersEnd
+pub mod NumberRests
 pub mod NumbersOnTheWay
+pub mod PeriodsAreDue
 pub mod RowsHead
 pub mod SignsAtHoles
 pub mod TextsCarried

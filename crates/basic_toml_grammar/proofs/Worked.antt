@@ -1,7 +1,6 @@
 -- Texts and lists that are computed from the definitions.
 pub mod WorkedChanges
 pub mod WorkedDocuments
-pub mod WorkedFaults
 pub mod WorkedGrammar
 pub mod WorkedHoles
 pub mod WorkedNesting

@@ -150,3 +150,46 @@ pub data HoleInText : Text → Hole → Text → Type 0 where
   root : {h : Hole} {text at : Text} → HoleInRows text h at → HoleInText text h at
   headed : {rows : Rows} {h : Hole} {text rest at : Text} → IsRows is_comment text rows rest
       → HoleInSections rest h at → HoleInText text h at
+
+-- What has to come behind the value that is wanted in a hole: `behind`, where that value ends the reading with it. Where
+-- no value is wanted, it says nothing.
+abbrev mutual
+  pub behind_value : {text at : Text} {h : Hole} → Hole → HoleInValue text h at → Hole
+  behind_value behind this_value = behind
+  behind_value behind (array s d) = behind_in_elements d
+  behind_value behind (inline s d) = behind_in_fields d
+
+  pub behind_in_elements : {text at : Text} {h : Hole} → HoleInElements text h at → Hole
+  behind_in_elements (in_element none d) = behind_value Hole.after_element d
+  behind_in_elements (after_this v) = Hole.after_element
+  behind_in_elements (later_element v s d) = behind_in_elements d
+
+  pub behind_in_fields : {text at : Text} {h : Hole} → HoleInFields text h at → Hole
+  behind_in_fields (fields none d) = behind_in_fields_on d
+
+  pub behind_in_fields_on : {text at : Text} {h : Hole} → HoleInFieldsOn text h at → Hole
+  behind_in_fields_on (in_row d) = behind_in_row Hole.after_field d
+  behind_in_fields_on (after_row r) = Hole.after_field
+  behind_in_fields_on (later_row r s d) = behind_in_fields_on d
+
+  pub behind_in_row : {text at : Text} {h : Hole} → Hole → HoleInRow text h at → Hole
+  behind_in_row behind (in_keys d) = behind
+  behind_in_row behind (after_keys ks) = behind
+  behind_in_row behind (in_value ks s d) = behind_value behind d
+
+abbrev pub behind_in_rows : {text at : Text} {h : Hole} → HoleInRows text h at → Hole
+behind_in_rows (this_row bracket hash end d) = behind_in_row Hole.after_line d
+behind_in_rows (after_comment s) = Hole.after_line
+behind_in_rows (after_row r) = Hole.after_line
+behind_in_rows (after_empty e d) = behind_in_rows d
+behind_in_rows (later_row r e d) = behind_in_rows d
+
+abbrev pub behind_in_sections : {text at : Text} {h : Hole} → HoleInSections text h at → Hole
+behind_in_sections (in_header d) = Hole.after_line
+behind_in_sections (after_header is) = Hole.after_line
+behind_in_sections (in_rows is e d) = behind_in_rows d
+behind_in_sections (later_section is e rows d) = behind_in_sections d
+
+abbrev pub behind_in_text : {text at : Text} {h : Hole} → HoleInText text h at → Hole
+behind_in_text (root d) = behind_in_rows d
+behind_in_text (headed rows d) = behind_in_sections d

@@ -4,11 +4,13 @@
 --   behind the first word, with or without a plus before it, where it has no `e` or `E` and no prefix
 --   behind the period that stands there
 --   behind an `e` or `E` that ends its word, and then behind a plus; only where no fault stands before the letter
-use Rattle.std.specs.Prelude.{ℕ, Bool, true, false, ◌&&◌, ◌==◌, if◌then◌else◌, List, [], ◌∷◌, Option, Some, None}
+use Rattle.std.specs.Prelude.{◌≡◌, ℕ, Bool, true, false, ◌&&◌, ◌||◌, ◌==◌, if◌then◌else◌, List, [], ◌∷◌, codes, Option}
+use Rattle.std.specs.Prelude.{Some, None}
 use Rattle.std.specs.List.{list_any}
+use Rattle.std.specs.Str.{bytes_eq}
 use Rattle.basic_toml_tokens.specs.Text.{Text, run, after_run, is_keylike}
 use Rattle.basic_toml_value.specs.Numbers.{is_whole, part_of, after_part, is_exponent_letter, plus, period}
-use Rattle.basic_toml_grammar.specs.NumberFaults.{is_fine, is_prefixed, without_minus}
+use Rattle.basic_toml_grammar.specs.NumberFaults.{is_fine, is_prefixed, without_minus, begins_number, number_fault}
 use Rattle.basic_toml_grammar.specs.Reader.{char_at}
 
 -- an `e` or `E` and nothing else
@@ -48,3 +50,43 @@ behind_number (x ∷ text) =
     if x.1 == plus then text ∷ behind_word (run is_keylike text) (run is_keylike text) (after_run is_keylike text)
     else behind_word (run is_keylike (x ∷ text)) (without_minus (run is_keylike (x ∷ text)))
     (after_run is_keylike (x ∷ text))
+
+-- Where a number ends that is not at fault. Behind a plus and the word of an exponent:
+abbrev pub plus_rest : Option (ℕ × Text) → Text → Text
+plus_rest None text = text
+plus_rest (Some s) text = after_run is_keylike s.1
+
+-- behind an exponent, of which these characters stand in the word before the text
+abbrev pub mark_rest : List ℕ → Text → Text
+mark_rest (c ∷ []) text = plus_rest (char_at plus text) text
+mark_rest _ text = text
+
+-- behind a fraction, or what stands there instead
+abbrev pub period_rest : Option (ℕ × Text) → Text → Text
+period_rest None text = text
+period_rest (Some s) text = mark_rest (after_part (run is_keylike s.1)) (after_run is_keylike s.1)
+
+-- behind the number that begins with a word, where the text stands behind the word
+abbrev pub word_rest : List ℕ → Text → Text
+word_rest word text =
+    if is_prefixed word then text
+    else if list_any is_exponent_letter word then mark_rest (after_part (without_minus word)) text
+    else period_rest (char_at period text) text
+
+-- behind the number at the front of a text, and behind `true` and `false`
+abbrev pub number_rest : Text → Text
+number_rest [] = []
+number_rest (x ∷ text) =
+    if x.1 == plus then word_rest (run is_keylike text) (after_run is_keylike text)
+    else word_rest (run is_keylike (x ∷ text)) (after_run is_keylike (x ∷ text))
+
+-- `true` or `false`, or a number that is not at fault, at the front of a text that ends at `end`
+pub data IsWhole (end : ℕ) : Text → Type 0 where
+  boolean : {x : ℕ × ℕ} {text : Text}
+      → (bytes_eq (run is_keylike (x ∷ text)) (codes "true") || bytes_eq (run is_keylike (x ∷ text)) (codes "false"))
+      ≡ true
+      → IsWhole end (x ∷ text)
+  number : {x : ℕ × ℕ} {text : Text} → begins_number (run is_keylike (x ∷ text)) ≡ true
+      → number_fault end (x ∷ text) ≡ None → IsWhole end (x ∷ text)
+  signed : {p : ℕ} {text : Text} → number_fault end ((p, plus) ∷ text) ≡ None
+      → IsWhole end ((p, plus) ∷ text)

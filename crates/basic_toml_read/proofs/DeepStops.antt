@@ -87,7 +87,7 @@ array_keys_deep bytes at inner first start sign two left p d =
     (sign_after bytes inner first 91 refl two) (subst (λ (t : Text). DeepKeys 128 2 t p) left.left d)
 
 -- from a value to its row
-keys_there : (text : Text) (r : List Key × Text) → keys_of text ≡ Some r → IsKeys text r.0 r.1
+pub keys_there : (text : Text) (r : List Key × Text) → keys_of text ≡ Some r → IsKeys text r.0 r.1
 unfolding keys_of
 keys_there text r e = keys_read (suc (length text)) text r e
 

@@ -24,10 +24,11 @@ use Rattle.basic_toml_read.specs.Gathers.{IsValueRead, AreElementsRead, ClosesAt
 use Rattle.basic_toml_grammar.proofs.Grammar.StringsAreRead.{then_some}
 use Rattle.basic_toml_grammar.proofs.Grammar.ReaderIsSound.{found_some}
 use Rattle.basic_toml_grammar.proofs.Grammar.ReaderIsComplete.{gap}
-use Rattle.basic_toml_explain.specs.StopPlaces.{before_value}
-use Rattle.basic_toml_read.proofs.OffsetsLeadOn.{Carries, stays, then_on, over_element}
 use Rattle.basic_toml_grammar.specs.DeepStops.{DeepElements}
 use Rattle.basic_toml_read.proofs.DeepFurtherOn.{past_element}
+use Rattle.basic_toml_read.specs.StopsReached.{LeadsTo, in_elements}
+use Rattle.basic_toml_read.proofs.HolesLeadOn.{stays_in, then_in}
+use Rattle.basic_toml_read.proofs.ValueHoles.{hole_past_element}
 use Rattle.basic_toml_read.proofs.EnoughSteps.{elements_is}
 use Rattle.basic_toml_read.proofs.LeftAfter.{sign_there, sign_missing}
 use Rattle.basic_toml_read.proofs.ViewsSeen.{element_seen}
@@ -97,8 +98,8 @@ pub record ElementsSoFar (bytes : List ℕ) (start level at : ℕ) (old new : Ga
   pub limit : elements_level level (elements_view got) ≤ 128
   pub boundary : IsCharBoundary bytes at
   pub forward : start ≤ at
-  pub carries : Carries before_value (text_at bytes start) before_value (text_at bytes at)
   pub leads : (p : ℕ) → DeepElements 128 level (text_at bytes at) p → DeepElements 128 level (text_at bytes start) p
+  pub holes : LeadsTo (in_elements (text_at bytes at)) (in_elements (text_at bytes start))
 
 pub elements_start : (bytes : List ℕ) (start level : ℕ) (old : Gathered) → IsCharBoundary bytes start
     → ElementsSoFar bytes start level start old old
@@ -110,8 +111,8 @@ elements_start bytes start level old b = record {
   limit = omega arith;
   boundary = b;
   forward = omega arith;
-  carries = stays;
   leads = λ p d. d;
+  holes = stays_in (in_elements (text_at bytes start));
 }
 
 -- what stands after a value that is read
@@ -253,13 +254,13 @@ module _ (bytes : List ℕ) (start level at : ℕ) (old new : Gathered) (s : Ele
         limit = limit';
         boundary = later.boundary;
         forward = omega (arith, s.forward, r.found.later, left.forward, sign.2, later.forward);
-        carries = then_on s.carries
-            (over_element bytes at after next at'
-            (record { offset = v.offset; value = r.found.raw; rest = text_at bytes v.end }) v.end r.found.is refl left
-            sign later);
         leads = λ p d. s.leads p (past_element bytes at v.end after next at' level
             (record { offset = v.offset; value = r.found.raw; rest = text_at bytes v.end }) r.found.is refl r.limit
             left sign later p d);
+        holes = then_in (in_elements (text_at bytes at')) (in_elements (text_at bytes at))
+            (in_elements (text_at bytes start))
+            (hole_past_element bytes at (record { offset = v.offset; value = r.found.raw; rest = text_at bytes v.end })
+            r.found.is v.end refl after left next at' sign later) s.holes;
       }
 
       last_on : IsPunctuationEnd 44 bytes after None → elements_of (text_at bytes start)

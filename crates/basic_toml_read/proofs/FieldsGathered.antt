@@ -21,10 +21,11 @@ use Rattle.basic_toml_read.specs.StopsAt.{Misses}
 use Rattle.basic_toml_read.specs.Gathers.{row_level, IsRowRead, AreFieldsRead, ClosesAt, ReadsFields}
 use Rattle.basic_toml_grammar.proofs.Grammar.StringsAreRead.{then_some}
 use Rattle.basic_toml_grammar.proofs.Grammar.ReaderIsSound.{found_some}
-use Rattle.basic_toml_grammar.specs.GrammarFaults.{precedes_key}
-use Rattle.basic_toml_read.proofs.OffsetsLeadOn.{Carries, stays, then_on, over_field}
 use Rattle.basic_toml_grammar.specs.DeepStops.{DeepFields}
 use Rattle.basic_toml_read.proofs.DeepFurtherOn.{past_field}
+use Rattle.basic_toml_read.specs.StopsReached.{LeadsTo, in_fields, in_fields_on}
+use Rattle.basic_toml_read.proofs.HolesLeadOn.{then_in, to_fields}
+use Rattle.basic_toml_read.proofs.ValueHoles.{hole_past_field}
 use Rattle.basic_toml_read.proofs.EnoughSteps.{fields_is, fields_on_is}
 use Rattle.basic_toml_read.proofs.LeftAfter.{sign_there, sign_missing}
 use Rattle.basic_toml_read.proofs.KeysTold.{misses_then}
@@ -103,8 +104,8 @@ pub record FieldsSoFar (bytes : List ℕ) (start level at : ℕ) (old new : Gath
   pub limit : rows_level level (rows_view got) ≤ 128
   pub boundary : IsCharBoundary bytes at
   pub forward : start ≤ at
-  pub carries : Carries precedes_key (text_at bytes start) precedes_key (text_at bytes at)
   pub leads : (p : ℕ) → DeepFields 128 level (text_at bytes at) p → DeepFields 128 level (text_at bytes start) p
+  pub holes : LeadsTo (in_fields_on (text_at bytes at)) (in_fields (text_at bytes start))
 
 no_brace : (bytes : List ℕ) (start : ℕ) → IsPunctuationEnd 125 bytes start None
     → fields_of (text_at bytes start) ≡ fields_on_of (text_at bytes start)
@@ -123,8 +124,8 @@ fields_start bytes start level old b sign = record {
   limit = omega arith;
   boundary = b;
   forward = omega arith;
-  carries = stays;
   leads = λ p d. d;
+  holes = to_fields (text_at bytes start) (sign_missing 125 (text_at bytes start) sign);
 }
 
 pub fields_none : (bytes : List ℕ) (start level end : ℕ) (old : Gathered) → IsPunctuationEnd 125 bytes start (Some end)
@@ -245,9 +246,11 @@ module _ (bytes : List ℕ) (start level at : ℕ) (old new : Gathered) (s : Fie
       limit = limit';
       boundary = later.boundary;
       forward = omega (arith, s.forward, r.later, left.forward, sign.2, later.forward);
-      carries = then_on s.carries (over_field bytes at after next at' r.found end r.is r.rest left sign later);
       leads = λ p d. s.leads p (past_field bytes at end after next at' level r.found r.is r.rest r.limit left sign
           later p d);
+      holes = then_in (in_fields_on (text_at bytes at')) (in_fields_on (text_at bytes at))
+          (in_fields (text_at bytes start))
+          (hole_past_field bytes at r.found r.is end r.rest after left next at' sign later) s.holes;
     }
 
     last_on : IsPunctuationEnd 44 bytes after None → fields_of (text_at bytes start)

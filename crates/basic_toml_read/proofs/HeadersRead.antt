@@ -74,6 +74,7 @@ module _ (bytes : List ℕ) (at offset level : ℕ) (front : List keys.Key)
     is = told_last bytes at 2 offset level (map key_of front) s k key end blanks high sign
         ∙ ap (λ (l : List Key). Some (l, text_at bytes k.end)) (sym (ap (map key_of) is ∙ seen));
     after = blanks.left;
+    over = sign_missing 46 (text_at bytes end) sign;
     limit = omega (
       arith,
       ap length is,

@@ -13,6 +13,7 @@ use Rattle.basic_toml_read.specs.KeyText.{key_text_bytes}
 use Rattle.basic_toml_read.specs.SectionView.{rows_view, with_key}
 use Rattle.basic_toml_read.specs.StopsAt.{ReadsKeyAt}
 use Rattle.basic_toml_read.specs.Gathers.{with_keys, IsLastKey}
+use Rattle.basic_toml_read.proofs.LeftAfter.{sign_missing}
 use Rattle.basic_toml_read.proofs.KeysTold.{KeysTold, told_start, told_more, told_last}
 
 with_keys_more : (front : List Key) (k : Key) (rs : Rows)
@@ -75,6 +76,7 @@ module _ (bytes : List ℕ) (at first offset level : ℕ) (old new : Gathered)
     mid = text_at bytes k.end;
     is = told_last bytes at first offset level s.front s.keys k key end blanks high sign;
     after = blanks.left;
+    over = sign_missing 46 (text_at bytes end) sign;
     dots = s.dots;
     pushed = s.pushed;
     seen = s.seen;

@@ -19,10 +19,10 @@ use Rattle.basic_toml_read.specs.AtPlace.{Leaves}
 use Rattle.basic_toml_read.specs.StopsAt.{Misses, MissesKey, ReadsKeyAt}
 use Rattle.basic_toml_grammar.proofs.Grammar.StringsAreRead.{then_some}
 use Rattle.basic_toml_grammar.proofs.Grammar.ReaderIsSound.{found_some}
-use Rattle.basic_toml_grammar.specs.GrammarFaults.{precedes_key}
-use Rattle.basic_toml_read.proofs.OffsetsLeadOn.{Carries, stays, then_on, over_period}
 use Rattle.basic_toml_grammar.specs.DeepStops.{DeepKeys}
+use Rattle.basic_toml_grammar.specs.Holes.{Hole, HoleInKeys}
 use Rattle.basic_toml_read.proofs.DeepFurtherOn.{deep_key_there, past_key}
+use Rattle.basic_toml_read.proofs.KeyHoles.{hole_past_key}
 use Rattle.basic_toml_read.proofs.EnoughSteps.{keys_is}
 use Rattle.basic_toml_read.proofs.LeftAfter.{sign_there, sign_missing}
 
@@ -79,8 +79,9 @@ pub record KeysTold (bytes : List ℕ) (at first offset level : ℕ) (front : Li
   pub low : level ≤ 129
   pub boundary : IsCharBoundary bytes offset
   pub forward : at ≤ offset
-  pub carries : Carries precedes_key (text_at bytes at) precedes_key (text_at bytes offset)
   pub leads : (p : ℕ) → DeepKeys 128 level (text_at bytes offset) p → DeepKeys 128 first (text_at bytes at) p
+  pub holes : (there : Text) → HoleInKeys (text_at bytes offset) Hole.key there
+      → HoleInKeys (text_at bytes at) Hole.key there
 
 pub told_start : (bytes : List ℕ) (at first : ℕ) → first ≤ 128 → IsCharBoundary bytes at
     → KeysTold bytes at first at first []
@@ -92,8 +93,8 @@ told_start bytes at first low b =
       boundary =
           b;
       forward = omega arith;
-      carries = stays;
       leads = λ p d. d;
+      holes = λ there d. d;
     }
 
 module _ (bytes : List ℕ) (at first offset level : ℕ) (front : List Key)
@@ -170,9 +171,10 @@ module _ (bytes : List ℕ) (at first offset level : ℕ) (front : List Key)
           low = omega arith;
           boundary = after.boundary;
           forward = omega (arith, s.forward, key.2, blanks.forward, after.forward, sign.2);
-          carries = then_on s.carries (over_period bytes offset k.end end next offset' key.0 blanks sign after);
           leads = λ p d. s.leads p
               (past_key bytes offset k.end end next offset' level high key.0 blanks sign after p d);
+          holes = λ there d. s.holes there (hole_past_key bytes offset k.end end next offset' key.0 blanks sign after
+              there d);
         }
 
     -- no period

@@ -116,7 +116,7 @@ stands x text a b c =
     (or_from (is_blank x.1) (x.1 == 10) b a)
     ∙ ap (λ d. cond d (after_gap_from is_comment true text) (x ∷ text)) c
 
-blank_stops : (text : Text) → after_blanks (after_blanks text) ≡ after_blanks text
+pub blank_stops : (text : Text) → after_blanks (after_blanks text) ≡ after_blanks text
 blank_stops text = after_twice is_blank text
 
 pub gap_stops : (text : Text) → after_run (λ c. c == 10) (line_of text) ≡ line_of text

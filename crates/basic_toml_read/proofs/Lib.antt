@@ -11,10 +11,10 @@ pub mod ValuesGathered
 pub mod HeadersRead
 pub mod RowsRead
 pub mod ListsRead
-pub mod NumbersEnd
-pub mod TokensLeadOn
-pub mod OffsetsLeadOn
-pub mod StopsStand
 pub mod ListIsAnswered
 pub mod DeepFurtherOn
 pub mod DeepStops
+pub mod KeyHoles
+pub mod HolesLeadOn
+pub mod ValueHoles
+pub mod LineHoles

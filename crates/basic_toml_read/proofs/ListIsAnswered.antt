@@ -11,24 +11,26 @@ use Rattle.basic_toml_grammar.proofs.Grammar.ReaderIsSound.{list_read}
 use Rattle.basic_toml_grammar.proofs.Nesting.DeepStopsAreTooDeep.{deep_stops_are_too_deep}
 use Rattle.basic_toml_explain.specs.declared.stop.Why.{Why}
 use Rattle.basic_toml_explain.specs.declared.stop.Why.TheVariants.{Memory, Deep}
-use Rattle.basic_toml_explain.specs.Explain.{IsDue, ExplainsWhy}
+use Rattle.basic_toml_explain.specs.Explain.{IsDue, IsOutside, ExplainsWhy}
 use Rattle.basic_toml_read.specs.declared.section.Section as code
 use Rattle.basic_toml_read.specs.StopsAt.{Misses}
 use Rattle.basic_toml_read.specs.Lists.{ReadsList}
-use Rattle.basic_toml_read.specs.SectionsAnswer.{HoldsMore, IsRefused, memory, deep, outside, AnswersSections}
+use Rattle.basic_toml_read.specs.SectionsAnswer.{HoldsMore, IsRefused, memory, deep, outside}
+use Rattle.basic_toml_read.specs.SectionsAnswer.{AnswersSections}
 
 -- the list that is read is the one of the grammar
 pub list_answered : (bytes : List ℕ) (list : Vec code.Section Global) → ReadsList bytes (Ok list)
     → AnswersSections bytes (Ok list)
 list_answered bytes list r = (list_read (folded bytes) _ r.0, r.1)
 
+none_found : (bytes : List ℕ) → section_list_of (folded bytes) ≡ None → IsOutside bytes
+none_found bytes none sections g =
+    let z : None ≡ Some sections = sym none ∙ list_found (folded bytes) sections g in cc
+
 of_grammar : (bytes : List ℕ) (fault : Fault) → HoldsMore (folded bytes) → section_list_of (folded bytes) ≡ None
     → IsDue bytes fault → IsRefused bytes fault
 of_grammar bytes fault more none (inl m) = subst (IsRefused bytes) (sym m) (memory more)
-of_grammar bytes fault more none (inr s) = outside (record {
-  outside = λ sections g. let z : None ≡ Some sections = sym none ∙ list_found (folded bytes) sections g in cc;
-  stands = s;
-})
+of_grammar bytes fault more none (inr s) = outside (s (none_found bytes none))
 
 pub stop_answered : (bytes : List ℕ) (w : Why) (at : ℕ) (fault : Fault) → IsUtf8 bytes → HoldsMore (folded bytes)
     → (w ≡ Deep → DeepStop 128 (folded bytes) at)

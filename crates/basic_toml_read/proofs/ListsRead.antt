@@ -1,7 +1,7 @@
 -- The sections of a text, one by one.
 use Rattle.std.proofs.Common.{◌≡◌, ℕ, ◌+◌, ◌-◌, ◌<◌, ◌≤◌, max, false, List, [], ◌∷◌, ◌++◌, length, map, refl, ap}
 use Rattle.std.proofs.Common.{sym, ◌∙◌, arith, append_assoc, append-nil, Option, Some, None, Ok, Err, Vec, Global}
-use Rattle.std.proofs.Common.{drop, take, inl, subst, suc, ◌*◌, Result, IfErr}
+use Rattle.std.proofs.Common.{drop, take, subst, suc, ◌*◌, Result, IfErr}
 use Rattle.std.proofs.lemmas.List.{map-append}
 use Rattle.basic_toml_tokens.specs.Text.{Text, text_at, folded, start_of, after_blanks}
 use Rattle.basic_toml_read.specs.declared.header.Header.{Header}
@@ -22,19 +22,20 @@ use Rattle.basic_toml_read.specs.StopsAt.{Misses}
 use Rattle.basic_toml_read.specs.Lists.{IsHeaderRead, EndsLineAt, AreRowsRead, NextAt, IsFrom, root_view, TakesRoot}
 use Rattle.basic_toml_read.specs.Lists.{sections_from, IsSectionRead, ReadsList, IsGap, PassesGaps}
 use Rattle.basic_toml_grammar.proofs.Grammar.StringsAreRead.{then_some}
-use Rattle.basic_toml_grammar.specs.Grammar.{after_comment_by}
 use Rattle.basic_toml_tokens.specs.Text.{is_comment}
-use Rattle.basic_toml_grammar.specs.GrammarFaults.{Reached, at_start}
-use Rattle.basic_toml_explain.specs.StopPlaces.{after_value, anywhere, IsAt}
-use Rattle.basic_toml_read.specs.StopsReached.{LineAt, NextStands}
-use Rattle.basic_toml_read.proofs.OffsetsLeadOn.{line_at, header_here, line_after}
+use Rattle.basic_toml_read.specs.StopsReached.{InHole, InSectionHole, LeadsTo, in_rows, in_sections}
+use Rattle.basic_toml_read.specs.StopsReached.{in_text}
+use Rattle.basic_toml_read.proofs.HolesLeadOn.{then_in, moved_in, hole_on, over_header, over_section, to_root}
+use Rattle.basic_toml_read.proofs.HolesLeadOn.{over_root}
+use Rattle.basic_toml_read.proofs.LineHoles.{header_unended}
+use Rattle.std.specs.Result.{IsErrAnd}
 use Rattle.basic_toml_grammar.specs.Grammar.{IsRows, IsHeader}
 use Rattle.basic_toml_grammar.specs.DeepStops as deep
 use Rattle.basic_toml_grammar.specs.DeepStops.{DeepRows, DeepSection, DeepSections, DeepStop}
 use Rattle.basic_toml_grammar.proofs.Grammar.ReaderIsSound.{rows_read, header_read, line_end_read}
 use Rattle.basic_toml_read.proofs.EnoughSteps.{list_is, sections_is, sections_is_none}
 use Rattle.basic_toml_read.proofs.HeadersRead.{header_length}
-use Rattle.basic_toml_read.proofs.KeysTold.{misses_then, misses_none}
+use Rattle.basic_toml_read.proofs.KeysTold.{misses_then}
 
 -- how much is left after the bracket of the next header
 pub left_after : List ℕ → Option ℕ → ℕ
@@ -95,9 +96,9 @@ pub record ListSoFar (bytes : List ℕ) (next : Option ℕ) (gathered : Gathered
   pub told : section_list_of (folded bytes) ≡ onto (map section_of list) (sections_of rest)
   pub none : gathered.rows.items ≡ []
   pub limit : highest_level (map section_of list) ≤ 128
-  pub reached : NextStands (folded bytes) bytes next
   pub gaps : IsGap (folded bytes) → next ≡ None
   pub leads : (p : ℕ) → DeepSections 128 rest p → DeepStop 128 (folded bytes) p
+  pub holes : LeadsTo (in_sections rest) (in_text (folded bytes))
 
 -- the rows before the first header
 module _ (bytes : List ℕ) (start : ℕ) (start_is : start ≡ start_of bytes) where
@@ -132,14 +133,11 @@ module _ (bytes : List ℕ) (start : ℕ) (start_is : start ≡ start_of bytes) 
       ))
       m
 
-  -- the text begins a line
-  pub list_begins : LineAt (folded bytes) (text_at bytes start)
-  list_begins = inl (record {
-    before = None;
-    feed = false;
-    reached = subst (λ (n : ℕ). Reached (folded bytes) None false (text_at bytes n)) (sym start_is) at_start;
-    fit = refl;
-  })
+  -- the holes of the rows before the first header
+  pub root_holes : LeadsTo (in_rows (text_at bytes start)) (in_text (folded bytes))
+  root_holes =
+      then_in (in_rows (text_at bytes start)) (in_rows (folded bytes)) (in_text (folded bytes))
+      (moved_in in_rows (text_at bytes start) (folded bytes) (ap (text_at bytes) start_is)) (to_root (folded bytes))
 
   -- rows that a gap has none of
   pub gap_passed : (old mid : Gathered) (next : Option ℕ) → PassesGaps bytes start old mid (Ok next)
@@ -163,11 +161,12 @@ module _ (bytes : List ℕ) (start : ℕ) (start_is : start ≡ start_of bytes) 
     told = told ∙ ap (λ (l : List Section). onto l (sections_of r.rest)) same;
     none = taken.0;
     limit = omega (arith, ap highest_level same, (root_level (rows_view r.added)).1, r.limit);
-    reached = r.reached (folded bytes) list_begins;
     gaps = λ g. (gap_passed old mid next passed g).0;
     leads = λ p d. deep.headed
         (subst (λ (n : ℕ). IsRows is_comment (text_at bytes n) (rows_view r.added) r.rest) start_is
         (rows_here (text_at bytes start) (rows_view r.added, r.rest) r.is)) r.limit d;
+    holes = over_root (subst (λ (n : ℕ). IsRows is_comment (text_at bytes n) (rows_view r.added) r.rest) start_is
+        (rows_here (text_at bytes start) (rows_view r.added, r.rest) r.is));
   }
     where
       items : mid.rows.items ≡ r.added
@@ -198,7 +197,7 @@ list_from : (bytes : List ℕ) (at : ℕ) (gathered : Gathered) (list : List cod
     → section_list_of (folded bytes)
     ≡ onto (map section_of list) (and_then (header_of (text_at bytes at)) sections_from)
 list_from bytes at gathered list s =
-    let (x, line, rest_is, here, b) = s.ends in
+    let (x, line, rest_is, here, b, some) = s.ends in
     s.told ∙ ap (onto (map section_of list)) (ap sections_of rest_is ∙ sections_is x line ∙
     ap (λ t. and_then (header_of t) sections_from) (ap after_blanks (sym rest_is) ∙ sym here))
 
@@ -243,28 +242,26 @@ module _ (bytes : List ℕ) (at : ℕ) where
     unfolding made keys_here
     by_line = ap (λ o. and_then o sections_from) read.is
 
-    pub line_missing : (stop : Stop) → EndsLineAt bytes h.end (Err stop)
-        → Misses stop.why (and_then (header_of (text_at bytes at)) sections_from)
-        (λ sections. 128 < highest_level sections)
-    line_missing stop e =
-        misses_none stop.why (and_then (header_of (text_at bytes at)) sections_from)
-        (λ sections. 128 < highest_level sections)
-        (by_line ∙ ap (λ o. and_then o
-        (λ next. and_then (rows_of next)
-        (λ rows. and_then (sections_of rows.1) (λ sections. Some (made rows.0 ∷ sections))))) e.0)
+    -- the header, at the front of its line
+    header_is : (text : Text) → text_at bytes at ≡ after_blanks text
+        → IsHeader (after_blanks text) h.at keys_here h.is_array (text_at bytes h.end)
+    unfolding keys_here
+    header_is text same =
+        subst (λ (t : Text). IsHeader t h.at keys_here h.is_array (text_at bytes h.end)) same
+        (header_there (text_at bytes at) (record {
+          offset = h.at;
+          keys = keys_here;
+          is_array = h.is_array;
+          rest = text_at bytes h.end;
+        }) read.is)
 
-    -- where the header has ended
-    pub header_ended : (whole : Text) → IsAt whole anywhere (text_at bytes at)
-        → IsAt whole after_value (text_at bytes h.end)
-    header_ended whole a = header_here (text_at bytes at) _ a read.is
+    -- a line that goes on after it
+    pub line_hole : {A : Type 0} (stop : Stop) → EndsLineAt bytes h.end (Err stop) → (result : Result A Stop)
+        → IsErrAnd result (λ s. s ≡ stop) → InSectionHole bytes at result
+    line_hole stop c result e =
+        λ text same some. header_unended bytes text h.end (header_is text same) stop c result e
 
     module _ (line : ℕ) (ended : EndsLineAt bytes h.end (Ok line)) where
-      -- and the line after it begins
-      pub line_begins : (whole : Text) → IsAt whole anywhere (text_at bytes at) → LineAt whole (text_at bytes line)
-      line_begins whole a =
-          line_after (after_comment_by is_comment (after_blanks (text_at bytes h.end))) (text_at bytes line)
-          (line_at (text_at bytes h.end) (header_ended whole a)) ended.0
-
       by_rows : and_then (header_of (text_at bytes at)) sections_from
           ≡ and_then (rows_of (text_at bytes line))
           (λ rows. and_then (sections_of rows.1) (λ sections. Some (made rows.0 ∷ sections)))
@@ -275,6 +272,12 @@ module _ (bytes : List ℕ) (at : ℕ) where
       level_here : length keys_here ≡ length h.keys.items
       unfolding keys_here
       level_here = header_length h.keys.items
+
+      -- the holes of its rows
+      pub holes_of_rows : (text : Text) → text_at bytes at ≡ after_blanks text
+          → LeadsTo (in_rows (text_at bytes line)) (in_sections text)
+      holes_of_rows text same =
+          over_header (header_is text same) (line_end_read (text_at bytes h.end) (text_at bytes line) ended.0)
 
       -- rows that are too deep
       pub rows_are_deep : (p : ℕ) → DeepRows 128 (length h.keys.items + 1) (text_at bytes line) p
@@ -328,15 +331,8 @@ module _ (bytes : List ℕ) (at : ℕ) where
                 ∙ ap (λ (t : Section). and_then (sections_of r.rest) (λ sections. Some (t ∷ sections))) view;
             ends = r.ends;
             from = further next r.from;
-            reached = λ whole a. r.reached whole (line_begins whole a);
             leads = λ text here p d. deep.later_section
-                (subst (λ (t : Text). IsHeader t h.at keys_here h.is_array (text_at bytes h.end)) here
-                (header_there (text_at bytes at) (record {
-                  offset = h.at;
-                  keys = keys_here;
-                  is_array = h.is_array;
-                  rest = text_at bytes h.end;
-                }) read.is))
+                (header_is text here)
                 (line_end_read (text_at bytes h.end) (text_at bytes line) ended.0)
                 (rows_here (text_at bytes line) (rows_view r.added, r.rest) r.is)
                 (omega (
@@ -346,6 +342,9 @@ module _ (bytes : List ℕ) (at : ℕ) where
                   level_here,
                   ap (λ n. rows_level (n + 1) (rows_view r.added)) level_here,
                 )) d;
+            holes = λ text here. over_section (header_is text here)
+                (line_end_read (text_at bytes h.end) (text_at bytes line) ended.0)
+                (rows_here (text_at bytes line) (rows_view r.added, r.rest) r.is);
             none = rest_is;
             limit = omega (
               arith,
@@ -366,8 +365,17 @@ pub section_is_deep : (bytes : List ℕ) (at : ℕ) (gathered : Gathered) (list 
     → ListSoFar bytes (Some at) gathered list → (p : ℕ) → DeepSection 128 (text_at bytes at) p
     → DeepStop 128 (folded bytes) p
 section_is_deep bytes at gathered list s p d =
-    let (x, line, is, here, b) = s.ends in
+    let (x, line, is, here, b, some) = s.ends in
     s.leads p (deep.this_section (subst (λ (t : Text). DeepSection 128 t p) here d))
+
+-- the stop of a section
+pub section_hole : {A : Type 0} (bytes : List ℕ) (at : ℕ) (gathered : Gathered) (list : List code.Section)
+    → ListSoFar bytes (Some at) gathered list → (stop : Stop) (result : Result A Stop)
+    → IsErrAnd result (λ s. s ≡ stop) → InSectionHole {A = A} bytes at (Err stop)
+    → InHole (in_text (folded bytes)) bytes result
+section_hole bytes at gathered list s stop result e hole =
+    let (x, line, is, here, b, some) = s.ends in
+    hole_on (in_sections s.rest) (in_text (folded bytes)) bytes stop result e s.holes (hole s.rest here some)
 
 -- a section more
 pub list_more : (bytes : List ℕ) (at : ℕ) (next : Option ℕ) (old new : Gathered)
@@ -388,9 +396,10 @@ list_more bytes at next old new before after s r = record {
     ap highest_level same,
     highest_onto (map section_of before.items) (section_of r.made ∷ []),
   );
-  reached = r.reached (folded bytes) s.reached.0;
   gaps = λ g. let e = s.gaps g in cc;
-  leads = λ p d. s.leads p (r.leads s.rest (let (x, line, is, here, b) = s.ends in here) p d);
+  leads = λ p d. s.leads p (r.leads s.rest (let (x, line, is, here, b, some) = s.ends in here) p d);
+  holes = then_in (in_sections r.rest) (in_sections s.rest) (in_text (folded bytes))
+      (r.holes s.rest (let (x, line, is, here, b, some) = s.ends in here)) s.holes;
 }
   where
     same : map section_of before.items ++ section_of r.made ∷ [] ≡ map section_of after.items
@@ -421,7 +430,8 @@ pub falls : (bytes : List ℕ) (at : ℕ) (now next : Option ℕ) (rest : Text) 
     → IsFrom (at + 1) next → NextAt bytes rest next → left_after bytes next < left_after bytes now
 unfolding left_after
 falls bytes at now None rest e h f n = omega (arith, ap (left_after bytes) e)
-falls bytes at now (Some p) rest e h f n = let (x, line, is, here, b) = n in omega (arith, ap (left_after bytes) e, b.0)
+falls bytes at now (Some p) rest e h f n =
+    let (x, line, is, here, b, some) = n in omega (arith, ap (left_after bytes) e, b.0)
 
 -- the end of the text
 pub list_over : (bytes : List ℕ) (gathered : Gathered) (list : Vec code.Section Global)

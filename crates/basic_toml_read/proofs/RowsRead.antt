@@ -1,46 +1,42 @@
 -- The rows of a section, line by line.
 use Rattle.std.proofs.Common.{◌⊎◌, inl, inr, ◌≡◌, ℕ, ◌<◌, ◌≤◌, List, [], ◌∷◌, ◌++◌, length, refl, ap, sym, ◌∙◌}
 use Rattle.std.proofs.Common.{subst, ◌+◌, ◌*◌, arith, append_assoc, append-nil, true, false, Option, Some, None}
-use Rattle.std.proofs.Common.{is_some, Ok, Err}
+use Rattle.std.proofs.Common.{is_some, Result, Ok, Err}
+use Rattle.std.specs.Result.{IsErrAnd}
 use Rattle.std.specs.Str.{IsUtf8, IsCharBoundary}
-use Rattle.basic_toml_tokens.specs.Text.{Text, text_at, is_comment, after_blanks}
+use Rattle.basic_toml_tokens.specs.Text.{Text, StartsWith, text_at, is_comment, after_blanks}
 use Rattle.basic_toml_tokens.specs.Punctuation.{IsPunctuationEnd}
 use Rattle.basic_toml_tokens.proofs.RestsArePartsOfText.{over_at_end}
 use Rattle.basic_toml_tokens.proofs.StepIsTheFold.{text_end}
 use Rattle.basic_toml_read.specs.declared.section.Row.{Row}
 use Rattle.basic_toml_explain.specs.declared.stop.Stop.{Stop}
 use Rattle.basic_toml_explain.specs.declared.stop.Why.{Why}
-use Rattle.basic_toml_explain.specs.declared.stop.Why.TheVariants as why
 use Rattle.basic_toml_read.specs.declared.values.Gathered.{Gathered}
 use Rattle.basic_toml_grammar.specs.Sections.{Key, Raw, Rows, no_rows, row}
 use Rattle.basic_toml_grammar.specs.Entering.{and_then}
-use Rattle.basic_toml_grammar.specs.Grammar.{after_comment_by, after_gap, IsRow}
+use Rattle.basic_toml_grammar.specs.Grammar.{after_comment_by, IsRow}
 use Rattle.basic_toml_grammar.specs.Levels.{rows_level}
 use Rattle.basic_toml_grammar.specs.Reader as reader
-use Rattle.basic_toml_grammar.specs.Reader.{char_at, if_found, end_of, line_end_at}
-use Rattle.basic_toml_read.specs.FrontOf.{rows_of, row_of}
-use Rattle.basic_toml_read.specs.AtPlace.{Leaves, EndsAt}
+use Rattle.basic_toml_grammar.specs.Reader.{char_at, key_at, if_found, end_of, line_end_at}
+use Rattle.basic_toml_read.specs.FrontOf.{keys_of, value_of, rows_of, row_of}
+use Rattle.basic_toml_read.specs.AtPlace.{Leaves}
 use Rattle.basic_toml_read.specs.SectionView.{rows_view}
 use Rattle.basic_toml_read.specs.StopsAt.{Misses}
 use Rattle.basic_toml_read.specs.Gathers.{row_level, IsRowRead}
-use Rattle.basic_toml_read.specs.Lists.{EndsLineAt, AreRowsRead, IsGap}
+use Rattle.basic_toml_read.specs.Lists.{EndsOrStops, EndsLineAt, AreRowsRead, IsGap}
 use Rattle.basic_toml_grammar.proofs.Grammar.StringsAreRead.{then_some}
-use Rattle.basic_toml_grammar.specs.GrammarFaults.{precedes_key}
-use Rattle.basic_toml_explain.specs.StopPlaces.{after_value, anywhere, IsAt}
-use Rattle.basic_toml_read.specs.StopsReached.{LineAt}
-use Rattle.basic_toml_read.proofs.OffsetsLeadOn.{moved, blanks_at, line_at, row_here, any_at, line_after}
 use Rattle.basic_toml_grammar.specs.DeepStops.{DeepRows, this_row, after_empty, later_row, DeepRow}
 use Rattle.basic_toml_grammar.proofs.Grammar.ReaderIsSound.{row_read, line_end_read}
-use Rattle.basic_toml_read.proofs.EnoughSteps.{rows_is, rows_is_none}
+use Rattle.basic_toml_read.proofs.EnoughSteps.{keys_is, row_is, rows_is, rows_is_none}
 use Rattle.basic_toml_read.proofs.LeftAfter.{sign_there, sign_missing, gap_past_line, gap_over, gap_ends_line}
-use Rattle.basic_toml_read.proofs.LeftAfter.{gap_has_no_bracket}
-use Rattle.basic_toml_read.proofs.KeysTold.{misses_then, misses_none}
+use Rattle.basic_toml_read.proofs.LeftAfter.{gap_has_no_bracket, line_of, no_comment}
+use Rattle.basic_toml_read.proofs.KeysTold.{misses_then, misses_none, stopped}
+use Rattle.basic_toml_grammar.specs.Holes.{Hole, HoleInRows}
+use Rattle.basic_toml_read.specs.StopsReached.{InHole, LeadsTo, in_row, in_rows}
+use Rattle.basic_toml_read.proofs.HolesLeadOn.{stays_in, then_in, moved_in, to_row, over_empty, over_row_line}
+use Rattle.basic_toml_read.proofs.HolesLeadOn.{newline_stop}
 use Rattle.basic_toml_read.proofs.FieldsGathered.{joined_rows, joined_rows_none, after_rows, after_rows_more}
 use Rattle.basic_toml_read.proofs.FieldsGathered.{after_no_rows, level_joined_rows, Whole, whole_none, whole_more}
-
-line_any : {whole text : Text} → LineAt whole text → IsAt whole anywhere text
-line_any (inl a) = any_at a
-line_any (inr e) = e.0
 
 pub record RowsSoFar (bytes : List ℕ) (start level at : ℕ) (old new : Gathered) : Type 0 where
   pub got : List Row
@@ -52,9 +48,9 @@ pub record RowsSoFar (bytes : List ℕ) (start level at : ℕ) (old new : Gather
   pub limit : rows_level level (rows_view got) ≤ 128
   pub boundary : IsCharBoundary bytes at
   pub forward : start ≤ at
-  pub lines : (whole : Text) → LineAt whole (text_at bytes start) → LineAt whole (text_at bytes at)
   pub gaps : IsGap (text_at bytes start) → IsGap (text_at bytes at) × (new.rows.items ≡ old.rows.items)
   pub leads : (p : ℕ) → DeepRows 128 level (text_at bytes at) p → DeepRows 128 level (text_at bytes start) p
+  pub holes : LeadsTo (in_rows (text_at bytes at)) (in_rows (text_at bytes start))
 
 pub rows_start : (bytes : List ℕ) (start level : ℕ) (old : Gathered) → IsCharBoundary bytes start
     → RowsSoFar bytes start level start old old
@@ -68,9 +64,9 @@ rows_start bytes start level old b = record {
   limit = omega arith;
   boundary = b;
   forward = omega arith;
-  lines = λ whole a. a;
   gaps = λ g. (g, refl);
   leads = λ p d. d;
+  holes = stays_in (in_rows (text_at bytes start));
 }
 
 some_first : (a b : Rows × Text) → Some a ≡ Some b → a.0 ≡ b.0
@@ -86,6 +82,38 @@ row_there : (text : Text) (r : reader.Assigned) → row_of text ≡ Some r
     → IsRow is_comment text r.keys r.offset r.value r.rest
 unfolding row_of
 row_there text r e = row_read (4 * length text + 1) text r e
+
+-- the end of a line
+pub line_told : (bytes : List ℕ) (at end : ℕ) → Leaves bytes at end (line_of (text_at bytes at))
+    → (result : Result ℕ Stop) → EndsOrStops bytes end result → EndsLineAt bytes at result
+line_told bytes at end l (Ok next) e = (ap end_of (sym l.left) ∙ e.0, e.1, omega (arith, l.forward, e.2), go e.3)
+  where
+    go : (end < next) ⊎ (length bytes ≤ next) → (at < next) ⊎ (length bytes ≤ next)
+    go (inl m) = inl (omega (arith, l.forward))
+    go (inr m) = inr m
+line_told bytes at end l (Err stop) e =
+    subst (λ (s : Stop). EndsLineAt bytes at (Err s)) (sym e.1) (ap end_of (sym l.left) ∙ e.0, refl, l.left)
+
+-- what stands after the comment of a line, and at the front of a line without one
+pub comment_line : (bytes : List ℕ) (at front end : ℕ) → Leaves bytes at front (after_blanks (text_at bytes at))
+    → Leaves bytes front end (after_comment_by is_comment (text_at bytes front))
+    → line_of (text_at bytes at) ≡ text_at bytes end
+comment_line bytes at front end blanks comment =
+    ap (after_comment_by is_comment) (sym blanks.left) ∙ sym comment.left
+
+pub other_line : (bytes : List ℕ) (at front : ℕ) → Leaves bytes at front (after_blanks (text_at bytes at))
+    → IsPunctuationEnd 35 bytes front None → line_end_at (text_at bytes at) ≡ end_of (text_at bytes front)
+other_line bytes at front blanks hash =
+    ap end_of (ap (after_comment_by is_comment) (sym blanks.left) ∙ no_comment (text_at bytes front) hash)
+
+no_row_at_hash : {p : ℕ} {rest : Text} (text : Text) → StartsWith 35 text p rest → row_of text ≡ None
+no_row_at_hash text s =
+    row_is text ∙ ap (λ o. and_then o (λ keys. and_then (char_at 61 (after_blanks keys.1)) (λ s.
+    and_then (value_of (after_blanks s.1))
+    (λ v. Some (record { keys = keys.0; offset = v.offset; value = v.value; rest = v.rest })))))
+    (keys_is text ∙ ap (λ o. and_then o (λ k. if_found (char_at 46 (after_blanks k.1))
+    (λ s. and_then (keys_of (after_blanks s.1)) (λ keys. Some (k.0 ∷ keys.0, keys.1)))
+    (Some (k.0 ∷ [], k.1)))) (ap key_at s))
 
 module _ (bytes : List ℕ) (start level at : ℕ) (old new : Gathered) (s : RowsSoFar bytes start level at old new) where
   -- the end of the text
@@ -103,26 +131,11 @@ module _ (bytes : List ℕ) (start level at : ℕ) (old new : Gathered) (s : Row
     limit = s.limit;
     ends = refl;
     from = tt;
-    reached = λ whole a. tt;
   }
 
   -- a line
   module _ (x : ℕ × ℕ) (line : Text) (line_is : text_at bytes at ≡ x ∷ line) (front : ℕ)
       (blanks : Leaves bytes at front (after_blanks (text_at bytes at))) where
-    -- a line that is not empty begins where a key may
-    pub line_some : {whole : Text} → LineAt whole (text_at bytes at) → IsAt whole precedes_key (text_at bytes at)
-    line_some (inl a) = a
-    line_some (inr e) = let z : x ∷ line ≡ [] = sym line_is ∙ e.1 in cc
-
-    -- where a row begins, and where it has ended
-    pub row_begins : (whole : Text) → LineAt whole (text_at bytes start) → IsAt whole precedes_key (text_at bytes front)
-    row_begins whole a = moved (sym blanks.left) (blanks_at (text_at bytes at) (line_some (s.lines whole a)))
-
-    pub row_ended : (new' : Gathered) (after : ℕ) → IsRowRead bytes front level new new' after → (whole : Text)
-        → LineAt whole (text_at bytes start) → IsAt whole after_value (text_at bytes after)
-    row_ended new' after r whole a =
-        moved r.rest (row_here (text_at bytes front) r.found (row_begins whole a) r.is)
-
     -- a row that is too deep
     pub row_is_deep : (p : ℕ) → DeepRow 128 level (text_at bytes front) p → DeepRows 128 level (text_at bytes start) p
     row_is_deep p d = s.leads p (this_row (subst (λ (t : Text). DeepRow 128 level t p) blanks.left d))
@@ -159,66 +172,100 @@ module _ (bytes : List ℕ) (start level at : ℕ) (old new : Gathered) (s : Row
       some = s.some;
       elements = s.elements;
       limit = s.limit;
-      ends = (x, line, refl, sym here, blanks.boundary);
-      from = omega (arith, s.forward, blanks.forward);
-      reached = λ whole a. (
-        moved (sym blanks.left) (blanks_at (text_at bytes at) (line_any (s.lines whole a))),
+      ends = (
+        x,
+        line,
+        refl,
+        sym here,
+        blanks.boundary,
         λ none. let z : None ≡ Some (front, text_at bytes next) = sym none ∙ sign_there sign.0 in cc,
       );
+      from = omega (arith, s.forward, blanks.forward);
     }
 
     -- a header is no gap
     pub bracket_no_gap : (next : ℕ) → IsPunctuationEnd 91 bytes front (Some next) → IsGap (text_at bytes start) → ⊥
     bracket_no_gap next sign g = gap_has_no_bracket (text_at bytes at) (sym blanks.left ∙ sign.0) (s.gaps g).0
 
-    module _ (none : IsPunctuationEnd 91 bytes front None) (end : ℕ)
-        (comment : Leaves bytes front end (after_comment_by is_comment (text_at bytes front))) where
-      ends_by : line_end_at (x ∷ line) ≡ end_of (text_at bytes end)
-      ends_by = ap (λ t. end_of (after_comment_by is_comment t)) here ∙ ap end_of (sym comment.left)
-
-      by_row : end_of (text_at bytes end) ≡ None
-          → rows_of (text_at bytes at) ≡ and_then (row_of (text_at bytes front)) row_on
-      by_row e =
+    module _ (none : IsPunctuationEnd 91 bytes front None) where
+      by_end_of_line : (o : Option Text) → line_end_at (text_at bytes at) ≡ o → rows_of (text_at bytes at)
+          ≡ if_found o (λ next. rows_of next) (and_then (row_of (text_at bytes front)) row_on)
+      by_end_of_line o e =
           by_line None (sign_missing 91 (text_at bytes front) none)
-          ∙ ap (λ o. if_found o (λ next. rows_of next) (and_then (row_of (text_at bytes front)) row_on)) (ends_by ∙ e)
+          ∙ ap (λ o. if_found o (λ next. rows_of next) (and_then (row_of (text_at bytes front)) row_on))
+          (ap line_end_at (sym line_is) ∙ e)
 
       -- a gap that reaches the end of a line
-      gap_here : IsGap (text_at bytes start) → IsGap (text_at bytes end)
-      gap_here g =
-          ap (after_gap is_comment) (comment.left ∙ ap (after_comment_by is_comment) blanks.left)
-          ∙ gap_past_line (text_at bytes at) ∙ (s.gaps g).0
+      gap_here : IsGap (text_at bytes start) → IsGap (line_of (text_at bytes at))
+      gap_here g = gap_past_line (text_at bytes at) ∙ (s.gaps g).0
 
       -- an empty line
-      pub rows_empty : (next : ℕ) → EndsAt bytes end (Some next) → at < next → RowsSoFar bytes start level next old new
-      rows_empty next e less = record {
+      pub rows_empty : (next : ℕ) → line_end_at (text_at bytes at) ≡ Some (text_at bytes next)
+          → IsCharBoundary bytes next → at < next → RowsSoFar bytes start level next old new
+      rows_empty next e boundary less = record {
         got = s.got;
         whole = s.whole;
-        told = s.told ∙ ap (after_rows (rows_view s.got)) (by_line None (sign_missing 91 (text_at bytes front) none)
-            ∙ ap (λ o. if_found o (λ next. rows_of next) (and_then (row_of (text_at bytes front)) row_on)) (ends_by ∙
-            e.0));
+        told = s.told ∙ ap (after_rows (rows_view s.got)) (by_end_of_line (Some (text_at bytes next)) e);
         pushed = s.pushed;
         some = s.some;
         elements = s.elements;
         limit = s.limit;
-        boundary = e.1;
+        boundary = boundary;
         forward = omega (arith, s.forward);
-        lines = λ whole a. line_after (text_at bytes end) (text_at bytes next)
-            (moved (sym (comment.left ∙ ap (after_comment_by is_comment) blanks.left))
-            (line_at (text_at bytes at) (line_any (s.lines whole a)))) e.0;
-        gaps = λ g. (gap_over (text_at bytes end) (text_at bytes next) e.0 (gap_here g), (s.gaps g).1);
+        gaps = λ g. (gap_over (line_of (text_at bytes at)) (text_at bytes next) e (gap_here g), (s.gaps g).1);
         leads = λ p d. s.leads p (subst (λ (t : Text). DeepRows 128 level t p) (sym line_is)
-            (after_empty (line_end_read (x ∷ line) (text_at bytes next) (ends_by ∙ e.0)) d));
+            (after_empty (line_end_read (x ∷ line) (text_at bytes next) (ap line_end_at (sym line_is) ∙ e)) d));
+        holes = then_in (in_rows (text_at bytes next)) (in_rows (x ∷ line)) (in_rows (text_at bytes start))
+            (over_empty (line_end_read (x ∷ line) (text_at bytes next) (ap line_end_at (sym line_is) ∙ e)))
+            (then_in (in_rows (x ∷ line)) (in_rows (text_at bytes at)) (in_rows (text_at bytes start))
+            (moved_in in_rows (x ∷ line) (text_at bytes at) (sym line_is)) s.holes);
       }
 
-      module _ (goes_on : EndsAt bytes end None) where
+      module _ (goes_on : line_end_at (text_at bytes at) ≡ None) where
         -- a line that goes on is no gap
         pub rows_no_gap : IsGap (text_at bytes start) → ⊥
-        rows_no_gap g = gap_ends_line (text_at bytes at)
-            (ap end_of (sym (comment.left ∙ ap (after_comment_by is_comment) blanks.left)) ∙ goes_on) (s.gaps g).0
+        rows_no_gap g = gap_ends_line (text_at bytes at) goes_on (s.gaps g).0
+
+        -- the holes of a row here
+        pub row_holes : IsPunctuationEnd 35 bytes front None
+            → LeadsTo (in_row (text_at bytes front) Hole.after_line) (in_rows (text_at bytes start))
+        row_holes hash =
+            then_in (in_row (text_at bytes front) Hole.after_line)
+            (in_row (after_blanks (text_at bytes at)) Hole.after_line) (in_rows (text_at bytes start))
+            (moved_in (λ t. in_row t Hole.after_line) (text_at bytes front) (after_blanks (text_at bytes at))
+            blanks.left)
+            (then_in (in_row (after_blanks (text_at bytes at)) Hole.after_line) (in_rows (text_at bytes at))
+            (in_rows (text_at bytes start))
+            (to_row (text_at bytes at) (ap (char_at 91) (sym blanks.left) ∙ sign_missing 91 (text_at bytes front) none)
+            (ap (char_at 35) (sym blanks.left) ∙ sign_missing 35 (text_at bytes front) hash) goes_on) s.holes)
 
         told' : rows_of (text_at bytes start)
             ≡ after_rows (rows_view s.got) (and_then (row_of (text_at bytes front)) row_on)
-        told' = s.told ∙ ap (after_rows (rows_view s.got)) (by_row goes_on)
+        told' = s.told ∙ ap (after_rows (rows_view s.got)) (by_end_of_line None goes_on)
+
+        -- a comment that goes on
+        pub comment_unended : (next : ℕ) → IsPunctuationEnd 35 bytes front (Some next) → (w : Why)
+            → Misses w (rows_of (text_at bytes start)) (λ r. 128 < rows_level level r.0)
+        unfolding after_rows
+        comment_unended next hash w =
+            misses_none w (rows_of (text_at bytes start)) (λ r. 128 < rows_level level r.0)
+            (told' ∙ ap (λ o. after_rows (rows_view s.got) (and_then o row_on))
+            (no_row_at_hash (text_at bytes front) hash.0))
+
+        pub comment_hole : (next : ℕ) → IsPunctuationEnd 35 bytes front (Some next) → (end : ℕ)
+            → line_of (text_at bytes at) ≡ text_at bytes end → (stop : Stop) → EndsOrStops bytes end (Err stop)
+            → (result : Result (Option ℕ) Stop) → IsErrAnd result (λ s. s ≡ stop)
+            → InHole (in_rows (text_at bytes start)) bytes result
+        comment_hole next hash end same stop e result err =
+            stopped (λ r. InHole (in_rows (text_at bytes start)) bytes r) result stop err
+            (newline_stop (in_rows (text_at bytes start)) stop.why (text_at bytes stop.at) (ap (λ (s : Stop). s.why)
+            e.1)
+            (s.holes.on Hole.after_line (text_at bytes stop.at)
+            (subst (λ (t : Text). HoleInRows (text_at bytes at) Hole.after_line t) (same ∙ sym there)
+            (HoleInRows.after_comment (sym blanks.left ∙ hash.0)))) (ap end_of there ∙ e.0))
+          where
+            there : text_at bytes stop.at ≡ text_at bytes end
+            there = ap (λ (s : Stop). text_at bytes s.at) e.1
 
         -- no row
         pub rows_missing : (w : Why) → Misses w (row_of (text_at bytes front)) (λ r. 128 < row_level level r)
@@ -264,6 +311,23 @@ module _ (bytes : List ℕ) (start level at : ℕ) (old new : Gathered) (s : Row
               and_then (rows_of next) (λ rows. Some (row r.found.keys r.found.offset r.found.value rows.0, rows.1)))))
               r.rest
 
+          row_stands : IsRow is_comment (after_blanks (text_at bytes at)) r.found.keys r.found.offset r.found.value
+              (text_at bytes after)
+          row_stands =
+              subst (λ (t : Text). IsRow is_comment t r.found.keys r.found.offset r.found.value
+              (text_at bytes after)) blanks.left
+              (subst (λ (t : Text). IsRow is_comment (text_at bytes front) r.found.keys r.found.offset
+              r.found.value t) r.rest (row_there (text_at bytes front) r.found r.is))
+
+          pub unended_hole : (stop : Stop) → EndsLineAt bytes after (Err stop) → (result : Result (Option ℕ) Stop)
+              → IsErrAnd result (λ s. s ≡ stop) → InHole (in_rows (text_at bytes start)) bytes result
+          unended_hole stop e result err =
+              stopped (λ r. InHole (in_rows (text_at bytes start)) bytes r) result stop err
+              (newline_stop (in_rows (text_at bytes start)) stop.why (text_at bytes stop.at) e.1
+              (s.holes.on Hole.after_line (text_at bytes stop.at)
+              (subst (λ (t : Text). HoleInRows (text_at bytes at) Hole.after_line t) (sym e.2)
+              (HoleInRows.after_row row_stands))) (ap end_of e.2 ∙ e.0))
+
           pub rows_unended : (stop : Stop) → EndsLineAt bytes after (Err stop)
               → Misses stop.why (rows_of (text_at bytes start)) (λ r. 128 < rows_level level r.0)
           unfolding after_rows
@@ -299,23 +363,20 @@ module _ (bytes : List ℕ) (start level at : ℕ) (old new : Gathered) (s : Row
                 );
                 boundary = e.1;
                 forward = omega (arith, s.forward, blanks.forward, r.later, e.2);
-                lines = λ whole a. line_after (after_comment_by is_comment (after_blanks (text_at bytes after)))
-                    (text_at bytes next) (line_at (text_at bytes after) (row_ended new' after r whole a)) e.0;
                 gaps = λ g. absurd (rows_no_gap g);
-                leads = λ p d. s.leads p (later_row
-                    (subst (λ (t : Text). IsRow is_comment t r.found.keys r.found.offset r.found.value
-                    (text_at bytes after)) blanks.left
-                    (subst (λ (t : Text). IsRow is_comment (text_at bytes front) r.found.keys r.found.offset
-                    r.found.value t) r.rest (row_there (text_at bytes front) r.found r.is))) r.limit
+                leads = λ p d. s.leads p (later_row row_stands r.limit
                     (line_end_read (text_at bytes after) (text_at bytes next) e.0) d);
+                holes = then_in (in_rows (text_at bytes next)) (in_rows (text_at bytes at))
+                    (in_rows (text_at bytes start))
+                    (over_row_line row_stands (line_end_read (text_at bytes after) (text_at bytes next) e.0)) s.holes;
               }
 
 -- a line takes at least one character
-pub line_later : (bytes : List ℕ) (at front end next : ℕ) → at < length bytes → at ≤ front → front ≤ end
-    → EndsAt bytes end (Some next) → at < next
-line_later bytes at front end next h k l e = go e.3
+pub line_later : (bytes : List ℕ) (at front next : ℕ) → at < length bytes → at ≤ front
+    → (front < next) ⊎ (length bytes ≤ next) → at < next
+line_later bytes at front next h k l = go l
   where
-    go : (end < next) ⊎ (length bytes ≤ next) → at < next
+    go : (front < next) ⊎ (length bytes ≤ next) → at < next
     go (inl m) = omega arith
     go (inr m) = omega arith
 
@@ -326,17 +387,6 @@ some_line bytes at whole here h = go (text_at bytes at) refl
     go : (t : Text) → text_at bytes at ≡ t → (x : ℕ × ℕ) × (line : Text) × (text_at bytes at ≡ x ∷ line)
     go [] e = absurd (omega (arith, over_at_end bytes at whole here e))
     go (x ∷ line) e = (x, line, e)
-
-pub line_ended : (bytes : List ℕ) (at end : ℕ) (next : ℕ)
-    → Leaves bytes at end (after_comment_by is_comment (after_blanks (text_at bytes at)))
-    → EndsAt bytes end (Some next) → EndsLineAt bytes at (Ok next)
-line_ended bytes at end next l e = (ap end_of (sym l.left) ∙ e.0, e.1, omega (arith, l.forward, e.2))
-
-pub line_unended : (bytes : List ℕ) (at end : ℕ) (stop : Stop)
-    → Leaves bytes at end (after_comment_by is_comment (after_blanks (text_at bytes at))) → EndsAt bytes end None
-    → stop.why ≡ why.Newline
-    → EndsLineAt bytes at (Err stop)
-line_unended bytes at end stop l e w = (ap end_of (sym l.left) ∙ e, w)
 
 pub sign_stands : (c : ℕ) (bytes : List ℕ) (at : ℕ) (o : Option ℕ) → IsPunctuationEnd c bytes at o → true ≡ is_some o
     → (next : ℕ) × IsPunctuationEnd c bytes at (Some next)

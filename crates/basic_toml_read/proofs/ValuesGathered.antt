@@ -373,14 +373,6 @@ array_whole bytes offset at start level end old mid new kept low left r kept_is 
       later = omega (arith, left.forward, r.later);
     }
 
-pub array_missing : (bytes : List ℕ) (at start level : ℕ) (w : Why) → Leaves bytes at start (gap (text_at bytes at))
-    → Misses w (elements_of (text_at bytes start)) (λ r. 128 < elements_level level r.0)
-    → Misses w (elements_of (gap (text_at bytes at))) (λ r. (128 < level) ⊎ (128 < elements_level level r.0))
-array_missing bytes at start level w left m =
-    misses_then w (elements_of (text_at bytes start)) (elements_of (gap (text_at bytes at)))
-    (λ r. 128 < elements_level level r.0) (λ r. (128 < level) ⊎ (128 < elements_level level r.0))
-    (λ e. ap elements_of (sym left.left) ∙ e) (λ y e. (y, ap elements_of left.left ∙ e, λ h. inr h)) m
-
 pub inline_whole : (bytes : List ℕ) (offset at start level end : ℕ) (old mid new : Gathered) (kept : Vec Row Global)
     → level ≤ 128
     → Leaves bytes at start (after_blanks (text_at bytes at)) → AreFieldsRead bytes start level old mid end
@@ -403,12 +395,3 @@ inline_whole bytes offset at start level end old mid new kept low left r kept_is
       boundary = r.boundary;
       later = omega (arith, left.forward, r.later);
     }
-
-pub inline_missing : (bytes : List ℕ) (at start level : ℕ) (w : Why)
-    → Leaves bytes at start (after_blanks (text_at bytes at))
-    → Misses w (fields_of (text_at bytes start)) (λ r. 128 < rows_level level r.0)
-    → Misses w (fields_of (after_blanks (text_at bytes at))) (λ r. (128 < level) ⊎ (128 < rows_level level r.0))
-inline_missing bytes at start level w left m =
-    misses_then w (fields_of (text_at bytes start)) (fields_of (after_blanks (text_at bytes at)))
-    (λ r. 128 < rows_level level r.0) (λ r. (128 < level) ⊎ (128 < rows_level level r.0))
-    (λ e. ap fields_of (sym left.left) ∙ e) (λ y e. (y, ap fields_of left.left ∙ e, λ h. inr h)) m

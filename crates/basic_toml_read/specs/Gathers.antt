@@ -1,6 +1,7 @@
 -- What reading rows and values answers, and what is gathered on the way.
 use Rattle.std.specs.Prelude.{◌⊎◌, ◌≡◌, ◌≤◌, ◌<◌, ◌+◌, ◌-◌, ℕ, List, [], ◌∷◌, ◌++◌, length, Some, None, Result, Ok, Err}
 use Rattle.std.specs.Str.{IsCharBoundary}
+use Rattle.basic_toml_tokens.specs.Ascii as ascii
 use Rattle.basic_toml_tokens.specs.Text.{Text, text_at, is_comment, after_blanks}
 use Rattle.basic_toml_read.specs.declared.section.Element as code_elements
 use Rattle.basic_toml_read.specs.declared.section.Row as code_rows
@@ -42,6 +43,7 @@ pub record IsLastKey (bytes : List ℕ) (at level : ℕ) (old new : Gathered) (l
   pub is : keys_of (text_at bytes at)
       ≡ Some (front ++ (record { offset = last.offset; text = key_text_bytes last.key } ∷ []), mid)
   pub after : text_at bytes last.end ≡ after_blanks mid
+  pub over : char_at ascii.period (text_at bytes last.end) ≡ None
   pub dots : List code_rows.Row
   pub pushed : new.rows.items ≡ old.rows.items ++ dots
   pub seen : (rest : List code_rows.Row) → rows_view (dots ++ rest) ≡ with_keys front (rows_view rest)

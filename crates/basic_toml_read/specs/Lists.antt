@@ -1,8 +1,9 @@
 -- What reading headers, rows and whole texts answers.
-use Rattle.std.specs.Prelude.{false, ◌≡◌, ◌≤◌, ◌<◌, ◌+◌, ℕ, List, [], ◌∷◌, ◌++◌, length, map, Option, Some, None}
+use Rattle.std.specs.Prelude.{◌⊎◌, false, ◌≡◌, ◌≤◌, ◌<◌, ◌+◌, ℕ, List, [], ◌∷◌, ◌++◌, length, map, Option, Some, None}
 use Rattle.std.specs.Prelude.{Result, Ok, Err, Vec}
 use Rattle.std.specs.Str.{IsCharBoundary}
 use Rattle.std.specs.declared.alloc.Global.{Global}
+use Rattle.basic_toml_tokens.specs.Ascii as ascii
 use Rattle.basic_toml_tokens.specs.Text.{Text, text_at, folded, is_comment, after_blanks}
 use Rattle.basic_toml_read.specs.declared.header.Header.{Header}
 use Rattle.basic_toml_read.specs.declared.header.HeaderKeys.{HeaderKeys}
@@ -11,23 +12,24 @@ use Rattle.basic_toml_read.specs.declared.section.Section as code_sections
 use Rattle.basic_toml_explain.specs.declared.stop.Stop.{Stop}
 use Rattle.basic_toml_explain.specs.declared.stop.Why.TheVariants.{Memory, Newline}
 use Rattle.basic_toml_read.specs.declared.values.Gathered.{Gathered}
-use Rattle.basic_toml_grammar.specs.Grammar.{after_gap}
+use Rattle.basic_toml_grammar.specs.Grammar.{after_comment_by, after_gap}
 use Rattle.basic_toml_grammar.specs.Sections.{no_rows, Section}
 use Rattle.basic_toml_grammar.specs.Levels.{rows_level, section_level, highest_level}
 use Rattle.basic_toml_grammar.specs.Reader as reader
-use Rattle.basic_toml_grammar.specs.Reader.{line_end_at, section_list_of}
+use Rattle.basic_toml_grammar.specs.Reader.{char_at, line_end_at, section_list_of}
+use Rattle.basic_toml_read.specs.AtPlace.{EndsAt}
 use Rattle.basic_toml_read.specs.FrontOf.{keys_of, header_of, rows_of, sections_of}
 use Rattle.basic_toml_grammar.specs.Entering.{and_then}
 use Rattle.basic_toml_grammar.specs.DeepStops.{DeepSections}
 use Rattle.basic_toml_read.specs.SectionView.{rows_view, key_of, section_of}
 use Rattle.basic_toml_read.specs.StopsAt.{Misses}
-use Rattle.basic_toml_explain.specs.StopPlaces.{anywhere, IsAt}
-use Rattle.basic_toml_read.specs.StopsReached.{LineAt, NextStands}
+use Rattle.basic_toml_read.specs.StopsReached.{LeadsTo, in_sections}
 
 pub record AreHeaderKeys (bytes : List ℕ) (at : ℕ) (found : HeaderKeys) : Type 0 where
   pub mid : Text
   pub is : keys_of (text_at bytes at) ≡ Some (map key_of found.keys.items, mid)
   pub after : text_at bytes found.end ≡ after_blanks mid
+  pub over : char_at ascii.period (text_at bytes found.end) ≡ None
   pub limit : length found.keys.items + 1 ≤ 128
   pub boundary : IsCharBoundary bytes found.end
   pub later : at < found.end
@@ -52,17 +54,23 @@ abbrev pub ReadsHeader : List ℕ → ℕ → Result Header Stop → Type 0
 ReadsHeader bytes at (Ok h) = IsHeaderRead bytes at h
 ReadsHeader bytes at (Err stop) = Misses stop.why (header_of (text_at bytes at)) (λ h. 128 < length h.keys + 1)
 
+-- after the end of a line that ends there
+abbrev pub EndsOrStops : List ℕ → ℕ → Result ℕ Stop → Type 0
+EndsOrStops bytes end (Ok next) = EndsAt bytes end (Some next)
+EndsOrStops bytes end (Err stop) = EndsAt bytes end None × (stop ≡ record { at = end; why = Newline })
+
 -- after the end of a line
 abbrev pub EndsLineAt : List ℕ → ℕ → Result ℕ Stop → Type 0
 EndsLineAt bytes at (Ok next) = (line_end_at (text_at bytes at) ≡ Some (text_at bytes next))
-    × IsCharBoundary bytes next × (at ≤ next)
+    × IsCharBoundary bytes next × (at ≤ next) × ((at < next) ⊎ (length bytes ≤ next))
 EndsLineAt bytes at (Err stop) = (line_end_at (text_at bytes at) ≡ None) × (stop.why ≡ Newline)
+    × (text_at bytes stop.at ≡ after_comment_by is_comment (after_blanks (text_at bytes at)))
 
 -- where rows end: at the line of a header, whose bracket stands there, or at the end of the text
 abbrev pub NextAt : List ℕ → Text → Option ℕ → Type 0
 NextAt bytes rest None = rest ≡ []
 NextAt bytes rest (Some at) = (x : ℕ × ℕ) × (line : Text) × (rest ≡ x ∷ line) × (text_at bytes at ≡ after_blanks rest)
-    × IsCharBoundary bytes at
+    × IsCharBoundary bytes at × (char_at ascii.left_bracket (text_at bytes at) ≡ None → ⊥)
 
 -- not before an offset
 abbrev pub IsFrom : ℕ → Option ℕ → Type 0
@@ -79,7 +87,6 @@ pub record AreRowsRead (bytes : List ℕ) (start level : ℕ) (old new : Gathere
   pub limit : rows_level level (rows_view added) ≤ 128
   pub ends : NextAt bytes rest next
   pub from : IsFrom start next
-  pub reached : (whole : Text) → LineAt whole (text_at bytes start) → NextStands whole bytes next
 
 abbrev pub ReadsRows : List ℕ → ℕ → ℕ → Gathered → Gathered → Result (Option ℕ) Stop → Type 0
 ReadsRows bytes start level old new (Ok next) = AreRowsRead bytes start level old new next
@@ -121,9 +128,9 @@ pub record IsSectionRead (bytes : List ℕ) (at : ℕ) (new : Gathered) (before 
       ≡ and_then (sections_of rest) (λ sections. Some (section_of made ∷ sections))
   pub ends : NextAt bytes rest next
   pub from : IsFrom (at + 1) next
-  pub reached : (whole : Text) → IsAt whole anywhere (text_at bytes at) → NextStands whole bytes next
   pub leads : (text : Text) → text_at bytes at ≡ after_blanks text → (p : ℕ) → DeepSections 128 rest p
       → DeepSections 128 text p
+  pub holes : (text : Text) → text_at bytes at ≡ after_blanks text → LeadsTo (in_sections rest) (in_sections text)
   pub none : new.rows.items ≡ []
   pub limit : section_level (section_of made) ≤ 128
 

@@ -7,6 +7,7 @@ use Rattle.basic_toml_tokens.specs.declared.error.Error.TheVariants.{OutOfMemory
 use Rattle.basic_toml_tokens.specs.declared.string.Quoted.{Quoted}
 use Rattle.basic_toml_tokens.specs.Text.{Text, text_at, run}
 use Rattle.basic_toml_explain.specs.Stop.{no_memory}
+use Rattle.basic_toml_explain.specs.declared.stop.End.{End}
 use Rattle.basic_toml_explain.specs.declared.stop.Stop.{Stop}
 use Rattle.basic_toml_explain.specs.declared.stop.Why.{Why}
 use Rattle.basic_toml_explain.specs.declared.stop.Why.TheVariants.{Memory, Deep, Key, Value, Word}
@@ -76,6 +77,10 @@ MissesWord Memory text = Unit {0}
 MissesWord Value text = (word_at text ≡ None) × (run is_wordlike text ≡ [])
 MissesWord (Word end) text = (word_at text ≡ None) × (run is_wordlike text ≡ [] → ⊥)
 MissesWord _ text = ⊥
+
+-- it is the end that is wanted after a value
+abbrev pub WantsEnd : End → Stop → Type 0
+WantsEnd end stop = (other : End) → stop.why ≡ Word other → other ≡ end
 
 abbrev pub ReadsWordAt : List ℕ → ℕ → Result Valued Stop → Type 0
 ReadsWordAt bytes at (Ok v) = IsValued bytes at v (word_at (text_at bytes at))

@@ -3,10 +3,9 @@ ghost use Rattle.std.specs.Prelude.{IfErr};
 ghost use Rattle.std.specs.Str.{IsCharBoundary};
 ghost use Rattle.basic_toml_explain.specs.Stop.{StopsInside};
 ghost use Rattle.basic_toml_read.specs.Lists.{ReadsHeaderKeys, ReadsHeader};
-ghost use Rattle.basic_toml_read.specs.StopsReached.{StandsFrom, IfDeep, HeaderStands};
+ghost use Rattle.basic_toml_read.specs.StopsReached.{IfDeep, InKeyHole, InHeaderHole};
 ghost use Rattle.basic_toml_tokens.specs.Text.{text_at};
 ghost use Rattle.basic_toml_grammar.specs.DeepStops.{DeepKeys, DeepHeader};
-ghost use Rattle.basic_toml_grammar.specs.GrammarFaults.{precedes_key};
 
 use crate::front::after_blanks;
 use crate::scalar::key_at;
@@ -41,8 +40,8 @@ fn header_keys<'de>(alloc: Global, text: &'de str, at: usize) -> Result<HeaderKe
     requires { IsCharBoundary text.now at }
     ensures read { ReadsHeaderKeys text.now at result }
     ensures inside { IfErr result (λ stop. StopsInside text.now stop) }
-    ensures stands { StandsFrom precedes_key text.now at result }
     ensures deep { IfDeep (DeepKeys 128 2 (text_at text.now at)) result }
+    ensures hole { InKeyHole (text_at text.now at) text.now result }
 {
     let mut keys = Vec::with_capacity(alloc, ROOM)?;
     let mut offset = at;
@@ -70,8 +69,8 @@ pub(crate) fn header_at<'de>(alloc: Global, text: &'de str, at: usize) -> Result
     requires { IsCharBoundary text.now at }
     ensures read { ReadsHeader text.now at result }
     ensures inside { IfErr result (λ stop. StopsInside text.now stop) }
-    ensures stands { HeaderStands text.now at result }
     ensures deep { IfDeep (DeepHeader 128 (text_at text.now at)) result }
+    ensures hole { InHeaderHole text.now at result }
 {
     let inner = closed(text, at, b'[', Why::Newline)?;
     match after_punctuation(text, inner, b'[') {

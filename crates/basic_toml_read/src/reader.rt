@@ -3,11 +3,10 @@ ghost use Rattle.std.specs.Prelude.{IfErr, ◌≡◌, ◌≤◌, []};
 ghost use Rattle.std.specs.Str.{IsCharBoundary};
 ghost use Rattle.basic_toml_tokens.specs.Text.{text_at, folded};
 ghost use Rattle.basic_toml_explain.specs.Stop.{StopsInside};
-ghost use Rattle.basic_toml_explain.specs.StopPlaces.{after_value};
-ghost use Rattle.basic_toml_read.specs.StopsReached.{IfStops, StandsFrom, HeaderStands, LinesStand, IfDeep};
+ghost use Rattle.basic_toml_read.specs.StopsReached.{IfDeep, InHole, InSectionHole, in_rows, in_text};
 ghost use Rattle.basic_toml_grammar.specs.DeepStops.{DeepRows, DeepSection, DeepStop};
 ghost use Rattle.basic_toml_read.specs.SectionsAnswer.{AnswersSections, HoldsMore};
-ghost use Rattle.basic_toml_read.specs.Lists.{EndsLineAt, ReadsRows, PassesGaps, TakesRoot, ReadsSection, ReadsList};
+ghost use Rattle.basic_toml_read.specs.Lists.{EndsOrStops, EndsLineAt, ReadsRows, PassesGaps, TakesRoot, ReadsSection, ReadsList};
 
 use crate::front::{after_blanks, after_comment, after_line, end_of_line};
 use crate::header::header_at;
@@ -17,14 +16,13 @@ use basic_toml_explain::{End, ReadError, Stop, Why, error_at};
 use basic_toml_tokens::{after_punctuation, start_of_text};
 use std::alloc::Global;
 
-// Where the next line begins, after blanks and a comment.
-fn next_line(text: &str, at: usize) -> Result<usize, Stop>
-    requires { IsCharBoundary text.now at }
-    ensures read { EndsLineAt text.now at result }
+// Where the next line begins, if this one ends at an offset.
+#[inline]
+fn past_line_end(text: &str, end: usize) -> Result<usize, Stop>
+    requires { IsCharBoundary text.now end }
+    ensures read { EndsOrStops text.now end result }
     ensures inside { IfErr result (λ stop. StopsInside text.now stop) }
-    ensures stands { StandsFrom after_value text.now at result }
 {
-    let end = end_of_line(text, at);
     match after_line(text, end) {
         Some(next) => Ok(next),
         None => Err(Stop {
@@ -32,6 +30,15 @@ fn next_line(text: &str, at: usize) -> Result<usize, Stop>
             why: Why::Newline,
         }),
     }
+}
+
+// Where the next line begins, after blanks and a comment.
+fn next_line(text: &str, at: usize) -> Result<usize, Stop>
+    requires { IsCharBoundary text.now at }
+    ensures read { EndsLineAt text.now at result }
+    ensures inside { IfErr result (λ stop. StopsInside text.now stop) }
+{
+    past_line_end(text, end_of_line(text, at))
 }
 
 impl<'de> Gathered<'de> {
@@ -42,9 +49,9 @@ impl<'de> Gathered<'de> {
         requires level { level ≤ 128 }
         ensures read { ReadsRows text.now start level self.old self.new result }
         ensures inside { IfErr result (λ stop. StopsInside text.now stop) }
-        ensures stands { LinesStand text.now start result }
         ensures gaps { PassesGaps text.now start self.old self.new result }
         ensures deep { IfDeep (DeepRows 128 level (text_at text.now start)) result }
+        ensures hole { InHole (in_rows (text_at text.now start)) text.now result }
     {
         let mut at = start;
         while at < text.len() {
@@ -52,12 +59,15 @@ impl<'de> Gathered<'de> {
             if after_punctuation(text, front, b'[').is_some() {
                 return Ok(Some(front));
             }
-            let end = after_comment(text, front);
-            match after_line(text, end) {
-                Some(next) => at = next,
-                None => {
-                    let end = self.row(text, front, level, End::Newline)?;
-                    at = next_line(text, end)?;
+            if after_punctuation(text, front, b'#').is_some() {
+                at = past_line_end(text, after_comment(text, front))?;
+            } else {
+                match after_line(text, front) {
+                    Some(next) => at = next,
+                    None => {
+                        let end = self.row(text, front, level, End::Newline)?;
+                        at = next_line(text, end)?;
+                    }
                 }
             }
         }
@@ -94,8 +104,8 @@ impl<'de> Gathered<'de> {
         requires none { self.old.rows.items ≡ [] }
         ensures read { ReadsSection text.now at self.new sections.old sections.new result }
         ensures inside { IfErr result (λ stop. StopsInside text.now stop) }
-        ensures stands { HeaderStands text.now at result }
         ensures deep { IfDeep (DeepSection 128 (text_at text.now at)) result }
+        ensures hole { InSectionHole text.now at result }
     {
         let header = header_at(self.alloc, text, at)?;
         let line = next_line(text, header.end)?;
@@ -115,9 +125,9 @@ impl<'de> Gathered<'de> {
 pub(crate) fn list<'de>(alloc: Global, text: &'de str) -> Result<Vec<Section<'de>>, Stop>
     ensures read { ReadsList text.now result }
     ensures inside { IfErr result (λ stop. StopsInside text.now stop) }
-    ensures stands { IfStops (folded text.now) text.now result }
     ensures more { IfErr result (λ _. HoldsMore (folded text.now)) }
     ensures deep { IfDeep (DeepStop 128 (folded text.now)) result }
+    ensures hole { InHole (in_text (folded text.now)) text.now result }
 {
     let mut gathered = Gathered {
         alloc,

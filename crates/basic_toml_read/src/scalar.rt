@@ -8,7 +8,7 @@ ghost use Rattle.basic_toml_grammar.specs.Sections as sections;
 ghost use Rattle.basic_toml_read.specs.Word as words;
 ghost use Rattle.basic_toml_read.specs.SectionView.{raw_of};
 ghost use Rattle.basic_toml_explain.specs.Stop.{StopsInside};
-ghost use Rattle.basic_toml_read.specs.StopsAt.{stop_of, IsKeyOf, ReadsKeyAt, ReadsStringAt, ReadsWordAt};
+ghost use Rattle.basic_toml_read.specs.StopsAt.{stop_of, IsKeyOf, ReadsKeyAt, ReadsStringAt, ReadsWordAt, WantsEnd};
 
 use crate::front::{begins_string, end_of_word};
 use crate::key_text::KeyText;
@@ -144,6 +144,7 @@ pub(crate) fn word_at<'de>(
 ) -> Result<Valued<'de>, Stop>
     requires { IsCharBoundary text.now at }
     ensures read { ReadsWordAt text.now at result }
+    ensures wanted { IfErr result (WantsEnd end) }
     ensures inside { IfErr result (λ stop. StopsInside text.now stop) }
 {
     let after = end_of_word(text, at);

@@ -2,11 +2,11 @@
 ghost use Rattle.std.specs.Prelude.{IfErr, ◌≡◌, ◌≤◌, ◌+◌, true, length, drop, take, IfOk};
 ghost use Rattle.std.specs.Str.{IsCharBoundary};
 ghost use Rattle.basic_toml_explain.specs.Stop.{StopsInside};
-ghost use Rattle.basic_toml_explain.specs.StopPlaces.{before_value};
-ghost use Rattle.basic_toml_read.specs.StopsReached.{StandsFrom, IfDeep};
-ghost use Rattle.basic_toml_tokens.specs.Text.{text_at};
+ghost use Rattle.basic_toml_explain.specs.StopHoles.{hole_behind};
+ghost use Rattle.basic_toml_read.specs.StopsReached.{IfDeep, InHole, InKeyHole, in_value, in_elements, in_fields, in_row};
+ghost use Rattle.basic_toml_tokens.specs.Text.{text_at, is_comment, after_blanks};
+ghost use Rattle.basic_toml_grammar.specs.Grammar.{after_gap};
 ghost use Rattle.basic_toml_grammar.specs.DeepStops.{DeepKeys, DeepRow, DeepValue, DeepArray, DeepElements, DeepInline, DeepFields};
-ghost use Rattle.basic_toml_grammar.specs.GrammarFaults.{precedes_key};
 ghost use Rattle.basic_toml_tokens.specs.Punctuation.{is_lone};
 ghost use Rattle.basic_toml_read.specs.Gathers.{RaisesTo, ClosesAt, ReadsKeys, ReadsRow, ReadsValue, ReadsElements, ReadsArray, ReadsFields, ReadsInline};
 
@@ -76,8 +76,8 @@ impl<'de> Gathered<'de> {
         requires level { first ≤ 128 }
         ensures read { ReadsKeys text.now at first self.old self.new result }
         ensures inside { IfErr result (λ stop. StopsInside text.now stop) }
-        ensures stands { StandsFrom precedes_key text.now at result }
         ensures deep { IfDeep (DeepKeys 128 first (text_at text.now at)) result }
+        ensures hole { InKeyHole (text_at text.now at) text.now result }
     {
         let mut offset = at;
         let mut level = first;
@@ -122,8 +122,8 @@ impl<'de> Gathered<'de> {
         requires level { level ≤ 128 }
         ensures read { ReadsRow text.now at level self.old self.new result }
         ensures inside { IfErr result (λ stop. StopsInside text.now stop) }
-        ensures stands { StandsFrom precedes_key text.now at result }
         ensures deep { IfDeep (DeepRow 128 level (text_at text.now at)) result }
+        ensures hole { InHole (in_row (text_at text.now at) (hole_behind end)) text.now result }
     {
         let last = self.keys(text, at, level)?;
         let Some(next) = after_punctuation(text, last.end, b'=') else {
@@ -155,8 +155,8 @@ impl<'de> Gathered<'de> {
         requires level { level ≤ 128 }
         ensures read { ReadsValue text.now at level self.old self.new result }
         ensures inside { IfErr result (λ stop. StopsInside text.now stop) }
-        ensures stands { StandsFrom before_value text.now at result }
         ensures deep { IfDeep (DeepValue 128 level (text_at text.now at)) result }
+        ensures hole { InHole (in_value (text_at text.now at) (hole_behind end)) text.now result }
     {
         if let Some(next) = after_punctuation(text, at, b'[') {
             return self.array(text, at, next, level + 1);
@@ -184,8 +184,8 @@ impl<'de> Gathered<'de> {
         requires level { level ≤ 129 }
         ensures read { ReadsArray text.now offset at level self.old self.new result }
         ensures inside { IfErr result (λ stop. StopsInside text.now stop) }
-        ensures stands { StandsFrom before_value text.now at result }
         ensures deep { IfDeep (DeepArray 128 level offset (text_at text.now at)) result }
+        ensures hole { InHole (in_elements (after_gap is_comment (text_at text.now at))) text.now result }
     {
         raise(level, offset)?;
         let from = self.elements.len();
@@ -204,8 +204,8 @@ impl<'de> Gathered<'de> {
         requires level { level ≤ 128 }
         ensures read { ReadsElements text.now start level self.old self.new result }
         ensures inside { IfErr result (λ stop. StopsInside text.now stop) }
-        ensures stands { StandsFrom before_value text.now start result }
         ensures deep { IfDeep (DeepElements 128 level (text_at text.now start)) result }
+        ensures hole { InHole (in_elements (text_at text.now start)) text.now result }
     {
         let mut at = start;
         loop {
@@ -239,8 +239,8 @@ impl<'de> Gathered<'de> {
         requires level { level ≤ 129 }
         ensures read { ReadsInline text.now offset at level self.old self.new result }
         ensures inside { IfErr result (λ stop. StopsInside text.now stop) }
-        ensures stands { StandsFrom precedes_key text.now at result }
         ensures deep { IfDeep (DeepInline 128 level offset (text_at text.now at)) result }
+        ensures hole { InHole (in_fields (after_blanks (text_at text.now at))) text.now result }
     {
         raise(level, offset)?;
         let from = self.rows.len();
@@ -259,8 +259,8 @@ impl<'de> Gathered<'de> {
         requires level { level ≤ 128 }
         ensures read { ReadsFields text.now start level self.old self.new result }
         ensures inside { IfErr result (λ stop. StopsInside text.now stop) }
-        ensures stands { StandsFrom precedes_key text.now start result }
         ensures deep { IfDeep (DeepFields 128 level (text_at text.now start)) result }
+        ensures hole { InHole (in_fields (text_at text.now start)) text.now result }
     {
         if let Some(end) = after_punctuation(text, start, b'}') {
             return Ok(end);

@@ -2,6 +2,7 @@ pub mod ItemData
 pub mod OrderIsFree
 pub mod SectionsEntered
 pub mod SectionsResolved
+pub mod SectionsFaultIsOne
 pub mod SectionsStopped
 pub mod TrieData
 pub mod HeadersMake

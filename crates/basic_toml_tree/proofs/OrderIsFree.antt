@@ -10,8 +10,7 @@ use Rattle.basic_toml_grammar.specs.Sections.{Section}
 use Rattle.basic_toml_grammar.specs.Depth.{depth}
 use Rattle.basic_toml_grammar.specs.Document.{has_clash, tree_of_sections, document_of}
 use Rattle.basic_toml_grammar.specs.Entering.{all_keyed, all_keyed_within}
-use Rattle.basic_toml_grammar.specs.Faults.{Fault, nested_too_deeply}
-use Rattle.basic_toml_grammar.specs.GrammarFaults.{fault_at}
+use Rattle.basic_toml_grammar.specs.Faults.{Fault}
 use Rattle.basic_toml_grammar.specs.Statements.{MeanTheSame}
 use Rattle.basic_toml_grammar.proofs.Nesting.DepthIsTheHighestLevel.{deep_where_one_is}
 use Rattle.basic_toml_grammar.proofs.Naming.EveryClashIsNamed.{named_clashes}
@@ -22,7 +21,8 @@ use Rattle.basic_toml_read.specs.declared.section.Section as code
 use Rattle.basic_toml_read.specs.SectionView.{section_of}
 use Rattle.basic_toml_tree.specs.declared.tree.Tree.{Tree}
 use Rattle.basic_toml_tree.specs.Order.{IsReordering, IsRefusedToo, IsAnswerToo, ResolvesInAnyOrder}
-use Rattle.basic_toml_tree.specs.Resolve.{Resolves, IsResolved, IsUnresolved, memory, deep, clash}
+use Rattle.basic_toml_tree.specs.Resolve.{Resolves, IsResolved, IsUnresolved, memory, refused}
+use Rattle.basic_toml_tree.proofs.SectionsStopped.{fault_is_named}
 use Rattle.basic_toml_grow.proofs.RowsHaveKeys.{sections_have_keys}
 
 -- where sections clash, and where their tree is too deep, they have no document
@@ -70,10 +70,11 @@ module _ (sections others : List Section) (same : MeanTheSame sections others) w
   none_too : all_keyed sections ≡ true → all_keyed_within sections ≡ true → (fault : Fault)
       → IsUnresolved sections fault → IsAnswerToo sections (Err fault) others
   none_too keyed within _ memory = inl refl
-  none_too keyed within _ (deep {offset = offset} there) =
-      inr (too_deep_too (fault_at nested_too_deeply offset) (has_clash sections) refl
-      (λ peace. deep_where_one_is nesting_limit offset sections keyed within peace there))
-  none_too keyed within fault (clash names) = inr (clash_too fault (named_clashes sections fault names))
+  none_too keyed within fault (refused why) = inr (elim (fault_is_named sections fault keyed why) [
+    | inl names ↦ clash_too fault (named_clashes sections fault names)
+    | inr d ↦ too_deep_too fault (has_clash sections) refl
+        (λ peace. deep_where_one_is nesting_limit d.0 sections keyed within peace d.2)
+  ])
 
 mean_the_same : (sections others : List Section) → all_keyed sections ≡ true → IsReordering sections others
     → MeanTheSame sections others

@@ -19,7 +19,7 @@ use Rattle.basic_toml_grammar.specs.Trie.{Trie, nothing, bare, walk, steps_to, p
 use Rattle.basic_toml_grammar.specs.Trie.{section_level_in}
 use Rattle.basic_toml_clash.specs.declared.clash.Clash.TheVariants.{Deep}
 use Rattle.basic_toml_grow.specs.Headers.{IsIn, IsKeptOut}
-use Rattle.basic_toml_tree.specs.Resolve.{Stands}
+use Rattle.basic_toml_tree.specs.FirstStop.{Stands, Entered}
 use Rattle.basic_toml_grow.proofs.HeadersInATrie.{fresh, walk_fresh, steps_fresh}
 use Rattle.basic_toml_grammar.proofs.Tries.SectionsInATrie.{sections_put, sections_data}
 use Rattle.basic_toml_grammar.proofs.Tries.StepsArePaths.{level_is_tree_level, at_section}
@@ -91,11 +91,6 @@ none_deep limit (k ∷ ls) l none shallow =
     []))
     (λ e. none_deep limit ls l e shallow) none
 
--- What is known after some sections: the tree, and that none of them is too deep.
-pub record Entered (earlier : List Section) (t : Trie) : Type 0 where
-  pub stands : Stands earlier t
-  pub shallow : deep_sections nesting_limit (located earlier) ≡ []
-
 -- one more section, which is entered, is too deep, or clashes
 module _ (earlier : List Section) (s : Section) (keys : KeyTexts) (t : Trie) (same : texts s.header ≡ keys)
     (entered : Entered earlier t) where
@@ -116,16 +111,19 @@ module _ (earlier : List Section) (s : Section) (keys : KeyTexts) (t : Trie) (sa
             (subst (λ n. n ≤ nesting_limit) (level_there earlier s t entered.stands) fits);
       }
 
-  pub too_deep : (later : List Section) → IsKeptOut (walk s.is_array s.rows keys t) s.rows
-      (1 + steps_to s.is_array keys t) Deep
-      → Contains (deep_sections nesting_limit (located (earlier ++ s ∷ later))) s.at
-  too_deep later out =
-      let deep : nesting_limit < section_level_in t s =
-      subst (λ n. nesting_limit < max n (rows_level n s.rows)) level_is out in
-      let there : nesting_limit < tree_level (located_after (reverse earlier) s) =
-      subst (λ n. nesting_limit < n) (level_there earlier s t entered.stands) deep in
-      subst (λ ls. Contains (deep_sections nesting_limit ls) s.at) (sym (at_section earlier s later))
-      (deep_among nesting_limit (located earlier) (located_after (reverse earlier) s) _ there)
+  pub too_deep : IsKeptOut (walk s.is_array s.rows keys t) s.rows (1 + steps_to s.is_array keys t) Deep
+      → nesting_limit < section_level_in t s
+  too_deep out = subst (λ n. nesting_limit < max n (rows_level n s.rows)) level_is out
+
+-- it is then one of those that are too deep by their paths
+pub deep_by_path : (earlier : List Section) (s : Section) (t : Trie) (later : List Section) → Entered earlier t
+    → nesting_limit < section_level_in t s
+    → Contains (deep_sections nesting_limit (located (earlier ++ s ∷ later))) s.at
+deep_by_path earlier s t later entered deep =
+    let there : nesting_limit < tree_level (located_after (reverse earlier) s) =
+    subst (λ n. nesting_limit < n) (level_there earlier s t entered.stands) deep in
+    subst (λ ls. Contains (deep_sections nesting_limit ls) s.at) (sym (at_section earlier s later))
+    (deep_among nesting_limit (located earlier) (located_after (reverse earlier) s) _ there)
 
 -- the tree at the end
 pub whole_tree : (sections : List Section) (t : Trie) → Entered sections t → closed (bare t) ≡ tree_of_sections sections

@@ -4,16 +4,13 @@ use Rattle.std.proofs.Common.{ap}
 use Rattle.std.proofs.Common.{sym, ◌∙◌, subst, arith, map, length, take, drop, get_or, set, zero, Option}
 use Rattle.std.proofs.Common.{Some, None, Result, Ok, Err}
 use Rattle.std.proofs.Common.{IsErrAnd}
-use Rattle.std.specs.List.{Contains}
-use Rattle.std.specs.Prelude.{IfSome, IfNone}
 use Rattle.std.proofs.lemmas.List.{map-append, take_more, take_all}
-use Rattle.basic_toml_value.specs.Nesting.{nesting_limit}
 use Rattle.basic_toml_grammar.specs.IndexedPath.{located}
 use Rattle.basic_toml_grammar.specs.Entering.{all_keyed, is_keyed}
 use Rattle.basic_toml_grammar.specs.Nodes.{is_made}
 use Rattle.basic_toml_grammar.specs.Steps.{Path}
-use Rattle.basic_toml_grammar.specs.Faults.{Fault}
-use Rattle.basic_toml_grammar.specs.NestingFaults.{deep_sections}
+use Rattle.basic_toml_grammar.specs.Faults.{Fault, nested_too_deeply}
+use Rattle.basic_toml_grammar.specs.GrammarFaults.{fault_at}
 use Rattle.basic_toml_grammar.specs.Trie.{Trie, walk, steps_to}
 use Rattle.basic_toml_explain.specs.Error.{want_of_memory}
 use Rattle.basic_toml_read.specs.declared.section.Section as code
@@ -24,25 +21,24 @@ use Rattle.basic_toml_clash.specs.Clash.{IsFaultOf, NamesClash, NamesStop, row_s
 use Rattle.basic_toml_grow.specs.Headers.{IsIn, IsKeptOut}
 use Rattle.basic_toml_grow.specs.declared.item.Table.{Table}
 use Rattle.basic_toml_tree.specs.declared.tree.Tree.{Tree}
-use Rattle.basic_toml_clash.specs.Crossed.{IsCrossed, NoneIsCrossed, crossed_faults}
+use Rattle.basic_toml_clash.specs.Crossed.{first_crossed}
 use Rattle.basic_toml_grow.specs.Item.{table_trie}
-use Rattle.basic_toml_grammar.specs.NamedClash as grammar
-use Rattle.basic_toml_grammar.specs.NamedClash.{dotted_fault, dotted_faults, repeated_faults_of, section_faults}
+use Rattle.basic_toml_grammar.specs.NamedClash.{dotted_fault}
 use Rattle.basic_toml_grammar.specs.Stops.{Stop, at_header, is_named, is_passed, stops, stop_fault}
 use Rattle.basic_toml_grammar.specs.TrieStops.{try_by_keys}
-use Rattle.std.specs.List.{flat_map}
-use Rattle.basic_toml_tree.proofs.SectionsStopped.{section_stops, same_fault, first_contained}
+use Rattle.basic_toml_tree.proofs.SectionsStopped.{same_fault}
 use Rattle.basic_toml_grammar.specs.Sections.{Key, Section}
 use Rattle.std.proofs.lemmas.Bool.{false≢true, and_parts, and_from}
 use Rattle.basic_toml_grow.specs.Origins.{Origins, table_within, rows_origins}
 use Rattle.basic_toml_grow.specs.Ways.{way, GrowsAlong, sections_origins}
 use Rattle.basic_toml_grow.proofs.Origins.OriginsSeen.{fresh_within}
 use Rattle.basic_toml_tree.proofs.Origins.SectionsPlaceOrigins.{Brought, none_brought, more_brought}
-use Rattle.basic_toml_tree.specs.Resolve.{Resolves, IsResolved, IsUnresolved, memory, deep, clash, head}
+use Rattle.basic_toml_tree.specs.FirstStop.{Entered, StopsSection, deep, clash, section, value}
+use Rattle.basic_toml_tree.specs.Resolve.{Resolves, IsResolved, IsUnresolved, memory, refused, head}
 use Rattle.basic_toml_grow.proofs.HeadersInATrie.{fresh}
 use Rattle.basic_toml_grow.proofs.RowsHaveKeys.{sections_have_keys}
 use Rattle.basic_toml_tree.proofs.TrieData.{table_trie_data}
-use Rattle.basic_toml_tree.proofs.SectionsEntered.{Entered, one_more, too_deep, whole_tree}
+use Rattle.basic_toml_tree.proofs.SectionsEntered.{one_more, too_deep, whole_tree}
 use Rattle.basic_toml_tree.proofs.SectionsEntered.{no_clash}
 use Rattle.basic_toml_tree.proofs.SectionsEntered.{fits_all, split_at}
 
@@ -139,15 +135,17 @@ module _ (old now : List code.Section) (n : ℕ) (t : Trie) (goes : Goes old now
       refl keyed_before goes.entered.stands (taken_count old n (omega (arith, goes.count))) brought grows)
 
   -- a section that is not entered, and its fault
-  module _ (keyed : all_keyed (map section_of old) ≡ true) (none : NoneIsCrossed old) where
-    stop_named : (x : Stop)
-        → try_by_keys s.is_array (rows_view s.rows.items) (header_texts s.header.items) t ≡ stops x
-        → grammar.NamesClash (map section_of old) (stop_fault (section_of s) x)
-    stop_named x tried =
-        subst (λ ss. grammar.NamesClash ss (stop_fault (section_of s) x)) (sym split)
-        (section_stops (map section_of (take n old)) (section_of s) (header_texts s.header.items) t refl
-        goes.entered.stands (map section_of (drop (suc n) old)) (subst (λ ss. all_keyed ss ≡ true) split keyed)
-        (subst (λ ss. flat_map (λ s. dotted_faults s.rows) ss ≡ []) split none) x tried)
+  module _ (none : first_crossed (map section_of old) ≡ None) where
+    first : (fault : Fault) → StopsSection t (section_of s) fault → IsUnresolved (map section_of old) fault
+    first fault stopped = refused (section none (record {
+      before = map section_of (take n old);
+      here = section_of s;
+      later = map section_of (drop (suc n) old);
+      parts = split;
+      so_far = t;
+      entered = goes.entered;
+      stopped = stopped;
+    }))
 
     barred : (fault : Fault) (now : code.Section) (x y : Stop) → now.at ≡ s.at → now.header ≡ s.header
         → fault ≡ stop_fault (section_of now) x → y ≡ x
@@ -155,8 +153,8 @@ module _ (old now : List code.Section) (n : ℕ) (t : Trie) (goes : Goes old now
         → IsUnresolved (map section_of old) fault
     barred fault now x y at header is same tried =
         let keys : (section_of now).header ≡ (section_of s).header = rw header refl in
-        clash (subst (λ f. grammar.NamesClash (map section_of old) f)
-        (sym (is ∙ same_fault (section_of now) (section_of s) keys at x)) (stop_named x (tried ∙ ap stops same)))
+        first fault (subst (λ (f : Fault). StopsSection t (section_of s) f)
+        (sym (is ∙ same_fault (section_of now) (section_of s) keys at x)) (clash (tried ∙ ap stops same)))
 
     named : (c : Clash) (fault : Fault)
         → IsKeptOut (walk s.is_array (rows_view s.rows.items) (header_texts s.header.items) t)
@@ -167,11 +165,10 @@ module _ (old now : List code.Section) (n : ℕ) (t : Trie) (goes : Goes old now
     named Memory fault out stop now same header is =
         subst (λ f. IsUnresolved (map section_of old) f) (sym is) memory
     named Deep fault out stop now same header is =
-        let there : Contains (deep_sections nesting_limit (located (map section_of old))) s.at =
-        subst (λ ss. Contains (deep_sections nesting_limit (located ss)) s.at) (sym split)
-        (too_deep (map section_of (take n old)) (section_of s) (header_texts s.header.items) t refl
-        goes.entered (map section_of (drop (suc n) old)) out) in
-        subst (λ f. IsUnresolved (map section_of old) f) (sym is) (rw same (deep there))
+        let over = too_deep (map section_of (take n old)) (section_of s) (header_texts s.header.items) t refl
+        goes.entered out in
+        first fault (subst (λ (f : Fault). StopsSection t (section_of s) f)
+        (sym (is ∙ ap (fault_at nested_too_deeply) same)) (deep over))
     named (Header k) fault out stop now same header is =
         barred fault now (at_header k) stop.0 same header is stop.1.0 stop.1.1
     named Named fault out stop now same header is =
@@ -196,24 +193,14 @@ pub want_of : (ss : List code.Section) (r : Result Tree Fault) → IsErrAnd r (�
 want_of ss (Ok tree) is = absurd is
 want_of ss (Err fault) is = λ keyed. subst (λ (f : Fault). IsUnresolved (map section_of ss) f) (sym is) memory
 
-pub goes_on_from_a_value : (slice ss : List code.Section) (o : Option ℕ) (at : ℕ) (fault : Fault) → slice ≡ ss
-    → o ≡ Some at → IfSome o (λ at. IsCrossed slice at) → fault ≡ dotted_fault at
-    → IsUnresolved (map section_of ss) fault
-goes_on_from_a_value slice ss None at fault same is there named = cc
-goes_on_from_a_value slice ss (Some b) at fault same is there named =
-    let faults = subst (λ (ss : List code.Section). IsCrossed ss b) same there in
-    let this : dotted_fault b ≡ fault = ap dotted_fault (some_same is) ∙ sym named in
-    clash (subst (λ f. grammar.NamesClash (map section_of ss) f) this
-    (first_contained (crossed_faults ss) (flat_map repeated_faults_of (map section_of ss)
-    ++ section_faults (located (map section_of ss))) (dotted_fault b) faults))
-  where
-    some_same : Some b ≡ Some at → b ≡ at
-    some_same e = cc
+pub goes_on_from_a_value : (ss : List code.Section) (at : ℕ) (fault : Fault)
+    → first_crossed (map section_of ss) ≡ Some at → fault ≡ dotted_fault at → IsUnresolved (map section_of ss) fault
+goes_on_from_a_value ss at fault there named =
+    subst (λ (f : Fault). IsUnresolved (map section_of ss) f) (sym named) (refused (value there))
 
-pub none_crossed : (slice : List code.Section) (o : Option ℕ) → ((at : ℕ) → o ≡ Some at → ⊥)
-    → IfNone o (NoneIsCrossed slice) → NoneIsCrossed slice
-none_crossed slice None other none = none
-none_crossed slice (Some at) other none = absurd (other at refl)
+pub none_crossed : (o : Option ℕ) → ((at : ℕ) → o ≡ Some at → ⊥) → o ≡ None
+none_crossed None other = refl
+none_crossed (Some at) other = absurd (other at refl)
 
 pub resolved : (old : List code.Section) (n : ℕ) (tree : Tree)
     → Goes old tree.sections.items n (table_trie tree.root.value)

@@ -1,20 +1,30 @@
--- What stops a section that is put into the tree after others is named in their list.
-use Rattle.std.proofs.Common.{◌≡◌, inl, inr, true, false, Bool, List, [], ◌∷◌, ◌++◌, refl, ap, sym, ◌∙◌, subst, arith, ◌<◌}
+-- The fault of a list that has no tree names a clash of it, or a section that is too deep.
+use Rattle.std.proofs.Common.{◌≡◌, ◌⊎◌, inl, inr, ℕ, true, false, Bool, List, [], ◌∷◌, ◌++◌, refl, ap, sym, ◌∙◌}
+use Rattle.std.proofs.Common.{subst, arith, ◌<◌, Option, None}
 use Rattle.std.specs.Prelude.{◌&&◌, Contains}
 use Rattle.std.specs.List.{flat_map}
 use Rattle.basic_toml_grammar.specs.Sections.{Section, texts, KeyTexts}
 use Rattle.basic_toml_grammar.specs.Entering.{is_keyed, all_keyed}
 use Rattle.basic_toml_grammar.specs.Faults.{Fault}
-use Rattle.basic_toml_grammar.specs.NamedClash.{NamesClash, dotted_faults, first_of_two}
+use Rattle.basic_toml_grammar.specs.Faults.{nested_too_deeply}
+use Rattle.basic_toml_grammar.specs.GrammarFaults.{fault_at}
+use Rattle.basic_toml_grammar.specs.IndexedPath.{located}
+use Rattle.basic_toml_grammar.specs.NestingFaults.{deep_sections}
+use Rattle.basic_toml_grammar.specs.NamedClash.{NamesClash, dotted_fault, dotted_faults, repeated_faults_of}
+use Rattle.basic_toml_grammar.specs.NamedClash.{section_faults, first_of_two}
+use Rattle.basic_toml_value.specs.Nesting.{nesting_limit}
 use Rattle.basic_toml_grammar.specs.Stops.{Stop, at_header, is_named, is_passed, at_row, stops, stop_fault}
 use Rattle.basic_toml_grammar.specs.TrieStops.{try_by_keys}
 use Rattle.basic_toml_grammar.specs.Trie.{Trie, nothing}
 use Rattle.basic_toml_grammar.proofs.Naming.TrieStopsAreNamed.{trie_stops_named}
-use Rattle.basic_toml_tree.specs.Resolve.{Stands}
+use Rattle.basic_toml_tree.specs.FirstStop.{Stands, StopsSection, deep, clash, SectionsFault, value, section}
+use Rattle.basic_toml_clash.specs.Crossed.{first_crossed}
+use Rattle.basic_toml_clash.proofs.CrossedIsFault.{Tells, tells_sections}
+use Rattle.basic_toml_tree.proofs.SectionsEntered.{deep_by_path}
 use Rattle.basic_toml_grow.proofs.HeadersStopped.{tried_fresh}
 
 -- the first sections of a list with keys, and the next one
-keyed_before : (earlier : List Section) (s : Section) (later : List Section)
+pub keyed_before : (earlier : List Section) (s : Section) (later : List Section)
     → all_keyed (earlier ++ s ∷ later) ≡ true → all_keyed earlier ≡ true
 keyed_before [] s later keyed = refl
 keyed_before (r ∷ earlier) s later keyed = go (is_keyed r) (keyed_before earlier s later) keyed
@@ -64,3 +74,38 @@ same_fault r s header at (at_row keys k) = rw header refl
 pub first_contained : (a b : List Fault) (f : Fault) → Contains a f → Contains (first_of_two a b) f
 first_contained [] b f c = let h : c.0 < 0 = c.1 in absurd (omega arith)
 first_contained (g ∷ a) b f c = c
+
+-- where no value is crossed, no row goes on from one
+pub none_dotted : (sections : List Section) → first_crossed sections ≡ None
+    → flat_map (λ s. dotted_faults s.rows) sections ≡ []
+none_dotted sections none =
+    subst (λ (o : Option ℕ). Tells o (flat_map (λ s. dotted_faults s.rows) sections)) none (tells_sections sections)
+
+-- the fault of a list of which rows and array headers have keys
+pub fault_is_named : (sections : List Section) (fault : Fault) → all_keyed sections ≡ true
+    → SectionsFault sections fault
+    → NamesClash sections fault
+    ⊎ ((offset : ℕ) × (fault ≡ fault_at nested_too_deeply offset)
+    × Contains (deep_sections nesting_limit (located sections)) offset)
+fault_is_named sections _ keyed (value {at = at} there) =
+    inl (first_contained (flat_map (λ s. dotted_faults s.rows) sections)
+    (flat_map repeated_faults_of sections ++ section_faults (located sections)) (dotted_fault at)
+    (subst (λ (o : Option ℕ). Tells o (flat_map (λ s. dotted_faults s.rows) sections)) there (tells_sections sections)))
+fault_is_named sections fault keyed (section none first) = go first.stopped
+  where
+    there : all_keyed (first.before ++ first.here ∷ first.later) ≡ true
+    there = subst (λ (ss : List Section). all_keyed ss ≡ true) first.parts keyed
+
+    go : {fault : Fault} → StopsSection first.so_far first.here fault
+        → NamesClash sections fault
+        ⊎ ((offset : ℕ) × (fault ≡ fault_at nested_too_deeply offset)
+        × Contains (deep_sections nesting_limit (located sections)) offset)
+    go (clash {stop = stop} tried) =
+        inl (subst (λ (ss : List Section). NamesClash ss (stop_fault first.here stop)) (sym first.parts)
+        (section_stops first.before first.here (texts first.here.header) first.so_far refl first.entered.stands
+        first.later there (none_dotted (first.before ++ first.here ∷ first.later)
+        (ap first_crossed (sym first.parts) ∙ none)) stop tried))
+    go (deep over) =
+        inr (first.here.at, refl,
+        subst (λ (ss : List Section). Contains (deep_sections nesting_limit (located ss)) first.here.at)
+        (sym first.parts) (deep_by_path first.before first.here first.so_far first.later first.entered over))

@@ -2,6 +2,7 @@ pub mod Data
 pub mod Nodes
 pub mod Origin
 pub mod Outer
+pub mod FirstStop
 pub mod Resolve
 pub mod Order
 pub mod Keys

@@ -1,35 +1,23 @@
 -- What `resolve` answers.
-use Rattle.std.specs.Prelude.{◌≡◌, ◌⊎◌, ◌≤◌, ℕ, List, [], map, Contains, true, false, Some, None, Result, Ok, Err}
+use Rattle.std.specs.Prelude.{◌≡◌, ◌≤◌, ℕ, List, map, true, false, Result, Ok, Err}
 use Rattle.basic_toml_value.specs.Nesting.{nesting_limit}
 use Rattle.basic_toml_grammar.specs.Sections.{Key, Section}
 use Rattle.basic_toml_grammar.specs.Steps.{Path}
 use Rattle.basic_toml_grammar.specs.Nodes.{is_made}
-use Rattle.basic_toml_grammar.specs.Standing as standing
-use Rattle.basic_toml_grammar.specs.Trie.{Trie, trie, nothing, no_tries, put_sections}
 use Rattle.basic_toml_grammar.specs.IndexedPath.{located}
 use Rattle.basic_toml_grammar.specs.Depth.{depth}
 use Rattle.basic_toml_grammar.specs.Document.{has_clash, tree_of_sections}
 use Rattle.basic_toml_grammar.specs.Entering.{all_keyed, all_keyed_within}
-use Rattle.basic_toml_grammar.specs.Faults.{Fault, nested_too_deeply}
-use Rattle.basic_toml_grammar.specs.GrammarFaults.{fault_at}
-use Rattle.basic_toml_grammar.specs.NamedClash.{NamesClash}
-use Rattle.basic_toml_grammar.specs.NestingFaults.{deep_sections}
+use Rattle.basic_toml_grammar.specs.Faults.{Fault}
 use Rattle.basic_toml_explain.specs.Error.{want_of_memory}
 use Rattle.basic_toml_read.specs.declared.section.Section as code
 use Rattle.basic_toml_read.specs.SectionView.{section_of}
 use Rattle.basic_toml_tree.specs.declared.tree.Tree.{Tree}
 use Rattle.basic_toml_tree.specs.Data.{table_data}
+use Rattle.basic_toml_tree.specs.FirstStop.{Stands, SectionsFault}
 use Rattle.basic_toml_grow.specs.Item.{table_trie}
 use Rattle.basic_toml_grow.specs.Origins.{table_within}
 use Rattle.basic_toml_grow.specs.Ways.{sections_origins}
-
--- a trie in which nothing stands but the root
-abbrev pub only_root : Trie
-only_root = trie (Some (standing.table false false false)) None no_tries
-
--- the trie that sections are put into, which begins with a root
-abbrev pub Stands : List Section → Trie → Type 0
-Stands sections t = (put_sections sections nothing ≡ Some t) ⊎ ((sections ≡ []) × (t ≡ only_root))
 
 -- where a section begins, and the keys of its header
 abbrev pub head : Section → ℕ × List Key
@@ -47,12 +35,10 @@ pub record IsResolved (sections : List Section) (tree : Tree) : Type 0 where
   pub origins : (p : Path) → is_made (located sections) p ≡ false
       → (table_within tree.root.value).below p ≡ sections_origins 0 (located sections) p
 
--- Why a list has no tree: memory was refused, a section makes the tree too deep, or it names a clash that stands.
+-- why a list has no tree: memory was refused, or its sections do not go into one
 pub data IsUnresolved (sections : List Section) : Fault → Type 0 where
   memory : IsUnresolved sections want_of_memory
-  deep : {offset : ℕ} → Contains (deep_sections nesting_limit (located sections)) offset
-      → IsUnresolved sections (fault_at nested_too_deeply offset)
-  clash : {fault : Fault} → NamesClash sections fault → IsUnresolved sections fault
+  refused : {fault : Fault} → SectionsFault sections fault → IsUnresolved sections fault
 
 -- of a list whose rows and array headers have keys
 abbrev pub Resolves : List code.Section → Result Tree Fault → Type 0

@@ -6,6 +6,7 @@
 #![tactic(auto)]
 
 mod entries;
+pub mod laws;
 mod node;
 mod spot;
 mod trail;

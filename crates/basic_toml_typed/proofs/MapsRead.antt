@@ -1,23 +1,31 @@
 -- Reading the entries of a table, one after another.
-use Rattle.std.proofs.Common.{◌≡◌, ℕ, true, false, List, [], ◌∷◌, ◌++◌, Global, IsTrue, Option, Some, None, String}
-use Rattle.std.proofs.Common.{refl, sym, subst, ap, ◌∙◌, arith, map, cond, Bool}
+use Rattle.std.proofs.Common.{◌≡◌, ◌⊎◌, inl, inr, ℕ, zero, suc, ◌+◌, true, false, List, [], ◌∷◌, ◌++◌, Global, IsTrue}
+use Rattle.std.proofs.Common.{Option, Some, None, String, refl, sym, subst, ap, ◌∙◌, arith, map, cond, Bool, Bor}
+use Rattle.std.proofs.Common.{take, drop, length, length-drop, codes}
 use Rattle.std.specs.Str.{bytes_eq}
 use Rattle.std.specs.String.{string_bytes, string_cmp}
 use Rattle.std.specs.BTreeMap.{BTreeMap, get_by_text, IsEmpty, Updates, is_at}
 use Rattle.std.specs.Map.{lookup, update}
 use Rattle.std.specs.Cmp.Lexicographic.{slice_cmp}
 use Rattle.std.specs.Ordering.{nat_cmp}
-use Rattle.std.proofs.lemmas.List.{append_assoc, append-nil}
+use Rattle.std.proofs.lemmas.List.{map-append, take-append-drop}
 use Rattle.std.proofs.lemmas.Map.Text.{btree_map_updates_text}
 use Rattle.std.proofs.lemmas.Slice.Eq.{bytes_eq-Decides}
 use Rattle.basic_toml_value.specs.Data.{Data, integer, float, boolean, string, array, table}
 use Rattle.basic_toml_value.specs.Data.{Members, no_members, member}
 use Rattle.basic_toml_value.specs.Keys.{is_among, are_distinct}
 use Rattle.basic_toml_value.specs.Pairs.{keys_of, value_at}
-use Rattle.basic_toml_tree.specs.Nodes.{is_table, entries_in, paired, data_among}
+use Rattle.basic_toml_tree.specs.declared.entries.Entries.{Entries}
+use Rattle.basic_toml_tree.specs.declared.node.Node.{Node}
+use Rattle.basic_toml_tree.specs.Nodes.{node_data, is_table, entries_in, entries_left, paired, data_among}
+use Rattle.basic_toml_tree.specs.Stands.{AtKey, GivesEntry}
 use Rattle.basic_toml_error.specs.Fault.{Fault}
-use Rattle.basic_toml_typed.specs.TypeAnswers.{OnlyMemory}
+use Rattle.basic_toml_error.specs.NodeFaults.{IsFault}
+use Rattle.basic_toml_typed.specs.TypeAnswers.{OnlyMemory, OrMemory}
+use Rattle.basic_toml_typed.specs.TypeFaults.{are_readable, map_faults, wrong_type}
 use Rattle.basic_toml_typed.specs.TypeReads.{are_taken, maybe_reads, map_reads, map_takes}
+use Rattle.basic_toml_typed.proofs.ArraysRead.{at_number, one_taken, all_taken, read_more}
+use Rattle.basic_toml_typed.proofs.FieldsFail.{made_so}
 
 -- ---- entries whose keys differ
 
@@ -55,27 +63,30 @@ taken_at : (takes : Data → Type 0) (before : List (List ℕ × Data)) (k : Lis
 taken_at takes [] k d after taken = taken.0
 taken_at takes (p ∷ ps) k d after taken = taken_at takes ps k d after taken.1
 
+-- nothing stands before all
+all_left : {X : Type 0} (n : ℕ) (all : List X) → drop n all ≡ all → take n all ≡ []
+all_left zero all same = refl
+all_left (suc n) [] same = refl
+all_left (suc n) (x ∷ xs) same =
+    let longer : length (drop n xs) ≡ suc (length xs) = ap length same in
+    absurd (omega (arith, longer, length-drop n xs))
+
+-- the entries before the one that comes next, it, and those after it
+split_at : {X : Type 0} (n : ℕ) (all rest : List X) (x : X) → drop n all ≡ x ∷ rest → all ≡ take n all ++ x ∷ rest
+split_at n all rest x next = sym (take-append-drop n all) ∙ ap (λ l. take n all ++ l) next
+
 -- ---- a map of entries
 
--- These entries are left; the map has what was read of the others, and the keys of all differ.
-pub record IsReadSoFar {A : Type 0} (reads : Data → A → Type 0) (all left : List (List ℕ × Data))
+-- These entries of the table are left; the map has what was read of those before them, and the keys of all differ.
+pub record IsReadSoFar {A : Type 0} (reads : Data → A → Type 0) (table : Node) (left : Entries)
     (read : BTreeMap (String Global) A) : Type 0 where
-  pub before : List (List ℕ × Data)
-  pub split : all ≡ before ++ left
-  pub distinct : IsTrue (are_distinct (keys_of all))
-  pub held : (key : List ℕ) → maybe_reads reads (value_at before key) (get_by_text read key)
+  pub of : left.table ≡ table
+  pub distinct : IsTrue (are_distinct (keys_of (entries_in (node_data table))))
+  pub held : (key : List ℕ)
+      → maybe_reads reads (value_at (take left.at (entries_in (node_data table))) key) (get_by_text read key)
+  pub readable : are_readable reads (map (λ p. p.1) (take left.at (entries_in (node_data table))))
 
 module _ {A : Type 0} (reads : Data → A → Type 0) where
-  pub none_read : (all left : List (List ℕ × Data)) (read : BTreeMap (String Global) A) → left ≡ all → IsEmpty read
-      → IsTrue (are_distinct (keys_of all)) → IsReadSoFar reads all left read
-  none_read all left read same empty distinct = record {
-    before = [];
-    split = sym same;
-    distinct = distinct;
-    held = λ key. subst (λ (es : List (String Global × A)). maybe_reads reads None
-        (lookup (is_at (λ k. slice_cmp nat_cmp key (string_bytes k))) es)) (sym empty) tt;
-  }
-
   -- what the map has at a key once one more entry was read
   held_after : (before : List (List ℕ × Data)) (k : List ℕ) (d : Data) (x : A) (old new : Option A) (key : List ℕ)
       → (same : Bool) → bytes_eq k key ≡ same → value_at before k ≡ None → new ≡ cond same (Some x) old → reads d x
@@ -90,82 +101,43 @@ module _ {A : Type 0} (reads : Data → A → Type 0) where
       let other : bytes_eq key k ≡ false = grind (arith, bytes_eq-Decides k key, bytes_eq-Decides key k, is) in
       rw (other_at before k d key other, written) held
 
-  -- the entries before and after the next one, whose key is at none of those before it
-  record IsNext (all left rest : List (List ℕ × Data)) (k : List ℕ) (d : Data) (before : List (List ℕ × Data))
-      : Type 0 where
-    split : all ≡ before ++ (k, d) ∷ rest
-    fresh : value_at before k ≡ None
-
-  next_of : (all left rest : List (List ℕ × Data)) (read : BTreeMap (String Global) A) (k : List ℕ) (d : Data)
-      → (so_far : IsReadSoFar reads all left read) → left ≡ (k, d) ∷ rest → IsNext all left rest k d so_far.before
-  next_of all left rest read k d so_far next =
-      let split : all ≡ so_far.before ++ (k, d) ∷ rest = so_far.split ∙ ap (λ ps. so_far.before ++ ps) next in
-      record {
-        split = split;
-        fresh = not_before so_far.before k d rest
-            (subst (λ (ps : List (List ℕ × Data)). IsTrue (are_distinct (keys_of ps))) split so_far.distinct);
-      }
-
-  pub entry_read : (all left rest : List (List ℕ × Data)) (old new : BTreeMap (String Global) A) (k : List ℕ) (d : Data)
-      → (key : String Global) (x : A) → IsReadSoFar reads all left old → left ≡ (k, d) ∷ rest → string_bytes key ≡ k
-      → Updates string_cmp old new key (Some x) → reads d x → IsReadSoFar reads all rest new
-  entry_read all left rest old new k d key x so_far next text updates read =
-      let there : IsNext all left rest k d so_far.before = next_of all left rest old k d so_far next in
-      record {
-        before = so_far.before ++ (k, d) ∷ [];
-        split = there.split ∙ sym (append_assoc so_far.before ((k, d) ∷ []) rest);
-        distinct = so_far.distinct;
-        held = λ q.
-            let written : get_by_text new q ≡ update bytes_eq (get_by_text old) (string_bytes key) (Some x) q =
-            btree_map_updates_text (string_bytes key) old new (Some x) updates q in
-            held_after so_far.before k d x (get_by_text old q) (get_by_text new q) q (bytes_eq k q) refl there.fresh
-            (subst (λ (bs : List ℕ). get_by_text new q ≡ cond (bytes_eq bs q) (Some x) (get_by_text old q)) text
-            written) read (so_far.held q);
-      }
-
-  pub all_read : (d : Data) (left : List (List ℕ × Data)) (read : BTreeMap (String Global) A) → IsTrue (is_table d)
-      → IsReadSoFar reads (entries_in d) left read → left ≡ [] → map_reads reads d read
-  unfolding map_reads
-  all_read (integer _) left read is so_far none = absurd (cc)
-  all_read (float _) left read is so_far none = absurd (cc)
-  all_read (boolean _) left read is so_far none = absurd (cc)
-  all_read (string _) left read is so_far none = absurd (cc)
-  all_read (array _) left read is so_far none = absurd (cc)
-  all_read (table members) left read is so_far none = λ key.
-      let all : paired members ≡ so_far.before =
-      so_far.split ∙ ap (λ ps. so_far.before ++ ps) none ∙ append-nil so_far.before in
-      rw (among_paired members key, all) (so_far.held key)
-
   -- where the data at a key is read, it has a value
   some_read : (d : Data) (o : Option A) → maybe_reads reads (Some d) o → (x : A) × reads d x
   some_read d None h = absurd h
   some_read d (Some x) h = (x, h)
 
-  pub entry_refused : (takes : Data → Type 0) (d : Data) (left rest : List (List ℕ × Data))
-      → (read : BTreeMap (String Global) A) (k : List ℕ) (below : Data) (fault : Fault)
-      → IsReadSoFar reads (entries_in d) left read → left ≡ (k, below) ∷ rest
-      → OnlyMemory (takes below) (reads below) fault
-      → OnlyMemory (map_takes takes d) (map_reads {A = A} reads d) fault
+  -- a map is read from a table whose entries are all read
+  map_read : (d : Data) (read : BTreeMap (String Global) A) → IsTrue (is_table d)
+      → ((key : List ℕ) → maybe_reads reads (value_at (entries_in d) key) (get_by_text read key)) → map_reads reads d read
+  unfolding map_reads
+  map_read (integer _) read is held = absurd (cc)
+  map_read (float _) read is held = absurd (cc)
+  map_read (boolean _) read is held = absurd (cc)
+  map_read (string _) read is held = absurd (cc)
+  map_read (array _) read is held = absurd (cc)
+  map_read (table members) read is held = λ key. rw (among_paired members key) (held key)
+
+  -- an entry that is not read
+  refused_at : (takes : Data → Type 0) (d : Data) (before after : List (List ℕ × Data)) (k : List ℕ) (below : Data)
+      → (fault : Fault) → entries_in d ≡ before ++ (k, below) ∷ after → value_at before k ≡ None
+      → OnlyMemory (takes below) (reads below) fault → OnlyMemory (map_takes takes d) (map_reads {A = A} reads d) fault
   unfolding map_takes map_reads
-  entry_refused takes (integer _) left rest read k below fault so_far next refused =
+  refused_at takes (integer _) before after k below fault split fresh refused =
       record { taken = λ h. absurd h; held = λ whole h. absurd h }
-  entry_refused takes (float _) left rest read k below fault so_far next refused =
+  refused_at takes (float _) before after k below fault split fresh refused =
       record { taken = λ h. absurd h; held = λ whole h. absurd h }
-  entry_refused takes (boolean _) left rest read k below fault so_far next refused =
+  refused_at takes (boolean _) before after k below fault split fresh refused =
       record { taken = λ h. absurd h; held = λ whole h. absurd h }
-  entry_refused takes (string _) left rest read k below fault so_far next refused =
+  refused_at takes (string _) before after k below fault split fresh refused =
       record { taken = λ h. absurd h; held = λ whole h. absurd h }
-  entry_refused takes (array _) left rest read k below fault so_far next refused =
+  refused_at takes (array _) before after k below fault split fresh refused =
       record { taken = λ h. absurd h; held = λ whole h. absurd h }
-  entry_refused takes (table members) left rest read k below fault so_far next refused =
-      let there : IsNext (paired members) left rest k below so_far.before =
-      next_of (paired members) left rest read k below so_far next in
+  refused_at takes (table members) before after k below fault split fresh refused =
       let here : data_among members k ≡ Some below =
-      among_paired members k ∙ ap (λ ps. value_at ps k) there.split
-      ∙ first_at so_far.before k below rest there.fresh in
+      among_paired members k ∙ ap (λ ps. value_at ps k) split ∙ first_at before k below after fresh in
       record {
-        taken = λ h. refused.taken (taken_at takes so_far.before k below rest
-            (subst (λ (ps : List (List ℕ × Data)). are_taken takes (map (λ p. p.1) ps)) there.split h));
+        taken = λ h. refused.taken (taken_at takes before k below after
+            (subst (λ (ps : List (List ℕ × Data)). are_taken takes (map (λ p. p.1) ps)) split h));
         held = λ whole h.
             let value = some_read below (get_by_text whole k)
             (subst (λ (o : Option Data). maybe_reads reads o (get_by_text whole k)) here (h k)) in
@@ -182,4 +154,118 @@ module _ {A : Type 0} (reads : Data → A → Type 0) where
   no_table takes (array _) fault other = record { taken = λ h. absurd h; held = λ whole h. absurd h }
   no_table takes (table _) fault other = absurd (cc)
 
-pub ruleset maps_read = (none_read, entry_read, all_read, entry_refused, no_table)
+module _ {A : Type 0} (reads : Data → A → Type 0) (table : Node) where
+  pub none_read : (left : Entries) (read : BTreeMap (String Global) A) → left.table ≡ table
+      → entries_left left ≡ entries_in (node_data table) → IsEmpty read
+      → IsTrue (are_distinct (keys_of (entries_in (node_data table)))) → IsReadSoFar reads table left read
+  none_read left read of whole empty distinct =
+      let all : drop left.at (entries_in (node_data table)) ≡ entries_in (node_data table) =
+      subst (λ (from : Node). drop left.at (entries_in (node_data from)) ≡ entries_in (node_data table)) of whole in
+      let none : take left.at (entries_in (node_data table)) ≡ [] = all_left left.at (entries_in (node_data table)) all in
+      record {
+        of = of;
+        distinct = distinct;
+        held = λ key. rw none (subst (λ (es : List (String Global × A)). maybe_reads reads None
+            (lookup (is_at (λ k. slice_cmp nat_cmp key (string_bytes k))) es)) (sym empty) tt);
+        readable = rw none ([], tt);
+      }
+
+  -- what comes next: its key stands at none of the entries before it
+  record IsNext (left rest : Entries) (k : List ℕ) (d : Data) : Type 0 where
+    first : drop left.at (entries_in (node_data table)) ≡ (k, d) ∷ drop rest.at (entries_in (node_data table))
+    split : entries_in (node_data table)
+        ≡ take left.at (entries_in (node_data table)) ++ (k, d) ∷ drop rest.at (entries_in (node_data table))
+    fresh : value_at (take left.at (entries_in (node_data table))) k ≡ None
+
+  next_of : (left rest : Entries) (read : BTreeMap (String Global) A) (key : Bor (List ℕ)) (value : Node)
+      → IsReadSoFar reads table left read → GivesEntry left (Some (key, value)) rest
+      → IsNext left rest key.now (node_data value)
+  next_of left rest read key value so_far gives =
+      let all : List (List ℕ × Data) = entries_in (node_data table) in
+      let first : drop left.at all ≡ (key.now, node_data value) ∷ drop rest.at all =
+      subst (λ (from : Node). drop left.at all ≡ (key.now, node_data value) ∷ drop rest.at (entries_in (node_data from)))
+      (gives.2 ∙ so_far.of)
+      (subst (λ (from : Node). drop left.at (entries_in (node_data from)) ≡ (key.now, node_data value) ∷ entries_left rest)
+      so_far.of gives.0) in
+      let split : all ≡ take left.at all ++ (key.now, node_data value) ∷ drop rest.at all =
+      split_at left.at all (drop rest.at all) (key.now, node_data value) first in
+      record {
+        first = first;
+        split = split;
+        fresh = not_before (take left.at all) key.now (node_data value) (drop rest.at all)
+            (subst (λ (ps : List (List ℕ × Data)). IsTrue (are_distinct (keys_of ps))) split so_far.distinct);
+      }
+
+  pub entry_read : (left rest : Entries) (old new : BTreeMap (String Global) A) (key : Bor (List ℕ)) (value : Node)
+      → (copy : String Global) (x : A) → IsReadSoFar reads table left old → GivesEntry left (Some (key, value)) rest
+      → string_bytes copy ≡ key.now → Updates string_cmp old new copy (Some x) → reads (node_data value) x
+      → IsReadSoFar reads table rest new
+  entry_read left rest old new key value copy x so_far gives text updates read =
+      let there = next_of left rest old key value so_far gives in
+      let before : List (List ℕ × Data) = take left.at (entries_in (node_data table)) in
+      let more : take rest.at (entries_in (node_data table)) ≡ before ++ (key.now, node_data value) ∷ [] =
+      one_taken left.at rest.at (entries_in (node_data table)) (key.now, node_data value) there.first in
+      record {
+        of = gives.2 ∙ so_far.of;
+        distinct = so_far.distinct;
+        held = λ q.
+            let written : get_by_text new q ≡ update bytes_eq (get_by_text old) (string_bytes copy) (Some x) q =
+            btree_map_updates_text (string_bytes copy) old new (Some x) updates q in
+            rw more (held_after reads before key.now (node_data value) x (get_by_text old q) (get_by_text new q) q
+            (bytes_eq key.now q) refl there.fresh
+            (subst (λ (bs : List ℕ). get_by_text new q ≡ cond (bytes_eq bs q) (Some x) (get_by_text old q)) text written)
+            read (so_far.held q));
+        readable =
+            rw (more, map-append (λ p. p.1) before ((key.now, node_data value) ∷ [])) (
+              so_far.readable.0 ++ x ∷ [],
+              read_more reads (map (λ p. p.1) before) so_far.readable.0 (node_data value) x so_far.readable.1 read,
+            );
+      }
+
+  pub all_read : (left : Entries) (read : BTreeMap (String Global) A) → IsTrue (is_table (node_data table))
+      → IsReadSoFar reads table left read → entries_left left ≡ [] → map_reads reads (node_data table) read
+  all_read left read is so_far none =
+      let nothing : drop left.at (entries_in (node_data table)) ≡ [] =
+      subst (λ (from : Node). drop left.at (entries_in (node_data from)) ≡ []) so_far.of none in
+      map_read reads (node_data table) read is
+      (λ key. subst (λ (ps : List (List ℕ × Data)). maybe_reads reads (value_at ps key) (get_by_text read key))
+      (all_taken left.at (entries_in (node_data table)) nothing) (so_far.held key))
+
+  pub entry_refused : (takes : Data → Type 0) (left rest : Entries) (read : BTreeMap (String Global) A)
+      → (key : Bor (List ℕ)) (value : Node) (fault : Fault) → IsReadSoFar reads table left read
+      → GivesEntry left (Some (key, value)) rest → OnlyMemory (takes (node_data value)) (reads (node_data value)) fault
+      → OnlyMemory (map_takes takes (node_data table)) (map_reads {A = A} reads (node_data table)) fault
+  entry_refused takes left rest read key value fault so_far gives refused =
+      let there = next_of left rest read key value so_far gives in
+      refused_at reads takes (node_data table) (take left.at (entries_in (node_data table)))
+      (drop rest.at (entries_in (node_data table))) key.now (node_data value) fault there.split there.fresh refused
+
+-- ---- which error
+
+module _ {A : Type 0} (faults : Node → Fault → Type 0) (reads : Data → A → Type 0) (table : Node) (fault : Fault) where
+  pub map_fails : is_table (node_data table) ≡ false → IsFault fault (wrong_type (codes "a map") table)
+      → OrMemory (map_faults faults reads table) fault
+  unfolding map_faults
+  map_fails other made = made_so (map_faults faults reads table) fault _ made (inl (other, refl))
+
+  pub entry_fails : (left rest : Entries) (read : BTreeMap (String Global) A) (key : Bor (List ℕ)) (value : Node)
+      → IsReadSoFar reads table left read → GivesEntry left (Some (key, value)) rest → OrMemory (faults value) fault
+      → OrMemory (map_faults faults reads table) fault
+  unfolding map_faults
+  entry_fails left rest read key value so_far gives (inl memory) = inl memory
+  entry_fails left rest read key value so_far gives (inr own) =
+      let there = next_of reads table left rest read key value so_far gives in
+      inr (inr (
+        left.at,
+        key.now,
+        value,
+        record {
+          holds = at_number left.at (entries_in (node_data table)) (drop rest.at (entries_in (node_data table)))
+              (key.now, node_data value) there.first;
+          stands = subst (λ (from : Node). AtKey from key.now value) so_far.of gives.1;
+        },
+        so_far.readable,
+        own,
+      ))
+
+pub ruleset maps_read = (all_read, no_table, map_fails)

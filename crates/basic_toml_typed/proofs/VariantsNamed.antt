@@ -1,6 +1,6 @@
 -- Which variant a string names, and why one names none.
 use Rattle.std.proofs.Common.{◌≡◌, ℕ, ◌+◌, ◌<◌, Bool, true, false, List, [], ◌∷◌, length, refl, sym, ◌∙◌, ap, codes}
-use Rattle.std.proofs.Common.{Option, Some, None, is_some, IsSome, arith, Bor, subst, map}
+use Rattle.std.proofs.Common.{Option, Some, None, is_some, IsSome, arith, Bor, map, inl, inr}
 use Rattle.std.specs.List.{position, position_or_len}
 use Rattle.std.specs.Str.{bytes_eq}
 use Rattle.std.proofs.lemmas.List.Quantifiers.{position-Some}
@@ -9,15 +9,16 @@ use Rattle.basic_toml_value.specs.Data.{Data, string_in}
 use Rattle.basic_toml_tree.specs.declared.node.Node.{Node}
 use Rattle.basic_toml_tree.specs.Nodes.{node_data, is_table, entries_in}
 use Rattle.basic_toml_tree.specs.Origin.{is_made, name_of}
-use Rattle.basic_toml_error.specs.Fault.{Fault, custom, wanted, want_of_memory}
+use Rattle.basic_toml_error.specs.Fault.{Fault, custom, wanted}
 use Rattle.basic_toml_typed.specs.FieldKeys.{position_among}
-use Rattle.basic_toml_typed.specs.FieldFaults.{first_other, OnlyFault, VariantFault}
-use Rattle.basic_toml_typed.specs.FieldFaults as faults
-use Rattle.basic_toml_error.specs.NodeFaults.{IsFault, fault_at, fault_around, fault_at_start, type_message}
+use Rattle.basic_toml_typed.specs.FieldFaults.{first_other, only_fails, variant_fails}
+use Rattle.basic_toml_typed.specs.TypeAnswers.{OrMemory}
+use Rattle.basic_toml_typed.specs.TypeFaults.{wrong_type}
+use Rattle.basic_toml_error.specs.NodeFaults.{IsFault, fault_at, fault_around, fault_at_start}
 use Rattle.basic_toml_error.specs.NodeFaults.{unknown_field_message, unknown_variant_message}
 use Rattle.basic_toml_typed.specs.TypeReads.{IsVariant, HasVariant}
 use Rattle.basic_toml_typed.proofs.NamesListed.{numbers_of, texts_of, position_is_by_numbers, position_is_among}
-use Rattle.basic_toml_typed.proofs.FieldFaultsNamed.{made_or_memory}
+use Rattle.basic_toml_typed.proofs.FieldsFail.{made_so}
 
 pub variant_found : (names : List (Bor (List ℕ))) (d : Data) (text : List ℕ) (p : ℕ) → string_in d ≡ Some text
     → Some p ≡ position (λ name. bytes_eq name.now text) names → IsVariant (numbers_of names) d p
@@ -70,33 +71,33 @@ variant_is_had names (Data.array _) p is = is
 module _ (names : List (Bor (List ℕ))) (node : Node) (fault : Fault) where
   pub variant_no_string : string_in (node_data node) ≡ None → is_made node ≡ false
       → IsFault fault (fault_at_start node (wanted (codes "string") (name_of node)))
-      → VariantFault node (texts_of names) fault
-  variant_no_string none literal made = made_or_memory (VariantFault node (texts_of names)) fault _ made
-      faults.VariantFault.no_memory (faults.VariantFault.no_string none literal)
+      → OrMemory (variant_fails (texts_of names) node) fault
+  unfolding variant_fails
+  variant_no_string none literal made =
+      made_so (variant_fails (texts_of names) node) fault _ made (inl (none, literal, refl))
 
   pub variant_made : string_in (node_data node) ≡ None → is_made node ≡ true
-      → IsFault fault (fault_at node (custom (type_message (node_data node) (codes "a string"))))
-      → VariantFault node (texts_of names) fault
-  variant_made none by made = made_or_memory (VariantFault node (texts_of names)) fault _ made
-      faults.VariantFault.no_memory (faults.VariantFault.made none by)
+      → IsFault fault (wrong_type (codes "a string") node) → OrMemory (variant_fails (texts_of names) node) fault
+  unfolding variant_fails
+  variant_made none by made =
+      made_so (variant_fails (texts_of names) node) fault _ made (inr (inl (none, by, refl)))
 
   pub variant_unknown : (text : List ℕ) → string_in (node_data node) ≡ Some text
       → None ≡ position (λ name. bytes_eq name.now text) names
       → IsFault fault (fault_around node (custom (unknown_variant_message text (texts_of names))))
-      → VariantFault node (texts_of names) fault
+      → OrMemory (variant_fails (texts_of names) node) fault
+  unfolding variant_fails
   variant_unknown text some at made =
       let other : is_among (texts_of names) text ≡ false = sym (position_is_among names text) ∙ ap is_some (sym at) in
-      made_or_memory (VariantFault node (texts_of names)) fault _ made
-      faults.VariantFault.no_memory (faults.VariantFault.unknown some other)
+      made_so (variant_fails (texts_of names) node) fault _ made (inr (inr (text, some, other, refl)))
 
-  pub only_no_table : is_table (node_data node) ≡ false
-      → IsFault fault (fault_at node (custom (type_message (node_data node) (codes "a map"))))
-      → OnlyFault node (texts_of names) fault
-  only_no_table absent made = made_or_memory (OnlyFault node (texts_of names)) fault _ made
-      faults.OnlyFault.no_memory (faults.OnlyFault.no_table absent)
+  pub only_no_table : is_table (node_data node) ≡ false → IsFault fault (wrong_type (codes "a map") node)
+      → OrMemory (only_fails (texts_of names) node) fault
+  unfolding only_fails
+  only_no_table none made = made_so (only_fails (texts_of names) node) fault _ made (inl (none, refl))
 
   pub only_unknown : (key : List ℕ) → first_other (texts_of names) (entries_in (node_data node)) ≡ Some key
       → IsFault fault (fault_at node (custom (unknown_field_message key (texts_of names))))
-      → OnlyFault node (texts_of names) fault
-  only_unknown key some made = made_or_memory (OnlyFault node (texts_of names)) fault _ made
-      faults.OnlyFault.no_memory (faults.OnlyFault.unknown some)
+      → OrMemory (only_fails (texts_of names) node) fault
+  unfolding only_fails
+  only_unknown key some made = made_so (only_fails (texts_of names) node) fault _ made (inr (key, some, refl))

@@ -1,4 +1,5 @@
 pub mod FieldKeys
 pub mod TypeAnswers
 pub mod TypeReads
+pub mod TypeFaults
 pub mod FieldFaults

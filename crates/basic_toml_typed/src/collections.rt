@@ -1,7 +1,8 @@
 //! Arrays as vectors, and tables as maps.
 ghost use Rattle.std.specs.Prelude.{IfOk, IfErr};
 ghost use Rattle.basic_toml_tree.specs.Nodes.{node_data};
-ghost use Rattle.basic_toml_typed.specs.TypeAnswers.{OnlyMemory};
+ghost use Rattle.basic_toml_typed.specs.TypeAnswers.{OnlyMemory, OrMemory};
+ghost use Rattle.basic_toml_typed.specs.TypeFaults.{array_faults, map_faults};
 ghost use Rattle.basic_toml_typed.specs.TypeReads.{array_reads, array_takes, map_reads, map_takes};
 
 use crate::Deserialize;
@@ -25,6 +26,7 @@ pub fn read_elements<'de, T: Deserialize<'de> + Drop>(
     ensures ok { IfOk result (array_reads T.reads (node_data node.entry)) }
     ensures err { IfErr result (OnlyMemory (array_takes T.takes (node_data node.entry))
         (array_reads T.reads (node_data node.entry))) }
+    ensures named { IfErr result (OrMemory (array_faults T.faults T.reads node.entry)) }
 {
     let Some(elements) = node.elements() else {
         return Err(Error::invalid_type(alloc, node, "a sequence"));
@@ -44,6 +46,8 @@ impl<'de, T: Deserialize<'de> + Drop> Deserialize<'de> for Vec<T> {
 
     ghost takes = { array_takes T.takes };
 
+    ghost faults = { array_faults T.faults T.reads };
+
     fn deserialize(alloc: Global, node: Node<'_, 'de>) -> Result<Vec<T>, Error> {
         read_elements(alloc, node)
     }
@@ -62,6 +66,7 @@ fn read_entries<'de, T: Deserialize<'de> + Drop>(
     ensures ok { IfOk result (map_reads T.reads (node_data node.entry)) }
     ensures err { IfErr result (OnlyMemory (map_takes T.takes (node_data node.entry))
         (map_reads T.reads (node_data node.entry))) }
+    ensures named { IfErr result (OrMemory (map_faults T.faults T.reads node.entry)) }
 {
     let Some(entries) = node.entries() else {
         return Err(Error::invalid_type(alloc, node, "a map"));
@@ -81,6 +86,8 @@ impl<'de, T: Deserialize<'de> + Drop> Deserialize<'de> for BTreeMap<String, T> {
     ghost reads = { map_reads T.reads };
 
     ghost takes = { map_takes T.takes };
+
+    ghost faults = { map_faults T.faults T.reads };
 
     fn deserialize(alloc: Global, node: Node<'_, 'de>) -> Result<BTreeMap<String, T>, Error> {
         read_entries(alloc, node)

@@ -3,7 +3,10 @@ ghost use Rattle.std.specs.Prelude.{IfOk, IfErr};
 ghost use Rattle.basic_toml_value.specs.Data.{Data};
 ghost use Rattle.basic_toml_tree.specs.Data.{table_data};
 ghost use Rattle.basic_toml_tree.specs.Nodes.{node_data};
-ghost use Rattle.basic_toml_typed.specs.TypeAnswers.{OnlyMemory};
+ghost use Rattle.basic_toml_tree.specs.declared.node.Node as n;
+ghost use Rattle.basic_toml_error.specs.Fault.{Fault};
+ghost use Rattle.basic_toml_typed.specs.TypeAnswers.{OnlyMemory, OrMemory, AtRoot, any_fault};
+ghost use Rattle.basic_toml_typed.specs.TypeFaults.{table_faults};
 ghost use Rattle.basic_toml_typed.specs.TypeReads.{table_reads, table_takes};
 
 use basic_toml_error::Error;
@@ -13,11 +16,14 @@ use std::alloc::Global;
 
 /// A type that can be read from a text.
 ///
-/// The ghost member `reads` says which values it reads from which data, and the checker proves that its functions do.
+/// The ghost member `reads` says which values it reads from which data, `faults` which errors it has at which node, and
+/// the checker proves that its functions do.
 ///
 /// ```text
 /// impl<'de> Deserialize<'de> for Steps {
 ///     ghost reads = { λ d s. array_reads ⟦<u8 as Deserialize<'static>>⟧.reads d s.0 };
+///
+///     ghost faults = { array_faults ⟦<u8 as Deserialize<'static>>⟧.faults ⟦<u8 as Deserialize<'static>>⟧.reads };
 ///
 ///     fn deserialize(alloc: Global, node: Node<'_, 'de>) -> Result<Steps, Error> {
 ///         Ok(Steps(read_elements(alloc, node)?))
@@ -38,14 +44,19 @@ pub trait Deserialize<'de>: Sized {
     // `reads`.
     ghost takes: { Data → Type 0 } = { λ _. ⊥ };
 
+    // Which errors it has at which node, memory aside. A type that leaves it out may have any.
+    ghost faults: { n.Node → Fault → Type 0 } = { any_fault };
+
     /// Reads a value from a node.
     ///
     /// # Errors
     ///
-    /// The type's own, only where it reads nothing from the node; and want of memory.
+    /// The type's own, those that it names by `faults` at the node, and only where it reads nothing from it; and want of
+    /// memory.
     fn deserialize(alloc: Global, node: Node<'_, 'de>) -> Result<Self, Error>
         ensures ok { IfOk result (λ value. reads (node_data node.entry) value) }
-        ensures err { IfErr result (OnlyMemory (takes (node_data node.entry)) (reads (node_data node.entry))) };
+        ensures err { IfErr result (OnlyMemory (takes (node_data node.entry)) (reads (node_data node.entry))) }
+        ensures named { IfErr result (OrMemory (faults node.entry)) };
 
     /// Reads a value from the whole of a tree, which it may use up. A type that has no use for the tree reads itself
     /// from its root: `Self::deserialize(alloc, tree.root())`.
@@ -56,13 +67,16 @@ pub trait Deserialize<'de>: Sized {
     fn from_tree(alloc: Global, tree: Tree<'de>) -> Result<Self, Error>
         ensures ok { IfOk result (λ value. reads (table_data tree.entry.root.value) value) }
         ensures err { IfErr result (OnlyMemory (takes (table_data tree.entry.root.value))
-            (reads (table_data tree.entry.root.value))) };
+            (reads (table_data tree.entry.root.value))) }
+        ensures named { AtRoot (λ root. IfErr result (OrMemory (faults root))) tree.entry };
 }
 
 impl<'de> Deserialize<'de> for Table {
     ghost reads = { table_reads };
 
     ghost takes = { table_takes };
+
+    ghost faults = { table_faults };
 
     fn deserialize(alloc: Global, node: Node<'_, 'de>) -> Result<Table, Error> {
         match node.to_table(alloc)? {

@@ -4,10 +4,10 @@ ghost use Rattle.std.specs.List.{position};
 ghost use Rattle.std.specs.Option.{option_copied};
 ghost use Rattle.std.specs.Str.{bytes_eq};
 ghost use Rattle.basic_toml_tree.specs.Nodes.{node_data, data_at, entries_left};
-ghost use Rattle.basic_toml_error.specs.Fault.{want_of_memory};
-ghost use Rattle.basic_toml_typed.specs.TypeAnswers.{OnlyMemory};
+ghost use Rattle.basic_toml_typed.specs.TypeAnswers.{OnlyMemory, OrMemory};
 ghost use Rattle.basic_toml_typed.specs.FieldKeys.{text_number};
-ghost use Rattle.basic_toml_typed.specs.FieldFaults.{first_other, FieldIn, FieldFault, OptionalFault, OnlyFault, VariantFault};
+ghost use Rattle.basic_toml_typed.specs.FieldFaults.{first_other, FieldIn, field_fails, optional_fails, only_fails, variant_fails};
+ghost use Rattle.basic_toml_typed.specs.FieldFaults.{field_taken, optional_taken};
 ghost use Rattle.basic_toml_typed.specs.TypeReads.{field_reads, field_takes, optional_reads, optional_takes};
 ghost use Rattle.basic_toml_typed.specs.TypeReads.{HasOnly, IsVariant, HasVariant};
 
@@ -29,7 +29,7 @@ use std::alloc::Global;
 ///
 /// `invalid type: .., expected a map` where the node is no table, ``missing field `key` `` where it lacks the key, both
 /// at the node; else the error of the type; and want of memory.
-#[tactic(auto, using(crate::proofs::FieldFaultsNamed::field_no_table, crate::proofs::FieldFaultsNamed::field_missing, crate::proofs::FieldFaultsNamed::field_own), unfolding(crate::specs::TypeReads::field_reads, crate::specs::TypeReads::field_takes))]
+#[tactic(auto, using(crate::proofs::FieldsFail::field_no_table, crate::proofs::FieldsFail::field_missing, crate::proofs::FieldsFail::field_own), unfolding(crate::specs::TypeReads::field_reads, crate::specs::TypeReads::field_takes))]
 pub fn read_field<'de, T: Deserialize<'de>>(
     alloc: Global,
     node: Node<'_, 'de>,
@@ -38,7 +38,8 @@ pub fn read_field<'de, T: Deserialize<'de>>(
     ensures ok { IfOk result (field_reads T.reads (text_number key.now) (node_data node.entry)) }
     ensures err { IfErr result (OnlyMemory (field_takes T.takes (text_number key.now) (node_data node.entry))
         (field_reads T.reads (text_number key.now) (node_data node.entry))) }
-    ensures named { IfErr result (FieldFault T.takes T.reads node.entry key.now) }
+    ensures taken { IfOk result (λ _. field_taken T.reads key.now node.entry) }
+    ensures named { IfErr result (OrMemory (field_fails T.faults key.now node.entry)) }
 {
     match field_at(alloc, node, key)? {
         Some(child) => T::deserialize(alloc, child),
@@ -51,7 +52,7 @@ pub fn read_field<'de, T: Deserialize<'de>>(
 /// # Errors
 ///
 /// `invalid type: .., expected a map` at the node where it is no table; else the error of the type; and want of memory.
-#[tactic(auto, using(crate::proofs::FieldFaultsNamed::optional_no_table, crate::proofs::FieldFaultsNamed::optional_own), unfolding(crate::specs::TypeReads::optional_reads, crate::specs::TypeReads::optional_takes))]
+#[tactic(auto, using(crate::proofs::FieldsFail::optional_no_table, crate::proofs::FieldsFail::optional_own), unfolding(crate::specs::TypeReads::optional_reads, crate::specs::TypeReads::optional_takes))]
 pub fn read_optional<'de, T: Deserialize<'de>>(
     alloc: Global,
     node: Node<'_, 'de>,
@@ -60,7 +61,8 @@ pub fn read_optional<'de, T: Deserialize<'de>>(
     ensures ok { IfOk result (optional_reads T.reads (text_number key.now) (node_data node.entry)) }
     ensures err { IfErr result (OnlyMemory (optional_takes T.takes (text_number key.now) (node_data node.entry))
         (optional_reads T.reads (text_number key.now) (node_data node.entry))) }
-    ensures named { IfErr result (OptionalFault T.takes T.reads node.entry key.now) }
+    ensures taken { IfOk result (λ _. optional_taken T.reads key.now node.entry) }
+    ensures named { IfErr result (OrMemory (optional_fails T.faults key.now node.entry)) }
 {
     match field_at(alloc, node, key)? {
         Some(child) => Ok(Some(T::deserialize(alloc, child)?)),
@@ -95,7 +97,7 @@ fn field_at<'t, 'de>(
 pub fn only_fields(alloc: Global, node: Node<'_, '_>, fields: &[&str]) -> Result<(), Error>
     ensures ok { IfOk result (λ _. HasOnly (map (λ field. text_number field.now) fields.now) (node_data node.entry)) }
     ensures err { IfErr result (λ _. HasOnly (map (λ field. text_number field.now) fields.now) (node_data node.entry) → ⊥) }
-    ensures named { IfErr result (OnlyFault node.entry (map (λ field. field.now) fields.now)) }
+    ensures named { IfErr result (OrMemory (only_fails (map (λ field. field.now) fields.now) node.entry)) }
 {
     let Some(entries) = node.entries() else {
         return Err(Error::invalid_type(alloc, node, "a map"));
@@ -152,7 +154,7 @@ pub fn variant(alloc: Global, node: Node<'_, '_>, variants: &[&str]) -> Result<u
         (IsVariant (map (λ name. text_number name.now) variants.now) (node_data node.entry))) }
     ensures refused { IfErr result (λ _. HasVariant (map (λ name. text_number name.now) variants.now)
         (node_data node.entry) → ⊥) }
-    ensures named { IfErr result (VariantFault node.entry (map (λ name. name.now) variants.now)) }
+    ensures named { IfErr result (OrMemory (variant_fails (map (λ name. name.now) variants.now) node.entry)) }
 {
     let Some(text) = node.text() else {
         return Err(if node.is_made() {

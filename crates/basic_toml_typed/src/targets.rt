@@ -1,9 +1,10 @@
 //! The types that are read as they stand: numbers, truth values, strings, and whatever stands there.
-ghost use Rattle.std.specs.Prelude.{◌≡◌, MatchResult, Some, None};
+ghost use Rattle.std.specs.Prelude.{◌≡◌, MatchResult, Some, None, codes};
 ghost use Rattle.basic_toml_value.specs.Data.{integer_in};
 ghost use Rattle.basic_toml_tree.specs.Nodes.{node_data};
-ghost use Rattle.basic_toml_error.specs.NodeFaults.{IsFault, fault_at, type_message};
-ghost use Rattle.basic_toml_error.specs.Fault.{custom};
+ghost use Rattle.basic_toml_error.specs.NodeFaults.{IsFault};
+ghost use Rattle.basic_toml_typed.specs.TypeAnswers.{no_fault};
+ghost use Rattle.basic_toml_typed.specs.TypeFaults.{wrong_type, signed_faults, unsigned_faults, bool_faults, string_faults, float_faults};
 ghost use Rattle.basic_toml_typed.specs.TypeReads.{signed_reads, signed_takes, unsigned_reads, unsigned_takes, bool_reads, bool_takes};
 ghost use Rattle.basic_toml_typed.specs.TypeReads.{string_reads, cow_reads, string_takes, float_reads, float_takes};
 ghost use Rattle.basic_toml_typed.specs.TypeReads.{value_reads, value_takes, option_reads};
@@ -19,7 +20,7 @@ use std::borrow::CowStr;
 fn integer_at(alloc: Global, node: Node<'_, '_>, expected: &str) -> Result<i64, Error>
     ensures { MatchResult result (λ n. integer_in (node_data node.entry) ≡ Some n)
         (λ e. (integer_in (node_data node.entry) ≡ None)
-        × IsFault e (fault_at node.entry (custom (type_message (node_data node.entry) expected.now)))) }
+        × IsFault e (wrong_type expected.now node.entry)) }
 {
     match node.as_integer() {
         Some(number) => Ok(number),
@@ -31,6 +32,8 @@ impl<'de> Deserialize<'de> for i8 {
     ghost reads = { signed_reads 7 };
 
     ghost takes = { signed_takes 7 };
+
+    ghost faults = { signed_faults 7 (codes "i8") };
 
     fn deserialize(alloc: Global, node: Node<'_, 'de>) -> Result<i8, Error> {
         match i8::try_from(integer_at(alloc, node, "i8")?) {
@@ -49,6 +52,8 @@ impl<'de> Deserialize<'de> for i16 {
 
     ghost takes = { signed_takes 15 };
 
+    ghost faults = { signed_faults 15 (codes "i16") };
+
     fn deserialize(alloc: Global, node: Node<'_, 'de>) -> Result<i16, Error> {
         match i16::try_from(integer_at(alloc, node, "i16")?) {
             Ok(number) => Ok(number),
@@ -65,6 +70,8 @@ impl<'de> Deserialize<'de> for i32 {
     ghost reads = { signed_reads 31 };
 
     ghost takes = { signed_takes 31 };
+
+    ghost faults = { signed_faults 31 (codes "i32") };
 
     fn deserialize(alloc: Global, node: Node<'_, 'de>) -> Result<i32, Error> {
         match i32::try_from(integer_at(alloc, node, "i32")?) {
@@ -83,6 +90,8 @@ impl<'de> Deserialize<'de> for i64 {
 
     ghost takes = { signed_takes 63 };
 
+    ghost faults = { signed_faults 63 (codes "i64") };
+
     fn deserialize(alloc: Global, node: Node<'_, 'de>) -> Result<i64, Error> {
         integer_at(alloc, node, "i64")
     }
@@ -96,6 +105,8 @@ impl<'de> Deserialize<'de> for u8 {
     ghost reads = { unsigned_reads 8 };
 
     ghost takes = { unsigned_takes 8 };
+
+    ghost faults = { unsigned_faults 8 (codes "u8") };
 
     fn deserialize(alloc: Global, node: Node<'_, 'de>) -> Result<u8, Error> {
         match u8::try_from(integer_at(alloc, node, "u8")?) {
@@ -114,6 +125,8 @@ impl<'de> Deserialize<'de> for u16 {
 
     ghost takes = { unsigned_takes 16 };
 
+    ghost faults = { unsigned_faults 16 (codes "u16") };
+
     fn deserialize(alloc: Global, node: Node<'_, 'de>) -> Result<u16, Error> {
         match u16::try_from(integer_at(alloc, node, "u16")?) {
             Ok(number) => Ok(number),
@@ -130,6 +143,8 @@ impl<'de> Deserialize<'de> for u32 {
     ghost reads = { unsigned_reads 32 };
 
     ghost takes = { unsigned_takes 32 };
+
+    ghost faults = { unsigned_faults 32 (codes "u32") };
 
     fn deserialize(alloc: Global, node: Node<'_, 'de>) -> Result<u32, Error> {
         match u32::try_from(integer_at(alloc, node, "u32")?) {
@@ -148,6 +163,8 @@ impl<'de> Deserialize<'de> for u64 {
 
     ghost takes = { unsigned_takes 64 };
 
+    ghost faults = { unsigned_faults 64 (codes "u64") };
+
     fn deserialize(alloc: Global, node: Node<'_, 'de>) -> Result<u64, Error> {
         match u64::try_from(integer_at(alloc, node, "u64")?) {
             Ok(number) => Ok(number),
@@ -164,6 +181,8 @@ impl<'de> Deserialize<'de> for bool {
     ghost reads = { bool_reads };
 
     ghost takes = { bool_takes };
+
+    ghost faults = { bool_faults };
 
     fn deserialize(alloc: Global, node: Node<'_, 'de>) -> Result<bool, Error> {
         match node.as_bool() {
@@ -182,6 +201,8 @@ impl<'de> Deserialize<'de> for String {
 
     ghost takes = { string_takes };
 
+    ghost faults = { string_faults };
+
     fn deserialize(alloc: Global, node: Node<'_, 'de>) -> Result<String, Error> {
         match node.text() {
             Some(text) => Ok(String::from_str(alloc, text)?),
@@ -196,11 +217,23 @@ impl<'de> Deserialize<'de> for String {
 
 /// Borrows what the text that was read holds as it stands, and copies the rest.
 impl<'de> Deserialize<'de> for CowStr<'de> {
+    ghost use Rattle.std.specs.Prelude.{◌↔◌, IfOk, IfErr, IsTrue};
+    ghost use Rattle.std.specs.Cow.{IsBorrowedStr};
+    ghost use Rattle.basic_toml_tree.specs.Origin.{is_borrowed};
+    ghost use Rattle.basic_toml_typed.specs.TypeAnswers.{OnlyMemory, OrMemory};
+
     ghost reads = { cow_reads };
 
     ghost takes = { string_takes };
 
-    fn deserialize(alloc: Global, node: Node<'_, 'de>) -> Result<CowStr<'de>, Error> {
+    ghost faults = { string_faults };
+
+    fn deserialize(alloc: Global, node: Node<'_, 'de>) -> Result<CowStr<'de>, Error>
+        ensures ok { IfOk result (λ text. cow_reads (node_data node.entry) text) }
+        ensures err { IfErr result (OnlyMemory (string_takes (node_data node.entry)) (cow_reads (node_data node.entry))) }
+        ensures named { IfErr result (OrMemory (string_faults node.entry)) }
+        ensures borrowed { IfOk result (λ text. IsBorrowedStr text ↔ IsTrue (is_borrowed node.entry)) }
+    {
         if let Some(text) = node.borrowed_text() {
             return Ok(CowStr::Borrowed(text));
         }
@@ -221,6 +254,8 @@ impl<'de> Deserialize<'de> for Float {
 
     ghost takes = { float_takes };
 
+    ghost faults = { float_faults };
+
     fn deserialize(alloc: Global, node: Node<'_, 'de>) -> Result<Float, Error> {
         match node.as_float() {
             Some(float) => Ok(float.clone()?),
@@ -238,6 +273,8 @@ impl<'de> Deserialize<'de> for Value {
     ghost reads = { value_reads };
 
     ghost takes = { value_takes };
+
+    ghost faults = { no_fault };
 
     fn deserialize(alloc: Global, node: Node<'_, 'de>) -> Result<Value, Error> {
         match node.to_value(alloc) {
@@ -257,6 +294,8 @@ impl<'de, T: Deserialize<'de>> Deserialize<'de> for Option<T> {
     ghost reads = { option_reads T.reads };
 
     ghost takes = { T.takes };
+
+    ghost faults = { T.faults };
 
     fn deserialize(alloc: Global, node: Node<'_, 'de>) -> Result<Option<T>, Error> {
         Ok(Some(T::deserialize(alloc, node)?))

@@ -49,8 +49,8 @@ impl<'de> Deserialize<'de> for Settings {
 ///
 /// Those of [`from_str`]; a key that is none of the three is an error.
 pub fn load(alloc: Global, text: &str) -> Result<Settings, Error>
-    ensures { ReadsText ⟦<Settings as Deserialize<'static>>⟧.takes ⟦<Settings as Deserialize<'static>>⟧.reads text.now
-        result }
+    ensures { ReadsText ⟦<Settings as Deserialize<'static>>⟧.takes ⟦<Settings as Deserialize<'static>>⟧.reads
+        ⟦<Settings as Deserialize<'static>>⟧.faults text.now result }
 {
     from_str(alloc, text)
 }

@@ -1,7 +1,10 @@
 //! What a `Cargo.toml` says of a package.
-ghost use Rattle.std.specs.Prelude.{◌≡◌, Option, unwrap_or, false};
+ghost use Rattle.std.specs.Prelude.{◌≡◌, ◌⊎◌, Option, codes, unwrap_or, true, false};
+ghost use Rattle.basic_toml.specs.FieldFaults.{in_field, in_optional};
 ghost use Rattle.basic_toml.specs.FieldKeys.{key_of};
+ghost use Rattle.basic_toml.specs.Nodes.{node_data, is_table};
 ghost use Rattle.basic_toml.specs.Reading.{ReadsText};
+ghost use Rattle.basic_toml.specs.TypeAnswers.{no_fault};
 ghost use Rattle.basic_toml.specs.TypeReads.{field_reads, optional_reads};
 
 use basic_toml::{Deserialize, Error, Node, Tree, from_str, read_field, read_optional};
@@ -51,6 +54,11 @@ impl<'de> Deserialize<'de> for Package {
         × field_reads ⟦<String as Deserialize<'static>>⟧.reads (key_of "version") d p.version
         × optional_reads ⟦<String as Deserialize<'static>>⟧.reads (key_of "edition") d p.edition };
 
+    ghost faults = { in_field ⟦<String as Deserialize<'static>>⟧.faults ⟦<String as Deserialize<'static>>⟧.reads (codes "name")
+        (in_field ⟦<String as Deserialize<'static>>⟧.faults ⟦<String as Deserialize<'static>>⟧.reads (codes "version")
+        (in_optional ⟦<String as Deserialize<'static>>⟧.faults ⟦<String as Deserialize<'static>>⟧.reads (codes "edition")
+        no_fault)) };
+
     fn deserialize(alloc: Global, node: Node<'_, 'de>) -> Result<Package, Error> {
         Ok(Package {
             name: read_field(alloc, node, "name")?,
@@ -78,6 +86,10 @@ impl<'de> Deserialize<'de> for Dependency {
       | Version text ↦ ⟦<String as Deserialize<'static>>⟧.reads d text
       | Detailed detail ↦ ⟦<Detail as Deserialize<'static>>⟧.reads d detail
     ] };
+
+    ghost faults = { λ node fault.
+        ((is_table (node_data node) ≡ true) × ⟦<Detail as Deserialize<'static>>⟧.faults node fault)
+        ⊎ ((is_table (node_data node) ≡ false) × ⟦<String as Deserialize<'static>>⟧.faults node fault) };
 
     #[tactic(auto, unfolding(basic_toml_typed::specs::TypeReads::optional_reads))]
     fn deserialize(alloc: Global, node: Node<'_, 'de>) -> Result<Dependency, Error> {
@@ -108,6 +120,11 @@ impl<'de> Deserialize<'de> for Detail {
         × ((optional : Option _) × optional_reads ⟦<bool as Deserialize<'static>>⟧.reads (key_of "optional") d optional
         × (x.optional ≡ unwrap_or optional false)) };
 
+    ghost faults = { in_optional ⟦<String as Deserialize<'static>>⟧.faults ⟦<String as Deserialize<'static>>⟧.reads (codes "version")
+        (in_optional ⟦<String as Deserialize<'static>>⟧.faults ⟦<String as Deserialize<'static>>⟧.reads (codes "path")
+        (in_optional ⟦<bool as Deserialize<'static>>⟧.faults ⟦<bool as Deserialize<'static>>⟧.reads (codes "optional")
+        no_fault)) };
+
     fn deserialize(alloc: Global, node: Node<'_, 'de>) -> Result<Detail, Error> {
         let version = read_optional(alloc, node, "version")?;
         let path = read_optional(alloc, node, "path")?;
@@ -130,8 +147,8 @@ impl<'de> Deserialize<'de> for Detail {
 ///
 /// Those of [`from_str`]; a `package` without a name or a version is an error.
 pub fn manifest_of(alloc: Global, text: &str) -> Result<Manifest, Error>
-    ensures { ReadsText ⟦<Manifest as Deserialize<'static>>⟧.takes ⟦<Manifest as Deserialize<'static>>⟧.reads text.now
-        result }
+    ensures { ReadsText ⟦<Manifest as Deserialize<'static>>⟧.takes ⟦<Manifest as Deserialize<'static>>⟧.reads
+        ⟦<Manifest as Deserialize<'static>>⟧.faults text.now result }
 {
     from_str(alloc, text)
 }

@@ -12,6 +12,7 @@ use Rattle.basic_toml.specs.FaultText.{fault_text}
 use Rattle.basic_toml.specs.Items.{Item, field}
 use Rattle.basic_toml.specs.ReadFaults.{lined}
 use Rattle.basic_toml.specs.Reading.{ReadsText, value_read, no_memory, no_document, not_taken}
+use Rattle.basic_toml.specs.TypeFaults.{table_faults}
 use Rattle.basic_toml.specs.tokens.Text.{folded}
 use Rattle.basic_toml.specs.Impls.{data_calls, members_calls}
 use Rattle.basic_toml.specs.Ser.{IsDataText, IsFirstFault}
@@ -68,11 +69,11 @@ module _ {T : Type 0} (takes : Data → Type 0) (entries : T → Members) where
   abbrev reads_table : Data → T → Type 0
   reads_table d t = d ≡ table (entries t)
 
-  document_of_value : (input : List ℕ) (t : T) → ReadsText takes reads_table input (Ok t)
+  document_of_value : (input : List ℕ) (t : T) → ReadsText takes reads_table table_faults input (Ok t)
       → IsDocument (folded input) (table (entries t))
   document_of_value input t (value_read document same) = subst (IsDocument (folded input)) same document
 
-  read_as : (input : List ℕ) (t : T) → (IsUtf8 input → ReadsText takes reads_table input (Ok t))
+  read_as : (input : List ℕ) (t : T) → (IsUtf8 input → ReadsText takes reads_table table_faults input (Ok t))
       → ((IsUtf8 input → ⊥) → Ok t ≡ Err not_text) → IsUtf8 input × IsDocument (folded input) (table (entries t))
   read_as input t text other = elim (utf8_or_not input) [
     | inl utf8 ↦ (utf8, document_of_value input t (text utf8))
@@ -81,7 +82,7 @@ module _ {T : Type 0} (takes : Data → Type 0) (entries : T → Members) where
 
   -- what came of writing what was read is due
   pub writing_due : {E : Type 0} (order : Order) (input : List ℕ) (t : T) (d : Data) (result : Result Answer E)
-      → (IsUtf8 input → ReadsText takes reads_table input (Ok t)) → ((IsUtf8 input → ⊥) → Ok t ≡ Err not_text)
+      → (IsUtf8 input → ReadsText takes reads_table table_faults input (Ok t)) → ((IsUtf8 input → ⊥) → Ok t ≡ Err not_text)
       → d ≡ in_order order (table (entries t))
       → IfOk result (λ a. IsWriting d a.status (string_bytes a.text) a.line_col)
       → IfOk result (λ a. IsDue order input a.status (string_bytes a.text) a.line_col)
@@ -93,15 +94,15 @@ module _ {T : Type 0} (takes : Data → Type 0) (entries : T → Members) where
 
   -- an error that is no want of memory is one of a text without a document, since every table is taken
   text_refused : (order : Order) (input : List ℕ) (fault : Fault) → ((members : Members) → takes (table members))
-      → IsUtf8 input → fault.kind ≢ out_of_memory → ReadsText takes reads_table input (Err fault)
+      → IsUtf8 input → fault.kind ≢ out_of_memory → ReadsText takes reads_table table_faults input (Err fault)
       → IsDue order input 1 (fault_text fault) fault.line_column
   text_refused order input _ taken utf8 kind no_memory = absurd (kind refl)
   text_refused order input _ taken utf8 kind (no_document none why) = refused utf8 why
-  text_refused order input fault taken utf8 kind (not_taken {members = members} document (own, only, same)) =
+  text_refused order input fault taken utf8 kind (not_taken {members = members} document (own, only, one, same)) =
       absurd (kind (ap (λ (f : Fault). f.kind) (same ∙ ap (lined input) (only.taken (taken members)))))
 
   pub refused_due : (order : Order) (input : List ℕ) (fault : Fault) → ((members : Members) → takes (table members))
-      → (IsUtf8 input → ReadsText takes reads_table input (Err fault))
+      → (IsUtf8 input → ReadsText takes reads_table table_faults input (Err fault))
       → ((IsUtf8 input → ⊥) → ◌≡◌ {A = Result T Fault} (Err fault) (Err not_text))
       → fault.kind ≢ out_of_memory → IsDue order input 1 (fault_text fault) fault.line_column
   refused_due order input fault taken answers other kind = elim (utf8_or_not input) [

@@ -8,6 +8,7 @@ use Rattle.basic_toml.specs.Document.{IsDocument}
 use Rattle.basic_toml.specs.Fault.{Fault, out_of_memory, not_text}
 use Rattle.basic_toml.specs.Reading.{ReadsText, value_read, no_memory, no_document, not_taken}
 use Rattle.basic_toml.specs.ReadFaults.{lined}
+use Rattle.basic_toml.specs.TypeFaults.{table_faults}
 use Rattle.basic_toml.specs.tokens.Text.{folded}
 use Rattle.basic_toml.proofs.RefusedTextsHaveNoDocument.{refused_has_no_document}
 use Rattle.toml_c.specs.Answers.{Holds, IsRefusal, refused, not_utf8}
@@ -25,11 +26,11 @@ module _ {T : Type 0} (takes : Data → Type 0) (entries : T → Members) where
   abbrev reads_table : Data → T → Type 0
   reads_table d t = d ≡ table (entries t)
 
-  read_in : (input : List ℕ) (t : T) → ReadsText takes reads_table input (Ok t)
+  read_in : (input : List ℕ) (t : T) → ReadsText takes reads_table table_faults input (Ok t)
       → IsDocument (folded input) (table (entries t))
   read_in input t (value_read document same) = subst (IsDocument (folded input)) same document
 
-  pub held : (input : List ℕ) (r : Result T Fault) → (IsUtf8 input → ReadsText takes reads_table input r)
+  pub held : (input : List ℕ) (r : Result T Fault) → (IsUtf8 input → ReadsText takes reads_table table_faults input r)
       → ((IsUtf8 input → ⊥) → r ≡ Err not_text) → IfOk r (λ t. Holds input (table (entries t)))
   held input (Ok t) answers other = elim (utf8_or_not input) [
     | inl utf8 ↦ (utf8, read_in input t (answers utf8))
@@ -39,14 +40,14 @@ module _ {T : Type 0} (takes : Data → Type 0) (entries : T → Members) where
 
   -- an error that is no want of memory is one of a text without a document, since every table is taken
   text_refused : (input : List ℕ) (fault : Fault) → ((members : Members) → takes (table members)) → IsUtf8 input
-      → fault.kind ≢ out_of_memory → ReadsText takes reads_table input (Err fault) → IsRefusal input fault
+      → fault.kind ≢ out_of_memory → ReadsText takes reads_table table_faults input (Err fault) → IsRefusal input fault
   text_refused input _ taken utf8 kind no_memory = absurd (kind refl)
   text_refused input _ taken utf8 kind (no_document none why) = refused utf8 why
-  text_refused input fault taken utf8 kind (not_taken {members = members} document (own, only, same)) =
+  text_refused input fault taken utf8 kind (not_taken {members = members} document (own, only, one, same)) =
       absurd (kind (ap (λ (f : Fault). f.kind) (same ∙ ap (lined input) (only.taken (taken members)))))
 
   pub not_held : (input : List ℕ) (r : Result T Fault) → ((members : Members) → takes (table members))
-      → (IsUtf8 input → ReadsText takes reads_table input r) → ((IsUtf8 input → ⊥) → r ≡ Err not_text)
+      → (IsUtf8 input → ReadsText takes reads_table table_faults input r) → ((IsUtf8 input → ⊥) → r ≡ Err not_text)
       → IfErr r (λ e. e.kind ≢ out_of_memory → IsRefusal input e)
   not_held input (Ok t) taken answers other = tt
   not_held input (Err e) taken answers other = λ kind. elim (utf8_or_not input) [

@@ -1,7 +1,14 @@
 //! Types as a caller writes them: records, records in records, lists, choices, newtypes and records that refuse, strict
 //! records, records that borrow and a record of sixteen fields. None takes a proof file.
-ghost use Rattle.std.specs.Prelude.{◌≡◌, ◌≢◌, ◌≤◌, ◌∷◌, [], codes, string_bytes};
+ghost use Rattle.std.specs.Prelude.{◌≡◌, ◌≢◌, ◌≤◌, ◌<◌, ◌∷◌, [], ◌⊎◌, codes, string_bytes};
+ghost use Rattle.basic_toml.specs.Data.{string};
+ghost use Rattle.basic_toml.specs.Fault.{custom};
+ghost use Rattle.basic_toml.specs.FieldFaults.{in_field, in_optional, only_these, variant_fails};
 ghost use Rattle.basic_toml.specs.FieldKeys.{key_of};
+ghost use Rattle.basic_toml.specs.NodeFaults.{fault_at};
+ghost use Rattle.basic_toml.specs.Nodes.{node_data};
+ghost use Rattle.basic_toml.specs.TypeAnswers.{no_fault};
+ghost use Rattle.basic_toml.specs.TypeFaults.{array_faults, wrong_value};
 ghost use Rattle.basic_toml.specs.TypeReads.{HasOnly, IsVariant, array_reads, field_reads, optional_reads};
 
 use basic_toml::{
@@ -24,6 +31,10 @@ impl<'de, T: Deserialize<'de> + Drop> Deserialize<'de> for Parent<T> {
         field_reads ⟦<String as Deserialize<'static>>⟧.reads (key_of "p_a") d p.p_a
         × field_reads (array_reads T.reads) (key_of "p_b") d p.p_b };
 
+    ghost faults = { in_field ⟦<String as Deserialize<'static>>⟧.faults ⟦<String as Deserialize<'static>>⟧.reads (codes "p_a")
+        (in_field (array_faults T.faults T.reads) (array_reads T.reads) (codes "p_b")
+        no_fault) };
+
     fn deserialize(alloc: Global, node: Node<'_, 'de>) -> Result<Parent<T>, Error> {
         Ok(Parent {
             p_a: read_field(alloc, node, "p_a")?,
@@ -44,6 +55,8 @@ pub struct Sole<T> {
 
 impl<'de, T: Deserialize<'de>> Deserialize<'de> for Sole<T> {
     ghost reads = { λ d s. field_reads T.reads (key_of "value") d s.value };
+
+    ghost faults = { in_field T.faults T.reads (codes "value") no_fault };
 
     fn deserialize(alloc: Global, node: Node<'_, 'de>) -> Result<Sole<T>, Error> {
         Ok(Sole {
@@ -67,6 +80,10 @@ impl<'de> Deserialize<'de> for Child {
     ghost reads = { λ d c.
         field_reads ⟦<String as Deserialize<'static>>⟧.reads (key_of "c_a") d c.c_a
         × field_reads ⟦<String as Deserialize<'static>>⟧.reads (key_of "c_b") d c.c_b };
+
+    ghost faults = { in_field ⟦<String as Deserialize<'static>>⟧.faults ⟦<String as Deserialize<'static>>⟧.reads (codes "c_a")
+        (in_field ⟦<String as Deserialize<'static>>⟧.faults ⟦<String as Deserialize<'static>>⟧.reads (codes "c_b")
+        no_fault) };
 
     fn deserialize(alloc: Global, node: Node<'_, 'de>) -> Result<Child, Error> {
         Ok(Child {
@@ -93,6 +110,11 @@ impl<'de> Deserialize<'de> for Strict {
         × field_reads ⟦<String as Deserialize<'static>>⟧.reads (key_of "c_a") d c.c_a
         × field_reads ⟦<String as Deserialize<'static>>⟧.reads (key_of "c_b") d c.c_b };
 
+    ghost faults = { only_these (codes "c_a" ∷ codes "c_b" ∷ [])
+        (in_field ⟦<String as Deserialize<'static>>⟧.faults ⟦<String as Deserialize<'static>>⟧.reads (codes "c_a")
+        (in_field ⟦<String as Deserialize<'static>>⟧.faults ⟦<String as Deserialize<'static>>⟧.reads (codes "c_b")
+        no_fault)) };
+
     fn deserialize(alloc: Global, node: Node<'_, 'de>) -> Result<Strict, Error> {
         only_fields(alloc, node, &["c_a", "c_b"])?;
         Ok(Strict {
@@ -112,6 +134,10 @@ pub struct Lowercase(pub String);
 
 impl<'de> Deserialize<'de> for Lowercase {
     ghost reads = { λ d w. ⟦<String as Deserialize<'static>>⟧.reads d w.0 × (string_bytes w.0 ≢ codes "*") };
+
+    ghost faults = { λ node fault.
+        ⟦<String as Deserialize<'static>>⟧.faults node fault
+        ⊎ ((node_data node ≡ string (codes "*")) × (fault ≡ wrong_value (codes "all lowercase") node)) };
 
     fn deserialize(alloc: Global, node: Node<'_, 'de>) -> Result<Lowercase, Error> {
         let text = String::deserialize(alloc, node)?;
@@ -137,6 +163,10 @@ impl<'de> Deserialize<'de> for Lower {
     ghost reads = { λ d c.
         field_reads ⟦<String as Deserialize<'static>>⟧.reads (key_of "c_a") d c.c_a
         × field_reads ⟦<Lowercase as Deserialize<'static>>⟧.reads (key_of "c_b") d c.c_b };
+
+    ghost faults = { in_field ⟦<String as Deserialize<'static>>⟧.faults ⟦<String as Deserialize<'static>>⟧.reads (codes "c_a")
+        (in_field ⟦<Lowercase as Deserialize<'static>>⟧.faults ⟦<Lowercase as Deserialize<'static>>⟧.reads (codes "c_b")
+        no_fault) };
 
     fn deserialize(alloc: Global, node: Node<'_, 'de>) -> Result<Lower, Error> {
         Ok(Lower {
@@ -184,6 +214,8 @@ impl<'de> Deserialize<'de> for Color {
     ghost reads = { λ d c.
         IsVariant (key_of "red" ∷ key_of "green" ∷ key_of "blue" ∷ []) d (elim c [ Red ↦ 0 | Green ↦ 1 | Blue ↦ 2 ]) };
 
+    ghost faults = { variant_fails (codes "red" ∷ codes "green" ∷ codes "blue" ∷ []) };
+
     fn deserialize(alloc: Global, node: Node<'_, 'de>) -> Result<Color, Error> {
         match variant(alloc, node, &["red", "green", "blue"])? {
             0 => Ok(Color::Red),
@@ -205,6 +237,8 @@ pub enum Single {
 
 impl<'de> Deserialize<'de> for Single {
     ghost reads = { λ d _. IsVariant (key_of "Variant" ∷ []) d 0 };
+
+    ghost faults = { variant_fails (codes "Variant" ∷ []) };
 
     fn deserialize(alloc: Global, node: Node<'_, 'de>) -> Result<Single, Error> {
         variant(alloc, node, &["Variant"])?;
@@ -228,6 +262,11 @@ impl<'de> Deserialize<'de> for Title<'de> {
         field_reads ⟦<CowStr<'static> as Deserialize<'static>>⟧.reads (key_of "title") d t.title
         × optional_reads ⟦<Float as Deserialize<'static>>⟧.reads (key_of "rate") d t.rate };
 
+    ghost faults = { in_field ⟦<CowStr<'static> as Deserialize<'static>>⟧.faults
+        ⟦<CowStr<'static> as Deserialize<'static>>⟧.reads (codes "title")
+        (in_optional ⟦<Float as Deserialize<'static>>⟧.faults ⟦<Float as Deserialize<'static>>⟧.reads (codes "rate")
+        no_fault) };
+
     fn deserialize(alloc: Global, node: Node<'_, 'de>) -> Result<Title<'de>, Error> {
         Ok(Title {
             title: read_field(alloc, node, "title")?,
@@ -246,6 +285,8 @@ pub struct Steps(pub Vec<u8>);
 
 impl<'de> Deserialize<'de> for Steps {
     ghost reads = { λ d s. array_reads ⟦<u8 as Deserialize<'static>>⟧.reads d s.0 };
+
+    ghost faults = { array_faults ⟦<u8 as Deserialize<'static>>⟧.faults ⟦<u8 as Deserialize<'static>>⟧.reads };
 
     fn deserialize(alloc: Global, node: Node<'_, 'de>) -> Result<Steps, Error> {
         Ok(Steps(read_elements(alloc, node)?))
@@ -296,6 +337,7 @@ impl<'de> Deserialize<'de> for Service {
         × optional_reads ⟦<String as Deserialize<'static>>⟧.reads (key_of "log") d s.log
         × optional_reads ⟦<Value as Deserialize<'static>>⟧.reads (key_of "note") d s.note };
 
+    #[tactic(auto, using(basic_toml_typed::proofs::FieldsFound::child_at_number))]
     fn deserialize(alloc: Global, node: Node<'_, 'de>) -> Result<Service, Error> {
         Ok(Service {
             name: read_field(alloc, node, "name")?,
@@ -363,6 +405,13 @@ impl<'de> Deserialize<'de> for Interval {
         field_reads ⟦<u32 as Deserialize<'static>>⟧.reads (key_of "first") d i.first
         × field_reads ⟦<u32 as Deserialize<'static>>⟧.reads (key_of "last") d i.last
         × (i.first ≤ i.last) };
+
+    ghost faults = { in_field ⟦<u32 as Deserialize<'static>>⟧.faults ⟦<u32 as Deserialize<'static>>⟧.reads (codes "first")
+        (in_field ⟦<u32 as Deserialize<'static>>⟧.faults ⟦<u32 as Deserialize<'static>>⟧.reads (codes "last")
+        (λ node fault. (first : _) × (last : _)
+        × field_reads ⟦<u32 as Deserialize<'static>>⟧.reads (key_of "first") (node_data node) first
+        × field_reads ⟦<u32 as Deserialize<'static>>⟧.reads (key_of "last") (node_data node) last × (last < first)
+        × (fault ≡ fault_at node (custom (codes "the last is before the first"))))) };
 
     #[tactic(auto, unfolding(basic_toml_typed::specs::TypeReads::field_reads))]
     fn deserialize(alloc: Global, node: Node<'_, 'de>) -> Result<Interval, Error> {

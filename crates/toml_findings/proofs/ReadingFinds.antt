@@ -10,7 +10,7 @@ use Rattle.toml_findings.specs.declared.finding.Unread.TheVariants.{Refused, Out
 use Rattle.toml_findings.specs.Findings.{Reads, finding_of, IsRefusal, refused}
 
 pub tree_read : (text : List ℕ) (tree : Tree) → IsUtf8 text → GivesTree text (Ok tree) → Reads text (Ok tree)
-tree_read text tree utf8 document = (utf8, document)
+tree_read text tree utf8 is = (utf8, is.document)
 
 -- want of memory has no offset
 pub text_refused : (text : List ℕ) (error : read.Fault) (finding : code.Finding) → IsUtf8 text

@@ -1,15 +1,18 @@
 //! Where a number is at fault. The cursor stands after the number's first word.
-ghost use Rattle.std.specs.Prelude.{◌≡◌, ◌+◌, ◌-◌, ◌<◌, ◌^◌, None, length, IfErr};
+ghost use Rattle.std.specs.Prelude.{◌≡◌, ◌+◌, ◌-◌, ◌<◌, ◌^◌, true, false, [], ◌∷◌, None, length};
 ghost use Rattle.std.specs.Str.{IsCharBoundary};
 ghost use Rattle.std.specs.List.{list_any};
 ghost use Rattle.basic_toml_value.specs.Numbers as numbers;
 ghost use Rattle.basic_toml_value.specs.Numbers.{after_part};
 ghost use Rattle.basic_toml_tokens.specs.Text.{run, after_run, is_keylike};
 ghost use Rattle.basic_toml_tokens.specs.Reading.{text_of};
+ghost use Rattle.basic_toml_grammar.specs.NumberTokens.{plus_rest, mark_rest, word_rest};
 ghost use Rattle.basic_toml_grammar.specs.Reader.{char_at};
 ghost use Rattle.basic_toml_grammar.specs.NumberFaults as spec;
-ghost use Rattle.basic_toml_explain.specs.NumberFault.{plus_rest, mark_rest, word_rest, Finds};
-ghost use Rattle.basic_toml_explain.specs.Cursor.{Leads, EndsWithWord, IsAfterWord, IsStopped};
+ghost use Rattle.basic_toml_grammar.specs.NumberTokens.{behind_sign, behind_letter, behind_word};
+ghost use Rattle.basic_toml_explain.specs.NumberFault.{behind_left, behind_fraction};
+ghost use Rattle.basic_toml_explain.specs.NumberFault.{Finds, Looks};
+ghost use Rattle.basic_toml_explain.specs.Cursor.{IsAfterWord};
 
 use super::part::{part_fault, signed_part_fault};
 use crate::ReadError;
@@ -56,7 +59,7 @@ fn is_special(word: &[u8]) -> bool
 fn has_mark(word: &[u8]) -> bool
     ensures { result ≡ list_any numbers.is_exponent_letter word.now }
 {
-    word.iter().any(|byte| *byte == b'e' || *byte == b'E')
+    word.iter().any(|byte| is_exponent_letter(*byte))
 }
 
 fn without_minus(word: &[u8]) -> &[u8]
@@ -155,8 +158,9 @@ pub(crate) fn word_fault(
     word: &str,
 ) -> Result<Option<usize>, ReadError>
     requires { IsAfterWord (cursor.old.offset - length word.now) word.now cursor.old }
-    ensures { Finds EndsWithWord
+    ensures { Finds
         (spec.word_fault (length cursor.old.text) (cursor.old.offset - length word.now) word.now (text_of cursor.old))
+        (behind_word word.now (spec.without_minus word.now) (text_of cursor.old))
         (word_rest word.now (text_of cursor.old)) cursor.old cursor.new result }
 {
     let start = cursor.current() - word.len();
@@ -180,15 +184,21 @@ pub(crate) fn look_behind(
     alloc: Global,
     word: &str,
 ) -> Result<(), ReadError>
-    ensures { IfErr result (λ fault. IsStopped (text_of cursor.old) fault) }
+    requires takes { spec.takes_no_plus word.now ≡ true }
+    requires some { word.now ≡ [] → ⊥ }
+    ensures { Looks (behind_word word.now word.now (text_of cursor.old)) result }
 {
     let text = word.as_bytes();
-    if is_prefixed(text) || has_mark(text) {
+    if is_prefixed(text) {
         return Ok(());
     }
-    if cursor.eat(alloc, Token::Period)? {
-        cursor.next(alloc)?;
+    if has_mark(text) {
+        return Ok(());
     }
+    if !cursor.eat(alloc, Token::Period)? {
+        return Ok(());
+    }
+    cursor.keylike(alloc)?;
     Ok(())
 }
 
@@ -200,7 +210,8 @@ fn float_fault(
     word: &[u8],
 ) -> Result<Option<usize>, ReadError>
     requires { start + length word.now < 2 ^ 64 }
-    ensures { Finds EndsWithWord (spec.float_fault (length cursor.old.text) start word.now (text_of cursor.old))
+    ensures { Finds (spec.float_fault (length cursor.old.text) start word.now (text_of cursor.old))
+        (behind_letter false (spec.without_minus word.now) (text_of cursor.old))
         (mark_rest (after_part (spec.without_minus word.now)) (text_of cursor.old)) cursor.old cursor.new result }
 {
     let fault = signed_part_fault(false, start, word);
@@ -226,8 +237,9 @@ fn fraction_fault(
 ) -> Result<Option<usize>, ReadError>
     requires fits { start + length word.now < 2 ^ 64 }
     requires boundary { IsCharBoundary cursor.old.text cursor.old.offset }
-    ensures { Finds Leads (spec.after_period_fault (length cursor.old.text) start word.now
+    ensures { Finds (spec.after_period_fault (length cursor.old.text) start word.now
         (run is_keylike (text_of cursor.old)) (text_of cursor.old))
+        (behind_fraction (spec.without_minus word.now) (text_of cursor.old))
         (mark_rest (after_part (run is_keylike (text_of cursor.old))) (after_run is_keylike (text_of cursor.old)))
         cursor.old cursor.new result }
 {
@@ -254,15 +266,26 @@ fn exponent_fault(
     left: &[u8],
 ) -> Result<Option<usize>, ReadError>
     requires { at + length left.now < 2 ^ 64 }
-    ensures { Finds EndsWithWord (spec.exponent_fault (length cursor.old.text) start at left.now (text_of cursor.old))
-        (mark_rest left.now (text_of cursor.old)) cursor.old cursor.new result }
+    ensures { Finds (spec.exponent_fault (length cursor.old.text) start at left.now (text_of cursor.old))
+        (behind_left left.now (text_of cursor.old)) (mark_rest left.now (text_of cursor.old)) cursor.old cursor.new
+        result }
 {
-    match left {
-        [] => Ok(None),
-        [b'e' | b'E'] => plus_power_fault(cursor, alloc, start),
-        [b'e' | b'E', power @ ..] => Ok(near_power_fault(at + 1, start, power)),
-        _ => Ok(Some(start)),
+    let Some((letter, power)) = left.split_first() else {
+        return Ok(None);
+    };
+    if !is_exponent_letter(*letter) {
+        return Ok(Some(start));
     }
+    if power.is_empty() {
+        return plus_power_fault(cursor, alloc, start);
+    }
+    Ok(near_power_fault(at + 1, start, power))
+}
+
+fn is_exponent_letter(byte: u8) -> bool
+    ensures { result ≡ numbers.is_exponent_letter byte }
+{
+    byte == b'e' || byte == b'E'
 }
 
 // After the `e` of an exponent that ends its word.
@@ -271,8 +294,9 @@ fn plus_power_fault(
     alloc: Global,
     start: usize,
 ) -> Result<Option<usize>, ReadError>
-    ensures { Finds EndsWithWord
+    ensures { Finds
         (spec.plus_power_fault (length cursor.old.text) start (char_at numbers.plus (text_of cursor.old)))
+        (text_of cursor.old ∷ behind_sign (char_at numbers.plus (text_of cursor.old)))
         (plus_rest (char_at numbers.plus (text_of cursor.old)) (text_of cursor.old)) cursor.old cursor.new result }
 {
     if !cursor.eat(alloc, Token::Plus)? {

@@ -25,7 +25,7 @@ use Rattle.basic_toml_grammar.proofs.Completion.TokensPass.{Led, LedBy, at_start
 use Rattle.basic_toml_grammar.proofs.Completion.TokensLead.{allowed, lead_text}
 
 -- A token that ends before `here` ends before `there`.
-abbrev TokenEnds : Lexeme → Text → Text → Type 0
+abbrev pub TokenEnds : Lexeme → Text → Text → Type 0
 TokenEnds (whitespace _) here there = Ends is_blank here there
 TokenEnds (keylike _) here there = Ends is_keylike here there
 TokenEnds (comment _) here there = Ends is_comment here there
@@ -235,7 +235,7 @@ module _ (start : Text) (end : ℕ) (bytes : List ℕ) (utf8 : IsUtf8 bytes) (se
       let m = moved r t (alike_ends l a) k in
       Viable.after (walk r m.alike m.parts) (record { follows = m.goes; number = q })
 
-  walk_by : {kind : Lexeme → Bool} {text there : Text} → LedBy start end kind text
+  pub walk_by : {kind : Lexeme → Bool} {text there : Text} → LedBy start end kind text
       → ((l : Lexeme) → kind l ≡ true → TokenEnds l text there) → Parts text there start (folded bytes)
       → Viable start end text
   walk_by by_none ends k = Viable.at_start

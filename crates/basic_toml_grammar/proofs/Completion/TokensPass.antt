@@ -189,7 +189,7 @@ words_on (x ∷ text) = go (is_keylike x.1) refl (words_on text)
     go true e on = on ∙
         sym (ap (λ b. cond (b || (x.1 == 43 || x.1 == 46)) (after_run is_wordlike text) (x ∷ text)) e)
 
-joint : (c : ℕ) → is_wordlike c ≡ true → is_keylike c ≡ false → (l : Lexeme) × (punctuation_of c ≡ Some l)
+pub joint : (c : ℕ) → is_wordlike c ≡ true → is_keylike c ≡ false → (l : Lexeme) × (punctuation_of c ≡ Some l)
     × (no_comment l ≡ true)
 joint c w k = elim (or_cases (c == 43) (c == 46) (ap (λ b. b || (c == 43 || c == 46)) (sym k) ∙ w)) [
   | inl e ↦ (plus, ap punctuation_of (eqb-true c 43 e), refl)
@@ -204,7 +204,7 @@ record Step (start : Text) (end : ℕ) (word : Text) (x : ℕ × ℕ) (text : Te
   on : after_run is_wordlike next ≡ after_run is_wordlike (x ∷ text)
   shorter : length next < length (x ∷ text)
 
-run_within : {word : Text} (text : Text) → InWord word text → InWord word (after_run is_keylike text)
+pub run_within : {word : Text} (text : Text) → InWord word text → InWord word (after_run is_keylike text)
 run_within [] q = q
 run_within {word = word} (x ∷ text) q = go (is_keylike x.1) refl (λ q. run_within text q)
   where

@@ -77,14 +77,14 @@ exponent_none {rest = rest} end start at c left k next e =
     ∙ power_none end start (at + 1) left k next h.1
 
 -- what may stand behind a period, by the digits and what is left
-abbrev Fraction : List ℕ → List ℕ → Bool
+abbrev pub Fraction : List ℕ → List ℕ → Bool
 Fraction digits left = is_digits 10 digits && (bytes_eq left [] || is_exponent left)
 
-halves : (digits left : List ℕ) → Fraction digits left ≡ true
+pub halves : (digits left : List ℕ) → Fraction digits left ≡ true
     → (is_digits 10 digits ≡ true) × ((bytes_eq left [] || is_exponent left) ≡ true)
 halves digits left e = and_parts (is_digits 10 digits) (bytes_eq left [] || is_exponent left) e
 
-fraction_is : {part after : List ℕ} (xs : List ℕ) → Parts xs part after → Fraction (part_of xs) (after_part xs) ≡ true
+pub fraction_is : {part after : List ℕ} (xs : List ℕ) → Parts xs part after → Fraction (part_of xs) (after_part xs) ≡ true
     → Fraction part after ≡ true
 fraction_is {part = part} xs (p, a) e =
     ap (Fraction part) (sym a) ∙ ap (λ (p : List ℕ). Fraction p (after_part xs)) (sym p) ∙ e
@@ -104,7 +104,7 @@ digits_alone f h (period_next {next = t}) e =
     absurd (false≢true (halves (part_of f) (46 ∷ run is_wordlike t)
     (fraction_is (f ++ 46 ∷ run is_wordlike t) (parts_at f 46 (run is_wordlike t) h refl) e)).1)
 
-no_digits : {rest : Text} → Behind rest
+pub no_digits : {rest : Text} → Behind rest
     → Fraction (part_of (run is_wordlike rest)) (after_part (run is_wordlike rest)) ≡ true → ⊥
 no_digits (over o) e =
     false≢true (sym (ap (λ (w : List ℕ). Fraction (part_of w) (after_part w)) o.word) ∙ e)

@@ -41,20 +41,7 @@ value_apart c e =
 abbrev pub Outside : Text → Type 0
 Outside text = (sections : List Section) → IsSectionList text sections → ⊥
 
-module _ (bytes : List ℕ) (utf8 : IsUtf8 bytes) (outside : Outside (folded bytes)) where
-  -- no token stands there
-  pub refused_is_due : {h : Hole} {at : Text} {fault : Fault} → HoleInText (folded bytes) h at → RefusesToken at fault
-      → IsDue (folded bytes) (length bytes) fault
-  refused_is_due {at = at} d r = record {
-    outside = outside;
-    at = at;
-    stops = record {
-      viable = hole_is_viable bytes utf8 (length bytes) d;
-      stuck = λ rest m. token_or_fault m.follows.next.here r.is_fault;
-    };
-    due = viable.no_token r;
-  }
-
+module _ (bytes : List ℕ) (utf8 : IsUtf8 bytes) where
   -- a token stands there, with this character, which does not fit
   module _ {p c : ℕ} {next : Text} {found : Option Lexeme} {word : List ℕ} (stands : Stands ((p, c) ∷ next) found word) where
     begins : in_comment c ≡ true
@@ -98,67 +85,52 @@ module _ (bytes : List ℕ) (utf8 : IsUtf8 bytes) (outside : Outside (folded byt
       there : {k : ℕ} → Filler h (Some k) → SignMayStand (folded bytes) (length bytes) (Some k) ((p, c) ∷ next)
       there x = sign_follows bytes utf8 d x (seen d)
 
-      due : {want : Want} → Sound (folded bytes) (length bytes) ((p, c) ∷ next)
-          → IsWanted (folded bytes) (length bytes) ((p, c) ∷ next) wants want
-          → IsDue (folded bytes) (length bytes)
-          (fault_at (mismatch_kind want found word) (offset_in (length bytes) ((p, c) ∷ next)))
-      due sound w = record {
-        outside = outside;
-        at = (p, c) ∷ next;
-        stops = record {
-          viable = hole_is_viable bytes utf8 (length bytes) d;
-          stuck = misfit_may_not_stand d refl misfit;
-        };
-        due = viable.mismatch sound stands w;
-      }
-
       -- where no value may stand
       no_value : Sign 123 h (text_opens d) → fits h 123 ≡ false → Sound (folded bytes) (length bytes) ((p, c) ∷ next)
       no_value s f = λ o n. not_there 123 s f n.value
 
-    abbrev pub Due : Want → Type 0
-    Due want = IsDue (folded bytes) (length bytes)
-        (fault_at (mismatch_kind want found word) (offset_in (length bytes) ((p, c) ∷ next)))
+    abbrev pub Wants : Want → Type 0
+    Wants want = IsWanted (folded bytes) (length bytes) ((p, c) ∷ next) wants want
 
-    pub equals_is_due : HoleInText (folded bytes) Hole.after_keys ((p, c) ∷ next) → fits Hole.after_keys c ≡ false
-        → Due Want.equals
-    equals_is_due d m = due d m (no_value d m (brace (λ e. cc)) refl)
-        (viable.later (not_there d m 123 (brace (λ e. cc)) refl) (viable.this (there d m fillers.equals)))
+    pub equals_is_wanted : HoleInText (folded bytes) Hole.after_keys ((p, c) ∷ next) → fits Hole.after_keys c ≡ false
+        → Wants Want.equals
+    equals_is_wanted d m =
+        viable.later (not_there d m 123 (brace (λ e. cc)) refl) (viable.this (there d m fillers.equals))
 
-    pub header_end_is_due : HoleInText (folded bytes) Hole.after_header_keys ((p, c) ∷ next)
-        → fits Hole.after_header_keys c ≡ false → Due Want.right_bracket
-    header_end_is_due d m = due d m (no_value d m (brace (λ e. cc)) refl)
-        (viable.later (not_there d m 123 (brace (λ e. cc)) refl)
-        (viable.later (not_there d m 61 (equals (λ e. cc)) refl) (viable.this (there d m fillers.header_end))))
+    pub header_end_is_wanted : HoleInText (folded bytes) Hole.after_header_keys ((p, c) ∷ next)
+        → fits Hole.after_header_keys c ≡ false → Wants Want.right_bracket
+    header_end_is_wanted d m =
+        viable.later (not_there d m 123 (brace (λ e. cc)) refl)
+        (viable.later (not_there d m 61 (equals (λ e. cc)) refl) (viable.this (there d m fillers.header_end)))
 
-    pub second_bracket_is_due : HoleInText (folded bytes) Hole.second_bracket ((p, c) ∷ next)
-        → fits Hole.second_bracket c ≡ false → Due Want.right_bracket
-    second_bracket_is_due d m = due d m (no_value d m (brace (λ e. cc)) refl)
-        (viable.later (not_there d m 123 (brace (λ e. cc)) refl)
-        (viable.later (not_there d m 61 (equals (λ e. cc)) refl) (viable.this (there d m fillers.second_end))))
+    pub second_bracket_is_wanted : HoleInText (folded bytes) Hole.second_bracket ((p, c) ∷ next)
+        → fits Hole.second_bracket c ≡ false → Wants Want.right_bracket
+    second_bracket_is_wanted d m =
+        viable.later (not_there d m 123 (brace (λ e. cc)) refl)
+        (viable.later (not_there d m 61 (equals (λ e. cc)) refl) (viable.this (there d m fillers.second_end)))
 
-    pub element_end_is_due : HoleInText (folded bytes) Hole.after_element ((p, c) ∷ next)
-        → fits Hole.after_element c ≡ false → Due Want.right_bracket
-    element_end_is_due d m = due d m (no_value d m (brace (λ e. cc)) refl)
-        (viable.later (not_there d m 123 (brace (λ e. cc)) refl)
-        (viable.later (not_there d m 61 (equals (λ e. cc)) refl) (viable.this (there d m fillers.array_end))))
+    pub element_end_is_wanted : HoleInText (folded bytes) Hole.after_element ((p, c) ∷ next)
+        → fits Hole.after_element c ≡ false → Wants Want.right_bracket
+    element_end_is_wanted d m =
+        viable.later (not_there d m 123 (brace (λ e. cc)) refl)
+        (viable.later (not_there d m 61 (equals (λ e. cc)) refl) (viable.this (there d m fillers.array_end)))
 
-    pub field_end_is_due : HoleInText (folded bytes) Hole.after_field ((p, c) ∷ next)
-        → fits Hole.after_field c ≡ false → Due Want.comma
-    field_end_is_due d m = due d m (no_value d m (brace (λ e. cc)) refl)
-        (viable.later (not_there d m 123 (brace (λ e. cc)) refl)
+    pub field_end_is_wanted : HoleInText (folded bytes) Hole.after_field ((p, c) ∷ next)
+        → fits Hole.after_field c ≡ false → Wants Want.comma
+    field_end_is_wanted d m =
+        viable.later (not_there d m 123 (brace (λ e. cc)) refl)
         (viable.later (not_there d m 61 (equals (λ e. cc)) refl)
-        (viable.later (not_there d m 93 (bracket (λ e. cc)) refl) (viable.this (there d m fillers.another)))))
+        (viable.later (not_there d m 93 (bracket (λ e. cc)) refl) (viable.this (there d m fillers.another))))
 
-    pub line_end_is_due : HoleInText (folded bytes) Hole.after_line ((p, c) ∷ next)
-        → fits Hole.after_line c ≡ false → Due Want.newline
-    line_end_is_due d m = due d m (no_value d m (brace (λ e. cc)) refl)
-        (viable.later (not_there d m 123 (brace (λ e. cc)) refl)
+    pub line_end_is_wanted : HoleInText (folded bytes) Hole.after_line ((p, c) ∷ next)
+        → fits Hole.after_line c ≡ false → Wants Want.newline
+    line_end_is_wanted d m =
+        viable.later (not_there d m 123 (brace (λ e. cc)) refl)
         (viable.later (not_there d m 61 (equals (λ e. cc)) refl)
         (viable.later (not_there d m 93 (bracket (λ e. cc)) refl)
         (viable.later (not_there d m 44 (comma (λ e. cc)) refl)
         (viable.later (not_there d m 91 (header (λ e. cc) (closed d)) refl)
-        (viable.this (sign_follows bytes utf8 d fillers.line_end (seen d))))))))
+        (viable.this (sign_follows bytes utf8 d fillers.line_end (seen d)))))))
 
     -- where a key has to come no other sign may stand, but a bracket that begins a header
     module _ (d : HoleInText (folded bytes) Hole.key ((p, c) ∷ next)) where
@@ -180,12 +152,68 @@ module _ (bytes : List ℕ) (utf8 : IsUtf8 bytes) (outside : Outside (folded byt
           key false o = viable.later (not_at_key 91 (header (λ e. cc) o) refl)
               (viable.later (λ g. end_misfits d o (λ e. cc) g) viable.otherwise)
 
+module _ (bytes : List ℕ) (utf8 : IsUtf8 bytes) (outside : Outside (folded bytes)) where
+  -- no token stands there
+  pub refused_is_due : {h : Hole} {at : Text} {fault : Fault} → HoleInText (folded bytes) h at → RefusesToken at fault
+      → IsDue (folded bytes) (length bytes) fault
+  refused_is_due {at = at} d r = record {
+    outside = outside;
+    at = at;
+    stops = record {
+      viable = hole_is_viable bytes utf8 (length bytes) d;
+      stuck = λ rest m. token_or_fault m.follows.next.here r.is_fault;
+    };
+    due = viable.no_token r;
+  }
+
+  -- another thing is wanted than what stands there
+  module _ {p c : ℕ} {next : Text} {found : Option Lexeme} {word : List ℕ} (stands : Stands ((p, c) ∷ next) found word) where
+    abbrev pub Due : Want → Type 0
+    Due want = IsDue (folded bytes) (length bytes)
+        (fault_at (mismatch_kind want found word) (offset_in (length bytes) ((p, c) ∷ next)))
+
+    due : {h : Hole} {want : Want} → HoleInText (folded bytes) h ((p, c) ∷ next) → fits h c ≡ false
+        → Sound (folded bytes) (length bytes) ((p, c) ∷ next) → Wants bytes utf8 stands want → Due want
+    due d misfit sound w = record {
+      outside = outside;
+      at = (p, c) ∷ next;
+      stops = record {
+        viable = hole_is_viable bytes utf8 (length bytes) d;
+        stuck = misfit_may_not_stand d refl misfit;
+      };
+      due = viable.mismatch sound stands w;
+    }
+
+    pub equals_is_due : HoleInText (folded bytes) Hole.after_keys ((p, c) ∷ next) → fits Hole.after_keys c ≡ false
+        → Due Want.equals
+    equals_is_due d m = due d m (no_value bytes utf8 stands d m (brace (λ e. cc)) refl) (equals_is_wanted bytes utf8 stands d m)
+
+    pub header_end_is_due : HoleInText (folded bytes) Hole.after_header_keys ((p, c) ∷ next) → fits Hole.after_header_keys c ≡ false
+        → Due Want.right_bracket
+    header_end_is_due d m = due d m (no_value bytes utf8 stands d m (brace (λ e. cc)) refl) (header_end_is_wanted bytes utf8 stands d m)
+
+    pub second_bracket_is_due : HoleInText (folded bytes) Hole.second_bracket ((p, c) ∷ next) → fits Hole.second_bracket c ≡ false
+        → Due Want.right_bracket
+    second_bracket_is_due d m = due d m (no_value bytes utf8 stands d m (brace (λ e. cc)) refl) (second_bracket_is_wanted bytes utf8 stands d m)
+
+    pub element_end_is_due : HoleInText (folded bytes) Hole.after_element ((p, c) ∷ next) → fits Hole.after_element c ≡ false
+        → Due Want.right_bracket
+    element_end_is_due d m = due d m (no_value bytes utf8 stands d m (brace (λ e. cc)) refl) (element_end_is_wanted bytes utf8 stands d m)
+
+    pub field_end_is_due : HoleInText (folded bytes) Hole.after_field ((p, c) ∷ next) → fits Hole.after_field c ≡ false
+        → Due Want.comma
+    field_end_is_due d m = due d m (no_value bytes utf8 stands d m (brace (λ e. cc)) refl) (field_end_is_wanted bytes utf8 stands d m)
+
+    pub line_end_is_due : HoleInText (folded bytes) Hole.after_line ((p, c) ∷ next) → fits Hole.after_line c ≡ false
+        → Due Want.newline
+    line_end_is_due d m = due d m (no_value bytes utf8 stands d m (brace (λ e. cc)) refl) (line_end_is_wanted bytes utf8 stands d m)
+
     pub key_is_due : HoleInText (folded bytes) Hole.key ((p, c) ∷ next) → fits Hole.key c ≡ false → Due Want.table_key
-    key_is_due d m = due d m (no_value d m (brace (λ e. cc)) refl) (key_is_wanted d)
+    key_is_due d m = due d m (no_value bytes utf8 stands d m (brace (λ e. cc)) refl) (key_is_wanted bytes utf8 stands d)
 
     -- where no value begins
     pub value_is_due : HoleInText (folded bytes) Hole.value ((p, c) ∷ next) → fits Hole.value c ≡ false → Due Want.value
-    value_is_due d m = due d m (plain_sound (length bytes) refl plain) (viable.this (there d m fillers.empty_table))
+    value_is_due d m = due d m (plain_sound (length bytes) refl plain) (viable.this (there bytes utf8 stands d m fillers.empty_table))
       where
         plain : (c == 43 || is_keylike c) ≡ false
         plain = let w = value_apart c m in or_from (c == 43) (is_keylike c) w.1 w.0

@@ -7,7 +7,8 @@ use Rattle.basic_toml_grammar.specs.Grammar.{after_comment_by, after_gap_from}
 use Rattle.basic_toml_grammar.specs.Reader.{char_at, end_of}
 use Rattle.basic_toml_grammar.specs.Holes as holes
 use Rattle.basic_toml_grammar.specs.Holes.{Hole, HoleInKeys, HoleInValue, HoleInElements, HoleInFields, HoleInFieldsOn}
-use Rattle.basic_toml_grammar.specs.Holes.{HoleInRow}
+use Rattle.basic_toml_grammar.specs.Holes.{HoleInRow, behind_value, behind_in_elements, behind_in_fields, behind_in_fields_on}
+use Rattle.basic_toml_grammar.specs.Holes.{behind_in_row}
 use Rattle.basic_toml_grammar.proofs.Grammar.EndChangesNothing.{Parts, at_end, past, Meets, same, same_ends, Ends}
 use Rattle.basic_toml_grammar.proofs.Grammar.EndChangesNothing.{Carried, carried, Clear, same_clear, clear_past, stops}
 use Rattle.basic_toml_grammar.proofs.Grammar.EndChangesNothing.{begins_gap, in_gap, outside_over, inside_over, gap_on}
@@ -112,32 +113,42 @@ keys_hole {h = h} {end = end} (holes.later_key {mid = mid} {next = next} key s d
           (subst (λ (t : Text). HoleInKeys t h end) (sym m.holds.on) x.holds);
     }
 
+-- the same has to come behind its value
+abbrev pub ValueTo : Hole → Text → Text → (Hole → Hole) → Type 0
+ValueTo h text at f = (d : HoleInValue text h at) × ((b : Hole) → behind_value b d ≡ f b)
+
+abbrev pub ElementsTo : Hole → Text → Text → Hole → Type 0
+ElementsTo h text at b = (d : HoleInElements text h at) × (behind_in_elements d ≡ b)
+
+abbrev pub FieldsTo : Hole → Text → Text → Hole → Type 0
+FieldsTo h text at b = (d : HoleInFields text h at) × (behind_in_fields d ≡ b)
+
+abbrev pub FieldsOnTo : Hole → Text → Text → Hole → Type 0
+FieldsOnTo h text at b = (d : HoleInFieldsOn text h at) × (behind_in_fields_on d ≡ b)
+
+abbrev pub RowTo : Hole → Text → Text → (Hole → Hole) → Type 0
+RowTo h text at f = (d : HoleInRow text h at) × ((b : Hole) → behind_in_row b d ≡ f b)
+
 mutual
   value_hole : {h : Hole} {text at at' end : Text} (d : HoleInValue text h at) → Turn h at at' end
-      → Gapped (value_gap d) at at' end → Carried at at' text (λ t. HoleInValue t h end)
+      → Gapped (value_gap d) at at' end → Carried at at' text (λ t. ValueTo h t end (λ b. behind_value b d))
   value_hole {at' = at'} holes.this_value turn gap = record {
     other = at';
     cut = record { parts = at_end refl refl; meets = turn.meets };
-    holds = subst (λ (t : Text). HoleInValue at' Hole.value t) (turn.lands (λ e. cc)) holes.this_value;
+    holds = subst (λ (t : Text). ValueTo Hole.value at' t (λ b. b)) (turn.lands (λ e. cc)) (holes.this_value, λ b. refl);
   }
   value_hole {h = h} {end = end} (holes.array {next = next} s d) turn gap =
       let x = elements_hole d turn gap in
       let g = gap_carried is_comment next x.cut (elements_clear d turn gap x.cut.parts) in
       let r = sign_carried s g.cut.parts in
-      record {
-        other = r.other;
-        cut = r.cut;
-        holds = holes.array r.holds (subst (λ (t : Text). HoleInElements t h end) (sym g.holds) x.holds);
-      }
+      let y = subst (λ (t : Text). ElementsTo h t end (behind_in_elements d)) (sym g.holds) x.holds in
+      record { other = r.other; cut = r.cut; holds = (holes.array r.holds y.0, λ b. y.1) }
   value_hole {h = h} {end = end} (holes.inline {next = next} s d) turn gap =
       let x = fields_hole d turn gap in
       let g = blanks_carried next x.cut in
       let r = sign_carried s g.cut.parts in
-      record {
-        other = r.other;
-        cut = r.cut;
-        holds = holes.inline r.holds (subst (λ (t : Text). HoleInFields t h end) (sym g.holds) x.holds);
-      }
+      let y = subst (λ (t : Text). FieldsTo h t end (behind_in_fields d)) (sym g.holds) x.holds in
+      record { other = r.other; cut = r.cut; holds = (holes.inline r.holds y.0, λ b. y.1) }
 
   elements_clear : {h : Hole} {text other at at' end : Text} (d : HoleInElements text h at) → Turn h at at' end
       → Gapped (elements_gap d) at at' end → Parts at at' text other → Clear is_comment text other
@@ -153,28 +164,34 @@ mutual
       clear_behind k (omega (arith, value_shorter v, shorter_after_gap mid s, gap_length next, elements_within d))
 
   elements_hole : {h : Hole} {text at at' end : Text} (d : HoleInElements text h at) → Turn h at at' end
-      → Gapped (elements_gap d) at at' end → Carried at at' text (λ t. HoleInElements t h end)
+      → Gapped (elements_gap d) at at' end → Carried at at' text (λ t. ElementsTo h t end (behind_in_elements d))
   elements_hole {at' = at'} (holes.in_element m holes.this_value) turn gap = record {
     other = at';
     cut = record { parts = at_end refl refl; meets = turn.meets };
-    holds = subst (λ (t : Text). HoleInElements at' Hole.value t) (turn.lands (λ e. cc))
-        (holes.in_element (turn.value refl m) holes.this_value);
+    holds = subst (λ (t : Text). ElementsTo Hole.value at' t Hole.after_element) (turn.lands (λ e. cc))
+        (holes.in_element (turn.value refl m) holes.this_value, refl);
   }
   elements_hole (holes.in_element m (holes.array {next = next} s d)) turn gap =
       let x = value_hole (holes.array s d) turn gap in
       record {
         other = x.other;
         cut = x.cut;
-        holds = holes.in_element (misses_past 93 m x.cut.parts
-            (omega (arith, sign_length s, gap_length next, elements_within d))) x.holds;
+        holds = (
+          holes.in_element (misses_past 93 m x.cut.parts
+              (omega (arith, sign_length s, gap_length next, elements_within d))) x.holds.0,
+          x.holds.1 Hole.after_element,
+        );
       }
   elements_hole (holes.in_element m (holes.inline {next = next} s d)) turn gap =
       let x = value_hole (holes.inline s d) turn gap in
       record {
         other = x.other;
         cut = x.cut;
-        holds = holes.in_element (misses_past 93 m x.cut.parts
-            (omega (arith, sign_length s, blanks_length next, fields_within d))) x.holds;
+        holds = (
+          holes.in_element (misses_past 93 m x.cut.parts
+              (omega (arith, sign_length s, blanks_length next, fields_within d))) x.holds.0,
+          x.holds.1 Hole.after_element,
+        );
       }
   elements_hole (holes.after_this {mid = mid} v) turn gap =
       let p = gap refl in
@@ -184,24 +201,25 @@ mutual
       record {
         other = r.other;
         cut = r.cut;
-        holds = subst (λ (t : Text). HoleInElements r.other Hole.after_element t) g.holds (holes.after_this r.holds);
+        holds = subst (λ (t : Text). ElementsTo Hole.after_element r.other t Hole.after_element) g.holds
+            (holes.after_this r.holds, refl);
       }
   elements_hole {h = h} {end = end} (holes.later_element {mid = mid} {next = next} v s d) turn gap =
       let x = elements_hole d turn gap in
       let m = sign_among_gaps mid next s x.cut.parts (elements_clear d turn gap x.cut.parts) in
       let r = value_carried v m.cut in
-      record {
-        other = r.other;
-        cut = r.cut;
-        holds = holes.later_element r.holds m.holds.sign
-            (subst (λ (t : Text). HoleInElements t h end) (sym m.holds.on) x.holds);
-      }
+      let y = subst (λ (t : Text). ElementsTo h t end (behind_in_elements d)) (sym m.holds.on) x.holds in
+      record { other = r.other; cut = r.cut; holds = (holes.later_element r.holds m.holds.sign y.0, y.1) }
 
   fields_hole : {h : Hole} {text at at' end : Text} (d : HoleInFields text h at) → Turn h at at' end
-      → Gapped (fields_gap d) at at' end → Carried at at' text (λ t. HoleInFields t h end)
+      → Gapped (fields_gap d) at at' end → Carried at at' text (λ t. FieldsTo h t end (behind_in_fields d))
   fields_hole (holes.fields m d) turn gap =
       let x = fields_on_hole d turn gap in
-      record { other = x.other; cut = x.cut; holds = holes.fields (no_brace d turn m x.cut.parts) x.holds }
+      record {
+        other = x.other;
+        cut = x.cut;
+        holds = (holes.fields (no_brace d turn m x.cut.parts) x.holds.0, x.holds.1);
+      }
 
   no_brace : {h : Hole} {text other at at' end : Text} (d : HoleInFieldsOn text h at) → Turn h at at' end
       → char_at 125 text ≡ None → Parts at at' text other → char_at 125 other ≡ None
@@ -223,49 +241,43 @@ mutual
       ))
 
   fields_on_hole : {h : Hole} {text at at' end : Text} (d : HoleInFieldsOn text h at) → Turn h at at' end
-      → Gapped (fields_on_gap d) at at' end → Carried at at' text (λ t. HoleInFieldsOn t h end)
+      → Gapped (fields_on_gap d) at at' end → Carried at at' text (λ t. FieldsOnTo h t end (behind_in_fields_on d))
   fields_on_hole (holes.in_row d) turn gap =
-      let x = row_hole d turn gap in record { other = x.other; cut = x.cut; holds = holes.in_row x.holds }
+      let x = row_hole d turn gap in
+      record { other = x.other; cut = x.cut; holds = (holes.in_row x.holds.0, x.holds.1 Hole.after_field) }
   fields_on_hole (holes.after_row {mid = mid} x) turn gap =
       let g = blanks_carried mid (record { parts = at_end refl refl; meets = turn.meets }) in
       let r = row_carried x g.cut in
       record {
         other = r.other;
         cut = r.cut;
-        holds = subst (λ (t : Text). HoleInFieldsOn r.other Hole.after_field t) (g.holds ∙ turn.lands (λ e. cc))
-            (holes.after_row r.holds);
+        holds = subst (λ (t : Text). FieldsOnTo Hole.after_field r.other t Hole.after_field)
+            (g.holds ∙ turn.lands (λ e. cc)) (holes.after_row r.holds, refl);
       }
   fields_on_hole {h = h} {end = end} (holes.later_row {mid = mid} {next = next} x s d) turn gap =
       let y = fields_on_hole d turn gap in
       let m = sign_among_blanks mid next s y.cut in
       let r = row_carried x m.cut in
-      record {
-        other = r.other;
-        cut = r.cut;
-        holds = holes.later_row r.holds m.holds.sign
-            (subst (λ (t : Text). HoleInFieldsOn t h end) (sym m.holds.on) y.holds);
-      }
+      let z = subst (λ (t : Text). FieldsOnTo h t end (behind_in_fields_on d)) (sym m.holds.on) y.holds in
+      record { other = r.other; cut = r.cut; holds = (holes.later_row r.holds m.holds.sign z.0, z.1) }
 
   pub row_hole : {h : Hole} {text at at' end : Text} (d : HoleInRow text h at) → Turn h at at' end
-      → Gapped (row_gap d) at at' end → Carried at at' text (λ t. HoleInRow t h end)
+      → Gapped (row_gap d) at at' end → Carried at at' text (λ t. RowTo h t end (λ b. behind_in_row b d))
   row_hole (holes.in_keys d) turn gap =
-      let x = keys_hole d turn in record { other = x.other; cut = x.cut; holds = holes.in_keys x.holds }
+      let x = keys_hole d turn in
+      record { other = x.other; cut = x.cut; holds = (holes.in_keys x.holds, λ b. refl) }
   row_hole (holes.after_keys {mid = mid} ks) turn gap =
       let g = blanks_carried mid (record { parts = at_end refl refl; meets = turn.meets }) in
       let r = keys_carried ks g.cut in
       record {
         other = r.other;
         cut = r.cut;
-        holds = subst (λ (t : Text). HoleInRow r.other Hole.after_keys t) (g.holds ∙ turn.lands (λ e. cc))
-            (holes.after_keys r.holds);
+        holds = subst (λ (t : Text). RowTo Hole.after_keys r.other t (λ b. b)) (g.holds ∙ turn.lands (λ e. cc))
+            (holes.after_keys r.holds, λ b. refl);
       }
   row_hole {h = h} {end = end} (holes.in_value {mid = mid} {next = next} ks s d) turn gap =
       let y = value_hole d turn gap in
       let m = sign_among_blanks mid next s y.cut in
       let r = keys_carried ks m.cut in
-      record {
-        other = r.other;
-        cut = r.cut;
-        holds = holes.in_value r.holds m.holds.sign
-            (subst (λ (t : Text). HoleInValue t h end) (sym m.holds.on) y.holds);
-      }
+      let z = subst (λ (t : Text). ValueTo h t end (λ b. behind_value b d)) (sym m.holds.on) y.holds in
+      record { other = r.other; cut = r.cut; holds = (holes.in_value r.holds m.holds.sign z.0, z.1) }

@@ -94,5 +94,5 @@ module _ (bytes : List ℕ) (utf8 : IsUtf8 bytes) (outside : Outside (folded byt
     stops = record { viable = hole_is_viable bytes utf8 (length bytes) d; stuck = stuck };
     due = viable.mismatch {found = Some (string source' value true)} {want = Want.table_key}
         (string_sound (length bytes) (multiline_is t).is) (faults.token t)
-        (key_is_wanted bytes utf8 outside (faults.token t) d);
+        (key_is_wanted bytes utf8 (faults.token t) d);
   }

@@ -89,12 +89,12 @@ within whole w = behind w whole
 within (behind v q) w = behind v (within q w)
 
 -- the word goes on otherwise
-record Cut (text left rest : Text) : Type 0 where
-  other : Text
-  parts : Parts left rest text other
-  ends : after_run is_wordlike other ≡ rest
+pub record Cut (text left rest : Text) : Type 0 where
+  pub other : Text
+  pub parts : Parts left rest text other
+  pub ends : after_run is_wordlike other ≡ rest
 
-cut : {text left rest : Text} → InWord text left → stops is_wordlike rest ≡ true → Cut text left rest
+pub cut : {text left rest : Text} → InWord text left → stops is_wordlike rest ≡ true → Cut text left rest
 cut {rest = rest} whole s =
     record { other = rest; parts = at_end refl refl; ends = (after_stopped is_wordlike rest s).0 }
 cut (behind {x = x} w q) s =
@@ -121,7 +121,7 @@ word_read {x = x} w (array s es) = absurd (word_sign is_wordlike {c = x.1} {p = 
 word_read {x = x} w (inline s rs) = absurd (word_sign is_wordlike {c = x.1} {p = x.0} refl w s refl)
 
 -- no value may stand within a word
-no_value_within : {start text left : Text} {x : ℕ × ℕ} → HoleInText start Hole.value (x ∷ text)
+pub no_value_within : {start text left : Text} {x : ℕ × ℕ} → HoleInText start Hole.value (x ∷ text)
     → is_wordlike x.1 ≡ true → InWord text left → GoesOn start left (Begins 123) → ⊥
 no_value_within {start = start} {text = text} {left = left} {x = x} d w q g = go (text_holds there g.grammar)
   where

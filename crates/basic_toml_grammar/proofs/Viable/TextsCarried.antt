@@ -10,7 +10,7 @@ use Rattle.basic_toml_grammar.specs.Grammar.{array_of_tables, after_comment_by}
 use Rattle.basic_toml_grammar.specs.Reader.{char_at, end_of}
 use Rattle.basic_toml_grammar.specs.Holes as holes
 use Rattle.basic_toml_grammar.specs.Holes.{Hole, HoleInKeys, HoleInRow, HoleInRows, HoleInHeader, HoleInSections}
-use Rattle.basic_toml_grammar.specs.Holes.{HoleInText}
+use Rattle.basic_toml_grammar.specs.Holes.{HoleInText, behind_in_row, behind_in_rows, behind_in_sections, behind_in_text}
 use Rattle.basic_toml_grammar.proofs.Grammar.EndChangesNothing.{Parts, at_end, past, stops, Ends, Cut}
 use Rattle.basic_toml_grammar.proofs.Grammar.EndChangesNothing.{same_clear}
 use Rattle.basic_toml_grammar.proofs.Grammar.EndChangesNothing.{comment_to, run_to, Carried, carried}
@@ -26,7 +26,7 @@ use Rattle.basic_toml_grammar.proofs.Completion.HeadersFollow.{row_opens, rows_o
 use Rattle.basic_toml_grammar.proofs.Completion.HeadersFollow.{text_opens}
 use Rattle.basic_toml_grammar.proofs.Viable.HolesAreWithin.{keys_past, row_past}
 use Rattle.basic_toml_grammar.proofs.Viable.HolesCarried.{Turn, Opening, passes, Gapped, taken, misses, misses_past}
-use Rattle.basic_toml_grammar.proofs.Viable.HolesCarried.{keys_hole, row_hole, alike_turn}
+use Rattle.basic_toml_grammar.proofs.Viable.HolesCarried.{keys_hole, row_hole, alike_turn, RowTo}
 
 -- where no comment stands, the first character tells whether the line ends
 no_end : (b : Bool) (x : ℕ × ℕ) (t u : Text) (p : ℕ × Text) (r s : Text) → cond b (Some p) None ≡ None
@@ -74,12 +74,22 @@ not_over (at_end t o) m e f =
 not_over (past {x = x} {text = text} {other = other} k) m e f =
     no_end (x.1 == 35) x text other (x.0, text) (after_run is_comment text) (after_run is_comment other) m e
 
+-- the same has to come behind its value
+abbrev pub RowsTo : Hole → Text → Text → Hole → Type 0
+RowsTo h text at b = (d : HoleInRows text h at) × (behind_in_rows d ≡ b)
+
+abbrev pub SectionsTo : Hole → Text → Text → Hole → Type 0
+SectionsTo h text at b = (d : HoleInSections text h at) × (behind_in_sections d ≡ b)
+
+abbrev pub TextTo : Hole → Text → Text → Hole → Type 0
+TextTo h text at b = (d : HoleInText text h at) × (behind_in_text d ≡ b)
+
 -- an empty line before a hole
-hole_below : {h : Hole} {next at : Text} (text : Text) → EndsLine is_comment text next → HoleInRows next h at
-    → HoleInRows text h at
+hole_below : {h b : Hole} {next at : Text} (text : Text) → EndsLine is_comment text next → RowsTo h next at b
+    → RowsTo h text at b
 hole_below [] (at_feed s) d = absurd (no_sign refl s)
-hole_below [] (line_at_end e) d = absurd (no_hole_in_rows d)
-hole_below (x ∷ text) e d = holes.after_empty e d
+hole_below [] (line_at_end e) d = absurd (no_hole_in_rows d.0)
+hole_below (x ∷ text) e d = (holes.after_empty e d.0, d.1)
 
 -- what stands there where the hole is not at the front
 opening_past : {here there text other : Text} → Parts here there text other → length here < length text
@@ -120,19 +130,23 @@ line_hole mid e turn =
     }
 
 pub rows_hole : {h : Hole} {text at at' end : Text} (d : HoleInRows text h at) → Turn h at at' end
-    → Gapped (rows_gap d) at at' end → Opened (rows_open d) at at' → Carried at at' text (λ t. HoleInRows t h end)
+    → Gapped (rows_gap d) at at' end → Opened (rows_open d) at at'
+    → Carried at at' text (λ t. RowsTo h t end (behind_in_rows d))
 rows_hole {h = h} {at = at} {at' = at'} {end = end} (holes.this_row {text = text} b c m d) turn gap unlocked =
     let x = row_hole d turn gap in
     let r = blanks_carried text x.cut in
     let same = sym r.holds in
+    let y = subst (λ (t : Text). RowTo h t end (λ b. behind_in_row b d)) same x.holds in
     let o : Opening (after_blanks text) x.other = opens (row_opens d) refl unlocked x.cut.parts in
     record {
       other = r.other;
       cut = r.cut;
-      holds = holes.this_row (subst (λ (t : Text). char_at 91 t ≡ None) same (o.bracket b))
-          (subst (λ (t : Text). char_at 35 t ≡ None) same (o.hash c))
-          (subst (λ (t : Text). end_of (after_comment_by is_comment t) ≡ None) same (o.line_end c m))
-          (subst (λ (t : Text). HoleInRow t h end) same x.holds);
+      holds = (
+        holes.this_row (subst (λ (t : Text). char_at 91 t ≡ None) same (o.bracket b))
+            (subst (λ (t : Text). char_at 35 t ≡ None) same (o.hash c))
+            (subst (λ (t : Text). end_of (after_comment_by is_comment t) ≡ None) same (o.line_end c m)) y.0,
+        y.1 Hole.after_line,
+      );
     }
   where
     opens : {other : Text} (f : Bool) → row_opens d ≡ f → Opened f at at' → Parts at at' (after_blanks text) other
@@ -149,9 +163,9 @@ rows_hole (holes.after_comment {q = q} {text = text} {next = next} s) turn gap u
     record {
       other = r.other;
       cut = r.cut;
-      holds = subst (λ (t : Text). HoleInRows r.other Hole.after_line t)
+      holds = subst (λ (t : Text). RowsTo Hole.after_line r.other t Hole.after_line)
           (ap (after_comment_by is_comment) (r.holds ∙ g.holds) ∙ k.holds.0 ∙ turn.lands (λ e. cc))
-          (holes.after_comment {q = q} (r.holds ∙ g.holds));
+          (holes.after_comment {q = q} (r.holds ∙ g.holds), refl);
     }
 rows_hole (holes.after_row {keys = ks} {q = q} {v = v} {text = text} {mid = mid} x) turn gap unlocked =
     let m = line_hole mid refl turn in
@@ -160,8 +174,8 @@ rows_hole (holes.after_row {keys = ks} {q = q} {v = v} {text = text} {mid = mid}
     record {
       other = r.other;
       cut = r.cut;
-      holds = subst (λ (t : Text). HoleInRows r.other Hole.after_line t) m.holds
-          (holes.after_row (subst (λ (t : Text). IsRow is_comment t ks q v m.other) (sym r.holds) y.holds));
+      holds = subst (λ (t : Text). RowsTo Hole.after_line r.other t Hole.after_line) m.holds
+          (holes.after_row (subst (λ (t : Text). IsRow is_comment t ks q v m.other) (sym r.holds) y.holds), refl);
     }
 rows_hole (holes.after_empty e d) turn gap unlocked =
     let x = rows_hole d turn gap unlocked in
@@ -175,8 +189,11 @@ rows_hole (holes.later_row {keys = ks} {q = q} {v = v} {text = text} x e d) turn
     record {
       other = r.other;
       cut = r.cut;
-      holds = holes.later_row (subst (λ (t : Text). IsRow is_comment t ks q v i.other) (sym r.holds) z.holds)
-          i.holds y.holds;
+      holds = (
+        holes.later_row (subst (λ (t : Text). IsRow is_comment t ks q v i.other) (sym r.holds) z.holds) i.holds
+            y.holds.0,
+        y.holds.1,
+      );
     }
 
 blanks_skipped : (next : Text) → stops is_blank next ≡ false → length (after_blanks next) < length next
@@ -261,14 +278,14 @@ header_hole (holes.array_last {keys = ks} {inner = inner} {mid = mid} s t xs e) 
 
 sections_hole : {h : Hole} {text at at' end : Text} (d : HoleInSections text h at) → Turn h at at' end
     → Gapped (sections_gap d) at at' end → Opened (sections_open d) at at'
-    → Carried at at' text (λ t. HoleInSections t h end)
+    → Carried at at' text (λ t. SectionsTo h t end (behind_in_sections d))
 sections_hole {h = h} {end = end} (holes.in_header {text = text} d) turn gap unlocked =
     let x = header_hole d turn unlocked in
     let r = blanks_carried text x.cut in
     record {
       other = r.other;
       cut = r.cut;
-      holds = holes.in_header (subst (λ (t : Text). HoleInHeader t h end) (sym r.holds) x.holds);
+      holds = (holes.in_header (subst (λ (t : Text). HoleInHeader t h end) (sym r.holds) x.holds), refl);
     }
 sections_hole (holes.after_header {keys = ks} {is_array = a} {q = q} {text = text} {mid = mid} x) turn gap unlocked =
     let m = line_hole mid refl turn in
@@ -277,8 +294,8 @@ sections_hole (holes.after_header {keys = ks} {is_array = a} {q = q} {text = tex
     record {
       other = r.other;
       cut = r.cut;
-      holds = subst (λ (t : Text). HoleInSections r.other Hole.after_line t) m.holds
-          (holes.after_header (subst (λ (t : Text). IsHeader t q ks a m.other) (sym r.holds) y.holds));
+      holds = subst (λ (t : Text). SectionsTo Hole.after_line r.other t Hole.after_line) m.holds
+          (holes.after_header (subst (λ (t : Text). IsHeader t q ks a m.other) (sym r.holds) y.holds), refl);
     }
 sections_hole (holes.in_rows {keys = ks} {is_array = a} {q = q} {text = text} x e d) turn gap unlocked =
     let y = rows_hole d turn gap unlocked in
@@ -288,12 +305,14 @@ sections_hole (holes.in_rows {keys = ks} {is_array = a} {q = q} {text = text} x 
     record {
       other = r.other;
       cut = r.cut;
-      holds = holes.in_rows (subst (λ (t : Text). IsHeader t q ks a i.other) (sym r.holds) z.holds) i.holds
-          y.holds;
+      holds = (
+        holes.in_rows (subst (λ (t : Text). IsHeader t q ks a i.other) (sym r.holds) z.holds) i.holds y.holds.0,
+        y.holds.1,
+      );
     }
 sections_hole (holes.later_section {keys = ks} {is_array = a} {q = q} {text = text} x e rs d) turn gap unlocked =
     let y = sections_hole d turn gap unlocked in
-    let b = sections_bracketed y.holds in
+    let b = sections_bracketed y.holds.0 in
     let m = rows_carried rs (sections_on d) y.cut.parts b.offset b.next b.sign in
     let i = line_carried e (rows_some rs (sections_on d)) m.parts in
     let z = header_carried x i.cut in
@@ -301,8 +320,11 @@ sections_hole (holes.later_section {keys = ks} {is_array = a} {q = q} {text = te
     record {
       other = r.other;
       cut = r.cut;
-      holds = holes.later_section (subst (λ (t : Text). IsHeader t q ks a i.other) (sym r.holds) z.holds) i.holds
-          m.holds y.holds;
+      holds = (
+        holes.later_section (subst (λ (t : Text). IsHeader t q ks a i.other) (sym r.holds) z.holds) i.holds m.holds
+            y.holds.0,
+        y.holds.1,
+      );
     }
 
 -- what begins with the same character
@@ -317,20 +339,32 @@ pub record TextCarried (here there text : Text) (Holds : Text → Type 0) : Type
   pub parts : Parts here there text other
   pub holds : Holds other
 
+behind_turned : {h : Hole} {text at at' end : Text} (d : HoleInText text h at) → Turn h at at' end
+    → Gapped (text_gap d) at at' end → Opened (text_opens d) at at'
+    → TextCarried at at' text (λ t. TextTo h t end (behind_in_text d))
+behind_turned (holes.root d) turn gap unlocked =
+    let x = rows_hole d turn gap unlocked in
+    record { other = x.other; parts = x.cut.parts; holds = (holes.root x.holds.0, x.holds.1) }
+behind_turned (holes.headed rs d) turn gap unlocked =
+    let y = sections_hole d turn gap unlocked in
+    let b = sections_bracketed y.holds.0 in
+    let m = rows_carried rs (sections_on d) y.cut.parts b.offset b.next b.sign in
+    record { other = m.other; parts = m.parts; holds = (holes.headed m.holds y.holds.0, y.holds.1) }
+
 pub text_turned : {h : Hole} {text at at' end : Text} (d : HoleInText text h at) → Turn h at at' end
     → Gapped (text_gap d) at at' end → Opened (text_opens d) at at'
     → TextCarried at at' text (λ t. HoleInText t h end)
-text_turned (holes.root d) turn gap unlocked =
-    let x = rows_hole d turn gap unlocked in
-    record { other = x.other; parts = x.cut.parts; holds = holes.root x.holds }
-text_turned (holes.headed rs d) turn gap unlocked =
-    let y = sections_hole d turn gap unlocked in
-    let b = sections_bracketed y.holds in
-    let m = rows_carried rs (sections_on d) y.cut.parts b.offset b.next b.sign in
-    record { other = m.other; parts = m.parts; holds = holes.headed m.holds y.holds }
+text_turned d turn gap unlocked =
+    let x = behind_turned d turn gap unlocked in record { other = x.other; parts = x.parts; holds = x.holds.0 }
 
 -- where both go on with the same character
 pub text_hole : {h : Hole} {text at at' : Text} → Alike at at' → HoleInText text h at
     → TextCarried at at' text (λ t. HoleInText t h at')
 text_hole {h = h} a d =
     text_turned d (alike_turn h a) (λ e. passes (same_clear a.here a.there)) (λ e. alike_opening a)
+
+-- and then the same has to come behind its value
+pub text_behind : {h : Hole} {text at at' : Text} → Alike at at' → (d : HoleInText text h at)
+    → TextCarried at at' text (λ t. TextTo h t at' (behind_in_text d))
+text_behind {h = h} a d =
+    behind_turned d (alike_turn h a) (λ e. passes (same_clear a.here a.there)) (λ e. alike_opening a)

@@ -98,7 +98,7 @@ unquoted_no_number [] e = refl
 unquoted_no_number (c ∷ cs) e = (unquoted c cs e).no_number
 
 -- of keylike characters alone nothing stands behind
-keys_over : {rest : Text} (xs : List ℕ) → Behind rest → AllKeys (xs ++ run is_wordlike rest) → IsOver rest
+pub keys_over : {rest : Text} (xs : List ℕ) → Behind rest → AllKeys (xs ++ run is_wordlike rest) → IsOver rest
 keys_over xs (over h) k = h
 keys_over xs (plus_next {next = next}) k =
     let no : false ≡ true = is_key 43 xs (run is_wordlike next) k in cc
@@ -176,3 +176,11 @@ unquoted_no_value {rest = rest} {v = v} (c ∷ cs) (cons key keys) next u e =
         (keys_over (c ∷ cs) next (subst AllKeys (sym ((bytes_eq-Decides all (codes "false")).0 i))
         (cons refl (cons refl (cons refl (cons refl (cons refl nil))))))) i
     go false h false i e = number (number_is all e)
+
+-- what begins with a period is no value
+pub period_no_value : {v : Raw} (cs : List ℕ) → word_value (46 ∷ cs) ≡ Some v → ⊥
+period_no_value {v = v} cs e = number (number_is (46 ∷ cs) e)
+  where
+    number : Number (46 ∷ cs) → ⊥
+    number (inl h) = not_whole 46 cs refl (decimal_whole false (46 ∷ cs) h)
+    number (inr h) = false≢true h

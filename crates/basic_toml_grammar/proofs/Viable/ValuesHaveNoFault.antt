@@ -44,12 +44,12 @@ whole_none start w whole inside = go (is_special (without_minus w))
         ∙ ap (λ (b : Bool). cond b (Some start) None) inside
 
 -- words that begin with a prefix
-data Prefixed : List ℕ → Type 0 where
+pub data Prefixed : List ℕ → Type 0 where
   hexadecimal : {ds : List ℕ} → Prefixed (48 ∷ 120 ∷ ds)
   octal : {ds : List ℕ} → Prefixed (48 ∷ 111 ∷ ds)
   binary : {ds : List ℕ} → Prefixed (48 ∷ 98 ∷ ds)
 
-prefixed : (w : List ℕ) → is_prefixed w ≡ true → Prefixed w
+pub prefixed : (w : List ℕ) → is_prefixed w ≡ true → Prefixed w
 prefixed [] e = absurd (false≢true e)
 prefixed (c ∷ []) e = absurd (false≢true e)
 prefixed (c ∷ d ∷ ds) e =
@@ -68,7 +68,7 @@ there_is : {A : Type 0} (b : Bool) (o : Option A) → is_none (cond b o None) �
 there_is true o e = refl
 there_is false o e = sym e
 
-prefixed_over : {rest : Text} {w : List ℕ} → Prefixed w → Behind rest
+pub prefixed_over : {rest : Text} {w : List ℕ} → Prefixed w → Behind rest
     → is_none (integer_of (w ++ run is_wordlike rest)) ≡ false → IsOver rest
 prefixed_over {rest = rest} (hexadecimal {ds = ds}) next e =
     digits_over 16 refl refl true ds next (there_is (is_digits 16 (ds ++ run is_wordlike rest)) _ e)
@@ -77,24 +77,24 @@ prefixed_over {rest = rest} (octal {ds = ds}) next e =
 prefixed_over {rest = rest} (binary {ds = ds}) next e =
     digits_over 2 refl refl true ds next (there_is (is_digits 2 (ds ++ run is_wordlike rest)) _ e)
 
-prefixed_not_whole : {w : List ℕ} (ws : List ℕ) → Prefixed w → is_whole (without_minus w ++ ws) ≡ true → ⊥
+pub prefixed_not_whole : {w : List ℕ} (ws : List ℕ) → Prefixed w → is_whole (without_minus w ++ ws) ≡ true → ⊥
 prefixed_not_whole ws hexadecimal e = false≢true e
 prefixed_not_whole ws octal e = false≢true e
 prefixed_not_whole ws binary e = false≢true e
 
-prefixed_no_float : {w : List ℕ} (ws : List ℕ) → Prefixed w → is_unsigned_float (without_minus w ++ ws) ≡ true → ⊥
+pub prefixed_no_float : {w : List ℕ} (ws : List ℕ) → Prefixed w → is_unsigned_float (without_minus w ++ ws) ≡ true → ⊥
 prefixed_no_float ws hexadecimal e = false≢true e
 prefixed_no_float ws octal e = false≢true e
 prefixed_no_float ws binary e = false≢true e
 
 -- what keylike characters write with those behind them
-data Writes (w more : List ℕ) : Type 0 where
+pub data Writes (w more : List ℕ) : Type 0 where
   with_prefix : is_prefixed w ≡ true → is_none (integer_of (w ++ more)) ≡ false → Writes w more
   whole : is_whole (without_minus w ++ more) ≡ true → (more ≡ [] → is_none (integer_of w) ≡ false) → Writes w more
   float : is_unsigned_float (without_minus w ++ more) ≡ true → Writes w more
 
 -- the letter of an exponent is no minus
-letter_in : (w : List ℕ) → list_any is_exponent_letter w ≡ list_any is_exponent_letter (without_minus w)
+pub letter_in : (w : List ℕ) → list_any is_exponent_letter w ≡ list_any is_exponent_letter (without_minus w)
 letter_in [] = refl
 letter_in (c ∷ cs) = go (c == 45) refl
   where
@@ -103,7 +103,7 @@ letter_in (c ∷ cs) = go (c == 45) refl
     go false h = refl
     go true h = ap (λ (n : ℕ). is_exponent_letter n || list_any is_exponent_letter cs) (eqb-true c 45 h)
 
-special_no_letter : (u : List ℕ) → is_special u ≡ true → list_any is_exponent_letter u ≡ false
+pub special_no_letter : (u : List ℕ) → is_special u ≡ true → list_any is_exponent_letter u ≡ false
 special_no_letter u e = go (or_cases (bytes_eq u (codes "inf")) (bytes_eq u (codes "nan")) e)
   where
     go : (bytes_eq u (codes "inf") ≡ true) ⊎ (bytes_eq u (codes "nan") ≡ true) → list_any is_exponent_letter u ≡ false
@@ -111,7 +111,7 @@ special_no_letter u e = go (or_cases (bytes_eq u (codes "inf")) (bytes_eq u (cod
     go (inr h) = ap (list_any is_exponent_letter) ((bytes_eq-Decides u (codes "nan")).0 h)
 
 -- the word alone
-alone : {rest : Text} (xs : List ℕ) → IsOver rest → xs ++ run is_wordlike rest ≡ xs
+pub alone : {rest : Text} (xs : List ℕ) → IsOver rest → xs ++ run is_wordlike rest ≡ xs
 alone xs o = ap (λ (t : List ℕ). xs ++ t) o.word ∙ append-nil xs
 
 -- digits that a period may follow
@@ -273,10 +273,10 @@ unsigned_integer c cs f g e =
     go true h = zero cs h
     go false h = e
 
-plus_none : {rest : Text} (end at : ℕ) (k : List ℕ) → AllKeys k → Behind rest → Number (43 ∷ k ++ run is_wordlike rest)
-    → cond (takes_no_plus k) (Some at) (word_fault end at k rest) ≡ None
-plus_none end at [] k next n = absurd (nothing_written next n)
-plus_none {rest = rest} end at (c ∷ cs) (cons key k) next n = go (c == 45) refl (is_prefixed (c ∷ cs)) refl
+pub plus_write : {rest : Text} (k : List ℕ) → AllKeys k → Behind rest → Number (43 ∷ k ++ run is_wordlike rest)
+    → (takes_no_plus k ≡ false) × Writes k (run is_wordlike rest)
+plus_write [] k next n = absurd (nothing_written next n)
+plus_write {rest = rest} (c ∷ cs) (cons key k) next n = go (c == 45) refl (is_prefixed (c ∷ cs)) refl
   where
     ws : List ℕ
     ws = run is_wordlike rest
@@ -290,16 +290,22 @@ plus_none {rest = rest} end at (c ∷ cs) (cons key k) next n = go (c == 45) ref
     writes m (inr e) = float (ap (λ (b : Bool). is_unsigned_float (cond b cs (c ∷ cs) ++ ws)) m ∙ e)
 
     go : (a : Bool) → (c == 45) ≡ a → (b : Bool) → is_prefixed (c ∷ cs) ≡ b
-        → cond (a || b) (Some at) (word_fault end at (c ∷ cs) rest) ≡ None
+        → ((a || b) ≡ false) × Writes (c ∷ cs) ws
     go true m b p =
         absurd (no_second_sign (cs ++ ws) (subst (λ (d : ℕ). Number (43 ∷ d ∷ cs ++ ws)) (eqb-true c 45 m) n))
     go false m true p = absurd (no_prefix ws (prefixed (c ∷ cs) p) n)
-    go false m false p = word_none end at (c ∷ cs) (cons key k) next (writes m n)
+    go false m false p = (refl, writes m n)
+
+plus_none : {rest : Text} (end at : ℕ) (k : List ℕ) → AllKeys k → Behind rest → Number (43 ∷ k ++ run is_wordlike rest)
+    → cond (takes_no_plus k) (Some at) (word_fault end at k rest) ≡ None
+plus_none {rest = rest} end at k keys next n =
+    let r = plus_write k keys next n in
+    ap (λ (b : Bool). cond b (Some at) (word_fault end at k rest)) r.0 ∙ word_none end at k keys next r.1
 
 -- and without one
-keys_none : {rest : Text} (end at c : ℕ) (cs : List ℕ) → is_keylike c ≡ true → AllKeys cs → Behind rest
-    → Number (c ∷ cs ++ run is_wordlike rest) → word_fault end at (c ∷ cs) rest ≡ None
-keys_none {rest = rest} end at c cs key k next n = word_none end at (c ∷ cs) (cons key k) next (writes n)
+pub keys_write : {rest : Text} (c : ℕ) (cs : List ℕ) → is_keylike c ≡ true → Behind rest
+    → Number (c ∷ cs ++ run is_wordlike rest) → Writes (c ∷ cs) (run is_wordlike rest)
+keys_write {rest = rest} c cs key next n = writes n
   where
     ws : List ℕ
     ws = run is_wordlike rest
@@ -388,7 +394,9 @@ word_no_fault {v = v} end x t w e =
         choose : (b : Bool)
             → cond b (word_fault end x.0 (x.1 ∷ run is_keylike t) (after_run is_keylike t)) None ≡ None
         choose false = refl
-        choose true = keys_none end x.0 x.1 (run is_keylike t) h (run_keys t) (behind t) (subst Number split n)
+        choose true =
+            word_none end x.0 (x.1 ∷ run is_keylike t) (cons h (run_keys t)) (behind t)
+            (keys_write x.1 (run is_keylike t) h (behind t) (subst Number split n))
 
     number : Number all → (b : Bool) → (x.1 == 43) ≡ b
         → cond b (cond (takes_no_plus (run is_keylike t)) (Some (offset_in end t))

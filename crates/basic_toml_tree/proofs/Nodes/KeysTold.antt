@@ -33,7 +33,8 @@ use Rattle.basic_toml_tree.proofs.Nodes.OneSection.{some_same, stands_before, En
 use Rattle.basic_toml_tree.proofs.Nodes.RowNodesTold.{located_any, located_keyed, some_then}
 use Rattle.basic_toml_tree.proofs.Origins.RowsAreNodes.{Same, of_node, of_origin, sections_same}
 use Rattle.basic_toml_tree.specs.Origin.{header_of, spot_is_made, table_is_made, keys_of as kept_keys, trail_keys}
-use Rattle.basic_toml_tree.specs.Resolve.{IsResolved, Stands, head}
+use Rattle.basic_toml_tree.specs.FirstStop.{Stands}
+use Rattle.basic_toml_tree.specs.Resolve.{IsResolved, head}
 use Rattle.basic_toml_tree.specs.Stands.{trie_at, tree_trie, StandsAt, IsNodeAt, Foretold}
 use Rattle.basic_toml_tree.specs.Stands.{ComesFrom, tree_origins, spot_origin}
 use Rattle.basic_toml_tree.specs.Keys.{header_at, Leads, KeepsHeader, KeepsKeys, KeysLead, GoesOn, CountsOn}

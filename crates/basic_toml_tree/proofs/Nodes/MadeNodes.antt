@@ -23,7 +23,8 @@ use Rattle.basic_toml_tree.specs.declared.spot.Spot.TheVariants as spots
 use Rattle.basic_toml_grow.specs.Item.{item_trie, table_trie}
 use Rattle.basic_toml_tree.specs.Origin.{spot_is_made, is_made, spot_name, name_of, holds_tables, item_name, last_at}
 use Rattle.basic_toml_tree.specs.Origin.{start_of, outer_of, offset_of, is_array_literal}
-use Rattle.basic_toml_tree.specs.Resolve.{Stands, only_root, head}
+use Rattle.basic_toml_tree.specs.FirstStop.{Stands, only_root}
+use Rattle.basic_toml_tree.specs.Resolve.{head}
 use Rattle.basic_toml_tree.specs.Stands.{trie_at, tree_trie, spot_trie, wraps_table, is_wrapper, is_root, IsNodeAt}
 use Rattle.basic_toml_tree.specs.Outer.{stands_made}
 use Rattle.basic_toml_tree.proofs.HeadersMake.{made_is, array_is}

@@ -11,7 +11,7 @@ use Rattle.basic_toml_grammar.specs.IndexedPath.{Located, located_after, located
 use Rattle.basic_toml_grammar.specs.Entering.{all_keyed}
 use Rattle.basic_toml_grammar.specs.Trie.{Trie}
 use Rattle.basic_toml_grammar.proofs.Tries.StepsArePaths.{at_section}
-use Rattle.basic_toml_tree.specs.Resolve.{Stands}
+use Rattle.basic_toml_tree.specs.FirstStop.{Stands}
 use Rattle.basic_toml_grow.specs.Origins.{Origin, Origins, no_origins, along, rows_origins}
 use Rattle.basic_toml_grow.specs.Ways.{way, GrowsAlong, sections_origins}
 use Rattle.basic_toml_tree.proofs.Origins.WaysAreLocated.{way_is}

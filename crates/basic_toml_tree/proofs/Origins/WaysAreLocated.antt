@@ -15,7 +15,7 @@ use Rattle.basic_toml_grammar.proofs.Clash.EnteringAccepts.{offset_same}
 use Rattle.basic_toml_grammar.proofs.Tries.MarksInATrie.{trie_of, descend, standing_of}
 use Rattle.basic_toml_grammar.proofs.Clash.PathsAgree.{append_none, offsets, path_is}
 use Rattle.basic_toml_grammar.proofs.Tries.SectionsInATrie.{marks_put}
-use Rattle.basic_toml_tree.specs.Resolve.{Stands}
+use Rattle.basic_toml_tree.specs.FirstStop.{Stands}
 use Rattle.basic_toml_grow.specs.Ways.{way, way_on}
 use Rattle.basic_toml_grow.proofs.Origins.HeadersPlaceOrigins.{way_fresh}
 

@@ -1,5 +1,6 @@
 use Rattle.std.proofs.Common.{subst}
 use Rattle.basic_toml.specs.Reading.{ReadsText}
+use Rattle.basic_toml_typed.specs.TypeFaults.{table_faults}
 use Rattle.basic_toml_typed.specs.TypeReads.{table_reads, table_takes}
 use Rattle.basic_toml.proofs.TextIsReadBack.{read_back}
 use Rattle.basic_toml.proofs.read_back.round_trip.Goals as goal
@@ -7,4 +8,4 @@ use Rattle.basic_toml.proofs.read_back.round_trip.Goals as goal
 pub returns : goal.returns
 returns g c =
     read_back _ _ c.in_ok-text.text c.from_str.result c.in_ok-text.ensures.written c.in_ok-text.ensures.means
-    (subst (λ bytes. ReadsText table_takes table_reads bytes c.from_str.result) c.as_str.ensures.value c.from_str.ensures.read)
+    (subst (λ bytes. ReadsText table_takes table_reads table_faults bytes c.from_str.result) c.as_str.ensures.value c.from_str.ensures.read)

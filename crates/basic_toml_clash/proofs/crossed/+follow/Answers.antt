@@ -1,22 +1,22 @@
-use Rattle.std.proofs.Common.{◌≡◌, ◌∷◌, [], sym, ap, ◌∙◌, subst, None, Err}
+use Rattle.std.proofs.Common.{◌≡◌, ◌∷◌, [], sym, ap, ◌∙◌, subst, Some, None, Err}
+use Rattle.std.specs.Option.{option_or}
 use Rattle.std.proofs.lemmas.Result.{err_from_is_err_and}
 use Rattle.basic_toml_grammar.specs.Sections.{KeyTexts}
 use Rattle.basic_toml_read.specs.SectionView.{lined_of}
 use Rattle.basic_toml_clash.specs.declared.crossed.Trail.{Trail, roll-Trail}
 use Rattle.basic_toml_clash.specs.Keyed.{with_value}
-use Rattle.basic_toml_clash.specs.Trail.{ends_of, no_trail, path_of, Follows, FollowsTo}
+use Rattle.basic_toml_clash.specs.Trail.{ends_of, no_trail, path_of, value_on, Follows, FollowsTo}
 use Rattle.basic_toml_clash.proofs.RowsOfKeys.{lined_is}
 use Rattle.basic_toml_clash.proofs.TrailGrows.{nowhere, trail_ends, rolled_end, rolled_below, fault_below, row_below}
 use Rattle.basic_toml_clash.proofs.crossed.+follow.Goals as goal
 
 pub returns-in-Some-end : goal.returns-in-Some-end
-returns-in-Some-end t c = record {
-  front = [];
-  k = (lined_of c.in-Some.row.now).key.text;
-  rest = path_of c.in-Some.rest.now;
-  parts = ap path_of c.in-Some.ensures.cases.0;
-  there = ap (λ e. e []) (trail_ends c.args.trail) ∙ c.in-Some-end.is;
-}
+returns-in-Some-end t c =
+    let here : ends_of c.args.trail [] ≡ Some c.in-Some-end.end =
+    ap (λ e. e []) (trail_ends c.args.trail) ∙ c.in-Some-end.is in
+    ap (value_on (ends_of c.args.trail)) (ap path_of c.in-Some.ensures.cases.0)
+    ∙ ap (λ o. option_or o (value_on (λ p. ends_of c.args.trail ((lined_of c.in-Some.row.now).key.text ∷ p))
+    (path_of c.in-Some.rest.now))) here
 
 pub returns-in_err-gone-in-Some : goal.returns-in_err-gone-in-Some
 returns-in_err-gone-in-Some t c =
@@ -31,7 +31,7 @@ returns-in_err-gone-in-Some t c =
     (sym path)
     (fault_below c.args.trail no_trail c.replace-there.result c.as_str.result.now c.enter.new.self
     c.in_ok-position-in-Some.position nowhere c.in_ok-position-in-Some.ensures.entered
-    c.replace-there.ensures.value
+    c.replace-there.ensures.value c.in_default.is
     (path_of c.in-Some.rest.now) c.args.start c.in_err-gone-in-Some.field-0.0 c.in_err-gone-in-Some.ensures))
 
 pub returns-in_ok-gone-in-Some : goal.returns-in_ok-gone-in-Some

@@ -1,14 +1,15 @@
 use Rattle.std.proofs.Common.{arith, map, List, sym, subst, ◌∙◌}
 use Rattle.std.proofs.lemmas.List.{drop_all}
 use Rattle.basic_toml_read.specs.declared.section.Row.{Row}
-use Rattle.basic_toml_read.specs.SectionView.{lined_of}
+use Rattle.basic_toml_read.specs.SectionView.{lined_of, rows_view}
+use Rattle.basic_toml_clash.proofs.CrossedIsFault.{none_between}
 use Rattle.basic_toml_clash.proofs.RowsGetNoLonger.{Shrink, none_crosses, after_value, after_dot}
 use Rattle.basic_toml_clash.proofs.crossed.has_longer.Goals as goal
 
 pub loop-row-init : goal.loop-row-init
 loop-row-init c = record {
   count = omega arith;
-  none = λ shrink. none_crosses _ c.args.rows.now shrink;
+  none = λ shrink. none_between (rows_view c.args.rows.now) (none_crosses _ c.args.rows.now shrink);
 }
 
 pub returns : goal.returns

@@ -1,6 +1,6 @@
-use Rattle.std.proofs.Common.{◌≡◌, ◌≤◌, [], drop, map}
+use Rattle.std.proofs.Common.{◌≡◌, ◌≤◌, None, drop, map}
 use Rattle.basic_toml_read.specs.SectionView.{lined_of, rows_view}
-use Rattle.basic_toml_clash.specs.Crossed.{faults_between}
+use Rattle.basic_toml_clash.specs.Crossed.{crossed_between}
 use Rattle.basic_toml_clash.proofs.RowsGetNoLonger.{Shrink}
 use Rattle.basic_toml_clash.proofs.crossed.has_longer.Given as goal
 
@@ -8,5 +8,5 @@ use Rattle.basic_toml_clash.proofs.crossed.has_longer.Given as goal
 abbrev pub invariant-loop-row : goal.invariant-loop-row
 invariant-loop-row l = record {
   count : l.keys ≤ l.row-index;
-  none : Shrink l.keys l.most (map lined_of (drop l.row-index l.rows)) → faults_between (rows_view l.rows) ≡ [];
+  none : Shrink l.keys l.most (map lined_of (drop l.row-index l.rows)) → crossed_between (rows_view l.rows) ≡ None;
 }

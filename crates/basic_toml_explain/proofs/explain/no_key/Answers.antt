@@ -1,4 +1,4 @@
-use Rattle.basic_toml_explain.proofs.ErrorsAreAllowed.{key_due, key_absent}
+use Rattle.basic_toml_explain.proofs.ErrorsAreDue.{key_due, key_absent}
 use Rattle.basic_toml_explain.proofs.explain.no_key.Goals as goal
 
 pub returns-in-Ok : goal.returns-in-Ok
@@ -8,4 +8,4 @@ returns-in-Ok c = absurd (key_absent c.args.text.now c.args.at c.utf8.text c.req
 pub returns : goal.returns
 returns c =
     key_due c.args.text.now c.args.at c.utf8.text c.requires.boundary c.at.result c.key.new.self c.in-Err.error
-    c.at.ensures c.requires.before c.in-Err.ensures
+    c.at.ensures c.requires.hole c.in-Err.ensures

@@ -1,6 +1,6 @@
 use Rattle.std.proofs.Common.{sym, subst}
 use Rattle.basic_toml_explain.specs.Explain.{IsWanting}
-use Rattle.basic_toml_explain.proofs.ErrorsAreAllowed.{refusal_found, token_found, end_found}
+use Rattle.basic_toml_explain.proofs.ErrorsAreDue.{refusal_found, token_found, end_found}
 use Rattle.basic_toml_explain.proofs.explain.wanted.Goals as goal
 
 pub returns-in-Ok-Some : goal.returns-in-Ok-Some

@@ -1,13 +1,15 @@
-use Rattle.std.proofs.Common.{◌≡◌, ℕ, ◌∷◌, Some, inl, length, subst, sym, ap, ◌∙◌}
+use Rattle.std.proofs.Common.{◌≡◌, ℕ, ◌∷◌, Some, length, subst, sym, ap, ◌∙◌}
 use Rattle.basic_toml_tokens.specs.Text.{Text, text_at, run}
 use Rattle.basic_toml_tokens.specs.Reading.{Reading, text_of}
 use Rattle.basic_toml_grammar.specs.Grammar.{is_wordlike, word_value}
 use Rattle.basic_toml_grammar.specs.Reader.{word_at}
 use Rattle.basic_toml_grammar.specs.NumberFaults.{number_fault}
 use Rattle.basic_toml_explain.specs.Cursor.{IsStopped}
-use Rattle.basic_toml_explain.specs.Number.{LacksValue, IsNumberStop, IsWordStop, stopped}
+use Rattle.basic_toml_grammar.specs.NumberTokens.{behind_number, number_rest}
+use Rattle.basic_toml_explain.specs.Number.{LacksValue, IsNumberStop, IsWordStop, number}
+use Rattle.basic_toml_explain.proofs.WordStopIsDue.{word_stopped}
 use Rattle.basic_toml_explain.proofs.TakenTokenStands.{failed, takes_word, after_here, front_is}
-use Rattle.basic_toml_explain.proofs.PlusWordIsNone.{plus_taken, plus_front, plus_length, word_value_none}
+use Rattle.basic_toml_explain.proofs.PlusWordIsNone.{plus_taken, plus_whole, plus_front, plus_length, word_value_none}
 use Rattle.basic_toml_explain.proofs.number.number.Goals as goal
 
 pub returns-in_err-token : goal.returns-in_err-token
@@ -16,7 +18,8 @@ returns-in_err-token c =
     let fault = c.in_err-token.field-0.0 in
     let taken = subst (λ (r : Reading). IsStopped (text_of r) fault) c.current-start.ensures.same
     c.in_err-token.ensures in
-    failed (LacksValue c.args.wanted.now old) c.from_residual.result fault c.from_residual.ensures.1 (inl (stopped taken))
+    failed (LacksValue c.args.wanted.now old) c.from_residual.result fault c.from_residual.ensures.1
+    (word_stopped old c.args.wanted.now fault taken c.requires.some)
 
 pub word_error-requires-clause-after : goal.word_error-requires-clause-after
 word_error-requires-clause-after c =
@@ -33,7 +36,7 @@ word_error-requires-clause-no_value c =
     let after = takes_word c.current-start.new.self new c.in-Some.field-0-0 c.in-Some.token (Some c.in-Word.word)
     taken c.in-Word.ensures in
     let front = front_is c.current-start.new.self new w after.0 after.1 ∙ ap text_of c.current-start.ensures.same in
-    ap (λ (t : Text). word_value (run is_wordlike t)) front ∙ word_value_none (text_of c.args.cursor.now) c.requires
+    ap (λ (t : Text). word_value (run is_wordlike t)) front ∙ word_value_none (text_of c.args.cursor.now) c.requires.none
 
 pub plus_error-requires-clause-sign : goal.plus_error-requires-clause-sign
 plus_error-requires-clause-sign c =
@@ -49,7 +52,7 @@ plus_error-requires-clause-no_value c =
     let taken = rw c.in-Some.is at c.in_ok-token.ensures in
     ap word_at (plus_front c.args.cursor.now c.current-start.new.self c.next.new.self c.in-Some.field-0-0
     c.in-Some.token c.current-start.result taken c.current-start.ensures.same c.current-start.ensures.offset)
-    ∙ c.requires
+    ∙ c.requires.none
 
 pub returns-in-Word : goal.returns-in-Word
 returns-in-Word c =
@@ -76,6 +79,9 @@ returns-in-Plus c =
     c.current-start.result taken c.current-start.ensures.same c.current-start.ensures.offset in
     let long = plus_length old c.current-start.new.self new c.in-Some.field-0-0 c.in-Some.token taken
     c.current-start.ensures.same in
-    inl (subst (λ (n : ℕ). IsNumberStop n c.args.wanted.now (number_fault n (text_of old)) (text_of old) fault) long
-    (subst (λ (t : Text). IsNumberStop (length new.text) c.args.wanted.now (number_fault (length new.text) t) t fault)
-    front c.plus_error.ensures))
+    let stop = subst (λ (n : ℕ). IsNumberStop n c.args.wanted.now (number_fault n (text_of old))
+    (behind_number (text_of old)) (number_rest (text_of old)) fault) long
+    (subst (λ (t : Text). IsNumberStop (length new.text) c.args.wanted.now (number_fault (length new.text) t)
+    (behind_number t) (number_rest t) fault) front c.plus_error.ensures) in
+    number (plus_whole old c.current-start.new.self new c.in-Some.field-0-0 c.in-Some.token c.current-start.result taken
+    c.in-Plus.ensures c.current-start.ensures.same c.current-start.ensures.offset) stop

@@ -5,11 +5,11 @@ use Rattle.basic_toml_read.specs.Lists.{ReadsHeader}
 use Rattle.basic_toml_read.proofs.KeysTold.{stopped}
 use Rattle.basic_toml_read.proofs.HeadersRead.{no_bracket, one_missing, one_unclosed, one_closed, two_missing}
 use Rattle.basic_toml_read.proofs.HeadersRead.{two_unclosed, two_half_closed, two_closed}
-use Rattle.basic_toml_read.proofs.OffsetsLeadOn.{then_on}
-use Rattle.basic_toml_read.proofs.StopsStand.{header_stop, no_bracket_there, to_keys, to_array_keys, after_header_keys}
-use Rattle.basic_toml_read.proofs.StopsStand.{after_bracket}
 use Rattle.basic_toml_grammar.specs.DeepStops.{DeepKeys, DeepHeader}
 use Rattle.basic_toml_read.proofs.DeepStops.{deep_on, header_keys_deep, array_keys_deep}
+use Rattle.basic_toml_read.specs.StopsReached.{in_header}
+use Rattle.basic_toml_read.proofs.HolesLeadOn.{key_hole_on}
+use Rattle.basic_toml_read.proofs.LineHoles.{table_key, table_unclosed, array_key, array_unclosed, array_half_closed}
 use Rattle.basic_toml_read.proofs.header.header_at.Goals as goal
 
 pub returns-in_err-inner-clause-read : goal.returns-in_err-inner-clause-read
@@ -87,56 +87,6 @@ returns-in_ok-end-in-Some-clause-read c =
     k.field-0 k.ensures.read c.in_ok-last-in-Some.last c.in_ok-last-in-Some.ensures.read
     c.in_ok-end-in-Some.end c.in_ok-end-in-Some.ensures.read
 
--- the stop of a header
-pub returns-in_err-keys-in-None-clause-stands : goal.returns-in_err-keys-in-None-clause-stands
-returns-in_err-keys-in-None-clause-stands c =
-    header_stop c.args.text.now c.args.at c.after_blanks.result c.in_err-keys-in-None.field-0.0
-    c.from_residual-in_err-keys-in-None.result c.from_residual-in_err-keys-in-None.ensures.1
-    (to_keys c.args.text.now c.args.at c.in_ok-inner.inner c.in_ok-inner.ensures.read.0 c.after_blanks.result
-    c.after_blanks.ensures) c.in_err-keys-in-None.ensures.stands
-
-pub returns-in_err-end-in-None-clause-stands : goal.returns-in_err-end-in-None-clause-stands
-returns-in_err-end-in-None-clause-stands c =
-    let k = c.in_ok-keys-in-None in
-    let stop = c.in_err-end-in-None.field-0.0 in
-    header_stop c.args.text.now c.args.at k.field-0.end stop c.from_residual-in_err-end-in-None.result
-    c.from_residual-in_err-end-in-None.ensures.1
-    (then_on (to_keys c.args.text.now c.args.at c.in_ok-inner.inner c.in_ok-inner.ensures.read.0
-    c.after_blanks.result c.after_blanks.ensures)
-    (after_header_keys c.args.text.now c.after_blanks.result k.field-0 k.ensures.read))
-    (no_bracket_there c.args.text.now k.field-0.end stop c.in_err-end-in-None.ensures.read)
-
-pub returns-in_err-keys-in-Some-clause-stands : goal.returns-in_err-keys-in-Some-clause-stands
-returns-in_err-keys-in-Some-clause-stands c =
-    header_stop c.args.text.now c.args.at c.after_blanks-in-Some.result c.in_err-keys-in-Some.field-0.0
-    c.from_residual-in_err-keys-in-Some.result c.from_residual-in_err-keys-in-Some.ensures.1
-    (to_array_keys c.args.text.now c.args.at c.in_ok-inner.inner c.in_ok-inner.ensures.read.0 c.in-Some.first
-    c.in-Some.ensures c.after_blanks-in-Some.result c.after_blanks-in-Some.ensures) c.in_err-keys-in-Some.ensures.stands
-
-pub returns-in_err-last-in-Some-clause-stands : goal.returns-in_err-last-in-Some-clause-stands
-returns-in_err-last-in-Some-clause-stands c =
-    let k = c.in_ok-keys-in-Some in
-    let stop = c.in_err-last-in-Some.field-0.0 in
-    header_stop c.args.text.now c.args.at k.field-0.end stop c.from_residual-in_err-last-in-Some.result
-    c.from_residual-in_err-last-in-Some.ensures.1
-    (then_on (to_array_keys c.args.text.now c.args.at c.in_ok-inner.inner c.in_ok-inner.ensures.read.0
-    c.in-Some.first c.in-Some.ensures c.after_blanks-in-Some.result c.after_blanks-in-Some.ensures)
-    (after_header_keys c.args.text.now c.after_blanks-in-Some.result k.field-0 k.ensures.read))
-    (no_bracket_there c.args.text.now k.field-0.end stop c.in_err-last-in-Some.ensures.read)
-
-pub returns-in_err-end-in-Some-clause-stands : goal.returns-in_err-end-in-Some-clause-stands
-returns-in_err-end-in-Some-clause-stands c =
-    let k = c.in_ok-keys-in-Some in
-    let stop = c.in_err-end-in-Some.field-0.0 in
-    let last = c.in_ok-last-in-Some in
-    header_stop c.args.text.now c.args.at last.last stop c.from_residual-in_err-end-in-Some.result
-    c.from_residual-in_err-end-in-Some.ensures.1
-    (then_on (to_array_keys c.args.text.now c.args.at c.in_ok-inner.inner c.in_ok-inner.ensures.read.0
-    c.in-Some.first c.in-Some.ensures c.after_blanks-in-Some.result c.after_blanks-in-Some.ensures)
-    (then_on (after_header_keys c.args.text.now c.after_blanks-in-Some.result k.field-0 k.ensures.read)
-    (after_bracket c.args.text.now k.field-0.end last.last last.ensures.read)))
-    (no_bracket_there c.args.text.now last.last stop c.in_err-end-in-Some.ensures.read)
-
 -- levels
 pub returns-in_err-keys-in-None-clause-deep : goal.returns-in_err-keys-in-None-clause-deep
 returns-in_err-keys-in-None-clause-deep c =
@@ -155,3 +105,47 @@ returns-in_err-keys-in-Some-clause-deep c =
     c.from_residual-in_err-keys-in-Some.result c.from_residual-in_err-keys-in-Some.ensures.1
     (array_keys_deep text c.args.at c.in_ok-inner.inner c.in-Some.first c.after_blanks-in-Some.result
     c.in_ok-inner.ensures.read.0 c.in-Some.ensures c.after_blanks-in-Some.ensures) c.in_err-keys-in-Some.ensures.deep
+
+-- the holes
+pub returns-in_err-keys-in-None-clause-hole : goal.returns-in_err-keys-in-None-clause-hole
+returns-in_err-keys-in-None-clause-hole c =
+    let text = c.args.text.now in
+    λ some. key_hole_on (text_at text c.after_blanks.result) (in_header (text_at text c.args.at)) text
+    c.in_err-keys-in-None.field-0.0 c.from_residual-in_err-keys-in-None.result
+    c.from_residual-in_err-keys-in-None.ensures.1
+    (table_key text c.args.at c.in_ok-inner.inner c.in_ok-inner.ensures.read.0 c.in-None.ensures c.after_blanks.result
+    c.after_blanks.ensures) c.in_err-keys-in-None.ensures.hole
+
+pub returns-in_err-end-in-None-clause-hole : goal.returns-in_err-end-in-None-clause-hole
+returns-in_err-end-in-None-clause-hole c =
+    let k = c.in_ok-keys-in-None in
+    λ some. table_unclosed c.args.text.now c.args.at c.in_ok-inner.inner c.in_ok-inner.ensures.read.0 c.in-None.ensures
+    c.after_blanks.result c.after_blanks.ensures k.field-0 k.ensures.read c.in_err-end-in-None.field-0.0
+    c.in_err-end-in-None.ensures.read c.from_residual-in_err-end-in-None.result
+    c.from_residual-in_err-end-in-None.ensures.1
+
+pub returns-in_err-keys-in-Some-clause-hole : goal.returns-in_err-keys-in-Some-clause-hole
+returns-in_err-keys-in-Some-clause-hole c =
+    let text = c.args.text.now in
+    λ some. key_hole_on (text_at text c.after_blanks-in-Some.result) (in_header (text_at text c.args.at)) text
+    c.in_err-keys-in-Some.field-0.0 c.from_residual-in_err-keys-in-Some.result
+    c.from_residual-in_err-keys-in-Some.ensures.1
+    (array_key text c.args.at c.in_ok-inner.inner c.in_ok-inner.ensures.read.0 c.in-Some.first c.in-Some.ensures
+    c.after_blanks-in-Some.result c.after_blanks-in-Some.ensures) c.in_err-keys-in-Some.ensures.hole
+
+pub returns-in_err-last-in-Some-clause-hole : goal.returns-in_err-last-in-Some-clause-hole
+returns-in_err-last-in-Some-clause-hole c =
+    let k = c.in_ok-keys-in-Some in
+    λ some. array_unclosed c.args.text.now c.args.at c.in_ok-inner.inner c.in_ok-inner.ensures.read.0 c.in-Some.first
+    c.in-Some.ensures c.after_blanks-in-Some.result c.after_blanks-in-Some.ensures k.field-0 k.ensures.read
+    c.in_err-last-in-Some.field-0.0 c.in_err-last-in-Some.ensures.read c.from_residual-in_err-last-in-Some.result
+    c.from_residual-in_err-last-in-Some.ensures.1
+
+pub returns-in_err-end-in-Some-clause-hole : goal.returns-in_err-end-in-Some-clause-hole
+returns-in_err-end-in-Some-clause-hole c =
+    let k = c.in_ok-keys-in-Some in
+    let last = c.in_ok-last-in-Some in
+    λ some. array_half_closed c.args.text.now c.args.at c.in_ok-inner.inner c.in_ok-inner.ensures.read.0
+    c.in-Some.first c.in-Some.ensures c.after_blanks-in-Some.result c.after_blanks-in-Some.ensures k.field-0
+    k.ensures.read last.last last.ensures.read c.in_err-end-in-Some.field-0.0 c.in_err-end-in-Some.ensures.read
+    c.from_residual-in_err-end-in-Some.result c.from_residual-in_err-end-in-Some.ensures.1

@@ -9,6 +9,9 @@ use Rattle.basic_toml_tokens.specs.Text.{text_at}
 use Rattle.basic_toml_grammar.specs.DeepStops.{DeepKeys}
 use Rattle.basic_toml_read.proofs.KeysTold.{key_is_deep}
 use Rattle.basic_toml_read.proofs.DeepStops.{raised, shallow, no_key_deep}
+use Rattle.basic_toml_grammar.specs.Holes.{HoleInKeys}
+use Rattle.basic_toml_read.specs.StopsReached.{InKeyHole}
+use Rattle.basic_toml_read.proofs.KeyHoles.{no_key_there}
 use Rattle.basic_toml_read.proofs.header.header_keys.Goals as goal
 
 pub loop-keys-init : goal.loop-keys-init
@@ -65,3 +68,15 @@ returns-in_err-raise-clause-deep c =
     c.in_err-raise.ensures
     (key_is_deep c.args.text.now c.args.at 2 c.loop-keys.offset c.loop-keys.level
     _ c.loop-keys.invariant c.in_ok-keyed.keyed c.in_ok-keyed.ensures.read)
+
+-- the hole
+pub returns-in_err-keyed-clause-hole : goal.returns-in_err-keyed-clause-hole
+returns-in_err-keyed-clause-hole c =
+    let stop = c.in_err-keyed.field-0.0 in
+    let text = c.args.text.now in
+    let here = text_at text c.loop-keys.offset in
+    stopped (λ r. InKeyHole (text_at text c.args.at) text r) c.from_residual-in_err-keyed.result stop
+    c.from_residual-in_err-keyed.ensures.1
+    (no_key_there text (text_at text c.args.at) c.loop-keys.offset stop.at stop.why
+    (c.loop-keys.invariant.holes here HoleInKeys.this_key) c.in_err-keyed.ensures.read.0
+    c.in_err-keyed.ensures.read.1)

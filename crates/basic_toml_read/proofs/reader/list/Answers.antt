@@ -4,13 +4,15 @@ use Rattle.basic_toml_read.proofs.KeysTold.{stopped}
 use Rattle.basic_toml_read.proofs.ListsRead.{ListSoFar, root_missing, root_there, list_more, list_missing, falls}
 use Rattle.basic_toml_read.proofs.ListsRead.{list_over}
 use Rattle.basic_toml_tokens.specs.Text.{folded}
-use Rattle.basic_toml_read.proofs.StopsStand.{list_stop}
-use Rattle.basic_toml_read.proofs.ListsRead.{list_begins, gap_stopped, gap_passed, if_err, some_none}
+use Rattle.basic_toml_read.proofs.ListsRead.{gap_stopped, gap_passed, if_err, some_none}
 use Rattle.basic_toml_read.specs.SectionsAnswer.{HoldsMore}
 use Rattle.basic_toml_tokens.specs.Text.{text_at}
 use Rattle.basic_toml_grammar.specs.DeepStops.{DeepRows, DeepSection, DeepStop, root}
 use Rattle.basic_toml_read.proofs.ListsRead.{section_is_deep}
 use Rattle.basic_toml_read.proofs.DeepStops.{deep_on, shallow}
+use Rattle.basic_toml_read.specs.StopsReached.{in_rows, in_text}
+use Rattle.basic_toml_read.proofs.HolesLeadOn.{hole_on}
+use Rattle.basic_toml_read.proofs.ListsRead.{root_holes, section_hole}
 use Rattle.basic_toml_read.proofs.reader.list.Goals as goal
 
 pub returns-in_err-bracket-clause-read : goal.returns-in_err-bracket-clause-read
@@ -57,22 +59,6 @@ returns-clause-read c =
     (subst (λ (o : Option ℕ). ListSoFar c.args.text.now o c.loop-bracket.gathered c.loop-bracket.sections.items)
     c.in_default.is c.loop-bracket.invariant)
 
--- the stops
-pub returns-in_err-bracket-clause-stands : goal.returns-in_err-bracket-clause-stands
-returns-in_err-bracket-clause-stands c =
-    list_stop (folded c.args.text.now) c.args.text.now c.in_err-bracket.field-0.0 c.from_residual.result
-    c.from_residual.ensures.1
-    (c.in_err-bracket.ensures.stands (folded c.args.text.now)
-    (list_begins c.args.text.now c.start.result c.start.ensures.offset))
-
-pub returns-in_err-bracket-2-clause-stands : goal.returns-in_err-bracket-2-clause-stands
-returns-in_err-bracket-2-clause-stands c =
-    let s = subst (λ (o : Option ℕ). ListSoFar c.args.text.now o c.loop-bracket.gathered
-    c.loop-bracket.sections.items) c.in-Some.is c.loop-bracket.invariant in
-    list_stop (folded c.args.text.now) c.args.text.now c.in_err-bracket-2.field-0.0
-    c.from_residual-in_err-bracket-2.result c.from_residual-in_err-bracket-2.ensures.1
-    (c.in_err-bracket-2.ensures.stands s.reached.1 (folded c.args.text.now) s.reached.0)
-
 -- gaps
 pub returns-in_err-bracket-clause-more : goal.returns-in_err-bracket-clause-more
 returns-in_err-bracket-clause-more c =
@@ -117,3 +103,19 @@ returns-in_err-bracket-2-clause-deep c =
     (section_is_deep text c.in-Some.at c.loop-bracket.gathered c.loop-bracket.sections.items
     (subst (λ (o : Option ℕ). ListSoFar text o c.loop-bracket.gathered c.loop-bracket.sections.items) c.in-Some.is
     c.loop-bracket.invariant)) c.in_err-bracket-2.ensures.deep
+
+-- the holes
+pub returns-in_err-bracket-clause-hole : goal.returns-in_err-bracket-clause-hole
+returns-in_err-bracket-clause-hole c =
+    let text = c.args.text.now in
+    hole_on (in_rows (text_at text c.start.result)) (in_text (folded text)) text c.in_err-bracket.field-0.0
+    c.from_residual.result c.from_residual.ensures.1 (root_holes text c.start.result c.start.ensures.offset)
+    c.in_err-bracket.ensures.hole
+
+pub returns-in_err-bracket-2-clause-hole : goal.returns-in_err-bracket-2-clause-hole
+returns-in_err-bracket-2-clause-hole c =
+    let text = c.args.text.now in
+    section_hole text c.in-Some.at c.loop-bracket.gathered c.loop-bracket.sections.items
+    (subst (λ (o : Option ℕ). ListSoFar text o c.loop-bracket.gathered c.loop-bracket.sections.items) c.in-Some.is
+    c.loop-bracket.invariant) c.in_err-bracket-2.field-0.0 c.from_residual-in_err-bracket-2.result
+    c.from_residual-in_err-bracket-2.ensures.1 c.in_err-bracket-2.ensures.hole

@@ -1,6 +1,7 @@
-use Rattle.basic_toml_read.proofs.StopsStand.{line_stops}
+use Rattle.basic_toml_read.proofs.RowsRead.{line_told}
 use Rattle.basic_toml_read.proofs.reader.next_line.Goals as goal
 
-pub returns-in-None-clause-stands : goal.returns-in-None-clause-stands
-returns-in-None-clause-stands c =
-    line_stops c.args.text.now c.args.at c.end_of_line-end.result c.end_of_line-end.ensures c.in-None.ensures
+pub returns-clause-read : goal.returns-clause-read
+returns-clause-read c =
+    line_told c.args.text.now c.args.at c.end_of_line.result c.end_of_line.ensures c.past_line_end.result
+    c.past_line_end.ensures.read

@@ -1,7 +1,7 @@
-use Rattle.std.proofs.Common.{◌<◌, length, arith, rules, set, List, subst}
+use Rattle.std.proofs.Common.{◌<◌, ◌∙◌, ap, sym, map, length, arith, rules, set}
 use Rattle.std.proofs.lemmas.List.{length-set, get_or-set_other}
-use Rattle.basic_toml_read.specs.declared.section.Section.{Section}
-use Rattle.basic_toml_clash.specs.Crossed.{NoneIsCrossed}
+use Rattle.basic_toml_read.specs.SectionView.{section_of}
+use Rattle.basic_toml_clash.specs.Crossed.{first_crossed}
 use Rattle.basic_toml_grow.specs.Item.{table_trie}
 use Rattle.basic_toml_tree.proofs.SectionsResolved.{want_of, goes_on_from_a_value, kept_out, none_crossed, goes_on}
 use Rattle.basic_toml_tree.proofs.SectionsResolved.{resolved, heads_kept, brings_on, brings_none, begins}
@@ -13,8 +13,9 @@ returns-in_err-at c = want_of c.args.sections.items c.from_residual.result c.fro
 
 pub returns-in-Some : goal.returns-in-Some
 returns-in-Some c = λ keyed.
-    goes_on_from_a_value c.as_slice.result.now c.args.sections.items c.in_ok-at.field-0 c.in-Some.at c.at.result
-    c.as_slice.ensures.value c.in-Some.is c.in_ok-at.ensures.some c.at.ensures
+    goes_on_from_a_value c.args.sections.items c.in-Some.at c.at.result
+    (ap (λ ss. first_crossed (map section_of ss)) (sym c.as_slice.ensures.value) ∙ sym c.in_ok-at.ensures ∙ c.in-Some.is)
+    c.at.ensures
 
 pub returns-in_err-root : goal.returns-in_err-root
 returns-in_err-root c =
@@ -26,9 +27,9 @@ returns-in-Err c = λ keyed.
     omega (arith, c.len-number-end.ensures, c.loop-number-test.true, c.loop-number.invariant.0.count) in
     kept_out c.args.sections.items c.loop-number.sections.items c.loop-number.number
     (table_trie c.loop-number.root.value) c.loop-number.invariant.0 c.index_mut-section.result.now within
-    (search (rules, c.index_mut-section.ensures.value)) keyed
-    (subst (λ (ss : List Section). NoneIsCrossed ss) c.as_slice.ensures.value
-    (none_crossed c.as_slice.result.now c.in_ok-at.field-0 c.in_default.not-Some c.in_ok-at.ensures.none)) c.in-Err.clash c.error.result
+    (search (rules, c.index_mut-section.ensures.value))
+    (ap (λ ss. first_crossed (map section_of ss)) (sym c.as_slice.ensures.value) ∙ sym c.in_ok-at.ensures
+    ∙ none_crossed c.in_ok-at.field-0 c.in_default.not-Some) c.in-Err.clash c.error.result
     c.in-Err.ensures.entered c.in-Err.ensures.named c.enter_section.new.section c.enter_section.ensures.at
     c.enter_section.ensures.header c.error.ensures
 

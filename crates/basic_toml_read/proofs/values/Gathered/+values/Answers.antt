@@ -1,7 +1,5 @@
-use Rattle.std.proofs.Common.{◌≡◌, ℕ, ◌+◌, length, drop, take, ap, ◌∙◌, arith, refl, Err}
+use Rattle.std.proofs.Common.{◌≡◌, ℕ, ◌+◌, length, drop, take, ap, ◌∙◌, arith, refl}
 use Rattle.basic_toml_tokens.specs.Text.{text_at}
-use Rattle.basic_toml_tokens.specs.TokenAt.{left_bracket, left_brace}
-use Rattle.basic_toml_explain.specs.declared.stop.Why.TheVariants.{Equals}
 use Rattle.basic_toml_read.specs.Gathers.{ReadsRow, ReadsElements, ReadsFields}
 use Rattle.basic_toml_read.proofs.KeysTold.{stopped}
 use Rattle.basic_toml_read.proofs.ElementsGathered.{elements_start, elements_end, elements_missing, elements_more}
@@ -10,19 +8,22 @@ use Rattle.basic_toml_read.proofs.FieldsGathered.{fields_start, fields_none, fie
 use Rattle.basic_toml_read.proofs.ValuesGathered.{keys_missed, no_equals, value_missing, row_there, array_value}
 use Rattle.basic_toml_read.proofs.ValuesGathered.{inline_value, string_value, word_value_here, array_whole}
 use Rattle.basic_toml_read.proofs.ValuesGathered.{inline_whole}
-use Rattle.basic_toml_grammar.specs.GrammarFaults.{precedes_key, precedes_value}
-use Rattle.basic_toml_explain.specs.StopPlaces.{before_value}
-use Rattle.basic_toml_read.proofs.OffsetsLeadOn.{then_on}
-use Rattle.basic_toml_read.proofs.LeftAfter.{sign_there}
-use Rattle.basic_toml_read.proofs.StopsStand.{result_on, stop_on, over_a_sign, over_the_blanks, over_the_gap}
-use Rattle.basic_toml_read.proofs.StopsStand.{bracket_or_stop, brace_or_stop, after_last_key, no_equals_there}
-use Rattle.basic_toml_read.proofs.StopsStand.{after_equals, string_stops, word_stops, after_element, after_field}
 use Rattle.basic_toml_grammar.specs.DeepStops.{DeepKeys, DeepRow, keys, DeepValue, DeepArray}
 use Rattle.basic_toml_grammar.specs.DeepStops.{DeepElements, this_element}
 use Rattle.basic_toml_grammar.specs.DeepStops.{this_bracket, DeepInline, this_brace, DeepFields, this_field}
 use Rattle.basic_toml_read.proofs.DeepStops.{deep_on, raised, deep_result, string_shallow, word_shallow}
 use Rattle.basic_toml_read.proofs.DeepStops.{value_deep, array_deep}
 use Rattle.basic_toml_read.proofs.DeepStops.{inline_deep, elements_deep, fields_deep}
+use Rattle.basic_toml_tokens.specs.Text.{is_comment, after_blanks}
+use Rattle.basic_toml_grammar.specs.Grammar.{after_gap}
+use Rattle.basic_toml_grammar.specs.Holes.{Hole, HoleInRow}
+use Rattle.basic_toml_explain.specs.StopHoles.{hole_behind}
+use Rattle.basic_toml_read.specs.StopsReached.{in_value, in_elements, in_fields, in_fields_on, in_row}
+use Rattle.basic_toml_read.proofs.LeftAfter.{sign_missing}
+use Rattle.basic_toml_read.proofs.HolesLeadOn.{hole_on, hole_result, key_hole_on, moved_in, then_in, to_element}
+use Rattle.basic_toml_read.proofs.HolesLeadOn.{to_field}
+use Rattle.basic_toml_read.proofs.ValueHoles.{no_equals_in_row, to_its_value, array_in_value, inline_in_value}
+use Rattle.basic_toml_read.proofs.ValueHoles.{string_in_hole, word_in_hole, unclosed_array, unclosed_fields}
 use Rattle.basic_toml_read.proofs.values.Gathered.+values.Goals as goal
 
 pub elements-loop-end-init : goal.elements-loop-end-init
@@ -95,7 +96,8 @@ fields-loop-after-preserved t c =
     fields_more c.args.text.now c.args.start c.args.level c.loop-after.at c.args.self.now c.loop-after.self
     c.loop-after.invariant
     c.row.new.self c.in_ok-row.field-0 c.in_ok-row.ensures.read c.after_blanks-after.result c.after_blanks-after.ensures
-    c.in-Some-after_punctuation.next c.after_blanks-at.result c.in-Some-after_punctuation.ensures c.after_blanks-at.ensures
+    c.in-Some-after_punctuation.next c.after_blanks-at.result c.in-Some-after_punctuation.ensures
+    c.after_blanks-at.ensures
 
 pub row-returns-in_err-last-clause-read : goal.row-returns-in_err-last-clause-read
 row-returns-in_err-last-clause-read t c =
@@ -134,7 +136,8 @@ value-returns-in-Some-clause-read t c =
 
 pub value-returns-in-Some-after_punctuation-clause-read : goal.value-returns-in-Some-after_punctuation-clause-read
 value-returns-in-Some-after_punctuation-clause-read t c =
-    inline_value c.args.text.now c.args.at c.in-Some-after_punctuation.next c.args.level c.args.self.now c.inline.new.self
+    inline_value c.args.text.now c.args.at c.in-Some-after_punctuation.next c.args.level c.args.self.now
+    c.inline.new.self
     c.inline.result c.in_default.ensures c.in-Some-after_punctuation.ensures c.inline.ensures.read
 
 pub value-returns-then-begins_string-clause-read : goal.value-returns-then-begins_string-clause-read
@@ -170,88 +173,6 @@ inline-returns-clause-read t c =
     c.in_ok-raise.ensures c.after_blanks.ensures c.in_ok-end.ensures.read
     (c.in_ok-taken.ensures.0 ∙ ap (λ (n : ℕ). drop n g.rows.items) counted) (c.in_ok-taken.ensures.1 ∙
     ap (λ (n : ℕ). take n g.rows.items) counted) refl
-
--- the stops
-pub elements-returns-in_err-valued-clause-stands : goal.elements-returns-in_err-valued-clause-stands
-elements-returns-in_err-valued-clause-stands t c =
-    stop_on c.args.text.now c.args.start c.loop-end.at c.in_err-valued.field-0.0 c.from_residual.result
-    c.from_residual.ensures.1 c.loop-end.invariant.carries c.in_err-valued.ensures.stands
-
-pub elements-returns-in_default-after_punctuation-clause-stands : goal.elements-returns-in_default-after_punctuation-clause-stands
-elements-returns-in_default-after_punctuation-clause-stands t c =
-    result_on c.args.text.now c.args.start c.after_gap-after.result c.closed.result
-    (then_on c.loop-end.invariant.carries
-    (after_element c.args.text.now c.loop-end.at c.args.level c.loop-end.self c.value.new.self c.in_ok-valued.valued
-    c.in_ok-valued.ensures.read c.after_gap-after.result c.after_gap-after.ensures))
-    (bracket_or_stop c.args.text.now c.after_gap-after.result c.closed.result c.closed.ensures.read)
-
-pub fields-returns-in_err-row-clause-stands : goal.fields-returns-in_err-row-clause-stands
-fields-returns-in_err-row-clause-stands t c =
-    stop_on c.args.text.now c.args.start c.loop-after.at c.in_err-row.field-0.0 c.from_residual.result
-    c.from_residual.ensures.1 c.loop-after.invariant.carries c.in_err-row.ensures.stands
-
-pub fields-returns-in_default-after_punctuation-clause-stands : goal.fields-returns-in_default-after_punctuation-clause-stands
-fields-returns-in_default-after_punctuation-clause-stands t c =
-    result_on c.args.text.now c.args.start c.after_blanks-after.result c.closed.result
-    (then_on c.loop-after.invariant.carries
-    (after_field c.args.text.now c.loop-after.at c.args.level c.loop-after.self c.row.new.self c.in_ok-row.field-0
-    c.in_ok-row.ensures.read c.after_blanks-after.result c.after_blanks-after.ensures))
-    (brace_or_stop c.args.text.now c.after_blanks-after.result c.closed.result c.in_default-after_punctuation.ensures
-    c.closed.ensures.read)
-
-pub row-returns-in_default-clause-stands : goal.row-returns-in_default-clause-stands
-row-returns-in_default-clause-stands t c =
-    let k = c.in_ok-last in
-    result_on {A = ℕ} c.args.text.now c.args.at k.last.end (Err (record { at = k.last.end; why = Equals }))
-    (after_last_key c.args.text.now c.args.at c.args.level c.args.self.now c.keys.new.self k.last k.ensures.read)
-    (no_equals_there c.args.text.now k.last.end c.in_default.ensures)
-
-pub row-returns-in_err-valued-clause-stands : goal.row-returns-in_err-valued-clause-stands
-row-returns-in_err-valued-clause-stands t c =
-    let k = c.in_ok-last in
-    stop_on c.args.text.now c.args.at c.after_blanks.result c.in_err-valued.field-0.0
-    c.from_residual-in_err-valued.result c.from_residual-in_err-valued.ensures.1
-    (then_on
-    (after_last_key c.args.text.now c.args.at c.args.level c.args.self.now c.keys.new.self k.last k.ensures.read)
-    (after_equals c.args.text.now k.last.end c.in-Some.next c.after_blanks.result c.in-Some.ensures
-    c.after_blanks.ensures)) c.in_err-valued.ensures.stands
-
-pub value-returns-in-Some-clause-stands : goal.value-returns-in-Some-clause-stands
-value-returns-in-Some-clause-stands t c =
-    result_on c.args.text.now c.args.at c.in-Some.next c.array.result
-    (over_a_sign before_value c.args.text.now c.args.at c.in-Some.next 91 left_bracket (sign_there c.in-Some.ensures.0)
-    refl refl refl) c.array.ensures.stands
-
-pub value-returns-in-Some-after_punctuation-clause-stands : goal.value-returns-in-Some-after_punctuation-clause-stands
-value-returns-in-Some-after_punctuation-clause-stands t c =
-    let s = c.in-Some-after_punctuation in
-    result_on c.args.text.now c.args.at s.next c.inline.result
-    (over_a_sign precedes_key c.args.text.now c.args.at s.next 123 left_brace (sign_there s.ensures.0) refl refl refl)
-    c.inline.ensures.stands
-
-pub value-returns-then-begins_string-clause-stands : goal.value-returns-then-begins_string-clause-stands
-value-returns-then-begins_string-clause-stands t c =
-    string_stops c.args.text.now c.args.at c.in_default.ensures c.in_default-after_punctuation.ensures
-    c.string_value_at.result c.if-begins_string.ensures.3 c.string_value_at.ensures.read
-
-pub value-returns-clause-stands : goal.value-returns-clause-stands
-value-returns-clause-stands t c =
-    word_stops c.args.text.now c.args.at c.in_default.ensures c.in_default-after_punctuation.ensures c.word_at.result
-    c.if-begins_string.ensures c.word_at.ensures.read
-
-pub array-returns-in_err-end-clause-stands : goal.array-returns-in_err-end-clause-stands
-array-returns-in_err-end-clause-stands t c =
-    stop_on c.args.text.now c.args.at c.after_gap.result c.in_err-end.field-0.0 c.from_residual-in_err-end.result
-    c.from_residual-in_err-end.ensures.1
-    (over_the_gap precedes_value c.args.text.now c.args.at c.after_gap.result c.after_gap.ensures)
-    c.in_err-end.ensures.stands
-
-pub inline-returns-in_err-end-clause-stands : goal.inline-returns-in_err-end-clause-stands
-inline-returns-in_err-end-clause-stands t c =
-    stop_on c.args.text.now c.args.at c.after_blanks.result c.in_err-end.field-0.0 c.from_residual-in_err-end.result
-    c.from_residual-in_err-end.ensures.1
-    (over_the_blanks c.args.text.now c.args.at c.after_blanks.result c.after_blanks.ensures)
-    c.in_err-end.ensures.stands
 
 -- levels
 pub array-returns-in_err-raise-clause-deep : goal.array-returns-in_err-raise-clause-deep
@@ -339,3 +260,108 @@ pub value-returns-clause-deep : goal.value-returns-clause-deep
 value-returns-clause-deep t c =
     word_shallow c.args.text.now c.args.at (DeepValue 128 c.args.level (text_at c.args.text.now c.args.at))
     c.word_at.result c.word_at.ensures.read
+
+-- the holes
+pub row-returns-in_err-last-clause-hole : goal.row-returns-in_err-last-clause-hole
+row-returns-in_err-last-clause-hole t c =
+    let here = text_at c.args.text.now c.args.at in
+    key_hole_on here (in_row here (hole_behind c.args.end)) c.args.text.now c.in_err-last.field-0.0
+    c.from_residual.result c.from_residual.ensures.1 (λ there d. HoleInRow.in_keys d) c.in_err-last.ensures.hole
+
+pub row-returns-in_default-clause-hole : goal.row-returns-in_default-clause-hole
+row-returns-in_default-clause-hole t c =
+    no_equals_in_row c.args.text.now c.args.at c.args.level c.args.self.now c.keys.new.self c.in_ok-last.last
+    c.in_ok-last.ensures.read (hole_behind c.args.end) c.in_default.ensures
+
+pub row-returns-in_err-valued-clause-hole : goal.row-returns-in_err-valued-clause-hole
+row-returns-in_err-valued-clause-hole t c =
+    let k = c.in_ok-last in
+    let text = c.args.text.now in
+    let end = hole_behind c.args.end in
+    hole_on (in_value (text_at text c.after_blanks.result) end) (in_row (text_at text c.args.at) end) text
+    c.in_err-valued.field-0.0 c.from_residual-in_err-valued.result c.from_residual-in_err-valued.ensures.1
+    (to_its_value text c.args.at c.args.level c.args.self.now c.keys.new.self k.last k.ensures.read end c.in-Some.next
+    c.after_blanks.result c.in-Some.ensures c.after_blanks.ensures) c.in_err-valued.ensures.hole
+
+pub value-returns-in-Some-clause-hole : goal.value-returns-in-Some-clause-hole
+value-returns-in-Some-clause-hole t c =
+    let text = c.args.text.now in
+    let end = hole_behind c.args.end in
+    hole_result (in_elements (after_gap is_comment (text_at text c.in-Some.next)))
+    (in_value (text_at text c.args.at) end) text c.array.result
+    (array_in_value text c.args.at c.in-Some.next end c.in-Some.ensures) c.array.ensures.hole
+
+pub value-returns-in-Some-after_punctuation-clause-hole : goal.value-returns-in-Some-after_punctuation-clause-hole
+value-returns-in-Some-after_punctuation-clause-hole t c =
+    let s = c.in-Some-after_punctuation in
+    let text = c.args.text.now in
+    let end = hole_behind c.args.end in
+    hole_result (in_fields (after_blanks (text_at text s.next))) (in_value (text_at text c.args.at) end) text
+    c.inline.result (inline_in_value text c.args.at s.next end s.ensures) c.inline.ensures.hole
+
+pub value-returns-then-begins_string-clause-hole : goal.value-returns-then-begins_string-clause-hole
+value-returns-then-begins_string-clause-hole t c =
+    string_in_hole c.args.text.now c.args.at c.args.end c.in_default.ensures c.in_default-after_punctuation.ensures
+    c.string_value_at.result c.if-begins_string.ensures.3 c.string_value_at.ensures.read
+
+pub value-returns-clause-hole : goal.value-returns-clause-hole
+value-returns-clause-hole t c =
+    word_in_hole c.args.text.now c.args.at c.args.end c.in_default.ensures c.in_default-after_punctuation.ensures
+    c.word_at.result c.if-begins_string.ensures c.word_at.ensures.read c.word_at.ensures.wanted
+
+pub array-returns-in_err-end-clause-hole : goal.array-returns-in_err-end-clause-hole
+array-returns-in_err-end-clause-hole t c =
+    let text = c.args.text.now in
+    let start = after_gap is_comment (text_at text c.args.at) in
+    hole_on (in_elements (text_at text c.after_gap.result)) (in_elements start) text c.in_err-end.field-0.0
+    c.from_residual-in_err-end.result c.from_residual-in_err-end.ensures.1
+    (moved_in in_elements (text_at text c.after_gap.result) start c.after_gap.ensures.left) c.in_err-end.ensures.hole
+
+pub inline-returns-in_err-end-clause-hole : goal.inline-returns-in_err-end-clause-hole
+inline-returns-in_err-end-clause-hole t c =
+    let text = c.args.text.now in
+    let start = after_blanks (text_at text c.args.at) in
+    hole_on (in_fields (text_at text c.after_blanks.result)) (in_fields start) text c.in_err-end.field-0.0
+    c.from_residual-in_err-end.result c.from_residual-in_err-end.ensures.1
+    (moved_in in_fields (text_at text c.after_blanks.result) start c.after_blanks.ensures.left)
+    c.in_err-end.ensures.hole
+
+pub elements-returns-in_err-valued-clause-hole : goal.elements-returns-in_err-valued-clause-hole
+elements-returns-in_err-valued-clause-hole t c =
+    let text = c.args.text.now in
+    let here = text_at text c.loop-end.at in
+    let start = in_elements (text_at text c.args.start) in
+    hole_on (in_value here Hole.after_element) start text c.in_err-valued.field-0.0 c.from_residual.result
+    c.from_residual.ensures.1
+    (then_in (in_value here Hole.after_element) (in_elements here) start
+    (to_element here (sign_missing 93 here c.in_default.ensures)) c.loop-end.invariant.holes)
+    c.in_err-valued.ensures.hole
+
+pub elements-returns-in_default-after_punctuation-clause-hole : goal.elements-returns-in_default-after_punctuation-clause-hole
+elements-returns-in_default-after_punctuation-clause-hole t c =
+    let text = c.args.text.now in
+    let v = c.in_ok-valued in
+    hole_result (in_elements (text_at text c.loop-end.at)) (in_elements (text_at text c.args.start)) text
+    c.closed.result c.loop-end.invariant.holes
+    (unclosed_array text c.loop-end.at _ v.ensures.read.found.is v.valued.end refl c.after_gap-after.result
+    c.after_gap-after.ensures c.in_default-after_punctuation.ensures c.closed.result c.closed.ensures.read)
+
+pub fields-returns-in_err-row-clause-hole : goal.fields-returns-in_err-row-clause-hole
+fields-returns-in_err-row-clause-hole t c =
+    let text = c.args.text.now in
+    let here = text_at text c.loop-after.at in
+    let start = in_fields (text_at text c.args.start) in
+    hole_on (in_row here Hole.after_field) start text c.in_err-row.field-0.0 c.from_residual.result
+    c.from_residual.ensures.1
+    (then_in (in_row here Hole.after_field) (in_fields_on here) start (to_field here) c.loop-after.invariant.holes)
+    c.in_err-row.ensures.hole
+
+pub fields-returns-in_default-after_punctuation-clause-hole : goal.fields-returns-in_default-after_punctuation-clause-hole
+fields-returns-in_default-after_punctuation-clause-hole t c =
+    let text = c.args.text.now in
+    let r = c.in_ok-row in
+    hole_result (in_fields_on (text_at text c.loop-after.at)) (in_fields (text_at text c.args.start)) text
+    c.closed.result c.loop-after.invariant.holes
+    (unclosed_fields text c.loop-after.at r.ensures.read.found r.ensures.read.is r.field-0 r.ensures.read.rest
+    c.after_blanks-after.result c.after_blanks-after.ensures c.in_default-after_punctuation.ensures c.closed.result
+    c.closed.ensures.read)

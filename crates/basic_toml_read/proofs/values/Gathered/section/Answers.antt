@@ -6,11 +6,13 @@ use Rattle.basic_toml_read.specs.StopsAt.{Misses}
 use Rattle.basic_toml_read.specs.Lists.{AreRowsRead, ReadsSection}
 use Rattle.basic_toml_read.proofs.KeysTold.{stopped}
 use Rattle.basic_toml_read.proofs.ListsRead.{rows_missing, section_there}
-use Rattle.basic_toml_read.proofs.StopsStand.{header_result}
-use Rattle.basic_toml_read.proofs.ListsRead.{header_ended, line_begins}
 use Rattle.basic_toml_grammar.specs.DeepStops.{DeepRows, DeepHeader, DeepSection, header}
 use Rattle.basic_toml_read.proofs.ListsRead.{rows_are_deep}
 use Rattle.basic_toml_read.proofs.DeepStops.{deep_on, shallow}
+use Rattle.basic_toml_tokens.specs.Text.{after_blanks}
+use Rattle.basic_toml_read.specs.StopsReached.{in_header, in_rows, in_sections}
+use Rattle.basic_toml_read.proofs.HolesLeadOn.{hole_on, moved_in, then_in, to_header}
+use Rattle.basic_toml_read.proofs.ListsRead.{line_hole, holes_of_rows}
 use Rattle.basic_toml_read.proofs.values.Gathered.section.Goals as goal
 
 pub returns-in_err-next-clause-read : goal.returns-in_err-next-clause-read
@@ -35,24 +37,6 @@ returns-clause-read c =
     (subst (λ (n : ℕ). AreRowsRead c.args.text.now c.in_ok-line.line (n + 1) c.args.self.now mid c.in_ok-next.next)
     counted c.in_ok-next.ensures.read)
     c.in_ok-rows.ensures.0 c.in_ok-rows.ensures.1 c.in_ok-push.ensures.items
-
--- the stops
-pub returns-in_err-line-clause-stands : goal.returns-in_err-line-clause-stands
-returns-in_err-line-clause-stands c =
-    let h = c.in_ok-header.header in
-    header_result c.args.text.now c.args.at c.in_err-line.field-0.0 c.from_residual-in_err-line.result
-    c.from_residual-in_err-line.ensures.1
-    (λ start a. c.in_err-line.ensures.stands start
-    (header_ended c.args.text.now c.args.at h c.in_ok-header.ensures.read start a))
-
-pub returns-in_err-next-clause-stands : goal.returns-in_err-next-clause-stands
-returns-in_err-next-clause-stands c =
-    let h = c.in_ok-header.header in
-    header_result c.args.text.now c.args.at c.in_err-next.field-0.0 c.from_residual-in_err-next.result
-    c.from_residual-in_err-next.ensures.1
-    (λ start a. c.in_err-next.ensures.stands start
-    (line_begins c.args.text.now c.args.at h c.in_ok-header.ensures.read c.in_ok-line.line c.in_ok-line.ensures.read
-    start a))
 
 -- levels
 pub returns-in_err-header-clause-deep : goal.returns-in_err-header-clause-deep
@@ -79,3 +63,26 @@ returns-in_err-next-clause-deep c =
     (rows_are_deep text c.args.at h c.in_ok-header.ensures.read c.in_ok-line.line c.in_ok-line.ensures.read)
     (λ d. subst (λ (n : ℕ). DeepRows 128 (n + 1) (text_at text c.in_ok-line.line) c.in_err-next.field-0.0.at) counted
     (c.in_err-next.ensures.deep d))
+
+-- the holes
+pub returns-in_err-header-clause-hole : goal.returns-in_err-header-clause-hole
+returns-in_err-header-clause-hole c =
+    let text = c.args.text.now in
+    let here = text_at text c.args.at in
+    λ line same some. hole_on (in_header here) (in_sections line) text c.in_err-header.field-0.0 c.from_residual.result
+    c.from_residual.ensures.1
+    (then_in (in_header here) (in_header (after_blanks line)) (in_sections line)
+    (moved_in in_header here (after_blanks line) same) (to_header line)) (c.in_err-header.ensures.hole some)
+
+pub returns-in_err-line-clause-hole : goal.returns-in_err-line-clause-hole
+returns-in_err-line-clause-hole c =
+    line_hole c.args.text.now c.args.at c.in_ok-header.header c.in_ok-header.ensures.read c.in_err-line.field-0.0
+    c.in_err-line.ensures.read c.from_residual-in_err-line.result c.from_residual-in_err-line.ensures.1
+
+pub returns-in_err-next-clause-hole : goal.returns-in_err-next-clause-hole
+returns-in_err-next-clause-hole c =
+    let text = c.args.text.now in
+    λ line same some. hole_on (in_rows (text_at text c.in_ok-line.line)) (in_sections line) text
+    c.in_err-next.field-0.0 c.from_residual-in_err-next.result c.from_residual-in_err-next.ensures.1
+    (holes_of_rows text c.args.at c.in_ok-header.header c.in_ok-header.ensures.read c.in_ok-line.line
+    c.in_ok-line.ensures.read line same) c.in_err-next.ensures.hole
