@@ -106,6 +106,9 @@ fault_is_named sections fault keyed (section none first) = go first.stopped
         first.later there (none_dotted (first.before ++ first.here ∷ first.later)
         (ap first_crossed (sym first.parts) ∙ none)) stop tried))
     go (deep over) =
-        inr (first.here.at, refl,
-        subst (λ (ss : List Section). Contains (deep_sections nesting_limit (located ss)) first.here.at)
-        (sym first.parts) (deep_by_path first.before first.here first.so_far first.later first.entered over))
+        inr (
+          first.here.at,
+          refl,
+          subst (λ (ss : List Section). Contains (deep_sections nesting_limit (located ss)) first.here.at)
+              (sym first.parts) (deep_by_path first.before first.here first.so_far first.later first.entered over),
+        )
