@@ -1,0 +1,2 @@
+pub mod ReadingEnds
+pub mod ItemsAreSent
