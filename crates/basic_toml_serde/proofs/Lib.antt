@@ -1,2 +1,0 @@
-pub mod ReadingEnds
-pub mod ItemsAreSent

@@ -1,3 +1,0 @@
-pub mod Answers
-pub mod Sent
-pub mod Written
