@@ -8,6 +8,7 @@ use Rattle.basic_toml_value.specs.Nesting.{nesting_limit}
 use Rattle.basic_toml_grammar.specs.Sections.{Section}
 use Rattle.basic_toml_grammar.specs.Grammar.{IsSectionList}
 use Rattle.basic_toml_grammar.specs.Depth.{depth}
+use Rattle.basic_toml_grammar.specs.Levels.{highest_level}
 use Rattle.basic_toml_grammar.specs.Document.{has_clash, tree_of_sections, document_of, IsDocument}
 use Rattle.basic_toml_grammar.specs.Faults as read
 use Rattle.basic_toml_grammar.proofs.LawsHold.{keyed}
@@ -44,21 +45,23 @@ document_found sections tree peace fits grown =
 not_listed : (text : List ℕ) (error : read.Fault) → IsRefused text error
     → (error ≡ explain.want_of_memory) ⊎ IsTextFault text error
 not_listed text _ (answer.memory more) = inl refl
-not_listed text _ (answer.deep passes first) = inr (deep (record { passes = passes; first = first }))
-not_listed text _ (answer.outside allowed) = inr (outside allowed)
+not_listed text _ (answer.deep passes first met) = inr (deep (record { passes = passes; first = first; met = met }))
+not_listed text _ (answer.outside due within) = inr (outside due within)
 
 -- why there is no tree
 not_resolved : (text : List ℕ) (sections : List Section) (error : read.Fault) → IsSectionList (folded text) sections
-    → IsUnresolved sections error → (error ≡ explain.want_of_memory) ⊎ IsTextFault text error
-not_resolved text sections _ grammar resolve.memory = inl refl
-not_resolved text sections _ grammar (resolve.refused why) = inr (no_tree grammar why)
+    → highest_level sections ≤ nesting_limit → IsUnresolved sections error
+    → (error ≡ explain.want_of_memory) ⊎ IsTextFault text error
+not_resolved text sections _ grammar low resolve.memory = inl refl
+not_resolved text sections _ grammar low (resolve.refused why) = inr (no_tree grammar low why)
 
 pub refused : (text : List ℕ) (error : read.Fault) → IsRefused text error → GivesTree text (Err error)
 refused text error why = not_listed text error why
 
 pub resolved : (text : List ℕ) (list : List code.Section) (result : Result Tree read.Fault)
-    → IsSectionList (folded text) (map section_of list) → Resolves list result → GivesTree text result
-resolved text list (Ok tree) grammar is =
+    → IsSectionList (folded text) (map section_of list) → highest_level (map section_of list) ≤ nesting_limit
+    → Resolves list result → GivesTree text result
+resolved text list (Ok tree) grammar low is =
     let there : IsResolved (map section_of list) tree = is (keyed (folded text) (map section_of list) grammar) in
     record {
       sections = map section_of list;
@@ -71,8 +74,8 @@ resolved text list (Ok tree) grammar is =
             document_found (map section_of list) (table_data tree.root.value) there.clash there.fits there.grown;
       };
     }
-resolved text list (Err error) grammar why =
-    not_resolved text (map section_of list) error grammar (why (keyed (folded text) (map section_of list) grammar))
+resolved text list (Err error) grammar low why =
+    not_resolved text (map section_of list) error grammar low (why (keyed (folded text) (map section_of list) grammar))
 
 pub ruleset tree_given = (refused, resolved)
 

@@ -34,14 +34,14 @@ peaceful_and_fits sections tree e =
 
 pub refused_has_no_document : (text : List ℕ) (error : read.Fault) (tree : Data) → IsTextFault text error
     → IsDocument (folded text) tree → ⊥
-refused_has_no_document text error tree (outside due) d = due.outside d.sections d.grammar
+refused_has_no_document text error tree (outside due within_limit) d = due.outside d.sections d.grammar
 refused_has_no_document text _ tree (deep nested) d =
     let (peaceful, fits) = peaceful_and_fits d.sections tree d.means in
     let over : nesting_limit < highest_level d.sections = nested.passes d.sections d.grammar in
     let below : highest_level d.sections ≤ depth (tree_of_sections d.sections) =
     within (folded text) d.sections d.grammar peaceful in
     absurd (omega arith)
-refused_has_no_document text error tree (no_tree {sections = sections} grammar why) d =
+refused_has_no_document text error tree (no_tree {sections = sections} grammar low why) d =
     let (peaceful, fits) = peaceful_and_fits d.sections tree d.means in
     let same : sections ≡ d.sections = unambiguous _ (folded text) sections d.sections grammar d.grammar in
     let here : SectionsFault d.sections error = subst (λ (ss : List Section). SectionsFault ss error) same why in

@@ -1,5 +1,5 @@
 -- How reading a text as a type ends, by what the type answers to data (`TypeAnswers`). (own)
-use Rattle.std.specs.Prelude.{◌≡◌, ◌⊎◌, ◌<◌, ℕ, List, [], length, Result, Ok, Err}
+use Rattle.std.specs.Prelude.{◌≡◌, ◌⊎◌, ◌≤◌, ◌<◌, ℕ, List, [], length, Result, Ok, Err}
 use Rattle.basic_toml_tokens.specs.Text.{folded}
 use Rattle.basic_toml_value.specs.Data.{Data, table, Members}
 use Rattle.basic_toml_value.specs.Nesting.{nesting_limit}
@@ -7,6 +7,7 @@ use Rattle.basic_toml_grammar.specs.Sections.{Section}
 use Rattle.basic_toml_grammar.specs.Grammar.{IsSectionList}
 use Rattle.basic_toml_grammar.specs.Levels.{highest_level}
 use Rattle.basic_toml_grammar.specs.NestingFaults.{IsTooDeepAt}
+use Rattle.basic_toml_grammar.specs.DeepStops.{DeepStop, IsWithin}
 use Rattle.basic_toml_grammar.specs.Viable.{IsDue}
 use Rattle.basic_toml_grammar.specs.Document.{IsDocument}
 use Rattle.basic_toml_grammar.specs.Faults as read
@@ -23,19 +24,21 @@ use Rattle.basic_toml_error.specs.Fault.{Fault, want_of_memory}
 use Rattle.basic_toml_error.specs.ReadFaults.{fault_in, lined}
 pub use Rattle.basic_toml_typed.specs.TypeAnswers.{OnlyMemory, OrMemory, ReadsData}
 
--- each section list of the text passes the limit, and the first key or bracket above it stands at the offset
+-- each section list of the text passes the limit, and the first key or bracket above it is met at the offset
 pub record IsNestedTooDeeply (text : List ℕ) (offset : ℕ) : Type 0 where
   pub passes : (sections : List Section) → IsSectionList (folded text) sections
       → nesting_limit < highest_level sections
   pub first : IsTooDeepAt nesting_limit (folded text) offset
+  pub met : DeepStop nesting_limit (folded text) offset
 
--- Why a text has no document: it has no section list, and this is the error that is due; or its section list passes the
--- limit; or the sections of that list do not go into a tree.
+-- Why a text has no document: a key or a bracket is met above the limit; or none is, it has no section list, and this is
+-- the error that is due; or the sections of its list, which is within the limit, do not go into a tree.
 pub data IsTextFault (text : List ℕ) : read.Fault → Type 0 where
-  outside : {error : read.Fault} → IsDue (folded text) (length text) error → IsTextFault text error
+  outside : {error : read.Fault} → IsDue (folded text) (length text) error → IsWithin nesting_limit (folded text)
+      → IsTextFault text error
   deep : {offset : ℕ} → IsNestedTooDeeply text offset → IsTextFault text (fault_at read.nested_too_deeply offset)
   no_tree : {sections : List Section} {error : read.Fault} → IsSectionList (folded text) sections
-      → SectionsFault sections error → IsTextFault text error
+      → highest_level sections ≤ nesting_limit → SectionsFault sections error → IsTextFault text error
 
 -- the tree of a text: its data are the document, and what its nodes tell is foretold by the section list
 pub record IsTreeOf (text : List ℕ) (tree : Tree) : Type 0 where

@@ -14,7 +14,7 @@ pub use basic_toml_order::laws::{
     has_same_maps, once_is_enough, only_unwritable_is_refused, ordered_stays, rows_come_first,
     stays_recordable,
 };
-pub use basic_toml_tree::laws::sections_fault_is_one;
+pub use basic_toml_tree::laws::{every_node_is_foretold, sections_fault_is_one};
 pub use basic_toml_typed::laws::text_numbers_differ;
 use basic_toml_write::Serialize;
 
@@ -38,8 +38,8 @@ pub fn reading_has_one_table()
     ensures { ReadingHasOneTable }
 {}
 
-/// Two errors that the contract of `from_str` into a `Table` allows for one text are the same, but for want of memory and
-/// `NestedTooDeeply`.
+/// Two errors that the contract of `from_str` into a `Table` allows for one text are the same, but for want of memory,
+/// and `NestedTooDeeply` where a section list that is within the limit makes a tree that is not.
 #[tactic(auto, using(crate::proofs::OneAnswer::reading_has_one_error))]
 pub fn reading_has_one_error()
     ensures { ReadingHasOneError }

@@ -1,17 +1,18 @@
 -- The greatest key of a table.
 use Rattle.std.proofs.Common.{◌≡◌, ℕ, zero, suc, ◌≤◌, Bool, true, false, List, [], ◌∷◌, ◌++◌, length, Some}
-use Rattle.std.proofs.Common.{get_or, refl, sym, ap, ◌∙◌, subst, cond, arith, length-append}
+use Rattle.std.proofs.Common.{◌+◌, ◌<◌, take, get_or, refl, sym, ap, ◌∙◌, subst, cond, arith, length-append}
 use Rattle.std.specs.Str.{bytes_eq}
 use Rattle.std.specs.Ordering.{is_lt, nat_cmp, ordering_reverse}
 use Rattle.std.specs.declared.cmp.Ordering.{Ordering}
 use Rattle.std.specs.declared.cmp.Ordering.TheVariants.{Less, Equal, Greater}
 use Rattle.std.specs.Cmp.Lexicographic.{slice_cmp, same_text}
 use Rattle.std.proofs.Math.Seq.{get_or-append_seam}
-use Rattle.std.proofs.lemmas.List.{get_or_append_left}
+use Rattle.std.proofs.lemmas.List.{get_or_append_left, get_or-take, length-take-le}
 use Rattle.std.proofs.lemmas.Cmp.{nat_list_cmp_total}
 use Rattle.basic_toml_emit.specs.Open.{PresentKeys, with_key}
 use Rattle.basic_toml_emit.specs.Names.{last_after, last_name}
 use Rattle.basic_toml_emit.specs.Keys.{is_below, with_keys, key_before, IsGreatest}
+use Rattle.basic_toml_emit.proofs.KeyIsAdded.{with_keys_take}
 
 is_less : (o : Ordering) → is_lt o ≡ true → o ≡ Less
 is_less Less e = refl
@@ -97,3 +98,36 @@ module _ (ks ks' : List (List ℕ)) (k : List ℕ) (greatest : ℕ) (pushed : ks
 
 pub within_more : (ks ks' : List (List ℕ)) (k : List ℕ) (n : ℕ) → ks' ≡ ks ++ (k ∷ []) → n ≤ length ks → n ≤ length ks'
 within_more ks ks' k n pushed le = omega (arith, length-append ks (k ∷ []), ap length pushed)
+
+-- the greatest of the first keys, while one more is looked at
+pub none_greatest : (ks : List (List ℕ)) → IsGreatest (key_before 0 ks) (with_keys (take 0 ks))
+none_greatest ks key there = absurd (cc)
+
+pub raised_at : (ks : List (List ℕ)) (g i : ℕ) → i < length ks → IsGreatest (key_before g ks) (with_keys (take i ks))
+    → is_below (key_before g ks) (get_or ks i []) ≡ true
+    → IsGreatest (key_before (i + 1) ks) (with_keys (take (i + 1) ks))
+raised_at ks g i lt top up =
+    let next : suc i ≡ i + 1 = omega arith in
+    subst (λ keys. IsGreatest (key_before (i + 1) ks) keys) (sym (with_keys_take ks i lt))
+    (subst (λ n. IsGreatest (key_before n ks) (with_key (get_or ks i []) (with_keys (take i ks)))) next
+    (greatest_raised (key_before g ks) (get_or ks i []) (with_keys (take i ks)) top up))
+
+pub kept_at : (ks : List (List ℕ)) (g i : ℕ) → i < length ks → IsGreatest (key_before g ks) (with_keys (take i ks))
+    → is_below (key_before g ks) (get_or ks i []) ≡ false → IsGreatest (key_before g ks) (with_keys (take (i + 1) ks))
+kept_at ks g i lt top down = subst (IsGreatest (key_before g ks)) (sym (with_keys_take ks i lt))
+    (greatest_kept (key_before g ks) (get_or ks i []) (with_keys (take i ks)) top down)
+
+key_before_take : (ks : List (List ℕ)) (g count : ℕ) → g ≤ count → key_before g (take count ks) ≡ key_before g ks
+key_before_take ks zero count le = refl
+key_before_take ks (suc g) count le = get_or-take count ks g [] (omega arith)
+
+-- it stays so where the others are forgotten
+pub greatest_shed : (ks ks' : List (List ℕ)) (g count : ℕ) → ks' ≡ take count ks → g ≤ count
+    → IsGreatest (key_before g ks) (with_keys (take count ks)) → IsGreatest (key_before g ks') (with_keys ks')
+greatest_shed ks ks' g count is le top =
+    subst (λ l. IsGreatest (key_before g l) (with_keys l)) (sym is)
+    (subst (λ key. IsGreatest key (with_keys (take count ks))) (sym (key_before_take ks g count le)) top)
+
+pub within_shed : (ks ks' : List (List ℕ)) (g count : ℕ) → ks' ≡ take count ks → count ≤ length ks → g ≤ count
+    → g ≤ length ks'
+within_shed ks ks' g count is le within = omega (arith, ap length is, length-take-le count ks le)

@@ -1,6 +1,6 @@
 -- Keys that are added to others.
 use Rattle.std.proofs.Common.{◌≡◌, ℕ, zero, suc, ◌+◌, ◌<◌, Bool, true, false, List, [], ◌∷◌, ◌++◌, IsTrue, Some}
-use Rattle.std.proofs.Common.{◌||◌, sym, length, take, get_or, refl, ap, ◌∙◌, cond, arith, add-one}
+use Rattle.std.proofs.Common.{◌||◌, sym, length, take, get_or, refl, ap, ◌∙◌, cond, arith, add-one, subst}
 use Rattle.std.specs.Str.{bytes_eq}
 use Rattle.std.specs.List.{slice_get}
 use Rattle.std.proofs.lemmas.Slice.Eq.{bytes_eq-Decides}
@@ -65,3 +65,19 @@ key_absent ks q absent = with_keys_among ks q ∙ absent
 
 pub distinct_push : (ks : List (List ℕ)) (k : List ℕ) → IsTrue (are_distinct ks) → with_keys ks k ≡ false → IsTrue (are_distinct (ks ++ (k ∷ [])))
 distinct_push ks k distinct absent = are_distinct-push ks k distinct (sym (with_keys_among ks k) ∙ absent)
+
+among_take : (ks : List (List ℕ)) (n : ℕ) (q : List ℕ) → is_among ks q ≡ false → is_among (take n ks) q ≡ false
+among_take [] zero q absent = refl
+among_take [] (suc n) q absent = refl
+among_take (k ∷ ks) zero q absent = refl
+among_take (k ∷ ks) (suc n) q absent = grind (arith, among_take ks n q, absent)
+
+-- the first of distinct keys
+pub distinct_take : (ks ks' : List (List ℕ)) (n : ℕ) → ks' ≡ take n ks → IsTrue (are_distinct ks) → IsTrue (are_distinct ks')
+distinct_take ks ks' n is distinct = subst (λ l. IsTrue (are_distinct l)) (sym is) (first ks n distinct)
+  where
+    first : (ks : List (List ℕ)) (n : ℕ) → IsTrue (are_distinct ks) → IsTrue (are_distinct (take n ks))
+    first [] zero distinct = refl
+    first [] (suc n) distinct = refl
+    first (k ∷ ks) zero distinct = refl
+    first (k ∷ ks) (suc n) distinct = grind (arith, first ks n, among_take ks n k, distinct)

@@ -4,3 +4,4 @@ pub mod Naming
 pub mod FramesOfStack
 pub mod Taking
 pub mod FinishHandsOut
+pub mod FirstKeys

@@ -5,7 +5,8 @@ use Rattle.std.proofs.Common.{slice_index_or, Bool, true, false, append-nil}
 use Rattle.std.specs.Prelude.{if◌then◌else◌}
 use Rattle.std.specs.List.{All}
 use Rattle.std.specs.Str.{IsUtf8, IsCharBoundary}
-use Rattle.std.proofs.lemmas.List.{get_or-take, get_or_append_left, take-append-le, take-take, length-take-le}
+use Rattle.std.proofs.lemmas.List.{get_or-take, get_or_append_left, take-append-le, take-take, length-take-le, take-map}
+use Rattle.std.proofs.lemmas.List.Elements.{All-take}
 use Rattle.std.proofs.lemmas.Slice.{between_is}
 use Rattle.std.proofs.lemmas.Str.{IsCharBoundary-at_seam, IsUtf8-nil}
 use Rattle.std.proofs.lemmas.Bool.{cases_eq}
@@ -74,3 +75,13 @@ last_is k (l ∷ ks) = last_is l ks
 pub last_name_is : (ks : List (List ℕ)) → 0 < length ks → get_or ks (length ks - 1) [] ≡ unwrap_or (last_name ks) []
 last_name_is [] lt = absurd (omega arith)
 last_name_is (k ∷ ks) lt = ap (λ z. get_or (k ∷ ks) z []) (omega arith) ∙ last_is k ks
+
+-- the first of the names
+pub fewer_names : (text : List ℕ) (ps qs : List Place) (count : ℕ) → qs ≡ take count ps
+    → map (name_at text) qs ≡ take count (map (name_at text) ps)
+fewer_names text ps qs count is = ap (map (name_at text)) is ∙ sym (take-map (name_at text) count ps)
+
+pub fewer_places : (text : List ℕ) (held : ℕ) (ps qs : List Place) (count : ℕ) → qs ≡ take count ps
+    → All (IsPlace text held) ps → All (IsPlace text held) qs
+fewer_places text held ps qs count is fits =
+    subst (λ l. All (IsPlace text held) l) (sym is) (All-take (IsPlace text held) count ps fits)

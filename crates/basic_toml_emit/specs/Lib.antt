@@ -9,6 +9,7 @@ pub mod Names
 pub mod Kept
 pub mod Keys
 pub mod PresentKeys
+pub mod OpenKeys
 pub mod Recorded
 pub mod Frames
 pub mod Emitter

@@ -16,7 +16,7 @@ mod sections;
 use crate::call::Call;
 use crate::error::EmitError;
 use crate::frames::{Frame, Header, innermost, is_nothing_open, key_set, new_table, put};
-use crate::keys::Keys;
+use crate::open_keys::OpenKeys;
 use basic_toml_layout::Scalar;
 use std::alloc::Global;
 
@@ -28,7 +28,7 @@ pub struct Emitter {
     text: String,
     frames: Vec<Frame>,
     // What tables that are closed have left.
-    spare: Vec<Box<Keys>>,
+    spare: Vec<Box<OpenKeys>>,
     is_done: bool,
     alloc: Global,
 }

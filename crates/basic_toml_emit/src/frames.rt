@@ -2,14 +2,14 @@
 ghost use Rattle.std.specs.Prelude.{◌≡◌, ◌≢◌, true, false, not, nat_le, List, [], ◌∷◌, None, IfOk, MatchOption, length};
 ghost use Rattle.basic_toml_emit.specs.declared.frames.Frame.TheVariants.{Table};
 ghost use Rattle.basic_toml_emit.specs.declared.frames.Stage.TheVariants.{KeySet};
-ghost use Rattle.basic_toml_emit.specs.PresentKeys.{keys_of, last_of};
+ghost use Rattle.basic_toml_emit.specs.OpenKeys.{keys_of, last_of};
 ghost use Rattle.basic_toml_emit.specs.Open as o;
 ghost use Rattle.basic_toml_emit.specs.Calls as c;
 ghost use Rattle.basic_toml_emit.specs.Rules.{key_of};
 ghost use Rattle.basic_toml_emit.specs.Changes.{outer, with_stage, with_entry, holds_key};
 ghost use Rattle.basic_toml_emit.specs.Frames.{frames_of, frame_of, header_of, stage_of, kind_of};
 
-use crate::keys::Keys;
+use crate::open_keys::OpenKeys;
 use basic_toml_value::NESTING_LIMIT;
 use std::alloc::{AllocError, Global};
 
@@ -41,7 +41,7 @@ pub struct TableFrame {
     pub header: Header,
     pub stage: Stage,
     pub holds_section: bool,
-    pub keys: Box<Keys>,
+    pub keys: Box<OpenKeys>,
 }
 
 impl TableFrame {
@@ -81,7 +81,7 @@ pub enum Frame {
 }
 
 // No keys, in what other keys have left.
-fn no_keys(alloc: Global, spare: &mut Vec<Box<Keys>>) -> Result<Box<Keys>, AllocError>
+fn no_keys(alloc: Global, spare: &mut Vec<Box<OpenKeys>>) -> Result<Box<OpenKeys>, AllocError>
     ensures keys { IfOk result (λ keys. keys_of keys.value ≡ o.no_keys) }
     ensures last { IfOk result (λ keys. last_of keys.value ≡ None) }
 {
@@ -90,7 +90,7 @@ fn no_keys(alloc: Global, spare: &mut Vec<Box<Keys>>) -> Result<Box<Keys>, Alloc
             keys.clear();
             Ok(keys)
         }
-        None => match Box::new(alloc, Keys::new(alloc)) {
+        None => match Box::new(alloc, OpenKeys::new(alloc)) {
             Ok(keys) => Ok(keys),
             Err(_) => Err(AllocError),
         },
@@ -100,7 +100,7 @@ fn no_keys(alloc: Global, spare: &mut Vec<Box<Keys>>) -> Result<Box<Keys>, Alloc
 // A table without keys.
 pub fn new_table(
     alloc: Global,
-    spare: &mut Vec<Box<Keys>>,
+    spare: &mut Vec<Box<OpenKeys>>,
     header: Header,
 ) -> Result<Frame, AllocError>
     ensures { IfOk result (λ frame. frame_of frame ≡ o.new_table (header_of header)) }
@@ -142,7 +142,7 @@ pub fn innermost(frames: &[Frame]) -> Option<(&Frame, &[Frame])>
 
 // Takes the innermost frame away. What held the keys of a table is kept for another.
 #[tactic(auto, using(crate::proofs::FramesOfStack::frames_push))]
-pub fn leave(frames: &mut Vec<Frame>, spare: &mut Vec<Box<Keys>>)
+pub fn leave(frames: &mut Vec<Frame>, spare: &mut Vec<Box<OpenKeys>>)
     ensures { frames_of frames.new.items ≡ outer (frames_of frames.old.items) }
 {
     if let Some(Frame::Table(table)) = frames.pop() {

@@ -53,7 +53,8 @@ pub fn write_header(text: &mut String, frames: &[Frame], header: Header) -> Resu
             }
             text.push('[')?;
             write_path(text, frames)?;
-            text.push_str("]\n")?;
+            text.push(']')?;
+            text.push('\n')?;
             Ok(())
         }
     }
@@ -71,9 +72,12 @@ pub fn write_element_header(
     if later {
         text.push('\n')?;
     }
-    text.push_str("[[")?;
+    text.push('[')?;
+    text.push('[')?;
     write_path(text, frames)?;
-    text.push_str("]]\n")?;
+    text.push(']')?;
+    text.push(']')?;
+    text.push('\n')?;
     Ok(())
 }
 
@@ -82,6 +86,8 @@ pub fn write_row_start(text: &mut String, key: &str) -> Result<(), AllocError>
     ensures { IfOk result (λ _. string_bytes text.new ≡ string_bytes text.old ++ row_start key.now) }
 {
     write_key(text, key)?;
-    text.push_str(" = ")?;
+    text.push(' ')?;
+    text.push('=')?;
+    text.push(' ')?;
     Ok(())
 }

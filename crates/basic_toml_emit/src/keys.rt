@@ -1,14 +1,13 @@
-//! The keys of the present entries of a table, and the key that is set.
+//! The keys that are known of a table, and the key that is set.
 //!
 //! While the keys are few, or each is above those before it, there is no index of them: a key above the greatest is new
 //! without a search, and else the keys are looked through one by one. More keys get an index once one of them is not
 //! above the greatest.
-ghost use Rattle.std.specs.Prelude.{◌≡◌, ◌≤◌, true, false, not, is_some, unwrap_or, None, Some, [], ◌∷◌, ◌++◌, IfOk, OnErr, IsTrue, IsSome, MatchOption, length};
+ghost use Rattle.std.specs.Prelude.{◌≡◌, ◌≤◌, true, false, not, is_some, unwrap_or, None, Some, [], ◌∷◌, ◌++◌, IfOk, OnErr, IsTrue, IsSome, MatchOption, length, take};
 ghost use Rattle.basic_toml_value.specs.Keys.{are_distinct};
 ghost use Rattle.basic_toml_value.specs.Index.{IsIndex};
-ghost use Rattle.basic_toml_emit.specs.Open.{no_keys, with_key};
+ghost use Rattle.basic_toml_emit.specs.Open.{with_key};
 ghost use Rattle.basic_toml_emit.specs.Keys.{is_below, with_keys, key_before, IsGreatest};
-ghost use Rattle.basic_toml_emit.specs.Names.{last_name};
 ghost use Rattle.basic_toml_emit.specs.Kept as n;
 ghost use Rattle.basic_toml_emit.specs.Kept.{kept_of};
 ghost use Rattle.std.proofs.Props.{props};
@@ -19,6 +18,9 @@ use std::alloc::{AllocError, Global};
 
 // How many keys are looked through one by one.
 const FEW: usize = 32;
+
+// From how many bytes of names on they are not remembered.
+const MUCH: usize = 4096;
 
 // Whether the name that is set is among those that are kept.
 #[tactic(auto, using(crate::proofs::KeyIsAdded::with_keys_take, crate::proofs::KeyIsAdded::with_keys_at))]
@@ -34,17 +36,43 @@ fn is_among(names: &Names) -> bool
 }
 
 // Keeps the name that is set.
-#[tactic(auto, using(crate::proofs::KeyIsAdded::with_keys_push, crate::proofs::KeyIsAdded::distinct_push, crate::proofs::Greatest::last_name_push))]
+#[tactic(auto, using(crate::proofs::KeyIsAdded::with_keys_push, crate::proofs::KeyIsAdded::distinct_push))]
 fn keep(names: &mut Names) -> Result<(), AllocError>
     ensures ok { IfOk result (λ _. kept_of names.new ≡ kept_of names.old ++ n.pending_of names.old ∷ []) }
     ensures keys { IfOk result
         (λ _. with_keys (kept_of names.new) ≡ with_key (n.pending_of names.old) (with_keys (kept_of names.old))) }
-    ensures last { IfOk result (λ _. last_name (kept_of names.new) ≡ Some (n.pending_of names.old)) }
     ensures distinct { IfOk result (λ _. IsTrue (are_distinct (kept_of names.old))
         → with_keys (kept_of names.old) (n.pending_of names.old) ≡ false → IsTrue (are_distinct (kept_of names.new))) }
     ensures err { OnErr result (kept_of names.new ≡ kept_of names.old) }
 {
     names.keep()
+}
+
+// Whether a key is above the greatest name.
+fn is_above(names: &Names, greatest: usize, key: &str) -> bool
+    requires { greatest ≤ length (kept_of names.now) }
+    ensures { result ≡ is_below (key_before greatest (kept_of names.now)) key.now }
+{
+    match greatest {
+        0 => !key.is_empty(),
+        count => names.get(count - 1) < key,
+    }
+}
+
+// How many of the first names stand up to the greatest of these.
+#[tactic(auto, using(crate::proofs::Greatest::none_greatest, crate::proofs::Greatest::raised_at, crate::proofs::Greatest::kept_at))]
+fn greatest_of(names: &Names, count: usize) -> usize
+    requires { count ≤ length (kept_of names.now) }
+    ensures within { result ≤ count }
+    ensures greatest { IsGreatest (key_before result (kept_of names.now)) (with_keys (take count (kept_of names.now))) }
+{
+    let mut greatest = 0;
+    for position in 0..count {
+        if is_above(names, greatest, names.get(position)) {
+            greatest = position + 1;
+        }
+    }
+    greatest
 }
 
 fn forget(names: &mut Names, greatest: &mut usize, index: &mut Option<Index>)
@@ -70,11 +98,10 @@ pub struct Keys {
 }
 
 impl Keys {
-    ghost use Rattle.basic_toml_emit.specs.PresentKeys.{keys_of, last_of, pending_of};
+    ghost use Rattle.basic_toml_emit.specs.PresentKeys.{keys_of, pending_of};
 
     pub fn new(alloc: Global) -> Keys
-        ensures keys { keys_of result ≡ no_keys }
-        ensures last { last_of result ≡ None }
+        ensures { kept_of result.names ≡ [] }
     {
         Keys {
             names: Names::new(alloc),
@@ -86,36 +113,36 @@ impl Keys {
 
     // Forgets all keys.
     pub fn clear(&mut self)
-        ensures keys { keys_of self.new ≡ no_keys }
-        ensures last { last_of self.new ≡ None }
+        ensures { kept_of self.new.names ≡ [] }
     {
         forget(&mut self.names, &mut self.greatest, &mut self.index);
     }
 
-    pub fn is_empty(&self) -> bool
-        ensures { not result ≡ is_some (last_of self.now) }
+    pub fn names(&self) -> &Names
+        ensures { result.now ≡ self.now.names }
     {
-        self.names.len() == 0
+        &self.names
     }
 
-    // The key that was entered last, or the empty text.
-    pub fn last(&self) -> &str
-        ensures { result.now ≡ unwrap_or (last_of self.now) [] }
-    {
-        self.names.last()
+    // Whether their memory is worth giving back.
+    pub fn is_large(&self) -> bool {
+        self.index.is_some() || self.names.size() > MUCH
     }
 
-    // The key that is set.
-    pub fn pending(&self) -> &str
-        ensures { result.now ≡ pending_of self.now }
+    // Forgets the keys from this one on.
+    #[tactic(auto, using(crate::proofs::KeyIsAdded::distinct_take, crate::proofs::Greatest::greatest_shed, crate::proofs::Greatest::within_shed))]
+    pub fn shed(&mut self, count: usize)
+        requires { count ≤ length (kept_of self.old.names) }
+        ensures { kept_of self.new.names ≡ take count (kept_of self.old.names) }
     {
-        self.names.pending()
+        self.greatest = greatest_of(&self.names, count);
+        self.names.shed(count);
+        self.index = None;
     }
 
     // Sets a key.
     pub fn set(&mut self, key: &str) -> Result<(), AllocError>
-        ensures keys { IfOk result (λ _. keys_of self.new ≡ keys_of self.old) }
-        ensures last { IfOk result (λ _. last_of self.new ≡ last_of self.old) }
+        ensures kept { kept_of self.new.names ≡ kept_of self.old.names }
         ensures pending { IfOk result (λ _. pending_of self.new ≡ key.now) }
     {
         self.names.set(key)
@@ -124,9 +151,8 @@ impl Keys {
     // Enters the key that is set. `false` where it is there already, and then nothing is changed.
     pub fn enter(&mut self) -> Result<bool, AllocError>
         ensures answer { IfOk result (λ is_new. is_new ≡ not (keys_of self.old (pending_of self.old))) }
-        ensures keys { IfOk result (λ is_new. is_new ≡ true
-            → keys_of self.new ≡ with_key (pending_of self.old) (keys_of self.old)) }
-        ensures last { IfOk result (λ is_new. is_new ≡ true → last_of self.new ≡ Some (pending_of self.old)) }
+        ensures kept { IfOk result (λ is_new. is_new ≡ true
+            → kept_of self.new.names ≡ kept_of self.old.names ++ pending_of self.old ∷ []) }
         ensures unchanged { IfOk result (λ is_new. is_new ≡ false → self.new ≡ self.old) }
     {
         if self.index.is_some() {
@@ -141,9 +167,8 @@ impl Keys {
     fn enter_indexed(&mut self) -> Result<bool, AllocError>
         requires { IsSome self.old.index }
         ensures answer { IfOk result (λ is_new. is_new ≡ not (keys_of self.old (pending_of self.old))) }
-        ensures keys { IfOk result (λ is_new. is_new ≡ true
-            → keys_of self.new ≡ with_key (pending_of self.old) (keys_of self.old)) }
-        ensures last { IfOk result (λ is_new. is_new ≡ true → last_of self.new ≡ Some (pending_of self.old)) }
+        ensures kept { IfOk result (λ is_new. is_new ≡ true
+            → kept_of self.new.names ≡ kept_of self.old.names ++ pending_of self.old ∷ []) }
         ensures unchanged { IfOk result (λ is_new. is_new ≡ false → self.new ≡ self.old) }
     {
         let Some(index) = &mut self.index else {
@@ -166,9 +191,8 @@ impl Keys {
     fn enter_few(&mut self) -> Result<bool, AllocError>
         requires { self.old.index ≡ None }
         ensures answer { IfOk result (λ is_new. is_new ≡ not (keys_of self.old (pending_of self.old))) }
-        ensures keys { IfOk result (λ is_new. is_new ≡ true
-            → keys_of self.new ≡ with_key (pending_of self.old) (keys_of self.old)) }
-        ensures last { IfOk result (λ is_new. is_new ≡ true → last_of self.new ≡ Some (pending_of self.old)) }
+        ensures kept { IfOk result (λ is_new. is_new ≡ true
+            → kept_of self.new.names ≡ kept_of self.old.names ++ pending_of self.old ∷ []) }
         ensures unchanged { IfOk result (λ is_new. is_new ≡ false → self.new ≡ self.old) }
     {
         if self.is_above() {
@@ -191,10 +215,6 @@ impl Keys {
     fn is_above(&self) -> bool
         ensures { result ≡ is_below (key_before self.now.greatest (kept_of self.now.names)) (pending_of self.now) }
     {
-        let key = self.names.pending();
-        match self.greatest {
-            0 => !key.is_empty(),
-            count => self.names.get(count - 1) < key,
-        }
+        is_above(&self.names, self.greatest, self.names.pending())
     }
 }

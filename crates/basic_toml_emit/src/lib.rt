@@ -12,6 +12,7 @@ mod frames;
 mod headers;
 mod keys;
 mod names;
+mod open_keys;
 
 pub use basic_toml_layout::{Scalar, write_key};
 pub use call::Call;

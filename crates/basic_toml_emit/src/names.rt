@@ -2,11 +2,11 @@
 //!
 //! After the names that are kept stands the one that is set last. The kept ones end within `held`, and the text may be
 //! cut there and at both ends of each of them.
-ghost use Rattle.std.specs.Prelude.{◌≡◌, ◌<◌, [], ◌∷◌, ◌++◌, IfOk, OnErr, length, unwrap_or, slice_index_or, string_bytes};
+ghost use Rattle.std.specs.Prelude.{◌≡◌, ◌<◌, [], ◌∷◌, ◌++◌, IfOk, OnErr, length, take, slice_index_or, string_bytes};
 ghost use Rattle.std.specs.List.{All};
 ghost use Rattle.std.specs.Str.{IsCharBoundary};
 ghost use Rattle.std.proofs.Props.{props};
-ghost use Rattle.basic_toml_emit.specs.Names.{IsPlace, name_at, last_name};
+ghost use Rattle.basic_toml_emit.specs.Names.{IsPlace, name_at};
 
 use basic_toml_value::Texts;
 use std::alloc::{AllocError, Global};
@@ -57,6 +57,21 @@ impl Names {
         self.held = 0;
     }
 
+    // Forgets the names from this one on. The text keeps what they were.
+    #[tactic(auto, using(crate::proofs::Naming::fewer_names, crate::proofs::Naming::fewer_places))]
+    pub fn shed(&mut self, count: usize)
+        ensures { kept_of self.new ≡ take count (kept_of self.old) }
+    {
+        self.places.truncate(count);
+    }
+
+    // How long the text of all names is.
+    pub fn size(&self) -> usize
+        ensures { result ≡ length (string_bytes self.now.text) }
+    {
+        self.text.len()
+    }
+
     // How many names are kept.
     pub fn len(&self) -> usize
         ensures { result ≡ length (kept_of self.now) }
@@ -70,18 +85,6 @@ impl Names {
         ensures { result.now ≡ slice_index_or (kept_of self.now) position [] }
     {
         name(self.text.as_str(), self.held, self.places[position])
-    }
-
-    // The name that was kept last, or the empty text.
-    #[tactic(auto, using(crate::proofs::Naming::last_name_is))]
-    pub fn last(&self) -> &str
-        ensures { result.now ≡ unwrap_or (last_name (kept_of self.now)) [] }
-    {
-        let len = self.len();
-        if len == 0 {
-            return "";
-        }
-        self.get(len - 1)
     }
 
     // The name that is set.

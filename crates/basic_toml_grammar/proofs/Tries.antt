@@ -1,6 +1,7 @@
 -- Sections that are put into a trie: what stands at its nodes, and the tree that it makes.
 pub mod ChangesByPath
 pub mod MarksInATrie
+pub mod NumbersInTurn
 pub mod RowsInATrie
 pub mod RowsThatOverlapAreRefused
 pub mod SectionsInATrie

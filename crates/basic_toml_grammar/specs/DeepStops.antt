@@ -1,10 +1,10 @@
--- The form of `IsTooDeepAt` that the reader goes by (law `deep_stops_are_too_deep`): p is the offset of a key or a
--- bracket above the limit, in what stands at the front of a text, and all before it is of the grammar and within the
--- limit. What stands after it is free.
-use Rattle.std.specs.Prelude.{◌≡◌, ◌≤◌, ◌<◌, ℕ, ◌+◌, ◌-◌, Bool, true, ◌||◌, List, ◌∷◌, length}
+-- Where a text is nested too deeply, own: p is the offset of a key or a bracket above the limit, in what stands at the
+-- front of a text, and all before it is of the grammar and within the limit. What stands after it is free. A text has one
+-- such offset at most (law `deep_stops_are_one`), it is too deep by `IsTooDeepAt` (law `deep_stops_are_too_deep`), and no
+-- fault of the grammar is due before it (law `deep_stops_come_first`).
+use Rattle.std.specs.Prelude.{◌≤◌, ◌<◌, ℕ, ◌+◌, ◌-◌, Bool, List, ◌∷◌, length}
 use Rattle.basic_toml_tokens.specs.Ascii as ascii
-use Rattle.basic_toml_tokens.specs.Text.{Text, StartsWith, is_keylike, is_comment, after_blanks}
-use Rattle.basic_toml_tokens.specs.Strings.{is_quote}
+use Rattle.basic_toml_tokens.specs.Text.{Text, StartsWith, is_comment, after_blanks}
 use Rattle.basic_toml_grammar.specs.Sections.{Key, Raw, Rows, no_rows, row}
 use Rattle.basic_toml_grammar.specs.Grammar.{IsKey, IsKeys, after_gap, IsValue, IsRow, EndsLine, IsRows, IsHeader}
 use Rattle.basic_toml_grammar.specs.Levels.{value_level, rows_level, section_level}
@@ -12,9 +12,7 @@ use Rattle.basic_toml_grammar.specs.Levels.{value_level, rows_level, section_lev
 module _ (limit : ℕ) where
   -- in keys of which the first has this level
   pub data DeepKeys : ℕ → Text → ℕ → Type 0 where
-    this_key : {l p c : ℕ} {text next : Text} → limit < l → StartsWith c text p next
-        → (is_keylike c || is_quote c) ≡ true
-        → DeepKeys l text p
+    this_key : {l : ℕ} {k : Key} {text mid : Text} → limit < l → IsKey text k mid → DeepKeys l text k.offset
     later_key : {l p q : ℕ} {k : Key} {text mid next : Text} → l ≤ limit → IsKey text k mid
         → StartsWith ascii.period (after_blanks mid) q next
         → DeepKeys (l + 1) (after_blanks next) p → DeepKeys l text p
@@ -96,3 +94,7 @@ module _ (limit : ℕ) where
     root : {p : ℕ} {text : Text} → DeepRows 1 text p → DeepStop text p
     headed : {p : ℕ} {rows : Rows} {text rest : Text} → IsRows is_comment text rows rest → rows_level 1 rows ≤ limit
         → DeepSections rest p → DeepStop text p
+
+-- nothing in a text is too deep
+abbrev pub IsWithin : ℕ → Text → Type 0
+IsWithin limit text = (p : ℕ) → DeepStop limit text p → ⊥

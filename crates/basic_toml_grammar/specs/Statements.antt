@@ -1,6 +1,6 @@
 -- Laws about the definitions of reading. Each is proved as the contract of a function in `laws`.
-use Rattle.std.specs.Prelude.{◌≤◌, false, ◌≡◌, ◌↔◌, ℕ, Bool, true, not, is_some, codes, map, List, [], ◌∷◌, IsUtf8}
-use Rattle.std.specs.Prelude.{Some, ◌++◌, option_map, reverse}
+use Rattle.std.specs.Prelude.{◌≤◌, ◌<◌, false, ◌≡◌, ◌↔◌, ℕ, Bool, true, not, is_some, codes, map, List, [], ◌∷◌, IsUtf8}
+use Rattle.std.specs.Prelude.{Some, ◌++◌, length, option_map, reverse}
 use Rattle.std.specs.List.{list_any, flat_map}
 use Rattle.basic_toml_tokens.specs.Text.{Text, folded}
 use Rattle.basic_toml_value.specs.Data.{Data}
@@ -25,7 +25,7 @@ use Rattle.basic_toml_grammar.specs.Distinct.{is_distinct}
 use Rattle.basic_toml_grammar.specs.Document.{has_clash, tree_of_sections, IsDocument}
 use Rattle.basic_toml_grammar.specs.Grammar.{IsSectionListBy, IsSectionList}
 use Rattle.basic_toml_grammar.specs.Faults.{Fault}
-use Rattle.basic_toml_grammar.specs.Viable.{GoesOn, Viable, IsDue}
+use Rattle.basic_toml_grammar.specs.Viable.{GoesOn, Viable, StopsAt, IsDue}
 use Rattle.basic_toml_grammar.specs.NestingFaults.{IsTooDeepAt, openers, before, tree_level}
 use Rattle.basic_toml_grammar.specs.DeepStops.{DeepStop}
 use Rattle.basic_toml_grammar.specs.Reader.{section_list_of}
@@ -130,6 +130,29 @@ ShallowTextIsFree = (p : ℕ) → IsTooDeepAt 4 (folded (codes "a = !")) p → �
 abbrev pub DeepStopsAreTooDeep : Type 0
 DeepStopsAreTooDeep = (limit p : ℕ) (bytes : List ℕ) → IsUtf8 bytes → DeepStop limit (folded bytes) p
     → IsTooDeepAt limit (folded bytes) p
+
+-- and where the text is of the grammar, it passes the limit
+abbrev pub DeepStopsPassTheLimit : Type 0
+DeepStopsPassTheLimit = (limit p : ℕ) (text : Text) (sections : List Section) → IsSectionList text sections
+    → DeepStop limit text p → limit < highest_level sections
+
+-- the reader meets one at most
+abbrev pub DeepStopsAreOne : Type 0
+DeepStopsAreOne = (limit : ℕ) (text : Text) (p q : ℕ) → DeepStop limit text p → DeepStop limit text q → p ≡ q
+
+-- an offset stands in a text, at or before what is left of it
+pub record StandsBy (p : ℕ) (text at : Text) : Type 0 where
+  pub front : Text
+  pub char : ℕ
+  pub next : Text
+  pub stands : text ≡ front ++ (p, char) ∷ next
+  pub between : Text
+  pub goes_on : (p, char) ∷ next ≡ between ++ at
+
+-- and no fault of the grammar is due before it: tokens do not stop
+abbrev pub DeepStopsComeFirst : Type 0
+DeepStopsComeFirst = (limit p : ℕ) (bytes : List ℕ) (at : Text) → IsUtf8 bytes → DeepStop limit (folded bytes) p
+    → StopsAt (folded bytes) (length bytes) at → StandsBy p (folded bytes) at
 
 -- the same elements in another order, by exchanging neighbours
 pub data Reordered (A : Type 0) : List A → List A → Type 0 where

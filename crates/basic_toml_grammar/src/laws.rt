@@ -1,6 +1,6 @@
 //! Laws about what a text means, each as the contract of a function that does nothing.
 
-ghost use Rattle.basic_toml_grammar.specs.Statements.{GrammarIsUnambiguous, GrammarIsRead, GrammarGivesKeys, LevelsAreWithinDepth, DeepOffsetsAreOpened, DeepStopsAreTooDeep, ShallowTextIsFree, GrammarFaultsAreOne, GrammarTextsHaveNone, PassedTextIsViable, TreeIsGrouped, KeysAreDistinct, ClashesAgree, PathsAgree, MarksFit, EveryClashIsNamed, OldDocumentsStand, OffsetsMeanNothing, ReturnsMeanNothing, ByteOrderMarkMeansNothing, RespacedMeansNothing, OrderIsFree, PlainOrderIsFree, ReorderedMeansTheSame, PlainReorderedMeansTheSame, SameMapsAreAsDeep, EnteringAccepts, EnteringGrows, TrieIsEntering, TrieGivesLevels, StopsAreNamed, TrieStopsAreNamed};
+ghost use Rattle.basic_toml_grammar.specs.Statements.{GrammarIsUnambiguous, GrammarIsRead, GrammarGivesKeys, LevelsAreWithinDepth, DeepOffsetsAreOpened, DeepStopsAreTooDeep, DeepStopsAreOne, DeepStopsPassTheLimit, DeepStopsComeFirst, ShallowTextIsFree, GrammarFaultsAreOne, GrammarTextsHaveNone, PassedTextIsViable, TreeIsGrouped, KeysAreDistinct, ClashesAgree, PathsAgree, MarksFit, EveryClashIsNamed, OldDocumentsStand, OffsetsMeanNothing, ReturnsMeanNothing, ByteOrderMarkMeansNothing, RespacedMeansNothing, OrderIsFree, PlainOrderIsFree, ReorderedMeansTheSame, PlainReorderedMeansTheSame, SameMapsAreAsDeep, EnteringAccepts, EnteringGrows, TrieIsEntering, TrieGivesLevels, StopsAreNamed, TrieStopsAreNamed};
 ghost use Rattle.basic_toml_grammar.specs.RowOrder.{RowOrderMeansNothing};
 
 /// The grammar gives a text at most one section list.
@@ -86,6 +86,23 @@ pub fn deep_offsets_are_opened()
 #[tactic(auto, using(crate::proofs::Nesting::DeepStopsAreTooDeep::deep_stops_are_too_deep))]
 pub fn deep_stops_are_too_deep()
     ensures { DeepStopsAreTooDeep }
+{}
+
+/// A text of the grammar that has one passes the limit.
+pub fn deep_stops_pass_the_limit()
+    ensures { DeepStopsPassTheLimit }
+{}
+
+/// A text has one such key or bracket at most.
+#[tactic(auto, using(crate::proofs::Nesting::DeepStopsAreOne::deep_stops_are_one))]
+pub fn deep_stops_are_one()
+    ensures { DeepStopsAreOne }
+{}
+
+/// And no error of the grammar is due before it: all up to it may stand.
+#[tactic(auto, using(crate::proofs::Nesting::DeepStopsComeFirst::deep_stops_come_first))]
+pub fn deep_stops_come_first()
+    ensures { DeepStopsComeFirst }
 {}
 
 /// A text without U+007F keeps the document that it had by the old rules.

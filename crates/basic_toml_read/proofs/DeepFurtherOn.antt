@@ -1,11 +1,9 @@
 -- What is too deep further on is too deep from where reading began.
 use Rattle.std.proofs.Common.{◌≡◌, ◌≤◌, ◌<◌, ◌+◌, ◌*◌, ℕ, List, length, ap, sym, ◌∙◌, subst, Some}
-use Rattle.std.proofs.lemmas.Bool.{or_left, or_right}
-use Rattle.basic_toml_tokens.specs.Text.{Text, StartsWith, text_at, is_keylike, is_comment, after_blanks}
+use Rattle.basic_toml_tokens.specs.Text.{Text, StartsWith, text_at, is_comment, after_blanks}
 use Rattle.basic_toml_tokens.specs.Punctuation.{IsPunctuationEnd}
-use Rattle.basic_toml_tokens.specs.Strings.{is_quote, Opens, one_line, multiline, Quotes}
 use Rattle.basic_toml_grammar.specs.Sections.{Key}
-use Rattle.basic_toml_grammar.specs.Grammar.{IsKey, bare, quoted, after_gap}
+use Rattle.basic_toml_grammar.specs.Grammar.{after_gap}
 use Rattle.basic_toml_grammar.specs.Levels.{value_level}
 use Rattle.basic_toml_grammar.specs.DeepStops.{DeepKeys, this_key, later_key, DeepElements, later_element, DeepFields}
 use Rattle.basic_toml_grammar.specs.DeepStops.{later_field}
@@ -18,17 +16,9 @@ use Rattle.basic_toml_read.specs.Gathers.{row_level}
 use Rattle.basic_toml_read.proofs.LeftAfter.{sign_there}
 
 -- a key above the limit
-deep_key : {k : Key} {text rest : Text} (l : ℕ) → 128 < l → IsKey text k rest → DeepKeys 128 l text k.offset
-deep_key l h (bare {c = c} s w) = this_key h s (or_left (is_keylike c) (is_quote c) w)
-deep_key l h (quoted s) = go s.opens
-  where
-    go : {text body : Text} {p : ℕ} {k : Quotes} → Opens text p k body → DeepKeys 128 l text p
-    go (one_line {d = d} s q c) = this_key h s (or_right (is_keylike d) (is_quote d) q)
-    go (multiline {d = d} s q c) = this_key h s (or_right (is_keylike d) (is_quote d) q)
-
 pub deep_key_there : {k : Key} (l : ℕ) (text rest : Text) → 128 < l → key_at text ≡ Some (k, rest)
     → DeepKeys 128 l text k.offset
-deep_key_there {k = k} l text rest h e = deep_key l h (key_read text (k, rest) e)
+deep_key_there {k = k} l text rest h e = this_key h (key_read text (k, rest) e)
 
 -- a sign after what is left out
 pub sign_after : {rest : Text} (bytes : List ℕ) (after next c : ℕ) → text_at bytes after ≡ rest

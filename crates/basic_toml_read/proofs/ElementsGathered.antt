@@ -26,6 +26,7 @@ use Rattle.basic_toml_grammar.proofs.Grammar.ReaderIsSound.{found_some}
 use Rattle.basic_toml_grammar.proofs.Grammar.ReaderIsComplete.{gap}
 use Rattle.basic_toml_grammar.specs.DeepStops.{DeepElements}
 use Rattle.basic_toml_read.proofs.DeepFurtherOn.{past_element}
+use Rattle.basic_toml_read.proofs.NothingTooDeep.{element_passed, last_element}
 use Rattle.basic_toml_read.specs.StopsReached.{LeadsTo, in_elements}
 use Rattle.basic_toml_read.proofs.HolesLeadOn.{stays_in, then_in}
 use Rattle.basic_toml_read.proofs.ValueHoles.{hole_past_element}
@@ -99,6 +100,7 @@ pub record ElementsSoFar (bytes : List ℕ) (start level at : ℕ) (old new : Ga
   pub boundary : IsCharBoundary bytes at
   pub forward : start ≤ at
   pub leads : (p : ℕ) → DeepElements 128 level (text_at bytes at) p → DeepElements 128 level (text_at bytes start) p
+  pub backs : (p : ℕ) → DeepElements 128 level (text_at bytes start) p → DeepElements 128 level (text_at bytes at) p
   pub holes : LeadsTo (in_elements (text_at bytes at)) (in_elements (text_at bytes start))
 
 pub elements_start : (bytes : List ℕ) (start level : ℕ) (old : Gathered) → IsCharBoundary bytes start
@@ -112,6 +114,7 @@ elements_start bytes start level old b = record {
   boundary = b;
   forward = omega arith;
   leads = λ p d. d;
+  backs = λ p d. d;
   holes = stays_in (in_elements (text_at bytes start));
 }
 
@@ -257,11 +260,22 @@ module _ (bytes : List ℕ) (start level at : ℕ) (old new : Gathered) (s : Ele
         leads = λ p d. s.leads p (past_element bytes at v.end after next at' level
             (record { offset = v.offset; value = r.found.raw; rest = text_at bytes v.end }) r.found.is refl r.limit
             left sign later p d);
+        backs = λ p d. element_passed bytes at v.end after next at' level
+            (record { offset = v.offset; value = r.found.raw; rest = text_at bytes v.end }) r.found.is refl r.limit
+            left sign later p (s.backs p d);
         holes = then_in (in_elements (text_at bytes at')) (in_elements (text_at bytes at))
             (in_elements (text_at bytes start))
             (hole_past_element bytes at (record { offset = v.offset; value = r.found.raw; rest = text_at bytes v.end })
             r.found.is v.end refl after left next at' sign later) s.holes;
       }
+
+      -- nothing is too deep where no comma follows
+      pub elements_over : IsPunctuationEnd 44 bytes after None → (p : ℕ)
+          → DeepElements 128 level (text_at bytes start) p → ⊥
+      elements_over sign p d =
+          last_element bytes at v.end after level
+          (record { offset = v.offset; value = r.found.raw; rest = text_at bytes v.end }) r.found.is refl r.limit left
+          sign p (s.backs p d)
 
       last_on : IsPunctuationEnd 44 bytes after None → elements_of (text_at bytes start)
           ≡ after_elements (elements_view s.got)

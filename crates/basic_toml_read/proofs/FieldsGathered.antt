@@ -23,6 +23,7 @@ use Rattle.basic_toml_grammar.proofs.Grammar.StringsAreRead.{then_some}
 use Rattle.basic_toml_grammar.proofs.Grammar.ReaderIsSound.{found_some}
 use Rattle.basic_toml_grammar.specs.DeepStops.{DeepFields}
 use Rattle.basic_toml_read.proofs.DeepFurtherOn.{past_field}
+use Rattle.basic_toml_read.proofs.NothingTooDeep.{field_passed, last_field}
 use Rattle.basic_toml_read.specs.StopsReached.{LeadsTo, in_fields, in_fields_on}
 use Rattle.basic_toml_read.proofs.HolesLeadOn.{then_in, to_fields}
 use Rattle.basic_toml_read.proofs.ValueHoles.{hole_past_field}
@@ -105,6 +106,7 @@ pub record FieldsSoFar (bytes : List ℕ) (start level at : ℕ) (old new : Gath
   pub boundary : IsCharBoundary bytes at
   pub forward : start ≤ at
   pub leads : (p : ℕ) → DeepFields 128 level (text_at bytes at) p → DeepFields 128 level (text_at bytes start) p
+  pub backs : (p : ℕ) → DeepFields 128 level (text_at bytes start) p → DeepFields 128 level (text_at bytes at) p
   pub holes : LeadsTo (in_fields_on (text_at bytes at)) (in_fields (text_at bytes start))
 
 no_brace : (bytes : List ℕ) (start : ℕ) → IsPunctuationEnd 125 bytes start None
@@ -125,6 +127,7 @@ fields_start bytes start level old b sign = record {
   boundary = b;
   forward = omega arith;
   leads = λ p d. d;
+  backs = λ p d. d;
   holes = to_fields (text_at bytes start) (sign_missing 125 (text_at bytes start) sign);
 }
 
@@ -248,10 +251,16 @@ module _ (bytes : List ℕ) (start level at : ℕ) (old new : Gathered) (s : Fie
       forward = omega (arith, s.forward, r.later, left.forward, sign.2, later.forward);
       leads = λ p d. s.leads p (past_field bytes at end after next at' level r.found r.is r.rest r.limit left sign
           later p d);
+      backs = λ p d. field_passed bytes at end after next at' level r.found r.is r.rest r.limit left sign later p
+          (s.backs p d);
       holes = then_in (in_fields_on (text_at bytes at')) (in_fields_on (text_at bytes at))
           (in_fields (text_at bytes start))
           (hole_past_field bytes at r.found r.is end r.rest after left next at' sign later) s.holes;
     }
+
+    -- nothing is too deep where no comma follows
+    pub fields_over : IsPunctuationEnd 44 bytes after None → (p : ℕ) → DeepFields 128 level (text_at bytes start) p → ⊥
+    fields_over sign p d = last_field bytes at end after level r.found r.is r.rest r.limit left sign p (s.backs p d)
 
     last_on : IsPunctuationEnd 44 bytes after None → fields_of (text_at bytes start)
         ≡ after_rows (rows_view s.got)

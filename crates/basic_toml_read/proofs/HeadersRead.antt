@@ -22,6 +22,9 @@ use Rattle.basic_toml_read.specs.StopsAt.{Misses, MissesKey, ReadsKeyAt}
 use Rattle.basic_toml_read.specs.Gathers.{ClosesAt}
 use Rattle.basic_toml_read.specs.Lists.{AreHeaderKeys, IsHeaderRead, ReadsHeader}
 use Rattle.basic_toml_grammar.proofs.Grammar.StringsAreRead.{then_some}
+use Rattle.basic_toml_grammar.specs.DeepStops.{DeepKeys}
+use Rattle.basic_toml_grammar.proofs.Nesting.WithinTheLimit.{keys_within}
+use Rattle.basic_toml_read.proofs.NothingTooDeep.{keys_there}
 use Rattle.basic_toml_read.proofs.EnoughSteps.{header_is}
 use Rattle.basic_toml_read.proofs.LeftAfter.{sign_there, sign_missing}
 use Rattle.basic_toml_read.proofs.KeysTold.{KeysTold, misses_then, keys_missing, keys_deep, told_more, told_last}
@@ -87,6 +90,13 @@ module _ (bytes : List ℕ) (at offset level : ℕ) (front : List keys.Key)
     boundary = blanks.boundary;
     later = omega (arith, s.forward, key.2, blanks.forward);
   }
+
+-- nothing is too deep in keys that are read
+pub header_keys_within : (bytes : List ℕ) (start : ℕ) (found : HeaderKeys) → AreHeaderKeys bytes start found → (p : ℕ)
+    → DeepKeys 128 2 (text_at bytes start) p → ⊥
+header_keys_within bytes start found k p d =
+    keys_within (keys_there (text_at bytes start) (map key_of found.keys.items, k.mid) k.is)
+    (omega (arith, k.limit, header_length found.keys.items)) (ap (char_at 46) (sym k.after) ∙ k.over) d
 
 -- a header, by its brackets
 headed : ℕ → List Key → Bool → Text → reader.Headed

@@ -22,6 +22,7 @@ use Rattle.basic_toml_grammar.proofs.Grammar.ReaderIsSound.{found_some}
 use Rattle.basic_toml_grammar.specs.DeepStops.{DeepKeys}
 use Rattle.basic_toml_grammar.specs.Holes.{Hole, HoleInKeys}
 use Rattle.basic_toml_read.proofs.DeepFurtherOn.{deep_key_there, past_key}
+use Rattle.basic_toml_read.proofs.NothingTooDeep.{key_passed}
 use Rattle.basic_toml_read.proofs.KeyHoles.{hole_past_key}
 use Rattle.basic_toml_read.proofs.EnoughSteps.{keys_is}
 use Rattle.basic_toml_read.proofs.LeftAfter.{sign_there, sign_missing}
@@ -80,6 +81,7 @@ pub record KeysTold (bytes : List ℕ) (at first offset level : ℕ) (front : Li
   pub boundary : IsCharBoundary bytes offset
   pub forward : at ≤ offset
   pub leads : (p : ℕ) → DeepKeys 128 level (text_at bytes offset) p → DeepKeys 128 first (text_at bytes at) p
+  pub backs : (p : ℕ) → DeepKeys 128 first (text_at bytes at) p → DeepKeys 128 level (text_at bytes offset) p
   pub holes : (there : Text) → HoleInKeys (text_at bytes offset) Hole.key there
       → HoleInKeys (text_at bytes at) Hole.key there
 
@@ -94,6 +96,7 @@ told_start bytes at first low b =
           b;
       forward = omega arith;
       leads = λ p d. d;
+      backs = λ p d. d;
       holes = λ there d. d;
     }
 
@@ -173,6 +176,8 @@ module _ (bytes : List ℕ) (at first offset level : ℕ) (front : List Key)
           forward = omega (arith, s.forward, key.2, blanks.forward, after.forward, sign.2);
           leads = λ p d. s.leads p
               (past_key bytes offset k.end end next offset' level high key.0 blanks sign after p d);
+          backs = λ p d. key_passed bytes offset k.end end next offset' level high key.0 blanks sign after p
+              (s.backs p d);
           holes = λ there d. s.holes there (hole_past_key bytes offset k.end end next offset' key.0 blanks sign after
               there d);
         }

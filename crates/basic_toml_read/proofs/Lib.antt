@@ -14,6 +14,7 @@ pub mod ListsRead
 pub mod ListIsAnswered
 pub mod DeepFurtherOn
 pub mod DeepStops
+pub mod NothingTooDeep
 pub mod KeyHoles
 pub mod HolesLeadOn
 pub mod ValueHoles

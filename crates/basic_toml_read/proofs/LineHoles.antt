@@ -17,7 +17,7 @@ use Rattle.basic_toml_read.specs.StopsReached.{InHole, in_header, in_sections}
 use Rattle.basic_toml_read.specs.Gathers.{ClosesAt}
 use Rattle.basic_toml_read.specs.Lists.{AreHeaderKeys, EndsLineAt}
 use Rattle.basic_toml_read.proofs.DeepFurtherOn.{sign_after}
-use Rattle.basic_toml_read.proofs.DeepStops.{keys_there}
+use Rattle.basic_toml_read.proofs.NothingTooDeep.{keys_there}
 use Rattle.basic_toml_read.proofs.HolesLeadOn.{newline_stop}
 use Rattle.basic_toml_read.proofs.KeyHoles.{nothing_fits, no_second_bracket}
 use Rattle.basic_toml_read.proofs.KeysTold.{stopped}

@@ -1,10 +1,10 @@
 -- What `sections` answers: the list that is read, or why there is none.
-use Rattle.std.proofs.Common.{inl, inr, ◌≡◌, ◌<◌, ℕ, List, refl, sym, ◌∙◌, subst, Some, None, Ok, Vec, Global}
+use Rattle.std.proofs.Common.{inl, inr, ◌≡◌, ◌<◌, ℕ, List, sym, ◌∙◌, subst, Some, None, Ok, Vec, Global}
 use Rattle.std.specs.Prelude.{IsUtf8}
 use Rattle.basic_toml_tokens.specs.Text.{folded}
 use Rattle.basic_toml_grammar.specs.Faults.{Fault}
 use Rattle.basic_toml_grammar.specs.Levels.{highest_level}
-use Rattle.basic_toml_grammar.specs.DeepStops.{DeepStop}
+use Rattle.basic_toml_grammar.specs.DeepStops.{DeepStop, IsWithin}
 use Rattle.basic_toml_grammar.specs.Reader.{section_list_of}
 use Rattle.basic_toml_grammar.proofs.Grammar.ReaderIsComplete.{list_found}
 use Rattle.basic_toml_grammar.proofs.Grammar.ReaderIsSound.{list_read}
@@ -15,6 +15,7 @@ use Rattle.basic_toml_explain.specs.Explain.{IsDue, IsOutside, ExplainsWhy}
 use Rattle.basic_toml_read.specs.declared.section.Section as code
 use Rattle.basic_toml_read.specs.StopsAt.{Misses}
 use Rattle.basic_toml_read.specs.Lists.{ReadsList}
+use Rattle.basic_toml_read.specs.StopsReached.{AtDeep}
 use Rattle.basic_toml_read.specs.SectionsAnswer.{HoldsMore, IsRefused, memory, deep, outside}
 use Rattle.basic_toml_read.specs.SectionsAnswer.{AnswersSections}
 
@@ -28,16 +29,16 @@ none_found bytes none sections g =
     let z : None ≡ Some sections = sym none ∙ list_found (folded bytes) sections g in cc
 
 of_grammar : (bytes : List ℕ) (fault : Fault) → HoldsMore (folded bytes) → section_list_of (folded bytes) ≡ None
-    → IsDue bytes fault → IsRefused bytes fault
-of_grammar bytes fault more none (inl m) = subst (IsRefused bytes) (sym m) (memory more)
-of_grammar bytes fault more none (inr s) = outside (s (none_found bytes none))
+    → IsWithin 128 (folded bytes) → IsDue bytes fault → IsRefused bytes fault
+of_grammar bytes fault more none within (inl m) = subst (IsRefused bytes) (sym m) (memory more)
+of_grammar bytes fault more none within (inr s) = outside (s (none_found bytes none)) within
 
 pub stop_answered : (bytes : List ℕ) (w : Why) (at : ℕ) (fault : Fault) → IsUtf8 bytes → HoldsMore (folded bytes)
-    → (w ≡ Deep → DeepStop 128 (folded bytes) at)
+    → AtDeep (DeepStop 128 (folded bytes)) w at
     → Misses w (section_list_of (folded bytes)) (λ sections. 128 < highest_level sections)
     → ExplainsWhy bytes w at fault → IsRefused bytes fault
 stop_answered bytes Memory at fault u more low m e = subst (IsRefused bytes) (sym e) (memory more)
 stop_answered bytes Deep at fault u more low m e =
     subst (IsRefused bytes) (sym e) (deep (λ sections g. m sections (list_found (folded bytes) sections g))
-    (deep_stops_are_too_deep 128 at bytes u (low refl)))
-stop_answered bytes _ at fault u more low m e = of_grammar bytes fault more m e
+    (deep_stops_are_too_deep 128 at bytes u low) low)
+stop_answered bytes _ at fault u more low m e = of_grammar bytes fault more m low e

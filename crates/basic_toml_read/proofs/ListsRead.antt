@@ -23,7 +23,8 @@ use Rattle.basic_toml_read.specs.Lists.{IsHeaderRead, EndsLineAt, AreRowsRead, N
 use Rattle.basic_toml_read.specs.Lists.{sections_from, IsSectionRead, ReadsList, IsGap, PassesGaps}
 use Rattle.basic_toml_grammar.proofs.Grammar.StringsAreRead.{then_some}
 use Rattle.basic_toml_tokens.specs.Text.{is_comment}
-use Rattle.basic_toml_read.specs.StopsReached.{InHole, InSectionHole, LeadsTo, in_rows, in_sections}
+use Rattle.basic_toml_read.specs.StopsReached.{IfDeep, IfDeepSection, InHole, InSectionHole, LeadsTo, in_rows}
+use Rattle.basic_toml_read.specs.StopsReached.{in_sections}
 use Rattle.basic_toml_read.specs.StopsReached.{in_text}
 use Rattle.basic_toml_read.proofs.HolesLeadOn.{then_in, moved_in, hole_on, over_header, over_section, to_root}
 use Rattle.basic_toml_read.proofs.HolesLeadOn.{over_root}
@@ -31,7 +32,10 @@ use Rattle.basic_toml_read.proofs.LineHoles.{header_unended}
 use Rattle.std.specs.Result.{IsErrAnd}
 use Rattle.basic_toml_grammar.specs.Grammar.{IsRows, IsHeader}
 use Rattle.basic_toml_grammar.specs.DeepStops as deep
-use Rattle.basic_toml_grammar.specs.DeepStops.{DeepRows, DeepSection, DeepSections, DeepStop}
+use Rattle.basic_toml_grammar.specs.DeepStops.{DeepRows, DeepSections, DeepStop}
+use Rattle.basic_toml_grammar.proofs.Nesting.WithinTheLimit as within
+use Rattle.basic_toml_read.proofs.DeepStops.{deep_on}
+use Rattle.basic_toml_read.proofs.NothingTooDeep.{after_header, its_rows, root_rows}
 use Rattle.basic_toml_grammar.proofs.Grammar.ReaderIsSound.{rows_read, header_read, line_end_read}
 use Rattle.basic_toml_read.proofs.EnoughSteps.{list_is, sections_is, sections_is_none}
 use Rattle.basic_toml_read.proofs.HeadersRead.{header_length}
@@ -98,6 +102,7 @@ pub record ListSoFar (bytes : List ℕ) (next : Option ℕ) (gathered : Gathered
   pub limit : highest_level (map section_of list) ≤ 128
   pub gaps : IsGap (folded bytes) → next ≡ None
   pub leads : (p : ℕ) → DeepSections 128 rest p → DeepStop 128 (folded bytes) p
+  pub backs : (p : ℕ) → DeepStop 128 (folded bytes) p → DeepSections 128 rest p
   pub holes : LeadsTo (in_sections rest) (in_text (folded bytes))
 
 -- the rows before the first header
@@ -139,6 +144,13 @@ module _ (bytes : List ℕ) (start : ℕ) (start_is : start ≡ start_of bytes) 
       then_in (in_rows (text_at bytes start)) (in_rows (folded bytes)) (in_text (folded bytes))
       (moved_in in_rows (text_at bytes start) (folded bytes) (ap (text_at bytes) start_is)) (to_root (folded bytes))
 
+  -- what is too deep is so in them, where they are none
+  pub root_deep : rows_of (text_at bytes start) ≡ None → (p : ℕ) → DeepStop 128 (folded bytes) p
+      → DeepRows 128 1 (text_at bytes start) p
+  root_deep e p d =
+      let same : text_at bytes start ≡ folded bytes = ap (text_at bytes) start_is in
+      subst (λ (t : Text). DeepRows 128 1 t p) (sym same) (root_rows (ap rows_of (sym same) ∙ e) d)
+
   -- rows that a gap has none of
   pub gap_passed : (old mid : Gathered) (next : Option ℕ) → PassesGaps bytes start old mid (Ok next)
       → IsGap (folded bytes) → (next ≡ None) × (mid.rows.items ≡ old.rows.items)
@@ -163,6 +175,9 @@ module _ (bytes : List ℕ) (start : ℕ) (start_is : start ≡ start_of bytes) 
     limit = omega (arith, ap highest_level same, (root_level (rows_view r.added)).1, r.limit);
     gaps = λ g. (gap_passed old mid next passed g).0;
     leads = λ p d. deep.headed
+        (subst (λ (n : ℕ). IsRows is_comment (text_at bytes n) (rows_view r.added) r.rest) start_is
+        (rows_here (text_at bytes start) (rows_view r.added, r.rest) r.is)) r.limit d;
+    backs = λ p d. within.past_root
         (subst (λ (n : ℕ). IsRows is_comment (text_at bytes n) (rows_view r.added) r.rest) start_is
         (rows_here (text_at bytes start) (rows_view r.added, r.rest) r.is)) r.limit d;
     holes = over_root (subst (λ (n : ℕ). IsRows is_comment (text_at bytes n) (rows_view r.added) r.rest) start_is
@@ -255,6 +270,13 @@ module _ (bytes : List ℕ) (at : ℕ) where
           rest = text_at bytes h.end;
         }) read.is)
 
+    -- nothing is too deep where its line goes on
+    pub none_after_header : (text : Text) → text_at bytes at ≡ after_blanks text
+        → line_end_at (text_at bytes h.end) ≡ None → (p : ℕ) → DeepSections 128 text p → ⊥
+    unfolding keys_here
+    none_after_header text same e p d =
+        after_header (header_is text same) (omega (arith, read.limit, header_length h.keys.items)) e d
+
     -- a line that goes on after it
     pub line_hole : {A : Type 0} (stop : Stop) → EndsLineAt bytes h.end (Err stop) → (result : Result A Stop)
         → IsErrAnd result (λ s. s ≡ stop) → InSectionHole bytes at result
@@ -280,13 +302,20 @@ module _ (bytes : List ℕ) (at : ℕ) where
           over_header (header_is text same) (line_end_read (text_at bytes h.end) (text_at bytes line) ended.0)
 
       -- rows that are too deep
-      pub rows_are_deep : (p : ℕ) → DeepRows 128 (length h.keys.items + 1) (text_at bytes line) p
-          → DeepSection 128 (text_at bytes at) p
-      unfolding keys_here
-      rows_are_deep p d =
-          deep.rows (header_there (text_at bytes at) _ read.is) (omega (arith, read.limit, level_here))
+      pub rows_are_deep : (text : Text) → text_at bytes at ≡ after_blanks text → (p : ℕ)
+          → DeepRows 128 (length h.keys.items + 1) (text_at bytes line) p → DeepSections 128 text p
+      rows_are_deep text same p d =
+          deep.this_section (deep.rows (header_is text same) (omega (arith, read.limit, level_here))
           (line_end_read (text_at bytes h.end) (text_at bytes line) ended.0)
-          (subst (λ (n : ℕ). DeepRows 128 (n + 1) (text_at bytes line) p) (sym level_here) d)
+          (subst (λ (n : ℕ). DeepRows 128 (n + 1) (text_at bytes line) p) (sym level_here) d))
+
+      pub deep_in_rows : (text : Text) → text_at bytes at ≡ after_blanks text
+          → rows_of (text_at bytes line) ≡ None → (p : ℕ) → DeepSections 128 text p
+          → DeepRows 128 (length h.keys.items + 1) (text_at bytes line) p
+      deep_in_rows text same e p d =
+          subst (λ (n : ℕ). DeepRows 128 (n + 1) (text_at bytes line) p) level_here
+          (its_rows (header_is text same) (omega (arith, read.limit, level_here))
+          (line_end_read (text_at bytes h.end) (text_at bytes line) ended.0) e d)
 
       pub rows_missing : (w : Why)
           → Misses w (rows_of (text_at bytes line)) (λ r. 128 < rows_level (length h.keys.items + 1) r.0)
@@ -342,6 +371,17 @@ module _ (bytes : List ℕ) (at : ℕ) where
                   level_here,
                   ap (λ n. rows_level (n + 1) (rows_view r.added)) level_here,
                 )) d;
+            backs = λ text here p d. within.past_section
+                (header_is text here)
+                (line_end_read (text_at bytes h.end) (text_at bytes line) ended.0)
+                (rows_here (text_at bytes line) (rows_view r.added, r.rest) r.is)
+                (omega (
+                  arith,
+                  r.limit,
+                  read.limit,
+                  level_here,
+                  ap (λ n. rows_level (n + 1) (rows_view r.added)) level_here,
+                )) d;
             holes = λ text here. over_section (header_is text here)
                 (line_end_read (text_at bytes h.end) (text_at bytes line) ended.0)
                 (rows_here (text_at bytes line) (rows_view r.added, r.rest) r.is);
@@ -361,12 +401,14 @@ module _ (bytes : List ℕ) (at : ℕ) where
           further (Some p) h' = omega (arith, read.later, ended.2)
 
 -- a section that is too deep
-pub section_is_deep : (bytes : List ℕ) (at : ℕ) (gathered : Gathered) (list : List code.Section)
-    → ListSoFar bytes (Some at) gathered list → (p : ℕ) → DeepSection 128 (text_at bytes at) p
-    → DeepStop 128 (folded bytes) p
-section_is_deep bytes at gathered list s p d =
+pub section_is_deep : {A : Type 0} (bytes : List ℕ) (at : ℕ) (gathered : Gathered) (list : List code.Section)
+    → ListSoFar bytes (Some at) gathered list → (stop : Stop) (result : Result A Stop)
+    → IsErrAnd result (λ s. s ≡ stop) → IfDeepSection {A = A} bytes at (Err stop)
+    → IfDeep (DeepStop 128 (folded bytes)) result
+section_is_deep bytes at gathered list s stop result e d =
     let (x, line, is, here, b, some) = s.ends in
-    s.leads p (deep.this_section (subst (λ (t : Text). DeepSection 128 t p) here d))
+    deep_on (DeepSections 128 s.rest) (DeepStop 128 (folded bytes)) stop result e s.leads (λ other. s.backs)
+    (d s.rest here)
 
 -- the stop of a section
 pub section_hole : {A : Type 0} (bytes : List ℕ) (at : ℕ) (gathered : Gathered) (list : List code.Section)
@@ -398,6 +440,7 @@ list_more bytes at next old new before after s r = record {
   );
   gaps = λ g. let e = s.gaps g in cc;
   leads = λ p d. s.leads p (r.leads s.rest (let (x, line, is, here, b, some) = s.ends in here) p d);
+  backs = λ p d. r.backs s.rest (let (x, line, is, here, b, some) = s.ends in here) p (s.backs p d);
   holes = then_in (in_sections r.rest) (in_sections s.rest) (in_text (folded bytes))
       (r.holes s.rest (let (x, line, is, here, b, some) = s.ends in here)) s.holes;
 }

@@ -27,6 +27,8 @@ use Rattle.basic_toml_read.specs.Lists.{EndsOrStops, EndsLineAt, AreRowsRead, Is
 use Rattle.basic_toml_grammar.proofs.Grammar.StringsAreRead.{then_some}
 use Rattle.basic_toml_grammar.specs.DeepStops.{DeepRows, this_row, after_empty, later_row, DeepRow}
 use Rattle.basic_toml_grammar.proofs.Grammar.ReaderIsSound.{row_read, line_end_read}
+use Rattle.basic_toml_grammar.proofs.Nesting.WithinTheLimit as within
+use Rattle.basic_toml_read.proofs.NothingTooDeep.{line_row}
 use Rattle.basic_toml_read.proofs.EnoughSteps.{keys_is, row_is, rows_is, rows_is_none}
 use Rattle.basic_toml_read.proofs.LeftAfter.{sign_there, sign_missing, gap_past_line, gap_over, gap_ends_line}
 use Rattle.basic_toml_read.proofs.LeftAfter.{gap_has_no_bracket, line_of, no_comment}
@@ -50,6 +52,7 @@ pub record RowsSoFar (bytes : List ℕ) (start level at : ℕ) (old new : Gather
   pub forward : start ≤ at
   pub gaps : IsGap (text_at bytes start) → IsGap (text_at bytes at) × (new.rows.items ≡ old.rows.items)
   pub leads : (p : ℕ) → DeepRows 128 level (text_at bytes at) p → DeepRows 128 level (text_at bytes start) p
+  pub backs : (p : ℕ) → DeepRows 128 level (text_at bytes start) p → DeepRows 128 level (text_at bytes at) p
   pub holes : LeadsTo (in_rows (text_at bytes at)) (in_rows (text_at bytes start))
 
 pub rows_start : (bytes : List ℕ) (start level : ℕ) (old : Gathered) → IsCharBoundary bytes start
@@ -66,6 +69,7 @@ rows_start bytes start level old b = record {
   forward = omega arith;
   gaps = λ g. (g, refl);
   leads = λ p d. d;
+  backs = λ p d. d;
   holes = stays_in (in_rows (text_at bytes start));
 }
 
@@ -215,6 +219,9 @@ module _ (bytes : List ℕ) (start level at : ℕ) (old new : Gathered) (s : Row
         gaps = λ g. (gap_over (line_of (text_at bytes at)) (text_at bytes next) e (gap_here g), (s.gaps g).1);
         leads = λ p d. s.leads p (subst (λ (t : Text). DeepRows 128 level t p) (sym line_is)
             (after_empty (line_end_read (x ∷ line) (text_at bytes next) (ap line_end_at (sym line_is) ∙ e)) d));
+        backs = λ p d. within.past_empty_line
+            (line_end_read (x ∷ line) (text_at bytes next) (ap line_end_at (sym line_is) ∙ e))
+            (subst (λ (t : Text). DeepRows 128 level t p) line_is (s.backs p d));
         holes = then_in (in_rows (text_at bytes next)) (in_rows (x ∷ line)) (in_rows (text_at bytes start))
             (over_empty (line_end_read (x ∷ line) (text_at bytes next) (ap line_end_at (sym line_is) ∙ e)))
             (then_in (in_rows (x ∷ line)) (in_rows (text_at bytes at)) (in_rows (text_at bytes start))
@@ -238,6 +245,19 @@ module _ (bytes : List ℕ) (start level at : ℕ) (old new : Gathered) (s : Row
             (in_rows (text_at bytes start))
             (to_row (text_at bytes at) (ap (char_at 91) (sym blanks.left) ∙ sign_missing 91 (text_at bytes front) none)
             (ap (char_at 35) (sym blanks.left) ∙ sign_missing 35 (text_at bytes front) hash) goes_on) s.holes)
+
+        -- what is too deep is so in the row here, where it is none
+        pub deep_in_row : row_of (text_at bytes front) ≡ None → (p : ℕ) → DeepRows 128 level (text_at bytes start) p
+            → DeepRow 128 level (text_at bytes front) p
+        deep_in_row e p d =
+            subst (λ (t : Text). DeepRow 128 level t p) (sym blanks.left)
+            (line_row goes_on (ap row_of (sym blanks.left) ∙ e) (s.backs p d))
+
+        -- nothing is too deep in a comment that goes on
+        pub none_in_comment : (next : ℕ) → IsPunctuationEnd 35 bytes front (Some next) → (p : ℕ)
+            → DeepRows 128 level (text_at bytes start) p → ⊥
+        none_in_comment next hash p d =
+            within.no_row_line (sym blanks.left ∙ hash.0) (λ mid e. within.no_end goes_on e) refl (s.backs p d)
 
         told' : rows_of (text_at bytes start)
             ≡ after_rows (rows_view s.got) (and_then (row_of (text_at bytes front)) row_on)
@@ -328,6 +348,10 @@ module _ (bytes : List ℕ) (start level at : ℕ) (old new : Gathered) (s : Row
               (subst (λ (t : Text). HoleInRows (text_at bytes at) Hole.after_line t) (sym e.2)
               (HoleInRows.after_row row_stands))) (ap end_of e.2 ∙ e.0))
 
+          pub none_unended : (stop : Stop) → EndsLineAt bytes after (Err stop) → (p : ℕ)
+              → DeepRows 128 level (text_at bytes start) p → ⊥
+          none_unended stop e p d = within.last_row_line row_stands r.limit e.0 (s.backs p d)
+
           pub rows_unended : (stop : Stop) → EndsLineAt bytes after (Err stop)
               → Misses stop.why (rows_of (text_at bytes start)) (λ r. 128 < rows_level level r.0)
           unfolding after_rows
@@ -366,6 +390,8 @@ module _ (bytes : List ℕ) (start level at : ℕ) (old new : Gathered) (s : Row
                 gaps = λ g. absurd (rows_no_gap g);
                 leads = λ p d. s.leads p (later_row row_stands r.limit
                     (line_end_read (text_at bytes after) (text_at bytes next) e.0) d);
+                backs = λ p d. within.past_row row_stands r.limit
+                    (line_end_read (text_at bytes after) (text_at bytes next) e.0) (s.backs p d);
                 holes = then_in (in_rows (text_at bytes next)) (in_rows (text_at bytes at))
                     (in_rows (text_at bytes start))
                     (over_row_line row_stands (line_end_read (text_at bytes after) (text_at bytes next) e.0)) s.holes;

@@ -24,7 +24,7 @@ use Rattle.basic_toml_read.specs.StopsAt.{MissesString, MissesWord, ReadsStringA
 use Rattle.basic_toml_read.specs.StopsReached.{LeadsTo, InHole, in_value, in_elements, in_fields, in_fields_on, in_row}
 use Rattle.basic_toml_read.specs.Gathers.{ClosesAt, IsLastKey}
 use Rattle.basic_toml_read.proofs.DeepFurtherOn.{sign_after}
-use Rattle.basic_toml_read.proofs.DeepStops.{keys_there}
+use Rattle.basic_toml_read.proofs.NothingTooDeep.{keys_there}
 use Rattle.basic_toml_read.proofs.HolesLeadOn.{then_in, moved_in, over_array, over_inline, over_value, over_row}
 use Rattle.basic_toml_read.proofs.HolesLeadOn.{over_keys}
 use Rattle.basic_toml_read.proofs.KeyHoles.{nothing_fits}

@@ -130,6 +130,8 @@ pub record IsSectionRead (bytes : List ℕ) (at : ℕ) (new : Gathered) (before 
   pub from : IsFrom (at + 1) next
   pub leads : (text : Text) → text_at bytes at ≡ after_blanks text → (p : ℕ) → DeepSections 128 rest p
       → DeepSections 128 text p
+  pub backs : (text : Text) → text_at bytes at ≡ after_blanks text → (p : ℕ) → DeepSections 128 text p
+      → DeepSections 128 rest p
   pub holes : (text : Text) → text_at bytes at ≡ after_blanks text → LeadsTo (in_sections rest) (in_sections text)
   pub none : new.rows.items ≡ []
   pub limit : section_level (section_of made) ≤ 128

@@ -12,6 +12,7 @@ use Rattle.basic_toml_grammar.specs.Viable.{IsDue}
 use Rattle.basic_toml_grammar.specs.Grammar.{IsSectionList}
 use Rattle.basic_toml_grammar.specs.Levels.{highest_level}
 use Rattle.basic_toml_grammar.specs.NestingFaults.{IsTooDeepAt}
+use Rattle.basic_toml_grammar.specs.DeepStops.{DeepStop, IsWithin}
 use Rattle.basic_toml_read.specs.Lists.{IsGap}
 use Rattle.basic_toml_read.specs.SectionView.{section_of}
 
@@ -20,15 +21,17 @@ abbrev pub HoldsMore : Text → Type 0
 HoldsMore text = IsGap text → ⊥
 
 -- Why a text has no section list within the limit: memory was refused, where the text is more than blanks, comments
--- and line feeds; or each list that it has passes the limit, and the fault is of nesting, at the first key or bracket
--- above the limit; or it is outside the grammar, and the fault is the one that is due.
+-- and line feeds; or a key or a bracket is met above the limit, and the fault is of nesting, at the first such; or none
+-- is, the text is outside the grammar, and the fault is the one that is due. So where a text is both, the first in it
+-- comes: no fault of the grammar is due before what is too deep.
 pub data IsRefused (bytes : List ℕ) : Fault → Type 0 where
   memory : HoldsMore (folded bytes) → IsRefused bytes want_of_memory
   deep : {offset : ℕ} → ((sections : List Section) → IsSectionList (folded bytes) sections
       → nesting_limit < highest_level sections)
-      → IsTooDeepAt nesting_limit (folded bytes) offset
+      → IsTooDeepAt nesting_limit (folded bytes) offset → DeepStop nesting_limit (folded bytes) offset
       → IsRefused bytes (fault_at nested_too_deeply offset)
-  outside : {fault : Fault} → IsDue (folded bytes) (length bytes) fault → IsRefused bytes fault
+  outside : {fault : Fault} → IsDue (folded bytes) (length bytes) fault → IsWithin nesting_limit (folded bytes)
+      → IsRefused bytes fault
 
 -- the section list of the text, whose levels are within the limit
 abbrev pub AnswersSections : List ℕ → Result (Vec code.Section Global) Fault → Type 0

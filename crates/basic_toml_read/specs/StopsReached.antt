@@ -2,6 +2,7 @@
 use Rattle.std.specs.Prelude.{◌≡◌, ℕ, List, None, Result, Ok, Err}
 use Rattle.basic_toml_tokens.specs.Ascii as ascii
 use Rattle.basic_toml_tokens.specs.Text.{Text, text_at, after_blanks}
+use Rattle.basic_toml_grammar.specs.DeepStops.{DeepSections}
 use Rattle.basic_toml_grammar.specs.Reader.{char_at, key_at}
 use Rattle.basic_toml_grammar.specs.Holes.{Hole, HoleInKeys, HoleInValue, HoleInElements, HoleInFields, HoleInFieldsOn}
 use Rattle.basic_toml_grammar.specs.Holes.{HoleInRow, HoleInRows, HoleInHeader, HoleInSections, HoleInText}
@@ -12,10 +13,20 @@ use Rattle.basic_toml_explain.specs.declared.stop.Stop.{Stop}
 use Rattle.basic_toml_explain.specs.declared.stop.Why.{Why}
 use Rattle.basic_toml_explain.specs.declared.stop.Why.TheVariants.{Memory, Deep, Key}
 
--- a stop for a level above the limit comes only at such an offset
+-- a stop for a level above the limit comes only at such an offset, and a stop of the grammar only where there is none
+abbrev pub AtDeep : (ℕ → Type 0) → Why → ℕ → Type 0
+AtDeep IsDeep Memory at = Unit {0}
+AtDeep IsDeep Deep at = IsDeep at
+AtDeep IsDeep _ at = (p : ℕ) → IsDeep p → ⊥
+
 abbrev pub IfDeep : {A : Type 0} → (ℕ → Type 0) → Result A Stop → Type 0
 IfDeep IsDeep (Ok x) = Unit {0}
-IfDeep IsDeep (Err stop) = stop.why ≡ Deep → IsDeep stop.at
+IfDeep IsDeep (Err stop) = AtDeep IsDeep stop.why stop.at
+
+-- of sections from such a line on
+abbrev pub IfDeepSection : {A : Type 0} → List ℕ → ℕ → Result A Stop → Type 0
+IfDeepSection bytes at result = (text : Text) → text_at bytes at ≡ after_blanks text
+    → IfDeep (DeepSections 128 text) result
 
 -- the holes of a reading, and what has to come behind the value of one
 pub record Holes : Type 1 where

@@ -3,8 +3,8 @@ ghost use Rattle.std.specs.Prelude.{IfErr, ◌≡◌, ◌≤◌, []};
 ghost use Rattle.std.specs.Str.{IsCharBoundary};
 ghost use Rattle.basic_toml_tokens.specs.Text.{text_at, folded};
 ghost use Rattle.basic_toml_explain.specs.Stop.{StopsInside};
-ghost use Rattle.basic_toml_read.specs.StopsReached.{IfDeep, InHole, InSectionHole, in_rows, in_text};
-ghost use Rattle.basic_toml_grammar.specs.DeepStops.{DeepRows, DeepSection, DeepStop};
+ghost use Rattle.basic_toml_read.specs.StopsReached.{IfDeep, IfDeepSection, InHole, InSectionHole, in_rows, in_text};
+ghost use Rattle.basic_toml_grammar.specs.DeepStops.{DeepRows, DeepStop};
 ghost use Rattle.basic_toml_read.specs.SectionsAnswer.{AnswersSections, HoldsMore};
 ghost use Rattle.basic_toml_read.specs.Lists.{EndsOrStops, EndsLineAt, ReadsRows, PassesGaps, TakesRoot, ReadsSection, ReadsList};
 
@@ -104,7 +104,7 @@ impl<'de> Gathered<'de> {
         requires none { self.old.rows.items ≡ [] }
         ensures read { ReadsSection text.now at self.new sections.old sections.new result }
         ensures inside { IfErr result (λ stop. StopsInside text.now stop) }
-        ensures deep { IfDeep (DeepSection 128 (text_at text.now at)) result }
+        ensures deep { IfDeepSection text.now at result }
         ensures hole { InSectionHole text.now at result }
     {
         let header = header_at(self.alloc, text, at)?;

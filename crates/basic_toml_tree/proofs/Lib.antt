@@ -8,3 +8,4 @@ pub mod TrieData
 pub mod HeadersMake
 pub mod Origins
 pub mod Nodes
+pub mod Foretold

@@ -1,5 +1,6 @@
 pub mod Data
 pub mod Nodes
+pub mod Paths
 pub mod Origin
 pub mod Outer
 pub mod FirstStop
@@ -7,3 +8,4 @@ pub mod Resolve
 pub mod Order
 pub mod Keys
 pub mod Stands
+pub mod Statements

@@ -1,9 +1,18 @@
 //! Laws of what a section list comes to, each the contract of a function that does nothing.
 ghost use Rattle.basic_toml_tree.specs.FirstStop.{SectionsFaultIsOne};
+ghost use Rattle.basic_toml_tree.specs.Statements.{EveryNodeIsForetold, EveryNodeOfAListIsForetold};
 
 /// A section list that has no tree has one error, but where the first section that does not go into the tree both clashes
 /// and goes above the limit.
 #[tactic(auto, using(crate::proofs::SectionsFaultIsOne::sections_fault_is_one))]
 pub fn sections_fault_is_one()
     ensures { SectionsFaultIsOne }
+{}
+
+/// Wherever the document of a text has data, its section list foretells a node: its type name, its offsets and its key
+/// path. So it is of a list that a caller made.
+#[tactic(auto, using(crate::proofs::Foretold::EveryNode::every_node_of_a_list))]
+pub fn every_node_is_foretold()
+    ensures text { EveryNodeIsForetold }
+    ensures list { EveryNodeOfAListIsForetold }
 {}

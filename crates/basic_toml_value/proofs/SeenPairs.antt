@@ -1,13 +1,14 @@
 -- The pairs of a table in memory, and what is seen of them.
 use Rattle.std.proofs.Common.{◌≡◌, ℕ, suc, zero, ◌+◌, ◌<◌, true, false, List, [], ◌∷◌, ◌++◌, length, drop, refl, sym}
-use Rattle.std.proofs.Common.{ap, ◌∙◌, arith, IsTrue, Some, None, get_or, is_some}
+use Rattle.std.proofs.Common.{ap, ◌∙◌, arith, IsTrue, Some, None, get_or, is_some, cond}
+use Rattle.std.specs.Str.{bytes_eq}
 use Rattle.std.specs.List.{slice_get}
 use Rattle.std.proofs.lemmas.List.{map-append}
 use Rattle.basic_toml_value.specs.declared.pairs.Pair.{Pair}
 use Rattle.basic_toml_value.specs.Key.{key_bytes}
 use Rattle.basic_toml_value.specs.Entries.{pair_seen, seen, texts_of}
 use Rattle.basic_toml_value.specs.Keys.{is_among, are_distinct}
-use Rattle.basic_toml_value.specs.Pairs.{keys_of, has_key, value_at}
+use Rattle.basic_toml_value.specs.Pairs.{keys_of, has_key, value_at, Gains}
 use Rattle.basic_toml_value.proofs.DistinctKeys.{bytes_eq-same, first_differs, is_among_at}
 
 module _ {V : Type 0} where
@@ -57,4 +58,24 @@ module _ {V : Type 0} where
   seen-drop (p ∷ ps) (suc i) pair within read = let e : suc i + 1 ≡ suc (i + 1) = omega arith in
       rw e (seen-drop ps i pair (omega arith) read)
 
-pub ruleset seen_pairs = (keys_of-seen, has_key-seen, has_key-found, value_at-found, value_at-absent)
+  value_at-pushed : (pairs : List (List ℕ × V)) (key : List ℕ) (value : V) → has_key pairs key ≡ false
+      → value_at (pairs ++ (key, value) ∷ []) key ≡ Some value
+  value_at-pushed [] key value absent = grind (arith, bytes_eq-same key)
+  value_at-pushed (p ∷ ps) key value absent = grind (arith, value_at-pushed ps key value, absent)
+
+  value_at-other : (pairs : List (List ℕ × V)) (key : List ℕ) (value : V) (other : List ℕ)
+      → bytes_eq other key ≡ false → value_at (pairs ++ (key, value) ∷ []) other ≡ value_at pairs other
+  value_at-other [] key value other differs = grind (arith, differs)
+  value_at-other (p ∷ ps) key value other differs =
+      ap (cond (bytes_eq other p.0) (Some p.1)) (value_at-other ps key value other differs)
+
+  -- a pair put last, whose key is not there yet
+  pub pushed_gains : (old new : List (List ℕ × V)) (key : List ℕ) (value : V) → has_key old key ≡ false
+      → new ≡ old ++ (key, value) ∷ [] → Gains old key value new
+  pushed_gains old new key value absent last = record {
+    absent = absent;
+    there = ap (λ ps. value_at ps key) last ∙ value_at-pushed old key value absent;
+    others = λ other differs. ap (λ ps. value_at ps other) last ∙ value_at-other old key value other differs;
+  }
+
+pub ruleset seen_pairs = (keys_of-seen, has_key-seen, has_key-found, value_at-found, value_at-absent, pushed_gains)

@@ -5,7 +5,7 @@ ghost use Rattle.std.specs.Option.{option_copied};
 ghost use Rattle.basic_toml_value.specs.Keys.{are_distinct};
 ghost use Rattle.basic_toml_value.specs.Index.{IsIndex, IsGap};
 ghost use Rattle.basic_toml_value.specs.Entries.{seen, texts_of};
-ghost use Rattle.basic_toml_value.specs.Pairs.{keys_of, has_key, value_at};
+ghost use Rattle.basic_toml_value.specs.Pairs.{keys_of, has_key, value_at, Gains};
 
 use crate::index::{Found, Gap, Index, Texts};
 use crate::key::Key;
@@ -127,6 +127,7 @@ impl<V> Pairs<V> {
     #[tactic(auto, using(crate::proofs::SeenPairs::seen_pairs))]
     pub fn push(&mut self, key: String, value: V) -> Result<(), (PushRefusal, String, V)>
         ensures ok { OnOk result (self.new ≡ self.old ++ (string_bytes key, value) ∷ []) }
+        ensures gains { OnOk result (Gains self.old (string_bytes key) value self.new) }
         ensures absent { OnOk result (has_key self.old (string_bytes key) ≡ false) }
         ensures present { IfErr result
             (λ e. (e.0 ≡ PushRefusal.KeyPresent) ↔ IsTrue (has_key self.old (string_bytes key))) }
@@ -151,6 +152,7 @@ impl<V> Pairs<V> {
     pub fn push_new(&mut self, key: String, value: V) -> Result<(), (String, V)>
         requires { has_key self.old (string_bytes key) ≡ false }
         ensures ok { OnOk result (self.new ≡ self.old ++ (string_bytes key, value) ∷ []) }
+        ensures gains { OnOk result (Gains self.old (string_bytes key) value self.new) }
         ensures err_unchanged { OnErr result (self.new ≡ self.old) }
         ensures pair_back { IfErr result (λ e. (e.0 ≡ key) × (e.1 ≡ value)) }
     {

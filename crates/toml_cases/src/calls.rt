@@ -2,7 +2,7 @@
 ghost use Rattle.std.specs.Prelude.{[]};
 
 use crate::escapes::{spread, unescaped};
-use basic_toml::{Serialize, Serializer, WriteError};
+use basic_toml::{Float, Serialize, Serializer, WriteError};
 use std::alloc::{AllocError, Global};
 use std::str;
 
@@ -29,7 +29,7 @@ pub(crate) struct Outcome {
     pub(crate) stayed: bool,
 }
 
-// A call by its name and what stands after the colon. A name that is none is a call of a unit.
+// A call by its name and what stands after the colon. A name that is none is a type's own error.
 fn make(
     alloc: Global,
     ser: &mut Serializer,
@@ -39,19 +39,63 @@ fn make(
     let text = str::from_utf8(argument).unwrap_or("");
     match name {
         "seq" => ser.serialize_seq(None),
+        "tuple" => ser.serialize_tuple(0),
+        "tuple-struct" => ser.serialize_tuple_struct("Tuple", 0),
         "map" => ser.serialize_map(None),
+        "struct" => ser.serialize_struct("Record", 0),
         "end" => ser.end(),
         "field" => ser.serialize_field(text, &Silent),
         "key" => ser.serialize_key(&Silent),
         "value" => ser.serialize_value(&Silent),
         "element" => ser.serialize_element(&Silent),
-        "none" => ser.serialize_none(),
-        "str" => ser.serialize_str(text),
-        "char" => ser.serialize_char(text.chars().next().unwrap_or('?')),
-        "i64" => ser.serialize_i64(text.parse::<i64>().unwrap_or(0)),
-        "u64" => ser.serialize_u64(text.parse::<u64>().unwrap_or(0)),
-        "bytes" => ser.serialize_bytes(argument),
+        "some" => ser.serialize_some(&Silent),
+        "newtype" => ser.serialize_newtype_struct("New", &Silent),
         "unit" => ser.serialize_unit(),
+        "unit-struct" => ser.serialize_unit_struct("Unit"),
+        "newtype-variant" => ser.serialize_newtype_variant("Enum", 0, text, &Silent),
+        "tuple-variant" => ser.serialize_tuple_variant("Enum", 0, text, 0),
+        "struct-variant" => ser.serialize_struct_variant("Enum", 0, text, 0),
+        _ => make_scalar(alloc, ser, name, argument, text),
+    }
+}
+
+fn make_scalar(
+    alloc: Global,
+    ser: &mut Serializer,
+    name: &str,
+    argument: &[u8],
+    text: &str,
+) -> Result<(), WriteError> {
+    match name {
+        "none" => ser.serialize_none(),
+        "bool" => ser.serialize_bool(text == "true"),
+        "str" => ser.serialize_str(text),
+        "variant" => ser.serialize_unit_variant("Enum", 0, text),
+        "char" => ser.serialize_char(text.chars().next().unwrap_or('?')),
+        "bytes" => ser.serialize_bytes(argument),
+        "float" => match Float::parse(alloc, text)? {
+            Some(float) => ser.serialize_float(&float),
+            None => Err(WriteError::custom(alloc, "no float")),
+        },
+        _ => make_integer(alloc, ser, name, text),
+    }
+}
+
+fn make_integer(
+    alloc: Global,
+    ser: &mut Serializer,
+    name: &str,
+    text: &str,
+) -> Result<(), WriteError> {
+    match name {
+        "i8" => ser.serialize_i8(text.parse::<i8>().unwrap_or(0)),
+        "i16" => ser.serialize_i16(text.parse::<i16>().unwrap_or(0)),
+        "i32" => ser.serialize_i32(text.parse::<i32>().unwrap_or(0)),
+        "i64" => ser.serialize_i64(text.parse::<i64>().unwrap_or(0)),
+        "u8" => ser.serialize_u8(text.parse::<u8>().unwrap_or(0)),
+        "u16" => ser.serialize_u16(text.parse::<u16>().unwrap_or(0)),
+        "u32" => ser.serialize_u32(text.parse::<u32>().unwrap_or(0)),
+        "u64" => ser.serialize_u64(text.parse::<u64>().unwrap_or(0)),
         _ => Err(WriteError::custom(alloc, "no such call")),
     }
 }

@@ -149,7 +149,10 @@ pub(super) fn scalar_in_array(
     match kind {
         ElementKind::Tables => return Err(EmitError::UnsupportedType),
         ElementKind::Unknown => start_elements(emitter, later)?,
-        ElementKind::Others => emitter.text.push_str(", ")?,
+        ElementKind::Others => {
+            emitter.text.push(',')?;
+            emitter.text.push(' ')?;
+        }
     }
     if scalar.is_bytes() && is_full {
         return Err(EmitError::NestedTooDeeply);
@@ -180,7 +183,10 @@ pub(super) fn open_array_in_array(
     match kind {
         ElementKind::Tables => return Err(EmitError::UnsupportedType),
         ElementKind::Unknown => start_elements(emitter, later)?,
-        ElementKind::Others => emitter.text.push_str(", ")?,
+        ElementKind::Others => {
+            emitter.text.push(',')?;
+            emitter.text.push(' ')?;
+        }
     }
     if is_full {
         return Err(EmitError::NestedTooDeeply);
@@ -240,7 +246,10 @@ fn end_row(emitter: &mut Emitter) -> Result<(), EmitError>
     ensures err { IfErr result (λ e. e ≡ OutOfMemory) }
 {
     match innermost(&emitter.frames) {
-        Some((Frame::Table(_), _)) => emitter.text.push_str("]\n")?,
+        Some((Frame::Table(_), _)) => {
+            emitter.text.push(']')?;
+            emitter.text.push('\n')?;
+        }
         Some((Frame::Array { .. }, _)) => emitter.text.push(']')?,
         None => emitter.text.push(']')?,
     }

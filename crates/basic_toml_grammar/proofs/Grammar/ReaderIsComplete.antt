@@ -127,8 +127,8 @@ keys_shorter (more {mid = mid} {next = next} k s ks) =
     omega (arith, key_shorter k, shorter_after_blanks mid s, keys_shorter ks, blanks_length next)
 
 -- keys after which no period stands
-keys_found : (n : ℕ) {text rest : Text} {ks : List Key} → IsKeys text ks rest → char_at 46 (after_blanks rest) ≡ None
-    → length text < n → keys_at n text ≡ Some (ks, rest)
+pub keys_found : (n : ℕ) {text rest : Text} {ks : List Key} → IsKeys text ks rest
+    → char_at 46 (after_blanks rest) ≡ None → length text < n → keys_at n text ≡ Some (ks, rest)
 keys_found zero ks e h = absurd (omega arith)
 keys_found (suc n) (one k) e h = then_on _ (key_found k) ∙ missed _ _ e
 keys_found (suc n) (more {mid = mid} {next = next} k s ks) e h =
@@ -205,7 +205,7 @@ mutual
       omega (arith, keys_shorter ks, shorter_after_blanks mid s, value_shorter v, blanks_length next)
 
 mutual
-  value_found : {text rest : Text} {p : ℕ} {v : Raw} (n : ℕ) → IsValue is_comment text p v rest
+  pub value_found : {text rest : Text} {p : ℕ} {v : Raw} (n : ℕ) → IsValue is_comment text p v rest
       → 4 * length text + 1 ≤ n
       → value_at n text ≡ Some (record { offset = p; value = v; rest = rest })
   value_found zero v h = absurd (omega arith)
@@ -253,7 +253,7 @@ mutual
       then_on _ (row_found n r (omega arith)) ∙ found _ _ (sign_found s)
       ∙ then_on _ (fields_on_found n rs (omega (arith, row_shorter r, shorter_after_blanks mid s, blanks_length next)))
 
-  row_found : {text rest : Text} {ks : List Key} {p : ℕ} {v : Raw} (n : ℕ) → IsRow is_comment text ks p v rest
+  pub row_found : {text rest : Text} {ks : List Key} {p : ℕ} {v : Raw} (n : ℕ) → IsRow is_comment text ks p v rest
       → 4 * length text + 1 ≤ n
       → row_at n text ≡ Some (record { keys = ks; offset = p; value = v; rest = rest })
   row_found zero r h = absurd (omega arith)
@@ -302,7 +302,7 @@ line_shorter {c = c} {text = text} (at_feed s) =
     omega (arith, sign_length s, comment_length (after_blanks (c ∷ text)), blanks_length (c ∷ text))
 line_shorter (at_end s) = omega arith
 
-rows_found : (n : ℕ) {text rest : Text} {rs : Rows} → IsRows is_comment text rs rest → 4 * length text + 3 ≤ n
+pub rows_found : (n : ℕ) {text rest : Text} {rs : Rows} → IsRows is_comment text rs rest → 4 * length text + 3 ≤ n
     → rows_at n text ≡ Some (rs, rest)
 rows_found zero rs h = absurd (omega arith)
 rows_found (suc n) over h = refl
@@ -319,7 +319,7 @@ rows_found (suc n) {text = x ∷ text} (row_line {mid = mid} {next = next} r e r
     ∙ then_on _ (ends_found e)
     ∙ then_on _ (rows_found n rs (omega (arith, row_shorter r, ends_shorter e, blanks_length (x ∷ text))))
 
-header_found : {text rest : Text} {p : ℕ} {ks : List Key} {a : Bool} (n : ℕ) → IsHeader text p ks a rest
+pub header_found : {text rest : Text} {p : ℕ} {ks : List Key} {a : Bool} (n : ℕ) → IsHeader text p ks a rest
     → length text < n
     → header_at n text ≡ Some (record { offset = p; keys = ks; is_array = a; rest = rest })
 header_found n (table {next = next} s ks e) h =

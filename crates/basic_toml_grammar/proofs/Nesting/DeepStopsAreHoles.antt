@@ -1,10 +1,11 @@
 -- A key or a bracket that is too deep fills a hole, and is the first such one in the text that goes on from there.
 use Rattle.std.proofs.Common.{◌≡◌, ℕ, ◌+◌, ◌-◌, ◌≤◌, ◌<◌, ◌==◌, Bool, true, false, cond, List, [], ◌∷◌}
 use Rattle.std.proofs.Common.{◌++◌, length, nat_lt, refl, ap, sym, ◌∙◌, arith, Option, Some, None}
-use Rattle.std.proofs.lemmas.Bool.{lt-ltb, le-ltb, ne_eqb, eqb-true, false≢true}
-use Rattle.basic_toml_tokens.specs.Text.{Text, StartsWith, after_run, is_comment, after_blanks}
-use Rattle.basic_toml_grammar.specs.Sections.{Rows, no_rows, row, Section}
-use Rattle.basic_toml_grammar.specs.Grammar.{after_comment_by, with_root}
+use Rattle.std.proofs.lemmas.Bool.{lt-ltb, le-ltb, ne_eqb, eqb-true, false≢true, or_left, or_right}
+use Rattle.basic_toml_tokens.specs.Text.{Text, StartsWith, after_run, is_keylike, is_comment, after_blanks}
+use Rattle.basic_toml_tokens.specs.Strings.{is_quote, Opens, one_line, multiline, Quotes}
+use Rattle.basic_toml_grammar.specs.Sections.{Key, Rows, no_rows, row, Section}
+use Rattle.basic_toml_grammar.specs.Grammar.{IsKey, bare, quoted, after_comment_by, with_root}
 use Rattle.basic_toml_grammar.specs.Levels.{deep_keys, deep_in, deep_among, deep_rows, deep_offsets, rows_level}
 use Rattle.basic_toml_grammar.specs.Reader.{char_at, line_end_at, end_of}
 use Rattle.basic_toml_grammar.specs.NestingFaults.{first_offset}
@@ -38,13 +39,43 @@ head_missed {f = f} c h e =
     (ne_eqb h.char c (λ g. false≢true (sym e ∙ ap f (sym g) ∙ h.kind)))
 
 -- no line ends where a key begins
-line_missed : (text : Text) → Heads begins_key (after_blanks text) → line_end_at text ≡ None
+pub line_missed : (text : Text) → Heads begins_key (after_blanks text) → line_end_at text ≡ None
 line_missed text h =
     let no : (c : ℕ) → begins_key c ≡ false → (h.char == c) ≡ false =
     λ c e. ne_eqb h.char c (λ g. false≢true (sym e ∙ ap begins_key (sym g) ∙ h.kind)) in
     ap (λ (t : Text). end_of (after_comment_by is_comment t)) h.sign ∙
     ap (λ b. end_of (cond b (after_run is_comment h.next)
     ((h.offset, h.char) ∷ h.next))) (no 35 refl) ∙ ap (λ b. cond b (Some h.next) None) (no 10 refl)
+
+-- with which character a key begins
+record KeySign (p : ℕ) (text : Text) : Type 0 where
+  char : ℕ
+  next : Text
+  sign : StartsWith char text p next
+  kind : begins_key char ≡ true
+
+key_sign : {k : Key} {text rest : Text} → IsKey text k rest → KeySign k.offset text
+key_sign (bare {c = c} {next = next} s w) = record {
+  char = c;
+  next = next;
+  sign = s;
+  kind = or_left (is_keylike c) (is_quote c) w;
+}
+key_sign (quoted s) = go s.opens
+  where
+    go : {text body : Text} {p : ℕ} {k : Quotes} → Opens text p k body → KeySign p text
+    go (one_line {d = d} {next = next} s q c) = record {
+      char = d;
+      next = next;
+      sign = s;
+      kind = or_right (is_keylike d) (is_quote d) q;
+    }
+    go (multiline {d = d} {next = next} s q c) = record {
+      char = d;
+      next = next;
+      sign = s;
+      kind = or_right (is_keylike d) (is_quote d) q;
+    }
 
 -- what stands at p, and fills the hole
 pub record Deepest (p : ℕ) : Type 0 where
@@ -56,16 +87,15 @@ pub record Deepest (p : ℕ) : Type 0 where
   pub sign : StartsWith char at p next
 
 module _ (limit : ℕ) where
-  keys_head : {l p : ℕ} {text : Text} → DeepKeys limit l text p → Heads begins_key text
-  keys_head (deep.this_key {p = p} {c = c} {next = next} h s e) =
-      record { offset = p; char = c; next = next; sign = s; kind = e }
+  pub keys_head : {l p : ℕ} {text : Text} → DeepKeys limit l text p → Heads begins_key text
+  keys_head (deep.this_key h k) = key_heads k
   keys_head (deep.later_key h k s d) = key_heads k
 
-  row_head : {l p : ℕ} {text : Text} → DeepRow limit l text p → Heads begins_key text
+  pub row_head : {l p : ℕ} {text : Text} → DeepRow limit l text p → Heads begins_key text
   row_head (deep.keys d) = keys_head d
   row_head (deep.value ks h s d) = keys_heads ks
 
-  fields_head : {l p : ℕ} {text : Text} → DeepFields limit l text p → Heads begins_key text
+  pub fields_head : {l p : ℕ} {text : Text} → DeepFields limit l text p → Heads begins_key text
   fields_head (deep.this_field d) = row_head d
   fields_head (deep.later_field w h s d) = row_heads is_comment w
 
@@ -122,11 +152,14 @@ module _ (limit : ℕ) where
     pub first : first_offset (deep_offsets limit (fill_text p hole deepest.filler)) ≡ Some p
 
   in_keys : {l p : ℕ} {text : Text} → DeepKeys limit l text p → InKeys l p text
-  in_keys {l = l} {p = p} {text = text} (deep.this_key {c = c} {next = next} h s e) = record {
-    deepest = record { kind = Hole.key; char = c; at = text; next = next; filler = key e; sign = s };
-    hole = holes.this_key;
-    first = ap (λ b. first_offset (cond b (p ∷ []) [])) (lt-ltb limit l h);
-  }
+  in_keys {l = l} {p = p} {text = text} (deep.this_key h k) =
+      let s = key_sign k in
+      record {
+        deepest =
+            record { kind = Hole.key; char = s.char; at = text; next = s.next; filler = key s.kind; sign = s.sign };
+        hole = holes.this_key;
+        first = ap (λ b. first_offset (cond b (p ∷ []) [])) (lt-ltb limit l h);
+      }
   in_keys {l = l} {p = p} (deep.later_key {k = k} h w s d) =
       let on = in_keys d in
       let ks = fill_keys on.hole (key_filled p on.deepest.filler) in

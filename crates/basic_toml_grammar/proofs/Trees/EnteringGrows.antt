@@ -138,15 +138,18 @@ taken_grown st (m ∷ ms) after e = go (taken_grown (m ∷ st) ms after) (fits m
     go ih true e = ih e
     go ih false e = cc
 
--- the tree of what was entered is the tree of mentions
-pub tree_entered : (sections : List Section) (after : List Mark) → enter_all sections [] ≡ Some after
-    → closed (growth_of after) ≡ tree_of (mentions (located sections))
-tree_entered sections after e =
+-- what was entered grows as the mentions do, so its tree is the tree of mentions
+pub growth_entered : (sections : List Section) (after : List Mark) → enter_all sections [] ≡ Some after
+    → growth_of after ≡ grow_all nothing_grown (mentions (located sections))
+growth_entered sections after e =
     go (has_row_clash sections) (sym (enter_all_grows sections [] [] (λ p. refl) (λ p. refl)) ∙ e)
   where
     go : (b : Bool) → (if b then None else take_all [] (all_marks (placed sections))) ≡ Some after
-        → closed (growth_of after) ≡ tree_of (mentions (located sections))
+        → growth_of after ≡ grow_all nothing_grown (mentions (located sections))
     go true e = cc
-    go false e = ap closed (taken_grown [] (all_marks (placed sections)) after e ∙
-        all_grown (placed sections) nothing_grown)
-        ∙ ap tree_of (sym (mentions_are [] sections))
+    go false e = taken_grown [] (all_marks (placed sections)) after e ∙ all_grown (placed sections) nothing_grown
+        ∙ ap (grow_all nothing_grown) (sym (mentions_are [] sections))
+
+pub tree_entered : (sections : List Section) (after : List Mark) → enter_all sections [] ≡ Some after
+    → closed (growth_of after) ≡ tree_of (mentions (located sections))
+tree_entered sections after e = ap closed (growth_entered sections after e)

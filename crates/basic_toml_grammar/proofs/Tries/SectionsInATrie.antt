@@ -3,7 +3,9 @@ use Rattle.std.proofs.Common.{◌≡◌, List, [], Option, Some, None, refl, ap,
 use Rattle.std.specs.Prelude.{◌||◌, not, is_some, option_map}
 use Rattle.basic_toml_grammar.specs.Sections.{Section}
 use Rattle.basic_toml_grammar.specs.RowClash.{has_row_clash}
-use Rattle.basic_toml_grammar.specs.Growth.{closed}
+use Rattle.basic_toml_grammar.specs.Growth.{nothing_grown, grow_all, closed}
+use Rattle.basic_toml_grammar.specs.IndexedPath.{located}
+use Rattle.basic_toml_grammar.specs.Mentions.{mentions}
 use Rattle.basic_toml_grammar.specs.Document.{has_clash, tree_of_sections}
 use Rattle.basic_toml_grammar.specs.Marks.{Mark}
 use Rattle.basic_toml_grammar.specs.Standing.{growth_of}
@@ -11,7 +13,7 @@ use Rattle.basic_toml_grammar.specs.Entering.{enter_all, all_keyed}
 use Rattle.basic_toml_grammar.specs.Trie.{Trie, nothing, put_sections, bare}
 use Rattle.basic_toml_grammar.proofs.Clash.ClashesAgree.{clashes_agree}
 use Rattle.basic_toml_grammar.proofs.Clash.EnteringAccepts.{accepts}
-use Rattle.basic_toml_grammar.proofs.Trees.EnteringGrows.{tree_entered}
+use Rattle.basic_toml_grammar.proofs.Trees.EnteringGrows.{growth_entered, tree_entered}
 use Rattle.basic_toml_grammar.proofs.Tries.MarksInATrie.{trie_of, bare_of}
 use Rattle.basic_toml_grammar.proofs.Tries.TrieIsEntering.{trie_is_entering}
 
@@ -39,6 +41,12 @@ pub sections_data : (sections : List Section) (t : Trie) → put_sections sectio
 sections_data sections t e =
     let r : (st : List Mark) × (enter_all sections [] ≡ Some st) × (t ≡ trie_of st) = marks_put sections t e in
     ap (λ t. closed (bare t)) r.2 ∙ ap closed (bare_of r.0) ∙ tree_entered sections r.0 r.1
+
+pub sections_grown : (sections : List Section) (t : Trie) → put_sections sections nothing ≡ Some t
+    → bare t ≡ grow_all nothing_grown (mentions (located sections))
+sections_grown sections t e =
+    let r : (st : List Mark) × (enter_all sections [] ≡ Some st) × (t ≡ trie_of st) = marks_put sections t e in
+    ap bare r.2 ∙ bare_of r.0 ∙ growth_entered sections r.0 r.1
 
 -- the values of the trie are the tree that the marks make
 pub bare_is_growth : (sections : List Section)

@@ -48,7 +48,7 @@ rest_same : {source other : List ℕ} {text r r' : Text} {l l' : Lexeme} → IsT
 rest_same {source = source} x y = (token_same x (resourced source y).is).1
 
 -- tokens that may stand lead from one offset to another
-data Leads (start : Text) (end : ℕ) : Text → Text → Type 0 where
+pub data Leads (start : Text) (end : ℕ) : Text → Text → Type 0 where
   here : {text : Text} → Leads start end text text
   on : {text rest last : Text} → MayStand start end text rest → Leads start end rest last → Leads start end text last
 
@@ -67,7 +67,7 @@ module _ {start : Text} {end : ℕ} where
   next_same m n = rest_same m.follows.next.here n.follows.next.here
 
   -- of two such offsets tokens lead from one to the other
-  either_leads : {text other : Text} → Viable start end text → Viable start end other
+  pub either_leads : {text other : Text} → Viable start end text → Viable start end other
       → Leads start end text other ⊎ Leads start end other text
   either_leads at_start w = inl (leads_from_start w here)
   either_leads (after v m) w = then m (either_leads v w)
@@ -80,7 +80,7 @@ module _ {start : Text} {end : ℕ} where
           inl (subst (λ (t : Text). Leads start end t other) (next_same n m) p)
       then m (inr p) = inr (further p m)
 
-  stays : {text other : Text} → StopsAt start end text → Leads start end text other → text ≡ other
+  pub stays : {text other : Text} → StopsAt start end text → Leads start end text other → text ≡ other
   stays s here = refl
   stays s (on {rest = rest} m p) = absurd (s.stuck rest m)
 

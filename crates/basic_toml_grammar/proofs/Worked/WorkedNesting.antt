@@ -5,6 +5,9 @@ use Rattle.std.specs.Prelude.{is_some}
 use Rattle.std.specs.Str.{chars}
 use Rattle.basic_toml_tokens.specs.Text.{Text, folded}
 use Rattle.basic_toml_grammar.specs.Entering.{and_then}
+use Rattle.basic_toml_grammar.specs.DeepStops as deep
+use Rattle.basic_toml_grammar.specs.DeepStops.{DeepStop}
+use Rattle.basic_toml_grammar.specs.Grammar.{one, bare}
 use Rattle.basic_toml_grammar.specs.IndexedPath.{located}
 use Rattle.basic_toml_grammar.specs.Levels.{highest_level, deep_offsets}
 use Rattle.basic_toml_grammar.specs.NestingFaults.{deep_sections, leads_deeper, openers, before}
@@ -61,6 +64,14 @@ elements = refl
 elements_more : outcome (codes "[[a]]\n[[a.a]]") ≡ Some (3, [], 6 ∷ [], false)
 unfolding chars
 elements_more = refl
+
+-- a text outside the grammar that is too deep as well, at a limit of 2: at the second bracket, before what is wrong
+deep_and_wrong : DeepStop 2 (folded (codes "a = [[!")) 5
+unfolding chars
+deep_and_wrong =
+    deep.root (deep.this_row (deep.value (one (bare refl refl)) (omega arith) refl
+    (deep.array refl (deep.elements (omega arith) (deep.this_element
+    (deep.array refl (deep.this_bracket (omega arith))))))))
 
 -- nothing is too deep in a text with one sign that leads deeper
 few_openers : (p : ℕ) (text : Text) → openers (before p text) ≤ openers text

@@ -6,7 +6,11 @@ use Rattle.basic_toml_read.proofs.KeysTold.{stopped}
 use Rattle.basic_toml_read.proofs.HeadersRead.{no_bracket, one_missing, one_unclosed, one_closed, two_missing}
 use Rattle.basic_toml_read.proofs.HeadersRead.{two_unclosed, two_half_closed, two_closed}
 use Rattle.basic_toml_grammar.specs.DeepStops.{DeepKeys, DeepHeader}
-use Rattle.basic_toml_read.proofs.DeepStops.{deep_on, header_keys_deep, array_keys_deep}
+use Rattle.basic_toml_read.proofs.DeepStops.{deep_on, header_keys_deep, array_keys_deep, unclosed_here}
+use Rattle.basic_toml_read.proofs.NothingTooDeep.{table_keys_there, array_keys_there}
+use Rattle.basic_toml_read.proofs.HeadersRead.{header_keys_within}
+use Rattle.basic_toml_grammar.proofs.Nesting.WithinTheLimit.{no_header_there}
+use Rattle.basic_toml_explain.specs.declared.stop.Why.TheVariants.{Bracket, Newline}
 use Rattle.basic_toml_read.specs.StopsReached.{in_header}
 use Rattle.basic_toml_read.proofs.HolesLeadOn.{key_hole_on}
 use Rattle.basic_toml_read.proofs.LineHoles.{table_key, table_unclosed, array_key, array_unclosed, array_half_closed}
@@ -95,7 +99,9 @@ returns-in_err-keys-in-None-clause-deep c =
     c.in_err-keys-in-None.field-0.0
     c.from_residual-in_err-keys-in-None.result c.from_residual-in_err-keys-in-None.ensures.1
     (header_keys_deep text c.args.at c.in_ok-inner.inner c.after_blanks.result c.in_ok-inner.ensures.read.0
-    c.after_blanks.ensures) c.in_err-keys-in-None.ensures.deep
+    c.after_blanks.ensures)
+    (λ other. table_keys_there text c.args.at c.in_ok-inner.inner c.after_blanks.result c.in_ok-inner.ensures.read.0
+    c.in-None.ensures c.after_blanks.ensures) c.in_err-keys-in-None.ensures.deep
 
 pub returns-in_err-keys-in-Some-clause-deep : goal.returns-in_err-keys-in-Some-clause-deep
 returns-in_err-keys-in-Some-clause-deep c =
@@ -104,7 +110,51 @@ returns-in_err-keys-in-Some-clause-deep c =
     c.in_err-keys-in-Some.field-0.0
     c.from_residual-in_err-keys-in-Some.result c.from_residual-in_err-keys-in-Some.ensures.1
     (array_keys_deep text c.args.at c.in_ok-inner.inner c.in-Some.first c.after_blanks-in-Some.result
+    c.in_ok-inner.ensures.read.0 c.in-Some.ensures c.after_blanks-in-Some.ensures)
+    (λ other. array_keys_there text c.args.at c.in_ok-inner.inner c.in-Some.first c.after_blanks-in-Some.result
     c.in_ok-inner.ensures.read.0 c.in-Some.ensures c.after_blanks-in-Some.ensures) c.in_err-keys-in-Some.ensures.deep
+
+pub returns-in_err-inner-clause-deep : goal.returns-in_err-inner-clause-deep
+returns-in_err-inner-clause-deep c =
+    let text = c.args.text.now in
+    unclosed_here (DeepHeader 128 (text_at text c.args.at)) 91 Newline text c.args.at c.in_err-inner.field-0.0
+    c.from_residual.result c.from_residual.ensures.1 (λ e. cc)
+    (λ p d. no_header_there c.in_err-inner.ensures.read.0 d) c.in_err-inner.ensures.read
+
+pub returns-in_err-end-in-None-clause-deep : goal.returns-in_err-end-in-None-clause-deep
+returns-in_err-end-in-None-clause-deep c =
+    let text = c.args.text.now in
+    let k = c.in_ok-keys-in-None in
+    unclosed_here (DeepHeader 128 (text_at text c.args.at)) 93 Bracket text k.field-0.end
+    c.in_err-end-in-None.field-0.0 c.from_residual-in_err-end-in-None.result
+    c.from_residual-in_err-end-in-None.ensures.1 (λ e. cc)
+    (λ p d. header_keys_within text c.after_blanks.result k.field-0 k.ensures.read p
+    (table_keys_there text c.args.at c.in_ok-inner.inner c.after_blanks.result c.in_ok-inner.ensures.read.0
+    c.in-None.ensures c.after_blanks.ensures p d)) c.in_err-end-in-None.ensures.read
+
+pub returns-in_err-last-in-Some-clause-deep : goal.returns-in_err-last-in-Some-clause-deep
+returns-in_err-last-in-Some-clause-deep c =
+    let text = c.args.text.now in
+    let k = c.in_ok-keys-in-Some in
+    unclosed_here (DeepHeader 128 (text_at text c.args.at)) 93 Bracket text k.field-0.end
+    c.in_err-last-in-Some.field-0.0 c.from_residual-in_err-last-in-Some.result
+    c.from_residual-in_err-last-in-Some.ensures.1 (λ e. cc)
+    (λ p d. header_keys_within text c.after_blanks-in-Some.result k.field-0 k.ensures.read p
+    (array_keys_there text c.args.at c.in_ok-inner.inner c.in-Some.first c.after_blanks-in-Some.result
+    c.in_ok-inner.ensures.read.0 c.in-Some.ensures c.after_blanks-in-Some.ensures p d))
+    c.in_err-last-in-Some.ensures.read
+
+pub returns-in_err-end-in-Some-clause-deep : goal.returns-in_err-end-in-Some-clause-deep
+returns-in_err-end-in-Some-clause-deep c =
+    let text = c.args.text.now in
+    let k = c.in_ok-keys-in-Some in
+    unclosed_here (DeepHeader 128 (text_at text c.args.at)) 93 Bracket text c.in_ok-last-in-Some.last
+    c.in_err-end-in-Some.field-0.0 c.from_residual-in_err-end-in-Some.result
+    c.from_residual-in_err-end-in-Some.ensures.1 (λ e. cc)
+    (λ p d. header_keys_within text c.after_blanks-in-Some.result k.field-0 k.ensures.read p
+    (array_keys_there text c.args.at c.in_ok-inner.inner c.in-Some.first c.after_blanks-in-Some.result
+    c.in_ok-inner.ensures.read.0 c.in-Some.ensures c.after_blanks-in-Some.ensures p d))
+    c.in_err-end-in-Some.ensures.read
 
 -- the holes
 pub returns-in_err-keys-in-None-clause-hole : goal.returns-in_err-keys-in-None-clause-hole

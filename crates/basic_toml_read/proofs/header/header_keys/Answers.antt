@@ -8,7 +8,7 @@ use Rattle.basic_toml_read.proofs.HeadersRead.{header_next, header_last, header_
 use Rattle.basic_toml_tokens.specs.Text.{text_at}
 use Rattle.basic_toml_grammar.specs.DeepStops.{DeepKeys}
 use Rattle.basic_toml_read.proofs.KeysTold.{key_is_deep}
-use Rattle.basic_toml_read.proofs.DeepStops.{raised, shallow, no_key_deep}
+use Rattle.basic_toml_read.proofs.DeepStops.{raised, shallow, no_key_deep, no_key_too_deep}
 use Rattle.basic_toml_grammar.specs.Holes.{HoleInKeys}
 use Rattle.basic_toml_read.specs.StopsReached.{InKeyHole}
 use Rattle.basic_toml_read.proofs.KeyHoles.{no_key_there}
@@ -60,6 +60,8 @@ returns-in_err-keyed-clause-deep c =
     shallow (DeepKeys 128 2 (text_at c.args.text.now c.args.at)) stop c.from_residual-in_err-keyed.result
     c.from_residual-in_err-keyed.ensures.1
     (no_key_deep stop.why (text_at c.args.text.now c.loop-keys.offset) c.in_err-keyed.ensures.read.0)
+    (λ other p d. no_key_too_deep stop.why (text_at c.args.text.now c.loop-keys.offset) c.in_err-keyed.ensures.read.0
+    other c.loop-keys.level p (c.loop-keys.invariant.backs p d))
 
 pub returns-in_err-raise-clause-deep : goal.returns-in_err-raise-clause-deep
 returns-in_err-raise-clause-deep c =

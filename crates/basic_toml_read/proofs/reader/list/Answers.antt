@@ -1,4 +1,4 @@
-use Rattle.std.proofs.Common.{ℕ, Option, subst, ◌∙◌}
+use Rattle.std.proofs.Common.{ℕ, ◌<◌, Option, subst, ◌∙◌}
 use Rattle.basic_toml_read.specs.Lists.{ReadsList}
 use Rattle.basic_toml_read.proofs.KeysTold.{stopped}
 use Rattle.basic_toml_read.proofs.ListsRead.{ListSoFar, root_missing, root_there, list_more, list_missing, falls}
@@ -7,9 +7,11 @@ use Rattle.basic_toml_tokens.specs.Text.{folded}
 use Rattle.basic_toml_read.proofs.ListsRead.{gap_stopped, gap_passed, if_err, some_none}
 use Rattle.basic_toml_read.specs.SectionsAnswer.{HoldsMore}
 use Rattle.basic_toml_tokens.specs.Text.{text_at}
-use Rattle.basic_toml_grammar.specs.DeepStops.{DeepRows, DeepSection, DeepStop, root}
-use Rattle.basic_toml_read.proofs.ListsRead.{section_is_deep}
-use Rattle.basic_toml_read.proofs.DeepStops.{deep_on, shallow}
+use Rattle.basic_toml_grammar.specs.DeepStops.{DeepRows, DeepStop, root}
+use Rattle.basic_toml_read.proofs.ListsRead.{section_is_deep, root_deep}
+use Rattle.basic_toml_grammar.specs.Levels.{rows_level}
+use Rattle.basic_toml_read.specs.FrontOf.{rows_of}
+use Rattle.basic_toml_read.proofs.DeepStops.{deep_on, shallow, IsOther, is_missed}
 use Rattle.basic_toml_read.specs.StopsReached.{in_rows, in_text}
 use Rattle.basic_toml_read.proofs.HolesLeadOn.{hole_on}
 use Rattle.basic_toml_read.proofs.ListsRead.{root_holes, section_hole}
@@ -87,22 +89,23 @@ returns-in_err-bracket-clause-deep c =
     deep_on (DeepRows 128 1 (text_at text c.start.result)) (DeepStop 128 (folded text)) c.in_err-bracket.field-0.0
     c.from_residual.result c.from_residual.ensures.1
     (λ p d. root (subst (λ (n : ℕ). DeepRows 128 1 (text_at text n) p) c.start.ensures.offset d))
-    c.in_err-bracket.ensures.deep
+    (λ other. root_deep text c.start.result c.start.ensures.offset (is_missed c.in_err-bracket.field-0.0.why
+    (rows_of (text_at text c.start.result)) (λ r. 128 < rows_level 1 r.0) other
+    c.in_err-bracket.ensures.read)) c.in_err-bracket.ensures.deep
 
 pub returns-in_err-root-clause-deep : goal.returns-in_err-root-clause-deep
 returns-in_err-root-clause-deep c =
     let w = c.in_err-root.ensures.0 in
     shallow (DeepStop 128 (folded c.args.text.now)) c.in_err-root.field-0.0 c.from_residual-in_err-root.result
-    c.from_residual-in_err-root.ensures.1 (λ e. cc)
+    c.from_residual-in_err-root.ensures.1 (λ e. cc) (λ other. absurd (subst IsOther w other))
 
 pub returns-in_err-bracket-2-clause-deep : goal.returns-in_err-bracket-2-clause-deep
 returns-in_err-bracket-2-clause-deep c =
     let text = c.args.text.now in
-    deep_on (DeepSection 128 (text_at text c.in-Some.at)) (DeepStop 128 (folded text)) c.in_err-bracket-2.field-0.0
-    c.from_residual-in_err-bracket-2.result c.from_residual-in_err-bracket-2.ensures.1
-    (section_is_deep text c.in-Some.at c.loop-bracket.gathered c.loop-bracket.sections.items
+    section_is_deep text c.in-Some.at c.loop-bracket.gathered c.loop-bracket.sections.items
     (subst (λ (o : Option ℕ). ListSoFar text o c.loop-bracket.gathered c.loop-bracket.sections.items) c.in-Some.is
-    c.loop-bracket.invariant)) c.in_err-bracket-2.ensures.deep
+    c.loop-bracket.invariant) c.in_err-bracket-2.field-0.0 c.from_residual-in_err-bracket-2.result
+    c.from_residual-in_err-bracket-2.ensures.1 c.in_err-bracket-2.ensures.deep
 
 -- the holes
 pub returns-in_err-bracket-clause-hole : goal.returns-in_err-bracket-clause-hole

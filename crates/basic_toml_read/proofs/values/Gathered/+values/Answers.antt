@@ -1,17 +1,24 @@
-use Rattle.std.proofs.Common.{◌≡◌, ℕ, ◌+◌, length, drop, take, ap, ◌∙◌, arith, refl}
+use Rattle.std.proofs.Common.{◌≡◌, ◌<◌, ℕ, ◌+◌, ◌-◌, length, drop, take, ap, ◌∙◌, arith, refl}
 use Rattle.basic_toml_tokens.specs.Text.{text_at}
-use Rattle.basic_toml_read.specs.Gathers.{ReadsRow, ReadsElements, ReadsFields}
+use Rattle.basic_toml_grammar.specs.Levels.{value_level}
+use Rattle.basic_toml_read.specs.Gathers.{ReadsRow, ReadsElements, ReadsFields, row_level}
 use Rattle.basic_toml_read.proofs.KeysTold.{stopped}
 use Rattle.basic_toml_read.proofs.ElementsGathered.{elements_start, elements_end, elements_missing, elements_more}
-use Rattle.basic_toml_read.proofs.ElementsGathered.{elements_close}
+use Rattle.basic_toml_read.proofs.ElementsGathered.{elements_close, elements_over}
 use Rattle.basic_toml_read.proofs.FieldsGathered.{fields_start, fields_none, fields_missing, fields_more, fields_close}
+use Rattle.basic_toml_read.proofs.FieldsGathered.{fields_over}
 use Rattle.basic_toml_read.proofs.ValuesGathered.{keys_missed, no_equals, value_missing, row_there, array_value}
 use Rattle.basic_toml_read.proofs.ValuesGathered.{inline_value, string_value, word_value_here, array_whole}
 use Rattle.basic_toml_read.proofs.ValuesGathered.{inline_whole}
 use Rattle.basic_toml_grammar.specs.DeepStops.{DeepKeys, DeepRow, keys, DeepValue, DeepArray}
 use Rattle.basic_toml_grammar.specs.DeepStops.{DeepElements, this_element}
 use Rattle.basic_toml_grammar.specs.DeepStops.{this_bracket, DeepInline, this_brace, DeepFields, this_field}
-use Rattle.basic_toml_read.proofs.DeepStops.{deep_on, raised, deep_result, string_shallow, word_shallow}
+use Rattle.basic_toml_read.proofs.DeepStops.{deep_on, raised, deep_result, string_shallow, word_shallow, is_missed}
+use Rattle.basic_toml_read.proofs.DeepStops.{no_bracket_too_deep, unclosed}
+use Rattle.basic_toml_read.proofs.NothingTooDeep.{row_keys, row_unassigned, row_value, in_bracket, in_brace}
+use Rattle.basic_toml_read.proofs.NothingTooDeep.{in_elements_too, in_fields_too, its_value, its_row}
+use Rattle.basic_toml_read.specs.FrontOf.{keys_of, value_of, row_of}
+use Rattle.basic_toml_explain.specs.declared.stop.Why.TheVariants.{Bracket, Comma}
 use Rattle.basic_toml_read.proofs.DeepStops.{value_deep, array_deep}
 use Rattle.basic_toml_read.proofs.DeepStops.{inline_deep, elements_deep, fields_deep}
 use Rattle.basic_toml_tokens.specs.Text.{is_comment, after_blanks}
@@ -194,7 +201,9 @@ array-returns-in_err-end-clause-deep t c =
     (DeepArray 128 c.args.level c.args.offset (text_at text c.args.at)) c.in_err-end.field-0.0
     c.from_residual-in_err-end.result c.from_residual-in_err-end.ensures.1
     (elements_deep text c.args.offset c.args.at c.after_gap.result c.args.level c.in_ok-raise.ensures
-    c.after_gap.ensures) c.in_err-end.ensures.deep
+    c.after_gap.ensures)
+    (λ other. in_elements_too text c.args.offset c.args.at c.after_gap.result c.args.level
+    c.in_ok-raise.ensures c.after_gap.ensures) c.in_err-end.ensures.deep
 
 pub inline-returns-in_err-end-clause-deep : goal.inline-returns-in_err-end-clause-deep
 inline-returns-in_err-end-clause-deep t c =
@@ -203,6 +212,8 @@ inline-returns-in_err-end-clause-deep t c =
     (DeepInline 128 c.args.level c.args.offset (text_at text c.args.at)) c.in_err-end.field-0.0
     c.from_residual-in_err-end.result c.from_residual-in_err-end.ensures.1
     (fields_deep text c.args.offset c.args.at c.after_blanks.result c.args.level c.in_ok-raise.ensures
+    c.after_blanks.ensures)
+    (λ other. in_fields_too text c.args.offset c.args.at c.after_blanks.result c.args.level c.in_ok-raise.ensures
     c.after_blanks.ensures) c.in_err-end.ensures.deep
 
 pub elements-returns-in_err-valued-clause-deep : goal.elements-returns-in_err-valued-clause-deep
@@ -210,21 +221,58 @@ elements-returns-in_err-valued-clause-deep t c =
     let text = c.args.text.now in
     deep_on (DeepValue 128 c.args.level (text_at text c.loop-end.at))
     (DeepElements 128 c.args.level (text_at text c.args.start)) c.in_err-valued.field-0.0 c.from_residual.result
-    c.from_residual.ensures.1 (λ p d. c.loop-end.invariant.leads p (this_element d)) c.in_err-valued.ensures.deep
+    c.from_residual.ensures.1 (λ p d. c.loop-end.invariant.leads p (this_element d))
+    (λ other p d. its_value (is_missed c.in_err-valued.field-0.0.why (value_of (text_at text c.loop-end.at))
+    (λ v. 128 < value_level c.args.level v.value) other
+    c.in_err-valued.ensures.read) (c.loop-end.invariant.backs p d)) c.in_err-valued.ensures.deep
+
+pub elements-returns-in_default-after_punctuation-clause-deep : goal.elements-returns-in_default-after_punctuation-clause-deep
+elements-returns-in_default-after_punctuation-clause-deep t c =
+    let text = c.args.text.now in
+    unclosed (DeepElements 128 c.args.level (text_at text c.args.start)) 93 Bracket text c.after_gap-after.result
+    c.closed.result (λ e. cc)
+    (elements_over text c.args.start c.args.level c.loop-end.at c.args.self.now c.loop-end.self c.loop-end.invariant
+    c.value.new.self (record {
+      alloc = c.value.new.self.alloc;
+      elements = c.push.new.self;
+      rows =
+          c.value.new.self.rows;
+    }) c.in_ok-valued.valued c.in_ok-valued.ensures.read
+    c.after_gap-after.result c.after_gap-after.ensures c.in_default.ensures c.in_ok-push.ensures.items refl
+    c.in_default-after_punctuation.ensures) c.closed.ensures.read
 
 pub fields-returns-in_err-row-clause-deep : goal.fields-returns-in_err-row-clause-deep
 fields-returns-in_err-row-clause-deep t c =
     let text = c.args.text.now in
     deep_on (DeepRow 128 c.args.level (text_at text c.loop-after.at))
     (DeepFields 128 c.args.level (text_at text c.args.start)) c.in_err-row.field-0.0 c.from_residual.result
-    c.from_residual.ensures.1 (λ p d. c.loop-after.invariant.leads p (this_field d)) c.in_err-row.ensures.deep
+    c.from_residual.ensures.1 (λ p d. c.loop-after.invariant.leads p (this_field d))
+    (λ other p d. its_row (is_missed c.in_err-row.field-0.0.why (row_of (text_at text c.loop-after.at))
+    (λ r. 128 < row_level c.args.level r) other
+    c.in_err-row.ensures.read) (c.loop-after.invariant.backs p d)) c.in_err-row.ensures.deep
+
+pub fields-returns-in_default-after_punctuation-clause-deep : goal.fields-returns-in_default-after_punctuation-clause-deep
+fields-returns-in_default-after_punctuation-clause-deep t c =
+    let text = c.args.text.now in
+    unclosed (DeepFields 128 c.args.level (text_at text c.args.start)) 125 Comma text c.after_blanks-after.result
+    c.closed.result (λ e. cc)
+    (fields_over text c.args.start c.args.level c.loop-after.at c.args.self.now c.loop-after.self
+    c.loop-after.invariant c.row.new.self c.in_ok-row.field-0 c.in_ok-row.ensures.read c.after_blanks-after.result
+    c.after_blanks-after.ensures c.in_default-after_punctuation.ensures) c.closed.ensures.read
 
 pub row-returns-in_err-last-clause-deep : goal.row-returns-in_err-last-clause-deep
 row-returns-in_err-last-clause-deep t c =
     let text = c.args.text.now in
     deep_on (DeepKeys 128 c.args.level (text_at text c.args.at)) (DeepRow 128 c.args.level (text_at text c.args.at))
     c.in_err-last.field-0.0 c.from_residual.result c.from_residual.ensures.1 (λ p d. keys d)
-    c.in_err-last.ensures.deep
+    (λ other p d. row_keys (is_missed c.in_err-last.field-0.0.why (keys_of (text_at text c.args.at))
+    (λ keys. 128 < c.args.level + length keys.0 - 1) other
+    c.in_err-last.ensures.read) d) c.in_err-last.ensures.deep
+
+pub row-returns-in_default-clause-deep : goal.row-returns-in_default-clause-deep
+row-returns-in_default-clause-deep t c =
+    row_unassigned c.args.text.now c.args.at c.args.level c.args.self.now c.keys.new.self c.in_ok-last.last
+    c.in_ok-last.ensures.read c.in_default.ensures
 
 pub row-returns-in_err-valued-clause-deep : goal.row-returns-in_err-valued-clause-deep
 row-returns-in_err-valued-clause-deep t c =
@@ -234,14 +282,17 @@ row-returns-in_err-valued-clause-deep t c =
     (DeepRow 128 c.args.level (text_at text c.args.at)) c.in_err-valued.field-0.0
     c.from_residual-in_err-valued.result c.from_residual-in_err-valued.ensures.1
     (value_deep text c.args.at c.args.level c.args.self.now c.keys.new.self k.last c.in-Some.next
-    c.after_blanks.result k.ensures.read c.in-Some.ensures c.after_blanks.ensures) c.in_err-valued.ensures.deep
+    c.after_blanks.result k.ensures.read c.in-Some.ensures c.after_blanks.ensures)
+    (λ other. row_value text c.args.at c.args.level c.args.self.now c.keys.new.self k.last k.ensures.read
+    c.in-Some.next c.after_blanks.result c.in-Some.ensures c.after_blanks.ensures) c.in_err-valued.ensures.deep
 
 pub value-returns-in-Some-clause-deep : goal.value-returns-in-Some-clause-deep
 value-returns-in-Some-clause-deep t c =
     let text = c.args.text.now in
     deep_result (DeepArray 128 (c.args.level + 1) c.args.at (text_at text c.in-Some.next))
     (DeepValue 128 c.args.level (text_at text c.args.at)) c.array.result
-    (array_deep text c.args.at c.in-Some.next c.args.level c.in-Some.ensures) c.array.ensures.deep
+    (array_deep text c.args.at c.in-Some.next c.args.level c.in-Some.ensures)
+    (in_bracket text c.args.at c.in-Some.next c.args.level c.in-Some.ensures) c.array.ensures.deep
 
 pub value-returns-in-Some-after_punctuation-clause-deep : goal.value-returns-in-Some-after_punctuation-clause-deep
 value-returns-in-Some-after_punctuation-clause-deep t c =
@@ -249,17 +300,22 @@ value-returns-in-Some-after_punctuation-clause-deep t c =
     let text = c.args.text.now in
     deep_result (DeepInline 128 (c.args.level + 1) c.args.at (text_at text s.next))
     (DeepValue 128 c.args.level (text_at text c.args.at)) c.inline.result
-    (inline_deep text c.args.at s.next c.args.level s.ensures) c.inline.ensures.deep
+    (inline_deep text c.args.at s.next c.args.level s.ensures)
+    (in_brace text c.args.at s.next c.args.level s.ensures) c.inline.ensures.deep
 
 pub value-returns-then-begins_string-clause-deep : goal.value-returns-then-begins_string-clause-deep
 value-returns-then-begins_string-clause-deep t c =
     string_shallow c.args.text.now c.args.at (DeepValue 128 c.args.level (text_at c.args.text.now c.args.at))
-    c.string_value_at.result c.string_value_at.ensures.read
+    c.string_value_at.result
+    (λ p. no_bracket_too_deep c.args.text.now c.args.at c.args.level p c.in_default.ensures
+    c.in_default-after_punctuation.ensures) c.string_value_at.ensures.read
 
 pub value-returns-clause-deep : goal.value-returns-clause-deep
 value-returns-clause-deep t c =
     word_shallow c.args.text.now c.args.at (DeepValue 128 c.args.level (text_at c.args.text.now c.args.at))
-    c.word_at.result c.word_at.ensures.read
+    c.word_at.result
+    (λ p. no_bracket_too_deep c.args.text.now c.args.at c.args.level p c.in_default.ensures
+    c.in_default-after_punctuation.ensures) c.word_at.ensures.read
 
 -- the holes
 pub row-returns-in_err-last-clause-hole : goal.row-returns-in_err-last-clause-hole

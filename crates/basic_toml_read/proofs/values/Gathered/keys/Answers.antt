@@ -6,7 +6,7 @@ use Rattle.basic_toml_read.proofs.KeysTold.{stopped, keys_missing, keys_deep, ke
 use Rattle.basic_toml_read.proofs.KeysGathered.{keys_start, keys_more, keys_last}
 use Rattle.basic_toml_tokens.specs.Text.{text_at}
 use Rattle.basic_toml_grammar.specs.DeepStops.{DeepKeys}
-use Rattle.basic_toml_read.proofs.DeepStops.{raised, shallow, no_key_deep}
+use Rattle.basic_toml_read.proofs.DeepStops.{raised, shallow, no_key_deep, no_key_too_deep}
 use Rattle.basic_toml_grammar.specs.Holes.{HoleInKeys}
 use Rattle.basic_toml_read.specs.StopsReached.{InKeyHole}
 use Rattle.basic_toml_read.proofs.KeyHoles.{no_key_there}
@@ -57,6 +57,8 @@ returns-in_err-keyed-clause-deep c =
     shallow (DeepKeys 128 c.args.first (text_at c.args.text.now c.args.at)) stop c.from_residual.result
     c.from_residual.ensures.1
     (no_key_deep stop.why (text_at c.args.text.now c.loop-keyed.offset) c.in_err-keyed.ensures.read.0)
+    (λ other p d. no_key_too_deep stop.why (text_at c.args.text.now c.loop-keyed.offset) c.in_err-keyed.ensures.read.0
+    other c.loop-keyed.level p (c.loop-keyed.invariant.keys.backs p d))
 
 pub returns-in_err-raise-clause-deep : goal.returns-in_err-raise-clause-deep
 returns-in_err-raise-clause-deep c =

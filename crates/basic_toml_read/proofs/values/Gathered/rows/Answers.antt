@@ -1,4 +1,4 @@
-use Rattle.std.proofs.Common.{arith, ap, ◌∙◌}
+use Rattle.std.proofs.Common.{arith, ap, ◌∙◌, ◌<◌}
 use Rattle.basic_toml_grammar.specs.Reader.{end_of}
 use Rattle.basic_toml_read.specs.Lists.{ReadsRows}
 use Rattle.basic_toml_read.proofs.KeysTold.{stopped}
@@ -7,8 +7,10 @@ use Rattle.basic_toml_read.proofs.RowsRead.{rows_unended, rows_more, line_later,
 use Rattle.basic_toml_read.proofs.RowsRead.{bracket_no_gap, rows_no_gap}
 use Rattle.basic_toml_tokens.specs.Text.{text_at}
 use Rattle.basic_toml_grammar.specs.DeepStops.{DeepRow, DeepRows}
-use Rattle.basic_toml_read.proofs.RowsRead.{row_is_deep}
-use Rattle.basic_toml_read.proofs.DeepStops.{deep_on, shallow}
+use Rattle.basic_toml_read.specs.FrontOf.{row_of}
+use Rattle.basic_toml_read.specs.Gathers.{row_level}
+use Rattle.basic_toml_read.proofs.RowsRead.{row_is_deep, deep_in_row, none_in_comment, none_unended}
+use Rattle.basic_toml_read.proofs.DeepStops.{deep_on, shallow, is_missed}
 use Rattle.basic_toml_read.proofs.RowsRead.{comment_line, other_line, comment_unended}
 use Rattle.basic_toml_grammar.specs.Holes.{Hole}
 use Rattle.basic_toml_read.specs.StopsReached.{in_row, in_rows}
@@ -189,26 +191,60 @@ returns-in_err-at-in-None-clause-gaps c =
 pub returns-in_err-at-clause-deep : goal.returns-in_err-at-clause-deep
 returns-in_err-at-clause-deep c =
     let w = ap (λ (s : Stop). s.why) c.in_err-at.ensures.read.1 in
+    let i = c.loop-at.invariant in
+    let l = some_line c.args.text.now c.loop-at.at c.utf8.text i.boundary c.loop-at-test.true in
+    let h = sign_stands 35 c.args.text.now c.after_blanks-front.result c.after_punctuation-in-loop-at.result
+    c.after_punctuation-in-loop-at.ensures c.if-is_some-2.ensures in
+    let s = sign_lacks 91 c.args.text.now c.after_blanks-front.result c.after_punctuation.result
+    c.after_punctuation.ensures
+    c.if-is_some.ensures in
+    let same = comment_line c.args.text.now c.loop-at.at c.after_blanks-front.result c.after_comment.result
+    c.after_blanks-front.ensures c.after_comment.ensures in
     shallow (DeepRows 128 c.args.level (text_at c.args.text.now c.args.start)) c.in_err-at.field-0.0
     c.from_residual.result c.from_residual.ensures.1 (λ e. cc)
+    (λ other. none_in_comment c.args.text.now c.args.start c.args.level c.loop-at.at c.args.self.now c.loop-at.self i
+    l.0 l.1 l.2 c.after_blanks-front.result c.after_blanks-front.ensures s
+    (ap end_of same ∙ c.in_err-at.ensures.read.0) h.0 h.1)
 
 pub returns-in_err-end-in-None-clause-deep : goal.returns-in_err-end-in-None-clause-deep
 returns-in_err-end-in-None-clause-deep c =
     let i = c.loop-at.invariant in
     let l = some_line c.args.text.now c.loop-at.at c.utf8.text i.boundary c.loop-at-test.true in
     let text = c.args.text.now in
+    let s = sign_lacks 91 text c.after_blanks-front.result c.after_punctuation.result c.after_punctuation.ensures
+    c.if-is_some.ensures in
+    let h = sign_lacks 35 text c.after_blanks-front.result c.after_punctuation-in-loop-at.result
+    c.after_punctuation-in-loop-at.ensures c.if-is_some-2.ensures in
+    let line = other_line text c.loop-at.at c.after_blanks-front.result c.after_blanks-front.ensures h in
     deep_on (DeepRow 128 c.args.level (text_at text c.after_blanks-front.result))
     (DeepRows 128 c.args.level (text_at text c.args.start)) c.in_err-end-in-None.field-0.0
     c.from_residual-in_err-end-in-None.result
     c.from_residual-in_err-end-in-None.ensures.1
     (row_is_deep text c.args.start c.args.level c.loop-at.at c.args.self.now c.loop-at.self i l.0 l.1 l.2
-    c.after_blanks-front.result c.after_blanks-front.ensures) c.in_err-end-in-None.ensures.deep
+    c.after_blanks-front.result c.after_blanks-front.ensures)
+    (λ other. deep_in_row text c.args.start c.args.level c.loop-at.at c.args.self.now c.loop-at.self i l.0 l.1 l.2
+    c.after_blanks-front.result c.after_blanks-front.ensures s (line ∙ c.in-None.ensures)
+    (is_missed c.in_err-end-in-None.field-0.0.why (row_of (text_at text c.after_blanks-front.result))
+    (λ r. 128 < row_level c.args.level r) other
+    c.in_err-end-in-None.ensures.read)) c.in_err-end-in-None.ensures.deep
 
 pub returns-in_err-at-in-None-clause-deep : goal.returns-in_err-at-in-None-clause-deep
 returns-in_err-at-in-None-clause-deep c =
     let w = c.in_err-at-in-None.ensures.read.1 in
+    let i = c.loop-at.invariant in
+    let l = some_line c.args.text.now c.loop-at.at c.utf8.text i.boundary c.loop-at-test.true in
+    let s = sign_lacks 91 c.args.text.now c.after_blanks-front.result c.after_punctuation.result
+    c.after_punctuation.ensures
+    c.if-is_some.ensures in
+    let h = sign_lacks 35 c.args.text.now c.after_blanks-front.result c.after_punctuation-in-loop-at.result
+    c.after_punctuation-in-loop-at.ensures c.if-is_some-2.ensures in
+    let line = other_line c.args.text.now c.loop-at.at c.after_blanks-front.result c.after_blanks-front.ensures h in
     shallow (DeepRows 128 c.args.level (text_at c.args.text.now c.args.start)) c.in_err-at-in-None.field-0.0
     c.from_residual-in_err-at-in-None.result c.from_residual-in_err-at-in-None.ensures.1 (λ e. cc)
+    (λ other. none_unended c.args.text.now c.args.start c.args.level c.loop-at.at c.args.self.now c.loop-at.self i
+    l.0 l.1 l.2 c.after_blanks-front.result c.after_blanks-front.ensures s (line ∙ c.in-None.ensures) c.row.new.self
+    c.in_ok-end-in-None.end c.in_ok-end-in-None.ensures.read c.in_err-at-in-None.field-0.0
+    c.in_err-at-in-None.ensures.read)
 
 -- the holes
 pub returns-in_err-at-clause-hole : goal.returns-in_err-at-clause-hole

@@ -1,16 +1,17 @@
-use Rattle.std.proofs.Common.{◌≡◌, ℕ, ◌+◌, ◌<◌, length, subst, arith}
+use Rattle.std.proofs.Common.{◌≡◌, ℕ, ◌+◌, ◌<◌, length, ap, sym, ◌∙◌, subst, arith}
 use Rattle.basic_toml_tokens.specs.Text.{text_at}
-use Rattle.basic_toml_read.specs.FrontOf.{rows_of}
+use Rattle.basic_toml_read.specs.FrontOf.{rows_of, header_of}
 use Rattle.basic_toml_grammar.specs.Levels.{rows_level}
 use Rattle.basic_toml_read.specs.StopsAt.{Misses}
 use Rattle.basic_toml_read.specs.Lists.{AreRowsRead, ReadsSection}
 use Rattle.basic_toml_read.proofs.KeysTold.{stopped}
 use Rattle.basic_toml_read.proofs.ListsRead.{rows_missing, section_there}
-use Rattle.basic_toml_grammar.specs.DeepStops.{DeepRows, DeepHeader, DeepSection, header}
-use Rattle.basic_toml_read.proofs.ListsRead.{rows_are_deep}
-use Rattle.basic_toml_read.proofs.DeepStops.{deep_on, shallow}
-use Rattle.basic_toml_tokens.specs.Text.{after_blanks}
-use Rattle.basic_toml_read.specs.StopsReached.{in_header, in_rows, in_sections}
+use Rattle.basic_toml_grammar.specs.DeepStops.{DeepRows, DeepHeader, DeepSections, this_section, header}
+use Rattle.basic_toml_read.proofs.ListsRead.{rows_are_deep, deep_in_rows, none_after_header}
+use Rattle.basic_toml_read.proofs.NothingTooDeep.{its_header}
+use Rattle.basic_toml_read.proofs.DeepStops.{deep_on, shallow, is_missed}
+use Rattle.basic_toml_tokens.specs.Text.{Text, after_blanks}
+use Rattle.basic_toml_read.specs.StopsReached.{AtDeep, in_header, in_rows, in_sections}
 use Rattle.basic_toml_read.proofs.HolesLeadOn.{hole_on, moved_in, then_in, to_header}
 use Rattle.basic_toml_read.proofs.ListsRead.{line_hole, holes_of_rows}
 use Rattle.basic_toml_read.proofs.values.Gathered.section.Goals as goal
@@ -42,27 +43,36 @@ returns-clause-read c =
 pub returns-in_err-header-clause-deep : goal.returns-in_err-header-clause-deep
 returns-in_err-header-clause-deep c =
     let text = c.args.text.now in
-    deep_on (DeepHeader 128 (text_at text c.args.at)) (DeepSection 128 (text_at text c.args.at))
-    c.in_err-header.field-0.0 c.from_residual.result c.from_residual.ensures.1 (λ p d. header d)
+    λ line same. deep_on (DeepHeader 128 (text_at text c.args.at)) (DeepSections 128 line)
+    c.in_err-header.field-0.0 c.from_residual.result c.from_residual.ensures.1
+    (λ p d. this_section (header (subst (λ (t : Text). DeepHeader 128 t p) same d)))
+    (λ other p d. subst (λ (t : Text). DeepHeader 128 t p) (sym same) (its_header (ap header_of (sym same) ∙ is_missed
+    c.in_err-header.field-0.0.why (header_of (text_at text c.args.at)) (λ h. 128 < length h.keys + 1) other
+    c.in_err-header.ensures.read) d))
     c.in_err-header.ensures.deep
 
 pub returns-in_err-line-clause-deep : goal.returns-in_err-line-clause-deep
 returns-in_err-line-clause-deep c =
     let w = c.in_err-line.ensures.read.1 in
-    shallow (DeepSection 128 (text_at c.args.text.now c.args.at)) c.in_err-line.field-0.0
+    λ line same. shallow (DeepSections 128 line) c.in_err-line.field-0.0
     c.from_residual-in_err-line.result c.from_residual-in_err-line.ensures.1 (λ e. cc)
+    (λ other. none_after_header c.args.text.now c.args.at c.in_ok-header.header c.in_ok-header.ensures.read line same
+    c.in_err-line.ensures.read.0)
 
 pub returns-in_err-next-clause-deep : goal.returns-in_err-next-clause-deep
 returns-in_err-next-clause-deep c =
     let h = c.in_ok-header.header in
     let text = c.args.text.now in
     let counted : c.len.result ≡ length h.keys.items = omega (arith, c.len.ensures, h.keys.ok.0) in
-    deep_on (DeepRows 128 (length h.keys.items + 1) (text_at text c.in_ok-line.line))
-    (DeepSection 128 (text_at text c.args.at)) c.in_err-next.field-0.0
-    c.from_residual-in_err-next.result c.from_residual-in_err-next.ensures.1
-    (rows_are_deep text c.args.at h c.in_ok-header.ensures.read c.in_ok-line.line c.in_ok-line.ensures.read)
-    (λ d. subst (λ (n : ℕ). DeepRows 128 (n + 1) (text_at text c.in_ok-line.line) c.in_err-next.field-0.0.at) counted
-    (c.in_err-next.ensures.deep d))
+    let stop = c.in_err-next.field-0.0 in
+    λ line same. deep_on (DeepRows 128 (length h.keys.items + 1) (text_at text c.in_ok-line.line))
+    (DeepSections 128 line) stop c.from_residual-in_err-next.result c.from_residual-in_err-next.ensures.1
+    (rows_are_deep text c.args.at h c.in_ok-header.ensures.read c.in_ok-line.line c.in_ok-line.ensures.read line same)
+    (λ other. deep_in_rows text c.args.at h c.in_ok-header.ensures.read c.in_ok-line.line c.in_ok-line.ensures.read
+    line same (is_missed stop.why (rows_of (text_at text c.in_ok-line.line))
+    (λ r. 128 < rows_level (c.len.result + 1) r.0) other c.in_err-next.ensures.read))
+    (subst (λ (n : ℕ). AtDeep (DeepRows 128 (n + 1) (text_at text c.in_ok-line.line)) stop.why stop.at) counted
+    c.in_err-next.ensures.deep)
 
 -- the holes
 pub returns-in_err-header-clause-hole : goal.returns-in_err-header-clause-hole

@@ -1,0 +1,218 @@
+-- Where the tree of mentions has data at a path, a mention leads there: it goes on from the path, or the path goes on from
+-- it into its value.
+use Rattle.std.proofs.Common.{◌≡◌, ◌+◌, ℕ, zero, suc, Bool, true, false, cond, List, [], ◌∷◌, Option, Some}
+use Rattle.std.proofs.Common.{None, refl, ap, sym, ◌∙◌, arith}
+use Rattle.std.specs.Prelude.{◌||◌, ◌&&◌, if◌then◌else◌, is_some, slice_get, nat_eq}
+use Rattle.std.specs.List.{list_any}
+use Rattle.std.specs.Str.{bytes_eq}
+use Rattle.std.specs.Option.{option_and_then}
+use Rattle.std.proofs.lemmas.Bool.{false≢true, or_left, or_right}
+use Rattle.basic_toml_value.specs.Data.{Data}
+use Rattle.basic_toml_grammar.specs.Sections.{KeyTexts, texts, Rows, no_rows, row}
+use Rattle.basic_toml_grammar.specs.Steps.{Step, key, number, Path, step_eq, steps_of}
+use Rattle.basic_toml_grammar.specs.Tree.{Mention}
+use Rattle.basic_toml_grammar.specs.Growth.{Growth, grown, Branches, no_branches, branch, nothing_grown, shoot, grow}
+use Rattle.basic_toml_grammar.specs.Growth.{grow_at, grow_all, closed, closed_branches, members_of, items_of, tree_of}
+use Rattle.basic_toml_grammar.specs.Mentions.{finished, row_mentions}
+use Rattle.basic_toml_grammar.specs.Entering.{element_count}
+use Rattle.basic_toml_grammar.specs.Trie.{Trie, trie, Tries, no_tries, by, bare, bare_tries}
+use Rattle.basic_toml_grammar.proofs.Clash.ClashesAgree.{turn_eq}
+use Rattle.basic_toml_grammar.proofs.Clash.StepTestsDecide.{step_is}
+use Rattle.basic_toml_grammar.proofs.Tries.NumbersInTurn as tries
+use Rattle.basic_toml_tree.specs.Nodes.{data_among, listed}
+use Rattle.basic_toml_tree.specs.Paths.{data_along}
+
+-- the numbers among the branches are those from the first on, and so at each node
+abbrev mutual
+  pub InTurn : Growth → Type 0
+  InTurn (grown v bs) = Counts 0 bs
+
+  pub Counts : ℕ → Branches → Type 0
+  Counts j no_branches = Unit {0}
+  Counts j (branch (key k) g bs) = InTurn g × Counts j bs
+  Counts j (branch (number i) g bs) = (i ≡ j) × InTurn g × Counts (suc j) bs
+
+-- so it is of a trie that sections went into
+mutual
+  pub bare_in_turn : (t : Trie) → tries.InTurn t → InTurn (bare t)
+  bare_in_turn (trie s v ts) h = bare_counts 0 (element_count s) ts h
+
+  bare_counts : (j n : ℕ) (ts : Tries) → tries.Counts j n ts → Counts j (bare_tries ts)
+  bare_counts j n no_tries h = tt
+  bare_counts j n (by (key k) t ts) h = (bare_in_turn t h.0, bare_counts j n ts h.1)
+  bare_counts j n (by (number i) t ts) h = (h.0, bare_in_turn t h.1, bare_counts (suc j) n ts h.2)
+
+-- and of rows, which have keys alone
+shoot_keys : (ks : KeyTexts) (v : Option Data) → InTurn (shoot (steps_of ks) v)
+shoot_keys [] v = tt
+shoot_keys (k ∷ ks) v = (shoot_keys ks v, tt)
+
+grow_at_key : (k : List ℕ) (p : Path) (v : Option Data) → ((g : Growth) → InTurn g → InTurn (grow g p v))
+    → InTurn (shoot p v) → (j : ℕ) (bs : Branches) → Counts j bs → Counts j (grow_at bs (key k) p v)
+grow_at_key k p v f shot j no_branches h = (shot, tt)
+grow_at_key k p v f shot j (branch (number i) g bs) h = (h.0, h.1, grow_at_key k p v f shot (suc j) bs h.2)
+grow_at_key k p v f shot j (branch (key l) g bs) h = go (step_eq (key l) (key k)) (grow_at_key k p v f shot j bs h.1)
+  where
+    go : (b : Bool) → Counts j (grow_at bs (key k) p v)
+        → Counts j (if b then branch (key l) (grow g p v) bs else branch (key l) g (grow_at bs (key k) p v))
+    go true later = (f g h.0, h.1)
+    go false later = (h.0, later)
+
+grow_keys : (ks : KeyTexts) (v : Option Data) (g : Growth) → InTurn g → InTurn (grow g (steps_of ks) v)
+grow_keys [] v (grown o bs) h = h
+grow_keys (k ∷ ks) v (grown o bs) h =
+    grow_at_key k (steps_of ks) v (λ g h. grow_keys ks v g h) (shoot_keys ks v) 0 bs h
+
+grow_rows : (rows : Rows) (g : Growth) → InTurn g → InTurn (grow_all g (row_mentions [] rows))
+grow_rows no_rows g h = h
+grow_rows (row keys at v rows) g h =
+    grow_rows rows (grow g (steps_of (texts keys)) (Some (finished v)))
+    (grow_keys (texts keys) (Some (finished v)) g h)
+
+pub rows_in_turn : (rows : Rows) → InTurn (grow_all nothing_grown (row_mentions [] rows))
+rows_in_turn rows = grow_rows rows nothing_grown tt
+
+-- a path that branches lead along, or that ends in a value on the way
+abbrev mutual
+  reaches : Growth → Path → Bool
+  reaches (grown o bs) [] = true
+  reaches (grown (Some v) bs) (s ∷ p) = is_some (data_along (s ∷ p) v)
+  reaches (grown None bs) (s ∷ p) = reaches_by bs s p
+
+  reaches_by : Branches → Step → Path → Bool
+  reaches_by no_branches s p = false
+  reaches_by (branch t g bs) s p = if step_eq t s then reaches g p else reaches_by bs s p
+
+-- what stands at a step among branches
+abbrev among_branches : Step → Branches → Option Data
+among_branches (key k) bs = data_among (members_of bs) k
+among_branches (number n) bs = slice_get (listed (items_of bs)) n
+
+by_step : (bs : Branches) (s : Step) (p : Path) → is_some (data_along (s ∷ p) (closed_branches bs)) ≡ true
+    → is_some (option_and_then (data_along p) (among_branches s bs)) ≡ true
+by_step no_branches (key k) p e = e
+by_step no_branches (number n) p e = e
+by_step (branch (key l) g bs) (key k) p e = e
+by_step (branch (key l) g bs) (number n) p e = absurd (false≢true e)
+by_step (branch (number i) g bs) (key k) p e = absurd (false≢true e)
+by_step (branch (number i) g bs) (number n) p e = e
+
+mutual
+  closed_reached : (g : Growth) (p : Path) → InTurn g → is_some (data_along p (closed g)) ≡ true → reaches g p ≡ true
+  closed_reached (grown o bs) [] h e = refl
+  closed_reached (grown (Some v) bs) (s ∷ p) h e = e
+  closed_reached (grown None bs) (key k ∷ p) h e = members_reached bs 0 k p h (by_step bs (key k) p e)
+  closed_reached (grown None bs) (number n ∷ p) h e =
+      items_reached bs 0 n n p (omega arith) h (by_step bs (number n) p e)
+
+  members_reached : (bs : Branches) (j : ℕ) (k : List ℕ) (p : Path) → Counts j bs
+      → is_some (option_and_then (data_along p) (data_among (members_of bs) k)) ≡ true
+      → reaches_by bs (key k) p ≡ true
+  members_reached no_branches j k p h e = e
+  members_reached (branch (number i) g bs) j k p h e = members_reached bs (suc j) k p h.2 e
+  members_reached (branch (key l) g bs) j k p h e =
+      ap (λ b. if b then reaches g p else reaches_by bs (key k) p) (turn_eq (key l) (key k))
+      ∙ go (bytes_eq k l) (λ e. closed_reached g p h.0 e) (λ e. members_reached bs j k p h.1 e) e
+    where
+      go : (b : Bool) → (is_some (data_along p (closed g)) ≡ true → reaches g p ≡ true)
+          → (is_some (option_and_then (data_along p) (data_among (members_of bs) k)) ≡ true
+          → reaches_by bs (key k) p ≡ true)
+          → is_some (option_and_then (data_along p) (cond b (Some (closed g)) (data_among (members_of bs) k))) ≡ true
+          → (if b then reaches g p else reaches_by bs (key k) p) ≡ true
+      go true here later e = here e
+      go false here later e = later e
+
+  items_reached : (bs : Branches) (j n m : ℕ) (p : Path) → m ≡ j + n → Counts j bs
+      → is_some (option_and_then (data_along p) (slice_get (listed (items_of bs)) n)) ≡ true
+      → reaches_by bs (number m) p ≡ true
+  items_reached no_branches j n m p is h e = e
+  items_reached (branch (key l) g bs) j n m p is h e = items_reached bs j n m p is h.1 e
+  items_reached (branch (number i) g bs) j zero m p is h e =
+      let same : nat_eq i m ≡ true = grind (arith, is, h.0) in
+      rw same (closed_reached g p h.1 e)
+  items_reached (branch (number i) g bs) j (suc n) m p is h e =
+      let other : nat_eq i m ≡ false = grind (arith, is, h.0) in
+      rw other (items_reached bs (suc j) n m p (omega (arith, is)) h.2 e)
+
+-- a mention that leads to a path
+abbrev pub leads : Path → Option Data → Path → Bool
+leads [] v [] = true
+leads (t ∷ w) v [] = true
+leads [] None (s ∷ p) = false
+leads [] (Some d) (s ∷ p) = is_some (data_along (s ∷ p) d)
+leads (t ∷ w) v (s ∷ p) = step_eq t s && leads w v p
+
+abbrev pub any_leads : List Mention → Path → Bool
+any_leads ms p = list_any (λ m. leads m.path m.value p) ms
+
+shoot_leads : (w : Path) (v : Option Data) (p : Path) → reaches (shoot w v) p ≡ true → leads w v p ≡ true
+shoot_leads [] v [] e = refl
+shoot_leads (t ∷ w) v [] e = refl
+shoot_leads [] None (s ∷ p) e = e
+shoot_leads [] (Some d) (s ∷ p) e = e
+shoot_leads (t ∷ w) v (s ∷ p) e = go (step_eq t s) (λ e. shoot_leads w v p e) e
+  where
+    go : (b : Bool) → (reaches (shoot w v) p ≡ true → leads w v p ≡ true)
+        → (if b then reaches (shoot w v) p else false) ≡ true → (b && leads w v p) ≡ true
+    go true on e = on e
+    go false on e = e
+
+mutual
+  grow_leads : (g : Growth) (w : Path) (v : Option Data) (p : Path) → reaches (grow g w v) p ≡ true
+      → (reaches g p || leads w v p) ≡ true
+  grow_leads (grown o bs) w v [] e = refl
+  grow_leads (grown (Some d) bs) [] v (s ∷ p) e = or_left _ _ e
+  grow_leads (grown None bs) [] None (s ∷ p) e = or_left _ _ e
+  grow_leads (grown None bs) [] (Some d) (s ∷ p) e = or_right _ _ e
+  grow_leads (grown (Some d) bs) (t ∷ w) v (s ∷ p) e = or_left _ _ e
+  grow_leads (grown None bs) (t ∷ w) v (s ∷ p) e = at_leads bs t w v s p e
+
+  at_leads : (bs : Branches) (t : Step) (w : Path) (v : Option Data) (s : Step) (p : Path)
+      → reaches_by (grow_at bs t w v) s p ≡ true → (reaches_by bs s p || (step_eq t s && leads w v p)) ≡ true
+  at_leads no_branches t w v s p e = go (step_eq t s) e
+    where
+      go : (b : Bool) → (if b then reaches (shoot w v) p else false) ≡ true → (b && leads w v p) ≡ true
+      go true e = shoot_leads w v p e
+      go false e = e
+  at_leads (branch r g bs) t w v s p e =
+      go (step_eq r t) refl (λ e. grow_leads g w v p e) (λ e. at_leads bs t w v s p e) e
+    where
+      here : (c : Bool) → (reaches (grow g w v) p ≡ true → (reaches g p || leads w v p) ≡ true)
+          → (if c then reaches (grow g w v) p else reaches_by bs s p) ≡ true
+          → ((if c then reaches g p else reaches_by bs s p) || (c && leads w v p)) ≡ true
+      here true first e = first e
+      here false first e = or_left _ _ e
+
+      there : (c : Bool) → (reaches_by (grow_at bs t w v) s p ≡ true
+          → (reaches_by bs s p || (step_eq t s && leads w v p)) ≡ true)
+          → (if c then reaches g p else reaches_by (grow_at bs t w v) s p) ≡ true
+          → ((if c then reaches g p else reaches_by bs s p) || (step_eq t s && leads w v p)) ≡ true
+      there true later e = or_left _ _ e
+      there false later e = later e
+
+      go : (b : Bool) → step_eq r t ≡ b → (reaches (grow g w v) p ≡ true → (reaches g p || leads w v p) ≡ true)
+          → (reaches_by (grow_at bs t w v) s p ≡ true → (reaches_by bs s p || (step_eq t s && leads w v p)) ≡ true)
+          → reaches_by (if b then branch r (grow g w v) bs else branch r g (grow_at bs t w v)) s p ≡ true
+          → ((if step_eq r s then reaches g p else reaches_by bs s p) || (step_eq t s && leads w v p)) ≡ true
+      go true at first later e =
+          ap (λ t. (if step_eq r s then reaches g p else reaches_by bs s p) || (step_eq t s && leads w v p))
+          (sym (step_is r t at)) ∙ here (step_eq r s) first e
+      go false at first later e = there (step_eq r s) later e
+
+one_more : (a b c d : Bool) → (d ≡ true → (a || b) ≡ true) → (d || c) ≡ true → (a || (b || c)) ≡ true
+one_more true b c d first e = refl
+one_more false true c d first e = refl
+one_more false false c false first e = e
+one_more false false c true first e = absurd (false≢true (first refl))
+
+all_lead : (ms : List Mention) (g : Growth) (p : Path) → reaches (grow_all g ms) p ≡ true
+    → (reaches g p || any_leads ms p) ≡ true
+all_lead [] g p e = or_left (reaches g p) (any_leads [] p) e
+all_lead (m ∷ ms) g p e =
+    one_more (reaches g p) (leads m.path m.value p) (any_leads ms p) (reaches (grow g m.path m.value) p)
+    (λ here. grow_leads g m.path m.value p here) (all_lead ms (grow g m.path m.value) p e)
+
+pub tree_leads : (ms : List Mention) (s : Step) (p : Path) → InTurn (grow_all nothing_grown ms)
+    → is_some (data_along (s ∷ p) (tree_of ms)) ≡ true → any_leads ms (s ∷ p) ≡ true
+tree_leads ms s p h e =
+    all_lead ms nothing_grown (s ∷ p) (closed_reached (grow_all nothing_grown ms) (s ∷ p) h e)
