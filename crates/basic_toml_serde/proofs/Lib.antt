@@ -1,0 +1,3 @@
+pub mod PartsAdded
+pub mod ReadingEnds
+pub mod ItemsAreSent

@@ -1,0 +1,7 @@
+pub mod Added
+pub mod Ahead
+pub mod Answers
+pub mod Parts
+pub mod Sent
+pub mod Taken
+pub mod Written

@@ -1,0 +1,392 @@
+//! The steps of a reading.
+ghost use Rattle.std.specs.Prelude.{◌≡◌, IfOk, IfSome, encode_utf8};
+ghost use Rattle.basic_toml_serde.specs.Taken.{Stays, TakesInteger, PassesKey, Reads, Picks, Looks};
+
+use crate::fault::Fault;
+use crate::notes::Step;
+use crate::reader::Reader;
+use crate::source::Source;
+use crate::walk::Mark;
+use serde::{Format, Kind, Name, find};
+use std::alloc::Global;
+use std::num::{nearest_f64_to_f32_with_nan, nearest_i64_to_f64};
+use std::str::FromStr;
+
+/// The character that a text is.
+fn only_char(text: &str) -> Option<char>
+    ensures { IfSome result (λ c. text.now ≡ encode_utf8 c) }
+{
+    let mut chars = text.chars();
+    match (chars.next(), chars.next()) {
+        (Some(c), None) => Some(c),
+        _ => None,
+    }
+}
+
+impl<N: Source> Reader<N> {
+    /// The float that comes next, or the integer as one.
+    fn float(&mut self, expected: &str) -> Result<f64, Fault>
+        ensures { Stays self.old self.new }
+    {
+        self.note(Step::Other);
+        let Some(item) = self.walk.value() else {
+            return Err(self.wrong_type(expected));
+        };
+        if let Some(text) = item.float() {
+            return match f64::from_str(text) {
+                Ok(number) => Ok(number),
+                Err(_) => Err(self.wrong_value(expected)),
+            };
+        }
+        match item.integer() {
+            Some(number) => Ok(nearest_i64_to_f64(number)),
+            None => Err(self.wrong_type(expected)),
+        }
+    }
+
+    /// The integer that comes next, for a type that takes wide ones.
+    fn wide(&mut self, expected: &str) -> Result<i128, Fault>
+        ensures { IfOk result (λ z. TakesInteger N.data_of self.old z self.new) }
+    {
+        self.note(Step::Other);
+        match self.integer_here() {
+            Some(number) => Ok(i128::from(number)),
+            None => Err(self.wrong_type(expected)),
+        }
+    }
+
+    /// The bytes that an array of integers has.
+    fn bytes_of(&self, alloc: Global, array: N) -> Result<Vec<u8>, Fault> {
+        let mut elements = Vec::new(alloc);
+        if array.add_elements(&mut elements).is_err() {
+            return Err(Fault::OutOfMemory);
+        }
+        let mut bytes = Vec::new(alloc);
+        for element in &elements {
+            let Some(number) = element.integer() else {
+                return Err(self.wrong_type("a byte array"));
+            };
+            let Ok(byte) = u8::try_from(number) else {
+                return Err(self.wrong_value("a byte array"));
+            };
+            if bytes.push(byte).is_err() {
+                return Err(Fault::OutOfMemory);
+            }
+        }
+        Ok(bytes)
+    }
+
+    /// The kind of what comes next.
+    fn kind(&self) -> Kind {
+        let Some(item) = self.walk.value() else {
+            return Kind::Str;
+        };
+        if item.string().is_some() {
+            return Kind::Str;
+        }
+        if item.is_table() {
+            return Kind::Map;
+        }
+        if item.is_array() {
+            return Kind::Seq;
+        }
+        if item.truth().is_some() {
+            return Kind::Bool;
+        }
+        match item.integer() {
+            Some(number) if number < 0 => Kind::Signed,
+            Some(_) => Kind::Unsigned,
+            None => Kind::Float,
+        }
+    }
+}
+
+impl<N: Source> Format for Reader<N> {
+    type Error = Fault;
+
+    type Mark = Mark;
+
+    ghost gives = { λ old _ e new. Reads N.key_of N.data_of old e new };
+
+    ghost picks = { λ old _ is_key names at new. Picks N.key_of N.data_of old is_key names at new };
+
+    ghost stays = { Looks };
+
+    fn bool(&mut self, _input: &[u8]) -> Result<bool, Fault> {
+        self.note(Step::Other);
+        if let Some(item) = self.walk.value() {
+            if let Some(truth) = item.truth() {
+                return Ok(truth);
+            }
+        }
+        Err(self.wrong_type("a boolean"))
+    }
+
+    #[inline]
+    fn i64(&mut self, _input: &[u8]) -> Result<i64, Fault> {
+        self.integer(true)
+    }
+
+    #[inline]
+    fn u64(&mut self, _input: &[u8]) -> Result<u64, Fault> {
+        match u64::try_from(self.integer(false)?) {
+            Ok(number) => Ok(number),
+            Err(_) => Err(self.wrong_integer(false)),
+        }
+    }
+
+    fn i128(&mut self, _input: &[u8]) -> Result<i128, Fault> {
+        self.wide("i128")
+    }
+
+    fn u128(&mut self, _input: &[u8]) -> Result<u128, Fault> {
+        match u128::try_from(self.wide("u128")?) {
+            Ok(number) => Ok(number),
+            Err(_) => Err(self.wrong_value("u128")),
+        }
+    }
+
+    fn f32(&mut self, _input: &[u8]) -> Result<f32, Fault> {
+        Ok(nearest_f64_to_f32_with_nan(self.float("f32")?))
+    }
+
+    fn f64(&mut self, _input: &[u8]) -> Result<f64, Fault> {
+        self.float("f64")
+    }
+
+    fn char(&mut self, _input: &[u8]) -> Result<char, Fault> {
+        self.note(Step::Other);
+        let Some(text) = self.walk.text() else {
+            return Err(self.wrong_type("a character"));
+        };
+        match only_char(text) {
+            Some(c) => {
+                self.walk.at_key = false;
+                Ok(c)
+            }
+            None => Err(self.wrong_value("a character")),
+        }
+    }
+
+    fn plain_str(&mut self, input: &[u8]) -> Result<(usize, usize), Fault> {
+        self.note(Step::Other);
+        match self.walk.span(input) {
+            Some(span) => {
+                self.walk.at_key = false;
+                Ok(span)
+            }
+            None => Err(self.wrong_type("a borrowed string")),
+        }
+    }
+
+    fn plain_bytes(&mut self, input: &[u8]) -> Result<(usize, usize), Fault> {
+        self.plain_str(input)
+    }
+
+    #[inline]
+    fn string(&mut self, alloc: Global, _input: &[u8]) -> Result<String, Fault> {
+        self.note(Step::Other);
+        let Some(text) = self.walk.text() else {
+            return Err(self.wrong_type("a string"));
+        };
+        match String::from_str(alloc, text) {
+            Ok(copy) => {
+                self.walk.at_key = false;
+                Ok(copy)
+            }
+            Err(_) => Err(Fault::OutOfMemory),
+        }
+    }
+
+    fn byte_buf(&mut self, alloc: Global, _input: &[u8]) -> Result<Vec<u8>, Fault> {
+        self.note(Step::Other);
+        if let Some(item) = self.walk.value() {
+            if item.is_array() {
+                self.walk.at_key = false;
+                return self.bytes_of(alloc, item);
+            }
+        }
+        let Some(text) = self.walk.text() else {
+            return Err(self.wrong_type("a byte array"));
+        };
+        match Vec::from_slice(alloc, text.as_bytes()) {
+            Ok(bytes) => {
+                self.walk.at_key = false;
+                Ok(bytes)
+            }
+            Err(_) => Err(Fault::OutOfMemory),
+        }
+    }
+
+    fn peek(&mut self, _input: &[u8]) -> Result<Kind, Fault> {
+        self.note(Step::Look);
+        Ok(self.kind())
+    }
+
+    /// TOML has no unit.
+    fn take_unit(&mut self, _input: &[u8]) -> Result<bool, Fault> {
+        Err(self.wrong_type("unit"))
+    }
+
+    /// An option that is not there is a key that is left out.
+    #[inline(always)]
+    fn take_none(&mut self, _input: &[u8]) -> Result<bool, Fault> {
+        Ok(false)
+    }
+
+    fn begin_seq(&mut self, _input: &[u8]) -> Result<(), Fault> {
+        self.note(Step::Other);
+        self.begin_array()
+    }
+
+    #[inline]
+    fn next_item(&mut self, _input: &[u8]) -> Result<bool, Fault> {
+        if self.walk.advance() {
+            self.note(Step::Element);
+            return Ok(true);
+        }
+        self.walk.leave();
+        self.note(Step::Other);
+        Ok(false)
+    }
+
+    fn end_tuple(&mut self, input: &[u8]) -> Result<(), Fault> {
+        if self.next_item(input)? {
+            Err(self.wrong_len())
+        } else {
+            Ok(())
+        }
+    }
+
+    fn begin_map(&mut self, _input: &[u8]) -> Result<(), Fault> {
+        let may_be_enum = self.may_be_enum();
+        self.note(Step::Other);
+        self.begin_table(if may_be_enum {
+            "a string or a map"
+        } else {
+            "a map"
+        })
+    }
+
+    /// An array gives the fields in their order.
+    #[inline]
+    fn begin_struct(&mut self, _input: &[u8]) -> Result<bool, Fault> {
+        self.note(Step::Other);
+        if let Some(item) = self.walk.value() {
+            if item.is_array() {
+                self.begin_array()?;
+                return Ok(true);
+            }
+        }
+        self.begin_table("a map")?;
+        Ok(false)
+    }
+
+    #[inline(always)]
+    fn next_key(&mut self, _input: &[u8], names: &[Name<'_>]) -> Result<Option<usize>, Fault> {
+        if !self.walk.advance() {
+            self.walk.leave();
+            self.note_names(names, Step::End)?;
+            return Ok(None);
+        }
+        let Some(key) = self.walk.key() else {
+            return Err(self.wrong_type("a map"));
+        };
+        let at = find(names, key);
+        self.note_names(names, Step::Key)?;
+        Ok(Some(at))
+    }
+
+    fn next_entry(&mut self, _input: &[u8]) -> Result<bool, Fault> {
+        if self.walk.advance_to_key() {
+            self.note(Step::Other);
+            return Ok(true);
+        }
+        self.walk.leave();
+        self.note(Step::Other);
+        Ok(false)
+    }
+
+    fn variant(&mut self, _input: &[u8], names: &[Name<'_>]) -> Result<usize, Fault> {
+        let Some(text) = self.walk.text() else {
+            return Err(self.wrong_type("a string"));
+        };
+        let at = find(names, text);
+        self.note_names(names, Step::Variant)?;
+        self.walk.at_key = false;
+        Ok(at)
+    }
+
+    #[inline]
+    fn skip(&mut self, _input: &[u8]) -> Result<(), Fault>
+        ensures { PassesKey self.old self.new }
+    {
+        self.walk.at_key = false;
+        Ok(())
+    }
+
+    fn mark(&mut self) -> Mark {
+        self.walk.mark()
+    }
+
+    fn rewind(&mut self, mark: Mark) {
+        self.walk.rewind(mark);
+        self.note(Step::Return);
+    }
+
+    fn release(&mut self, _mark: Mark) {}
+
+    fn is_fatal(&self, error: &Fault) -> bool {
+        error.is_out_of_memory()
+    }
+
+    fn missing(&self, name: &str) -> Fault {
+        match &self.notes {
+            Some(notes) => self.no_key(notes, name),
+            None => Fault::Unspoken,
+        }
+    }
+
+    fn duplicate(&self, name: &str) -> Fault {
+        match &self.notes {
+            Some(notes) => self.second_key(notes, name),
+            None => Fault::Unspoken,
+        }
+    }
+
+    fn unknown_key(&self) -> Fault {
+        match &self.notes {
+            Some(notes) => self.no_field(notes),
+            None => Fault::Unspoken,
+        }
+    }
+
+    fn unknown_variant(&self) -> Fault {
+        match &self.notes {
+            Some(notes) => self.no_variant(notes),
+            None => Fault::Unspoken,
+        }
+    }
+
+    fn wrong_len(&self) -> Fault {
+        match &self.notes {
+            Some(notes) => self.other_length(notes),
+            None => Fault::Unspoken,
+        }
+    }
+
+    fn invalid(&self) -> Fault {
+        match &self.notes {
+            Some(notes) => self.refused(notes),
+            None => Fault::Unspoken,
+        }
+    }
+
+    fn no_memory(&self) -> Fault {
+        Fault::OutOfMemory
+    }
+
+    fn custom(&self, message: &str) -> Fault {
+        self.own_message(message)
+    }
+}

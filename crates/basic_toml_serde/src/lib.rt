@@ -1,0 +1,38 @@
+//! Derived types over [`basic_toml`]: what derives the kit's `serde` is read from a text, and written as one.
+//!
+//! ```text
+//! #[derive(Drop, Serialize, Deserialize)]
+//! #[serde(rename_all = "kebab-case")]
+//! pub struct Manifest {
+//!     pub package: Package,
+//!     #[serde(default)]
+//!     pub dependencies: BTreeMap<String, Dependency>,
+//! }
+//!
+//! let manifest: Manifest = from_str(alloc, text)?;
+//! let text = to_string(alloc, &manifest)?;
+//! ```
+//!
+//! This is from the program `derived_manifest`.
+//!
+//! A record is a table, a list an array, a newtype what it holds, and an option that is not there a key that is left
+//! out. A variant without data is a string; one with data is a table of one key, unless the type names a tag.
+#![tactic(auto)]
+
+mod de;
+mod fault;
+mod format;
+mod names;
+mod notes;
+mod part;
+mod parts;
+mod reader;
+mod sender;
+mod ser;
+mod source;
+mod walk;
+mod writer;
+
+pub use basic_toml::Error;
+pub use de::{from_slice, from_str};
+pub use ser::to_string;
