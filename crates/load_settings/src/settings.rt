@@ -1,7 +1,9 @@
 //! Settings with defaults.
-ghost use Rattle.std.specs.Prelude.{◌≡◌, ◌∷◌, [], Option, unwrap_or, false};
+ghost use Rattle.std.specs.Prelude.{◌≡◌, ◌∷◌, [], Option, unwrap_or, false, codes};
+ghost use Rattle.basic_toml.specs.FieldFaults.{in_field, in_optional, only_these};
 ghost use Rattle.basic_toml.specs.FieldKeys.{key_of};
 ghost use Rattle.basic_toml.specs.Reading.{ReadsText};
+ghost use Rattle.basic_toml.specs.TypeAnswers.{no_fault};
 ghost use Rattle.basic_toml.specs.TypeReads.{HasOnly, field_reads, optional_reads};
 
 use basic_toml::{
@@ -26,6 +28,13 @@ impl<'de> Deserialize<'de> for Settings {
         × ((verbose : Option _) × optional_reads ⟦<bool as Deserialize<'static>>⟧.reads (key_of "verbose") d verbose
         × (s.verbose ≡ unwrap_or verbose false)) };
 
+    ghost faults = { only_these (codes "host" ∷ codes "port" ∷ codes "verbose" ∷ [])
+        (in_field ⟦<String as Deserialize<'static>>⟧.faults ⟦<String as Deserialize<'static>>⟧.reads (codes "host")
+        (in_optional ⟦<u16 as Deserialize<'static>>⟧.faults ⟦<u16 as Deserialize<'static>>⟧.reads (codes "port")
+        (in_optional ⟦<bool as Deserialize<'static>>⟧.faults ⟦<bool as Deserialize<'static>>⟧.reads (codes "verbose")
+        no_fault))) };
+
+    #[tactic(auto, unfolding(basic_toml_typed::specs::FieldFaults::only_fails, basic_toml_typed::specs::TypeReads::HasOnly))]
     fn deserialize(alloc: Global, node: Node<'_, 'de>) -> Result<Settings, Error> {
         only_fields(alloc, node, &["host", "port", "verbose"])?;
         let host = read_field(alloc, node, "host")?;
