@@ -1,5 +1,3 @@
-mod texts;
-
 use super::run;
 use std::io::{self, Read, Write};
 use std::test::Fail;
