@@ -3,6 +3,7 @@ use crate::calls::Outcome;
 use crate::escapes::{bytes_of, push_escaped, spread};
 use crate::lists::{of_joined, of_reversed};
 use crate::numbers::number_of;
+use crate::own_types::read_as_own;
 use crate::sections_shown::sections_of;
 use crate::targets::read_as;
 use crate::tokens_shown::tokens_of;
@@ -97,6 +98,14 @@ fn of_type(alloc: Global, text: &str, is_root: bool, rest: &str) -> Result<Pair,
     }
 }
 
+fn of_own_type(alloc: Global, text: &str, rest: &str) -> Result<Pair, AllocError> {
+    let (kind, wanted) = rest.split_once(' ').unwrap_or((rest, ""));
+    match read_as_own(alloc, kind, text) {
+        Some(got) => plain(alloc, wanted, got?),
+        None => plain(alloc, wanted, String::from_str(alloc, "no such type")?),
+    }
+}
+
 // Lines about the parts of reading, which only a text has.
 fn answer_of_text(alloc: Global, text: &str, word: &str, rest: &str) -> Result<Pair, AllocError> {
     match word {
@@ -106,6 +115,7 @@ fn answer_of_text(alloc: Global, text: &str, word: &str, rest: &str) -> Result<P
         "joined" => of_joined_line(alloc, text, rest),
         "v" => of_type(alloc, text, false, rest),
         "root" => of_type(alloc, text, true, rest),
+        "own" => of_own_type(alloc, text, rest),
         "integer" | "float" | "no" => {
             let wanted = format!(in alloc; "{word} {rest}")?;
             Ok((wanted, number_of(alloc, text)?))

@@ -10,6 +10,7 @@ mod escapes;
 mod lists;
 mod nodes;
 mod numbers;
+mod own_types;
 mod properties;
 mod random;
 mod report;
