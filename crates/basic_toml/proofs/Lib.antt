@@ -6,3 +6,4 @@ pub mod RefusedTextsHaveNoDocument
 pub mod RespelledTextIsRead
 pub mod OneAnswer
 pub mod OrderReadBack
+pub mod MemoryHasNoPlace

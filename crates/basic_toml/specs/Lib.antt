@@ -2,6 +2,7 @@ pub mod Reading
 pub mod Ser
 pub mod ReadBack
 pub mod OneAnswer
+pub mod Memory
 pub mod OrderReadBack
 pub mod tokens
 pub use Rattle.basic_toml_value.specs.Data

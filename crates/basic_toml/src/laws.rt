@@ -4,6 +4,8 @@ ghost use Rattle.basic_toml_tokens.specs.Text.{folded};
 ghost use Rattle.basic_toml_value.specs.Data.{Data};
 ghost use Rattle.basic_toml_grammar.specs.Document.{IsDocument};
 ghost use Rattle.basic_toml_grammar.specs.Faults as read;
+ghost use Rattle.basic_toml.specs.Memory.{ReadsWithoutPlace, TreesWithoutPlace, WritesWithoutPlace};
+ghost use Rattle.basic_toml.specs.Memory.{RoundTripsWithoutPlace};
 ghost use Rattle.basic_toml.specs.OrderReadBack.{RowsFirstIsReadBack};
 ghost use Rattle.basic_toml.specs.OneAnswer.{WritesOneAnswer, RoundTripsToOneAnswer, ReadingHasOneTable};
 ghost use Rattle.basic_toml.specs.OneAnswer.{ReadingHasOneError};
@@ -15,6 +17,7 @@ pub use basic_toml_order::laws::{
     stays_recordable,
 };
 pub use basic_toml_tree::laws::{every_node_is_foretold, sections_fault_is_one};
+use basic_toml_typed::Deserialize;
 pub use basic_toml_typed::laws::text_numbers_differ;
 use basic_toml_write::Serialize;
 
@@ -68,3 +71,28 @@ pub fn round_trip_has_one_answer<T: Serialize>(value: &T)
 pub fn rows_first_is_read_back()
     ensures { RowsFirstIsReadBack }
 {}
+
+/// A want of memory that the contract of `from_str` or `from_slice` allows has no offset, no line and column, and no
+/// keys, where those that the type names have none.
+#[tactic(auto, using(crate::proofs::MemoryHasNoPlace::read_without_place))]
+pub fn reading_memory_has_no_place<'de, T: Deserialize<'de>>(value: &T)
+    ensures { ReadsWithoutPlace T.takes T.reads T.faults }
+{
+    let _ = value;
+}
+
+/// A want of memory that the contract of `read_tree` allows has no offset, no line and column, and no keys.
+#[tactic(auto, using(crate::proofs::MemoryHasNoPlace::tree_without_place))]
+pub fn tree_memory_has_no_place()
+    ensures { TreesWithoutPlace }
+{}
+
+/// A want of memory that the contracts of `to_string` and `round_trip` allow has no offset, no line and column, and no
+/// keys.
+#[tactic(auto, using(crate::proofs::MemoryHasNoPlace::written_without_place, crate::proofs::MemoryHasNoPlace::round_trip_without_place))]
+pub fn writing_memory_has_no_place<T: Serialize>(value: &T)
+    ensures written { WritesWithoutPlace (T.calls value.now) (T.gives_up value.now) }
+    ensures round_trip { RoundTripsWithoutPlace (T.calls value.now) (T.gives_up value.now) }
+{
+    let _ = value;
+}

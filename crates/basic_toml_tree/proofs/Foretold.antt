@@ -2,3 +2,4 @@
 pub mod PathsReached
 pub mod ValuesFound
 pub mod EveryNode
+pub mod NodesForetold

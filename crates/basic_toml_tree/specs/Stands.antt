@@ -2,7 +2,7 @@
 use Rattle.std.specs.Prelude.{◌≡◌, ◌⊎◌, ◌==◌, ◌+◌, ℕ, Bool, true, false, List, [], ◌∷◌, ◌++◌, Option, Some, map, slice_get}
 use Rattle.std.specs.Borrow.{Bor}
 use Rattle.std.specs.Iterator.{YieldsFirstBy}
-use Rattle.std.specs.Option.{IfSome}
+use Rattle.std.specs.Option.{IfSome, IsSomeAnd}
 use Rattle.basic_toml_grammar.specs.Sections.{Section}
 use Rattle.basic_toml_grammar.specs.Steps.{Step, key, number, Path}
 use Rattle.basic_toml_grammar.specs.Entering.{all_keyed}
@@ -24,7 +24,9 @@ use Rattle.basic_toml_tree.specs.declared.spot.Spot.TheVariants as spots
 use Rattle.basic_toml_grow.specs.Item.{item_trie, leaf, table_trie}
 use Rattle.basic_toml_tree.specs.Origin.{spot_is_made, spot_name}
 use Rattle.basic_toml_grow.specs.Origins.{Origin, Origins, item_origins, table_within, value_origins}
+use Rattle.basic_toml_tree.specs.Data.{table_data}
 use Rattle.basic_toml_tree.specs.Nodes.{node_data, elements_left, key_and_data, entries_left}
+use Rattle.basic_toml_tree.specs.Paths.{data_along}
 use Rattle.basic_toml_tree.specs.Outer.{around, KeepsStart}
 use Rattle.basic_toml_tree.specs.Resolve.{IsResolved}
 use Rattle.basic_toml_tree.specs.Keys.{KeysLead, RowsLead}
@@ -122,9 +124,10 @@ tree_origins tree = (table_within tree.root.value).below
 abbrev pub StartIsKept : Tree → Path → Option ℕ → Type 0
 StartIsKept tree p kept = KeepsStart p (standing (trie_at p (tree_trie tree))) (tree_origins tree p) kept
 
--- A node of a tree stands at a path. Below a value that a row gives nothing more is in the trie.
+-- A node of a tree stands at a path, and so does its data. Below a value that a row gives nothing more is in the trie.
 pub record StandsAt (tree : Tree) (p : Path) (node : Node) : Type 0 where
   pub within : node.tree.now ≡ tree
+  pub holds : data_along p (table_data tree.root.value) ≡ Some (node_data node)
   pub root : (node.count == 0) ≡ is_root p
   pub there : (trie_at p (tree_trie tree) ≡ nothing)
       ⊎ ((spot_trie node.spot ≡ trie_at p (tree_trie tree)) × (wraps_table node.spot ≡ false))
@@ -171,6 +174,6 @@ pub record IsNodeAt (sections : List Section) (p : Path) (node : Node) : Type 0 
   pub keyed : all_keyed sections ≡ true
   pub stands : StandsAt node.tree.now p node
 
--- what is said of the node by the section list alone
+-- The section list alone foretells the node, and says this of it.
 abbrev pub Foretold : List Section → Path → Node → (grammar.Node → Type 0) → Type 0
-Foretold sections p node says = IsNodeAt sections p node → IfSome (grammar.node_at sections p) says
+Foretold sections p node says = IsNodeAt sections p node → IsSomeAnd (grammar.node_at sections p) says

@@ -349,7 +349,7 @@ impl<'t, 'de> Node<'t, 'de> {
     }
 
     /// Whether headers made it: they name it, pass through it, or add elements to it.
-    #[tactic(auto, using(crate::proofs::Nodes::MadeNodes::made_told, crate::proofs::Nodes::RowNodesTold::made_answers))]
+    #[tactic(auto, using(crate::proofs::Nodes::MadeNodes::made_told, crate::proofs::Foretold::NodesForetold::made_foretold))]
     pub fn is_made(self) -> bool
         ensures is { result ≡ is_made self.entry }
         ensures foretold { (sections : List Section) (p : Path) → IsNodeAt sections p self.entry
@@ -362,7 +362,7 @@ impl<'t, 'de> Node<'t, 'de> {
 
     /// The name of its kind: `integer`, `float`, `boolean`, `string`, `array`, `inline table`, `dotted table` or
     /// `table`.
-    #[tactic(auto, unfolding(crate::specs::Origin::name_of), using(crate::proofs::Nodes::RowNodesTold::name_told))]
+    #[tactic(auto, unfolding(crate::specs::Origin::name_of), using(crate::proofs::Foretold::NodesForetold::name_foretold))]
     pub fn type_name(self) -> &'static str
         ensures is { result.now ≡ name_of self.entry }
         ensures foretold { (sections : List Section) (p : Path)
@@ -373,7 +373,7 @@ impl<'t, 'de> Node<'t, 'de> {
 
     /// The byte offset where it begins: that of a value, of the first value of a dotted table, and of the last section
     /// where headers made it.
-    #[tactic(auto, unfolding(crate::specs::Origin::start_of), using(crate::proofs::Nodes::RowNodesTold::start_told))]
+    #[tactic(auto, unfolding(crate::specs::Origin::start_of), using(crate::proofs::Foretold::NodesForetold::start_foretold))]
     pub fn start(self) -> Option<usize>
         ensures is { result ≡ start_of self.entry }
         ensures foretold { (sections : List Section) (p : Path)
@@ -387,7 +387,7 @@ impl<'t, 'de> Node<'t, 'de> {
     }
 
     /// The byte offset that names it in errors: where it begins, but for an array literal the outer place.
-    #[tactic(auto, unfolding(crate::specs::Origin::offset_of, crate::specs::Origin::start_of, crate::specs::Origin::outer_of), using(crate::proofs::Nodes::PlacesTold::place_told))]
+    #[tactic(auto, unfolding(crate::specs::Origin::offset_of, crate::specs::Origin::start_of, crate::specs::Origin::outer_of), using(crate::proofs::Foretold::NodesForetold::place_foretold))]
     pub fn place(self) -> Option<usize>
         ensures is { result ≡ offset_of self.entry }
         ensures foretold { (sections : List Section) (p : Path)
@@ -402,7 +402,7 @@ impl<'t, 'de> Node<'t, 'de> {
     }
 
     /// The byte offset of the nearest inline or dotted table around it, else that of the last section.
-    #[tactic(auto, unfolding(crate::specs::Origin::outer_of), using(crate::proofs::Nodes::OuterTold::outer_told))]
+    #[tactic(auto, unfolding(crate::specs::Origin::outer_of), using(crate::proofs::Foretold::NodesForetold::outer_foretold))]
     pub fn outer_place(self) -> Option<usize>
         ensures is { result ≡ outer_of self.entry }
         ensures foretold { (sections : List Section) (p : Path)
@@ -426,8 +426,8 @@ impl<'t, 'de> Node<'t, 'de> {
     #[tactic(auto, unfolding(crate::specs::Origin::keys_of))]
     pub fn key_path(self, alloc: Global) -> Result<Vec<String>, AllocError>
         ensures is { IfOk result (λ path. map string_bytes path.items ≡ key_path_of self.entry) }
-        ensures foretold { (sections : List Section) (p : Path) → Foretold sections p self.entry
-            (λ node. IfOk result (λ path. map string_bytes path.items ≡ node.key_path)) }
+        ensures foretold { IfOk result (λ path. (sections : List Section) (p : Path)
+            → Foretold sections p self.entry (λ node. map string_bytes path.items ≡ node.key_path)) }
     {
         match self.trail {
             Trail::Header(section) => {

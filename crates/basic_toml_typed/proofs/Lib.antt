@@ -6,3 +6,4 @@ pub mod FieldsFail
 pub mod NamesListed
 pub mod VariantsNamed
 pub mod RootsStand
+pub mod RecordsFail

@@ -26,6 +26,7 @@ root_of tree = record {
 pub root_stands : (tree : Tree) → StandsAt tree [] (root_of tree)
 root_stands tree = record {
   within = refl;
+  holds = refl;
   root = refl;
   there = inr (refl, refl);
   comes = root_comes tree (record { ref_ptr = (0, 0); now = tree.root.value }) 0 refl;

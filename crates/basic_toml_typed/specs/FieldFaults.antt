@@ -76,6 +76,23 @@ abbrev pub only_these : List (List ℕ) → (Node → Fault → Type 0) → Node
 only_these names rest node fault =
     only_fails names node fault ⊎ (HasOnly (map text_number names) (node_data node) × rest node fault)
 
+-- The same, closed, for a record of many fields or of large types: a proof goes by what is said of the words
+-- (`RecordsFail.in_turn`), and never through the types of the fields.
+unfoldable pub field_then : {A : Type 0} → (Node → Fault → Type 0) → (Data → A → Type 0) → List ℕ → (Node → Fault → Type 0)
+    → Node → Fault → Type 0
+field_then faults reads key rest node fault = in_field faults reads key rest node fault
+
+unfoldable pub optional_then : {A : Type 0} → (Node → Fault → Type 0) → (Data → A → Type 0) → List ℕ
+    → (Node → Fault → Type 0) → Node → Fault → Type 0
+optional_then faults reads key rest node fault = in_optional faults reads key rest node fault
+
+unfoldable pub only_then : List (List ℕ) → (Node → Fault → Type 0) → Node → Fault → Type 0
+only_then names rest node fault = only_these names rest node fault
+
+-- what stands at the key has the fault, as a record tells it that tests a field itself
+unfoldable pub at_field : List ℕ → (Node → Fault → Type 0) → Node → Fault → Type 0
+at_field key faults node fault = (field : Node) × IsField node key field × faults field fault
+
 -- what stands at a key, by its text and by its number
 abbrev pub FoundAt : Node → List ℕ → Option Data → Type 0
 FoundAt node key found =

@@ -1,6 +1,6 @@
 //! What a `Cargo.toml` says of a package.
 ghost use Rattle.std.specs.Prelude.{◌≡◌, ◌⊎◌, Option, codes, unwrap_or, true, false};
-ghost use Rattle.basic_toml.specs.FieldFaults.{in_field, in_optional};
+ghost use Rattle.basic_toml.specs.FieldFaults.{field_then, in_field, in_optional, optional_then};
 ghost use Rattle.basic_toml.specs.FieldKeys.{key_of};
 ghost use Rattle.basic_toml.specs.Nodes.{node_data, is_table};
 ghost use Rattle.basic_toml.specs.Reading.{ReadsText};
@@ -27,6 +27,14 @@ impl<'de> Deserialize<'de> for Manifest {
         × optional_reads ⟦<BTreeMap<String, Vec<String>> as Deserialize<'static>>⟧.reads (key_of "features") d
         m.features };
 
+    ghost faults = { field_then ⟦<Package as Deserialize<'static>>⟧.faults ⟦<Package as Deserialize<'static>>⟧.reads (codes "package")
+        (optional_then ⟦<BTreeMap<String, Dependency> as Deserialize<'static>>⟧.faults
+        ⟦<BTreeMap<String, Dependency> as Deserialize<'static>>⟧.reads (codes "dependencies")
+        (optional_then ⟦<BTreeMap<String, Vec<String>> as Deserialize<'static>>⟧.faults
+        ⟦<BTreeMap<String, Vec<String>> as Deserialize<'static>>⟧.reads (codes "features")
+        no_fault)) };
+
+    #[tactic(auto, using(basic_toml_typed::proofs::RecordsFail::in_turn))]
     fn deserialize(alloc: Global, node: Node<'_, 'de>) -> Result<Manifest, Error> {
         Ok(Manifest {
             package: read_field(alloc, node, "package")?,

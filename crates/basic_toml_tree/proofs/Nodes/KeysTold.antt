@@ -35,13 +35,13 @@ use Rattle.basic_toml_tree.proofs.Origins.RowsAreNodes.{Same, of_node, of_origin
 use Rattle.basic_toml_tree.specs.Origin.{header_of, spot_is_made, table_is_made, keys_of as kept_keys, trail_keys}
 use Rattle.basic_toml_tree.specs.FirstStop.{Stands}
 use Rattle.basic_toml_tree.specs.Resolve.{IsResolved, head}
-use Rattle.basic_toml_tree.specs.Stands.{trie_at, tree_trie, StandsAt, IsNodeAt, Foretold}
+use Rattle.basic_toml_tree.specs.Stands.{trie_at, tree_trie, StandsAt, IsNodeAt}
 use Rattle.basic_toml_tree.specs.Stands.{ComesFrom, tree_origins, spot_origin}
 use Rattle.basic_toml_tree.specs.Keys.{header_at, Leads, KeepsHeader, KeepsKeys, KeysLead, GoesOn, CountsOn}
 use Rattle.basic_toml_tree.specs.Keys.{KeepsRow, BeginsRow, HandsOn, RowsLead}
 use Rattle.basic_toml_tree.specs.Outer.{stands_made}
 use Rattle.basic_toml_tree.proofs.Nodes.KeysLead.{made_before, EndsAt, last_step}
-use Rattle.basic_toml_tree.proofs.Nodes.MadeNodes.{ForetoldMade, made_in_trie, spot_made, foretold}
+use Rattle.basic_toml_tree.proofs.Nodes.MadeNodes.{ForetoldMade, ForetoldWhere, made_in_trie, spot_made, foretold}
 use Rattle.basic_toml_tree.proofs.Nodes.NodesStand.{KeysOn, Further}
 
 -- the keys of a header's path are the header
@@ -382,7 +382,7 @@ module _ (sections : List Section) (node : Node) (p : Path) (is : IsNodeAt secti
         (not_any ls (by.before ++ by.step ∷ []) by.not))))
 
 pub all_told : (keys : KeyTexts) (node : Node) → keys ≡ kept_keys node → (sections : List Section) (p : Path)
-    → Foretold sections p node (λ found. keys ≡ found.key_path)
+    → ForetoldWhere sections p node (λ found. keys ≡ found.key_path)
 unfolding kept_keys
 all_told keys node same sections p is = go (grammar.is_made (located sections) p) refl
   where

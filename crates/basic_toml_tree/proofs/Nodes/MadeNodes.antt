@@ -185,6 +185,10 @@ last_heads (x ∷ w ∷ xs) (y ∷ []) same = absurd (cc)
 last_heads (x ∷ w ∷ xs) (y ∷ z ∷ ys) same =
     let rest : map head (w ∷ xs) ≡ map head (z ∷ ys) = cc in last_heads (w ∷ xs) (z ∷ ys) rest
 
+-- what is said of a node, if the section list foretells one
+abbrev pub ForetoldWhere : List Section → Path → Node → (grammar.Node → Type 0) → Type 0
+ForetoldWhere sections p node says = IsNodeAt sections p node → IfSome (grammar.node_at sections p) says
+
 -- what is said of a node that headers made
 abbrev pub ForetoldMade : List Section → Path → Node → (grammar.Node → Type 0) → Type 0
 ForetoldMade sections p node says =

@@ -1,7 +1,8 @@
 -- A node below another one stands at the path of that one and one more step.
 use Rattle.std.proofs.Common.{◌≡◌, ◌⊎◌, inl, inr, ◌==◌, ℕ, zero, suc, ◌+◌, Bool, true, false, cond, List, [], ◌∷◌}
 use Rattle.std.proofs.Common.{◌++◌, Some, None, refl, ap, sym, ◌∙◌, subst, arith, map, length, rules, Vec, Box, Global, IsTrue}
-use Rattle.std.specs.Prelude.{slice_get, nat_eq}
+use Rattle.std.specs.Prelude.{slice_get, nat_eq, Option}
+use Rattle.std.specs.Option.{option_and_then}
 use Rattle.std.specs.Str.{bytes_eq}
 use Rattle.std.proofs.lemmas.Slice.Eq.{bytes_eq-Decides}
 use Rattle.std.specs.Borrow.{Bor}
@@ -33,10 +34,14 @@ use Rattle.basic_toml_tree.specs.Keys.{KeysLead, RowsLead}
 use Rattle.basic_toml_tree.proofs.Nodes.KeysLead.{keys_beside, rows_beside}
 use Rattle.basic_toml_tree.specs.Stands.{StandsAt, StandsOn, IsBeside, is_wrapper, ItemHolds, ComesFrom, node_origins}
 use Rattle.basic_toml_tree.specs.Stands.{StartIsKept, tree_origins, IsPlainElement, spot_origins}
+use Rattle.basic_toml_tree.specs.Data.{child_data, table_data}
+use Rattle.basic_toml_tree.specs.Nodes.{node_data, data_at, elements_in}
 use Rattle.basic_toml_tree.specs.Outer.{around}
+use Rattle.basic_toml_tree.specs.Paths.{data_by, data_along}
 use Rattle.basic_toml_grow.specs.Origins.{child_origins, item_origins, table_within, value_origins}
 use Rattle.basic_toml_grow.proofs.PlainArrays.{plain_trie, plain_origins}
 use Rattle.basic_toml_tree.proofs.Nodes.PlainNodes.{element_comes}
+use Rattle.basic_toml_tree.proofs.ItemData.{data_at_found}
 use Rattle.basic_toml_grow.proofs.ItemTries.{table_entries_trie}
 use Rattle.basic_toml_clash.proofs.KeysChanged.{first_at}
 use Rattle.basic_toml_grow.proofs.ItemsStand.{shape}
@@ -48,6 +53,20 @@ use Rattle.basic_toml_grow.proofs.KeysInATrie.{tries_of}
 at_more : (p : Path) (s : Step) (t : Trie) → trie_at (p ++ s ∷ []) t ≡ below s (trie_at p t)
 at_more [] s t = refl
 at_more (r ∷ p) s t = at_more p s (below r t)
+
+-- the data one step on from a path
+data_more : (p : Path) (s : Step) (d : Data) → data_along (p ++ s ∷ []) d ≡ option_and_then (data_by s) (data_along p d)
+data_more [] s d = go (data_by s d)
+  where
+    go : (o : Option Data) → option_and_then (data_along []) o ≡ o
+    go None = refl
+    go (Some x) = refl
+data_more (r ∷ p) s d = go (λ x. data_more p s x) (data_by r d)
+  where
+    go : ((x : Data) → data_along (p ++ s ∷ []) x ≡ option_and_then (data_by s) (data_along p x)) → (o : Option Data)
+        → option_and_then (data_along (p ++ s ∷ [])) o ≡ option_and_then (data_by s) (option_and_then (data_along p) o)
+    go more None = refl
+    go more (Some x) = more x
 
 no_root : (p : Path) (s : Step) → is_root (p ++ s ∷ []) ≡ false
 no_root [] s = refl
@@ -128,6 +147,7 @@ spot_below (spots.Plain value) t k c holds own found = absurd holds
 
 -- one step on from a node
 module _ (from node : Node) (s : Step) (same : node.tree ≡ from.tree)
+    (read : data_by s (node_data from) ≡ Some (node_data node))
     (more : wraps_table from.spot ≡ false → (below s (spot_trie from.spot) ≡ nothing)
     ⊎ ((spot_trie node.spot ≡ below s (spot_trie from.spot)) × (wraps_table node.spot ≡ false)))
     (comes : (at : ℕ) → ComesFrom (λ q. node_origins at from (s ∷ q)) node) (tree : Tree) (p : Path)
@@ -156,6 +176,7 @@ module _ (from node : Node) (s : Step) (same : node.tree ≡ from.tree)
       → KeysLead tree (p ++ s ∷ []) node → RowsLead tree (p ++ s ∷ []) node → StandsAt tree (p ++ s ∷ []) node
   stands_on counted kept keys rows = record {
     within = ap (λ t. t.now) same ∙ stands.within;
+    holds = data_more p s (table_data tree.root.value) ∙ ap (option_and_then (data_by s)) stands.holds ∙ read;
     root = counted ∙ sym (no_root p s);
     there = further;
     comes = comes_on from node s tree p stands.comes comes;
@@ -185,12 +206,13 @@ KeysOn from k c node = (tree : Tree) (p : Path) → StandsAt tree p from → Fur
     → KeysLead tree (p ++ key k ∷ []) node × RowsLead tree (p ++ key k ∷ []) node
 
 pub key_stands : (from node : Node) (t : Table) (k : List ℕ) (c : Child) → HoldsTable from.spot t
-    → value_at (out-Table t).entries k ≡ Some c → IsBelow from (child_trie c) node
-    → ComesFrom (child_origins c) node → KeepsBelow from node → KeysOn from k c node → StandsOn from (key k) node
-key_stands from node t k c holds found is comes keeps keys tree p stands =
-    let both = keys tree p stands (further from node (key k) is.tree more from_there tree p stands)
+    → value_at (out-Table t).entries k ≡ Some c → data_at (node_data from) k ≡ Some (node_data node)
+    → IsBelow from (child_trie c) node → ComesFrom (child_origins c) node → KeepsBelow from node → KeysOn from k c node
+    → StandsOn from (key k) node
+key_stands from node t k c holds found read is comes keeps keys tree p stands =
+    let both = keys tree p stands (further from node (key k) is.tree read more from_there tree p stands)
     (stands.comes.parts (key k) [] ∙ key_origins from t k c holds found stands.comes.section []) in
-    stands_on from node (key k) is.tree more from_there tree p stands is.count
+    stands_on from node (key k) is.tree read more from_there tree p stands is.count
     (subst (λ q. StartIsKept tree q node.outer) (sym (around_key p k)) (keeps tree p stands)) both.0 both.1
   where
     go : NothingOr (key k) (spot_trie from.spot) (child_trie c) → (below (key k) (spot_trie from.spot) ≡ nothing)
@@ -208,12 +230,14 @@ key_stands from node t k c holds found is comes keeps keys tree p stands =
 -- the key and the value at a position of a table
 pub entry_stands : (from node : Node) (t : Table) (i : ℕ) (k : List ℕ) (c : Child) → HoldsTable from.spot t
     → IsTrue (are_distinct (keys_of (out-Table t).entries)) → slice_get (keys_of (out-Table t).entries) i ≡ Some k
-    → slice_get (values_of (out-Table t).entries) i ≡ Some c → IsBelow from (child_trie c) node
-    → ComesFrom (child_origins c) node → KeepsBelow from node → KeysOn from k c node → StandsOn from (key k) node
-entry_stands from node t i k c holds distinct at value is comes keeps keys =
-    key_stands from node t k c holds
-    (first_at (out-Table t).entries i k c at (is_among-before (keys_of (out-Table t).entries) i k distinct at) value) is
-    comes keeps keys
+    → slice_get (values_of (out-Table t).entries) i ≡ Some c → node_data from ≡ table_data t → node_data node ≡ child_data c
+    → IsBelow from (child_trie c) node → ComesFrom (child_origins c) node → KeepsBelow from node → KeysOn from k c node
+    → StandsOn from (key k) node
+entry_stands from node t i k c holds distinct at value whole part is comes keeps keys =
+    let found : value_at (out-Table t).entries k ≡ Some c =
+    first_at (out-Table t).entries i k c at (is_among-before (keys_of (out-Table t).entries) i k distinct at) value in
+    key_stands from node t k c holds found
+    (ap (λ d. data_at d k) whole ∙ data_at_found t k c found ∙ ap Some (sym part)) is comes keeps keys
 
 -- an array is no root
 abbrev pub tells_table : Trie → Bool
@@ -241,10 +265,11 @@ array_spot from b i at is = ap spot_trie at ∙ ap item_trie is
 -- an element of an array of plain values
 element_stands : (from node : Node) (n : ℕ) (es : List Element) → IsPlainElement from es n node
     → spot_trie from.spot ≡ leaf (finished (plain_array es))
-    → ((at s : ℕ) → spot_origins from.spot at s ≡ value_origins s at (plain_array es)) → StandsOn from (number n) node
-element_stands from node n es listed here origins tree p stands =
+    → ((at s : ℕ) → spot_origins from.spot at s ≡ value_origins s at (plain_array es))
+    → slice_get (elements_in (node_data from)) n ≡ Some (node_data node) → StandsOn from (number n) node
+element_stands from node n es listed here origins read tree p stands =
     let beside = listed.beside in
-    stands_on from node (number n) beside.tree (λ own. inl (ap (below (number n)) here))
+    stands_on from node (number n) beside.tree read (λ own. inl (ap (below (number n)) here))
     (element_comes from node es n listed origins) tree p stands
     (ap (λ c. c == 0) beside.count ∙ stands.root ∙ no_array_root from tree p stands (ap tells_table here))
     (kept_beside from node n tree p beside.outer stands)
@@ -252,36 +277,41 @@ element_stands from node n es listed here origins tree p stands =
 
 -- and of one among such elements
 pub value_stands : (from node : Node) (n : ℕ) (b : Bor raws.Raw) (es : Vec Element Global) → from.spot ≡ spots.Plain b
-    → b.now ≡ raws.Array es → IsPlainElement from es.items n node → StandsOn from (number n) node
-value_stands from node n b es at is listed =
+    → b.now ≡ raws.Array es → IsPlainElement from es.items n node
+    → slice_get (elements_in (node_data from)) n ≡ Some (node_data node) → StandsOn from (number n) node
+value_stands from node n b es at is listed read =
     let seen : plain_of b.now ≡ plain_array es.items = ap plain_of is ∙ array_of es in
     element_stands from node n es.items listed (ap spot_trie at ∙ ap (λ v. leaf (finished v)) seen)
-    (λ start s. ap (λ spot. spot_origins spot start s) at ∙ ap (value_origins s start) seen)
+    (λ start s. ap (λ spot. spot_origins spot start s) at ∙ ap (value_origins s start) seen) read
 
 module _ (from node : Node) (n : ℕ) (b : Bor Item) (at : from.spot ≡ spots.Item b) where
   pub literal_stands : (children : Vec Child Global) (spot : Spot) (child : Child) → b.now ≡ Array children
       → slice_get (map child_origins children.items) n ≡ Some (child_origins child)
+      → slice_get (elements_in (node_data from)) n ≡ Some (node_data node)
       → IsBeside from spot node → ComesFrom (child_origins child) node → StandsOn from (number n) node
-  literal_stands children spot child is read beside comes tree p stands =
+  literal_stands children spot child is read found beside comes tree p stands =
       let d = array_trie children in
       let here : spot_trie from.spot ≡ leaf d.0 = array_spot from b (Array children) at is ∙ d.1 in
-      stands_on from node (number n) beside.tree (λ own. inl (ap (below (number n)) here))
+      stands_on from node (number n) beside.tree found (λ own. inl (ap (below (number n)) here))
       (λ s. literal_comes from node n b at children child is read comes s) tree p stands
       (ap (λ c. c == 0) beside.count ∙ stands.root ∙ no_array_root from tree p stands (ap tells_table here))
       (kept_beside from node n tree p beside.outer stands)
       (keys_beside from node spot n beside tree p stands) (rows_beside from node spot n beside tree p stands)
 
   pub plain_stand : (es : Vec Element Global) → b.now ≡ Plain es → IsPlainElement from es.items n node
-      → StandsOn from (number n) node
-  plain_stand es is listed = element_stands from node n es.items listed (array_spot from b (Plain es) at is ∙ plain_trie es)
+      → slice_get (elements_in (node_data from)) n ≡ Some (node_data node) → StandsOn from (number n) node
+  plain_stand es is listed read =
+      element_stands from node n es.items listed (array_spot from b (Plain es) at is ∙ plain_trie es)
       (λ start s. ap (λ spot. spot_origins spot start s) at ∙ ap (λ i. item_origins i start s) is ∙ plain_origins es start s)
+      read
 
   pub tables_stand : (before : Box (Vec Table Global) Global) (latest : Box Table Global) (t : Bor Table)
       → b.now ≡ Tables before latest
       → slice_get (map table_trie before.value.items ++ table_trie latest.value ∷ []) n ≡ Some (table_trie t.now)
       → slice_get (map table_within before.value.items ++ table_within latest.value ∷ []) n ≡ Some (table_within t.now)
+      → slice_get (elements_in (node_data from)) n ≡ Some (node_data node)
       → IsBeside from (spots.Table t) node → node.start ≡ from.start → StandsOn from (number n) node
-  tables_stand before latest t is found read beside start tree p stands =
+  tables_stand before latest t is found read held beside start tree p stands =
       let counted : (node.count == 0) ≡ false =
       ap (λ c. c == 0) beside.count ∙ stands.root ∙ no_array_root from tree p stands
       (ap tells_table (array_spot from b (Tables before latest) at is ∙ tables_trie before latest)) in
@@ -291,7 +321,7 @@ module _ (from node : Node) (n : ℕ) (b : Bor Item) (at : from.spot ≡ spots.I
       ∙ sym (ap (below (number n)) here
       ∙ find_number 0 n n (map table_trie before.value.items ++ table_trie latest.value ∷ []) (table_trie t.now) (omega arith)
       found) in
-      stands_on from node (number n) beside.tree (λ own. inr (there, ap wraps_table beside.spot))
+      stands_on from node (number n) beside.tree held (λ own. inr (there, ap wraps_table beside.spot))
       (λ s. tables_come from node n b at before latest t is read
       (λ s. table_node_comes t node from.start s beside.spot start counted) s) tree p stands counted
       (kept_beside from node n tree p beside.outer stands)

@@ -19,8 +19,8 @@ use Rattle.basic_toml_tree.specs.Origin.{outer_of, last_at}
 use Rattle.basic_toml_grow.specs.Origins.{Origin}
 use Rattle.basic_toml_tree.specs.Outer.{around}
 use Rattle.basic_toml_grow.specs.Ways.{sections_origins}
-use Rattle.basic_toml_tree.specs.Stands.{tree_trie, IsNodeAt, Foretold, StartIsKept}
-use Rattle.basic_toml_tree.proofs.Nodes.MadeNodes.{made_outer_told, made_in_trie, last_same}
+use Rattle.basic_toml_tree.specs.Stands.{tree_trie, IsNodeAt, StartIsKept}
+use Rattle.basic_toml_tree.proofs.Nodes.MadeNodes.{ForetoldWhere, made_outer_told, made_in_trie, last_same}
 use Rattle.basic_toml_tree.proofs.Nodes.OuterNodes.{OuterBegins, outer_begins}
 use Rattle.basic_toml_tree.proofs.Nodes.RowNodesTold.{located_any, located_keyed, row_told, RowTold}
 use Rattle.basic_toml_tree.proofs.Origins.RowsAreNodes.{Same, of_node, of_origin, sections_same}
@@ -110,7 +110,7 @@ both_then None P Q R f p q = tt
 both_then (Some x) P Q R f p q = f x p q
 
 pub outer_told : (outer : Option ℕ) (node : Node) → outer ≡ outer_of node → (sections : List Section) (p : Path)
-    → Foretold sections p node (λ found. outer ≡ found.outer_offset)
+    → ForetoldWhere sections p node (λ found. outer ≡ found.outer_offset)
 unfolding outer_of
 outer_told outer node same sections p is = go (grammar.is_made (located sections) p) refl
   where

@@ -30,8 +30,7 @@ use Rattle.basic_toml_tree.specs.declared.spot.Spot.{Spot}
 use Rattle.basic_toml_tree.specs.declared.spot.Spot.TheVariants as spots
 use Rattle.basic_toml_tree.specs.Origin.{is_array_literal, item_name, spot_name, spot_is_made, holds_tables, start_of}
 use Rattle.basic_toml_tree.specs.Origin.{outer_of, offset_of, item_is_literal, raw_is_array}
-use Rattle.basic_toml_tree.specs.Stands.{Foretold}
-use Rattle.basic_toml_tree.proofs.Nodes.MadeNodes.{made_offset_told}
+use Rattle.basic_toml_tree.proofs.Nodes.MadeNodes.{ForetoldWhere, made_offset_told}
 use Rattle.basic_toml_tree.proofs.Nodes.NodesOfValues.{one_of, in_value}
 use Rattle.basic_toml_tree.proofs.Nodes.OuterTold.{outer_told}
 use Rattle.basic_toml_tree.proofs.Nodes.RowNodesTold.{RowTold, row_told, start_told}
@@ -156,7 +155,7 @@ some_four None P Q R S T f p q r s = tt
 some_four (Some x) P Q R S T f p q r s = f x p q r s
 
 pub place_told : (place : Option ℕ) (node : nodes.Node) → place ≡ offset_of node → (sections : List Section) (p : Path)
-    → Foretold sections p node (λ found. place ≡ found.offset)
+    → ForetoldWhere sections p node (λ found. place ≡ found.offset)
 unfolding offset_of
 place_told place node same sections p is = go (is_made (located sections) p) refl
   where

@@ -99,7 +99,8 @@ pub element_listed : (e : Element)
     → listed_of e ≡ record { offset = (out-Element e).offset; value = plain_of (out-Element e).value }
 element_listed e = search (rules, raws.the_lemmas)
 
-pub some_then : (result : Option Node) (P Q : Node → Type 0) → ((node : Node) → P node → Q node) → IfSome result P
-    → IfSome result Q
-some_then None P Q f some = tt
-some_then (Some node) P Q f some = f node some
+-- of a node that is answered, with what is read there
+pub some_read : (result : Option Node) (Past : Type 0) (P Q R : Node → Type 0)
+    → ((node : Node) → P node → Q node → R node) → IfSome result P → MatchOption result Past Q → IfSome result R
+some_read None Past P Q R f some read = tt
+some_read (Some node) Past P Q R f some read = f node some read

@@ -16,8 +16,8 @@ use Rattle.basic_toml_tree.specs.declared.node.Node.{Node}
 use Rattle.basic_toml_tree.specs.Origin.{is_made, spot_name, name_of, start_of, last_at}
 use Rattle.basic_toml_grow.specs.Origins.{Origin}
 use Rattle.basic_toml_grow.specs.Ways.{sections_origins}
-use Rattle.basic_toml_tree.specs.Stands.{spot_origin, tree_origins, IsNodeAt, Foretold}
-use Rattle.basic_toml_tree.proofs.Nodes.MadeNodes.{made_name_told, made_start_told, made_told}
+use Rattle.basic_toml_tree.specs.Stands.{spot_origin, tree_origins, IsNodeAt}
+use Rattle.basic_toml_tree.proofs.Nodes.MadeNodes.{ForetoldWhere, made_name_told, made_start_told, made_told}
 use Rattle.basic_toml_tree.proofs.Origins.RowsAreNodes.{Same, of_node, of_origin, sections_same}
 
 -- the list's sections, where they stand
@@ -89,14 +89,14 @@ either_way sections p node says false e made row is =
     some_then (grammar.node_at sections p) (RowTold node) says row (row_told sections p node is e)
 
 pub name_told : (name : List ℕ) (node : Node) → name ≡ name_of node → (sections : List Section) (p : Path)
-    → Foretold sections p node (λ found. name ≡ found.type_name)
+    → ForetoldWhere sections p node (λ found. name ≡ found.type_name)
 unfolding name_of
 name_told name node same sections p is =
     either_way sections p node (λ found. name ≡ found.type_name) (grammar.is_made (located sections) p) refl
     (made_name_told name node same sections p is) (λ found told. same ∙ told.name) is
 
 pub start_told : (start : Option ℕ) (node : Node) → start ≡ start_of node → (sections : List Section) (p : Path)
-    → Foretold sections p node (λ found. start ≡ found.start)
+    → ForetoldWhere sections p node (λ found. start ≡ found.start)
 unfolding start_of
 start_told start node same sections p is =
     either_way sections p node (λ found. start ≡ found.start) (grammar.is_made (located sections) p) refl
@@ -104,7 +104,7 @@ start_told start node same sections p is =
     (λ found told. same ∙ ap (λ b. if b then last_at node.tree.now else Some node.start) told.made ∙ told.start) is
 
 pub made_answers : (made : Bool) (node : Node) → made ≡ is_made node → (sections : List Section) (p : Path)
-    → Foretold sections p node (λ _. made ≡ grammar.is_made (located sections) p)
+    → ForetoldWhere sections p node (λ _. made ≡ grammar.is_made (located sections) p)
 made_answers made node same sections p is = go (grammar.is_made (located sections) p) refl
   where
     any : {A : Type 0} (o : Option A) (P : Type 0) → P → IfSome o (λ _. P)

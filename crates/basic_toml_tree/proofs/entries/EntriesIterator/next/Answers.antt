@@ -36,11 +36,12 @@ first c =
 
 pub returns-clause-steps : goal.returns-clause-steps
 returns-clause-steps c =
-    let holds : HoldsTable c.args.self.now.table.spot c.in_ok-table.table.now = search (rules) in (
+    let holds : HoldsTable c.args.self.now.table.spot c.in_ok-table.table.now = search (rules) in
+    let whole : node_data c.args.self.now.table ≡ table_data c.in_ok-table.table.now = search (rules) in (
       first c,
       entry_stands c.args.self.now.table c.below.result c.in_ok-table.table.now c.args.self.now.at c.key-key.result.now
-          c.value.result.now holds c.keys_differ.ensures c.key-key.ensures c.value.ensures c.below.ensures.below
-          c.below.ensures.comes (keeps_below c.args.self.now.table c.below.result c.below.ensures.outer)
+          c.value.result.now holds c.keys_differ.ensures c.key-key.ensures c.value.ensures whole
+          c.below.ensures.«data» c.below.ensures.below c.below.ensures.comes (keeps_below c.args.self.now.table c.below.result c.below.ensures.outer)
           (key_keeps c.args.self.now.table c.below.result c.key-key.result.now c.value.result.now
           c.below.ensures.keys c.below.ensures.count c.below.ensures.row c.below.ensures.handed
           c.below.ensures.comes

@@ -1,5 +1,5 @@
 use Rattle.std.proofs.Common.{◌≡◌, List, ◌∷◌, [], ◌++◌, length, map, Some, ap, sym, ◌∙◌, arith, rules, subst, length-append}
-use Rattle.std.specs.Prelude.{slice_get}
+use Rattle.std.specs.Prelude.{slice_get, ◌≤◌}
 use Rattle.basic_toml_read.specs.declared.section.Raw as raws
 use Rattle.basic_toml_read.specs.declared.section.Element.{Element}
 use Rattle.basic_toml_grammar.specs.Mentions.{finished}
@@ -15,7 +15,7 @@ use Rattle.basic_toml_grow.specs.Item.{table_trie}
 use Rattle.basic_toml_grow.specs.Origins.{child_origins, table_within}
 use Rattle.basic_toml_tree.specs.Stands.{AtNumber, IsPlainElement}
 use Rattle.basic_toml_tree.proofs.Nodes.NodesStand.{literal_stands, plain_stand, tables_stand, value_stands}
-use Rattle.basic_toml_tree.proofs.Nodes.PlainNodes.{plain_answers, some_then}
+use Rattle.basic_toml_tree.proofs.Nodes.PlainNodes.{plain_answers, some_read}
 use Rattle.basic_toml_tree.proofs.ItemData.{plain_item}
 use Rattle.basic_toml_tree.proofs.node.Node.element_at.Goals as goal
 
@@ -100,7 +100,7 @@ returns-in-Some-clause-stands c =
     c.element.result.spot c.in-Some.child.now is
     (ap (λ xs. slice_get (map child_origins xs) c.args.at) (sym c.deref.ensures.value)
     ∙ mapped_read child_origins c.deref.result.now c.args.at c.in-Some.child.now read.3.0 read.1)
-    c.element.ensures.beside c.element.ensures.comes
+    (returns-in-Some-clause-data c) c.element.ensures.beside c.element.ensures.comes
 
 pub returns-in-Some-get-clause-stands : goal.returns-in-Some-get-clause-stands
 returns-in-Some-get-clause-stands c =
@@ -122,7 +122,7 @@ returns-in-Some-get-clause-stands c =
     (ap (λ xs. slice_get (map table_within xs) c.args.at) (sym whole)
     ∙ mapped_read table_within c.as_slice-earlier.result.now c.args.at c.in-Some-get.table.now
     read.3.0 read.1))
-    c.element_table.ensures.beside c.element_table.ensures.start
+    (returns-in-Some-get-clause-data c) c.element_table.ensures.beside c.element_table.ensures.start
 
 pub returns-then-at-earlier-clause-stands : goal.returns-then-at-earlier-clause-stands
 returns-then-at-earlier-clause-stands c =
@@ -145,7 +145,8 @@ returns-then-at-earlier-clause-stands c =
     ∙ sym (mapped_length table_within c.in-Item-Tables.before.value.items))
     ∙ last_read (map table_within before.value.items) (table_within latest.value)
     ∙ ap (λ t. Some (table_within t)) (sym c.deref-then-at-earlier.ensures))
-    c.element_table-then-at-earlier.ensures.beside c.element_table-then-at-earlier.ensures.start
+    (returns-then-at-earlier-clause-data c) c.element_table-then-at-earlier.ensures.beside
+    c.element_table-then-at-earlier.ensures.start
 
 -- plain elements
 pub returns-in-Item-Plain-clause-data : goal.returns-in-Item-Plain-clause-data
@@ -172,17 +173,21 @@ pub returns-in-Item-Plain-clause-stands : goal.returns-in-Item-Plain-clause-stan
 returns-in-Item-Plain-clause-stands c =
     let at : c.args.self.spot ≡ spots.Item c.in-Item-Plain.field-0 = search (rules) in
     let is : c.in-Item-Plain.field-0.now ≡ Plain c.in-Item-Plain.elements = search (rules) in
-    some_then c.plain_element.result (IsPlainElement c.args.self c.as_slice.result.now c.args.at)
-    (AtNumber c.args.self c.args.at) (λ node listed. plain_stand c.args.self node c.args.at c.in-Item-Plain.field-0 at
-    c.in-Item-Plain.elements is (subst (λ (es : List Element). IsPlainElement c.args.self es c.args.at node)
-    c.as_slice.ensures.value listed)) c.plain_element.ensures.some
+    some_read c.plain_element.result (length (elements_in (node_data c.args.self)) ≤ c.args.at)
+    (IsPlainElement c.args.self c.as_slice.result.now c.args.at)
+    (λ node. slice_get (elements_in (node_data c.args.self)) c.args.at ≡ Some (node_data node))
+    (AtNumber c.args.self c.args.at) (λ node listed read. plain_stand c.args.self node c.args.at c.in-Item-Plain.field-0
+    at c.in-Item-Plain.elements is (subst (λ (es : List Element). IsPlainElement c.args.self es c.args.at node)
+    c.as_slice.ensures.value listed) read) c.plain_element.ensures.some (returns-in-Item-Plain-clause-data c)
 
 pub returns-in-Plain-Array-clause-stands : goal.returns-in-Plain-Array-clause-stands
 returns-in-Plain-Array-clause-stands c =
     let at : c.args.self.spot ≡ spots.Plain c.in-Plain-Array.field-0 = search (rules) in
     let is : c.in-Plain-Array.field-0.now ≡ raws.Array c.in-Plain-Array.elements = search (rules) in
-    some_then c.plain_element-in-Plain-Array.result
+    some_read c.plain_element-in-Plain-Array.result (length (elements_in (node_data c.args.self)) ≤ c.args.at)
     (IsPlainElement c.args.self c.as_slice-in-Plain-Array.result.now c.args.at)
-    (AtNumber c.args.self c.args.at) (λ node listed. value_stands c.args.self node c.args.at c.in-Plain-Array.field-0
+    (λ node. slice_get (elements_in (node_data c.args.self)) c.args.at ≡ Some (node_data node))
+    (AtNumber c.args.self c.args.at) (λ node listed read. value_stands c.args.self node c.args.at c.in-Plain-Array.field-0
     c.in-Plain-Array.elements at is (subst (λ (es : List Element). IsPlainElement c.args.self es c.args.at node)
-    c.as_slice-in-Plain-Array.ensures.value listed)) c.plain_element-in-Plain-Array.ensures.some
+    c.as_slice-in-Plain-Array.ensures.value listed) read) c.plain_element-in-Plain-Array.ensures.some
+    (returns-in-Plain-Array-clause-data c)

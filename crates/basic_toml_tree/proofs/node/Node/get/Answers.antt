@@ -23,7 +23,7 @@ returns-clause-data c =
 pub returns-clause-stands : goal.returns-clause-stands
 returns-clause-stands c =
     key_stands c.args.self c.below.result c.in-Some-Some.table.now c.args.key.now c.in-Some.pair.now.value (search (rules))
-    c.in-Some.ensures.value c.below.ensures.below c.below.ensures.comes
+    c.in-Some.ensures.value (returns-clause-data c) c.below.ensures.below c.below.ensures.comes
     (keeps_below c.args.self c.below.result c.below.ensures.outer)
     (key_keeps c.args.self c.below.result c.args.key.now c.in-Some.pair.now.value (search (rules)) c.below.ensures.count
     (search (rules)) c.below.ensures.handed c.below.ensures.comes c.below.ensures.below.count)

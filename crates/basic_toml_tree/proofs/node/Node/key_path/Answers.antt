@@ -1,7 +1,7 @@
 use Rattle.std.proofs.Common.{◌≡◌, ap, sym, ◌∙◌, map, take, string_bytes, rules, ◌++◌, ◌∷◌, []}
 use Rattle.std.proofs.lemmas.List.{take-map, map-append}
 use Rattle.basic_toml_tree.specs.Origin.{keys_of, trail_keys}
-use Rattle.basic_toml_tree.proofs.Nodes.KeysTold.{all_told}
+use Rattle.basic_toml_tree.proofs.Foretold.NodesForetold.{keys_foretold}
 use Rattle.basic_toml_tree.proofs.node.Node.key_path.Goals as goal
 
 pub returns-in_ok-path-in-Header-clause-is : goal.returns-in_ok-path-in-Header-clause-is
@@ -18,7 +18,7 @@ returns-in_ok-path-in-Header-clause-foretold c =
     let kept = c.truncate.new.self.items in
     let same : map string_bytes c.truncate.new.self.items ≡ keys_of c.args.self =
     returns-in_ok-path-in-Header-clause-is c in
-    λ sections p. all_told (map string_bytes kept) c.args.self same sections p
+    λ sections p. keys_foretold (map string_bytes kept) c.args.self same sections p
 
 pub returns-in_ok-push-in-Row-clause-foretold : goal.returns-in_ok-push-in-Row-clause-foretold
 unfolding keys_of
@@ -35,4 +35,4 @@ returns-in_ok-push-in-Row-clause-foretold c =
     ∙ ap (λ k. map string_bytes path ++ k ∷ []) text
     ∙ ap (λ keys. keys ++ first ∷ []) c.in_ok-path-in-Row.ensures
     ∙ sym (ap (trail_keys c.args.self.tree.now.sections.items c.args.self.count) c.in-Row.is) in
-    λ sections p. all_told (map string_bytes kept) c.args.self same sections p
+    λ sections p. keys_foretold (map string_bytes kept) c.args.self same sections p

@@ -1,28 +1,28 @@
 use Rattle.std.proofs.Common.{◌≡◌, rules}
 use Rattle.basic_toml_tree.specs.Origin.{offset_of}
-use Rattle.basic_toml_tree.proofs.Nodes.PlacesTold.{place_told}
+use Rattle.basic_toml_tree.proofs.Foretold.NodesForetold.{place_foretold}
 use Rattle.basic_toml_tree.proofs.node.Node.place.Goals as goal
 
 pub returns-in-Item-Array-clause-foretold : goal.returns-in-Item-Array-clause-foretold
 unfolding offset_of
 returns-in-Item-Array-clause-foretold c =
     let same : c.outer_place.result ≡ offset_of c.args.self = search (rules) in
-    λ sections p. place_told c.outer_place.result c.args.self same sections p
+    λ sections p. place_foretold c.outer_place.result c.args.self same sections p
 
 pub returns-in-Item-Plain-clause-foretold : goal.returns-in-Item-Plain-clause-foretold
 unfolding offset_of
 returns-in-Item-Plain-clause-foretold c =
     let same : c.outer_place-in-Item-Plain.result ≡ offset_of c.args.self = search (rules) in
-    λ sections p. place_told c.outer_place-in-Item-Plain.result c.args.self same sections p
+    λ sections p. place_foretold c.outer_place-in-Item-Plain.result c.args.self same sections p
 
 pub returns-in-Plain-Array-clause-foretold : goal.returns-in-Plain-Array-clause-foretold
 unfolding offset_of
 returns-in-Plain-Array-clause-foretold c =
     let same : c.outer_place-in-Plain-Array.result ≡ offset_of c.args.self = search (rules) in
-    λ sections p. place_told c.outer_place-in-Plain-Array.result c.args.self same sections p
+    λ sections p. place_foretold c.outer_place-in-Plain-Array.result c.args.self same sections p
 
 pub returns-in_default-clause-foretold : goal.returns-in_default-clause-foretold
 unfolding offset_of
 returns-in_default-clause-foretold c =
     let same : c.start.result ≡ offset_of c.args.self = search (rules) in
-    λ sections p. place_told c.start.result c.args.self same sections p
+    λ sections p. place_foretold c.start.result c.args.self same sections p

@@ -1,0 +1,37 @@
+-- A want of memory names no place and no keys, whoever answers it. (own)
+use Rattle.std.specs.Prelude.{◌≡◌, ℕ, List, Result, Err, String}
+use Rattle.std.specs.declared.alloc.Global.{Global}
+use Rattle.basic_toml_value.specs.Data.{Data}
+use Rattle.basic_toml_value.specs.declared.value.Value.{Value}
+use Rattle.basic_toml_emit.specs.Items.{Item}
+use Rattle.basic_toml_tree.specs.declared.node.Node.{Node}
+use Rattle.basic_toml_tree.specs.declared.tree.Tree.{Tree}
+use Rattle.basic_toml_write.specs.declared.error.WriteError.{WriteError}
+use Rattle.basic_toml_error.specs.Fault.{Fault, out_of_memory, want_of_memory}
+use Rattle.basic_toml.specs.ReadBack.{RoundTrips}
+use Rattle.basic_toml.specs.Reading.{ReadsText, ReadsTree}
+use Rattle.basic_toml.specs.Ser.{Writes}
+
+-- of its kind there is one fault, which has no offset, no line and column, and no keys
+abbrev pub HasNoPlace : Fault → Type 0
+HasNoPlace fault = fault.kind ≡ out_of_memory → fault ≡ want_of_memory
+
+-- so it is of each fault that a type names
+abbrev pub NamesNoPlace : (Node → Fault → Type 0) → Type 0
+NamesNoPlace faults = (node : Node) (fault : Fault) → faults node fault → HasNoPlace fault
+
+-- `from_str` and `from_slice`, where it is so of the type's own faults
+abbrev pub ReadsWithoutPlace : {T : Type 0} → (Data → Type 0) → (Data → T → Type 0) → (Node → Fault → Type 0) → Type 0
+ReadsWithoutPlace takes reads faults = NamesNoPlace faults → (text : List ℕ) (fault : Fault)
+    → ReadsText takes reads faults text (Err fault) → HasNoPlace fault
+
+-- `read_tree`
+abbrev pub TreesWithoutPlace : Type 0
+TreesWithoutPlace = (text : List ℕ) (fault : Fault) → ReadsTree text (Err fault) → HasNoPlace fault
+
+-- `to_string` and `round_trip`
+abbrev pub WritesWithoutPlace : List Item → (List Item → WriteError → Type 0) → Type 0
+WritesWithoutPlace calls gives_up = (fault : Fault) → Writes calls gives_up (Err fault) → HasNoPlace fault
+
+abbrev pub RoundTripsWithoutPlace : List Item → (List Item → WriteError → Type 0) → Type 0
+RoundTripsWithoutPlace calls gives_up = (fault : Fault) → RoundTrips calls gives_up (Err fault) → HasNoPlace fault
