@@ -11,8 +11,6 @@ mod held;
 #[cfg(test)]
 mod kinds;
 #[cfg(test)]
-mod memory;
-#[cfg(test)]
 mod messages;
 #[cfg(test)]
 mod nodes;
