@@ -1,21 +1,25 @@
 //! Names in one text, one after another, so that taking one copies it and allocates nothing once the text has grown.
 //!
 //! After the names that are kept stands the one that is set last. The kept ones end within `held`, and the text may be
-//! cut there and at both ends of each of them.
+//! cut there and at both ends of each of them. Of each it is known whether it is a bare key, so that it is asked once for
+//! all tables that have the key.
 ghost use Rattle.std.specs.Prelude.{◌≡◌, ◌<◌, [], ◌∷◌, ◌++◌, IfOk, OnErr, length, take, slice_index_or, string_bytes};
 ghost use Rattle.std.specs.List.{All};
 ghost use Rattle.std.specs.Str.{IsCharBoundary};
 ghost use Rattle.std.proofs.Props.{props};
+ghost use Rattle.basic_toml_layout.specs.Texts.{is_bare_key};
 ghost use Rattle.basic_toml_emit.specs.Names.{IsPlace, name_at};
 
+use basic_toml_layout::is_bare_key;
 use basic_toml_value::Texts;
 use std::alloc::{AllocError, Global};
 
-// Where a name stands.
+// Where a name stands, and whether it is a bare key.
 #[derive(Clone, Copy, Drop)]
 struct Place {
     start: usize,
     end: usize,
+    is_bare: bool,
 }
 
 fn name<'t>(text: &'t str, held: usize, place: Place) -> &'t str
@@ -24,6 +28,14 @@ fn name<'t>(text: &'t str, held: usize, place: Place) -> &'t str
 {
     let _ = held;
     &text[place.start..place.end]
+}
+
+fn is_bare(text: &str, held: usize, place: Place) -> bool
+    requires { IsPlace text.now held place }
+    ensures { result ≡ is_bare_key (name_at text.now place) }
+{
+    let _ = (text, held);
+    place.is_bare
 }
 
 #[derive(Drop)]
@@ -87,6 +99,14 @@ impl Names {
         name(self.text.as_str(), self.held, self.places[position])
     }
 
+    // Whether a name that is kept is a bare key.
+    pub fn is_bare(&self, position: usize) -> bool
+        requires { position < length (kept_of self.now) }
+        ensures { result ≡ is_bare_key (slice_index_or (kept_of self.now) position []) }
+    {
+        is_bare(self.text.as_str(), self.held, self.places[position])
+    }
+
     // The name that is set.
     pub fn pending(&self) -> &str
         ensures { result.now ≡ pending_of self.now }
@@ -109,9 +129,11 @@ impl Names {
         ensures err { OnErr result (kept_of self.new ≡ kept_of self.old) }
     {
         let end = self.text.len();
+        let is_bare = is_bare_key(self.pending());
         self.places.push(Place {
             start: self.held,
             end,
+            is_bare,
         })?;
         self.held = end;
         Ok(())

@@ -3,6 +3,7 @@
 //! Records of one type have the same keys in the same order. So the keys of a table that is closed are remembered:
 //! while those of the next one are the same ones, they are neither copied nor looked for.
 ghost use Rattle.std.specs.Prelude.{◌≡◌, ◌≤◌, true, false, not, is_some, unwrap_or, None, Some, [], IfOk, length};
+ghost use Rattle.basic_toml_layout.specs.Texts.{is_bare_key};
 ghost use Rattle.basic_toml_emit.specs.Open.{no_keys, with_key};
 ghost use Rattle.basic_toml_emit.specs.Kept.{kept_of};
 
@@ -57,6 +58,17 @@ impl OpenKeys {
             return "";
         }
         self.known.names().get(self.count - 1)
+    }
+
+    // Whether it is a bare key.
+    #[tactic(auto, using(crate::proofs::FirstKeys::last_at))]
+    pub fn is_last_bare(&self) -> bool
+        ensures { result ≡ is_bare_key (unwrap_or (last_of self.now) []) }
+    {
+        if self.count == 0 {
+            return false;
+        }
+        self.known.names().is_bare(self.count - 1)
     }
 
     // The key that is set.

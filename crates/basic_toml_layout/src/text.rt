@@ -97,9 +97,9 @@ fn are_bare(bytes: &[u8]) -> bool
     bytes.iter().all(|byte| is_bare(*byte))
 }
 
-// Whether a key needs no quotes.
+/// Whether a key needs no quotes: it is not empty, and all of `A-Z a-z 0-9 - _` (TOML v0.5.0, "Keys").
 #[tactic(auto, using(crate::proofs::QuotedUpToEscape::is_bare_key_some))]
-fn is_bare_key(key: &str) -> bool
+pub fn is_bare_key(key: &str) -> bool
     ensures { result ≡ is_bare_key key.now }
 {
     !key.is_empty() && are_bare(key.as_bytes())

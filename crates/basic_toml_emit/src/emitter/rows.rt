@@ -126,7 +126,7 @@ fn start_value(emitter: &mut Emitter) -> Result<(), EmitError>
             return Err(EmitError::ValueAfterTable);
         }
         write_header(&mut emitter.text, outer, table.header)?;
-        write_row_start(&mut emitter.text, table.keys.last())?;
+        write_row_start(&mut emitter.text, &*table.keys)?;
     }
     settle(&mut emitter.frames);
     Ok(())
