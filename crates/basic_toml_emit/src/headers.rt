@@ -3,7 +3,7 @@ ghost use Rattle.std.specs.Prelude.{◌≡◌, ◌++◌, IfOk, string_bytes, unw
 ghost use Rattle.basic_toml_emit.specs.Calls as c;
 ghost use Rattle.basic_toml_emit.specs.OpenKeys.{last_of};
 ghost use Rattle.basic_toml_layout.specs.Texts.{joined, written_key};
-ghost use Rattle.basic_toml_layout.specs.Layout.{element_header, row_start};
+ghost use Rattle.basic_toml_layout.specs.Layout.{table_header, element_header, row_start};
 ghost use Rattle.basic_toml_emit.specs.Frames.{frames_of, frame_of, header_of, path_part, first_after};
 
 use crate::frames::{Frame, Header};
@@ -62,17 +62,24 @@ pub fn write_header(text: &mut String, frames: &[Frame], header: Header) -> Resu
 {
     match header {
         Header::Settled => Ok(()),
-        Header::Due { later } => {
-            if later {
-                text.push('\n')?;
-            }
-            text.push('[')?;
-            write_path(text, frames)?;
-            text.push(']')?;
-            text.push('\n')?;
-            Ok(())
-        }
+        Header::Due { later } => write_table_header(text, frames, later),
     }
+}
+
+// The header of a table.
+#[inline(never)]
+fn write_table_header(text: &mut String, frames: &[Frame], later: bool) -> Result<(), AllocError>
+    ensures { IfOk result (λ _. string_bytes text.new ≡ string_bytes text.old
+        ++ table_header later (c.path (frames_of frames.now))) }
+{
+    if later {
+        text.push('\n')?;
+    }
+    text.push('[')?;
+    write_path(text, frames)?;
+    text.push(']')?;
+    text.push('\n')?;
+    Ok(())
 }
 
 // The header of an element of an array of tables.

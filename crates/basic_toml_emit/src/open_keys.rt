@@ -85,23 +85,36 @@ impl OpenKeys {
     }
 
     // Sets a key.
-    #[tactic(auto, using(crate::proofs::FirstKeys::next_same, crate::proofs::FirstKeys::next_unknown))]
+    #[inline(always)]
+    #[tactic(auto, using(crate::proofs::FirstKeys::next_same))]
     pub fn set(&mut self, key: &str) -> Result<(), AllocError>
         ensures keys { IfOk result (λ _. keys_of self.new ≡ keys_of self.old) }
         ensures last { IfOk result (λ _. last_of self.new ≡ last_of self.old) }
         ensures pending { IfOk result (λ _. pending_of self.new ≡ key.now) }
     {
+        if self.count < self.known.names().len() && self.known.names().get(self.count) == key {
+            return Ok(());
+        }
+        self.set_other(key)
+    }
+
+    // Sets a key, and forgets those that are known behind the ones that were entered.
+    #[inline(never)]
+    #[tactic(auto, using(crate::proofs::FirstKeys::next_unknown))]
+    fn set_other(&mut self, key: &str) -> Result<(), AllocError>
+        ensures keys { IfOk result (λ _. keys_of self.new ≡ keys_of self.old) }
+        ensures last { IfOk result (λ _. last_of self.new ≡ last_of self.old) }
+        ensures pending { IfOk result (λ _. pending_of self.new ≡ key.now) }
+    {
         if self.count < self.known.names().len() {
-            if self.known.names().get(self.count) == key {
-                return Ok(());
-            }
             self.known.shed(self.count);
         }
         self.known.set(key)
     }
 
     // Enters the key that is set. `false` where it is there already, and then nothing is changed.
-    #[tactic(auto, using(crate::proofs::FirstKeys::next_absent, crate::proofs::FirstKeys::keys_next, crate::proofs::FirstKeys::last_next, crate::proofs::FirstKeys::next_unknown, crate::proofs::FirstKeys::keys_pushed, crate::proofs::FirstKeys::last_pushed, crate::proofs::FirstKeys::within_pushed))]
+    #[inline(always)]
+    #[tactic(auto, using(crate::proofs::FirstKeys::next_absent, crate::proofs::FirstKeys::keys_next, crate::proofs::FirstKeys::last_next))]
     pub fn enter(&mut self) -> Result<bool, AllocError>
         ensures answer { IfOk result (λ is_new. is_new ≡ not (keys_of self.old (pending_of self.old))) }
         ensures keys { IfOk result (λ is_new. is_new ≡ true
@@ -113,6 +126,20 @@ impl OpenKeys {
             self.count += 1;
             return Ok(true);
         }
+        self.enter_other()
+    }
+
+    // The same where no more keys are known.
+    #[inline(never)]
+    #[tactic(auto, using(crate::proofs::FirstKeys::next_unknown, crate::proofs::FirstKeys::keys_pushed, crate::proofs::FirstKeys::last_pushed, crate::proofs::FirstKeys::within_pushed))]
+    fn enter_other(&mut self) -> Result<bool, AllocError>
+        requires { length (kept_of self.old.known.names) ≤ self.old.count }
+        ensures answer { IfOk result (λ is_new. is_new ≡ not (keys_of self.old (pending_of self.old))) }
+        ensures keys { IfOk result (λ is_new. is_new ≡ true
+            → keys_of self.new ≡ with_key (pending_of self.old) (keys_of self.old)) }
+        ensures last { IfOk result (λ is_new. is_new ≡ true → last_of self.new ≡ Some (pending_of self.old)) }
+        ensures unchanged { IfOk result (λ is_new. is_new ≡ false → self.new ≡ self.old) }
+    {
         match self.known.enter() {
             Ok(true) => {
                 self.count += 1;

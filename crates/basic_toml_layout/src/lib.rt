@@ -5,6 +5,7 @@
 #![tactic(auto)]
 
 mod data;
+mod plain;
 mod scalar;
 mod text;
 

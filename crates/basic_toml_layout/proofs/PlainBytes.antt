@@ -1,0 +1,28 @@
+-- Bytes that stand for themselves between quotes.
+use Rattle.std.proofs.Common.{◌≡◌, ℕ, zero, suc, ◌+◌, ◌-◌, ◌<◌, ◌≤◌, Bool, true, false, not, List, [], ◌∷◌, ◌++◌, length}
+use Rattle.std.proofs.Common.{get_or, drop, refl, sym, ◌∙◌, ap, arith}
+use Rattle.std.specs.Prelude.{◌&&◌}
+use Rattle.std.specs.List.{list_all}
+use Rattle.std.proofs.lemmas.Bool.Decides.{nat_tests}
+use Rattle.std.proofs.lemmas.Bool.{true≢false}
+use Rattle.basic_toml_layout.specs.Texts.{needs_escape, quoted_byte, quoted_bytes}
+use Rattle.basic_toml_layout.proofs.QuotedUpToEscape.{quoted_byte_plain}
+
+-- where the first bytes stand for themselves, all do where the rest does
+pub plain_from : (bs : List ℕ) (n : ℕ) → ((k : ℕ) → k < n → needs_escape (get_or bs k 0) ≡ false)
+    → list_all (λ b. not (needs_escape b)) (drop n bs) ≡ list_all (λ b. not (needs_escape b)) bs
+plain_from bs zero plain = refl
+plain_from [] (suc n) plain = refl
+plain_from (b ∷ bs) (suc n) plain =
+    plain_from bs n (λ k lt. plain (suc k) (omega arith))
+    ∙ ap (λ escapes. not escapes && list_all (λ b. not (needs_escape b)) bs) (sym (plain 0 (omega arith)))
+
+-- they are copied as they are
+pub plain_is : (bs : List ℕ) → list_all (λ b. not (needs_escape b)) bs ≡ true → quoted_bytes bs ≡ bs
+plain_is [] plain = refl
+plain_is (b ∷ bs) plain = rest (needs_escape b) refl plain
+  where
+    rest : (escapes : Bool) → needs_escape b ≡ escapes
+        → (not escapes && list_all (λ b. not (needs_escape b)) bs) ≡ true → quoted_bytes (b ∷ bs) ≡ b ∷ bs
+    rest true is plain = absurd (true≢false (sym plain))
+    rest false is plain = rw (quoted_byte_plain b is, plain_is bs plain) refl
