@@ -77,9 +77,7 @@ fn write_table_header(text: &mut String, frames: &[Frame], later: bool) -> Resul
     }
     text.push('[')?;
     write_path(text, frames)?;
-    text.push(']')?;
-    text.push('\n')?;
-    Ok(())
+    text.push_str("]\n")
 }
 
 // The header of an element of an array of tables.
@@ -94,13 +92,9 @@ pub fn write_element_header(
     if later {
         text.push('\n')?;
     }
-    text.push('[')?;
-    text.push('[')?;
+    text.push_str("[[")?;
     write_path(text, frames)?;
-    text.push(']')?;
-    text.push(']')?;
-    text.push('\n')?;
-    Ok(())
+    text.push_str("]]\n")
 }
 
 // What stands before the value of the row whose key was entered last.

@@ -152,8 +152,7 @@ pub(super) fn scalar_in_array(
         ElementKind::Tables => return Err(EmitError::UnsupportedType),
         ElementKind::Unknown => start_elements(emitter, later)?,
         ElementKind::Others => {
-            emitter.text.push(',')?;
-            emitter.text.push(' ')?;
+            emitter.text.push_str(", ")?;
         }
     }
     if scalar.is_bytes() && is_full {
@@ -186,8 +185,7 @@ pub(super) fn open_array_in_array(
         ElementKind::Tables => return Err(EmitError::UnsupportedType),
         ElementKind::Unknown => start_elements(emitter, later)?,
         ElementKind::Others => {
-            emitter.text.push(',')?;
-            emitter.text.push(' ')?;
+            emitter.text.push_str(", ")?;
         }
     }
     if is_full {
@@ -249,8 +247,7 @@ fn end_row(emitter: &mut Emitter) -> Result<(), EmitError>
 {
     match innermost(&emitter.frames) {
         Some((Frame::Table(_), _)) => {
-            emitter.text.push(']')?;
-            emitter.text.push('\n')?;
+            emitter.text.push_str("]\n")?;
         }
         Some((Frame::Array { .. }, _)) => emitter.text.push(']')?,
         None => emitter.text.push(']')?,
