@@ -1,12 +1,17 @@
 -- Bytes that stand for themselves between quotes.
 use Rattle.std.proofs.Common.{◌≡◌, ℕ, zero, suc, ◌+◌, ◌-◌, ◌<◌, ◌≤◌, Bool, true, false, not, List, [], ◌∷◌, ◌++◌, length}
 use Rattle.std.proofs.Common.{get_or, drop, refl, sym, ◌∙◌, ap, arith}
-use Rattle.std.specs.Prelude.{◌&&◌}
+use Rattle.std.specs.Prelude.{◌&&◌, ◌==◌, nat_lt}
 use Rattle.std.specs.List.{list_all}
 use Rattle.std.proofs.lemmas.Bool.Decides.{nat_tests}
 use Rattle.std.proofs.lemmas.Bool.{true≢false}
 use Rattle.basic_toml_layout.specs.Texts.{needs_escape, quoted_byte, quoted_bytes}
 use Rattle.basic_toml_layout.proofs.QuotedUpToEscape.{quoted_byte_plain}
+
+-- a byte that is no control character, no quote and no backslash
+pub plain_where : (b : ℕ) → nat_lt b 32 ≡ false → (b == 34) ≡ false → (b == 92) ≡ false → (b == 127) ≡ false
+    → needs_escape b ≡ false
+plain_where b p q r s = grind (arith, nat_tests)
 
 -- where the first bytes stand for themselves, all do where the rest does
 pub plain_from : (bs : List ℕ) (n : ℕ) → ((k : ℕ) → k < n → needs_escape (get_or bs k 0) ≡ false)

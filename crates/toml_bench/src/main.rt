@@ -15,7 +15,7 @@ mod texts;
 
 use std::alloc::Global;
 use std::env;
-use std::io::{self, Read};
+use std::io::{self, Read, Write};
 use std::process::ExitCode;
 
 const REFUSED: u8 = 1;
@@ -32,7 +32,7 @@ pub(crate) enum Ended {
 fn main(rt: HostRuntime) -> ExitCode {
     match measured(&rt) {
         Ok(Ended::Well) => ExitCode::from(0),
-        Ok(Ended::Written(text)) => match print!(rt; "{text}") {
+        Ok(Ended::Written(text)) => match io::writer(&rt).write_all(text.as_bytes()) {
             Ok(()) => ExitCode::from(0),
             Err(_) => ExitCode::from(FAILED),
         },
