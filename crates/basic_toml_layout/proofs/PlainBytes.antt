@@ -8,6 +8,9 @@ use Rattle.std.proofs.lemmas.Bool.{true≢false}
 use Rattle.basic_toml_layout.specs.Texts.{needs_escape, quoted_byte, quoted_bytes}
 use Rattle.basic_toml_layout.proofs.QuotedUpToEscape.{quoted_byte_plain}
 
+pub zero_is : (n : ℕ) → (n == 0) ≡ true → n ≡ 0
+zero_is n e = grind (arith, nat_tests)
+
 -- a byte that is no control character, no quote and no backslash
 pub plain_where : (b : ℕ) → nat_lt b 32 ≡ false → (b == 34) ≡ false → (b == 92) ≡ false → (b == 127) ≡ false
     → needs_escape b ≡ false
@@ -23,11 +26,12 @@ plain_from (b ∷ bs) (suc n) plain =
     ∙ ap (λ escapes. not escapes && list_all (λ b. not (needs_escape b)) bs) (sym (plain 0 (omega arith)))
 
 -- they are copied as they are
+copied : (b : ℕ) (bs : List ℕ) (escapes : Bool) → needs_escape b ≡ escapes
+    → (list_all (λ b. not (needs_escape b)) bs ≡ true → quoted_bytes bs ≡ bs)
+    → (not escapes && list_all (λ b. not (needs_escape b)) bs) ≡ true → quoted_bytes (b ∷ bs) ≡ b ∷ bs
+copied b bs true is rest plain = absurd (true≢false (sym plain))
+copied b bs false is rest plain = rw (quoted_byte_plain b is, rest plain) refl
+
 pub plain_is : (bs : List ℕ) → list_all (λ b. not (needs_escape b)) bs ≡ true → quoted_bytes bs ≡ bs
 plain_is [] plain = refl
-plain_is (b ∷ bs) plain = rest (needs_escape b) refl plain
-  where
-    rest : (escapes : Bool) → needs_escape b ≡ escapes
-        → (not escapes && list_all (λ b. not (needs_escape b)) bs) ≡ true → quoted_bytes (b ∷ bs) ≡ b ∷ bs
-    rest true is plain = absurd (true≢false (sym plain))
-    rest false is plain = rw (quoted_byte_plain b is, plain_is bs plain) refl
+plain_is (b ∷ bs) plain = copied b bs (needs_escape b) refl (plain_is bs) plain

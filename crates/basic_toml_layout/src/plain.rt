@@ -75,9 +75,9 @@ fn are_plain_singly(bytes: &[u8]) -> bool
 
 // Whether bytes stand for themselves between quotes.
 #[inline(always)]
-#[tactic(auto, using(crate::proofs::PlainBytes::plain_from))]
 pub fn are_plain(bytes: &[u8]) -> bool
     ensures { result ≡ list_all (λ b. not (texts.needs_escape b)) bytes.now }
 {
-    are_plain_singly(&bytes[plain_start(bytes)..])
+    let start = plain_start(bytes);
+    are_plain_singly(&bytes[start..])
 }

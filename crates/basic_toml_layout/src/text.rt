@@ -106,7 +106,8 @@ fn write_escaped(text: &mut String, value: &str) -> Result<(), AllocError>
             written = i + 1;
         }
     }
-    text.push_str(&value[written..])
+    text.push_str(&value[written..])?;
+    Ok(())
 }
 
 fn is_bare(byte: u8) -> bool

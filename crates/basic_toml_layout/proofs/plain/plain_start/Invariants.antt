@@ -4,7 +4,7 @@ use Rattle.basic_toml_layout.proofs.plain.plain_start.Given as goal
 
 abbrev pub invariant-loop-start : goal.invariant-loop-start
 invariant-loop-start l = record {
-  within : l.start + 8 ≤ length l.bytes;
+  within : l.start ≤ length l.bytes;
   plain : (k : ℕ) → k < l.start → needs_escape (slice_index l.bytes k) ≡ false;
 }
 

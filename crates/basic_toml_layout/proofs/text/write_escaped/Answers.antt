@@ -50,4 +50,4 @@ pub returns : goal.returns
 returns c = quoted_end (string_bytes c.args.text.now) (string_bytes c.loop-i.text) _
     c.args.value.now c.as_bytes-bytes.result.now c.range_from.result.now c.loop-i.written c.loop-i.i
     c.as_bytes-bytes.ensures.value (omega arith) c.loop-i.invariant.plain c.loop-i.invariant.text_is
-    c.range_from.ensures.value c.push_str-2.ensures.bytes
+    c.range_from.ensures.value c.in_ok-push_str-2.ensures.bytes
