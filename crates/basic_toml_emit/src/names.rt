@@ -34,7 +34,8 @@ fn is_bare(text: &str, held: usize, place: Place) -> bool
     requires { IsPlace text.now held place }
     ensures { result ≡ is_bare_key (name_at text.now place) }
 {
-    let _ = (text, held);
+    let _text = text;
+    let _held = held;
     place.is_bare
 }
 
