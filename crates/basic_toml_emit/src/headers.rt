@@ -77,7 +77,9 @@ fn write_table_header(text: &mut String, frames: &[Frame], later: bool) -> Resul
     }
     text.push('[')?;
     write_path(text, frames)?;
-    text.push_str("]\n")
+    text.push(']')?;
+    text.push('\n')?;
+    Ok(())
 }
 
 // The header of an element of an array of tables.
@@ -92,9 +94,13 @@ pub fn write_element_header(
     if later {
         text.push('\n')?;
     }
-    text.push_str("[[")?;
+    text.push('[')?;
+    text.push('[')?;
     write_path(text, frames)?;
-    text.push_str("]]\n")
+    text.push(']')?;
+    text.push(']')?;
+    text.push('\n')?;
+    Ok(())
 }
 
 // What stands before the value of the row whose key was entered last.
@@ -104,5 +110,8 @@ pub fn write_row_start(text: &mut String, keys: &OpenKeys) -> Result<(), AllocEr
         ++ row_start (unwrap_or (last_of keys.now) [])) }
 {
     write_last_key(text, keys)?;
-    text.push_str(" = ")
+    text.push(' ')?;
+    text.push('=')?;
+    text.push(' ')?;
+    Ok(())
 }

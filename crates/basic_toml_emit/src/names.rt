@@ -3,11 +3,12 @@
 //! After the names that are kept stands the one that is set last. The kept ones end within `held`, and the text may be
 //! cut there and at both ends of each of them. Of each it is known whether it is a bare key, so that it is asked once for
 //! all tables that have the key.
-ghost use Rattle.std.specs.Prelude.{◌≡◌, ◌<◌, [], ◌∷◌, ◌++◌, IfOk, OnErr, length, take, slice_index_or, string_bytes};
+ghost use Rattle.std.specs.Prelude.{◌≡◌, ◌+◌, ◌<◌, [], ◌∷◌, ◌++◌, IfOk, OnErr, length, take, slice_index_or, string_bytes};
 ghost use Rattle.std.specs.List.{All};
 ghost use Rattle.std.specs.Str.{IsCharBoundary};
 ghost use Rattle.std.proofs.Props.{props};
 ghost use Rattle.basic_toml_layout.specs.Texts.{is_bare_key};
+ghost use Rattle.basic_toml_emit.specs.Keys.{turned};
 ghost use Rattle.basic_toml_emit.specs.Names.{IsPlace, name_at};
 
 use basic_toml_layout::is_bare_key;
@@ -76,6 +77,15 @@ impl Names {
         ensures { kept_of self.new ≡ take count (kept_of self.old) }
     {
         self.places.truncate(count);
+    }
+
+    // Puts a name behind the one that stands behind it.
+    #[tactic(auto, using(crate::proofs::Turned::places_turned, crate::proofs::Turned::names_turned))]
+    pub fn turn(&mut self, position: usize)
+        requires { position + 1 < length (kept_of self.old) }
+        ensures { kept_of self.new ≡ turned position (kept_of self.old) }
+    {
+        self.places.swap(position, position + 1);
     }
 
     // How long the text of all names is.

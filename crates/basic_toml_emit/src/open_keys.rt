@@ -98,15 +98,23 @@ impl OpenKeys {
         self.set_other(key)
     }
 
-    // Sets a key, and forgets those that are known behind the ones that were entered.
+    // Sets a key that is not the next one of those that are known. The one behind that changes places with it: a key
+    // whose entry is absent now and then is not forgotten. Else those that are known behind the ones that were entered are.
     #[inline(never)]
-    #[tactic(auto, using(crate::proofs::FirstKeys::next_unknown))]
+    #[tactic(auto, using(crate::proofs::FirstKeys::next_unknown, crate::proofs::Turned::first_turned, crate::proofs::Turned::next_turned))]
     fn set_other(&mut self, key: &str) -> Result<(), AllocError>
         ensures keys { IfOk result (λ _. keys_of self.new ≡ keys_of self.old) }
         ensures last { IfOk result (λ _. last_of self.new ≡ last_of self.old) }
         ensures pending { IfOk result (λ _. pending_of self.new ≡ key.now) }
     {
-        if self.count < self.known.names().len() {
+        let len = self.known.names().len();
+        if len > 1 && self.count < len - 1 && !self.known.has_index() {
+            if self.known.names().get(self.count + 1) == key {
+                self.known.turn(self.count);
+                return Ok(());
+            }
+        }
+        if self.count < len {
             self.known.shed(self.count);
         }
         self.known.set(key)

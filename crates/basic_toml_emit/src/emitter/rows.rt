@@ -152,7 +152,8 @@ pub(super) fn scalar_in_array(
         ElementKind::Tables => return Err(EmitError::UnsupportedType),
         ElementKind::Unknown => start_elements(emitter, later)?,
         ElementKind::Others => {
-            emitter.text.push_str(", ")?;
+            emitter.text.push(',')?;
+            emitter.text.push(' ')?;
         }
     }
     if scalar.is_bytes() && is_full {
@@ -185,7 +186,8 @@ pub(super) fn open_array_in_array(
         ElementKind::Tables => return Err(EmitError::UnsupportedType),
         ElementKind::Unknown => start_elements(emitter, later)?,
         ElementKind::Others => {
-            emitter.text.push_str(", ")?;
+            emitter.text.push(',')?;
+            emitter.text.push(' ')?;
         }
     }
     if is_full {
@@ -247,7 +249,8 @@ fn end_row(emitter: &mut Emitter) -> Result<(), EmitError>
 {
     match innermost(&emitter.frames) {
         Some((Frame::Table(_), _)) => {
-            emitter.text.push_str("]\n")?;
+            emitter.text.push(']')?;
+            emitter.text.push('\n')?;
         }
         Some((Frame::Array { .. }, _)) => emitter.text.push(']')?,
         None => emitter.text.push(']')?,

@@ -1,8 +1,8 @@
 //! How a call is taken: the item that it records, and then its part.
 //!
-//! What is done with an error stands in functions of its own, which are not inlined: a call that is taken pays for none
-//! of it.
-ghost use Rattle.std.specs.Prelude.{◌≡◌, List, [], ◌∷◌, Result, IsSome, MatchOption, None, Err};
+//! What is done with an error stands in functions of its own, which are not inlined, and an answer, which is large, is
+//! made last: a call that is taken pays for none of it.
+ghost use Rattle.std.specs.Prelude.{◌≡◌, List, [], ◌∷◌, Result, Ok, OnOk, IfErr, IsErr, IsSome, MatchOption, None};
 ghost use Rattle.basic_toml_emit.specs.Items.{Item};
 ghost use Rattle.basic_toml_emit.specs.Recorded.{item_of};
 
@@ -13,27 +13,14 @@ use crate::{Serialize, WriteError};
 use basic_toml_emit::{Call, EmitError};
 
 impl Serializer {
-    ghost use Rattle.basic_toml_emit.specs.Emitter.{state_of, Steps};
+    ghost use Rattle.basic_toml_emit.specs.Emitter.{state_of};
     ghost use Rattle.basic_toml_emit.specs.Error.{Meets};
     ghost use Rattle.basic_toml_emit.specs.Open.{State};
     ghost use Rattle.basic_toml_emit.specs.Rules.{CallFault, key_of};
     ghost use Rattle.basic_toml_write.specs.Error.{Names};
     ghost use Rattle.basic_toml_write.specs.Recordable.{IsRecordable};
     ghost use Rattle.basic_toml_write.specs.Serializer.{Takes, Passes, Refused, error_of};
-
-    // The error that stands, once more.
-    #[cold]
-    #[inline(never)]
-    #[tactic(auto, using(crate::proofs::ListsAreSentInTurn::takes_refused))]
-    fn refuse_again(&self) -> Result<(), WriteError>
-        requires { IsSome (error_of self.now) }
-        ensures { (is : List Item) → Takes is self.now self.now result }
-    {
-        match &self.error {
-            Some(error) => Err(again(error, self.alloc)),
-            None => Ok(()),
-        }
-    }
+    ghost use Rattle.basic_toml_write.specs.Stops.{Stops};
 
     // Keeps an error, and answers the one that is kept.
     pub(super) fn refuse(&mut self, error: WriteError) -> Result<(), WriteError>
@@ -52,70 +39,91 @@ impl Serializer {
         named(error, &self.emitter, self.alloc)
     }
 
-    // Keeps an error of the emitter, and answers the one that is kept.
-    #[cold]
-    #[inline(never)]
-    #[tactic(auto, using(crate::proofs::ListsAreSentInTurn::takes_err))]
-    fn refuse_item(&mut self, error: EmitError) -> Result<(), WriteError>
-        ensures { (i : Item) (before : Serializer) → before.error ≡ None → Steps i before.emitter self.old.emitter (Err error)
-            → Takes (i ∷ []) before self.new result }
+    // The error that stands, once more.
+    #[tactic(auto, using(crate::proofs::ListsAreSentInTurn::takes_refused))]
+    fn refuse_again(&self) -> Result<(), WriteError>
+        requires { IsSome (error_of self.now) }
+        ensures takes { (is : List Item) → Takes is self.now self.now result }
+        ensures err { IsErr result }
     {
-        self.refuse(self.named(error))
+        match &self.error {
+            Some(error) => Err(again(error, self.alloc)),
+            None => Ok(()),
+        }
     }
 
-    // The answer of a step; an error is kept.
+    // The answer of an item that is stopped; an error that is met now is kept.
+    #[cold]
+    #[inline(never)]
+    #[tactic(auto, using(crate::proofs::StoppedCalls::takes_again, crate::proofs::StoppedCalls::takes_met))]
+    pub(super) fn refuse_item(&mut self, stop: Option<EmitError>) -> Result<(), WriteError>
+        requires { stop ≡ None → IsSome (error_of self.old) }
+        ensures takes { (i : Item) (before : Serializer) → Stops stop i before self.old → Takes (i ∷ []) before self.new result }
+        ensures err { IsErr result }
+    {
+        match stop {
+            Some(error) => self.refuse(self.named(error)),
+            None => self.refuse_again(),
+        }
+    }
+
+    // One item. Where it is not taken, what stops it: the error of the emitter, or none where an error stands.
     #[inline(always)]
     #[tactic(auto, using(crate::proofs::ListsAreSentInTurn::takes_ok))]
-    fn keep(&mut self, answer: Result<(), EmitError>) -> Result<(), WriteError>
-        ensures { (i : Item) (before : Serializer) → IsRecordable i → before.error ≡ None → self.old.error ≡ None
-            → Steps i before.emitter self.old.emitter answer → Takes (i ∷ []) before self.new result }
+    fn step(&mut self, call: Call<'_>) -> Result<(), Option<EmitError>>
+        requires { IsRecordable (item_of call) }
+        ensures ok { OnOk result (Takes (item_of call.entry ∷ []) self.old self.new (Ok tt)) }
+        ensures err { IfErr result (λ stop. Stops stop (item_of call.entry) self.old self.new) }
     {
-        match answer {
+        if self.has_refused() {
+            return Err(None);
+        }
+        match self.emitter.step(call) {
             Ok(()) => Ok(()),
-            Err(error) => self.refuse_item(error),
+            Err(error) => Err(Some(error)),
         }
     }
 
     // One item: it is taken, or the error that is due is kept and answered.
     #[inline(always)]
+    #[tactic(auto, using(crate::proofs::StoppedCalls::stands_there))]
     pub(super) fn take(&mut self, call: Call<'_>) -> Result<(), WriteError>
         requires { IsRecordable (item_of call) }
         ensures { Takes (item_of call.entry ∷ []) self.old self.new result }
     {
-        if self.has_refused() {
-            return self.refuse_again();
-        }
-        let answer = self.emitter.step(call);
-        self.keep(answer)
-    }
-
-    // The error that was met in a part, kept and answered.
-    #[cold]
-    #[inline(never)]
-    fn refuse_part(&mut self) -> Result<(), WriteError>
-        requires { IsSome (error_of self.old) }
-        ensures { MatchOption (error_of self.old) ⊥ (λ error. Refused error self.new result) }
-    {
-        match self.error.take() {
-            Some(error) => self.refuse(error),
-            None => Ok(()),
+        match self.step(call) {
+            Ok(()) => Ok(()),
+            Err(stop) => self.refuse_item(stop),
         }
     }
 
     // The answer of a part, or the error that was met in it.
+    #[cold]
+    #[inline(never)]
+    fn refuse_part(&mut self, answer: Result<(), WriteError>) -> Result<(), WriteError>
+        ensures { MatchOption (error_of self.old) ((self.new ≡ self.old) × (result ≡ answer))
+            (λ error. Refused error self.new result) }
+    {
+        match self.error.take() {
+            Some(error) => self.refuse(error),
+            None => answer,
+        }
+    }
+
+    // The same, the way of a part that was taken first.
     #[inline(always)]
     fn answer(&mut self, answer: Result<(), WriteError>) -> Result<(), WriteError>
         ensures { MatchOption (error_of self.old) ((self.new ≡ self.old) × (result ≡ answer))
             (λ error. Refused error self.new result) }
     {
-        if self.has_refused() {
-            return self.refuse_part();
+        if answer.is_ok() && !self.has_refused() {
+            return Ok(());
         }
-        answer
+        self.refuse_part(answer)
     }
 
-    // The calls of a part, where none was refused before. An error that is met in it is answered even where the part
-    // answers Ok; else the part's own error is.
+    // The calls of a part, where no error stands. An error that is met in it is answered even where the part answers
+    // Ok; else the part's own error is.
     #[inline(always)]
     #[tactic(auto, using(crate::proofs::ListsAreSentInTurn::passes_answer))]
     fn send<T: Serialize>(&mut self, value: &T) -> Result<(), WriteError>
@@ -140,7 +148,7 @@ impl Serializer {
 
     // What a call records before its part, and the calls of the part.
     #[inline(always)]
-    #[tactic(auto, using(crate::proofs::ListsAreSentInTurn::passes_then, crate::proofs::ListsAreSentInTurn::passes_cut, crate::proofs::ListsAreSentInTurn::takes_none))]
+    #[tactic(auto, using(crate::proofs::ListsAreSentInTurn::passes_then, crate::proofs::ListsAreSentInTurn::takes_none, crate::proofs::StoppedCalls::passes_stopped, crate::proofs::StoppedCalls::stands_there))]
     pub(super) fn after<T: Serialize>(
         &mut self,
         call: Call<'_>,
@@ -149,9 +157,9 @@ impl Serializer {
         requires { IsRecordable (item_of call) }
         ensures { Passes (item_of call.entry ∷ []) (T.calls value.now) (T.gives_up value.now) self.old self.new result }
     {
-        match self.take(call) {
+        match self.step(call) {
             Ok(()) => self.send(value),
-            Err(error) => Err(error),
+            Err(stop) => self.refuse_item(stop),
         }
     }
 }
