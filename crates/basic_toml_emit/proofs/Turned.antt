@@ -1,11 +1,12 @@
 -- Two keys of a list that changed places.
 use Rattle.std.proofs.Common.{◌≡◌, ℕ, zero, suc, ◌+◌, ◌-◌, ◌<◌, ◌≤◌, Bool, true, false, not, List, [], ◌∷◌, IsTrue}
-use Rattle.std.proofs.Common.{length, length-map, take, get_or, set, map, refl, sym, ap, ◌∙◌, subst, arith, add-one}
+use Rattle.std.proofs.Common.{length, take, get_or, set, map, refl, sym, ap, ◌∙◌, subst, arith, add-one, inl, inr}
 use Rattle.std.specs.Prelude.{◌&&◌, ◌||◌, slice_index_or}
 use Rattle.std.specs.List.{All, swap}
 use Rattle.std.specs.Str.{bytes_eq}
 use Rattle.std.specs.Cmp.Lexicographic.{same_text}
-use Rattle.std.proofs.lemmas.List.{get_or_default}
+use Rattle.std.proofs.lemmas.Bool.{cases_eq}
+use Rattle.std.proofs.lemmas.List.{get_or_default, length-map}
 use Rattle.std.proofs.lemmas.List.Edits.{swap_is}
 use Rattle.basic_toml_value.specs.Keys.{is_among, are_distinct}
 use Rattle.basic_toml_emit.specs.Open.{with_key}
@@ -71,7 +72,25 @@ get_other (x ∷ xs) (suc i) zero d here behind = refl
 get_other (x ∷ xs) (suc i) (suc k) d here behind =
     get_other xs i k d (λ e. here (ap suc e)) (λ e. behind (ap suc e))
 
+all_turned : {A : Type 0} (P : A → Type 0) (xs : List A) (i : ℕ) → suc i < length xs → All P xs → All P (turned i xs)
+all_turned P xs i lt all = λ k d within. elim (cases_eq k i) [
+  | inl here ↦ subst (λ n. P (get_or (turned i xs) n d)) (sym here) (subst P (sym (get_at xs i d lt)) (all (suc i) d lt))
+  | inr other ↦ elim (cases_eq k (suc i)) [
+    | inl behind ↦ subst (λ n. P (get_or (turned i xs) n d)) (sym behind)
+        (subst P (sym (get_after xs i d lt)) (all i d (omega arith)))
+    | inr apart ↦ subst P (sym (get_other xs i k d other apart)) (all k d (omega (arith, length_turned i xs)))
+  ]
+]
+
 -- names that change places
+pub places_turned : (text : List ℕ) (held : ℕ) (ps qs : List Place) (i : ℕ) → qs ≡ swap ps i (i + 1)
+    → i + 1 < length (map (name_at text) ps) → All (IsPlace text held) ps → All (IsPlace text held) qs
+places_turned text held [] qs i is lt fits = absurd (omega arith)
+places_turned text held (p ∷ ps) qs i is lt fits =
+    let more : i + 1 < length (p ∷ ps) = omega (arith, length-map (p ∷ ps) (name_at text)) in
+    subst (λ l. All (IsPlace text held) l) (sym (is ∙ swapped_is (p ∷ ps) i p more))
+    (all_turned (IsPlace text held) (p ∷ ps) i (omega arith) fits)
+
 pub names_turned : (text : List ℕ) (ps qs : List Place) (i : ℕ) → qs ≡ swap ps i (i + 1)
     → i + 1 < length (map (name_at text) ps) → map (name_at text) qs ≡ turned i (map (name_at text) ps)
 names_turned text [] qs i is lt = absurd (omega arith)

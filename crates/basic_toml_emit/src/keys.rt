@@ -75,11 +75,13 @@ fn greatest_of(names: &Names, count: usize) -> usize
     greatest
 }
 
-// How many of the first keys end in a key, where so many did before it and its neighbour changed places.
+// How many of the first of so many keys end in a key, where `count` of them did before it and its neighbour changed
+// places.
 #[tactic(auto, using(crate::proofs::Turned::before_other, crate::proofs::Turned::before_at, crate::proofs::Turned::before_after))]
-fn turned_count(count: usize, position: usize) -> usize
-    ensures within { (n : ℕ) → position + 1 < n → count ≤ n → result ≤ n }
-    ensures key { (keys : List (List ℕ)) → position + 1 < length keys
+fn turned_count(count: usize, position: usize, len: usize) -> usize
+    requires { position + 1 < len }
+    ensures within { count ≤ len → result ≤ len }
+    ensures key { (keys : List (List ℕ)) → length keys ≡ len
         → key_before result (turned position keys) ≡ key_before count keys }
 {
     if count == position + 1 {
@@ -170,8 +172,9 @@ impl Keys {
         requires no_index { self.old.index ≡ None }
         ensures { kept_of self.new.names ≡ turned position (kept_of self.old.names) }
     {
+        let len = self.names.len();
         self.names.turn(position);
-        self.greatest = turned_count(self.greatest, position);
+        self.greatest = turned_count(self.greatest, position, len);
     }
 
     // Sets a key.

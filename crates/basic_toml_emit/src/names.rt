@@ -80,11 +80,12 @@ impl Names {
     }
 
     // Puts a name behind the one that stands behind it.
-    #[tactic(auto, using(crate::proofs::Turned::places_turned, crate::proofs::Turned::names_turned))]
+    #[tactic(auto, using(crate::proofs::Turned::names_turned))]
     pub fn turn(&mut self, position: usize)
         requires { position + 1 < length (kept_of self.old) }
         ensures { kept_of self.new ≡ turned position (kept_of self.old) }
     {
+        let _len = self.len();
         self.places.swap(position, position + 1);
     }
 

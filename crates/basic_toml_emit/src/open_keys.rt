@@ -101,7 +101,7 @@ impl OpenKeys {
     // Sets a key that is not the next one of those that are known. The one behind that changes places with it: a key
     // whose entry is absent now and then is not forgotten. Else those that are known behind the ones that were entered are.
     #[inline(never)]
-    #[tactic(auto, using(crate::proofs::FirstKeys::next_unknown, crate::proofs::Turned::first_turned, crate::proofs::Turned::next_turned))]
+    #[tactic(auto, using(crate::proofs::FirstKeys::next_unknown, crate::proofs::Turned::within_turned, crate::proofs::Turned::first_turned, crate::proofs::Turned::next_turned))]
     fn set_other(&mut self, key: &str) -> Result<(), AllocError>
         ensures keys { IfOk result (λ _. keys_of self.new ≡ keys_of self.old) }
         ensures last { IfOk result (λ _. last_of self.new ≡ last_of self.old) }
