@@ -1,11 +1,11 @@
 -- Bytes that stand for themselves between quotes.
-use Rattle.std.proofs.Common.{◌≡◌, ℕ, zero, suc, ◌+◌, ◌-◌, ◌<◌, ◌≤◌, Bool, true, false, not, List, [], ◌∷◌, ◌++◌, length}
+use Rattle.std.proofs.Common.{◌≡◌, ℕ, zero, suc, ◌<◌, Bool, true, false, not, List, [], ◌∷◌}
 use Rattle.std.proofs.Common.{get_or, drop, refl, sym, ◌∙◌, ap, arith}
 use Rattle.std.specs.Prelude.{◌&&◌, ◌==◌, nat_lt}
 use Rattle.std.specs.List.{list_all}
 use Rattle.std.proofs.lemmas.Bool.Decides.{nat_tests}
 use Rattle.std.proofs.lemmas.Bool.{true≢false}
-use Rattle.basic_toml_layout.specs.Texts.{needs_escape, quoted_byte, quoted_bytes}
+use Rattle.basic_toml_layout.specs.Texts.{needs_escape, quoted_bytes}
 use Rattle.basic_toml_layout.proofs.QuotedUpToEscape.{quoted_byte_plain}
 
 pub zero_is : (n : ℕ) → (n == 0) ≡ true → n ≡ 0

@@ -1,5 +1,5 @@
 -- Calls that an error stops.
-use Rattle.std.proofs.Common.{◌≡◌, List, [], ◌∷◌, Option, Some, None, IsSome, Result, Ok, Err, refl, sym, ap, ◌∙◌}
+use Rattle.std.proofs.Common.{◌≡◌, List, [], ◌∷◌, Option, Some, None, IsSome, Result, Ok, Err, sym}
 use Rattle.std.proofs.Common.{subst}
 use Rattle.std.specs.Prelude.{IsErr}
 use Rattle.basic_toml_emit.specs.Items.{Item}

@@ -1,5 +1,5 @@
 -- What stops an item (own): an error of the emitter, which is met now, or the error that was met before.
-use Rattle.std.specs.Prelude.{◌≡◌, Option, IsSome, None, Result, Err, MatchOption}
+use Rattle.std.specs.Prelude.{◌≡◌, Option, IsSome, None, Err, MatchOption}
 use Rattle.basic_toml_emit.specs.Items.{Item}
 use Rattle.basic_toml_emit.specs.Emitter.{Steps}
 use Rattle.basic_toml_emit.specs.declared.error.EmitError.{EmitError}

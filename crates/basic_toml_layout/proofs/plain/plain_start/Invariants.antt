@@ -1,4 +1,4 @@
-use Rattle.std.proofs.Common.{◌≡◌, ℕ, ◌+◌, ◌-◌, ◌<◌, ◌≤◌, false, length, slice_index}
+use Rattle.std.proofs.Common.{◌≡◌, ℕ, ◌-◌, ◌<◌, ◌≤◌, false, length, slice_index}
 use Rattle.basic_toml_layout.specs.Texts.{needs_escape}
 use Rattle.basic_toml_layout.proofs.plain.plain_start.Given as goal
 
