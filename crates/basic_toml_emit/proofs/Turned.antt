@@ -54,7 +54,8 @@ get_at (x ∷ []) i d lt = absurd (omega arith)
 get_at (x ∷ y ∷ xs) zero d lt = refl
 get_at (x ∷ y ∷ xs) (suc i) d lt = get_at (y ∷ xs) i d (omega arith)
 
-get_after : {A : Type 0} (xs : List A) (i : ℕ) (d : A) → suc i < length xs → get_or (turned i xs) (suc i) d ≡ get_or xs i d
+get_after : {A : Type 0} (xs : List A) (i : ℕ) (d : A) → suc i < length xs
+    → get_or (turned i xs) (suc i) d ≡ get_or xs i d
 get_after [] i d lt = absurd (omega arith)
 get_after (x ∷ []) i d lt = absurd (omega arith)
 get_after (x ∷ y ∷ xs) zero d lt = refl
@@ -74,7 +75,8 @@ get_other (x ∷ xs) (suc i) (suc k) d here behind =
 
 all_turned : {A : Type 0} (P : A → Type 0) (xs : List A) (i : ℕ) → suc i < length xs → All P xs → All P (turned i xs)
 all_turned P xs i lt all = λ k d within. elim (cases_eq k i) [
-  | inl here ↦ subst (λ n. P (get_or (turned i xs) n d)) (sym here) (subst P (sym (get_at xs i d lt)) (all (suc i) d lt))
+  | inl here ↦ subst (λ n. P (get_or (turned i xs) n d)) (sym here)
+      (subst P (sym (get_at xs i d lt)) (all (suc i) d lt))
   | inr other ↦ elim (cases_eq k (suc i)) [
     | inl behind ↦ subst (λ n. P (get_or (turned i xs) n d)) (sym behind)
         (subst P (sym (get_after xs i d lt)) (all i d (omega arith)))

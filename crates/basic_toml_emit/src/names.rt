@@ -1,8 +1,8 @@
 //! Names in one text, one after another, so that taking one copies it and allocates nothing once the text has grown.
 //!
 //! After the names that are kept stands the one that is set last. The kept ones end within `held`, and the text may be
-//! cut there and at both ends of each of them. Of each it is known whether it is a bare key, so that it is asked once for
-//! all tables that have the key.
+//! cut there and at both ends of each of them. Of each it is known whether it is a bare key, so that this is asked once
+//! for all tables that have the key.
 ghost use Rattle.std.specs.Prelude.{◌≡◌, ◌+◌, ◌<◌, [], ◌∷◌, ◌++◌, IfOk, OnErr, length, take, slice_index_or, string_bytes};
 ghost use Rattle.std.specs.List.{All};
 ghost use Rattle.std.specs.Str.{IsCharBoundary};

@@ -98,8 +98,8 @@ impl OpenKeys {
         self.set_other(key)
     }
 
-    // Sets a key that is not the next one of those that are known. The one behind that changes places with it: a key
-    // whose entry is absent now and then is not forgotten. Else those that are known behind the ones that were entered are.
+    // Sets a key that is not the next one of those that are known. Where it is the one behind, the two change places, so
+    // that a key whose entry is absent now and then is not forgotten; else those behind the ones that were entered are.
     #[inline(never)]
     #[tactic(auto, using(crate::proofs::FirstKeys::next_unknown, crate::proofs::Turned::within_turned, crate::proofs::Turned::first_turned, crate::proofs::Turned::next_turned))]
     fn set_other(&mut self, key: &str) -> Result<(), AllocError>

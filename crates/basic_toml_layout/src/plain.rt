@@ -35,7 +35,8 @@ fn none_is(bytes: &[u8], start: usize, byte: u8) -> bool
 #[tactic(auto, using(crate::proofs::PlainBytes::plain_where))]
 fn are_eight_plain(bytes: &[u8], start: usize) -> bool
     requires { start + 8 ≤ length bytes.now }
-    ensures { result ≡ true → (k : ℕ) → start ≤ k → k < start + 8 → texts.needs_escape (slice_index bytes.now k) ≡ false }
+    ensures { result ≡ true → (k : ℕ) → start ≤ k → k < start + 8
+        → texts.needs_escape (slice_index bytes.now k) ≡ false }
 {
     (none_below(bytes, start, 0x20) & none_is(bytes, start, b'"'))
         & (none_is(bytes, start, b'\\') & none_is(bytes, start, 0x7f))

@@ -38,7 +38,7 @@ takes_met error i before mid new named r met names refused =
     takes_err i before new named r met.none_before refused (names _ met.steps)
 
 -- an item that was stopped before a part
-pub passes_stopped : (G : List Item → WriteError → Type 0) (i : Item) (ys : List Item) (old new : Serializer) (r : Answer)
-    → Takes (i ∷ []) old new r → IsErr r → Passes (i ∷ []) ys G old new r
+pub passes_stopped : (G : List Item → WriteError → Type 0) (i : Item) (ys : List Item) (old new : Serializer)
+    (r : Answer) → Takes (i ∷ []) old new r → IsErr r → Passes (i ∷ []) ys G old new r
 passes_stopped G i ys old new (Ok x) p is = absurd (cc)
 passes_stopped G i ys old new (Err x) p is = passes_cut G i ys old new x p

@@ -58,7 +58,8 @@ impl Serializer {
     #[tactic(auto, using(crate::proofs::StoppedCalls::takes_again, crate::proofs::StoppedCalls::takes_met))]
     pub(super) fn refuse_item(&mut self, stop: Option<EmitError>) -> Result<(), WriteError>
         requires { stop ≡ None → IsSome (error_of self.old) }
-        ensures takes { (i : Item) (before : Serializer) → Stops stop i before self.old → Takes (i ∷ []) before self.new result }
+        ensures takes { (i : Item) (before : Serializer) → Stops stop i before self.old
+            → Takes (i ∷ []) before self.new result }
         ensures err { IsErr result }
     {
         match stop {
