@@ -16,7 +16,7 @@ turn false true x = refl
 turn false false x = refl
 
 -- two keys in either order
-with_key-turn : (k l : List ℕ) (keys : PresentKeys) → with_key k (with_key l keys) ≡ with_key l (with_key k keys)
+pub with_key-turn : (k l : List ℕ) (keys : PresentKeys) → with_key k (with_key l keys) ≡ with_key l (with_key k keys)
 with_key-turn k l keys = λ i q. turn (bytes_eq k q) (bytes_eq l q) (keys q) i
 
 -- a key after those of a list
@@ -45,7 +45,7 @@ with_keys_at (k ∷ ks) zero q lt e = rw e refl
 with_keys_at (k ∷ ks) (suc i) q lt e = ap (cond (bytes_eq k q) true) (with_keys_at ks i q (omega arith) e) ∙
     cond_same (bytes_eq k q)
 
-same_test : (k q : List ℕ) → bytes_eq k q ≡ bytes_eq q k
+pub same_test : (k q : List ℕ) → bytes_eq k q ≡ bytes_eq q k
 same_test k q = grind (arith, bytes_eq-Decides k q, bytes_eq-Decides q k)
 
 or_is : (a b : Bool) → cond a true b ≡ (a || b)

@@ -5,3 +5,4 @@ pub mod FramesOfStack
 pub mod Taking
 pub mod FinishHandsOut
 pub mod FirstKeys
+pub mod Turned

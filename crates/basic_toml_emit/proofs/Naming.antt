@@ -10,6 +10,7 @@ use Rattle.std.proofs.lemmas.List.Elements.{All-take}
 use Rattle.std.proofs.lemmas.Slice.{between_is}
 use Rattle.std.proofs.lemmas.Str.{IsCharBoundary-at_seam, IsUtf8-nil}
 use Rattle.std.proofs.lemmas.Bool.{cases_eq}
+use Rattle.basic_toml_layout.specs.Texts.{is_bare_key}
 use Rattle.basic_toml_emit.specs.Names.{name_at, IsPlace, last_after, last_name}
 use Rattle.basic_toml_emit.specs.declared.names.Place.{Place}
 
@@ -48,6 +49,7 @@ module _ (text more : List ℕ) (held : ℕ) (within : held ≤ length text) whe
     fits.1,
     boundary_kept p.start (omega arith) u fits.2,
     boundary_kept p.end (omega arith) u fits.3,
+    fits.4 ∙ sym (ap is_bare_key (name_kept p fits)),
   )
 
   pub places_kept : (ps : List Place) → IsUtf8 more → All (IsPlace text held) ps → All (IsPlace cut_text held) ps

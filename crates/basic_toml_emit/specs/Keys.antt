@@ -20,3 +20,11 @@ key_before (suc position) ks = slice_index_or ks position []
 -- no key that is there is above this one
 abbrev pub IsGreatest : List ℕ → PresentKeys → Type 0
 IsGreatest greatest keys = (key : List ℕ) → keys key ≡ true → is_below greatest key ≡ false
+
+-- the one at this place and the one behind it, the other way round
+abbrev pub turned : {A : Type 0} → ℕ → List A → List A
+turned zero [] = []
+turned zero (x ∷ []) = x ∷ []
+turned zero (x ∷ y ∷ xs) = y ∷ x ∷ xs
+turned (suc position) [] = []
+turned (suc position) (x ∷ xs) = x ∷ turned position xs

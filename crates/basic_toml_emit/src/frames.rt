@@ -46,6 +46,7 @@ pub struct TableFrame {
 
 impl TableFrame {
     // Sets a key.
+    #[inline(always)]
     fn set_key(&mut self, key: &str) -> Result<(), AllocError>
         ensures { IfOk result (λ _. (below : List o.Frame) → frame_of (Table self.new)
             ∷ below ≡ with_stage (o.key_set key.now) (frame_of (Table self.old) ∷ below)) }
@@ -57,6 +58,7 @@ impl TableFrame {
 
     // Counts the key that is set among those of present entries. `false` where it is among them already, and then
     // nothing is changed.
+    #[inline(always)]
     fn enter_key(&mut self) -> Result<bool, AllocError>
         ensures answer { IfOk result (λ is_new. (below : List o.Frame)
             → is_new ≡ not (holds_key (frame_of (Table self.old) ∷ below))) }
@@ -133,6 +135,7 @@ pub fn put_array(frames: &mut Vec<Frame>, kind: ElementKind, later: bool) -> Res
 }
 
 // The innermost frame, and those around it.
+#[inline(always)]
 pub fn innermost(frames: &[Frame]) -> Option<(&Frame, &[Frame])>
     ensures { MatchOption result (frames_of frames.now ≡ []) (λ p. frames_of frames.now ≡ frame_of p.0.now
         ∷ frames_of p.1.now) }
@@ -151,6 +154,7 @@ pub fn leave(frames: &mut Vec<Frame>, spare: &mut Vec<Box<OpenKeys>>)
 }
 
 // Sets what the innermost table waits for.
+#[inline(always)]
 pub fn set_stage(frames: &mut [Frame], stage: Stage)
     requires { stage ≢ KeySet }
     ensures { frames_of frames.new ≡ with_stage (stage_of stage []) (frames_of frames.old) }
@@ -164,6 +168,7 @@ pub fn set_stage(frames: &mut [Frame], stage: Stage)
 }
 
 // Sets a key in the innermost table.
+#[inline(always)]
 pub fn set_key(frames: &mut [Frame], key: &str) -> Result<(), AllocError>
     ensures { IfOk result (λ _. frames_of frames.new ≡ with_stage (o.key_set key.now) (frames_of frames.old)) }
 {
@@ -189,6 +194,7 @@ pub fn key_set(frames: &[Frame]) -> &str
 
 // Counts the key that is set in the innermost table among those of present entries. `false` where it is among them
 // already, and then nothing is changed.
+#[inline(always)]
 pub fn enter_key(frames: &mut [Frame]) -> Result<bool, AllocError>
     ensures answer { IfOk result (λ is_new. is_new ≡ not (holds_key (frames_of frames.old))) }
     ensures entered { IfOk result (λ is_new. is_new ≡ true → frames_of frames.new ≡ with_entry (frames_of frames.old)) }
@@ -205,6 +211,7 @@ pub fn enter_key(frames: &mut [Frame]) -> Result<bool, AllocError>
 }
 
 // Notes that the header of the innermost table is written, or not to be written at all.
+#[inline(always)]
 pub fn settle(frames: &mut [Frame])
     ensures { frames_of frames.new ≡ c.with_row (frames_of frames.old) }
 {

@@ -1,13 +1,28 @@
 //! Headers, and what stands before a row's value.
-ghost use Rattle.std.specs.Prelude.{◌≡◌, ◌++◌, IfOk, string_bytes};
+ghost use Rattle.std.specs.Prelude.{◌≡◌, ◌++◌, IfOk, string_bytes, unwrap_or, []};
 ghost use Rattle.basic_toml_emit.specs.Calls as c;
-ghost use Rattle.basic_toml_layout.specs.Texts.{joined};
-ghost use Rattle.basic_toml_layout.specs.Layout.{element_header, row_start};
+ghost use Rattle.basic_toml_emit.specs.OpenKeys.{last_of};
+ghost use Rattle.basic_toml_layout.specs.Texts.{joined, written_key};
+ghost use Rattle.basic_toml_layout.specs.Layout.{table_header, element_header, row_start};
 ghost use Rattle.basic_toml_emit.specs.Frames.{frames_of, frame_of, header_of, path_part, first_after};
 
 use crate::frames::{Frame, Header};
+use crate::open_keys::OpenKeys;
 use basic_toml_layout::write_key;
 use std::alloc::AllocError;
+
+// The key that was entered last.
+#[inline(always)]
+fn write_last_key(text: &mut String, keys: &OpenKeys) -> Result<(), AllocError>
+    ensures { IfOk result (λ _. string_bytes text.new ≡ string_bytes text.old
+        ++ written_key (unwrap_or (last_of keys.now) [])) }
+{
+    if keys.is_last_bare() {
+        text.push_str(keys.last())
+    } else {
+        write_key(text, keys.last())
+    }
+}
 
 // The key that a frame adds to a path; whether the path is still empty.
 fn write_part(text: &mut String, frame: &Frame, first: bool) -> Result<bool, AllocError>
@@ -21,7 +36,7 @@ fn write_part(text: &mut String, frame: &Frame, first: bool) -> Result<bool, All
             if !first {
                 text.push('.')?;
             }
-            write_key(text, table.keys.last())?;
+            write_last_key(text, &*table.keys)?;
             Ok(false)
         }
     }
@@ -47,17 +62,24 @@ pub fn write_header(text: &mut String, frames: &[Frame], header: Header) -> Resu
 {
     match header {
         Header::Settled => Ok(()),
-        Header::Due { later } => {
-            if later {
-                text.push('\n')?;
-            }
-            text.push('[')?;
-            write_path(text, frames)?;
-            text.push(']')?;
-            text.push('\n')?;
-            Ok(())
-        }
+        Header::Due { later } => write_table_header(text, frames, later),
     }
+}
+
+// The header of a table.
+#[inline(never)]
+fn write_table_header(text: &mut String, frames: &[Frame], later: bool) -> Result<(), AllocError>
+    ensures { IfOk result (λ _. string_bytes text.new ≡ string_bytes text.old
+        ++ table_header later (c.path (frames_of frames.now))) }
+{
+    if later {
+        text.push('\n')?;
+    }
+    text.push('[')?;
+    write_path(text, frames)?;
+    text.push(']')?;
+    text.push('\n')?;
+    Ok(())
 }
 
 // The header of an element of an array of tables.
@@ -81,11 +103,13 @@ pub fn write_element_header(
     Ok(())
 }
 
-// What stands before the value of a row.
-pub fn write_row_start(text: &mut String, key: &str) -> Result<(), AllocError>
-    ensures { IfOk result (λ _. string_bytes text.new ≡ string_bytes text.old ++ row_start key.now) }
+// What stands before the value of the row whose key was entered last.
+#[inline(always)]
+pub fn write_row_start(text: &mut String, keys: &OpenKeys) -> Result<(), AllocError>
+    ensures { IfOk result (λ _. string_bytes text.new ≡ string_bytes text.old
+        ++ row_start (unwrap_or (last_of keys.now) [])) }
 {
-    write_key(text, key)?;
+    write_last_key(text, keys)?;
     text.push(' ')?;
     text.push('=')?;
     text.push(' ')?;

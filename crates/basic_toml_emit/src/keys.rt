@@ -3,11 +3,11 @@
 //! While the keys are few, or each is above those before it, there is no index of them: a key above the greatest is new
 //! without a search, and else the keys are looked through one by one. More keys get an index once one of them is not
 //! above the greatest.
-ghost use Rattle.std.specs.Prelude.{◌≡◌, ◌≤◌, true, false, not, is_some, unwrap_or, None, Some, [], ◌∷◌, ◌++◌, IfOk, OnErr, IsTrue, IsSome, MatchOption, length, take};
+ghost use Rattle.std.specs.Prelude.{◌≡◌, ℕ, ◌+◌, ◌<◌, ◌≤◌, true, false, not, is_some, unwrap_or, None, Some, List, [], ◌∷◌, ◌++◌, IfOk, OnErr, IsTrue, IsSome, MatchOption, length, take};
 ghost use Rattle.basic_toml_value.specs.Keys.{are_distinct};
 ghost use Rattle.basic_toml_value.specs.Index.{IsIndex};
 ghost use Rattle.basic_toml_emit.specs.Open.{with_key};
-ghost use Rattle.basic_toml_emit.specs.Keys.{is_below, with_keys, key_before, IsGreatest};
+ghost use Rattle.basic_toml_emit.specs.Keys.{is_below, with_keys, key_before, turned, IsGreatest};
 ghost use Rattle.basic_toml_emit.specs.Kept as n;
 ghost use Rattle.basic_toml_emit.specs.Kept.{kept_of};
 ghost use Rattle.std.proofs.Props.{props};
@@ -75,6 +75,24 @@ fn greatest_of(names: &Names, count: usize) -> usize
     greatest
 }
 
+// How many of the first of so many keys end in a key, where `count` of them did before it and its neighbour changed
+// places.
+#[tactic(auto, using(crate::proofs::Turned::before_other, crate::proofs::Turned::before_at, crate::proofs::Turned::before_after))]
+fn turned_count(count: usize, position: usize, len: usize) -> usize
+    requires { position + 1 < len }
+    ensures within { count ≤ len → result ≤ len }
+    ensures key { (keys : List (List ℕ)) → length keys ≡ len
+        → key_before result (turned position keys) ≡ key_before count keys }
+{
+    if count == position + 1 {
+        position + 2
+    } else if count == position + 2 {
+        position + 1
+    } else {
+        count
+    }
+}
+
 fn forget(names: &mut Names, greatest: &mut usize, index: &mut Option<Index>)
     ensures names { kept_of names.new ≡ [] }
     ensures greatest { greatest.new ≡ 0 }
@@ -138,6 +156,25 @@ impl Keys {
         self.greatest = greatest_of(&self.names, count);
         self.names.shed(count);
         self.index = None;
+    }
+
+    // Whether there is an index of them.
+    pub fn has_index(&self) -> bool
+        ensures { result ≡ is_some self.now.index }
+    {
+        self.index.is_some()
+    }
+
+    // Puts a key behind the one that stands behind it.
+    #[tactic(auto, using(crate::proofs::Turned::distinct_turned, crate::proofs::Turned::within_turned, crate::proofs::Turned::greatest_turned))]
+    pub fn turn(&mut self, position: usize)
+        requires within { position + 1 < length (kept_of self.old.names) }
+        requires no_index { self.old.index ≡ None }
+        ensures { kept_of self.new.names ≡ turned position (kept_of self.old.names) }
+    {
+        let len = self.names.len();
+        self.names.turn(position);
+        self.greatest = turned_count(self.greatest, position, len);
     }
 
     // Sets a key.

@@ -1,21 +1,26 @@
 //! Names in one text, one after another, so that taking one copies it and allocates nothing once the text has grown.
 //!
 //! After the names that are kept stands the one that is set last. The kept ones end within `held`, and the text may be
-//! cut there and at both ends of each of them.
-ghost use Rattle.std.specs.Prelude.{◌≡◌, ◌<◌, [], ◌∷◌, ◌++◌, IfOk, OnErr, length, take, slice_index_or, string_bytes};
+//! cut there and at both ends of each of them. Of each it is known whether it is a bare key, so that this is asked once
+//! for all tables that have the key.
+ghost use Rattle.std.specs.Prelude.{◌≡◌, ◌+◌, ◌<◌, [], ◌∷◌, ◌++◌, IfOk, OnErr, length, take, slice_index_or, string_bytes};
 ghost use Rattle.std.specs.List.{All};
 ghost use Rattle.std.specs.Str.{IsCharBoundary};
 ghost use Rattle.std.proofs.Props.{props};
+ghost use Rattle.basic_toml_layout.specs.Texts.{is_bare_key};
+ghost use Rattle.basic_toml_emit.specs.Keys.{turned};
 ghost use Rattle.basic_toml_emit.specs.Names.{IsPlace, name_at};
 
+use basic_toml_layout::is_bare_key;
 use basic_toml_value::Texts;
 use std::alloc::{AllocError, Global};
 
-// Where a name stands.
+// Where a name stands, and whether it is a bare key.
 #[derive(Clone, Copy, Drop)]
 struct Place {
     start: usize,
     end: usize,
+    is_bare: bool,
 }
 
 fn name<'t>(text: &'t str, held: usize, place: Place) -> &'t str
@@ -24,6 +29,15 @@ fn name<'t>(text: &'t str, held: usize, place: Place) -> &'t str
 {
     let _ = held;
     &text[place.start..place.end]
+}
+
+fn is_bare(text: &str, held: usize, place: Place) -> bool
+    requires { IsPlace text.now held place }
+    ensures { result ≡ is_bare_key (name_at text.now place) }
+{
+    let _text = text;
+    let _held = held;
+    place.is_bare
 }
 
 #[derive(Drop)]
@@ -65,6 +79,16 @@ impl Names {
         self.places.truncate(count);
     }
 
+    // Puts a name behind the one that stands behind it.
+    #[tactic(auto, using(crate::proofs::Turned::names_turned))]
+    pub fn turn(&mut self, position: usize)
+        requires { position + 1 < length (kept_of self.old) }
+        ensures { kept_of self.new ≡ turned position (kept_of self.old) }
+    {
+        let _len = self.len();
+        self.places.swap(position, position + 1);
+    }
+
     // How long the text of all names is.
     pub fn size(&self) -> usize
         ensures { result ≡ length (string_bytes self.now.text) }
@@ -85,6 +109,14 @@ impl Names {
         ensures { result.now ≡ slice_index_or (kept_of self.now) position [] }
     {
         name(self.text.as_str(), self.held, self.places[position])
+    }
+
+    // Whether a name that is kept is a bare key.
+    pub fn is_bare(&self, position: usize) -> bool
+        requires { position < length (kept_of self.now) }
+        ensures { result ≡ is_bare_key (slice_index_or (kept_of self.now) position []) }
+    {
+        is_bare(self.text.as_str(), self.held, self.places[position])
     }
 
     // The name that is set.
@@ -109,9 +141,11 @@ impl Names {
         ensures err { OnErr result (kept_of self.new ≡ kept_of self.old) }
     {
         let end = self.text.len();
+        let is_bare = is_bare_key(self.pending());
         self.places.push(Place {
             start: self.held,
             end,
+            is_bare,
         })?;
         self.held = end;
         Ok(())

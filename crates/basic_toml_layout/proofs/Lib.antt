@@ -1,3 +1,4 @@
 pub mod QuotedUpToEscape
+pub mod PlainBytes
 pub mod ViewsOfValues
 pub mod DataIsLaidOut

@@ -9,7 +9,7 @@ use Rattle.std.specs.List.{list_all}
 use Rattle.basic_toml_layout.specs.Texts.{needs_escape, is_bare, is_bare_key, quoted_byte, quoted_bytes, quoted, comma}
 use Rattle.basic_toml_layout.specs.Texts.{more_numbers, written_numbers}
 
-quoted_byte_plain : (b : ℕ) → needs_escape b ≡ false → quoted_byte b ≡ b ∷ []
+pub quoted_byte_plain : (b : ℕ) → needs_escape b ≡ false → quoted_byte b ≡ b ∷ []
 quoted_byte_plain b p = grind (arith, nat_tests)
 
 below_128 : (b : ℕ) → needs_escape b ≡ true → b < 128
@@ -113,20 +113,23 @@ quoted_more init t t' t'' bs cs run n i e le lt p q r u v =
           (subst (λ z. (k : ℕ) → n ≤ k → k < i → needs_escape (get_or z k 0) ≡ false) e p),
     ) (simp append_assoc)
 
--- the rest of a string, and the quotes
-pub quoted_end : (start init t t' t'' bs cs run : List ℕ) (n i : ℕ) → cs ≡ bs → length bs ≤ i
-    → ((k : ℕ) → n ≤ k → k < i → needs_escape (get_or cs k 0) ≡ false) → init ≡ start ++ (34 ∷ []) → t ≡ init
-    ++ quoted_bytes (take n bs) → run ≡ drop n bs → t' ≡ t ++ run → t'' ≡ t' ++ (34 ∷ []) → t'' ≡ start ++ quoted bs
-quoted_end start init t t' t'' bs cs run n i e le p o q r u v =
+-- the rest of a string
+pub quoted_end : (init t t' bs cs run : List ℕ) (n i : ℕ) → cs ≡ bs → length bs ≤ i
+    → ((k : ℕ) → n ≤ k → k < i → needs_escape (get_or cs k 0) ≡ false) → t ≡ init ++ quoted_bytes (take n bs)
+    → run ≡ drop n bs → t' ≡ t ++ run → t' ≡ init ++ quoted_bytes bs
+quoted_end init t t' bs cs run n i e le p q r u =
     rw (
-      v,
       u,
       r,
       q,
-      o,
       quoted_bytes_rest bs n
           (λ k ge lt. subst (λ z. needs_escape (get_or z k 0) ≡ false) e (p k ge (omega arith))),
     ) (simp append_assoc)
+
+-- the quotes around it
+pub quoted_whole : (start t t' t'' bs : List ℕ) → t ≡ start ++ (34 ∷ []) → t' ≡ t ++ quoted_bytes bs
+    → t'' ≡ t' ++ (34 ∷ []) → t'' ≡ start ++ quoted bs
+quoted_whole start t t' t'' bs o u v = rw (v, u, o) (simp append_assoc)
 
 pub numbers_first : (init t t' t'' : List ℕ) (ns : List ℕ) (i : ℕ) → i < length ns → i ≡ 0 → t ≡ init
     ++ written_numbers (take i ns) → t' ≡ t → t'' ≡ t' ++ decimal (get_or ns i 0) → t'' ≡ init

@@ -5,9 +5,10 @@
 #![tactic(auto)]
 
 mod data;
+mod plain;
 mod scalar;
 mod text;
 
 pub use data::{begins_with_table, is_section, laid_out};
 pub use scalar::Scalar;
-pub use text::write_key;
+pub use text::{is_bare_key, write_key};

@@ -1,12 +1,14 @@
 //! Keys, strings and numbers as the text has them.
 //!
-//! Strings are copied in the runs of bytes that stand for themselves, so that one without an escape is one copy.
+//! A string without an escape is one copy, and another one is copied in the runs of bytes that stand for themselves.
 ghost use Rattle.std.specs.Prelude.{◌≡◌, ℕ, ◌<◌, ◌/◌, ◌%◌, true, false, List, [], ◌∷◌, ◌++◌, IfOk, string_bytes, length, take, slice_index, decimal};
 ghost use Rattle.std.specs.Fmt.{signed_decimal};
 ghost use Rattle.std.specs.List.{list_all};
 ghost use Rattle.basic_toml_layout.specs.Texts as texts;
-ghost use Rattle.basic_toml_layout.specs.Texts.{quoted_byte, quoted, written_key, is_bare_key, written_numbers};
+ghost use Rattle.basic_toml_layout.specs.Texts.{quoted_byte, quoted_bytes, quoted, written_key, is_bare_key, written_numbers};
 
+use crate::plain::are_plain;
+use itoa::Buffer;
 use std::alloc::AllocError;
 
 // What each byte is: `b` where it may stand in a bare key, `e` where it stands for something else than itself between
@@ -22,7 +24,7 @@ static CLASSES: [u8; 256] = *b"\
     ................................";
 
 // Whether a byte stands for something else than itself between quotes.
-fn needs_escape(byte: u8) -> bool
+pub fn needs_escape(byte: u8) -> bool
     ensures { result ≡ texts.needs_escape byte }
 {
     CLASSES[byte as usize] == b'e'
@@ -67,10 +69,34 @@ fn write_escape(text: &mut String, byte: u8) -> Result<(), AllocError>
 }
 
 // A string between quotes.
+#[inline(always)]
+#[tactic(auto, using(crate::proofs::QuotedUpToEscape::quoted_whole))]
 pub fn write_quoted(text: &mut String, value: &str) -> Result<(), AllocError>
     ensures { IfOk result (λ _. string_bytes text.new ≡ string_bytes text.old ++ quoted value.now) }
 {
     text.push('"')?;
+    write_bytes(text, value)?;
+    text.push('"')
+}
+
+// What stands between the quotes.
+#[inline(always)]
+#[tactic(auto, using(crate::proofs::PlainBytes::plain_is))]
+fn write_bytes(text: &mut String, value: &str) -> Result<(), AllocError>
+    ensures { IfOk result (λ _. string_bytes text.new ≡ string_bytes text.old ++ quoted_bytes value.now) }
+{
+    if are_plain(value.as_bytes()) {
+        text.push_str(value)
+    } else {
+        write_escaped(text, value)
+    }
+}
+
+// The same, a run of bytes that stand for themselves after another.
+#[inline(never)]
+fn write_escaped(text: &mut String, value: &str) -> Result<(), AllocError>
+    ensures { IfOk result (λ _. string_bytes text.new ≡ string_bytes text.old ++ quoted_bytes value.now) }
+{
     let bytes = value.as_bytes();
     let mut written = 0;
     for (i, byte) in bytes.iter().enumerate() {
@@ -81,7 +107,6 @@ pub fn write_quoted(text: &mut String, value: &str) -> Result<(), AllocError>
         }
     }
     text.push_str(&value[written..])?;
-    text.push('"')?;
     Ok(())
 }
 
@@ -97,9 +122,9 @@ fn are_bare(bytes: &[u8]) -> bool
     bytes.iter().all(|byte| is_bare(*byte))
 }
 
-// Whether a key needs no quotes.
+/// Whether a key needs no quotes: it is not empty, and all of `A-Z a-z 0-9 - _` (TOML v0.5.0, "Keys").
 #[tactic(auto, using(crate::proofs::QuotedUpToEscape::is_bare_key_some))]
-fn is_bare_key(key: &str) -> bool
+pub fn is_bare_key(key: &str) -> bool
     ensures { result ≡ is_bare_key key.now }
 {
     !key.is_empty() && are_bare(key.as_bytes())
@@ -116,25 +141,20 @@ pub fn write_key(text: &mut String, key: &str) -> Result<(), AllocError>
     }
 }
 
+#[inline(always)]
 pub fn write_signed(text: &mut String, n: i64) -> Result<(), AllocError>
     ensures { IfOk result (λ _. string_bytes text.new ≡ string_bytes text.old ++ signed_decimal n) }
 {
-    if n < 0 {
-        write!(text, "{n}")
-    } else {
-        write_unsigned(text, n.unsigned_abs())
-    }
+    let mut digits = Buffer::new();
+    text.push_str(digits.format(n))
 }
 
-#[tactic(auto, using(std::proofs::lemmas::Fmt::decimal_digit))]
+#[inline(always)]
 pub fn write_unsigned(text: &mut String, n: u64) -> Result<(), AllocError>
     ensures { IfOk result (λ _. string_bytes text.new ≡ string_bytes text.old ++ decimal n) }
 {
-    if n < 10 {
-        text.push(char::from(b'0' + n as u8))
-    } else {
-        write!(text, "{n}")
-    }
+    let mut digits = Buffer::new();
+    text.push_str(digits.format(n))
 }
 
 // The elements of an array of bytes.

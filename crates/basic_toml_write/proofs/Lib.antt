@@ -9,6 +9,7 @@ pub mod KeptHasSameLayout
 pub mod OutcomeIsLayout
 pub mod KeptErrorIsAnswered
 pub mod ListsAreSentInTurn
+pub mod StoppedCalls
 pub mod OneCallIsSent
 pub mod FinishHandsOut
 pub mod PartsAreSent

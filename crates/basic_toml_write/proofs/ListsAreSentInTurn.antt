@@ -109,6 +109,14 @@ takes_ok i before mid new can p q same h =
       refuses = tt;
     }
 
+-- a call that was taken left no error
+pub takes_none : (is : List Item) (old new : Serializer) → Takes is old new (Ok tt) → new.error ≡ None
+takes_none is old new p = none old.error new.error p.answers
+  where
+    none : (o n : Option WriteError) → AnswersAt (Ok tt) o n → n ≡ None
+    none o None a = refl
+    none o (Some e) a = absurd a
+
 -- `AnswersError` and `Refused` for a serializer that had refused nothing
 answers_now : (error : WriteError) (old new : Serializer) (r : Answer) → old.error ≡ None → Refused error new r
     → AnswersError old new r
@@ -282,7 +290,7 @@ passes_cut G i ys old new x p =
     }
 
 -- a part of a serializer that has refused
-pub passes_refused : (is : List Item) (G : OwnErrors) (s : Serializer) (x : WriteError)
-    → ((js : List Item) → Takes js s s (Err x)) → Passes [] is G s s (Err x)
-passes_refused is G s x refused = let p = refused is in
-    record { sends = sends_never (PartGivesUp [] G) is s s (Err x) p.sends; answers = p.answers }
+pub passes_refused : (is : List Item) (G : OwnErrors) (s : Serializer) (r : Answer)
+    → ((js : List Item) → Takes js s s r) → Passes [] is G s s r
+passes_refused is G s r refused = let p = refused is in
+    record { sends = sends_never (PartGivesUp [] G) is s s r p.sends; answers = p.answers }

@@ -6,6 +6,7 @@ pub mod Error
 pub mod ErrorText
 pub mod Again
 pub mod Serializer
+pub mod Stops
 pub mod Parts
 pub mod Impls
 pub mod DataFits

@@ -30,7 +30,7 @@ pub(crate) fn find(alloc: Global, input: &[u8]) -> io::Result<Ended> {
     Ok(Ended::Well)
 }
 
-fn text_of(input: &[u8]) -> io::Result<&str> {
+pub(crate) fn text_of(input: &[u8]) -> io::Result<&str> {
     str::from_utf8(input).map_err(|_| io::Error::from(io::ErrorKind::InvalidData))
 }
 

@@ -1,7 +1,8 @@
-// basic-toml, which reads into a value that keeps the order of keys: read | tidy.
+// basic-toml, which reads into a value that keeps the order of keys: read | tidy. Or records of six fields are made of the
+// lines of the text, as toml_bench makes them: records; and written, too: write.
 // Status 0 where it was read (and written), 1 where the text was refused, 2 where it cannot be written.
 use serde::de::{Deserialize, Deserializer, Error, MapAccess, SeqAccess, Visitor};
-use serde::ser::{Serialize, SerializeMap, SerializeSeq, Serializer};
+use serde::ser::{Serialize, SerializeMap, SerializeSeq, SerializeStruct, Serializer};
 use std::io::{Read, Write};
 use std::process::exit;
 
@@ -83,15 +84,83 @@ impl Serialize for Value {
     }
 }
 
+struct Record {
+    id: u32,
+    name: String,
+    on: bool,
+    size: i64,
+    note: Option<String>,
+    tags: Vec<String>,
+}
+
+// What serde's derive writes for it.
+impl Serialize for Record {
+    fn serialize<S: Serializer>(&self, s: S) -> Result<S::Ok, S::Error> {
+        let mut fields = s.serialize_struct("Record", 6)?;
+        fields.serialize_field("id", &self.id)?;
+        fields.serialize_field("name", &self.name)?;
+        fields.serialize_field("on", &self.on)?;
+        fields.serialize_field("size", &self.size)?;
+        fields.serialize_field("note", &self.note)?;
+        fields.serialize_field("tags", &self.tags)?;
+        fields.end()
+    }
+}
+
+struct Records {
+    rec: Vec<Record>,
+}
+
+impl Serialize for Records {
+    fn serialize<S: Serializer>(&self, s: S) -> Result<S::Ok, S::Error> {
+        let mut fields = s.serialize_struct("Records", 1)?;
+        fields.serialize_field("rec", &self.rec)?;
+        fields.end()
+    }
+}
+
+fn start_of(line: &str, len: usize) -> String {
+    line.get(..len).unwrap_or(line).to_owned()
+}
+
+fn records_of(text: &str) -> Records {
+    let mut rec = Vec::new();
+    let (mut id, mut size) = (0u32, 0i64);
+    for line in text.lines() {
+        id = id.wrapping_add(2_654_435_761);
+        size = size.wrapping_add(100_000_007);
+        rec.push(Record {
+            id,
+            name: start_of(line, 12),
+            on: id % 2 == 0,
+            size,
+            note: if id % 4 < 2 { Some(line.to_owned()) } else { None },
+            tags: (0..id % 3).map(|_| start_of(line, 5)).collect(),
+        });
+    }
+    Records { rec }
+}
+
+fn print(text: &str) {
+    std::io::stdout().lock().write_all(text.as_bytes()).unwrap();
+}
+
 fn main() {
-    let tidy = std::env::args().nth(1).as_deref() == Some("tidy");
+    let how = std::env::args().nth(1).unwrap_or_default();
     let mut text = Vec::new();
     std::io::stdin().lock().read_to_end(&mut text).unwrap();
+    if how == "records" || how == "write" {
+        let records = records_of(std::str::from_utf8(&text).unwrap());
+        if how == "write" {
+            print(&basic_toml::to_string(&records).unwrap());
+        }
+        return;
+    }
     let value: Value = basic_toml::from_slice(&text).unwrap_or_else(|e| {
         eprintln!("{}", e);
         exit(1)
     });
-    if !tidy {
+    if how != "tidy" {
         return; // and the value is freed
     }
     let written = basic_toml::to_string(&value).unwrap_or_else(|e| {
@@ -99,5 +168,5 @@ fn main() {
         exit(2)
     });
     drop(value);
-    std::io::stdout().lock().write_all(written.as_bytes()).unwrap();
+    print(&written);
 }

@@ -25,6 +25,7 @@ pub(super) fn key(emitter: &mut Emitter) -> Result<(), EmitError>
 }
 
 // Sets a key.
+#[inline(always)]
 pub(super) fn field(emitter: &mut Emitter, name: &str) -> Result<(), EmitError>
     ensures { Steps (field name.now) emitter.old emitter.new result }
 {
@@ -43,6 +44,7 @@ pub(super) fn field(emitter: &mut Emitter, name: &str) -> Result<(), EmitError>
 }
 
 // An absent option: an entry that is left out.
+#[inline(always)]
 pub(super) fn absent(emitter: &mut Emitter) -> Result<(), EmitError>
     ensures { Steps an_absent emitter.old emitter.new result }
 {
@@ -61,6 +63,7 @@ pub(super) fn absent(emitter: &mut Emitter) -> Result<(), EmitError>
 }
 
 // The prefix of an option that is there.
+#[inline(always)]
 pub(super) fn some_prefix(emitter: &mut Emitter) -> Result<(), EmitError>
     ensures { Steps some_prefix emitter.old emitter.new result }
 {
@@ -81,6 +84,7 @@ pub(super) fn some_prefix(emitter: &mut Emitter) -> Result<(), EmitError>
 }
 
 // The prefix of a value that follows a key.
+#[inline(always)]
 pub(super) fn value_prefix(emitter: &mut Emitter) -> Result<(), EmitError>
     ensures { Steps value_prefix emitter.old emitter.new result }
 {
@@ -96,6 +100,7 @@ pub(super) fn value_prefix(emitter: &mut Emitter) -> Result<(), EmitError>
 }
 
 // The prefix of an element.
+#[inline(always)]
 pub(super) fn element_prefix(emitter: &mut Emitter) -> Result<(), EmitError>
     ensures { Steps element_prefix emitter.old emitter.new result }
 {

@@ -77,6 +77,7 @@ fn scalar_at_value(emitter: &mut Emitter, scalar: Scalar<'_>) -> Result<(), Emit
 }
 
 // Counts the key that is set among those of present entries.
+#[inline(always)]
 pub(super) fn enter(emitter: &mut Emitter) -> Result<(), EmitError>
     ensures ok { IfOk result (λ _. Enters emitter.old emitter.new) }
     ensures err { IfErr result (λ e. (e ≡ OutOfMemory) ⊎ (e ≡ DuplicateKey)
@@ -116,6 +117,7 @@ pub(super) fn enter_part(emitter: &mut Emitter) -> Result<bool, EmitError>
 }
 
 // Writes what stands before the value of the key that was entered last in the innermost frame, a table.
+#[inline(always)]
 fn start_value(emitter: &mut Emitter) -> Result<(), EmitError>
     ensures ok { IfOk result (λ _. StartsValue emitter.old emitter.new) }
     ensures err { IfErr result (λ e. (e ≡ OutOfMemory) ⊎ (e ≡ ValueAfterTable)
@@ -126,7 +128,7 @@ fn start_value(emitter: &mut Emitter) -> Result<(), EmitError>
             return Err(EmitError::ValueAfterTable);
         }
         write_header(&mut emitter.text, outer, table.header)?;
-        write_row_start(&mut emitter.text, table.keys.last())?;
+        write_row_start(&mut emitter.text, &*table.keys)?;
     }
     settle(&mut emitter.frames);
     Ok(())

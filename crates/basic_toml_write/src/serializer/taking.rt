@@ -1,5 +1,8 @@
 //! How a call is taken: the item that it records, and then its part.
-ghost use Rattle.std.specs.Prelude.{◌≡◌, List, [], ◌∷◌, Result, OnOk, IfErr, MatchOption, None, Err};
+//!
+//! What is done with an error stands in functions of its own, which are not inlined, and an answer, which is large, is
+//! made last: a call that is taken pays for none of it.
+ghost use Rattle.std.specs.Prelude.{◌≡◌, List, [], ◌∷◌, Result, Ok, OnOk, IfErr, IsErr, IsSome, MatchOption, None};
 ghost use Rattle.basic_toml_emit.specs.Items.{Item};
 ghost use Rattle.basic_toml_emit.specs.Recorded.{item_of};
 
@@ -10,26 +13,14 @@ use crate::{Serialize, WriteError};
 use basic_toml_emit::{Call, EmitError};
 
 impl Serializer {
-    ghost use Rattle.basic_toml_emit.specs.Emitter.{state_of, Steps};
+    ghost use Rattle.basic_toml_emit.specs.Emitter.{state_of};
     ghost use Rattle.basic_toml_emit.specs.Error.{Meets};
     ghost use Rattle.basic_toml_emit.specs.Open.{State};
     ghost use Rattle.basic_toml_emit.specs.Rules.{CallFault, key_of};
     ghost use Rattle.basic_toml_write.specs.Error.{Names};
     ghost use Rattle.basic_toml_write.specs.Recordable.{IsRecordable};
     ghost use Rattle.basic_toml_write.specs.Serializer.{Takes, Passes, Refused, error_of};
-
-    // The error that stands, if one does.
-    #[inline(always)]
-    #[tactic(auto, using(crate::proofs::ListsAreSentInTurn::takes_refused))]
-    fn ready(&self) -> Result<(), WriteError>
-        ensures none { OnOk result (self.now.error ≡ None) }
-        ensures refused { IfErr result (λ e. (is : List Item) → Takes is self.now self.now (Err e)) }
-    {
-        match &self.error {
-            Some(error) => Err(again(error, self.alloc)),
-            None => Ok(()),
-        }
-    }
+    ghost use Rattle.basic_toml_write.specs.Stops.{Stops};
 
     // Keeps an error, and answers the one that is kept.
     pub(super) fn refuse(&mut self, error: WriteError) -> Result<(), WriteError>
@@ -48,61 +39,117 @@ impl Serializer {
         named(error, &self.emitter, self.alloc)
     }
 
-    // The answer of a step; an error is kept.
-    #[inline(always)]
-    #[tactic(auto, using(crate::proofs::ListsAreSentInTurn::takes_ok, crate::proofs::ListsAreSentInTurn::takes_err))]
-    fn keep(&mut self, answer: Result<(), EmitError>) -> Result<(), WriteError>
-        ensures { (i : Item) (before : Serializer) → IsRecordable i → before.error ≡ None → self.old.error ≡ None
-            → Steps i before.emitter self.old.emitter answer → Takes (i ∷ []) before self.new result }
+    // The error that stands, once more.
+    #[tactic(auto, using(crate::proofs::ListsAreSentInTurn::takes_refused))]
+    fn refuse_again(&self) -> Result<(), WriteError>
+        requires { IsSome (error_of self.now) }
+        ensures takes { (is : List Item) → Takes is self.now self.now result }
+        ensures err { IsErr result }
     {
-        match answer {
+        match &self.error {
+            Some(error) => Err(again(error, self.alloc)),
+            None => Ok(()),
+        }
+    }
+
+    // The answer of an item that is stopped; an error that is met now is kept.
+    #[cold]
+    #[inline(never)]
+    #[tactic(auto, using(crate::proofs::StoppedCalls::takes_again, crate::proofs::StoppedCalls::takes_met))]
+    pub(super) fn refuse_item(&mut self, stop: Option<EmitError>) -> Result<(), WriteError>
+        requires { stop ≡ None → IsSome (error_of self.old) }
+        ensures takes { (i : Item) (before : Serializer) → Stops stop i before self.old
+            → Takes (i ∷ []) before self.new result }
+        ensures err { IsErr result }
+    {
+        match stop {
+            Some(error) => self.refuse(self.named(error)),
+            None => self.refuse_again(),
+        }
+    }
+
+    // One item. Where it is not taken, what stops it: the error of the emitter, or none where an error stands.
+    #[inline(always)]
+    #[tactic(auto, using(crate::proofs::ListsAreSentInTurn::takes_ok))]
+    fn step(&mut self, call: Call<'_>) -> Result<(), Option<EmitError>>
+        requires { IsRecordable (item_of call) }
+        ensures ok { OnOk result (Takes (item_of call.entry ∷ []) self.old self.new (Ok tt)) }
+        ensures err { IfErr result (λ stop. Stops stop (item_of call.entry) self.old self.new) }
+    {
+        if self.has_refused() {
+            return Err(None);
+        }
+        match self.emitter.step(call) {
             Ok(()) => Ok(()),
-            Err(error) => self.refuse(self.named(error)),
+            Err(error) => Err(Some(error)),
         }
     }
 
     // One item: it is taken, or the error that is due is kept and answered.
     #[inline(always)]
+    #[tactic(auto, using(crate::proofs::StoppedCalls::stands_there))]
     pub(super) fn take(&mut self, call: Call<'_>) -> Result<(), WriteError>
         requires { IsRecordable (item_of call) }
         ensures { Takes (item_of call.entry ∷ []) self.old self.new result }
     {
-        self.ready()?;
-        let answer = self.emitter.step(call);
-        self.keep(answer)
+        match self.step(call) {
+            Ok(()) => Ok(()),
+            Err(stop) => self.refuse_item(stop),
+        }
     }
 
     // The answer of a part, or the error that was met in it.
-    #[inline(always)]
-    fn answer(&mut self, answer: Result<(), WriteError>) -> Result<(), WriteError>
+    #[cold]
+    #[inline(never)]
+    fn refuse_part(&mut self, answer: Result<(), WriteError>) -> Result<(), WriteError>
         ensures { MatchOption (error_of self.old) ((self.new ≡ self.old) × (result ≡ answer))
             (λ error. Refused error self.new result) }
     {
-        // Asked first, since moving an error out costs more, and mostly there is none.
-        if !self.has_refused() {
-            return answer;
-        }
         match self.error.take() {
             Some(error) => self.refuse(error),
             None => answer,
         }
     }
 
-    // The calls of a part. An error that is met in it is answered even where the part answers Ok; else the part's own
-    // error is.
+    // The same, the way of a part that was taken first.
+    #[inline(always)]
+    fn answer(&mut self, answer: Result<(), WriteError>) -> Result<(), WriteError>
+        ensures { MatchOption (error_of self.old) ((self.new ≡ self.old) × (result ≡ answer))
+            (λ error. Refused error self.new result) }
+    {
+        if answer.is_ok() && !self.has_refused() {
+            return Ok(());
+        }
+        self.refuse_part(answer)
+    }
+
+    // The calls of a part, where no error stands. An error that is met in it is answered even where the part answers
+    // Ok; else the part's own error is.
     #[inline(always)]
     #[tactic(auto, using(crate::proofs::ListsAreSentInTurn::passes_answer))]
-    pub(super) fn part<T: Serialize>(&mut self, value: &T) -> Result<(), WriteError>
+    fn send<T: Serialize>(&mut self, value: &T) -> Result<(), WriteError>
+        requires { error_of self.old ≡ None }
         ensures { Passes [] (T.calls value.now) (T.gives_up value.now) self.old self.new result }
     {
-        self.ready()?;
         let answer = value.serialize(self.alloc, self);
         self.answer(answer)
     }
 
+    // The calls of a part.
+    #[inline(always)]
+    #[tactic(auto, using(crate::proofs::ListsAreSentInTurn::passes_refused))]
+    pub(super) fn part<T: Serialize>(&mut self, value: &T) -> Result<(), WriteError>
+        ensures { Passes [] (T.calls value.now) (T.gives_up value.now) self.old self.new result }
+    {
+        if self.has_refused() {
+            return self.refuse_again();
+        }
+        self.send(value)
+    }
+
     // What a call records before its part, and the calls of the part.
     #[inline(always)]
-    #[tactic(auto, using(crate::proofs::ListsAreSentInTurn::passes_then, crate::proofs::ListsAreSentInTurn::passes_cut))]
+    #[tactic(auto, using(crate::proofs::ListsAreSentInTurn::passes_then, crate::proofs::ListsAreSentInTurn::takes_none, crate::proofs::StoppedCalls::passes_stopped, crate::proofs::StoppedCalls::stands_there))]
     pub(super) fn after<T: Serialize>(
         &mut self,
         call: Call<'_>,
@@ -111,8 +158,9 @@ impl Serializer {
         requires { IsRecordable (item_of call) }
         ensures { Passes (item_of call.entry ∷ []) (T.calls value.now) (T.gives_up value.now) self.old self.new result }
     {
-        self.take(call)?;
-        let answer = self.part(value);
-        answer
+        match self.step(call) {
+            Ok(()) => self.send(value),
+            Err(stop) => self.refuse_item(stop),
+        }
     }
 }

@@ -1,7 +1,7 @@
 use Rattle.std.proofs.Common.{◌≡◌, ◌++◌, ℕ, ◌<◌, ◌≤◌, false, string_bytes, take, slice_index}
 use Rattle.std.specs.Str.{IsCharBoundary}
 use Rattle.basic_toml_layout.specs.Texts.{needs_escape, quoted_bytes}
-use Rattle.basic_toml_layout.proofs.text.write_quoted.Given as goal
+use Rattle.basic_toml_layout.proofs.text.write_escaped.Given as goal
 
 abbrev pub invariant-loop-i : goal.invariant-loop-i
 invariant-loop-i l = record {

@@ -1,0 +1,9 @@
+use Rattle.std.proofs.Common.{subst}
+use Rattle.basic_toml_write.specs.Stops.{Stops}
+use Rattle.basic_toml_write.proofs.StoppedCalls.{takes_again}
+use Rattle.basic_toml_write.proofs.serializer.Serializer.refuse_item.Goals as goal
+
+pub returns-in-None-clause-takes : goal.returns-in-None-clause-takes
+returns-in-None-clause-takes c = λ i before stops.
+    takes_again i before c.args.self.now _ (subst (λ stop. Stops stop i before c.args.self.now) c.in-None.is stops)
+    c.refuse_again.ensures.takes
