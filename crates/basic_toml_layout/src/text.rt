@@ -8,7 +8,6 @@ ghost use Rattle.basic_toml_layout.specs.Texts as texts;
 ghost use Rattle.basic_toml_layout.specs.Texts.{quoted_byte, quoted_bytes, quoted, written_key, is_bare_key, written_numbers};
 
 use crate::plain::are_plain;
-use itoa::Buffer;
 use std::alloc::AllocError;
 
 // What each byte is: `b` where it may stand in a bare key, `e` where it stands for something else than itself between
@@ -141,20 +140,25 @@ pub fn write_key(text: &mut String, key: &str) -> Result<(), AllocError>
     }
 }
 
-#[inline(always)]
 pub fn write_signed(text: &mut String, n: i64) -> Result<(), AllocError>
     ensures { IfOk result (λ _. string_bytes text.new ≡ string_bytes text.old ++ signed_decimal n) }
 {
-    let mut digits = Buffer::new();
-    text.push_str(digits.format(n))
+    if n < 0 {
+        write!(text, "{n}")
+    } else {
+        write_unsigned(text, n.unsigned_abs())
+    }
 }
 
-#[inline(always)]
+#[tactic(auto, using(std::proofs::lemmas::Fmt::decimal_digit))]
 pub fn write_unsigned(text: &mut String, n: u64) -> Result<(), AllocError>
     ensures { IfOk result (λ _. string_bytes text.new ≡ string_bytes text.old ++ decimal n) }
 {
-    let mut digits = Buffer::new();
-    text.push_str(digits.format(n))
+    if n < 10 {
+        text.push(char::from(b'0' + n as u8))
+    } else {
+        write!(text, "{n}")
+    }
 }
 
 // The elements of an array of bytes.
