@@ -7,3 +7,4 @@ pub mod RespelledTextIsRead
 pub mod OneAnswer
 pub mod OrderReadBack
 pub mod MemoryHasNoPlace
+pub mod TablesHold

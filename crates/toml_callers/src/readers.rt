@@ -1,10 +1,14 @@
 //! Callers of a tokenizer and of a table, proved by their contracts alone.
-ghost use Rattle.std.specs.Prelude.{◌≡◌, [], codes, drop, option_and_then};
+ghost use Rattle.std.specs.Prelude.{◌≡◌, ◌↔◌, [], codes, drop, option_and_then, IfOk, IsTrue};
 ghost use Rattle.basic_toml_tokens.specs.Reading.{text_of};
-ghost use Rattle.basic_toml_value.specs.Data.{integer_in};
+ghost use Rattle.basic_toml_tokens.specs.Text.{folded};
+ghost use Rattle.basic_toml_value.specs.Data.{integer_in, table, Members};
 ghost use Rattle.basic_toml_value.specs.Pairs.{value_at};
-ghost use Rattle.basic_toml_value.specs.View.{view};
+ghost use Rattle.basic_toml_value.specs.View.{view, entries};
+ghost use Rattle.basic_toml.specs.Document.{IsDocument};
+ghost use Rattle.basic_toml.specs.Nodes.{data_among};
 
+use basic_toml::from_str;
 use basic_toml_tokens::{Error, Span, Token, Tokenizer};
 use basic_toml_value::Table;
 use std::alloc::Global;
@@ -35,4 +39,22 @@ pub fn port_of(settings: &Table) -> Option<i64>
     ensures { result ≡ option_and_then (λ value. integer_in (view value)) (value_at settings.now (codes "port")) }
 {
     settings.get("port")?.as_integer()
+}
+
+/// The integer at `port` in the document of a text, if one stands there.
+#[tactic(auto, using(basic_toml::proofs::TablesHold::tables_hold))]
+pub fn port_in(alloc: Global, text: &str) -> Result<Option<i64>, basic_toml::Error>
+    ensures { IfOk result (λ port. (members : Members) × IsDocument (folded text.now) (table members)
+        × (port ≡ option_and_then integer_in (data_among members (codes "port")))) }
+{
+    let settings: Table = from_str(alloc, text)?;
+    Ok(port_of(&settings))
+}
+
+/// Whether two tables hold the same: `==` compares their data, and so the order of their keys too.
+#[tactic(auto, using(basic_toml::proofs::TablesHold::tables_hold))]
+pub fn hold_the_same(left: &Table, right: &Table) -> bool
+    ensures { IsTrue result ↔ (entries left.now ≡ entries right.now) }
+{
+    left == right
 }
