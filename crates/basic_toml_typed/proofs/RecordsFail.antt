@@ -7,35 +7,35 @@ use Rattle.basic_toml_tree.specs.Stands.{AtKey}
 use Rattle.basic_toml_error.specs.Fault.{Fault}
 use Rattle.basic_toml_typed.specs.FieldKeys.{text_number}
 use Rattle.basic_toml_typed.specs.FieldFaults.{field_fails, optional_fails, only_fails, field_taken, optional_taken}
-use Rattle.basic_toml_typed.specs.FieldFaults.{field_then, optional_then, only_then, at_field}
+use Rattle.basic_toml_typed.specs.FieldFaults.{FieldOr, OptionalOr, OnlyOr, at_field}
 use Rattle.basic_toml_typed.specs.TypeReads.{HasOnly}
 
 -- this read, or one behind it
-module _ {A : Type 0} (faults : Node → Fault → Type 0) (reads : Data → A → Type 0) (key : List ℕ)
-    (rest : Node → Fault → Type 0) (node : Node) (fault : Fault) where
-  pub this_field : field_fails faults key node fault → field_then faults reads key rest node fault
-  unfolding field_then
+module _ {A : Type 0} (faults : Node → Fault → Type 0) (reads : Data → A → Type 0) (key : List ℕ) (node : Node)
+    (fault : Fault) (Behind : Type 0) where
+  pub this_field : field_fails faults key node fault → FieldOr faults reads key node fault Behind
+  unfolding FieldOr
   this_field fails = inl fails
 
-  pub behind_field : field_taken reads key node → rest node fault → field_then faults reads key rest node fault
-  unfolding field_then
+  pub behind_field : field_taken reads key node → Behind → FieldOr faults reads key node fault Behind
+  unfolding FieldOr
   behind_field taken fails = inr (taken, fails)
 
-  pub this_optional : optional_fails faults key node fault → optional_then faults reads key rest node fault
-  unfolding optional_then
+  pub this_optional : optional_fails faults key node fault → OptionalOr faults reads key node fault Behind
+  unfolding OptionalOr
   this_optional fails = inl fails
 
-  pub behind_optional : optional_taken reads key node → rest node fault → optional_then faults reads key rest node fault
-  unfolding optional_then
+  pub behind_optional : optional_taken reads key node → Behind → OptionalOr faults reads key node fault Behind
+  unfolding OptionalOr
   behind_optional taken fails = inr (taken, fails)
 
-module _ (names : List (List ℕ)) (rest : Node → Fault → Type 0) (node : Node) (fault : Fault) where
-  pub this_list : only_fails names node fault → only_then names rest node fault
-  unfolding only_then
+module _ (names : List (List ℕ)) (node : Node) (fault : Fault) (Behind : Type 0) where
+  pub this_list : only_fails names node fault → OnlyOr names node fault Behind
+  unfolding OnlyOr
   this_list fails = inl fails
 
-  pub behind_list : HasOnly (map text_number names) (node_data node) → rest node fault → only_then names rest node fault
-  unfolding only_then
+  pub behind_list : HasOnly (map text_number names) (node_data node) → Behind → OnlyOr names node fault Behind
+  unfolding OnlyOr
   behind_list has fails = inr (has, fails)
 
 pub ruleset in_turn = (this_field, behind_field, this_optional, behind_optional, this_list, behind_list)
