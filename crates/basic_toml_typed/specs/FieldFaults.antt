@@ -76,31 +76,24 @@ abbrev pub only_these : List (List ℕ) → (Node → Fault → Type 0) → Node
 only_these names rest node fault =
     only_fails names node fault ⊎ (HasOnly (map text_number names) (node_data node) × rest node fault)
 
--- The same, closed, for a record of many fields or of large types: a proof goes by what is said of the words
--- (`RecordsFail.in_turn`), and never through the types of the fields. What one of those behind it has comes last.
-unfoldable pub FieldOr : {A : Type 0} → (Node → Fault → Type 0) → (Data → A → Type 0) → List ℕ → Node → Fault → Type 0
-    → Type 0
-FieldOr faults reads key node fault Behind = field_fails faults key node fault ⊎ (field_taken reads key node × Behind)
-
-unfoldable pub OptionalOr : {A : Type 0} → (Node → Fault → Type 0) → (Data → A → Type 0) → List ℕ → Node → Fault → Type 0
-    → Type 0
-OptionalOr faults reads key node fault Behind =
-    optional_fails faults key node fault ⊎ (optional_taken reads key node × Behind)
-
-unfoldable pub OnlyOr : List (List ℕ) → Node → Fault → Type 0 → Type 0
-OnlyOr names node fault Behind =
-    only_fails names node fault ⊎ (HasOnly (map text_number names) (node_data node) × Behind)
+-- The same, closed, for a record of many fields or of large types: a proof goes by what is said of the word
+-- (`RecordsFail.in_turn`), and never through the types of the fields.
+unfoldable pub FailsOr : Type 0 → Type 0 → Type 0 → Type 0
+FailsOr Fails Taken Behind = Fails ⊎ (Taken × Behind)
 
 abbrev pub field_then : {A : Type 0} → (Node → Fault → Type 0) → (Data → A → Type 0) → List ℕ → (Node → Fault → Type 0)
     → Node → Fault → Type 0
-field_then faults reads key rest node fault = FieldOr faults reads key node fault (rest node fault)
+field_then faults reads key rest node fault =
+    FailsOr (field_fails faults key node fault) (field_taken reads key node) (rest node fault)
 
 abbrev pub optional_then : {A : Type 0} → (Node → Fault → Type 0) → (Data → A → Type 0) → List ℕ
     → (Node → Fault → Type 0) → Node → Fault → Type 0
-optional_then faults reads key rest node fault = OptionalOr faults reads key node fault (rest node fault)
+optional_then faults reads key rest node fault =
+    FailsOr (optional_fails faults key node fault) (optional_taken reads key node) (rest node fault)
 
 abbrev pub only_then : List (List ℕ) → (Node → Fault → Type 0) → Node → Fault → Type 0
-only_then names rest node fault = OnlyOr names node fault (rest node fault)
+only_then names rest node fault =
+    FailsOr (only_fails names node fault) (HasOnly (map text_number names) (node_data node)) (rest node fault)
 
 -- what stands at the key has the fault, as a record tells it that tests a field itself
 unfoldable pub at_field : List ℕ → (Node → Fault → Type 0) → Node → Fault → Type 0

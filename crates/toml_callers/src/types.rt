@@ -404,7 +404,7 @@ impl<'de> Deserialize<'de> for Listener {
         (at_field (codes "port") (λ field fault.
         (node_data field ≡ integer (pos 0)) × (fault ≡ wrong_value (codes "a port above 0") field)))) };
 
-    #[tactic(auto, using(basic_toml_typed::proofs::RecordsFail::in_turn, basic_toml_typed::proofs::RecordsFail::refused_field, basic_toml_typed::proofs::FieldsFound::child_at_number), unfolding(basic_toml_typed::specs::TypeReads::field_reads))]
+    #[tactic(auto, using(basic_toml_typed::proofs::RecordsFail::in_turn), unfolding(basic_toml_typed::specs::TypeReads::field_reads))]
     fn deserialize(alloc: Global, node: Node<'_, 'de>) -> Result<Listener, Error> {
         let host = read_field(alloc, node, "host")?;
         let port = read_field(alloc, node, "port")?;
