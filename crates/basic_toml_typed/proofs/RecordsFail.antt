@@ -1,5 +1,7 @@
 -- Which fault a record has: that of the first of its reads that fails.
 use Rattle.std.proofs.Common.{◌≡◌, ◌⊎◌, inl, inr, ℕ, List, Option, Some, None, MatchOption, IfSome, sym, subst, ◌∙◌}
+use Rattle.std.proofs.Common.{Result, Ok, Err, IfErr}
+use Rattle.std.specs.Result.{IsErrAnd}
 use Rattle.std.specs.Option.{unwrap_or}
 use Rattle.basic_toml_value.specs.Data.{Data}
 use Rattle.basic_toml_tree.specs.declared.node.Node.{Node}
@@ -8,6 +10,7 @@ use Rattle.basic_toml_tree.specs.Stands.{AtKey}
 use Rattle.basic_toml_error.specs.Fault.{Fault}
 use Rattle.basic_toml_typed.specs.FieldFaults.{FailsOr, at_field}
 use Rattle.basic_toml_typed.specs.FieldKeys.{text_number, child_at}
+use Rattle.basic_toml_typed.specs.TypeAnswers.{OrMemory}
 use Rattle.basic_toml_typed.specs.TypeReads.{field_reads, some_reads}
 use Rattle.basic_toml_typed.proofs.FieldsFound.{child_at_number}
 
@@ -37,6 +40,14 @@ behind_eight F₁ F₂ F₃ F₄ F₅ F₆ F₇ F₈ T₁ T₂ T₃ T₄ T₅ T�
     behind_four F₁ F₂ F₃ F₄ T₁ T₂ T₃ T₄ _ a b c d (behind_four F₅ F₆ F₇ F₈ T₅ T₆ T₇ T₈ _ e f g h fails)
 
 pub ruleset in_turn = (this_read, behind_one, behind_two, behind_four, behind_eight)
+
+-- an error that is passed on is one of the record's, where it is one of the field's
+pub passed_on : {T : Type 0} (Field Record : Fault → Type 0) (result : Result T Fault) (fault : Fault)
+    → IsErrAnd result (λ e. e ≡ fault) → OrMemory Field fault → ((own : Fault) → Field own → Record own)
+    → IfErr result (OrMemory Record)
+passed_on Field Record (Ok x) fault is named on = tt
+passed_on Field Record (Err e) fault is (inl memory) on = subst (OrMemory Record) (sym is) (inl memory)
+passed_on Field Record (Err e) fault is (inr own) on = subst (OrMemory Record) (sym is) (inr (on fault own))
 
 -- a field that the record itself refuses
 pub refused_field : (key : List ℕ) (faults : Node → Fault → Type 0) (node field : Node) (fault : Fault)

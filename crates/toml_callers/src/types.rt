@@ -1,5 +1,6 @@
 //! Types as a caller writes them: records, records in records, lists, choices, newtypes and records that refuse, strict
-//! records, records that borrow and a record of sixteen fields. None takes a proof file.
+//! records, records that borrow and a record of sixteen fields. Each says which errors it has. Three take a proof file for
+//! that: the record of sixteen fields, the one that refuses a field itself, and the text that is not empty.
 ghost use Rattle.std.specs.Prelude.{◌≡◌, ◌≢◌, ◌≤◌, ◌<◌, ◌∷◌, [], ◌⊎◌, codes, pos, string_bytes};
 ghost use Rattle.basic_toml.specs.Data.{integer, string};
 ghost use Rattle.basic_toml.specs.Fault.{custom};

@@ -1,18 +1,6 @@
 -- Each read's fault is the record's, behind those that were taken.
-use Rattle.std.proofs.Common.{◌≡◌, inl, inr, sym, subst, Result, Ok, Err, IfErr}
-use Rattle.std.specs.Result.{IsErrAnd}
-use Rattle.basic_toml.specs.Fault.{Fault}
-use Rattle.basic_toml.specs.TypeAnswers.{OrMemory}
-use Rattle.basic_toml_typed.proofs.RecordsFail.{this_read, behind_one, behind_two, behind_four, behind_eight}
+use Rattle.basic_toml_typed.proofs.RecordsFail.{passed_on, this_read, behind_one, behind_two, behind_four, behind_eight}
 use Rattle.toml_callers.proofs.types.ServiceDeserialize.deserialize.Goals as goal
-
--- an error that is passed on is one of the record's, where it is one of the field's
-passed_on : {T : Type 0} (Field Record : Fault → Type 0) (result : Result T Fault) (fault : Fault)
-    → IsErrAnd result (λ e. e ≡ fault) → OrMemory Field fault → ((own : Fault) → Field own → Record own)
-    → IfErr result (OrMemory Record)
-passed_on Field Record (Ok x) fault is named on = tt
-passed_on Field Record (Err e) fault is (inl memory) on = subst (OrMemory Record) (sym is) (inl memory)
-passed_on Field Record (Err e) fault is (inr own) on = subst (OrMemory Record) (sym is) (inr (on fault own))
 
 pub returns-in_err-read_field-6-clause-named : goal.returns-in_err-read_field-6-clause-named
 returns-in_err-read_field-6-clause-named c =
