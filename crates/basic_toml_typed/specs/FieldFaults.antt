@@ -76,18 +76,24 @@ abbrev pub only_these : List (List ℕ) → (Node → Fault → Type 0) → Node
 only_these names rest node fault =
     only_fails names node fault ⊎ (HasOnly (map text_number names) (node_data node) × rest node fault)
 
--- The same, closed, for a record of many fields or of large types: a proof goes by what is said of the words
+-- The same, closed, for a record of many fields or of large types: a proof goes by what is said of the word
 -- (`RecordsFail.in_turn`), and never through the types of the fields.
-unfoldable pub field_then : {A : Type 0} → (Node → Fault → Type 0) → (Data → A → Type 0) → List ℕ → (Node → Fault → Type 0)
+unfoldable pub FailsOr : Type 0 → Type 0 → Type 0 → Type 0
+FailsOr Fails Taken Behind = Fails ⊎ (Taken × Behind)
+
+abbrev pub field_then : {A : Type 0} → (Node → Fault → Type 0) → (Data → A → Type 0) → List ℕ → (Node → Fault → Type 0)
     → Node → Fault → Type 0
-field_then faults reads key rest node fault = in_field faults reads key rest node fault
+field_then faults reads key rest node fault =
+    FailsOr (field_fails faults key node fault) (field_taken reads key node) (rest node fault)
 
-unfoldable pub optional_then : {A : Type 0} → (Node → Fault → Type 0) → (Data → A → Type 0) → List ℕ
+abbrev pub optional_then : {A : Type 0} → (Node → Fault → Type 0) → (Data → A → Type 0) → List ℕ
     → (Node → Fault → Type 0) → Node → Fault → Type 0
-optional_then faults reads key rest node fault = in_optional faults reads key rest node fault
+optional_then faults reads key rest node fault =
+    FailsOr (optional_fails faults key node fault) (optional_taken reads key node) (rest node fault)
 
-unfoldable pub only_then : List (List ℕ) → (Node → Fault → Type 0) → Node → Fault → Type 0
-only_then names rest node fault = only_these names rest node fault
+abbrev pub only_then : List (List ℕ) → (Node → Fault → Type 0) → Node → Fault → Type 0
+only_then names rest node fault =
+    FailsOr (only_fails names node fault) (HasOnly (map text_number names) (node_data node)) (rest node fault)
 
 -- what stands at the key has the fault, as a record tells it that tests a field itself
 unfoldable pub at_field : List ℕ → (Node → Fault → Type 0) → Node → Fault → Type 0
