@@ -23,13 +23,23 @@ fn only_char(text: &str) -> Option<char>
     }
 }
 
+/// The bytes of a text.
+fn copy_of(alloc: Global, text: &str) -> Result<Vec<u8>, Fault>
+    ensures { IfOk result (λ bytes. bytes.items ≡ text.now) }
+{
+    match Vec::from_slice(alloc, text.as_bytes()) {
+        Ok(bytes) => Ok(bytes),
+        Err(_) => Err(Fault::OutOfMemory),
+    }
+}
+
 impl<N: Source> Reader<N> {
     /// The float that comes next, or the integer as one.
     fn float(&mut self, expected: &str) -> Result<f64, Fault>
         ensures { Stays self.old self.new }
     {
         self.note(Step::Other);
-        let Some(item) = self.walk.value() else {
+        let Some(item) = self.walk.peek_value() else {
             return Err(self.wrong_type(expected));
         };
         if let Some(text) = item.float() {
@@ -49,7 +59,7 @@ impl<N: Source> Reader<N> {
         ensures { IfOk result (λ z. TakesInteger N.data_of self.old z self.new) }
     {
         self.note(Step::Other);
-        match self.integer_here() {
+        match self.next_integer() {
             Some(number) => Ok(i128::from(number)),
             None => Err(self.wrong_type(expected)),
         }
@@ -78,7 +88,7 @@ impl<N: Source> Reader<N> {
 
     /// The kind of what comes next.
     fn kind(&self) -> Kind {
-        let Some(item) = self.walk.value() else {
+        let Some(item) = self.walk.peek_value() else {
             return Kind::Str;
         };
         if item.string().is_some() {
@@ -114,7 +124,7 @@ impl<N: Source> Format for Reader<N> {
 
     fn bool(&mut self, _input: &[u8]) -> Result<bool, Fault> {
         self.note(Step::Other);
-        if let Some(item) = self.walk.value() {
+        if let Some(item) = self.walk.peek_value() {
             if let Some(truth) = item.truth() {
                 return Ok(truth);
             }
@@ -156,12 +166,12 @@ impl<N: Source> Format for Reader<N> {
 
     fn char(&mut self, _input: &[u8]) -> Result<char, Fault> {
         self.note(Step::Other);
-        let Some(text) = self.walk.text() else {
+        let Some(text) = self.walk.peek_text() else {
             return Err(self.wrong_type("a character"));
         };
         match only_char(text) {
             Some(c) => {
-                self.walk.at_key = false;
+                self.walk.pass_key();
                 Ok(c)
             }
             None => Err(self.wrong_value("a character")),
@@ -170,9 +180,9 @@ impl<N: Source> Format for Reader<N> {
 
     fn plain_str(&mut self, input: &[u8]) -> Result<(usize, usize), Fault> {
         self.note(Step::Other);
-        match self.walk.span(input) {
+        match self.walk.peek_span(input) {
             Some(span) => {
-                self.walk.at_key = false;
+                self.walk.pass_key();
                 Ok(span)
             }
             None => Err(self.wrong_type("a borrowed string")),
@@ -186,36 +196,37 @@ impl<N: Source> Format for Reader<N> {
     #[inline]
     fn string(&mut self, alloc: Global, _input: &[u8]) -> Result<String, Fault> {
         self.note(Step::Other);
-        let Some(text) = self.walk.text() else {
+        let Some(text) = self.walk.peek_text() else {
             return Err(self.wrong_type("a string"));
         };
         match String::from_str(alloc, text) {
             Ok(copy) => {
-                self.walk.at_key = false;
+                self.walk.pass_key();
                 Ok(copy)
             }
             Err(_) => Err(Fault::OutOfMemory),
         }
     }
 
+    /// The integers of an array, the bytes of a string, or those of a float's text.
     fn byte_buf(&mut self, alloc: Global, _input: &[u8]) -> Result<Vec<u8>, Fault> {
         self.note(Step::Other);
-        if let Some(item) = self.walk.value() {
+        if let Some(item) = self.walk.peek_value() {
             if item.is_array() {
-                self.walk.at_key = false;
+                self.walk.pass_key();
                 return self.bytes_of(alloc, item);
             }
+            if let Some(text) = item.float() {
+                self.walk.pass_key();
+                return copy_of(alloc, text);
+            }
         }
-        let Some(text) = self.walk.text() else {
+        let Some(text) = self.walk.peek_text() else {
             return Err(self.wrong_type("a byte array"));
         };
-        match Vec::from_slice(alloc, text.as_bytes()) {
-            Ok(bytes) => {
-                self.walk.at_key = false;
-                Ok(bytes)
-            }
-            Err(_) => Err(Fault::OutOfMemory),
-        }
+        let bytes = copy_of(alloc, text)?;
+        self.walk.pass_key();
+        Ok(bytes)
     }
 
     fn peek(&mut self, _input: &[u8]) -> Result<Kind, Fault> {
@@ -272,7 +283,7 @@ impl<N: Source> Format for Reader<N> {
     #[inline]
     fn begin_struct(&mut self, _input: &[u8]) -> Result<bool, Fault> {
         self.note(Step::Other);
-        if let Some(item) = self.walk.value() {
+        if let Some(item) = self.walk.peek_value() {
             if item.is_array() {
                 self.begin_array()?;
                 return Ok(true);
@@ -289,7 +300,7 @@ impl<N: Source> Format for Reader<N> {
             self.note_names(names, Step::End)?;
             return Ok(None);
         }
-        let Some(key) = self.walk.key() else {
+        let Some(key) = self.walk.peek_key() else {
             return Err(self.wrong_type("a map"));
         };
         let at = find(names, key);
@@ -308,12 +319,12 @@ impl<N: Source> Format for Reader<N> {
     }
 
     fn variant(&mut self, _input: &[u8], names: &[Name<'_>]) -> Result<usize, Fault> {
-        let Some(text) = self.walk.text() else {
+        let Some(text) = self.walk.peek_text() else {
             return Err(self.wrong_type("a string"));
         };
         let at = find(names, text);
         self.note_names(names, Step::Variant)?;
-        self.walk.at_key = false;
+        self.walk.pass_key();
         Ok(at)
     }
 
@@ -321,7 +332,7 @@ impl<N: Source> Format for Reader<N> {
     fn skip(&mut self, _input: &[u8]) -> Result<(), Fault>
         ensures { PassesKey self.old self.new }
     {
-        self.walk.at_key = false;
+        self.walk.pass_key();
         Ok(())
     }
 
@@ -342,43 +353,43 @@ impl<N: Source> Format for Reader<N> {
 
     fn missing(&self, name: &str) -> Fault {
         match &self.notes {
-            Some(notes) => self.no_key(notes, name),
-            None => Fault::Unspoken,
+            Some(notes) => self.missing_field(notes, name),
+            None => Fault::Misfit,
         }
     }
 
     fn duplicate(&self, name: &str) -> Fault {
         match &self.notes {
-            Some(notes) => self.second_key(notes, name),
-            None => Fault::Unspoken,
+            Some(notes) => self.duplicate_field(notes, name),
+            None => Fault::Misfit,
         }
     }
 
     fn unknown_key(&self) -> Fault {
         match &self.notes {
-            Some(notes) => self.no_field(notes),
-            None => Fault::Unspoken,
+            Some(notes) => self.unknown_field(notes),
+            None => Fault::Misfit,
         }
     }
 
     fn unknown_variant(&self) -> Fault {
         match &self.notes {
-            Some(notes) => self.no_variant(notes),
-            None => Fault::Unspoken,
+            Some(notes) => self.unknown_name(notes),
+            None => Fault::Misfit,
         }
     }
 
     fn wrong_len(&self) -> Fault {
         match &self.notes {
-            Some(notes) => self.other_length(notes),
-            None => Fault::Unspoken,
+            Some(notes) => self.wrong_length(notes),
+            None => Fault::Misfit,
         }
     }
 
     fn invalid(&self) -> Fault {
         match &self.notes {
-            Some(notes) => self.refused(notes),
-            None => Fault::Unspoken,
+            Some(notes) => self.invalid_value(notes),
+            None => Fault::Misfit,
         }
     }
 
