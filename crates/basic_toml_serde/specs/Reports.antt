@@ -16,9 +16,13 @@ Reports has (Report report) = has report.value.error
 abbrev pub StandsAt : {N : Type 0} → (N → List ℕ → Failure → Type 0) → N → Failure → Type 0
 StandsAt fails item failure = (failure ≡ want_of_memory) ⊎ ((message : List ℕ) × fails item message failure)
 
+abbrev pub StandsIn : {N : Type 0} → (N → List ℕ → Failure → Type 0) → Option N → Failure → Type 0
+StandsIn fails None failure = ⊥
+StandsIn fails (Some item) failure = StandsAt fails item failure
+
+-- an error is reported only where there is such an item, and stands there
 abbrev pub ReportsAt : {N : Type 0} → (N → List ℕ → Failure → Type 0) → Option N → Fault → Type 0
-ReportsAt fails None fault = Reports (λ _. ⊥) fault
-ReportsAt fails (Some item) fault = Reports (StandsAt fails item) fault
+ReportsAt fails item fault = Reports (StandsIn fails item) fault
 
 -- The array whose length is wrong: that around an element, where one was read last, and else what comes next.
 abbrev pub array_at : {N : Type 0} → Step → Option N → Option N → Option N

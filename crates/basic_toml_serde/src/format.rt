@@ -1,5 +1,7 @@
 //! The steps of a reading.
-ghost use Rattle.std.specs.Prelude.{◌≡◌, IfOk, IfSome, encode_utf8};
+ghost use Rattle.std.specs.Prelude.{◌≡◌, ⊤, IfOk, IfSome, MatchOption, encode_utf8, slice_get};
+ghost use Rattle.basic_toml_serde.specs.Ahead.{item_at, container_at, IsAt, ComesBack};
+ghost use Rattle.basic_toml_serde.specs.Reports.{ReportsAt, array_at, refused_at};
 ghost use Rattle.basic_toml_serde.specs.Taken.{Stays, TakesInteger, PassesKey, Reads, Picks, Looks};
 
 use crate::fault::Fault;
@@ -336,11 +338,15 @@ impl<N: Source> Format for Reader<N> {
         Ok(())
     }
 
-    fn mark(&mut self) -> Mark {
+    fn mark(&mut self) -> Mark
+        ensures { IsAt self.old.walk result × (self.new ≡ self.old) }
+    {
         self.walk.mark()
     }
 
-    fn rewind(&mut self, mark: Mark) {
+    fn rewind(&mut self, mark: Mark)
+        ensures { ComesBack mark self.old.walk self.new.walk × (self.new.trial ≡ self.old.trial) }
+    {
         self.walk.rewind(mark);
         self.note(Step::Return);
     }
@@ -351,42 +357,57 @@ impl<N: Source> Format for Reader<N> {
         error.is_out_of_memory()
     }
 
-    fn missing(&self, name: &str) -> Fault {
+    fn missing(&self, name: &str) -> Fault
+        ensures { ReportsAt N.fails_at (item_at self.now.walk) result }
+    {
         match &self.notes {
             Some(notes) => self.missing_field(notes, name),
             None => Fault::Misfit,
         }
     }
 
-    fn duplicate(&self, name: &str) -> Fault {
+    fn duplicate(&self, name: &str) -> Fault
+        ensures { ReportsAt N.fails_at (container_at self.now.walk) result }
+    {
         match &self.notes {
             Some(notes) => self.duplicate_field(notes, name),
             None => Fault::Misfit,
         }
     }
 
-    fn unknown_key(&self) -> Fault {
+    fn unknown_key(&self) -> Fault
+        ensures { ReportsAt N.fails_at (container_at self.now.walk) result }
+    {
         match &self.notes {
             Some(notes) => self.unknown_field(notes),
             None => Fault::Misfit,
         }
     }
 
-    fn unknown_variant(&self) -> Fault {
+    fn unknown_variant(&self) -> Fault
+        ensures { MatchOption self.now.notes ⊤ (λ notes. ReportsAt N.fails_around
+            (slice_get self.now.walk.list.items notes.variant_at) result) }
+    {
         match &self.notes {
             Some(notes) => self.unknown_name(notes),
             None => Fault::Misfit,
         }
     }
 
-    fn wrong_len(&self) -> Fault {
+    fn wrong_len(&self) -> Fault
+        ensures { MatchOption self.now.notes ⊤ (λ notes. ReportsAt N.fails_at
+            (array_at notes.last (item_at self.now.walk) (container_at self.now.walk)) result) }
+    {
         match &self.notes {
             Some(notes) => self.wrong_length(notes),
             None => Fault::Misfit,
         }
     }
 
-    fn invalid(&self) -> Fault {
+    fn invalid(&self) -> Fault
+        ensures { MatchOption self.now.notes ⊤ (λ notes. ReportsAt N.fails_at
+            (refused_at notes.last (item_at self.now.walk) (container_at self.now.walk)) result) }
+    {
         match &self.notes {
             Some(notes) => self.invalid_value(notes),
             None => Fault::Misfit,
@@ -397,7 +418,9 @@ impl<N: Source> Format for Reader<N> {
         Fault::OutOfMemory
     }
 
-    fn custom(&self, message: &str) -> Fault {
+    fn custom(&self, message: &str) -> Fault
+        ensures { ReportsAt N.fails_at (item_at self.now.walk) result }
+    {
         self.own_message(message)
     }
 }
