@@ -50,51 +50,64 @@ def written(folder, sources):
 
 
 def libraries():
-    """Answers the sources of the libraries that ours stands on."""
+    """Answers the libraries that ours stands on, lowest last."""
     needs = {}
     with open(os.path.join(TOP, "crates.txt"), encoding="utf-8") as lines:
         for line in lines:
             name, _, below = line.partition(":")
             if not line.startswith("#"):
                 needs[name.split(" ")[0]] = below.split()
-    names, found = ["basic_toml_serde"], set()
+    names, found = ["basic_toml_serde"], []
     while names:
         name = names.pop()
         if name in needs and name not in found:
-            found.add(name)
+            found.append(name)
             names += needs[name]
+    return found
+
+
+def sources_of(crates):
+    """Answers the files of these crates, but for what `rt` makes there."""
     sources = {}
-    for name in found:
-        for folder, _, files in os.walk(os.path.join(TOP, "crates", name, "src")):
-            for file in files:
-                path = os.path.join(folder, file)
-                with open(path, encoding="utf-8") as text:
-                    sources[os.path.relpath(path, TOP)] = text.read()
+    for crate in crates:
+        for part in ("src", "specs", "proofs"):
+            for folder, _, files in os.walk(os.path.join(TOP, "crates", crate, part)):
+                for file in files:
+                    path = os.path.join(folder, file)
+                    with open(path, encoding="utf-8") as text:
+                        sources[os.path.relpath(path, TOP)] = text.read()
     return sources
+
+
+def laid_out(tree, sources):
+    """Makes the files of a tree these, and leaves what `rt` keeps beside them."""
+    for folder, _, files in os.walk(tree):
+        for file in files:
+            path = os.path.join(folder, file)
+            if file.endswith((".rt", ".antt")) and "/out/" not in path and os.path.relpath(path, tree) not in sources:
+                os.remove(path)
+    for name, text in sources.items():
+        path = os.path.join(tree, name)
+        if not os.path.exists(path) or open(path, encoding="utf-8").read() != text:
+            written(tree, {name: text})
 
 
 def ours(name, sources, level):
     """Builds a program over `basic_toml_serde` of these files of its src/, without proofs; level is `-O0` or `-O3`."""
     program = os.path.join(OUT, name + level)
-    key = key_of({**sources, **libraries()}, level)
+    libraries_below = libraries()
+    files = {**sources_of(libraries_below), **{f"crates/{name}/src/{file}": text for file, text in sources.items()}}
+    with open(os.path.join(TOP, "crates.txt"), encoding="utf-8") as lines:
+        listed = [line for line in lines if line.partition(":")[0] in libraries_below]
+    files["crates.txt"] = "".join(listed) + f"{name}: basic_toml_serde basic_toml serde\n"
+    key = key_of(files, level)
     if is_newest(program, key):
         return program
-    tree = os.path.join(OUT, "tree")
-    crates = os.path.join(tree, "crates")
-    shutil.rmtree(os.path.join(crates, name), ignore_errors=True)
-    os.makedirs(crates, exist_ok=True)
-    for crate in os.listdir(os.path.join(TOP, "crates")):
-        link = os.path.join(crates, crate)
-        if os.path.islink(link):
-            os.remove(link)
-        os.symlink(os.path.join(TOP, "crates", crate), link)
-    shutil.copy(os.path.join(TOP, "crates.txt"), tree)
-    with open(os.path.join(tree, "crates.txt"), "a", encoding="utf-8") as lines:
-        lines.write(f"{name}: basic_toml_serde basic_toml serde\n")
-    written(os.path.join(crates, name, "src"), sources)
+    tree = os.path.join(OUT, name)
+    laid_out(tree, files)
     unchecked = os.path.join(TOP, "tools", "bench", "unchecked.py")
-    words = [sys.executable, unchecked, os.path.join(crates, name), program] + (["-O0"] if level == "-O0" else [])
-    built = subprocess.run(words, stdout=subprocess.PIPE, stderr=subprocess.STDOUT)
+    words = [sys.executable, unchecked, os.path.join(tree, "crates", name), program]
+    built = subprocess.run(words + [level] * (level == "-O0"), stdout=subprocess.PIPE, stderr=subprocess.STDOUT)
     if built.returncode or not os.path.exists(program):
         sys.exit(built.stdout.decode(errors="replace")[-4000:] + f"\n{name} is not built")
     with open(program + ".key", "w") as file:

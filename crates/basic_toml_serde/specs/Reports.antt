@@ -45,3 +45,15 @@ refused_at End next around = next
 refused_at Element next around = next
 refused_at Return next around = next
 refused_at Other next around = next
+
+-- where an unknown variant is reported: at a tag, to whose table the reading came back, and else around the text
+abbrev pub fails_by : {N : Type 0} → Step → (N → List ℕ → Failure → Type 0) → (N → List ℕ → Failure → Type 0)
+    → N → List ℕ → Failure → Type 0
+fails_by Look fails_at fails_around = fails_around
+fails_by (Integer is_signed) fails_at fails_around = fails_around
+fails_by Variant fails_at fails_around = fails_around
+fails_by Key fails_at fails_around = fails_around
+fails_by End fails_at fails_around = fails_around
+fails_by Element fails_at fails_around = fails_around
+fails_by Return fails_at fails_around = fails_at
+fails_by Other fails_at fails_around = fails_around

@@ -1,7 +1,7 @@
 //! The steps of a reading.
 ghost use Rattle.std.specs.Prelude.{◌≡◌, ⊤, IfOk, IfSome, MatchOption, encode_utf8, slice_get};
 ghost use Rattle.basic_toml_serde.specs.Ahead.{item_at, container_at, IsAt, ComesBack};
-ghost use Rattle.basic_toml_serde.specs.Reports.{ReportsAt, array_at, refused_at};
+ghost use Rattle.basic_toml_serde.specs.Reports.{ReportsAt, array_at, refused_at, fails_by};
 ghost use Rattle.basic_toml_serde.specs.Taken.{Stays, TakesInteger, PassesKey, Reads, Picks, Looks};
 
 use crate::fault::Fault;
@@ -36,7 +36,7 @@ fn copy_of(alloc: Global, text: &str) -> Result<Vec<u8>, Fault>
 }
 
 impl<N: Source> Reader<N> {
-    /// The float that comes next, or the integer as one.
+    /// The float that comes next, or the integer as one. One whose digits are beyond every number has none.
     fn float(&mut self, expected: &str) -> Result<f64, Fault>
         ensures { Stays self.old self.new }
     {
@@ -46,8 +46,8 @@ impl<N: Source> Reader<N> {
         };
         if let Some(text) = item.float() {
             return match f64::from_str(text) {
-                Ok(number) => Ok(number),
-                Err(_) => Err(self.wrong_value(expected)),
+                Ok(number) if !number.is_infinite() || text.ends_with("inf") => Ok(number),
+                _ => Err(self.wrong_value(expected)),
             };
         }
         match item.integer() {
@@ -385,7 +385,7 @@ impl<N: Source> Format for Reader<N> {
     }
 
     fn unknown_variant(&self) -> Fault
-        ensures { MatchOption self.now.notes ⊤ (λ notes. ReportsAt N.fails_around
+        ensures { MatchOption self.now.notes ⊤ (λ notes. ReportsAt (fails_by notes.last N.fails_at N.fails_around)
             (slice_get self.now.walk.list.items notes.variant_at) result) }
     {
         match &self.notes {

@@ -1,7 +1,7 @@
 //! The state of a reading, and its errors.
 ghost use Rattle.std.specs.Prelude.{◌≡◌, None, Some, IfOk, IsNone, slice_get};
 ghost use Rattle.basic_toml_serde.specs.Ahead.{BeginsAt, item_at, container_at};
-ghost use Rattle.basic_toml_serde.specs.Reports.{Reports, StandsAt, ReportsAt, array_at, refused_at};
+ghost use Rattle.basic_toml_serde.specs.Reports.{Reports, StandsAt, ReportsAt, array_at, refused_at, fails_by};
 ghost use Rattle.basic_toml_serde.specs.Taken.{integer_at, Stays, TakesInteger, BeginsArray, BeginsTable};
 
 use crate::fault::Fault;
@@ -198,6 +198,17 @@ impl<N: Source> Reader<N> {
         }
     }
 
+    /// The message of an error, at an item.
+    #[cold]
+    fn message_of(&self, item: N, error: Error) -> Fault
+        ensures { ReportsAt N.fails_at (Some item) result }
+    {
+        if error.is_out_of_memory() {
+            return Fault::OutOfMemory;
+        }
+        self.message(item, error.message().to_string(self.alloc))
+    }
+
     /// A message of the type's own, at what was read last.
     #[cold]
     pub(crate) fn own_message(&self, message: &str) -> Fault
@@ -334,10 +345,11 @@ impl<N: Source> Reader<N> {
         }
     }
 
-    /// A text is none of the variants.
+    /// A text is none of the variants. That of a tag, which is read ahead, stands where it is; another around it.
     #[cold]
     pub(crate) fn unknown_name(&self, notes: &Notes) -> Fault
-        ensures { ReportsAt N.fails_around (slice_get self.now.walk.list.items notes.now.variant_at) result }
+        ensures { ReportsAt (fails_by notes.now.last N.fails_at N.fails_around)
+            (slice_get self.now.walk.list.items notes.now.variant_at) result }
     {
         let Some(item) = self.walk.item(notes.variant_at) else {
             return Fault::Misfit;
@@ -349,7 +361,13 @@ impl<N: Source> Reader<N> {
         };
         let name = text.unwrap_or("");
         match notes.variants.keys(self.alloc) {
-            Ok(keys) => self.report(item.unknown_variant(self.alloc, name, keys.as_slice())),
+            Ok(keys) => {
+                let error = item.unknown_variant(self.alloc, name, keys.as_slice());
+                match notes.last {
+                    Step::Return => self.message_of(item, error),
+                    _ => self.report(error),
+                }
+            }
             Err(_) => Fault::OutOfMemory,
         }
     }
