@@ -222,6 +222,16 @@ pub struct Renamed {
     pub color: String,
 }
 
+/// Two fields, each by two names.
+#[derive(Debug, Drop, PartialEq, Serialize, Deserialize)]
+#[serde(deny_unknown_fields)]
+pub struct Aliased {
+    #[serde(alias = "b")]
+    pub z: u8,
+    #[serde(alias = "y")]
+    pub a: u8,
+}
+
 /// A type that holds itself.
 #[derive(Debug, Drop, PartialEq, Serialize, Deserialize)]
 #[serde(recursive)]
