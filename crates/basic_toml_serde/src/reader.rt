@@ -290,9 +290,7 @@ impl<N: Source> Reader<N> {
             Step::Variant => {
                 self.own_message("invalid type: unit variant, expected a variant with data")
             }
-            Step::Key => {
-                self.report(container.wrong_value(self.alloc, "map with a single key"))
-            }
+            Step::Key => { self.report(container.wrong_value(self.alloc, "map with a single key")) }
             Step::End => match notes.fields.only_key() {
                 Some(key) => self.report(item.missing(self.alloc, key)),
                 None => self.wrong_value("map with a single key"),

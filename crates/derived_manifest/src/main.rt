@@ -22,7 +22,11 @@ fn main(rt: HostRuntime) -> io::Result<ExitCode> {
     let names: Vec<String> = env::args(&rt)?.skip(1).collect(rt.alloc())?;
     if names.is_empty() {
         let text = io::read_to_string(rt.alloc(), rt.reader())?;
-        let status = if is_printed(&rt, "stdin", text.as_str())? { 0 } else { 1 };
+        let status = if is_printed(&rt, "stdin", text.as_str())? {
+            0
+        } else {
+            1
+        };
         return Ok(ExitCode::from(status));
     }
     for name in &names {
