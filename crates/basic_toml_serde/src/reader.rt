@@ -198,17 +198,6 @@ impl<N: Source> Reader<N> {
         }
     }
 
-    /// The message of an error, at an item.
-    #[cold]
-    fn message_of(&self, item: N, error: Error) -> Fault
-        ensures { ReportsAt N.fails_at (Some item) result }
-    {
-        if error.is_out_of_memory() {
-            return Fault::OutOfMemory;
-        }
-        self.message(item, error.message().to_string(self.alloc))
-    }
-
     /// A message of the type's own, at what was read last.
     #[cold]
     pub(crate) fn own_message(&self, message: &str) -> Fault
@@ -359,15 +348,30 @@ impl<N: Source> Reader<N> {
         };
         let name = text.unwrap_or("");
         match notes.variants.keys(self.alloc) {
-            Ok(keys) => {
-                let error = item.unknown_variant(self.alloc, name, keys.as_slice());
-                match notes.last {
-                    Step::Return => self.message_of(item, error),
-                    _ => self.report(error),
-                }
-            }
+            Ok(keys) => match notes.last {
+                Step::Return => self.unknown_tag(item, name, keys.as_slice()),
+                _ => self.unknown_text(item, name, keys.as_slice()),
+            },
             Err(_) => Fault::OutOfMemory,
         }
+    }
+
+    #[cold]
+    fn unknown_tag(&self, item: N, name: &str, keys: &[&str]) -> Fault
+        ensures { ReportsAt N.fails_at (Some item) result }
+    {
+        let error = item.unknown_variant(self.alloc, name, keys);
+        if error.is_out_of_memory() {
+            return Fault::OutOfMemory;
+        }
+        self.message(item, error.message().to_string(self.alloc))
+    }
+
+    #[cold]
+    fn unknown_text(&self, item: N, name: &str, keys: &[&str]) -> Fault
+        ensures { ReportsAt N.fails_around (Some item) result }
+    {
+        self.report(item.unknown_variant(self.alloc, name, keys))
     }
 
     /// An array is longer than its type, where the last step gave an element; else it is longer or shorter.
