@@ -150,7 +150,8 @@ def theirs(name, sources, basic_toml):
         **{"src/" + file: of_rust(text) for file, text in sources.items()},
     })
     words = ["cargo", "build", "--release", "--offline", "--quiet"]
-    if subprocess.run(words, cwd=folder, stdout=sys.stderr).returncode:
+    quiet = {**os.environ, "RUSTFLAGS": "-A warnings"}
+    if subprocess.run(words, cwd=folder, stdout=sys.stderr, env=quiet).returncode:
         sys.exit(f"{name} is not built")
     shutil.copy(os.path.join(folder, "target", "release", name), program)
     with open(program + ".key", "w") as file:
