@@ -1,5 +1,5 @@
 -- Where a walk of a tree stands, and how it goes on. (own)
-use Rattle.std.specs.Prelude.{◌≡◌, ◌≤◌, ◌<◌, ◌+◌, ◌++◌, ℕ, List, [], ◌∷◌, Bool, true, false, cond, Option, Some, None, take, length, option_to_list, slice_get}
+use Rattle.std.specs.Prelude.{◌≡◌, ◌≤◌, ◌<◌, ◌+◌, ◌-◌, ◌++◌, ℕ, List, [], ◌∷◌, Bool, true, false, cond, Option, Some, None, take, length, option_to_list, slice_get}
 use Rattle.basic_toml_value.specs.Data.{Data, string_in}
 use Rattle.basic_toml_serde.specs.declared.walk.Level.{Level}
 use Rattle.basic_toml_serde.specs.declared.walk.Mark.{Mark}
@@ -9,6 +9,14 @@ use Rattle.basic_toml_serde.specs.Added.{AddsElements, AddsEntries}
 -- what comes next
 abbrev pub item_at : {N : Type 0} → Walk N → Option N
 item_at w = slice_get w.list.items w.next
+
+-- what is open around what was read last, or that where nothing is open
+abbrev pub container_in : {N : Type 0} → List N → ℕ → Option Level → Option N
+container_in items next None = slice_get items next
+container_in items next (Some level) = slice_get items level.container
+
+abbrev pub container_at : {N : Type 0} → Walk N → Option N
+container_at w = container_in w.list.items w.next (slice_get w.levels.items (length w.levels.items - 1))
 
 -- the value that comes next, where no key comes before it
 abbrev pub value_of : {N : Type 0} → Bool → Option N → Option N

@@ -3,6 +3,8 @@ use Rattle.std.specs.Prelude.{ℕ, List, Option}
 use Rattle.std.specs.Option.{option_copied}
 use Rattle.basic_toml_value.specs.Data.{Data}
 use Rattle.basic_toml_tree.specs.Nodes.{node_data}
+use Rattle.basic_toml_error.specs.Fault.{Fault, custom}
+use Rattle.basic_toml_error.specs.NodeFaults.{IsFault, fault_at, fault_around}
 use Rattle.basic_toml_serde.specs.declared.part.Part.{Part}
 use Rattle.basic_toml_serde.specs.Added.{Adds}
 
@@ -15,3 +17,10 @@ data_of part = node_data part.node
 -- parts behind those that are there, which stand for these keys and data
 abbrev pub AddsAll : List (Option (List ℕ) × Data) → List Part → List Part → Type 0
 AddsAll = Adds key_of data_of
+
+-- an error with this message at a part, or around it
+abbrev pub FailsAt : Part → List ℕ → Fault → Type 0
+FailsAt part message fault = IsFault fault (fault_at part.node (custom message))
+
+abbrev pub FailsAround : Part → List ℕ → Fault → Type 0
+FailsAround part message fault = IsFault fault (fault_around part.node (custom message))

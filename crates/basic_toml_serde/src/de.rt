@@ -78,31 +78,34 @@ fn read_again<'de, T: Deserialize<'de>>(
 {
     match read_by(alloc, tree, text, Some(Notes::new(alloc)), None) {
         Ok(value) => Ok(value),
-        Err(fault) => Err(named::<T>(alloc, tree, text, fault).in_text(alloc, tree.root(), text)),
+        Err(fault) => {
+            let fault = with_integer_type::<T>(alloc, tree, text, fault);
+            Err(fault.in_text(alloc, tree.root(), text))
+        }
     }
 }
 
 // The error with the type that asked for an integer, where it is about one. A type that does not take the number that
 // is tried answers the same error anew, and then it is this type.
 #[cold]
-fn named<'de, T: Deserialize<'de>>(
+fn with_integer_type<'de, T: Deserialize<'de>>(
     alloc: Global,
     tree: &Tree<'de>,
     text: &'de str,
     fault: Fault,
 ) -> Fault {
-    let Some(number) = fault.number() else {
+    let Some(step) = fault.integer() else {
         return fault;
     };
-    for integer_type in narrow_types(number.is_signed) {
+    for integer_type in narrow_types(step.is_signed) {
         let trial = Trial {
-            at: number.at,
+            count: step.count,
             integer_type,
         };
         let notes = Notes::new(alloc);
         let answer: Result<T, Fault> = read_by(alloc, tree, text, Some(notes), Some(trial));
         if let Err(other) = answer {
-            if other.number() == Some(number) {
+            if other.is_out_of_memory() || other.integer() == Some(step) {
                 return other;
             }
         }

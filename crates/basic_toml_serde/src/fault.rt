@@ -1,39 +1,44 @@
 //! What a step of a reading answers where it fails.
+ghost use Rattle.std.specs.Prelude.{◌≡◌};
 ghost use Rattle.basic_toml_serde.specs.Answers.{HasLine};
+ghost use Rattle.basic_toml_serde.specs.Reports.{Reports};
 
 use basic_toml::{Error, Node};
 use std::alloc::{AllocError, Global};
 
-/// An integer that was asked for: how many were before it, and whether a signed one was.
+/// Which integer a type asked for, counted from 1, and whether it asked for a signed one.
 #[derive(Clone, Copy, Drop, PartialEq)]
-pub(crate) struct Number {
-    pub(crate) at: u64,
+pub(crate) struct IntegerStep {
+    pub(crate) count: u64,
     pub(crate) is_signed: bool,
 }
 
-/// An error that is told, and the integer that it is about, if it is about one.
+/// An error, and the integer that it is about, if it is about one.
 #[derive(Drop)]
-pub(crate) struct Told {
+pub(crate) struct Report {
     error: Error,
-    number: Option<Number>,
+    integer: Option<IntegerStep>,
 }
 
 /// Why a step failed. An error stands in a box, since a step's answer is moved at every step and mostly holds none.
 #[derive(Drop)]
 pub(crate) enum Fault {
     OutOfMemory,
-    /// Something did not fit, in a reading that makes no messages.
-    Unspoken,
-    Told(Box<Told>),
+    /// A value does not fit its type, in a reading that makes no messages.
+    Misfit,
+    Report(Box<Report>),
 }
 
 impl Fault {
-    pub(crate) fn told(alloc: Global, error: Error, number: Option<Number>) -> Fault {
+    /// The fault that reports an error.
+    pub(crate) fn report(alloc: Global, error: Error, integer: Option<IntegerStep>) -> Fault
+        ensures { Reports (λ failure. failure ≡ error) result }
+    {
         if error.is_out_of_memory() {
             return Fault::OutOfMemory;
         }
-        match Box::new(alloc, Told { error, number }) {
-            Ok(told) => Fault::Told(told),
+        match Box::new(alloc, Report { error, integer }) {
+            Ok(report) => Fault::Report(report),
             Err(_) => Fault::OutOfMemory,
         }
     }
@@ -43,9 +48,9 @@ impl Fault {
     }
 
     /// The integer that the error is about.
-    pub(crate) fn number(&self) -> Option<Number> {
+    pub(crate) fn integer(&self) -> Option<IntegerStep> {
         match self {
-            Fault::Told(told) => told.number,
+            Fault::Report(report) => report.integer,
             _ => None,
         }
     }
@@ -56,8 +61,8 @@ impl Fault {
     {
         match self {
             Fault::OutOfMemory => Error::from(AllocError).with_line(text),
-            Fault::Unspoken => Error::custom(alloc, root, "no value was read").with_line(text),
-            Fault::Told(told) => Box::into_inner(told).error.with_line(text),
+            Fault::Misfit => Error::custom(alloc, root, "no value was read").with_line(text),
+            Fault::Report(report) => Box::into_inner(report).error.with_line(text),
         }
     }
 }

@@ -1,5 +1,7 @@
 //! The steps of a reading.
-ghost use Rattle.std.specs.Prelude.{◌≡◌, IfOk, IfSome, encode_utf8};
+ghost use Rattle.std.specs.Prelude.{◌≡◌, ⊤, IfOk, IfSome, MatchOption, encode_utf8, slice_get};
+ghost use Rattle.basic_toml_serde.specs.Ahead.{item_at, container_at, IsAt, ComesBack};
+ghost use Rattle.basic_toml_serde.specs.Reports.{ReportsAt, array_at, refused_at, fails_by};
 ghost use Rattle.basic_toml_serde.specs.Taken.{Stays, TakesInteger, PassesKey, Reads, Picks, Looks};
 
 use crate::fault::Fault;
@@ -23,19 +25,29 @@ fn only_char(text: &str) -> Option<char>
     }
 }
 
+/// The bytes of a text.
+fn copy_of(alloc: Global, text: &str) -> Result<Vec<u8>, Fault>
+    ensures { IfOk result (λ bytes. bytes.items ≡ text.now) }
+{
+    match Vec::from_slice(alloc, text.as_bytes()) {
+        Ok(bytes) => Ok(bytes),
+        Err(_) => Err(Fault::OutOfMemory),
+    }
+}
+
 impl<N: Source> Reader<N> {
-    /// The float that comes next, or the integer as one.
+    /// The float that comes next, or the integer as one. One whose digits are beyond every number has none.
     fn float(&mut self, expected: &str) -> Result<f64, Fault>
         ensures { Stays self.old self.new }
     {
         self.note(Step::Other);
-        let Some(item) = self.walk.value() else {
+        let Some(item) = self.walk.peek_value() else {
             return Err(self.wrong_type(expected));
         };
         if let Some(text) = item.float() {
             return match f64::from_str(text) {
-                Ok(number) => Ok(number),
-                Err(_) => Err(self.wrong_value(expected)),
+                Ok(number) if !number.is_infinite() || text.ends_with("inf") => Ok(number),
+                _ => Err(self.wrong_value(expected)),
             };
         }
         match item.integer() {
@@ -49,7 +61,7 @@ impl<N: Source> Reader<N> {
         ensures { IfOk result (λ z. TakesInteger N.data_of self.old z self.new) }
     {
         self.note(Step::Other);
-        match self.integer_here() {
+        match self.next_integer() {
             Some(number) => Ok(i128::from(number)),
             None => Err(self.wrong_type(expected)),
         }
@@ -78,7 +90,7 @@ impl<N: Source> Reader<N> {
 
     /// The kind of what comes next.
     fn kind(&self) -> Kind {
-        let Some(item) = self.walk.value() else {
+        let Some(item) = self.walk.peek_value() else {
             return Kind::Str;
         };
         if item.string().is_some() {
@@ -114,7 +126,7 @@ impl<N: Source> Format for Reader<N> {
 
     fn bool(&mut self, _input: &[u8]) -> Result<bool, Fault> {
         self.note(Step::Other);
-        if let Some(item) = self.walk.value() {
+        if let Some(item) = self.walk.peek_value() {
             if let Some(truth) = item.truth() {
                 return Ok(truth);
             }
@@ -156,12 +168,12 @@ impl<N: Source> Format for Reader<N> {
 
     fn char(&mut self, _input: &[u8]) -> Result<char, Fault> {
         self.note(Step::Other);
-        let Some(text) = self.walk.text() else {
+        let Some(text) = self.walk.peek_text() else {
             return Err(self.wrong_type("a character"));
         };
         match only_char(text) {
             Some(c) => {
-                self.walk.at_key = false;
+                self.walk.pass_key();
                 Ok(c)
             }
             None => Err(self.wrong_value("a character")),
@@ -170,9 +182,9 @@ impl<N: Source> Format for Reader<N> {
 
     fn plain_str(&mut self, input: &[u8]) -> Result<(usize, usize), Fault> {
         self.note(Step::Other);
-        match self.walk.span(input) {
+        match self.walk.peek_span(input) {
             Some(span) => {
-                self.walk.at_key = false;
+                self.walk.pass_key();
                 Ok(span)
             }
             None => Err(self.wrong_type("a borrowed string")),
@@ -186,36 +198,37 @@ impl<N: Source> Format for Reader<N> {
     #[inline]
     fn string(&mut self, alloc: Global, _input: &[u8]) -> Result<String, Fault> {
         self.note(Step::Other);
-        let Some(text) = self.walk.text() else {
+        let Some(text) = self.walk.peek_text() else {
             return Err(self.wrong_type("a string"));
         };
         match String::from_str(alloc, text) {
             Ok(copy) => {
-                self.walk.at_key = false;
+                self.walk.pass_key();
                 Ok(copy)
             }
             Err(_) => Err(Fault::OutOfMemory),
         }
     }
 
+    /// The integers of an array, the bytes of a string, or those of a float's text.
     fn byte_buf(&mut self, alloc: Global, _input: &[u8]) -> Result<Vec<u8>, Fault> {
         self.note(Step::Other);
-        if let Some(item) = self.walk.value() {
+        if let Some(item) = self.walk.peek_value() {
             if item.is_array() {
-                self.walk.at_key = false;
+                self.walk.pass_key();
                 return self.bytes_of(alloc, item);
             }
+            if let Some(text) = item.float() {
+                self.walk.pass_key();
+                return copy_of(alloc, text);
+            }
         }
-        let Some(text) = self.walk.text() else {
+        let Some(text) = self.walk.peek_text() else {
             return Err(self.wrong_type("a byte array"));
         };
-        match Vec::from_slice(alloc, text.as_bytes()) {
-            Ok(bytes) => {
-                self.walk.at_key = false;
-                Ok(bytes)
-            }
-            Err(_) => Err(Fault::OutOfMemory),
-        }
+        let bytes = copy_of(alloc, text)?;
+        self.walk.pass_key();
+        Ok(bytes)
     }
 
     fn peek(&mut self, _input: &[u8]) -> Result<Kind, Fault> {
@@ -272,7 +285,7 @@ impl<N: Source> Format for Reader<N> {
     #[inline]
     fn begin_struct(&mut self, _input: &[u8]) -> Result<bool, Fault> {
         self.note(Step::Other);
-        if let Some(item) = self.walk.value() {
+        if let Some(item) = self.walk.peek_value() {
             if item.is_array() {
                 self.begin_array()?;
                 return Ok(true);
@@ -289,7 +302,7 @@ impl<N: Source> Format for Reader<N> {
             self.note_names(names, Step::End)?;
             return Ok(None);
         }
-        let Some(key) = self.walk.key() else {
+        let Some(key) = self.walk.peek_key() else {
             return Err(self.wrong_type("a map"));
         };
         let at = find(names, key);
@@ -308,12 +321,12 @@ impl<N: Source> Format for Reader<N> {
     }
 
     fn variant(&mut self, _input: &[u8], names: &[Name<'_>]) -> Result<usize, Fault> {
-        let Some(text) = self.walk.text() else {
+        let Some(text) = self.walk.peek_text() else {
             return Err(self.wrong_type("a string"));
         };
         let at = find(names, text);
         self.note_names(names, Step::Variant)?;
-        self.walk.at_key = false;
+        self.walk.pass_key();
         Ok(at)
     }
 
@@ -321,15 +334,19 @@ impl<N: Source> Format for Reader<N> {
     fn skip(&mut self, _input: &[u8]) -> Result<(), Fault>
         ensures { PassesKey self.old self.new }
     {
-        self.walk.at_key = false;
+        self.walk.pass_key();
         Ok(())
     }
 
-    fn mark(&mut self) -> Mark {
+    fn mark(&mut self) -> Mark
+        ensures { IsAt self.old.walk result × (self.new ≡ self.old) }
+    {
         self.walk.mark()
     }
 
-    fn rewind(&mut self, mark: Mark) {
+    fn rewind(&mut self, mark: Mark)
+        ensures { ComesBack mark self.old.walk self.new.walk × (self.new.trial ≡ self.old.trial) }
+    {
         self.walk.rewind(mark);
         self.note(Step::Return);
     }
@@ -340,45 +357,60 @@ impl<N: Source> Format for Reader<N> {
         error.is_out_of_memory()
     }
 
-    fn missing(&self, name: &str) -> Fault {
+    fn missing(&self, name: &str) -> Fault
+        ensures { ReportsAt N.fails_at (item_at self.now.walk) result }
+    {
         match &self.notes {
-            Some(notes) => self.no_key(notes, name),
-            None => Fault::Unspoken,
+            Some(notes) => self.missing_field(notes, name),
+            None => Fault::Misfit,
         }
     }
 
-    fn duplicate(&self, name: &str) -> Fault {
+    fn duplicate(&self, name: &str) -> Fault
+        ensures { ReportsAt N.fails_at (container_at self.now.walk) result }
+    {
         match &self.notes {
-            Some(notes) => self.second_key(notes, name),
-            None => Fault::Unspoken,
+            Some(notes) => self.duplicate_field(notes, name),
+            None => Fault::Misfit,
         }
     }
 
-    fn unknown_key(&self) -> Fault {
+    fn unknown_key(&self) -> Fault
+        ensures { ReportsAt N.fails_at (container_at self.now.walk) result }
+    {
         match &self.notes {
-            Some(notes) => self.no_field(notes),
-            None => Fault::Unspoken,
+            Some(notes) => self.unknown_field(notes),
+            None => Fault::Misfit,
         }
     }
 
-    fn unknown_variant(&self) -> Fault {
+    fn unknown_variant(&self) -> Fault
+        ensures { MatchOption self.now.notes ⊤ (λ notes. ReportsAt (fails_by notes.last N.fails_at N.fails_around)
+            (slice_get self.now.walk.list.items notes.variant_at) result) }
+    {
         match &self.notes {
-            Some(notes) => self.no_variant(notes),
-            None => Fault::Unspoken,
+            Some(notes) => self.unknown_name(notes),
+            None => Fault::Misfit,
         }
     }
 
-    fn wrong_len(&self) -> Fault {
+    fn wrong_len(&self) -> Fault
+        ensures { MatchOption self.now.notes ⊤ (λ notes. ReportsAt N.fails_at
+            (array_at notes.last (item_at self.now.walk) (container_at self.now.walk)) result) }
+    {
         match &self.notes {
-            Some(notes) => self.other_length(notes),
-            None => Fault::Unspoken,
+            Some(notes) => self.wrong_length(notes),
+            None => Fault::Misfit,
         }
     }
 
-    fn invalid(&self) -> Fault {
+    fn invalid(&self) -> Fault
+        ensures { MatchOption self.now.notes ⊤ (λ notes. ReportsAt N.fails_at
+            (refused_at notes.last (item_at self.now.walk) (container_at self.now.walk)) result) }
+    {
         match &self.notes {
-            Some(notes) => self.refused(notes),
-            None => Fault::Unspoken,
+            Some(notes) => self.invalid_value(notes),
+            None => Fault::Misfit,
         }
     }
 
@@ -386,7 +418,9 @@ impl<N: Source> Format for Reader<N> {
         Fault::OutOfMemory
     }
 
-    fn custom(&self, message: &str) -> Fault {
+    fn custom(&self, message: &str) -> Fault
+        ensures { ReportsAt N.fails_at (item_at self.now.walk) result }
+    {
         self.own_message(message)
     }
 }

@@ -17,6 +17,7 @@
 //!
 //! A record is a table, a list an array, a newtype what it holds, and an option that is not there a key that is left
 //! out. A variant without data is a string; one with data is a table of one key, unless the type names a tag.
+//! [`TomlValue`], [`TomlTable`] and [`TomlFloat`] are fields that hold what `basic_toml` has.
 #![tactic(auto)]
 
 mod de;
@@ -30,9 +31,11 @@ mod reader;
 mod sender;
 mod ser;
 mod source;
+mod values;
 mod walk;
 mod writer;
 
 pub use basic_toml::Error;
 pub use de::{from_slice, from_str};
 pub use ser::to_string;
+pub use values::{TomlFloat, TomlTable, TomlValue};

@@ -4,7 +4,7 @@ use std::alloc::{AllocError, Global};
 
 /// A name as its type has it, and as the text has to have it.
 #[derive(Drop)]
-struct Listed {
+struct Spelling {
     name: String,
     key: String,
 }
@@ -12,52 +12,52 @@ struct Listed {
 /// Names in the order of their type.
 #[derive(Drop)]
 pub(crate) struct Names {
-    listed: Vec<Listed>,
+    spellings: Vec<Spelling>,
 }
 
 impl Names {
     pub(crate) fn new(alloc: Global) -> Names {
         Names {
-            listed: Vec::new(alloc),
+            spellings: Vec::new(alloc),
         }
     }
 
     /// The names that stand for something, each with its aliases behind it.
     pub(crate) fn of(alloc: Global, names: &[Name<'_>]) -> Result<Names, AllocError> {
-        let mut listed = Vec::new(alloc);
+        let mut spellings = Vec::new(alloc);
         for name in names {
             if !name.skipped {
                 let mut key = String::new(alloc);
                 name.case.append(name.kind, name.name, &mut key)?;
-                listed.push(Listed {
+                spellings.push(Spelling {
                     name: String::from_str(alloc, name.name)?,
                     key,
                 })?;
                 for alias in name.aliases {
-                    listed.push(Listed {
+                    spellings.push(Spelling {
                         name: String::new(alloc),
                         key: String::from_str(alloc, alias)?,
                     })?;
                 }
             }
         }
-        Ok(Names { listed })
+        Ok(Names { spellings })
     }
 
     /// What the text has to have.
     pub(crate) fn keys(&self, alloc: Global) -> Result<Vec<&str>, AllocError> {
         let mut keys = Vec::new(alloc);
-        for listed in &self.listed {
-            keys.push(listed.key.as_str())?;
+        for spelling in &self.spellings {
+            keys.push(spelling.key.as_str())?;
         }
         Ok(keys)
     }
 
     /// The key of a name, or the name where it is not among these.
     pub(crate) fn key_of<'a>(&'a self, name: &'a str) -> &'a str {
-        for listed in &self.listed {
-            if listed.name.as_str() == name {
-                return listed.key.as_str();
+        for spelling in &self.spellings {
+            if spelling.name.as_str() == name {
+                return spelling.key.as_str();
             }
         }
         name
@@ -65,8 +65,8 @@ impl Names {
 
     /// The key, where there is one alone.
     pub(crate) fn only_key(&self) -> Option<&str> {
-        match self.listed.as_slice() {
-            [listed] => Some(listed.key.as_str()),
+        match self.spellings.as_slice() {
+            [spelling] => Some(spelling.key.as_str()),
             _ => None,
         }
     }

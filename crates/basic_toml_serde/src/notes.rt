@@ -4,7 +4,7 @@
 //! fails, a second one takes the same steps and keeps these notes, from which the error is made. Where that error is
 //! about an integer, some more try which type asked for it: each answers at that step a number that is too large for
 //! one type.
-use crate::fault::Number;
+use crate::fault::IntegerStep;
 use crate::names::Names;
 use serde::{Name, NameKind};
 use std::alloc::{AllocError, Global};
@@ -74,10 +74,10 @@ pub(crate) fn narrow_types(is_signed: bool) -> [Narrow; 3] {
     }
 }
 
-/// Whether a type asks for the integer at this place: a number that it does not hold is answered in place of it.
+/// Whether this type asks for the integer of this count: a number that it does not hold is answered in place of it.
 #[derive(Clone, Copy, Drop)]
 pub(crate) struct Trial {
-    pub(crate) at: u64,
+    pub(crate) count: u64,
     pub(crate) integer_type: Narrow,
 }
 
@@ -128,16 +128,16 @@ impl Notes {
         item: usize,
         is_key: bool,
     ) -> Result<(), AllocError> {
-        let kept = Names::of(alloc, names)?;
+        let copies = Names::of(alloc, names)?;
         match names.first() {
             Some(name) if name.kind == NameKind::Variant => {
                 self.fields = Names::new(alloc);
-                self.variants = kept;
+                self.variants = copies;
                 self.variant_at = item;
                 self.is_key = is_key;
             }
             _ => {
-                self.fields = kept;
+                self.fields = copies;
                 self.field_at = item;
             }
         }
@@ -151,9 +151,9 @@ impl Notes {
     }
 
     /// The last integer.
-    pub(crate) fn number(&self, is_signed: bool) -> Number {
-        Number {
-            at: self.integers,
+    pub(crate) fn integer(&self, is_signed: bool) -> IntegerStep {
+        IntegerStep {
+            count: self.integers,
             is_signed,
         }
     }

@@ -2,8 +2,8 @@
 ghost use Rattle.std.specs.Prelude.{◌≡◌, Some, IfOk, IfSome, slice_range};
 ghost use Rattle.basic_toml_value.specs.Data.{string_in};
 ghost use Rattle.basic_toml_tree.specs.Nodes.{node_data, elements_in, entries_in};
-ghost use Rattle.basic_toml_serde.specs.Added.{unnamed, named};
-ghost use Rattle.basic_toml_serde.specs.Parts.{key_of, data_of, AddsAll};
+ghost use Rattle.basic_toml_serde.specs.Added.{without_keys, with_keys};
+ghost use Rattle.basic_toml_serde.specs.Parts.{key_of, data_of, FailsAt, FailsAround, AddsAll};
 
 use crate::source::Source;
 use basic_toml::{Error, Node};
@@ -20,6 +20,10 @@ impl<'t, 'de> Source for Part<'t, 'de> {
     ghost key_of = { key_of };
 
     ghost data_of = { data_of };
+
+    ghost fails_at = { FailsAt };
+
+    ghost fails_around = { FailsAround };
 
     #[inline(always)]
     fn key(&self) -> Option<&str> {
@@ -136,7 +140,7 @@ fn add_elements<'t, 'de>(
     list: &mut Vec<Part<'t, 'de>>,
 ) -> Result<(), AllocError>
     ensures { IfOk result
-        (λ _. AddsAll (unnamed (elements_in (node_data array.entry))) list.old.items list.new.items) }
+        (λ _. AddsAll (without_keys (elements_in (node_data array.entry))) list.old.items list.new.items) }
 {
     let Some(elements) = array.elements() else {
         return Ok(());
@@ -158,7 +162,7 @@ fn add_entries<'t, 'de>(
     list: &mut Vec<Part<'t, 'de>>,
 ) -> Result<(), AllocError>
     ensures { IfOk result
-        (λ _. AddsAll (named (entries_in (node_data table.entry))) list.old.items list.new.items) }
+        (λ _. AddsAll (with_keys (entries_in (node_data table.entry))) list.old.items list.new.items) }
 {
     let Some(entries) = table.entries() else {
         return Ok(());

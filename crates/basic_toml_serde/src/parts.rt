@@ -54,11 +54,11 @@ impl Serialize for Octets<'_> {
     }
 }
 
-/// An integer that no text has a form for.
+/// A number that no text has a form for.
 #[derive(Clone, Copy, Drop)]
-pub(crate) struct TooWide;
+pub(crate) struct NoForm;
 
-impl Serialize for TooWide {
+impl Serialize for NoForm {
     ghost calls = { λ _. a_scalar refused ∷ [] };
 
     fn serialize(&self, _alloc: Global, ser: &mut Serializer) -> Result<(), WriteError> {

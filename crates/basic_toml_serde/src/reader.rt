@@ -1,6 +1,7 @@
 //! The state of a reading, and its errors.
-ghost use Rattle.std.specs.Prelude.{◌≡◌, None, IfOk, IsNone};
-ghost use Rattle.basic_toml_serde.specs.Ahead.{BeginsAt};
+ghost use Rattle.std.specs.Prelude.{◌≡◌, None, Some, IfOk, IsNone, slice_get};
+ghost use Rattle.basic_toml_serde.specs.Ahead.{BeginsAt, item_at, container_at};
+ghost use Rattle.basic_toml_serde.specs.Reports.{Reports, StandsAt, ReportsAt, array_at, refused_at, fails_by};
 ghost use Rattle.basic_toml_serde.specs.Taken.{integer_at, Stays, TakesInteger, BeginsArray, BeginsTable};
 
 use crate::fault::Fault;
@@ -75,8 +76,8 @@ impl<N: Source> Reader<N> {
     pub(crate) fn note_names(&mut self, names: &[Name<'_>], step: Step) -> Result<(), Fault>
         ensures { Stays self.old self.new }
     {
-        let (alloc, item) = (self.alloc, self.walk.next);
-        let is_key = self.walk.at_key || !matches!(step, Step::Variant);
+        let (alloc, item) = (self.alloc, self.walk.position());
+        let is_key = self.walk.is_at_key() || !matches!(step, Step::Variant);
         let Some(notes) = &mut self.notes else {
             return Ok(());
         };
@@ -99,24 +100,24 @@ impl<N: Source> Reader<N> {
 
     /// The number that is tried in place of the last integer.
     #[inline(always)]
-    fn tried(&self) -> Option<Trial>
+    fn active_trial(&self) -> Option<Trial>
         ensures { self.now.trial ≡ None → IsNone result }
     {
         let Some(trial) = self.trial else {
             return None;
         };
         match &self.notes {
-            Some(notes) if notes.integers == trial.at => Some(trial),
+            Some(notes) if notes.integers == trial.count => Some(trial),
             _ => None,
         }
     }
 
     /// The integer that comes next.
     #[inline(always)]
-    pub(crate) fn integer_here(&self) -> Option<i64>
+    pub(crate) fn next_integer(&self) -> Option<i64>
         ensures { result ≡ integer_at N.data_of self.now.walk }
     {
-        match self.walk.value() {
+        match self.walk.peek_value() {
             Some(item) => item.integer(),
             None => None,
         }
@@ -128,10 +129,10 @@ impl<N: Source> Reader<N> {
         ensures { IfOk result (λ z. TakesInteger N.data_of self.old z self.new) }
     {
         self.count(is_signed);
-        if let Some(trial) = self.tried() {
+        if let Some(trial) = self.active_trial() {
             return Ok(trial.integer_type.too_large());
         }
-        match self.integer_here() {
+        match self.next_integer() {
             Some(number) => Ok(number),
             None => Err(self.wrong_integer(is_signed)),
         }
@@ -142,7 +143,7 @@ impl<N: Source> Reader<N> {
     pub(crate) fn begin_array(&mut self) -> Result<(), Fault>
         ensures { IfOk result (λ _. BeginsArray N.key_of N.data_of self.old self.new) }
     {
-        match self.walk.value() {
+        match self.walk.peek_value() {
             Some(array) if array.is_array() => match self.walk.open_array(array) {
                 Ok(()) => Ok(()),
                 Err(_) => Err(Fault::OutOfMemory),
@@ -156,7 +157,7 @@ impl<N: Source> Reader<N> {
     pub(crate) fn begin_table(&mut self, expected: &str) -> Result<(), Fault>
         ensures { IfOk result (λ _. BeginsTable N.key_of N.data_of self.old self.new) }
     {
-        match self.walk.value() {
+        match self.walk.peek_value() {
             Some(table) if table.is_table() => match self.walk.open_table(table) {
                 Ok(()) => Ok(()),
                 Err(_) => Err(Fault::OutOfMemory),
@@ -167,7 +168,7 @@ impl<N: Source> Reader<N> {
 
     /// A type that looks first and then asks for a table mostly is an enum, which takes a string too.
     pub(crate) fn may_be_enum(&self) -> bool {
-        let (Some(notes), Some(item)) = (&self.notes, self.walk.value()) else {
+        let (Some(notes), Some(item)) = (&self.notes, self.walk.peek_value()) else {
             return false;
         };
         match notes.last {
@@ -180,40 +181,50 @@ impl<N: Source> Reader<N> {
 // Errors. None is made in a reading that makes no messages.
 impl<N: Source> Reader<N> {
     #[cold]
-    fn told(&self, error: Error) -> Fault {
-        Fault::told(self.alloc, error, None)
+    fn report(&self, error: Error) -> Fault
+        ensures { Reports (λ failure. failure ≡ error) result }
+    {
+        Fault::report(self.alloc, error, None)
     }
 
     /// A message at an item.
     #[cold]
-    fn message(&self, item: N, message: Result<String, AllocError>) -> Fault {
+    fn message(&self, item: N, message: Result<String, AllocError>) -> Fault
+        ensures { ReportsAt N.fails_at (Some item) result }
+    {
         match message {
-            Ok(message) => self.told(item.custom(self.alloc, message.as_str())),
+            Ok(message) => self.report(item.custom(self.alloc, message.as_str())),
             Err(_) => Fault::OutOfMemory,
         }
     }
 
     /// A message of the type's own, at what was read last.
     #[cold]
-    pub(crate) fn own_message(&self, message: &str) -> Fault {
-        match self.walk.here() {
-            Some(item) if self.notes.is_some() => self.told(item.custom(self.alloc, message)),
-            _ => Fault::Unspoken,
+    pub(crate) fn own_message(&self, message: &str) -> Fault
+        ensures { ReportsAt N.fails_at (item_at self.now.walk) result }
+    {
+        match self.walk.peek() {
+            Some(item) if self.notes.is_some() => self.report(item.custom(self.alloc, message)),
+            _ => Fault::Misfit,
         }
     }
 
     /// What comes next is not of the type that was expected.
     #[cold]
-    pub(crate) fn wrong_type(&self, expected: &str) -> Fault {
-        match self.walk.here() {
-            Some(item) if self.notes.is_some() => self.told(self.type_error(item, expected)),
-            _ => Fault::Unspoken,
+    pub(crate) fn wrong_type(&self, expected: &str) -> Fault
+        ensures { ReportsAt N.fails_at (item_at self.now.walk) result }
+    {
+        match self.walk.peek() {
+            Some(item) if self.notes.is_some() => self.report(self.type_error(item, expected)),
+            _ => Fault::Misfit,
         }
     }
 
-    fn type_error(&self, item: N, expected: &str) -> Error {
+    fn type_error(&self, item: N, expected: &str) -> Error
+        ensures { StandsAt N.fails_at item result }
+    {
         let key = match item.key() {
-            Some(key) if self.walk.at_key => Quoted(key),
+            Some(key) if self.walk.is_at_key() => Quoted(key),
             _ => return item.wrong_type(self.alloc, expected),
         };
         match format!(in self.alloc; "invalid type: string \"{key}\", expected {expected}") {
@@ -224,36 +235,43 @@ impl<N: Source> Reader<N> {
 
     /// What was read last is of the type that was expected, and not a value of it.
     #[cold]
-    pub(crate) fn wrong_value(&self, expected: &str) -> Fault {
-        match self.walk.here() {
-            Some(_) if self.walk.at_key => self.wrong_type(expected),
+    pub(crate) fn wrong_value(&self, expected: &str) -> Fault
+        ensures { ReportsAt N.fails_at (item_at self.now.walk) result }
+    {
+        match self.walk.peek() {
+            Some(_) if self.walk.is_at_key() => self.wrong_type(expected),
             Some(item) if self.notes.is_some() => {
-                self.told(item.wrong_value(self.alloc, expected))
+                self.report(item.wrong_value(self.alloc, expected))
             }
-            _ => Fault::Unspoken,
+            _ => Fault::Misfit,
         }
     }
 
     /// What comes next is no integer of the type that asked for one.
     #[cold]
-    pub(crate) fn wrong_integer(&self, is_signed: bool) -> Fault {
-        let (Some(notes), Some(item)) = (&self.notes, self.walk.here()) else {
-            return Fault::Unspoken;
+    pub(crate) fn wrong_integer(&self, is_signed: bool) -> Fault
+        ensures { ReportsAt N.fails_at (item_at self.now.walk) result }
+    {
+        let (Some(notes), Some(item)) = (&self.notes, self.walk.peek()) else {
+            return Fault::Misfit;
         };
-        let found = self.integer_here();
-        let expected = type_name(self.tried(), is_signed, found);
+        let found = self.next_integer();
+        let expected = type_name(self.active_trial(), is_signed, found);
         let error = match found {
             Some(_) => item.wrong_value(self.alloc, expected),
             None => self.type_error(item, expected),
         };
-        Fault::told(self.alloc, error, Some(notes.number(is_signed)))
+        Fault::report(self.alloc, error, Some(notes.integer(is_signed)))
     }
 
     /// The error of a type that took the last step and then refused what it gave.
     #[cold]
-    pub(crate) fn refused(&self, notes: &Notes) -> Fault {
-        let (Some(item), Some(around)) = (self.walk.here(), self.walk.around()) else {
-            return Fault::Unspoken;
+    pub(crate) fn invalid_value(&self, notes: &Notes) -> Fault
+        ensures { ReportsAt N.fails_at
+            (refused_at notes.now.last (item_at self.now.walk) (container_at self.now.walk)) result }
+    {
+        let (Some(item), Some(container)) = (self.walk.peek(), self.walk.container()) else {
+            return Fault::Misfit;
         };
         match notes.last {
             Step::Integer(is_signed) => self.wrong_integer(is_signed),
@@ -261,9 +279,9 @@ impl<N: Source> Reader<N> {
             Step::Variant => {
                 self.own_message("invalid type: unit variant, expected a variant with data")
             }
-            Step::Key => { self.told(around.wrong_value(self.alloc, "map with a single key")) }
+            Step::Key => { self.report(container.wrong_value(self.alloc, "map with a single key")) }
             Step::End => match notes.fields.only_key() {
-                Some(key) => self.told(item.missing(self.alloc, key)),
+                Some(key) => self.report(item.missing(self.alloc, key)),
                 None => self.wrong_value("map with a single key"),
             },
             _ => self.wrong_value("another value"),
@@ -272,47 +290,56 @@ impl<N: Source> Reader<N> {
 
     /// A table lacks a field.
     #[cold]
-    pub(crate) fn no_key(&self, notes: &Notes, name: &str) -> Fault {
-        match self.walk.here() {
+    pub(crate) fn missing_field(&self, notes: &Notes, name: &str) -> Fault
+        ensures { ReportsAt N.fails_at (item_at self.now.walk) result }
+    {
+        match self.walk.peek() {
             Some(item) => {
                 let key = notes.fields.key_of(name);
-                self.told(item.missing(self.alloc, key))
+                self.report(item.missing(self.alloc, key))
             }
-            None => Fault::Unspoken,
+            None => Fault::Misfit,
         }
     }
 
     /// A table has a field twice, by an alias.
     #[cold]
-    pub(crate) fn second_key(&self, notes: &Notes, name: &str) -> Fault {
-        match self.walk.around() {
+    pub(crate) fn duplicate_field(&self, notes: &Notes, name: &str) -> Fault
+        ensures { ReportsAt N.fails_at (container_at self.now.walk) result }
+    {
+        match self.walk.container() {
             Some(table) => {
                 let key = notes.fields.key_of(name);
                 self.message(table, format!(in self.alloc; "duplicate field `{key}`"))
             }
-            None => Fault::Unspoken,
+            None => Fault::Misfit,
         }
     }
 
     /// A key is none of the fields.
     #[cold]
-    pub(crate) fn no_field(&self, notes: &Notes) -> Fault {
-        let (Some(table), Some(item)) = (self.walk.around(), self.walk.list.get(notes.field_at))
+    pub(crate) fn unknown_field(&self, notes: &Notes) -> Fault
+        ensures { ReportsAt N.fails_at (container_at self.now.walk) result }
+    {
+        let (Some(table), Some(item)) = (self.walk.container(), self.walk.item(notes.field_at))
         else {
-            return Fault::Unspoken;
+            return Fault::Misfit;
         };
         let key = item.key().unwrap_or("");
         match notes.fields.keys(self.alloc) {
-            Ok(keys) => self.told(table.unknown_field(self.alloc, key, keys.as_slice())),
+            Ok(keys) => self.report(table.unknown_field(self.alloc, key, keys.as_slice())),
             Err(_) => Fault::OutOfMemory,
         }
     }
 
-    /// A text is none of the variants.
+    /// A text is none of the variants. That of a tag, which is read ahead, stands where it is; another around it.
     #[cold]
-    pub(crate) fn no_variant(&self, notes: &Notes) -> Fault {
-        let Some(item) = self.walk.list.get(notes.variant_at) else {
-            return Fault::Unspoken;
+    pub(crate) fn unknown_name(&self, notes: &Notes) -> Fault
+        ensures { ReportsAt (fails_by notes.now.last N.fails_at N.fails_around)
+            (slice_get self.now.walk.list.items notes.now.variant_at) result }
+    {
+        let Some(item) = self.walk.item(notes.variant_at) else {
+            return Fault::Misfit;
         };
         let text = if notes.is_key {
             item.key()
@@ -321,21 +348,45 @@ impl<N: Source> Reader<N> {
         };
         let name = text.unwrap_or("");
         match notes.variants.keys(self.alloc) {
-            Ok(keys) => self.told(item.unknown_variant(self.alloc, name, keys.as_slice())),
+            Ok(keys) => match notes.last {
+                Step::Return => self.unknown_tag(item, name, keys.as_slice()),
+                _ => self.unknown_text(item, name, keys.as_slice()),
+            },
             Err(_) => Fault::OutOfMemory,
         }
     }
 
+    #[cold]
+    fn unknown_tag(&self, item: N, name: &str, keys: &[&str]) -> Fault
+        ensures { ReportsAt N.fails_at (Some item) result }
+    {
+        let error = item.unknown_variant(self.alloc, name, keys);
+        if error.is_out_of_memory() {
+            return Fault::OutOfMemory;
+        }
+        self.message(item, error.message().to_string(self.alloc))
+    }
+
+    #[cold]
+    fn unknown_text(&self, item: N, name: &str, keys: &[&str]) -> Fault
+        ensures { ReportsAt N.fails_around (Some item) result }
+    {
+        self.report(item.unknown_variant(self.alloc, name, keys))
+    }
+
     /// An array is longer than its type, where the last step gave an element; else it is longer or shorter.
     #[cold]
-    pub(crate) fn other_length(&self, notes: &Notes) -> Fault {
-        let (Some(item), Some(around)) = (self.walk.here(), self.walk.around()) else {
-            return Fault::Unspoken;
+    pub(crate) fn wrong_length(&self, notes: &Notes) -> Fault
+        ensures { ReportsAt N.fails_at
+            (array_at notes.now.last (item_at self.now.walk) (container_at self.now.walk)) result }
+    {
+        let (Some(item), Some(container)) = (self.walk.peek(), self.walk.container()) else {
+            return Fault::Misfit;
         };
         let (array, expected) = match notes.last {
-            Step::Element => (around, "a shorter array"),
+            Step::Element => (container, "a shorter array"),
             _ => (item, "an array of another length"),
         };
-        self.told(array.wrong_len(self.alloc, array.len(), expected))
+        self.report(array.wrong_len(self.alloc, array.len(), expected))
     }
 }

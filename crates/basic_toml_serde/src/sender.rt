@@ -108,6 +108,7 @@ impl Sender {
     {
         let Sender { ser, has_failed } = self;
         let text = ser.finish()?;
+        // no error was kept where what was sent found no memory of its own
         if has_failed {
             return Err(WriteError::OutOfMemory);
         }

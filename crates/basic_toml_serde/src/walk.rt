@@ -1,6 +1,6 @@
 //! Where a reading stands.
-ghost use Rattle.std.specs.Prelude.{◌≡◌, ◌≤◌, None, Some, IfOk, IfSome, MatchBool, MatchOption, vec_len, slice_range};
-ghost use Rattle.basic_toml_serde.specs.Ahead.{item_at, value_at, text_at, key_at, BeginsAt, OpensArray, OpensTable, OpensFrom, GoesOn, GoesToKey, Leaves, IsAt, ComesBack};
+ghost use Rattle.std.specs.Prelude.{◌≡◌, ◌≤◌, None, Some, false, IfOk, IfSome, MatchBool, MatchOption, vec_len, slice_range, slice_get};
+ghost use Rattle.basic_toml_serde.specs.Ahead.{item_at, container_at, value_at, text_at, key_at, BeginsAt, OpensArray, OpensTable, OpensFrom, GoesOn, GoesToKey, Leaves, IsAt, ComesBack};
 
 use crate::source::Source;
 use std::alloc::{AllocError, Global};
@@ -8,21 +8,21 @@ use std::alloc::{AllocError, Global};
 /// What is open around an open array or table: its place among the items, where what it holds begins, and which item
 /// comes next there and which one ends it.
 #[derive(Clone, Copy, Drop)]
-pub(crate) struct Level {
-    pub(crate) container: usize,
-    pub(crate) start: usize,
-    pub(crate) cursor: usize,
-    pub(crate) end: usize,
+struct Level {
+    container: usize,
+    start: usize,
+    cursor: usize,
+    end: usize,
 }
 
 /// A place to come back to.
 #[derive(Clone, Copy, Drop)]
 pub(crate) struct Mark {
-    pub(crate) depth: usize,
-    pub(crate) next: usize,
-    pub(crate) cursor: usize,
-    pub(crate) end: usize,
-    pub(crate) at_key: bool,
+    depth: usize,
+    next: usize,
+    cursor: usize,
+    end: usize,
+    at_key: bool,
 }
 
 /// Walks a tree in the order in which a type asks for its nodes.
@@ -30,16 +30,16 @@ pub(crate) struct Mark {
 /// Where an array or a table is opened, all that it holds becomes items, which go again where it ends.
 #[derive(Drop)]
 pub(crate) struct Walk<N> {
-    pub(crate) list: Vec<N>,
-    pub(crate) levels: Vec<Level>,
+    list: Vec<N>,
+    levels: Vec<Level>,
     /// The item that comes next, and whether its key comes before it.
-    pub(crate) next: usize,
-    pub(crate) at_key: bool,
+    next: usize,
+    at_key: bool,
     /// The item of what is open that comes next there, and the first behind it.
-    pub(crate) cursor: usize,
-    pub(crate) end: usize,
+    cursor: usize,
+    end: usize,
     /// Whether items stay to the end.
-    pub(crate) keeps: bool,
+    keeps: bool,
 }
 
 impl<N: Source> Walk<N> {
@@ -60,28 +60,59 @@ impl<N: Source> Walk<N> {
         })
     }
 
+    /// The place of the item that comes next among the items.
+    #[inline(always)]
+    pub(crate) fn position(&self) -> usize
+        ensures { result ≡ self.now.next }
+    {
+        self.next
+    }
+
+    /// The item at a place.
+    pub(crate) fn item(&self, position: usize) -> Option<N>
+        ensures { result ≡ slice_get self.now.list.items position }
+    {
+        self.list.get(position).copied()
+    }
+
     /// The item that comes next.
     #[inline(always)]
-    pub(crate) fn here(&self) -> Option<N>
+    pub(crate) fn peek(&self) -> Option<N>
         ensures { result ≡ item_at self.now }
     {
         self.list.get(self.next).copied()
     }
 
+    /// Whether the key of the item that comes next comes before it.
+    #[inline(always)]
+    pub(crate) fn is_at_key(&self) -> bool
+        ensures { result ≡ self.now.at_key }
+    {
+        self.at_key
+    }
+
+    /// Takes the key that comes next, if one does: then its value comes next.
+    #[inline(always)]
+    pub(crate) fn pass_key(&mut self)
+        ensures { self.new ≡ record self.old { at_key = false } }
+    {
+        self.at_key = false;
+    }
+
     /// The value that comes next, where no key comes before it.
     #[inline(always)]
-    pub(crate) fn value(&self) -> Option<N>
+    pub(crate) fn peek_value(&self) -> Option<N>
         ensures { result ≡ value_at self.now }
     {
         if self.at_key {
             return None;
         }
-        self.here()
+        self.peek()
     }
 
     /// The text that comes next, that of a key or that of a string.
     #[inline(always)]
-    pub(crate) fn text(&self) -> Option<&str>
+    pub(crate) fn peek_text(&self) -> Option<&str>
         ensures { MatchOption result (text_at N.key_of N.data_of self.now ≡ None)
             (λ text. text_at N.key_of N.data_of self.now ≡ Some text.now) }
     {
@@ -97,7 +128,7 @@ impl<N: Source> Walk<N> {
 
     /// The key that leads to what comes next.
     #[inline(always)]
-    pub(crate) fn key(&self) -> Option<&str>
+    pub(crate) fn peek_key(&self) -> Option<&str>
         ensures { MatchOption result (key_at N.key_of self.now ≡ None)
             (λ key. key_at N.key_of self.now ≡ Some key.now) }
     {
@@ -108,7 +139,7 @@ impl<N: Source> Walk<N> {
     }
 
     /// Where the string that comes next begins and ends in the document, if it stands there as it is.
-    pub(crate) fn span(&self, input: &[u8]) -> Option<(usize, usize)>
+    pub(crate) fn peek_span(&self, input: &[u8]) -> Option<(usize, usize)>
         ensures { IfSome result
             (λ span. text_at N.key_of N.data_of self.now ≡ Some (slice_range input.now span.0 span.1)) }
     {
@@ -198,7 +229,9 @@ impl<N: Source> Walk<N> {
     }
 
     /// The table or the array around what was read last, or the root.
-    pub(crate) fn around(&self) -> Option<N> {
+    pub(crate) fn container(&self) -> Option<N>
+        ensures { result ≡ container_at self.now }
+    {
         let at = match self.levels.last() {
             Some(level) => level.container,
             None => self.next,

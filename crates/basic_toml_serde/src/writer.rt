@@ -2,18 +2,19 @@
 ghost use Rattle.std.specs.Prelude.{IfOk, string_bytes};
 ghost use Rattle.basic_toml_serde.specs.Written.{IsWritten};
 
-use crate::parts::{Octets, OpensArray, OpensTable, TooWide, VariantName};
+use crate::parts::{NoForm, Octets, OpensArray, OpensTable, VariantName};
 use crate::sender::Sender;
 use basic_toml::{Float, Serialize, WriteError};
 use serde::{Case, NameKind};
 use std::alloc::Global;
 use std::fmt::Display;
+use std::str;
 
 /// What is open, and how many maps are open that go into it.
 #[derive(Clone, Copy, Drop)]
 struct Open {
     is_table: bool,
-    flattened: usize,
+    flattened_maps: usize,
 }
 
 /// Makes a call for each event. A key waits for its value, and goes with it in one call.
@@ -91,7 +92,7 @@ impl Writer {
     fn push(&mut self, is_table: bool) -> Result<(), WriteError> {
         let open = Open {
             is_table,
-            flattened: 0,
+            flattened_maps: 0,
         };
         match self.open.push(open) {
             Ok(()) => Ok(()),
@@ -110,9 +111,14 @@ impl Writer {
                 text.push_str(".0")?;
             }
         }
-        match Float::parse(self.alloc, text.as_str())? {
+        self.float_text(text.as_str())
+    }
+
+    /// A float by its text.
+    fn float_text(&mut self, text: &str) -> Result<(), WriteError> {
+        match Float::parse(self.alloc, text)? {
             Some(float) => self.value(&float),
-            None => self.value(&TooWide),
+            None => self.value(&NoForm),
         }
     }
 }
@@ -138,14 +144,14 @@ impl serde::Serializer for Writer {
     fn i128(&mut self, v: i128) -> Result<(), WriteError> {
         match i64::try_from(v) {
             Ok(number) => self.value(&number),
-            Err(_) => self.value(&TooWide),
+            Err(_) => self.value(&NoForm),
         }
     }
 
     fn u128(&mut self, v: u128) -> Result<(), WriteError> {
         match i64::try_from(v) {
             Ok(number) => self.value(&number),
-            Err(_) => self.value(&TooWide),
+            Err(_) => self.value(&NoForm),
         }
     }
 
@@ -169,8 +175,16 @@ impl serde::Serializer for Writer {
         self.value(&v)
     }
 
+    /// An array of bytes; or a float by its text, where the members of a map would come.
     fn bytes(&mut self, v: &[u8]) -> Result<(), WriteError> {
-        self.value(&Octets(v))
+        if !self.at_members {
+            return self.value(&Octets(v));
+        }
+        self.at_members = false;
+        match str::from_utf8(v) {
+            Ok(text) => self.float_text(text),
+            Err(_) => Err(WriteError::UnsupportedType),
+        }
     }
 
     /// The event of an option that is not there, and of a unit, which cannot be told apart.
@@ -209,7 +223,7 @@ impl serde::Serializer for Writer {
         self.at_members = false;
         match self.open.last_mut() {
             Some(open) if open.is_table => {
-                open.flattened = open.flattened.saturating_add(1);
+                open.flattened_maps = open.flattened_maps.saturating_add(1);
                 Ok(())
             }
             _ => Err(WriteError::UnsupportedType),
@@ -219,8 +233,8 @@ impl serde::Serializer for Writer {
     fn end_map(&mut self) -> Result<(), WriteError> {
         self.send_key()?;
         if let Some(open) = self.open.last_mut() {
-            if open.flattened > 0 {
-                open.flattened -= 1;
+            if open.flattened_maps > 0 {
+                open.flattened_maps -= 1;
                 return Ok(());
             }
         }
