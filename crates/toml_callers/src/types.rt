@@ -1,10 +1,10 @@
 //! Types as a caller writes them: records, records in records, lists, choices, newtypes and records that refuse, strict
-//! records, records that borrow and a record of sixteen fields. Each says which errors it has. Three take a proof file for
-//! that: the record of sixteen fields, the one that refuses a field itself, and the text that is not empty.
+//! records, records that borrow and a record of sixteen fields. Each but that one says which errors it has. Two take a
+//! short proof file for that: the record that refuses a field itself, and the text that is not empty.
 ghost use Rattle.std.specs.Prelude.{◌≡◌, ◌≢◌, ◌≤◌, ◌<◌, ◌∷◌, [], ◌⊎◌, codes, pos, string_bytes};
 ghost use Rattle.basic_toml.specs.Data.{integer, string};
 ghost use Rattle.basic_toml.specs.Fault.{custom};
-ghost use Rattle.basic_toml.specs.FieldFaults.{at_field, field_then, in_field, in_optional, only_these, optional_then, variant_fails};
+ghost use Rattle.basic_toml.specs.FieldFaults.{at_field, field_then, in_field, in_optional, only_these, variant_fails};
 ghost use Rattle.basic_toml.specs.FieldKeys.{key_of};
 ghost use Rattle.basic_toml.specs.NodeFaults.{fault_at, length_message};
 ghost use Rattle.basic_toml.specs.Nodes.{node_data};
@@ -342,25 +342,7 @@ impl<'de> Deserialize<'de> for Service {
         × optional_reads ⟦<String as Deserialize<'static>>⟧.reads (key_of "log") d s.log
         × optional_reads ⟦<Value as Deserialize<'static>>⟧.reads (key_of "note") d s.note };
 
-    ghost faults = { field_then ⟦<String as Deserialize<'static>>⟧.faults ⟦<String as Deserialize<'static>>⟧.reads (codes "name")
-        (field_then ⟦<bool as Deserialize<'static>>⟧.faults ⟦<bool as Deserialize<'static>>⟧.reads (codes "enabled")
-        (field_then ⟦<i8 as Deserialize<'static>>⟧.faults ⟦<i8 as Deserialize<'static>>⟧.reads (codes "priority")
-        (field_then ⟦<i16 as Deserialize<'static>>⟧.faults ⟦<i16 as Deserialize<'static>>⟧.reads (codes "offset")
-        (field_then ⟦<i32 as Deserialize<'static>>⟧.faults ⟦<i32 as Deserialize<'static>>⟧.reads (codes "level")
-        (field_then ⟦<i64 as Deserialize<'static>>⟧.faults ⟦<i64 as Deserialize<'static>>⟧.reads (codes "balance")
-        (field_then ⟦<u8 as Deserialize<'static>>⟧.faults ⟦<u8 as Deserialize<'static>>⟧.reads (codes "retries")
-        (field_then ⟦<u16 as Deserialize<'static>>⟧.faults ⟦<u16 as Deserialize<'static>>⟧.reads (codes "port")
-        (field_then ⟦<u32 as Deserialize<'static>>⟧.faults ⟦<u32 as Deserialize<'static>>⟧.reads (codes "backlog")
-        (field_then ⟦<u64 as Deserialize<'static>>⟧.faults ⟦<u64 as Deserialize<'static>>⟧.reads (codes "timeout")
-        (field_then ⟦<Float as Deserialize<'static>>⟧.faults ⟦<Float as Deserialize<'static>>⟧.reads (codes "ratio")
-        (field_then ⟦<Vec<String> as Deserialize<'static>>⟧.faults ⟦<Vec<String> as Deserialize<'static>>⟧.reads (codes "tags")
-        (field_then ⟦<BTreeMap<String, u32> as Deserialize<'static>>⟧.faults ⟦<BTreeMap<String, u32> as Deserialize<'static>>⟧.reads (codes "limits")
-        (field_then ⟦<Color as Deserialize<'static>>⟧.faults ⟦<Color as Deserialize<'static>>⟧.reads (codes "color")
-        (optional_then ⟦<String as Deserialize<'static>>⟧.faults ⟦<String as Deserialize<'static>>⟧.reads (codes "log")
-        (optional_then ⟦<Value as Deserialize<'static>>⟧.faults ⟦<Value as Deserialize<'static>>⟧.reads (codes "note")
-        no_fault))))))))))))))) };
-
-    #[tactic(auto, using(basic_toml_typed::proofs::RecordsFail::in_turn))]
+    #[tactic(auto, using(basic_toml_typed::proofs::FieldsFound::child_at_number))]
     fn deserialize(alloc: Global, node: Node<'_, 'de>) -> Result<Service, Error> {
         Ok(Service {
             name: read_field(alloc, node, "name")?,
