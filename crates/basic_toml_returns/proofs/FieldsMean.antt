@@ -1,0 +1,152 @@
+-- A field is read at its row, and nothing else is that means something else.
+use Rattle.std.proofs.Common.{◌≡◌, ℕ, ◌==◌, Bool, true, false, not, ◌&&◌, ◌||◌, if◌then◌else◌, List, [], ◌∷◌, refl, sym}
+use Rattle.std.proofs.Common.{subst, ap, ◌∙◌, Option, Some, None, option_map, unwrap_or, arith}
+use Rattle.std.proofs.lemmas.Bool.{and_parts, or_parts}
+use Rattle.std.proofs.lemmas.Bool.Decides.{Decides-eqb}
+use Rattle.basic_toml_value.specs.Data.{Data, member}
+use Rattle.basic_toml_emit.specs.Items.{Item, an_absent, some_prefix}
+use Rattle.basic_toml_layout.specs.Written as w
+use Rattle.basic_toml_write.specs.Impls.{option_calls}
+use Rattle.basic_toml_write.specs.Spelling.{root, root_some, none}
+use Rattle.basic_toml_typed.specs.FieldKeys.{text_number, member_at, child_at}
+use Rattle.basic_toml_typed.specs.TypeReads.{field_reads, optional_reads, some_reads, maybe_reads}
+use Rattle.basic_toml_returns.specs.Means.{Means, Row, members_in, a_table, Same}
+use Rattle.basic_toml_returns.specs.Fields.{row_at, has_row, are_apart, Apart, SameAt, default_reads, FieldReads}
+use Rattle.basic_toml_returns.specs.Fields.{FieldOnce, DefaultReads, DefaultOnce, OptionReads, OptionOnce}
+
+-- ---- the row at a key
+
+none_at : (rows : List Row) (key : ℕ) → has_row rows key ≡ false → member_at (members_in rows) key ≡ None
+none_at [] key no = refl
+none_at ((name, None) ∷ rows) key no = none_at rows key (or_parts _ _ no).1
+none_at ((name, Some d) ∷ rows) key no =
+    let parts = or_parts (key == text_number name) (has_row rows key) no in rw parts.0 (none_at rows key parts.1)
+
+not_true : (b : Bool) → not b ≡ true → b ≡ false
+not_true true e = cc
+not_true false e = refl
+
+same_number : (key n : ℕ) → (key == n) ≡ true → key ≡ n
+same_number key n is = grind (arith, Decides-eqb key n, is)
+
+-- an absent row keeps no other from its key
+past_absent : (b : Bool) (key n : ℕ) (rows : List Row) → (key == n) ≡ b → has_row rows n ≡ false
+    → member_at (members_in rows) key ≡ row_at rows key
+    → member_at (members_in rows) key ≡ (if b then None else row_at rows key)
+past_absent true key n rows is no rest =
+    none_at rows key (subst (λ k. has_row rows k ≡ false) (sym (same_number key n is)) no)
+past_absent false key n rows is no rest = rest
+
+at_row : (rows : List Row) (key : ℕ) → are_apart rows ≡ true → member_at (members_in rows) key ≡ row_at rows key
+at_row [] key are = refl
+at_row ((name, None) ∷ rows) key are =
+    let parts = and_parts (not (has_row rows (text_number name))) (are_apart rows) are in
+    past_absent (key == text_number name) key (text_number name) rows refl
+    (not_true (has_row rows (text_number name)) parts.0) (at_row rows key parts.1)
+at_row ((name, Some d) ∷ rows) key are =
+    let parts = and_parts (not (has_row rows (text_number name))) (are_apart rows) are in
+    ap (λ (o : Option Data). if key == text_number name then Some d else o) (at_row rows key parts.1)
+
+found_at : (key : ℕ) (rows : List Row) (found : Option Data) → Apart rows → row_at rows key ≡ found
+    → child_at key (a_table rows) ≡ found
+unfolding Apart child_at a_table
+found_at key rows found are is = at_row rows key are ∙ is
+
+-- ---- the fields
+
+module _ {A : Type 0} (reads : Data → A → Type 0) (meant : A → Data) where
+  abbrev IsOnce : A → Type 0
+  IsOnce x = (other : A) → reads (meant x) other → Same (meant other) (meant x)
+
+  pub field_reads_it : (x : A) → reads (meant x) x → FieldReads reads meant x
+  unfolding field_reads
+  field_reads_it x read = record {
+    at_row = λ key rows are is.
+        subst (λ (o : Option Data). some_reads reads o x) (sym (found_at key rows (Some (meant x)) are is)) read;
+  }
+
+  pub field_once : (x : A) → IsOnce x → FieldOnce reads meant x
+  unfolding field_reads SameAt Same
+  field_once x once = record {
+    at_row = λ key rows y are is read.
+        let there : reads (meant x) y =
+        subst (λ (o : Option Data). some_reads reads o y) (found_at key rows (Some (meant x)) are is) read in
+        ap (λ d. Some d) (once y there);
+  }
+
+  pub default_reads_it : (default x : A) → reads (meant x) x → DefaultReads reads meant default x
+  unfolding default_reads optional_reads a_table
+  default_reads_it default x read = record {
+    at_row = λ key rows are is. (
+      Some x,
+      (refl, subst (λ (o : Option Data). maybe_reads reads o (Some x)) (sym (found_at key rows (Some (meant x)) are is)) read),
+      refl,
+    );
+  }
+
+  -- what stands there is read, and no default is taken
+  taken : (default x y : A) (found : Option A) → IsOnce x → maybe_reads reads (Some (meant x)) found
+      → y ≡ unwrap_or found default → Same (meant y) (meant x)
+  taken default x y None once read is = absurd read
+  taken default x y (Some z) once read is = subst (λ (v : A). Same (meant v) (meant x)) (sym is) (once z read)
+
+  pub default_once : (default x : A) → IsOnce x → DefaultOnce reads meant default x
+  unfolding default_reads optional_reads SameAt Same
+  default_once default x once = record {
+    at_row = λ key rows y are is read.
+        ap (λ d. Some d) (taken default x y read.0 once
+        (subst (λ (o : Option Data). maybe_reads reads o read.0) (found_at key rows (Some (meant x)) are is) read.1.0.1)
+        read.1.1);
+  }
+
+  -- an option
+
+  pub none_reads : OptionReads reads meant None
+  unfolding optional_reads a_table
+  none_reads = record {
+    at_row = λ key rows are is.
+        (refl, subst (λ (o : Option Data). maybe_reads reads o None) (sym (found_at key rows None are is)) tt);
+  }
+
+  pub some_reads_it : (x : A) → reads (meant x) x → OptionReads reads meant (Some x)
+  unfolding optional_reads a_table
+  some_reads_it x read = record {
+    at_row = λ key rows are is.
+        (refl, subst (λ (o : Option Data). maybe_reads reads o (Some x)) (sym (found_at key rows (Some (meant x)) are is)) read);
+  }
+
+  nothing_read : (y : Option A) → maybe_reads reads None y → option_map meant y ≡ None
+  nothing_read None read = refl
+  nothing_read (Some y) read = absurd read
+
+  pub none_once : OptionOnce reads meant None
+  unfolding optional_reads SameAt
+  none_once = record {
+    at_row = λ key rows y are is read.
+        nothing_read y (subst (λ (o : Option Data). maybe_reads reads o y) (found_at key rows None are is) read.1);
+  }
+
+  one_read : (x : A) → IsOnce x → (y : Option A) → maybe_reads reads (Some (meant x)) y
+      → option_map meant y ≡ Some (meant x)
+  unfolding Same
+  one_read x once None read = absurd read
+  one_read x once (Some y) read = ap (λ d. Some d) (once y read)
+
+  pub some_once : (x : A) → IsOnce x → OptionOnce reads meant (Some x)
+  unfolding optional_reads SameAt
+  some_once x once = record {
+    at_row = λ key rows y are is read.
+        one_read x once y (subst (λ (o : Option Data). maybe_reads reads o y) (found_at key rows (Some (meant x)) are is) read.1);
+  }
+
+module _ {A : Type 0} (calls : A → List Item) (meant : A → Data) where
+  pub none_means : Means (option_calls calls None) (option_map meant None)
+  none_means = record { value = w.absent; spelled = root none; whole = refl }
+
+  pub some_means : (x : A) → Means (calls x) (Some (meant x))
+      → Means (option_calls calls (Some x)) (option_map meant (Some x))
+  some_means x is = record { value = is.value; spelled = root_some is.spelled; whole = is.whole }
+
+pub ruleset fields_mean = (field_reads_it, field_once, default_reads_it, default_once)
+
+pub ruleset options_mean = (none_reads, some_reads_it, none_once, some_once, none_means, some_means)
