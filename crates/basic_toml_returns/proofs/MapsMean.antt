@@ -1,7 +1,7 @@
 -- A map of values that return returns.
 use Rattle.std.proofs.Common.{◌≡◌, ℕ, Bool, true, false, cond, ◌&&◌, List, [], ◌∷◌, ◌++◌, refl, sym, subst, ap, ◌∙◌, map}
-use Rattle.std.proofs.Common.{append_assoc, Option, Some, None, option_map, String, Global, string_bytes}
-use Rattle.std.specs.Prelude.{T}
+use Rattle.std.proofs.Common.{append_assoc, Option, Some, None, option_map, String, Global, string_bytes, string_cmp}
+use Rattle.std.proofs.Common.{Ordering, Less, is_eq, is_lt, nat_cmp, bytes_eq, T}
 use Rattle.std.specs.BTreeMap.{BTreeMap, get_by_text, is_at, IsOrdered}
 use Rattle.std.specs.Cmp.Lexicographic.{slice_cmp, nat_list_cmp_total}
 use Rattle.std.specs.FinMap.{FinMap, IsAntisymmetric, entries, entries-from_sorted, find, from_entries, from_sorted, get}
@@ -11,9 +11,6 @@ use Rattle.std.specs.FinMap.Entries.{below_all}
 use Rattle.std.specs.List.{AllByRecursion, flat_map}
 use Rattle.std.specs.List.Sorted.{IsStrictlySortedBy}
 use Rattle.std.specs.Map.{lookup}
-use Rattle.std.specs.Ordering.{Ordering, Less, is_eq, is_lt, nat_cmp, eq_by_cmp}
-use Rattle.std.specs.Str.{bytes_eq}
-use Rattle.std.specs.String.{string_cmp}
 use Rattle.std.proofs.lemmas.Map.Keys.{sorted_head, sorted_tail}
 use Rattle.std.proofs.lemmas.Map.Text.{is_eq-slice_cmp}
 use Rattle.basic_toml_value.specs.Data.{Data, Members, members_of, table}
@@ -41,7 +38,9 @@ exact = slice_cmp-IsAntisymmetric nat_cmp-IsAntisymmetric
 among_found : (ps : List (List ℕ × Data)) (key : List ℕ) → data_among (members_of ps) key ≡ find order key ps
 among_found [] key = refl
 among_found (p ∷ ps) key =
-    (λ i. cond (is_eq-slice_cmp key p.0 (~ i)) (Some p.1) (among_found ps key i))
+    let same : bytes_eq key p.0 ≡ is_eq (slice_cmp nat_cmp key p.0) = sym (is_eq-slice_cmp key p.0) in
+    let rest : data_among (members_of ps) key ≡ find order key ps = among_found ps key in
+    (λ i. cond (same i) (Some p.1) (rest i))
 
 module _ {A : Type 0} (meant : A → Data) where
   abbrev pairs_of : List (String Global × A) → List (List ℕ × Data)
