@@ -28,6 +28,12 @@ use Rattle.basic_toml_returns.specs.Means.{Means, Same, with_member}
 use Rattle.basic_toml_returns.specs.Returned.{Returned}
 use Rattle.basic_toml_returns.proofs.SpelledParts.{as_entry, kept_entry}
 
+-- what holds of the values holds of each entry's
+pub of_values : {A : Type 0} (P : A → Type 0) (es : List (String Global × A)) → AllByRecursion P (map (λ e. e.1) es)
+    → AllByRecursion (λ e. P e.1) es
+of_values P [] all = tt
+of_values P (e ∷ es) all = (all.0, of_values P es all.1)
+
 abbrev order : List ℕ → List ℕ → Ordering
 order = slice_cmp nat_cmp
 
