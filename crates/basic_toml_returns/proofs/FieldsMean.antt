@@ -18,12 +18,12 @@ use Rattle.basic_toml_returns.specs.Fields.{FieldOnce, DefaultReads, DefaultOnce
 
 none_at : (rows : List Row) (key : ℕ) → has_row rows key ≡ false → member_at (members_in rows) key ≡ None
 none_at [] key no = refl
-none_at ((name, None) ∷ rows) key no = none_at rows key (or_parts _ _ no).1
+none_at ((name, None) ∷ rows) key no = none_at rows key (or_parts (key == text_number name) (has_row rows key) no).1
 none_at ((name, Some d) ∷ rows) key no =
     let parts = or_parts (key == text_number name) (has_row rows key) no in rw parts.0 (none_at rows key parts.1)
 
 not_true : (b : Bool) → not b ≡ true → b ≡ false
-not_true true e = cc
+not_true true e = sym e
 not_true false e = refl
 
 same_number : (key n : ℕ) → (key == n) ≡ true → key ≡ n

@@ -146,14 +146,17 @@ module _ {A : Type 0} (calls : A → List Item) (reads : Data → A → Type 0) 
             ∙ ap (λ ps. Some (table (members_of ps))) (sym (as_they_stand meant m.entries ordered));
       }
 
+  read_by_test : (b : Bool) (x : A) (others : Option A) → reads (meant x) x
+      → maybe_reads reads (option_map meant others) others
+      → maybe_reads reads (option_map meant (cond b (Some x) others)) (cond b (Some x) others)
+  read_by_test true x others here rest = here
+  read_by_test false x others here rest = rest
+
   lookup_read : (test : String Global → Bool) (es : List (String Global × A)) → values_return es
       → maybe_reads reads (option_map meant (lookup test es)) (lookup test es)
   lookup_read test [] all = tt
-  lookup_read test (e ∷ es) all = at (test e.0)
-    where
-      at : (b : Bool) → maybe_reads reads (option_map meant (cond b (Some e.1) (lookup test es))) (cond b (Some e.1) (lookup test es))
-      at true = all.0.read
-      at false = lookup_read test es all.1
+  lookup_read test (e ∷ es) all =
+      read_by_test (test e.0) e.1 (lookup test es) all.0.read (lookup_read test es all.1)
 
   pub map_read : (m : BTreeMap (String Global) A) → values_return m.entries
       → map_reads reads (table (map_members meant m.entries)) m
@@ -172,15 +175,18 @@ module _ {A : Type 0} (calls : A → List Item) (reads : Data → A → Type 0) 
   one_read x None is read = absurd read
   one_read x (Some y) is read = ap (λ d. Some d) (is.once y read)
 
+  once_by_test : (b : Bool) (x : A) (others o : Option A) → Returned calls reads meant x
+      → (maybe_reads reads (option_map meant others) o → option_map meant o ≡ option_map meant others)
+      → maybe_reads reads (option_map meant (cond b (Some x) others)) o
+      → option_map meant o ≡ option_map meant (cond b (Some x) others)
+  once_by_test true x others o is rest read = one_read x o is read
+  once_by_test false x others o is rest read = rest read
+
   lookup_once : (test : String Global → Bool) (es : List (String Global × A)) (o : Option A) → values_return es
       → maybe_reads reads (option_map meant (lookup test es)) o → option_map meant o ≡ option_map meant (lookup test es)
   lookup_once test [] o all read = nothing_read o read
-  lookup_once test (e ∷ es) o all read = at (test e.0) read
-    where
-      at : (b : Bool) → maybe_reads reads (option_map meant (cond b (Some e.1) (lookup test es))) o
-          → option_map meant o ≡ option_map meant (cond b (Some e.1) (lookup test es))
-      at true read = one_read e.1 o all.0 read
-      at false read = lookup_once test es o all.1 read
+  lookup_once test (e ∷ es) o all read =
+      once_by_test (test e.0) e.1 (lookup test es) o all.0 (λ read. lookup_once test es o all.1 read) read
 
   pub map_once : (m other : BTreeMap (String Global) A) → values_return m.entries
       → map_reads reads (table (map_members meant m.entries)) other

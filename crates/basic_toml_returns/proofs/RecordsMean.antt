@@ -42,7 +42,7 @@ apart rows are = are
 rows_among : (names : List ℕ) (rows : List Row) → are_rows_among names rows ≡ true
     → are_listed names (members_in rows) ≡ true
 rows_among names [] among = refl
-rows_among names ((name, None) ∷ rows) among = rows_among names rows (and_parts _ _ among).1
+rows_among names ((name, None) ∷ rows) among = rows_among names rows (and_parts (is_some (position_among names name)) (are_rows_among names rows) among).1
 rows_among names ((name, Some d) ∷ rows) among =
     let parts = and_parts (is_some (position_among names name)) (are_rows_among names rows) among in
     let rest : are_listed names (members_in rows) ≡ true = rows_among names rows parts.1 in
