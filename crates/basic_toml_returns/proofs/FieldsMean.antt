@@ -11,8 +11,7 @@ use Rattle.basic_toml_write.specs.Spelling.{root, root_some, none}
 use Rattle.basic_toml_typed.specs.FieldKeys.{text_number, member_at, child_at}
 use Rattle.basic_toml_typed.specs.TypeReads.{field_reads, optional_reads, some_reads, maybe_reads}
 use Rattle.basic_toml_returns.specs.Means.{Means, Row, members_in, a_table, Same}
-use Rattle.basic_toml_returns.specs.Fields.{row_at, has_row, are_apart, Apart, SameAt, default_reads, FieldReads}
-use Rattle.basic_toml_returns.specs.Fields.{FieldOnce, DefaultReads, DefaultOnce, OptionReads, OptionOnce}
+use Rattle.basic_toml_returns.specs.Fields.{row_at, has_row, are_apart, Apart, SameAt, default_reads, ReturnsAt}
 
 -- ---- the row at a key
 
@@ -54,89 +53,79 @@ found_at key rows found are is = at_row rows key are ∙ is
 
 -- ---- the fields
 
+abbrev in_some : Data → Option Data
+in_some d = Some d
+
 module _ {A : Type 0} (reads : Data → A → Type 0) (meant : A → Data) where
+  abbrev some_meant : A → Option Data
+  some_meant x = Some (meant x)
+
   abbrev IsOnce : A → Type 0
   IsOnce x = (other : A) → reads (meant x) other → Same (meant other) (meant x)
 
-  pub field_reads_it : (x : A) → reads (meant x) x → FieldReads reads meant x
-  unfolding field_reads
-  field_reads_it x read = record {
-    at_row = λ key rows are is.
-        subst (λ (o : Option Data). some_reads reads o x) (sym (found_at key rows (Some (meant x)) are is)) read;
-  }
-
-  pub field_once : (x : A) → IsOnce x → FieldOnce reads meant x
+  pub field_returns : (x : A) → reads (meant x) x → IsOnce x → ReturnsAt (field_reads reads) some_meant x
   unfolding field_reads SameAt Same
-  field_once x once = record {
-    at_row = λ key rows y are is read.
-        let there : reads (meant x) y =
-        subst (λ (o : Option Data). some_reads reads o y) (found_at key rows (Some (meant x)) are is) read in
-        ap (λ d. Some d) (once y there);
-  }
-
-  pub default_reads_it : (default x : A) → reads (meant x) x → DefaultReads reads meant default x
-  unfolding default_reads optional_reads a_table
-  default_reads_it default x read = record {
-    at_row = λ key rows are is. (
-      Some x,
-      (refl, subst (λ (o : Option Data). maybe_reads reads o (Some x)) (sym (found_at key rows (Some (meant x)) are is)) read),
-      refl,
-    );
+  field_returns x read once = record {
+    read = λ key rows are is.
+        subst (λ (o : Option Data). some_reads reads o x) (sym (found_at key rows (Some (meant x)) are is)) read;
+    once = λ key rows y are is there.
+        ap in_some (once y (subst (λ (o : Option Data). some_reads reads o y)
+        (found_at key rows (Some (meant x)) are is) there));
   }
 
   -- what stands there is read, and no default is taken
   taken : (default x y : A) (found : Option A) → IsOnce x → maybe_reads reads (Some (meant x)) found
-      → y ≡ unwrap_or found default → Same (meant y) (meant x)
+      → y ≡ unwrap_or found default → some_meant y ≡ some_meant x
+  unfolding Same
   taken default x y None once read is = absurd read
-  taken default x y (Some z) once read is = subst (λ (v : A). Same (meant v) (meant x)) (sym is) (once z read)
+  taken default x y (Some z) once read is =
+      ap some_meant is ∙ ap in_some (once z read)
 
-  pub default_once : (default x : A) → IsOnce x → DefaultOnce reads meant default x
-  unfolding default_reads optional_reads SameAt Same
-  default_once default x once = record {
-    at_row = λ key rows y are is read.
-        ap (λ d. Some d) (taken default x y read.0 once
-        (subst (λ (o : Option Data). maybe_reads reads o read.0) (found_at key rows (Some (meant x)) are is) read.1.0.1)
-        read.1.1);
+  pub default_returns : (default x : A) → reads (meant x) x → IsOnce x
+      → ReturnsAt (default_reads reads default) some_meant x
+  unfolding default_reads optional_reads a_table SameAt
+  default_returns default x read once = record {
+    read = λ key rows are is. (
+      Some x,
+      (refl, subst (λ (o : Option Data). maybe_reads reads o (Some x)) (sym (found_at key rows (Some (meant x)) are is)) read),
+      refl,
+    );
+    once = λ key rows y are is there.
+        taken default x y there.0 once
+        (subst (λ (o : Option Data). maybe_reads reads o there.0) (found_at key rows (Some (meant x)) are is) there.1.0.1)
+        there.1.1;
   }
 
   -- an option
-
-  pub none_reads : OptionReads reads meant None
-  unfolding optional_reads a_table
-  none_reads = record {
-    at_row = λ key rows are is.
-        (refl, subst (λ (o : Option Data). maybe_reads reads o None) (sym (found_at key rows None are is)) tt);
-  }
-
-  pub some_reads_it : (x : A) → reads (meant x) x → OptionReads reads meant (Some x)
-  unfolding optional_reads a_table
-  some_reads_it x read = record {
-    at_row = λ key rows are is.
-        (refl, subst (λ (o : Option Data). maybe_reads reads o (Some x)) (sym (found_at key rows (Some (meant x)) are is)) read);
-  }
 
   nothing_read : (y : Option A) → maybe_reads reads None y → option_map meant y ≡ None
   nothing_read None read = refl
   nothing_read (Some y) read = absurd read
 
-  pub none_once : OptionOnce reads meant None
-  unfolding optional_reads SameAt
-  none_once = record {
-    at_row = λ key rows y are is read.
-        nothing_read y (subst (λ (o : Option Data). maybe_reads reads o y) (found_at key rows None are is) read.1);
-  }
-
   one_read : (x : A) → IsOnce x → (y : Option A) → maybe_reads reads (Some (meant x)) y
       → option_map meant y ≡ Some (meant x)
   unfolding Same
   one_read x once None read = absurd read
-  one_read x once (Some y) read = ap (λ d. Some d) (once y read)
+  one_read x once (Some y) read = ap in_some (once y read)
 
-  pub some_once : (x : A) → IsOnce x → OptionOnce reads meant (Some x)
-  unfolding optional_reads SameAt
-  some_once x once = record {
-    at_row = λ key rows y are is read.
-        one_read x once y (subst (λ (o : Option Data). maybe_reads reads o y) (found_at key rows (Some (meant x)) are is) read.1);
+  pub none_returns : ReturnsAt (optional_reads reads) (option_map meant) None
+  unfolding optional_reads a_table SameAt
+  none_returns = record {
+    read = λ key rows are is.
+        (refl, subst (λ (o : Option Data). maybe_reads reads o None) (sym (found_at key rows None are is)) tt);
+    once = λ key rows y are is there.
+        nothing_read y (subst (λ (o : Option Data). maybe_reads reads o y) (found_at key rows None are is) there.1);
+  }
+
+  pub some_returns : (x : A) → reads (meant x) x → IsOnce x
+      → ReturnsAt (optional_reads reads) (option_map meant) (Some x)
+  unfolding optional_reads a_table SameAt
+  some_returns x read once = record {
+    read = λ key rows are is.
+        (refl, subst (λ (o : Option Data). maybe_reads reads o (Some x)) (sym (found_at key rows (Some (meant x)) are is)) read);
+    once = λ key rows y are is there.
+        one_read x once y (subst (λ (o : Option Data). maybe_reads reads o y) (found_at key rows (Some (meant x)) are is)
+        there.1);
   }
 
 module _ {A : Type 0} (calls : A → List Item) (meant : A → Data) where
@@ -147,6 +136,6 @@ module _ {A : Type 0} (calls : A → List Item) (meant : A → Data) where
       → Means (option_calls calls (Some x)) (option_map meant (Some x))
   some_means x is = record { value = is.value; spelled = root_some is.spelled; whole = is.whole }
 
-pub ruleset fields_mean = (field_reads_it, field_once, default_reads_it, default_once)
+pub ruleset fields_mean = (field_returns, default_returns)
 
-pub ruleset options_mean = (none_reads, some_reads_it, none_once, some_once, none_means, some_means)
+pub ruleset options_mean = (none_returns, some_returns, none_means, some_means)

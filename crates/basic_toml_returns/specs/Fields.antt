@@ -1,15 +1,14 @@
--- What a field of a record leaves for the record: it is read at its row, and nothing else is that means something else.
--- (own)
+-- The rows of a record, and what a field leaves for its record. (own)
 use Rattle.std.specs.Prelude.{◌≡◌, ℕ, ◌==◌, Bool, true, false, not, ◌&&◌, ◌||◌, if◌then◌else◌, List, [], ◌∷◌}
-use Rattle.std.specs.Prelude.{Option, Some, None, option_map, unwrap_or, is_some}
+use Rattle.std.specs.Prelude.{Option, Some, None, unwrap_or, is_some}
 use Rattle.basic_toml_value.specs.Data.{Data}
 use Rattle.basic_toml_typed.specs.FieldKeys.{text_number, position_among}
-use Rattle.basic_toml_typed.specs.TypeReads.{field_reads, optional_reads}
+use Rattle.basic_toml_typed.specs.TypeReads.{optional_reads}
 use Rattle.basic_toml_returns.specs.Means.{Row, a_table}
 
 -- an optional field, with a value for a table that lacks the key
-unfoldable pub default_reads : {A : Type 0} → (Data → A → Type 0) → ℕ → A → Data → A → Type 0
-default_reads {A} reads key default d x =
+unfoldable pub default_reads : {A : Type 0} → (Data → A → Type 0) → A → ℕ → Data → A → Type 0
+default_reads {A} reads default key d x =
     (found : Option A) × optional_reads reads key d found × (x ≡ unwrap_or found default)
 
 -- what the rows have at a key, by its number
@@ -42,30 +41,9 @@ SameAt rows key read found = read ≡ found
 unfoldable pub SameRows : List Row → List Row → List Row → Type 0
 SameRows rows read found = read ≡ found
 
--- a field that must be there: it is read at its row
-pub record FieldReads {A : Type 0} (reads : Data → A → Type 0) (meant : A → Data) (x : A) : Type 0 where
-  pub at_row : (key : ℕ) (rows : List Row) → Apart rows → row_at rows key ≡ Some (meant x)
-      → field_reads reads key (a_table rows) x
-
--- and what is read there means the same
-pub record FieldOnce {A : Type 0} (reads : Data → A → Type 0) (meant : A → Data) (x : A) : Type 0 where
-  pub at_row : (key : ℕ) (rows : List Row) (y : A) → Apart rows → row_at rows key ≡ Some (meant x)
-      → field_reads reads key (a_table rows) y → SameAt rows key (Some (meant y)) (Some (meant x))
-
--- a field with a default
-pub record DefaultReads {A : Type 0} (reads : Data → A → Type 0) (meant : A → Data) (default x : A) : Type 0 where
-  pub at_row : (key : ℕ) (rows : List Row) → Apart rows → row_at rows key ≡ Some (meant x)
-      → default_reads reads key default (a_table rows) x
-
-pub record DefaultOnce {A : Type 0} (reads : Data → A → Type 0) (meant : A → Data) (default x : A) : Type 0 where
-  pub at_row : (key : ℕ) (rows : List Row) (y : A) → Apart rows → row_at rows key ≡ Some (meant x)
-      → default_reads reads key default (a_table rows) y → SameAt rows key (Some (meant y)) (Some (meant x))
-
--- a field that may be missing
-pub record OptionReads {A : Type 0} (reads : Data → A → Type 0) (meant : A → Data) (x : Option A) : Type 0 where
-  pub at_row : (key : ℕ) (rows : List Row) → Apart rows → row_at rows key ≡ option_map meant x
-      → optional_reads reads key (a_table rows) x
-
-pub record OptionOnce {A : Type 0} (reads : Data → A → Type 0) (meant : A → Data) (x : Option A) : Type 0 where
-  pub at_row : (key : ℕ) (rows : List Row) (y : Option A) → Apart rows → row_at rows key ≡ option_map meant x
-      → optional_reads reads key (a_table rows) y → SameAt rows key (option_map meant y) (option_map meant x)
+-- What a field leaves for its record, by how it is read at a key and what it means there: the value is read at its row,
+-- and whatever else is read there means the same.
+pub record ReturnsAt {A : Type 0} (reads : ℕ → Data → A → Type 0) (meant : A → Option Data) (x : A) : Type 0 where
+  pub read : (key : ℕ) (rows : List Row) → Apart rows → row_at rows key ≡ meant x → reads key (a_table rows) x
+  pub once : (key : ℕ) (rows : List Row) (y : A) → Apart rows → row_at rows key ≡ meant x
+      → reads key (a_table rows) y → SameAt rows key (meant y) (meant x)

@@ -1,7 +1,8 @@
 //! The fields of a record that returns.
 ghost use Rattle.std.specs.Prelude.{Some, option_map};
 ghost use Rattle.basic_toml_write.specs.Impls.{option_calls};
-ghost use Rattle.basic_toml_returns.specs.Fields.{DefaultOnce, DefaultReads, FieldOnce, FieldReads, OptionOnce, OptionReads};
+ghost use Rattle.basic_toml.specs.TypeReads.{field_reads, optional_reads};
+ghost use Rattle.basic_toml_returns.specs.Fields.{ReturnsAt, default_reads};
 ghost use Rattle.basic_toml_returns.specs.Means.{Means};
 
 use crate::Returns;
@@ -10,8 +11,7 @@ use crate::Returns;
 #[tactic(auto, using(crate::proofs::FieldsMean::fields_mean))]
 pub fn returns_field<'de, T: Returns<'de>>(value: &T)
     ensures means { Means (T.calls value.now) (Some (T.meant value.now)) }
-    ensures read { FieldReads T.reads T.meant value.now }
-    ensures once { FieldOnce T.reads T.meant value.now }
+    ensures returns { ReturnsAt (field_reads T.reads) (λ x. Some (T.meant x)) value.now }
 {
     value.returns();
 }
@@ -21,8 +21,7 @@ pub fn returns_field<'de, T: Returns<'de>>(value: &T)
 #[tactic(auto, using(crate::proofs::FieldsMean::fields_mean))]
 pub fn returns_or<'de, T: Returns<'de> + Drop>(value: &T, default: T)
     ensures means { Means (T.calls value.now) (Some (T.meant value.now)) }
-    ensures read { DefaultReads T.reads T.meant default value.now }
-    ensures once { DefaultOnce T.reads T.meant default value.now }
+    ensures returns { ReturnsAt (default_reads T.reads default) (λ x. Some (T.meant x)) value.now }
 {
     let _ = default;
     value.returns();
@@ -32,8 +31,7 @@ pub fn returns_or<'de, T: Returns<'de> + Drop>(value: &T, default: T)
 #[tactic(auto, using(crate::proofs::FieldsMean::options_mean))]
 pub fn returns_option<'de, T: Returns<'de>>(value: &Option<T>)
     ensures means { Means (option_calls T.calls value.now) (option_map T.meant value.now) }
-    ensures read { OptionReads T.reads T.meant value.now }
-    ensures once { OptionOnce T.reads T.meant value.now }
+    ensures returns { ReturnsAt (optional_reads T.reads) (option_map T.meant) value.now }
 {
     match value {
         None => {}

@@ -29,8 +29,8 @@ impl<'de> Deserialize<'de> for Settings {
     ghost reads = { λ d s.
         HasOnly (key_of "host" ∷ key_of "port" ∷ key_of "verbose" ∷ []) d
         × field_reads ⟦<String as Deserialize<'static>>⟧.reads (key_of "host") d s.host
-        × default_reads ⟦<u16 as Deserialize<'static>>⟧.reads (key_of "port") 8080 d s.port
-        × default_reads ⟦<bool as Deserialize<'static>>⟧.reads (key_of "verbose") false d s.verbose };
+        × default_reads ⟦<u16 as Deserialize<'static>>⟧.reads 8080 (key_of "port") d s.port
+        × default_reads ⟦<bool as Deserialize<'static>>⟧.reads false (key_of "verbose") d s.verbose };
 
     ghost faults = { only_these (codes "host" ∷ codes "port" ∷ codes "verbose" ∷ [])
         (in_field ⟦<String as Deserialize<'static>>⟧.faults ⟦<String as Deserialize<'static>>⟧.reads (codes "host")
