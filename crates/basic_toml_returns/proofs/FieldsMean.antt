@@ -16,10 +16,10 @@ use Rattle.basic_toml_returns.specs.Fields.{row_at, has_row, are_apart, Apart, S
 -- ---- the row at a key
 
 none_at : (rows : List Row) (key : ℕ) → has_row rows key ≡ false → member_at (members_in rows) key ≡ None
-none_at [] key no = refl
-none_at ((name, None) ∷ rows) key no = none_at rows key (or_parts (key == text_number name) (has_row rows key) no).1
-none_at ((name, Some d) ∷ rows) key no =
-    let parts = or_parts (key == text_number name) (has_row rows key) no in rw parts.0 (none_at rows key parts.1)
+none_at [] key missing = refl
+none_at ((name, None) ∷ rows) key missing = none_at rows key (or_parts (key == text_number name) (has_row rows key) missing).1
+none_at ((name, Some d) ∷ rows) key missing =
+    let parts = or_parts (key == text_number name) (has_row rows key) missing in rw parts.0 (none_at rows key parts.1)
 
 not_true : (b : Bool) → not b ≡ true → b ≡ false
 not_true true e = sym e
@@ -32,9 +32,9 @@ same_number key n is = grind (arith, Decides-eqb key n, is)
 past_absent : (b : Bool) (key n : ℕ) (rows : List Row) → (key == n) ≡ b → has_row rows n ≡ false
     → member_at (members_in rows) key ≡ row_at rows key
     → member_at (members_in rows) key ≡ (if b then None else row_at rows key)
-past_absent true key n rows is no rest =
-    none_at rows key (subst (λ k. has_row rows k ≡ false) (sym (same_number key n is)) no)
-past_absent false key n rows is no rest = rest
+past_absent true key n rows is missing rest =
+    none_at rows key (subst (λ k. has_row rows k ≡ false) (sym (same_number key n is)) missing)
+past_absent false key n rows is missing rest = rest
 
 at_row : (rows : List Row) (key : ℕ) → are_apart rows ≡ true → member_at (members_in rows) key ≡ row_at rows key
 at_row [] key are = refl
@@ -81,6 +81,11 @@ module _ {A : Type 0} (reads : Data → A → Type 0) (meant : A → Data) where
   taken default x y (Some z) once read is =
       ap some_meant is ∙ ap in_some (once z read)
 
+  taken_part : (key : ℕ) (rows : List Row) (found : Option A) → optional_reads reads key (a_table rows) found
+      → maybe_reads reads (child_at key (a_table rows)) found
+  unfolding optional_reads
+  taken_part key rows found part = part.1
+
   pub default_returns : (default x : A) → reads (meant x) x → IsOnce x
       → ReturnsAt (default_reads reads default) some_meant x
   unfolding default_reads optional_reads a_table SameAt
@@ -91,9 +96,11 @@ module _ {A : Type 0} (reads : Data → A → Type 0) (meant : A → Data) where
       refl,
     );
     once = λ key rows y are is there.
-        taken default x y there.0 once
-        (subst (λ (o : Option Data). maybe_reads reads o there.0) (found_at key rows (Some (meant x)) are is) there.1.0.1)
-        there.1.1;
+        let found : Option A = there.0 in
+        let part : optional_reads reads key (a_table rows) found × (y ≡ unwrap_or found default) = there.1 in
+        let held : maybe_reads reads (child_at key (a_table rows)) found = taken_part key rows found part.0 in
+        taken default x y found once
+        (subst (λ (o : Option Data). maybe_reads reads o found) (found_at key rows (Some (meant x)) are is) held) part.1;
   }
 
   -- an option
@@ -135,7 +142,3 @@ module _ {A : Type 0} (calls : A → List Item) (meant : A → Data) where
   pub some_means : (x : A) → Means (calls x) (Some (meant x))
       → Means (option_calls calls (Some x)) (option_map meant (Some x))
   some_means x is = record { value = is.value; spelled = root_some is.spelled; whole = is.whole }
-
-pub ruleset fields_mean = (field_returns, default_returns)
-
-pub ruleset options_mean = (none_returns, some_returns, none_means, some_means)
