@@ -81,11 +81,6 @@ module _ {A : Type 0} (reads : Data → A → Type 0) (meant : A → Data) where
   taken default x y (Some z) once read is =
       ap some_meant is ∙ ap in_some (once z read)
 
-  taken_part : (key : ℕ) (rows : List Row) (found : Option A) → optional_reads reads key (a_table rows) found
-      → maybe_reads reads (child_at key (a_table rows)) found
-  unfolding optional_reads
-  taken_part key rows found part = part.1
-
   pub default_returns : (default x : A) → reads (meant x) x → IsOnce x
       → ReturnsAt (default_reads reads default) some_meant x
   unfolding default_reads optional_reads a_table SameAt
@@ -96,11 +91,9 @@ module _ {A : Type 0} (reads : Data → A → Type 0) (meant : A → Data) where
       refl,
     );
     once = λ key rows y are is there.
-        let found : Option A = there.0 in
-        let part : optional_reads reads key (a_table rows) found × (y ≡ unwrap_or found default) = there.1 in
-        let held : maybe_reads reads (child_at key (a_table rows)) found = taken_part key rows found part.0 in
-        taken default x y found once
-        (subst (λ (o : Option Data). maybe_reads reads o found) (found_at key rows (Some (meant x)) are is) held) part.1;
+        taken default x y there.0 once
+        (subst (λ (o : Option Data). maybe_reads reads o there.0) (found_at key rows (Some (meant x)) are is) there.1.1)
+        there.2;
   }
 
   -- an option

@@ -21,7 +21,6 @@ fn elements_return<'de, T: Returns<'de>>(elements: &[T])
 impl<'de, T: Returns<'de> + Drop> Returns<'de> for Vec<T> {
     ghost meant = { λ xs. array (items_of (map T.meant xs.items)) };
 
-    #[tactic(auto, using(crate::proofs::ArraysMean::arrays_mean))]
     fn returns(&self) {
         elements_return(self.as_slice());
     }
@@ -31,7 +30,6 @@ impl<'de, T: Returns<'de> + Drop> Returns<'de> for Vec<T> {
 impl<'de, T: Returns<'de> + Drop> Returns<'de> for BTreeMap<String, T> {
     ghost meant = { λ m. table (map_members T.meant m.entries) };
 
-    #[tactic(auto, using(crate::proofs::MapsMean::maps_mean))]
     fn returns(&self) {
         for value in self.values() {
             value.returns();

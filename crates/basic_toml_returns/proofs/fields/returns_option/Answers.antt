@@ -19,10 +19,10 @@ returns-in-None-clause-returns g c =
 pub returns-in-Some-clause-means : goal.returns-in-Some-clause-means
 returns-in-Some-clause-means g c =
     subst (λ (o : Option _). Means (option_calls g.T.Serialize.calls o) (option_map g.T.Returns.meant o)) (sym c.in-Some.is)
-    (some_means g.T.Serialize.calls g.T.Returns.meant c.in-Some.held.now c.returns.ensures.means)
+    (some_means g.T.Serialize.calls g.T.Returns.meant c.in-Some.held c.returns.ensures.means)
 
 pub returns-in-Some-clause-returns : goal.returns-in-Some-clause-returns
 returns-in-Some-clause-returns g c =
     subst (λ (o : Option _). ReturnsAt (optional_reads g.T.Deserialize.reads) (option_map g.T.Returns.meant) o)
     (sym c.in-Some.is)
-    (some_returns g.T.Deserialize.reads g.T.Returns.meant c.in-Some.held.now c.returns.ensures.read c.returns.ensures.once)
+    (some_returns g.T.Deserialize.reads g.T.Returns.meant c.in-Some.held c.returns.ensures.read c.returns.ensures.once)
