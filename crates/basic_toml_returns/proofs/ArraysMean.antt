@@ -1,5 +1,5 @@
 -- A list of values that return returns.
-use Rattle.std.proofs.Common.{◌≡◌, ℕ, List, [], ◌∷◌, ◌++◌, refl, sym, subst, ap, ◌∙◌, map, append_assoc, Some, Vec, Global}
+use Rattle.std.proofs.Common.{◌≡◌, List, [], ◌∷◌, ◌++◌, refl, sym, subst, ap, map, append_assoc, Some, Vec, Global}
 use Rattle.std.specs.List.{AllByRecursion, flat_map}
 use Rattle.basic_toml_value.specs.Data.{Data, Items, array, item, items_of}
 use Rattle.basic_toml_layout.specs.Written as w

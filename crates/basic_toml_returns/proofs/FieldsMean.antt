@@ -1,10 +1,10 @@
 -- A field is read at its row, and nothing else is that means something else.
-use Rattle.std.proofs.Common.{◌≡◌, ℕ, ◌==◌, Bool, true, false, not, ◌&&◌, ◌||◌, if◌then◌else◌, List, [], ◌∷◌, refl, sym}
+use Rattle.std.proofs.Common.{◌≡◌, ℕ, ◌==◌, Bool, true, false, not, if◌then◌else◌, List, [], ◌∷◌, refl, sym}
 use Rattle.std.proofs.Common.{subst, ap, ◌∙◌, Option, Some, None, option_map, unwrap_or, arith}
 use Rattle.std.proofs.lemmas.Bool.{and_parts, or_parts}
 use Rattle.std.proofs.lemmas.Bool.Decides.{Decides-eqb}
-use Rattle.basic_toml_value.specs.Data.{Data, member}
-use Rattle.basic_toml_emit.specs.Items.{Item, an_absent, some_prefix}
+use Rattle.basic_toml_value.specs.Data.{Data}
+use Rattle.basic_toml_emit.specs.Items.{Item}
 use Rattle.basic_toml_layout.specs.Written as w
 use Rattle.basic_toml_write.specs.Impls.{option_calls}
 use Rattle.basic_toml_write.specs.Spelling.{root, root_some, none}

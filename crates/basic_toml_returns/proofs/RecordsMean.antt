@@ -1,5 +1,5 @@
 -- The rules by which a caller's record returns, field by field.
-use Rattle.std.proofs.Common.{◌≡◌, ℕ, true, List, [], ◌∷◌, refl, ap, ◌∙◌, Option, Some, is_some, ◌&&◌, Bool, None}
+use Rattle.std.proofs.Common.{◌≡◌, ℕ, true, List, [], ◌∷◌, refl, ap, ◌∙◌, Option, Some, is_some, ◌&&◌, None}
 use Rattle.std.proofs.lemmas.Bool.{and_parts}
 use Rattle.basic_toml_value.specs.Data.{Data}
 use Rattle.basic_toml_layout.specs.Written as w

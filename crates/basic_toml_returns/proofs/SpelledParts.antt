@@ -1,5 +1,5 @@
 -- What spells a value by itself spells it as a part of an array or a table.
-use Rattle.std.proofs.Common.{◌≡◌, ℕ, List, [], ◌∷◌, ◌++◌, refl, Option, Some, None}
+use Rattle.std.proofs.Common.{◌≡◌, ℕ, List, ◌++◌, refl, Option, Some}
 use Rattle.basic_toml_value.specs.Data.{Data}
 use Rattle.basic_toml_layout.specs.Written as w
 use Rattle.basic_toml_layout.specs.Written.{Written, Elements, element, Entries, entry}

@@ -1,5 +1,5 @@
 -- A value that is written and read as its own type means what was written.
-use Rattle.std.proofs.Common.{◌≡◌, ◌⊎◌, inl, inr, ℕ, List, false, refl, sym, ap, subst, ◌∙◌, Option, Some, Result, Ok, Err}
+use Rattle.std.proofs.Common.{◌≡◌, inl, inr, ℕ, List, refl, sym, ap, subst, ◌∙◌, Result, Ok, Err}
 use Rattle.std.proofs.Common.{string_bytes, String, Global}
 use Rattle.basic_toml_tokens.specs.Text.{folded}
 use Rattle.basic_toml_value.specs.Data.{Data, table}
@@ -11,14 +11,13 @@ use Rattle.basic_toml_tree.specs.declared.node.Node.{Node}
 use Rattle.basic_toml_write.proofs.LawsHold.{spells_at_most_one}
 use Rattle.basic_toml_write.specs.declared.error.WriteError.{WriteError}
 use Rattle.basic_toml_write.specs.Kept.{kept}
-use Rattle.basic_toml_write.specs.Spelling.{Spells}
 use Rattle.basic_toml_error.specs.Fault.{Fault, want_of_memory}
 use Rattle.basic_toml_error.specs.ReadFaults.{lined}
 use Rattle.basic_toml.specs.Reading.{ReadsText, value_read, no_memory, no_document, not_taken}
 use Rattle.basic_toml.specs.Ser.{Writes, MeansKept, IsTextOf}
 use Rattle.basic_toml.proofs.TextHasOneDocument.{one_document}
 use Rattle.basic_toml_returns.specs.Means.{Same}
-use Rattle.basic_toml_returns.specs.Returned.{Returned, IsReturned, ReturnsIt}
+use Rattle.basic_toml_returns.specs.Returned.{Returned, ReturnsIt}
 use Rattle.basic_toml_returns.proofs.SpelledParts.{kept_tree}
 
 module _ {A : Type 0} (calls : A → List Item) (gives_up : A → List Item → WriteError → Type 0)

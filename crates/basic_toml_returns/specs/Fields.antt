@@ -1,6 +1,6 @@
 -- The rows of a record, and what a field leaves for its record. (own)
 use Rattle.std.specs.Prelude.{◌≡◌, ℕ, ◌==◌, Bool, true, false, not, ◌&&◌, ◌||◌, if◌then◌else◌, List, [], ◌∷◌}
-use Rattle.std.specs.Prelude.{Option, Some, None, unwrap_or, is_some}
+use Rattle.std.specs.Prelude.{Option, None, unwrap_or, is_some}
 use Rattle.basic_toml_value.specs.Data.{Data}
 use Rattle.basic_toml_typed.specs.FieldKeys.{text_number, position_among}
 use Rattle.basic_toml_typed.specs.TypeReads.{optional_reads}

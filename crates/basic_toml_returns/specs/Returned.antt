@@ -1,5 +1,5 @@
 -- What returns: of a value, of the elements of a list, and of a value that is written and then read as its own type. (own)
-use Rattle.std.specs.Prelude.{◌≡◌, ◌⊎◌, ℕ, false, List, Option, Some, Result, IfOk, IfErr, MatchResult}
+use Rattle.std.specs.Prelude.{◌≡◌, ◌⊎◌, false, List, Some, Result, IfOk, IfErr, MatchResult}
 use Rattle.basic_toml_value.specs.Data.{Data}
 use Rattle.basic_toml_value.specs.Nesting.{nesting_limit}
 use Rattle.basic_toml_layout.specs.Written.{Written}

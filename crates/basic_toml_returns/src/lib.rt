@@ -28,7 +28,6 @@ mod fields;
 mod returns;
 mod root;
 mod scalars;
-mod trial;
 mod values;
 
 pub use fields::{returns_field, returns_option, returns_or};
