@@ -1,5 +1,7 @@
 use Rattle.std.proofs.Common.{◌∷◌, [], map, subst, sym}
+use Rattle.std.proofs.Common.{rules, string_cmp}
 use Rattle.std.proofs.lemmas.List.{map-append}
+use Rattle.std.specs.BTreeMap.{IsOrdered}
 use Rattle.std.specs.List.{AllByRecursion}
 use Rattle.std.specs.Map.{values_of}
 use Rattle.std.specs.Map.Iter.{deref}
@@ -23,7 +25,8 @@ loop-value-preserved g c =
 pub returns-clause-means : goal.returns-clause-means
 returns-clause-means g c =
     let P = Returned g.T.Serialize.calls g.T.Deserialize.reads g.T.Returns.meant in
-    map_means g.T.Serialize.calls g.T.Deserialize.reads g.T.Returns.meant c.args.self.now c.values.ensures.ordered
+    let ordered : IsOrdered string_cmp c.args.self.now = search rules in
+    map_means g.T.Serialize.calls g.T.Deserialize.reads g.T.Returns.meant c.args.self.now ordered
     (of_values P c.args.self.now.entries (subst (AllByRecursion P)
     (yields_end deref (values_of c.args.self.now.entries) c.loop-value.yielded c.loop-value.value-iterator c.next.new.self
     c.next.result c.next.ensures.steps c.loop-value.invariant.left c.in-None.is) c.loop-value.invariant.returned))
