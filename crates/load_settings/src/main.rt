@@ -5,8 +5,8 @@
 mod report;
 mod settings;
 
-use report::report;
 use basic_toml::Error;
+use report::report;
 use settings::{Settings, load, save_and_load};
 use std::alloc::Global;
 use std::io;
