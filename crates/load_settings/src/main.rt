@@ -1,12 +1,14 @@
-//! Loads settings from standard input and prints them. What is wrong goes to standard error, as
+//! Loads settings from standard input, saves them and loads them again, and prints them. What is wrong goes to standard error, as
 //! `stdin:LINE:COLUMN: message` where it has a place, and then the status is 1.
 #![tactic(auto)]
 
 mod report;
 mod settings;
 
+use basic_toml::Error;
 use report::report;
-use settings::load;
+use settings::{Settings, load, save_and_load};
+use std::alloc::Global;
 use std::io;
 use std::process::ExitCode;
 
@@ -18,9 +20,14 @@ fn main(rt: HostRuntime) -> io::Result<ExitCode> {
             return Ok(ExitCode::FAILURE);
         }
     };
-    match load(rt.alloc(), text.as_str()) {
+    match loaded_again(rt.alloc(), text.as_str()) {
         Ok(s) => println!(rt; "{}:{} verbose={}", s.host, s.port, s.verbose)?,
         Err(e) => return report(&rt, e),
     }
     Ok(ExitCode::SUCCESS)
+}
+
+// The settings of a text, once they were saved and loaded again.
+fn loaded_again(alloc: Global, text: &str) -> Result<Settings, Error> {
+    save_and_load(alloc, &load(alloc, text)?)
 }

@@ -4,5 +4,6 @@
 pub mod forms;
 pub mod readers;
 pub mod records;
+pub mod returned;
 pub mod types;
 pub mod writers;

@@ -1,0 +1,4 @@
+pub mod Means
+pub mod Fields
+pub mod Maps
+pub mod Returned

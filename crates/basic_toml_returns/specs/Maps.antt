@@ -1,0 +1,14 @@
+-- What a map means: each value at its key, in the order of the keys. (own)
+use Rattle.std.specs.Prelude.{ℕ, List, map, String, string_bytes}
+use Rattle.std.specs.Cmp.Lexicographic.{slice_cmp}
+use Rattle.std.specs.FinMap.{entries, from_entries}
+use Rattle.std.specs.Ordering.{nat_cmp}
+use Rattle.std.specs.declared.alloc.Global.{Global}
+use Rattle.basic_toml_value.specs.Data.{Data, Members, members_of}
+
+-- what the entries mean, each key once and in order, as the entries of a map are
+abbrev pub meant_entries : {A : Type 0} → (A → Data) → List (String Global × A) → List (List ℕ × Data)
+meant_entries meant es = entries (from_entries {R = slice_cmp nat_cmp} (map (λ e. (string_bytes e.0, meant e.1)) es))
+
+abbrev pub map_members : {A : Type 0} → (A → Data) → List (String Global × A) → Members
+map_members meant es = members_of (meant_entries meant es)

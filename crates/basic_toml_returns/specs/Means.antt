@@ -1,0 +1,55 @@
+-- What a value means: the data that a text holds for its calls, absent options left out; and the words by which a caller's
+-- record says what it means, as `a_table (a_member name data (maybe_member name option no_more))`. (own)
+use Rattle.std.specs.Prelude.{◌≡◌, ℕ, List, [], ◌∷◌, Option, Some, None}
+use Rattle.basic_toml_value.specs.Data.{Data, Members, no_members, member}
+use Rattle.basic_toml_layout.specs.Written.{Written, absent, Entries}
+use Rattle.basic_toml_layout.specs.Trees.{tree_of, entry_trees}
+use Rattle.basic_toml_emit.specs.Items.{Item}
+use Rattle.basic_toml_write.specs.Kept.{kept, kept_entries}
+use Rattle.basic_toml_write.specs.Spelling.{Spells, AreEntries}
+
+-- the data of an entry: none where it is absent
+abbrev pub entry_data : Written → Option Data
+entry_data absent = None
+entry_data value = Some (tree_of (kept value))
+
+-- the calls spell a value, and these data are kept of it as an entry
+pub record Means (calls : List Item) (data_kept : Option Data) : Type 0 where
+  pub value : Written
+  pub spelled : Spells calls value
+  pub whole : entry_data value ≡ data_kept
+
+-- Of a record: each name, and the data under it, if there are any.
+abbrev pub Row : Type 0
+Row = List ℕ × Option Data
+
+abbrev pub a_member : List ℕ → Data → List Row → List Row
+a_member name d rest = (name, Some d) ∷ rest
+
+abbrev pub maybe_member : List ℕ → Option Data → List Row → List Row
+maybe_member name found rest = (name, found) ∷ rest
+
+abbrev pub no_more : List Row
+no_more = []
+
+abbrev pub with_member : List ℕ → Option Data → Members → Members
+with_member name None members = members
+with_member name (Some d) members = member name d members
+
+abbrev pub members_in : List Row → Members
+members_in [] = no_members
+members_in (row ∷ rows) = with_member row.0 row.1 (members_in rows)
+
+-- The table of a record. Closed: a proof goes by what is said of the word, and never through the members.
+unfoldable pub a_table : List Row → Data
+a_table rows = Data.table (members_in rows)
+
+-- the calls are the entries of a table and its end, and these rows are kept of them
+pub record MeansRows (calls : List Item) (rows : List Row) : Type 0 where
+  pub held : Entries
+  pub spelled : AreEntries calls held []
+  pub whole : entry_trees (kept_entries held) ≡ members_in rows
+
+-- Data that are the same. Closed, so that a record is compared row by row.
+unfoldable pub Same : Data → Data → Type 0
+Same d e = d ≡ e
