@@ -93,7 +93,7 @@ def laid_out(tree, sources):
 
 
 def ours(name, sources, level):
-    """Builds a program over `basic_toml_serde` of these files of its src/, without proofs; level is `-O0` or `-O3`."""
+    """Builds a program over `basic_toml_serde` of these files of its src/, without proofs; level is `-O0` or `-inline`."""
     program = os.path.join(OUT, name + level)
     libraries_below = libraries()
     files = {**sources_of(libraries_below), **{f"crates/{name}/src/{file}": text for file, text in sources.items()}}
@@ -107,7 +107,7 @@ def ours(name, sources, level):
     laid_out(tree, files)
     unchecked = os.path.join(TOP, "tools", "bench", "unchecked.py")
     words = [sys.executable, unchecked, os.path.join(tree, "crates", name), program]
-    built = subprocess.run(words + [level] * (level == "-O0"), stdout=subprocess.PIPE, stderr=subprocess.STDOUT)
+    built = subprocess.run(words + [level], stdout=subprocess.PIPE, stderr=subprocess.STDOUT)
     if built.returncode or not os.path.exists(program):
         sys.exit(built.stdout.decode(errors="replace")[-4000:] + f"\n{name} is not built")
     with open(program + ".key", "w") as file:
