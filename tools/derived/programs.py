@@ -93,7 +93,7 @@ def laid_out(tree, sources):
 
 
 def ours(name, sources, level):
-    """Builds a program over `basic_toml_serde` of these files of its src/, without proofs; level is `-O0` or `-inline`."""
+    """Builds a program over `basic_toml_serde` of these files of its src/, without proofs, by `-O0` or `-inline`."""
     program = os.path.join(OUT, name + level)
     libraries_below = libraries()
     files = {**sources_of(libraries_below), **{f"crates/{name}/src/{file}": text for file, text in sources.items()}}
@@ -136,7 +136,8 @@ def theirs(name, sources, basic_toml):
         if not has_package(package):
             if os.environ.get("NO_APT"):
                 sys.exit(f"no package {package}")
-            subprocess.run(["apt-get", "install", "-y", "--no-install-recommends", package], stdout=sys.stderr, check=True)
+            words = ["apt-get", "install", "-y", "--no-install-recommends", package]
+            subprocess.run(words, stdout=sys.stderr, check=True)
     folder = os.path.join(OUT, "rust", name)
     shutil.rmtree(folder, ignore_errors=True)
     shutil.copytree(os.path.join(basic_toml, "src"), os.path.join(folder, "basic-toml", "src"))
@@ -146,7 +147,8 @@ def theirs(name, sources, basic_toml):
                       'basic-toml = { path = "basic-toml" }\n',
         "basic-toml/Cargo.toml": '[package]\nname = "basic-toml"\nversion = "0.1.10"\nedition = "2021"\n'
                                  '[dependencies]\nserde = "1"\n',
-        ".cargo/config.toml": f'[source.crates-io]\nreplace-with = "debian"\n[source.debian]\ndirectory = "{REGISTRY}"\n',
+        ".cargo/config.toml": '[source.crates-io]\nreplace-with = "debian"\n[source.debian]\n'
+                              f'directory = "{REGISTRY}"\n',
         **{"src/" + file: of_rust(text) for file, text in sources.items()},
     })
     words = ["cargo", "build", "--release", "--offline", "--quiet"]
