@@ -92,22 +92,22 @@ def laid_out(tree, sources):
             written(tree, {name: text})
 
 
-def ours(name, sources, level):
-    """Builds a program over `basic_toml_serde` of these files of its src/, without proofs; level is `-O0` or `-O3`."""
-    program = os.path.join(OUT, name + level)
+def ours(name, sources, *level):
+    """Builds a program over `basic_toml_serde` of these files of its src/, without proofs, `-O0` or optimized."""
+    program = os.path.join(OUT, name + "".join(level))
     libraries_below = libraries()
     files = {**sources_of(libraries_below), **{f"crates/{name}/src/{file}": text for file, text in sources.items()}}
     with open(os.path.join(TOP, "crates.txt"), encoding="utf-8") as lines:
         listed = [line for line in lines if line.partition(":")[0] in libraries_below]
     files["crates.txt"] = "".join(listed) + f"{name}: basic_toml_serde basic_toml serde\n"
-    key = key_of(files, level)
+    key = key_of(files, *level)
     if is_newest(program, key):
         return program
     tree = os.path.join(OUT, name)
     laid_out(tree, files)
     unchecked = os.path.join(TOP, "tools", "bench", "unchecked.py")
     words = [sys.executable, unchecked, os.path.join(tree, "crates", name), program]
-    built = subprocess.run(words + [level] * (level == "-O0"), stdout=subprocess.PIPE, stderr=subprocess.STDOUT)
+    built = subprocess.run(words + [*level], stdout=subprocess.PIPE, stderr=subprocess.STDOUT)
     if built.returncode or not os.path.exists(program):
         sys.exit(built.stdout.decode(errors="replace")[-4000:] + f"\n{name} is not built")
     with open(program + ".key", "w") as file:
@@ -136,7 +136,8 @@ def theirs(name, sources, basic_toml):
         if not has_package(package):
             if os.environ.get("NO_APT"):
                 sys.exit(f"no package {package}")
-            subprocess.run(["apt-get", "install", "-y", "--no-install-recommends", package], stdout=sys.stderr, check=True)
+            words = ["apt-get", "install", "-y", "--no-install-recommends", package]
+            subprocess.run(words, stdout=sys.stderr, check=True)
     folder = os.path.join(OUT, "rust", name)
     shutil.rmtree(folder, ignore_errors=True)
     shutil.copytree(os.path.join(basic_toml, "src"), os.path.join(folder, "basic-toml", "src"))
@@ -146,7 +147,8 @@ def theirs(name, sources, basic_toml):
                       'basic-toml = { path = "basic-toml" }\n',
         "basic-toml/Cargo.toml": '[package]\nname = "basic-toml"\nversion = "0.1.10"\nedition = "2021"\n'
                                  '[dependencies]\nserde = "1"\n',
-        ".cargo/config.toml": f'[source.crates-io]\nreplace-with = "debian"\n[source.debian]\ndirectory = "{REGISTRY}"\n',
+        ".cargo/config.toml": '[source.crates-io]\nreplace-with = "debian"\n[source.debian]\n'
+                              f'directory = "{REGISTRY}"\n',
         **{"src/" + file: of_rust(text) for file, text in sources.items()},
     })
     words = ["cargo", "build", "--release", "--offline", "--quiet"]

@@ -20,7 +20,10 @@ def unescaped(said):
     for found in ESCAPE.finditer(said):
         made += said[at:found.start()].encode()
         code, byte, plain = found.groups()
-        made += chr(int(code, 16)).encode() if code else bytes([int(byte, 16)]) if byte else PLAIN.get(plain, plain.encode())
+        if code:
+            made += chr(int(code, 16)).encode()
+        else:
+            made += bytes([int(byte, 16)]) if byte else PLAIN.get(plain, (plain or "").encode())
         at = found.end()
     return made + said[at:].encode()
 
@@ -91,4 +94,5 @@ def built(basic_toml, rows):
 
 
 def all_rows():
-    return [row for file in sorted(os.listdir(ROWS)) if file.endswith(".rows") for row in rows_of(os.path.join(ROWS, file))]
+    files = sorted(file for file in os.listdir(ROWS) if file.endswith(".rows"))
+    return [row for file in files for row in rows_of(os.path.join(ROWS, file))]
