@@ -34,7 +34,9 @@ part_of_data part pairs key = go (value_at pairs key) ∙ ap (option_and_then pa
 -- `==` answers true exactly where the data are equal
 pub equal_data : (left right : List (List ℕ × Value))
     → IsTrue (members_eq (entries left) (entries right)) ↔ (entries left ≡ entries right)
-equal_data left right = (λ is. members_eq_same (entries left) (entries right) is,
-    λ same. subst (λ m. members_eq (entries left) m ≡ true) same (members_eq-same (entries left)))
+equal_data left right = (
+  λ is. members_eq_same (entries left) (entries right) is,
+  λ same. subst (λ m. members_eq (entries left) m ≡ true) same (members_eq-same (entries left)),
+)
 
 pub ruleset tables_hold = (get_is_data, part_of_data, equal_data)
