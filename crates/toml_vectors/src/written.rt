@@ -1,12 +1,10 @@
-// What is written of records and of other forms, and what records are read back.
-use basic_toml::{Float, from_str, to_string};
-use basic_toml_returns::write_then_read;
+// What is written of records and of other forms.
+use basic_toml::{Float, to_string};
 use std::alloc::{AllocError, Global};
 use std::collections::BTreeMap;
 use std::test::Fail;
 use toml_callers::forms::{Entry, Point, Present, Wrapper};
 use toml_callers::records::{Choice, Job, Rule, Server};
-use toml_callers::types::{Color, Service};
 
 fn rule(alloc: Global, pattern: &str, limit: u32) -> Result<Rule, AllocError> {
     let pattern = String::from_str(alloc, pattern)?;
@@ -108,27 +106,5 @@ fn writes_other_forms(rt: HostRuntime) -> Result<(), Fail> {
         to_string(alloc, &Present(Wrapper(entry)))?.as_str(),
         "\"a b\" = [[1, \"one\"]]\n"
     );
-    Ok(())
-}
-
-#[test]
-fn records_return(rt: HostRuntime) -> Result<(), Fail> {
-    let alloc = rt.alloc();
-    let server = write_then_read(alloc, &server(alloc)?)?;
-    assert!(rt; server.verbose && server.backup.is_none());
-    assert_eq!(rt; server.port, Some(80));
-    assert_eq!(rt; server.host_name.as_str(), "localhost");
-    assert_eq!(rt; server.rules.len(), 2);
-    assert_eq!(rt; server.rules[1].limit, 120);
-    let text = "name = 'a'\nenabled = true\npriority = -1\noffset = -2\nlevel = -3\nbalance = -4\n\
-                retries = 1\nport = 2\nbacklog = 3\ntimeout = 4\nratio = 0.5\ntags = ['x', 'y']\n\
-                limits.memory = 5\ncolor = 'blue'\nlog = 'z'\n";
-    let first: Service = from_str(alloc, text)?;
-    let service = write_then_read(alloc, &first)?;
-    assert_eq!(rt; service.balance, -4);
-    assert_eq!(rt; service.ratio.as_str(), "0.5");
-    assert_eq!(rt; service.limits.get("memory"), Some(&5));
-    assert_eq!(rt; service.color, Color::Blue);
-    assert!(rt; service.log.is_some() && service.note.is_none());
     Ok(())
 }
