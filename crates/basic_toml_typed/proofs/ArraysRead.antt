@@ -1,6 +1,6 @@
 -- Reading the elements of an array, one after another.
-use Rattle.std.proofs.Common.{◌≡◌, ◌⊎◌, inl, inr, ℕ, zero, suc, ◌+◌, true, false, List, [], ◌∷◌, ◌++◌, Vec, Global, IsTrue}
-use Rattle.std.proofs.Common.{refl, sym, subst, ap, ◌∙◌, take, drop, Option, Some, None, codes}
+use Rattle.std.proofs.Common.{◌≡◌, inl, inr, ℕ, zero, suc, false, List, [], ◌∷◌, ◌++◌, Vec, Global, IsTrue}
+use Rattle.std.proofs.Common.{refl, sym, subst, ap, ◌∙◌, take, drop, Some, codes}
 use Rattle.std.specs.Prelude.{slice_get}
 use Rattle.std.proofs.lemmas.List.{append-nil, append_assoc, append_cancel_right, take-append-drop}
 use Rattle.basic_toml_value.specs.Data.{Data, integer, float, boolean, string, array, table}

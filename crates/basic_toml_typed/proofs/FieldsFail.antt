@@ -1,6 +1,6 @@
 -- Why a field is not read, and that one is.
-use Rattle.std.proofs.Common.{◌≡◌, ◌⊎◌, inl, inr, ℕ, true, false, List, Some, None, IsTrue, Option, codes, sym, subst, refl}
-use Rattle.std.proofs.Common.{Result, Ok, Err, IfOk, IfErr}
+use Rattle.std.proofs.Common.{◌≡◌, inl, inr, ℕ, false, List, Some, None, IsTrue, Option, codes, sym, subst, refl}
+use Rattle.std.proofs.Common.{Result, Ok, Err, IfOk}
 use Rattle.basic_toml_value.specs.Data.{Data}
 use Rattle.basic_toml_tree.specs.declared.node.Node.{Node}
 use Rattle.basic_toml_tree.specs.Nodes.{node_data, is_table, data_at}
@@ -8,7 +8,7 @@ use Rattle.basic_toml_tree.specs.Stands.{AtKey}
 use Rattle.basic_toml_error.specs.Fault.{Fault, custom}
 use Rattle.basic_toml_error.specs.NodeFaults.{IsFault, fault_at, missing_message}
 use Rattle.basic_toml_typed.specs.FieldKeys.{text_number, child_at}
-use Rattle.basic_toml_typed.specs.FieldFaults.{IsField, field_fails, optional_fails, field_taken, optional_taken}
+use Rattle.basic_toml_typed.specs.FieldFaults.{field_fails, optional_fails, field_taken, optional_taken}
 use Rattle.basic_toml_typed.specs.TypeAnswers.{OrMemory}
 use Rattle.basic_toml_typed.specs.TypeFaults.{wrong_type}
 use Rattle.basic_toml_typed.specs.TypeReads.{field_reads, optional_reads, some_reads, maybe_reads}

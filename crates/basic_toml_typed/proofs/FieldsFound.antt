@@ -1,5 +1,5 @@
 -- What stands at a text's number stands at the text.
-use Rattle.std.proofs.Common.{◌≡◌, ℕ, List, [], ◌∷◌, refl, arith, Some, None}
+use Rattle.std.proofs.Common.{◌≡◌, ℕ, List, refl}
 use Rattle.basic_toml_value.specs.Data.{Data, Members, no_members, member}
 use Rattle.basic_toml_tree.specs.Nodes.{data_at, data_among}
 use Rattle.basic_toml_typed.specs.FieldKeys.{text_number, member_at, child_at}

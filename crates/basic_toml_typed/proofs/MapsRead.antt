@@ -1,5 +1,5 @@
 -- Reading the entries of a table, one after another.
-use Rattle.std.proofs.Common.{◌≡◌, ◌⊎◌, inl, inr, ℕ, zero, suc, ◌+◌, true, false, List, [], ◌∷◌, ◌++◌, Global, IsTrue}
+use Rattle.std.proofs.Common.{◌≡◌, inl, inr, ℕ, zero, suc, true, false, List, [], ◌∷◌, ◌++◌, Global, IsTrue}
 use Rattle.std.proofs.Common.{Option, Some, None, String, refl, sym, subst, ap, ◌∙◌, arith, map, cond, Bool, Bor}
 use Rattle.std.proofs.Common.{take, drop, length, length-drop, codes}
 use Rattle.std.specs.Str.{bytes_eq}

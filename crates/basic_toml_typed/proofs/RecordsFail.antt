@@ -1,5 +1,5 @@
 -- Which fault a record has: that of the first of its reads that fails.
-use Rattle.std.proofs.Common.{◌≡◌, ◌⊎◌, inl, inr, ℕ, List, Option, Some, None, MatchOption, IfSome, sym, subst, ◌∙◌}
+use Rattle.std.proofs.Common.{◌≡◌, inl, inr, ℕ, List, Option, Some, None, MatchOption, IfSome, sym, subst, ◌∙◌}
 use Rattle.std.proofs.Common.{Result, Ok, Err, IfErr}
 use Rattle.std.specs.Result.{IsErrAnd}
 use Rattle.std.specs.Option.{unwrap_or}
@@ -9,7 +9,7 @@ use Rattle.basic_toml_tree.specs.Nodes.{node_data, data_at}
 use Rattle.basic_toml_tree.specs.Stands.{AtKey}
 use Rattle.basic_toml_error.specs.Fault.{Fault}
 use Rattle.basic_toml_typed.specs.FieldFaults.{FailsOr, at_field}
-use Rattle.basic_toml_typed.specs.FieldKeys.{text_number, child_at}
+use Rattle.basic_toml_typed.specs.FieldKeys.{text_number}
 use Rattle.basic_toml_typed.specs.TypeAnswers.{OrMemory}
 use Rattle.basic_toml_typed.specs.TypeReads.{field_reads, some_reads}
 use Rattle.basic_toml_typed.proofs.FieldsFound.{child_at_number}

@@ -1,7 +1,7 @@
 -- Which variant a string names, and why one names none.
-use Rattle.std.proofs.Common.{◌≡◌, ℕ, ◌+◌, ◌<◌, Bool, true, false, List, [], ◌∷◌, length, refl, sym, ◌∙◌, ap, codes}
-use Rattle.std.proofs.Common.{Option, Some, None, is_some, IsSome, arith, Bor, map, inl, inr}
-use Rattle.std.specs.List.{position, position_or_len}
+use Rattle.std.proofs.Common.{◌≡◌, ℕ, ◌<◌, true, false, List, [], ◌∷◌, length, refl, sym, ◌∙◌, ap, codes}
+use Rattle.std.proofs.Common.{Some, None, is_some, Bor, inl, inr}
+use Rattle.std.specs.List.{position}
 use Rattle.std.specs.Str.{bytes_eq}
 use Rattle.std.proofs.lemmas.List.Quantifiers.{position-Some}
 use Rattle.basic_toml_value.specs.Keys.{is_among}

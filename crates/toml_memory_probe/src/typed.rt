@@ -1,8 +1,6 @@
 //! Reading types of a caller's own.
-ghost use Rattle.std.specs.Prelude.{◌∷◌, [], codes};
-ghost use Rattle.basic_toml.specs.FieldFaults.{field_then, only_then, optional_then};
+ghost use Rattle.std.specs.Prelude.{◌∷◌, []};
 ghost use Rattle.basic_toml.specs.FieldKeys.{key_of};
-ghost use Rattle.basic_toml.specs.TypeAnswers.{no_fault};
 ghost use Rattle.basic_toml.specs.TypeReads.{HasOnly, array_reads, field_reads, map_reads, optional_reads};
 
 use crate::show::show_error;
@@ -33,15 +31,6 @@ impl<'de> Deserialize<'de> for Package {
         × field_reads (map_reads ⟦<i64 as Deserialize<'static>>⟧.reads) (key_of "limits") d p.limits
         × optional_reads ⟦<String as Deserialize<'static>>⟧.reads (key_of "license") d p.license };
 
-    ghost faults = { only_then (codes "name" ∷ codes "level" ∷ codes "authors" ∷ codes "limits" ∷ codes "license" ∷ [])
-        (field_then ⟦<String as Deserialize<'static>>⟧.faults ⟦<String as Deserialize<'static>>⟧.reads (codes "name")
-        (field_then ⟦<u8 as Deserialize<'static>>⟧.faults ⟦<u8 as Deserialize<'static>>⟧.reads (codes "level")
-        (field_then ⟦<Vec<String> as Deserialize<'static>>⟧.faults ⟦<Vec<String> as Deserialize<'static>>⟧.reads (codes "authors")
-        (field_then ⟦<BTreeMap<String, i64> as Deserialize<'static>>⟧.faults ⟦<BTreeMap<String, i64> as Deserialize<'static>>⟧.reads (codes "limits")
-        (optional_then ⟦<String as Deserialize<'static>>⟧.faults ⟦<String as Deserialize<'static>>⟧.reads (codes "license")
-        no_fault))))) };
-
-    #[tactic(auto, using(basic_toml_typed::proofs::RecordsFail::in_turn))]
     fn deserialize(alloc: Global, node: Node<'_, 'de>) -> Result<Package, Error> {
         only_fields(
             alloc,

@@ -10,17 +10,11 @@ struct Held {
 }
 
 impl<'de> Deserialize<'de> for Held {
-    ghost use Rattle.std.specs.Prelude.{◌≡◌, false};
-    ghost use Rattle.basic_toml.specs.Fault.{unsupported_type, without_offset};
-    ghost use Rattle.basic_toml.specs.Nodes.{node_data, is_table};
     ghost use Rattle.basic_toml_typed.specs.TypeReads.{table_reads, table_takes};
 
     ghost reads = { λ d held. table_reads d held.table };
 
     ghost takes = { table_takes };
-
-    ghost faults = { λ node fault.
-        (is_table (node_data node) ≡ false) × (fault ≡ without_offset unsupported_type) };
 
     fn deserialize(alloc: Global, node: Node<'_, 'de>) -> Result<Held, Error> {
         match node.to_table(alloc)? {

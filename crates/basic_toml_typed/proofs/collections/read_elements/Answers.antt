@@ -1,5 +1,4 @@
-use Rattle.std.proofs.Common.{rules, IfErr}
-use Rattle.basic_toml_tree.specs.Nodes.{node_data}
+use Rattle.std.proofs.Common.{rules}
 use Rattle.basic_toml_typed.proofs.ArraysRead.{one_read, all_read, element_refused, element_fails}
 use Rattle.basic_toml_typed.proofs.collections.read_elements.Goals as goal
 

@@ -1,5 +1,4 @@
-use Rattle.std.proofs.Common.{rules, IfErr}
-use Rattle.basic_toml_tree.specs.Nodes.{node_data}
+use Rattle.std.proofs.Common.{rules}
 use Rattle.basic_toml_typed.proofs.MapsRead.{none_read, entry_read, entry_refused, entry_fails}
 use Rattle.basic_toml_typed.proofs.collections.read_entries.Goals as goal
 

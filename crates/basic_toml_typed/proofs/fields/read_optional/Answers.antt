@@ -1,4 +1,4 @@
-use Rattle.std.proofs.Common.{rules, arith}
+use Rattle.std.proofs.Common.{rules}
 use Rattle.basic_toml_tree.specs.Nodes.{node_data}
 use Rattle.basic_toml_typed.proofs.FieldsFail.{taken_there, taken_absent}
 use Rattle.basic_toml_typed.proofs.fields.read_optional.Goals as goal
