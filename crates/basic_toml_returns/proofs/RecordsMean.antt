@@ -2,7 +2,7 @@
 use Rattle.std.proofs.Common.{◌≡◌, ℕ, true, List, [], ◌∷◌, refl, ap, ◌∙◌, Option, Some, is_some, ◌&&◌, None}
 use Rattle.std.proofs.lemmas.Bool.{and_parts}
 use Rattle.basic_toml_value.specs.Data.{Data}
-use Rattle.basic_toml_layout.specs.Written as w
+use Rattle.basic_toml_layout.specs.Written as written
 use Rattle.basic_toml_emit.specs.Items.{Item}
 use Rattle.basic_toml_write.specs.Parts.{an_opening, a_part, a_record, a_field, the_end}
 use Rattle.basic_toml_write.specs.Spelling as spelling
@@ -16,21 +16,29 @@ use Rattle.basic_toml_returns.proofs.SpelledParts.{as_entry, kept_entry}
 -- what its calls mean
 pub ended : MeansRows the_end no_more
 unfolding the_end
-ended = record { held = w.no_entries; spelled = spelling.table_end; whole = refl }
+ended = record { held = written.no_entries; spelled = spelling.table_end; whole = refl }
 
 pub rowed : (name : List ℕ) (is rest : List Item) (found : Option Data) (rows : Rows) → Means is found
     → MeansRows rest rows → MeansRows (a_field name is rest) (maybe_member name found rows)
 unfolding a_part
 rowed name is rest found rows part more = record {
-  held = w.entry name part.value more.held;
+  held = written.entry name part.value more.held;
   spelled = spelling.by_field (as_entry part.spelled rest) more.spelled;
   whole = kept_entry name part.value more.held ∙ (λ i. with_member name (part.whole i) (more.whole i));
 }
 
+-- the same for four fields: a proof takes so many steps, and no more
+pub rowed_four : (a b c d : List ℕ) (is js ks ls rest : List Item) (w x y z : Option Data) (rows : Rows)
+    → Means is w → Means js x → Means ks y → Means ls z → MeansRows rest rows
+    → MeansRows (a_field a is (a_field b js (a_field c ks (a_field d ls rest))))
+    (maybe_member a w (maybe_member b x (maybe_member c y (maybe_member d z rows))))
+rowed_four a b c d is js ks ls rest w x y z rows p q r s more =
+    rowed a is _ w _ p (rowed b js _ x _ q (rowed c ks _ y _ r (rowed d ls rest z rows s more)))
+
 pub opened : (is : List Item) (rows : Rows) → MeansRows is rows → Means (a_record is) (Some (a_table rows))
 unfolding an_opening a_table
 opened is rows more = record {
-  value = w.table more.held;
+  value = written.table more.held;
   spelled = spelling.root (spelling.a_table more.spelled);
   whole = ap (λ members. Some (Data.table members)) more.whole;
 }
@@ -64,8 +72,16 @@ pub same_row : (rows : Rows) (name : List ℕ) (read found : Option Data) (more 
 unfolding SameAt SameRows
 same_row rows name read found more others here rest = (λ i. maybe_member name (here i) (rest i))
 
+pub same_four : (rows : Rows) (a b c d : List ℕ) (ra rb rc rd w x y z : Option Data) (more others : Rows)
+    → SameAt rows (text_number a) ra w → SameAt rows (text_number b) rb x → SameAt rows (text_number c) rc y
+    → SameAt rows (text_number d) rd z → SameRows rows more others
+    → SameRows rows (maybe_member a ra (maybe_member b rb (maybe_member c rc (maybe_member d rd more))))
+    (maybe_member a w (maybe_member b x (maybe_member c y (maybe_member d z others))))
+same_four rows a b c d ra rb rc rd w x y z more others p q r s rest =
+    same_row rows a ra w _ _ p (same_row rows b rb x _ _ q (same_row rows c rc y _ _ r (same_row rows d rd z more others s rest)))
+
 pub same_table : (read rows : Rows) → SameRows rows read rows → Same (a_table read) (a_table rows)
 unfolding SameRows Same
 same_table read rows same = ap a_table same
 
-pub ruleset records_mean = (ended, rowed, opened, apart, only_these, same_rows_end, same_row, same_table)
+pub ruleset records_mean = (ended, rowed, rowed_four, opened, apart, only_these, same_rows_end, same_row, same_four, same_table)
