@@ -10,15 +10,15 @@ use Rattle.basic_toml_write.specs.Impls.{option_calls}
 use Rattle.basic_toml_write.specs.Spelling.{root, root_some, none}
 use Rattle.basic_toml_typed.specs.FieldKeys.{text_number, member_at, child_at}
 use Rattle.basic_toml_typed.specs.TypeReads.{field_reads, optional_reads, some_reads, maybe_reads}
-use Rattle.basic_toml_returns.specs.Means.{Means, Row, members_in, a_table, Same}
+use Rattle.basic_toml_returns.specs.Means.{Means, Rows, no_more, maybe_member, members_in, a_table, Same}
 use Rattle.basic_toml_returns.specs.Fields.{row_at, has_row, are_apart, Apart, SameAt, default_reads, ReturnsAt}
 
 -- ---- the row at a key
 
-none_at : (rows : List Row) (key : ℕ) → has_row rows key ≡ false → member_at (members_in rows) key ≡ None
-none_at [] key missing = refl
-none_at ((name, None) ∷ rows) key missing = none_at rows key (or_parts (key == text_number name) (has_row rows key) missing).1
-none_at ((name, Some d) ∷ rows) key missing =
+none_at : (rows : Rows) (key : ℕ) → has_row rows key ≡ false → member_at (members_in rows) key ≡ None
+none_at no_more key missing = refl
+none_at (maybe_member name None rows) key missing = none_at rows key (or_parts (key == text_number name) (has_row rows key) missing).1
+none_at (maybe_member name (Some d) rows) key missing =
     let parts = or_parts (key == text_number name) (has_row rows key) missing in rw parts.0 (none_at rows key parts.1)
 
 not_true : (b : Bool) → not b ≡ true → b ≡ false
@@ -29,24 +29,24 @@ same_number : (key n : ℕ) → (key == n) ≡ true → key ≡ n
 same_number key n is = grind (arith, Decides-eqb key n, is)
 
 -- an absent row keeps no other from its key
-past_absent : (b : Bool) (key n : ℕ) (rows : List Row) → (key == n) ≡ b → has_row rows n ≡ false
+past_absent : (b : Bool) (key n : ℕ) (rows : Rows) → (key == n) ≡ b → has_row rows n ≡ false
     → member_at (members_in rows) key ≡ row_at rows key
     → member_at (members_in rows) key ≡ (if b then None else row_at rows key)
 past_absent true key n rows is missing rest =
     none_at rows key (subst (λ k. has_row rows k ≡ false) (sym (same_number key n is)) missing)
 past_absent false key n rows is missing rest = rest
 
-at_row : (rows : List Row) (key : ℕ) → are_apart rows ≡ true → member_at (members_in rows) key ≡ row_at rows key
-at_row [] key are = refl
-at_row ((name, None) ∷ rows) key are =
+at_row : (rows : Rows) (key : ℕ) → are_apart rows ≡ true → member_at (members_in rows) key ≡ row_at rows key
+at_row no_more key are = refl
+at_row (maybe_member name None rows) key are =
     let parts = and_parts (not (has_row rows (text_number name))) (are_apart rows) are in
     past_absent (key == text_number name) key (text_number name) rows refl
     (not_true (has_row rows (text_number name)) parts.0) (at_row rows key parts.1)
-at_row ((name, Some d) ∷ rows) key are =
+at_row (maybe_member name (Some d) rows) key are =
     let parts = and_parts (not (has_row rows (text_number name))) (are_apart rows) are in
     ap (λ (o : Option Data). if key == text_number name then Some d else o) (at_row rows key parts.1)
 
-found_at : (key : ℕ) (rows : List Row) (found : Option Data) → Apart rows → row_at rows key ≡ found
+found_at : (key : ℕ) (rows : Rows) (found : Option Data) → Apart rows → row_at rows key ≡ found
     → child_at key (a_table rows) ≡ found
 unfolding Apart child_at a_table
 found_at key rows found are is = at_row rows key are ∙ is

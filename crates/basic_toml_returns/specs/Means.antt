@@ -19,33 +19,29 @@ pub record Means (calls : List Item) (data_kept : Option Data) : Type 0 where
   pub spelled : Spells calls value
   pub whole : entry_data value ≡ data_kept
 
--- Of a record: each name, and the data under it, if there are any.
-abbrev pub Row : Type 0
-Row = List ℕ × Option Data
+-- Of a record: each name, and the data under it, if there are any. No list of pairs, so that a proof about the rows of a
+-- record of many fields does not go into them.
+pub data Rows : Type 0 where
+  no_more : Rows
+  maybe_member : List ℕ → Option Data → Rows → Rows
 
-abbrev pub a_member : List ℕ → Data → List Row → List Row
-a_member name d rest = (name, Some d) ∷ rest
-
-abbrev pub maybe_member : List ℕ → Option Data → List Row → List Row
-maybe_member name found rest = (name, found) ∷ rest
-
-abbrev pub no_more : List Row
-no_more = []
+abbrev pub a_member : List ℕ → Data → Rows → Rows
+a_member name d rest = maybe_member name (Some d) rest
 
 abbrev pub with_member : List ℕ → Option Data → Members → Members
 with_member name None members = members
 with_member name (Some d) members = member name d members
 
-abbrev pub members_in : List Row → Members
-members_in [] = no_members
-members_in (row ∷ rows) = with_member row.0 row.1 (members_in rows)
+abbrev pub members_in : Rows → Members
+members_in no_more = no_members
+members_in (maybe_member name found rows) = with_member name found (members_in rows)
 
 -- The table of a record. Closed: a proof goes by what is said of the word, and never through the members.
-unfoldable pub a_table : List Row → Data
+unfoldable pub a_table : Rows → Data
 a_table rows = Data.table (members_in rows)
 
 -- the calls are the entries of a table and its end, and these rows are kept of them
-pub record MeansRows (calls : List Item) (rows : List Row) : Type 0 where
+pub record MeansRows (calls : List Item) (rows : Rows) : Type 0 where
   pub held : Entries
   pub spelled : AreEntries calls held []
   pub whole : entry_trees (kept_entries held) ≡ members_in rows

@@ -1,8 +1,6 @@
 //! Vectors and maps return where what they hold does.
-ghost use Rattle.std.specs.Prelude.{map};
 ghost use Rattle.std.specs.List.{AllByRecursion};
-ghost use Rattle.basic_toml_value.specs.Data.{array, items_of, table};
-ghost use Rattle.basic_toml_returns.specs.Maps.{map_members};
+ghost use Rattle.basic_toml_returns.specs.Maps.{array_meant, map_meant};
 ghost use Rattle.basic_toml_returns.specs.Returned.{Returned};
 
 use crate::Returns;
@@ -19,7 +17,7 @@ fn elements_return<'de, T: Returns<'de>>(elements: &[T])
 
 /// Each element in order.
 impl<'de, T: Returns<'de> + Drop> Returns<'de> for Vec<T> {
-    ghost meant = { λ xs. array (items_of (map T.meant xs.items)) };
+    ghost meant = { λ xs. array_meant T.meant xs };
 
     fn returns(&self) {
         elements_return(self.as_slice());
@@ -28,7 +26,7 @@ impl<'de, T: Returns<'de> + Drop> Returns<'de> for Vec<T> {
 
 /// Each value at its key, in the order of the keys.
 impl<'de, T: Returns<'de> + Drop> Returns<'de> for BTreeMap<String, T> {
-    ghost meant = { λ m. table (map_members T.meant m.entries) };
+    ghost meant = { λ m. map_meant T.meant m };
 
     fn returns(&self) {
         for value in self.values() {

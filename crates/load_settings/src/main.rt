@@ -1,5 +1,5 @@
-//! Loads settings from standard input, saves them and loads them again, and prints them. What is wrong goes to standard error, as
-//! `stdin:LINE:COLUMN: message` where it has a place, and then the status is 1.
+//! Loads settings from standard input, saves them and loads them again, and prints them. What is wrong goes to standard
+//! error, as `stdin:LINE:COLUMN: message` where it has a place, and then the status is 1.
 #![tactic(auto)]
 
 mod report;

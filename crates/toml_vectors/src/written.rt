@@ -1,5 +1,6 @@
-// What is written of records and of other forms.
+// What is written of records and of other forms, and what a record is read back as.
 use basic_toml::{Float, to_string};
+use basic_toml_returns::write_then_read;
 use std::alloc::{AllocError, Global};
 use std::collections::BTreeMap;
 use std::test::Fail;
@@ -106,5 +107,17 @@ fn writes_other_forms(rt: HostRuntime) -> Result<(), Fail> {
         to_string(alloc, &Present(Wrapper(entry)))?.as_str(),
         "\"a b\" = [[1, \"one\"]]\n"
     );
+    Ok(())
+}
+
+#[test]
+fn a_record_returns(rt: HostRuntime) -> Result<(), Fail> {
+    let alloc = rt.alloc();
+    let server = write_then_read(alloc, &server(alloc)?)?;
+    assert!(rt; server.verbose && server.backup.is_none());
+    assert_eq!(rt; server.port, Some(80));
+    assert_eq!(rt; server.host_name.as_str(), "localhost");
+    assert_eq!(rt; server.rules.len(), 2);
+    assert_eq!(rt; server.rules[1].limit, 120);
     Ok(())
 }

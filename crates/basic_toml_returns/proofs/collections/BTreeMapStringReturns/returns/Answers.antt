@@ -6,6 +6,7 @@ use Rattle.std.specs.List.{AllByRecursion}
 use Rattle.std.specs.Map.{values_of}
 use Rattle.std.specs.Map.Iter.{deref}
 use Rattle.basic_toml_write.proofs.PartsAreSent.{yields_next, yields_end}
+use Rattle.basic_toml_returns.specs.Maps.{map_meant}
 use Rattle.basic_toml_returns.specs.Returned.{Returned}
 use Rattle.basic_toml_returns.proofs.ArraysMean.{all_more}
 use Rattle.basic_toml_returns.proofs.MapsMean.{of_values, map_means, map_read, map_once}
@@ -23,6 +24,7 @@ loop-value-preserved g c =
     }
 
 pub returns-clause-means : goal.returns-clause-means
+unfolding map_meant
 returns-clause-means g c =
     let P = Returned g.T.Serialize.calls g.T.Deserialize.reads g.T.Returns.meant in
     let ordered : IsOrdered string_cmp c.args.self.now = search rules in
@@ -32,6 +34,7 @@ returns-clause-means g c =
     c.next.result c.next.ensures.steps c.loop-value.invariant.left c.in-None.is) c.loop-value.invariant.returned))
 
 pub returns-clause-read : goal.returns-clause-read
+unfolding map_meant
 returns-clause-read g c =
     let P = Returned g.T.Serialize.calls g.T.Deserialize.reads g.T.Returns.meant in
     map_read g.T.Serialize.calls g.T.Deserialize.reads g.T.Returns.meant c.args.self.now
@@ -40,6 +43,7 @@ returns-clause-read g c =
     c.next.result c.next.ensures.steps c.loop-value.invariant.left c.in-None.is) c.loop-value.invariant.returned))
 
 pub returns-clause-once : goal.returns-clause-once
+unfolding map_meant
 returns-clause-once g c =
     let P = Returned g.T.Serialize.calls g.T.Deserialize.reads g.T.Returns.meant in
     λ other read. map_once g.T.Serialize.calls g.T.Deserialize.reads g.T.Returns.meant c.args.self.now other
