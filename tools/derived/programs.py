@@ -94,7 +94,7 @@ def laid_out(tree, sources):
 
 def ours(name, sources, *level):
     """Builds a program over `basic_toml_serde` of these files of its src/, without proofs, `-O0` or optimized."""
-    program = os.path.join(OUT, name + "".join(level))
+    program = os.path.join(OUT, name + "".join(level or ["-O3"]))
     libraries_below = libraries()
     files = {**sources_of(libraries_below), **{f"crates/{name}/src/{file}": text for file, text in sources.items()}}
     with open(os.path.join(TOP, "crates.txt"), encoding="utf-8") as lines:
