@@ -31,15 +31,6 @@ fn name<'t>(text: &'t str, held: usize, place: Place) -> &'t str
     &text[place.start..place.end]
 }
 
-fn is_bare(text: &str, held: usize, place: Place) -> bool
-    requires { IsPlace text.now held place }
-    ensures { result ≡ is_bare_key (name_at text.now place) }
-{
-    let _text = text;
-    let _held = held;
-    place.is_bare
-}
-
 #[derive(Drop)]
 pub struct Names {
     text: String,
@@ -116,7 +107,7 @@ impl Names {
         requires { position < length (kept_of self.now) }
         ensures { result ≡ is_bare_key (slice_index_or (kept_of self.now) position []) }
     {
-        is_bare(self.text.as_str(), self.held, self.places[position])
+        self.places[position].is_bare
     }
 
     // The name that is set.
