@@ -9,7 +9,7 @@ ghost use Rattle.std.specs.Str.{IsCharBoundary};
 ghost use Rattle.std.proofs.Props.{props};
 ghost use Rattle.basic_toml_layout.specs.Texts.{is_bare_key};
 ghost use Rattle.basic_toml_emit.specs.Keys.{turned};
-ghost use Rattle.basic_toml_emit.specs.Names.{IsPlace, name_at};
+ghost use Rattle.basic_toml_emit.specs.Names.{IsPlace};
 
 use basic_toml_layout::is_bare_key;
 use basic_toml_value::Texts;
@@ -21,14 +21,6 @@ struct Place {
     start: usize,
     end: usize,
     is_bare: bool,
-}
-
-fn name<'t>(text: &'t str, held: usize, place: Place) -> &'t str
-    requires { IsPlace text.now held place }
-    ensures { result.now ≡ name_at text.now place }
-{
-    let _ = held;
-    &text[place.start..place.end]
 }
 
 #[derive(Drop)]
@@ -99,7 +91,8 @@ impl Names {
         requires { position < length (kept_of self.now) }
         ensures { result.now ≡ slice_index_or (kept_of self.now) position [] }
     {
-        name(self.text.as_str(), self.held, self.places[position])
+        let place = self.places[position];
+        &self.text.as_str()[place.start..place.end]
     }
 
     // Whether a name that is kept is a bare key.
