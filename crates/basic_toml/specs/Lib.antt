@@ -9,7 +9,7 @@ pub use Rattle.basic_toml_value.specs.Data
 pub use Rattle.basic_toml_value.specs.Equal
 pub use Rattle.basic_toml_value.specs.Iter
 pub use Rattle.basic_toml_value.specs.Nesting
-pub use Rattle.basic_toml_value.specs.Numbers
+pub use Rattle.basic_toml_numbers.specs.Numbers
 pub use Rattle.basic_toml_value.specs.Pairs
 pub use Rattle.basic_toml_value.specs.View
 pub use Rattle.basic_toml_grammar.specs.Document

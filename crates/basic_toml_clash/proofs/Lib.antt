@@ -1,8 +1,6 @@
 pub mod CrossedIsFault
 pub mod FirstGathered
 pub mod HeadersNamed
-pub mod KeysSeen
-pub mod KeysChanged
 pub mod RowIsFollowed
 pub mod RowsGetNoLonger
 pub mod RowsGoOn

@@ -13,8 +13,8 @@ use Rattle.basic_toml_clash.specs.declared.crossed.Crossed.{Crossed}
 use Rattle.basic_toml_clash.specs.declared.crossed.Crossed.TheVariants.{Memory, At}
 use Rattle.basic_toml_clash.specs.Trail.{Ends, ends_below, ends_from, ends_of, no_trail, value_on, Follows, FollowsTo}
 use Rattle.basic_toml_clash.proofs.ValuesOnTheWay.{same_on}
-use Rattle.basic_toml_clash.specs.Keyed.{with_value, values_of, EntersKey}
-use Rattle.basic_toml_clash.proofs.KeysChanged.{value_at-map, stood_or_fresh, put_at, kept_elsewhere}
+use Rattle.basic_toml_value.specs.Growth.{with_value, values_of, EntersKey}
+use Rattle.basic_toml_value.proofs.KeysChanged.{value_at-map, stood_or_fresh, put_at, kept_elsewhere}
 
 -- a trail by its parts
 pub trail_ends : (t : Trail)

@@ -1,8 +1,5 @@
-pub mod Keyed
-pub mod Lends
 pub mod Trail
 pub mod Crossed
 pub mod Clash
 pub mod Plain
 pub mod Simple
-pub mod formers

@@ -10,8 +10,8 @@ ghost use Rattle.basic_toml_clash.specs.Crossed.{first_crossed, Looks};
 ghost use Rattle.basic_toml_clash.specs.Trail.{FollowsTo, no_trail, path_of};
 ghost use Rattle.basic_toml_clash.specs.declared.crossed.Crossed.TheVariants.{Memory};
 
-use crate::keyed::{Blank, Keyed};
 use basic_toml_read::{Element, Raw, Row, Section};
+use basic_toml_value::{Blank, Pairs};
 use std::alloc::{AllocError, Global};
 
 /// The keys of rows so far, and where the value begins that stands at their end.
@@ -19,7 +19,7 @@ use std::alloc::{AllocError, Global};
 #[derive(Drop)]
 struct Trail {
     end: Option<usize>,
-    below: Keyed<Trail>,
+    below: Pairs<Trail>,
 }
 
 /// Why the rows are not gone through.
@@ -44,7 +44,7 @@ impl Blank for Trail {
     fn blank(alloc: Global) -> Trail {
         Trail {
             end: None,
-            below: Keyed::new(alloc),
+            below: Pairs::new(alloc),
         }
     }
 }

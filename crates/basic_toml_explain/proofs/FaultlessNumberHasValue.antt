@@ -8,9 +8,9 @@ use Rattle.std.specs.Str.{bytes_eq}
 use Rattle.std.proofs.lemmas.List.{append-nil, append_assoc}
 use Rattle.std.proofs.lemmas.Bool.{both_ways, eqb-true, ne_eqb, or_cases}
 use Rattle.basic_toml_tokens.specs.Text.{Text, offset_in, run, after_run, is_keylike}
-use Rattle.basic_toml_value.specs.Numbers.{integer_of, float_of, is_digits, is_whole, is_part, part_of, after_part}
-use Rattle.basic_toml_value.specs.Numbers.{is_exponent_letter, is_exponent, is_tail, is_special, is_unsigned_float}
-use Rattle.basic_toml_value.specs.Numbers.{without_sign, canonical}
+use Rattle.basic_toml_numbers.specs.Numbers.{integer_of, float_of, is_digits, is_whole, is_part, part_of, after_part}
+use Rattle.basic_toml_numbers.specs.Numbers.{is_exponent_letter, is_exponent, is_tail, is_special, is_unsigned_float}
+use Rattle.basic_toml_numbers.specs.Numbers.{without_sign, canonical}
 use Rattle.basic_toml_grammar.specs.NumberTokens.{plus_rest, mark_rest, period_rest, word_rest}
 use Rattle.basic_toml_grammar.specs.Sections.{Raw}
 use Rattle.basic_toml_grammar.specs.Grammar.{is_wordlike, number_value}

@@ -8,7 +8,7 @@ use Rattle.std.specs.Option.{option_or}
 use Rattle.basic_toml_tokens.specs.Text.{Text, offset_in, text_at, run, after_run, is_keylike}
 use Rattle.basic_toml_tokens.specs.TokenAt.{Lexeme, punctuation_of, punctuation}
 use Rattle.basic_toml_tokens.specs.Reading.{Reading, text_of}
-use Rattle.basic_toml_value.specs.Numbers.{is_digits, is_whole, part_of, after_part, is_exponent_letter}
+use Rattle.basic_toml_numbers.specs.Numbers.{is_digits, is_whole, part_of, after_part, is_exponent_letter}
 use Rattle.basic_toml_grammar.specs.NumberTokens.{plus_rest, mark_rest, period_rest, word_rest}
 use Rattle.basic_toml_grammar.specs.Faults.{Fault}
 use Rattle.basic_toml_grammar.specs.Reader.{char_at}

@@ -10,8 +10,8 @@ use Rattle.basic_toml_tokens.specs.Reading.{Reading, text_of, between}
 use Rattle.basic_toml_tokens.specs.Token.{lexeme_of}
 use Rattle.basic_toml_tokens.specs.Tokenizer.{Takes}
 use Rattle.basic_toml_tokens.proofs.StepIsTheFold.{offset_is}
-use Rattle.basic_toml_value.specs.Numbers.{integer_of, float_of, decimal, in_radix, after_zero, is_unsigned_float}
-use Rattle.basic_toml_value.specs.Numbers.{without_sign, canonical}
+use Rattle.basic_toml_numbers.specs.Numbers.{integer_of, float_of, decimal, in_radix, after_zero, is_unsigned_float}
+use Rattle.basic_toml_numbers.specs.Numbers.{without_sign, canonical}
 use Rattle.basic_toml_grammar.specs.Sections.{Raw}
 use Rattle.basic_toml_grammar.specs.Entering.{and_then}
 use Rattle.basic_toml_grammar.specs.Grammar.{is_wordlike, number_value, word_value, word_offset}

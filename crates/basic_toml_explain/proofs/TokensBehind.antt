@@ -6,7 +6,7 @@ use Rattle.std.specs.Option.{option_or}
 use Rattle.std.proofs.lemmas.Bool.{eqb-true}
 use Rattle.basic_toml_tokens.specs.Text.{Text, offset_in, run, after_run, is_keylike}
 use Rattle.basic_toml_tokens.specs.Reading.{Reading, text_of}
-use Rattle.basic_toml_value.specs.Numbers.{is_digits, is_whole, part_of, after_part, is_exponent_letter}
+use Rattle.basic_toml_numbers.specs.Numbers.{is_digits, is_whole, part_of, after_part, is_exponent_letter}
 use Rattle.basic_toml_grammar.specs.NumberTokens.{mark_rest, period_rest, word_rest}
 use Rattle.basic_toml_grammar.specs.Faults.{Fault}
 use Rattle.basic_toml_grammar.specs.Grammar.{is_wordlike}

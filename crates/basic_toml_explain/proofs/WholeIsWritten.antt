@@ -8,7 +8,7 @@ use Rattle.std.proofs.lemmas.Bool.{false≢true, or_cases, or_parts}
 use Rattle.std.proofs.lemmas.List.{append-nil, append_assoc, append_cancel_right}
 use Rattle.std.proofs.lemmas.Slice.Eq.{bytes_eq-Decides}
 use Rattle.basic_toml_tokens.specs.Text.{Text, offset_in, run, after_run, is_keylike}
-use Rattle.basic_toml_value.specs.Numbers.{integer_of, float_of, is_special}
+use Rattle.basic_toml_numbers.specs.Numbers.{integer_of, float_of, is_special}
 use Rattle.basic_toml_grammar.specs.Sections.{Raw}
 use Rattle.basic_toml_grammar.specs.Grammar.{is_wordlike, number_value, word_value}
 use Rattle.basic_toml_grammar.specs.NumberFaults.{is_prefixed, takes_no_plus, plus_fault, word_fault}

@@ -12,7 +12,7 @@ use Rattle.basic_toml_tokens.specs.TokenAt.{Lexeme, IsToken}
 use Rattle.basic_toml_tokens.specs.Reading.{Reading, text_of}
 use Rattle.basic_toml_tokens.specs.Descriptions.{description_of}
 use Rattle.basic_toml_tokens.proofs.StepIsTheFold.{offset_is}
-use Rattle.basic_toml_value.specs.Numbers.{integer_of, float_of, is_special, after_part, is_exponent_letter}
+use Rattle.basic_toml_numbers.specs.Numbers.{integer_of, float_of, is_special, after_part, is_exponent_letter}
 use Rattle.basic_toml_grammar.specs.Reader.{char_at}
 use Rattle.basic_toml_grammar.specs.NumberTokens.{plus_rest, mark_rest, period_rest, word_rest, number_rest, IsWhole, boolean, number}
 use Rattle.basic_toml_grammar.specs.Sections.{Raw}

@@ -2,7 +2,7 @@
 use Rattle.std.specs.Prelude.{◌⊎◌, ◌≡◌, ℕ, true, if◌then◌else◌, List, [], ◌∷◌, Option, None, Result, Ok, Err}
 use Rattle.basic_toml_tokens.specs.Text.{Text, run, after_run, is_keylike}
 use Rattle.basic_toml_tokens.specs.Reading.{Reading, text_of}
-use Rattle.basic_toml_value.specs.Numbers.{is_whole, plus}
+use Rattle.basic_toml_numbers.specs.Numbers.{is_whole, plus}
 use Rattle.basic_toml_grammar.specs.Faults.{Fault}
 use Rattle.basic_toml_grammar.specs.Reader.{char_at}
 use Rattle.basic_toml_grammar.specs.NumberTokens.{is_letter_alone, behind_sign, behind_letter}

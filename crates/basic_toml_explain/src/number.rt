@@ -4,7 +4,7 @@ ghost use Rattle.std.specs.Str.{IsCharBoundary, bytes_eq};
 ghost use Rattle.basic_toml_tokens.specs.Text.{text_at, run, is_keylike};
 ghost use Rattle.basic_toml_tokens.specs.Token.{lexeme_of};
 ghost use Rattle.basic_toml_tokens.specs.Reading.{text_of};
-ghost use Rattle.basic_toml_value.specs.Numbers as numbers;
+ghost use Rattle.basic_toml_numbers.specs.Numbers as numbers;
 ghost use Rattle.basic_toml_grammar.specs.Grammar as grammar;
 ghost use Rattle.basic_toml_grammar.specs.Grammar.{is_wordlike};
 ghost use Rattle.basic_toml_grammar.specs.NumberFaults as faults;

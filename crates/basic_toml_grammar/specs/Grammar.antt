@@ -17,7 +17,7 @@ use Rattle.basic_toml_tokens.specs.Ascii as ascii
 use Rattle.basic_toml_tokens.specs.Text.{Text, StartsWith, run, after_run, is_blank, is_keylike, is_comment}
 use Rattle.basic_toml_tokens.specs.Text.{after_blanks}
 use Rattle.basic_toml_tokens.specs.Strings.{IsString}
-use Rattle.basic_toml_value.specs.Numbers.{integer_of, float_of}
+use Rattle.basic_toml_numbers.specs.Numbers.{integer_of, float_of}
 use Rattle.basic_toml_grammar.specs.Sections.{Key, Raw, Elements, no_elements, element, Rows, no_rows, row, Section}
 
 pub data IsKey : Text → Key → Text → Type 0 where

@@ -17,8 +17,8 @@ use Rattle.std.specs.Option.{option_or}
 use Rattle.std.specs.List.{list_any}
 use Rattle.basic_toml_tokens.specs.Ascii as ascii
 use Rattle.basic_toml_tokens.specs.Text.{Text, offset_in, run, after_run, is_keylike}
-use Rattle.basic_toml_value.specs.Numbers.{integer_of, is_digits, is_whole, part_of, after_part, is_special}
-use Rattle.basic_toml_value.specs.Numbers.{is_exponent_letter, minus, plus, period, underscore}
+use Rattle.basic_toml_numbers.specs.Numbers.{integer_of, is_digits, is_whole, part_of, after_part, is_special}
+use Rattle.basic_toml_numbers.specs.Numbers.{is_exponent_letter, minus, plus, period, underscore}
 use Rattle.basic_toml_grammar.specs.Reader.{char_at}
 
 -- the offset of an underscore that a part begins with

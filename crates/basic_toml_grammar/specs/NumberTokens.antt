@@ -9,7 +9,7 @@ use Rattle.std.specs.Prelude.{Some, None}
 use Rattle.std.specs.List.{list_any}
 use Rattle.std.specs.Str.{bytes_eq}
 use Rattle.basic_toml_tokens.specs.Text.{Text, run, after_run, is_keylike}
-use Rattle.basic_toml_value.specs.Numbers.{is_whole, part_of, after_part, is_exponent_letter, plus, period}
+use Rattle.basic_toml_numbers.specs.Numbers.{is_whole, part_of, after_part, is_exponent_letter, plus, period}
 use Rattle.basic_toml_grammar.specs.NumberFaults.{is_fine, is_prefixed, without_minus, begins_number, number_fault}
 use Rattle.basic_toml_grammar.specs.Reader.{char_at}
 

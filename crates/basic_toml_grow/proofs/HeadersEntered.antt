@@ -19,7 +19,7 @@ use Rattle.basic_toml_grow.specs.declared.item.Item.TheViews.{roll-Item, out-Ite
 use Rattle.basic_toml_grow.specs.declared.item.Child.{Child, out-Child}
 use Rattle.basic_toml_grow.specs.declared.item.Table.{Table, out-Table}
 use Rattle.basic_toml_grow.specs.Item.{item_trie, child_trie, table_trie, tree_data, leaf, by_keys}
-use Rattle.basic_toml_clash.specs.Keyed.{EntersKey, with_value, values_of}
+use Rattle.basic_toml_value.specs.Growth.{EntersKey, with_value, values_of}
 use Rattle.basic_toml_grow.specs.Headers.{IsIn, IsKeptOut, EntersItem, entered_by, steps_by, entered_at}
 use Rattle.basic_toml_grow.specs.Headers.{steps_at, holding, Passes, PutsBack}
 use Rattle.basic_toml_grow.proofs.KeysInATrie.{tries_of, stood_there, change_put, change_refused}

@@ -11,7 +11,7 @@ use Rattle.basic_toml_value.proofs.DistinctKeys.{bytes_eq-same, bytes_eq_other}
 use Rattle.basic_toml_grammar.specs.Steps as steps
 use Rattle.basic_toml_grammar.specs.Trie.{Trie, nothing, among, find}
 use Rattle.basic_toml_grow.specs.Item.{by_keys}
-use Rattle.basic_toml_clash.specs.Keyed.{with_value, values_of, EntersKey}
+use Rattle.basic_toml_value.specs.Growth.{with_value, values_of, EntersKey}
 
 -- keys with their tries
 abbrev Pairs : Type 0

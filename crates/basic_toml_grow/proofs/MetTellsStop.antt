@@ -23,7 +23,7 @@ use Rattle.basic_toml_grow.specs.declared.item.Table.{Table, out-Table, roll-Tab
 use Rattle.basic_toml_grow.specs.declared.rows.Met.{Met}
 use Rattle.basic_toml_grow.specs.declared.rows.Met.TheVariants as mets
 use Rattle.basic_toml_grow.specs.Item.{child_trie, table_trie, item_trie, by_keys, by_numbers}
-use Rattle.basic_toml_clash.specs.Keyed.{values_of, EntersKey}
+use Rattle.basic_toml_value.specs.Growth.{values_of, EntersKey}
 use Rattle.basic_toml_grow.specs.RowStops.{line_keys, key_at, StopsAtKey, TellsStop, TellsLast, TellsRow, TellsExtended}
 use Rattle.basic_toml_grow.proofs.KeysInATrie.{tries_of, stood_there}
 use Rattle.basic_toml_grow.proofs.ItemTries.{child_item_trie, table_entries_trie}

@@ -19,7 +19,7 @@ use Rattle.basic_toml_grow.specs.declared.rows.Met.{Met}
 use Rattle.basic_toml_grow.specs.declared.rows.Met.TheVariants as mets
 use Rattle.basic_toml_grow.specs.Simple.{with_entries}
 use Rattle.basic_toml_grow.specs.Item.{child_trie, table_trie, by_keys}
-use Rattle.basic_toml_clash.specs.Keyed.{with_value, values_of, EntersKey}
+use Rattle.basic_toml_value.specs.Growth.{with_value, values_of, EntersKey}
 use Rattle.basic_toml_grow.specs.Rows.{Enters, key_texts}
 use Rattle.basic_toml_grow.proofs.KeysInATrie.{tries_of, with_twice, change_put_once, change_refused}
 use Rattle.basic_toml_grow.proofs.ItemTries.{table_entries_trie, entries_with, with_entries_twice}

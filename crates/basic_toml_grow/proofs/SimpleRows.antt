@@ -24,7 +24,7 @@ use Rattle.basic_toml_read.specs.declared.section.Raw.{Raw, out-Raw, roll-Raw, r
 use Rattle.basic_toml_read.specs.declared.section.Raw.TheOpen.{Raw-F}
 use Rattle.basic_toml_read.specs.declared.section.Element.{Element}
 use Rattle.basic_toml_read.specs.declared.section.Row.{Row, out-Row}
-use Rattle.basic_toml_clash.specs.Keyed.{EntersKey, with_value, values_of}
+use Rattle.basic_toml_value.specs.Growth.{EntersKey, with_value, values_of}
 use Rattle.basic_toml_clash.specs.Plain.{is_plain, plain_of}
 use Rattle.basic_toml_clash.specs.Simple.{are_simple, key_of}
 use Rattle.basic_toml_clash.proofs.PlainValues.{plain_value}

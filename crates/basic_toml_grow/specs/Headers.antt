@@ -17,7 +17,7 @@ use Rattle.basic_toml_grow.specs.declared.item.Item.TheViews.{roll-Child}
 use Rattle.basic_toml_clash.specs.declared.clash.Clash.{Clash}
 use Rattle.basic_toml_clash.specs.declared.clash.Clash.TheVariants.{Memory, Deep}
 use Rattle.basic_toml_grow.specs.Item.{table_trie, child_trie, item_trie}
-use Rattle.basic_toml_clash.specs.Keyed.{EntersKey, with_value, values_of}
+use Rattle.basic_toml_value.specs.Growth.{EntersKey, with_value, values_of}
 
 -- the highest level of a section whose table is on a level
 abbrev pub highest : ℕ → Rows → ℕ

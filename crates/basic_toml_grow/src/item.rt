@@ -8,9 +8,8 @@ ghost use Rattle.basic_toml_grow.specs.declared.item.Table.{out-Table};
 ghost use Rattle.basic_toml_grow.specs.Item.{item_trie, child_trie, no_child, table_trie};
 ghost use Rattle.basic_toml_grow.specs.Origins.{item_origins, child_origins};
 
-use basic_toml_clash::{Blank, Keyed};
 use basic_toml_read::Element;
-use basic_toml_value::Float;
+use basic_toml_value::{Blank, Float, Pairs};
 use std::alloc::{AllocError, Global};
 
 /// What stands at a key or a number.
@@ -62,7 +61,7 @@ pub struct Table<'de> {
     pub dotted: bool,
     /// The number of a section whose header names it or passes through it, if there is one.
     pub section: usize,
-    pub entries: Keyed<Child<'de>>,
+    pub entries: Pairs<Child<'de>>,
 }
 
 impl<'de> Child<'de> {
@@ -115,7 +114,7 @@ impl<'de> Table<'de> {
             named: false,
             dotted: false,
             section: 0,
-            entries: Keyed::new(alloc),
+            entries: Pairs::new(alloc),
         };
         Ok(Box::new(alloc, table)?)
     }

@@ -8,7 +8,7 @@ ghost use Rattle.basic_toml_grow.specs.Simple.{entries_of as new_entries, item_o
 
 use crate::item::{Child, Item, Table};
 use basic_toml_read::{Raw, Row};
-use basic_toml_value::{Key, Pair};
+use basic_toml_value::{Index, Key, Pair, Pairs};
 use std::alloc::{AllocError, Global};
 
 // The item of a plain value. What is not plain is kept as nothing.
@@ -71,6 +71,6 @@ pub(crate) fn with_rows<'de>(
         ≡ with_entries table.entry.value (new_entries section rows.entry.items)) }
 {
     let mut table = table;
-    table.entries.set(entries_of(alloc, rows, section)?);
+    table.entries = Pairs::from_parts(entries_of(alloc, rows, section)?, Index::none());
     Ok(table)
 }

@@ -22,7 +22,7 @@ use Rattle.basic_toml_grammar.specs.Entering.{and_then}
 use Rattle.basic_toml_grammar.specs.Levels.{value_level, elements_level, rows_level}
 use Rattle.basic_toml_grammar.specs.Reader as reader
 use Rattle.basic_toml_grammar.specs.Reader.{char_at, if_found, string_at, word_at, string_value_at}
-use Rattle.basic_toml_value.specs.Numbers.{integer_of, float_of}
+use Rattle.basic_toml_numbers.specs.Numbers.{integer_of, float_of}
 use Rattle.basic_toml_grammar.specs.Grammar.{is_wordlike, number_value, word_value, word_offset}
 use Rattle.basic_toml_read.specs.KeyText.{key_text_bytes}
 use Rattle.basic_toml_read.specs.FrontOf.{keys_of, value_of, elements_of, fields_of, row_of}

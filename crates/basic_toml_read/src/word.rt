@@ -1,12 +1,13 @@
 //! Words that are values: numbers, `true` and `false`.
 ghost use Rattle.std.specs.Prelude.{◌≡◌, ◌+◌, ◌<◌, ◌^◌, ◌==◌, position, length, IfOk};
 ghost use Rattle.std.specs.Option.{option_map};
-ghost use Rattle.basic_toml_value.specs.Numbers as numbers;
+ghost use Rattle.basic_toml_numbers.specs.Numbers as numbers;
 ghost use Rattle.basic_toml_grammar.specs.Grammar as grammar;
 ghost use Rattle.basic_toml_read.specs.Word as spec;
 ghost use Rattle.basic_toml_read.specs.Word.{raw_of};
 
-use basic_toml_value::{Float, float_of, integer_of};
+use basic_toml_numbers::{float_of, integer_of};
+use basic_toml_value::Float;
 use std::alloc::{AllocError, Global};
 
 /// The value that a word writes.

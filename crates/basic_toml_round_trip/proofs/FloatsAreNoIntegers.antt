@@ -5,10 +5,10 @@ use Rattle.std.specs.Char.{is_digit}
 use Rattle.std.specs.Str.{bytes_eq}
 use Rattle.std.proofs.lemmas.Bool.{false≢true, and_parts, eqb-true, false_from_ne_true}
 use Rattle.std.proofs.lemmas.Slice.Eq.{bytes_eq-Decides}
-use Rattle.basic_toml_value.specs.Numbers as n
-use Rattle.basic_toml_value.specs.Numbers.{goes_on, is_digits, is_whole, integer_of}
-use Rattle.basic_toml_value.specs.Numbers.{without_sign, part_of, after_part, is_tail}
-use Rattle.basic_toml_value.specs.Numbers.{is_unsigned_float}
+use Rattle.basic_toml_numbers.specs.Numbers as n
+use Rattle.basic_toml_numbers.specs.Numbers.{goes_on, is_digits, is_whole, integer_of}
+use Rattle.basic_toml_numbers.specs.Numbers.{without_sign, part_of, after_part, is_tail}
+use Rattle.basic_toml_numbers.specs.Numbers.{is_unsigned_float}
 
 -- digits and underscores, and nothing after them
 pub digits_end : (must_follow : Bool) (cs : List ℕ) → goes_on 10 must_follow cs ≡ true → after_part cs ≡ []

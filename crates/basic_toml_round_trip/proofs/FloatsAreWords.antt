@@ -7,8 +7,8 @@ use Rattle.std.proofs.lemmas.Bool.{and_parts, and_from}
 use Rattle.std.proofs.lemmas.Bool.Decides.{nat_tests}
 use Rattle.std.proofs.lemmas.Slice.Eq.{bytes_eq-Decides}
 use Rattle.std.proofs.lemmas.Option.{cond_some}
-use Rattle.basic_toml_value.specs.Numbers.{is_sign, is_exponent_letter, is_digits, without_sign, is_part, part_of}
-use Rattle.basic_toml_value.specs.Numbers.{after_part, is_exponent, is_tail, is_unsigned_float, canonical, float_of}
+use Rattle.basic_toml_numbers.specs.Numbers.{is_sign, is_exponent_letter, is_digits, without_sign, is_part, part_of}
+use Rattle.basic_toml_numbers.specs.Numbers.{after_part, is_exponent, is_tail, is_unsigned_float, canonical, float_of}
 use Rattle.basic_toml_grammar.specs.Sections.{Raw}
 use Rattle.basic_toml_grammar.specs.Grammar.{is_wordlike, word_value, number_value}
 use Rattle.basic_toml_round_trip.proofs.WordsAreValues.{IsWord, number_word}

@@ -9,7 +9,7 @@ use Rattle.std.proofs.lemmas.Bool.{and_parts, ne_eqb, cond-false}
 use Rattle.std.proofs.lemmas.Bool.Decides.{nat_tests}
 use Rattle.std.proofs.lemmas.Fmt.{decimal_digit, digits_decimal, digits_value-decimal, decimal_nonempty, first_decimal}
 use Rattle.std.proofs.lemmas.Str.Parse.{IsNumeralModel, numerals_by_value}
-use Rattle.basic_toml_value.specs.Numbers as numbers
+use Rattle.basic_toml_numbers.specs.Numbers as numbers
 
 -- in i64
 abbrev pub fits : ℤ → Bool

@@ -2,7 +2,7 @@
 -- new in its table.
 use Rattle.std.specs.Prelude.{◌≡◌, ℕ, true, false, List, [], ◌∷◌, Some, IsUtf8}
 use Rattle.std.specs.Str.{bytes_eq}
-use Rattle.basic_toml_value.specs.Numbers.{float_of}
+use Rattle.basic_toml_numbers.specs.Numbers.{float_of}
 use Rattle.basic_toml_value.specs.Data as d
 use Rattle.basic_toml_value.specs.Data.{Data, Items, no_items, item, Members, no_members, member}
 use Rattle.basic_toml_grammar.specs.Sections.{KeyTexts}

@@ -10,7 +10,7 @@ use Rattle.std.proofs.lemmas.Bool.{and_parts, cond_both}
 use Rattle.std.proofs.lemmas.Bool.Decides.{nat_tests}
 use Rattle.std.proofs.lemmas.Slice.Eq.{bytes_eq-Decides}
 use Rattle.basic_toml_tokens.specs.Text.{Text, is_blank, is_comment}
-use Rattle.basic_toml_value.specs.Numbers.{integer_of, float_of}
+use Rattle.basic_toml_numbers.specs.Numbers.{integer_of, float_of}
 use Rattle.basic_toml_grammar.specs.Sections.{Raw}
 use Rattle.basic_toml_grammar.specs.Grammar.{is_wordlike, word_value, number_value, word_offset, to_period, IsValue}
 use Rattle.basic_toml_grammar.specs.Grammar.{word}

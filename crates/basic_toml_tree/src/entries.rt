@@ -52,7 +52,7 @@ impl<'t, 'de> Iterator for Entries<'t, 'de> {
         if at >= table.entries.len() {
             return None;
         }
-        table.entries.keys_differ();
+        let _pairs = table.entries.entries();
         self.at += 1;
         let key = table.entries.key(at);
         Some((key, self.table.below(key, table.entries.value(at))))

@@ -274,7 +274,7 @@ impl<'t, 'de> Node<'t, 'de> {
         let Some(Some(table)) = self.as_table() else {
             return None;
         };
-        let Some(pair) = table.entries.get(key) else {
+        let Some(pair) = table.entries.pair(key) else {
             return None;
         };
         Some(self.below(pair.key.as_str(), &pair.value))
@@ -308,7 +308,7 @@ impl<'t, 'de> Node<'t, 'de> {
         match self.as_table() {
             Some(table) => {
                 if let Some(table) = table {
-                    table.entries.keys_differ();
+                    let _pairs = table.entries.entries();
                 }
                 Some(Entries { table: self, at: 0 })
             }

@@ -77,7 +77,7 @@ fn entries_of(alloc: Global, pairs: &[Pair<Child<'_>>]) -> Result<Vec<Pair<Value
 pub(crate) fn table_of(alloc: Global, table: &Table<'_>) -> Result<values::Table, AllocError>
     ensures { IfOk result (λ copy. table_of_members (entries copy) ≡ table_data table.now) }
 {
-    let copies = entries_of(alloc, table.entries.pairs())?;
+    let copies = entries_of(alloc, table.entries.entries())?;
     let index = table.entries.index().clone(alloc)?;
     Ok(Pairs::from_parts(copies, index))
 }

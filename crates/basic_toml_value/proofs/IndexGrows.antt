@@ -11,7 +11,7 @@ use Rattle.basic_toml_value.specs.Index.{is_sound, leaf_keys, row_of, joined, be
 use Rattle.basic_toml_value.specs.Index.{IsSorted, IsPlace}
 use Rattle.basic_toml_value.specs.declared.index.Gap.{Gap}
 use Rattle.basic_toml_value.specs.declared.index.leaves.Slot.{Slot}
-use Rattle.basic_toml_value.proofs.Booleans.{and_cases}
+use Rattle.basic_toml_numbers.proofs.Booleans.{and_cases}
 use Rattle.basic_toml_value.proofs.DistinctKeys.{is_among-insert, is_among-push, is_among-before, slice_get-last}
 use Rattle.basic_toml_value.proofs.Order.{rising-insert}
 use Rattle.basic_toml_value.proofs.SlotsInLeaves.{located}

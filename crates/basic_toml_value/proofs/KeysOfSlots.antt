@@ -11,7 +11,7 @@ use Rattle.std.proofs.lemmas.Option.{slice_get-get_or, slice_get_within, get_or_
 use Rattle.basic_toml_value.specs.Index.{ending_of, is_sound, key_at, key_of, leaf_keys, leaf_at, slot_at, row_of}
 use Rattle.basic_toml_value.specs.Index.{joined, before, after, are_filled}
 use Rattle.basic_toml_value.specs.declared.index.leaves.Slot.{Slot}
-use Rattle.basic_toml_value.proofs.Booleans.{and_cases, and_true}
+use Rattle.basic_toml_numbers.proofs.Booleans.{and_cases, and_true}
 use Rattle.basic_toml_value.proofs.SlotsInLeaves.{part_at, joined-map, before-map, after-map}
 
 -- what a sound slot says

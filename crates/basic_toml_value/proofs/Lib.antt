@@ -1,6 +1,3 @@
-pub mod Booleans
-pub mod Canonical
-pub mod Digits
 pub mod DistinctKeys
 pub mod IndexAfterInsert
 pub mod IndexGrows
@@ -9,8 +6,6 @@ pub mod KeyIsText
 pub mod KeysOfSlots
 pub mod LastEightBytes
 pub mod LengthsDecide
-pub mod NumberRows
-pub mod NumbersLemmas
 pub mod Order
 pub mod PairsAreCopied
 pub mod RisingAroundGap
@@ -18,3 +13,5 @@ pub mod SearchFindsGap
 pub mod SeenPairs
 pub mod Sizes
 pub mod SlotsInLeaves
+pub mod KeysSeen
+pub mod KeysChanged

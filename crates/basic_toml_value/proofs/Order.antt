@@ -12,7 +12,7 @@ use Rattle.std.proofs.lemmas.Cmp.{nat_list_cmp_total}
 use Rattle.std.proofs.lemmas.Slice.Eq.{bytes_eq-Decides}
 use Rattle.basic_toml_value.specs.Index.{ending_of, is_below, are_rising, all_below, all_above}
 use Rattle.basic_toml_value.specs.Keys.{is_among}
-use Rattle.basic_toml_value.proofs.Booleans.{and_cases}
+use Rattle.basic_toml_numbers.proofs.Booleans.{and_cases}
 
 -- a key after its ending
 abbrev marked : List ℕ → List ℕ

@@ -5,7 +5,7 @@ use Rattle.std.proofs.lemmas.Bool.{cases_lt}
 use Rattle.std.proofs.lemmas.List.{take_more, drop_all}
 use Rattle.std.proofs.lemmas.List.Folds.{list_all-append}
 use Rattle.basic_toml_value.specs.Index.{is_below, are_rising, all_below, all_above, are_filled, joined, before, after}
-use Rattle.basic_toml_value.proofs.Booleans.{and_true}
+use Rattle.basic_toml_numbers.proofs.Booleans.{and_true}
 use Rattle.basic_toml_value.proofs.SlotsInLeaves.{part_at, at_place, filled_at}
 use Rattle.basic_toml_value.proofs.Order.{rising-left, rising-right, all_below-through, all_above-through}
 use Rattle.basic_toml_value.proofs.Order.{below_asymmetric}

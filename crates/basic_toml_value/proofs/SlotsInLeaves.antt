@@ -11,7 +11,7 @@ use Rattle.std.proofs.lemmas.List.Folds.{list_all-append}
 use Rattle.std.specs.declared.alloc.Global.{Global}
 use Rattle.basic_toml_value.specs.Index.{joined, before, after, with_slot, are_filled, leaves_of, leaf_at}
 use Rattle.basic_toml_value.specs.declared.index.leaves.Slot.{Slot}
-use Rattle.basic_toml_value.proofs.Booleans.{and_cases}
+use Rattle.basic_toml_numbers.proofs.Booleans.{and_cases}
 
 module _ {A : Type 0} where
   abbrev pub part_at : List (List A) → ℕ → List A

@@ -13,6 +13,10 @@ use std::alloc::Global;
 use std::fmt;
 use std::marker::Model;
 
+mod growth;
+
+pub use growth::Blank;
+
 /// Why a pair was not put into a table.
 #[derive(Clone, Copy, Debug, PartialEq, Eq)]
 pub enum PushRefusal {
@@ -178,9 +182,9 @@ impl<V> Pairs<V> {
         self.entries
     }
 
-    // The index of the keys.
+    /// The index of the keys.
     #[tactic(auto, using(crate::proofs::SeenPairs::seen_pairs))]
-    pub(crate) fn index(&self) -> &Index
+    pub fn index(&self) -> &Index
         ensures { IsIndex (keys_of self.now) result.now }
     {
         &self.index

@@ -9,8 +9,8 @@ ghost use Rattle.basic_toml_value.specs.Entries.{seen, texts_of};
 ghost use Rattle.basic_toml_value.specs.Equal.{data_eq, items_eq, members_eq};
 ghost use Rattle.basic_toml_value.specs.View.{view, entries, items_view};
 
-use crate::float::Float;
 use crate::pairs::{Pair, Pairs};
+use basic_toml_numbers::Float;
 use std::alloc::{AllocError, Global};
 
 /// How deep arrays and tables nest at most: the depth of a document that is read, and of a value that is written.

@@ -1,7 +1,7 @@
 -- The laws of writing, as they are stated.
 use Rattle.std.proofs.Common.{◌≡◌, List, codes, Some}
 use Rattle.std.proofs.lemmas.List.Elements.{All-contains}
-use Rattle.basic_toml_value.specs.Numbers.{float_of}
+use Rattle.basic_toml_numbers.specs.Numbers.{float_of}
 use Rattle.basic_toml_layout.specs.Written.{float}
 use Rattle.basic_toml_emit.specs.Items.{Item, a_scalar}
 use Rattle.basic_toml_value.specs.Nesting.{nesting_limit}

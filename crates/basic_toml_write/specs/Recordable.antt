@@ -2,7 +2,7 @@
 -- its own reading, an integer lies in i64 or in u64, and bytes are below 256.
 use Rattle.std.specs.Prelude.{◌≡◌, ◌<◌, List, All, Some, ◌⊎◌, ⊤, IsUtf8, FitsSigned}
 use Rattle.std.specs.Int.{FitsUnsigned, w64}
-use Rattle.basic_toml_value.specs.Numbers.{float_of}
+use Rattle.basic_toml_numbers.specs.Numbers.{float_of}
 use Rattle.basic_toml_layout.specs.Written.{Scalar, integer, float, text, other_text, bytes}
 use Rattle.basic_toml_emit.specs.Items.{Item, a_scalar, field}
 

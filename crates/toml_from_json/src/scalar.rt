@@ -6,7 +6,8 @@ ghost use Rattle.toml_from_json.specs.Meaning as spec;
 ghost use Rattle.toml_from_json.specs.Meaning.{IsRefused, number_data, tagged_data};
 
 use crate::refusal::{Fault, NoTable, refused};
-use basic_toml_value::{Float, Value, integer_of};
+use basic_toml_numbers::integer_of;
+use basic_toml_value::{Float, Value};
 use json::Value as Json;
 use std::alloc::{AllocError, Global};
 

@@ -6,7 +6,7 @@ use Rattle.basic_toml_tokens.specs.Reading.{Reading}
 use Rattle.basic_toml_tokens.specs.Token.{TokenAt}
 use Rattle.basic_toml_tokens.specs.TokenAt.{Lexeme, period, left_bracket, right_bracket, keylike}
 use Rattle.basic_toml_tokens.specs.Tokenizer.{key_of}
-use Rattle.basic_toml_value.specs.Numbers.{integer_of}
+use Rattle.basic_toml_numbers.specs.Numbers.{integer_of}
 use Rattle.toml_path.specs.declared.path.PathError.{PathError}
 use Rattle.toml_path.specs.declared.path.PathError.TheVariants.{Malformed, OutOfMemory}
 use Rattle.toml_path.specs.declared.path.Sign.{Sign}

@@ -2,8 +2,8 @@
 ghost use Rattle.std.specs.Prelude.{◌≡◌, ◌+◌, ◌-◌, ◌<◌, ◌^◌, true, false, [], ◌∷◌, None, length};
 ghost use Rattle.std.specs.Str.{IsCharBoundary};
 ghost use Rattle.std.specs.List.{list_any};
-ghost use Rattle.basic_toml_value.specs.Numbers as numbers;
-ghost use Rattle.basic_toml_value.specs.Numbers.{after_part};
+ghost use Rattle.basic_toml_numbers.specs.Numbers as numbers;
+ghost use Rattle.basic_toml_numbers.specs.Numbers.{after_part};
 ghost use Rattle.basic_toml_tokens.specs.Text.{run, after_run, is_keylike};
 ghost use Rattle.basic_toml_tokens.specs.Reading.{text_of};
 ghost use Rattle.basic_toml_grammar.specs.NumberTokens.{plus_rest, mark_rest, word_rest};
@@ -18,7 +18,7 @@ use super::part::{part_fault, signed_part_fault};
 use crate::ReadError;
 use crate::cursor::Cursor;
 use basic_toml_tokens::Token;
-use basic_toml_value::{integer_of, split_part};
+use basic_toml_numbers::{integer_of, split_part};
 use std::alloc::Global;
 
 /// Whether a word begins a number: with a digit or a minus, or `inf` or `nan`.

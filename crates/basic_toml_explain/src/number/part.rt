@@ -2,7 +2,7 @@
 ghost use Rattle.std.specs.Prelude.{◌≡◌, ◌+◌, ◌<◌, ◌^◌, length};
 ghost use Rattle.basic_toml_grammar.specs.NumberFaults as spec;
 
-use basic_toml_value::{is_digits, is_whole, split_part};
+use basic_toml_numbers::{is_digits, is_whole, split_part};
 
 // The offset of a digit after a leading zero.
 fn after_zero(at: usize, text: &[u8]) -> Option<usize>

@@ -11,7 +11,7 @@ use Rattle.std.proofs.lemmas.List.Elements.{All-nil, All-cons, All-append, All-h
 use Rattle.basic_toml_tokens.specs.Text.{Text, StartsWith, first_of, folded_from, start_of, folded, run, is_blank}
 use Rattle.basic_toml_tokens.specs.Text.{is_comment, after_blanks}
 use Rattle.basic_toml_tokens.specs.Strings.{Opens, one_line, multiline}
-use Rattle.basic_toml_value.specs.Numbers.{integer_of, float_of}
+use Rattle.basic_toml_numbers.specs.Numbers.{integer_of, float_of}
 use Rattle.basic_toml_grammar.specs.Sections.{Key, Raw, Elements, Rows, no_rows, row, Section}
 use Rattle.basic_toml_grammar.specs.Grammar.{IsKey, bare, quoted, IsKeys, more, is_wordlike, number_value}
 use Rattle.basic_toml_grammar.specs.Grammar.{word_value, after_gap, IsValue, word, string, array, inline, IsElements}

@@ -24,7 +24,7 @@ use Rattle.basic_toml_grammar.specs.Grammar.{no_more, section, with_root, IsSect
 use Rattle.basic_toml_grammar.specs.Grammar.{is_wordlike}
 use Rattle.basic_toml_grammar.specs.Entering.{all_keyed, has_key, keyed_within, value_keyed, elements_keyed}
 use Rattle.basic_toml_grammar.specs.Entering.{all_keyed_within}
-use Rattle.basic_toml_value.specs.Numbers.{integer_of, float_of}
+use Rattle.basic_toml_numbers.specs.Numbers.{integer_of, float_of}
 use Rattle.basic_toml_grammar.specs.Document.{has_clash, tree_of_sections}
 use Rattle.basic_toml_grammar.proofs.AmongElements.{Among, first, next, among_left, among_right}
 use Rattle.basic_toml_grammar.proofs.Trees.TreeIsGrouped.{tree_is_grouped}

@@ -6,9 +6,9 @@ use Rattle.std.specs.Str.{bytes_eq}
 use Rattle.std.proofs.lemmas.Bool.{false≢true, and_parts}
 use Rattle.std.proofs.lemmas.List.{append-nil}
 use Rattle.basic_toml_tokens.specs.Text.{Text, offset_in, run, after_run, is_keylike}
-use Rattle.basic_toml_value.specs.Numbers.{is_digits, is_whole, part_of}
-use Rattle.basic_toml_value.specs.Numbers.{after_part, is_exponent_letter, is_exponent}
-use Rattle.basic_toml_value.specs.Numbers.{without_sign}
+use Rattle.basic_toml_numbers.specs.Numbers.{is_digits, is_whole, part_of}
+use Rattle.basic_toml_numbers.specs.Numbers.{after_part, is_exponent_letter, is_exponent}
+use Rattle.basic_toml_numbers.specs.Numbers.{without_sign}
 use Rattle.basic_toml_grammar.specs.Grammar.{is_wordlike}
 use Rattle.basic_toml_grammar.specs.NumberFaults.{part_fault, without_minus, left_fault}
 use Rattle.basic_toml_grammar.specs.NumberFaults.{plus_word_fault, near_power_fault, power_fault, exponent_fault}

@@ -8,8 +8,8 @@ use Rattle.std.specs.Str.{bytes_eq}
 use Rattle.std.proofs.lemmas.Bool.{false≢true, and_parts, or_cases}
 use Rattle.std.proofs.lemmas.Slice.Eq.{bytes_eq-Decides}
 use Rattle.basic_toml_tokens.specs.Text.{Text, run, after_run, is_keylike}
-use Rattle.basic_toml_value.specs.Numbers.{goes_on, is_digits, is_whole, is_part, part_of, after_part, is_special}
-use Rattle.basic_toml_value.specs.Numbers.{is_exponent_letter}
+use Rattle.basic_toml_numbers.specs.Numbers.{goes_on, is_digits, is_whole, is_part, part_of, after_part, is_special}
+use Rattle.basic_toml_numbers.specs.Numbers.{is_exponent_letter}
 use Rattle.basic_toml_grammar.specs.Grammar.{is_wordlike}
 use Rattle.basic_toml_grammar.specs.Reader.{char_at}
 use Rattle.basic_toml_grammar.specs.NumberFaults.{leading_underscore, after_zero, begins_digit, is_fine, part_fault}

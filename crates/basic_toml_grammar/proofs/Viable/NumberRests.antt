@@ -10,7 +10,7 @@ use Rattle.std.proofs.lemmas.Slice.Eq.{bytes_eq-Decides}
 use Rattle.basic_toml_tokens.specs.Text.{Text, offset_in, run, after_run, is_keylike}
 use Rattle.basic_toml_tokens.specs.TokenAt as token
 use Rattle.basic_toml_tokens.specs.TokenAt.{Lexeme, keylike}
-use Rattle.basic_toml_value.specs.Numbers.{after_part, is_exponent_letter}
+use Rattle.basic_toml_numbers.specs.Numbers.{after_part, is_exponent_letter}
 use Rattle.basic_toml_grammar.specs.Grammar.{is_wordlike}
 use Rattle.basic_toml_grammar.specs.Reader.{char_at}
 use Rattle.basic_toml_grammar.specs.NumberFaults.{without_minus, is_prefixed, takes_no_plus, plus_fault, begins_number, outside}

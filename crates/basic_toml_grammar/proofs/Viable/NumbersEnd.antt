@@ -6,8 +6,8 @@ use Rattle.std.specs.Str.{bytes_eq}
 use Rattle.std.proofs.lemmas.Bool.{false≢true, and_parts, or_cases}
 use Rattle.std.proofs.lemmas.Slice.Eq.{bytes_eq-Decides}
 use Rattle.basic_toml_tokens.specs.Text.{Text, run, after_run, is_keylike}
-use Rattle.basic_toml_value.specs.Numbers.{integer_of, float_of, is_digits, is_whole, part_of, after_part}
-use Rattle.basic_toml_value.specs.Numbers.{is_exponent_letter, is_exponent, is_tail, is_special, without_sign}
+use Rattle.basic_toml_numbers.specs.Numbers.{integer_of, float_of, is_digits, is_whole, part_of, after_part}
+use Rattle.basic_toml_numbers.specs.Numbers.{is_exponent_letter, is_exponent, is_tail, is_special, without_sign}
 use Rattle.basic_toml_grammar.specs.Sections.{Raw}
 use Rattle.basic_toml_grammar.specs.Grammar.{is_wordlike, number_value, word_value}
 use Rattle.basic_toml_grammar.specs.Reader.{char_at}

@@ -9,8 +9,8 @@ use Rattle.std.proofs.lemmas.Bool.{false≢true, and_parts, and_from, or_cases, 
 use Rattle.std.proofs.lemmas.List.{append-nil}
 use Rattle.std.proofs.lemmas.Slice.Eq.{bytes_eq-Decides}
 use Rattle.basic_toml_tokens.specs.Text.{Text, run}
-use Rattle.basic_toml_value.specs.Numbers.{integer_of, float_of, decimal, after_zero, goes_on, is_whole, part_of}
-use Rattle.basic_toml_value.specs.Numbers.{after_part, is_tail, is_special, is_unsigned_float}
+use Rattle.basic_toml_numbers.specs.Numbers.{integer_of, float_of, decimal, after_zero, goes_on, is_whole, part_of}
+use Rattle.basic_toml_numbers.specs.Numbers.{after_part, is_tail, is_special, is_unsigned_float}
 use Rattle.basic_toml_grammar.specs.Sections.{Raw}
 use Rattle.basic_toml_grammar.specs.Grammar.{is_wordlike, number_value, word_value}
 use Rattle.basic_toml_grammar.specs.GrammarFaults.{is_unquoted}

@@ -9,10 +9,10 @@ use Rattle.std.proofs.lemmas.Bool.{false≢true, and_parts, or_cases}
 use Rattle.std.proofs.lemmas.List.{append-nil}
 use Rattle.std.proofs.lemmas.Slice.Eq.{bytes_eq-Decides}
 use Rattle.basic_toml_tokens.specs.Text.{Text, offset_in, run, after_run, is_keylike, is_comment}
-use Rattle.basic_toml_value.specs.Numbers.{integer_of, float_of, decimal, in_radix, is_digits, is_whole, part_of}
-use Rattle.basic_toml_value.specs.Numbers.{after_zero}
-use Rattle.basic_toml_value.specs.Numbers.{after_part, is_exponent_letter, is_exponent, is_tail, is_special}
-use Rattle.basic_toml_value.specs.Numbers.{is_unsigned_float, without_sign, canonical}
+use Rattle.basic_toml_numbers.specs.Numbers.{integer_of, float_of, decimal, in_radix, is_digits, is_whole, part_of}
+use Rattle.basic_toml_numbers.specs.Numbers.{after_zero}
+use Rattle.basic_toml_numbers.specs.Numbers.{after_part, is_exponent_letter, is_exponent, is_tail, is_special}
+use Rattle.basic_toml_numbers.specs.Numbers.{is_unsigned_float, without_sign, canonical}
 use Rattle.basic_toml_grammar.specs.Sections.{Raw}
 use Rattle.basic_toml_grammar.specs.Grammar.{is_wordlike, number_value, word_value, IsValue, word, string, array, inline}
 use Rattle.basic_toml_grammar.specs.Reader.{char_at}

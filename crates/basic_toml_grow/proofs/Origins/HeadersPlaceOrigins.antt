@@ -19,13 +19,13 @@ use Rattle.basic_toml_grow.specs.declared.item.Item.TheViews.{roll-Table, out-ro
 use Rattle.basic_toml_grow.specs.declared.item.Child.{Child, out-Child}
 use Rattle.basic_toml_grow.specs.declared.item.Table.{Table, out-Table}
 use Rattle.basic_toml_grow.specs.Item.{item_trie, child_trie, table_trie, by_keys}
-use Rattle.basic_toml_clash.specs.Keyed.{with_value, values_of}
+use Rattle.basic_toml_value.specs.Growth.{with_value, values_of}
 use Rattle.basic_toml_grow.specs.Headers.{holding, Passes, PutsBack}
 use Rattle.basic_toml_grow.specs.Origins.{Origins, at_keys}
 use Rattle.basic_toml_grow.specs.Origins.{child_origins, item_origins, table_within}
 use Rattle.basic_toml_grow.specs.Origins.{with_more, or_else, along}
 use Rattle.basic_toml_grow.specs.Ways.{way, way_by, way_at, GrowsAlong}
-use Rattle.basic_toml_clash.proofs.KeysChanged.{value_put}
+use Rattle.basic_toml_value.proofs.KeysChanged.{value_put}
 use Rattle.basic_toml_grow.proofs.HeadersInATrie.{made, fresh, array_of}
 use Rattle.basic_toml_grow.proofs.HeadersEntered.{out_holding, passed_trie}
 use Rattle.basic_toml_grow.proofs.ItemTries.{table_entries_trie}

@@ -18,12 +18,12 @@ use Rattle.basic_toml_grow.specs.declared.item.Item.TheOpen.{Item-F}
 use Rattle.basic_toml_grow.specs.declared.item.Child.{Child, out-Child}
 use Rattle.basic_toml_grow.specs.declared.item.Table.{Table, out-Table}
 use Rattle.basic_toml_grow.specs.Item.{item_trie, child_trie, table_trie, by_keys}
-use Rattle.basic_toml_clash.specs.Keyed.{with_value, values_of, EntersKey}
+use Rattle.basic_toml_value.specs.Growth.{with_value, values_of, EntersKey}
 use Rattle.basic_toml_grow.specs.Origins.{Origin, Origins, no_origins, entry, under, at_keys, at_numbers}
 use Rattle.basic_toml_grow.specs.Origins.{elements_within, array_origin, value_origin, table_origin}
 use Rattle.basic_toml_grow.specs.Origins.{item_origins, child_origins, table_within, or_else, beyond}
 use Rattle.basic_toml_grow.proofs.ItemTries.{child_item_trie, table_entries_trie}
-use Rattle.basic_toml_clash.proofs.KeysChanged.{value_at-map, stood_or_fresh, put_at, kept_elsewhere}
+use Rattle.basic_toml_value.proofs.KeysChanged.{value_at-map, stood_or_fresh, put_at, kept_elsewhere}
 use Rattle.basic_toml_grow.proofs.KeysInATrie.{tries_of}
 use Rattle.basic_toml_grow.proofs.ItemsStand.{shape, standing_here, item_standing}
 

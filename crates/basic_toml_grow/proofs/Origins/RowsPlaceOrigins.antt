@@ -13,7 +13,7 @@ use Rattle.basic_toml_grow.specs.declared.item.Child.{Child, out-Child}
 use Rattle.basic_toml_grow.specs.declared.item.Table.{Table, out-Table}
 use Rattle.basic_toml_grow.specs.Simple.{with_entries}
 use Rattle.basic_toml_grow.specs.Item.{child_trie}
-use Rattle.basic_toml_clash.specs.Keyed.{with_value, values_of, EntersKey}
+use Rattle.basic_toml_value.specs.Growth.{with_value, values_of, EntersKey}
 use Rattle.basic_toml_grow.specs.Origins.{Origin, Origins, no_origins, entry, at_keys, Within, table_origin}
 use Rattle.basic_toml_grow.specs.Origins.{child_origins}
 use Rattle.basic_toml_grow.specs.Origins.{item_origins, table_within, with_more, or_else, beyond, row_origins}

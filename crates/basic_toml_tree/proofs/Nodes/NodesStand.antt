@@ -27,7 +27,7 @@ use Rattle.basic_toml_tree.specs.declared.tree.Tree.{Tree}
 use Rattle.basic_toml_tree.specs.declared.node.Node.{Node}
 use Rattle.basic_toml_tree.specs.declared.spot.Spot.{Spot}
 use Rattle.basic_toml_tree.specs.declared.spot.Spot.TheVariants as spots
-use Rattle.basic_toml_clash.specs.Keyed.{values_of}
+use Rattle.basic_toml_value.specs.Growth.{values_of}
 use Rattle.basic_toml_grow.specs.Item.{item_trie, child_trie, table_trie, by_keys, by_numbers, leaf, tree_data}
 use Rattle.basic_toml_tree.specs.Stands.{trie_at, tree_trie, spot_trie, wraps_table, HoldsTable, IsBelow, is_root}
 use Rattle.basic_toml_tree.specs.Keys.{KeysLead, RowsLead}
@@ -43,7 +43,7 @@ use Rattle.basic_toml_grow.proofs.PlainArrays.{plain_trie, plain_origins}
 use Rattle.basic_toml_tree.proofs.Nodes.PlainNodes.{element_comes}
 use Rattle.basic_toml_tree.proofs.ItemData.{data_at_found}
 use Rattle.basic_toml_grow.proofs.ItemTries.{table_entries_trie}
-use Rattle.basic_toml_clash.proofs.KeysChanged.{first_at}
+use Rattle.basic_toml_value.proofs.KeysChanged.{first_at}
 use Rattle.basic_toml_grow.proofs.ItemsStand.{shape}
 use Rattle.basic_toml_tree.proofs.Nodes.NodesCome.{comes_on, key_comes, key_origins, literal_comes, tables_come}
 use Rattle.basic_toml_tree.proofs.Nodes.NodesCome.{table_node_comes}

@@ -4,7 +4,7 @@ use Rattle.std.proofs.lemmas.Result.{err_from_is_err_and}
 use Rattle.basic_toml_grammar.specs.Sections.{KeyTexts}
 use Rattle.basic_toml_read.specs.SectionView.{lined_of}
 use Rattle.basic_toml_clash.specs.declared.crossed.Trail.{Trail, roll-Trail}
-use Rattle.basic_toml_clash.specs.Keyed.{with_value}
+use Rattle.basic_toml_value.specs.Growth.{with_value}
 use Rattle.basic_toml_clash.specs.Trail.{ends_of, no_trail, path_of, value_on, Follows, FollowsTo}
 use Rattle.basic_toml_clash.proofs.RowsOfKeys.{lined_is}
 use Rattle.basic_toml_clash.proofs.TrailGrows.{nowhere, trail_ends, rolled_end, rolled_below, fault_below, row_below}

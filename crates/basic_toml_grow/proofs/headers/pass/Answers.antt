@@ -1,6 +1,6 @@
 use Rattle.std.proofs.Common.{rules, sym, ap}
-use Rattle.basic_toml_clash.specs.Keyed.{with_value}
-use Rattle.basic_toml_clash.proofs.KeysSeen.{length-with_value}
+use Rattle.basic_toml_value.specs.Growth.{with_value}
+use Rattle.basic_toml_value.proofs.KeysSeen.{length-with_value}
 use Rattle.basic_toml_grow.specs.declared.item.Item.{the_lemmas}
 use Rattle.basic_toml_grow.specs.declared.item.Item.TheViews.{out-roll-Table}
 use Rattle.basic_toml_grow.specs.Item.{no_child}

@@ -1,7 +1,7 @@
 use Rattle.std.proofs.Common.{List, ℕ, ap, sym, ◌∙◌, subst, IsTrue}
 use Rattle.basic_toml_value.specs.Keys.{are_distinct}
 use Rattle.basic_toml_value.specs.Pairs.{keys_of}
-use Rattle.basic_toml_clash.proofs.KeysSeen.{keys_of-seen}
+use Rattle.basic_toml_value.proofs.KeysSeen.{keys_of-seen}
 use Rattle.basic_toml_grow.proofs.SimpleRows.{entry_keys}
 use Rattle.basic_toml_grow.proofs.simple.with_rows.Goals as goal
 

@@ -8,7 +8,7 @@ use Rattle.basic_toml_clash.proofs.DataParts.{items_size-rest, items_size-front,
 use Rattle.basic_toml_clash.proofs.DataParts.{mapped_next, array_seen}
 use Rattle.basic_toml_tree.proofs.ItemData.{child_item, plain_elements, table_of_pairs, tables_data, table_seen}
 use Rattle.basic_toml_tree.proofs.ItemData.{entries_seen, keys_copied, tables_whole}
-use Rattle.basic_toml_clash.proofs.KeysSeen.{keys_of-seen}
+use Rattle.basic_toml_value.proofs.KeysSeen.{keys_of-seen}
 use Rattle.basic_toml_grow.proofs.RowsLeft.{nothing_left}
 use Rattle.basic_toml_grow.proofs.SimpleRows.{none_after}
 use Rattle.basic_toml_tree.proofs.values.+moves.Goals as goal

@@ -1,6 +1,6 @@
 use Rattle.std.proofs.Common.{◌≡◌, ◌+◌, ◌-◌, ℕ, List, length, subst, sym, ap, ◌∙◌}
 use Rattle.basic_toml_tokens.specs.Reading.{text_of}
-use Rattle.basic_toml_value.specs.Numbers.{after_part}
+use Rattle.basic_toml_numbers.specs.Numbers.{after_part}
 use Rattle.basic_toml_grammar.specs.NumberTokens.{mark_rest}
 use Rattle.basic_toml_grammar.specs.NumberFaults as spec
 use Rattle.basic_toml_explain.specs.NumberFault.{behind_left, Finds}

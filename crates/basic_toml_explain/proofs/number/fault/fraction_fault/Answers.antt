@@ -1,7 +1,7 @@
 use Rattle.std.proofs.Common.{◌≡◌, ◌+◌, ◌-◌, ℕ, List, [], length, subst, sym, arith, ap, ◌∙◌}
 use Rattle.basic_toml_tokens.specs.Text.{run, after_run, is_keylike}
 use Rattle.basic_toml_tokens.specs.Reading.{Reading, text_of}
-use Rattle.basic_toml_value.specs.Numbers.{after_part}
+use Rattle.basic_toml_numbers.specs.Numbers.{after_part}
 use Rattle.basic_toml_grammar.specs.NumberTokens.{mark_rest}
 use Rattle.basic_toml_grammar.specs.NumberFaults as spec
 use Rattle.basic_toml_explain.specs.NumberFault.{behind_left, behind_fraction, Finds}

@@ -1,7 +1,7 @@
 use Rattle.std.proofs.Common.{Bool, false, Ok, subst, sym, ap, ◌∙◌}
 use Rattle.std.specs.List.{list_any}
 use Rattle.basic_toml_tokens.specs.Reading.{text_of}
-use Rattle.basic_toml_value.specs.Numbers as numbers
+use Rattle.basic_toml_numbers.specs.Numbers as numbers
 use Rattle.basic_toml_grammar.specs.NumberFaults as spec
 use Rattle.basic_toml_grammar.specs.NumberTokens.{behind_word}
 use Rattle.basic_toml_explain.specs.Cursor.{EatsPunctuation}

@@ -1,7 +1,7 @@
 use Rattle.std.proofs.Common.{◌≡◌, ◌-◌, ◌∷◌, Ok, Some, None, false, length, subst, sym, ap, ◌∙◌}
 use Rattle.basic_toml_tokens.specs.Text.{offset_in}
 use Rattle.basic_toml_tokens.specs.Reading.{Reading, text_of}
-use Rattle.basic_toml_value.specs.Numbers as numbers
+use Rattle.basic_toml_numbers.specs.Numbers as numbers
 use Rattle.basic_toml_grammar.specs.NumberTokens.{plus_rest}
 use Rattle.basic_toml_grammar.specs.NumberFaults as spec
 use Rattle.basic_toml_grammar.specs.NumberTokens.{behind_sign}

@@ -2,7 +2,7 @@ use Rattle.std.proofs.Common.{◌≡◌, ◌+◌, ◌-◌, ℕ, Bool, false, ref
 use Rattle.std.specs.List.{list_any}
 use Rattle.basic_toml_tokens.specs.Text.{run, after_run, is_keylike}
 use Rattle.basic_toml_tokens.specs.Reading.{Reading, text_of}
-use Rattle.basic_toml_value.specs.Numbers as numbers
+use Rattle.basic_toml_numbers.specs.Numbers as numbers
 use Rattle.basic_toml_grammar.specs.NumberTokens.{mark_rest, word_rest}
 use Rattle.basic_toml_grammar.specs.NumberFaults as spec
 use Rattle.basic_toml_grammar.specs.NumberTokens.{behind_word}

@@ -1,0 +1,117 @@
+-- Keys with their values in memory, and what is seen of them.
+use Rattle.std.proofs.Common.{◌≡◌, ℕ, suc, zero, ◌<◌, true, false, List, [], ◌∷◌, ◌++◌, length, refl, sym}
+use Rattle.std.proofs.Common.{ap, ◌∙◌, arith, Some, get_or, take, IsTrue}
+use Rattle.std.specs.List.{slice_get, slice_set}
+use Rattle.std.proofs.lemmas.List.{map-append}
+use Rattle.basic_toml_value.specs.declared.pairs.Pair.{Pair}
+use Rattle.basic_toml_value.specs.Key.{key_bytes}
+use Rattle.basic_toml_value.specs.Entries.{pair_seen, seen, texts_of}
+use Rattle.basic_toml_value.specs.Keys.{is_among, are_distinct}
+use Rattle.basic_toml_value.specs.Pairs.{keys_of, has_key}
+use Rattle.basic_toml_value.proofs.SeenPairs.{value_at-found, value_at-absent}
+use Rattle.basic_toml_value.proofs.DistinctKeys.{slice_get-last, is_among_at, is_among-before}
+use Rattle.basic_toml_value.specs.Growth.{with_value, values_of, EntersKey}
+
+take-front : (keys : List (List ℕ)) (key : List ℕ) → take (length keys) (keys ++ key ∷ []) ≡ keys
+take-front [] key = refl
+take-front (k ∷ ks) key = ap (λ ks. k ∷ ks) (take-front ks key)
+
+module _ {V : Type 0} where
+  pub keys_of-seen : (pairs : List (Pair V)) → keys_of (seen pairs) ≡ texts_of pairs
+  keys_of-seen [] = refl
+  keys_of-seen (p ∷ ps) = ap (λ keys. key_bytes p.key ∷ keys) (keys_of-seen ps)
+
+  pub has_key-seen : (pairs : List (Pair V)) (key : List ℕ) → has_key (seen pairs) key ≡ is_among (texts_of pairs) key
+  has_key-seen pairs key = ap (λ keys. is_among keys key) (keys_of-seen pairs)
+
+  pub has_key-found : (pairs : List (Pair V)) (i : ℕ) (key : List ℕ) → slice_get (texts_of pairs) i ≡ Some key
+      → has_key (seen pairs) key ≡ true
+  has_key-found pairs i key at = has_key-seen pairs key ∙ is_among_at (texts_of pairs) i key at
+
+  pub text_at : (pairs : List (Pair V)) (i : ℕ) (pair : Pair V) → slice_get pairs i ≡ Some pair
+      → slice_get (texts_of pairs) i ≡ Some (key_bytes pair.key)
+  text_at [] i pair read = absurd (cc)
+  text_at (p ∷ ps) zero pair read = let same : p ≡ pair = cc in ap (λ p. Some (key_bytes p.key)) same
+  text_at (p ∷ ps) (suc i) pair read = text_at ps i pair read
+
+  -- a key that is found is entered
+  pub entered_found : (pairs : List (Pair V)) (old : List (List ℕ × V)) (i : ℕ) (key : List ℕ) (v : V)
+      → seen pairs ≡ old → IsTrue (are_distinct (texts_of pairs)) → slice_get (texts_of pairs) i ≡ Some key
+      → EntersKey key v old old i
+  entered_found pairs old i key v same distinct found =
+      let there : has_key old key ≡ true = rw (← same) (has_key-found pairs i key found) in record {
+        at = rw (← same) (rw (keys_of-seen pairs) found);
+        first = rw (← same) (rw (keys_of-seen pairs) (is_among-before (texts_of pairs) i key distinct found));
+        pairs = rw there refl;
+      }
+
+  seen-push : (pairs : List (Pair V)) (pair : Pair V) → seen (pairs ++ pair ∷ []) ≡ seen pairs ++ pair_seen pair ∷ []
+  seen-push pairs pair = map-append pair_seen pairs (pair ∷ [])
+
+  texts_of-push : (pairs : List (Pair V)) (pair : Pair V)
+      → texts_of (pairs ++ pair ∷ []) ≡ texts_of pairs ++ key_bytes pair.key ∷ []
+  texts_of-push pairs pair = map-append (λ p. key_bytes p.key) pairs (pair ∷ [])
+
+  length-texts : (pairs : List (Pair V)) → length (texts_of pairs) ≡ length pairs
+  length-texts [] = refl
+  length-texts (p ∷ ps) = ap suc (length-texts ps)
+
+  -- a key that is absent is entered last
+  pub entered_last : (pairs : List (Pair V)) (old : List (List ℕ × V)) (pair : Pair V) (key : List ℕ) (v : V)
+      → seen pairs ≡ old → is_among (texts_of pairs) key ≡ false → key_bytes pair.key ≡ key → pair.value ≡ v
+      → EntersKey key v old (seen (pairs ++ pair ∷ [])) (length pairs)
+  entered_last pairs old pair key v same absent at_key at_value =
+      let none : has_key old key ≡ false = rw (← same) (has_key-seen pairs key ∙ absent) in record {
+        at = rw (keys_of-seen (pairs ++ pair ∷ []), texts_of-push pairs pair, at_key, ← length-texts pairs)
+            (slice_get-last (texts_of pairs) key);
+        first = rw (keys_of-seen (pairs ++ pair ∷ []), texts_of-push pairs pair, ← length-texts pairs)
+            (rw (take-front (texts_of pairs) (key_bytes pair.key)) absent);
+        pairs = rw (none, seen-push pairs pair, same, at_key, at_value) refl;
+      }
+
+  pub seen-set : (pairs : List (Pair V)) (i : ℕ) (pair : Pair V) (v : V) → i < length pairs → pair ≡ get_or pairs i pair
+      → seen (slice_set pairs i (record { key = pair.key; value = v })) ≡ with_value (seen pairs) i v
+  seen-set [] i pair v within read = absurd (omega arith)
+  seen-set (p ∷ ps) zero pair v within read = rw (ap (λ x. key_bytes x.key) read) refl
+  seen-set (p ∷ ps) (suc i) pair v within read = ap (λ l. pair_seen p ∷ l) (seen-set ps i pair v (omega arith) read)
+
+  pub texts_of-set : (pairs : List (Pair V)) (i : ℕ) (pair : Pair V) (v : V) → i < length pairs
+      → pair ≡ get_or pairs i pair
+      → texts_of (slice_set pairs i (record { key = pair.key; value = v })) ≡ texts_of pairs
+  texts_of-set [] i pair v within read = absurd (omega arith)
+  texts_of-set (p ∷ ps) zero pair v within read = rw (ap (λ x. key_bytes x.key) read) refl
+  texts_of-set (p ∷ ps) (suc i) pair v within read =
+      ap (λ l. key_bytes p.key ∷ l) (texts_of-set ps i pair v (omega arith) read)
+
+  pub length-seen : (pairs : List (Pair V)) → length (seen pairs) ≡ length pairs
+  length-seen [] = refl
+  length-seen (p ∷ ps) = ap suc (length-seen ps)
+
+  -- the key of the pair at a position
+  pub key_at : (pairs : List (Pair V)) (i : ℕ) (pair : Pair V) → i < length pairs → pair ≡ get_or pairs i pair
+      → slice_get (keys_of (seen pairs)) i ≡ Some (key_bytes pair.key)
+  key_at [] i pair within read = absurd (omega arith)
+  key_at (p ∷ ps) zero pair within read = ap (λ x. Some (key_bytes x.key)) (sym read)
+  key_at (p ∷ ps) (suc i) pair within read = key_at ps i pair (omega arith) read
+
+  -- the value of the pair at a position
+  pub value_at_position : (pairs : List (Pair V)) (i : ℕ) (pair : Pair V) → i < length pairs
+      → pair ≡ get_or pairs i pair
+      → slice_get (values_of (seen pairs)) i ≡ Some pair.value
+  value_at_position [] i pair within read = absurd (omega arith)
+  value_at_position (p ∷ ps) zero pair within read = ap (λ x. Some x.value) (sym read)
+  value_at_position (p ∷ ps) (suc i) pair within read = value_at_position ps i pair (omega arith) read
+
+  pub length-with_value : (pairs : List (List ℕ × V)) (i : ℕ) (v : V) → length (with_value pairs i v) ≡ length pairs
+  length-with_value [] i v = refl
+  length-with_value (p ∷ ps) zero v = refl
+  length-with_value (p ∷ ps) (suc i) v = ap suc (length-with_value ps i v)
+
+  -- a key that stands at a position stands within
+  pub stands_within : (pairs : List (List ℕ × V)) (i : ℕ) (key : List ℕ) → slice_get (keys_of pairs) i ≡ Some key
+      → i < length pairs
+  stands_within [] i key at = absurd (cc)
+  stands_within (p ∷ ps) zero key at = omega arith
+  stands_within (p ∷ ps) (suc i) key at = let below : i < length ps = stands_within ps i key at in omega arith
+
+pub ruleset keys_seen = (keys_of-seen, has_key-seen, has_key-found, value_at-found, value_at-absent)

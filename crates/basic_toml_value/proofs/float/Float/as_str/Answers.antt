@@ -1,5 +1,0 @@
-use Rattle.basic_toml_value.proofs.NumbersLemmas.{float_of-canonical}
-use Rattle.basic_toml_value.proofs.float.Float.as_str.Goals as goal
-
-pub returns-clause-own_reading : goal.returns-clause-own_reading
-returns-clause-own_reading c = rw (← c.self.view_is) (float_of-canonical _ c.self.invariant)

@@ -1,7 +1,0 @@
--- What is kept so far, and the canonical form of what is left.
-use Rattle.std.proofs.Common.{◌≡◌, ◌++◌, drop, string_bytes}
-use Rattle.basic_toml_value.specs.Numbers.{canonical}
-use Rattle.basic_toml_value.proofs.float.canonical.Given as goal
-
-abbrev pub invariant-loop-byte : goal.invariant-loop-byte
-invariant-loop-byte l = canonical l.text ≡ string_bytes l.kept ++ canonical (drop l.byte-index l.byte-items)

@@ -1,0 +1,14 @@
+use Rattle.std.proofs.Common.{◌<◌, ◌∙◌, length, sym, ap, subst, ℕ, Some}
+use Rattle.std.specs.List.{slice_get}
+use Rattle.basic_toml_value.specs.Pairs.{keys_of}
+use Rattle.basic_toml_value.proofs.KeysSeen.{key_at, length-seen}
+use Rattle.basic_toml_value.proofs.pairs.Pairs.key.Goals as goal
+
+pub returns : goal.returns
+returns g c =
+    let within : c.args.position < length c.self.inside.entries.items =
+    subst (λ (n : ℕ). c.args.position < n) (ap length (sym c.self.view_is) ∙ length-seen c.self.inside.entries.items) c.requires
+    in
+    ap (λ ps. slice_get (keys_of ps) c.args.position) (sym c.self.view_is)
+    ∙ key_at c.self.inside.entries.items c.args.position c.index.result.now within c.index.ensures
+    ∙ ap Some (sym c.as_str.ensures.value)
