@@ -29,8 +29,8 @@ fn make_room<V>(pairs: &mut Vec<Pair<V>>) -> Result<(), AllocError>
     pairs.try_reserve(1)
 }
 
-// Puts a key last with a value. Where memory is refused, all stays as it was. It stands apart from the search before it,
-// since most keys that are entered are there already.
+// Puts a key last with a value. Where memory is refused, all stays as it was. It stands apart from the search before
+// it, since most keys that are entered are there already.
 #[inline(never)]
 fn add<V: Drop>(
     pairs: &mut Vec<Pair<V>>,
@@ -234,8 +234,8 @@ impl<V: Drop + Blank> Keyed<V> {
     ghost use Rattle.std.specs.Prelude.{◌≡◌, ◌<◌, length, IfOk, IfErr};
     ghost use Rattle.basic_toml_clash.specs.Keyed.{EntersKey};
 
-    /// The position of a key, which is put last where it is not there: then the blank value stands at it. Where memory is
-    /// refused, all stays as it was.
+    /// The position of a key, which is put last where it is not there: then the blank value stands at it. Where memory
+    /// is refused, all stays as it was.
     pub fn enter(&mut self, key: &str) -> Result<usize, AllocError>
         ensures entered { IfOk result (λ position. EntersKey key.now V.blank self.old self.new position) }
         ensures within { IfOk result (λ position. position < length self.new) }
