@@ -131,7 +131,7 @@ fn key_copy(alloc: Global, keys: &[Key<'_>], number: usize) -> Result<(String, u
     }
 }
 
-// A key of a header stands before it.
+// The error of a key of a header that stands before it, with so many keys left from that key on.
 fn header_key(alloc: Global, section: &Section<'_>, left: usize) -> Result<ReadError, AllocError>
     ensures { IfOk result (λ error. error ≡ stop_fault (section_of section.now) (at_header left)) }
 {
@@ -143,6 +143,7 @@ fn header_key(alloc: Global, section: &Section<'_>, left: usize) -> Result<ReadE
 }
 
 impl Clash {
+    // The error of a section's clash, if its keys can be copied.
     fn named(self, alloc: Global, section: &Section<'_>) -> Result<ReadError, AllocError>
         ensures { IfOk result (IsFaultOf section.now self) }
     {

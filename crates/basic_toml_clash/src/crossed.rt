@@ -22,7 +22,7 @@ struct Trail {
     below: Pairs<Trail>,
 }
 
-/// Why the rows are not gone through.
+/// Why rows were not looked through to their end.
 #[derive(Drop)]
 enum Crossed {
     Memory,
@@ -49,7 +49,7 @@ impl Blank for Trail {
     }
 }
 
-// Goes by the keys of a row that are left; the row's value begins at `start`.
+// Goes by the keys of a row that are left. The row's value begins at `start`.
 fn follow(alloc: Global, trail: Trail, keys: &[Row<'_>], start: usize) -> Result<Trail, Crossed>
     ensures { FollowsTo trail (path_of keys.now) start result }
 {
@@ -118,8 +118,8 @@ fn look_between(alloc: Global, rows: &[Row<'_>]) -> Result<(), Crossed>
     follow_rows(alloc, rows)
 }
 
-// Follows the keys of all rows, one row after another. It stands apart, since in most tables no row has more keys than the
-// one before it.
+// Follows the keys of all rows, one row after another. It stands apart, since in most tables no row has more keys than
+// the one before it.
 #[inline(never)]
 fn follow_rows(alloc: Global, rows: &[Row<'_>]) -> Result<(), Crossed>
     ensures { Looks (crossed_between (rows_view rows.now)) result }
@@ -134,6 +134,7 @@ fn follow_rows(alloc: Global, rows: &[Row<'_>]) -> Result<(), Crossed>
     Ok(())
 }
 
+// Looks for a row that goes on from a value: among these rows, and then within the value of each.
 #[cycle(looking)]
 fn look_through(alloc: Global, rows: &[Row<'_>]) -> Result<(), Crossed>
     ensures { Looks (crossed_in (rows_view rows.now)) result }
@@ -145,6 +146,7 @@ fn look_through(alloc: Global, rows: &[Row<'_>]) -> Result<(), Crossed>
     Ok(())
 }
 
+// The same within a value.
 #[cycle(looking)]
 fn look_into(alloc: Global, value: &Raw<'_>) -> Result<(), Crossed>
     ensures { Looks (crossed_where (raw_of value.now)) result }
@@ -156,6 +158,7 @@ fn look_into(alloc: Global, value: &Raw<'_>) -> Result<(), Crossed>
     }
 }
 
+// The same within the values of elements.
 #[cycle(looking)]
 fn look_among(alloc: Global, elements: &[Element<'_>]) -> Result<(), Crossed>
     ensures { Looks (crossed_among (elements_view elements.now)) result }
@@ -167,10 +170,11 @@ fn look_among(alloc: Global, elements: &[Element<'_>]) -> Result<(), Crossed>
 }
 
 /// The byte offset where the first value begins that a later row of its table goes on from, in any section, and none
-/// where no row does: after `a = 1` the row `a.b = 2` goes on from the value at `1` (TOML v0.5.0, "Table": dotted keys).
+/// where no row does. After `a = 1` the row `a.b = 2` goes on from the value at `1` (TOML v0.5.0, "Table": dotted
+/// keys).
 ///
-/// The first is that of the first row that goes on from a value, and of several values on its way the one with the fewest
-/// keys; the rows of a table among themselves come before those within their values.
+/// The first is that of the first row that goes on from a value, and of several values on its way the one with the
+/// fewest keys. The rows of a table among themselves come before those within their values.
 ///
 /// # Errors
 ///

@@ -1,6 +1,9 @@
-//! What clashes before a tree stands: rows that go on from a value ([`crossed_value`]), why a section is not entered
-//! ([`Clash`]) with the error that names it; values and rows in which nothing can clash ([`are_plain`], [`are_simple`]),
-//! and the items of a vector that shrinks as they are taken ([`drained`]).
+//! What clashes before a tree stands.
+//!
+//! - [`crossed_value`]: rows that go on from a value.
+//! - [`Clash`]: why a section is not entered, with the error that names it.
+//! - [`are_plain`], [`are_simple`]: values and rows in which nothing can clash.
+//! - [`drained`]: the items of a vector that shrinks as they are taken.
 //!
 //! `basic_toml_grow` keeps arrays that [`are_plain`] as they were read, takes rows that [`are_simple`] all at once, and
 //! answers the [`Clash`] that stops a section. `basic_toml_tree` asks for [`crossed_value`] before it takes a section list

@@ -1,5 +1,5 @@
-//! Plain values: scalars, and arrays of plain values. No key stands in them, so nothing clashes there, and a tree can keep
-//! an array of them as it was read.
+//! Plain values: scalars, and arrays of plain values. No key stands in them, so nothing clashes there, and a tree can
+//! keep an array of them as it was read.
 
 ghost use Rattle.std.specs.Prelude.{◌≡◌, IfOk, map};
 ghost use Rattle.basic_toml_value.specs.View.{view};
@@ -11,7 +11,8 @@ use basic_toml_read::{Element, Raw};
 use basic_toml_value::{NESTING_LIMIT, Table, Value};
 use std::alloc::{AllocError, Global};
 
-/// Whether all elements of an array of a level are plain: none holds an inline table, and none is deeper than the limit.
+/// Whether all elements of an array of a level are plain: none holds an inline table, and none is deeper than the
+/// limit.
 #[cycle(plain)]
 pub fn are_plain(elements: &[Element<'_>], level: usize) -> bool
     ensures { result ≡ all_plain level elements.now }

@@ -1,5 +1,5 @@
-//! Simple rows: each has one key, which no other has, and a plain value. Nothing clashes among them, and a table without
-//! entries takes them all at once.
+//! Simple rows: each has one key, which no other has, and a plain value. Nothing clashes among them, and a table
+//! without entries takes them all at once.
 
 ghost use Rattle.std.specs.Prelude.{◌≡◌, map};
 ghost use Rattle.basic_toml_value.specs.Keys.{is_among};

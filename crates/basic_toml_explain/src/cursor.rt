@@ -1,4 +1,4 @@
-//! A text, and the tokenizer that stands in it.
+//! The cursor that reads a text anew from where reading stopped, token by token, to find its error.
 ghost use Rattle.std.specs.Prelude.{◌≡◌, Some};
 ghost use Rattle.std.specs.Str.{IsUtf8, IsCharBoundary};
 ghost use Rattle.basic_toml_tokens.specs.TokenAt.{punctuation_of};
@@ -59,7 +59,7 @@ impl<'a> Cursor<'a> {
         Ok(self.tokens.next(alloc)?)
     }
 
-    /// Takes a sign, a token of one character, if it stands there.
+    /// Takes punctuation, a token of one character, if it stands there.
     pub fn eat(&mut self, alloc: Global, sign: Token<'a>) -> Result<bool, ReadError>
         requires { punctuation_of (code_of (lexeme_of sign)) ≡ Some (lexeme_of sign) }
         ensures { EatsPunctuation (code_of (lexeme_of sign.entry)) self.old self.new result }

@@ -1,4 +1,4 @@
-//! Why a text is not read.
+//! The error of a text that is not read: what it is, its offset, and the keys that lead to it.
 ghost use Rattle.std.specs.Prelude.{◌≡◌, map, string_bytes};
 ghost use Rattle.basic_toml_explain.specs.Error.{kind_of, fault_within};
 
@@ -7,10 +7,10 @@ use std::alloc::AllocError;
 use std::fmt;
 use std::marker::Model;
 
-/// What an error is.
+/// The kind of an error of reading: what is wrong.
 ///
-/// Its words are constants, but in a copy that owns them, a `ReadErrorKind<String>`. Its text is what is wrong, as
-/// ``duplicate key: `a` `` for `DuplicateKey("a")`.
+/// Its words are constants, but in a copy that owns them, a `ReadErrorKind<String>`. It prints as what is wrong:
+/// `DuplicateKey("a")` as ``duplicate key: `a` ``.
 #[derive(Debug, Drop)]
 pub enum ReadErrorKind<Word = &'static str> {
     /// A control character in a string.
@@ -54,8 +54,8 @@ pub enum ReadErrorKind<Word = &'static str> {
     RedefineAsArray,
     /// A key or a bracket within 128 others.
     NestedTooDeeply,
-    /// A type's own error, with its message: an `Error` of `basic_toml_error` holds it, and no call that reads a text alone
-    /// answers it.
+    /// A type's own error, with its message. An `Error` of `basic_toml_error` holds it. No call that reads a text
+    /// alone answers it.
     Custom(String),
     /// Memory that was refused.
     OutOfMemory,

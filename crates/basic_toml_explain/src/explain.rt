@@ -1,4 +1,4 @@
-//! What stands where reading stops.
+//! From where reading stopped to the error of the text: `explain`, public as `error_at`.
 ghost use Rattle.std.specs.Prelude.{◌≡◌, None, []};
 ghost use Rattle.std.specs.Str.{IsCharBoundary};
 ghost use Rattle.basic_toml_tokens.specs.Text.{text_at, folded, run};
@@ -86,8 +86,9 @@ fn no_word(alloc: Global, text: &str, at: usize, end: End) -> ReadError
     }
 }
 
-/// The error of a text where reading stopped: what is not wanted there, with the word for it, the token that is
-/// refused, or that no memory was had. It reads the text anew from there.
+/// The error of a text where reading stopped. It tells what is wanted there and what is found, or what is wrong with
+/// the token or the word there, that the text is nested too deeply, or that memory was refused. It reads the text anew
+/// from there.
 #[cold]
 pub fn explain(alloc: Global, text: &str, stop: Stop) -> ReadError
     requires inside { StopsInside text.now stop }

@@ -1,4 +1,4 @@
-//! Keys.
+//! A key, as a cursor takes it from a text.
 
 use std::borrow::CowStr;
 

@@ -20,8 +20,8 @@ impl<'a> fmt::Display for WithPeriods<'a> {
     }
 }
 
-/// The keys that lead to an error, as its text shows them: `` for key `a.b` `` behind a blank, with periods between the
-/// keys; nothing where there are none.
+/// The keys that lead to an error, as its text shows them: `` for key `a.b` `` behind a blank, with periods between
+/// the keys. Nothing where there are none.
 #[derive(Clone, Copy)]
 pub struct KeyPath<'a>(pub &'a [String]);
 

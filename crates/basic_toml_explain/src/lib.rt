@@ -1,6 +1,6 @@
 //! Which error a text gets where reading stopped.
 //!
-//! `basic_toml_read` says where reading stopped and what it wanted there; [`error_at`] reads the text anew from there,
+//! `basic_toml_read` says where reading stopped and what it wanted there. [`error_at`] reads the text anew from there,
 //! by tokens, and answers the [`ReadError`]: what it is, its byte offset, the keys that lead to it, and its text.
 #![tactic(auto)]
 

@@ -1,4 +1,4 @@
-//! Words that are no value.
+//! The error of a word or a plus that begins no value, where a value has to come.
 ghost use Rattle.std.specs.Prelude.{◌≡◌, ◌-◌, codes, ◌||◌, ◌∷◌, [], None, length};
 ghost use Rattle.std.specs.Str.{IsCharBoundary, bytes_eq};
 ghost use Rattle.basic_toml_tokens.specs.Text.{text_at, run, is_keylike};
@@ -24,7 +24,7 @@ use crate::{ReadError, ReadErrorKind};
 use basic_toml_tokens::Token;
 use std::alloc::Global;
 
-// What a value begins with.
+// What a token is where a value has to come: a word, a plus, or another one.
 #[derive(Drop)]
 enum First<'a> {
     Word(&'a str),
@@ -121,7 +121,7 @@ fn word_error(cursor: &mut Cursor<'_>, alloc: Global, word: &str, wanted: &'stat
     number_error(cursor, alloc, word, wanted)
 }
 
-// The same of a number.
+// Why a number and what goes on with it are no value.
 fn number_error(
     cursor: &mut Cursor<'_>,
     alloc: Global,
@@ -144,7 +144,7 @@ fn number_error(
     }
 }
 
-// What stands after a word that is over, where another thing is wanted.
+// The error after a word that is over: what stands there, where another thing is wanted.
 fn joint_error(cursor: &mut Cursor<'_>, alloc: Global, wanted: &'static str) -> ReadError
     requires some { run is_wordlike (text_of cursor.old) ≡ [] → ⊥ }
     requires no_word { run is_keylike (text_of cursor.old) ≡ [] }

@@ -1,4 +1,4 @@
-//! Where reading stops, and what is wanted there.
+//! Where reading stops, and what is wanted there: what `basic_toml_read` tells, so that the error is found.
 
 use std::alloc::{AllocError, AllocFailed};
 

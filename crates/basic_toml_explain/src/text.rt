@@ -1,4 +1,4 @@
-//! What an error of reading says.
+//! How an error of reading prints: the text of each kind.
 ghost use Rattle.std.specs.Prelude.{Some};
 ghost use Rattle.basic_toml_explain.specs.Error.{kind_by};
 ghost use Rattle.basic_toml_explain.specs.ReadErrorText.{escaped, message};

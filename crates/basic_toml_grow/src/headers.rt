@@ -1,4 +1,4 @@
-//! Sections: the way of a header through the tree, and the table that it names.
+//! Puts a section into the tree: the way of its header, and the table that the header names.
 
 ghost use Rattle.std.specs.Prelude.{◌≡◌, ◌≤◌, ◌<◌, ◌+◌, ℕ, false, [], ◌∷◌, length, IfOk, IfErr};
 ghost use Rattle.basic_toml_grammar.specs.Trie.{put_element};
@@ -22,13 +22,14 @@ use basic_toml_value::NESTING_LIMIT;
 use std::alloc::{AllocError, Global};
 use std::mem;
 
-/// Enters a section, which has this number in its list, into the table of a document (TOML v0.5.0, "Table" and "Array of
-/// Tables"). Its rows go into the table; its header stays, as the keys of nodes are read from it.
+/// Enters a section, which has this number in its list, into the table of a document (TOML v0.5.0, "Table" and "Array
+/// of Tables"). Its rows go into the table; its header stays, as the keys of nodes are read from it.
 ///
 /// # Errors
 ///
-/// The [`Clash`] that stops the section: what stands in the table is in its way, or two of its rows clash; `Deep` where a
-/// key or a bracket of it is above the limit of 128, and `Memory` where memory is refused. The table is gone then.
+/// The [`Clash`] that stops the section: what stands in the table is in its way, or two of its rows clash. It is
+/// `Deep` where a key or a bracket of the section is above the limit of 128, and `Memory` where memory is refused. The
+/// table is gone then.
 ///
 /// `basic_toml_tree` calls it for each section of a list.
 pub fn enter_section<'de>(
@@ -96,7 +97,8 @@ fn open<'de>(
     take_rows(alloc, table, rows, number, level)
 }
 
-// Goes on from a table of a level by the keys of a header that are left. It is inlined, so that none is left in no call.
+// Goes on from a table of a level by the keys of a header that are left. It is inlined, so that no call is made where
+// none is left.
 #[cycle(walk)]
 #[inline(always)]
 fn enter_header<'de>(

@@ -1,4 +1,4 @@
-//! What stands at a key or a number of a document, while it is read and when all of it is.
+//! What stands at a key or a number of a document, while its tree grows and when all of it is read.
 
 ghost use Rattle.std.specs.Prelude.{◌≡◌, ◌||◌, IfOk, Some, None, false};
 ghost use Rattle.basic_toml_grammar.specs.Standing.{table as table_standing};
@@ -23,7 +23,7 @@ pub enum Item<'de> {
     Boolean(bool),
     /// A string as it stands in the text.
     String(&'de str),
-    /// A string of its own.
+    /// A copy of a string, where escapes are resolved or line ends are made line feeds.
     Escaped(String),
     /// An array with inline tables in it.
     Array(Vec<Child<'de>>),
@@ -34,7 +34,8 @@ pub enum Item<'de> {
     /// A table of headers or of dotted keys.
     Table(Box<Table<'de>>),
     /// The tables of an array of tables: those before the latest, and the latest. Two boxes keep an item as small as a
-    /// raw value, and a table's entries as large as its rows: so one takes the memory that the other gave back.
+    /// raw value, and an entry of the tree as large as one of a `Table`: so the `Table` takes the memory that the tree's
+    /// entries gave back.
     Tables(Box<Vec<Table<'de>>>, Box<Table<'de>>),
 }
 

@@ -1,4 +1,4 @@
-//! Rows: their values, and the tables that their keys lead through.
+//! Puts the rows of a section into its table: their values, and the tables that their dotted keys lead through.
 
 ghost use Rattle.std.specs.Prelude.{◌≡◌, ◌≤◌, ◌<◌, ℕ, length, [], ◌∷◌, ◌++◌, Some, None, true, false, not, is_some, map};
 ghost use Rattle.std.specs.Prelude.{MatchOption, IfOk, IfErr, IfSome};
@@ -26,14 +26,14 @@ use basic_toml_read::{Element, Raw, Row};
 use basic_toml_value::NESTING_LIMIT;
 use std::alloc::{AllocError, AllocFailed, Global};
 
-// Of so many rows it is asked whether they are simple, since each key is then compared with all others.
+// Of up to so many rows it is asked whether they are simple, since each key is then compared with all others.
 const FEW: usize = 16;
 
 /// Why a row is not put into a table.
 #[derive(Clone, Copy, Drop)]
 enum Met {
     Memory,
-    /// One of its keys lies on a header, with so many keys left from it on.
+    /// What stands at one of its keys is in the way, with so many keys left from that key on.
     Header(usize),
     /// Its last key stands before it, by a row.
     Row,
@@ -61,7 +61,7 @@ impl<T: Drop> From<AllocFailed<T>> for Met {
     }
 }
 
-// What the last key of a row meets, where something stands.
+// Why what stands at a row's last key keeps the row out, or `None` where nothing stands there yet.
 fn what_is_met(there: &Child<'_>) -> Option<Met>
     ensures stands { MatchOption result (child_trie there.now ≡ nothing)
         (λ met. (d : Data) → mark_here (valued d) (child_trie there.now) ≡ None) }
@@ -79,8 +79,8 @@ fn what_is_met(there: &Child<'_>) -> Option<Met>
     }
 }
 
-// Puts a row's value into a table, by the keys that periods follow, and then its last key. It is inlined, since most rows
-// have one key.
+// Puts a row's value into a table, by the keys that periods follow, and then its last key. It is inlined, since most
+// rows have one key.
 #[cycle(leading)]
 #[inline(always)]
 fn enter_row<'de>(
@@ -115,8 +115,8 @@ fn enter_row<'de>(
     Ok(table)
 }
 
-// The room that a table at this position may want: as many entries as the one before it has, since such tables are often
-// alike.
+// The room that a table at this position may want: as many entries as the one before it has, since such tables are
+// often alike.
 fn room_like(table: &Table<'_>, position: usize) -> usize
     requires { position < length (out-Table table.now).entries }
 {
@@ -129,7 +129,7 @@ fn room_like(table: &Table<'_>, position: usize) -> usize
     }
 }
 
-// The table at a key that a period follows, with the rest of the row put into it; where it is new, it has this room.
+// The table at a key that a period follows, with the rest of the row put into it. Where it is new, it has this room.
 #[cycle(leading)]
 #[inline(never)]
 fn extended<'de>(
@@ -209,7 +209,7 @@ fn row_clash(
     }
 }
 
-// The clash of a value as one of the row that holds it.
+// The clash within a value, told as a clash of the row that holds the value.
 fn held_by(alloc: Global, clash: Clash, keys: &[Row<'_>], last: &str) -> Result<Clash, AllocError>
     ensures same { IfOk result (λ held. reason held ≡ reason clash) }
     ensures named { (offset : ℕ)
@@ -252,8 +252,8 @@ fn with_room<'de>(table: Box<Table<'de>>, more: usize) -> Result<Box<Table<'de>>
     Ok(table)
 }
 
-/// Puts rows into a table of a level, in order: a few simple ones into a table without entries at once, others one by one.
-/// It is inlined, since most rows are simple.
+/// Puts rows into a table of a level, in order. A few simple ones go into a table without entries at once, others one
+/// by one. It is inlined, since most rows are simple.
 #[cycle(finishing)]
 #[inline(always)]
 pub(crate) fn take_rows<'de>(
@@ -348,8 +348,8 @@ fn enter_value<'de>(
     }
 }
 
-// The item of the value of a row, which begins at an offset, in a table of a level. An array of plain values is kept as it
-// was read. No value is looked through twice: in an array that is not plain, none is looked for.
+// The item of the value of a row, which begins at an offset, in a table of a level. An array of plain values is kept
+// as it was read. No value is looked through twice: in an array that is not plain, no plain array is looked for.
 #[cycle(finishing)]
 #[inline(always)]
 fn row_value<'de>(
@@ -378,15 +378,15 @@ fn row_value<'de>(
     }
 }
 
-// Whether a value only stands for the period after a key.
+// Whether a value is none, and stands for the period after a key.
 fn is_dot_value(value: &Raw<'_>) -> bool
     ensures { result ≡ not (is_some (raw_of value.now)) }
 {
     matches!(value, Raw::Dot)
 }
 
-// The item of a value that begins at an offset, within a table or an array of a level. It is inlined, since most values
-// are scalars.
+// The item of a value that begins at an offset, within a table or an array of a level. It is inlined, since most
+// values are scalars.
 #[cycle(finishing)]
 #[inline(always)]
 fn finished<'de>(

@@ -58,7 +58,8 @@ fn entries_of<'de>(
     Ok(entries)
 }
 
-/// A table with rows of a section in the place of its entries: their keys differ, and each has one key and a plain value.
+/// A table with rows of a section in the place of its entries: their keys differ, and each has one key and a plain
+/// value.
 #[inline(never)]
 pub(crate) fn with_rows<'de>(
     alloc: Global,

@@ -16,7 +16,7 @@ pub(crate) fn after_blanks(text: &str, at: usize) -> usize
     end_of_run(text, at, Class::Blank)
 }
 
-/// Where the comment at an offset ends; the offset itself where none stands.
+/// Where the comment at an offset ends, or the offset itself where none stands.
 #[inline]
 pub(crate) fn after_comment(text: &str, at: usize) -> usize
     requires { IsCharBoundary text.now at }
@@ -63,7 +63,7 @@ pub(crate) fn after_gap(text: &str, at: usize) -> usize
     end
 }
 
-// After a period or a plus.
+// Where the period or the plus at an offset ends, if one stands there.
 #[inline]
 fn after_joint(text: &str, at: usize) -> Option<usize>
     requires { IsCharBoundary text.now at }

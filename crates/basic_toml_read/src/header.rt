@@ -1,4 +1,4 @@
-//! Headers.
+//! Reads the header of a section: its brackets and its keys.
 ghost use Rattle.std.specs.Prelude.{IfErr};
 ghost use Rattle.std.specs.Str.{IsCharBoundary};
 ghost use Rattle.basic_toml_explain.specs.Stop.{StopsInside};

@@ -1,4 +1,4 @@
-//! The text of a key.
+//! The text of a key, as a slice of the text that was read or as a copy.
 ghost use Rattle.std.specs.Prelude.{◌≡◌, length, IfOk, IfErr};
 ghost use Rattle.std.specs.Cow.{IsOwnedStr};
 ghost use Rattle.basic_toml_read.specs.KeyText.{cow_of, key_text_bytes};
@@ -6,7 +6,7 @@ ghost use Rattle.basic_toml_read.specs.KeyText.{cow_of, key_text_bytes};
 use std::alloc::{AllocError, Global};
 use std::borrow::CowStr;
 
-/// The text of a key. Each row holds one, and few of them are escaped: the owned text is boxed, so that no row is
+/// The text of a key. Each row holds one, and few of them are escaped. So the owned text is boxed, and no row is
 /// larger for it.
 #[derive(Drop)]
 pub enum KeyText<'de> {

@@ -1,4 +1,4 @@
-//! From a text to its section list.
+//! Reads a text to its section list, line by line: headers, and the rows after each.
 ghost use Rattle.std.specs.Prelude.{IfErr, ◌≡◌, ◌≤◌, []};
 ghost use Rattle.std.specs.Str.{IsCharBoundary};
 ghost use Rattle.basic_toml_tokens.specs.Text.{text_at, folded};
@@ -42,8 +42,8 @@ fn next_line(text: &str, at: usize) -> Result<usize, Stop>
 }
 
 impl<'de> Gathered<'de> {
-    // The rows from a line on, in a table of a level, up to the end of the text or to a header;
-    // answers where its bracket stands.
+    // Reads the rows from a line on, in a table of a level, up to the end of the text or to a header. It answers where
+    // the bracket of that header stands.
     fn rows(&mut self, text: &'de str, start: usize, level: usize) -> Result<Option<usize>, Stop>
         requires boundary { IsCharBoundary text.now start }
         requires level { level ≤ 128 }
@@ -93,7 +93,7 @@ impl<'de> Gathered<'de> {
         Ok(())
     }
 
-    // Adds the section whose header stands at `at`; answers where the bracket of the next one stands.
+    // Adds the section whose header stands at `at`, and answers where the bracket of the next header stands.
     fn section(
         &mut self,
         text: &'de str,
@@ -146,13 +146,13 @@ pub(crate) fn list<'de>(alloc: Global, text: &'de str) -> Result<Vec<Section<'de
 /// The section list of a text (TOML v0.5.0, without dates and times): the rows before the first
 /// header, if there are any, and then each header with its rows, in order.
 ///
-/// It is refused where the text has none, with an error of the grammar and the byte offset where it
-/// stands; with `NestedTooDeeply` where a key or a bracket stands within 128 others; and with
-/// `OutOfMemory`, without an offset, where memory is refused. A text of blanks, comments and line
-/// feeds alone has no sections, and asks for no memory.
+/// It is refused where the text has none, with an error of the grammar and the byte offset where it stands. It is
+/// refused with `NestedTooDeeply` where a key or a bracket stands within 128 others, and with `OutOfMemory`, without
+/// an offset, where memory is refused. A text of blanks, comments and line feeds alone has no sections, and asks for
+/// no memory.
 ///
-/// `sections(alloc, "a = 1\n[b]\n")` has two: a row `a`, and the header `b` without rows. `basic_toml` calls it, and so
-/// do the cases of `toml_cases`.
+/// `sections(alloc, "a = 1\n[b]\n")` has two: a row `a`, and the header `b` without rows. `basic_toml` calls it, and
+/// so do the cases of `toml_cases`.
 pub fn sections<'de>(alloc: Global, text: &'de str) -> Result<Vec<Section<'de>>, ReadError>
     ensures { AnswersSections text.now result }
 {

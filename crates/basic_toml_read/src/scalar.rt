@@ -1,4 +1,4 @@
-//! Keys, strings and words at an offset of a text.
+//! Reads keys, strings and words at an offset of a text.
 ghost use Rattle.std.specs.Prelude.{IfErr, ◌≡◌, ◌<◌, [], Some, true, length, slice_index};
 ghost use Rattle.std.specs.Str.{IsCharBoundary};
 ghost use Rattle.std.specs.Cow.{cow_str_bytes};

@@ -1,4 +1,4 @@
-//! The section list of a text.
+//! What a section list is made of: sections, the keys of their headers, their rows, and values as they are written.
 ghost use Rattle.std.specs.Prelude.{◌≡◌, not, is_some};
 ghost use Rattle.basic_toml_read.specs.SectionView.{section_of, lined_of};
 
@@ -37,7 +37,7 @@ pub struct Element<'de> {
     pub value: Raw<'de>,
 }
 
-/// A key of a row with its offset, and after the last of them the value, which begins at `start`.
+/// A key of a row with its offset. The last key of a row has the value of the row too, which begins at `start`.
 #[cycle(raws)]
 #[derive(Drop)]
 pub struct Row<'de> {

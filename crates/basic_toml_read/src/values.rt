@@ -1,4 +1,4 @@
-//! Rows and values, which nest.
+//! Reads rows and their values: strings, words, and arrays and inline tables, which nest.
 ghost use Rattle.std.specs.Prelude.{IfErr, ◌≡◌, ◌≤◌, ◌+◌, true, length, drop, take, IfOk};
 ghost use Rattle.std.specs.Str.{IsCharBoundary};
 ghost use Rattle.basic_toml_explain.specs.Stop.{StopsInside};
@@ -38,7 +38,7 @@ struct LastKey<'de> {
     end: usize,
 }
 
-/// A key or a bracket at an offset has this level.
+/// Stops at a key or a bracket at an offset, if its level is above the limit.
 #[inline]
 pub(crate) fn raise(level: usize, at: usize) -> Result<(), Stop>
     ensures { RaisesTo level at result }
@@ -69,8 +69,7 @@ pub(crate) fn taken<T>(items: &mut Vec<T>, from: usize) -> Result<Vec<T>, AllocE
 }
 
 impl<'de> Gathered<'de> {
-    // The keys of a row, the first of which has this level. Each but the last becomes a row without
-    // a value.
+    // Reads the keys of a row, the first of which has this level. Each but the last becomes a row without a value.
     fn keys(&mut self, text: &'de str, at: usize, first: usize) -> Result<LastKey<'de>, Stop>
         requires boundary { IsCharBoundary text.now at }
         requires level { first ≤ 128 }
@@ -108,8 +107,8 @@ impl<'de> Gathered<'de> {
         }
     }
 
-    /// The row at an offset, whose first key has this level; answers where it ends. `end` is wanted
-    /// after it.
+    /// Reads the row at an offset, whose first key has this level, and answers where it ends. `end` is wanted after
+    /// it.
     #[cycle(values)]
     pub(crate) fn row(
         &mut self,
@@ -197,7 +196,7 @@ impl<'de> Gathered<'de> {
         })
     }
 
-    // The elements of an array up to its closing bracket; answers where that ends.
+    // Reads the elements of an array up to its closing bracket, and answers where that ends.
     #[cycle(values)]
     fn elements(&mut self, text: &'de str, start: usize, level: usize) -> Result<usize, Stop>
         requires boundary { IsCharBoundary text.now start }
@@ -252,7 +251,7 @@ impl<'de> Gathered<'de> {
         })
     }
 
-    // The rows of an inline table up to its closing brace; answers where that ends.
+    // Reads the rows of an inline table up to its closing brace, and answers where that ends.
     #[cycle(values)]
     fn fields(&mut self, text: &'de str, start: usize, level: usize) -> Result<usize, Stop>
         requires boundary { IsCharBoundary text.now start }
@@ -276,7 +275,7 @@ impl<'de> Gathered<'de> {
     }
 }
 
-/// After the sign that stands at an offset, or else the stop there.
+/// Where the punctuation at an offset ends, or else the stop there.
 #[inline]
 pub(crate) fn closed(text: &str, at: usize, sign: u8, why: Why) -> Result<usize, Stop>
     requires boundary { IsCharBoundary text.now at }

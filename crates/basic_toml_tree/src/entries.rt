@@ -1,4 +1,4 @@
-//! The elements of an array and the entries of a table, one after another.
+//! Iterators over nodes: the elements of an array, and the entries of a table.
 
 use crate::node::Node;
 

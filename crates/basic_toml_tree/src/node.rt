@@ -1,4 +1,4 @@
-//! The nodes of a tree.
+//! The nodes of a tree: what a type asks one for, and where it comes from.
 
 ghost use Rattle.std.specs.Prelude.{◌≡◌, ◌<◌, ◌≤◌, true, ℕ, take, false, is_some, List, Some, None, IsSome, IfSome, IfNone, IsTrue, IfOk, IfErr};
 ghost use Rattle.std.specs.Prelude.{MatchOption, length, map, slice_get, string_bytes};

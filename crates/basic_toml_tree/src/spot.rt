@@ -1,4 +1,4 @@
-//! What a node is, and what it is called.
+//! What stands at a node, and the name of its kind.
 
 ghost use Rattle.std.specs.Prelude.{◌≡◌, is_some};
 ghost use Rattle.basic_toml_tree.specs.Origin.{spot_is_made, spot_name};
@@ -6,7 +6,7 @@ ghost use Rattle.basic_toml_tree.specs.Origin.{spot_is_made, spot_name};
 use basic_toml_grow::{Item, Table};
 use basic_toml_read::Raw;
 
-/// What a node is.
+/// What stands at a node.
 #[derive(Clone, Copy)]
 pub(crate) enum Spot<'t, 'de> {
     /// A table of headers or of dotted keys.

@@ -1,4 +1,4 @@
-//! Which keys lead to a node.
+//! Which keys lead to a node, looked up in the headers of the sections.
 
 ghost use Rattle.std.specs.Prelude.{◌≡◌, ◌<◌, ◌++◌, ◌∷◌, [], ℕ, IfOk, MatchOption, Some, None, length, map};
 ghost use Rattle.std.specs.Prelude.{slice_get, string_bytes, take};
@@ -18,7 +18,7 @@ pub(crate) enum Trail<'t> {
     Row(usize, &'t str),
 }
 
-/// The key of a row that has so many keys of its section before it.
+/// The key of a section's header that has so many keys before it, if there is one.
 pub(crate) fn first_key<'t, 'de>(
     tree: &'t Tree<'de>,
     section: usize,

@@ -82,7 +82,8 @@ pub(crate) fn table_of(alloc: Global, table: &Table<'_>) -> Result<values::Table
     Ok(Pairs::from_parts(copies, index))
 }
 
-// The value that an item becomes. It is inlined, since most items are scalars, which are moved in less than a call takes.
+// The value that an item becomes. It is inlined, since most items are scalars, which are moved in less than a call
+// takes.
 #[cycle(moves)]
 #[inline(always)]
 fn into_value(alloc: Global, item: Item<'_>) -> Result<Value, AllocError>
@@ -166,7 +167,8 @@ fn into_many_entries(
     Ok(moved)
 }
 
-/// The table that a table of the tree becomes. Strings and keys are moved into it, and memory is given back on the way.
+/// The table that a table of the tree becomes. Strings and keys are moved into it, and memory is given back on the
+/// way.
 #[cycle(moves)]
 #[inline(never)]
 pub(crate) fn into_table(alloc: Global, table: Table<'_>) -> Result<values::Table, AllocError>

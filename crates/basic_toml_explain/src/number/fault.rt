@@ -1,4 +1,6 @@
-//! Where a number is at fault. The cursor stands after the number's first word.
+//! Where a number is at fault, by its words and the tokens between them.
+//!
+//! The cursor stands after the number's first word. Each fault is a byte offset, or `None` where nothing is wrong.
 ghost use Rattle.std.specs.Prelude.{◌≡◌, ◌+◌, ◌-◌, ◌<◌, ◌^◌, true, false, [], ◌∷◌, None, length};
 ghost use Rattle.std.specs.Str.{IsCharBoundary};
 ghost use Rattle.std.specs.List.{list_any};
@@ -50,18 +52,21 @@ pub(crate) fn takes_no_plus(word: &[u8]) -> bool
     }
 }
 
+// Whether a word is `inf` or `nan`.
 fn is_special(word: &[u8]) -> bool
     ensures { result ≡ numbers.is_special word.now }
 {
     word == b"inf".as_slice() || word == b"nan".as_slice()
 }
 
+// Whether an exponent letter stands in a word.
 fn has_mark(word: &[u8]) -> bool
     ensures { result ≡ list_any numbers.is_exponent_letter word.now }
 {
     word.iter().any(|byte| is_exponent_letter(*byte))
 }
 
+// A word without the minus that it may begin with.
 fn without_minus(word: &[u8]) -> &[u8]
     ensures { result.now ≡ spec.without_minus word.now }
 {
@@ -71,13 +76,14 @@ fn without_minus(word: &[u8]) -> &[u8]
     }
 }
 
-// Where characters are left over.
+// The fault of a number in which characters are left over.
 fn left_fault(start: usize, left: &[u8]) -> Option<usize>
     ensures { result ≡ spec.left_fault start left.now }
 {
     if left.is_empty() { None } else { Some(start) }
 }
 
+// The fault of an integer that is none, or that lies outside `i64`.
 fn outside(start: usize, word: &str) -> Option<usize>
     ensures { result ≡ spec.outside start word.now }
 {
@@ -88,7 +94,7 @@ fn outside(start: usize, word: &str) -> Option<usize>
     }
 }
 
-// With neither a fraction nor an exponent.
+// The fault of a number with neither a fraction nor an exponent.
 fn whole_fault(start: usize, word: &str) -> Option<usize>
     requires { start + length word.now < 2 ^ 64 }
     ensures { result ≡ spec.whole_fault start word.now }
@@ -104,7 +110,7 @@ fn whole_fault(start: usize, word: &str) -> Option<usize>
     outside(start, word)
 }
 
-// The word of an exponent after a plus, at `at`.
+// The fault of an exponent after a plus, whose word begins at `at`.
 fn plus_word_fault(at: usize, start: usize, word: &[u8]) -> Option<usize>
     requires { at + length word.now < 2 ^ 64 }
     ensures { result ≡ spec.plus_word_fault at start word.now }
@@ -120,7 +126,7 @@ fn plus_word_fault(at: usize, start: usize, word: &[u8]) -> Option<usize>
     left_fault(start, left)
 }
 
-// What an exponent has in the word of its `e`, at `at`.
+// The fault of an exponent in the word of its exponent letter, which begins at `at`.
 fn near_power_fault(at: usize, start: usize, power: &[u8]) -> Option<usize>
     requires { at + length power.now < 2 ^ 64 }
     ensures { result ≡ spec.near_power_fault at start power.now }
@@ -133,7 +139,7 @@ fn near_power_fault(at: usize, start: usize, power: &[u8]) -> Option<usize>
     left_fault(start, left)
 }
 
-// Of the parts before an exponent, with a fraction at `at`.
+// The fault of what stands before an exponent: a whole part, and a fraction that begins at `at`.
 fn fraction_parts_fault(start: usize, word: &[u8], at: usize, fraction: &[u8]) -> Option<usize>
     requires word_fits { start + length word.now < 2 ^ 64 }
     requires fraction_fits { at + length fraction.now < 2 ^ 64 }
@@ -177,8 +183,8 @@ pub(crate) fn word_fault(
     Ok(whole_fault(start, word))
 }
 
-/// Looks at the tokens behind a word that no plus may stand before. One that is refused is the error: the token behind a
-/// word with a minus and without an exponent, and the one behind a period there.
+/// Looks at the tokens behind a word that no plus may stand before. One that is refused is the error: the token behind
+/// a word with a minus and without an exponent, and the one behind a period there.
 pub(crate) fn look_behind(
     cursor: &mut Cursor<'_>,
     alloc: Global,
@@ -202,7 +208,7 @@ pub(crate) fn look_behind(
     Ok(())
 }
 
-// Where an exponent begins in the word.
+// The fault of a number whose exponent begins in its first word.
 fn float_fault(
     cursor: &mut Cursor<'_>,
     alloc: Global,
@@ -228,7 +234,7 @@ fn float_fault(
     )
 }
 
-// After the period of a fraction.
+// The fault of a number with a fraction. The cursor stands after its period.
 fn fraction_fault(
     cursor: &mut Cursor<'_>,
     alloc: Global,
@@ -257,7 +263,7 @@ fn fraction_fault(
     exponent_fault(cursor, alloc, start, end - left.len(), left)
 }
 
-// Where these characters are left over, at `at`: an exponent, or nothing.
+// The fault of the characters that are left of a word after its digits, at `at`: an exponent, or nothing.
 fn exponent_fault(
     cursor: &mut Cursor<'_>,
     alloc: Global,
@@ -282,13 +288,14 @@ fn exponent_fault(
     Ok(near_power_fault(at + 1, start, power))
 }
 
+// Whether a byte is `e` or `E`.
 fn is_exponent_letter(byte: u8) -> bool
     ensures { result ≡ numbers.is_exponent_letter byte }
 {
     byte == b'e' || byte == b'E'
 }
 
-// After the `e` of an exponent that ends its word.
+// The fault of an exponent whose letter ends its word, so that a plus has to come.
 fn plus_power_fault(
     cursor: &mut Cursor<'_>,
     alloc: Global,

@@ -1,4 +1,4 @@
-//! Where a part of a number is at fault.
+//! Where a part of a number is at fault: its digits before a period, after one, or in an exponent.
 ghost use Rattle.std.specs.Prelude.{◌≡◌, ◌+◌, ◌<◌, ◌^◌, length};
 ghost use Rattle.basic_toml_grammar.specs.NumberFaults as spec;
 

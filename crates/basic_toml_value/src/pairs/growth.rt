@@ -29,8 +29,8 @@ fn make_room<V>(pairs: &mut Vec<Pair<V>>) -> Result<(), AllocError>
     pairs.try_reserve(1)
 }
 
-// Puts a key last with a value. Where memory is refused, all stays as it was. It stands apart from the search before it,
-// since most keys that are entered are there already.
+// Puts a key last with a value. Where memory is refused, all stays as it was. It stands apart from the search before
+// it, since most keys that are entered are there already.
 #[inline(never)]
 fn add<V: Drop>(
     pairs: &mut Vec<Pair<V>>,
