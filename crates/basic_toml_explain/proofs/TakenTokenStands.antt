@@ -237,19 +237,6 @@ refused_over {fault = fault} text r = go (run is_wordlike text) refl
     go [] e = e
     go (c ∷ cs) e = absurd (word_accepts text (λ n. let z : [] ≡ c ∷ cs = sym n ∙ e in cc) fault r)
 
--- at another token
-pub over_at_token : {source : List ℕ} {rest : Text} {l : Lexeme} (text : Text) → IsToken source text l rest
-    → is_word_token l ≡ false → after_run is_wordlike text ≡ text
-over_at_token [] t e = refl
-over_at_token {source = source} (x ∷ text) t e = go (is_wordlike x.1) refl
-  where
-    go : (b : Bool) → is_wordlike x.1 ≡ b → cond b (after_run is_wordlike text) (x ∷ text) ≡ x ∷ text
-    go true h =
-        let (m, rest', mine, w) = wordlike_token source x text h in
-        let same = (token_same t mine).0 in
-        absurd (both_ways (is_word_token m) (rw same at e) w)
-    go false h = refl
-
 -- a run of keylike characters stands within one of characters of words
 pub run_within : (text : Text) → after_run is_wordlike (after_run is_keylike text) ≡ after_run is_wordlike text
 run_within [] = refl

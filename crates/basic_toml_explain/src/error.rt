@@ -52,7 +52,7 @@ pub enum ReadErrorKind<Word = &'static str> {
     DuplicateTable(String),
     /// An array of tables at a table.
     RedefineAsArray,
-    /// A key or a bracket within 128 others.
+    /// A key or a bracket within [`NESTING_LIMIT`](basic_toml_value::NESTING_LIMIT) others.
     NestedTooDeeply,
     /// A type's own error, with its message. An `Error` of `basic_toml_error` holds it. No call that reads a text
     /// alone answers it.
@@ -103,6 +103,7 @@ impl fmt::Display for ReadError {
 
 impl ReadError {
     ghost use Rattle.std.specs.Prelude.{Some, []};
+    ghost use Rattle.basic_toml_grammar.specs.Faults.{wanted};
     ghost use Rattle.basic_toml_grammar.specs.GrammarFaults.{fault_at};
 
     /// What it is.
@@ -138,6 +139,13 @@ impl ReadError {
             offset: Some(offset),
             key_path: None,
         }
+    }
+
+    // Another thing stands at an offset than what is wanted there.
+    pub(crate) fn wanted_at(offset: usize, expected: &'static str, found: &'static str) -> ReadError
+        ensures { result ≡ fault_at (wanted expected.now found.now) offset }
+    {
+        ReadError::at(offset, ReadErrorKind::Wanted { expected, found })
     }
 
     /// An error that stands at an offset, within these keys.

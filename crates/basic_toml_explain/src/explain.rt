@@ -2,9 +2,7 @@
 ghost use Rattle.std.specs.Prelude.{◌≡◌, None, []};
 ghost use Rattle.std.specs.Str.{IsCharBoundary};
 ghost use Rattle.basic_toml_tokens.specs.Text.{text_at, folded, run};
-ghost use Rattle.basic_toml_grammar.specs.Faults as kinds;
 ghost use Rattle.basic_toml_grammar.specs.Grammar.{is_wordlike};
-ghost use Rattle.basic_toml_grammar.specs.GrammarFaults.{fault_at};
 ghost use Rattle.basic_toml_grammar.specs.Holes.{Hole, HoleInText, behind_in_text};
 ghost use Rattle.basic_toml_grammar.specs.Reader.{key_at, word_at};
 ghost use Rattle.basic_toml_explain.specs.Stop.{StopsInside};
@@ -35,16 +33,10 @@ fn wanted(alloc: Global, text: &str, at: usize, expected: &'static str) -> ReadE
     ensures { IsWanting text.now at expected.now result }
 {
     match token_at(alloc, text, at) {
-        Ok(Some((token, _))) => wanted_at(at, expected, token.describe()),
-        Ok(None) => wanted_at(at, expected, "eof"),
+        Ok(Some((token, _))) => ReadError::wanted_at(at, expected, token.describe()),
+        Ok(None) => ReadError::wanted_at(at, expected, "eof"),
         Err(refusal) => ReadError::from(refusal.error),
     }
-}
-
-fn wanted_at(at: usize, expected: &'static str, found: &'static str) -> ReadError
-    ensures { result ≡ fault_at (kinds.wanted expected.now found.now) at }
-{
-    ReadError::at(at, ReadErrorKind::Wanted { expected, found })
 }
 
 // A key has to come at an offset, and none stands there.

@@ -10,8 +10,6 @@ ghost use Rattle.basic_toml_grammar.specs.Grammar.{is_wordlike};
 ghost use Rattle.basic_toml_grammar.specs.NumberFaults as faults;
 ghost use Rattle.basic_toml_grammar.specs.NumberTokens.{behind_word, behind_number, word_rest, number_rest};
 ghost use Rattle.basic_toml_grammar.specs.Reader.{word_at};
-ghost use Rattle.basic_toml_grammar.specs.Faults as kinds;
-ghost use Rattle.basic_toml_grammar.specs.GrammarFaults.{fault_at};
 ghost use Rattle.basic_toml_explain.specs.Cursor.{IsAfterWord};
 ghost use Rattle.basic_toml_explain.specs.Number.{IsFirst, LacksValue, IsJointNext, IsNumberStop, IsWordStop};
 
@@ -152,14 +150,8 @@ fn joint_error(cursor: &mut Cursor<'_>, alloc: Global, wanted: &'static str) -> 
 {
     let at = cursor.current();
     match cursor.next(alloc) {
-        Ok(Some((_, token))) => wanted_at(at, wanted, token.describe()),
-        Ok(None) => wanted_at(at, wanted, "eof"),
+        Ok(Some((_, token))) => ReadError::wanted_at(at, wanted, token.describe()),
+        Ok(None) => ReadError::wanted_at(at, wanted, "eof"),
         Err(error) => error,
     }
-}
-
-fn wanted_at(at: usize, expected: &'static str, found: &'static str) -> ReadError
-    ensures { result ≡ fault_at (kinds.wanted expected.now found.now) at }
-{
-    ReadError::at(at, ReadErrorKind::Wanted { expected, found })
 }

@@ -1,5 +1,4 @@
 -- Where a section stops, and which clash is named for it.
-pub mod DottedFaultsClash
 pub mod EveryClashIsNamed
 pub mod HeaderStopsAreNamed
 pub mod PairsAreNamed

@@ -2,6 +2,7 @@
 use Rattle.std.proofs.Common.{◌≡◌, ◌≤◌, ◌<◌, ◌+◌, ◌-◌, ◌∙◌, ℕ, List, length, refl, sym, subst, arith}
 use Rattle.std.proofs.Common.{Option, Some, None, Result, Ok, Err, length-append, [], ◌∷◌, ◌++◌}
 use Rattle.std.specs.Result.{IsErrAnd}
+use Rattle.basic_toml_value.specs.Nesting.{nesting_limit}
 use Rattle.basic_toml_tokens.specs.Text.{Text, text_at, is_comment, after_blanks}
 use Rattle.basic_toml_tokens.specs.Punctuation.{IsPunctuationEnd}
 use Rattle.basic_toml_grammar.specs.Sections.{Key}
@@ -75,7 +76,8 @@ shallow Outer stop result e other clear =
 
 -- a key or a bracket at an offset
 pub raised : {A : Type 0} (Outer : ℕ → Type 0) (level at : ℕ) (stop : Stop) (result : Result A Stop)
-    → IsErrAnd result (λ s. s ≡ stop) → RaisesTo level at (Err stop) → (128 < level → Outer at) → IfDeep Outer result
+    → IsErrAnd result (λ s. s ≡ stop) → RaisesTo level at (Err stop) → (nesting_limit < level → Outer at)
+    → IfDeep Outer result
 raised Outer level at stop result e r f =
     stopped (λ r. IfDeep Outer r) result stop e
     (subst (λ (s : Stop). AtDeep Outer s.why s.at) (sym r.1) (f r.0))
@@ -91,7 +93,8 @@ no_word_deep : (w : Why) (text : Text) → MissesWord w text → w ≡ Deep → 
 no_word_deep w text m e = subst (λ (w : Why). MissesWord w text) e m
 
 -- nothing is too deep where no key stands
-pub no_key_too_deep : (w : Why) (text : Text) → MissesKey w text → IsOther w → (l p : ℕ) → DeepKeys 128 l text p → ⊥
+pub no_key_too_deep : (w : Why) (text : Text) → MissesKey w text → IsOther w → (l p : ℕ)
+    → DeepKeys nesting_limit l text p → ⊥
 no_key_too_deep Memory text m other l p d = absurd other
 no_key_too_deep why.Key text m other l p (this_key h k) = let z : None ≡ Some _ = sym m ∙ key_found k in cc
 no_key_too_deep why.Key text m other l p (later_key h k s d) = let z : None ≡ Some _ = sym m ∙ key_found k in cc
@@ -99,7 +102,7 @@ no_key_too_deep _ text m other l p d = absurd m
 
 -- nor where no bracket does
 pub no_bracket_too_deep : (bytes : List ℕ) (at l p : ℕ) → IsPunctuationEnd 91 bytes at None
-    → IsPunctuationEnd 123 bytes at None → DeepValue 128 l (text_at bytes at) p → ⊥
+    → IsPunctuationEnd 123 bytes at None → DeepValue nesting_limit l (text_at bytes at) p → ⊥
 no_bracket_too_deep bytes at l p bracket brace (array s d) = no_such (sign_missing 91 (text_at bytes at) bracket) s
 no_bracket_too_deep bytes at l p bracket brace (inline s d) = no_such (sign_missing 123 (text_at bytes at) brace) s
 
@@ -132,25 +135,27 @@ unclosed_here Outer c w bytes at stop result e other clear r =
 -- from the keys of a header to the header
 pub header_keys_deep : (bytes : List ℕ) (at inner start : ℕ)
     → char_at 91 (text_at bytes at) ≡ Some (at, text_at bytes inner)
-    → Leaves bytes inner start (after_blanks (text_at bytes inner)) → (p : ℕ) → DeepKeys 128 2 (text_at bytes start) p
-    → DeepHeader 128 (text_at bytes at) p
+    → Leaves bytes inner start (after_blanks (text_at bytes inner)) → (p : ℕ)
+    → DeepKeys nesting_limit 2 (text_at bytes start) p
+    → DeepHeader nesting_limit (text_at bytes at) p
 header_keys_deep bytes at inner start sign left p d =
     table (sign_read 91 (text_at bytes at) (at, text_at bytes inner) sign)
-    (subst (λ (t : Text). DeepKeys 128 2 t p) left.left d)
+    (subst (λ (t : Text). DeepKeys nesting_limit 2 t p) left.left d)
 
 pub array_keys_deep : (bytes : List ℕ) (at inner first start : ℕ)
     → char_at 91 (text_at bytes at) ≡ Some (at, text_at bytes inner) → IsPunctuationEnd 91 bytes inner (Some first)
-    → Leaves bytes first start (after_blanks (text_at bytes first)) → (p : ℕ) → DeepKeys 128 2 (text_at bytes start) p
-    → DeepHeader 128 (text_at bytes at) p
+    → Leaves bytes first start (after_blanks (text_at bytes first)) → (p : ℕ)
+    → DeepKeys nesting_limit 2 (text_at bytes start) p
+    → DeepHeader nesting_limit (text_at bytes at) p
 array_keys_deep bytes at inner first start sign two left p d =
     array_of_tables (sign_read 91 (text_at bytes at) (at, text_at bytes inner) sign)
-    (sign_after bytes inner first 91 refl two) (subst (λ (t : Text). DeepKeys 128 2 t p) left.left d)
+    (sign_after bytes inner first 91 refl two) (subst (λ (t : Text). DeepKeys nesting_limit 2 t p) left.left d)
 
 -- from a value to its row
 pub value_deep : (bytes : List ℕ) (at level : ℕ) (old new : Gathered) (last : LastKey) (next start : ℕ)
     → IsLastKey bytes at level old new last → IsPunctuationEnd 61 bytes last.end (Some next)
     → Leaves bytes next start (after_blanks (text_at bytes next)) → (p : ℕ)
-    → DeepValue 128 last.level (text_at bytes start) p → DeepRow 128 level (text_at bytes at) p
+    → DeepValue nesting_limit last.level (text_at bytes start) p → DeepRow nesting_limit level (text_at bytes at) p
 value_deep bytes at level old new last next start k sign left p d =
     let keys : List Key = k.front ++ (record { offset = last.offset; text = key_text_bytes last.key } ∷ []) in
     let same : last.level ≡ level + length keys - 1 =
@@ -161,26 +166,29 @@ value_deep bytes at level old new last next start k sign left p d =
     ) in
     value (keys_there (text_at bytes at) (keys, k.mid) k.is) (omega (arith, same, k.limit))
     (sign_after bytes last.end next 61 k.after sign)
-    (subst (λ (t : Text). DeepValue 128 (level + length keys - 1) t p) left.left
-    (subst (λ (l : ℕ). DeepValue 128 l (text_at bytes start) p) same d))
+    (subst (λ (t : Text). DeepValue nesting_limit (level + length keys - 1) t p) left.left
+    (subst (λ (l : ℕ). DeepValue nesting_limit l (text_at bytes start) p) same d))
 
 -- from what stands after a bracket to the value
 pub array_deep : (bytes : List ℕ) (at next level : ℕ) → IsPunctuationEnd 91 bytes at (Some next) → (p : ℕ)
-    → DeepArray 128 (level + 1) at (text_at bytes next) p → DeepValue 128 level (text_at bytes at) p
+    → DeepArray nesting_limit (level + 1) at (text_at bytes next) p → DeepValue nesting_limit level (text_at bytes at) p
 array_deep bytes at next level sign p d = array (sign_after bytes at next 91 refl sign) d
 
 pub inline_deep : (bytes : List ℕ) (at next level : ℕ) → IsPunctuationEnd 123 bytes at (Some next) → (p : ℕ)
-    → DeepInline 128 (level + 1) at (text_at bytes next) p → DeepValue 128 level (text_at bytes at) p
+    → DeepInline nesting_limit (level + 1) at (text_at bytes next) p
+    → DeepValue nesting_limit level (text_at bytes at) p
 inline_deep bytes at next level sign p d = inline (sign_after bytes at next 123 refl sign) d
 
-pub elements_deep : (bytes : List ℕ) (offset at start level : ℕ) → level ≤ 128
+pub elements_deep : (bytes : List ℕ) (offset at start level : ℕ) → level ≤ nesting_limit
     → Leaves bytes at start (after_gap is_comment (text_at bytes at)) → (p : ℕ)
-    → DeepElements 128 level (text_at bytes start) p → DeepArray 128 level offset (text_at bytes at) p
+    → DeepElements nesting_limit level (text_at bytes start) p
+    → DeepArray nesting_limit level offset (text_at bytes at) p
 elements_deep bytes offset at start level h left p d =
-    elements h (subst (λ (t : Text). DeepElements 128 level t p) left.left d)
+    elements h (subst (λ (t : Text). DeepElements nesting_limit level t p) left.left d)
 
-pub fields_deep : (bytes : List ℕ) (offset at start level : ℕ) → level ≤ 128
+pub fields_deep : (bytes : List ℕ) (offset at start level : ℕ) → level ≤ nesting_limit
     → Leaves bytes at start (after_blanks (text_at bytes at)) → (p : ℕ)
-    → DeepFields 128 level (text_at bytes start) p → DeepInline 128 level offset (text_at bytes at) p
+    → DeepFields nesting_limit level (text_at bytes start) p
+    → DeepInline nesting_limit level offset (text_at bytes at) p
 fields_deep bytes offset at start level h left p d =
-    fields h (subst (λ (t : Text). DeepFields 128 level t p) left.left d)
+    fields h (subst (λ (t : Text). DeepFields nesting_limit level t p) left.left d)

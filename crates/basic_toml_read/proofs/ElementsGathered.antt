@@ -2,6 +2,7 @@
 use Rattle.std.proofs.Common.{inl, inr, ◌≡◌, ℕ, ◌<◌, ◌≤◌, List, [], ◌∷◌, ◌++◌, max, refl, ap, sym, ◌∙◌, subst, arith}
 use Rattle.std.proofs.Common.{append_assoc, append-nil, Option, Some, None, Result, Ok, Err}
 use Rattle.std.specs.Str.{IsCharBoundary}
+use Rattle.basic_toml_value.specs.Nesting.{nesting_limit}
 use Rattle.basic_toml_tokens.specs.Text.{Text, text_at}
 use Rattle.basic_toml_tokens.specs.Punctuation.{IsPunctuationEnd}
 use Rattle.basic_toml_read.specs.declared.section.Raw as code
@@ -96,11 +97,13 @@ pub record ElementsSoFar (bytes : List ℕ) (start level at : ℕ) (old new : Ga
   pub told : elements_of (text_at bytes start) ≡ after_elements (elements_view got) (elements_of (text_at bytes at))
   pub pushed : new.elements.items ≡ old.elements.items ++ got
   pub rows : new.rows.items ≡ old.rows.items
-  pub limit : elements_level level (elements_view got) ≤ 128
+  pub limit : elements_level level (elements_view got) ≤ nesting_limit
   pub boundary : IsCharBoundary bytes at
   pub forward : start ≤ at
-  pub leads : (p : ℕ) → DeepElements 128 level (text_at bytes at) p → DeepElements 128 level (text_at bytes start) p
-  pub backs : (p : ℕ) → DeepElements 128 level (text_at bytes start) p → DeepElements 128 level (text_at bytes at) p
+  pub leads : (p : ℕ) → DeepElements nesting_limit level (text_at bytes at) p
+      → DeepElements nesting_limit level (text_at bytes start) p
+  pub backs : (p : ℕ) → DeepElements nesting_limit level (text_at bytes start) p
+      → DeepElements nesting_limit level (text_at bytes at) p
   pub holes : LeadsTo (in_elements (text_at bytes at)) (in_elements (text_at bytes start))
 
 pub elements_start : (bytes : List ℕ) (start level : ℕ) (old : Gathered) → IsCharBoundary bytes start
@@ -172,12 +175,12 @@ module _ (bytes : List ℕ) (start level at : ℕ) (old new : Gathered) (s : Ele
 
     -- no value
     pub elements_missing : (w : Why) → IsPunctuationEnd 93 bytes at None
-        → Misses w (value_of (text_at bytes at)) (λ v. 128 < value_level level v.value)
-        → Misses w (elements_of (text_at bytes start)) (λ r. 128 < elements_level level r.0)
+        → Misses w (value_of (text_at bytes at)) (λ v. nesting_limit < value_level level v.value)
+        → Misses w (elements_of (text_at bytes start)) (λ r. nesting_limit < elements_level level r.0)
     unfolding after_elements
     elements_missing w sign m =
         misses_then w (value_of (text_at bytes at)) (elements_of (text_at bytes start))
-        (λ v. 128 < value_level level v.value) (λ r. 128 < elements_level level r.0)
+        (λ v. nesting_limit < value_level level v.value) (λ r. nesting_limit < elements_level level r.0)
         (λ e. there ∙ ap (λ o. after_elements (elements_view s.got) (and_then o elements_on)) e)
         (λ y e. let (r, r_is, f) =
         then_some (and_then (value_of (text_at bytes at)) elements_on)
@@ -215,7 +218,7 @@ module _ (bytes : List ℕ) (start level at : ℕ) (old new : Gathered) (s : Ele
       view' = elements_view_more s.got v.offset v.value r.found.raw r.found.seen
 
       limit' : elements_level level
-          (elements_view (s.got ++ (roll-Element (record { offset = v.offset; value = v.value }) ∷ []))) ≤ 128
+          (elements_view (s.got ++ (roll-Element (record { offset = v.offset; value = v.value }) ∷ []))) ≤ nesting_limit
       limit' = omega (
         arith,
         ap (elements_level level) view',
@@ -271,7 +274,7 @@ module _ (bytes : List ℕ) (start level at : ℕ) (old new : Gathered) (s : Ele
 
       -- nothing is too deep where no comma follows
       pub elements_over : IsPunctuationEnd 44 bytes after None → (p : ℕ)
-          → DeepElements 128 level (text_at bytes start) p → ⊥
+          → DeepElements nesting_limit level (text_at bytes start) p → ⊥
       elements_over sign p d =
           last_element bytes at v.end after level
           (record { offset = v.offset; value = r.found.raw; rest = text_at bytes v.end }) r.found.is refl r.limit left

@@ -2,6 +2,7 @@
 use Rattle.std.proofs.Common.{inl, inr, ◌≡◌, ℕ, ◌<◌, ◌≤◌, List, [], ◌++◌, max, refl, ap, sym, ◌∙◌, subst, arith}
 use Rattle.std.proofs.Common.{append_assoc, append-nil, Option, Some, None, Result, Ok, Err}
 use Rattle.std.specs.Str.{IsCharBoundary}
+use Rattle.basic_toml_value.specs.Nesting.{nesting_limit}
 use Rattle.basic_toml_tokens.specs.Text.{Text, text_at, after_blanks}
 use Rattle.basic_toml_tokens.specs.Punctuation.{IsPunctuationEnd}
 use Rattle.basic_toml_read.specs.declared.section.Row.{Row}
@@ -102,11 +103,13 @@ pub record FieldsSoFar (bytes : List ℕ) (start level at : ℕ) (old new : Gath
   pub told : fields_of (text_at bytes start) ≡ after_rows (rows_view got) (fields_on_of (text_at bytes at))
   pub pushed : new.rows.items ≡ old.rows.items ++ got
   pub elements : new.elements.items ≡ old.elements.items
-  pub limit : rows_level level (rows_view got) ≤ 128
+  pub limit : rows_level level (rows_view got) ≤ nesting_limit
   pub boundary : IsCharBoundary bytes at
   pub forward : start ≤ at
-  pub leads : (p : ℕ) → DeepFields 128 level (text_at bytes at) p → DeepFields 128 level (text_at bytes start) p
-  pub backs : (p : ℕ) → DeepFields 128 level (text_at bytes start) p → DeepFields 128 level (text_at bytes at) p
+  pub leads : (p : ℕ) → DeepFields nesting_limit level (text_at bytes at) p
+      → DeepFields nesting_limit level (text_at bytes start) p
+  pub backs : (p : ℕ) → DeepFields nesting_limit level (text_at bytes start) p
+      → DeepFields nesting_limit level (text_at bytes at) p
   pub holes : LeadsTo (in_fields_on (text_at bytes at)) (in_fields (text_at bytes start))
 
 no_brace : (bytes : List ℕ) (start : ℕ) → IsPunctuationEnd 125 bytes start None
@@ -174,12 +177,12 @@ row_level_on l r rs e =
 
 module _ (bytes : List ℕ) (start level at : ℕ) (old new : Gathered) (s : FieldsSoFar bytes start level at old new) where
   -- no row
-  pub fields_missing : (w : Why) → Misses w (row_of (text_at bytes at)) (λ r. 128 < row_level level r)
-      → Misses w (fields_of (text_at bytes start)) (λ r. 128 < rows_level level r.0)
+  pub fields_missing : (w : Why) → Misses w (row_of (text_at bytes at)) (λ r. nesting_limit < row_level level r)
+      → Misses w (fields_of (text_at bytes start)) (λ r. nesting_limit < rows_level level r.0)
   unfolding after_rows
   fields_missing w m =
-      misses_then w (row_of (text_at bytes at)) (fields_of (text_at bytes start)) (λ r. 128 < row_level level r)
-      (λ r. 128 < rows_level level r.0)
+      misses_then w (row_of (text_at bytes at)) (fields_of (text_at bytes start)) (λ r. nesting_limit < row_level level
+      r) (λ r. nesting_limit < rows_level level r.0)
       (λ e. there ∙ ap (λ o. after_rows (rows_view s.got) (and_then o fields_on)) e)
       (λ y e. let (q, q_is, f) =
       then_some (and_then (row_of (text_at bytes at)) fields_on)
@@ -209,7 +212,7 @@ module _ (bytes : List ℕ) (start level at : ℕ) (old new : Gathered) (s : Fie
         ≡ joined_rows (rows_view s.got) (row r.found.keys r.found.offset r.found.value no_rows)
     view' = (whole_more s.got r.added r.found.keys r.found.offset r.found.value s.whole r.seen).1
 
-    limit' : rows_level level (rows_view (s.got ++ r.added)) ≤ 128
+    limit' : rows_level level (rows_view (s.got ++ r.added)) ≤ nesting_limit
     limit' = omega (
       arith,
       ap (rows_level level) view',
@@ -259,7 +262,8 @@ module _ (bytes : List ℕ) (start level at : ℕ) (old new : Gathered) (s : Fie
     }
 
     -- nothing is too deep where no comma follows
-    pub fields_over : IsPunctuationEnd 44 bytes after None → (p : ℕ) → DeepFields 128 level (text_at bytes start) p → ⊥
+    pub fields_over : IsPunctuationEnd 44 bytes after None → (p : ℕ)
+        → DeepFields nesting_limit level (text_at bytes start) p → ⊥
     fields_over sign p d = last_field bytes at end after level r.found r.is r.rest r.limit left sign p (s.backs p d)
 
     last_on : IsPunctuationEnd 44 bytes after None → fields_of (text_at bytes start)

@@ -2,6 +2,7 @@
 use Rattle.std.proofs.Common.{◌≡◌, ℕ, ◌+◌, ◌-◌, ◌<◌, ◌≤◌, Bool, true, false, List, [], ◌∷◌, ◌++◌, length, map, refl}
 use Rattle.std.proofs.Common.{ap, sym, ◌∙◌, subst, arith, length-append, Option, Some, None, Ok, Err, Vec, Global}
 use Rattle.std.proofs.lemmas.List.{map-append}
+use Rattle.basic_toml_value.specs.Nesting.{nesting_limit}
 use Rattle.basic_toml_tokens.specs.Text.{Text, text_at, after_blanks}
 use Rattle.basic_toml_tokens.specs.Punctuation.{IsPunctuationEnd}
 use Rattle.basic_toml_explain.specs.declared.stop.Stop.{Stop}
@@ -37,28 +38,28 @@ header_length (k ∷ ks) = omega (arith, header_length ks)
 level_of : (n : ℕ) → 2 + n - 1 ≡ n + 1
 level_of n = omega arith
 
-misses_level : (w : Why) (text : Text) → Misses w (keys_of text) (λ keys. 128 < 2 + length keys.0 - 1)
-    → Misses w (keys_of text) (λ keys. 128 < length keys.0 + 1)
+misses_level : (w : Why) (text : Text) → Misses w (keys_of text) (λ keys. nesting_limit < 2 + length keys.0 - 1)
+    → Misses w (keys_of text) (λ keys. nesting_limit < length keys.0 + 1)
 misses_level w text m =
-    misses_then w (keys_of text) (keys_of text) (λ keys. 128 < 2 + length keys.0 - 1)
-    (λ keys. 128 < length keys.0 + 1) (λ e. e) (λ y e. (y, e, λ h. omega (arith, level_of (length y.0)))) m
+    misses_then w (keys_of text) (keys_of text) (λ keys. nesting_limit < 2 + length keys.0 - 1)
+    (λ keys. nesting_limit < length keys.0 + 1) (λ e. e) (λ y e. (y, e, λ h. omega (arith, level_of (length y.0)))) m
 
 pub header_missing : (bytes : List ℕ) (at offset level : ℕ) (front : List Key)
     → KeysTold bytes at 2 offset level front → (w : Why) → MissesKey w (text_at bytes offset)
-    → Misses w (keys_of (text_at bytes at)) (λ keys. 128 < length keys.0 + 1)
+    → Misses w (keys_of (text_at bytes at)) (λ keys. nesting_limit < length keys.0 + 1)
 header_missing bytes at offset level front s w m =
     misses_level w (text_at bytes at) (keys_missing bytes at 2 offset level front s w m)
 
 pub header_deep : (bytes : List ℕ) (at offset level : ℕ) (front : List Key)
-    → KeysTold bytes at 2 offset level front → 128 < level
-    → Misses why.Deep (keys_of (text_at bytes at)) (λ keys. 128 < length keys.0 + 1)
+    → KeysTold bytes at 2 offset level front → nesting_limit < level
+    → Misses why.Deep (keys_of (text_at bytes at)) (λ keys. nesting_limit < length keys.0 + 1)
 header_deep bytes at offset level front s h =
     misses_level why.Deep (text_at bytes at) (keys_deep bytes at 2 offset level front s h)
 
 module _ (bytes : List ℕ) (at offset level : ℕ) (front : List keys.Key)
     (s : KeysTold bytes at 2 offset level (map key_of front))
     (k : Keyed) (key : ReadsKeyAt bytes offset (Ok k)) (end : ℕ)
-    (blanks : Leaves bytes k.end end (after_blanks (text_at bytes k.end))) (high : level ≤ 128)
+    (blanks : Leaves bytes k.end end (after_blanks (text_at bytes k.end))) (high : level ≤ nesting_limit)
     (all : List keys.Key) (pushed : all ≡ front ++ (record { text = k.key; offset = offset } ∷ [])) where
   seen : map key_of all ≡ map key_of front ++ record { offset = offset; text = key_text_bytes k.key } ∷ []
   seen = ap (map key_of) pushed ∙ map-append key_of front (record { text = k.key; offset = offset } ∷ [])
@@ -93,7 +94,7 @@ module _ (bytes : List ℕ) (at offset level : ℕ) (front : List keys.Key)
 
 -- nothing is too deep in keys that are read
 pub header_keys_within : (bytes : List ℕ) (start : ℕ) (found : HeaderKeys) → AreHeaderKeys bytes start found → (p : ℕ)
-    → DeepKeys 128 2 (text_at bytes start) p → ⊥
+    → DeepKeys nesting_limit 2 (text_at bytes start) p → ⊥
 header_keys_within bytes start found k p d =
     keys_within (keys_there (text_at bytes start) (map key_of found.keys.items, k.mid) k.is)
     (omega (arith, k.limit, header_length found.keys.items)) (ap (char_at 46) (sym k.after) ∙ k.over) d
@@ -136,12 +137,12 @@ module _ (bytes : List ℕ) (at inner : ℕ) (sign : char_at 91 (text_at bytes a
         (λ keys. and_then (char_at 93 (after_blanks keys.1)) (λ close. Some (headed at keys.0 false close.1))))
         (sym left.left)
 
-    pub one_missing : (w : Why) → Misses w (keys_of (text_at bytes start)) (λ keys. 128 < length keys.0 + 1)
-        → Misses w (header_of (text_at bytes at)) (λ h. 128 < length h.keys + 1)
+    pub one_missing : (w : Why) → Misses w (keys_of (text_at bytes start)) (λ keys. nesting_limit < length keys.0 + 1)
+        → Misses w (header_of (text_at bytes at)) (λ h. nesting_limit < length h.keys + 1)
     unfolding headed
     one_missing w m =
-        misses_then w (keys_of (text_at bytes start)) (header_of (text_at bytes at)) (λ keys. 128 < length keys.0 + 1)
-        (λ h. 128 < length h.keys + 1)
+        misses_then w (keys_of (text_at bytes start)) (header_of (text_at bytes at))
+        (λ keys. nesting_limit < length keys.0 + 1) (λ h. nesting_limit < length h.keys + 1)
         (λ e. by_one ∙ ap (λ o. and_then o on) e)
         (λ y e. let (keys, keys_is, f) = then_some (keys_of (text_at bytes start)) on y (sym by_one ∙ e) in
         let (c, c_is, same) = then_some (char_at 93 (after_blanks keys.1))
@@ -202,12 +203,12 @@ module _ (bytes : List ℕ) (at inner : ℕ) (sign : char_at 91 (text_at bytes a
         (λ keys. and_then (char_at 93 (after_blanks keys.1))
         (λ close. and_then (char_at 93 close.1) (λ last. Some (headed at keys.0 true last.1))))) (sym left.left)
 
-    pub two_missing : (w : Why) → Misses w (keys_of (text_at bytes start)) (λ keys. 128 < length keys.0 + 1)
-        → Misses w (header_of (text_at bytes at)) (λ h. 128 < length h.keys + 1)
+    pub two_missing : (w : Why) → Misses w (keys_of (text_at bytes start)) (λ keys. nesting_limit < length keys.0 + 1)
+        → Misses w (header_of (text_at bytes at)) (λ h. nesting_limit < length h.keys + 1)
     unfolding headed
     two_missing w m =
-        misses_then w (keys_of (text_at bytes start)) (header_of (text_at bytes at)) (λ keys. 128 < length keys.0 + 1)
-        (λ h. 128 < length h.keys + 1)
+        misses_then w (keys_of (text_at bytes start)) (header_of (text_at bytes at))
+        (λ keys. nesting_limit < length keys.0 + 1) (λ h. nesting_limit < length h.keys + 1)
         (λ e. by_two ∙ ap (λ o. and_then o on) e)
         (λ y e. let (keys, keys_is, f) = then_some (keys_of (text_at bytes start)) on y (sym by_two ∙ e) in
         let (c, c_is, g) = then_some (char_at 93 (after_blanks keys.1))

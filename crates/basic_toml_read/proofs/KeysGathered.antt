@@ -2,6 +2,7 @@
 use Rattle.std.proofs.Common.{◌≡◌, ℕ, ◌+◌, ◌≤◌, List, [], ◌∷◌, ◌++◌, refl, ap, sym, ◌∙◌, arith, append_assoc}
 use Rattle.std.proofs.Common.{append-nil, Some, None, Ok}
 use Rattle.std.specs.Str.{IsCharBoundary}
+use Rattle.basic_toml_value.specs.Nesting.{nesting_limit}
 use Rattle.basic_toml_tokens.specs.Text.{text_at, after_blanks}
 use Rattle.basic_toml_tokens.specs.Punctuation.{IsPunctuationEnd}
 use Rattle.basic_toml_read.specs.declared.section.Row.{Row}
@@ -35,7 +36,7 @@ pub record KeysSoFar (bytes : List ℕ) (at first offset level : ℕ) (old new :
   pub seen : (rest : List Row) → rows_view (dots ++ rest) ≡ with_keys front (rows_view rest)
   pub elements : new.elements.items ≡ old.elements.items
 
-pub keys_start : (bytes : List ℕ) (at first : ℕ) (old : Gathered) → first ≤ 128 → IsCharBoundary bytes at
+pub keys_start : (bytes : List ℕ) (at first : ℕ) (old : Gathered) → first ≤ nesting_limit → IsCharBoundary bytes at
     → KeysSoFar bytes at first at first old old
 keys_start bytes at first old low b = record {
   front = [];
@@ -49,7 +50,7 @@ keys_start bytes at first old low b = record {
 module _ (bytes : List ℕ) (at first offset level : ℕ) (old new : Gathered)
     (s : KeysSoFar bytes at first offset level old new)
     (k : Keyed) (key : ReadsKeyAt bytes offset (Ok k)) (end : ℕ)
-    (blanks : Leaves bytes k.end end (after_blanks (text_at bytes k.end))) (high : level ≤ 128) where
+    (blanks : Leaves bytes k.end end (after_blanks (text_at bytes k.end))) (high : level ≤ nesting_limit) where
   -- a period and another key
   pub keys_more : (next offset' : ℕ) (new' : Gathered) (dot : Row) → IsPunctuationEnd 46 bytes end (Some next)
       → Leaves bytes next offset' (after_blanks (text_at bytes next))

@@ -3,6 +3,7 @@ use Rattle.std.proofs.Common.{inl, inr, ◌≡◌, ℕ, ◌+◌, ◌-◌, ◌<�
 use Rattle.std.proofs.Common.{subst, arith, append_assoc, length-append, Option, Some, None, Result, Ok, Err}
 use Rattle.std.specs.Result.{IsErrAnd}
 use Rattle.std.specs.Str.{IsCharBoundary}
+use Rattle.basic_toml_value.specs.Nesting.{nesting_limit}
 use Rattle.basic_toml_tokens.specs.Text.{Text, text_at, after_blanks}
 use Rattle.basic_toml_tokens.specs.Punctuation.{IsPunctuationEnd}
 use Rattle.basic_toml_explain.specs.declared.stop.Stop.{Stop}
@@ -77,15 +78,17 @@ keys_by_key text k mid o e f =
 pub record KeysTold (bytes : List ℕ) (at first offset level : ℕ) (front : List Key) : Type 0 where
   pub told : keys_of (text_at bytes at) ≡ in_front front (keys_of (text_at bytes offset))
   pub level_is : level ≡ first + length front
-  pub low : level ≤ 129
+  pub low : level ≤ nesting_limit + 1
   pub boundary : IsCharBoundary bytes offset
   pub forward : at ≤ offset
-  pub leads : (p : ℕ) → DeepKeys 128 level (text_at bytes offset) p → DeepKeys 128 first (text_at bytes at) p
-  pub backs : (p : ℕ) → DeepKeys 128 first (text_at bytes at) p → DeepKeys 128 level (text_at bytes offset) p
+  pub leads : (p : ℕ) → DeepKeys nesting_limit level (text_at bytes offset) p
+      → DeepKeys nesting_limit first (text_at bytes at) p
+  pub backs : (p : ℕ) → DeepKeys nesting_limit first (text_at bytes at) p
+      → DeepKeys nesting_limit level (text_at bytes offset) p
   pub holes : (there : Text) → HoleInKeys (text_at bytes offset) Hole.key there
       → HoleInKeys (text_at bytes at) Hole.key there
 
-pub told_start : (bytes : List ℕ) (at first : ℕ) → first ≤ 128 → IsCharBoundary bytes at
+pub told_start : (bytes : List ℕ) (at first : ℕ) → first ≤ nesting_limit → IsCharBoundary bytes at
     → KeysTold bytes at first at first []
 told_start bytes at first low b =
     record {
@@ -104,7 +107,7 @@ module _ (bytes : List ℕ) (at first offset level : ℕ) (front : List Key)
     (s : KeysTold bytes at first offset level front) where
   -- no key
   pub keys_missing : (w : Why) → MissesKey w (text_at bytes offset)
-      → Misses w (keys_of (text_at bytes at)) (λ keys. 128 < first + length keys.0 - 1)
+      → Misses w (keys_of (text_at bytes at)) (λ keys. nesting_limit < first + length keys.0 - 1)
   unfolding in_front
   keys_missing Memory m = tt
   keys_missing why.Key m =
@@ -114,7 +117,8 @@ module _ (bytes : List ℕ) (at first offset level : ℕ) (front : List Key)
   keys_missing _ m = absurd m
 
   -- the key stands above the limit
-  pub keys_deep : 128 < level → Misses Deep (keys_of (text_at bytes at)) (λ keys. 128 < first + length keys.0 - 1)
+  pub keys_deep : nesting_limit < level
+      → Misses Deep (keys_of (text_at bytes at)) (λ keys. nesting_limit < first + length keys.0 - 1)
   unfolding in_front
   keys_deep h x e =
       let (keys, keys_is, f) =
@@ -146,12 +150,12 @@ module _ (bytes : List ℕ) (at first offset level : ℕ) (front : List Key)
           ]
 
   -- such a key is too deep
-  pub key_is_deep : (k : Keyed) → ReadsKeyAt bytes offset (Ok k) → 128 < level
-      → DeepKeys 128 first (text_at bytes at) offset
+  pub key_is_deep : (k : Keyed) → ReadsKeyAt bytes offset (Ok k) → nesting_limit < level
+      → DeepKeys nesting_limit first (text_at bytes at) offset
   key_is_deep k key h = s.leads offset (deep_key_there level (text_at bytes offset) (text_at bytes k.end) h key.0)
 
   module _ (k : Keyed) (key : ReadsKeyAt bytes offset (Ok k)) (end : ℕ)
-      (blanks : Leaves bytes k.end end (after_blanks (text_at bytes k.end))) (high : level ≤ 128) where
+      (blanks : Leaves bytes k.end end (after_blanks (text_at bytes k.end))) (high : level ≤ nesting_limit) where
     here : Key
     here = record { offset = offset; text = key_text_bytes k.key }
 

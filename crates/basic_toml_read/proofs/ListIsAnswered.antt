@@ -1,6 +1,7 @@
 -- What `sections` answers: the list that is read, or why there is none.
 use Rattle.std.proofs.Common.{inl, inr, ◌≡◌, ◌<◌, ℕ, List, sym, ◌∙◌, subst, Some, None, Ok, Vec, Global}
 use Rattle.std.specs.Prelude.{IsUtf8}
+use Rattle.basic_toml_value.specs.Nesting.{nesting_limit}
 use Rattle.basic_toml_tokens.specs.Text.{folded}
 use Rattle.basic_toml_grammar.specs.Faults.{Fault}
 use Rattle.basic_toml_grammar.specs.Levels.{highest_level}
@@ -29,16 +30,16 @@ none_found bytes none sections g =
     let z : None ≡ Some sections = sym none ∙ list_found (folded bytes) sections g in cc
 
 of_grammar : (bytes : List ℕ) (fault : Fault) → HoldsMore (folded bytes) → section_list_of (folded bytes) ≡ None
-    → IsWithin 128 (folded bytes) → IsDue bytes fault → IsRefused bytes fault
+    → IsWithin nesting_limit (folded bytes) → IsDue bytes fault → IsRefused bytes fault
 of_grammar bytes fault more none within (inl m) = subst (IsRefused bytes) (sym m) (memory more)
 of_grammar bytes fault more none within (inr s) = outside (s (none_found bytes none)) within
 
 pub stop_answered : (bytes : List ℕ) (w : Why) (at : ℕ) (fault : Fault) → IsUtf8 bytes → HoldsMore (folded bytes)
-    → AtDeep (DeepStop 128 (folded bytes)) w at
-    → Misses w (section_list_of (folded bytes)) (λ sections. 128 < highest_level sections)
+    → AtDeep (DeepStop nesting_limit (folded bytes)) w at
+    → Misses w (section_list_of (folded bytes)) (λ sections. nesting_limit < highest_level sections)
     → ExplainsWhy bytes w at fault → IsRefused bytes fault
 stop_answered bytes Memory at fault u more low m e = subst (IsRefused bytes) (sym e) (memory more)
 stop_answered bytes Deep at fault u more low m e =
     subst (IsRefused bytes) (sym e) (deep (λ sections g. m sections (list_found (folded bytes) sections g))
-    (deep_stops_are_too_deep 128 at bytes u low) low)
+    (deep_stops_are_too_deep nesting_limit at bytes u low) low)
 stop_answered bytes _ at fault u more low m e = of_grammar bytes fault more m low e

@@ -3,6 +3,7 @@ use Rattle.std.proofs.Common.{◌≡◌, ℕ, ◌+◌, ◌-◌, ◌<◌, ◌≤�
 use Rattle.std.proofs.Common.{sym, ◌∙◌, arith, append_assoc, append-nil, Option, Some, None, Ok, Err, Vec, Global}
 use Rattle.std.proofs.Common.{drop, take, subst, suc, ◌*◌, Result, IfErr}
 use Rattle.std.proofs.lemmas.List.{map-append}
+use Rattle.basic_toml_value.specs.Nesting.{nesting_limit}
 use Rattle.basic_toml_tokens.specs.Text.{Text, text_at, folded, start_of, after_blanks}
 use Rattle.basic_toml_read.specs.declared.header.Header.{Header}
 use Rattle.basic_toml_read.specs.declared.section.Row as code_rows
@@ -99,10 +100,10 @@ pub record ListSoFar (bytes : List ℕ) (next : Option ℕ) (gathered : Gathered
   pub ends : NextAt bytes rest next
   pub told : section_list_of (folded bytes) ≡ onto (map section_of list) (sections_of rest)
   pub none : gathered.rows.items ≡ []
-  pub limit : highest_level (map section_of list) ≤ 128
+  pub limit : highest_level (map section_of list) ≤ nesting_limit
   pub gaps : IsGap (folded bytes) → next ≡ None
-  pub leads : (p : ℕ) → DeepSections 128 rest p → DeepStop 128 (folded bytes) p
-  pub backs : (p : ℕ) → DeepStop 128 (folded bytes) p → DeepSections 128 rest p
+  pub leads : (p : ℕ) → DeepSections nesting_limit rest p → DeepStop nesting_limit (folded bytes) p
+  pub backs : (p : ℕ) → DeepStop nesting_limit (folded bytes) p → DeepSections nesting_limit rest p
   pub holes : LeadsTo (in_sections rest) (in_text (folded bytes))
 
 -- the rows before the first header
@@ -114,11 +115,11 @@ module _ (bytes : List ℕ) (start : ℕ) (start_is : start ≡ start_of bytes) 
       ap (λ n. and_then (rows_of (text_at bytes n))
       (λ rows. and_then (sections_of rows.1) (λ headed. Some (with_root rows.0 headed)))) (sym start_is)
 
-  pub root_missing : (w : Why) → Misses w (rows_of (text_at bytes start)) (λ r. 128 < rows_level 1 r.0)
-      → Misses w (section_list_of (folded bytes)) (λ sections. 128 < highest_level sections)
+  pub root_missing : (w : Why) → Misses w (rows_of (text_at bytes start)) (λ r. nesting_limit < rows_level 1 r.0)
+      → Misses w (section_list_of (folded bytes)) (λ sections. nesting_limit < highest_level sections)
   root_missing w m =
-      misses_then w (rows_of (text_at bytes start)) (section_list_of (folded bytes)) (λ r. 128 < rows_level 1 r.0)
-      (λ sections. 128 < highest_level sections)
+      misses_then w (rows_of (text_at bytes start)) (section_list_of (folded bytes)) (λ r. nesting_limit < rows_level 1
+      r.0) (λ sections. nesting_limit < highest_level sections)
       (λ e. list_by ∙ ap (λ o. and_then o
       (λ rows. and_then (sections_of rows.1) (λ headed. Some (with_root rows.0 headed)))) e)
       (λ y e. let (rows, rows_is, f) =
@@ -145,11 +146,11 @@ module _ (bytes : List ℕ) (start : ℕ) (start_is : start ≡ start_of bytes) 
       (moved_in in_rows (text_at bytes start) (folded bytes) (ap (text_at bytes) start_is)) (to_root (folded bytes))
 
   -- what is too deep is so in them, where they are none
-  pub root_deep : rows_of (text_at bytes start) ≡ None → (p : ℕ) → DeepStop 128 (folded bytes) p
-      → DeepRows 128 1 (text_at bytes start) p
+  pub root_deep : rows_of (text_at bytes start) ≡ None → (p : ℕ) → DeepStop nesting_limit (folded bytes) p
+      → DeepRows nesting_limit 1 (text_at bytes start) p
   root_deep e p d =
       let same : text_at bytes start ≡ folded bytes = ap (text_at bytes) start_is in
-      subst (λ (t : Text). DeepRows 128 1 t p) (sym same) (root_rows (ap rows_of (sym same) ∙ e) d)
+      subst (λ (t : Text). DeepRows nesting_limit 1 t p) (sym same) (root_rows (ap rows_of (sym same) ∙ e) d)
 
   -- rows that a gap has none of
   pub gap_passed : (old mid : Gathered) (next : Option ℕ) → PassesGaps bytes start old mid (Ok next)
@@ -233,11 +234,12 @@ sections_on h sections e =
     omega (arith, ap highest_level there)
 
 module _ (bytes : List ℕ) (at : ℕ) where
-  pub header_missing : (w : Why) → Misses w (header_of (text_at bytes at)) (λ h. 128 < length h.keys + 1)
-      → Misses w (and_then (header_of (text_at bytes at)) sections_from) (λ sections. 128 < highest_level sections)
+  pub header_missing : (w : Why) → Misses w (header_of (text_at bytes at)) (λ h. nesting_limit < length h.keys + 1)
+      → Misses w (and_then (header_of (text_at bytes at)) sections_from)
+      (λ sections. nesting_limit < highest_level sections)
   header_missing w m =
       misses_then w (header_of (text_at bytes at)) (and_then (header_of (text_at bytes at)) sections_from)
-      (λ h. 128 < length h.keys + 1) (λ sections. 128 < highest_level sections)
+      (λ h. nesting_limit < length h.keys + 1) (λ sections. nesting_limit < highest_level sections)
       (λ e. ap (λ o. and_then o sections_from) e)
       (λ y e. let (h, h_is, f) = then_some (header_of (text_at bytes at)) sections_from y e in
       (h, h_is, λ high. omega (arith, high, sections_on h y f)))
@@ -272,7 +274,7 @@ module _ (bytes : List ℕ) (at : ℕ) where
 
     -- nothing is too deep where its line goes on
     pub none_after_header : (text : Text) → text_at bytes at ≡ after_blanks text
-        → line_end_at (text_at bytes h.end) ≡ None → (p : ℕ) → DeepSections 128 text p → ⊥
+        → line_end_at (text_at bytes h.end) ≡ None → (p : ℕ) → DeepSections nesting_limit text p → ⊥
     unfolding keys_here
     none_after_header text same e p d =
         after_header (header_is text same) (omega (arith, read.limit, header_length h.keys.items)) e d
@@ -303,28 +305,29 @@ module _ (bytes : List ℕ) (at : ℕ) where
 
       -- rows that are too deep
       pub rows_are_deep : (text : Text) → text_at bytes at ≡ after_blanks text → (p : ℕ)
-          → DeepRows 128 (length h.keys.items + 1) (text_at bytes line) p → DeepSections 128 text p
+          → DeepRows nesting_limit (length h.keys.items + 1) (text_at bytes line) p → DeepSections nesting_limit text p
       rows_are_deep text same p d =
           deep.this_section (deep.rows (header_is text same) (omega (arith, read.limit, level_here))
           (line_end_read (text_at bytes h.end) (text_at bytes line) ended.0)
-          (subst (λ (n : ℕ). DeepRows 128 (n + 1) (text_at bytes line) p) (sym level_here) d))
+          (subst (λ (n : ℕ). DeepRows nesting_limit (n + 1) (text_at bytes line) p) (sym level_here) d))
 
       pub deep_in_rows : (text : Text) → text_at bytes at ≡ after_blanks text
-          → rows_of (text_at bytes line) ≡ None → (p : ℕ) → DeepSections 128 text p
-          → DeepRows 128 (length h.keys.items + 1) (text_at bytes line) p
+          → rows_of (text_at bytes line) ≡ None → (p : ℕ) → DeepSections nesting_limit text p
+          → DeepRows nesting_limit (length h.keys.items + 1) (text_at bytes line) p
       deep_in_rows text same e p d =
-          subst (λ (n : ℕ). DeepRows 128 (n + 1) (text_at bytes line) p) level_here
+          subst (λ (n : ℕ). DeepRows nesting_limit (n + 1) (text_at bytes line) p) level_here
           (its_rows (header_is text same) (omega (arith, read.limit, level_here))
           (line_end_read (text_at bytes h.end) (text_at bytes line) ended.0) e d)
 
       pub rows_missing : (w : Why)
-          → Misses w (rows_of (text_at bytes line)) (λ r. 128 < rows_level (length h.keys.items + 1) r.0)
-          → Misses w (and_then (header_of (text_at bytes at)) sections_from) (λ sections. 128 < highest_level sections)
+          → Misses w (rows_of (text_at bytes line)) (λ r. nesting_limit < rows_level (length h.keys.items + 1) r.0)
+          → Misses w (and_then (header_of (text_at bytes at)) sections_from)
+          (λ sections. nesting_limit < highest_level sections)
       unfolding made
       rows_missing w m =
           misses_then w (rows_of (text_at bytes line)) (and_then (header_of (text_at bytes at)) sections_from)
-          (λ r. 128 < rows_level (length h.keys.items + 1) r.0) (λ sections. 128 < highest_level sections)
-          (λ e. by_rows ∙ ap (λ o. and_then o
+          (λ r. nesting_limit < rows_level (length h.keys.items + 1) r.0)
+          (λ sections. nesting_limit < highest_level sections) (λ e. by_rows ∙ ap (λ o. and_then o
           (λ rows. and_then (sections_of rows.1) (λ sections. Some (made rows.0 ∷ sections)))) e)
           (λ y e. let (rows, rows_is, g) =
           then_some (rows_of (text_at bytes line))
@@ -404,11 +407,11 @@ module _ (bytes : List ℕ) (at : ℕ) where
 pub section_is_deep : {A : Type 0} (bytes : List ℕ) (at : ℕ) (gathered : Gathered) (list : List code.Section)
     → ListSoFar bytes (Some at) gathered list → (stop : Stop) (result : Result A Stop)
     → IsErrAnd result (λ s. s ≡ stop) → IfDeepSection {A = A} bytes at (Err stop)
-    → IfDeep (DeepStop 128 (folded bytes)) result
+    → IfDeep (DeepStop nesting_limit (folded bytes)) result
 section_is_deep bytes at gathered list s stop result e d =
     let (x, line, is, here, b, some) = s.ends in
-    deep_on (DeepSections 128 s.rest) (DeepStop 128 (folded bytes)) stop result e s.leads (λ other. s.backs)
-    (d s.rest here)
+    deep_on (DeepSections nesting_limit s.rest) (DeepStop nesting_limit (folded bytes)) stop result e s.leads
+    (λ other. s.backs) (d s.rest here)
 
 -- the stop of a section
 pub section_hole : {A : Type 0} (bytes : List ℕ) (at : ℕ) (gathered : Gathered) (list : List code.Section)
@@ -450,13 +453,14 @@ list_more bytes at next old new before after s r = record {
 
 pub list_missing : (bytes : List ℕ) (at : ℕ) (gathered : Gathered) (list : List code.Section)
     → ListSoFar bytes (Some at) gathered list → (w : Why)
-    → Misses w (and_then (header_of (text_at bytes at)) sections_from) (λ sections. 128 < highest_level sections)
-    → Misses w (section_list_of (folded bytes)) (λ sections. 128 < highest_level sections)
+    → Misses w (and_then (header_of (text_at bytes at)) sections_from)
+    (λ sections. nesting_limit < highest_level sections)
+    → Misses w (section_list_of (folded bytes)) (λ sections. nesting_limit < highest_level sections)
 unfolding onto
 list_missing bytes at gathered list s w m =
     let there = list_from bytes at gathered list s in
     misses_then w (and_then (header_of (text_at bytes at)) sections_from) (section_list_of (folded bytes))
-    (λ sections. 128 < highest_level sections) (λ sections. 128 < highest_level sections)
+    (λ sections. nesting_limit < highest_level sections) (λ sections. nesting_limit < highest_level sections)
     (λ e. there ∙ ap (onto (map section_of list)) e)
     (λ y e. let (headed, headed_is, f) =
     then_some (and_then (header_of (text_at bytes at)) sections_from)

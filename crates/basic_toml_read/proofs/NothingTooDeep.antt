@@ -2,6 +2,7 @@
 -- what is wanted is missing, nothing is.
 use Rattle.std.proofs.Common.{◌≡◌, ◌≤◌, ◌+◌, ◌-◌, ◌*◌, ℕ, suc, Bool, List, [], ◌∷◌, ◌++◌, length, ap, sym, ◌∙◌, subst}
 use Rattle.std.proofs.Common.{arith, refl, length-append, Some, None}
+use Rattle.basic_toml_value.specs.Nesting.{nesting_limit}
 use Rattle.basic_toml_tokens.specs.Text.{Text, text_at, is_comment, after_blanks}
 use Rattle.basic_toml_tokens.specs.Punctuation.{IsPunctuationEnd}
 use Rattle.basic_toml_grammar.specs.Sections.{Key, Raw, Rows}
@@ -56,18 +57,19 @@ header_absent {text = text} n w =
     let z : None ≡ Some _ = sym n ∙ header_found (suc (length text)) w (omega arith) in cc
 
 -- past a key and a period
-pub key_passed : {k : Key} (bytes : List ℕ) (offset end after next offset' l : ℕ) → l ≤ 128
+pub key_passed : {k : Key} (bytes : List ℕ) (offset end after next offset' l : ℕ) → l ≤ nesting_limit
     → key_at (text_at bytes offset) ≡ Some (k, text_at bytes end)
     → Leaves bytes end after (after_blanks (text_at bytes end)) → IsPunctuationEnd 46 bytes after (Some next)
     → Leaves bytes next offset' (after_blanks (text_at bytes next)) → (p : ℕ)
-    → DeepKeys 128 l (text_at bytes offset) p → DeepKeys 128 (l + 1) (text_at bytes offset') p
+    → DeepKeys nesting_limit l (text_at bytes offset) p → DeepKeys nesting_limit (l + 1) (text_at bytes offset') p
 key_passed {k = k} bytes offset end after next offset' l h key blanks sign later p d =
-    subst (λ (t : Text). DeepKeys 128 (l + 1) t p) (sym later.left)
+    subst (λ (t : Text). DeepKeys nesting_limit (l + 1) t p) (sym later.left)
     (within.past_key h (key_read (text_at bytes offset) (k, text_at bytes end) key)
     (sign_after bytes after next 46 blanks.left sign) d)
 
 -- a row
-pub row_keys : {l p : ℕ} {text : Text} → keys_of text ≡ None → DeepRow 128 l text p → DeepKeys 128 l text p
+pub row_keys : {l p : ℕ} {text : Text} → keys_of text ≡ None → DeepRow nesting_limit l text p
+    → DeepKeys nesting_limit l text p
 row_keys n (deep.keys d) = d
 row_keys n (deep.value ks h s d) = absurd (keys_absent n ks (ap (char_at 46) s))
 
@@ -90,7 +92,8 @@ module _ (bytes : List ℕ) (at level : ℕ) (old new : Gathered) (last : LastKe
     length-append k.front (record { offset = last.offset; text = key_text_bytes last.key } ∷ []),
   )
 
-  pub row_unassigned : IsPunctuationEnd 61 bytes last.end None → (p : ℕ) → DeepRow 128 level (text_at bytes at) p → ⊥
+  pub row_unassigned : IsPunctuationEnd 61 bytes last.end None → (p : ℕ)
+      → DeepRow nesting_limit level (text_at bytes at) p → ⊥
   unfolding keys
   row_unassigned sign p d =
       within.no_equals (keys_there (text_at bytes at) (keys, k.mid) k.is) (omega (arith, last_level, k.limit))
@@ -99,55 +102,59 @@ module _ (bytes : List ℕ) (at level : ℕ) (old new : Gathered) (last : LastKe
 
   pub row_value : (next start : ℕ) → IsPunctuationEnd 61 bytes last.end (Some next)
       → Leaves bytes next start (after_blanks (text_at bytes next)) → (p : ℕ)
-      → DeepRow 128 level (text_at bytes at) p → DeepValue 128 last.level (text_at bytes start) p
+      → DeepRow nesting_limit level (text_at bytes at) p → DeepValue nesting_limit last.level (text_at bytes start) p
   unfolding keys
   row_value next start sign left p d =
-      subst (λ (t : Text). DeepValue 128 last.level t p) (sym left.left)
-      (subst (λ (l : ℕ). DeepValue 128 l (after_blanks (text_at bytes next)) p) (sym last_level)
+      subst (λ (t : Text). DeepValue nesting_limit last.level t p) (sym left.left)
+      (subst (λ (l : ℕ). DeepValue nesting_limit l (after_blanks (text_at bytes next)) p) (sym last_level)
       (within.past_equals (keys_there (text_at bytes at) (keys, k.mid) k.is) (omega (arith, last_level, k.limit))
       (sign_after bytes last.end next 61 k.after sign) d))
 
 -- what stands after a bracket
 pub in_bracket : (bytes : List ℕ) (at next level : ℕ) → IsPunctuationEnd 91 bytes at (Some next) → (p : ℕ)
-    → DeepValue 128 level (text_at bytes at) p → DeepArray 128 (level + 1) at (text_at bytes next) p
+    → DeepValue nesting_limit level (text_at bytes at) p → DeepArray nesting_limit (level + 1) at (text_at bytes next) p
 in_bracket bytes at next level sign p d = within.at_bracket (sign_after bytes at next 91 refl sign) d
 
 pub in_brace : (bytes : List ℕ) (at next level : ℕ) → IsPunctuationEnd 123 bytes at (Some next) → (p : ℕ)
-    → DeepValue 128 level (text_at bytes at) p → DeepInline 128 (level + 1) at (text_at bytes next) p
+    → DeepValue nesting_limit level (text_at bytes at) p
+    → DeepInline nesting_limit (level + 1) at (text_at bytes next) p
 in_brace bytes at next level sign p d = within.at_brace (sign_after bytes at next 123 refl sign) d
 
-pub in_elements_too : (bytes : List ℕ) (offset at start level : ℕ) → level ≤ 128
+pub in_elements_too : (bytes : List ℕ) (offset at start level : ℕ) → level ≤ nesting_limit
     → Leaves bytes at start (after_gap is_comment (text_at bytes at)) → (p : ℕ)
-    → DeepArray 128 level offset (text_at bytes at) p → DeepElements 128 level (text_at bytes start) p
+    → DeepArray nesting_limit level offset (text_at bytes at) p
+    → DeepElements nesting_limit level (text_at bytes start) p
 in_elements_too bytes offset at start level h left p d =
-    subst (λ (t : Text). DeepElements 128 level t p) (sym left.left) (within.in_array h d)
+    subst (λ (t : Text). DeepElements nesting_limit level t p) (sym left.left) (within.in_array h d)
 
-pub in_fields_too : (bytes : List ℕ) (offset at start level : ℕ) → level ≤ 128
+pub in_fields_too : (bytes : List ℕ) (offset at start level : ℕ) → level ≤ nesting_limit
     → Leaves bytes at start (after_blanks (text_at bytes at)) → (p : ℕ)
-    → DeepInline 128 level offset (text_at bytes at) p → DeepFields 128 level (text_at bytes start) p
+    → DeepInline nesting_limit level offset (text_at bytes at) p
+    → DeepFields nesting_limit level (text_at bytes start) p
 in_fields_too bytes offset at start level h left p d =
-    subst (λ (t : Text). DeepFields 128 level t p) (sym left.left) (within.in_inline h d)
+    subst (λ (t : Text). DeepFields nesting_limit level t p) (sym left.left) (within.in_inline h d)
 
 -- an element
-pub its_value : {l p : ℕ} {text : Text} → value_of text ≡ None → DeepElements 128 l text p → DeepValue 128 l text p
+pub its_value : {l p : ℕ} {text : Text} → value_of text ≡ None → DeepElements nesting_limit l text p
+    → DeepValue nesting_limit l text p
 its_value n (deep.this_element d) = d
 its_value n (deep.later_element v h s d) = absurd (value_absent n v)
 
 pub element_passed : (bytes : List ℕ) (at end after next at' l : ℕ) (v : reader.Valued)
-    → value_of (text_at bytes at) ≡ Some v → v.rest ≡ text_at bytes end → value_level l v.value ≤ 128
+    → value_of (text_at bytes at) ≡ Some v → v.rest ≡ text_at bytes end → value_level l v.value ≤ nesting_limit
     → Leaves bytes end after (after_gap is_comment (text_at bytes end)) → IsPunctuationEnd 44 bytes after (Some next)
     → Leaves bytes next at' (after_gap is_comment (text_at bytes next)) → (p : ℕ)
-    → DeepElements 128 l (text_at bytes at) p → DeepElements 128 l (text_at bytes at') p
+    → DeepElements nesting_limit l (text_at bytes at) p → DeepElements nesting_limit l (text_at bytes at') p
 unfolding value_of
 element_passed bytes at end after next at' l v e rest h left sign later p d =
-    subst (λ (t : Text). DeepElements 128 l t p) (sym later.left)
+    subst (λ (t : Text). DeepElements nesting_limit l t p) (sym later.left)
     (within.past_element (value_read (4 * length (text_at bytes at) + 1) (text_at bytes at) v e) h
     (sign_after bytes after next 44 (left.left ∙ ap (after_gap is_comment) (sym rest)) sign) d)
 
 pub last_element : (bytes : List ℕ) (at end after l : ℕ) (v : reader.Valued)
-    → value_of (text_at bytes at) ≡ Some v → v.rest ≡ text_at bytes end → value_level l v.value ≤ 128
+    → value_of (text_at bytes at) ≡ Some v → v.rest ≡ text_at bytes end → value_level l v.value ≤ nesting_limit
     → Leaves bytes end after (after_gap is_comment (text_at bytes end)) → IsPunctuationEnd 44 bytes after None → (p : ℕ)
-    → DeepElements 128 l (text_at bytes at) p → ⊥
+    → DeepElements nesting_limit l (text_at bytes at) p → ⊥
 unfolding value_of
 last_element bytes at end after l v e rest h left sign p d =
     within.last_element (value_read (4 * length (text_at bytes at) + 1) (text_at bytes at) v e) h
@@ -155,25 +162,26 @@ last_element bytes at end after l v e rest h left sign p d =
     ∙ sign_missing 44 (text_at bytes after) sign) d
 
 -- a row of an inline table
-pub its_row : {l p : ℕ} {text : Text} → row_of text ≡ None → DeepFields 128 l text p → DeepRow 128 l text p
+pub its_row : {l p : ℕ} {text : Text} → row_of text ≡ None → DeepFields nesting_limit l text p
+    → DeepRow nesting_limit l text p
 its_row n (deep.this_field d) = d
 its_row n (deep.later_field w h s d) = absurd (row_absent n w)
 
 pub field_passed : (bytes : List ℕ) (at end after next at' l : ℕ) (r : reader.Assigned)
-    → row_of (text_at bytes at) ≡ Some r → r.rest ≡ text_at bytes end → row_level l r ≤ 128
+    → row_of (text_at bytes at) ≡ Some r → r.rest ≡ text_at bytes end → row_level l r ≤ nesting_limit
     → Leaves bytes end after (after_blanks (text_at bytes end)) → IsPunctuationEnd 44 bytes after (Some next)
     → Leaves bytes next at' (after_blanks (text_at bytes next)) → (p : ℕ)
-    → DeepFields 128 l (text_at bytes at) p → DeepFields 128 l (text_at bytes at') p
+    → DeepFields nesting_limit l (text_at bytes at) p → DeepFields nesting_limit l (text_at bytes at') p
 unfolding row_of
 field_passed bytes at end after next at' l r e rest h left sign later p d =
-    subst (λ (t : Text). DeepFields 128 l t p) (sym later.left)
+    subst (λ (t : Text). DeepFields nesting_limit l t p) (sym later.left)
     (within.past_field (row_read (4 * length (text_at bytes at) + 1) (text_at bytes at) r e) h
     (sign_after bytes after next 44 (left.left ∙ ap after_blanks (sym rest)) sign) d)
 
 pub last_field : (bytes : List ℕ) (at end after l : ℕ) (r : reader.Assigned)
-    → row_of (text_at bytes at) ≡ Some r → r.rest ≡ text_at bytes end → row_level l r ≤ 128
+    → row_of (text_at bytes at) ≡ Some r → r.rest ≡ text_at bytes end → row_level l r ≤ nesting_limit
     → Leaves bytes end after (after_blanks (text_at bytes end)) → IsPunctuationEnd 44 bytes after None → (p : ℕ)
-    → DeepFields 128 l (text_at bytes at) p → ⊥
+    → DeepFields nesting_limit l (text_at bytes at) p → ⊥
 unfolding row_of
 last_field bytes at end after l r e rest h left sign p d =
     within.last_field (row_read (4 * length (text_at bytes at) + 1) (text_at bytes at) r e) h
@@ -182,7 +190,7 @@ last_field bytes at end after l r e rest h left sign p d =
 
 -- a row in a line of its own
 pub line_row : {l p : ℕ} {text : Text} → line_end_at text ≡ None → row_of (after_blanks text) ≡ None
-    → DeepRows 128 l text p → DeepRow 128 l (after_blanks text) p
+    → DeepRows nesting_limit l text p → DeepRow nesting_limit l (after_blanks text) p
 line_row e n (deep.this_row d) = d
 line_row e n (deep.after_empty f d) = absurd (within.no_end e f)
 line_row e n (deep.later_row w h f d) = absurd (row_absent n w)
@@ -190,31 +198,33 @@ line_row e n (deep.later_row w h f d) = absurd (row_absent n w)
 -- keys in a header
 pub table_keys_there : (bytes : List ℕ) (at inner start : ℕ)
     → char_at 91 (text_at bytes at) ≡ Some (at, text_at bytes inner) → IsPunctuationEnd 91 bytes inner None
-    → Leaves bytes inner start (after_blanks (text_at bytes inner)) → (p : ℕ) → DeepHeader 128 (text_at bytes at) p
-    → DeepKeys 128 2 (text_at bytes start) p
+    → Leaves bytes inner start (after_blanks (text_at bytes inner)) → (p : ℕ)
+    → DeepHeader nesting_limit (text_at bytes at) p
+    → DeepKeys nesting_limit 2 (text_at bytes start) p
 table_keys_there bytes at inner start sign none left p d =
-    subst (λ (t : Text). DeepKeys 128 2 t p) (sym left.left)
+    subst (λ (t : Text). DeepKeys nesting_limit 2 t p) (sym left.left)
     (within.table_keys (sign_read 91 (text_at bytes at)
     (at, text_at bytes inner) sign) (sign_missing 91 (text_at bytes inner) none) d)
 
 pub array_keys_there : (bytes : List ℕ) (at inner first start : ℕ)
     → char_at 91 (text_at bytes at) ≡ Some (at, text_at bytes inner) → IsPunctuationEnd 91 bytes inner (Some first)
-    → Leaves bytes first start (after_blanks (text_at bytes first)) → (p : ℕ) → DeepHeader 128 (text_at bytes at) p
-    → DeepKeys 128 2 (text_at bytes start) p
+    → Leaves bytes first start (after_blanks (text_at bytes first)) → (p : ℕ)
+    → DeepHeader nesting_limit (text_at bytes at) p
+    → DeepKeys nesting_limit 2 (text_at bytes start) p
 array_keys_there bytes at inner first start sign two left p d =
-    subst (λ (t : Text). DeepKeys 128 2 t p) (sym left.left)
+    subst (λ (t : Text). DeepKeys nesting_limit 2 t p) (sym left.left)
     (within.array_keys (sign_read 91 (text_at bytes at)
     (at, text_at bytes inner) sign) (sign_after bytes inner first 91 refl two) d)
 
 -- sections
-pub its_header : {p : ℕ} {text : Text} → header_of (after_blanks text) ≡ None → DeepSections 128 text p
-    → DeepHeader 128 (after_blanks text) p
+pub its_header : {p : ℕ} {text : Text} → header_of (after_blanks text) ≡ None → DeepSections nesting_limit text p
+    → DeepHeader nesting_limit (after_blanks text) p
 its_header n (deep.this_section (deep.header d)) = d
 its_header n (deep.this_section (deep.rows w h e d)) = absurd (header_absent n w)
 its_header n (deep.later_section w e rs h d) = absurd (header_absent n w)
 
 pub after_header : {p q : ℕ} {ks : List Key} {a : Bool} {text mid : Text} → IsHeader (after_blanks text) q ks a mid
-    → length ks + 1 ≤ 128 → line_end_at mid ≡ None → DeepSections 128 text p → ⊥
+    → length ks + 1 ≤ nesting_limit → line_end_at mid ≡ None → DeepSections nesting_limit text p → ⊥
 after_header w h n (deep.this_section (deep.header d)) = within.header_within w h d
 after_header w h n (deep.this_section (deep.rows x g e d)) =
     within.no_end (ap line_end_at (sym (header_same w x).3) ∙ n) e
@@ -222,13 +232,15 @@ after_header w h n (deep.later_section x e rs g d) =
     within.no_end (ap line_end_at (sym (header_same w x).3) ∙ n) e
 
 pub its_rows : {p q : ℕ} {ks : List Key} {a : Bool} {text mid next : Text} → IsHeader (after_blanks text) q ks a mid
-    → length ks + 1 ≤ 128 → EndsLine is_comment mid next → rows_of next ≡ None → DeepSections 128 text p
-    → DeepRows 128 (length ks + 1) next p
+    → length ks + 1 ≤ nesting_limit → EndsLine is_comment mid next → rows_of next ≡ None
+    → DeepSections nesting_limit text p
+    → DeepRows nesting_limit (length ks + 1) next p
 its_rows w h e n (deep.this_section d) = within.past_header w h e d
 its_rows {next = next} w h e n (deep.later_section x f rs g d) =
     let m = ends_same is_comment (subst (λ (t : Text). EndsLine is_comment t next) (header_same w x).3 e) f in
     absurd (rows_absent (ap rows_of (sym m) ∙ n) rs)
 
-pub root_rows : {p : ℕ} {text : Text} → rows_of text ≡ None → DeepStop 128 text p → DeepRows 128 1 text p
+pub root_rows : {p : ℕ} {text : Text} → rows_of text ≡ None → DeepStop nesting_limit text p
+    → DeepRows nesting_limit 1 text p
 root_rows n (deep.root d) = d
 root_rows n (deep.headed rs h d) = absurd (rows_absent n rs)

@@ -4,6 +4,7 @@ use Rattle.std.proofs.Common.{subst, ◌+◌, ◌*◌, arith, append_assoc, appe
 use Rattle.std.proofs.Common.{is_some, Result, Ok, Err}
 use Rattle.std.specs.Result.{IsErrAnd}
 use Rattle.std.specs.Str.{IsUtf8, IsCharBoundary}
+use Rattle.basic_toml_value.specs.Nesting.{nesting_limit}
 use Rattle.basic_toml_tokens.specs.Text.{Text, StartsWith, text_at, is_comment, after_blanks}
 use Rattle.basic_toml_tokens.specs.Punctuation.{IsPunctuationEnd}
 use Rattle.basic_toml_tokens.proofs.RestsArePartsOfText.{over_at_end}
@@ -47,12 +48,14 @@ pub record RowsSoFar (bytes : List ℕ) (start level at : ℕ) (old new : Gather
   pub pushed : new.rows.items ≡ old.rows.items ++ got
   pub some : rows_view got ≡ no_rows → got ≡ []
   pub elements : new.elements.items ≡ old.elements.items
-  pub limit : rows_level level (rows_view got) ≤ 128
+  pub limit : rows_level level (rows_view got) ≤ nesting_limit
   pub boundary : IsCharBoundary bytes at
   pub forward : start ≤ at
   pub gaps : IsGap (text_at bytes start) → IsGap (text_at bytes at) × (new.rows.items ≡ old.rows.items)
-  pub leads : (p : ℕ) → DeepRows 128 level (text_at bytes at) p → DeepRows 128 level (text_at bytes start) p
-  pub backs : (p : ℕ) → DeepRows 128 level (text_at bytes start) p → DeepRows 128 level (text_at bytes at) p
+  pub leads : (p : ℕ) → DeepRows nesting_limit level (text_at bytes at) p
+      → DeepRows nesting_limit level (text_at bytes start) p
+  pub backs : (p : ℕ) → DeepRows nesting_limit level (text_at bytes start) p
+      → DeepRows nesting_limit level (text_at bytes at) p
   pub holes : LeadsTo (in_rows (text_at bytes at)) (in_rows (text_at bytes start))
 
 pub rows_start : (bytes : List ℕ) (start level : ℕ) (old : Gathered) → IsCharBoundary bytes start
@@ -141,8 +144,9 @@ module _ (bytes : List ℕ) (start level at : ℕ) (old new : Gathered) (s : Row
   module _ (x : ℕ × ℕ) (line : Text) (line_is : text_at bytes at ≡ x ∷ line) (front : ℕ)
       (blanks : Leaves bytes at front (after_blanks (text_at bytes at))) where
     -- a row that is too deep
-    pub row_is_deep : (p : ℕ) → DeepRow 128 level (text_at bytes front) p → DeepRows 128 level (text_at bytes start) p
-    row_is_deep p d = s.leads p (this_row (subst (λ (t : Text). DeepRow 128 level t p) blanks.left d))
+    pub row_is_deep : (p : ℕ) → DeepRow nesting_limit level (text_at bytes front) p
+        → DeepRows nesting_limit level (text_at bytes start) p
+    row_is_deep p d = s.leads p (this_row (subst (λ (t : Text). DeepRow nesting_limit level t p) blanks.left d))
 
     row_on : reader.Assigned → Option (Rows × Text)
     row_on r = and_then (line_end_at r.rest)
@@ -217,11 +221,11 @@ module _ (bytes : List ℕ) (start level at : ℕ) (old new : Gathered) (s : Row
         boundary = boundary;
         forward = omega (arith, s.forward);
         gaps = λ g. (gap_over (line_of (text_at bytes at)) (text_at bytes next) e (gap_here g), (s.gaps g).1);
-        leads = λ p d. s.leads p (subst (λ (t : Text). DeepRows 128 level t p) (sym line_is)
+        leads = λ p d. s.leads p (subst (λ (t : Text). DeepRows nesting_limit level t p) (sym line_is)
             (after_empty (line_end_read (x ∷ line) (text_at bytes next) (ap line_end_at (sym line_is) ∙ e)) d));
         backs = λ p d. within.past_empty_line
             (line_end_read (x ∷ line) (text_at bytes next) (ap line_end_at (sym line_is) ∙ e))
-            (subst (λ (t : Text). DeepRows 128 level t p) line_is (s.backs p d));
+            (subst (λ (t : Text). DeepRows nesting_limit level t p) line_is (s.backs p d));
         holes = then_in (in_rows (text_at bytes next)) (in_rows (x ∷ line)) (in_rows (text_at bytes start))
             (over_empty (line_end_read (x ∷ line) (text_at bytes next) (ap line_end_at (sym line_is) ∙ e)))
             (then_in (in_rows (x ∷ line)) (in_rows (text_at bytes at)) (in_rows (text_at bytes start))
@@ -247,15 +251,16 @@ module _ (bytes : List ℕ) (start level at : ℕ) (old new : Gathered) (s : Row
             (ap (char_at 35) (sym blanks.left) ∙ sign_missing 35 (text_at bytes front) hash) goes_on) s.holes)
 
         -- what is too deep is so in the row here, where it is none
-        pub deep_in_row : row_of (text_at bytes front) ≡ None → (p : ℕ) → DeepRows 128 level (text_at bytes start) p
-            → DeepRow 128 level (text_at bytes front) p
+        pub deep_in_row : row_of (text_at bytes front) ≡ None → (p : ℕ)
+            → DeepRows nesting_limit level (text_at bytes start) p
+            → DeepRow nesting_limit level (text_at bytes front) p
         deep_in_row e p d =
-            subst (λ (t : Text). DeepRow 128 level t p) (sym blanks.left)
+            subst (λ (t : Text). DeepRow nesting_limit level t p) (sym blanks.left)
             (line_row goes_on (ap row_of (sym blanks.left) ∙ e) (s.backs p d))
 
         -- nothing is too deep in a comment that goes on
         pub none_in_comment : (next : ℕ) → IsPunctuationEnd 35 bytes front (Some next) → (p : ℕ)
-            → DeepRows 128 level (text_at bytes start) p → ⊥
+            → DeepRows nesting_limit level (text_at bytes start) p → ⊥
         none_in_comment next hash p d =
             within.no_row_line (sym blanks.left ∙ hash.0) (λ mid e. within.no_end goes_on e) refl (s.backs p d)
 
@@ -265,10 +270,10 @@ module _ (bytes : List ℕ) (start level at : ℕ) (old new : Gathered) (s : Row
 
         -- a comment that goes on
         pub comment_unended : (next : ℕ) → IsPunctuationEnd 35 bytes front (Some next) → (w : Why)
-            → Misses w (rows_of (text_at bytes start)) (λ r. 128 < rows_level level r.0)
+            → Misses w (rows_of (text_at bytes start)) (λ r. nesting_limit < rows_level level r.0)
         unfolding after_rows
         comment_unended next hash w =
-            misses_none w (rows_of (text_at bytes start)) (λ r. 128 < rows_level level r.0)
+            misses_none w (rows_of (text_at bytes start)) (λ r. nesting_limit < rows_level level r.0)
             (told' ∙ ap (λ o. after_rows (rows_view s.got) (and_then o row_on))
             (no_row_at_hash (text_at bytes front) hash.0))
 
@@ -288,12 +293,12 @@ module _ (bytes : List ℕ) (start level at : ℕ) (old new : Gathered) (s : Row
             there = ap (λ (s : Stop). text_at bytes s.at) e.1
 
         -- no row
-        pub rows_missing : (w : Why) → Misses w (row_of (text_at bytes front)) (λ r. 128 < row_level level r)
-            → Misses w (rows_of (text_at bytes start)) (λ r. 128 < rows_level level r.0)
+        pub rows_missing : (w : Why) → Misses w (row_of (text_at bytes front)) (λ r. nesting_limit < row_level level r)
+            → Misses w (rows_of (text_at bytes start)) (λ r. nesting_limit < rows_level level r.0)
         unfolding after_rows row_on
         rows_missing w m =
             misses_then w (row_of (text_at bytes front)) (rows_of (text_at bytes start))
-            (λ r. 128 < row_level level r) (λ r. 128 < rows_level level r.0)
+            (λ r. nesting_limit < row_level level r) (λ r. nesting_limit < rows_level level r.0)
             (λ e. told' ∙ ap (λ o. after_rows (rows_view s.got) (and_then o row_on)) e)
             (λ y e. let (q, q_is, f) =
             then_some (and_then (row_of (text_at bytes front)) row_on)
@@ -349,14 +354,14 @@ module _ (bytes : List ℕ) (start level at : ℕ) (old new : Gathered) (s : Row
               (HoleInRows.after_row row_stands))) (ap end_of e.2 ∙ e.0))
 
           pub none_unended : (stop : Stop) → EndsLineAt bytes after (Err stop) → (p : ℕ)
-              → DeepRows 128 level (text_at bytes start) p → ⊥
+              → DeepRows nesting_limit level (text_at bytes start) p → ⊥
           none_unended stop e p d = within.last_row_line row_stands r.limit e.0 (s.backs p d)
 
           pub rows_unended : (stop : Stop) → EndsLineAt bytes after (Err stop)
-              → Misses stop.why (rows_of (text_at bytes start)) (λ r. 128 < rows_level level r.0)
+              → Misses stop.why (rows_of (text_at bytes start)) (λ r. nesting_limit < rows_level level r.0)
           unfolding after_rows
           rows_unended stop e =
-              misses_none stop.why (rows_of (text_at bytes start)) (λ r. 128 < rows_level level r.0)
+              misses_none stop.why (rows_of (text_at bytes start)) (λ r. nesting_limit < rows_level level r.0)
               (by_end ∙ ap (λ o. after_rows (rows_view s.got)
               (and_then o (λ next. and_then (rows_of next)
               (λ rows. Some (row r.found.keys r.found.offset r.found.value rows.0, rows.1))))) e.0)

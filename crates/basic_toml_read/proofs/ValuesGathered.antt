@@ -22,6 +22,7 @@ use Rattle.basic_toml_grammar.specs.Entering.{and_then}
 use Rattle.basic_toml_grammar.specs.Levels.{value_level, elements_level, rows_level}
 use Rattle.basic_toml_grammar.specs.Reader as reader
 use Rattle.basic_toml_grammar.specs.Reader.{char_at, if_found, string_at, word_at, string_value_at}
+use Rattle.basic_toml_value.specs.Nesting.{nesting_limit}
 use Rattle.basic_toml_numbers.specs.Numbers.{integer_of, float_of}
 use Rattle.basic_toml_grammar.specs.Grammar.{is_wordlike, number_value, word_value, word_offset}
 use Rattle.basic_toml_read.specs.KeyText.{key_text_bytes}
@@ -42,17 +43,17 @@ use Rattle.basic_toml_read.proofs.KeysGathered.{with_keys_row}
 
 -- a row without keys
 pub keys_missed : (level : ℕ) (text : Text) (w : Why)
-    → Misses w (keys_of text) (λ keys. 128 < level + length keys.0 - 1)
-    → Misses w (row_of text) (λ r. 128 < row_level level r)
+    → Misses w (keys_of text) (λ keys. nesting_limit < level + length keys.0 - 1)
+    → Misses w (row_of text) (λ r. nesting_limit < row_level level r)
 keys_missed level text w m =
-    misses_then w (keys_of text) (row_of text) (λ keys. 128 < level + length keys.0 - 1) (λ r. 128 < row_level level r)
-    (λ e. row_is text ∙ ap (λ o. and_then o on) e)
+    misses_then w (keys_of text) (row_of text) (λ keys. nesting_limit < level + length keys.0 - 1)
+    (λ r. nesting_limit < row_level level r) (λ e. row_is text ∙ ap (λ o. and_then o on) e)
     (λ y e. let (keys, keys_is, f) = then_some (keys_of text) on y (sym (row_is text) ∙ e) in
     let (s, s_is, g) = then_some (char_at 61 (after_blanks keys.1)) (value_on keys.0) y f in
     let (v, v_is, same) = then_some (value_of (after_blanks s.1))
     (λ v. Some (record { keys = keys.0; offset = v.offset; value = v.value; rest = v.rest })) y g in
     let there : record { keys = keys.0; offset = v.offset; value = v.value; rest = v.rest } ≡ y = cc in
-    (keys, keys_is, λ h. subst (λ r. 128 < row_level level r) there (omega arith)))
+    (keys, keys_is, λ h. subst (λ r. nesting_limit < row_level level r) there (omega arith)))
     m
   where
     value_on : List Key → ℕ × Text → Option reader.Assigned
@@ -99,20 +100,21 @@ module _ (bytes : List ℕ) (at level : ℕ) (old mid : Gathered) (last : LastKe
         ap (λ t. and_then (value_of t) (λ v. Some (assigned all_keys v))) (sym left.left)
 
     pub value_missing : (w : Why)
-        → Misses w (value_of (text_at bytes at')) (λ v. 128 < value_level last.level v.value)
-        → Misses w (row_of (text_at bytes at)) (λ r. 128 < row_level level r)
+        → Misses w (value_of (text_at bytes at')) (λ v. nesting_limit < value_level last.level v.value)
+        → Misses w (row_of (text_at bytes at)) (λ r. nesting_limit < row_level level r)
     unfolding assigned
     value_missing w m =
         misses_then w (value_of (text_at bytes at')) (row_of (text_at bytes at))
-        (λ v. 128 < value_level last.level v.value) (λ r. 128 < row_level level r)
+        (λ v. nesting_limit < value_level last.level v.value) (λ r. nesting_limit < row_level level r)
         (λ e. row_by_value ∙ ap (λ o. and_then o (λ v. Some (assigned all_keys v))) e)
         (λ y e. let (v, v_is, f) =
         then_some (value_of (text_at bytes at')) (λ v. Some (assigned all_keys v)) y (sym row_by_value ∙ e) in
         let same : assigned all_keys v ≡ y = cc in
-        (v, v_is, λ h. subst (λ r. 128 < row_level level r) same (high v h)))
+        (v, v_is, λ h. subst (λ r. nesting_limit < row_level level r) same (high v h)))
         m
       where
-        high : (v : reader.Valued) → 128 < value_level last.level v.value → 128 < row_level level (assigned all_keys v)
+        high : (v : reader.Valued) → nesting_limit < value_level last.level v.value
+            → nesting_limit < row_level level (assigned all_keys v)
         high v h =
             let e : level + length all_keys - 1 ≡ last.level = omega (arith, length_keys, k.level_is) in
             omega (arith, h, ap (λ n. value_level n v.value) e)
@@ -201,19 +203,20 @@ array_value bytes at next level old new (Ok v) sign a = record {
 }
 array_value bytes at next level old new (Err stop) sign m =
     misses_then stop.why (elements_of (gap (text_at bytes next))) (value_of (text_at bytes at))
-    (λ r. (128 < level + 1) ⊎ (128 < elements_level (level + 1) r.0)) (λ v. 128 < value_level level v.value)
-    (λ e. value_by_bracket bytes at next sign ∙
-    ap (λ o. and_then o (λ r. Some (record { offset = at; value = Raw.array r.0; rest = r.1 }))) e)
+    (λ r. (nesting_limit < level + 1) ⊎ (nesting_limit < elements_level (level + 1) r.0))
+    (λ v. nesting_limit < value_level level v.value)
+    (λ e. value_by_bracket bytes at next sign
+    ∙ ap (λ o. and_then o (λ r. Some (record { offset = at; value = Raw.array r.0; rest = r.1 }))) e)
     (λ y e. let (r, r_is, f) =
     then_some (elements_of (gap (text_at bytes next)))
     (λ r. Some (record { offset = at; value = Raw.array r.0; rest = r.1 })) y
     (sym (value_by_bracket bytes at next sign) ∙ e) in
     let same : record { offset = at; value = Raw.array r.0; rest = r.1 } ≡ y = cc in
-    (r, r_is, λ h. subst (λ (v : reader.Valued). 128 < value_level level v.value) same (high r.0 h)))
+    (r, r_is, λ h. subst (λ (v : reader.Valued). nesting_limit < value_level level v.value) same (high r.0 h)))
     m
   where
-    high : (es : Elements) → (128 < level + 1) ⊎ (128 < elements_level (level + 1) es)
-        → 128 < value_level level (Raw.array es)
+    high : (es : Elements) → (nesting_limit < level + 1) ⊎ (nesting_limit < elements_level (level + 1) es)
+        → nesting_limit < value_level level (Raw.array es)
     high es (inl h) = omega arith
     high es (inr h) = omega arith
 
@@ -237,16 +240,18 @@ inline_value bytes at next level old new (Ok v) none sign a = record {
 inline_value bytes at next level old new (Err stop) none sign m =
     let is = value_by_others bytes at (Some (at, text_at bytes next)) none (sign_there sign.0) in
     misses_then stop.why (fields_of (after_blanks (text_at bytes next))) (value_of (text_at bytes at))
-    (λ r. (128 < level + 1) ⊎ (128 < rows_level (level + 1) r.0)) (λ v. 128 < value_level level v.value)
+    (λ r. (nesting_limit < level + 1) ⊎ (nesting_limit < rows_level (level + 1) r.0))
+    (λ v. nesting_limit < value_level level v.value)
     (λ e. is ∙ ap (λ o. and_then o (λ r. Some (record { offset = at; value = Raw.inline r.0; rest = r.1 }))) e)
     (λ y e. let (r, r_is, f) =
     then_some (fields_of (after_blanks (text_at bytes next)))
     (λ r. Some (record { offset = at; value = Raw.inline r.0; rest = r.1 })) y (sym is ∙ e) in
     let same : record { offset = at; value = Raw.inline r.0; rest = r.1 } ≡ y = cc in
-    (r, r_is, λ h. subst (λ (v : reader.Valued). 128 < value_level level v.value) same (high r.0 h)))
+    (r, r_is, λ h. subst (λ (v : reader.Valued). nesting_limit < value_level level v.value) same (high r.0 h)))
     m
   where
-    high : (rs : Rows) → (128 < level + 1) ⊎ (128 < rows_level (level + 1) rs) → 128 < value_level level (Raw.inline rs)
+    high : (rs : Rows) → (nesting_limit < level + 1) ⊎ (nesting_limit < rows_level (level + 1) rs)
+        → nesting_limit < value_level level (Raw.inline rs)
     high rs (inl h) = omega arith
     high rs (inr h) = omega arith
 
@@ -311,7 +316,7 @@ string_value bytes at level old (Ok v) none none' no_word f = record {
 string_value bytes at level old (Err stop) none none' no_word m = go stop.why m.0
   where
     go : (w : Why) → MissesString w (text_at bytes at)
-        → Misses w (value_of (text_at bytes at)) (λ v. 128 < value_level level v.value)
+        → Misses w (value_of (text_at bytes at)) (λ v. nesting_limit < value_level level v.value)
     go why.Memory m = tt
     go why.Value m =
         scalar_by bytes at none none' ∙ ap (λ o. option_or o (string_value_at (text_at bytes at))) no_word
@@ -342,7 +347,7 @@ word_value_here bytes at level old (Err stop) none none' no_string m = go stop.w
         (record { offset = s.offset; value = Raw.string (encode_utf8_all s.value); rest = s.rest }))) no_string
 
     go : (w : Why) → MissesWord w (text_at bytes at)
-        → Misses w (value_of (text_at bytes at)) (λ v. 128 < value_level level v.value)
+        → Misses w (value_of (text_at bytes at)) (λ v. nesting_limit < value_level level v.value)
     go why.Memory m = tt
     go why.Value m = missed m.0
     go (why.Word end) m = missed m.0
@@ -350,7 +355,7 @@ word_value_here bytes at level old (Err stop) none none' no_string m = go stop.w
 
 -- arrays and inline tables, whole
 pub array_whole : (bytes : List ℕ) (offset at start level end : ℕ) (old mid new : Gathered)
-    (kept : Vec Element Global) → level ≤ 128
+    (kept : Vec Element Global) → level ≤ nesting_limit
     → Leaves bytes at start (gap (text_at bytes at)) → AreElementsRead bytes start level old mid end
     → kept.items ≡ drop (length old.elements.items) mid.elements.items
     → new.elements.items ≡ take (length old.elements.items) mid.elements.items → new.rows.items ≡ mid.rows.items
@@ -374,7 +379,7 @@ array_whole bytes offset at start level end old mid new kept low left r kept_is 
     }
 
 pub inline_whole : (bytes : List ℕ) (offset at start level end : ℕ) (old mid new : Gathered) (kept : Vec Row Global)
-    → level ≤ 128
+    → level ≤ nesting_limit
     → Leaves bytes at start (after_blanks (text_at bytes at)) → AreFieldsRead bytes start level old mid end
     → kept.items ≡ drop (length old.rows.items) mid.rows.items
     → new.rows.items ≡ take (length old.rows.items) mid.rows.items → new.elements.items ≡ mid.elements.items

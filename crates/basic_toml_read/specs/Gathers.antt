@@ -1,6 +1,7 @@
 -- What reading rows and values answers, and what is gathered on the way.
 use Rattle.std.specs.Prelude.{◌⊎◌, ◌≡◌, ◌≤◌, ◌<◌, ◌+◌, ◌-◌, ℕ, List, [], ◌∷◌, ◌++◌, length, Some, None, Result, Ok, Err}
 use Rattle.std.specs.Str.{IsCharBoundary}
+use Rattle.basic_toml_value.specs.Nesting.{nesting_limit}
 use Rattle.basic_toml_tokens.specs.Ascii as ascii
 use Rattle.basic_toml_tokens.specs.Text.{Text, text_at, is_comment, after_blanks}
 use Rattle.basic_toml_read.specs.declared.section.Element as code_elements
@@ -23,8 +24,8 @@ use Rattle.basic_toml_read.specs.StopsAt.{Misses, IsValued}
 
 -- a level within the limit
 abbrev pub RaisesTo : ℕ → ℕ → Result (Unit {0}) Stop → Type 0
-RaisesTo level at (Ok _) = level ≤ 128
-RaisesTo level at (Err stop) = (128 < level) × (stop ≡ record { at = at; why = Deep })
+RaisesTo level at (Ok _) = level ≤ nesting_limit
+RaisesTo level at (Err stop) = (nesting_limit < level) × (stop ≡ record { at = at; why = Deep })
 
 -- after a sign, or the stop where it is missing
 abbrev pub ClosesAt : ℕ → Why → List ℕ → ℕ → Result ℕ Stop → Type 0
@@ -49,14 +50,14 @@ pub record IsLastKey (bytes : List ℕ) (at level : ℕ) (old new : Gathered) (l
   pub seen : (rest : List code_rows.Row) → rows_view (dots ++ rest) ≡ with_keys front (rows_view rest)
   pub elements : new.elements.items ≡ old.elements.items
   pub level_is : last.level ≡ level + length front
-  pub limit : last.level ≤ 128
+  pub limit : last.level ≤ nesting_limit
   pub boundary : IsCharBoundary bytes last.end
   pub later : at < last.end
 
 abbrev pub ReadsKeys : List ℕ → ℕ → ℕ → Gathered → Gathered → Result LastKey Stop → Type 0
 ReadsKeys bytes at level old new (Ok last) = IsLastKey bytes at level old new last
 ReadsKeys bytes at level old new (Err stop) =
-    Misses stop.why (keys_of (text_at bytes at)) (λ keys. 128 < level + length keys.0 - 1)
+    Misses stop.why (keys_of (text_at bytes at)) (λ keys. nesting_limit < level + length keys.0 - 1)
 
 -- a row in a table of a level
 abbrev pub row_level : ℕ → reader.Assigned → ℕ
@@ -71,13 +72,14 @@ pub record IsRowRead (bytes : List ℕ) (at level : ℕ) (old new : Gathered) (e
   pub seen : (rest : List code_rows.Row)
       → rows_view (added ++ rest) ≡ row found.keys found.offset found.value (rows_view rest)
   pub elements : new.elements.items ≡ old.elements.items
-  pub limit : row_level level found ≤ 128
+  pub limit : row_level level found ≤ nesting_limit
   pub boundary : IsCharBoundary bytes end
   pub later : at < end
 
 abbrev pub ReadsRow : List ℕ → ℕ → ℕ → Gathered → Gathered → Result ℕ Stop → Type 0
 ReadsRow bytes at level old new (Ok end) = IsRowRead bytes at level old new end
-ReadsRow bytes at level old new (Err stop) = Misses stop.why (row_of (text_at bytes at)) (λ r. 128 < row_level level r)
+ReadsRow bytes at level old new (Err stop) =
+    Misses stop.why (row_of (text_at bytes at)) (λ r. nesting_limit < row_level level r)
 
 -- the vectors hold what they held
 pub record Keeps (old new : Gathered) : Type 0 where
@@ -86,34 +88,34 @@ pub record Keeps (old new : Gathered) : Type 0 where
 
 pub record IsValueRead (bytes : List ℕ) (at level : ℕ) (old new : Gathered) (v : Valued) : Type 0 where
   pub found : IsValued bytes at v (value_of (text_at bytes at))
-  pub limit : value_level level found.raw ≤ 128
+  pub limit : value_level level found.raw ≤ nesting_limit
   pub keeps : Keeps old new
 
 abbrev pub ReadsValue : List ℕ → ℕ → ℕ → Gathered → Gathered → Result Valued Stop → Type 0
 ReadsValue bytes at level old new (Ok v) = IsValueRead bytes at level old new v
 ReadsValue bytes at level old new (Err stop) =
-    Misses stop.why (value_of (text_at bytes at)) (λ v. 128 < value_level level v.value)
+    Misses stop.why (value_of (text_at bytes at)) (λ v. nesting_limit < value_level level v.value)
 
 pub record AreElementsRead (bytes : List ℕ) (at level : ℕ) (old new : Gathered) (end : ℕ) : Type 0 where
   pub added : List code_elements.Element
   pub is : elements_of (text_at bytes at) ≡ Some (elements_view added, text_at bytes end)
   pub pushed : new.elements.items ≡ old.elements.items ++ added
   pub rows : new.rows.items ≡ old.rows.items
-  pub limit : elements_level level (elements_view added) ≤ 128
+  pub limit : elements_level level (elements_view added) ≤ nesting_limit
   pub boundary : IsCharBoundary bytes end
   pub later : at < end
 
 abbrev pub ReadsElements : List ℕ → ℕ → ℕ → Gathered → Gathered → Result ℕ Stop → Type 0
 ReadsElements bytes at level old new (Ok end) = AreElementsRead bytes at level old new end
 ReadsElements bytes at level old new (Err stop) =
-    Misses stop.why (elements_of (text_at bytes at)) (λ r. 128 < elements_level level r.0)
+    Misses stop.why (elements_of (text_at bytes at)) (λ r. nesting_limit < elements_level level r.0)
 
 pub record IsArrayRead (bytes : List ℕ) (offset at level : ℕ) (old new : Gathered) (v : Valued) : Type 0 where
   pub elements : Elements
   pub seen : raw_of v.value ≡ Some (Raw.array elements)
   pub is : elements_of (after_gap is_comment (text_at bytes at)) ≡ Some (elements, text_at bytes v.end)
   pub offset_is : v.offset ≡ offset
-  pub limit : (level ≤ 128) × (elements_level level elements ≤ 128)
+  pub limit : (level ≤ nesting_limit) × (elements_level level elements ≤ nesting_limit)
   pub keeps : Keeps old new
   pub boundary : IsCharBoundary bytes v.end
   pub later : at < v.end
@@ -121,29 +123,29 @@ pub record IsArrayRead (bytes : List ℕ) (offset at level : ℕ) (old new : Gat
 abbrev pub ReadsArray : List ℕ → ℕ → ℕ → ℕ → Gathered → Gathered → Result Valued Stop → Type 0
 ReadsArray bytes offset at level old new (Ok v) = IsArrayRead bytes offset at level old new v
 ReadsArray bytes offset at level old new (Err stop) =
-    Misses stop.why (elements_of (after_gap is_comment (text_at bytes at))) (λ r. (128 < level)
-    ⊎ (128 < elements_level level r.0))
+    Misses stop.why (elements_of (after_gap is_comment (text_at bytes at))) (λ r. (nesting_limit < level)
+    ⊎ (nesting_limit < elements_level level r.0))
 
 pub record AreFieldsRead (bytes : List ℕ) (at level : ℕ) (old new : Gathered) (end : ℕ) : Type 0 where
   pub added : List code_rows.Row
   pub is : fields_of (text_at bytes at) ≡ Some (rows_view added, text_at bytes end)
   pub pushed : new.rows.items ≡ old.rows.items ++ added
   pub elements : new.elements.items ≡ old.elements.items
-  pub limit : rows_level level (rows_view added) ≤ 128
+  pub limit : rows_level level (rows_view added) ≤ nesting_limit
   pub boundary : IsCharBoundary bytes end
   pub later : at < end
 
 abbrev pub ReadsFields : List ℕ → ℕ → ℕ → Gathered → Gathered → Result ℕ Stop → Type 0
 ReadsFields bytes at level old new (Ok end) = AreFieldsRead bytes at level old new end
 ReadsFields bytes at level old new (Err stop) =
-    Misses stop.why (fields_of (text_at bytes at)) (λ r. 128 < rows_level level r.0)
+    Misses stop.why (fields_of (text_at bytes at)) (λ r. nesting_limit < rows_level level r.0)
 
 pub record IsInlineRead (bytes : List ℕ) (offset at level : ℕ) (old new : Gathered) (v : Valued) : Type 0 where
   pub rows : Rows
   pub seen : raw_of v.value ≡ Some (Raw.inline rows)
   pub is : fields_of (after_blanks (text_at bytes at)) ≡ Some (rows, text_at bytes v.end)
   pub offset_is : v.offset ≡ offset
-  pub limit : (level ≤ 128) × (rows_level level rows ≤ 128)
+  pub limit : (level ≤ nesting_limit) × (rows_level level rows ≤ nesting_limit)
   pub keeps : Keeps old new
   pub boundary : IsCharBoundary bytes v.end
   pub later : at < v.end
@@ -151,4 +153,5 @@ pub record IsInlineRead (bytes : List ℕ) (offset at level : ℕ) (old new : Ga
 abbrev pub ReadsInline : List ℕ → ℕ → ℕ → ℕ → Gathered → Gathered → Result Valued Stop → Type 0
 ReadsInline bytes offset at level old new (Ok v) = IsInlineRead bytes offset at level old new v
 ReadsInline bytes offset at level old new (Err stop) =
-    Misses stop.why (fields_of (after_blanks (text_at bytes at))) (λ r. (128 < level) ⊎ (128 < rows_level level r.0))
+    Misses stop.why (fields_of (after_blanks (text_at bytes at))) (λ r. (nesting_limit < level)
+    ⊎ (nesting_limit < rows_level level r.0))

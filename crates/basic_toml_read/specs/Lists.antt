@@ -3,6 +3,7 @@ use Rattle.std.specs.Prelude.{◌⊎◌, false, ◌≡◌, ◌≤◌, ◌<◌, �
 use Rattle.std.specs.Prelude.{Result, Ok, Err, Vec}
 use Rattle.std.specs.Str.{IsCharBoundary}
 use Rattle.std.specs.declared.alloc.Global.{Global}
+use Rattle.basic_toml_value.specs.Nesting.{nesting_limit}
 use Rattle.basic_toml_tokens.specs.Ascii as ascii
 use Rattle.basic_toml_tokens.specs.Text.{Text, text_at, folded, is_comment, after_blanks}
 use Rattle.basic_toml_read.specs.declared.header.Header.{Header}
@@ -30,13 +31,14 @@ pub record AreHeaderKeys (bytes : List ℕ) (at : ℕ) (found : HeaderKeys) : Ty
   pub is : keys_of (text_at bytes at) ≡ Some (map key_of found.keys.items, mid)
   pub after : text_at bytes found.end ≡ after_blanks mid
   pub over : char_at ascii.period (text_at bytes found.end) ≡ None
-  pub limit : length found.keys.items + 1 ≤ 128
+  pub limit : length found.keys.items + 1 ≤ nesting_limit
   pub boundary : IsCharBoundary bytes found.end
   pub later : at < found.end
 
 abbrev pub ReadsHeaderKeys : List ℕ → ℕ → Result HeaderKeys Stop → Type 0
 ReadsHeaderKeys bytes at (Ok found) = AreHeaderKeys bytes at found
-ReadsHeaderKeys bytes at (Err stop) = Misses stop.why (keys_of (text_at bytes at)) (λ keys. 128 < length keys.0 + 1)
+ReadsHeaderKeys bytes at (Err stop) =
+    Misses stop.why (keys_of (text_at bytes at)) (λ keys. nesting_limit < length keys.0 + 1)
 
 pub record IsHeaderRead (bytes : List ℕ) (at : ℕ) (h : Header) : Type 0 where
   pub is : header_of (text_at bytes at)
@@ -46,13 +48,14 @@ pub record IsHeaderRead (bytes : List ℕ) (at : ℕ) (h : Header) : Type 0 wher
         is_array = h.is_array;
         rest = text_at bytes h.end;
       })
-  pub limit : length h.keys.items + 1 ≤ 128
+  pub limit : length h.keys.items + 1 ≤ nesting_limit
   pub boundary : IsCharBoundary bytes h.end
   pub later : at < h.end
 
 abbrev pub ReadsHeader : List ℕ → ℕ → Result Header Stop → Type 0
 ReadsHeader bytes at (Ok h) = IsHeaderRead bytes at h
-ReadsHeader bytes at (Err stop) = Misses stop.why (header_of (text_at bytes at)) (λ h. 128 < length h.keys + 1)
+ReadsHeader bytes at (Err stop) =
+    Misses stop.why (header_of (text_at bytes at)) (λ h. nesting_limit < length h.keys + 1)
 
 -- after the end of a line that ends there
 abbrev pub EndsOrStops : List ℕ → ℕ → Result ℕ Stop → Type 0
@@ -84,14 +87,14 @@ pub record AreRowsRead (bytes : List ℕ) (start level : ℕ) (old new : Gathere
   pub pushed : new.rows.items ≡ old.rows.items ++ added
   pub some : rows_view added ≡ no_rows → added ≡ []
   pub elements : new.elements.items ≡ old.elements.items
-  pub limit : rows_level level (rows_view added) ≤ 128
+  pub limit : rows_level level (rows_view added) ≤ nesting_limit
   pub ends : NextAt bytes rest next
   pub from : IsFrom start next
 
 abbrev pub ReadsRows : List ℕ → ℕ → ℕ → Gathered → Gathered → Result (Option ℕ) Stop → Type 0
 ReadsRows bytes start level old new (Ok next) = AreRowsRead bytes start level old new next
 ReadsRows bytes start level old new (Err stop) =
-    Misses stop.why (rows_of (text_at bytes start)) (λ r. 128 < rows_level level r.0)
+    Misses stop.why (rows_of (text_at bytes start)) (λ r. nesting_limit < rows_level level r.0)
 
 -- nothing but blanks, line feeds and comments
 abbrev pub IsGap : Text → Type 0
@@ -128,23 +131,25 @@ pub record IsSectionRead (bytes : List ℕ) (at : ℕ) (new : Gathered) (before 
       ≡ and_then (sections_of rest) (λ sections. Some (section_of made ∷ sections))
   pub ends : NextAt bytes rest next
   pub from : IsFrom (at + 1) next
-  pub leads : (text : Text) → text_at bytes at ≡ after_blanks text → (p : ℕ) → DeepSections 128 rest p
-      → DeepSections 128 text p
-  pub backs : (text : Text) → text_at bytes at ≡ after_blanks text → (p : ℕ) → DeepSections 128 text p
-      → DeepSections 128 rest p
+  pub leads : (text : Text) → text_at bytes at ≡ after_blanks text → (p : ℕ) → DeepSections nesting_limit rest p
+      → DeepSections nesting_limit text p
+  pub backs : (text : Text) → text_at bytes at ≡ after_blanks text → (p : ℕ) → DeepSections nesting_limit text p
+      → DeepSections nesting_limit rest p
   pub holes : (text : Text) → text_at bytes at ≡ after_blanks text → LeadsTo (in_sections rest) (in_sections text)
   pub none : new.rows.items ≡ []
-  pub limit : section_level (section_of made) ≤ 128
+  pub limit : section_level (section_of made) ≤ nesting_limit
 
 abbrev pub ReadsSection : List ℕ → ℕ → Gathered → Vec code_sections.Section Global → Vec code_sections.Section Global
     → Result (Option ℕ) Stop → Type 0
 ReadsSection bytes at new before after (Ok next) = IsSectionRead bytes at new before after next
 ReadsSection bytes at new before after (Err stop) =
-    Misses stop.why (and_then (header_of (text_at bytes at)) sections_from) (λ sections. 128 < highest_level sections)
+    Misses stop.why (and_then (header_of (text_at bytes at)) sections_from)
+    (λ sections. nesting_limit < highest_level sections)
 
 -- the section list of the text, within the limit
 abbrev pub ReadsList : List ℕ → Result (Vec code_sections.Section Global) Stop → Type 0
 ReadsList bytes (Ok list) =
     (section_list_of (folded bytes) ≡ Some (map section_of list.items))
-    × (highest_level (map section_of list.items) ≤ 128)
-ReadsList bytes (Err stop) = Misses stop.why (section_list_of (folded bytes)) (λ sections. 128 < highest_level sections)
+    × (highest_level (map section_of list.items) ≤ nesting_limit)
+ReadsList bytes (Err stop) =
+    Misses stop.why (section_list_of (folded bytes)) (λ sections. nesting_limit < highest_level sections)

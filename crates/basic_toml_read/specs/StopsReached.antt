@@ -1,5 +1,6 @@
 -- What is known of a stop: at which hole of the grammar it is.
 use Rattle.std.specs.Prelude.{◌≡◌, ℕ, List, None, Result, Ok, Err}
+use Rattle.basic_toml_value.specs.Nesting.{nesting_limit}
 use Rattle.basic_toml_tokens.specs.Ascii as ascii
 use Rattle.basic_toml_tokens.specs.Text.{Text, text_at, after_blanks}
 use Rattle.basic_toml_grammar.specs.DeepStops.{DeepSections}
@@ -26,7 +27,7 @@ IfDeep IsDeep (Err stop) = AtDeep IsDeep stop.why stop.at
 -- of sections from such a line on
 abbrev pub IfDeepSection : {A : Type 0} → List ℕ → ℕ → Result A Stop → Type 0
 IfDeepSection bytes at result = (text : Text) → text_at bytes at ≡ after_blanks text
-    → IfDeep (DeepSections 128 text) result
+    → IfDeep (DeepSections nesting_limit text) result
 
 -- the holes of a reading, and what has to come behind the value of one
 pub record Holes : Type 1 where

@@ -1,6 +1,7 @@
 //! Reads the header of a section: its brackets and its keys.
 ghost use Rattle.std.specs.Prelude.{IfErr};
 ghost use Rattle.std.specs.Str.{IsCharBoundary};
+ghost use Rattle.basic_toml_value.specs.Nesting.{nesting_limit};
 ghost use Rattle.basic_toml_explain.specs.Stop.{StopsInside};
 ghost use Rattle.basic_toml_read.specs.Lists.{ReadsHeaderKeys, ReadsHeader};
 ghost use Rattle.basic_toml_read.specs.StopsReached.{IfDeep, InKeyHole, InHeaderHole};
@@ -40,7 +41,7 @@ fn header_keys<'de>(alloc: Global, text: &'de str, at: usize) -> Result<HeaderKe
     requires { IsCharBoundary text.now at }
     ensures read { ReadsHeaderKeys text.now at result }
     ensures inside { IfErr result (λ stop. StopsInside text.now stop) }
-    ensures deep { IfDeep (DeepKeys 128 2 (text_at text.now at)) result }
+    ensures deep { IfDeep (DeepKeys nesting_limit 2 (text_at text.now at)) result }
     ensures hole { InKeyHole (text_at text.now at) text.now result }
 {
     let mut keys = Vec::with_capacity(alloc, ROOM)?;
@@ -69,7 +70,7 @@ pub(crate) fn header_at<'de>(alloc: Global, text: &'de str, at: usize) -> Result
     requires { IsCharBoundary text.now at }
     ensures read { ReadsHeader text.now at result }
     ensures inside { IfErr result (λ stop. StopsInside text.now stop) }
-    ensures deep { IfDeep (DeepHeader 128 (text_at text.now at)) result }
+    ensures deep { IfDeep (DeepHeader nesting_limit (text_at text.now at)) result }
     ensures hole { InHeaderHole text.now at result }
 {
     let inner = closed(text, at, b'[', Why::Newline)?;

@@ -1,6 +1,7 @@
 //! Reads a text to its section list, line by line: headers, and the rows after each.
 ghost use Rattle.std.specs.Prelude.{IfErr, ◌≡◌, ◌≤◌, []};
 ghost use Rattle.std.specs.Str.{IsCharBoundary};
+ghost use Rattle.basic_toml_value.specs.Nesting.{nesting_limit};
 ghost use Rattle.basic_toml_tokens.specs.Text.{text_at, folded};
 ghost use Rattle.basic_toml_explain.specs.Stop.{StopsInside};
 ghost use Rattle.basic_toml_read.specs.StopsReached.{IfDeep, IfDeepSection, InHole, InSectionHole, in_rows, in_text};
@@ -46,11 +47,11 @@ impl<'de> Gathered<'de> {
     // the bracket of that header stands.
     fn rows(&mut self, text: &'de str, start: usize, level: usize) -> Result<Option<usize>, Stop>
         requires boundary { IsCharBoundary text.now start }
-        requires level { level ≤ 128 }
+        requires level { level ≤ nesting_limit }
         ensures read { ReadsRows text.now start level self.old self.new result }
         ensures inside { IfErr result (λ stop. StopsInside text.now stop) }
         ensures gaps { PassesGaps text.now start self.old self.new result }
-        ensures deep { IfDeep (DeepRows 128 level (text_at text.now start)) result }
+        ensures deep { IfDeep (DeepRows nesting_limit level (text_at text.now start)) result }
         ensures hole { InHole (in_rows (text_at text.now start)) text.now result }
     {
         let mut at = start;
@@ -126,7 +127,7 @@ pub(crate) fn list<'de>(alloc: Global, text: &'de str) -> Result<Vec<Section<'de
     ensures read { ReadsList text.now result }
     ensures inside { IfErr result (λ stop. StopsInside text.now stop) }
     ensures more { IfErr result (λ _. HoldsMore (folded text.now)) }
-    ensures deep { IfDeep (DeepStop 128 (folded text.now)) result }
+    ensures deep { IfDeep (DeepStop nesting_limit (folded text.now)) result }
     ensures hole { InHole (in_text (folded text.now)) text.now result }
 {
     let mut gathered = Gathered {
@@ -147,9 +148,9 @@ pub(crate) fn list<'de>(alloc: Global, text: &'de str) -> Result<Vec<Section<'de
 /// header, if there are any, and then each header with its rows, in order.
 ///
 /// It is refused where the text has none, with an error of the grammar and the byte offset where it stands. It is
-/// refused with `NestedTooDeeply` where a key or a bracket stands within 128 others, and with `OutOfMemory`, without
-/// an offset, where memory is refused. A text of blanks, comments and line feeds alone has no sections, and asks for
-/// no memory.
+/// refused with `NestedTooDeeply` where a key or a bracket stands within
+/// [`NESTING_LIMIT`](basic_toml_value::NESTING_LIMIT) others, and with `OutOfMemory`, without an offset, where memory
+/// is refused. A text of blanks, comments and line feeds alone has no sections, and asks for no memory.
 ///
 /// `sections(alloc, "a = 1\n[b]\n")` has two: a row `a`, and the header `b` without rows. `basic_toml` calls it, and
 /// so do the cases of `toml_cases`.

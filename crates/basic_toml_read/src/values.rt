@@ -1,6 +1,7 @@
 //! Reads rows and their values: strings, words, and arrays and inline tables, which nest.
 ghost use Rattle.std.specs.Prelude.{IfErr, ◌≡◌, ◌≤◌, ◌+◌, true, length, drop, take, IfOk};
 ghost use Rattle.std.specs.Str.{IsCharBoundary};
+ghost use Rattle.basic_toml_value.specs.Nesting.{nesting_limit};
 ghost use Rattle.basic_toml_explain.specs.Stop.{StopsInside};
 ghost use Rattle.basic_toml_explain.specs.StopHoles.{hole_behind};
 ghost use Rattle.basic_toml_read.specs.StopsReached.{IfDeep, InHole, InKeyHole, in_value, in_elements, in_fields, in_row};
@@ -72,10 +73,10 @@ impl<'de> Gathered<'de> {
     // Reads the keys of a row, the first of which has this level. Each but the last becomes a row without a value.
     fn keys(&mut self, text: &'de str, at: usize, first: usize) -> Result<LastKey<'de>, Stop>
         requires boundary { IsCharBoundary text.now at }
-        requires level { first ≤ 128 }
+        requires level { first ≤ nesting_limit }
         ensures read { ReadsKeys text.now at first self.old self.new result }
         ensures inside { IfErr result (λ stop. StopsInside text.now stop) }
-        ensures deep { IfDeep (DeepKeys 128 first (text_at text.now at)) result }
+        ensures deep { IfDeep (DeepKeys nesting_limit first (text_at text.now at)) result }
         ensures hole { InKeyHole (text_at text.now at) text.now result }
     {
         let mut offset = at;
@@ -118,10 +119,10 @@ impl<'de> Gathered<'de> {
         end: End,
     ) -> Result<usize, Stop>
         requires boundary { IsCharBoundary text.now at }
-        requires level { level ≤ 128 }
+        requires level { level ≤ nesting_limit }
         ensures read { ReadsRow text.now at level self.old self.new result }
         ensures inside { IfErr result (λ stop. StopsInside text.now stop) }
-        ensures deep { IfDeep (DeepRow 128 level (text_at text.now at)) result }
+        ensures deep { IfDeep (DeepRow nesting_limit level (text_at text.now at)) result }
         ensures hole { InHole (in_row (text_at text.now at) (hole_behind end)) text.now result }
     {
         let last = self.keys(text, at, level)?;
@@ -151,10 +152,10 @@ impl<'de> Gathered<'de> {
         end: End,
     ) -> Result<Valued<'de>, Stop>
         requires boundary { IsCharBoundary text.now at }
-        requires level { level ≤ 128 }
+        requires level { level ≤ nesting_limit }
         ensures read { ReadsValue text.now at level self.old self.new result }
         ensures inside { IfErr result (λ stop. StopsInside text.now stop) }
-        ensures deep { IfDeep (DeepValue 128 level (text_at text.now at)) result }
+        ensures deep { IfDeep (DeepValue nesting_limit level (text_at text.now at)) result }
         ensures hole { InHole (in_value (text_at text.now at) (hole_behind end)) text.now result }
     {
         if let Some(next) = after_punctuation(text, at, b'[') {
@@ -180,10 +181,10 @@ impl<'de> Gathered<'de> {
     ) -> Result<Valued<'de>, Stop>
         requires stands { IsCharBoundary text.now offset }
         requires boundary { IsCharBoundary text.now at }
-        requires level { level ≤ 129 }
+        requires level { level ≤ nesting_limit + 1 }
         ensures read { ReadsArray text.now offset at level self.old self.new result }
         ensures inside { IfErr result (λ stop. StopsInside text.now stop) }
-        ensures deep { IfDeep (DeepArray 128 level offset (text_at text.now at)) result }
+        ensures deep { IfDeep (DeepArray nesting_limit level offset (text_at text.now at)) result }
         ensures hole { InHole (in_elements (after_gap is_comment (text_at text.now at))) text.now result }
     {
         raise(level, offset)?;
@@ -200,10 +201,10 @@ impl<'de> Gathered<'de> {
     #[cycle(values)]
     fn elements(&mut self, text: &'de str, start: usize, level: usize) -> Result<usize, Stop>
         requires boundary { IsCharBoundary text.now start }
-        requires level { level ≤ 128 }
+        requires level { level ≤ nesting_limit }
         ensures read { ReadsElements text.now start level self.old self.new result }
         ensures inside { IfErr result (λ stop. StopsInside text.now stop) }
-        ensures deep { IfDeep (DeepElements 128 level (text_at text.now start)) result }
+        ensures deep { IfDeep (DeepElements nesting_limit level (text_at text.now start)) result }
         ensures hole { InHole (in_elements (text_at text.now start)) text.now result }
     {
         let mut at = start;
@@ -235,10 +236,10 @@ impl<'de> Gathered<'de> {
     ) -> Result<Valued<'de>, Stop>
         requires stands { IsCharBoundary text.now offset }
         requires boundary { IsCharBoundary text.now at }
-        requires level { level ≤ 129 }
+        requires level { level ≤ nesting_limit + 1 }
         ensures read { ReadsInline text.now offset at level self.old self.new result }
         ensures inside { IfErr result (λ stop. StopsInside text.now stop) }
-        ensures deep { IfDeep (DeepInline 128 level offset (text_at text.now at)) result }
+        ensures deep { IfDeep (DeepInline nesting_limit level offset (text_at text.now at)) result }
         ensures hole { InHole (in_fields (after_blanks (text_at text.now at))) text.now result }
     {
         raise(level, offset)?;
@@ -255,10 +256,10 @@ impl<'de> Gathered<'de> {
     #[cycle(values)]
     fn fields(&mut self, text: &'de str, start: usize, level: usize) -> Result<usize, Stop>
         requires boundary { IsCharBoundary text.now start }
-        requires level { level ≤ 128 }
+        requires level { level ≤ nesting_limit }
         ensures read { ReadsFields text.now start level self.old self.new result }
         ensures inside { IfErr result (λ stop. StopsInside text.now stop) }
-        ensures deep { IfDeep (DeepFields 128 level (text_at text.now start)) result }
+        ensures deep { IfDeep (DeepFields nesting_limit level (text_at text.now start)) result }
         ensures hole { InHole (in_fields (text_at text.now start)) text.now result }
     {
         if let Some(end) = after_punctuation(text, start, b'}') {

@@ -34,9 +34,6 @@ plain_tests d c h =
 quote_is_no_feed : (d : ℕ) → is_quote d ≡ true → (10 == d) ≡ false
 quote_is_no_feed d q = ne_eqb 10 d (λ e. let z : is_quote 10 ≡ true = rw (← e) at q in cc)
 
-quote_is_no_backslash : (d : ℕ) → d ≡ 34 → (92 == d) ≡ false
-quote_is_no_backslash d e = rw e refl
-
 control_tests : (d c : ℕ) → is_quote d ≡ true → is_control c ≡ true → ((c == d) ≡ false) × ((c == 92) ≡ false)
     × ((c == 10) ≡ false) × (is_comment c ≡ false)
 control_tests d c q h = (
@@ -105,10 +102,6 @@ hex_stops start p u (suc n) (x ∷ text) h = go (is_hex x.1) h (hex_stops start 
         ≡ hex_end start (cond b (after_run is_hex text) (x ∷ text))
     go true h ih = ih (omega arith)
     go false h ih = refl
-
--- how many delimiters stand at the front: at least one where one stands there
-count_cons : (d p : ℕ) (text : Text) → 0 < count_of d ((p, d) ∷ text)
-count_cons d p text = rw (eq-eqb d d refl) (omega arith)
 
 begins_with : (d n : ℕ) (text : Text) → count_of d text ≡ n → 0 < n → (p : ℕ) × (rest : Text) × (text ≡ (p, d) ∷ rest)
 begins_with d n [] e h = absurd (omega arith)

@@ -84,11 +84,6 @@ borrowed_where : (val : CowStr Global) (b : Bool) → is_owned val ≡ b → IsB
 borrowed_where (Borrowed text) b e = (λ _. sym e, λ _. tt)
 borrowed_where (Owned text) b e = (λ h. absurd h, λ f. let z : true ≡ false = e ∙ f in absurd (both_ways true z refl))
 
--- either quote, as the code tests it
-pub quote_from : (c : ℕ) → (c ≡ 34) ⊎ ((c ≡ 34 → ⊥) × (c ≡ 39)) → is_quote c ≡ true
-quote_from c (inl e) = rw e refl
-quote_from c (inr h) = rw h.1 refl
-
 -- a character of which a first byte tells nothing, and back
 pub untold : (c : ℕ) → punctuation_of c ≡ None → is_blank c ≡ false → is_keylike c ≡ false → (c == 35) ≡ false
     → tells_unquoted c ≡ false

@@ -1,6 +1,5 @@
 -- The tests on steps and paths decide what they say.
 use Rattle.std.proofs.Common.{◌≡◌, true, [], ◌∷◌, ◌++◌, refl, ap}
-use Rattle.std.specs.Bool.{Decides}
 use Rattle.std.proofs.lemmas.Bool.{and_parts, eq-eqb, eqb-true}
 use Rattle.std.proofs.lemmas.Slice.Eq.{bytes_eq-Decides}
 use Rattle.basic_toml_grammar.specs.Steps.{Step, key, number, Path, step_eq, begins, path_eq}
@@ -37,6 +36,3 @@ paths_are (s ∷ p) (t ∷ q) e =
     let x : s ≡ t = step_is s t a.0 in
     let r : p ≡ q = paths_are p q (rw (a.1, b.1) refl) in
     cc
-
-pub paths_decide : (p q : Path) → Decides (path_eq p q) (p ≡ q)
-paths_decide p q = (paths_are p q, λ e. rw e (paths_same q))

@@ -191,20 +191,3 @@ deep_append limit (l ∷ ls) ms = go (nat_lt limit (tree_level l)) (deep_append 
         ≡ (if b then l.section.at ∷ deep_sections limit ls else deep_sections limit ls) ++ deep_sections limit ms
     go true e = ap (λ ps. l.section.at ∷ ps) e
     go false e = e
-
-pub deep_next : (limit : ℕ) (earlier : List Section) (s : Section) (later : List Section) (t : Trie)
-    → put_sections earlier nothing ≡ Some t
-    → deep_sections limit (located (earlier ++ s ∷ later))
-    ≡ deep_sections limit (located earlier)
-    ++ (if nat_lt limit (section_level_in t s)
-    then s.at ∷ deep_sections limit (located_from (s ∷ reverse earlier) later)
-    else deep_sections limit (located_from (s ∷ reverse earlier) later))
-deep_next limit earlier s later t e =
-    ap (λ ls. deep_sections limit ls) (at_section earlier s later)
-    ∙ deep_append limit (located earlier)
-    (located_after (reverse earlier) s ∷ located_from (s ∷ reverse earlier) later)
-    ∙ ap (λ n. deep_sections limit (located earlier) ++ (if nat_lt limit n then s.at ∷ rest else rest))
-    (sym (level_is_tree_level earlier s t e))
-  where
-    rest : List ℕ
-    rest = deep_sections limit (located_from (s ∷ reverse earlier) later)

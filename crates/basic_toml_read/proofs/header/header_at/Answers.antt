@@ -1,4 +1,5 @@
 use Rattle.std.proofs.Common.{sym, subst, Err}
+use Rattle.basic_toml_value.specs.Nesting.{nesting_limit}
 use Rattle.basic_toml_tokens.specs.Text.{text_at}
 use Rattle.basic_toml_explain.specs.declared.stop.Stop.{Stop}
 use Rattle.basic_toml_read.specs.Lists.{ReadsHeader}
@@ -95,8 +96,8 @@ returns-in_ok-end-in-Some-clause-read c =
 pub returns-in_err-keys-in-None-clause-deep : goal.returns-in_err-keys-in-None-clause-deep
 returns-in_err-keys-in-None-clause-deep c =
     let text = c.args.text.now in
-    deep_on (DeepKeys 128 2 (text_at text c.after_blanks.result)) (DeepHeader 128 (text_at text c.args.at))
-    c.in_err-keys-in-None.field-0.0
+    deep_on (DeepKeys nesting_limit 2 (text_at text c.after_blanks.result))
+    (DeepHeader nesting_limit (text_at text c.args.at)) c.in_err-keys-in-None.field-0.0
     c.from_residual-in_err-keys-in-None.result c.from_residual-in_err-keys-in-None.ensures.1
     (header_keys_deep text c.args.at c.in_ok-inner.inner c.after_blanks.result c.in_ok-inner.ensures.read.0
     c.after_blanks.ensures)
@@ -106,8 +107,8 @@ returns-in_err-keys-in-None-clause-deep c =
 pub returns-in_err-keys-in-Some-clause-deep : goal.returns-in_err-keys-in-Some-clause-deep
 returns-in_err-keys-in-Some-clause-deep c =
     let text = c.args.text.now in
-    deep_on (DeepKeys 128 2 (text_at text c.after_blanks-in-Some.result)) (DeepHeader 128 (text_at text c.args.at))
-    c.in_err-keys-in-Some.field-0.0
+    deep_on (DeepKeys nesting_limit 2 (text_at text c.after_blanks-in-Some.result))
+    (DeepHeader nesting_limit (text_at text c.args.at)) c.in_err-keys-in-Some.field-0.0
     c.from_residual-in_err-keys-in-Some.result c.from_residual-in_err-keys-in-Some.ensures.1
     (array_keys_deep text c.args.at c.in_ok-inner.inner c.in-Some.first c.after_blanks-in-Some.result
     c.in_ok-inner.ensures.read.0 c.in-Some.ensures c.after_blanks-in-Some.ensures)
@@ -117,7 +118,7 @@ returns-in_err-keys-in-Some-clause-deep c =
 pub returns-in_err-inner-clause-deep : goal.returns-in_err-inner-clause-deep
 returns-in_err-inner-clause-deep c =
     let text = c.args.text.now in
-    unclosed_here (DeepHeader 128 (text_at text c.args.at)) 91 Newline text c.args.at c.in_err-inner.field-0.0
+    unclosed_here (DeepHeader nesting_limit (text_at text c.args.at)) 91 Newline text c.args.at c.in_err-inner.field-0.0
     c.from_residual.result c.from_residual.ensures.1 (λ e. cc)
     (λ p d. no_header_there c.in_err-inner.ensures.read.0 d) c.in_err-inner.ensures.read
 
@@ -125,7 +126,7 @@ pub returns-in_err-end-in-None-clause-deep : goal.returns-in_err-end-in-None-cla
 returns-in_err-end-in-None-clause-deep c =
     let text = c.args.text.now in
     let k = c.in_ok-keys-in-None in
-    unclosed_here (DeepHeader 128 (text_at text c.args.at)) 93 Bracket text k.field-0.end
+    unclosed_here (DeepHeader nesting_limit (text_at text c.args.at)) 93 Bracket text k.field-0.end
     c.in_err-end-in-None.field-0.0 c.from_residual-in_err-end-in-None.result
     c.from_residual-in_err-end-in-None.ensures.1 (λ e. cc)
     (λ p d. header_keys_within text c.after_blanks.result k.field-0 k.ensures.read p
@@ -136,7 +137,7 @@ pub returns-in_err-last-in-Some-clause-deep : goal.returns-in_err-last-in-Some-c
 returns-in_err-last-in-Some-clause-deep c =
     let text = c.args.text.now in
     let k = c.in_ok-keys-in-Some in
-    unclosed_here (DeepHeader 128 (text_at text c.args.at)) 93 Bracket text k.field-0.end
+    unclosed_here (DeepHeader nesting_limit (text_at text c.args.at)) 93 Bracket text k.field-0.end
     c.in_err-last-in-Some.field-0.0 c.from_residual-in_err-last-in-Some.result
     c.from_residual-in_err-last-in-Some.ensures.1 (λ e. cc)
     (λ p d. header_keys_within text c.after_blanks-in-Some.result k.field-0 k.ensures.read p
@@ -148,7 +149,7 @@ pub returns-in_err-end-in-Some-clause-deep : goal.returns-in_err-end-in-Some-cla
 returns-in_err-end-in-Some-clause-deep c =
     let text = c.args.text.now in
     let k = c.in_ok-keys-in-Some in
-    unclosed_here (DeepHeader 128 (text_at text c.args.at)) 93 Bracket text c.in_ok-last-in-Some.last
+    unclosed_here (DeepHeader nesting_limit (text_at text c.args.at)) 93 Bracket text c.in_ok-last-in-Some.last
     c.in_err-end-in-Some.field-0.0 c.from_residual-in_err-end-in-Some.result
     c.from_residual-in_err-end-in-Some.ensures.1 (λ e. cc)
     (λ p d. header_keys_within text c.after_blanks-in-Some.result k.field-0 k.ensures.read p

@@ -1,4 +1,5 @@
 use Rattle.std.proofs.Common.{List, map, arith, refl, sym, subst, Err}
+use Rattle.basic_toml_value.specs.Nesting.{nesting_limit}
 use Rattle.basic_toml_explain.specs.declared.stop.Stop.{Stop}
 use Rattle.basic_toml_read.specs.Lists.{ReadsHeaderKeys}
 use Rattle.basic_toml_read.specs.SectionView.{key_of}
@@ -57,7 +58,7 @@ returns-in-None-clause-read c =
 pub returns-in_err-keyed-clause-deep : goal.returns-in_err-keyed-clause-deep
 returns-in_err-keyed-clause-deep c =
     let stop = c.in_err-keyed.field-0.0 in
-    shallow (DeepKeys 128 2 (text_at c.args.text.now c.args.at)) stop c.from_residual-in_err-keyed.result
+    shallow (DeepKeys nesting_limit 2 (text_at c.args.text.now c.args.at)) stop c.from_residual-in_err-keyed.result
     c.from_residual-in_err-keyed.ensures.1
     (no_key_deep stop.why (text_at c.args.text.now c.loop-keys.offset) c.in_err-keyed.ensures.read.0)
     (λ other p d. no_key_too_deep stop.why (text_at c.args.text.now c.loop-keys.offset) c.in_err-keyed.ensures.read.0
@@ -65,7 +66,7 @@ returns-in_err-keyed-clause-deep c =
 
 pub returns-in_err-raise-clause-deep : goal.returns-in_err-raise-clause-deep
 returns-in_err-raise-clause-deep c =
-    raised (DeepKeys 128 2 (text_at c.args.text.now c.args.at)) c.loop-keys.level c.loop-keys.offset
+    raised (DeepKeys nesting_limit 2 (text_at c.args.text.now c.args.at)) c.loop-keys.level c.loop-keys.offset
     c.in_err-raise.field-0.0 c.from_residual-in_err-raise.result c.from_residual-in_err-raise.ensures.1
     c.in_err-raise.ensures
     (key_is_deep c.args.text.now c.args.at 2 c.loop-keys.offset c.loop-keys.level

@@ -1,4 +1,5 @@
 use Rattle.std.proofs.Common.{ℕ, ◌<◌, Option, subst, ◌∙◌}
+use Rattle.basic_toml_value.specs.Nesting.{nesting_limit}
 use Rattle.basic_toml_read.specs.Lists.{ReadsList}
 use Rattle.basic_toml_read.proofs.KeysTold.{stopped}
 use Rattle.basic_toml_read.proofs.ListsRead.{ListSoFar, root_missing, root_there, list_more, list_missing, falls}
@@ -86,17 +87,17 @@ returns-in_err-bracket-2-clause-more c =
 pub returns-in_err-bracket-clause-deep : goal.returns-in_err-bracket-clause-deep
 returns-in_err-bracket-clause-deep c =
     let text = c.args.text.now in
-    deep_on (DeepRows 128 1 (text_at text c.start.result)) (DeepStop 128 (folded text)) c.in_err-bracket.field-0.0
-    c.from_residual.result c.from_residual.ensures.1
-    (λ p d. root (subst (λ (n : ℕ). DeepRows 128 1 (text_at text n) p) c.start.ensures.offset d))
+    deep_on (DeepRows nesting_limit 1 (text_at text c.start.result)) (DeepStop nesting_limit (folded text))
+    c.in_err-bracket.field-0.0 c.from_residual.result c.from_residual.ensures.1
+    (λ p d. root (subst (λ (n : ℕ). DeepRows nesting_limit 1 (text_at text n) p) c.start.ensures.offset d))
     (λ other. root_deep text c.start.result c.start.ensures.offset (is_missed c.in_err-bracket.field-0.0.why
-    (rows_of (text_at text c.start.result)) (λ r. 128 < rows_level 1 r.0) other
+    (rows_of (text_at text c.start.result)) (λ r. nesting_limit < rows_level 1 r.0) other
     c.in_err-bracket.ensures.read)) c.in_err-bracket.ensures.deep
 
 pub returns-in_err-root-clause-deep : goal.returns-in_err-root-clause-deep
 returns-in_err-root-clause-deep c =
     let w = c.in_err-root.ensures.0 in
-    shallow (DeepStop 128 (folded c.args.text.now)) c.in_err-root.field-0.0 c.from_residual-in_err-root.result
+    shallow (DeepStop nesting_limit (folded c.args.text.now)) c.in_err-root.field-0.0 c.from_residual-in_err-root.result
     c.from_residual-in_err-root.ensures.1 (λ e. cc) (λ other. absurd (subst IsOther w other))
 
 pub returns-in_err-bracket-2-clause-deep : goal.returns-in_err-bracket-2-clause-deep

@@ -1,4 +1,5 @@
 use Rattle.std.proofs.Common.{◌≡◌, ◌<◌, ℕ, ◌+◌, ◌-◌, length, drop, take, ap, ◌∙◌, arith, refl}
+use Rattle.basic_toml_value.specs.Nesting.{nesting_limit}
 use Rattle.basic_toml_tokens.specs.Text.{text_at}
 use Rattle.basic_toml_grammar.specs.Levels.{value_level}
 use Rattle.basic_toml_read.specs.Gathers.{ReadsRow, ReadsElements, ReadsFields, row_level}
@@ -184,21 +185,21 @@ inline-returns-clause-read t c =
 -- levels
 pub array-returns-in_err-raise-clause-deep : goal.array-returns-in_err-raise-clause-deep
 array-returns-in_err-raise-clause-deep t c =
-    raised (DeepArray 128 c.args.level c.args.offset (text_at c.args.text.now c.args.at)) c.args.level c.args.offset
-    c.in_err-raise.field-0.0 c.from_residual.result c.from_residual.ensures.1 c.in_err-raise.ensures
+    raised (DeepArray nesting_limit c.args.level c.args.offset (text_at c.args.text.now c.args.at)) c.args.level
+    c.args.offset c.in_err-raise.field-0.0 c.from_residual.result c.from_residual.ensures.1 c.in_err-raise.ensures
     (λ h. this_bracket h)
 
 pub inline-returns-in_err-raise-clause-deep : goal.inline-returns-in_err-raise-clause-deep
 inline-returns-in_err-raise-clause-deep t c =
-    raised (DeepInline 128 c.args.level c.args.offset (text_at c.args.text.now c.args.at)) c.args.level c.args.offset
-    c.in_err-raise.field-0.0 c.from_residual.result c.from_residual.ensures.1 c.in_err-raise.ensures
+    raised (DeepInline nesting_limit c.args.level c.args.offset (text_at c.args.text.now c.args.at)) c.args.level
+    c.args.offset c.in_err-raise.field-0.0 c.from_residual.result c.from_residual.ensures.1 c.in_err-raise.ensures
     (λ h. this_brace h)
 
 pub array-returns-in_err-end-clause-deep : goal.array-returns-in_err-end-clause-deep
 array-returns-in_err-end-clause-deep t c =
     let text = c.args.text.now in
-    deep_on (DeepElements 128 c.args.level (text_at text c.after_gap.result))
-    (DeepArray 128 c.args.level c.args.offset (text_at text c.args.at)) c.in_err-end.field-0.0
+    deep_on (DeepElements nesting_limit c.args.level (text_at text c.after_gap.result))
+    (DeepArray nesting_limit c.args.level c.args.offset (text_at text c.args.at)) c.in_err-end.field-0.0
     c.from_residual-in_err-end.result c.from_residual-in_err-end.ensures.1
     (elements_deep text c.args.offset c.args.at c.after_gap.result c.args.level c.in_ok-raise.ensures
     c.after_gap.ensures)
@@ -208,8 +209,8 @@ array-returns-in_err-end-clause-deep t c =
 pub inline-returns-in_err-end-clause-deep : goal.inline-returns-in_err-end-clause-deep
 inline-returns-in_err-end-clause-deep t c =
     let text = c.args.text.now in
-    deep_on (DeepFields 128 c.args.level (text_at text c.after_blanks.result))
-    (DeepInline 128 c.args.level c.args.offset (text_at text c.args.at)) c.in_err-end.field-0.0
+    deep_on (DeepFields nesting_limit c.args.level (text_at text c.after_blanks.result))
+    (DeepInline nesting_limit c.args.level c.args.offset (text_at text c.args.at)) c.in_err-end.field-0.0
     c.from_residual-in_err-end.result c.from_residual-in_err-end.ensures.1
     (fields_deep text c.args.offset c.args.at c.after_blanks.result c.args.level c.in_ok-raise.ensures
     c.after_blanks.ensures)
@@ -219,18 +220,18 @@ inline-returns-in_err-end-clause-deep t c =
 pub elements-returns-in_err-valued-clause-deep : goal.elements-returns-in_err-valued-clause-deep
 elements-returns-in_err-valued-clause-deep t c =
     let text = c.args.text.now in
-    deep_on (DeepValue 128 c.args.level (text_at text c.loop-end.at))
-    (DeepElements 128 c.args.level (text_at text c.args.start)) c.in_err-valued.field-0.0 c.from_residual.result
-    c.from_residual.ensures.1 (λ p d. c.loop-end.invariant.leads p (this_element d))
+    deep_on (DeepValue nesting_limit c.args.level (text_at text c.loop-end.at))
+    (DeepElements nesting_limit c.args.level (text_at text c.args.start)) c.in_err-valued.field-0.0
+    c.from_residual.result c.from_residual.ensures.1 (λ p d. c.loop-end.invariant.leads p (this_element d))
     (λ other p d. its_value (is_missed c.in_err-valued.field-0.0.why (value_of (text_at text c.loop-end.at))
-    (λ v. 128 < value_level c.args.level v.value) other
+    (λ v. nesting_limit < value_level c.args.level v.value) other
     c.in_err-valued.ensures.read) (c.loop-end.invariant.backs p d)) c.in_err-valued.ensures.deep
 
 pub elements-returns-in_default-after_punctuation-clause-deep : goal.elements-returns-in_default-after_punctuation-clause-deep
 elements-returns-in_default-after_punctuation-clause-deep t c =
     let text = c.args.text.now in
-    unclosed (DeepElements 128 c.args.level (text_at text c.args.start)) 93 Bracket text c.after_gap-after.result
-    c.closed.result (λ e. cc)
+    unclosed (DeepElements nesting_limit c.args.level (text_at text c.args.start)) 93 Bracket text
+    c.after_gap-after.result c.closed.result (λ e. cc)
     (elements_over text c.args.start c.args.level c.loop-end.at c.args.self.now c.loop-end.self c.loop-end.invariant
     c.value.new.self (record {
       alloc = c.value.new.self.alloc;
@@ -244,18 +245,18 @@ elements-returns-in_default-after_punctuation-clause-deep t c =
 pub fields-returns-in_err-row-clause-deep : goal.fields-returns-in_err-row-clause-deep
 fields-returns-in_err-row-clause-deep t c =
     let text = c.args.text.now in
-    deep_on (DeepRow 128 c.args.level (text_at text c.loop-after.at))
-    (DeepFields 128 c.args.level (text_at text c.args.start)) c.in_err-row.field-0.0 c.from_residual.result
+    deep_on (DeepRow nesting_limit c.args.level (text_at text c.loop-after.at))
+    (DeepFields nesting_limit c.args.level (text_at text c.args.start)) c.in_err-row.field-0.0 c.from_residual.result
     c.from_residual.ensures.1 (λ p d. c.loop-after.invariant.leads p (this_field d))
     (λ other p d. its_row (is_missed c.in_err-row.field-0.0.why (row_of (text_at text c.loop-after.at))
-    (λ r. 128 < row_level c.args.level r) other
+    (λ r. nesting_limit < row_level c.args.level r) other
     c.in_err-row.ensures.read) (c.loop-after.invariant.backs p d)) c.in_err-row.ensures.deep
 
 pub fields-returns-in_default-after_punctuation-clause-deep : goal.fields-returns-in_default-after_punctuation-clause-deep
 fields-returns-in_default-after_punctuation-clause-deep t c =
     let text = c.args.text.now in
-    unclosed (DeepFields 128 c.args.level (text_at text c.args.start)) 125 Comma text c.after_blanks-after.result
-    c.closed.result (λ e. cc)
+    unclosed (DeepFields nesting_limit c.args.level (text_at text c.args.start)) 125 Comma text
+    c.after_blanks-after.result c.closed.result (λ e. cc)
     (fields_over text c.args.start c.args.level c.loop-after.at c.args.self.now c.loop-after.self
     c.loop-after.invariant c.row.new.self c.in_ok-row.field-0 c.in_ok-row.ensures.read c.after_blanks-after.result
     c.after_blanks-after.ensures c.in_default-after_punctuation.ensures) c.closed.ensures.read
@@ -263,10 +264,10 @@ fields-returns-in_default-after_punctuation-clause-deep t c =
 pub row-returns-in_err-last-clause-deep : goal.row-returns-in_err-last-clause-deep
 row-returns-in_err-last-clause-deep t c =
     let text = c.args.text.now in
-    deep_on (DeepKeys 128 c.args.level (text_at text c.args.at)) (DeepRow 128 c.args.level (text_at text c.args.at))
-    c.in_err-last.field-0.0 c.from_residual.result c.from_residual.ensures.1 (λ p d. keys d)
+    deep_on (DeepKeys nesting_limit c.args.level (text_at text c.args.at)) (DeepRow nesting_limit c.args.level
+    (text_at text c.args.at)) c.in_err-last.field-0.0 c.from_residual.result c.from_residual.ensures.1 (λ p d. keys d)
     (λ other p d. row_keys (is_missed c.in_err-last.field-0.0.why (keys_of (text_at text c.args.at))
-    (λ keys. 128 < c.args.level + length keys.0 - 1) other
+    (λ keys. nesting_limit < c.args.level + length keys.0 - 1) other
     c.in_err-last.ensures.read) d) c.in_err-last.ensures.deep
 
 pub row-returns-in_default-clause-deep : goal.row-returns-in_default-clause-deep
@@ -278,8 +279,8 @@ pub row-returns-in_err-valued-clause-deep : goal.row-returns-in_err-valued-claus
 row-returns-in_err-valued-clause-deep t c =
     let k = c.in_ok-last in
     let text = c.args.text.now in
-    deep_on (DeepValue 128 k.last.level (text_at text c.after_blanks.result))
-    (DeepRow 128 c.args.level (text_at text c.args.at)) c.in_err-valued.field-0.0
+    deep_on (DeepValue nesting_limit k.last.level (text_at text c.after_blanks.result))
+    (DeepRow nesting_limit c.args.level (text_at text c.args.at)) c.in_err-valued.field-0.0
     c.from_residual-in_err-valued.result c.from_residual-in_err-valued.ensures.1
     (value_deep text c.args.at c.args.level c.args.self.now c.keys.new.self k.last c.in-Some.next
     c.after_blanks.result k.ensures.read c.in-Some.ensures c.after_blanks.ensures)
@@ -289,8 +290,8 @@ row-returns-in_err-valued-clause-deep t c =
 pub value-returns-in-Some-clause-deep : goal.value-returns-in-Some-clause-deep
 value-returns-in-Some-clause-deep t c =
     let text = c.args.text.now in
-    deep_result (DeepArray 128 (c.args.level + 1) c.args.at (text_at text c.in-Some.next))
-    (DeepValue 128 c.args.level (text_at text c.args.at)) c.array.result
+    deep_result (DeepArray nesting_limit (c.args.level + 1) c.args.at (text_at text c.in-Some.next))
+    (DeepValue nesting_limit c.args.level (text_at text c.args.at)) c.array.result
     (array_deep text c.args.at c.in-Some.next c.args.level c.in-Some.ensures)
     (in_bracket text c.args.at c.in-Some.next c.args.level c.in-Some.ensures) c.array.ensures.deep
 
@@ -298,21 +299,21 @@ pub value-returns-in-Some-after_punctuation-clause-deep : goal.value-returns-in-
 value-returns-in-Some-after_punctuation-clause-deep t c =
     let s = c.in-Some-after_punctuation in
     let text = c.args.text.now in
-    deep_result (DeepInline 128 (c.args.level + 1) c.args.at (text_at text s.next))
-    (DeepValue 128 c.args.level (text_at text c.args.at)) c.inline.result
+    deep_result (DeepInline nesting_limit (c.args.level + 1) c.args.at (text_at text s.next))
+    (DeepValue nesting_limit c.args.level (text_at text c.args.at)) c.inline.result
     (inline_deep text c.args.at s.next c.args.level s.ensures)
     (in_brace text c.args.at s.next c.args.level s.ensures) c.inline.ensures.deep
 
 pub value-returns-then-begins_string-clause-deep : goal.value-returns-then-begins_string-clause-deep
 value-returns-then-begins_string-clause-deep t c =
-    string_shallow c.args.text.now c.args.at (DeepValue 128 c.args.level (text_at c.args.text.now c.args.at))
+    string_shallow c.args.text.now c.args.at (DeepValue nesting_limit c.args.level (text_at c.args.text.now c.args.at))
     c.string_value_at.result
     (λ p. no_bracket_too_deep c.args.text.now c.args.at c.args.level p c.in_default.ensures
     c.in_default-after_punctuation.ensures) c.string_value_at.ensures.read
 
 pub value-returns-clause-deep : goal.value-returns-clause-deep
 value-returns-clause-deep t c =
-    word_shallow c.args.text.now c.args.at (DeepValue 128 c.args.level (text_at c.args.text.now c.args.at))
+    word_shallow c.args.text.now c.args.at (DeepValue nesting_limit c.args.level (text_at c.args.text.now c.args.at))
     c.word_at.result
     (λ p. no_bracket_too_deep c.args.text.now c.args.at c.args.level p c.in_default.ensures
     c.in_default-after_punctuation.ensures) c.word_at.ensures.read

@@ -1,4 +1,5 @@
 use Rattle.std.proofs.Common.{refl, sym, subst, Err}
+use Rattle.basic_toml_value.specs.Nesting.{nesting_limit}
 use Rattle.basic_toml_explain.specs.declared.stop.Stop.{Stop}
 use Rattle.basic_toml_read.specs.Gathers.{ReadsKeys}
 use Rattle.basic_toml_read.proofs.ViewsSeen.{dot_before}
@@ -54,7 +55,7 @@ returns-in-None-clause-read c =
 pub returns-in_err-keyed-clause-deep : goal.returns-in_err-keyed-clause-deep
 returns-in_err-keyed-clause-deep c =
     let stop = c.in_err-keyed.field-0.0 in
-    shallow (DeepKeys 128 c.args.first (text_at c.args.text.now c.args.at)) stop c.from_residual.result
+    shallow (DeepKeys nesting_limit c.args.first (text_at c.args.text.now c.args.at)) stop c.from_residual.result
     c.from_residual.ensures.1
     (no_key_deep stop.why (text_at c.args.text.now c.loop-keyed.offset) c.in_err-keyed.ensures.read.0)
     (λ other p d. no_key_too_deep stop.why (text_at c.args.text.now c.loop-keyed.offset) c.in_err-keyed.ensures.read.0
@@ -62,9 +63,9 @@ returns-in_err-keyed-clause-deep c =
 
 pub returns-in_err-raise-clause-deep : goal.returns-in_err-raise-clause-deep
 returns-in_err-raise-clause-deep c =
-    raised (DeepKeys 128 c.args.first (text_at c.args.text.now c.args.at)) c.loop-keyed.level c.loop-keyed.offset
-    c.in_err-raise.field-0.0 c.from_residual-in_err-raise.result c.from_residual-in_err-raise.ensures.1
-    c.in_err-raise.ensures
+    raised (DeepKeys nesting_limit c.args.first (text_at c.args.text.now c.args.at)) c.loop-keyed.level
+    c.loop-keyed.offset c.in_err-raise.field-0.0 c.from_residual-in_err-raise.result
+    c.from_residual-in_err-raise.ensures.1 c.in_err-raise.ensures
     (key_is_deep c.args.text.now c.args.at c.args.first c.loop-keyed.offset c.loop-keyed.level
     c.loop-keyed.invariant.front c.loop-keyed.invariant.keys c.in_ok-keyed.keyed c.in_ok-keyed.ensures.read)
 

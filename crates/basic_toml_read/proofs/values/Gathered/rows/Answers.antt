@@ -1,4 +1,5 @@
 use Rattle.std.proofs.Common.{arith, ap, ◌∙◌, ◌<◌}
+use Rattle.basic_toml_value.specs.Nesting.{nesting_limit}
 use Rattle.basic_toml_grammar.specs.Reader.{end_of}
 use Rattle.basic_toml_read.specs.Lists.{ReadsRows}
 use Rattle.basic_toml_read.proofs.KeysTold.{stopped}
@@ -200,7 +201,7 @@ returns-in_err-at-clause-deep c =
     c.if-is_some.ensures in
     let same = comment_line c.args.text.now c.loop-at.at c.after_blanks-front.result c.after_comment.result
     c.after_blanks-front.ensures c.after_comment.ensures in
-    shallow (DeepRows 128 c.args.level (text_at c.args.text.now c.args.start)) c.in_err-at.field-0.0
+    shallow (DeepRows nesting_limit c.args.level (text_at c.args.text.now c.args.start)) c.in_err-at.field-0.0
     c.from_residual.result c.from_residual.ensures.1 (λ e. cc)
     (λ other. none_in_comment c.args.text.now c.args.start c.args.level c.loop-at.at c.args.self.now c.loop-at.self i
     l.0 l.1 l.2 c.after_blanks-front.result c.after_blanks-front.ensures s
@@ -216,8 +217,8 @@ returns-in_err-end-in-None-clause-deep c =
     let h = sign_lacks 35 text c.after_blanks-front.result c.after_punctuation-in-loop-at.result
     c.after_punctuation-in-loop-at.ensures c.if-is_some-2.ensures in
     let line = other_line text c.loop-at.at c.after_blanks-front.result c.after_blanks-front.ensures h in
-    deep_on (DeepRow 128 c.args.level (text_at text c.after_blanks-front.result))
-    (DeepRows 128 c.args.level (text_at text c.args.start)) c.in_err-end-in-None.field-0.0
+    deep_on (DeepRow nesting_limit c.args.level (text_at text c.after_blanks-front.result))
+    (DeepRows nesting_limit c.args.level (text_at text c.args.start)) c.in_err-end-in-None.field-0.0
     c.from_residual-in_err-end-in-None.result
     c.from_residual-in_err-end-in-None.ensures.1
     (row_is_deep text c.args.start c.args.level c.loop-at.at c.args.self.now c.loop-at.self i l.0 l.1 l.2
@@ -225,7 +226,7 @@ returns-in_err-end-in-None-clause-deep c =
     (λ other. deep_in_row text c.args.start c.args.level c.loop-at.at c.args.self.now c.loop-at.self i l.0 l.1 l.2
     c.after_blanks-front.result c.after_blanks-front.ensures s (line ∙ c.in-None.ensures)
     (is_missed c.in_err-end-in-None.field-0.0.why (row_of (text_at text c.after_blanks-front.result))
-    (λ r. 128 < row_level c.args.level r) other
+    (λ r. nesting_limit < row_level c.args.level r) other
     c.in_err-end-in-None.ensures.read)) c.in_err-end-in-None.ensures.deep
 
 pub returns-in_err-at-in-None-clause-deep : goal.returns-in_err-at-in-None-clause-deep
@@ -239,7 +240,7 @@ returns-in_err-at-in-None-clause-deep c =
     let h = sign_lacks 35 c.args.text.now c.after_blanks-front.result c.after_punctuation-in-loop-at.result
     c.after_punctuation-in-loop-at.ensures c.if-is_some-2.ensures in
     let line = other_line c.args.text.now c.loop-at.at c.after_blanks-front.result c.after_blanks-front.ensures h in
-    shallow (DeepRows 128 c.args.level (text_at c.args.text.now c.args.start)) c.in_err-at-in-None.field-0.0
+    shallow (DeepRows nesting_limit c.args.level (text_at c.args.text.now c.args.start)) c.in_err-at-in-None.field-0.0
     c.from_residual-in_err-at-in-None.result c.from_residual-in_err-at-in-None.ensures.1 (λ e. cc)
     (λ other. none_unended c.args.text.now c.args.start c.args.level c.loop-at.at c.args.self.now c.loop-at.self i
     l.0 l.1 l.2 c.after_blanks-front.result c.after_blanks-front.ensures s (line ∙ c.in-None.ensures) c.row.new.self

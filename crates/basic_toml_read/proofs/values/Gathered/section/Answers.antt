@@ -1,4 +1,5 @@
 use Rattle.std.proofs.Common.{◌≡◌, ℕ, ◌+◌, ◌<◌, length, ap, sym, ◌∙◌, subst, arith}
+use Rattle.basic_toml_value.specs.Nesting.{nesting_limit}
 use Rattle.basic_toml_tokens.specs.Text.{text_at}
 use Rattle.basic_toml_read.specs.FrontOf.{rows_of, header_of}
 use Rattle.basic_toml_grammar.specs.Levels.{rows_level}
@@ -26,7 +27,7 @@ returns-in_err-next-clause-read c =
     (rows_missing c.args.text.now c.args.at h c.in_ok-header.ensures.read c.in_ok-line.line c.in_ok-line.ensures.read
     stop.why
     (subst (λ (n : ℕ). Misses stop.why (rows_of (text_at c.args.text.now c.in_ok-line.line))
-    (λ r. 128 < rows_level (n + 1) r.0)) counted c.in_err-next.ensures.read))
+    (λ r. nesting_limit < rows_level (n + 1) r.0)) counted c.in_err-next.ensures.read))
 
 pub returns-clause-read : goal.returns-clause-read
 returns-clause-read c =
@@ -43,18 +44,18 @@ returns-clause-read c =
 pub returns-in_err-header-clause-deep : goal.returns-in_err-header-clause-deep
 returns-in_err-header-clause-deep c =
     let text = c.args.text.now in
-    λ line same. deep_on (DeepHeader 128 (text_at text c.args.at)) (DeepSections 128 line)
+    λ line same. deep_on (DeepHeader nesting_limit (text_at text c.args.at)) (DeepSections nesting_limit line)
     c.in_err-header.field-0.0 c.from_residual.result c.from_residual.ensures.1
-    (λ p d. this_section (header (subst (λ (t : Text). DeepHeader 128 t p) same d)))
-    (λ other p d. subst (λ (t : Text). DeepHeader 128 t p) (sym same) (its_header (ap header_of (sym same) ∙ is_missed
-    c.in_err-header.field-0.0.why (header_of (text_at text c.args.at)) (λ h. 128 < length h.keys + 1) other
-    c.in_err-header.ensures.read) d))
+    (λ p d. this_section (header (subst (λ (t : Text). DeepHeader nesting_limit t p) same d)))
+    (λ other p d. subst (λ (t : Text). DeepHeader nesting_limit t p) (sym same)
+    (its_header (ap header_of (sym same) ∙ is_missed c.in_err-header.field-0.0.why (header_of (text_at text c.args.at))
+    (λ h. nesting_limit < length h.keys + 1) other c.in_err-header.ensures.read) d))
     c.in_err-header.ensures.deep
 
 pub returns-in_err-line-clause-deep : goal.returns-in_err-line-clause-deep
 returns-in_err-line-clause-deep c =
     let w = c.in_err-line.ensures.read.1 in
-    λ line same. shallow (DeepSections 128 line) c.in_err-line.field-0.0
+    λ line same. shallow (DeepSections nesting_limit line) c.in_err-line.field-0.0
     c.from_residual-in_err-line.result c.from_residual-in_err-line.ensures.1 (λ e. cc)
     (λ other. none_after_header c.args.text.now c.args.at c.in_ok-header.header c.in_ok-header.ensures.read line same
     c.in_err-line.ensures.read.0)
@@ -65,14 +66,14 @@ returns-in_err-next-clause-deep c =
     let text = c.args.text.now in
     let counted : c.len.result ≡ length h.keys.items = omega (arith, c.len.ensures, h.keys.ok.0) in
     let stop = c.in_err-next.field-0.0 in
-    λ line same. deep_on (DeepRows 128 (length h.keys.items + 1) (text_at text c.in_ok-line.line))
-    (DeepSections 128 line) stop c.from_residual-in_err-next.result c.from_residual-in_err-next.ensures.1
+    λ line same. deep_on (DeepRows nesting_limit (length h.keys.items + 1) (text_at text c.in_ok-line.line))
+    (DeepSections nesting_limit line) stop c.from_residual-in_err-next.result c.from_residual-in_err-next.ensures.1
     (rows_are_deep text c.args.at h c.in_ok-header.ensures.read c.in_ok-line.line c.in_ok-line.ensures.read line same)
     (λ other. deep_in_rows text c.args.at h c.in_ok-header.ensures.read c.in_ok-line.line c.in_ok-line.ensures.read
     line same (is_missed stop.why (rows_of (text_at text c.in_ok-line.line))
-    (λ r. 128 < rows_level (c.len.result + 1) r.0) other c.in_err-next.ensures.read))
-    (subst (λ (n : ℕ). AtDeep (DeepRows 128 (n + 1) (text_at text c.in_ok-line.line)) stop.why stop.at) counted
-    c.in_err-next.ensures.deep)
+    (λ r. nesting_limit < rows_level (c.len.result + 1) r.0) other c.in_err-next.ensures.read))
+    (subst (λ (n : ℕ). AtDeep (DeepRows nesting_limit (n + 1) (text_at text c.in_ok-line.line)) stop.why stop.at)
+    counted c.in_err-next.ensures.deep)
 
 -- the holes
 pub returns-in_err-header-clause-hole : goal.returns-in_err-header-clause-hole
