@@ -101,7 +101,20 @@ impl<'de> Blank for Child<'de> {
 }
 
 impl<'de> Table<'de> {
-    /// A table without entries, of which nothing is said yet.
+    /// A table without entries, of which nothing is said yet. It takes no memory.
+    pub fn empty(alloc: Global) -> Table<'de>
+        ensures { table_trie result ≡ trie (Some (table_standing false false false)) None no_tries }
+    {
+        Table {
+            passed: false,
+            named: false,
+            dotted: false,
+            section: 0,
+            entries: Pairs::new(alloc),
+        }
+    }
+
+    /// The same in a box, as items hold it.
     ///
     /// # Errors
     ///
@@ -110,14 +123,7 @@ impl<'de> Table<'de> {
         ensures { IfOk result (λ table. table_trie table.value
             ≡ trie (Some (table_standing false false false)) None no_tries) }
     {
-        let table = Table {
-            passed: false,
-            named: false,
-            dotted: false,
-            section: 0,
-            entries: Pairs::new(alloc),
-        };
-        Ok(Box::new(alloc, table)?)
+        Ok(Box::new(alloc, Table::empty(alloc))?)
     }
 
     /// Whether a header names it or passes through it.
