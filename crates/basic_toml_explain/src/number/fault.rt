@@ -19,8 +19,8 @@ ghost use Rattle.basic_toml_explain.specs.Cursor.{IsAfterWord};
 use super::part::{part_fault, signed_part_fault};
 use crate::ReadError;
 use crate::cursor::Cursor;
-use basic_toml_tokens::Token;
 use basic_toml_numbers::{integer_of, split_part};
+use basic_toml_tokens::Token;
 use std::alloc::Global;
 
 /// Whether a word begins a number: with a digit or a minus, or `inf` or `nan`.
