@@ -17,9 +17,6 @@ element_is e l = search (rules, the_lemmas)
 pub element_value : (e : Element) → (listed_of e).value ≡ plain_of (out-Element e).value
 element_value e = search (rules, the_lemmas)
 
-pub element_offset : (e : Element) → (listed_of e).offset ≡ (out-Element e).offset
-element_offset e = search (rules, the_lemmas)
-
 -- an array
 pub all_mapped : {A B : Type 0} (f : A → B) (p : B → Bool) (xs : List A)
     → list_all p (map f xs) ≡ list_all (λ x. p (f x)) xs

@@ -1,8 +1,6 @@
 -- What stops a header on its way through tables is what its steps name.
 use Rattle.std.proofs.Common.{◌≡◌, ℕ, suc, ◌+◌, ◌<◌, ◌≤◌, Bool, true, false, cond, List, [], ◌∷◌, ◌++◌, length, map}
-use Rattle.std.proofs.Common.{Some, None, refl, ap, sym, ◌∙◌, subst, arith, nat_eq, Vec, Box, Global, Result, Ok}
-use Rattle.std.proofs.Common.{Err}
-use Rattle.std.specs.Prelude.{IfErr}
+use Rattle.std.proofs.Common.{Some, None, refl, ap, sym, ◌∙◌, subst, arith, nat_eq, Vec, Box, Global}
 use Rattle.basic_toml_read.specs.declared.section.Key as code
 use Rattle.basic_toml_read.specs.SectionView.{header_texts}
 use Rattle.basic_toml_value.specs.Data.{Data}
@@ -27,7 +25,7 @@ use Rattle.basic_toml_grow.proofs.ItemTries.{table_entries_trie}
 use Rattle.basic_toml_clash.proofs.HeadersNamed.{texts_count}
 use Rattle.basic_toml_grow.proofs.LatestInATrie.{find_latest}
 use Rattle.basic_toml_grow.proofs.HeadersInATrie.{made, fresh, array_of}
-use Rattle.basic_toml_grow.proofs.TablesOpened.{tables_trie, nothing_trie, table_item_trie}
+use Rattle.basic_toml_grow.proofs.TablesOpened.{tables_trie, nothing_trie}
 
 -- what stops a step stops the whole
 pub stopped : {A B : Type 0} (clash : Clash) (o : Outcome A) (p : Outcome B)
@@ -38,12 +36,6 @@ stopped (Header n) o p on is = (is.0, (is.1.0, on is.0 is.1.1))
 stopped Named o p on is = (is.0, (is.1.0, on is.0 is.1.1))
 stopped Redefined o p on is = (is.0, (is.1.0, on is.0 is.1.1))
 stopped (Row met) o p on is = (is.0, (is.1.0, on is.0 is.1.1))
-
-pub stopped_if : {A B C : Type 0} (r : Result C Clash) (o : Outcome A) (p : Outcome B)
-    → ((x : Stop) → o ≡ stops x → p ≡ stops x) → IfErr r (λ clash. NamesStop o clash)
-    → IfErr r (λ clash. NamesStop p clash)
-stopped_if (Ok x) o p on is = tt
-stopped_if (Err clash) o p on is = stopped clash o p on is
 
 pub same_stops : {A : Type 0} (o p : Outcome A) → p ≡ o → (x : Stop) → o ≡ stops x → p ≡ stops x
 same_stops o p same x is = same ∙ is
@@ -101,14 +93,6 @@ pub tried_into_fresh : (a : Bool) (rows : Rows) (keys : KeyTexts) (i : items.Ite
 tried_into_fresh a rows keys i new is is_fresh =
     ap (tried_by a rows keys) (ap item_trie is ∙ nothing_trie)
     ∙ sym (tried_fresh a rows keys) ∙ ap (try_by_keys a rows keys) (sym is_fresh)
-
-pub tried_into_table : (a : Bool) (rows : Rows) (keys : KeyTexts) (i : items.Item) (t : Box Table Global)
-    → i ≡ items.Table t
-    → tried_by a rows keys (item_trie i) ≡ try_by_keys a rows keys (table_trie t.value)
-tried_into_table a rows keys i t is =
-    let e = table_entries_trie t.value in
-    ap (tried_by a rows keys) (ap item_trie is ∙ table_item_trie t ∙ e)
-    ∙ ap (try_by_keys a rows keys) (sym e)
 
 latest_stops : (a : Bool) (rows : Rows) (keys : KeyTexts) (before : List Trie) (t : Trie) (x : Stop)
     → try_by_keys a rows keys t ≡ stops x → tried_by a rows keys (array_of before t) ≡ stops x

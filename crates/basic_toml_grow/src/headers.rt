@@ -1,6 +1,7 @@
 //! Puts a section into the tree: the way of its header, and the table that the header names.
 
 ghost use Rattle.std.specs.Prelude.{◌≡◌, ◌≤◌, ◌<◌, ◌+◌, ℕ, false, [], ◌∷◌, length, IfOk, IfErr};
+ghost use Rattle.basic_toml_value.specs.Nesting.{nesting_limit};
 ghost use Rattle.basic_toml_grammar.specs.Trie.{put_element};
 ghost use Rattle.basic_toml_grammar.specs.TrieStops.{try_by_keys, try_put_table, try_put_element};
 ghost use Rattle.basic_toml_read.specs.SectionView.{header_texts, rows_view};
@@ -28,7 +29,7 @@ use std::mem;
 /// # Errors
 ///
 /// The [`Clash`] that stops the section: what stands in the table is in its way, or two of its rows clash. It is
-/// `Deep` where a key or a bracket of the section is above the limit of 128, and `Memory` where memory is refused. The
+/// `Deep` where a key or a bracket of the section is above [`NESTING_LIMIT`], and `Memory` where memory is refused. The
 /// table is gone then.
 ///
 /// `basic_toml_tree` calls it for each section of a list.
@@ -75,7 +76,7 @@ fn open<'de>(
     number: usize,
     level: usize,
 ) -> Result<Box<Table<'de>>, Clash>
-    requires { level ≤ 130 }
+    requires { level ≤ nesting_limit + 2 }
     ensures entered { EntersHeader false (rows_view rows.entry.items) [] level (table_trie table.entry.value) result }
     ensures named { let tried = try_put_table (rows_view rows.entry.items) (table_trie table.entry.value) in
         IfErr result (λ clash. NamesStop tried clash) }
@@ -110,7 +111,7 @@ fn enter_header<'de>(
     number: usize,
     level: usize,
 ) -> Result<Box<Table<'de>>, Clash>
-    requires { level ≤ 130 }
+    requires { level ≤ nesting_limit + 2 }
     ensures entered { EntersHeader is_array (rows_view rows.entry.items) (header_texts keys.now) level
         (table_trie table.entry.value) result }
     ensures named { let keys = header_texts keys.now in
@@ -139,7 +140,7 @@ fn enter_below<'de>(
     number: usize,
     level: usize,
 ) -> Result<Box<Table<'de>>, Clash>
-    requires { level ≤ 130 }
+    requires { level ≤ nesting_limit + 2 }
     ensures entered { EntersHeader is_array (rows_view rows.entry.items) (header_texts (key.now ∷ rest.now)) level
         (table_trie table.entry.value) result }
     ensures named { let keys = header_texts (key.now ∷ rest.now) in
@@ -196,7 +197,7 @@ fn enter_at<'de>(
     number: usize,
     level: usize,
 ) -> Result<Item<'de>, Clash>
-    requires { level ≤ 128 }
+    requires { level ≤ nesting_limit }
     ensures entered { let rows = rows_view rows.entry.items in
         let keys = header_texts rest.now in
         EntersItem (entered_at is_array rows keys (item_trie there.entry)) rows
@@ -223,7 +224,7 @@ fn add_element<'de>(
     number: usize,
     level: usize,
 ) -> Result<Item<'de>, Clash>
-    requires { level ≤ 128 }
+    requires { level ≤ nesting_limit }
     ensures entered { let rows = rows_view rows.entry.items in
         EntersItem (put_element rows (item_trie there.entry)) rows (level + 2) result }
     ensures named { let tried = try_put_element (rows_view rows.entry.items) (item_trie there.entry) in
@@ -267,7 +268,7 @@ fn enter_item<'de>(
     number: usize,
     level: usize,
 ) -> Result<Item<'de>, Clash>
-    requires { level ≤ 128 }
+    requires { level ≤ nesting_limit }
     ensures entered { let rows = rows_view rows.entry.items in
         let keys = header_texts rest.now in
         EntersItem (entered_by is_array rows keys (item_trie there.entry)) rows

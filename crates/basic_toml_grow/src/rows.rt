@@ -2,6 +2,7 @@
 
 ghost use Rattle.std.specs.Prelude.{◌≡◌, ◌≤◌, ◌<◌, ℕ, length, [], ◌∷◌, ◌++◌, Some, None, true, false, not, is_some, map};
 ghost use Rattle.std.specs.Prelude.{MatchOption, IfOk, IfErr, IfSome};
+ghost use Rattle.basic_toml_value.specs.Nesting.{nesting_limit};
 ghost use Rattle.basic_toml_value.specs.Data.{Data};
 ghost use Rattle.basic_toml_grammar.specs.Sections.{Raw as spec_raw};
 ghost use Rattle.basic_toml_grammar.specs.Marks.{valued};
@@ -263,7 +264,7 @@ pub(crate) fn take_rows<'de>(
     section: usize,
     level: usize,
 ) -> Result<Box<Table<'de>>, Clash>
-    requires { level ≤ 128 }
+    requires { level ≤ nesting_limit }
     ensures entered { EntersRows (rows_view rows.entry.items) level (table_trie table.entry.value) result }
     ensures named { IfErr result (λ clash.
         NamesStop (try_put_rows (rows_view rows.entry.items) (table_trie table.entry.value)) clash) }
@@ -290,7 +291,7 @@ fn enter_rows<'de>(
     section: usize,
     level: usize,
 ) -> Result<Box<Table<'de>>, Clash>
-    requires { level ≤ 128 }
+    requires { level ≤ nesting_limit }
     ensures entered { EntersRows (rows_view rows.entry.items) level (table_trie table.entry.value) result }
     ensures named { IfErr result (λ clash.
         NamesStop (try_put_rows (rows_view rows.entry.items) (table_trie table.entry.value)) clash) }
@@ -320,7 +321,7 @@ fn enter_value<'de>(
     section: usize,
     level: usize,
 ) -> Result<Box<Table<'de>>, Clash>
-    requires level { level ≤ 128 }
+    requires level { level ≤ nesting_limit }
     requires keys { all_dots keys.now ≡ true }
     requires row { is_dot row ≡ false }
     ensures entered { EntersRows (rows_view (keys.entry.now ++ row.entry ∷ [])) level (table_trie table.entry.value)
@@ -359,7 +360,7 @@ fn row_value<'de>(
     section: usize,
     level: usize,
 ) -> Result<Child<'de>, Clash>
-    requires { level ≤ 128 }
+    requires { level ≤ nesting_limit }
     ensures finished { (v : spec_raw) → raw_of value.entry ≡ Some v → Finishes v level result }
     ensures named { IfErr result (λ clash. (v : spec_raw) → raw_of value.entry ≡ Some v
         → NamesStop (try_put_value v) clash) }
@@ -396,7 +397,7 @@ fn finished<'de>(
     section: usize,
     level: usize,
 ) -> Result<Child<'de>, Clash>
-    requires { level ≤ 128 }
+    requires { level ≤ nesting_limit }
     ensures finished { (v : spec_raw) → raw_of value.entry ≡ Some v → Finishes v level result }
     ensures named { IfErr result (λ clash. (v : spec_raw) → raw_of value.entry ≡ Some v
         → NamesStop (try_put_value v) clash) }
@@ -437,7 +438,7 @@ fn finished_elements<'de>(
     section: usize,
     level: usize,
 ) -> Result<Vec<Child<'de>>, Clash>
-    requires { level ≤ 128 }
+    requires { level ≤ nesting_limit }
     ensures finished { FinishesAll (elements_view elements.entry.items) level result }
     ensures named { IfErr result (λ clash. NamesStop (try_put_elements (elements_view elements.entry.items)) clash) }
     ensures origins { IfOk result (λ children. map child_origins children.items

@@ -108,15 +108,6 @@ not_last_way a [] t some = absurd (omega arith)
 not_last_way true (k ∷ keys) t some = refl
 not_last_way false (k ∷ keys) t some = refl
 
-pub no_keys_left : (a : Bool) (keys : List Key) (t : Table) (rows : Origins)
-    (r : Result (Box Table Global) Clash) → length keys ≡ 0
-    → IfOk r (λ after. table_origins after.value ≡ or_else (table_origins t) rows)
-    → IfOk r (λ after. GrowsAlong (way a (header_texts keys) (table_trie t)) rows (table_origins t)
-    (table_origins after.value))
-no_keys_left a (k ∷ keys) t rows r none comes = absurd (omega (arith, none))
-no_keys_left a [] t rows (Err clash) none comes = tt
-no_keys_left a [] t rows (Ok after) none comes = λ p not. ap (λ f. f p) comes
-
 -- a table that a header passes
 pub passed_grows : (a : Bool) (rows : Origins) (k : List ℕ) (keys whole : KeyTexts) (t o p q u : Table)
     (position : ℕ) (there item : items.Item) → whole ≡ k ∷ keys → o ≡ t → Passes k o p position there → q ≡ p

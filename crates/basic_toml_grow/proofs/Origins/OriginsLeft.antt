@@ -67,13 +67,6 @@ pub no_rows_come : (s : ℕ) (rows : List lines.Row) (w : Within) → length row
 no_rows_come s rows w none =
     sym (ap (λ rows. with_more w (rows_origins s (rows_view rows))) (nothing_left rows none) ∙ more_none w)
 
--- one more key that a period follows
-pub key_more : (s : ℕ) (whole : Rows) (before now : Within) (keys : List lines.Row) (r : lines.Row)
-    (rest : List lines.Row) → OriginsLeft s whole before keys (r ∷ rest) now
-    → OriginsLeft s whole before (keys ++ r ∷ []) rest now
-key_more s whole before now keys r rest left =
-    left ∙ ap (λ rs. with_more now (rows_origins s (rows_view rs))) (sym (append_assoc keys (r ∷ []) rest))
-
 -- a row by its keys and its value
 row_value : (r : lines.Row) → (lined_of r).value ≡ raw_of (lines.out-Row r).value
 row_value r = search (rules, raws.the_lemmas)

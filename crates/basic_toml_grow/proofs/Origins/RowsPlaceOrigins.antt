@@ -19,7 +19,7 @@ use Rattle.basic_toml_grow.specs.Origins.{child_origins}
 use Rattle.basic_toml_grow.specs.Origins.{item_origins, table_within, with_more, or_else, beyond, row_origins}
 use Rattle.basic_toml_grow.proofs.ItemTries.{entries_with}
 use Rattle.basic_toml_grow.proofs.KeysInATrie.{with_twice}
-use Rattle.basic_toml_grow.proofs.Origins.OriginsSeen.{child_seen, table_seen, made_seen, nothing_seen, table_item_seen}
+use Rattle.basic_toml_grow.proofs.Origins.OriginsSeen.{child_seen, table_seen, made_seen, nothing_seen}
 use Rattle.basic_toml_grow.proofs.Origins.OriginsSeen.{nothing_comes}
 use Rattle.basic_toml_grow.proofs.MetTellsStop.{dotted_fields}
 use Rattle.basic_toml_grow.proofs.Origins.OriginsSeen.{grows_at, table_origins}
@@ -82,31 +82,6 @@ pub comes_first : (there : Child) (below : Origins) → child_trie there ≡ not
     → below ≡ or_else (child_origins there) below
 comes_first there below none =
     sym (ap (λ f. or_else f below) (nothing_comes there none))
-
--- a table that the dots of a row extend, which was there or is new
-pub extended_table : (there : Child) (old new : Box Table Global) (u : Table) (o : Origin) (row : Origins) (at s : ℕ)
-    → (out-Child there).item ≡ items.Table old → table_within u ≡ table_within old.value
-    → table_within new.value ≡ with_more (table_within u) row → at ≡ (out-Child there).start
-    → s ≡ (out-Child there).section
-    → entry (table_origin (table_within new.value).made at s) (table_origins new.value)
-    ≡ or_else (child_origins there) (entry o row)
-extended_table there old new u o row at s is same more is_at is_s =
-    ap (λ w. entry (table_origin w.made at s) w.below) (more ∙ ap (λ w. with_more w row) same)
-    ∙ ap (λ at. entry (table_origin (table_within old.value).made at s) (or_else (table_origins old.value) row)) is_at
-    ∙ ap (λ s. entry (table_origin (table_within old.value).made (out-Child there).start s)
-    (or_else (table_origins old.value) row)) is_s
-    ∙ fun_ext here
-    ∙ ap (λ f. or_else f (entry o row)) (sym (child_seen there
-    ∙ ap (λ i. item_origins i (out-Child there).start (out-Child there).section) is
-    ∙ table_item_seen old (out-Child there).start (out-Child there).section))
-  where
-    was : Origin
-    was = table_origin (table_within old.value).made (out-Child there).start (out-Child there).section
-
-    here : (p : Path) → entry was (or_else (table_origins old.value) row) p
-        ≡ or_else (entry was (table_origins old.value)) (entry o row) p
-    here [] = refl
-    here (t ∷ p) = refl
 
 pub new_table : (there : Child) (new : Box Table Global) (u : Table) (row : Origins) (at s : ℕ)
     → (out-Child there).item ≡ Nothing → table_within u ≡ record { made = false; below = no_origins }

@@ -1,4 +1,5 @@
 use Rattle.std.proofs.Common.{◌+◌, ◌-◌, ◌*◌, map}
+use Rattle.basic_toml_value.specs.Nesting.{nesting_limit}
 use Rattle.basic_toml_read.specs.SectionView.{rows_view, elements_view}
 use Rattle.basic_toml_grow.specs.Item.{child_trie, table_trie}
 use Rattle.basic_toml_grow.specs.Origins.{table_within}
@@ -8,22 +9,22 @@ use Rattle.basic_toml_grow.proofs.ElementsLeft.{ElementsAreLeft}
 use Rattle.basic_toml_grow.proofs.rows.+finishing.Given as goal
 
 abbrev pub decreases-take_rows : goal.decreases-take_rows
-decreases-take_rows l = 5 * (128 - l.level) + 4
+decreases-take_rows l = 5 * (nesting_limit - l.level) + 4
 
 abbrev pub decreases-enter_rows : goal.decreases-enter_rows
-decreases-enter_rows l = 5 * (128 - l.level) + 3
+decreases-enter_rows l = 5 * (nesting_limit - l.level) + 3
 
 abbrev pub decreases-enter_value : goal.decreases-enter_value
-decreases-enter_value l = 5 * (128 - l.level) + 2
+decreases-enter_value l = 5 * (nesting_limit - l.level) + 2
 
 abbrev pub decreases-row_value : goal.decreases-row_value
-decreases-row_value l = 5 * (128 - l.level) + 1
+decreases-row_value l = 5 * (nesting_limit - l.level) + 1
 
 abbrev pub decreases-finished : goal.decreases-finished
-decreases-finished l = 5 * (128 - l.level)
+decreases-finished l = 5 * (nesting_limit - l.level)
 
 abbrev pub decreases-finished_elements : goal.decreases-finished_elements
-decreases-finished_elements l = 5 * (128 - l.level) + 1
+decreases-finished_elements l = 5 * (nesting_limit - l.level) + 1
 
 -- what the rows that are left put into the table as it is, all put into it as it was
 abbrev pub invariant-enter_rows-loop-row : goal.invariant-enter_rows-loop-row
