@@ -7,4 +7,6 @@ pub mod RespelledTextIsRead
 pub mod OneAnswer
 pub mod OrderReadBack
 pub mod MemoryHasNoPlace
+pub mod GapsHoldNothing
+pub mod MemoryIsWanted
 pub mod TablesHold

@@ -52,7 +52,7 @@ not_listed text _ (answer.outside due within) = inr (outside due within)
 not_resolved : (text : List ℕ) (sections : List Section) (error : read.Fault) → IsSectionList (folded text) sections
     → highest_level sections ≤ nesting_limit → IsUnresolved sections error
     → (error ≡ explain.want_of_memory) ⊎ IsTextFault text error
-not_resolved text sections _ grammar low resolve.memory = inl refl
+not_resolved text sections _ grammar low (resolve.memory listed) = inl refl
 not_resolved text sections _ grammar low (resolve.refused why) = inr (no_tree grammar low why)
 
 pub refused : (text : List ℕ) (error : read.Fault) → IsRefused text error → GivesTree text (Err error)
@@ -71,7 +71,7 @@ resolved text list (Ok tree) grammar low is =
         sections = map section_of list;
         grammar = grammar;
         means =
-            document_found (map section_of list) (table_data tree.root.value) there.clash there.fits there.grown;
+            document_found (map section_of list) (table_data tree.root) there.clash there.fits there.grown;
       };
     }
 resolved text list (Err error) grammar low why =
@@ -145,13 +145,13 @@ module _ {T : Type 0} (takes : Data → Type 0) (reads : Data → T → Type 0) 
       (own, only, at_document (λ root. OrMemory (faults root) own) text tree of named, same)
 
   pub tree_read : (tree : Tree) (result : Result T Fault) → AnswersTree text (Ok tree)
-      → IfOk result (reads (table_data tree.root.value))
-      → IfErr result (IsLined (takes (table_data tree.root.value)) (reads (table_data tree.root.value)) (named_at tree) text)
+      → IfOk result (reads (table_data tree.root))
+      → IfErr result (IsLined (takes (table_data tree.root)) (reads (table_data tree.root)) (named_at tree) text)
       → ReadsText takes reads faults text result
   tree_read tree result of ok err =
-      let (members, same) = table_is_table tree.root.value in
-      document_read (table_data tree.root.value) members result same of.document ok
-      (lined_there (table_data tree.root.value) tree result of err)
+      let (members, same) = table_is_table tree.root in
+      document_read (table_data tree.root) members result same of.document ok
+      (lined_there (table_data tree.root) tree result of err)
 
 pub ruleset ends = (unread)
 

@@ -22,13 +22,13 @@ use Rattle.basic_toml_typed.specs.TypeReads.{table_reads, table_takes}
 use Rattle.basic_toml.proofs.TextHasOneDocument.{one_document}
 
 -- the table that is read is the tree of the document
-table_is : (text : List ℕ) (tree : Data) → IsDocument (folded text) tree → (pairs : List (List ℕ × Value))
+pub table_is : (text : List ℕ) (tree : Data) → IsDocument (folded text) tree → (pairs : List (List ℕ × Value))
     → ReadsText table_takes table_reads table_faults text (Ok pairs) → Data.table (entries pairs) ≡ tree
 table_is text tree means pairs (value_read {members = m} document read) =
     sym read ∙ one_document text (Data.table m) tree document means
 
 -- and an error is want of memory
-only_memory : (text : List ℕ) (tree : Data) → IsDocument (folded text) tree → (fault : Fault)
+pub only_memory : (text : List ℕ) (tree : Data) → IsDocument (folded text) tree → (fault : Fault)
     → ReadsText table_takes table_reads table_faults text (Err fault) → fault ≡ want_of_memory
 only_memory text tree means _ no_memory = refl
 only_memory text tree means _ (no_document none because) = absurd (none tree means)

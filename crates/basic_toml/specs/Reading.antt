@@ -1,7 +1,7 @@
 -- How reading a text as a type ends, by what the type answers to data (`TypeAnswers`). (own)
 use Rattle.std.specs.Prelude.{◌≡◌, ◌⊎◌, ◌≤◌, ◌<◌, ℕ, List, [], length, Result, Ok, Err}
 use Rattle.basic_toml_tokens.specs.Text.{folded}
-use Rattle.basic_toml_value.specs.Data.{Data, table, Members}
+use Rattle.basic_toml_value.specs.Data.{Data, table, Members, no_members}
 use Rattle.basic_toml_value.specs.Nesting.{nesting_limit}
 use Rattle.basic_toml_grammar.specs.Sections.{Section}
 use Rattle.basic_toml_grammar.specs.Grammar.{IsSectionList}
@@ -13,6 +13,7 @@ use Rattle.basic_toml_grammar.specs.Document.{IsDocument}
 use Rattle.basic_toml_grammar.specs.Faults as read
 use Rattle.basic_toml_grammar.specs.GrammarFaults.{fault_at}
 use Rattle.basic_toml_explain.specs.Error as explain
+use Rattle.basic_toml_read.specs.Lists.{IsGap}
 use Rattle.basic_toml_tree.specs.declared.node.Node.{Node}
 use Rattle.basic_toml_tree.specs.declared.tree.Tree.{Tree}
 use Rattle.basic_toml_tree.specs.Data.{table_data}
@@ -45,7 +46,7 @@ pub record IsTreeOf (text : List ℕ) (tree : Tree) : Type 0 where
   pub sections : List Section
   pub grammar : IsSectionList (folded text) sections
   pub resolved : IsResolved sections tree
-  pub document : IsDocument (folded text) (table_data tree.root.value)
+  pub document : IsDocument (folded text) (table_data tree.root)
 
 -- the node of a text's document
 pub record IsNodeOf (text : List ℕ) (root : Node) : Type 0 where
@@ -77,6 +78,11 @@ pub data ReadsText {T : Type 0} (takes : Data → Type 0) (reads : Data → T �
       → IsLined (takes (table members)) (reads (table members))
       (λ own. AtDocument (λ root. OrMemory (faults root) own) text) text fault
       → ReadsText takes reads faults text (Err fault)
+
+-- Want of memory comes of a text of blanks, comments and line feeds only where the type may ask for memory for a table
+-- without keys.
+abbrev pub WantsMemory : (Data → Type 0) → List ℕ → Fault → Type 0
+WantsMemory grows text fault = fault ≡ want_of_memory → IsGap (folded text) → grows (table no_members)
 
 -- on the way: the tree of the text, or why there is none
 abbrev pub GivesTree : List ℕ → Result Tree read.Fault → Type 0

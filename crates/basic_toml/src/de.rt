@@ -5,10 +5,12 @@ ghost use Rattle.basic_toml_value.specs.Data.{Data};
 ghost use Rattle.basic_toml_grammar.specs.Document.{IsDocument};
 ghost use Rattle.basic_toml_grammar.specs.OldRules.{has_no_delete, WasDocument};
 ghost use Rattle.basic_toml_grammar.specs.Respelled.{with_returns, has_return, with_byte_order_mark, has_byte_order_mark};
+ghost use Rattle.basic_toml_read.specs.SectionsAnswer.{HoldsMore};
 ghost use Rattle.basic_toml_tree.specs.Data.{table_data};
-ghost use Rattle.basic_toml_typed.specs.TypeAnswers.{AtRoot, OrMemory};
+ghost use Rattle.basic_toml_typed.specs.TypeAnswers.{AtRoot, IfGrows, OrMemory};
 ghost use Rattle.basic_toml_error.specs.Fault.{not_text};
 ghost use Rattle.basic_toml.specs.Reading.{IsLined, ReadsText, ReadsData, GivesTree, AnswersTree, ReadsTree};
+ghost use Rattle.basic_toml.specs.Reading.{WantsMemory};
 
 use crate::{Deserialize, Error};
 use basic_toml_read::{ReadError, sections};
@@ -28,7 +30,9 @@ use std::alloc::Global;
 ///
 /// Where the text has no document: an error of the grammar; where its rows and sections clash, an error of a clash;
 /// `nested too deeply` where it is nested more than 128 deep. Where a type reads nothing from the document, the type's
-/// own error, one that it names by its `faults`; and `out of memory` where a growth was refused.
+/// own error, one that it names by its `faults`; and `out of memory` where a growth was refused. A text of blanks,
+/// comments and line feeds gives that only where the type may ask for memory for a table without keys, as `Table` and
+/// `Value` do not.
 ///
 /// # Other spellings
 ///
@@ -36,6 +40,7 @@ use std::alloc::Global;
 /// U+007F reads as the document that it had by the older rules.
 pub fn from_str<'de, T: Deserialize<'de>>(alloc: Global, s: &'de str) -> Result<T, Error>
     ensures read { ReadsText T.takes T.reads T.faults s.now result }
+    ensures memory { IfErr result (WantsMemory T.grows s.now) }
     ensures line_feeds { has_return s.now ≡ false → (tree : Data) → IsDocument (folded (with_returns s.now)) tree
         → ReadsData T.takes T.reads tree result }
     ensures mark { has_byte_order_mark s.now ≡ false → (tree : Data)
@@ -48,7 +53,8 @@ pub fn from_str<'de, T: Deserialize<'de>>(alloc: Global, s: &'de str) -> Result<
 
 #[tactic(auto, using(crate::proofs::ReadingEnds::ends))]
 fn read_text<'de, T: Deserialize<'de>>(alloc: Global, text: &'de str) -> Result<T, Error>
-    ensures { ReadsText T.takes T.reads T.faults text.now result }
+    ensures read { ReadsText T.takes T.reads T.faults text.now result }
+    ensures memory { IfErr result (WantsMemory T.grows text.now) }
 {
     let tree = tree_of(alloc, text)?;
     read_from(alloc, tree, text)
@@ -61,10 +67,11 @@ fn read_from<'de, T: Deserialize<'de>>(
     tree: Tree<'de>,
     text: &str,
 ) -> Result<T, Error>
-    ensures ok { IfOk result (λ value. T.reads (table_data tree.entry.root.value) value) }
-    ensures err { IfErr result (IsLined (T.takes (table_data tree.entry.root.value))
-        (T.reads (table_data tree.entry.root.value))
+    ensures ok { IfOk result (λ value. T.reads (table_data tree.entry.root) value) }
+    ensures err { IfErr result (IsLined (T.takes (table_data tree.entry.root))
+        (T.reads (table_data tree.entry.root))
         (λ own. AtRoot (λ root. OrMemory (T.faults root) own) tree.entry) text.now) }
+    ensures memory { IfErr result (IfGrows (T.grows (table_data tree.entry.root))) }
 {
     match T::from_tree(alloc, tree) {
         Ok(value) => Ok(value),
@@ -83,10 +90,12 @@ fn read_from<'de, T: Deserialize<'de>>(
 ///
 /// # Errors
 ///
-/// Those that [`from_str`] has where the text has no document, with the line and the column; and `out of memory`.
+/// Those that [`from_str`] has where the text has no document, with the line and the column; and `out of memory`. Of a
+/// text of blanks, comments and line feeds there is none.
 #[tactic(auto, using(crate::proofs::ReadingEnds::tree_ends))]
 pub fn read_tree<'de>(alloc: Global, text: &'de str) -> Result<Tree<'de>, Error>
-    ensures { ReadsTree text.now result }
+    ensures tree { ReadsTree text.now result }
+    ensures more { IfErr result (λ _. HoldsMore (folded text.now)) }
 {
     tree_of(alloc, text)
 }
@@ -94,7 +103,8 @@ pub fn read_tree<'de>(alloc: Global, text: &'de str) -> Result<Tree<'de>, Error>
 // The tree of a text's document, or its error with line and column.
 #[tactic(auto, using(crate::proofs::ReadingEnds::with_lines))]
 fn tree_of<'de>(alloc: Global, text: &'de str) -> Result<Tree<'de>, Error>
-    ensures { AnswersTree text.now result }
+    ensures tree { AnswersTree text.now result }
+    ensures more { IfErr result (λ _. HoldsMore (folded text.now)) }
 {
     match tree_in(alloc, text) {
         Ok(tree) => Ok(tree),
@@ -105,7 +115,8 @@ fn tree_of<'de>(alloc: Global, text: &'de str) -> Result<Tree<'de>, Error>
 // The tree of a text's document, or why there is none.
 #[tactic(auto, using(crate::proofs::ReadingEnds::tree_given))]
 fn tree_in<'de>(alloc: Global, text: &'de str) -> Result<Tree<'de>, ReadError>
-    ensures { GivesTree text.now result }
+    ensures tree { GivesTree text.now result }
+    ensures more { IfErr result (λ _. HoldsMore (folded text.now)) }
 {
     let sections = sections(alloc, text)?;
     resolve(alloc, sections)
@@ -118,6 +129,7 @@ fn tree_in<'de>(alloc: Global, text: &'de str) -> Result<Tree<'de>, ReadError>
 /// `input is not valid UTF-8` where they are not, and the errors of [`from_str`].
 pub fn from_slice<'de, T: Deserialize<'de>>(alloc: Global, bytes: &'de [u8]) -> Result<T, Error>
     ensures text { IsUtf8 bytes.now → ReadsText T.takes T.reads T.faults bytes.now result }
+    ensures memory { IfErr result (WantsMemory T.grows bytes.now) }
     ensures other { ¬ IsUtf8 bytes.now → result ≡ Err not_text }
 {
     match simdutf8::compat::from_utf8(bytes) {

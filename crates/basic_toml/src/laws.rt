@@ -4,7 +4,7 @@ ghost use Rattle.basic_toml_tokens.specs.Text.{folded};
 ghost use Rattle.basic_toml_value.specs.Data.{Data};
 ghost use Rattle.basic_toml_grammar.specs.Document.{IsDocument};
 ghost use Rattle.basic_toml_grammar.specs.Faults as read;
-ghost use Rattle.basic_toml.specs.Memory.{ReadsWithoutPlace, TreesWithoutPlace, WritesWithoutPlace};
+ghost use Rattle.basic_toml.specs.Memory.{BlanksAreRead, ReadsWithoutPlace, TreesWithoutPlace, WritesWithoutPlace};
 ghost use Rattle.basic_toml.specs.Memory.{RoundTripsWithoutPlace};
 ghost use Rattle.basic_toml.specs.OrderReadBack.{RowsFirstIsReadBack};
 ghost use Rattle.basic_toml.specs.OneAnswer.{WritesOneAnswer, RoundTripsToOneAnswer, ReadingHasOneTable};
@@ -70,6 +70,12 @@ pub fn round_trip_has_one_answer<T: Serialize>(value: &T)
 #[tactic(auto, using(crate::proofs::OrderReadBack::rows_first_read_back))]
 pub fn rows_first_is_read_back()
     ensures { RowsFirstIsReadBack }
+{}
+
+/// A text of blanks, comments and line feeds is read as a `Table` without keys, whatever memory there is.
+#[tactic(auto, using(crate::proofs::MemoryIsWanted::blanks_are_read))]
+pub fn blanks_are_read()
+    ensures { BlanksAreRead }
 {}
 
 /// A want of memory that the contract of `from_str` or `from_slice` allows has no offset, no line and column, and no

@@ -1,10 +1,11 @@
 -- The data of items and their parts.
 use Rattle.std.proofs.Common.{◌≡◌, ℕ, List, [], ◌∷◌, ◌++◌, ap, refl}
 use Rattle.std.proofs.Common.{sym, ◌∙◌, map, rules, Vec, Box, Global}
-use Rattle.std.proofs.Common.{Option, Some, None, true, false, cond}
+use Rattle.std.proofs.Common.{Option, Some, None, true, false, cond, length, ◌==◌, Result, Ok, Err, IfErr}
 use Rattle.std.specs.Str.{bytes_eq}
+use Rattle.std.proofs.lemmas.Bool.{false≢true}
 use Rattle.std.proofs.lemmas.List.{map-append}
-use Rattle.basic_toml_value.specs.Data.{Data, Members, items_of, member, members_of}
+use Rattle.basic_toml_value.specs.Data.{Data, Members, items_of, no_members, member, members_of}
 use Rattle.basic_toml_value.specs.Key.{key_bytes}
 use Rattle.basic_toml_value.specs.Entries.{seen, texts_of}
 use Rattle.basic_toml_value.specs.Pairs.{keys_of, value_at}
@@ -19,7 +20,7 @@ use Rattle.basic_toml_grow.specs.declared.item.Item.{the_lemmas, Plain, Tables}
 use Rattle.basic_toml_grow.specs.declared.item.Child.{Child, out-Child}
 use Rattle.basic_toml_grow.specs.declared.item.Table.{Table, out-Table}
 use Rattle.basic_toml_tree.specs.Nodes.{data_among, data_at}
-use Rattle.basic_toml_tree.specs.Data.{data_of, child_data, table_data, child_pair, value_pair}
+use Rattle.basic_toml_tree.specs.Data.{data_of, child_data, table_data, child_pair, value_pair, HoldsAny}
 
 -- the data of a child is that of its item
 pub child_item : (c : Child) → child_data c ≡ data_of (out-Child c).item
@@ -43,6 +44,25 @@ table_of_pairs t pairs same =
     table_members t
     ∙ ap (λ ps. Data.table (members_of (map (λ p. (p.0, child_data p.1)) ps))) (sym same)
     ∙ ap (λ ps. Data.table (members_of ps)) (pairs_seen pairs)
+
+-- where memory is refused to a table, it has an entry
+no_member : (entries : List (List ℕ × Child)) → members_of (map (λ p. (p.0, child_data p.1)) entries) ≡ no_members
+    → (length entries == 0) ≡ true
+no_member [] e = refl
+no_member (p ∷ ps) e = cc
+
+members_same : (a b : Members) → Data.table a ≡ Data.table b → a ≡ b
+members_same a b e = cc
+
+entry_held : (t : Table) → (length (out-Table t).entries == 0) ≡ false → HoldsAny (table_data t)
+entry_held t some none =
+    false≢true (sym some ∙ no_member (out-Table t).entries
+    (members_same _ no_members (sym (table_members t) ∙ none)))
+
+pub refused_held : {A E : Type 0} (t : Table) (result : Result A E) → (length (out-Table t).entries == 0) ≡ false
+    → IfErr result (λ e. HoldsAny (table_data t))
+refused_held t (Ok x) some = tt
+refused_held t (Err e) some = entry_held t some
 
 -- the data of an array of plain values
 pub plain_item : (es : Vec Element Global) → data_of (Plain es) ≡ finished (plain_array es.items)

@@ -69,7 +69,7 @@ module _ (sections others : List Section) (same : MeanTheSame sections others) w
 
   none_too : all_keyed sections ≡ true → all_keyed_within sections ≡ true → (fault : Fault)
       → IsUnresolved sections fault → IsAnswerToo sections (Err fault) others
-  none_too keyed within _ memory = inl refl
+  none_too keyed within _ (memory listed) = inl refl
   none_too keyed within fault (refused why) = inr (elim (fault_is_named sections fault keyed why) [
     | inl names ↦ clash_too fault (named_clashes sections fault names)
     | inr d ↦ too_deep_too fault (has_clash sections) refl

@@ -1,9 +1,10 @@
 -- The sections of the code entered one after another, each of which gives its rows away.
-use Rattle.std.proofs.Common.{◌≡◌, inl, inr, ℕ, suc, ◌+◌, ◌<◌, ◌≤◌, true, false, List, [], ◌∷◌, ◌++◌, refl}
+use Rattle.std.proofs.Common.{◌≡◌, inl, inr, ℕ, suc, ◌+◌, ◌<◌, ◌≤◌, ◌==◌, true, false, List, [], ◌∷◌, ◌++◌, refl}
 use Rattle.std.proofs.Common.{ap}
 use Rattle.std.proofs.Common.{sym, ◌∙◌, subst, arith, map, length, take, drop, get_or, set, zero, Option}
 use Rattle.std.proofs.Common.{Some, None, Result, Ok, Err}
-use Rattle.std.proofs.Common.{IsErrAnd}
+use Rattle.std.proofs.Common.{IsErrAnd, Vec, Global}
+use Rattle.std.specs.Vec.{vec_len}
 use Rattle.std.proofs.lemmas.List.{map-append, take_more, take_all}
 use Rattle.basic_toml_grammar.specs.IndexedPath.{located}
 use Rattle.basic_toml_grammar.specs.Entering.{all_keyed, is_keyed}
@@ -28,7 +29,7 @@ use Rattle.basic_toml_grammar.specs.Stops.{Stop, at_header, is_named, is_passed,
 use Rattle.basic_toml_grammar.specs.TrieStops.{try_by_keys}
 use Rattle.basic_toml_tree.proofs.SectionsStopped.{same_fault}
 use Rattle.basic_toml_grammar.specs.Sections.{Key, Section}
-use Rattle.std.proofs.lemmas.Bool.{false≢true, and_parts, and_from}
+use Rattle.std.proofs.lemmas.Bool.{false≢true, and_parts, and_from, eqb-true}
 use Rattle.basic_toml_grow.specs.Origins.{Origins, table_within, rows_origins}
 use Rattle.basic_toml_grow.specs.Ways.{way, GrowsAlong, sections_origins}
 use Rattle.basic_toml_grow.proofs.Origins.OriginsSeen.{fresh_within}
@@ -134,6 +135,13 @@ module _ (old now : List code.Section) (n : ℕ) (t : Trie) (goes : Goes old now
       (more_brought (map section_of (take n old)) (section_of s) (header_texts s.header.items) t n before after
       refl keyed_before goes.entered.stands (taken_count old n (omega (arith, goes.count))) brought grows)
 
+  listed : map section_of old ≡ [] → ⊥
+  listed none = no_section (map section_of (take n old)) (sym split ∙ none)
+    where
+      no_section : (before : List Section) → before ++ section_of s ∷ map section_of (drop (suc n) old) ≡ [] → ⊥
+      no_section [] e = cc
+      no_section (r ∷ before) e = cc
+
   -- a section that is not entered, and its fault
   module _ (none : first_crossed (map section_of old) ≡ None) where
     first : (fault : Fault) → StopsSection t (section_of s) fault → IsUnresolved (map section_of old) fault
@@ -163,7 +171,7 @@ module _ (old now : List code.Section) (n : ℕ) (t : Trie) (goes : Goes old now
         → (now : code.Section) → now.at ≡ s.at → now.header ≡ s.header
         → IsFaultOf now c fault → IsUnresolved (map section_of old) fault
     named Memory fault out stop now same header is =
-        subst (λ f. IsUnresolved (map section_of old) f) (sym is) memory
+        subst (λ f. IsUnresolved (map section_of old) f) (sym is) (memory listed)
     named Deep fault out stop now same header is =
         let over = too_deep (map section_of (take n old)) (section_of s) (header_texts s.header.items) t refl
         goes.entered out in
@@ -185,41 +193,55 @@ module _ (old now : List code.Section) (n : ℕ) (t : Trie) (goes : Goes old now
         → (now : code.Section) → now.at ≡ s.at → now.header ≡ s.header
         → NamesClash now c fault → IsUnresolved (map section_of old) fault
     kept_out c fault out stop now same header (inl is) =
-        subst (λ f. IsUnresolved (map section_of old) f) (sym is) memory
+        subst (λ f. IsUnresolved (map section_of old) f) (sym is) (memory listed)
     kept_out c fault out stop now same header (inr is) = named c fault out stop now same header is
 
+counted : (ss : Vec code.Section Global) → (vec_len ss == 0) ≡ false → (length ss.items == 0) ≡ false
+counted ss is =
+    let same : length ss.items ≡ vec_len ss = omega (arith, ss.ok.0) in ap (λ (n : ℕ). n == 0) same ∙ is
+
+listed_somewhere : (ss : List code.Section) → (length ss == 0) ≡ false → map section_of ss ≡ [] → ⊥
+listed_somewhere [] some none = false≢true (sym some)
+listed_somewhere (s ∷ ss) some none = cc
+
 -- what is answered where memory is refused, where a row goes on from a value, and at the end
-pub want_of : (ss : List code.Section) (r : Result Tree Fault) → IsErrAnd r (λ f. f ≡ want_of_memory) → Resolves ss r
-want_of ss (Ok tree) is = absurd is
-want_of ss (Err fault) is = λ keyed. subst (λ (f : Fault). IsUnresolved (map section_of ss) f) (sym is) memory
+pub want_of : (ss : Vec code.Section Global) (r : Result Tree Fault) → (vec_len ss == 0) ≡ false
+    → IsErrAnd r (λ f. f ≡ want_of_memory) → Resolves ss.items r
+want_of ss (Ok tree) some is = absurd is
+want_of ss (Err fault) some is = λ keyed.
+    subst (λ (f : Fault). IsUnresolved (map section_of ss.items) f) (sym is)
+    (memory (listed_somewhere ss.items (counted ss some)))
 
 pub goes_on_from_a_value : (ss : List code.Section) (at : ℕ) (fault : Fault)
     → first_crossed (map section_of ss) ≡ Some at → fault ≡ dotted_fault at → IsUnresolved (map section_of ss) fault
 goes_on_from_a_value ss at fault there named =
     subst (λ (f : Fault). IsUnresolved (map section_of ss) f) (sym named) (refused (value there))
 
+pub none_left : (ss : Vec code.Section Global) → (vec_len ss == 0) ≡ true → length ss.items ≤ 0
+none_left ss none = omega (arith, ss.ok.0, eqb-true (vec_len ss) 0 none)
+
 pub none_crossed : (o : Option ℕ) → ((at : ℕ) → o ≡ Some at → ⊥) → o ≡ None
 none_crossed None other = refl
 none_crossed (Some at) other = absurd (other at refl)
 
 pub resolved : (old : List code.Section) (n : ℕ) (tree : Tree)
-    → Goes old tree.sections.items n (table_trie tree.root.value)
+    → Goes old tree.sections.items n (table_trie tree.root)
     → length old ≤ n → all_keyed (map section_of old) ≡ true
-    → Brought (map section_of (take n old)) (table_within tree.root.value).below → IsResolved (map section_of old) tree
+    → Brought (map section_of (take n old)) (table_within tree.root).below → IsResolved (map section_of old) tree
 resolved old n tree goes past keyed brought =
     let all : take n old ≡ old = take_all n old past in
-    let t = table_trie tree.root.value in
-    let entered = subst (λ (ss : List code.Section). Entered (map section_of ss) (table_trie tree.root.value)) all
+    let t = table_trie tree.root in
+    let entered = subst (λ (ss : List code.Section). Entered (map section_of ss) (table_trie tree.root)) all
     goes.entered in
     record {
       clash = no_clash (map section_of old) t keyed entered;
       fits = fits_all (map section_of old) t keyed (sections_have_keys old) entered;
-      grown = sym (table_trie_data tree.root.value) ∙ whole_tree (map section_of old) t entered;
+      grown = sym (table_trie_data tree.root) ∙ whole_tree (map section_of old) t entered;
       stands = entered.stands;
       heads = goes.heads;
       within = sections_have_keys old;
-      origins = made_apart (table_within tree.root.value).below (map section_of old)
-          (subst (λ (ss : List code.Section). Brought (map section_of ss) (table_within tree.root.value).below) all
+      origins = made_apart (table_within tree.root).below (map section_of old)
+          (subst (λ (ss : List code.Section). Brought (map section_of ss) (table_within tree.root).below) all
           brought);
     }
   where

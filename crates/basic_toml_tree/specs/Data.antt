@@ -1,5 +1,5 @@
 -- The data that an item stands for.
-use Rattle.std.specs.Prelude.{ℕ, List, [], ◌∷◌, ◌++◌, string_bytes}
+use Rattle.std.specs.Prelude.{◌≡◌, ℕ, List, [], ◌∷◌, ◌++◌, string_bytes}
 use Rattle.basic_toml_value.specs.Data.{Data, no_members, items_of, members_of}
 use Rattle.basic_toml_value.specs.Key.{key_bytes}
 use Rattle.basic_toml_value.specs.View.{view}
@@ -44,6 +44,10 @@ child_data = fold-Child Data Data Data item_step child_step table_step
 
 abbrev pub table_data : tables.Table → Data
 table_data = fold-Table Data Data Data item_step child_step table_step
+
+-- anything but a table without keys
+abbrev pub HoldsAny : Data → Type 0
+HoldsAny d = d ≡ Data.table no_members → ⊥
 
 -- a key with the data at it
 abbrev pub child_pair : Pair children.Child → List ℕ × Data

@@ -73,5 +73,5 @@ abbrev pub RowsLead : Tree → Path → Node → Type 0
 RowsLead tree p node =
     (sections : List Section) → IsResolved sections tree → (q : Path) (k : List ℕ) (r : Path) → p ≡ q ++ key k ∷ r
     → is_made (located sections) q ≡ true
-    → IfSome ((table_within tree.root.value).below (q ++ key k ∷ []))
+    → IfSome ((table_within tree.root).below (q ++ key k ∷ []))
     (λ o. o.made ≡ false → KeepsRow tree o.section (keys_of q) k node.trail)

@@ -29,7 +29,7 @@ pub record IsRefusedToo (sections : List Section) (fault : Fault) (others : List
 
 -- a list is answered as its reordering is: with a tree of the same maps, or, memory aside, with none
 abbrev pub IsAnswerToo : List Section → Result Tree Fault → List Section → Type 0
-IsAnswerToo sections (Ok tree) others = IsSomeAnd (document_of others) (SameMaps (table_data tree.root.value))
+IsAnswerToo sections (Ok tree) others = IsSomeAnd (document_of others) (SameMaps (table_data tree.root))
 IsAnswerToo sections (Err fault) others = (fault ≡ want_of_memory) ⊎ IsRefusedToo sections fault others
 
 -- of a list whose rows and array headers have keys

@@ -1,5 +1,5 @@
 -- What `resolve` answers.
-use Rattle.std.specs.Prelude.{◌≡◌, ◌≤◌, ℕ, List, map, true, false, Result, Ok, Err}
+use Rattle.std.specs.Prelude.{◌≡◌, ◌≤◌, ℕ, List, [], map, true, false, Result, Ok, Err}
 use Rattle.basic_toml_value.specs.Nesting.{nesting_limit}
 use Rattle.basic_toml_grammar.specs.Sections.{Key, Section}
 use Rattle.basic_toml_grammar.specs.Steps.{Path}
@@ -28,16 +28,16 @@ head s = (s.at, s.header)
 pub record IsResolved (sections : List Section) (tree : Tree) : Type 0 where
   pub clash : has_clash sections ≡ false
   pub fits : depth (tree_of_sections sections) ≤ nesting_limit
-  pub grown : table_data tree.root.value ≡ tree_of_sections sections
-  pub stands : Stands sections (table_trie tree.root.value)
+  pub grown : table_data tree.root ≡ tree_of_sections sections
+  pub stands : Stands sections (table_trie tree.root)
   pub heads : map head (map section_of tree.sections.items) ≡ map head sections
   pub within : all_keyed_within sections ≡ true
   pub origins : (p : Path) → is_made (located sections) p ≡ false
-      → (table_within tree.root.value).below p ≡ sections_origins 0 (located sections) p
+      → (table_within tree.root).below p ≡ sections_origins 0 (located sections) p
 
--- why a list has no tree: memory was refused, or its sections do not go into one
+-- why a list has no tree: memory was refused, where there are sections, or they do not go into one
 pub data IsUnresolved (sections : List Section) : Fault → Type 0 where
-  memory : IsUnresolved sections want_of_memory
+  memory : (sections ≡ [] → ⊥) → IsUnresolved sections want_of_memory
   refused : {fault : Fault} → SectionsFault sections fault → IsUnresolved sections fault
 
 -- of a list whose rows and array headers have keys

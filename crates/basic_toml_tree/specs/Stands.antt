@@ -37,7 +37,7 @@ trie_at [] t = t
 trie_at (s ∷ p) t = trie_at p (below s t)
 
 abbrev pub tree_trie : Tree → Trie
-tree_trie tree = table_trie tree.root.value
+tree_trie tree = table_trie tree.root
 
 abbrev pub spot_trie : Spot → Trie
 spot_trie (spots.Table table) = table_trie table.now
@@ -118,7 +118,7 @@ abbrev pub ComesFrom : Origins → Node → Type 0
 ComesFrom here node = SpotComes here node.count node.spot node.start
 
 abbrev pub tree_origins : Tree → Origins
-tree_origins tree = (table_within tree.root.value).below
+tree_origins tree = (table_within tree.root).below
 
 -- where the table at a path begins, as the nodes below it keep it
 abbrev pub StartIsKept : Tree → Path → Option ℕ → Type 0
@@ -127,7 +127,7 @@ StartIsKept tree p kept = KeepsStart p (standing (trie_at p (tree_trie tree))) (
 -- A node of a tree stands at a path, and so does its data. Below a value that a row gives nothing more is in the trie.
 pub record StandsAt (tree : Tree) (p : Path) (node : Node) : Type 0 where
   pub within : node.tree.now ≡ tree
-  pub holds : data_along p (table_data tree.root.value) ≡ Some (node_data node)
+  pub holds : data_along p (table_data tree.root) ≡ Some (node_data node)
   pub root : (node.count == 0) ≡ is_root p
   pub there : (trie_at p (tree_trie tree) ≡ nothing)
       ⊎ ((spot_trie node.spot ≡ trie_at p (tree_trie tree)) × (wraps_table node.spot ≡ false))

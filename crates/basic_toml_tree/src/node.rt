@@ -13,7 +13,7 @@ ghost use Rattle.basic_toml_grammar.specs.IndexedPath.{located};
 ghost use Rattle.basic_toml_grammar.specs.Nodes.{is_made as made_by_headers};
 ghost use Rattle.basic_toml_explain.specs.Error.{want_of_memory};
 ghost use Rattle.basic_toml_grow.specs.Item.{child_trie};
-ghost use Rattle.basic_toml_tree.specs.Data.{table_data, child_data};
+ghost use Rattle.basic_toml_tree.specs.Data.{table_data, child_data, HoldsAny};
 ghost use Rattle.basic_toml_tree.specs.Nodes.{node_data, is_table, is_array, maybe_table, data_at};
 ghost use Rattle.basic_toml_tree.specs.Nodes.{elements_in, entries_in, elements_left, entries_left};
 ghost use Rattle.basic_toml_tree.specs.Origin.{is_borrowed, is_made, spot_is_made, name_of, start_of, outer_of, offset_of, keys_of as key_path_of};
@@ -336,10 +336,11 @@ impl<'t, 'de> Node<'t, 'de> {
     ///
     /// # Errors
     ///
-    /// `AllocError` where a growth was refused.
+    /// `AllocError` where a growth was refused. A table without entries takes no memory.
     pub fn to_table(self, alloc: Global) -> Result<Option<values::Table>, AllocError>
-        ensures { IfOk result (λ copy. MatchOption copy (is_table (node_data self.entry) ≡ false)
+        ensures table { IfOk result (λ copy. MatchOption copy (is_table (node_data self.entry) ≡ false)
             (λ table. table_of_members (entries table) ≡ node_data self.entry)) }
+        ensures memory { IfErr result (λ _. HoldsAny (node_data self.entry)) }
     {
         match self.as_table() {
             Some(Some(table)) => Ok(Some(table_of(alloc, table)?)),

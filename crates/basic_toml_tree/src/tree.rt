@@ -1,8 +1,8 @@
 //! From a section list to its tree: `resolve`, and what the whole tree answers.
-ghost use Rattle.std.specs.Prelude.{◌≡◌, [], IfOk};
+ghost use Rattle.std.specs.Prelude.{◌≡◌, [], IfErr, IfOk};
 ghost use Rattle.basic_toml_value.specs.Data.{table as table_of_members};
 ghost use Rattle.basic_toml_value.specs.View.{entries};
-ghost use Rattle.basic_toml_tree.specs.Data.{table_data};
+ghost use Rattle.basic_toml_tree.specs.Data.{table_data, HoldsAny};
 ghost use Rattle.basic_toml_tree.specs.Nodes.{node_data};
 ghost use Rattle.basic_toml_tree.specs.Origin.{last_at};
 ghost use Rattle.basic_toml_tree.specs.Order.{ResolvesInAnyOrder};
@@ -24,14 +24,14 @@ use std::alloc::{AllocError, Global};
 pub struct Tree<'de> {
     /// The headers, whose rows have gone into the tree.
     pub(crate) sections: Vec<Section<'de>>,
-    pub(crate) root: Box<Table<'de>>,
+    pub(crate) root: Table<'de>,
 }
 
 impl<'de> Tree<'de> {
     /// The table of the whole document.
     #[tactic(auto, using(crate::proofs::Nodes::OuterStands::root_keeps, crate::proofs::Nodes::KeysLead::root_keys, crate::proofs::Nodes::KeysLead::root_rows))]
     pub fn root(&self) -> Node<'_, 'de>
-        ensures data { node_data result ≡ table_data self.now.root.value }
+        ensures data { node_data result ≡ table_data self.now.root }
         ensures stands { StandsAt self.now [] result }
     {
         Node {
@@ -59,12 +59,13 @@ impl<'de> Tree<'de> {
     ///
     /// # Errors
     ///
-    /// `AllocError` where a growth was refused.
+    /// `AllocError` where a growth was refused. A table without entries takes no memory.
     pub fn into_table(self, alloc: Global) -> Result<values::Table, AllocError>
-        ensures { IfOk result (λ moved. table_of_members (entries moved) ≡ table_data self.entry.root.value) }
+        ensures table { IfOk result (λ moved. table_of_members (entries moved) ≡ table_data self.entry.root) }
+        ensures memory { IfErr result (λ _. HoldsAny (table_data self.entry.root)) }
     {
         let Tree { sections: _, root } = self;
-        into_table(alloc, Box::into_inner(root))
+        into_table(alloc, root)
     }
 }
 
@@ -79,8 +80,8 @@ impl<'de> Tree<'de> {
 ///
 /// `DottedKeyInvalidType` comes before every other clash. Else it is the error of the first section that the tree of
 /// those before it does not take. That is the clash that the section meets first, key by key and row by row, or
-/// `NestedTooDeeply` where it makes the tree deeper than 128. `OutOfMemory` comes where memory is refused. All but the
-/// last have a byte offset.
+/// `NestedTooDeeply` where it makes the tree deeper than 128. `OutOfMemory` comes where memory is refused, and not for a
+/// list without sections. All but the last have a byte offset.
 ///
 /// `basic_toml` calls it, and so do the cases of `toml_cases`.
 #[tactic(auto, using(crate::proofs::OrderIsFree::in_any_order))]
@@ -95,10 +96,16 @@ pub fn resolve<'de>(alloc: Global, sections: Vec<Section<'de>>) -> Result<Tree<'
 fn grow<'de>(alloc: Global, sections: Vec<Section<'de>>) -> Result<Tree<'de>, ReadError>
     ensures { Resolves sections.entry.items result }
 {
+    let mut sections = sections;
+    if sections.is_empty() {
+        return Ok(Tree {
+            sections,
+            root: Table::empty(alloc),
+        });
+    }
     if let Some(at) = crossed_value(alloc, sections.as_slice())? {
         return Err(ReadError::at(at, ReadErrorKind::DottedKeyInvalidType));
     }
-    let mut sections = sections;
     let mut root = Table::new(alloc)?;
     for number in 0..sections.len() {
         let section = &mut sections[number];
@@ -107,5 +114,8 @@ fn grow<'de>(alloc: Global, sections: Vec<Section<'de>>) -> Result<Tree<'de>, Re
             Err(clash) => return Err(clash.error(alloc, section)),
         };
     }
-    Ok(Tree { sections, root })
+    Ok(Tree {
+        sections,
+        root: Box::into_inner(root),
+    })
 }

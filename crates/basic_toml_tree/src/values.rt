@@ -1,8 +1,8 @@
 //! Values of a tree: copies of them, and the table that the tree becomes.
-ghost use Rattle.std.specs.Prelude.{◌≡◌, IfOk, map};
+ghost use Rattle.std.specs.Prelude.{◌≡◌, IfErr, IfOk, map};
 ghost use Rattle.basic_toml_value.specs.Data.{table as table_of_members};
 ghost use Rattle.basic_toml_value.specs.View.{view, entries};
-ghost use Rattle.basic_toml_tree.specs.Data.{data_of, child_data, table_data, child_pair, value_pair};
+ghost use Rattle.basic_toml_tree.specs.Data.{data_of, child_data, table_data, child_pair, value_pair, HoldsAny};
 
 use basic_toml_clash::{drained, into_plain_values, plain_values};
 use basic_toml_grow::{Child, Item, Table};
@@ -72,11 +72,15 @@ fn entries_of(alloc: Global, pairs: &[Pair<Child<'_>>]) -> Result<Vec<Pair<Value
     Ok(copies)
 }
 
-/// A copy of a table.
+/// A copy of a table. One without entries takes no memory.
 #[cycle(copies)]
 pub(crate) fn table_of(alloc: Global, table: &Table<'_>) -> Result<values::Table, AllocError>
-    ensures { IfOk result (λ copy. table_of_members (entries copy) ≡ table_data table.now) }
+    ensures table { IfOk result (λ copy. table_of_members (entries copy) ≡ table_data table.now) }
+    ensures memory { IfErr result (λ _. HoldsAny (table_data table.now)) }
 {
+    if table.entries.is_empty() {
+        return Ok(values::Table::new(alloc));
+    }
     let copies = entries_of(alloc, table.entries.entries())?;
     let index = table.entries.index().clone(alloc)?;
     Ok(Pairs::from_parts(copies, index))
@@ -168,12 +172,16 @@ fn into_many_entries(
 }
 
 /// The table that a table of the tree becomes. Strings and keys are moved into it, and memory is given back on the
-/// way.
+/// way. One without entries takes no memory.
 #[cycle(moves)]
 #[inline(never)]
 pub(crate) fn into_table(alloc: Global, table: Table<'_>) -> Result<values::Table, AllocError>
-    ensures { IfOk result (λ moved. table_of_members (entries moved) ≡ table_data table.entry) }
+    ensures table { IfOk result (λ moved. table_of_members (entries moved) ≡ table_data table.entry) }
+    ensures memory { IfErr result (λ _. HoldsAny (table_data table.entry)) }
 {
+    if table.entries.is_empty() {
+        return Ok(values::Table::new(alloc));
+    }
     let (pairs, index) = table.entries.into_parts();
     let moved = into_entries(alloc, pairs)?;
     Ok(Pairs::from_parts(moved, index))

@@ -16,7 +16,7 @@ use Rattle.basic_toml_typed.specs.TypeAnswers.{OrMemory, AtRoot}
 abbrev pub root_of : Tree → Node
 root_of tree = record {
   tree = record { ref_ptr = (0, 0); now = tree };
-  spot = spots.Table (record { ref_ptr = (0, 0); now = tree.root.value });
+  spot = spots.Table (record { ref_ptr = (0, 0); now = tree.root });
   start = 0;
   outer = None;
   count = 0;
@@ -29,7 +29,7 @@ root_stands tree = record {
   holds = refl;
   root = refl;
   there = inr (refl, refl);
-  comes = root_comes tree (record { ref_ptr = (0, 0); now = tree.root.value }) 0 refl;
+  comes = root_comes tree (record { ref_ptr = (0, 0); now = tree.root }) 0 refl;
   outer = root_keeps tree None refl;
   keys = root_keys tree (root_of tree) refl refl;
   rows = root_rows tree (root_of tree);

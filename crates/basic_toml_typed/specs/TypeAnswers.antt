@@ -1,5 +1,6 @@
 -- What a type answers to data, and to a node. A type's `reads` says which of its values are read from which data, its
--- `takes` from which data it reads a value, memory aside, and its `faults` which errors it has at which node. (own)
+-- `takes` from which data it reads a value, memory aside, its `faults` which errors it has at which node, and its `grows`
+-- from which data it may ask for memory. (own)
 use Rattle.std.specs.Prelude.{◌≡◌, ◌⊎◌, Result, IfOk, IfErr, [], ⊤}
 use Rattle.basic_toml_value.specs.Data.{Data}
 use Rattle.basic_toml_tree.specs.declared.node.Node.{Node}
@@ -19,6 +20,14 @@ pub record OnlyMemory {T : Type 0} (Takes : Type 0) (IsRead : T → Type 0) (fau
 abbrev pub ReadsData : {T : Type 0} → (Data → Type 0) → (Data → T → Type 0) → Data → Result T Fault → Type 0
 ReadsData takes reads d result = IfOk result (reads d) × IfErr result (OnlyMemory (takes d) (reads d))
 
+-- want of memory, only where the type may ask for memory
+abbrev pub IfGrows : Type 0 → Fault → Type 0
+IfGrows Grows fault = fault ≡ want_of_memory → Grows
+
+-- the data of a type that does not say from which it asks for memory
+abbrev pub any_data : Data → Type 0
+any_data d = ⊤
+
 -- want of memory, or one of these faults
 abbrev pub OrMemory : (Fault → Type 0) → Fault → Type 0
 OrMemory IsOne fault = (fault ≡ want_of_memory) ⊎ IsOne fault
@@ -34,4 +43,4 @@ no_fault node fault = ⊥
 -- at the root of a tree
 abbrev pub AtRoot : (Node → Type 0) → Tree → Type 0
 AtRoot Holds tree =
-    (root : Node) × (node_data root ≡ table_data tree.root.value) × StandsAt tree [] root × Holds root
+    (root : Node) × (node_data root ≡ table_data tree.root) × StandsAt tree [] root × Holds root

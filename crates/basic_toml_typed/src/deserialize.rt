@@ -1,11 +1,11 @@
 //! Types that are read, and tables.
 ghost use Rattle.std.specs.Prelude.{IfOk, IfErr};
 ghost use Rattle.basic_toml_value.specs.Data.{Data};
-ghost use Rattle.basic_toml_tree.specs.Data.{table_data};
+ghost use Rattle.basic_toml_tree.specs.Data.{table_data, HoldsAny};
 ghost use Rattle.basic_toml_tree.specs.Nodes.{node_data};
 ghost use Rattle.basic_toml_tree.specs.declared.node.Node as n;
 ghost use Rattle.basic_toml_error.specs.Fault.{Fault};
-ghost use Rattle.basic_toml_typed.specs.TypeAnswers.{OnlyMemory, OrMemory, AtRoot, any_fault};
+ghost use Rattle.basic_toml_typed.specs.TypeAnswers.{OnlyMemory, OrMemory, IfGrows, AtRoot, any_fault, any_data};
 ghost use Rattle.basic_toml_typed.specs.TypeFaults.{table_faults};
 ghost use Rattle.basic_toml_typed.specs.TypeReads.{table_reads, table_takes};
 
@@ -16,8 +16,8 @@ use std::alloc::Global;
 
 /// A type that can be read from a text.
 ///
-/// The ghost member `reads` says which values it reads from which data, `faults` which errors it has at which node, and
-/// the checker proves that its functions do.
+/// The ghost member `reads` says which values it reads from which data, `faults` which errors it has at which node,
+/// `grows` from which data it may ask for memory, and the checker proves that its functions do.
 ///
 /// ```text
 /// impl<'de> Deserialize<'de> for Steps {
@@ -47,16 +47,20 @@ pub trait Deserialize<'de>: Sized {
     // Which errors it has at which node, memory aside. A type that leaves it out may have any.
     ghost faults: { n.Node → Fault → Type 0 } = { any_fault };
 
+    // From which data it may ask for memory. A type that leaves it out may from any.
+    ghost grows: { Data → Type 0 } = { any_data };
+
     /// Reads a value from a node.
     ///
     /// # Errors
     ///
     /// The type's own, those that it names by `faults` at the node, and only where it reads nothing from it; and want of
-    /// memory.
+    /// memory, only from data that `grows` tells.
     fn deserialize(alloc: Global, node: Node<'_, 'de>) -> Result<Self, Error>
         ensures ok { IfOk result (λ value. reads (node_data node.entry) value) }
         ensures err { IfErr result (OnlyMemory (takes (node_data node.entry)) (reads (node_data node.entry))) }
-        ensures named { IfErr result (OrMemory (faults node.entry)) };
+        ensures named { IfErr result (OrMemory (faults node.entry)) }
+        ensures memory { IfErr result (IfGrows (grows (node_data node.entry))) };
 
     /// Reads a value from the whole of a tree, which it may use up. A type that has no use for the tree reads itself
     /// from its root: `Self::deserialize(alloc, tree.root())`.
@@ -65,10 +69,11 @@ pub trait Deserialize<'de>: Sized {
     ///
     /// Those of `deserialize` at the root.
     fn from_tree(alloc: Global, tree: Tree<'de>) -> Result<Self, Error>
-        ensures ok { IfOk result (λ value. reads (table_data tree.entry.root.value) value) }
-        ensures err { IfErr result (OnlyMemory (takes (table_data tree.entry.root.value))
-            (reads (table_data tree.entry.root.value))) }
-        ensures named { AtRoot (λ root. IfErr result (OrMemory (faults root))) tree.entry };
+        ensures ok { IfOk result (λ value. reads (table_data tree.entry.root) value) }
+        ensures err { IfErr result (OnlyMemory (takes (table_data tree.entry.root))
+            (reads (table_data tree.entry.root))) }
+        ensures named { AtRoot (λ root. IfErr result (OrMemory (faults root))) tree.entry }
+        ensures memory { IfErr result (IfGrows (grows (table_data tree.entry.root))) };
 }
 
 impl<'de> Deserialize<'de> for Table {
@@ -77,6 +82,8 @@ impl<'de> Deserialize<'de> for Table {
     ghost takes = { table_takes };
 
     ghost faults = { table_faults };
+
+    ghost grows = { HoldsAny };
 
     fn deserialize(alloc: Global, node: Node<'_, 'de>) -> Result<Table, Error> {
         match node.to_table(alloc)? {

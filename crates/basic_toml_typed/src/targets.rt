@@ -1,6 +1,7 @@
 //! The types that are read as they stand: numbers, truth values, strings, and whatever stands there.
 ghost use Rattle.std.specs.Prelude.{◌≡◌, MatchResult, Some, None, codes};
 ghost use Rattle.basic_toml_value.specs.Data.{integer_in};
+ghost use Rattle.basic_toml_tree.specs.Data.{HoldsAny};
 ghost use Rattle.basic_toml_tree.specs.Nodes.{node_data};
 ghost use Rattle.basic_toml_error.specs.NodeFaults.{IsFault};
 ghost use Rattle.basic_toml_typed.specs.TypeAnswers.{no_fault};
@@ -220,7 +221,7 @@ impl<'de> Deserialize<'de> for CowStr<'de> {
     ghost use Rattle.std.specs.Prelude.{◌↔◌, IfOk, IfErr, IsTrue};
     ghost use Rattle.std.specs.Cow.{IsBorrowedStr};
     ghost use Rattle.basic_toml_tree.specs.Origin.{is_borrowed};
-    ghost use Rattle.basic_toml_typed.specs.TypeAnswers.{OnlyMemory, OrMemory};
+    ghost use Rattle.basic_toml_typed.specs.TypeAnswers.{OnlyMemory, OrMemory, IfGrows, any_data};
 
     ghost reads = { cow_reads };
 
@@ -232,6 +233,7 @@ impl<'de> Deserialize<'de> for CowStr<'de> {
         ensures ok { IfOk result (λ text. cow_reads (node_data node.entry) text) }
         ensures err { IfErr result (OnlyMemory (string_takes (node_data node.entry)) (cow_reads (node_data node.entry))) }
         ensures named { IfErr result (OrMemory (string_faults node.entry)) }
+        ensures memory { IfErr result (IfGrows (any_data (node_data node.entry))) }
         ensures borrowed { IfOk result (λ text. IsBorrowedStr text ↔ IsTrue (is_borrowed node.entry)) }
     {
         if let Some(text) = node.borrowed_text() {
@@ -276,7 +278,12 @@ impl<'de> Deserialize<'de> for Value {
 
     ghost faults = { no_fault };
 
+    ghost grows = { HoldsAny };
+
     fn deserialize(alloc: Global, node: Node<'_, 'de>) -> Result<Value, Error> {
+        if let Some(table) = node.to_table(alloc)? {
+            return Ok(Value::Table(table));
+        }
         match node.to_value(alloc) {
             Ok(value) => Ok(value),
             Err(_) => Err(Error::from(AllocError)),
@@ -296,6 +303,8 @@ impl<'de, T: Deserialize<'de>> Deserialize<'de> for Option<T> {
     ghost takes = { T.takes };
 
     ghost faults = { T.faults };
+
+    ghost grows = { T.grows };
 
     fn deserialize(alloc: Global, node: Node<'_, 'de>) -> Result<Option<T>, Error> {
         Ok(Some(T::deserialize(alloc, node)?))

@@ -85,7 +85,7 @@ pub data IsFinding (input : List ℕ) : Finding → Type 0 where
 
 -- the tree of the document; or what is wrong, memory aside
 abbrev pub Reads : List ℕ → Result Tree Unread → Type 0
-Reads input (Ok tree) = IsUtf8 input × IsDocument (folded input) (table_data tree.root.value)
+Reads input (Ok tree) = IsUtf8 input × IsDocument (folded input) (table_data tree.root)
 Reads input (Err (Refused finding)) = IsFinding input (finding_of finding)
 Reads input (Err OutOfMemory) = Unit {0}
 

@@ -12,14 +12,14 @@ use Rattle.toml_json.specs.declared.run.Answer.TheVariants.{Json, Refused}
 use Rattle.toml_json.specs.Run.{json_line, IsAnswer, IsJson, IsRefusal, written, refused}
 
 json_due : (form : Form) (input : List ℕ) (tree : Tree) (ms : Members) (answer : Answer)
-    → Reads input (Ok tree) → table ms ≡ table_data tree.root.value → IsJson (json_line form (table ms)) answer
+    → Reads input (Ok tree) → table ms ≡ table_data tree.root → IsJson (json_line form (table ms)) answer
     → IsAnswer form input answer
 json_due form input tree ms (Json text) (utf8, document) same says =
     written utf8 document (says ∙ ap (json_line form) same)
 json_due form input tree ms (Refused text) is same says = absurd says
 
 pub json_answered : {E : Type 0} (form : Form) (input : List ℕ) (tree : Tree) (ms : Members)
-    (result : Result Answer E) → Reads input (Ok tree) → table ms ≡ table_data tree.root.value
+    (result : Result Answer E) → Reads input (Ok tree) → table ms ≡ table_data tree.root
     → IfOk result (IsJson (json_line form (table ms))) → IfOk result (IsAnswer form input)
 json_answered form input tree ms (Ok answer) is same says = json_due form input tree ms answer is same says
 json_answered form input tree ms (Err e) is same says = tt

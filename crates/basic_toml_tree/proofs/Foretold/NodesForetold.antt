@@ -1,5 +1,5 @@
 -- A node that stands in a tree is foretold by the section list, and as it is: its data stand at its path.
-use Rattle.std.proofs.Common.{◌≡◌, ℕ, Bool, true, false, List, Option, Some, None, ap, sym, ◌∙◌}
+use Rattle.std.proofs.Common.{◌≡◌, ℕ, Bool, true, List, Option, Some, None, ap, sym, ◌∙◌}
 use Rattle.std.specs.Prelude.{is_some, IfSome, IsSomeAnd}
 use Rattle.std.proofs.lemmas.Bool.{false≢true}
 use Rattle.basic_toml_grammar.specs.Sections.{Section, KeyTexts}

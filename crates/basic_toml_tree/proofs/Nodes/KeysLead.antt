@@ -164,11 +164,11 @@ rows_beside from node here n beside tree p stands sections resolved q k r same m
     other e = cc
 
     go : EndsAt p (number n) q (key k) r
-        → IfSome ((table_within tree.root.value).below (q ++ key k ∷ []))
+        → IfSome ((table_within tree.root).below (q ++ key k ∷ []))
         (λ o. o.made ≡ false → KeepsRow tree o.section (keys_of q) k node.trail)
     go (inl one) = absurd (other one.2)
     go (inr further) =
-        subst (λ trail. IfSome ((table_within tree.root.value).below (q ++ key k ∷ []))
+        subst (λ trail. IfSome ((table_within tree.root).below (q ++ key k ∷ []))
         (λ o. o.made ≡ false → KeepsRow tree o.section (keys_of q) k trail)) (sym beside.trail)
         (stands.rows sections resolved q k further.0 further.1 made)
 

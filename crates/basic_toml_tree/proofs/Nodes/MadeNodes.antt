@@ -161,11 +161,11 @@ module _ (sections : List Section) (node : Node) where
       go : (p : Path) → (trie_at p t ≡ nothing) ⊎ ((spot_trie node.spot ≡ trie_at p t) × (wraps_table node.spot ≡ false))
           → grammar.is_made (located sections) p ≡ true → (node.count == 0) ≡ is_root p → told p
       go [] (inl none) made root =
-          let table : tells_table (table_trie node.tree.now.root.value) ≡ true =
-          ap tells_table (table_entries_trie node.tree.now.root.value) in
+          let table : tells_table (table_trie node.tree.now.root) ≡ true =
+          ap tells_table (table_entries_trie node.tree.now.root) in
           absurd (false≢true (sym (ap tells_table none) ∙ table))
       go [] (inr there) made root =
-          (root_made node.count node.spot node.tree.now.root.value there.1 root there.0, arrays [] there.0)
+          (root_made node.count node.spot node.tree.now.root there.1 root there.0, arrays [] there.0)
       go (s ∷ p) (inl none) made root =
           absurd (false≢true (sym (made_in_trie sections t is.resolved.stands s p
           ∙ ap (λ t. stands_made (standing t)) none) ∙ made))

@@ -161,12 +161,12 @@ tables_come from node n b at before latest t is read comes s =
     (map table_within before.value.items ++ table_within latest.value ∷ []) n (table_within t.now) read)))) (comes s)
 
 -- the root, of which nothing is told
-pub root_comes : (tree : Tree) (b : Bor Table) (at : ℕ) → b.now ≡ tree.root.value
+pub root_comes : (tree : Tree) (b : Bor Table) (at : ℕ) → b.now ≡ tree.root
     → SpotComes (λ q. tree_origins tree q) 0 (spots.Table b) at
 root_comes tree b at is = record {
   section = 0;
   own = subst (λ o. IfSome o (λ o. o.made ≡ false → o ≡ spot_origin 0 (spots.Table b) at 0))
-      (sym (seen_at_none tree.root.value)) tt;
+      (sym (seen_at_none tree.root)) tt;
   parts = λ s q. ap (λ t. table_origins t (s ∷ q)) (sym is);
 }
 

@@ -176,7 +176,7 @@ module _ (from node : Node) (s : Step) (same : node.tree ≡ from.tree)
       → KeysLead tree (p ++ s ∷ []) node → RowsLead tree (p ++ s ∷ []) node → StandsAt tree (p ++ s ∷ []) node
   stands_on counted kept keys rows = record {
     within = ap (λ t. t.now) same ∙ stands.within;
-    holds = data_more p s (table_data tree.root.value) ∙ ap (option_and_then (data_by s)) stands.holds ∙ read;
+    holds = data_more p s (table_data tree.root) ∙ ap (option_and_then (data_by s)) stands.holds ∙ read;
     root = counted ∙ sym (no_root p s);
     there = further;
     comes = comes_on from node s tree p stands.comes comes;
@@ -250,7 +250,7 @@ no_array_root from tree (s ∷ p) stands array = refl
 no_array_root from tree [] stands array = go stands.there
   where
     root : tells_table (tree_trie tree) ≡ true
-    root = ap tells_table (table_entries_trie tree.root.value)
+    root = ap tells_table (table_entries_trie tree.root)
 
     go : (tree_trie tree ≡ nothing) ⊎ ((spot_trie from.spot ≡ tree_trie tree) × (wraps_table from.spot ≡ false))
         → true ≡ false

@@ -23,18 +23,18 @@ module _ (tree : Tree) (from : Node) where
   root_is_made : (p : Path) → StandsAt tree p from → p ≡ [] → spot_is_made from.count from.spot ≡ true
   root_is_made p stands is = go stands.there
     where
-      here : trie_at p (tree_trie tree) ≡ table_trie tree.root.value
+      here : trie_at p (tree_trie tree) ≡ table_trie tree.root
       here = ap (λ p. trie_at p (tree_trie tree)) is
 
       go : (trie_at p (tree_trie tree) ≡ nothing)
           ⊎ ((spot_trie from.spot ≡ trie_at p (tree_trie tree)) × (wraps_table from.spot ≡ false))
           → spot_is_made from.count from.spot ≡ true
       go (inl none) =
-          let table : tells_table (table_trie tree.root.value) ≡ true =
-          ap tells_table (table_entries_trie tree.root.value) in
+          let table : tells_table (table_trie tree.root) ≡ true =
+          ap tells_table (table_entries_trie tree.root) in
           absurd (false≢true (sym (ap tells_table (sym here ∙ none)) ∙ table))
       go (inr there) =
-          (root_made from.count from.spot tree.root.value there.1 (stands.root ∙ ap is_root is) (there.0 ∙ here)).made
+          (root_made from.count from.spot tree.root there.1 (stands.root ∙ ap is_root is) (there.0 ∙ here)).made
 
   table_is_made : (p : Path) → StandsAt tree p from → stands_made (standing (trie_at p (tree_trie tree))) ≡ true
       → spot_is_made from.count from.spot ≡ true
@@ -75,5 +75,5 @@ pub root_keeps : (tree : Tree) (kept : Option ℕ) → kept ≡ None → StartIs
 root_keeps tree kept none = record {
   root = λ is. none;
   made = λ there. none;
-  row = subst (λ o. IfSome o (λ o. o.made ≡ false → kept ≡ Some o.start)) (sym (seen_at_none tree.root.value)) tt;
+  row = subst (λ o. IfSome o (λ o. o.made ≡ false → kept ≡ Some o.start)) (sym (seen_at_none tree.root)) tt;
 }

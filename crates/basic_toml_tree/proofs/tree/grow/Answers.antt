@@ -1,15 +1,19 @@
-use Rattle.std.proofs.Common.{◌<◌, ◌∙◌, ap, sym, map, length, arith, rules, set}
+use Rattle.std.proofs.Common.{◌<◌, ◌∙◌, ap, sym, map, length, arith, rules, set, subst}
 use Rattle.std.proofs.lemmas.List.{length-set, get_or-set_other}
 use Rattle.basic_toml_read.specs.SectionView.{section_of}
 use Rattle.basic_toml_clash.specs.Crossed.{first_crossed}
 use Rattle.basic_toml_grow.specs.Item.{table_trie}
 use Rattle.basic_toml_tree.proofs.SectionsResolved.{want_of, goes_on_from_a_value, kept_out, none_crossed, goes_on}
-use Rattle.basic_toml_tree.proofs.SectionsResolved.{resolved, heads_kept, brings_on, brings_none, begins}
+use Rattle.basic_toml_tree.proofs.SectionsResolved.{resolved, heads_kept, brings_on, brings_none, begins, none_left}
 use Rattle.basic_toml_grow.specs.Origins.{table_within}
+use Rattle.basic_toml_grow.specs.declared.item.Table.{Table}
+use Rattle.basic_toml_tree.specs.Resolve.{IsResolved}
 use Rattle.basic_toml_tree.proofs.tree.grow.Goals as goal
 
 pub returns-in_err-at : goal.returns-in_err-at
-returns-in_err-at c = want_of c.args.sections.items c.from_residual.result c.from_residual.ensures.1
+returns-in_err-at c =
+    want_of c.args.sections c.from_residual.result (sym c.is_empty.ensures ∙ c.if-is_empty.false)
+    c.from_residual.ensures.1
 
 pub returns-in-Some : goal.returns-in-Some
 returns-in-Some c = λ keyed.
@@ -19,7 +23,8 @@ returns-in-Some c = λ keyed.
 
 pub returns-in_err-root : goal.returns-in_err-root
 returns-in_err-root c =
-    want_of c.args.sections.items c.from_residual-in_err-root.result c.from_residual-in_err-root.ensures.1
+    want_of c.args.sections c.from_residual-in_err-root.result (sym c.is_empty.ensures ∙ c.if-is_empty.false)
+    c.from_residual-in_err-root.ensures.1
 
 pub returns-in-Err : goal.returns-in-Err
 returns-in-Err c = λ keyed.
@@ -54,9 +59,18 @@ loop-number-preserved c =
 
 pub returns : goal.returns
 returns c = λ keyed.
-    resolved c.args.sections.items c.loop-number.number
-    (record { sections = c.loop-number.sections; root = c.loop-number.root }) c.loop-number.invariant.0
-    (omega (arith, c.len-number-end.ensures, c.loop-number-test.false)) keyed (c.loop-number.invariant.1 keyed)
+    subst (λ (root : Table). IsResolved (map section_of c.args.sections.items)
+    (record { sections = c.loop-number.sections; root = root })) (sym c.into_inner.ensures)
+    (resolved c.args.sections.items c.loop-number.number
+    (record { sections = c.loop-number.sections; root = c.loop-number.root.value }) c.loop-number.invariant.0
+    (omega (arith, c.len-number-end.ensures, c.loop-number-test.false)) keyed (c.loop-number.invariant.1 keyed))
+
+pub returns-then-is_empty : goal.returns-then-is_empty
+returns-then-is_empty c = λ keyed.
+    resolved c.args.sections.items 0 (record { sections = c.args.sections; root = c.empty.result })
+    (begins c.args.sections.items (table_trie c.empty.result) c.empty.ensures)
+    (none_left c.args.sections (sym c.is_empty.ensures ∙ c.if-is_empty.true)) keyed
+    (brings_none c.empty.result c.empty.ensures)
 
 pub loop-number-init : goal.loop-number-init
 loop-number-init c = (

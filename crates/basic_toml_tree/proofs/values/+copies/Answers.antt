@@ -8,7 +8,7 @@ use Rattle.basic_toml_tree.specs.Data.{data_of, child_data, table_data, child_pa
 use Rattle.basic_toml_clash.proofs.DataParts.{items_size-at, items_size-front, items_size-last, members_size-at}
 use Rattle.basic_toml_clash.proofs.DataParts.{mapped_more, array_seen}
 use Rattle.basic_toml_tree.proofs.ItemData.{child_item, plain_elements, table_of_pairs, tables_data, table_seen}
-use Rattle.basic_toml_tree.proofs.ItemData.{entries_seen, keys_copied, tables_whole}
+use Rattle.basic_toml_tree.proofs.ItemData.{entries_seen, keys_copied, refused_held, tables_whole}
 use Rattle.basic_toml_tree.proofs.values.+copies.Goals as goal
 
 pub elements_of-value_of-requires : goal.elements_of-value_of-requires
@@ -49,8 +49,16 @@ table_of-from_parts-requires t c =
     let same = keys_copied c.in_ok-copies.copies.items c.pairs.result.now _ c.in_ok-copies.ensures c.pairs.ensures in
     c.in_ok-index.ensures (texts_of c.in_ok-copies.copies.items) (rw same at c.index.ensures)
 
-pub table_of-returns : goal.table_of-returns
-table_of-returns t c =
+pub table_of-returns-in_err-copies-clause-memory : goal.table_of-returns-in_err-copies-clause-memory
+table_of-returns-in_err-copies-clause-memory t c =
+    refused_held c.args.table.now _ (sym c.is_empty.ensures ∙ c.if-is_empty.false)
+
+pub table_of-returns-in_err-index-clause-memory : goal.table_of-returns-in_err-index-clause-memory
+table_of-returns-in_err-index-clause-memory t c =
+    refused_held c.args.table.now _ (sym c.is_empty.ensures ∙ c.if-is_empty.false)
+
+pub table_of-returns-clause-table : goal.table_of-returns-clause-table
+table_of-returns-clause-table t c =
     ap (λ ps. Data.table (entries ps)) c.from_parts.ensures
     ∙ ap Data.table (entries_seen c.in_ok-copies.copies.items)
     ∙ ap (λ ps. Data.table (members_of ps)) c.in_ok-copies.ensures
@@ -67,7 +75,7 @@ tables_of-loop-table-preserved t c =
     mapped_more view table_data c.loop-table.elements.items c.push.new.self.items c.args.tables.now
     c.loop-table.table-index _ c.table-item.result c.loop-table-test.true c.table-item.is
     c.in_ok-push.ensures.items c.loop-table.invariant
-    (table_seen _ ∙ c.in_ok-table_of.ensures)
+    (table_seen _ ∙ c.in_ok-table_of.ensures.table)
 
 pub value_of-tables_of-requires : goal.value_of-tables_of-requires
 value_of-tables_of-requires t c =
@@ -90,7 +98,7 @@ value_of-returns-in_ok-push-in-Tables t c =
     c.in-Tables.before.value.items _ c.in-Tables.latest.value c.in_ok-push-in-Tables.ensures.items
     (c.in_ok-elements-in-Tables.ensures ∙ ap (map table_data) c.as_slice-in-Tables.ensures.value
     ∙ ap (λ ts. map table_data ts.items) c.deref-in-Tables.ensures)
-    (table_seen _ ∙ c.in_ok-table_of-in-Tables.ensures ∙ ap table_data c.deref-in-Tables-2.ensures))
+    (table_seen _ ∙ c.in_ok-table_of-in-Tables.ensures.table ∙ ap table_data c.deref-in-Tables-2.ensures))
     ∙ sym (ap data_of c.in-Tables.is ∙ tables_data c.in-Tables.before c.in-Tables.latest)
 
 pub value_of-returns-in_ok-plain_values-in-Plain : goal.value_of-returns-in_ok-plain_values-in-Plain

@@ -7,7 +7,7 @@ use Rattle.basic_toml_tree.specs.Data.{data_of, child_data, table_data, child_pa
 use Rattle.basic_toml_clash.proofs.DataParts.{items_size-rest, items_size-front, items_size-last, members_size-rest}
 use Rattle.basic_toml_clash.proofs.DataParts.{mapped_next, array_seen}
 use Rattle.basic_toml_tree.proofs.ItemData.{child_item, plain_elements, table_of_pairs, tables_data, table_seen}
-use Rattle.basic_toml_tree.proofs.ItemData.{entries_seen, keys_copied, tables_whole}
+use Rattle.basic_toml_tree.proofs.ItemData.{entries_seen, keys_copied, refused_held, tables_whole}
 use Rattle.basic_toml_value.proofs.KeysSeen.{keys_of-seen}
 use Rattle.basic_toml_grow.proofs.RowsLeft.{nothing_left}
 use Rattle.basic_toml_grow.proofs.SimpleRows.{none_after}
@@ -106,8 +106,12 @@ into_table-from_parts-requires t c =
     let keys = keys_of-seen c.into_parts-pairs.result.0.items in
     subst (λ (ks : List (List ℕ)). IsIndex ks c.into_parts-pairs.result.1) (sym keys ∙ same) c.into_parts-pairs.ensures.index
 
-pub into_table-returns : goal.into_table-returns
-into_table-returns t c =
+pub into_table-returns-in_err-moved-clause-memory : goal.into_table-returns-in_err-moved-clause-memory
+into_table-returns-in_err-moved-clause-memory t c =
+    refused_held c.args.table _ (sym c.is_empty.ensures ∙ c.if-is_empty.false)
+
+pub into_table-returns-clause-table : goal.into_table-returns-clause-table
+into_table-returns-clause-table t c =
     ap (λ ps. Data.table (entries ps)) c.from_parts.ensures
     ∙ ap Data.table (entries_seen c.in_ok-moved.moved.items)
     ∙ ap (λ ps. Data.table (members_of ps)) c.in_ok-moved.ensures
@@ -128,7 +132,7 @@ into_tables-loop-table-preserved t c =
     mapped_next view table_data c.loop-table.elements.items c.push.new.self.items c.loop-table.table-iterator
     c.next.new.self c.into_iter-table-iterator.result _ c.in-Some.table
     c.in-Some.ensures.steps c.in_ok-push.ensures.items c.loop-table.invariant
-    (table_seen _ ∙ c.in_ok-into_table.ensures)
+    (table_seen _ ∙ c.in_ok-into_table.ensures.table)
 
 pub into_value-into_tables-requires : goal.into_value-into_tables-requires
 into_value-into_tables-requires t c =
@@ -149,7 +153,7 @@ into_value-returns-in_ok-push-in-Tables t c =
     ∙ ap (λ ds. Data.array (items_of ds)) (tables_whole c.in_ok-elements-in-Tables.elements.items c.push.new.self.items
     c.in-Tables.before.value.items _ c.in-Tables.latest.value c.in_ok-push-in-Tables.ensures.items
     (c.in_ok-elements-in-Tables.ensures ∙ ap (λ ts. map table_data ts.items) c.into_inner-earlier.ensures)
-    (table_seen _ ∙ c.in_ok-into_table-in-Tables.ensures ∙ ap table_data c.into_inner-in-Tables.ensures))
+    (table_seen _ ∙ c.in_ok-into_table-in-Tables.ensures.table ∙ ap table_data c.into_inner-in-Tables.ensures))
     ∙ sym (ap data_of c.in-Tables.is ∙ tables_data c.in-Tables.before c.in-Tables.latest)
 
 pub into_value-returns-in_ok-into_plain_values-in-Plain : goal.into_value-returns-in_ok-into_plain_values-in-Plain

@@ -1,0 +1,108 @@
+-- Where want of memory comes: not of a text of blanks, comments and line feeds, but where the type asks for memory.
+use Rattle.std.proofs.Common.{◌≡◌, ℕ, List, [], ◌∷◌, ◌≤◌, map, refl, sym, ap, subst, Result, Ok, Err, IfErr, Option}
+use Rattle.std.proofs.Common.{Some, None, ◌∙◌}
+use Rattle.std.specs.Option.{option_or}
+use Rattle.basic_toml_tokens.specs.Text.{folded}
+use Rattle.basic_toml_value.specs.Data.{Data, Members, no_members}
+use Rattle.basic_toml_value.specs.Nesting.{nesting_limit}
+use Rattle.basic_toml_value.specs.View.{entries}
+use Rattle.basic_toml_value.specs.declared.value.Value.{Value}
+use Rattle.basic_toml_grammar.specs.Sections.{Section}
+use Rattle.basic_toml_grammar.specs.Grammar.{IsSectionList}
+use Rattle.basic_toml_grammar.specs.Levels.{highest_level}
+use Rattle.basic_toml_grammar.specs.Faults as read
+use Rattle.basic_toml_grammar.proofs.LawsHold.{keyed, unambiguous}
+use Rattle.basic_toml_read.specs.declared.section.Section as code
+use Rattle.basic_toml_read.specs.Lists.{IsGap}
+use Rattle.basic_toml_read.specs.SectionView.{section_of}
+use Rattle.basic_toml_read.specs.SectionsAnswer as answer
+use Rattle.basic_toml_read.specs.SectionsAnswer.{IsRefused, HoldsMore}
+use Rattle.basic_toml_tree.specs.declared.tree.Tree.{Tree}
+use Rattle.basic_toml_tree.specs.Data.{table_data}
+use Rattle.basic_toml_tree.specs.Resolve as resolve
+use Rattle.basic_toml_tree.specs.Resolve.{Resolves, IsUnresolved}
+use Rattle.basic_toml_error.specs.Fault.{Fault, FaultKind, out_of_memory, want_of_memory}
+use Rattle.basic_toml_error.specs.ReadFaults.{lined}
+use Rattle.basic_toml_typed.specs.TypeAnswers.{IfGrows}
+use Rattle.basic_toml.specs.Memory.{BlanksAreRead}
+use Rattle.basic_toml.specs.Reading.{IsTextFault, outside, deep, no_tree, AnswersTree, WantsMemory}
+use Rattle.basic_toml.proofs.GapsHoldNothing.{gap_is_empty, gap_is_listed}
+use Rattle.basic_toml.proofs.RefusedTextsHaveNoDocument.{refused_has_no_document}
+use Rattle.basic_toml.proofs.TextHasOneDocument.{one_document}
+use Rattle.basic_toml.proofs.TextIsReadBack.{table_is, only_memory}
+
+-- a text that is refused holds more than a gap, and so does one that gets no section list, or no tree
+text_holds : (text : List ℕ) (error : read.Fault) → IsTextFault text error → HoldsMore (folded text)
+text_holds text error why gap =
+    refused_has_no_document text error (Data.table no_members) why (gap_is_empty (folded text) gap)
+
+pub unlisted_holds : (text : List ℕ) (error : read.Fault) → IsRefused text error → HoldsMore (folded text)
+unlisted_holds text _ (answer.memory more) = more
+unlisted_holds text _ (answer.deep passes first met) =
+    text_holds text _ (deep (record { passes = passes; first = first; met = met }))
+unlisted_holds text _ (answer.outside due within) = text_holds text _ (outside due within)
+
+unresolved_holds : (text : List ℕ) (sections : List Section) (error : read.Fault) → IsSectionList (folded text) sections
+    → highest_level sections ≤ nesting_limit → IsUnresolved sections error → HoldsMore (folded text)
+unresolved_holds text sections _ grammar low (resolve.memory listed) =
+    λ gap. listed (unambiguous _ (folded text) sections [] grammar (gap_is_listed (folded text) gap))
+unresolved_holds text sections error grammar low (resolve.refused why) = text_holds text error (no_tree grammar low why)
+
+pub if_err : {A E : Type 0} (P : Type 0) (result : Result A E) → P → IfErr result (λ e. P)
+if_err P (Ok x) p = tt
+if_err P (Err e) p = p
+
+pub resolved_holds : (text : List ℕ) (list : List code.Section) (result : Result Tree read.Fault)
+    → IsSectionList (folded text) (map section_of list) → highest_level (map section_of list) ≤ nesting_limit
+    → Resolves list result → IfErr result (λ _. HoldsMore (folded text))
+resolved_holds text list (Ok tree) grammar low is = tt
+resolved_holds text list (Err error) grammar low is =
+    unresolved_holds text (map section_of list) error grammar low
+    (is (keyed (folded text) (map section_of list) grammar))
+
+-- want of memory has no line and no column, so a type's own has none before them
+abbrev fault_of : FaultKind → List (List ℕ) → Option ℕ → Option (ℕ × ℕ) → Fault
+fault_of kind keys offset line = record { kind = kind; key_path = keys; offset = offset; line_column = line }
+
+same_fault : (k : FaultKind) (p : List (List ℕ)) (o : Option ℕ) (l : Option (ℕ × ℕ)) → k ≡ out_of_memory → p ≡ []
+    → o ≡ None → l ≡ None → fault_of k p o l ≡ want_of_memory
+same_fault k p o l kind keys offset line = rw (kind, keys, offset, line) refl
+
+no_line : (l m : Option (ℕ × ℕ)) → option_or l m ≡ None → l ≡ None
+no_line None m e = refl
+no_line (Some x) m e = cc
+
+unlined : (text : List ℕ) (own : Fault) → lined text own ≡ want_of_memory → own ≡ want_of_memory
+unlined text own e =
+    same_fault own.kind own.key_path own.offset own.line_column (ap (λ (f : Fault). f.kind) e)
+    (ap (λ (f : Fault). f.key_path) e) (ap (λ (f : Fault). f.offset) e)
+    (no_line own.line_column _ (ap (λ (f : Fault). f.line_column) e))
+
+pub lined_grows : (Grows : Type 0) (text : List ℕ) (own fault : Fault) → fault ≡ lined text own → IfGrows Grows own
+    → IfGrows Grows fault
+lined_grows Grows text own fault same grows memory = grows (unlined text own (sym same ∙ memory))
+
+-- what a text wants by its tree, and by its document
+module _ {T : Type 0} (grows : Data → Type 0) (text : List ℕ) where
+  pub wanted_by_text : (result : Result T Fault) → HoldsMore (folded text) → IfErr result (WantsMemory grows text)
+  wanted_by_text (Ok x) more = tt
+  wanted_by_text (Err fault) more = λ memory gap. absurd (more gap)
+
+  pub wanted_by_type : (tree : Tree) (result : Result T Fault) → AnswersTree text (Ok tree)
+      → IfErr result (IfGrows (grows (table_data tree.root))) → IfErr result (WantsMemory grows text)
+  wanted_by_type tree (Ok x) of wants = tt
+  wanted_by_type tree (Err fault) of wants = λ memory gap.
+      subst grows (one_document text (table_data tree.root) (Data.table no_members) of.document
+      (gap_is_empty (folded text) gap)) (wants memory)
+
+-- a `Table` is read from a gap, without any memory
+no_pairs : (pairs : List (List ℕ × Value)) → Data.table (entries pairs) ≡ Data.table no_members → pairs ≡ []
+no_pairs [] e = refl
+no_pairs (p ∷ ps) e = cc
+
+pub blanks_are_read : BlanksAreRead
+blanks_are_read text (Ok pairs) gap reads memory =
+    ap (λ ps. Ok ps)
+    (no_pairs pairs (table_is text (Data.table no_members) (gap_is_empty (folded text) gap) pairs reads))
+blanks_are_read text (Err fault) gap reads memory =
+    absurd (memory (only_memory text (Data.table no_members) (gap_is_empty (folded text) gap) fault reads) gap refl)
