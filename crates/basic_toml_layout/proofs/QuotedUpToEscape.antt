@@ -68,12 +68,6 @@ take_more [] i lt = absurd (omega arith)
 take_more (n ∷ ns) zero lt = refl
 take_more (n ∷ ns) (suc i) lt = ap (λ z. n ∷ z) (take_more ns i (omega arith))
 
-pub written_numbers_start : (ns : List ℕ) (i : ℕ) → i < length ns → i ≡ 0
-    → written_numbers (take (i + 1) ns) ≡ decimal (get_or ns i 0)
-written_numbers_start [] i lt e = absurd (omega arith)
-written_numbers_start (n ∷ ns) zero lt e = written_numbers_first n
-written_numbers_start (n ∷ ns) (suc i) lt e = absurd (omega arith)
-
 length_take : (ns : List ℕ) (i : ℕ) → 0 < i → i < length ns → 0 < length (take i ns)
 length_take [] i p lt = absurd (omega arith)
 length_take (n ∷ ns) zero p lt = absurd (omega arith)
