@@ -71,15 +71,16 @@ impl<'de> Tree<'de> {
 /// The tree of a section list, or the error of the first section that does not go into it (TOML v0.5.0, "Table" and
 /// "Array of Tables").
 ///
-/// Memory apart, it accepts exactly the lists in which nothing clashes and whose tree is no deeper than 128, and
-/// answers the tree of their mentions. The sections in another order, in which each keeps its indexed path (without array
-/// sections: in any order), have a tree of the same maps, or none.
+/// Memory apart, it accepts exactly the lists in which nothing clashes and whose tree is no deeper than
+/// [`NESTING_LIMIT`](basic_toml_value::NESTING_LIMIT), and answers the tree of their mentions. The sections in another
+/// order, in which each keeps its indexed path (without array sections: in any order), have a tree of the same maps, or
+/// none.
 ///
 /// # Errors
 ///
 /// `DottedKeyInvalidType` comes before every other clash. Else it is the error of the first section that the tree of
 /// those before it does not take: the clash that it meets first, key by key and row by row, or `NestedTooDeeply` where it
-/// makes the tree deeper than 128. `OutOfMemory` comes where memory is refused. All but the last have a byte offset.
+/// makes the tree deeper than that. `OutOfMemory` comes where memory is refused. All but the last have a byte offset.
 ///
 /// `basic_toml` calls it, and so do the cases of `toml_cases`.
 #[tactic(auto, using(crate::proofs::OrderIsFree::in_any_order))]
