@@ -29,10 +29,10 @@ use std::alloc::Global;
 /// # Errors
 ///
 /// Where the text has no document: an error of the grammar; where its rows and sections clash, an error of a clash;
-/// `nested too deeply` where it is nested more than 128 deep. Where a type reads nothing from the document, the type's
-/// own error, one that it names by its `faults`; and `out of memory` where a growth was refused. A text of blanks,
-/// comments and line feeds gives that only where the type may ask for memory for a table without keys, as `Table` and
-/// `Value` do not.
+/// `nested too deeply` where it is nested more than [`NESTING_LIMIT`](basic_toml_value::NESTING_LIMIT) deep. Where a type
+/// reads nothing from the document, the type's own error, one that it names by its `faults`; and `out of memory` where a
+/// growth was refused. A text of blanks, comments and line feeds gives that only where the type may ask for memory for a
+/// table without keys, as `Table` and `Value` do not.
 ///
 /// # Other spellings
 ///

@@ -50,11 +50,6 @@ pub fresh_leaves : (t : List ℕ) (fs : List Frame) (d : Bool) → o.state t (fr
 fresh_leaves t fs d e =
     (ap (λ s. s.text) e, sym (frames_length fs) ∙ ap (λ s. length s.open_frames) e, ap (λ s. s.is_done) e)
 
-pub length_with_row : (fs : List o.Frame) → length (c.with_row fs) ≡ length fs
-length_with_row [] = refl
-length_with_row (o.a_table s t ∷ fs) = refl
-length_with_row (o.an_array k later ∷ fs) = refl
-
 pub path_with_sections : (fs : List o.Frame) → c.path (c.with_sections fs) ≡ c.path fs
 path_with_sections [] = refl
 path_with_sections (o.a_table s t ∷ fs) = refl

@@ -2,12 +2,18 @@
 use Rattle.std.specs.Prelude.{ℕ, List, [], ◌∷◌, ◌++◌, Bool, false, is_some}
 use Rattle.basic_toml_layout.specs.Layout.{row_start}
 use Rattle.basic_toml_emit.specs.Calls.{last_key, header_text}
-use Rattle.basic_toml_emit.specs.Open.{Stage, no_key, key_set, entered, Frame, a_table}
+use Rattle.basic_toml_emit.specs.Open.{Stage, no_key, key_set, entered, Frame, a_table, an_array}
 
 -- it is taken away
 abbrev pub outer : List Frame → List Frame
 outer [] = []
 outer (_ ∷ fs) = fs
+
+-- whether it is an array whose entry stands after a present one of the same table
+abbrev pub is_later : List Frame → Bool
+is_later [] = false
+is_later (a_table _ _ ∷ _) = false
+is_later (an_array _ later ∷ _) = later
 
 -- what a table waits for
 abbrev pub with_stage : Stage → List Frame → List Frame

@@ -182,9 +182,9 @@ impl Emitter {
         match innermost(&self.frames) {
             None => Err(EmitError::CallOrder),
             Some((Frame::Table(_), _)) => sections::close_table(self),
-            Some((Frame::Array { kind, later }, _)) => {
-                let (kind, later) = (*kind, *later);
-                rows::close_array(self, kind, later)
+            Some((Frame::Array { kind, .. }, _)) => {
+                let kind = *kind;
+                rows::close_array(self, kind)
             }
         }
     }

@@ -20,7 +20,7 @@ pub enum EmitError {
     DuplicateKey,
     /// An item that may not stand where it came.
     CallOrder,
-    /// An array or a table within 128 others.
+    /// An array or a table within [`NESTING_LIMIT`](basic_toml_value::NESTING_LIMIT) others.
     NestedTooDeeply,
     /// Memory that was refused.
     OutOfMemory,

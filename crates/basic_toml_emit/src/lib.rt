@@ -14,7 +14,7 @@ mod keys;
 mod names;
 mod open_keys;
 
-pub use basic_toml_layout::{Scalar, write_key};
+pub use basic_toml_layout::Scalar;
 pub use call::Call;
 pub use emitter::Emitter;
 pub use error::EmitError;

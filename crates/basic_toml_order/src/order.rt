@@ -35,7 +35,8 @@ pub fn rows_first(alloc: Global, table: &Table) -> Result<Table, AllocError>
 ///
 /// A row that stands after a section cannot be written, since it would belong to that section. A text gives such a
 /// table where an inline table or a dotted key stands before a row. With its rows first each table can be written that
-/// is nested at most 128 deep, and in which no array holds a table beside another value, or an array that holds a table.
+/// is nested at most [`NESTING_LIMIT`](basic_toml_value::NESTING_LIMIT) deep, and in which no array holds a table beside
+/// another value, or an array that holds a table.
 ///
 /// ```text
 /// let table: Table = from_str(alloc, "size = { width = 2 }\nname = \"box\"\n")?;

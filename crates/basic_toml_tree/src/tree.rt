@@ -72,15 +72,16 @@ impl<'de> Tree<'de> {
 /// The tree of a section list, or the error of the first section that does not go into it (TOML v0.5.0, "Table" and
 /// "Array of Tables").
 ///
-/// Memory aside, it accepts exactly the lists in which nothing clashes and whose tree is no deeper than 128, and
-/// answers the tree of their mentions. The sections in another order, in which each keeps its indexed path (without
-/// array sections: in any order), have a tree of the same maps, or none.
+/// Memory aside, it accepts exactly the lists in which nothing clashes and whose tree is no deeper than
+/// [`NESTING_LIMIT`](basic_toml_value::NESTING_LIMIT), and answers the tree of their mentions. The sections in another
+/// order, in which each keeps its indexed path (without array sections: in any order), have a tree of the same maps, or
+/// none.
 ///
 /// # Errors
 ///
 /// `DottedKeyInvalidType` comes before every other clash. Else it is the error of the first section that the tree of
 /// those before it does not take. That is the clash that the section meets first, key by key and row by row, or
-/// `NestedTooDeeply` where it makes the tree deeper than 128. `OutOfMemory` comes where memory is refused, and not for a
+/// `NestedTooDeeply` where it makes the tree deeper than that. `OutOfMemory` comes where memory is refused, and not for a
 /// list without sections. All but the last have a byte offset.
 ///
 /// `basic_toml` calls it, and so do the cases of `toml_cases`.

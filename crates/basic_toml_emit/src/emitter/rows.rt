@@ -7,7 +7,7 @@ ghost use Rattle.basic_toml_layout.specs.Scalar.{scalar_of};
 ghost use Rattle.basic_toml_emit.specs.Open.{an_array};
 ghost use Rattle.basic_toml_emit.specs.Rules.{is_text, is_in_table, place_of, at_key, at_value, holds_section};
 ghost use Rattle.basic_toml_emit.specs.Frames.{frames_of, kind_of};
-ghost use Rattle.basic_toml_emit.specs.Changes.{outer, holds_key};
+ghost use Rattle.basic_toml_emit.specs.Changes.{outer, is_later, holds_key};
 ghost use Rattle.basic_toml_emit.specs.Emitter.{Steps, Enters, EntersPart, StartsValue, StartsRow, StartsElements, EndsRow};
 
 use super::Emitter;
@@ -198,16 +198,11 @@ pub(super) fn open_array_in_array(
 }
 
 #[tactic(auto, using(crate::proofs::FramesOfStack::array_end_with_row))]
-pub(super) fn close_array(
-    emitter: &mut Emitter,
-    kind: ElementKind,
-    later: bool,
-) -> Result<(), EmitError>
-    requires { frames_of emitter.old.frames.items ≡ an_array (kind_of kind) later
-        ∷ outer (frames_of emitter.old.frames.items) }
+pub(super) fn close_array(emitter: &mut Emitter, kind: ElementKind) -> Result<(), EmitError>
+    requires { let frames = frames_of emitter.old.frames.items in
+        frames ≡ an_array (kind_of kind) (is_later frames) ∷ outer frames }
     ensures { Steps close emitter.old emitter.new result }
 {
-    let _ = later;
     leave(&mut emitter.frames, &mut emitter.spare);
     match kind {
         ElementKind::Unknown => {
