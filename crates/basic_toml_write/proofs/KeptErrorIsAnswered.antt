@@ -3,7 +3,7 @@ use Rattle.std.proofs.Common.{◌≡◌, ap, ◌∙◌, subst, Result, Err}
 use Rattle.basic_toml_emit.specs.Open.{State}
 use Rattle.basic_toml_emit.specs.Rules.{CallFault, duplicate_key}
 use Rattle.basic_toml_write.specs.Error.{Names}
-use Rattle.basic_toml_write.specs.Again.{IsSame, IsAgain}
+use Rattle.basic_toml_write.specs.Again.{IsAgain}
 use Rattle.basic_toml_write.specs.declared.error.WriteError.{WriteError}
 use Rattle.basic_toml_write.specs.declared.error.WriteError.TheVariants.{UnsupportedType, KeyNotString}
 use Rattle.basic_toml_write.specs.declared.error.WriteError.TheVariants.{ValueAfterTable, UnsupportedNone, Custom}
@@ -42,23 +42,3 @@ refuses_again (DuplicateKey s) OutOfMemory r a h = tt
 refuses_again CallOrder k r a h = subst (λ x. Names x r) a h
 refuses_again NestedTooDeeply k r a h = subst (λ x. Names x r) a h
 refuses_again OutOfMemory k r a h = subst (λ x. Names x r) a h
-
--- what is answered again is the same, where it is not want of memory
-pub same_again : (e x : WriteError) → IsAgain e x → (x ≡ OutOfMemory → ⊥) → IsSame e x
-same_again UnsupportedType x a other = a
-same_again KeyNotString x a other = a
-same_again ValueAfterTable x a other = a
-same_again UnsupportedNone x a other = a
-same_again (Custom s) x a other = absurd (other a)
-same_again (DuplicateKey s) UnsupportedType a other = absurd (other a)
-same_again (DuplicateKey s) KeyNotString a other = absurd (other a)
-same_again (DuplicateKey s) ValueAfterTable a other = absurd (other a)
-same_again (DuplicateKey s) UnsupportedNone a other = absurd (other a)
-same_again (DuplicateKey s) (Custom t) a other = absurd (other a)
-same_again (DuplicateKey s) (DuplicateKey t) a other = a
-same_again (DuplicateKey s) CallOrder a other = absurd (other a)
-same_again (DuplicateKey s) NestedTooDeeply a other = absurd (other a)
-same_again (DuplicateKey s) OutOfMemory a other = absurd (other a)
-same_again CallOrder x a other = a
-same_again NestedTooDeeply x a other = a
-same_again OutOfMemory x a other = a

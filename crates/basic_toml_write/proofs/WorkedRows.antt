@@ -1,5 +1,5 @@
 -- The definitions on worked rows, by computing.
-use Rattle.std.proofs.Common.{◌≡◌, ℕ, suc, zero, List, [], ◌∷◌, ◌++◌, refl, true, false, Ok, Err}
+use Rattle.std.proofs.Common.{◌≡◌, ◌-◌, ℕ, suc, zero, List, [], ◌∷◌, ◌++◌, refl, true, false, Ok, Err}
 use Rattle.std.specs.Prelude.{codes, pos, negsuc}
 use Rattle.std.specs.Fmt.{digits}
 use Rattle.basic_toml_layout.specs.Written.{integer, text, other_text, bytes, refused, Written, scalar, absent, array}
@@ -295,7 +295,7 @@ some_none_is_absent : outcome nesting_limit (open_table ∷ field (codes "k") �
 unfolding digits
 some_none_is_absent = refl
 
--- The nesting limit, at a limit of 3 and at 128.
+-- The nesting limit, at a limit of 3 and at that of the definitions.
 
 -- arrays, one within another
 abbrev nested : ℕ → Written
@@ -328,16 +328,17 @@ bytes_above_three : outcome 3
     ≡ Err nested_too_deeply
 bytes_above_three = refl
 
-at_limit : (is_unsupported nesting_limit (one (codes "a") (nested 126)) ≡ false)
-    × (outcome nesting_limit (spelled (one (codes "a") (nested 126))) ≡ Ok (layout (one (codes "a") (nested 126))))
+at_limit : (is_unsupported nesting_limit (one (codes "a") (nested (nesting_limit - 2))) ≡ false)
+    × (outcome nesting_limit (spelled (one (codes "a") (nested (nesting_limit - 2))))
+    ≡ Ok (layout (one (codes "a") (nested (nesting_limit - 2)))))
 at_limit = (refl, refl)
 
-above_limit : IsRefused (one (codes "a") (nested 127)) nested_too_deeply
+above_limit : IsRefused (one (codes "a") (nested (nesting_limit - 1))) nested_too_deeply
 above_limit = (refl, refl)
 
-sections_at_limit : (is_unsupported nesting_limit (sections 127) ≡ false)
-    × (outcome nesting_limit (spelled (sections 127)) ≡ Ok (layout (sections 127)))
+sections_at_limit : (is_unsupported nesting_limit (sections (nesting_limit - 1)) ≡ false)
+    × (outcome nesting_limit (spelled (sections (nesting_limit - 1))) ≡ Ok (layout (sections (nesting_limit - 1))))
 sections_at_limit = (refl, refl)
 
-sections_above_limit : IsRefused (sections 128) nested_too_deeply
+sections_above_limit : IsRefused (sections nesting_limit) nested_too_deeply
 sections_above_limit = (refl, refl)

@@ -31,7 +31,7 @@ pub enum WriteError {
     DuplicateKey(String),
     /// A call that may not stand where it came.
     CallOrder,
-    /// An array or a table within 128 others.
+    /// An array or a table within [`NESTING_LIMIT`](basic_toml_value::NESTING_LIMIT) others.
     NestedTooDeeply,
     /// Memory that was refused.
     OutOfMemory,
