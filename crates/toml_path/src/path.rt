@@ -6,8 +6,8 @@ ghost use Rattle.basic_toml_tokens.specs.Tokenizer.{key_of};
 ghost use Rattle.toml_path.specs.declared.path.Sign.TheVariants.{Close};
 ghost use Rattle.toml_path.specs.Path.{Answers, AnswersSteps, IsStepAt, IsElementAt, IsAt, sign_of, number_of, natural, step_of};
 
-use basic_toml_tokens::{Error, Token, Tokenizer};
 use basic_toml_numbers::integer_of;
+use basic_toml_tokens::{Error, Token, Tokenizer};
 use std::alloc::{AllocError, Global};
 use std::borrow::CowStr;
 
