@@ -1,0 +1,6 @@
+pub mod RowsResume
+pub mod StepsLeft
+pub mod WaysMeet
+pub mod SectionsMeet
+pub mod SectionsTell
+pub mod WorkedOrigins

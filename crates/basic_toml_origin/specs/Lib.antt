@@ -1,0 +1,4 @@
+pub mod Origin
+pub mod Path
+pub mod Parts
+pub mod Ways

@@ -1,0 +1,13 @@
+//! Where what a path of a document leads to is written, found in its section list: [`origin_at`]. A [`Step`] of the path
+//! is a key or the number of an element, and an [`Origin`] has the offset of the thing and that of its key.
+#![tactic(auto)]
+
+mod find;
+mod origin;
+mod step;
+mod values;
+mod ways;
+
+pub use find::origin_at;
+pub use origin::Origin;
+pub use step::Step;
