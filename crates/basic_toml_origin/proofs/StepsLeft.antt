@@ -49,8 +49,11 @@ meets_within counts a (k ∷ keys) (s ∷ p) n e =
         → (if b then into (entered (ends_array a keys) (get_or counts (length p) 0)) (λ q. meets counts a keys q) p else Apart)
         ≡ Reaches n → n ≤ length (s ∷ p)
     go within true e =
-        omega (arith, into_within (entered (ends_array a keys) (get_or counts (length p) 0)) (λ q. meets counts a keys q) p n
-        within e)
+        omega (
+          arith,
+          into_within (entered (ends_array a keys) (get_or counts (length p) 0)) (λ q. meets counts a keys q) p n
+              within e,
+        )
     go within false e = cc
 
 meets_behind : (counts : List ℕ) (a : Bool) (k : List ℕ) (keys : KeyTexts) (p : Path) (n : ℕ)
@@ -62,8 +65,11 @@ meets_behind counts a k keys (s ∷ p) n e = go (step_eq (key k) s) e
         → (if b then into (entered (ends_array a keys) (get_or counts (length p) 0)) (λ q. meets counts a keys q) p else Apart)
         ≡ Reaches n → n < length (s ∷ p)
     go true e =
-        omega (arith, into_within (entered (ends_array a keys) (get_or counts (length p) 0)) (λ q. meets counts a keys q) p n
-        (λ q f. meets_within counts a keys q n f) e)
+        omega (
+          arith,
+          into_within (entered (ends_array a keys) (get_or counts (length p) 0)) (λ q. meets counts a keys q) p n
+              (λ q f. meets_within counts a keys q n f) e,
+        )
     go false e = cc
 
 -- of an array section that has keys, where its target ends
