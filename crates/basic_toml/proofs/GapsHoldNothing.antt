@@ -1,5 +1,5 @@
 -- A text of blanks, comments and line feeds has no section, and its document is the empty table.
-use Rattle.std.proofs.Common.{◌≡◌, ℕ, ◌==◌, ◌||◌, true, false, Bool, List, [], ◌∷◌, refl, sym, ap, ◌∙◌, cond}
+use Rattle.std.proofs.Common.{◌≡◌, ℕ, ◌==◌, ◌||◌, true, false, Bool, [], ◌∷◌, refl, sym, ap, ◌∙◌, cond}
 use Rattle.std.proofs.lemmas.Bool.{eqb-true, false≢true}
 use Rattle.basic_toml_tokens.specs.Text.{Text, StartsWith, after_run, after_blanks, is_blank, is_comment}
 use Rattle.basic_toml_value.specs.Data.{Data, no_members}

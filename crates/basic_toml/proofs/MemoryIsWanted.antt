@@ -3,7 +3,7 @@ use Rattle.std.proofs.Common.{◌≡◌, ℕ, List, [], ◌∷◌, ◌≤◌, ma
 use Rattle.std.proofs.Common.{Some, None, ◌∙◌}
 use Rattle.std.specs.Option.{option_or}
 use Rattle.basic_toml_tokens.specs.Text.{folded}
-use Rattle.basic_toml_value.specs.Data.{Data, Members, no_members}
+use Rattle.basic_toml_value.specs.Data.{Data, no_members}
 use Rattle.basic_toml_value.specs.Nesting.{nesting_limit}
 use Rattle.basic_toml_value.specs.View.{entries}
 use Rattle.basic_toml_value.specs.declared.value.Value.{Value}
@@ -13,7 +13,6 @@ use Rattle.basic_toml_grammar.specs.Levels.{highest_level}
 use Rattle.basic_toml_grammar.specs.Faults as read
 use Rattle.basic_toml_grammar.proofs.LawsHold.{keyed, unambiguous}
 use Rattle.basic_toml_read.specs.declared.section.Section as code
-use Rattle.basic_toml_read.specs.Lists.{IsGap}
 use Rattle.basic_toml_read.specs.SectionView.{section_of}
 use Rattle.basic_toml_read.specs.SectionsAnswer as answer
 use Rattle.basic_toml_read.specs.SectionsAnswer.{IsRefused, HoldsMore}
