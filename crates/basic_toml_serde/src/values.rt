@@ -3,14 +3,12 @@
 //! They are read and written whatever they hold, by [`crate::from_str`] and [`crate::to_string`]; other formats of
 //! `serde` refuse floats.
 use basic_toml::{Float, PushRefusal, Table, Value};
+use basic_toml_value::NESTING_LIMIT;
 use serde::{
     Described, Deserialize, DeserializeOwned, Deserializer, Format, Kind, Serialize, Serializer,
 };
 use std::alloc::Global;
 use std::str;
-
-/// How deep arrays and tables may stand in one another: deeper than any text has them.
-const NESTING_LIMIT: usize = 128;
 
 /// A [`Value`] as a field: any value of a text.
 #[derive(Debug, Drop, PartialEq)]

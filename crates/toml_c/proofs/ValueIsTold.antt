@@ -39,14 +39,6 @@ table_count (boolean _) ms is = absurd (cc is)
 table_count (string _) ms is = absurd (cc is)
 table_count (array _) ms is = absurd (cc is)
 
-pub no_count : (d : Data) → None ≡ array_in d → None ≡ table_in d → 0 ≡ count_of d
-no_count (array _) is _ = absurd (cc is)
-no_count (table _) _ is = absurd (cc is)
-no_count (integer _) _ _ = refl
-no_count (float _) _ _ = refl
-no_count (boolean _) _ _ = refl
-no_count (string _) _ _ = refl
-
 pub counts_items : (d : Data) (values : List Value) (n : ℕ) → Some (items_view values) ≡ array_in d → n ≡ length values
     → n ≡ count_of d
 counts_items d values n is n-is = n-is ∙ sym (items_counted values) ∙ array_count d (items_view values) is
