@@ -1,6 +1,6 @@
 -- The steps that are left of a path, in the code's steps; and what the way of a section leaves.
-use Rattle.std.proofs.Common.{◌≡◌, ℕ, zero, suc, ◌+◌, ◌-◌, ◌≤◌, ◌<◌, ◌==◌, Bool, true, false, List, [], ◌∷◌, Option, Some, None, refl}
-use Rattle.std.proofs.Common.{ap, sym, ◌∙◌, arith, length, drop, get_or, map, set}
+use Rattle.std.proofs.Common.{◌≡◌, ℕ, zero, suc, ◌+◌, ◌-◌, ◌≤◌, ◌<◌, ◌==◌, Bool, true, false, List, [], ◌∷◌, Option, Some, None}
+use Rattle.std.proofs.Common.{ap, sym, ◌∙◌, arith, length, drop, get_or, set}
 use Rattle.std.proofs.lemmas.List.{length-map}
 use Rattle.std.specs.List.{drop-map}
 use Rattle.std.specs.Prelude.{if◌then◌else◌}
@@ -10,7 +10,7 @@ use Rattle.basic_toml_read.specs.declared.section.Key as code
 use Rattle.basic_toml_read.specs.SectionView.{header_texts}
 use Rattle.basic_toml_origin.specs.declared.step.Step.{Step}
 use Rattle.basic_toml_origin.specs.declared.ways.Meeting.{Meeting}
-use Rattle.basic_toml_origin.specs.declared.ways.Meeting.TheVariants.{Apart, Passes, Reaches}
+use Rattle.basic_toml_origin.specs.declared.ways.Meeting.TheVariants.{Apart, Reaches}
 use Rattle.basic_toml_origin.specs.Path.{path_of, step_of}
 use Rattle.basic_toml_origin.specs.Ways.{compared, counts_behind, element_met, ends_array, entered, further, into, meets, met, one_more}
 
@@ -49,8 +49,11 @@ meets_within counts a (k ∷ keys) (s ∷ p) n e =
         → (if b then into (entered (ends_array a keys) (get_or counts (length p) 0)) (λ q. meets counts a keys q) p else Apart)
         ≡ Reaches n → n ≤ length (s ∷ p)
     go within true e =
-        omega (arith, into_within (entered (ends_array a keys) (get_or counts (length p) 0)) (λ q. meets counts a keys q) p n
-        within e)
+        omega (
+          arith,
+          into_within (entered (ends_array a keys) (get_or counts (length p) 0)) (λ q. meets counts a keys q) p n
+              within e,
+        )
     go within false e = cc
 
 meets_behind : (counts : List ℕ) (a : Bool) (k : List ℕ) (keys : KeyTexts) (p : Path) (n : ℕ)
@@ -62,8 +65,11 @@ meets_behind counts a k keys (s ∷ p) n e = go (step_eq (key k) s) e
         → (if b then into (entered (ends_array a keys) (get_or counts (length p) 0)) (λ q. meets counts a keys q) p else Apart)
         ≡ Reaches n → n < length (s ∷ p)
     go true e =
-        omega (arith, into_within (entered (ends_array a keys) (get_or counts (length p) 0)) (λ q. meets counts a keys q) p n
-        (λ q f. meets_within counts a keys q n f) e)
+        omega (
+          arith,
+          into_within (entered (ends_array a keys) (get_or counts (length p) 0)) (λ q. meets counts a keys q) p n
+              (λ q f. meets_within counts a keys q n f) e,
+        )
     go false e = cc
 
 -- of an array section that has keys, where its target ends
