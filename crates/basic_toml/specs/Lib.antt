@@ -4,6 +4,7 @@ pub mod ReadBack
 pub mod OneAnswer
 pub mod Memory
 pub mod OrderReadBack
+pub mod Origins
 pub mod tokens
 pub use Rattle.basic_toml_value.specs.Data
 pub use Rattle.basic_toml_value.specs.Equal
@@ -15,6 +16,7 @@ pub use Rattle.basic_toml_value.specs.View
 pub use Rattle.basic_toml_grammar.specs.Document
 pub use Rattle.basic_toml_grammar.specs.Faults
 pub use Rattle.basic_toml_tree.specs.Nodes
+pub use Rattle.basic_toml_origin.specs.Origin
 pub use Rattle.basic_toml_emit.specs.Calls
 pub use Rattle.basic_toml_emit.specs.Depth
 pub use Rattle.basic_toml_emit.specs.Items

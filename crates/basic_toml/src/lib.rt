@@ -16,6 +16,7 @@
 
 mod de;
 pub mod laws;
+mod origin;
 mod read_back;
 mod ser;
 
@@ -28,6 +29,7 @@ pub use basic_toml_error::{Error, ErrorKind, Message, line_col};
 pub use basic_toml_explain::{KeyPath, ReadErrorKind};
 pub use basic_toml_numbers::{Float, float_of, integer_of};
 pub use basic_toml_order::{into_rows_first, rows_first};
+pub use basic_toml_origin::{Origin, Step};
 pub use basic_toml_tree::{Elements, Entries, Node, Tree};
 pub use basic_toml_typed::{
     Deserialize, only_fields, read_elements, read_field, read_optional, variant,
@@ -35,5 +37,6 @@ pub use basic_toml_typed::{
 pub use basic_toml_value::{PushRefusal, Table, Value};
 pub use basic_toml_write::{Serialize, Serializer, WriteError};
 pub use de::{from_slice, from_str, read_tree};
+pub use origin::origin_of;
 pub use read_back::round_trip;
 pub use ser::to_string;

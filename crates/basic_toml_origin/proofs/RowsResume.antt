@@ -9,7 +9,7 @@ use Rattle.basic_toml_grammar.specs.Sections.{Key, Raw, Rows, no_rows, row}
 use Rattle.basic_toml_grammar.specs.Steps.{key, number, Path}
 use Rattle.basic_toml_read.specs.KeyText.{key_text_bytes}
 use Rattle.basic_toml_read.specs.declared.section.Row.{Row, out-Row}
-use Rattle.basic_toml_read.specs.SectionView.{Lined, lined_of, raw_of, rows_from, rows_view, with_key, with_row}
+use Rattle.basic_toml_read.specs.SectionView.{Lined, lined_of, raw_of, rows_from, with_key, with_row}
 use Rattle.basic_toml_read.specs.declared.section.Raw.{the_lemmas}
 use Rattle.basic_toml_origin.specs.declared.origin.Origin.{Origin}
 use Rattle.basic_toml_origin.specs.Origin.{by_row, in_rows, in_value}

@@ -1,17 +1,17 @@
 -- The way of a section that the code goes is its indexed path, and the counts behind it are those of the sections so far.
-use Rattle.std.proofs.Common.{◌≡◌, ℕ, zero, suc, ◌-◌, ◌≤◌, ◌<◌, Bool, true, false, List, [], ◌∷◌, ◌++◌, Option, Some, None, refl}
-use Rattle.std.proofs.Common.{ap, sym, ◌∙◌, subst, arith, length, drop, get_or, set}
+use Rattle.std.proofs.Common.{◌≡◌, ℕ, suc, ◌-◌, ◌≤◌, ◌<◌, Bool, true, false, List, [], ◌∷◌, ◌++◌, None, refl}
+use Rattle.std.proofs.Common.{ap, sym, ◌∙◌, arith, length, get_or, set}
 use Rattle.std.proofs.lemmas.List.{get_or-set_same, get_or-set_other}
 use Rattle.std.specs.Prelude.{◌&&◌, if◌then◌else◌}
 use Rattle.basic_toml_grammar.specs.Sections.{KeyTexts, texts, Section}
 use Rattle.basic_toml_grammar.specs.Steps.{Step, key, number, Path, step_eq, path_eq}
 use Rattle.basic_toml_grammar.specs.IndexedPath.{latest, located_after}
-use Rattle.basic_toml_grammar.specs.Placed.{step_into, adds_element, path_of, elements_at, target_from, element_from, placed_after}
-use Rattle.basic_toml_grammar.proofs.Clash.PathsAgree.{offsets, count_in, path_is, append_none}
+use Rattle.basic_toml_grammar.specs.Placed.{step_into, adds_element, target_from, element_from}
+use Rattle.basic_toml_grammar.proofs.Clash.PathsAgree.{count_in, path_is, append_none}
 use Rattle.basic_toml_grammar.proofs.Clash.StepTestsDecide.{step_is, step_same, paths_are, paths_same}
 use Rattle.basic_toml_origin.specs.declared.ways.Meeting.{Meeting}
 use Rattle.basic_toml_origin.specs.declared.ways.Meeting.TheVariants.{Apart, Passes, Reaches}
-use Rattle.basic_toml_origin.specs.Ways.{compared, counts_behind, element_met, further, meets, met, one_more}
+use Rattle.basic_toml_origin.specs.Ways.{compared, counts_behind, element_met, further, met, one_more}
 use Rattle.basic_toml_origin.proofs.WaysMeet.{Counted, element_is, goes_further, left_behind, meets_target}
 
 -- a way that a path begins with leaves the rest

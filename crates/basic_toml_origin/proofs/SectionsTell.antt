@@ -1,11 +1,11 @@
 -- What sections say of a path, one after another.
-use Rattle.std.proofs.Common.{◌≡◌, ℕ, zero, suc, ◌+◌, ◌≤◌, ◌<◌, Bool, true, false, List, [], ◌∷◌, ◌++◌, Option, Some, None, refl}
+use Rattle.std.proofs.Common.{◌≡◌, ℕ, zero, suc, ◌+◌, ◌≤◌, ◌<◌, Bool, true, false, List, [], ◌∷◌, Option, Some, None, refl}
 use Rattle.std.proofs.Common.{ap, sym, ◌∙◌, subst, arith, length, drop, get_or, map, replicate, set}
 use Rattle.std.proofs.lemmas.List.{drop_all, drop_more}
 use Rattle.std.specs.Prelude.{if◌then◌else◌}
 use Rattle.std.specs.Option.{option_or, option_and_then}
-use Rattle.basic_toml_grammar.specs.Sections.{KeyTexts, texts, Section}
-use Rattle.basic_toml_grammar.specs.Steps.{Step, Path}
+use Rattle.basic_toml_grammar.specs.Sections.{KeyTexts, Section}
+use Rattle.basic_toml_grammar.specs.Steps.{Path}
 use Rattle.basic_toml_grammar.specs.IndexedPath.{Located, located, located_after, located_from}
 use Rattle.basic_toml_grammar.proofs.Clash.PathsAgree.{count_in}
 use Rattle.basic_toml_read.specs.declared.section.Section as code
@@ -13,7 +13,7 @@ use Rattle.basic_toml_read.specs.SectionView.{header_texts, section_of}
 use Rattle.basic_toml_origin.specs.declared.origin.Origin.{Origin}
 use Rattle.basic_toml_origin.specs.declared.ways.Meeting.{Meeting}
 use Rattle.basic_toml_origin.specs.declared.ways.Meeting.TheVariants.{Apart, Passes, Reaches}
-use Rattle.basic_toml_origin.specs.Origin.{behind, by_header, by_name, by_rows, by_way, first, in_rows, origin_at}
+use Rattle.basic_toml_origin.specs.Origin.{by_header, by_name, by_rows, by_way, first, in_rows, origin_at}
 use Rattle.basic_toml_origin.specs.Ways.{compared, counts_behind, is_on_way, is_whole, left_in, meets, met, one_more, FitsIn}
 use Rattle.basic_toml_origin.proofs.WaysMeet.{Counted, begins_is, behind_is, left_within, same_is}
 use Rattle.basic_toml_origin.proofs.SectionsMeet.{section_counted, section_met}

@@ -1,6 +1,6 @@
 -- The steps that are left of a path, in the code's steps; and what the way of a section leaves.
-use Rattle.std.proofs.Common.{◌≡◌, ℕ, zero, suc, ◌+◌, ◌-◌, ◌≤◌, ◌<◌, ◌==◌, Bool, true, false, List, [], ◌∷◌, Option, Some, None, refl}
-use Rattle.std.proofs.Common.{ap, sym, ◌∙◌, arith, length, drop, get_or, map, set}
+use Rattle.std.proofs.Common.{◌≡◌, ℕ, zero, suc, ◌+◌, ◌-◌, ◌≤◌, ◌<◌, ◌==◌, Bool, true, false, List, [], ◌∷◌, Option, Some, None}
+use Rattle.std.proofs.Common.{ap, sym, ◌∙◌, arith, length, drop, get_or, set}
 use Rattle.std.proofs.lemmas.List.{length-map}
 use Rattle.std.specs.List.{drop-map}
 use Rattle.std.specs.Prelude.{if◌then◌else◌}
@@ -10,7 +10,7 @@ use Rattle.basic_toml_read.specs.declared.section.Key as code
 use Rattle.basic_toml_read.specs.SectionView.{header_texts}
 use Rattle.basic_toml_origin.specs.declared.step.Step.{Step}
 use Rattle.basic_toml_origin.specs.declared.ways.Meeting.{Meeting}
-use Rattle.basic_toml_origin.specs.declared.ways.Meeting.TheVariants.{Apart, Passes, Reaches}
+use Rattle.basic_toml_origin.specs.declared.ways.Meeting.TheVariants.{Apart, Reaches}
 use Rattle.basic_toml_origin.specs.Path.{path_of, step_of}
 use Rattle.basic_toml_origin.specs.Ways.{compared, counts_behind, element_met, ends_array, entered, further, into, meets, met, one_more}
 

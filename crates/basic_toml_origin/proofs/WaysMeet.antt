@@ -6,7 +6,7 @@ use Rattle.basic_toml_grammar.specs.Sections.{KeyTexts}
 use Rattle.basic_toml_grammar.specs.Steps.{Step, key, number, Path, step_eq, begins, path_eq}
 use Rattle.basic_toml_grammar.specs.IndexedPath.{latest}
 use Rattle.basic_toml_grammar.specs.Placed.{step_into, target_from, element_from}
-use Rattle.basic_toml_grammar.proofs.Clash.StepTestsDecide.{step_is, step_same}
+use Rattle.basic_toml_grammar.proofs.Clash.StepTestsDecide.{step_is}
 use Rattle.basic_toml_origin.specs.declared.ways.Meeting.{Meeting}
 use Rattle.basic_toml_origin.specs.declared.ways.Meeting.TheVariants.{Apart, Passes, Reaches}
 use Rattle.basic_toml_origin.specs.Origin.{behind}

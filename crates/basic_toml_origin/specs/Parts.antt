@@ -1,10 +1,10 @@
 -- What the code goes by within values: values that may be missing, and rows whose first keys are passed.
-use Rattle.std.specs.Prelude.{◌≡◌, ◌⊎◌, ◌<◌, ℕ, List, [], ◌∷◌, Option, Some, None, length, option_map}
+use Rattle.std.specs.Prelude.{ℕ, List, [], ◌∷◌, Option, Some, None, option_map}
 use Rattle.std.specs.Option.{option_or, option_and_then}
 use Rattle.std.specs.Borrow.{Bor}
 use Rattle.std.specs.Str.{bytes_eq}
 use Rattle.std.specs.Prelude.{if◌then◌else◌}
-use Rattle.basic_toml_grammar.specs.Sections.{Key, Raw, Rows, no_rows, row}
+use Rattle.basic_toml_grammar.specs.Sections.{Raw, Rows, no_rows, row}
 use Rattle.basic_toml_grammar.specs.Steps.{key, number, Path}
 use Rattle.basic_toml_origin.specs.declared.origin.Origin.{Origin}
 use Rattle.basic_toml_origin.specs.declared.step.Step.{Step}

@@ -1,8 +1,9 @@
 // The calls that the documentation of `basic_toml` and of the crates below it shows.
 use basic_toml::tokens::{Span, Tokenizer};
 use basic_toml::{
-    Error, ErrorKind, Float, PushRefusal, ReadErrorKind, Serializer, Table, Value, WriteError,
-    from_slice, from_str, integer_of, into_rows_first, line_col, read_tree, rows_first, to_string,
+    Error, ErrorKind, Float, Origin, PushRefusal, ReadErrorKind, Serializer, Step, Table, Value,
+    WriteError, from_slice, from_str, integer_of, into_rows_first, line_col, origin_of, read_tree,
+    rows_first, to_string,
 };
 use std::alloc::{AllocError, Global};
 use std::test::Fail;
@@ -53,6 +54,27 @@ fn takes_tokens(rt: HostRuntime) -> Result<(), Fail> {
     }
     assert!(rt; tokens.next(alloc)?.is_none());
     assert_eq!(rt; line_col("a\nbc", 3), (1, 1));
+    Ok(())
+}
+
+#[test]
+fn tells_where_things_are_written(rt: HostRuntime) -> Result<(), Fail> {
+    let text = "verison = 2\n[needs.x]\n[[bin]]\n[[bin]]\nport.low = 7\n";
+    let row = [Step::Key("verison")];
+    let header = [Step::Key("needs"), Step::Key("x")];
+    let element = [Step::Key("bin"), Step::Element(1)];
+    let dotted = [Step::Key("bin"), Step::Element(1), Step::Key("port")];
+    for (path, at, key) in [
+        (row.as_slice(), 10, Some(0)),
+        (header.as_slice(), 12, Some(19)),
+        (element.as_slice(), 30, None),
+        (dotted.as_slice(), 38, Some(38)),
+    ] {
+        let origin = origin_of(rt.alloc(), text, path)?;
+        assert_eq!(rt; origin, Some(Origin { at, key }));
+    }
+    let nowhere = origin_of(rt.alloc(), text, &[Step::Key("needs"), Step::Key("y")])?;
+    assert_eq!(rt; nowhere, None);
     Ok(())
 }
 
