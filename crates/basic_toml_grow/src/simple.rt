@@ -10,6 +10,7 @@ use crate::item::{Child, Item, Table};
 use basic_toml_read::{Raw, Row};
 use basic_toml_value::{Index, Key, Pair, Pairs};
 use std::alloc::{AllocError, Global};
+use std::mem;
 
 // The item of a plain value. What is not plain is kept as nothing.
 #[inline(always)]
@@ -72,6 +73,7 @@ pub(crate) fn with_rows<'de>(
         ≡ with_entries table.entry.value (new_entries section rows.entry.items)) }
 {
     let mut table = table;
-    table.entries = Pairs::from_parts(entries_of(alloc, rows, section)?, Index::none());
+    let entries = Pairs::from_parts(entries_of(alloc, rows, section)?, Index::none());
+    let _ = mem::replace(&mut table.entries, entries);
     Ok(table)
 }

@@ -5,8 +5,8 @@ use Rattle.basic_toml_value.proofs.KeysSeen.{keys_of-seen}
 use Rattle.basic_toml_grow.proofs.SimpleRows.{entry_keys}
 use Rattle.basic_toml_grow.proofs.simple.with_rows.Goals as goal
 
-pub set-requires : goal.set-requires
-set-requires c =
+pub from_parts-entries-requires : goal.from_parts-entries-requires
+from_parts-entries-requires c =
     let keys = sym (keys_of-seen c.in_ok-entries_of.field-0.items) ∙ ap keys_of c.in_ok-entries_of.ensures
     ∙ entry_keys c.args.section c.args.rows.items in
-    subst (λ (ks : List (List ℕ)). IsTrue (are_distinct ks)) (sym keys) c.requires
+    c.none.ensures _ (subst (λ (ks : List (List ℕ)). IsTrue (are_distinct ks)) (sym keys) c.requires)
