@@ -1,3 +1,4 @@
 pub mod PartsAdded
 pub mod ReadingEnds
-pub mod ItemsAreSent
+pub mod EventsAreSent
+pub mod Walks

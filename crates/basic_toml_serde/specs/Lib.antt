@@ -1,8 +1,11 @@
 pub mod Added
 pub mod Ahead
 pub mod Answers
+pub mod Noted
 pub mod Parts
 pub mod Reports
+pub mod Sending
 pub mod Sent
 pub mod Taken
+pub mod Writing
 pub mod Written

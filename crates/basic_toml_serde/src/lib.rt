@@ -23,6 +23,7 @@
 mod de;
 mod fault;
 mod format;
+mod log;
 mod names;
 mod notes;
 mod part;

@@ -30,6 +30,19 @@ impl Serialize for OpensTable {
     }
 }
 
+/// The value of a key that is sent alone: it is sent later.
+#[derive(Clone, Copy, Drop)]
+pub(crate) struct KeyAlone;
+
+impl Serialize for KeyAlone {
+    ghost calls = { λ _. [] };
+
+    #[inline(always)]
+    fn serialize(&self, _alloc: Global, _ser: &mut Serializer) -> Result<(), WriteError> {
+        Ok(())
+    }
+}
+
 /// The name of a variant, which may not be a key.
 #[derive(Clone, Copy, Drop)]
 pub(crate) struct VariantName<'a>(pub(crate) &'a str);

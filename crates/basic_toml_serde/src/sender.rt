@@ -1,117 +1,308 @@
-//! A serializer that keeps whether a call on it failed.
-use basic_toml::{Serialize, Serializer, WriteError};
-use std::alloc::Global;
-use std::marker::Model;
+//! What each event of a value is sent as to `basic_toml`'s serializer.
+ghost use Rattle.std.specs.Prelude.{◌≡◌, List, [], ◌∷◌, ◌++◌, OnOk, true, false};
+ghost use Rattle.serde.specs.Event.{boolean, signed, unsigned, single, double, character, text, octets, nothing, unit_variant, seq_begins, seq_ends, map_begins, map_ends, field_key, variant_key, key_begins, key_ends, flattens};
+ghost use Rattle.basic_toml_emit.specs.Items.{Item};
+ghost use Rattle.basic_toml_write.specs.Serializer.{HasRecorded};
+ghost use Rattle.basic_toml_write.specs.Write.{IsLayout};
+ghost use Rattle.basic_toml_serde.specs.Sent.{Adds, AddsKey, AddsFloat, AddsFloatText, AddsName, Sends};
+ghost use Rattle.basic_toml_serde.specs.Sending.{SendsBy, HasSent};
 
-/// A serializer. Where no call failed, it has taken each item that was sent.
+use crate::parts::{KeyAlone, NoForm, Octets, OpensArray, OpensTable, VariantName};
+use basic_toml::{Float, Serialize, Serializer, WriteError};
+use serde::{Case, NameKind};
+use std::alloc::Global;
+use std::fmt::Display;
+use std::str;
+
+/// What comes next.
+#[derive(Clone, Copy, Drop)]
+pub(crate) enum Next {
+    /// A value, or the key of a field.
+    Value,
+    /// The key of an entry, as a value.
+    Key,
+    /// The members of a map, which go into the map that is open.
+    Members,
+}
+
+/// Makes the calls of each event.
 #[derive(Drop)]
 pub(crate) struct Sender {
+    alloc: Global,
     ser: Serializer,
-    has_failed: bool,
+    /// Of each map that is open, whether its members go into the one around it.
+    maps: Vec<bool>,
+    next: Next,
 }
 
-impl Model for Sender {
-    ghost use Rattle.std.specs.Prelude.{Bool};
-    ghost use Rattle.basic_toml_serde.specs.Sent.{failure_of, IsSent};
-
-    ghost Value = { Bool };
-
-    ghost view = { failure_of };
-
-    ghost invariant = { IsSent };
-}
-
-#[tactic(auto, using(crate::proofs::ItemsAreSent::sent))]
+#[tactic(auto, using(crate::proofs::EventsAreSent::parts_sent))]
 impl Sender {
-    ghost use Rattle.std.specs.Prelude.{IfOk, string_bytes};
-    ghost use Rattle.basic_toml_serde.specs.Written.{IsWritten};
-
-    pub(crate) fn new(alloc: Global) -> Sender {
-        Sender {
-            ser: Serializer::new(alloc),
-            has_failed: false,
-        }
-    }
-
-    /// A whole value, or the beginning of one.
-    #[inline(always)]
-    pub(crate) fn value<T: Serialize>(&mut self, value: &T) -> Result<(), WriteError> {
-        match self.ser.serialize_newtype_struct("", value) {
-            Ok(()) => Ok(()),
-            Err(error) => {
-                self.has_failed = true;
-                Err(error)
-            }
-        }
-    }
-
-    /// A key, given by its own calls.
-    pub(crate) fn key<T: Serialize>(&mut self, key: &T) -> Result<(), WriteError> {
-        match self.ser.serialize_key(key) {
-            Ok(()) => Ok(()),
-            Err(error) => {
-                self.has_failed = true;
-                Err(error)
-            }
-        }
-    }
-
-    /// The value of the entry whose key was sent.
-    pub(crate) fn entry_value<T: Serialize>(&mut self, value: &T) -> Result<(), WriteError> {
-        match self.ser.serialize_value(value) {
-            Ok(()) => Ok(()),
-            Err(error) => {
-                self.has_failed = true;
-                Err(error)
-            }
-        }
-    }
-
-    /// A key and its value.
-    #[inline(always)]
-    pub(crate) fn field<T: Serialize>(&mut self, key: &str, value: &T) -> Result<(), WriteError> {
-        match self.ser.serialize_field(key, value) {
-            Ok(()) => Ok(()),
-            Err(error) => {
-                self.has_failed = true;
-                Err(error)
-            }
-        }
-    }
-
-    /// An element of an array.
-    #[inline(always)]
-    pub(crate) fn element<T: Serialize>(&mut self, value: &T) -> Result<(), WriteError> {
-        match self.ser.serialize_element(value) {
-            Ok(()) => Ok(()),
-            Err(error) => {
-                self.has_failed = true;
-                Err(error)
-            }
-        }
-    }
-
-    /// The end of what is open.
-    pub(crate) fn end(&mut self) -> Result<(), WriteError> {
-        match self.ser.end() {
-            Ok(()) => Ok(()),
-            Err(error) => {
-                self.has_failed = true;
-                Err(error)
-            }
-        }
-    }
-
-    /// The text, where no call failed and what was sent is a whole table.
-    pub(crate) fn finish(self) -> Result<String, WriteError>
-        ensures { IfOk result (λ text. IsWritten (string_bytes text)) }
+    pub(crate) fn new(alloc: Global) -> Sender
+        ensures { HasSent [] result }
     {
-        let Sender { ser, has_failed } = self;
-        let text = ser.finish()?;
-        // no error was kept where what was sent found no memory of its own
-        if has_failed {
-            return Err(WriteError::OutOfMemory);
+        Sender {
+            alloc,
+            ser: Serializer::new(alloc),
+            maps: Vec::new(alloc),
+            next: Next::Value,
         }
-        Ok(text)
+    }
+
+    /// The text, where what was sent is a whole table.
+    pub(crate) fn finish(self) -> Result<String, WriteError>
+        ensures { (items : List Item) → HasRecorded self.ser items → IsLayout items result }
+    {
+        self.ser.finish()
+    }
+
+    /// A value or a key, or what begins it.
+    #[inline(always)]
+    fn value<T: Serialize>(&mut self, value: &T) -> Result<(), WriteError>
+        ensures { OnOk result (SendsBy (Adds (T.calls value.now)) self.old self.new) }
+    {
+        match self.next {
+            Next::Value => self.ser.serialize_newtype_struct("", value),
+            Next::Key => self.ser.serialize_key(value),
+            Next::Members => Err(WriteError::UnsupportedType),
+        }
+    }
+
+    /// The key of a field or of a variant's data.
+    #[inline(always)]
+    fn name(&mut self, kind: NameKind, name: &str, case: Case) -> Result<(), WriteError>
+        ensures { OnOk result (SendsBy (AddsName kind name.now case) self.old self.new) }
+    {
+        if case == Case::AsIs {
+            return self.key(name);
+        }
+        self.name_in_case(kind, name, case)
+    }
+
+    fn name_in_case(&mut self, kind: NameKind, name: &str, case: Case) -> Result<(), WriteError>
+        ensures { OnOk result (SendsBy (AddsName kind name.now case) self.old self.new) }
+    {
+        let mut text = String::new(self.alloc);
+        case.append(kind, name, &mut text)?;
+        self.key(text.as_str())
+    }
+
+    /// The key of the next entry, without its value.
+    fn key(&mut self, key: &str) -> Result<(), WriteError>
+        ensures { OnOk result (SendsBy (AddsKey key.now) self.old self.new) }
+    {
+        self.ser.serialize_field(key, &KeyAlone)
+    }
+
+    /// A map is open, whose members go into the one around it or not.
+    fn push(&mut self, is_joined: bool) -> Result<(), WriteError>
+        ensures { OnOk result (self.new ≡ record self.old { maps = self.new.maps })
+            × OnOk result (self.new.maps.items ≡ self.old.maps.items ++ is_joined ∷ []) }
+    {
+        match self.maps.push(is_joined) {
+            Ok(()) => Ok(()),
+            Err(_) => Err(WriteError::OutOfMemory),
+        }
+    }
+
+    /// A float by its shortest text; `wide` is the same number.
+    fn float<T: Display + Drop>(&mut self, value: T, wide: f64) -> Result<(), WriteError>
+        ensures { OnOk result (SendsBy (AddsFloat) self.old self.new) }
+    {
+        let mut text = String::new(self.alloc);
+        if wide.is_nan() {
+            text.push_str("nan")?;
+        } else {
+            write!(text, "{value}")?;
+            if wide.is_finite() && !text.as_str().contains('.') {
+                text.push_str(".0")?;
+            }
+        }
+        self.float_text(text.as_str())
+    }
+
+    /// A float by its text.
+    fn float_text(&mut self, text: &str) -> Result<(), WriteError>
+        ensures { OnOk result (SendsBy (AddsFloatText text.now) self.old self.new) }
+    {
+        match Float::parse(self.alloc, text)? {
+            Some(float) => self.value(&float),
+            None => self.value(&NoForm),
+        }
+    }
+}
+
+/// The events.
+#[tactic(auto, using(crate::proofs::EventsAreSent::events_sent))]
+impl Sender {
+    #[inline(always)]
+    pub(crate) fn bool(&mut self, v: bool) -> Result<(), WriteError>
+        ensures { OnOk result (SendsBy (Sends (boolean v)) self.old self.new) }
+    {
+        match self.next {
+            Next::Value => self.ser.serialize_bool(v),
+            _ => self.value(&v),
+        }
+    }
+
+    #[inline(always)]
+    pub(crate) fn i64(&mut self, v: i64) -> Result<(), WriteError>
+        ensures { OnOk result (SendsBy (Sends (signed v)) self.old self.new) }
+    {
+        self.value(&v)
+    }
+
+    #[inline(always)]
+    pub(crate) fn u64(&mut self, v: u64) -> Result<(), WriteError>
+        ensures { OnOk result (SendsBy (Sends (unsigned v)) self.old self.new) }
+    {
+        match self.next {
+            Next::Value => self.ser.serialize_u64(v),
+            _ => self.value(&v),
+        }
+    }
+
+    pub(crate) fn i128(&mut self, v: i128) -> Result<(), WriteError>
+        ensures { OnOk result (SendsBy (Sends (signed v)) self.old self.new) }
+    {
+        match i64::try_from(v) {
+            Ok(number) => self.value(&number),
+            Err(_) => self.value(&NoForm),
+        }
+    }
+
+    pub(crate) fn u128(&mut self, v: u128) -> Result<(), WriteError>
+        ensures { OnOk result (SendsBy (Sends (unsigned v)) self.old self.new) }
+    {
+        match i64::try_from(v) {
+            Ok(number) => self.value(&number),
+            Err(_) => self.value(&NoForm),
+        }
+    }
+
+    pub(crate) fn f32(&mut self, v: f32) -> Result<(), WriteError>
+        ensures { OnOk result (SendsBy (Sends (single v)) self.old self.new) }
+    {
+        self.float(v, f64::from(v))
+    }
+
+    pub(crate) fn f64(&mut self, v: f64) -> Result<(), WriteError>
+        ensures { OnOk result (SendsBy (Sends (double v)) self.old self.new) }
+    {
+        self.float(v, v)
+    }
+
+    pub(crate) fn char(&mut self, v: char) -> Result<(), WriteError>
+        ensures { OnOk result (SendsBy (Sends (character v)) self.old self.new) }
+    {
+        self.value(&v)
+    }
+
+    #[inline(always)]
+    pub(crate) fn str(&mut self, v: &str) -> Result<(), WriteError>
+        ensures { OnOk result (SendsBy (Sends (text v.now)) self.old self.new) }
+    {
+        match self.next {
+            Next::Value => self.ser.serialize_str(v),
+            _ => self.value(&v),
+        }
+    }
+
+    /// An array of bytes; or a float by its text, where the members of a map would come.
+    pub(crate) fn bytes(&mut self, v: &[u8]) -> Result<(), WriteError>
+        ensures { OnOk result (SendsBy (Sends (octets v.now)) self.old self.new) }
+    {
+        let Next::Members = self.next else {
+            return self.value(&Octets(v));
+        };
+        self.next = Next::Value;
+        match str::from_utf8(v) {
+            Ok(text) => self.float_text(text),
+            Err(_) => Err(WriteError::UnsupportedType),
+        }
+    }
+
+    /// An option that is not there, or a unit, which cannot be told apart.
+    pub(crate) fn unit(&mut self) -> Result<(), WriteError>
+        ensures { OnOk result (SendsBy (Sends nothing) self.old self.new) }
+    {
+        let Next::Members = self.next else {
+            return self.value(&None::<bool>);
+        };
+        self.next = Next::Value;
+        Ok(())
+    }
+
+    pub(crate) fn str_cased(&mut self, name: &str, case: Case) -> Result<(), WriteError>
+        ensures { OnOk result (SendsBy (Sends (unit_variant name.now case)) self.old self.new) }
+    {
+        if case == Case::AsIs {
+            return self.value(&VariantName(name));
+        }
+        let mut text = String::new(self.alloc);
+        case.append(NameKind::Variant, name, &mut text)?;
+        self.value(&VariantName(text.as_str()))
+    }
+
+    pub(crate) fn begin_seq(&mut self, _len: Option<usize>) -> Result<(), WriteError>
+        ensures { OnOk result (SendsBy (Sends (seq_begins _len)) self.old self.new) }
+    {
+        self.value(&OpensArray)
+    }
+
+    pub(crate) fn end_seq(&mut self) -> Result<(), WriteError>
+        ensures { OnOk result (SendsBy (Sends seq_ends) self.old self.new) }
+    {
+        self.ser.end()
+    }
+
+    pub(crate) fn begin_map(&mut self, _len: Option<usize>) -> Result<(), WriteError>
+        ensures { OnOk result (SendsBy (Sends (map_begins _len)) self.old self.new) }
+    {
+        let Next::Members = self.next else {
+            self.value(&OpensTable)?;
+            return self.push(false);
+        };
+        self.next = Next::Value;
+        self.push(true)
+    }
+
+    pub(crate) fn end_map(&mut self) -> Result<(), WriteError>
+        ensures { OnOk result (SendsBy (Sends map_ends) self.old self.new) }
+    {
+        if self.maps.pop().unwrap_or(false) {
+            return Ok(());
+        }
+        self.ser.end()
+    }
+
+    #[inline(always)]
+    pub(crate) fn key_cased(&mut self, name: &str, case: Case) -> Result<(), WriteError>
+        ensures { OnOk result (SendsBy (Sends (field_key name.now case)) self.old self.new) }
+    {
+        self.name(NameKind::Field, name, case)
+    }
+
+    pub(crate) fn variant_key(&mut self, name: &str, case: Case) -> Result<(), WriteError>
+        ensures { OnOk result (SendsBy (Sends (variant_key name.now case)) self.old self.new) }
+    {
+        self.name(NameKind::Variant, name, case)
+    }
+
+    pub(crate) fn begin_key(&mut self)
+        ensures { SendsBy (Sends key_begins) self.old self.new }
+    {
+        self.next = Next::Key;
+    }
+
+    pub(crate) fn end_key(&mut self)
+        ensures { SendsBy (Sends key_ends) self.old self.new }
+    {
+        self.next = Next::Value;
+    }
+
+    pub(crate) fn flatten_next(&mut self)
+        ensures { SendsBy (Sends flattens) self.old self.new }
+    {
+        self.next = Next::Members;
     }
 }

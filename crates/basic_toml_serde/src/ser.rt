@@ -22,7 +22,7 @@ use std::alloc::Global;
 /// before tables` where a field stands behind a table, and `unsupported None value` for an option that is not there in
 /// an array.
 pub fn to_string<T: Serialize>(alloc: Global, value: &T) -> Result<String, Error>
-    ensures { IfOk result (λ text. IsWritten (string_bytes text)) }
+    ensures { IfOk result (λ text. IsWritten (T.writes value.now) (string_bytes text)) }
 {
     let mut out = Writer::new(alloc);
     value.serialize(&mut out)?;
