@@ -41,12 +41,12 @@ entries_of-loop-pair-preserved t c =
 
 pub table_of-entries_of-requires : goal.table_of-entries_of-requires
 table_of-entries_of-requires t c =
-    let same = table_of_pairs c.args.table.now c.pairs.result.now c.pairs.ensures in
+    let same = table_of_pairs c.args.table.now c.entries.result.now c.entries.ensures.pairs in
     (omega (arith, ap data_size same), tt)
 
 pub table_of-from_parts-requires : goal.table_of-from_parts-requires
 table_of-from_parts-requires t c =
-    let same = keys_copied c.in_ok-copies.copies.items c.pairs.result.now _ c.in_ok-copies.ensures c.pairs.ensures in
+    let same = keys_copied c.in_ok-copies.copies.items c.entries.result.now _ c.in_ok-copies.ensures c.entries.ensures.pairs in
     c.in_ok-index.ensures (texts_of c.in_ok-copies.copies.items) (rw same at c.index.ensures)
 
 pub table_of-returns-in_err-copies-clause-memory : goal.table_of-returns-in_err-copies-clause-memory
@@ -62,7 +62,7 @@ table_of-returns-clause-table t c =
     ap (λ ps. Data.table (entries ps)) c.from_parts.ensures
     ∙ ap Data.table (entries_seen c.in_ok-copies.copies.items)
     ∙ ap (λ ps. Data.table (members_of ps)) c.in_ok-copies.ensures
-    ∙ sym (table_of_pairs c.args.table.now c.pairs.result.now c.pairs.ensures)
+    ∙ sym (table_of_pairs c.args.table.now c.entries.result.now c.entries.ensures.pairs)
 
 pub tables_of-table_of-requires : goal.tables_of-table_of-requires
 tables_of-table_of-requires t c =

@@ -40,7 +40,7 @@ returns-clause-steps c =
     let whole : node_data c.args.self.now.table ≡ table_data c.in_ok-table.table.now = search (rules) in (
       first c,
       entry_stands c.args.self.now.table c.below.result c.in_ok-table.table.now c.args.self.now.at c.key-key.result.now
-          c.value.result.now holds c.keys_differ.ensures c.key-key.ensures c.value.ensures whole
+          c.value.result.now holds c.entries-pairs.ensures.distinct c.key-key.ensures c.value.ensures whole
           c.below.ensures.«data» c.below.ensures.below c.below.ensures.comes (keeps_below c.args.self.now.table c.below.result c.below.ensures.outer)
           (key_keeps c.args.self.now.table c.below.result c.key-key.result.now c.value.result.now
           c.below.ensures.keys c.below.ensures.count c.below.ensures.row c.below.ensures.handed

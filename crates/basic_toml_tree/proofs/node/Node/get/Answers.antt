@@ -7,11 +7,11 @@ use Rattle.basic_toml_tree.proofs.Nodes.OuterStands.{keeps_below}
 use Rattle.basic_toml_tree.proofs.Nodes.KeysTold.{key_keeps}
 use Rattle.basic_toml_tree.proofs.node.Node.get.Goals as goal
 
-pub returns-in_default-get-clause-data : goal.returns-in_default-get-clause-data
-returns-in_default-get-clause-data c =
+pub returns-in_default-pair-clause-data : goal.returns-in_default-pair-clause-data
+returns-in_default-pair-clause-data c =
     let here : node_data c.args.self ≡ table_data c.in-Some-Some.table.now = search (rules) in
     ap (λ d. data_at d c.args.key.now) here
-    ∙ data_at_absent c.in-Some-Some.table.now c.args.key.now c.in_default-get.ensures.value
+    ∙ data_at_absent c.in-Some-Some.table.now c.args.key.now c.in_default-pair.ensures.value
 
 pub returns-clause-data : goal.returns-clause-data
 returns-clause-data c =
