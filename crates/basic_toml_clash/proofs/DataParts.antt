@@ -1,7 +1,7 @@
 -- The parts of data: how large they are, and one part after another.
 use Rattle.std.proofs.Common.{◌≡◌, ℕ, zero, suc, ◌+◌, ◌<◌, ◌≤◌, List, [], ◌∷◌, ◌++◌, length, get_or, ap, arith}
-use Rattle.std.proofs.Common.{refl, sym, ◌∙◌, map, take, rules, Vec, Global}
-use Rattle.std.proofs.lemmas.List.{take_more, map-append}
+use Rattle.std.proofs.Common.{refl, sym, ◌∙◌, map, take, rules, absurd, Vec, Global}
+use Rattle.std.proofs.lemmas.List.{append-nil, take_more, map-append}
 use Rattle.basic_toml_value.specs.Data.{Data, Items, item, no_items, items_of, Members, no_members, member, members_of}
 use Rattle.basic_toml_value.specs.View.{view}
 use Rattle.basic_toml_value.specs.declared.value.Value as values
@@ -78,6 +78,14 @@ module _ {A B D : Type 0} (f : A → D) (g : B → D) where
       moved : (ds : List D) → (ds ++ g y ∷ []) ++ map g rest ≡ ds ++ map g (y ∷ rest)
       moved [] = refl
       moved (d ∷ ds) = ap (λ l. d ∷ l) (moved ds)
+
+-- where nothing is left all is passed
+pub nothing_left : {A : Type 0} (xs : List A) → length xs ≡ 0 → xs ≡ []
+nothing_left [] none = refl
+nothing_left (x ∷ xs) none = absurd (omega arith)
+
+pub none_after : {A : Type 0} (passed left whole : List A) → left ≡ [] → passed ++ left ≡ whole → passed ≡ whole
+none_after passed left whole none same = sym (append-nil passed) ∙ ap (λ l. passed ++ l) (sym none) ∙ same
 
 -- what an array is seen as
 pub array_seen : (elements : Vec values.Value Global)

@@ -146,8 +146,9 @@ fn look_through(alloc: Global, rows: &[Row<'_>]) -> Result<(), Crossed>
     Ok(())
 }
 
-// The same within a value.
+// The same within a value. It is inlined, since most values are scalars.
 #[cycle(looking)]
+#[inline(always)]
 fn look_into(alloc: Global, value: &Raw<'_>) -> Result<(), Crossed>
     ensures { Looks (crossed_where (raw_of value.now)) result }
 {
@@ -160,6 +161,7 @@ fn look_into(alloc: Global, value: &Raw<'_>) -> Result<(), Crossed>
 
 // The same within the values of elements.
 #[cycle(looking)]
+#[inline(never)]
 fn look_among(alloc: Global, elements: &[Element<'_>]) -> Result<(), Crossed>
     ensures { Looks (crossed_among (elements_view elements.now)) result }
 {

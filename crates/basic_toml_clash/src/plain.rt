@@ -11,9 +11,13 @@ use basic_toml_read::{Element, Raw};
 use basic_toml_value::{NESTING_LIMIT, Table, Value};
 use std::alloc::{AllocError, Global};
 
+// Of so many elements the memory is given back while they are moved. Fewer are moved in less by a plain iterator.
+const MANY: usize = 1024;
+
 /// Whether all elements of an array of a level are plain: none holds an inline table, and none is deeper than the
 /// limit.
 #[cycle(plain)]
+#[inline(never)]
 pub fn are_plain(elements: &[Element<'_>], level: usize) -> bool
     ensures { result ≡ all_plain level elements.now }
 {
@@ -27,6 +31,7 @@ pub fn are_plain(elements: &[Element<'_>], level: usize) -> bool
 
 /// Whether a value within something of a level is plain.
 #[cycle(plain)]
+#[inline(always)]
 pub(crate) fn is_plain(value: &Raw<'_>, level: usize) -> bool
     ensures { result ≡ plain_within value.now level }
 {
@@ -106,6 +111,22 @@ pub fn into_plain_values(
     alloc: Global,
     elements: Vec<Element<'_>>,
 ) -> Result<Vec<Value>, AllocError>
+    ensures { IfOk result (λ moved. map view moved.items ≡ map listed_data elements.entry.items) }
+{
+    if elements.len() >= MANY {
+        return into_many(alloc, elements);
+    }
+    let mut moved = Vec::with_capacity(alloc, elements.len())?;
+    for element in elements {
+        moved.push_reserved(into_plain_value(alloc, element.value)?);
+    }
+    Ok(moved)
+}
+
+// The same, of many elements, whose memory is given back on the way.
+#[cycle(moves)]
+#[inline(never)]
+fn into_many(alloc: Global, elements: Vec<Element<'_>>) -> Result<Vec<Value>, AllocError>
     ensures { IfOk result (λ moved. map view moved.items ≡ map listed_data elements.entry.items) }
 {
     let mut moved = Vec::with_capacity(alloc, elements.len())?;

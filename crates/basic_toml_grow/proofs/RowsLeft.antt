@@ -23,6 +23,7 @@ use Rattle.basic_toml_grow.proofs.RowsHaveKeys.{rows_have_keys}
 use Rattle.basic_toml_clash.specs.declared.clash.Clash.TheVariants.{Memory, Deep, Header, Named, Redefined, Row}
 use Rattle.basic_toml_grow.specs.RowStops.{line_keys}
 use Rattle.basic_toml_clash.specs.declared.clash.Clash.{Clash}
+use Rattle.basic_toml_clash.proofs.DataParts.{nothing_left}
 use Rattle.basic_toml_grow.proofs.Reasons.{KeptFor, kept_for, for_kept}
 
 -- Keys that periods follow, and rows after them: putting these into the table as it is, is putting all rows into the
@@ -103,10 +104,6 @@ all_left rows level before = record {
   fits = λ f. f;
   deep = λ d. d;
 }
-
-pub nothing_left : {A : Type 0} (xs : List A) → length xs ≡ 0 → xs ≡ []
-nothing_left [] none = refl
-nothing_left (x ∷ xs) none = absurd (omega arith)
 
 -- at last none
 pub none_left : (rows keys : List lines.Row) (level : ℕ) (before now : Trie)

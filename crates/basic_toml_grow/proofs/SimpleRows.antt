@@ -29,6 +29,7 @@ use Rattle.basic_toml_clash.specs.Plain.{is_plain, plain_of}
 use Rattle.basic_toml_clash.specs.Simple.{are_simple, key_of}
 use Rattle.basic_toml_clash.proofs.PlainValues.{plain_value}
 use Rattle.basic_toml_clash.proofs.SimpleRows.{first_is_simple}
+use Rattle.basic_toml_clash.proofs.DataParts.{nothing_left}
 use Rattle.basic_toml_grow.specs.declared.item.Item.{the_lemmas}
 use Rattle.basic_toml_grow.specs.declared.item.Item as items
 use Rattle.basic_toml_grow.specs.declared.item.Item.TheViews.{roll-Child}
@@ -42,7 +43,7 @@ use Rattle.basic_toml_grow.specs.Simple.{kept, item_of, child_of, entry_of, entr
 use Rattle.basic_toml_grow.proofs.ItemTries.{no_child_trie, entries_with, with_entries_twice}
 use Rattle.basic_toml_grow.proofs.RowValues.{row_value, value_put}
 use Rattle.basic_toml_grow.proofs.RowsEntered.{row_key, step_put}
-use Rattle.basic_toml_grow.proofs.RowsLeft.{AreLeft, all_left, none_left, nothing_left, row_entered}
+use Rattle.basic_toml_grow.proofs.RowsLeft.{AreLeft, all_left, none_left, row_entered}
 use Rattle.basic_toml_grow.proofs.Origins.OriginsLeft.{OriginsLeft, one_row, origins_entered, origins_done}
 use Rattle.basic_toml_grow.proofs.Origins.RowsPlaceOrigins.{comes_first, origins_put}
 
@@ -105,10 +106,6 @@ same_value e = cc
 pub entry_keys : (s : ℕ) (rows : List Row) → keys_of (entries_of s rows) ≡ map key_of rows
 entry_keys s [] = refl
 entry_keys s (r ∷ rs) = ap (λ ks. key_of r ∷ ks) (entry_keys s rs)
-
--- where nothing is left all is passed
-pub none_after : {A : Type 0} (passed left whole : List A) → left ≡ [] → passed ++ left ≡ whole → passed ≡ whole
-none_after passed left whole none same = sym (append-nil passed) ∙ ap (λ l. passed ++ l) (sym none) ∙ same
 
 -- a row as the entry that it becomes
 pub same_entry : (s : ℕ) (r : Row) (key : Key) (item : items.Item) → key_bytes key ≡ key_text_bytes (out-Row r).key

@@ -10,6 +10,7 @@ use Rattle.basic_toml_read.specs.SectionView.{raw_of, lined_of, placed_of, rows_
 use Rattle.basic_toml_read.specs.declared.section.Raw as raws
 use Rattle.basic_toml_read.specs.declared.section.Row as lines
 use Rattle.basic_toml_read.specs.declared.section.Element as elements
+use Rattle.basic_toml_clash.proofs.DataParts.{nothing_left}
 use Rattle.basic_toml_grow.specs.declared.item.Child.{Child}
 use Rattle.basic_toml_grow.specs.Rows.{is_dot, all_dots, key_texts}
 use Rattle.basic_toml_grow.specs.RowStops.{line_keys}
@@ -17,7 +18,7 @@ use Rattle.basic_toml_grow.specs.Origins.{Origin, Origins, no_origins, Within, t
 use Rattle.basic_toml_grow.specs.Origins.{with_more, or_else, row_origins, rows_origins, value_origins}
 use Rattle.basic_toml_grow.specs.Origins.{elements_origins}
 use Rattle.basic_toml_grow.proofs.ElementsLeft.{element_seen}
-use Rattle.basic_toml_grow.proofs.RowsLeft.{line_view, line_texts, has_value, dots_alone, nothing_left}
+use Rattle.basic_toml_grow.proofs.RowsLeft.{line_view, line_texts, has_value, dots_alone}
 use Rattle.basic_toml_grow.proofs.Origins.OriginsSeen.{or_none}
 use Rattle.basic_toml_grow.proofs.Origins.RowsPlaceOrigins.{within_is}
 

@@ -2,8 +2,8 @@ use Rattle.std.proofs.Common.{◌++◌, ap, ◌∙◌, map, length, arith}
 use Rattle.basic_toml_value.specs.Entries.{pair_seen}
 use Rattle.basic_toml_clash.proofs.DataParts.{mapped_next}
 use Rattle.basic_toml_grow.specs.Simple.{entry_of}
-use Rattle.basic_toml_grow.proofs.RowsLeft.{nothing_left}
-use Rattle.basic_toml_grow.proofs.SimpleRows.{same_entry, none_after}
+use Rattle.basic_toml_clash.proofs.DataParts.{nothing_left, none_after}
+use Rattle.basic_toml_grow.proofs.SimpleRows.{same_entry}
 use Rattle.basic_toml_grow.proofs.simple.entries_of.Goals as goal
 
 pub loop-row-init : goal.loop-row-init

@@ -5,12 +5,10 @@ use Rattle.basic_toml_value.specs.Index.{IsIndex}
 use Rattle.basic_toml_value.proofs.Sizes.{data_size, items_size, members_size}
 use Rattle.basic_toml_tree.specs.Data.{data_of, child_data, table_data, child_pair, value_pair}
 use Rattle.basic_toml_clash.proofs.DataParts.{items_size-rest, items_size-front, items_size-last, members_size-rest}
-use Rattle.basic_toml_clash.proofs.DataParts.{mapped_next, array_seen}
+use Rattle.basic_toml_clash.proofs.DataParts.{mapped_next, array_seen, nothing_left, none_after}
 use Rattle.basic_toml_tree.proofs.ItemData.{child_item, plain_elements, table_of_pairs, tables_data, table_seen}
 use Rattle.basic_toml_tree.proofs.ItemData.{entries_seen, keys_copied, refused_held, tables_whole}
 use Rattle.basic_toml_value.proofs.KeysSeen.{keys_of-seen}
-use Rattle.basic_toml_grow.proofs.RowsLeft.{nothing_left}
-use Rattle.basic_toml_grow.proofs.SimpleRows.{none_after}
 use Rattle.basic_toml_tree.proofs.values.+moves.Goals as goal
 
 pub into_elements-into_value-requires : goal.into_elements-into_value-requires
