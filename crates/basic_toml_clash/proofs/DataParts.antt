@@ -1,6 +1,6 @@
 -- The parts of data: how large they are, and one part after another.
 use Rattle.std.proofs.Common.{◌≡◌, ℕ, zero, suc, ◌+◌, ◌<◌, ◌≤◌, List, [], ◌∷◌, ◌++◌, length, get_or, ap, arith}
-use Rattle.std.proofs.Common.{refl, sym, ◌∙◌, map, take, rules, absurd, Vec, Global}
+use Rattle.std.proofs.Common.{refl, sym, ◌∙◌, map, take, rules, Vec, Global}
 use Rattle.std.proofs.lemmas.List.{append-nil, take_more, map-append}
 use Rattle.basic_toml_value.specs.Data.{Data, Items, item, no_items, items_of, Members, no_members, member, members_of}
 use Rattle.basic_toml_value.specs.View.{view}

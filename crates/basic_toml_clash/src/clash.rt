@@ -107,7 +107,7 @@ pub fn key_texts(alloc: Global, keys: &[Key<'_>]) -> Result<Vec<String>, AllocEr
 }
 
 // Keys, joined by periods.
-fn joined(alloc: Global, keys: &[Key<'_>]) -> Result<String, AllocError>
+fn join_keys(alloc: Global, keys: &[Key<'_>]) -> Result<String, AllocError>
     ensures { IfOk result (λ name. string_bytes name ≡ join_with_byte period (header_texts keys.now)) }
 {
     let mut name = String::new(alloc);
@@ -144,7 +144,7 @@ fn header_key(alloc: Global, section: &Section<'_>, left: usize) -> Result<ReadE
 
 impl Clash {
     // The error of a section's clash, if its keys can be copied.
-    fn named(self, alloc: Global, section: &Section<'_>) -> Result<ReadError, AllocError>
+    fn to_error(self, alloc: Global, section: &Section<'_>) -> Result<ReadError, AllocError>
         ensures { IfOk result (IsFaultOf section.now self) }
     {
         let at = section.at;
@@ -154,7 +154,7 @@ impl Clash {
             Clash::Deep => Ok(ReadError::at(at, ReadErrorKind::NestedTooDeeply)),
             Clash::Header(left) => header_key(alloc, section, left),
             Clash::Named => {
-                let name = joined(alloc, keys)?;
+                let name = join_keys(alloc, keys)?;
                 let path = key_texts(alloc, keys)?;
                 Ok(ReadError::within(at, ReadErrorKind::DuplicateTable(name), path))
             }
@@ -176,7 +176,7 @@ impl Clash {
     pub fn error(self, alloc: Global, section: &Section<'_>) -> ReadError
         ensures { NamesClash section.now self result }
     {
-        match self.named(alloc, section) {
+        match self.to_error(alloc, section) {
             Ok(error) => error,
             Err(error) => ReadError::from(error),
         }

@@ -66,8 +66,8 @@ fn follow(alloc: Global, trail: Trail, keys: &[Row<'_>], start: usize) -> Result
             let mut below = below;
             let position = below.enter(row.key.as_str())?;
             let there = below.replace(position, Trail::blank(alloc));
-            let gone = follow(alloc, there, rest, start)?;
-            let _ = below.replace(position, gone);
+            let followed = follow(alloc, there, rest, start)?;
+            let _ = below.replace(position, followed);
             Ok(Trail { end: None, below })
         }
     }

@@ -24,7 +24,7 @@ impl<T> Model for ItemsLeft<T> {
 }
 
 /// The items of a vector in order. The vector shrinks as they are taken.
-pub fn drained<T>(items: Vec<T>) -> ItemsLeft<T>
+pub fn drain<T>(items: Vec<T>) -> ItemsLeft<T>
     ensures { result ≡ items.items }
 {
     let mut backwards = items;

@@ -6,7 +6,7 @@ ghost use Rattle.basic_toml_value.specs.View.{view};
 ghost use Rattle.basic_toml_clash.specs.Plain.{are_plain as all_plain, is_plain as plain_within};
 ghost use Rattle.basic_toml_clash.specs.Plain.{plain_data, listed_data};
 
-use crate::items_left::drained;
+use crate::items_left::drain;
 use basic_toml_read::{Element, Raw};
 use basic_toml_value::{NESTING_LIMIT, Table, Value};
 use std::alloc::{AllocError, Global};
@@ -130,7 +130,7 @@ fn into_many(alloc: Global, elements: Vec<Element<'_>>) -> Result<Vec<Value>, Al
     ensures { IfOk result (λ moved. map view moved.items ≡ map listed_data elements.entry.items) }
 {
     let mut moved = Vec::with_capacity(alloc, elements.len())?;
-    for element in drained(elements) {
+    for element in drain(elements) {
         moved.push(into_plain_value(alloc, element.value)?)?;
     }
     Ok(moved)

@@ -22,7 +22,7 @@ ghost use Rattle.basic_toml_grow.specs.Rows.{all_dots, is_dot, reason, met_reaso
 
 use crate::item::{Child, Item, Table};
 use crate::simple::with_rows;
-use basic_toml_clash::{Clash, are_plain, are_simple, drained, texts_of};
+use basic_toml_clash::{Clash, are_plain, are_simple, drain, texts_of};
 use basic_toml_read::{Element, Raw, Row};
 use basic_toml_value::NESTING_LIMIT;
 use std::alloc::{AllocError, AllocFailed, Global};
@@ -111,7 +111,7 @@ fn enter_row<'de>(
     let position = table.entries.enter_again(row.key.as_str())?;
     let room = room_like(&table, position);
     let there = table.entries.replace(position, Child::nothing());
-    let extended = extended(alloc, there, rest, last, child, room)?;
+    let extended = extend(alloc, there, rest, last, child, room)?;
     table.entries.put(position, extended);
     Ok(table)
 }
@@ -133,7 +133,7 @@ fn room_like(table: &Table<'_>, position: usize) -> usize
 // The table at a key that a period follows, with the rest of the row put into it. Where it is new, it has this room.
 #[cycle(leading)]
 #[inline(never)]
-fn extended<'de>(
+fn extend<'de>(
     alloc: Global,
     there: Child<'de>,
     keys: &[Row<'de>],
@@ -211,7 +211,12 @@ fn row_clash(
 }
 
 // The clash within a value, told as a clash of the row that holds the value.
-fn held_by(alloc: Global, clash: Clash, keys: &[Row<'_>], last: &str) -> Result<Clash, AllocError>
+fn value_clash(
+    alloc: Global,
+    clash: Clash,
+    keys: &[Row<'_>],
+    last: &str,
+) -> Result<Clash, AllocError>
     ensures same { IfOk result (λ held. reason held ≡ reason clash) }
     ensures named { (offset : ℕ)
         → IfOk result (λ held. SaysHeld (line_keys keys.now ++ key_at offset last.now ∷ []) clash held) }
@@ -300,7 +305,7 @@ fn enter_rows<'de>(
 {
     let mut table = table;
     let mut keys = Vec::new(alloc);
-    for row in drained(rows) {
+    for row in drain(rows) {
         if row.is_dot() {
             keys.push(row)?;
             continue;
@@ -341,7 +346,7 @@ fn enter_value<'de>(
         value,
     } = row;
     match row_value(alloc, value, start, section, level + keys.len()) {
-        Err(clash) => Err(held_by(alloc, clash, keys, key.as_str())?),
+        Err(clash) => Err(value_clash(alloc, clash, keys, key.as_str())?),
         Ok(child) => match enter_row(alloc, table, keys, key.as_str(), child) {
             Ok(table) => Ok(table),
             Err(met) => Err(row_clash(alloc, met, keys, key.as_str(), offset)?),
@@ -373,9 +378,9 @@ fn row_value<'de>(
             if level < NESTING_LIMIT && are_plain(elements.as_slice(), level + 1) {
                 return Ok(Child::at(start, section, Item::Plain(elements)));
             }
-            finished(alloc, Raw::Array(elements), start, section, level)
+            child_of(alloc, Raw::Array(elements), start, section, level)
         }
-        value => finished(alloc, value, start, section, level),
+        value => child_of(alloc, value, start, section, level),
     }
 }
 
@@ -390,7 +395,7 @@ fn is_dot_value(value: &Raw<'_>) -> bool
 // values are scalars.
 #[cycle(finishing)]
 #[inline(always)]
-fn finished<'de>(
+fn child_of<'de>(
     alloc: Global,
     value: Raw<'de>,
     start: usize,
@@ -416,7 +421,7 @@ fn finished<'de>(
             if level >= NESTING_LIMIT {
                 return Err(Clash::Deep);
             }
-            let children = finished_elements(alloc, elements, section, level + 1)?;
+            let children = children_of(alloc, elements, section, level + 1)?;
             Ok(Child::at(start, section, Item::Array(children)))
         }
         Raw::Inline(rows) => {
@@ -432,7 +437,7 @@ fn finished<'de>(
 // The items of the values of elements, within an array of a level.
 #[cycle(finishing)]
 #[inline(never)]
-fn finished_elements<'de>(
+fn children_of<'de>(
     alloc: Global,
     elements: Vec<Element<'de>>,
     section: usize,
@@ -445,12 +450,12 @@ fn finished_elements<'de>(
         ≡ elements_origins section (elements_view elements.entry.items)) }
 {
     let mut children = Vec::with_capacity(alloc, elements.len())?;
-    for element in drained(elements) {
+    for element in drain(elements) {
         let Element { offset, value } = element;
         if is_dot_value(&value) {
             continue;
         }
-        children.push(finished(alloc, value, offset, section, level)?)?;
+        children.push(child_of(alloc, value, offset, section, level)?)?;
     }
     Ok(children)
 }

@@ -4,7 +4,7 @@ ghost use Rattle.basic_toml_value.specs.Data.{table as table_of_members};
 ghost use Rattle.basic_toml_value.specs.View.{view, entries};
 ghost use Rattle.basic_toml_tree.specs.Data.{data_of, child_data, table_data, child_pair, value_pair, HoldsAny};
 
-use basic_toml_clash::{drained, into_plain_values, plain_values};
+use basic_toml_clash::{drain, into_plain_values, plain_values};
 use basic_toml_grow::{Child, Item, Table};
 use basic_toml_value as values;
 use basic_toml_value::{Pair, Pairs, Value};
@@ -119,7 +119,7 @@ fn into_elements(alloc: Global, children: Vec<Child<'_>>) -> Result<Vec<Value>, 
     ensures { IfOk result (λ values. map view values.items ≡ map child_data children.entry.items) }
 {
     let mut elements = Vec::with_capacity(alloc, children.len())?;
-    for child in drained(children) {
+    for child in drain(children) {
         elements.push(into_value(alloc, child.item)?)?;
     }
     Ok(elements)
@@ -131,7 +131,7 @@ fn into_tables(alloc: Global, tables: Vec<Table<'_>>) -> Result<Vec<Value>, Allo
     ensures { IfOk result (λ values. map view values.items ≡ map table_data tables.entry.items) }
 {
     let mut elements = Vec::with_capacity(alloc, tables.len())?;
-    for table in drained(tables) {
+    for table in drain(tables) {
         elements.push(Value::Table(into_table(alloc, table)?))?;
     }
     Ok(elements)
@@ -163,7 +163,7 @@ fn into_many_entries(
     ensures { IfOk result (λ moved. map value_pair moved.items ≡ map child_pair pairs.entry.items) }
 {
     let mut moved = Vec::with_capacity(alloc, pairs.len())?;
-    for pair in drained(pairs) {
+    for pair in drain(pairs) {
         let Pair { key, value } = pair;
         let value = into_value(alloc, value.item)?;
         moved.push(Pair { key, value })?;

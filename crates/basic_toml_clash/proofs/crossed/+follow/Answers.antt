@@ -18,24 +18,24 @@ returns-in-Some-end t c =
     ∙ ap (λ o. option_or o (value_on (λ p. ends_of c.args.trail ((lined_of c.in-Some.row.now).key.text ∷ p))
     (path_of c.in-Some.rest.now))) here
 
-pub returns-in_err-gone-in-Some : goal.returns-in_err-gone-in-Some
-returns-in_err-gone-in-Some t c =
-    let p = err_from_is_err_and c.from_residual-in_err-gone-in-Some.result c.from_residual-in_err-gone-in-Some.ensures.1
+pub returns-in_err-followed-in-Some : goal.returns-in_err-followed-in-Some
+returns-in_err-followed-in-Some t c =
+    let p = err_from_is_err_and c.from_residual-in_err-followed-in-Some.result c.from_residual-in_err-followed-in-Some.ensures.1
     in
     let path : path_of c.args.keys.now ≡ c.as_str.result.now ∷ path_of c.in-Some.rest.now =
     ap path_of c.in-Some.ensures.cases.0
     ∙ ap (λ k. k ∷ path_of c.in-Some.rest.now)
     (ap (λ l. l.key.text) (lined_is c.in-Some.row.now) ∙ sym c.as_str.ensures.value) in
     rw (p.1, p.2)
-    (subst (λ (path : KeyTexts). FollowsTo c.args.trail path c.args.start (Err c.in_err-gone-in-Some.field-0.0))
+    (subst (λ (path : KeyTexts). FollowsTo c.args.trail path c.args.start (Err c.in_err-followed-in-Some.field-0.0))
     (sym path)
     (fault_below c.args.trail no_trail c.replace-there.result c.as_str.result.now c.enter.new.self
     c.in_ok-position-in-Some.position nowhere c.in_ok-position-in-Some.ensures.entered
     c.replace-there.ensures.value c.in_default.is
-    (path_of c.in-Some.rest.now) c.args.start c.in_err-gone-in-Some.field-0.0 c.in_err-gone-in-Some.ensures))
+    (path_of c.in-Some.rest.now) c.args.start c.in_err-followed-in-Some.field-0.0 c.in_err-followed-in-Some.ensures))
 
-pub returns-in_ok-gone-in-Some : goal.returns-in_ok-gone-in-Some
-returns-in_ok-gone-in-Some t c =
+pub returns-in_ok-followed-in-Some : goal.returns-in_ok-followed-in-Some
+returns-in_ok-followed-in-Some t c =
     let path : path_of c.args.keys.now ≡ c.as_str.result.now ∷ path_of c.in-Some.rest.now =
     ap path_of c.in-Some.ensures.cases.0
     ∙ ap (λ k. k ∷ path_of c.in-Some.rest.now)
@@ -45,8 +45,8 @@ returns-in_ok-gone-in-Some t c =
     (row_below c.args.trail no_trail c.replace-there.result c.as_str.result.now c.enter.new.self
     c.in_ok-position-in-Some.position nowhere c.in_ok-position-in-Some.ensures.entered
     c.replace-there.ensures.value
-    c.blank.result c.in_ok-gone-in-Some.gone after c.in_default.is (rolled_end None c.replace.new.self)
+    c.blank.result c.in_ok-followed-in-Some.followed after c.in_default.is (rolled_end None c.replace.new.self)
     (rolled_below None c.replace.new.self ∙ c.replace.ensures.changed
-    ∙ ap (λ ps. with_value ps c.in_ok-position-in-Some.position c.in_ok-gone-in-Some.gone)
+    ∙ ap (λ ps. with_value ps c.in_ok-position-in-Some.position c.in_ok-followed-in-Some.followed)
     c.replace-there.ensures.changed)
-    (path_of c.in-Some.rest.now) c.args.start c.in_ok-gone-in-Some.ensures)
+    (path_of c.in-Some.rest.now) c.args.start c.in_ok-followed-in-Some.ensures)

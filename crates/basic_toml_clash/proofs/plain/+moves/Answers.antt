@@ -21,7 +21,7 @@ into_plain_value-returns-in-Array t c =
 
 pub into_many-into_plain_value-requires : goal.into_many-into_plain_value-requires
 into_many-into_plain_value-requires t c =
-    let start = c.into_iter-element-iterator.ensures.into_iter_gives ∙ c.drained-element-items.ensures in
+    let start = c.into_iter-element-iterator.ensures.into_iter_gives ∙ c.drain-element-items.ensures in
     let smaller = items_size-rest (map view c.loop-element.moved.items) listed_data c.in-Some.element
     c.next.new.self c.into_iter-element-iterator.result
     (ap (λ l. map view c.loop-element.moved.items ++ map listed_data l) (sym c.in-Some.ensures.steps)

@@ -49,7 +49,7 @@ pub enter_rows-returns-in_err-table-clause-entered : goal.enter_rows-returns-in_
 enter_rows-returns-in_err-table-clause-entered t c =
     let p = err_from_is_err_and c.from_residual-in_err-table.result c.from_residual-in_err-table.ensures.1 in
     let start : c.into_iter-row-iterator.result ≡ c.args.rows.items =
-    c.into_iter-row-iterator.ensures.into_iter_gives ∙ c.drained-row-items.ensures in
+    c.into_iter-row-iterator.ensures.into_iter_gives ∙ c.drain-row-items.ensures in
     let before = table_trie c.args.table.value in
     let now = table_trie c.loop-row.table.value in
     let keys = c.loop-row.keys.items in
@@ -69,7 +69,7 @@ enter_rows-returns-in_err-table-clause-entered t c =
 pub enter_rows-returns-clause-entered : goal.enter_rows-returns-clause-entered
 enter_rows-returns-clause-entered t c =
     let start : c.into_iter-row-iterator.result ≡ c.args.rows.items =
-    c.into_iter-row-iterator.ensures.into_iter_gives ∙ c.drained-row-items.ensures in
+    c.into_iter-row-iterator.ensures.into_iter_gives ∙ c.drain-row-items.ensures in
     let before = table_trie c.args.table.value in
     let now = table_trie c.loop-row.table.value in
     let left = subst (λ (rows : List Row). AreLeft (rows_view c.into_iter-row-iterator.result)
@@ -115,7 +115,7 @@ pub enter_value-returns-in-Err-clause-entered : goal.enter_value-returns-in-Err-
 enter_value-returns-in-Err-clause-entered t c =
     value_kept_out c.args.keys.now c.args.row c.args.level (table_trie c.args.table.value) c.requires.keys
     c.requires.row
-    c.in-Err.clash c.in_ok-held_by-in-Err.field-0 c.in_ok-held_by-in-Err.ensures.same c.in-Err.ensures.finished
+    c.in-Err.clash c.in_ok-value_clash-in-Err.field-0 c.in_ok-value_clash-in-Err.ensures.same c.in-Err.ensures.finished
 
 pub enter_value-returns-in-Ok-enter_row-clause-entered : goal.enter_value-returns-in-Ok-enter_row-clause-entered
 enter_value-returns-in-Ok-enter_row-clause-entered t c =
@@ -133,17 +133,17 @@ enter_value-returns-clause-entered t c =
     (child_trie c.in-Ok.child) boxed_trie c.in-Err-enter_row.met c.in_ok-row_clash-in-Err-enter_row.field-0
     c.in_ok-row_clash-in-Err-enter_row.ensures.same c.in-Ok.ensures.finished c.in-Err-enter_row.ensures.entered
 
-pub finished_elements-loop-element-preserved : goal.finished_elements-loop-element-preserved
-finished_elements-loop-element-preserved t c =
+pub children_of-loop-element-preserved : goal.children_of-loop-element-preserved
+children_of-loop-element-preserved t c =
     let some = has_value (raw_of c.in-Some.element.value) (sym {A = Bool} c.is_dot_value.ensures
     ∙ c.if-is_dot_value.false) in
     let whole = elements_view c.into_iter-element-iterator.result in
     let left = subst (λ (es : List Element). ElementsAreLeft whole c.args.level (map child_trie
     c.loop-element.children.items)
     (elements_view es)) c.in-Some.ensures.steps c.loop-element.invariant.0 in
-    let entered = element_entered whole c.args.level c.loop-element.children.items c.in_ok-finished.field-0
+    let entered = element_entered whole c.args.level c.loop-element.children.items c.in_ok-child_of.field-0
     c.in-Some.element
-    c.next.new.self some.0 some.1 left (c.in_ok-finished.ensures.finished some.0 some.1) in
+    c.next.new.self some.0 some.1 left (c.in_ok-child_of.ensures.finished some.0 some.1) in
     let s = c.args.section in
     let come = subst (λ (es : List Element). ElementsCome s whole c.loop-element.children.items (elements_view es))
     c.in-Some.ensures.steps c.loop-element.invariant.1 in (
@@ -152,14 +152,14 @@ finished_elements-loop-element-preserved t c =
           (sym c.in_ok-push.ensures.items) entered,
       subst (λ (cs : List Child). ElementsCome s whole cs (elements_view c.next.new.self))
           (sym c.in_ok-push.ensures.items)
-          (element_comes s whole c.loop-element.children.items c.in_ok-finished.field-0 c.in-Some.element
-          c.next.new.self some.0 some.1 come (c.in_ok-finished.ensures.origins some.0 some.1)),
+          (element_comes s whole c.loop-element.children.items c.in_ok-child_of.field-0 c.in-Some.element
+          c.next.new.self some.0 some.1 come (c.in_ok-child_of.ensures.origins some.0 some.1)),
     )
 
-pub finished_elements-returns-clause-finished : goal.finished_elements-returns-clause-finished
-finished_elements-returns-clause-finished t c =
+pub children_of-returns-clause-finished : goal.children_of-returns-clause-finished
+children_of-returns-clause-finished t c =
     let start : c.into_iter-element-iterator.result ≡ c.args.elements.items =
-    c.into_iter-element-iterator.ensures.into_iter_gives ∙ c.drained-element-items.ensures in
+    c.into_iter-element-iterator.ensures.into_iter_gives ∙ c.drain-element-items.ensures in
     let ts = map child_trie c.loop-element.children.items in
     let left = subst (λ (es : List Element). ElementsAreLeft (elements_view
     c.into_iter-element-iterator.result)
@@ -167,17 +167,17 @@ finished_elements-returns-clause-finished t c =
     subst (λ (es : List Element). AreFinished (elements_view es) c.args.level ts) start
     (elements_done (elements_view c.into_iter-element-iterator.result) c.args.level ts left)
 
-pub finished-returns-in_err-table-in-Inline-clause-finished :
-    goal.finished-returns-in_err-table-in-Inline-clause-finished
-finished-returns-in_err-table-in-Inline-clause-finished t c = λ v seen.
+pub child_of-returns-in_err-table-in-Inline-clause-finished :
+    goal.child_of-returns-in_err-table-in-Inline-clause-finished
+child_of-returns-in_err-table-in-Inline-clause-finished t c = λ v seen.
     let p = err_from_is_err_and c.from_residual-in_err-table-in-Inline.result
     c.from_residual-in_err-table-in-Inline.ensures.1 in
     rw (p.1, p.2) (inline_kept_out c.in-Inline.rows (Some (standings.table false false false))
     (table_trie c.in_ok-new-in-Inline.field-0.value) c.args.level v c.in_err-table-in-Inline.field-0.0
     (ap raw_of (sym c.in-Inline.is) ∙ seen) c.in_ok-new-in-Inline.ensures c.in_err-table-in-Inline.ensures.entered)
 
-pub finished-returns-in_ok-table-in-Inline-clause-finished : goal.finished-returns-in_ok-table-in-Inline-clause-finished
-finished-returns-in_ok-table-in-Inline-clause-finished t c = λ v seen.
+pub child_of-returns-in_ok-table-in-Inline-clause-finished : goal.child_of-returns-in_ok-table-in-Inline-clause-finished
+child_of-returns-in_ok-table-in-Inline-clause-finished t c = λ v seen.
     subst (λ (u : Trie). IsFinished v c.args.level u) (sym c.at-in-Inline.ensures.trie)
     (inline_finished c.in-Inline.rows c.in_ok-table-in-Inline.table (Some (standings.table false false false))
     (table_trie c.in_ok-new-in-Inline.field-0.value) c.args.level v (ap raw_of (sym c.in-Inline.is)
@@ -188,7 +188,7 @@ pub enter_rows-returns-in_err-table-clause-named : goal.enter_rows-returns-in_er
 enter_rows-returns-in_err-table-clause-named t c =
     let p = err_from_is_err_and c.from_residual-in_err-table.result c.from_residual-in_err-table.ensures.1 in
     let start : c.into_iter-row-iterator.result ≡ c.args.rows.items =
-    c.into_iter-row-iterator.ensures.into_iter_gives ∙ c.drained-row-items.ensures in
+    c.into_iter-row-iterator.ensures.into_iter_gives ∙ c.drain-row-items.ensures in
     let before = table_trie c.args.table.value in
     let now = table_trie c.loop-row.table.value in
     let keys = c.loop-row.keys.items in
@@ -208,11 +208,11 @@ pub enter_value-returns-in-Err-clause-named : goal.enter_value-returns-in-Err-cl
 enter_value-returns-in-Err-clause-named t c =
     value_stopped c.args.keys.now c.args.row c.args.level (table_trie c.args.table.value) c.requires.keys
     c.requires.row
-    c.in-Err.clash c.in_ok-held_by-in-Err.field-0
+    c.in-Err.clash c.in_ok-value_clash-in-Err.field-0
     (subst (λ (l : List ℕ). SaysHeld (line_keys c.args.keys.now ++ key_at (lined_of c.args.row).key.offset l ∷ [])
-    c.in-Err.clash c.in_ok-held_by-in-Err.field-0)
+    c.in-Err.clash c.in_ok-value_clash-in-Err.field-0)
     (c.as_str.ensures.value ∙ sym (row_key c.args.row))
-    (c.in_ok-held_by-in-Err.ensures.named (lined_of c.args.row).key.offset))
+    (c.in_ok-value_clash-in-Err.ensures.named (lined_of c.args.row).key.offset))
     c.in-Err.ensures.named
 
 pub enter_value-returns-clause-named : goal.enter_value-returns-clause-named
@@ -226,34 +226,34 @@ enter_value-returns-clause-named t c =
     (row_offset c.args.row)
     c.in_ok-row_clash-in-Err-enter_row.ensures.named c.in-Ok.ensures.finished c.in-Err-enter_row.ensures.named
 
-pub finished-returns-in_err-table-in-Inline-clause-named : goal.finished-returns-in_err-table-in-Inline-clause-named
-finished-returns-in_err-table-in-Inline-clause-named t c =
+pub child_of-returns-in_err-table-in-Inline-clause-named : goal.child_of-returns-in_err-table-in-Inline-clause-named
+child_of-returns-in_err-table-in-Inline-clause-named t c =
     let p = err_from_is_err_and c.from_residual-in_err-table-in-Inline.result
     c.from_residual-in_err-table-in-Inline.ensures.1 in
     rw (p.1, p.2) (λ v seen. inline_stopped c.in-Inline.rows (Some (standings.table false false false))
     (table_trie c.in_ok-new-in-Inline.field-0.value) v c.in_err-table-in-Inline.field-0.0
     (ap raw_of (sym c.in-Inline.is) ∙ seen) c.in_ok-new-in-Inline.ensures c.in_err-table-in-Inline.ensures.named)
 
-pub finished_elements-returns-in_err-finished-clause-named :
-    goal.finished_elements-returns-in_err-finished-clause-named
-finished_elements-returns-in_err-finished-clause-named t c =
-    let p = err_from_is_err_and c.from_residual-in_err-finished.result c.from_residual-in_err-finished.ensures.1 in
+pub children_of-returns-in_err-child_of-clause-named :
+    goal.children_of-returns-in_err-child_of-clause-named
+children_of-returns-in_err-child_of-clause-named t c =
+    let p = err_from_is_err_and c.from_residual-in_err-child_of.result c.from_residual-in_err-child_of.ensures.1 in
     let start : c.into_iter-element-iterator.result ≡ c.args.elements.items =
-    c.into_iter-element-iterator.ensures.into_iter_gives ∙ c.drained-element-items.ensures in
+    c.into_iter-element-iterator.ensures.into_iter_gives ∙ c.drain-element-items.ensures in
     let some = has_value (raw_of c.in-Some.element.value) (sym {A = Bool} c.is_dot_value.ensures
     ∙ c.if-is_dot_value.false) in
-    let clash = c.in_err-finished.field-0.0 in
+    let clash = c.in_err-child_of.field-0.0 in
     let whole = elements_view c.into_iter-element-iterator.result in
     let ts = map child_trie c.loop-element.children.items in
     let left = subst (λ (es : List Element). ElementsAreLeft whole c.args.level ts (elements_view es))
     c.in-Some.ensures.steps c.loop-element.invariant.0 in
     rw (p.1, p.2) (subst (λ (es : List Element). NamesStop (try_put_elements (elements_view es)) clash) start
     (element_stopped whole c.args.level ts c.in-Some.element c.next.new.self some.0 clash some.1 left
-    (c.in_err-finished.ensures.named some.0 some.1)))
+    (c.in_err-child_of.ensures.named some.0 some.1)))
 
-pub finished_elements-loop-element-preserved-then-is_dot_value :
-    goal.finished_elements-loop-element-preserved-then-is_dot_value
-finished_elements-loop-element-preserved-then-is_dot_value t c =
+pub children_of-loop-element-preserved-then-is_dot_value :
+    goal.children_of-loop-element-preserved-then-is_dot_value
+children_of-loop-element-preserved-then-is_dot_value t c =
     let whole = elements_view c.into_iter-element-iterator.result in
     let ts = map child_trie c.loop-element.children.items in
     let left = subst (λ (es : List Element). ElementsAreLeft whole c.args.level ts (elements_view es))
@@ -277,7 +277,7 @@ take_rows-returns-then-is_empty-clause-origins t c =
 pub enter_rows-returns-clause-origins : goal.enter_rows-returns-clause-origins
 enter_rows-returns-clause-origins t c =
     let start : c.into_iter-row-iterator.result ≡ c.args.rows.items =
-    c.into_iter-row-iterator.ensures.into_iter_gives ∙ c.drained-row-items.ensures in
+    c.into_iter-row-iterator.ensures.into_iter_gives ∙ c.drain-row-items.ensures in
     let come = subst (λ (rows : List Row). OriginsLeft c.args.section (rows_view
     c.into_iter-row-iterator.result) (table_within c.args.table.value) c.loop-row.keys.items rows
     (table_within c.loop-row.table.value)) c.in-None.ensures.steps.0 c.loop-row.invariant.1 in
@@ -293,10 +293,10 @@ enter_value-returns-in-Ok-enter_row-clause-origins t c =
     (one_row c.args.section c.args.keys.now c.args.row c.as_str-in-Ok.result.now c.in-Ok.child c.requires.keys
     c.requires.row c.as_str-in-Ok.ensures.value c.in-Ok.ensures.origins c.in-Ok.ensures.dotted)
 
-pub finished_elements-returns-clause-origins : goal.finished_elements-returns-clause-origins
-finished_elements-returns-clause-origins t c =
+pub children_of-returns-clause-origins : goal.children_of-returns-clause-origins
+children_of-returns-clause-origins t c =
     let start : c.into_iter-element-iterator.result ≡ c.args.elements.items =
-    c.into_iter-element-iterator.ensures.into_iter_gives ∙ c.drained-element-items.ensures in
+    c.into_iter-element-iterator.ensures.into_iter_gives ∙ c.drain-element-items.ensures in
     let come = subst (λ (es : List Element). ElementsCome c.args.section (elements_view
     c.into_iter-element-iterator.result) c.loop-element.children.items (elements_view es))
     c.in-None.ensures.steps.0 c.loop-element.invariant.1 in
@@ -304,9 +304,9 @@ finished_elements-returns-clause-origins t c =
     c.loop-element.children.items come
     ∙ ap (λ es. elements_origins c.args.section (elements_view es)) start
 
-pub finished-returns-in_ok-table-in-Inline-clause-origins :
-    goal.finished-returns-in_ok-table-in-Inline-clause-origins
-finished-returns-in_ok-table-in-Inline-clause-origins t c = λ v seen.
+pub child_of-returns-in_ok-table-in-Inline-clause-origins :
+    goal.child_of-returns-in_ok-table-in-Inline-clause-origins
+child_of-returns-in_ok-table-in-Inline-clause-origins t c = λ v seen.
     let s = c.args.section in
     let at = c.args.start in
     let rows = rows_view c.in-Inline.rows.items in

@@ -20,11 +20,11 @@ decreases-enter_value l = 5 * (nesting_limit - l.level) + 2
 abbrev pub decreases-row_value : goal.decreases-row_value
 decreases-row_value l = 5 * (nesting_limit - l.level) + 1
 
-abbrev pub decreases-finished : goal.decreases-finished
-decreases-finished l = 5 * (nesting_limit - l.level)
+abbrev pub decreases-child_of : goal.decreases-child_of
+decreases-child_of l = 5 * (nesting_limit - l.level)
 
-abbrev pub decreases-finished_elements : goal.decreases-finished_elements
-decreases-finished_elements l = 5 * (nesting_limit - l.level) + 1
+abbrev pub decreases-children_of : goal.decreases-children_of
+decreases-children_of l = 5 * (nesting_limit - l.level) + 1
 
 -- what the rows that are left put into the table as it is, all put into it as it was
 abbrev pub invariant-enter_rows-loop-row : goal.invariant-enter_rows-loop-row
@@ -34,8 +34,8 @@ invariant-enter_rows-loop-row l =
     × OriginsLeft l.section (rows_view l.initial.row-iterator) (table_within l.initial.table.value)
     l.keys.items l.row-iterator (table_within l.table.value)
 
-abbrev pub invariant-finished_elements-loop-element : goal.invariant-finished_elements-loop-element
-invariant-finished_elements-loop-element l =
+abbrev pub invariant-children_of-loop-element : goal.invariant-children_of-loop-element
+invariant-children_of-loop-element l =
     ElementsAreLeft (elements_view l.initial.element-iterator) l.level (map child_trie l.children.items)
     (elements_view l.element-iterator)
     × ElementsCome l.section (elements_view l.initial.element-iterator) l.children.items

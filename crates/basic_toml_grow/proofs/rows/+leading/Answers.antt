@@ -128,9 +128,9 @@ enter_row-returns-in_err-extended-clause-named t c =
     c.in_ok-position-2.ensures.entered) c.replace-there.result stands met (lined_of row).key
     (line_keys c.in-Some.rest.now) last d (row_key row) (c.in_err-extended.ensures.named d is_leaf))))
 
-pub extended-returns-in_err-table-in-Nothing-2-clause-named :
-    goal.extended-returns-in_err-table-in-Nothing-2-clause-named
-extended-returns-in_err-table-in-Nothing-2-clause-named t c =
+pub extend-returns-in_err-table-in-Nothing-2-clause-named :
+    goal.extend-returns-in_err-table-in-Nothing-2-clause-named
+extend-returns-in_err-table-in-Nothing-2-clause-named t c =
     let p = err_from_is_err_and c.from_residual-in_err-table-in-Nothing-2.result
     c.from_residual-in_err-table-in-Nothing-2.ensures.1 in
     rw (p.1, p.2) (λ d is_leaf.
@@ -140,14 +140,14 @@ extended-returns-in_err-table-in-Nothing-2-clause-named t c =
     c.deref_mut.ensures.value (ap table_trie c.in_ok-table-in-Nothing.ensures ∙ c.in_ok-new-in-Nothing.ensures))
     (c.in_err-table-in-Nothing-2.ensures.named d is_leaf))
 
-pub extended-returns-then-deref-clause-named : goal.extended-returns-then-deref-clause-named
-extended-returns-then-deref-clause-named t c = λ d is_leaf.
+pub extend-returns-then-deref-clause-named : goal.extend-returns-then-deref-clause-named
+extend-returns-then-deref-clause-named t c = λ d is_leaf.
     extended_refused c.args.keys.now c.args.last.now d (child_trie c.args.there) (length c.args.keys.now + 2) refl
     (named_refuses c.args.there c.in-Table.table c.in-Table.is
     (ap (λ t. (out-Table t).named) (sym c.deref.ensures) ∙ c.if-deref.true))
 
-pub extended-returns-in_err-table-in-Table-clause-named : goal.extended-returns-in_err-table-in-Table-clause-named
-extended-returns-in_err-table-in-Table-clause-named t c =
+pub extend-returns-in_err-table-in-Table-clause-named : goal.extend-returns-in_err-table-in-Table-clause-named
+extend-returns-in_err-table-in-Table-clause-named t c =
     let p = err_from_is_err_and c.from_residual-in_err-table-in-Table.result
     c.from_residual-in_err-table-in-Table.ensures.1 in
     let same = c.deref_mut-in-Table.ensures.value in
@@ -158,8 +158,8 @@ extended-returns-in_err-table-in-Table-clause-named t c =
     (ap (λ t. (out-Table t).named) (same ∙ sym c.deref.ensures) ∙ c.if-deref.false))
     (c.in_err-table-in-Table.ensures.named d is_leaf))
 
-pub extended-returns-clause-named : goal.extended-returns-clause-named
-extended-returns-clause-named t c = λ d is_leaf.
+pub extend-returns-clause-named : goal.extend-returns-clause-named
+extend-returns-clause-named t c = λ d is_leaf.
     extended_refused c.args.keys.now c.args.last.now d (child_trie c.args.there) (length c.args.keys.now + 2) refl
     (search (rules, the_lemmas))
 
@@ -201,8 +201,8 @@ enter_row-returns-clause-origins t c =
     (first_text c.args.keys.now c.in-Some.row.now c.in-Some.rest.now c.in-Some.ensures.cases.0)
     ∙ origins_on key rest last dotted below))
 
-pub extended-returns-in-Nothing-clause-origins : goal.extended-returns-in-Nothing-clause-origins
-extended-returns-in-Nothing-clause-origins t c =
+pub extend-returns-in-Nothing-clause-origins : goal.extend-returns-in-Nothing-clause-origins
+extend-returns-in-Nothing-clause-origins t c =
     let u = roll-Table (dotted_fields c.deref_mut.result.now) in
     let fresh = dotted_within c.deref_mut.result.now ∙ ap table_within c.deref_mut.ensures.value
     ∙ fresh_within c.in_ok-table-in-Nothing.table.value

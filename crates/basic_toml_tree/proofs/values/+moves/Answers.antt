@@ -14,7 +14,7 @@ use Rattle.basic_toml_tree.proofs.values.+moves.Goals as goal
 pub into_elements-into_value-requires : goal.into_elements-into_value-requires
 into_elements-into_value-requires t c =
     let start : c.into_iter-child-iterator.result ≡ c.args.children.items =
-    c.into_iter-child-iterator.ensures.into_iter_gives ∙ c.drained-child-items.ensures in
+    c.into_iter-child-iterator.ensures.into_iter_gives ∙ c.drain-child-items.ensures in
     let smaller = items_size-rest (map view c.loop-child.elements.items) child_data c.in-Some.child
     c.next.new.self c.into_iter-child-iterator.result
     (ap (λ l. map view c.loop-child.elements.items ++ map child_data l) (sym c.in-Some.ensures.steps)
@@ -32,7 +32,7 @@ into_elements-loop-child-preserved t c =
 pub into_many_entries-into_value-requires : goal.into_many_entries-into_value-requires
 into_many_entries-into_value-requires t c =
     let start : c.into_iter-pair-iterator.result ≡ c.args.pairs.items =
-    c.into_iter-pair-iterator.ensures.into_iter_gives ∙ c.drained-pair-items.ensures in
+    c.into_iter-pair-iterator.ensures.into_iter_gives ∙ c.drain-pair-items.ensures in
     let smaller = members_size-rest (map value_pair c.loop-pair.moved.items) child_pair c.in-Some.pair
     c.next.new.self c.into_iter-pair-iterator.result
     (ap (λ l. map value_pair c.loop-pair.moved.items ++ map child_pair l) (sym c.in-Some.ensures.steps)
@@ -118,7 +118,7 @@ into_table-returns-clause-table t c =
 pub into_tables-into_table-requires : goal.into_tables-into_table-requires
 into_tables-into_table-requires t c =
     let start : c.into_iter-table-iterator.result ≡ c.args.tables.items =
-    c.into_iter-table-iterator.ensures.into_iter_gives ∙ c.drained-table-items.ensures in
+    c.into_iter-table-iterator.ensures.into_iter_gives ∙ c.drain-table-items.ensures in
     let smaller = items_size-rest (map view c.loop-table.elements.items) table_data c.in-Some.table
     c.next.new.self c.into_iter-table-iterator.result
     (ap (λ l. map view c.loop-table.elements.items ++ map table_data l) (sym c.in-Some.ensures.steps)

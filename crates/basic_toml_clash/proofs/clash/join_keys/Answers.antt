@@ -2,8 +2,8 @@ use Rattle.std.proofs.Common.{◌≡◌, ◌<◌, [], ◌∷◌, ◌++◌, rules
 use Rattle.basic_toml_read.specs.SectionView.{header_texts}
 use Rattle.basic_toml_tokens.specs.Ascii.{period}
 use Rattle.basic_toml_clash.proofs.HeadersNamed.{text_read, joined_first, joined_next, texts_count}
-use Rattle.basic_toml_clash.proofs.clash.joined.Goals as goal
-use Rattle.basic_toml_clash.proofs.clash.joined.Goals.{then-at-gt0+in_ok-push, else-at-gt0}
+use Rattle.basic_toml_clash.proofs.clash.join_keys.Goals as goal
+use Rattle.basic_toml_clash.proofs.clash.join_keys.Goals.{then-at-gt0+in_ok-push, else-at-gt0}
 
 pub loop-at-preserved : goal.loop-at-preserved
 loop-at-preserved c =

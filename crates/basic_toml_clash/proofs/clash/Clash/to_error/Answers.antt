@@ -9,7 +9,7 @@ use Rattle.basic_toml_clash.specs.Clash.{row_stop}
 use Rattle.basic_toml_clash.specs.declared.clash.Repeated.{Repeated}
 use Rattle.basic_toml_explain.specs.Error.{fault_within}
 use Rattle.basic_toml_clash.proofs.HeadersNamed.{table_fault_is, array_fault_is, row_fault_is}
-use Rattle.basic_toml_clash.proofs.clash.Clash.named.Goals as goal
+use Rattle.basic_toml_clash.proofs.clash.Clash.to_error.Goals as goal
 
 pub returns-in_ok-path-in-Named : goal.returns-in_ok-path-in-Named
 returns-in_ok-path-in-Named c =
