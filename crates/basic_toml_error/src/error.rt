@@ -3,12 +3,12 @@ ghost use Rattle.std.specs.Prelude.{◌≡◌, ◌≤◌, Some, IsTrue, ◌↔�
 ghost use Rattle.basic_toml_error.specs.FaultText as text;
 ghost use Rattle.basic_toml_error.specs.KindView.{kind_of};
 
-use crate::key_path::copied;
+use crate::key_path::copy_keys;
 use crate::kind::{ErrorKind, Message};
 use crate::line_column::line_column_of;
 use crate::message::{
     length_message, missing_message, type_message, unknown_field_message, unknown_variant_message,
-    value_message, wanted,
+    value_message, wanted_kind,
 };
 use basic_toml_explain::{KeyPath, ReadError, ReadErrorKind};
 use basic_toml_tree::Node;
@@ -155,17 +155,17 @@ impl Error {
     pub fn in_text(alloc: Global, text: &str, error: &ReadError) -> Error
         ensures { (result ≡ want_of_memory) ⊎ (result ≡ fault_in text.now error.now) }
     {
-        match Error::copied(alloc, text, error) {
+        match Error::copy(alloc, text, error) {
             Ok(error) => error,
             Err(e) => Error::from(e),
         }
     }
 
-    fn copied(alloc: Global, text: &str, error: &ReadError) -> Result<Error, AllocError>
+    fn copy(alloc: Global, text: &str, error: &ReadError) -> Result<Error, AllocError>
         ensures { IfOk result (λ copy. copy ≡ fault_in text.now error.now) }
     {
         let kind = ErrorKind::of_reading(alloc, error.kind())?;
-        let key_path = copied(alloc, error.key_path())?;
+        let key_path = copy_keys(alloc, error.key_path())?;
         Ok(Error {
             kind,
             key_path: Some(key_path),
@@ -189,28 +189,28 @@ impl Error {
     pub fn invalid_type(alloc: Global, node: Node<'_, '_>, expected: &str) -> Error
         ensures { IsFault result (fault_at node.entry (custom (type_message (node_data node.entry) expected.now))) }
     {
-        Error::told(alloc, node, type_message(alloc, node, expected))
+        Error::at_place(alloc, node, type_message(alloc, node, expected))
     }
 
     /// `invalid value: .., expected ..`: what a node holds is of the type, and not a value of it.
     pub fn invalid_value(alloc: Global, node: Node<'_, '_>, expected: &str) -> Error
         ensures { IsFault result (fault_at node.entry (custom (value_message (node_data node.entry) expected.now))) }
     {
-        Error::told(alloc, node, value_message(alloc, node, expected))
+        Error::at_place(alloc, node, value_message(alloc, node, expected))
     }
 
     /// `invalid length .., expected ..`: what a node holds has another length than was expected.
     pub fn invalid_length(alloc: Global, node: Node<'_, '_>, length: usize, expected: &str) -> Error
         ensures { IsFault result (fault_at node.entry (custom (length_message length expected.now))) }
     {
-        Error::told(alloc, node, length_message(alloc, length, expected))
+        Error::at_place(alloc, node, length_message(alloc, length, expected))
     }
 
     /// ``missing field `..` ``: a table lacks a key.
     pub fn missing_field(alloc: Global, node: Node<'_, '_>, field: &str) -> Error
         ensures { IsFault result (fault_at node.entry (custom (missing_message field.now))) }
     {
-        Error::told(alloc, node, missing_message(alloc, field))
+        Error::at_place(alloc, node, missing_message(alloc, field))
     }
 
     /// ``unknown field `..`, expected ..``: a table has a key that is not among the fields.
@@ -218,14 +218,14 @@ impl Error {
         ensures { IsFault result
             (fault_at node.entry (custom (unknown_field_message field.now (map (λ f. f.now) fields.now)))) }
     {
-        Error::told(alloc, node, unknown_field_message(alloc, field, fields))
+        Error::at_place(alloc, node, unknown_field_message(alloc, field, fields))
     }
 
     /// An error with a message of one's own, which is its text up to the keys.
     pub fn custom(alloc: Global, node: Node<'_, '_>, message: &str) -> Error
         ensures { IsFault result (fault_at node.entry (custom message.now)) }
     {
-        Error::told(alloc, node, String::from_str(alloc, message))
+        Error::at_place(alloc, node, String::from_str(alloc, message))
     }
 
     /// ``unknown variant `..`, expected ..``: a string is none of the variants. It stands at the table around the node.
@@ -240,7 +240,7 @@ impl Error {
             (fault_around node.entry (custom (unknown_variant_message name.now (map (λ v. v.now) variants.now)))) }
     {
         match unknown_variant_message(alloc, name, variants) {
-            Ok(message) => Error::placed(
+            Ok(message) => Error::within_keys(
                 alloc,
                 node,
                 node.outer_place(),
@@ -255,20 +255,20 @@ impl Error {
     pub fn wanted_string(alloc: Global, node: Node<'_, '_>) -> Error
         ensures { IsFault result (fault_at_start node.entry (wanted (codes "string") (name_of node.entry))) }
     {
-        match wanted(alloc, "string", node.type_name()) {
-            Ok(kind) => Error::placed(alloc, node, node.start(), kind),
+        match wanted_kind(alloc, "string", node.type_name()) {
+            Ok(kind) => Error::within_keys(alloc, node, node.start(), kind),
             Err(e) => Error::from(e),
         }
     }
 
     // A message at a node; want of memory where there is none.
     #[tactic(auto, unfolding(crate::specs::NodeFaults::fault_at))]
-    fn told(alloc: Global, node: Node<'_, '_>, message: Result<String, AllocError>) -> Error
+    fn at_place(alloc: Global, node: Node<'_, '_>, message: Result<String, AllocError>) -> Error
         ensures { IfOk message (λ text. IsFault result (fault_at node.entry (custom (string_bytes text))))
             × IfErr message (λ _. result ≡ want_of_memory) }
     {
         match message {
-            Ok(message) => Error::placed(
+            Ok(message) => Error::within_keys(
                 alloc,
                 node,
                 node.place(),
@@ -279,7 +279,12 @@ impl Error {
     }
 
     // An error within the keys of a node.
-    fn placed(alloc: Global, node: Node<'_, '_>, offset: Option<usize>, kind: ErrorKind) -> Error
+    fn within_keys(
+        alloc: Global,
+        node: Node<'_, '_>,
+        offset: Option<usize>,
+        kind: ErrorKind,
+    ) -> Error
         ensures { IsFault result (fault_within node.entry offset (kind_of kind)) }
     {
         match node.key_path(alloc) {

@@ -3,8 +3,8 @@ ghost use Rattle.std.specs.Prelude.{◌≡◌, IfOk, map, string_bytes};
 
 use std::alloc::{AllocError, Global};
 
-/// The keys, copied.
-pub(crate) fn copied(alloc: Global, keys: &[String]) -> Result<Vec<String>, AllocError>
+/// Copies of keys.
+pub(crate) fn copy_keys(alloc: Global, keys: &[String]) -> Result<Vec<String>, AllocError>
     ensures { IfOk result (λ copy. map string_bytes copy.items ≡ map string_bytes keys.now) }
 {
     let mut copy = Vec::new(alloc);

@@ -199,7 +199,11 @@ pub(crate) fn unknown_variant_message(
 }
 
 /// Another thing than what is wanted.
-pub(crate) fn wanted(alloc: Global, expected: &str, found: &str) -> Result<ErrorKind, AllocError>
+pub(crate) fn wanted_kind(
+    alloc: Global,
+    expected: &str,
+    found: &str,
+) -> Result<ErrorKind, AllocError>
     ensures { IfOk result (λ kind. kind_of kind ≡ fault.wanted expected.now found.now) }
 {
     Ok(ErrorKind::Reading(ReadErrorKind::Wanted {

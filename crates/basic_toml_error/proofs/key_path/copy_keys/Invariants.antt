@@ -1,5 +1,5 @@
 use Rattle.std.proofs.Common.{◌≡◌, map, take, string_bytes}
-use Rattle.basic_toml_error.proofs.key_path.copied.Given as goal
+use Rattle.basic_toml_error.proofs.key_path.copy_keys.Given as goal
 
 -- the keys passed are copied, in order
 abbrev pub invariant-loop-key : goal.invariant-loop-key
