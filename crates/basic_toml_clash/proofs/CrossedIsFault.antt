@@ -9,7 +9,7 @@ use Rattle.basic_toml_grammar.specs.Sections.{texts, Raw, Elements, no_elements,
 use Rattle.basic_toml_grammar.specs.NamedClash.{dotted_fault, dotted_faults, dotted_faults_in, dotted_faults_among}
 use Rattle.basic_toml_clash.specs.Crossed.{no_ends, and_end, crossed_after, crossed_between, crossed_of, crossed_among}
 use Rattle.basic_toml_clash.specs.Crossed.{crossed_within, crossed_in, first_crossed}
-use Rattle.basic_toml_clash.specs.Trail.{Ends, value_on}
+use Rattle.basic_toml_clash.specs.KeyTree.{Ends, value_on}
 use Rattle.basic_toml_clash.proofs.RowsGoOn.{faults_between, value_faults, Reached, all_followed, row_followed}
 use Rattle.basic_toml_clash.proofs.RowsGoOn.{row_goes_on, reached_first, no_faults, own_is_fault, value_is_fault}
 use Rattle.basic_toml_clash.proofs.ValuesOnTheWay.{row_ends}

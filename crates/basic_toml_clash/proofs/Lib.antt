@@ -5,7 +5,7 @@ pub mod RowIsFollowed
 pub mod RowsGetNoLonger
 pub mod RowsGoOn
 pub mod RowsOfKeys
-pub mod TrailGrows
+pub mod KeyTreeGrows
 pub mod ValuesOnTheWay
 pub mod DataParts
 pub mod PlainSeen

@@ -11,7 +11,7 @@ use Rattle.basic_toml_grammar.specs.Steps.{Path, begins, properly_begins, steps_
 use Rattle.basic_toml_grammar.specs.Faults.{Fault}
 use Rattle.basic_toml_grammar.specs.NamedClash.{dotted_fault, extending_faults, dotted_faults, dotted_faults_in}
 use Rattle.basic_toml_clash.specs.Crossed.{no_ends}
-use Rattle.basic_toml_clash.specs.Trail.{Ends, Follows, value_on}
+use Rattle.basic_toml_clash.specs.KeyTree.{Ends, Follows, value_on}
 use Rattle.basic_toml_clash.proofs.ValuesOnTheWay.{GoesOnFrom, goes_on_from, none_on}
 
 -- the faults of rows among themselves, those in their values apart

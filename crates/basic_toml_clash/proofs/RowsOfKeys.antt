@@ -14,7 +14,7 @@ use Rattle.basic_toml_read.specs.SectionView.{raw_of, placed_of, lined_of, eleme
 use Rattle.basic_toml_read.specs.declared.section.Section as code
 use Rattle.basic_toml_clash.specs.Crossed.{crossed_of, crossed_among, crossed_within, crossed_in, first_crossed}
 use Rattle.basic_toml_clash.specs.Crossed.{crossed_where}
-use Rattle.basic_toml_clash.specs.Trail.{path_of}
+use Rattle.basic_toml_clash.specs.KeyTree.{path_of}
 use Rattle.basic_toml_clash.proofs.FirstGathered.{first_in}
 
 -- what is crossed within the values of rows is so in those that stand at some key

@@ -9,7 +9,7 @@ use Rattle.std.proofs.lemmas.Slice.Eq.{bytes_eq-Decides}
 use Rattle.basic_toml_value.proofs.DistinctKeys.{bytes_eq-same}
 use Rattle.basic_toml_grammar.specs.Sections.{KeyTexts}
 use Rattle.basic_toml_clash.specs.Crossed.{same_keys, and_end}
-use Rattle.basic_toml_clash.specs.Trail.{Ends, value_on, Follows}
+use Rattle.basic_toml_clash.specs.KeyTree.{Ends, value_on, Follows}
 
 pub none_left : {A : Type 0} (a b : Option A) → option_or a b ≡ None → a ≡ None
 none_left None b e = refl

@@ -7,7 +7,7 @@ use Rattle.std.specs.Option.{option_or}
 use Rattle.std.specs.Str.{bytes_eq}
 use Rattle.basic_toml_grammar.specs.Sections.{KeyTexts, texts, Raw, Elements, no_elements, element, Rows, no_rows, row}
 use Rattle.basic_toml_grammar.specs.Sections.{Section}
-use Rattle.basic_toml_clash.specs.Trail.{Ends, value_on}
+use Rattle.basic_toml_clash.specs.KeyTree.{Ends, value_on}
 use Rattle.basic_toml_clash.specs.declared.crossed.Crossed.{Crossed}
 use Rattle.basic_toml_clash.specs.declared.crossed.Crossed.TheVariants.{Memory, At}
 

@@ -1,4 +1,4 @@
-pub mod Trail
+pub mod KeyTree
 pub mod Crossed
 pub mod Clash
 pub mod Plain

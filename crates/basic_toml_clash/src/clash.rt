@@ -6,7 +6,7 @@ ghost use Rattle.basic_toml_tokens.specs.Ascii.{period};
 ghost use Rattle.basic_toml_grammar.specs.NamedClash.{nth_key};
 ghost use Rattle.basic_toml_grammar.specs.Stops.{at_header, at_row, stop_fault};
 ghost use Rattle.basic_toml_read.specs.SectionView.{section_of, key_of, header_texts};
-ghost use Rattle.basic_toml_clash.specs.Trail.{path_of};
+ghost use Rattle.basic_toml_clash.specs.KeyTree.{path_of};
 ghost use Rattle.basic_toml_clash.specs.Clash.{IsFaultOf, IsStop, NamesClash};
 
 use basic_toml_read::{Key, ReadError, ReadErrorKind, Row, Section};

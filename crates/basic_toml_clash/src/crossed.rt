@@ -7,7 +7,7 @@ ghost use Rattle.std.specs.Option.{ForSome};
 ghost use Rattle.basic_toml_read.specs.SectionView.{elements_view, lined_of, raw_of, rows_view, section_of};
 ghost use Rattle.basic_toml_clash.specs.Crossed.{crossed_between, crossed_among, crossed_in, crossed_where};
 ghost use Rattle.basic_toml_clash.specs.Crossed.{first_crossed, Looks};
-ghost use Rattle.basic_toml_clash.specs.Trail.{FollowsTo, no_trail, path_of};
+ghost use Rattle.basic_toml_clash.specs.KeyTree.{FollowsTo, no_key_tree, path_of};
 ghost use Rattle.basic_toml_clash.specs.declared.crossed.Crossed.TheVariants.{Memory};
 
 use basic_toml_read::{Element, Raw, Row, Section};
@@ -15,11 +15,11 @@ use basic_toml_value::{Blank, Pairs};
 use std::alloc::{AllocError, Global};
 
 /// The keys of rows so far, and where the value begins that stands at their end.
-#[cycle(trail)]
+#[cycle(tree)]
 #[derive(Drop)]
-struct Trail {
+struct KeyTree {
     end: Option<usize>,
-    below: Pairs<Trail>,
+    below: Pairs<KeyTree>,
 }
 
 /// Why rows were not looked through to their end.
@@ -38,11 +38,11 @@ impl From<AllocError> for Crossed {
     }
 }
 
-impl Blank for Trail {
-    ghost blank = { no_trail };
+impl Blank for KeyTree {
+    ghost blank = { no_key_tree };
 
-    fn blank(alloc: Global) -> Trail {
-        Trail {
+    fn blank(alloc: Global) -> KeyTree {
+        KeyTree {
             end: None,
             below: Pairs::new(alloc),
         }
@@ -50,12 +50,12 @@ impl Blank for Trail {
 }
 
 // Goes by the keys of a row that are left. The row's value begins at `start`.
-fn follow(alloc: Global, trail: Trail, keys: &[Row<'_>], start: usize) -> Result<Trail, Crossed>
-    ensures { FollowsTo trail (path_of keys.now) start result }
+fn follow(alloc: Global, tree: KeyTree, keys: &[Row<'_>], start: usize) -> Result<KeyTree, Crossed>
+    ensures { FollowsTo tree (path_of keys.now) start result }
 {
-    let Trail { end, below } = trail;
+    let KeyTree { end, below } = tree;
     match keys.split_first() {
-        None => Ok(Trail {
+        None => Ok(KeyTree {
             end: Some(end.unwrap_or(start)),
             below,
         }),
@@ -65,10 +65,10 @@ fn follow(alloc: Global, trail: Trail, keys: &[Row<'_>], start: usize) -> Result
             }
             let mut below = below;
             let position = below.enter(row.key.as_str())?;
-            let there = below.replace(position, Trail::blank(alloc));
+            let there = below.replace(position, KeyTree::blank(alloc));
             let followed = follow(alloc, there, rest, start)?;
             let _ = below.replace(position, followed);
-            Ok(Trail { end: None, below })
+            Ok(KeyTree { end: None, below })
         }
     }
 }
@@ -124,11 +124,11 @@ fn look_between(alloc: Global, rows: &[Row<'_>]) -> Result<(), Crossed>
 fn follow_rows(alloc: Global, rows: &[Row<'_>]) -> Result<(), Crossed>
     ensures { Looks (crossed_between (rows_view rows.now)) result }
 {
-    let mut trail = Trail::blank(alloc);
+    let mut tree = KeyTree::blank(alloc);
     let mut first = 0;
     while let Some(last) = last_key(rows, first) {
         let start = rows[last].start;
-        trail = follow(alloc, trail, &rows[first..last + 1], start)?;
+        tree = follow(alloc, tree, &rows[first..last + 1], start)?;
         first = last + 1;
     }
     Ok(())

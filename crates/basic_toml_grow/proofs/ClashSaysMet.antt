@@ -12,7 +12,7 @@ use Rattle.basic_toml_read.specs.SectionView.{lined_of}
 use Rattle.basic_toml_clash.specs.declared.clash.Clash.{Clash}
 use Rattle.basic_toml_clash.specs.declared.clash.Clash.TheVariants as clashes
 use Rattle.basic_toml_grow.specs.declared.rows.Met.TheVariants as mets
-use Rattle.basic_toml_clash.specs.Trail.{path_of}
+use Rattle.basic_toml_clash.specs.KeyTree.{path_of}
 use Rattle.basic_toml_clash.specs.Clash.{IsStop, NamesStop}
 use Rattle.basic_toml_grow.specs.RowStops.{line_keys, key_at, StopsAtKey, SaysMet}
 

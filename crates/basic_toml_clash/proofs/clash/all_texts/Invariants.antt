@@ -1,5 +1,5 @@
 use Rattle.std.proofs.Common.{◌≡◌, map, take, string_bytes}
-use Rattle.basic_toml_clash.specs.Trail.{path_of}
+use Rattle.basic_toml_clash.specs.KeyTree.{path_of}
 use Rattle.basic_toml_clash.proofs.clash.all_texts.Given as goal
 
 -- the keys passed are copied, in order

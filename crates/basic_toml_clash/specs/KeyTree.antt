@@ -5,8 +5,8 @@ use Rattle.basic_toml_value.specs.Pairs.{value_at}
 use Rattle.basic_toml_grammar.specs.Sections.{KeyTexts}
 use Rattle.basic_toml_read.specs.declared.section.Row as rows
 use Rattle.basic_toml_read.specs.SectionView.{lined_of}
-use Rattle.basic_toml_clash.specs.declared.crossed.Trail.{Trail, fold-Trail, roll-Trail}
-use Rattle.basic_toml_clash.specs.declared.crossed.Trail.TheOpen.{Trail-F}
+use Rattle.basic_toml_clash.specs.declared.crossed.KeyTree.{KeyTree, fold-KeyTree, roll-KeyTree}
+use Rattle.basic_toml_clash.specs.declared.crossed.KeyTree.TheOpen.{KeyTree-F}
 use Rattle.basic_toml_clash.specs.declared.crossed.Crossed.{Crossed}
 use Rattle.basic_toml_clash.specs.declared.crossed.Crossed.TheVariants.{Memory, At}
 
@@ -23,15 +23,15 @@ ends_from end below [] = end
 ends_from end below (k ∷ path) = ends_below (value_at below k) path
 
 -- one level, the parts seen already
-abbrev pub trail_step : Trail-F Ends → Ends
-trail_step t = ends_from t.end t.below
+abbrev pub key_tree_step : KeyTree-F Ends → Ends
+key_tree_step t = ends_from t.end t.below
 
-abbrev pub ends_of : Trail → Ends
-ends_of = fold-Trail Ends trail_step
+abbrev pub ends_of : KeyTree → Ends
+ends_of = fold-KeyTree Ends key_tree_step
 
 -- no row is followed yet
-abbrev pub no_trail : Trail
-no_trail = roll-Trail (record { end = None; below = [] })
+abbrev pub no_key_tree : KeyTree
+no_key_tree = roll-KeyTree (record { end = None; below = [] })
 
 -- the path of a row, each key in a row of its own
 abbrev pub path_of : List rows.Row → KeyTexts
@@ -50,7 +50,7 @@ pub record Follows (before after : Ends) (path : KeyTexts) (start : ℕ) : Type 
   pub told : (p : KeyTexts) (s : ℕ) → after p ≡ Some s → (before p ≡ Some s) ⊎ ((p ≡ path) × (s ≡ start))
 
 -- one more row is followed, or goes on from the value that begins there
-abbrev pub FollowsTo : Trail → KeyTexts → ℕ → Result Trail Crossed → Type 0
+abbrev pub FollowsTo : KeyTree → KeyTexts → ℕ → Result KeyTree Crossed → Type 0
 FollowsTo before path start (Ok after) = Follows (ends_of before) (ends_of after) path start
 FollowsTo before path start (Err Memory) = ⊤
 FollowsTo before path start (Err (At at)) = value_on (ends_of before) path ≡ Some at

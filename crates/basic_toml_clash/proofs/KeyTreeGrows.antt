@@ -1,4 +1,4 @@
--- A row is followed by a trail, one key after another.
+-- A row is followed by a tree, one key after another.
 use Rattle.std.proofs.Common.{◌≡◌, ◌⊎◌, inl, inr, ℕ, true, false, List, [], ◌∷◌, refl, sym, ap, ◌∙◌, map, rules}
 use Rattle.std.proofs.Common.{Option, Some, None, option_map, Bool, Err}
 use Rattle.std.specs.List.{slice_get}
@@ -7,35 +7,35 @@ use Rattle.std.specs.Str.{bytes_eq}
 use Rattle.std.proofs.lemmas.Slice.Eq.{bytes_eq-Decides}
 use Rattle.basic_toml_value.specs.Pairs.{value_at}
 use Rattle.basic_toml_grammar.specs.Sections.{KeyTexts}
-use Rattle.basic_toml_clash.specs.declared.crossed.Trail.{Trail, out-Trail, roll-Trail, the_lemmas}
-use Rattle.basic_toml_clash.specs.declared.crossed.Trail.TheOpen.{Trail-F}
+use Rattle.basic_toml_clash.specs.declared.crossed.KeyTree.{KeyTree, out-KeyTree, roll-KeyTree, the_lemmas}
+use Rattle.basic_toml_clash.specs.declared.crossed.KeyTree.TheOpen.{KeyTree-F}
 use Rattle.basic_toml_clash.specs.declared.crossed.Crossed.{Crossed}
 use Rattle.basic_toml_clash.specs.declared.crossed.Crossed.TheVariants.{Memory, At}
-use Rattle.basic_toml_clash.specs.Trail.{Ends, ends_below, ends_from, ends_of, no_trail, value_on, Follows, FollowsTo}
+use Rattle.basic_toml_clash.specs.KeyTree.{Ends, ends_below, ends_from, ends_of, no_key_tree, value_on, Follows, FollowsTo}
 use Rattle.basic_toml_clash.proofs.ValuesOnTheWay.{same_on}
 use Rattle.basic_toml_value.specs.Growth.{with_value, values_of, EntersKey}
 use Rattle.basic_toml_value.proofs.KeysChanged.{value_at-map, stood_or_fresh, put_at, kept_elsewhere}
 
--- a trail by its parts
-pub trail_ends : (t : Trail)
-    → ends_of t ≡ ends_from (out-Trail t).end (map (λ p. (p.0, ends_of p.1)) (out-Trail t).below)
-trail_ends t = search (rules, the_lemmas)
+-- a tree by its parts
+pub key_tree_ends : (t : KeyTree)
+    → ends_of t ≡ ends_from (out-KeyTree t).end (map (λ p. (p.0, ends_of p.1)) (out-KeyTree t).below)
+key_tree_ends t = search (rules, the_lemmas)
 
-rolled : (x : Trail-F Trail) → out-Trail (roll-Trail x) ≡ x
+rolled : (x : KeyTree-F KeyTree) → out-KeyTree (roll-KeyTree x) ≡ x
 rolled x = search (rules, the_lemmas)
 
-pub rolled_end : (end : Option ℕ) (below : List (List ℕ × Trail))
-    → (out-Trail (roll-Trail (record { end = end; below = below }))).end ≡ end
+pub rolled_end : (end : Option ℕ) (below : List (List ℕ × KeyTree))
+    → (out-KeyTree (roll-KeyTree (record { end = end; below = below }))).end ≡ end
 rolled_end end below = ap (λ x. x.end) (rolled (record { end = end; below = below }))
 
-pub rolled_below : (end : Option ℕ) (below : List (List ℕ × Trail))
-    → (out-Trail (roll-Trail (record { end = end; below = below }))).below ≡ below
+pub rolled_below : (end : Option ℕ) (below : List (List ℕ × KeyTree))
+    → (out-KeyTree (roll-KeyTree (record { end = end; below = below }))).below ≡ below
 rolled_below end below = ap (λ x. x.below) (rolled (record { end = end; below = below }))
 
 -- nothing ends where no row is followed yet
-pub nowhere : (path : KeyTexts) → ends_of no_trail path ≡ None
+pub nowhere : (path : KeyTexts) → ends_of no_key_tree path ≡ None
 nowhere path =
-    ap (λ e. e path) (trail_ends no_trail)
+    ap (λ e. e path) (key_tree_ends no_key_tree)
     ∙ ap (λ x. ends_from x.end (map (λ p. (p.0, ends_of p.1)) x.below) path) (rolled (record { end = None; below = [] }))
     ∙ none path
   where
@@ -43,11 +43,11 @@ nowhere path =
     none [] = refl
     none (k ∷ path) = refl
 
-pub ends_at_key : (t : Trail) (k : List ℕ) (path : KeyTexts)
-    → ends_of t (k ∷ path) ≡ ends_below (option_map ends_of (value_at (out-Trail t).below k)) path
+pub ends_at_key : (t : KeyTree) (k : List ℕ) (path : KeyTexts)
+    → ends_of t (k ∷ path) ≡ ends_below (option_map ends_of (value_at (out-KeyTree t).below k)) path
 ends_at_key t k path =
-    ap (λ e. e (k ∷ path)) (trail_ends t)
-    ∙ ap (λ o. ends_below o path) (value_at-map ends_of (out-Trail t).below k)
+    ap (λ e. e (k ∷ path)) (key_tree_ends t)
+    ∙ ap (λ o. ends_below o path) (value_at-map ends_of (out-KeyTree t).below k)
 
 -- the values on the way by a key at which none ends
 goes_deeper : (before there : Ends) (k : List ℕ) → before [] ≡ None → ((p : KeyTexts) → before (k ∷ p) ≡ there p)
@@ -95,49 +95,49 @@ module _ (before after there gone : Ends) (k : List ℕ) (at_none : before [] �
       told [] s at = absurd (cc)
       told (l ∷ p) s at = told_at l p s (bytes_eq l k) refl at
 
--- a trail where a key is entered, and what stands there taken out
-module _ (t fresh there : Trail) (k : List ℕ) (new : List (List ℕ × Trail)) (i : ℕ)
+-- a tree where a key is entered, and what stands there taken out
+module _ (t fresh there : KeyTree) (k : List ℕ) (new : List (List ℕ × KeyTree)) (i : ℕ)
     (is_fresh : (p : KeyTexts) → ends_of fresh p ≡ None)
-    (entered : EntersKey k fresh (out-Trail t).below new i) (stands : slice_get (values_of new) i ≡ Some there) where
+    (entered : EntersKey k fresh (out-KeyTree t).below new i) (stands : slice_get (values_of new) i ≡ Some there) where
   stood : (p : KeyTexts) → ends_of t (k ∷ p) ≡ ends_of there p
-  stood p = ends_at_key t k p ∙ go (stood_or_fresh k fresh (out-Trail t).below new i entered there stands)
+  stood p = ends_at_key t k p ∙ go (stood_or_fresh k fresh (out-KeyTree t).below new i entered there stands)
     where
-      go : (value_at (out-Trail t).below k ≡ Some there) ⊎ ((value_at (out-Trail t).below k ≡ None) × (there ≡ fresh))
-          → ends_below (option_map ends_of (value_at (out-Trail t).below k)) p ≡ ends_of there p
+      go : (value_at (out-KeyTree t).below k ≡ Some there) ⊎ ((value_at (out-KeyTree t).below k ≡ None) × (there ≡ fresh))
+          → ends_below (option_map ends_of (value_at (out-KeyTree t).below k)) p ≡ ends_of there p
       go (inl at) = ap (λ o. ends_below (option_map ends_of o) p) at
       go (inr new) =
           ap (λ o. ends_below (option_map ends_of o) p) new.0
           ∙ sym (ap (λ t. ends_of t p) new.1 ∙ is_fresh p)
 
   -- what went wrong below goes wrong here
-  pub fault_below : (out-Trail t).end ≡ None → (path : KeyTexts) (start : ℕ) (e : Crossed)
+  pub fault_below : (out-KeyTree t).end ≡ None → (path : KeyTexts) (start : ℕ) (e : Crossed)
       → FollowsTo there path start (Err e) → FollowsTo t (k ∷ path) start (Err e)
   fault_below t_end path start Memory goes = tt
   fault_below t_end path start (At at) goes =
-      goes_deeper (ends_of t) (ends_of there) k (ap (λ e. e []) (trail_ends t) ∙ t_end) stood path ∙ goes
+      goes_deeper (ends_of t) (ends_of there) k (ap (λ e. e []) (key_tree_ends t) ∙ t_end) stood path ∙ goes
 
   -- what has gone on is put in
-  module _ (held gone u : Trail) (t_end : (out-Trail t).end ≡ None) (u_end : (out-Trail u).end ≡ None)
-      (put : (out-Trail u).below ≡ with_value (with_value new i held) i gone) where
+  module _ (held gone u : KeyTree) (t_end : (out-KeyTree t).end ≡ None) (u_end : (out-KeyTree u).end ≡ None)
+      (put : (out-KeyTree u).below ≡ with_value (with_value new i held) i gone) where
     at_none : ends_of t [] ≡ None
-    at_none = ap (λ e. e []) (trail_ends t) ∙ t_end
+    at_none = ap (λ e. e []) (key_tree_ends t) ∙ t_end
 
     still_none : ends_of u [] ≡ None
-    still_none = ap (λ e. e []) (trail_ends u) ∙ u_end
+    still_none = ap (λ e. e []) (key_tree_ends u) ∙ u_end
 
     stands_now : (p : KeyTexts) → ends_of u (k ∷ p) ≡ ends_of gone p
     stands_now p =
         ends_at_key u k p
         ∙ ap (λ ps. ends_below (option_map ends_of (value_at ps k)) p) put
         ∙ ap (λ o. ends_below (option_map ends_of o) p)
-        (put_at k fresh (out-Trail t).below new i entered there stands held gone)
+        (put_at k fresh (out-KeyTree t).below new i entered there stands held gone)
 
     elsewhere : (l : List ℕ) (p : KeyTexts) → bytes_eq l k ≡ false → ends_of u (l ∷ p) ≡ ends_of t (l ∷ p)
     elsewhere l p other =
         ends_at_key u l p
         ∙ ap (λ ps. ends_below (option_map ends_of (value_at ps l)) p) put
         ∙ ap (λ o. ends_below (option_map ends_of o) p)
-        (kept_elsewhere k fresh (out-Trail t).below new i entered there stands held gone l other)
+        (kept_elsewhere k fresh (out-KeyTree t).below new i entered there stands held gone l other)
         ∙ sym (ends_at_key t l p)
 
     pub row_below : (path : KeyTexts) (start : ℕ) → Follows (ends_of there) (ends_of gone) path start
