@@ -20,14 +20,14 @@ fn plain(alloc: Global, wanted: &str, got: String) -> Result<Pair, AllocError> {
 }
 
 // A text that is wanted, written out and with the escapes that the output has.
-fn evened(alloc: Global, wanted: &str) -> Result<String, AllocError> {
+fn even_out(alloc: Global, wanted: &str) -> Result<String, AllocError> {
     let bytes = bytes_of(alloc, wanted)?;
     let mut out = String::new(alloc);
     push_escaped(&mut out, str::from_utf8(bytes.as_slice()).unwrap_or(""))?;
     Ok(out)
 }
 
-fn escaped(alloc: Global, text: &str) -> Result<String, AllocError> {
+fn escape(alloc: Global, text: &str) -> Result<String, AllocError> {
     let mut out = String::new(alloc);
     push_escaped(&mut out, text)?;
     Ok(out)
@@ -66,7 +66,7 @@ fn error_of(alloc: Global, bytes: &[u8]) -> Result<String, AllocError> {
 fn written_of(alloc: Global, bytes: &[u8]) -> Result<String, AllocError> {
     match from_slice::<Table>(alloc, bytes) {
         Ok(table) => match to_string(alloc, &table) {
-            Ok(text) => escaped(alloc, text.as_str()),
+            Ok(text) => escape(alloc, text.as_str()),
             Err(error) => format!(in alloc; "unwritten {error}"),
         },
         Err(error) => format!(in alloc; "error {error}"),
@@ -76,7 +76,7 @@ fn written_of(alloc: Global, bytes: &[u8]) -> Result<String, AllocError> {
 fn unwritten_of(alloc: Global, bytes: &[u8]) -> Result<String, AllocError> {
     match from_slice::<Table>(alloc, bytes) {
         Ok(table) => match to_string(alloc, &table) {
-            Ok(text) => escaped(alloc, text.as_str()),
+            Ok(text) => escape(alloc, text.as_str()),
             Err(error) => format!(in alloc; "{error}"),
         },
         Err(error) => format!(in alloc; "error {error}"),
@@ -137,7 +137,7 @@ pub(crate) fn answer_of(
     match word {
         "value" => Ok((spread(alloc, rest)?, value_of(alloc, bytes)?)),
         "error" => plain(alloc, rest, error_of(alloc, bytes)?),
-        "written" => Ok((evened(alloc, rest)?, written_of(alloc, bytes)?)),
+        "written" => Ok((even_out(alloc, rest)?, written_of(alloc, bytes)?)),
         "unwritten" => plain(alloc, rest, unwritten_of(alloc, bytes)?),
         _ => match str::from_utf8(bytes) {
             Ok(text) => answer_of_text(alloc, text, word, rest),
@@ -156,7 +156,7 @@ pub(crate) fn calls_answer(
     let taken = outcome.taken;
     let got = match &outcome.answer {
         Ok(text) => {
-            let text = escaped(alloc, text.as_str())?;
+            let text = escape(alloc, text.as_str())?;
             format!(in alloc; "written {text}")?
         }
         Err(error) => format!(in alloc; "refused {taken} {error}")?,
@@ -169,7 +169,7 @@ pub(crate) fn calls_answer(
         );
     }
     let wanted = match word {
-        "written" => evened(alloc, rest)?,
+        "written" => even_out(alloc, rest)?,
         _ => String::from_str(alloc, rest)?,
     };
     Ok((format!(in alloc; "{word} {wanted}")?, got))

@@ -1,7 +1,7 @@
 //! Lists of calls on a `Serializer`, and what they come to.
 ghost use Rattle.std.specs.Prelude.{[]};
 
-use crate::escapes::{spread, unescaped};
+use crate::escapes::{spread, unescape};
 use basic_toml::{Float, Serialize, Serializer, WriteError};
 use std::alloc::{AllocError, Global};
 use std::str;
@@ -112,7 +112,7 @@ pub(crate) fn come_to(alloc: Global, line: &str) -> Result<Outcome, AllocError> 
             continue;
         }
         let (name, argument) = word.split_once(':').unwrap_or((word, ""));
-        let argument = unescaped(alloc, argument)?;
+        let argument = unescape(alloc, argument)?;
         let answer = make(alloc, &mut ser, name, argument.as_slice());
         match (answer, &refused) {
             (Ok(()), None) => taken = taken.saturating_add(1),

@@ -51,7 +51,7 @@ fn push_body(out: &mut String, body: &str, number: usize) -> Result<(), AllocErr
 }
 
 // The text with each outermost repetition written out.
-fn repeated(alloc: Global, text: &str) -> Result<String, AllocError> {
+fn repeat(alloc: Global, text: &str) -> Result<String, AllocError> {
     let mut out = String::new(alloc);
     let mut left = text;
     for _ in 0..text.len() {
@@ -70,8 +70,8 @@ fn repeated(alloc: Global, text: &str) -> Result<String, AllocError> {
 
 /// The text with its repetitions written out, those in others too, and its escapes as they stand.
 pub(crate) fn spread(alloc: Global, text: &str) -> Result<String, AllocError> {
-    let outer = repeated(alloc, text)?;
-    repeated(alloc, outer.as_str())
+    let outer = repeat(alloc, text)?;
+    repeat(alloc, outer.as_str())
 }
 
 fn number_in_hex(digits: &str) -> Option<u32> {
@@ -122,7 +122,7 @@ fn push_escape(alloc: Global, out: &mut Vec<u8>, part: &str) -> Result<(), Alloc
 }
 
 /// The bytes that stand for themselves once their escapes are read.
-pub(crate) fn unescaped(alloc: Global, text: &str) -> Result<Vec<u8>, AllocError> {
+pub(crate) fn unescape(alloc: Global, text: &str) -> Result<Vec<u8>, AllocError> {
     let mut out = Vec::new(alloc);
     let mut is_plain = true;
     for part in text.split('\\') {
@@ -142,7 +142,7 @@ pub(crate) fn unescaped(alloc: Global, text: &str) -> Result<Vec<u8>, AllocError
 /// The bytes of a text of a case file.
 pub(crate) fn bytes_of(alloc: Global, text: &str) -> Result<Vec<u8>, AllocError> {
     let long = spread(alloc, text)?;
-    unescaped(alloc, long.as_str())
+    unescape(alloc, long.as_str())
 }
 
 /// Appends a text on one line, as a case file has it.

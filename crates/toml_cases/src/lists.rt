@@ -15,24 +15,24 @@ fn reversed<'t>(alloc: Global, list: Vec<Section<'t>>) -> Result<Vec<Section<'t>
     Ok(reversed)
 }
 
-fn refused(alloc: Global, error: &ReadError) -> Result<String, AllocError> {
+fn refusal_text(alloc: Global, error: &ReadError) -> Result<String, AllocError> {
     let offset = error.place();
     format!(in alloc; "{error} at offset {}", offset.unwrap_or(0))
 }
 
 // The table of the list's tree, or its error.
-fn resolved(alloc: Global, list: Vec<Section<'_>>) -> Result<String, AllocError> {
+fn resolve_text(alloc: Global, list: Vec<Section<'_>>) -> Result<String, AllocError> {
     match resolve(alloc, list) {
         Ok(tree) => json_of(alloc, Form::Tagged, &tree.into_table(alloc)?),
-        Err(error) => refused(alloc, &error),
+        Err(error) => refusal_text(alloc, &error),
     }
 }
 
 /// What the sections of a text give in reverse.
 pub(crate) fn of_reversed(alloc: Global, text: &str) -> Result<String, AllocError> {
     match sections(alloc, text) {
-        Ok(list) => resolved(alloc, reversed(alloc, list)?),
-        Err(error) => refused(alloc, &error),
+        Ok(list) => resolve_text(alloc, reverse(alloc, list)?),
+        Err(error) => refusal_text(alloc, &error),
     }
 }
 
@@ -40,14 +40,14 @@ pub(crate) fn of_reversed(alloc: Global, text: &str) -> Result<String, AllocErro
 pub(crate) fn of_joined(alloc: Global, text: &str, more: &str) -> Result<String, AllocError> {
     let mut list = match sections(alloc, text) {
         Ok(list) => list,
-        Err(error) => return refused(alloc, &error),
+        Err(error) => return refusal_text(alloc, &error),
     };
     match sections(alloc, more) {
         Ok(rest) => {
             let mut rest = rest;
             list.append(&mut rest)?;
-            resolved(alloc, list)
+            resolve_text(alloc, list)
         }
-        Err(error) => refused(alloc, &error),
+        Err(error) => refusal_text(alloc, &error),
     }
 }

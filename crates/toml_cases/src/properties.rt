@@ -65,7 +65,7 @@ fn is_placed(alloc: Global, text: &str, error: &Error) -> Result<bool, AllocErro
 }
 
 // A table that is written is read back as itself, and then written as the same text.
-fn written_again(alloc: Global, table: &Table) -> Result<Verdict, AllocError> {
+fn write_again(alloc: Global, table: &Table) -> Result<Verdict, AllocError> {
     let written = match to_string(alloc, table) {
         Ok(written) => written,
         Err(error) if error.is_out_of_memory() => return Err(AllocError),
@@ -91,7 +91,7 @@ fn written_again(alloc: Global, table: &Table) -> Result<Verdict, AllocError> {
 /// What a text comes to: it is refused within it, or read, and read back where it is written.
 pub(crate) fn kind_of(alloc: Global, text: &str) -> Result<Verdict, AllocError> {
     match from_str::<Table>(alloc, text) {
-        Ok(table) => written_again(alloc, &table),
+        Ok(table) => write_again(alloc, &table),
         Err(error) => {
             if is_placed(alloc, text, &error)? {
                 Ok(Ok(Kind::Refused))

@@ -104,7 +104,7 @@ fn puts_rows_first(rt: HostRuntime) -> Result<(), Fail> {
 }
 
 // What a caller tells of an error: by its kind, or else its message.
-fn told(alloc: Global, error: &Error) -> Result<String, AllocError> {
+fn describe(alloc: Global, error: &Error) -> Result<String, AllocError> {
     match error.kind() {
         ErrorKind::Reading(ReadErrorKind::DuplicateKey(key)) => {
             format!(in alloc; "{key} stands twice")
@@ -119,7 +119,7 @@ fn asks_an_error_of_reading(rt: HostRuntime) -> Result<(), Fail> {
     let alloc = rt.alloc();
     let read = from_str::<Table>(alloc, "[a.b]\nc.d = 1\nc.d = 2\n");
     let error = read.err().ok_or("read")?;
-    assert_eq!(rt; told(alloc, &error)?.as_str(), "d stands twice");
+    assert_eq!(rt; describe(alloc, &error)?.as_str(), "d stands twice");
     let message = format!(in alloc; "{}", error.message())?;
     assert_eq!(rt; message.as_str(), "duplicate key: `d`");
     assert_eq!(rt; error.key_path().len(), 3);
@@ -139,7 +139,7 @@ fn asks_an_error_of_a_type(rt: HostRuntime) -> Result<(), Fail> {
     let read = from_str::<Parent<Child>>(alloc, "p_a = 'a'\np_b = 1\n");
     let error = read.err().ok_or("read")?;
     assert_eq!(rt;
-        told(alloc, &error)?.as_str(),
+        describe(alloc, &error)?.as_str(),
         "invalid type: integer `1`, expected a sequence"
     );
     assert_eq!(rt; error.key_path().len(), 1);
@@ -163,7 +163,7 @@ fn asks_an_error_without_a_place(rt: HostRuntime) -> Result<(), Fail> {
         ),
     ] {
         let error = error.ok_or(words)?;
-        assert_eq!(rt; told(alloc, &error)?.as_str(), words);
+        assert_eq!(rt; describe(alloc, &error)?.as_str(), words);
         assert!(rt; error.key_path().is_empty());
         assert_eq!(rt; (error.offset(), error.line_col()), (None, None));
     }

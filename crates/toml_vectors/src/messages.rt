@@ -4,7 +4,7 @@ use basic_toml_read::{ReadError, ReadErrorKind};
 use std::alloc::{AllocError, Global};
 use std::test::Fail;
 
-fn shown(alloc: Global, text: &str, error: ReadError) -> Result<String, AllocError> {
+fn error_text(alloc: Global, text: &str, error: ReadError) -> Result<String, AllocError> {
     let error = Error::in_text(alloc, text, &error);
     format!(in alloc; "{error}")
 }
@@ -41,7 +41,7 @@ fn of_errors_that_no_text_shows(rt: HostRuntime) -> Result<(), Fail> {
                 path.push(String::from_str(rt.alloc(), key)?)?;
             }
         }
-        let shown = shown(rt.alloc(), text, ReadError::within(offset, kind, path))?;
+        let shown = error_text(rt.alloc(), text, ReadError::within(offset, kind, path))?;
         assert_eq!(rt; shown.as_str(), message);
     }
     Ok(())
