@@ -4,7 +4,7 @@ use basic_toml_tree::resolve;
 use std::alloc::{AllocError, Global};
 use toml_json_text::{Form, json_of};
 
-fn reversed<'t>(alloc: Global, list: Vec<Section<'t>>) -> Result<Vec<Section<'t>>, AllocError> {
+fn reverse<'t>(alloc: Global, list: Vec<Section<'t>>) -> Result<Vec<Section<'t>>, AllocError> {
     let mut list = list;
     let mut reversed = Vec::new(alloc);
     for _ in 0..list.len() {
