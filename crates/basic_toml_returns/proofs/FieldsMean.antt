@@ -1,5 +1,5 @@
 -- A field is read where its table has it, and nothing else is that means something else.
-use Rattle.std.proofs.Common.{◌≡◌, ℕ, List, refl, sym, subst, ap, ◌∙◌, Option, Some, None, option_map, unwrap_or}
+use Rattle.std.proofs.Common.{◌≡◌, List, refl, sym, subst, ap, ◌∙◌, Option, Some, None, option_map, unwrap_or}
 use Rattle.basic_toml_value.specs.Data.{Data}
 use Rattle.basic_toml_emit.specs.Items.{Item}
 use Rattle.basic_toml_layout.specs.Written as w

@@ -1,6 +1,6 @@
 -- What a value means: the data that a text holds for its calls, absent options left out; and the words by which a caller's
 -- record says what it means, as `a_table (a_member name data (maybe_member name option no_more))`. (own)
-use Rattle.std.specs.Prelude.{◌≡◌, ℕ, List, [], ◌∷◌, Option, Some, None}
+use Rattle.std.specs.Prelude.{◌≡◌, ℕ, List, [], Option, Some, None}
 use Rattle.basic_toml_value.specs.Data.{Data, Members, no_members, member}
 use Rattle.basic_toml_layout.specs.Written.{Written, absent, Entries}
 use Rattle.basic_toml_layout.specs.Trees.{tree_of, entry_trees}
