@@ -3,6 +3,7 @@ ghost use Rattle.std.specs.Prelude.{codes, option_map};
 ghost use Rattle.basic_toml.specs.Data.{string};
 ghost use Rattle.basic_toml.specs.FieldKeys.{key_of};
 ghost use Rattle.basic_toml.specs.Impls.{scalar_calls};
+ghost use Rattle.basic_toml.specs.Parts.{a_field, a_record, the_end};
 ghost use Rattle.basic_toml.specs.TypeReads.{field_reads, optional_reads};
 ghost use Rattle.basic_toml.specs.Written as w;
 ghost use Rattle.basic_toml_returns.specs.Means.{a_member, a_table, maybe_member, no_more};
