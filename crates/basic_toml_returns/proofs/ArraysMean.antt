@@ -11,7 +11,7 @@ use Rattle.basic_toml_write.specs.Kept.{kept_elements}
 use Rattle.basic_toml_write.specs.Spelling as spelling
 use Rattle.basic_toml_write.specs.Spelling.{AreElements}
 use Rattle.basic_toml_typed.specs.TypeReads.{are_read, array_reads}
-use Rattle.basic_toml_returns.specs.Means.{Means, Same}
+use Rattle.basic_toml_returns.specs.Means.{Meaning, Means, Same}
 use Rattle.basic_toml_returns.specs.Returned.{Returned}
 use Rattle.basic_toml_returns.proofs.SpelledParts.{as_element, kept_tree}
 
@@ -39,9 +39,10 @@ module _ {A : Type 0} (calls : A → List Item) (reads : Data → A → Type 0) 
 
   elements_mean : (xs : List A) → all_return xs
       → MeansElements (flat_map part_calls xs ++ (close ∷ [])) (items_of (map meant xs))
+  unfolding Means
   elements_mean [] all = record { held = w.no_elements; spelled = spelling.array_end; whole = refl }
   elements_mean (x ∷ xs) all =
-      let part : Means (calls x) (Some (meant x)) = all.0.means in
+      let part : Meaning (calls x) (Some (meant x)) = all.0.means in
       let more : MeansElements (flat_map part_calls xs ++ (close ∷ [])) (items_of (map meant xs)) =
       elements_mean xs all.1 in
       record {
@@ -52,6 +53,7 @@ module _ {A : Type 0} (calls : A → List Item) (reads : Data → A → Type 0) 
       }
 
   pub array_means : (xs : List A) → all_return xs → Means (array_calls calls xs) (Some (array (items_of (map meant xs))))
+  unfolding Means
   array_means xs all =
       let more = elements_mean xs all in
       record {

@@ -24,7 +24,7 @@ use Rattle.basic_toml_write.specs.Spelling as spelling
 use Rattle.basic_toml_write.specs.Spelling.{AreEntries, IsPrefixed}
 use Rattle.basic_toml_typed.specs.TypeReads.{map_reads, maybe_reads}
 use Rattle.basic_toml_returns.specs.Maps.{map_members, meant_entries}
-use Rattle.basic_toml_returns.specs.Means.{Means, Same, with_member}
+use Rattle.basic_toml_returns.specs.Means.{Meaning, Means, Same, with_member}
 use Rattle.basic_toml_returns.specs.Returned.{Returned}
 use Rattle.basic_toml_returns.proofs.SpelledParts.{as_entry, kept_entry}
 
@@ -121,9 +121,10 @@ module _ {A : Type 0} (calls : A → List Item) (reads : Data → A → Type 0) 
 
   entries_mean : (es : List (String Global × A)) → values_return es
       → MeansEntries (flat_map part_calls es ++ (close ∷ [])) (members_of (pairs_of meant es))
+  unfolding Means
   entries_mean [] all = record { held = w.no_entries; spelled = spelling.table_end; whole = refl }
   entries_mean (e ∷ es) all =
-      let part : Means (calls e.1) (Some (meant e.1)) = all.0.means in
+      let part : Meaning (calls e.1) (Some (meant e.1)) = all.0.means in
       let left : List Item = flat_map part_calls es ++ (close ∷ []) in
       let more : MeansEntries left (members_of (pairs_of meant es)) = entries_mean es all.1 in
       record {
@@ -137,6 +138,7 @@ module _ {A : Type 0} (calls : A → List Item) (reads : Data → A → Type 0) 
 
   pub map_means : (m : BTreeMap (String Global) A) → IsOrdered string_cmp m → values_return m.entries
       → Means (map_calls calls m.entries) (Some (table (map_members meant m.entries)))
+  unfolding Means
   map_means m ordered all =
       let more = entries_mean m.entries all in
       record {

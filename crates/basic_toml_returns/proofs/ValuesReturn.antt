@@ -23,6 +23,7 @@ data_is_held (d.table ms) =
     ap (λ x. Some x) (tree-kept (written_of (d.table ms)) ∙ data_is_kept (d.table ms))
 
 pub data_means : (x : Data) → Means (data_calls x) (Some x)
+unfolding Means
 data_means x = record { value = written_of x; spelled = data_is_spelled x; whole = data_is_held x }
 
 pub table_means : (t : List (List ℕ × Value))

@@ -1,11 +1,12 @@
 // What is written of records and of other forms, and what a record is read back as.
-use basic_toml::{Float, to_string};
+use basic_toml::{Float, from_str, to_string};
 use basic_toml_returns::write_then_read;
 use std::alloc::{AllocError, Global};
 use std::collections::BTreeMap;
 use std::test::Fail;
 use toml_callers::forms::{Entry, Point, Present, Wrapper};
 use toml_callers::records::{Choice, Job, Rule, Server};
+use toml_callers::types::Service;
 
 fn rule(alloc: Global, pattern: &str, limit: u32) -> Result<Rule, AllocError> {
     let pattern = String::from_str(alloc, pattern)?;
@@ -119,5 +120,19 @@ fn a_record_returns(rt: HostRuntime) -> Result<(), Fail> {
     assert_eq!(rt; server.host_name.as_str(), "localhost");
     assert_eq!(rt; server.rules.len(), 2);
     assert_eq!(rt; server.rules[1].limit, 120);
+    Ok(())
+}
+
+#[test]
+fn a_record_of_sixteen_fields_returns(rt: HostRuntime) -> Result<(), Fail> {
+    let alloc = rt.alloc();
+    let text =
+        "name = \"a\"\nenabled = true\npriority = -1\noffset = -2\nlevel = -3\nbalance = -4\n\
+                retries = 1\nport = 2\nbacklog = 3\ntimeout = 4\nratio = 0.5\n\
+                tags = [\"x\", \"y\"]\ncolor = \"blue\"\nlog = \"z\"\n\n[limits]\nmemory = 5\n";
+    let service: Service = from_str(alloc, text)?;
+    assert_eq!(rt; to_string(alloc, &service)?.as_str(), text);
+    let service = write_then_read(alloc, &service)?;
+    assert_eq!(rt; to_string(alloc, &service)?.as_str(), text);
     Ok(())
 }
