@@ -21,6 +21,7 @@
 #![tactic(auto)]
 
 mod de;
+mod failure;
 mod fault;
 mod format;
 mod log;

@@ -25,6 +25,8 @@ pub fn to_string<T: Serialize>(alloc: Global, value: &T) -> Result<String, Error
     ensures { IfOk result (λ text. IsWritten (T.writes value.now) (string_bytes text)) }
 {
     let mut out = Writer::new(alloc);
-    value.serialize(&mut out)?;
-    Ok(out.finish()?)
+    match value.serialize(&mut out) {
+        Ok(()) => Ok(out.finish()?),
+        Err(failure) => Err(Error::from(out.error(failure))),
+    }
 }
