@@ -10,7 +10,7 @@ use std::alloc::Global;
 /// The TOML text of a value of a type that derives.
 ///
 /// ```text
-/// let text = to_string(alloc, &manifest)?;
+/// to_string(alloc, &value)
 /// ```
 ///
 /// This is from the program `derived_manifest`. A record is a table, as [`basic_toml::to_string`] lays it out, so its
