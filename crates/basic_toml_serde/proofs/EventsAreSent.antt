@@ -1,7 +1,7 @@
 -- Items that are sent for one event after another, and the text of them.
-use Rattle.std.proofs.Common.{◌≡◌, ℕ, ℤ, Bool, true, false, ◌&&◌, ◌==◌, ap, List, [], ◌∷◌, ◌++◌, Option, Some, None, Result, Ok, Err, OnOk, MatchOption, refl}
+use Rattle.std.proofs.Common.{◌≡◌, ℕ, ℤ, Bool, true, false, ap, List, [], ◌∷◌, ◌++◌, Option, Some, None, Result, Ok, Err, OnOk, MatchOption, refl}
 use Rattle.std.proofs.Common.{String, Global, string_bytes, subst, sym, append_assoc, inl, inr, ◌∙◌, Vec, length}
-use Rattle.std.proofs.Common.{option_to_list, unwrap_or, ◌+◌}
+use Rattle.std.proofs.Common.{option_to_list, unwrap_or, is_ok, is_some, ◌+◌}
 use Rattle.std.specs.Vec.{vec_len}
 use Rattle.std.proofs.lemmas.List.{append-nil}
 use Rattle.std.specs.Prelude.{⊤, FitsSigned}
@@ -25,18 +25,22 @@ use Rattle.serde.proofs.Spellings.{spelled-AsIs}
 use Rattle.serde.specs.declared.name.Case.{Case}
 use Rattle.serde.specs.declared.name.Case.TheVariants.{AsIs}
 use Rattle.serde.specs.declared.name.NameKind.{NameKind}
-use Rattle.serde.specs.declared.name.NameKind.TheVariants.{Field, Variant}
+use Rattle.serde.specs.declared.name.NameKind.TheVariants.{Variant}
 use Rattle.basic_toml_serde.specs.Sent.{Place, start, Puts, Adds, AddsScalar, AddsKey, AddsName, AddsInteger}
-use Rattle.basic_toml_serde.specs.Sent.{AddsFloat, AddsOctets, AddsNothing, BeginsMap, EndsMap, joined, closed, none_open, Sends, SendsAll}
+use Rattle.basic_toml_serde.specs.Sent.{AddsFloat, AddsOctets, AddsNothing, BeginsMapAs, EndsMap, joined, closed, none_open, Sends, SendsAll}
+use Rattle.basic_toml_serde.specs.declared.failure.Failure.{Failure}
 use Rattle.basic_toml_serde.specs.declared.sender.Next.{Next}
 use Rattle.basic_toml_serde.specs.Sending.{place_of, Records, SendsBy, HasSent}
 use Rattle.basic_toml_serde.specs.Written.{IsTextOf}
 use Rattle.basic_toml_serde.specs.declared.sender.Sender.{Sender}
 use Rattle.basic_toml_serde.specs.declared.sender.Next.TheVariants.{Value, Key, Members}
 
--- what a call answers
+-- what a call answers, and what an event does
 abbrev Answer : Type 0
 Answer = Result (Unit {0}) WriteError
+
+abbrev Outcome : Type 0
+Outcome = Result (Unit {0}) Failure
 
 -- a call that met no error has recorded its items
 no_error : (items : List Item) (new : Serializer) (o : Option WriteError)
@@ -44,6 +48,12 @@ no_error : (items : List Item) (new : Serializer) (o : Option WriteError)
     → HasRecorded new items
 no_error items new None goes answers = goes
 no_error items new (Some e) goes answers = absurd answers
+
+-- the same, where the error is asked for
+unmet : (items : List Item) (new : Serializer) (o : Option WriteError)
+    → MatchOption o (HasRecorded new items) (λ e. Names e (ran items)) → is_some o ≡ false → HasRecorded new items
+unmet items new None goes none = goes
+unmet items new (Some e) goes none = absurd (cc)
 
 sent_on : (items : List Item) (G : List Item → WriteError → Type 0) (old new : Serializer)
     → s.Sends items G old new (Ok tt) → AnswersError old new (Ok tt) → Records items old new
@@ -64,75 +74,78 @@ records_none s = record { more = λ before recorded. subst (HasRecorded s) (sym 
 -- ---- one event
 
 -- a name as it is
-pub name_as_is : (kind : NameKind) (name : List ℕ) (case : Case) (old new : Sender) (r : Answer) → case ≡ AsIs
-    → OnOk r (SendsBy (AddsKey name) old new) → OnOk r (SendsBy (AddsName kind name case) old new)
-name_as_is kind name case old new r same by =
-    subst (λ c. OnOk r (SendsBy (AddsKey (spelled c kind name)) old new)) (sym same)
-    (subst (λ k. OnOk r (SendsBy (AddsKey k) old new)) (sym (spelled-AsIs kind name)) by)
+pub name_as_is : (kind : NameKind) (name : List ℕ) (case : Case) (old new : Sender) (q : Outcome) → case ≡ AsIs
+    → OnOk q (SendsBy (AddsKey name) old new) → OnOk q (SendsBy (AddsName kind name case) old new)
+name_as_is kind name case old new q same by =
+    subst (λ c. OnOk q (SendsBy (AddsKey (spelled c kind name)) old new)) (sym same)
+    (subst (λ k. OnOk q (SendsBy (AddsKey k) old new)) (sym (spelled-AsIs kind name)) by)
 
-pub variant_as_is : (name : List ℕ) (case : Case) (old new : Sender) (r : Answer) → case ≡ AsIs
-    → OnOk r (SendsBy (AddsScalar (w.other_text name)) old new)
-    → OnOk r (SendsBy (AddsScalar (w.other_text (spelled case Variant name))) old new)
-variant_as_is name case old new r same by =
-    subst (λ c. OnOk r (SendsBy (AddsScalar (w.other_text (spelled c Variant name))) old new)) (sym same)
-    (subst (λ k. OnOk r (SendsBy (AddsScalar (w.other_text k)) old new)) (sym (spelled-AsIs Variant name)) by)
+pub variant_as_is : (name : List ℕ) (case : Case) (old new : Sender) (q : Outcome) → case ≡ AsIs
+    → OnOk q (SendsBy (AddsScalar (w.other_text name)) old new)
+    → OnOk q (SendsBy (AddsScalar (w.other_text (spelled case Variant name))) old new)
+variant_as_is name case old new q same by =
+    subst (λ c. OnOk q (SendsBy (AddsScalar (w.other_text (spelled c Variant name))) old new)) (sym same)
+    (subst (λ k. OnOk q (SendsBy (AddsScalar (w.other_text k)) old new)) (sym (spelled-AsIs Variant name)) by)
 
--- what a call that is given a part answers: where a value comes next, where a key does, and of the key of a field
+-- the calls of a value that met no error
+value_on : (part : List Item) (G : List Item → WriteError → Type 0) (old new : Serializer) (r : Answer)
+    → s.Sends part G old new r → is_ok r ≡ true → is_some (s.error_of new) ≡ false → Records part old new
+value_on part G old new (Err e) sends is none = absurd (cc)
+value_on part G old new (Ok _) sends is none = record {
+  more = λ before recorded. unmet (before ++ part) new new.error (sends.goes before recorded) none;
+}
+
+-- what the calls of a value answer where a value comes next, those of a key, and the key of a field
 pub value_sent : (part : List Item) (G : List Item → WriteError → Type 0) (old : Sender) (ser : Serializer)
-    (r : Answer) → old.next ≡ Value → Passes [] part G old.ser ser r
-    → OnOk r (SendsBy (Adds part) old (record old { ser = ser }))
-value_sent part G old ser (Err e) at passes = tt
-value_sent part G old ser (Ok _) at passes = record {
+    (r : Answer) → old.next ≡ Value → s.Sends part G old.ser ser r → is_ok r ≡ true
+    → is_some (s.error_of ser) ≡ false → SendsBy (Adds part) old (record old { ser = ser })
+value_sent part G old ser r at sends is none = record {
   sent = part;
   goes = (subst (λ n. Puts n part part) (sym at) refl, refl);
-  recorded = passed [] part G old.ser ser passes;
+  recorded = value_on part G old.ser ser r sends is none;
 }
 
 pub key_sent : (part : List Item) (G : List Item → WriteError → Type 0) (old : Sender) (ser : Serializer)
-    (r : Answer) → old.next ≡ Key → Passes (key ∷ []) part G old.ser ser r
-    → OnOk r (SendsBy (Adds part) old (record old { ser = ser }))
-key_sent part G old ser (Err e) at passes = tt
-key_sent part G old ser (Ok _) at passes = record {
+    (r : Answer) (q : Outcome) → old.next ≡ Key → Passes (key ∷ []) part G old.ser ser r → OnOk q (r ≡ Ok tt)
+    → OnOk q (SendsBy (Adds part) old (record old { ser = ser }))
+key_sent part G old ser r (Err e) at passes taken = tt
+key_sent part G old ser r (Ok _) at passes taken = record {
   sent = key ∷ part;
   goes = (subst (λ n. Puts n part (key ∷ part)) (sym at) refl, refl);
-  recorded = passed (key ∷ []) part G old.ser ser passes;
+  recorded = passed (key ∷ []) part G old.ser ser (subst (λ a. Passes (key ∷ []) part G old.ser ser a) taken passes);
 }
 
 pub name_sent : (k : List ℕ) (G : List Item → WriteError → Type 0) (old : Sender) (ser : Serializer) (r : Answer)
-    → Passes (field k ∷ []) [] G old.ser ser r → OnOk r (SendsBy (AddsKey k) old (record old { ser = ser }))
-name_sent k G old ser (Err e) passes = tt
-name_sent k G old ser (Ok _) passes = record {
+    (q : Outcome) → Passes (field k ∷ []) [] G old.ser ser r → OnOk q (r ≡ Ok tt)
+    → OnOk q (SendsBy (AddsKey k) old (record old { ser = ser }))
+name_sent k G old ser r (Err e) passes taken = tt
+name_sent k G old ser r (Ok _) passes taken = record {
   sent = field k ∷ [];
   goes = (refl, refl);
-  recorded = passed (field k ∷ []) [] G old.ser ser passes;
+  recorded = passed (field k ∷ []) [] G old.ser ser (subst (λ a. Passes (field k ∷ []) [] G old.ser ser a) taken passes);
 }
 
--- what a call of its own answers: where a value comes next, and at the end of an array
-pub call_sent : (part : List Item) (old : Sender) (ser : Serializer) (r : Answer) → old.next ≡ Value
-    → Takes part old.ser ser r → OnOk r (SendsBy (Adds part) old (record old { ser = ser }))
-call_sent part old ser (Err e) at takes = tt
-call_sent part old ser (Ok _) at takes = record {
-  sent = part;
-  goes = (subst (λ n. Puts n part part) (sym at) refl, refl);
-  recorded = took part old.ser ser takes;
-}
+taken_by : (part : List Item) (old new : Serializer) (r : Answer) → Takes part old new r → r ≡ Ok tt
+    → Records part old new
+taken_by part old new r takes taken = took part old new (subst (λ a. Takes part old new a) taken takes)
 
-pub end_sent : (old : Sender) (ser : Serializer) (r : Answer) → Takes (close ∷ []) old.ser ser r
-    → OnOk r (SendsBy (Sends seq_ends) old (record old { ser = ser }))
-end_sent old ser (Err e) takes = tt
-end_sent old ser (Ok _) takes = record {
+-- what the end of an array answers
+pub end_sent : (old : Sender) (ser : Serializer) (r : Answer) (q : Outcome) → Takes (close ∷ []) old.ser ser r
+    → OnOk q (r ≡ Ok tt) → OnOk q (SendsBy (Sends seq_ends) old (record old { ser = ser }))
+end_sent old ser r (Err e) takes taken = tt
+end_sent old ser r (Ok _) takes taken = record {
   sent = close ∷ [];
   goes = (refl, refl);
-  recorded = took (close ∷ []) old.ser ser takes;
+  recorded = taken_by (close ∷ []) old.ser ser r takes taken;
 }
 
-pub integer_sent : (z : ℤ) (old new : Sender) (r : Answer) → OnOk r (SendsBy (AddsScalar (w.integer z)) old new)
-    → OnOk r (SendsBy (AddsInteger z) old new)
+pub integer_sent : (z : ℤ) (old new : Sender) (q : Outcome) → OnOk q (SendsBy (AddsScalar (w.integer z)) old new)
+    → OnOk q (SendsBy (AddsInteger z) old new)
 integer_sent z old new (Err e) by = tt
 integer_sent z old new (Ok _) by = record { sent = by.sent; goes = inl by.goes; recorded = by.recorded }
 
-pub integer_refused : (z : ℤ) (old new : Sender) (r : Answer) → (FitsSigned w64 z → ⊥)
-    → OnOk r (SendsBy (AddsScalar w.refused) old new) → OnOk r (SendsBy (AddsInteger z) old new)
+pub integer_refused : (z : ℤ) (old new : Sender) (q : Outcome) → (FitsSigned w64 z → ⊥)
+    → OnOk q (SendsBy (AddsScalar w.refused) old new) → OnOk q (SendsBy (AddsInteger z) old new)
 integer_refused z old new (Err e) unfit by = tt
 integer_refused z old new (Ok _) unfit by = record { sent = by.sent; goes = inr (unfit, by.goes); recorded = by.recorded }
 
@@ -141,8 +154,8 @@ abbrev pub FloatText : Option (List ℕ) → Place → List Item → Place → T
 FloatText found old sent new =
     MatchOption found (AddsScalar w.refused old sent new) (λ f. AddsScalar (w.float f) old sent new)
 
-pub float_sent : (found : Option (List ℕ)) (old new : Sender) (r : Answer)
-    → OnOk r (SendsBy (FloatText found) old new) → OnOk r (SendsBy AddsFloat old new)
+pub float_sent : (found : Option (List ℕ)) (old new : Sender) (q : Outcome)
+    → OnOk q (SendsBy (FloatText found) old new) → OnOk q (SendsBy AddsFloat old new)
 float_sent found old new (Err e) by = tt
 float_sent None old new (Ok _) by = record { sent = by.sent; goes = inr by.goes; recorded = by.recorded }
 float_sent (Some t) old new (Ok _) by = record { sent = by.sent; goes = inl (t, by.goes); recorded = by.recorded }
@@ -158,24 +171,24 @@ deeper old mid maps pushed at =
     ∙ ap (λ (p : Place). placed (p.maps ++ false ∷ []) p.next) at
 
 -- what stands where no members of a map come next
-pub octets_sent : (bs : List ℕ) (old new : Sender) (r : Answer) (n : Next) → (n ≡ Members → ⊥)
-    → OnOk r (SendsBy (AddsScalar (w.bytes bs)) old new)
-    → OnOk r (SendsBy (λ at sent last. AddsOctets n bs at sent last) old new)
-octets_sent bs old new r Value other by = by
-octets_sent bs old new r Key other by = by
-octets_sent bs old new r Members other by = absurd (other refl)
+pub octets_sent : (bs : List ℕ) (old new : Sender) (q : Outcome) (n : Next) → (n ≡ Members → ⊥)
+    → OnOk q (SendsBy (AddsScalar (w.bytes bs)) old new)
+    → OnOk q (SendsBy (λ at sent last. AddsOctets n bs at sent last) old new)
+octets_sent bs old new q Value other by = by
+octets_sent bs old new q Key other by = by
+octets_sent bs old new q Members other by = absurd (other refl)
 
-pub nothing_sent : (old new : Sender) (r : Answer) (n : Next) → (n ≡ Members → ⊥)
-    → OnOk r (SendsBy (Adds (an_absent ∷ [])) old new)
-    → OnOk r (SendsBy (λ at sent last. AddsNothing n at sent last) old new)
-nothing_sent old new r Value other by = by
-nothing_sent old new r Key other by = by
-nothing_sent old new r Members other by = absurd (other refl)
+pub nothing_sent : (old new : Sender) (q : Outcome) (n : Next) → (n ≡ Members → ⊥)
+    → OnOk q (SendsBy (Adds (an_absent ∷ [])) old new)
+    → OnOk q (SendsBy (λ at sent last. AddsNothing n at sent last) old new)
+nothing_sent old new q Value other by = by
+nothing_sent old new q Key other by = by
+nothing_sent old new q Members other by = absurd (other refl)
 
 -- a map begins, as a table or as members of the map that is open
 pub map_begun : (old mid : Sender) (maps : Vec Bool Global) (n : Next) → old.next ≡ n → (n ≡ Members → ⊥)
     → SendsBy (Adds (open_table ∷ [])) old mid → maps.items ≡ mid.maps.items ++ false ∷ []
-    → SendsBy (λ at sent last. BeginsMap n at sent last) old (record mid { maps = maps })
+    → SendsBy (λ at sent last. BeginsMapAs n at sent last) old (record mid { maps = maps })
 map_begun old mid maps Value at other by pushed = record {
   sent = by.sent;
   goes = (subst (λ n. Puts n (open_table ∷ []) by.sent) at by.goes.0, deeper old mid maps pushed by.goes.1);
@@ -189,7 +202,7 @@ map_begun old mid maps Key at other by pushed = record {
 map_begun old mid maps Members at other by pushed = absurd (other refl)
 
 pub members_begun : (old : Sender) (maps : Vec Bool Global) → maps.items ≡ old.maps.items ++ true ∷ []
-    → SendsBy (λ at sent last. BeginsMap Members at sent last) old (record old { maps = maps; next = Value })
+    → SendsBy (λ at sent last. BeginsMapAs Members at sent last) old (record old { maps = maps; next = Value })
 members_begun old maps pushed = record {
   sent = [];
   goes = (refl, ap (λ (ms : List Bool). placed ms Value) pushed);
@@ -215,20 +228,21 @@ none_ends next [] [] same m n = none_open refl
 none_ends next [] (y ∷ ys) same m n = absurd (cc)
 none_ends next (x ∷ xs) ns same m n = absurd (cc)
 
-pub closed_ends : (p : Option Bool) (old : Sender) (maps : Vec Bool Global) (ser : Serializer) (r : Answer)
+pub closed_ends : (p : Option Bool) (old : Sender) (maps : Vec Bool Global) (ser : Serializer) (r : Answer) (q : Outcome)
     → old.maps.items ≡ maps.items ++ option_to_list p
     → MatchOption p ((vec_len old.maps ≡ 0) × (vec_len maps ≡ 0)) (λ _. vec_len maps + 1 ≡ vec_len old.maps)
     → unwrap_or p false ≡ false
-    → Takes (close ∷ []) old.ser ser r → OnOk r (SendsBy (Sends map_ends) old (left_by old maps ser))
-closed_ends p old maps ser (Err e) popped all is takes = tt
-closed_ends None old maps ser (Ok _) popped all is takes = record {
+    → Takes (close ∷ []) old.ser ser r → OnOk q (r ≡ Ok tt)
+    → OnOk q (SendsBy (Sends map_ends) old (left_by old maps ser))
+closed_ends p old maps ser r (Err e) popped all is takes taken = tt
+closed_ends None old maps ser r (Ok _) popped all is takes taken = record {
   sent = close ∷ [];
   goes = none_ends old.next old.maps.items maps.items popped (sym old.maps.ok.0 ∙ all.0) (sym maps.ok.0 ∙ all.1);
-  recorded = took (close ∷ []) old.ser ser takes;
+  recorded = taken_by (close ∷ []) old.ser ser r takes taken;
 }
-closed_ends (Some false) old maps ser (Ok _) popped all is takes =
-    record { sent = close ∷ []; goes = closed popped; recorded = took (close ∷ []) old.ser ser takes }
-closed_ends (Some true) old maps ser (Ok _) popped all is takes = absurd (cc)
+closed_ends (Some false) old maps ser r (Ok _) popped all is takes taken =
+    record { sent = close ∷ []; goes = closed popped; recorded = taken_by (close ∷ []) old.ser ser r takes taken }
+closed_ends (Some true) old maps ser r (Ok _) popped all is takes taken = absurd (cc)
 
 -- ---- one event after another
 
@@ -291,4 +305,4 @@ written_on es more e old new has_failed has by same none =
 
 pub ruleset parts_sent = (value_sent, key_sent, name_sent, nothing_yet, name_as_is)
 
-pub ruleset events_sent = (call_sent, end_sent, integer_sent, integer_refused, float_sent, octets_sent, nothing_sent, variant_as_is, map_begun, members_begun, joined_ends, closed_ends)
+pub ruleset events_sent = (end_sent, integer_sent, integer_refused, float_sent, octets_sent, nothing_sent, variant_as_is, map_begun, members_begun, joined_ends, closed_ends)

@@ -64,11 +64,18 @@ AddsNothing Value old sent new = Adds (an_absent ∷ []) old sent new
 AddsNothing Key old sent new = Adds (an_absent ∷ []) old sent new
 AddsNothing Members old sent new = (sent ≡ []) × (new ≡ record old { next = Value })
 
+-- an array
+abbrev pub BeginsArray : Place → List Item → Place → Type 0
+BeginsArray = Adds (open_array ∷ [])
+
 -- a table, or members of the map that is open
-abbrev pub BeginsMap : Next → Place → List Item → Place → Type 0
-BeginsMap Value old sent new = (sent ≡ open_table ∷ []) × (new ≡ record old { maps = old.maps ++ false ∷ [] })
-BeginsMap Key old sent new = (sent ≡ key ∷ open_table ∷ []) × (new ≡ record old { maps = old.maps ++ false ∷ [] })
-BeginsMap Members old sent new = (sent ≡ []) × (new ≡ record old { maps = old.maps ++ true ∷ []; next = Value })
+abbrev pub BeginsMapAs : Next → Place → List Item → Place → Type 0
+BeginsMapAs Value old sent new = (sent ≡ open_table ∷ []) × (new ≡ record old { maps = old.maps ++ false ∷ [] })
+BeginsMapAs Key old sent new = (sent ≡ key ∷ open_table ∷ []) × (new ≡ record old { maps = old.maps ++ false ∷ [] })
+BeginsMapAs Members old sent new = (sent ≡ []) × (new ≡ record old { maps = old.maps ++ true ∷ []; next = Value })
+
+abbrev pub BeginsMap : Place → List Item → Place → Type 0
+BeginsMap old = BeginsMapAs old.next old
 
 abbrev pub AddsKey : List ℕ → Place → List Item → Place → Type 0
 AddsKey k old sent new = (sent ≡ field k ∷ []) × (new ≡ old)
@@ -95,9 +102,9 @@ Sends (text s) old sent new = AddsScalar (w.text s) old sent new
 Sends (octets bs) old sent new = AddsOctets old.next bs old sent new
 Sends nothing old sent new = AddsNothing old.next old sent new
 Sends (unit_variant name case) old sent new = AddsScalar (w.other_text (spelled case Variant name)) old sent new
-Sends (seq_begins n) old sent new = Adds (open_array ∷ []) old sent new
+Sends (seq_begins n) old sent new = BeginsArray old sent new
 Sends seq_ends old sent new = (sent ≡ close ∷ []) × (new ≡ old)
-Sends (map_begins n) old sent new = BeginsMap old.next old sent new
+Sends (map_begins n) old sent new = BeginsMap old sent new
 Sends map_ends old sent new = EndsMap old sent new
 Sends (field_key name case) old sent new = AddsName Field name case old sent new
 Sends (variant_key name case) old sent new = AddsName Variant name case old sent new

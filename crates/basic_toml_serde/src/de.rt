@@ -15,7 +15,7 @@ use std::alloc::{AllocError, Global};
 /// Reads a value of a type that derives from a text (TOML v0.5.0, without dates and times).
 ///
 /// ```text
-/// let manifest: Manifest = from_str(alloc, text)?;
+/// let value: T = from_str(alloc, text)?;
 /// ```
 ///
 /// This is from the program `derived_manifest`.

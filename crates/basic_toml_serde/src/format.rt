@@ -1,7 +1,8 @@
 //! The steps of a reading.
 ghost use Rattle.std.specs.Prelude.{◌≡◌, ⊤, IfOk, IfSome, MatchOption, encode_utf8, slice_get};
 ghost use Rattle.basic_toml_serde.specs.Ahead.{item_at, container_at, IsAt, ComesBack};
-ghost use Rattle.basic_toml_serde.specs.Reports.{ReportsAt, array_at, refused_at, fails_by};
+ghost use Rattle.basic_toml_serde.specs.Reports.{ReportsAt, AfterStep};
+ghost use Rattle.basic_toml_serde.specs.declared.notes.Step.TheVariants as step;
 ghost use Rattle.basic_toml_serde.specs.Taken.{Stays, TakesInteger, PassesKey, Reads, Picks, Looks};
 
 use crate::fault::Fault;
@@ -385,8 +386,8 @@ impl<N: Source> Format for Reader<N> {
     }
 
     fn unknown_variant(&self) -> Fault
-        ensures { MatchOption self.now.notes ⊤ (λ notes. ReportsAt (fails_by notes.last N.fails_at N.fails_around)
-            (slice_get self.now.walk.list.items notes.variant_at) result) }
+        ensures { MatchOption self.now.notes ⊤ (λ notes. let item = slice_get self.now.walk.list.items notes.variant_at in
+            AfterStep step.Return notes.last (ReportsAt N.fails_at item result) (ReportsAt N.fails_around item result)) }
     {
         match &self.notes {
             Some(notes) => self.unknown_name(notes),
@@ -395,8 +396,8 @@ impl<N: Source> Format for Reader<N> {
     }
 
     fn wrong_len(&self) -> Fault
-        ensures { MatchOption self.now.notes ⊤ (λ notes. ReportsAt N.fails_at
-            (array_at notes.last (item_at self.now.walk) (container_at self.now.walk)) result) }
+        ensures { MatchOption self.now.notes ⊤ (λ notes. AfterStep step.Element notes.last
+            (ReportsAt N.fails_at (container_at self.now.walk) result) (ReportsAt N.fails_at (item_at self.now.walk) result)) }
     {
         match &self.notes {
             Some(notes) => self.wrong_length(notes),
@@ -405,8 +406,8 @@ impl<N: Source> Format for Reader<N> {
     }
 
     fn invalid(&self) -> Fault
-        ensures { MatchOption self.now.notes ⊤ (λ notes. ReportsAt N.fails_at
-            (refused_at notes.last (item_at self.now.walk) (container_at self.now.walk)) result) }
+        ensures { MatchOption self.now.notes ⊤ (λ notes. AfterStep step.Key notes.last
+            (ReportsAt N.fails_at (container_at self.now.walk) result) (ReportsAt N.fails_at (item_at self.now.walk) result)) }
     {
         match &self.notes {
             Some(notes) => self.invalid_value(notes),

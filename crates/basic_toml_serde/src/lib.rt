@@ -9,8 +9,8 @@
 //!     pub dependencies: BTreeMap<String, Dependency>,
 //! }
 //!
-//! let manifest: Manifest = from_str(alloc, text)?;
-//! let text = to_string(alloc, &manifest)?;
+//! let value: T = from_str(alloc, text)?;
+//! to_string(alloc, &value)
 //! ```
 //!
 //! This is from the program `derived_manifest`.
@@ -21,6 +21,7 @@
 #![tactic(auto)]
 
 mod de;
+mod failure;
 mod fault;
 mod format;
 mod log;

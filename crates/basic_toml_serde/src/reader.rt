@@ -1,7 +1,8 @@
 //! The state of a reading, and its errors.
 ghost use Rattle.std.specs.Prelude.{◌≡◌, None, Some, IfOk, IsNone, slice_get};
 ghost use Rattle.basic_toml_serde.specs.Ahead.{BeginsAt, item_at, container_at};
-ghost use Rattle.basic_toml_serde.specs.Reports.{Reports, StandsAt, ReportsAt, array_at, refused_at, fails_by};
+ghost use Rattle.basic_toml_serde.specs.Reports.{Reports, StandsAt, ReportsAt, AfterStep};
+ghost use Rattle.basic_toml_serde.specs.declared.notes.Step.TheVariants as step;
 ghost use Rattle.basic_toml_serde.specs.Taken.{integer_at, Stays, TakesInteger, BeginsArray, BeginsTable};
 
 use crate::fault::Fault;
@@ -267,8 +268,8 @@ impl<N: Source> Reader<N> {
     /// The error of a type that took the last step and then refused what it gave.
     #[cold]
     pub(crate) fn invalid_value(&self, notes: &Notes) -> Fault
-        ensures { ReportsAt N.fails_at
-            (refused_at notes.now.last (item_at self.now.walk) (container_at self.now.walk)) result }
+        ensures { AfterStep step.Key notes.now.last (ReportsAt N.fails_at (container_at self.now.walk) result)
+            (ReportsAt N.fails_at (item_at self.now.walk) result) }
     {
         let (Some(item), Some(container)) = (self.walk.peek(), self.walk.container()) else {
             return Fault::Misfit;
@@ -335,8 +336,8 @@ impl<N: Source> Reader<N> {
     /// A text is none of the variants. That of a tag, which is read ahead, stands where it is; another around it.
     #[cold]
     pub(crate) fn unknown_name(&self, notes: &Notes) -> Fault
-        ensures { ReportsAt (fails_by notes.now.last N.fails_at N.fails_around)
-            (slice_get self.now.walk.list.items notes.now.variant_at) result }
+        ensures { let item = slice_get self.now.walk.list.items notes.now.variant_at in
+            AfterStep step.Return notes.now.last (ReportsAt N.fails_at item result) (ReportsAt N.fails_around item result) }
     {
         let Some(item) = self.walk.item(notes.variant_at) else {
             return Fault::Misfit;
@@ -377,8 +378,8 @@ impl<N: Source> Reader<N> {
     /// An array is longer than its type, where the last step gave an element; else it is longer or shorter.
     #[cold]
     pub(crate) fn wrong_length(&self, notes: &Notes) -> Fault
-        ensures { ReportsAt N.fails_at
-            (array_at notes.now.last (item_at self.now.walk) (container_at self.now.walk)) result }
+        ensures { AfterStep step.Element notes.now.last (ReportsAt N.fails_at (container_at self.now.walk) result)
+            (ReportsAt N.fails_at (item_at self.now.walk) result) }
     {
         let (Some(item), Some(container)) = (self.walk.peek(), self.walk.container()) else {
             return Fault::Misfit;

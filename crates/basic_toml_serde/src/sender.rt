@@ -1,12 +1,13 @@
 //! What each event of a value is sent as to `basic_toml`'s serializer.
-ghost use Rattle.std.specs.Prelude.{◌≡◌, List, [], ◌∷◌, ◌++◌, OnOk, true, false};
-ghost use Rattle.serde.specs.Event.{boolean, signed, unsigned, single, double, character, text, octets, nothing, unit_variant, seq_begins, seq_ends, map_begins, map_ends, field_key, variant_key, key_begins, key_ends, flattens};
+ghost use Rattle.std.specs.Prelude.{◌≡◌, List, [], ◌∷◌, ◌++◌, Ok, OnOk, true, false};
+ghost use Rattle.serde.specs.Event.{boolean, signed, unsigned, single, double, character, text, octets, nothing, unit_variant, seq_ends, map_ends, field_key, variant_key, key_begins, key_ends, flattens};
 ghost use Rattle.basic_toml_emit.specs.Items.{Item};
 ghost use Rattle.basic_toml_write.specs.Serializer.{HasRecorded};
 ghost use Rattle.basic_toml_write.specs.Write.{IsLayout};
-ghost use Rattle.basic_toml_serde.specs.Sent.{Adds, AddsKey, AddsFloat, AddsFloatText, AddsName, Sends};
+ghost use Rattle.basic_toml_serde.specs.Sent.{Adds, AddsKey, AddsFloat, AddsFloatText, AddsName, BeginsArray, BeginsMap, Sends};
 ghost use Rattle.basic_toml_serde.specs.Sending.{SendsBy, HasSent};
 
+use crate::failure::Failure;
 use crate::parts::{KeyAlone, NoForm, Octets, OpensArray, OpensTable, VariantName};
 use basic_toml::{Float, Serialize, Serializer, WriteError};
 use serde::{Case, NameKind};
@@ -23,6 +24,17 @@ pub(crate) enum Next {
     Key,
     /// The members of a map, which go into the map that is open.
     Members,
+}
+
+/// The answer of a call, whose error the serializer keeps.
+#[inline(always)]
+fn taken(answer: Result<(), WriteError>) -> Result<(), Failure>
+    ensures { OnOk result (answer ≡ Ok tt) }
+{
+    if answer.is_ok() {
+        return Ok(());
+    }
+    Err(Failure::Refused)
 }
 
 /// Makes the calls of each event.
@@ -57,19 +69,33 @@ impl Sender {
 
     /// A value or a key, or what begins it.
     #[inline(always)]
-    fn value<T: Serialize>(&mut self, value: &T) -> Result<(), WriteError>
+    fn value<T: Serialize>(&mut self, value: &T) -> Result<(), Failure>
+        ensures { OnOk result (SendsBy (Adds (T.calls value.now)) self.old self.new) }
+    {
+        let Next::Value = self.next else {
+            return self.entry_key(value);
+        };
+        let answer = value.serialize(self.alloc, &mut self.ser);
+        if answer.is_ok() && !self.ser.has_refused() {
+            return Ok(());
+        }
+        Err(Failure::Refused)
+    }
+
+    /// The key of an entry, as a value.
+    #[inline(never)]
+    fn entry_key<T: Serialize>(&mut self, value: &T) -> Result<(), Failure>
         ensures { OnOk result (SendsBy (Adds (T.calls value.now)) self.old self.new) }
     {
         match self.next {
-            Next::Value => self.ser.serialize_newtype_struct("", value),
-            Next::Key => self.ser.serialize_key(value),
-            Next::Members => Err(WriteError::UnsupportedType),
+            Next::Key => taken(self.ser.serialize_key(value)),
+            Next::Value | Next::Members => Err(Failure::Unsupported),
         }
     }
 
     /// The key of a field or of a variant's data.
     #[inline(always)]
-    fn name(&mut self, kind: NameKind, name: &str, case: Case) -> Result<(), WriteError>
+    fn name(&mut self, kind: NameKind, name: &str, case: Case) -> Result<(), Failure>
         ensures { OnOk result (SendsBy (AddsName kind name.now case) self.old self.new) }
     {
         if case == Case::AsIs {
@@ -78,7 +104,9 @@ impl Sender {
         self.name_in_case(kind, name, case)
     }
 
-    fn name_in_case(&mut self, kind: NameKind, name: &str, case: Case) -> Result<(), WriteError>
+    #[cold]
+    #[inline(never)]
+    fn name_in_case(&mut self, kind: NameKind, name: &str, case: Case) -> Result<(), Failure>
         ensures { OnOk result (SendsBy (AddsName kind name.now case) self.old self.new) }
     {
         let mut text = String::new(self.alloc);
@@ -87,25 +115,26 @@ impl Sender {
     }
 
     /// The key of the next entry, without its value.
-    fn key(&mut self, key: &str) -> Result<(), WriteError>
+    #[inline(never)]
+    fn key(&mut self, key: &str) -> Result<(), Failure>
         ensures { OnOk result (SendsBy (AddsKey key.now) self.old self.new) }
     {
-        self.ser.serialize_field(key, &KeyAlone)
+        taken(self.ser.serialize_field(key, &KeyAlone))
     }
 
     /// A map is open, whose members go into the one around it or not.
-    fn push(&mut self, is_joined: bool) -> Result<(), WriteError>
+    fn push(&mut self, is_joined: bool) -> Result<(), Failure>
         ensures { OnOk result (self.new ≡ record self.old { maps = self.new.maps })
             × OnOk result (self.new.maps.items ≡ self.old.maps.items ++ is_joined ∷ []) }
     {
         match self.maps.push(is_joined) {
             Ok(()) => Ok(()),
-            Err(_) => Err(WriteError::OutOfMemory),
+            Err(_) => Err(Failure::OutOfMemory),
         }
     }
 
     /// A float by its shortest text; `wide` is the same number.
-    fn float<T: Display + Drop>(&mut self, value: T, wide: f64) -> Result<(), WriteError>
+    fn float<T: Display + Drop>(&mut self, value: T, wide: f64) -> Result<(), Failure>
         ensures { OnOk result (SendsBy (AddsFloat) self.old self.new) }
     {
         let mut text = String::new(self.alloc);
@@ -121,7 +150,7 @@ impl Sender {
     }
 
     /// A float by its text.
-    fn float_text(&mut self, text: &str) -> Result<(), WriteError>
+    fn float_text(&mut self, text: &str) -> Result<(), Failure>
         ensures { OnOk result (SendsBy (AddsFloatText text.now) self.old self.new) }
     {
         match Float::parse(self.alloc, text)? {
@@ -135,33 +164,27 @@ impl Sender {
 #[tactic(auto, using(crate::proofs::EventsAreSent::events_sent))]
 impl Sender {
     #[inline(always)]
-    pub(crate) fn bool(&mut self, v: bool) -> Result<(), WriteError>
+    pub(crate) fn bool(&mut self, v: bool) -> Result<(), Failure>
         ensures { OnOk result (SendsBy (Sends (boolean v)) self.old self.new) }
     {
-        match self.next {
-            Next::Value => self.ser.serialize_bool(v),
-            _ => self.value(&v),
-        }
+        self.value(&v)
     }
 
     #[inline(always)]
-    pub(crate) fn i64(&mut self, v: i64) -> Result<(), WriteError>
+    pub(crate) fn i64(&mut self, v: i64) -> Result<(), Failure>
         ensures { OnOk result (SendsBy (Sends (signed v)) self.old self.new) }
     {
         self.value(&v)
     }
 
     #[inline(always)]
-    pub(crate) fn u64(&mut self, v: u64) -> Result<(), WriteError>
+    pub(crate) fn u64(&mut self, v: u64) -> Result<(), Failure>
         ensures { OnOk result (SendsBy (Sends (unsigned v)) self.old self.new) }
     {
-        match self.next {
-            Next::Value => self.ser.serialize_u64(v),
-            _ => self.value(&v),
-        }
+        self.value(&v)
     }
 
-    pub(crate) fn i128(&mut self, v: i128) -> Result<(), WriteError>
+    pub(crate) fn i128(&mut self, v: i128) -> Result<(), Failure>
         ensures { OnOk result (SendsBy (Sends (signed v)) self.old self.new) }
     {
         match i64::try_from(v) {
@@ -170,7 +193,7 @@ impl Sender {
         }
     }
 
-    pub(crate) fn u128(&mut self, v: u128) -> Result<(), WriteError>
+    pub(crate) fn u128(&mut self, v: u128) -> Result<(), Failure>
         ensures { OnOk result (SendsBy (Sends (unsigned v)) self.old self.new) }
     {
         match i64::try_from(v) {
@@ -179,36 +202,33 @@ impl Sender {
         }
     }
 
-    pub(crate) fn f32(&mut self, v: f32) -> Result<(), WriteError>
+    pub(crate) fn f32(&mut self, v: f32) -> Result<(), Failure>
         ensures { OnOk result (SendsBy (Sends (single v)) self.old self.new) }
     {
         self.float(v, f64::from(v))
     }
 
-    pub(crate) fn f64(&mut self, v: f64) -> Result<(), WriteError>
+    pub(crate) fn f64(&mut self, v: f64) -> Result<(), Failure>
         ensures { OnOk result (SendsBy (Sends (double v)) self.old self.new) }
     {
         self.float(v, v)
     }
 
-    pub(crate) fn char(&mut self, v: char) -> Result<(), WriteError>
+    pub(crate) fn char(&mut self, v: char) -> Result<(), Failure>
         ensures { OnOk result (SendsBy (Sends (character v)) self.old self.new) }
     {
         self.value(&v)
     }
 
     #[inline(always)]
-    pub(crate) fn str(&mut self, v: &str) -> Result<(), WriteError>
+    pub(crate) fn str(&mut self, v: &str) -> Result<(), Failure>
         ensures { OnOk result (SendsBy (Sends (text v.now)) self.old self.new) }
     {
-        match self.next {
-            Next::Value => self.ser.serialize_str(v),
-            _ => self.value(&v),
-        }
+        self.value(&v)
     }
 
     /// An array of bytes; or a float by its text, where the members of a map would come.
-    pub(crate) fn bytes(&mut self, v: &[u8]) -> Result<(), WriteError>
+    pub(crate) fn bytes(&mut self, v: &[u8]) -> Result<(), Failure>
         ensures { OnOk result (SendsBy (Sends (octets v.now)) self.old self.new) }
     {
         let Next::Members = self.next else {
@@ -217,12 +237,12 @@ impl Sender {
         self.next = Next::Value;
         match str::from_utf8(v) {
             Ok(text) => self.float_text(text),
-            Err(_) => Err(WriteError::UnsupportedType),
+            Err(_) => Err(Failure::Unsupported),
         }
     }
 
     /// An option that is not there, or a unit, which cannot be told apart.
-    pub(crate) fn unit(&mut self) -> Result<(), WriteError>
+    pub(crate) fn unit(&mut self) -> Result<(), Failure>
         ensures { OnOk result (SendsBy (Sends nothing) self.old self.new) }
     {
         let Next::Members = self.next else {
@@ -232,7 +252,7 @@ impl Sender {
         Ok(())
     }
 
-    pub(crate) fn str_cased(&mut self, name: &str, case: Case) -> Result<(), WriteError>
+    pub(crate) fn str_cased(&mut self, name: &str, case: Case) -> Result<(), Failure>
         ensures { OnOk result (SendsBy (Sends (unit_variant name.now case)) self.old self.new) }
     {
         if case == Case::AsIs {
@@ -243,20 +263,20 @@ impl Sender {
         self.value(&VariantName(text.as_str()))
     }
 
-    pub(crate) fn begin_seq(&mut self, _len: Option<usize>) -> Result<(), WriteError>
-        ensures { OnOk result (SendsBy (Sends (seq_begins _len)) self.old self.new) }
+    pub(crate) fn begin_seq(&mut self) -> Result<(), Failure>
+        ensures { OnOk result (SendsBy BeginsArray self.old self.new) }
     {
         self.value(&OpensArray)
     }
 
-    pub(crate) fn end_seq(&mut self) -> Result<(), WriteError>
+    pub(crate) fn end_seq(&mut self) -> Result<(), Failure>
         ensures { OnOk result (SendsBy (Sends seq_ends) self.old self.new) }
     {
-        self.ser.end()
+        taken(self.ser.end())
     }
 
-    pub(crate) fn begin_map(&mut self, _len: Option<usize>) -> Result<(), WriteError>
-        ensures { OnOk result (SendsBy (Sends (map_begins _len)) self.old self.new) }
+    pub(crate) fn begin_map(&mut self) -> Result<(), Failure>
+        ensures { OnOk result (SendsBy BeginsMap self.old self.new) }
     {
         let Next::Members = self.next else {
             self.value(&OpensTable)?;
@@ -266,23 +286,23 @@ impl Sender {
         self.push(true)
     }
 
-    pub(crate) fn end_map(&mut self) -> Result<(), WriteError>
+    pub(crate) fn end_map(&mut self) -> Result<(), Failure>
         ensures { OnOk result (SendsBy (Sends map_ends) self.old self.new) }
     {
         if self.maps.pop().unwrap_or(false) {
             return Ok(());
         }
-        self.ser.end()
+        taken(self.ser.end())
     }
 
     #[inline(always)]
-    pub(crate) fn key_cased(&mut self, name: &str, case: Case) -> Result<(), WriteError>
+    pub(crate) fn key_cased(&mut self, name: &str, case: Case) -> Result<(), Failure>
         ensures { OnOk result (SendsBy (Sends (field_key name.now case)) self.old self.new) }
     {
         self.name(NameKind::Field, name, case)
     }
 
-    pub(crate) fn variant_key(&mut self, name: &str, case: Case) -> Result<(), WriteError>
+    pub(crate) fn variant_key(&mut self, name: &str, case: Case) -> Result<(), Failure>
         ensures { OnOk result (SendsBy (Sends (variant_key name.now case)) self.old self.new) }
     {
         self.name(NameKind::Variant, name, case)

@@ -10,7 +10,7 @@ use std::alloc::Global;
 /// The TOML text of a value of a type that derives.
 ///
 /// ```text
-/// let text = to_string(alloc, &manifest)?;
+/// to_string(alloc, &value)
 /// ```
 ///
 /// This is from the program `derived_manifest`. A record is a table, as [`basic_toml::to_string`] lays it out, so its
@@ -25,6 +25,8 @@ pub fn to_string<T: Serialize>(alloc: Global, value: &T) -> Result<String, Error
     ensures { IfOk result (λ text. IsWritten (T.writes value.now) (string_bytes text)) }
 {
     let mut out = Writer::new(alloc);
-    value.serialize(&mut out)?;
-    Ok(out.finish()?)
+    match value.serialize(&mut out) {
+        Ok(()) => Ok(out.finish()?),
+        Err(failure) => Err(Error::from(out.error(failure))),
+    }
 }
