@@ -1,34 +1,53 @@
-//! Reads a `Cargo.toml` from standard input and writes what it knows of it again. What is wrong goes to standard error,
-//! as `stdin:LINE:COLUMN: message` where it has a place, and then the status is 1.
+//! Reads each file that an argument names, a `Cargo.toml`, a `pyproject.toml` or a `settings.toml`, and writes what it
+//! knows of it again. What is wrong goes to standard error, as `FILE:LINE:COLUMN: message` where it has a place, and then
+//! the status is 1.
 #![tactic(auto)]
 
 mod manifest;
+mod project;
 mod report;
+mod settings;
 
 use basic_toml_serde::{Error, from_str, to_string};
 use manifest::Manifest;
+use project::Project;
 use report::report;
+use serde::{Deserialize, Serialize};
+use settings::Settings;
 use std::alloc::Global;
-use std::io;
 use std::process::ExitCode;
+use std::{env, fs, io};
 
 fn main(rt: HostRuntime) -> io::Result<ExitCode> {
-    let text = match io::read_to_string(rt.alloc(), rt.reader()) {
-        Ok(text) => text,
-        Err(e) => {
-            eprintln!(rt; "stdin: {e}")?;
-            return Ok(ExitCode::FAILURE);
+    for name in env::args(&rt)?.skip(1) {
+        let text = match fs::read_to_string(&rt, &name) {
+            Ok(text) => text,
+            Err(e) => {
+                eprintln!(rt; "{name}: {e}")?;
+                return Ok(ExitCode::FAILURE);
+            }
+        };
+        match written_as(rt.alloc(), name.as_str(), text.as_str()) {
+            Ok(text) => print!(rt; "{text}")?,
+            Err(e) => return report(&rt, name.as_str(), e),
         }
-    };
-    match written_again(rt.alloc(), text.as_str()) {
-        Ok(text) => print!(rt; "{text}")?,
-        Err(e) => return report(&rt, e),
     }
     Ok(ExitCode::SUCCESS)
 }
 
-/// What a manifest says, as it is written.
-fn written_again(alloc: Global, text: &str) -> Result<String, Error> {
-    let manifest: Manifest = from_str(alloc, text)?;
-    to_string(alloc, &manifest)
+/// What a file of this name says, as it is written.
+fn written_as(alloc: Global, name: &str, text: &str) -> Result<String, Error> {
+    match name {
+        "pyproject.toml" => written_again::<Project>(alloc, text),
+        "settings.toml" => written_again::<Settings>(alloc, text),
+        _ => written_again::<Manifest>(alloc, text),
+    }
+}
+
+fn written_again<'a, T: Deserialize<'a> + Serialize>(
+    alloc: Global,
+    text: &'a str,
+) -> Result<String, Error> {
+    let value: T = from_str(alloc, text)?;
+    to_string(alloc, &value)
 }
