@@ -27,7 +27,7 @@ fn main(rt: HostRuntime) -> io::Result<ExitCode> {
                 return Ok(ExitCode::FAILURE);
             }
         };
-        match written_as(rt.alloc(), name.as_str(), text.as_str()) {
+        match rewrite_by_name(rt.alloc(), name.as_str(), text.as_str()) {
             Ok(text) => print!(rt; "{text}")?,
             Err(e) => return report(&rt, name.as_str(), e),
         }
@@ -35,16 +35,16 @@ fn main(rt: HostRuntime) -> io::Result<ExitCode> {
     Ok(ExitCode::SUCCESS)
 }
 
-/// What a file of this name says, as it is written.
-fn written_as(alloc: Global, name: &str, text: &str) -> Result<String, Error> {
+/// What a file of this name says, written anew.
+fn rewrite_by_name(alloc: Global, name: &str, text: &str) -> Result<String, Error> {
     match name {
-        "pyproject.toml" => written_again::<Project>(alloc, text),
-        "settings.toml" => written_again::<Settings>(alloc, text),
-        _ => written_again::<Manifest>(alloc, text),
+        "pyproject.toml" => rewrite::<Project>(alloc, text),
+        "settings.toml" => rewrite::<Settings>(alloc, text),
+        _ => rewrite::<Manifest>(alloc, text),
     }
 }
 
-fn written_again<'a, T: Deserialize<'a> + Serialize>(
+fn rewrite<'a, T: Deserialize<'a> + Serialize>(
     alloc: Global,
     text: &'a str,
 ) -> Result<String, Error> {

@@ -1,19 +1,19 @@
-//! What a server is told.
+//! The settings of a server.
 use serde::{Deserialize, Serialize};
 
-/// Where a server listens, and what it says where. It takes no other keys.
+/// Where a server listens, and where its messages go. No other keys are allowed.
 #[derive(Drop, Serialize, Deserialize)]
 #[serde(deny_unknown_fields)]
 pub struct Settings<'a> {
     pub host: &'a str,
-    #[serde(default = "usual_port")]
+    #[serde(default = "default_port")]
     pub port: u16,
     pub timeout: Option<f64>,
     #[serde(borrow)]
     pub outputs: Vec<Output<'a>>,
 }
 
-/// Where it says something; the key `kind` says which of these.
+/// Where messages go; the key `kind` tells the cases apart.
 #[derive(Drop, Serialize, Deserialize)]
 #[serde(tag = "kind", rename_all = "kebab-case")]
 pub enum Output<'a> {
@@ -21,6 +21,6 @@ pub enum Output<'a> {
     StandardError,
 }
 
-fn usual_port() -> u16 {
+fn default_port() -> u16 {
     8080
 }
