@@ -2,3 +2,4 @@ pub mod PartsAdded
 pub mod ReadingEnds
 pub mod EventsAreSent
 pub mod Walks
+pub mod NamesKept

@@ -1,11 +1,13 @@
 pub mod Added
 pub mod Ahead
 pub mod Answers
+pub mod Integers
 pub mod Noted
 pub mod Parts
 pub mod Reports
 pub mod Sending
 pub mod Sent
+pub mod Spellings
 pub mod Taken
 pub mod Writing
 pub mod Written

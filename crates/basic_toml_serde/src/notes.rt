@@ -4,6 +4,9 @@
 //! fails, a second one takes the same steps and keeps these notes, from which the error is made. Where that error is
 //! about an integer, some more try which type asked for it: each answers at that step a number that is too large for
 //! one type.
+ghost use Rattle.std.specs.Prelude.{◌≡◌};
+ghost use Rattle.basic_toml_serde.specs.Integers.{least_above};
+
 use crate::fault::IntegerStep;
 use crate::names::Names;
 use serde::{Name, NameKind};
@@ -42,7 +45,9 @@ pub(crate) enum Narrow {
 
 impl Narrow {
     /// The least number above it.
-    pub(crate) fn too_large(self) -> i64 {
+    pub(crate) fn too_large(self) -> i64
+        ensures { result ≡ least_above self }
+    {
         match self {
             Narrow::I8 => 0x80,
             Narrow::I16 => 0x8000,
