@@ -3,6 +3,8 @@ pub mod TokenIsUnique
 pub mod StepIsTheFold
 pub mod RunsAreFound
 pub mod ClassesAreTests
+pub mod LanesTellTheRun
+pub mod RunsInBlocks
 pub mod DelimitersAreCounted
 pub mod SpacesAreRuns
 pub mod TextBetweenOffsets

@@ -16,3 +16,4 @@ pub mod Descriptions
 pub mod Line
 pub mod Statements
 pub mod Punctuation
+pub mod Lanes

@@ -4,6 +4,8 @@ ghost use Rattle.std.specs.Str.{IsCharBoundary};
 ghost use Rattle.basic_toml_tokens.specs.Reading.{IsRun};
 ghost use Rattle.basic_toml_tokens.specs.Class.{passes};
 
+use crate::lanes::{LANES, run_in_block};
+
 /// What a run is of. None holds a line feed or a carriage return.
 #[derive(Clone, Copy, Drop)]
 pub enum Class {
@@ -75,6 +77,11 @@ pub(crate) fn is_in(class: Class, byte: u8) -> bool
     CLASSES[byte as usize] & bit != 0
 }
 
+// Whether runs of a class are often longer than a byte or two, so that whole blocks are looked at first.
+fn comes_in_blocks(class: Class) -> bool {
+    !matches!(class, Class::Blank)
+}
+
 /// The byte offset where the longest run of a class ends that stands at a byte offset.
 #[inline]
 pub fn end_of_run(text: &str, at: usize, class: Class) -> usize
@@ -84,6 +91,13 @@ pub fn end_of_run(text: &str, at: usize, class: Class) -> usize
 {
     let bytes = text.as_bytes();
     let mut end = at;
+    while comes_in_blocks(class) && bytes.len() - end >= LANES {
+        let run = run_in_block(class, bytes, end);
+        end += run;
+        if run < LANES {
+            return end;
+        }
+    }
     while end < bytes.len() && is_in(class, bytes[end]) {
         end += 1;
     }

@@ -16,6 +16,7 @@
 
 mod class;
 mod error;
+mod lanes;
 pub mod laws;
 mod line;
 mod punctuation;
