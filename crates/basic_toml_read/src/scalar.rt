@@ -48,6 +48,7 @@ fn refused(refusal: TokenStop, at: usize, why: Why) -> Stop
 }
 
 /// The key at an offset.
+#[inline(always)]
 pub(crate) fn key_at<'de>(alloc: Global, text: &'de str, at: usize) -> Result<Keyed<'de>, Stop>
     requires { IsCharBoundary text.now at }
     ensures read { ReadsKeyAt text.now at result }

@@ -143,6 +143,7 @@ impl<'t, 'de> Node<'t, 'de> {
     }
 
     // A node below this table at a key.
+    #[inline(always)]
     pub(crate) fn below(self, key: &'t str, child: &'t Child<'de>) -> Node<'t, 'de>
         ensures data { node_data result ≡ child_data child.now }
         ensures below { IsBelow self.entry (child_trie child.now) result }
@@ -174,6 +175,7 @@ impl<'t, 'de> Node<'t, 'de> {
     }
 
     // The keys that lead to what stands at a key below this table, which this section first mentioned.
+    #[inline(always)]
     fn trail_below(self, key: &'t str, section: usize, spot: Spot<'t, 'de>) -> Trail<'t>
         ensures keys { GoesOn self.entry key.now spot.entry result }
         ensures row { BeginsRow self.entry key.now section spot.entry result }
@@ -266,6 +268,7 @@ impl<'t, 'de> Node<'t, 'de> {
     }
 
     /// The value at a key, if it is a table that has the key.
+    #[inline(always)]
     pub fn get(self, key: &str) -> Option<Node<'t, 'de>>
         ensures data { MatchOption result (data_at (node_data self.entry) key.now ≡ None)
             (λ node. data_at (node_data self.entry) key.now ≡ Some (node_data node)) }

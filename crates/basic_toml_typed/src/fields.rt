@@ -72,6 +72,7 @@ pub fn read_optional<'de, T: Deserialize<'de>>(
 
 // What stands at a key of a table.
 #[tactic(auto, using(crate::proofs::FieldsFound::child_at_number))]
+#[inline(always)]
 fn field_at<'t, 'de>(
     alloc: Global,
     node: Node<'t, 'de>,
