@@ -1,12 +1,12 @@
 -- With its rows first a table has the same keys, each once.
-use Rattle.std.proofs.Common.{◌≡◌, ℕ, true, false, ◌||◌, ◌&&◌, not, List, [], ◌∷◌, ◌++◌, refl, sym, ◌∙◌, IsTrue, arith}
+use Rattle.std.proofs.Common.{◌≡◌, ℕ, true, false, ◌||◌, List, [], ◌∷◌, ◌++◌, refl, ◌∙◌, arith}
 use Rattle.std.proofs.Common.{cond, Bool, ap}
 use Rattle.std.specs.Str.{bytes_eq}
-use Rattle.basic_toml_value.specs.Data.{Data, Members, no_members, member}
+use Rattle.basic_toml_value.specs.Data.{Members, no_members, member}
 use Rattle.basic_toml_value.specs.Entries.{seen, texts_of}
 use Rattle.basic_toml_value.specs.Key.{key_bytes}
 use Rattle.basic_toml_value.specs.Keys.{is_among, are_distinct}
-use Rattle.basic_toml_value.specs.View.{view, entries}
+use Rattle.basic_toml_value.specs.View.{entries}
 use Rattle.basic_toml_value.specs.declared.pairs.Pair.{Pair}
 use Rattle.basic_toml_value.specs.declared.value.Value.{Value}
 use Rattle.basic_toml_value.proofs.DistinctKeys.{is_among-insert, bytes_eq_other}

@@ -4,4 +4,5 @@ pub mod RowsComeFirst
 pub mod MapsStayTheSame
 pub mod NoValueAfterTable
 pub mod StaysRecordable
+pub mod OrderIsSeen
 pub mod LawsHold

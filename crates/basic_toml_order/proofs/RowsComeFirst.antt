@@ -1,5 +1,5 @@
 -- With its rows first data is in order; and data that is in order stays as it is.
-use Rattle.std.proofs.Common.{◌≡◌, ℕ, Bool, true, false, ◌&&◌, cond, List, refl, sym, ap, ◌∙◌}
+use Rattle.std.proofs.Common.{◌≡◌, ℕ, Bool, true, false, cond, List, refl, ap, ◌∙◌}
 use Rattle.std.proofs.lemmas.Bool.{and_parts, and_from}
 use Rattle.basic_toml_value.specs.Data.{Data, integer, float, boolean, string, array, table, Items, no_items, item}
 use Rattle.basic_toml_value.specs.Data.{Members, no_members, member}
@@ -118,12 +118,12 @@ mutual
   stays (array xs) are = ap array (items_stay xs are)
   stays (table ms) are = let parts = and_parts _ _ are in ap table (members_stay ms parts.0 parts.1)
 
-  items_stay : (xs : Items) → hold_in_order xs ≡ true → items_rows_first xs ≡ xs
+  pub items_stay : (xs : Items) → hold_in_order xs ≡ true → items_rows_first xs ≡ xs
   items_stay no_items are = refl
   items_stay (item d xs) are = let parts = and_parts _ _ are in
       ap2 item (stays d parts.0) (items_stay xs parts.1)
 
-  members_stay : (ms : Members) → are_in_order ms ≡ true → lead_in_order ms ≡ true → members_rows_first ms ≡ ms
+  pub members_stay : (ms : Members) → are_in_order ms ≡ true → lead_in_order ms ≡ true → members_rows_first ms ≡ ms
   members_stay no_members are lead = refl
   members_stay (member k d ms) are lead = let parts = and_parts _ _ lead in
       member_stays k d ms (is_section d) are (stays d parts.0) (λ rest. members_stay ms rest parts.1)

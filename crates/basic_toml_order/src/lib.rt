@@ -5,6 +5,7 @@
 //! written, and uses only `is_section` of `basic_toml_layout`.
 #![tactic(auto)]
 
+mod in_order;
 pub mod laws;
 mod order;
 

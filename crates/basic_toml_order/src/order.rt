@@ -10,9 +10,14 @@ ghost use Rattle.basic_toml_order.specs.RowsFirst as f;
 ghost use Rattle.basic_toml_order.specs.Sound.{is_sound, are_sound, hold_sound};
 ghost use Rattle.basic_toml_order.specs.Writable.{is_unwritable};
 
+use crate::in_order::{are_elements_in_order, is_table_in_order};
 use basic_toml_layout::is_section;
 use basic_toml_value::{Index, Pair, Pairs, Table, Value};
 use std::alloc::{AllocError, Global};
+
+// On how many levels it is looked at whether a table or an array has its rows first already: the table itself, what
+// stands in it, and what stands in that.
+const LOOKS: usize = 3;
 
 /// A copy of a table with its rows first, as [`into_rows_first`] makes it of the table itself.
 ///
@@ -54,48 +59,67 @@ pub fn into_rows_first(alloc: Global, table: Table) -> Result<Table, AllocError>
     ensures written { IfOk result (λ moved. is_unsupported nesting_limit (written_of (d.table (entries moved)))
         ≡ is_unwritable (d.table (entries table))) }
 {
-    table_rows_first(alloc, table)
+    table_rows_first(alloc, table, LOOKS)
 }
 
-// A value, and elements, with their rows first.
+// A value, and elements, with their rows first. An array or a table that has them first already is answered as it is,
+// if it stands on one of the `looks` upper levels. A look walks over all that is below, so each value is looked at at
+// most that many times, however deep it stands.
 #[cycle(moves)]
-fn value_rows_first(alloc: Global, value: Value) -> Result<Value, AllocError>
+fn value_rows_first(alloc: Global, value: Value, looks: usize) -> Result<Value, AllocError>
     ensures order { IfOk result (λ moved. view moved ≡ f.rows_first (view value)) }
     ensures sound { IfOk result (λ _. IsTrue (is_sound (view value))) }
 {
     match value {
-        Value::Array(values) => Ok(Value::Array(elements_rows_first(alloc, values)?)),
-        Value::Table(table) => Ok(Value::Table(table_rows_first(alloc, table)?)),
+        Value::Array(values) => Ok(Value::Array(elements_rows_first(alloc, values, looks)?)),
+        Value::Table(table) => Ok(Value::Table(table_rows_first(alloc, table, looks)?)),
         scalar => Ok(scalar),
     }
 }
 
 #[cycle(moves)]
-fn elements_rows_first(alloc: Global, values: Vec<Value>) -> Result<Vec<Value>, AllocError>
+#[tactic(auto, using(crate::proofs::OrderIsSeen::items_as_they_are))]
+fn elements_rows_first(
+    alloc: Global,
+    values: Vec<Value>,
+    looks: usize,
+) -> Result<Vec<Value>, AllocError>
     ensures order { IfOk result (λ moved. items_view moved.items ≡ f.items_rows_first (items_view values.items)) }
     ensures sound { IfOk result (λ _. IsTrue (are_sound (items_view values.items))) }
 {
+    if looks > 0 && are_elements_in_order(values.as_slice()) {
+        return Ok(values);
+    }
+    let looks_below = looks.saturating_sub(1);
     let mut moved = Vec::with_capacity(alloc, values.len())?;
     for value in values {
-        moved.push(value_rows_first(alloc, value)?)?;
+        moved.push(value_rows_first(alloc, value, looks_below)?)?;
     }
     Ok(moved)
 }
 
-// A table with its rows first. Its keys stand at other positions, so it gets an index anew.
+// A table with its rows first. Where it is moved its keys stand at other positions, so it gets an index anew.
 #[cycle(moves)]
-fn table_rows_first(alloc: Global, table: Table) -> Result<Table, AllocError>
+#[tactic(auto, using(crate::proofs::OrderIsSeen::members_as_they_are))]
+fn table_rows_first(alloc: Global, table: Table, looks: usize) -> Result<Table, AllocError>
     ensures order { IfOk result (λ moved. entries moved ≡ f.members_rows_first (entries table)) }
     ensures sound { IfOk result (λ _. IsTrue (is_sound (d.table (entries table)))) }
 {
-    let pairs = pairs_rows_first(alloc, table.into_entries())?;
+    if looks > 0 && is_table_in_order(&table) {
+        return Ok(table);
+    }
+    let pairs = pairs_rows_first(alloc, table.into_entries(), looks.saturating_sub(1))?;
     let index = Index::of(alloc, &pairs)?;
     Ok(Pairs::from_parts(pairs, index))
 }
 
 // The pairs of a table: those that are rows, and then those that are sections.
 #[cycle(moves)]
-fn pairs_rows_first(alloc: Global, pairs: Vec<Pair<Value>>) -> Result<Vec<Pair<Value>>, AllocError>
+fn pairs_rows_first(
+    alloc: Global,
+    pairs: Vec<Pair<Value>>,
+    looks: usize,
+) -> Result<Vec<Pair<Value>>, AllocError>
     ensures order { IfOk result
         (λ moved. entries (seen moved.items) ≡ f.members_rows_first (entries (seen pairs.items))) }
     ensures sound { IfOk result (λ _. IsTrue (hold_sound (entries (seen pairs.items)))) }
@@ -105,7 +129,7 @@ fn pairs_rows_first(alloc: Global, pairs: Vec<Pair<Value>>) -> Result<Vec<Pair<V
     for pair in pairs {
         let Pair { key, value } = pair;
         let is_section = is_section(&value);
-        let value = value_rows_first(alloc, value)?;
+        let value = value_rows_first(alloc, value, looks)?;
         if is_section {
             sections.push(Pair { key, value })?;
         } else {

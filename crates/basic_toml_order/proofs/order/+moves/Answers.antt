@@ -7,7 +7,7 @@ use Rattle.basic_toml_value.specs.View.{entries, items_view}
 use Rattle.basic_toml_value.specs.declared.pairs.Pair.{Pair}
 use Rattle.basic_toml_value.specs.declared.value.Value.{Value}
 use Rattle.basic_toml_value.proofs.Sizes.{items_size, members_size}
-use Rattle.basic_toml_order.specs.RowsFirst.{followed_by, members_rows_first, rows_of, sections_of}
+use Rattle.basic_toml_order.specs.RowsFirst.{followed_by, members_rows_first, rows_of}
 use Rattle.basic_toml_write.specs.DataFits.{member_keys}
 use Rattle.basic_toml_order.specs.Sound.{hold_sound}
 use Rattle.basic_toml_order.proofs.KeysStayDistinct.{member_keys-seen, distinct-rows_first}
