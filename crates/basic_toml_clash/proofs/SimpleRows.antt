@@ -4,7 +4,7 @@ use Rattle.std.specs.Prelude.{◌&&◌}
 use Rattle.basic_toml_value.specs.Keys.{is_among, are_distinct}
 use Rattle.basic_toml_read.specs.declared.section.Row.{Row, out-Row}
 use Rattle.basic_toml_clash.specs.Plain.{is_plain}
-use Rattle.basic_toml_clash.specs.Simple.{are_simple, key_of}
+use Rattle.basic_toml_clash.specs.Simple.{are_simple, are_all_plain, key_of}
 
 both : (a b : Bool) → (a && b) ≡ true → (a ≡ true) × (b ≡ true)
 both true b is = (refl, is)
@@ -31,3 +31,12 @@ keys_differ l [] simple = refl
 keys_differ l (r ∷ rs) simple =
     let first = first_is_simple l r rs simple in
     rw (first.apart, keys_differ l rs first.others) refl
+
+-- plain rows whose keys differ are simple
+pub simple_from_plain : (l : ℕ) (rows : List Row) → are_all_plain l rows ≡ true
+    → are_distinct (map key_of rows) ≡ true → are_simple l rows ≡ true
+simple_from_plain l [] plain distinct = refl
+simple_from_plain l (r ∷ rs) plain distinct =
+    let a = both (is_plain (out-Row r).value l) (are_all_plain l rs) plain in
+    let b = both (not (is_among (map key_of rs) (key_of r))) (are_distinct (map key_of rs)) distinct in
+    rw (a.0, b.0) (simple_from_plain l rs a.1 b.1)

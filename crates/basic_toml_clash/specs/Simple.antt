@@ -1,5 +1,6 @@
 -- Simple rows: each has a plain value and one key, which none of those after it has.
 use Rattle.std.specs.Prelude.{ℕ, Bool, true, not, ◌&&◌, List, [], ◌∷◌, map}
+use Rattle.std.specs.List.{list_all}
 use Rattle.basic_toml_value.specs.Keys.{is_among}
 use Rattle.basic_toml_read.specs.KeyText.{key_text_bytes}
 use Rattle.basic_toml_read.specs.declared.section.Row.{Row, out-Row}
@@ -12,3 +13,7 @@ key_of r = key_text_bytes (out-Row r).key
 abbrev pub are_simple : ℕ → List Row → Bool
 are_simple l [] = true
 are_simple l (r ∷ rs) = (is_plain (out-Row r).value l && not (is_among (map key_of rs) (key_of r))) && are_simple l rs
+
+-- each has one key and a plain value
+abbrev pub are_all_plain : ℕ → List Row → Bool
+are_all_plain l rows = list_all (λ r. is_plain (out-Row r).value l) rows

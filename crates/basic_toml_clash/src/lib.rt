@@ -2,7 +2,7 @@
 //!
 //! - [`crossed_value`]: rows that go on from a value.
 //! - [`Clash`]: why a section is not entered, with the error that names it.
-//! - [`are_plain`], [`are_simple`]: values and rows in which nothing can clash.
+//! - [`are_plain`], [`are_simple`], [`are_all_plain`]: values and rows in which nothing can clash.
 //! - [`drain`]: the items of a vector that shrinks as they are taken.
 //!
 //! `basic_toml_grow` keeps arrays that [`are_plain`] as they were read, takes rows that [`are_simple`] all at once, and
@@ -20,4 +20,4 @@ pub use clash::{Clash, Repeated, key_texts, texts_of};
 pub use crossed::crossed_value;
 pub use items_left::{ItemsLeft, drain};
 pub use plain::{are_plain, into_plain_values, plain_value, plain_values};
-pub use simple::are_simple;
+pub use simple::{are_all_plain, are_simple};

@@ -3,7 +3,7 @@
 
 ghost use Rattle.std.specs.Prelude.{◌≡◌, map};
 ghost use Rattle.basic_toml_value.specs.Keys.{is_among};
-ghost use Rattle.basic_toml_clash.specs.Simple.{are_simple as all_simple, key_of};
+ghost use Rattle.basic_toml_clash.specs.Simple.{are_simple as all_simple, are_all_plain as all_plain, key_of};
 
 use crate::plain::is_plain;
 use basic_toml_read::Row;
@@ -20,6 +20,19 @@ pub fn are_simple(rows: &[Row<'_>], level: usize) -> bool
         }
         None => true,
     }
+}
+
+/// Whether the rows of a table of a level are all plain: each has one key and a plain value. Rows of such whose keys
+/// differ are simple, so this serves very many rows, of which `are_simple` would compare each with all after it.
+pub fn are_all_plain(rows: &[Row<'_>], level: usize) -> bool
+    ensures { result ≡ all_plain level rows.now }
+{
+    for row in rows {
+        if !is_plain(&row.value, level) {
+            return false;
+        }
+    }
+    true
 }
 
 // Whether a row has this key.

@@ -21,7 +21,7 @@ ghost use Rattle.basic_toml_grow.specs.RowStops.{SaysHeld};
 ghost use Rattle.basic_toml_grow.specs.Rows.{all_dots, is_dot, reason, met_reason};
 
 use crate::item::{Child, Item, Table};
-use crate::simple::with_rows;
+use crate::simple::{index_of_simple, with_many_rows, with_rows};
 use basic_toml_clash::{Clash, are_plain, are_simple, drain, texts_of};
 use basic_toml_read::{Element, Raw, Row};
 use basic_toml_value::NESTING_LIMIT;
@@ -29,6 +29,9 @@ use std::alloc::{AllocError, AllocFailed, Global};
 
 // Of up to so many rows it is asked whether they are simple, since each key is then compared with all others.
 const FEW: usize = 16;
+
+// Of so many rows an index of the keys is made at once, by sorting them, where the rows are simple.
+const MANY: usize = 64;
 
 /// Why a row is not put into a table.
 #[derive(Clone, Copy, Drop)]
@@ -258,8 +261,8 @@ fn with_room<'de>(table: Box<Table<'de>>, more: usize) -> Result<Box<Table<'de>>
     Ok(table)
 }
 
-/// Puts rows into a table of a level, in order. A few simple ones go into a table without entries at once, others one
-/// by one. It is inlined, since most rows are simple.
+/// Puts rows into a table of a level, in order. Simple ones go into a table without entries at once, where they are few
+/// or many, and others one by one. It is inlined, since most rows are simple.
 #[cycle(finishing)]
 #[inline(always)]
 pub(crate) fn take_rows<'de>(
@@ -281,6 +284,35 @@ pub(crate) fn take_rows<'de>(
     }
     if table.entries.is_empty() && rows.len() <= FEW && are_simple(rows.as_slice(), level) {
         return Ok(with_rows(alloc, table, rows, section)?);
+    }
+    if rows.len() >= MANY {
+        return take_many(alloc, table, rows, section, level);
+    }
+    let room = room_for(rows.as_slice());
+    enter_rows(alloc, with_room(table, room)?, rows, section, level)
+}
+
+// Puts many rows into a table of a level: simple ones into a table without entries at once, others one by one.
+#[cycle(finishing)]
+#[inline(never)]
+fn take_many<'de>(
+    alloc: Global,
+    table: Box<Table<'de>>,
+    rows: Vec<Row<'de>>,
+    section: usize,
+    level: usize,
+) -> Result<Box<Table<'de>>, Clash>
+    requires { level ≤ nesting_limit }
+    ensures entered { EntersRows (rows_view rows.entry.items) level (table_trie table.entry.value) result }
+    ensures named { IfErr result (λ clash.
+        NamesStop (try_put_rows (rows_view rows.entry.items) (table_trie table.entry.value)) clash) }
+    ensures origins { IfOk result (λ after. table_within after.value
+        ≡ with_more (table_within table.entry.value) (rows_origins section (rows_view rows.entry.items))) }
+{
+    if table.entries.is_empty() {
+        if let Some(index) = index_of_simple(alloc, rows.as_slice(), level)? {
+            return Ok(with_many_rows(alloc, table, rows, section, index)?);
+        }
     }
     let room = room_for(rows.as_slice());
     enter_rows(alloc, with_room(table, room)?, rows, section, level)

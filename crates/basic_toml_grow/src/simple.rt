@@ -1,14 +1,17 @@
 //! Simple rows: a table without entries takes them all at once.
 
-ghost use Rattle.std.specs.Prelude.{◌≡◌, IfOk, IsTrue, map};
+ghost use Rattle.std.specs.Prelude.{◌≡◌, IfOk, IfSome, IsTrue, map, true};
 ghost use Rattle.basic_toml_value.specs.Keys.{are_distinct};
-ghost use Rattle.basic_toml_value.specs.Entries.{seen};
-ghost use Rattle.basic_toml_clash.specs.Simple.{key_of};
-ghost use Rattle.basic_toml_grow.specs.Simple.{entries_of as new_entries, item_of as kept_item, with_entries};
+ghost use Rattle.basic_toml_value.specs.Entries.{seen, pair_seen};
+ghost use Rattle.basic_toml_value.specs.Index.{IsIndex};
+ghost use Rattle.basic_toml_clash.specs.Simple.{key_of, are_simple};
+ghost use Rattle.basic_toml_grow.specs.Simple.{entry_of as new_entry, entries_of as new_entries, with_entries};
+ghost use Rattle.basic_toml_grow.specs.Simple.{item_of as kept_item};
 
 use crate::item::{Child, Item, Table};
+use basic_toml_clash::{are_all_plain, drain};
 use basic_toml_read::{Raw, Row};
-use basic_toml_value::{Index, Key, Pair, Pairs};
+use basic_toml_value::{Index, Key, Pair, Pairs, Texts};
 use std::alloc::{AllocError, Global};
 use std::mem;
 
@@ -29,6 +32,33 @@ fn item_of<'de>(value: Raw<'de>) -> Item<'de>
     }
 }
 
+// The entry that a row of a section becomes, of one key and a plain value.
+#[inline(always)]
+fn entry_of<'de>(
+    alloc: Global,
+    row: Row<'de>,
+    section: usize,
+) -> Result<Pair<Child<'de>>, AllocError>
+    ensures { IfOk result (λ entry. pair_seen entry ≡ new_entry section row.entry) }
+{
+    let Row {
+        key,
+        offset: _,
+        start,
+        value,
+    } = row;
+    let key = Key::from_str(alloc, key.as_str())?;
+    let item = item_of(value);
+    Ok(Pair {
+        key,
+        value: Child {
+            start,
+            section,
+            item,
+        },
+    })
+}
+
 // The entries that rows of a section become, each of one key and a plain value.
 fn entries_of<'de>(
     alloc: Global,
@@ -39,22 +69,22 @@ fn entries_of<'de>(
 {
     let mut entries = Vec::with_capacity(alloc, rows.len())?;
     for row in rows {
-        let Row {
-            key,
-            offset: _,
-            start,
-            value,
-        } = row;
-        let key = Key::from_str(alloc, key.as_str())?;
-        let item = item_of(value);
-        entries.push_reserved(Pair {
-            key,
-            value: Child {
-                start,
-                section,
-                item,
-            },
-        });
+        entries.push_reserved(entry_of(alloc, row, section)?);
+    }
+    Ok(entries)
+}
+
+// The same, of many rows, whose memory is given back on the way.
+fn many_entries_of<'de>(
+    alloc: Global,
+    rows: Vec<Row<'de>>,
+    section: usize,
+) -> Result<Vec<Pair<Child<'de>>>, AllocError>
+    ensures { IfOk result (λ entries. seen entries.items ≡ new_entries section rows.entry.items) }
+{
+    let mut entries = Vec::with_capacity(alloc, rows.len())?;
+    for row in drain(rows) {
+        entries.push(entry_of(alloc, row, section)?)?;
     }
     Ok(entries)
 }
@@ -74,6 +104,63 @@ pub(crate) fn with_rows<'de>(
 {
     let mut table = table;
     let entries = Pairs::from_parts(entries_of(alloc, rows, section)?, Index::none());
+    let _ = mem::replace(&mut table.entries, entries);
+    Ok(table)
+}
+
+// The keys of rows.
+#[derive(Drop)]
+struct RowKeys<'r, 'de> {
+    rows: &'r [Row<'de>],
+}
+
+impl<'r, 'de> Texts for RowKeys<'r, 'de> {
+    ghost use Rattle.std.specs.Prelude.{map};
+    ghost use Rattle.basic_toml_clash.specs.Simple.{key_of};
+
+    ghost texts = { λ keys. map key_of keys.rows.now };
+
+    fn count(&self) -> usize {
+        self.rows.len()
+    }
+
+    fn text(&self, position: usize) -> &str {
+        self.rows[position].key.as_str()
+    }
+}
+
+/// An index of the keys of rows of a table of a level, made at once, or `None` where the rows are not simple.
+#[inline(never)]
+pub(crate) fn index_of_simple(
+    alloc: Global,
+    rows: &[Row<'_>],
+    level: usize,
+) -> Result<Option<Index>, AllocError>
+    ensures index { IfOk result (λ found. IfSome found (λ index. IsIndex (map key_of rows.now) index)) }
+    ensures simple { IfOk result (λ found. IfSome found (λ index. are_simple level rows.now ≡ true)) }
+{
+    if !are_all_plain(rows, level) {
+        return Ok(None);
+    }
+    Index::of_any(alloc, &RowKeys { rows })
+}
+
+/// A table with many rows of a section in the place of its entries, and with an index of their keys. Memory is given
+/// back on the way.
+#[inline(never)]
+pub(crate) fn with_many_rows<'de>(
+    alloc: Global,
+    table: Box<Table<'de>>,
+    rows: Vec<Row<'de>>,
+    section: usize,
+    index: Index,
+) -> Result<Box<Table<'de>>, AllocError>
+    requires { IsIndex (map key_of rows.items) index }
+    ensures { IfOk result (λ after. after.value
+        ≡ with_entries table.entry.value (new_entries section rows.entry.items)) }
+{
+    let mut table = table;
+    let entries = Pairs::from_parts(many_entries_of(alloc, rows, section)?, index);
     let _ = mem::replace(&mut table.entries, entries);
     Ok(table)
 }

@@ -13,5 +13,6 @@ pub mod SearchFindsGap
 pub mod SeenPairs
 pub mod Sizes
 pub mod SlotsInLeaves
+pub mod SlotsSorted
 pub mod KeysSeen
 pub mod KeysChanged

@@ -4,7 +4,7 @@
 //! beside the ending of its text, so that most comparisons touch no text. A search is one walk: it answers the position
 //! of a key, or the gap where the key would go, and `insert` takes the gap.
 ghost use Rattle.std.specs.Prelude.{◌≡◌, List, ℕ, [], ◌∷◌, ◌++◌, length, false, Some, IsTrue, IfOk, OnOk, OnErr};
-ghost use Rattle.std.specs.Prelude.{slice_get};
+ghost use Rattle.std.specs.Prelude.{slice_get, IfSome, IfNone};
 ghost use Rattle.basic_toml_value.specs.Keys.{are_distinct, is_among};
 ghost use Rattle.basic_toml_value.specs.Index.{IsIndex, IsGap, IfAt, IfAbsent};
 
@@ -93,6 +93,28 @@ impl Index {
         Ok(Index {
             leaves: Some(Box::new(alloc, leaves)?),
         })
+    }
+
+    /// An index of any texts, made at once by sorting them, or `None` where two of them are the same.
+    ///
+    /// It serves very many texts: `of` and `insert` look for the place of each among those before it.
+    ///
+    /// # Errors
+    ///
+    /// `AllocError` where memory was refused.
+    pub fn of_any<T: Texts>(alloc: Global, texts: &T) -> Result<Option<Index>, AllocError>
+        ensures index { IfOk result (λ found. IfSome found (λ index. IsIndex (T.texts texts.now) index)) }
+        ensures repeat { IfOk result (λ found. IfNone found (are_distinct (T.texts texts.now) ≡ false)) }
+    {
+        if texts.count() == 0 {
+            return Ok(Some(Index::none()));
+        }
+        let Some(leaves) = leaves::leaves_of_any(alloc, texts)? else {
+            return Ok(None);
+        };
+        Ok(Some(Index {
+            leaves: Some(Box::new(alloc, leaves)?),
+        }))
     }
 
     /// The position of a key among the texts, or where it would go.

@@ -9,8 +9,11 @@ ghost use Rattle.basic_toml_value.specs.Index.{ending_of, is_sound, key_of, slot
 ghost use Rattle.basic_toml_value.specs.Index.{row_of, row_with, with_slot, joined, are_filled, IsRow};
 ghost use Rattle.basic_toml_value.specs.Index.{IsSorted, IsPlace, HoldsAt, IfAt, IfAbsent};
 
+mod sorted;
+
 use crate::index::ending::ending_of;
 use crate::index::{Found, Gap, Texts};
+pub use sorted::leaves_of_any;
 use std::alloc::{AllocError, Global};
 
 // How many slots any leaf has room for.

@@ -3,7 +3,6 @@ use Rattle.basic_toml_value.specs.Entries.{pair_seen}
 use Rattle.basic_toml_clash.proofs.DataParts.{mapped_next}
 use Rattle.basic_toml_grow.specs.Simple.{entry_of}
 use Rattle.basic_toml_clash.proofs.DataParts.{nothing_left, none_after}
-use Rattle.basic_toml_grow.proofs.SimpleRows.{same_entry}
 use Rattle.basic_toml_grow.proofs.simple.entries_of.Goals as goal
 
 pub loop-row-init : goal.loop-row-init
@@ -26,9 +25,8 @@ loop-row-preserved c =
     let left = ap length c.in-Some.ensures.steps.0 in (
       mapped_next pair_seen (entry_of c.args.section) c.loop-row.entries.items c.push_reserved.new.self.items
           c.loop-row.row-iterator.rest.items c.next.new.self.rest.items c.into_iter-row-iterator.result.rest.items
-          _ c.in-Some.row c.in-Some.ensures.steps.0 c.push_reserved.ensures.items c.loop-row.invariant.0
-          (same_entry c.args.section c.in-Some.row c.in_ok-key.key c.item_of-item.result
-          (c.in_ok-key.ensures.ok ∙ c.as_str.ensures.value) c.item_of-item.ensures),
+          c.in_ok-entry_of.field-0 c.in-Some.row c.in-Some.ensures.steps.0 c.push_reserved.ensures.items c.loop-row.invariant.0
+          c.in_ok-entry_of.ensures,
       omega (arith, left, c.loop-row.invariant.1, c.push_reserved.ensures.len, c.push_reserved.ensures.capacity),
     )
 
