@@ -1,4 +1,5 @@
 // Tables and their values, each call once: that it succeeds with ample memory.
+use basic_toml::{Error, from_str};
 use basic_toml_value::{Float, Index, Key, Pair, PushRefusal, Table, Value};
 use std::alloc::{AllocError, Global};
 use std::test::Fail;
@@ -127,6 +128,92 @@ fn makes_tables_of_parts(rt: HostRuntime) -> Result<(), Fail> {
     let key = String::from_str(rt.alloc(), "b")?;
     assert!(rt; table.push(key, Value::Boolean(true)).is_ok());
     assert_eq!(rt; table.len(), 2);
+    Ok(())
+}
+
+// Three hundred entries whose keys differ, in no order.
+fn many_entries(alloc: Global) -> Result<Vec<Pair<Value>>, AllocError> {
+    let mut entries = Vec::new(alloc);
+    for number in 0..300_u32 {
+        let key = Key::from_str(alloc, key_like_others(alloc, number)?.as_str())?;
+        let value = Value::Integer(number as i64);
+        entries.push(Pair { key, value })?;
+    }
+    Ok(entries)
+}
+
+#[test]
+fn makes_an_index_of_many_keys_at_once(rt: HostRuntime) -> Result<(), Fail> {
+    let entries = many_entries(rt.alloc())?;
+    let Some(index) = Index::of_any(rt.alloc(), &entries)? else {
+        panic!(rt; "the keys differ");
+    };
+    let mut table = Table::from_parts(entries, index);
+    for number in 300..500_u32 {
+        let key = key_like_others(rt.alloc(), number)?;
+        assert!(rt; table.push(key, Value::Integer(number as i64)).is_ok());
+    }
+    for number in 0..500_u32 {
+        let key = key_like_others(rt.alloc(), number)?;
+        let value = Value::Integer(number as i64);
+        assert!(rt; table.get(key.as_str()).is_some_and(|found| *found == value));
+    }
+    let other = key_like_others(rt.alloc(), 500)?;
+    assert!(rt; table.get(other.as_str()).is_none());
+    Ok(())
+}
+
+#[test]
+fn makes_no_index_where_a_key_repeats(rt: HostRuntime) -> Result<(), Fail> {
+    let mut entries = many_entries(rt.alloc())?;
+    let key = Key::from_str(rt.alloc(), key_like_others(rt.alloc(), 150)?.as_str())?;
+    let value = Value::Boolean(true);
+    entries.push(Pair { key, value })?;
+    assert!(rt; Index::of_any(rt.alloc(), &entries)?.is_none());
+    Ok(())
+}
+
+// A text of so many rows, whose keys fall or rise.
+fn many_rows(alloc: Global, count: u32, falls: bool) -> Result<String, AllocError> {
+    let mut text = String::new(alloc);
+    for number in 0..count {
+        let at = if falls { count - number } else { number };
+        text.push_str(format!(in alloc; "key-{at} = {number}\n")?.as_str())?;
+    }
+    Ok(text)
+}
+
+#[test]
+fn reads_tables_of_many_rows(rt: HostRuntime) -> Result<(), Fail> {
+    for count in 60..300_u32 {
+        let text = many_rows(rt.alloc(), count, count % 2 == 0)?;
+        let table: Table = from_str(rt.alloc(), text.as_str())?;
+        assert_eq!(rt; table.len(), count as usize);
+        let key = if count % 2 == 0 { "key-7" } else { "key-8" };
+        let number = if count % 2 == 0 {
+            count.saturating_sub(7)
+        } else {
+            8
+        };
+        assert!(rt;
+            table
+                .get(key)
+                .is_some_and(|found| *found == Value::Integer(number as i64))
+        );
+    }
+    Ok(())
+}
+
+#[test]
+fn tells_which_of_many_rows_repeats(rt: HostRuntime) -> Result<(), Fail> {
+    let mut text = many_rows(rt.alloc(), 100, false)?;
+    let offset = text.len();
+    text.push_str("key-40 = 0\n")?;
+    let read: Result<Table, Error> = from_str(rt.alloc(), text.as_str());
+    match read {
+        Err(error) => assert_eq!(rt; error.offset(), Some(offset)),
+        Ok(_) => panic!(rt; "a key repeats"),
+    }
     Ok(())
 }
 
