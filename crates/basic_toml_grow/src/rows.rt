@@ -285,31 +285,7 @@ pub(crate) fn take_rows<'de>(
     if table.entries.is_empty() && rows.len() <= FEW && are_simple(rows.as_slice(), level) {
         return Ok(with_rows(alloc, table, rows, section)?);
     }
-    if rows.len() >= MANY {
-        return take_many(alloc, table, rows, section, level);
-    }
-    let room = room_for(rows.as_slice());
-    enter_rows(alloc, with_room(table, room)?, rows, section, level)
-}
-
-// Puts many rows into a table of a level: simple ones into a table without entries at once, others one by one.
-#[cycle(finishing)]
-#[inline(never)]
-fn take_many<'de>(
-    alloc: Global,
-    table: Box<Table<'de>>,
-    rows: Vec<Row<'de>>,
-    section: usize,
-    level: usize,
-) -> Result<Box<Table<'de>>, Clash>
-    requires { level ≤ nesting_limit }
-    ensures entered { EntersRows (rows_view rows.entry.items) level (table_trie table.entry.value) result }
-    ensures named { IfErr result (λ clash.
-        NamesStop (try_put_rows (rows_view rows.entry.items) (table_trie table.entry.value)) clash) }
-    ensures origins { IfOk result (λ after. table_within after.value
-        ≡ with_more (table_within table.entry.value) (rows_origins section (rows_view rows.entry.items))) }
-{
-    if table.entries.is_empty() {
+    if rows.len() >= MANY && table.entries.is_empty() {
         if let Some(index) = index_of_simple(alloc, rows.as_slice(), level)? {
             return Ok(with_many_rows(alloc, table, rows, section, index)?);
         }

@@ -108,6 +108,9 @@ pub(crate) fn with_rows<'de>(
     Ok(table)
 }
 
+// Among so many of the first rows a repeat is looked for first.
+const FIRST: usize = 64;
+
 // The keys of rows.
 #[derive(Drop)]
 struct RowKeys<'r, 'de> {
@@ -139,10 +142,29 @@ pub(crate) fn index_of_simple(
     ensures index { IfOk result (λ found. IfSome found (λ index. IsIndex (map key_of rows.now) index)) }
     ensures simple { IfOk result (λ found. IfSome found (λ index. are_simple level rows.now ≡ true)) }
 {
-    if !are_all_plain(rows, level) {
+    if !are_all_plain(rows, level) || repeats_early(alloc, rows)? {
         return Ok(None);
     }
     Index::of_any(alloc, &RowKeys { rows })
+}
+
+// Whether a key repeats among the first rows: a few, four times as many, and so on. So what is sorted before a repeat is
+// seen is in proportion to the rows before it.
+fn repeats_early(alloc: Global, rows: &[Row<'_>]) -> Result<bool, AllocError> {
+    let mut count = FIRST;
+    for _ in 0..32 {
+        if count >= rows.len() / 2 {
+            break;
+        }
+        let first = RowKeys {
+            rows: &rows[..count],
+        };
+        if Index::of_any(alloc, &first)?.is_none() {
+            return Ok(true);
+        }
+        count = count.saturating_mul(4);
+    }
+    Ok(false)
 }
 
 /// A table with many rows of a section in the place of its entries, and with an index of their keys. Memory is given

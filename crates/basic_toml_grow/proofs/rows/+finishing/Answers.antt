@@ -367,24 +367,26 @@ take_rows-returns-then-are_simple-clause-origins t c =
     ∙ rows_come c.args.section c.args.level (omega arith) table none c.args.rows.items simple
 
 -- many simple rows, taken all at once
-pub take_many-returns-in-Some-clause-entered : goal.take_many-returns-in-Some-clause-entered
-take_many-returns-in-Some-clause-entered t c =
+pub take_rows-returns-in-Some-clause-entered : goal.take_rows-returns-in-Some-clause-entered
+take_rows-returns-in-Some-clause-entered t c =
     let table = c.args.table.value in
     let rows = c.args.rows.items in
-    let none = no_entries table c.deref.result.now c.is_empty.result c.deref.ensures c.is_empty.ensures
-    c.if-is_empty.true in
-    let simple = ap (are_simple c.args.level) (sym c.as_slice.ensures.value)
+    let none = no_entries table c.deref-then-len-ge-MANY.result.now c.is_empty-then-len-ge-MANY.result
+    c.deref-then-len-ge-MANY.ensures c.is_empty-then-len-ge-MANY.ensures
+    c.if-is_empty-3.true in
+    let simple = ap (are_simple c.args.level) (sym c.as_slice-then-is_empty-3.ensures.value)
     ∙ (rw c.in-Some.is at c.in_ok-index.ensures.simple) in
     subst (λ (t : Table). AreIn (rows_view rows) c.args.level (table_trie table) (table_trie t))
     (sym c.in_ok-with_many_rows.ensures) (rows_in c.args.section c.args.level (omega arith) table none rows simple)
 
-pub take_many-returns-in-Some-clause-origins : goal.take_many-returns-in-Some-clause-origins
-take_many-returns-in-Some-clause-origins t c =
+pub take_rows-returns-in-Some-clause-origins : goal.take_rows-returns-in-Some-clause-origins
+take_rows-returns-in-Some-clause-origins t c =
     let table = c.args.table.value in
     let rows = c.args.rows.items in
-    let none = no_entries table c.deref.result.now c.is_empty.result c.deref.ensures c.is_empty.ensures
-    c.if-is_empty.true in
-    let simple = ap (are_simple c.args.level) (sym c.as_slice.ensures.value)
+    let none = no_entries table c.deref-then-len-ge-MANY.result.now c.is_empty-then-len-ge-MANY.result
+    c.deref-then-len-ge-MANY.ensures c.is_empty-then-len-ge-MANY.ensures
+    c.if-is_empty-3.true in
+    let simple = ap (are_simple c.args.level) (sym c.as_slice-then-is_empty-3.ensures.value)
     ∙ (rw c.in-Some.is at c.in_ok-index.ensures.simple) in
     ap table_within c.in_ok-with_many_rows.ensures
     ∙ rows_come c.args.section c.args.level (omega arith) table none rows simple
