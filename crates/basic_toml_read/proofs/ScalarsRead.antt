@@ -12,7 +12,7 @@ use Rattle.basic_toml_tokens.specs.declared.string.Quoted.{Quoted}
 use Rattle.basic_toml_tokens.specs.declared.string.TokenStop.{TokenStop}
 use Rattle.basic_toml_tokens.specs.Text.{Text, text_at, run, after_run, is_keylike}
 use Rattle.basic_toml_tokens.specs.Reading.{between, IsRun}
-use Rattle.basic_toml_tokens.specs.String.{IsQuoted, IsRefused}
+use Rattle.basic_toml_tokens.specs.String.{IsSimple, IsQuoted, IsRefused}
 use Rattle.basic_toml_tokens.proofs.TextBetweenOffsets.{length-between}
 use Rattle.basic_toml_tokens.proofs.StepIsTheFold.{offset_is}
 use Rattle.basic_toml_tokens.proofs.TokenIsUnique.{no_break}
@@ -175,6 +175,16 @@ string_value bytes at q s =
     (record { offset = s.offset; value = sections.Raw.string (encode_utf8_all s.value); rest = s.rest })))
     (string_is bytes at q s)
     ∙ ap (λ (t : List ℕ). Some (record { offset = at; value = sections.Raw.string t; rest = text_at bytes q.end }))
+    (sym s.spelled)
+
+pub simple_value : (bytes : List ℕ) (at : ℕ) (body : List ℕ) (end : ℕ) → IsSimple bytes at body end
+    → string_value_at (text_at bytes at)
+    ≡ Some (record { offset = at; value = sections.Raw.string body; rest = text_at bytes end })
+simple_value bytes at body end s =
+    ap (λ o. and_then o (λ s. Some
+    (record { offset = s.offset; value = sections.Raw.string (encode_utf8_all s.value); rest = s.rest })))
+    (string_found s.string)
+    ∙ ap (λ (t : List ℕ). Some (record { offset = at; value = sections.Raw.string t; rest = text_at bytes end }))
     (sym s.spelled)
 
 -- words

@@ -1,7 +1,8 @@
 -- What each form of the code's values stands for.
 use Rattle.std.proofs.Common.{◌≡◌, ℕ, ℤ, List, [], ◌∷◌, ap, ◌∙◌, Some, None, Vec, Global, rules}
+use Rattle.std.specs.Borrow.{Bor}
 use Rattle.basic_toml_read.specs.declared.key_text.KeyText.{KeyText}
-use Rattle.basic_toml_read.specs.declared.section.Raw.{Raw, the_lemmas, Dot, Integer, Array, Inline}
+use Rattle.basic_toml_read.specs.declared.section.Raw.{Raw, the_lemmas, Dot, Integer, String, Array, Inline}
 use Rattle.basic_toml_read.specs.declared.section.Element.{Element, roll-Element}
 use Rattle.basic_toml_read.specs.declared.section.Row.{Row, roll-Row}
 use Rattle.basic_toml_grammar.specs.Sections as spec
@@ -19,6 +20,9 @@ inline_of v = search (rules, the_lemmas)
 
 pub integer_of : (z : ℤ) → raw_of (Integer z) ≡ Some (spec.Raw.integer z)
 integer_of z = search (rules, the_lemmas)
+
+pub string_of : (text : Bor (List ℕ)) → raw_of (String text) ≡ Some (spec.Raw.string text.now)
+string_of text = search (rules, the_lemmas)
 
 pub row_seen : (key : KeyText) (offset start : ℕ) (value : Raw)
     → lined_of (roll-Row (record { key = key; offset = offset; start = start; value = value }))

@@ -15,7 +15,7 @@ use crate::key_text::KeyText;
 use crate::section::Raw;
 use crate::word::{Word, value_offset, word_value};
 use basic_toml_explain::{End, Stop, Why};
-use basic_toml_tokens::{Class, Error, Quoted, TokenStop, end_of_run, string_at};
+use basic_toml_tokens::{Class, Error, Quoted, TokenStop, end_of_run, simple_string_at, string_at};
 use std::alloc::Global;
 use std::borrow::CowStr;
 
@@ -115,6 +115,13 @@ pub(crate) fn string_value_at<'de>(
     ensures read { ReadsStringAt text.now at result }
     ensures inside { IfErr result (λ stop. StopsInside text.now stop) }
 {
+    if let Some((value, end)) = simple_string_at(text, at) {
+        return Ok(Valued {
+            offset: at,
+            value: Raw::String(value),
+            end,
+        });
+    }
     match string_at(alloc, text, at) {
         Ok(quoted) => Ok(Valued {
             offset: at,

@@ -18,7 +18,7 @@ use Rattle.basic_toml_tokens.specs.Faults.{Breaks, BreaksString}
 use Rattle.basic_toml_tokens.specs.Reading.{between}
 use Rattle.basic_toml_tokens.specs.Copies.{is_special, NeedsMemory}
 use Rattle.basic_toml_tokens.specs.Quote.{kind_of, AreVerbatim, GoesOn}
-use Rattle.basic_toml_tokens.specs.String.{IsOpen, copied_of, is_owned, IsSlice, IsQuoted}
+use Rattle.basic_toml_tokens.specs.String.{IsOpen, copied_of, is_owned, IsSlice, IsSimple, IsQuoted}
 use Rattle.basic_toml_tokens.proofs.TextBetweenOffsets.{between_join}
 use Rattle.basic_toml_tokens.proofs.PiecesSoFar.{SoFar, pieces_join, pieces_one, special_between}
 
@@ -126,3 +126,29 @@ module _ (bytes : List ℕ) (start body kept at : ℕ) (quote : Quote) (copy : O
       or_false : (b : Bool) → (b || false) ≡ b
       or_false true = refl
       or_false false = refl
+
+-- a string of plain characters alone, where its delimiter stands once
+pub simple_closes : (bytes : List ℕ) (start body at end : ℕ) (quote : Quote) (plain tail : List ℕ)
+    → IsOpen bytes start quote body → SoFar (kind_of quote) bytes body body at None → quote.multiline ≡ false
+    → Closes (kind_of quote) (text_at bytes at) tail (text_at bytes end) → AreVerbatim bytes at at tail
+    → GoesOn bytes at end → plain ≡ between bytes body at → IsSimple bytes start plain end
+simple_closes bytes start body at end quote plain tail o s one_line c v g plain_is = record {
+  value = s.done ++ tail;
+  string = record {
+    kind = kind_of quote;
+    body = text_at bytes body;
+    opens = o.opens;
+    lines = one_line;
+    inside = s.done;
+    closer = text_at bytes at;
+    pieces = s.pieces;
+    tail = tail;
+    closes = c;
+    stands_for = refl;
+  };
+  spelled = plain_is ∙ sym (between_join bytes body at at s.kept_at v.forward) ∙
+      ap (λ (t : List ℕ). t ++ between bytes at at) (sym s.spelled) ∙
+      ap (λ (t : List ℕ). encode_utf8_all s.done ++ t) (sym v.spelled) ∙ sym (encodes-append s.done tail);
+  boundary = g.boundary;
+  forward = omega (arith, o.forward, s.body_kept, s.kept_at, v.forward, g.forward);
+}

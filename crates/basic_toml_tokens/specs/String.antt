@@ -44,6 +44,14 @@ IsSlice bytes start end (Borrowed text) = (i : ℕ) × (j : ℕ) × (start ≤ i
     × (text.now ≡ between bytes i j)
 IsSlice bytes start end (Owned text) = Unit {0}
 
+-- a one-line string in which each character stands for itself, and the text goes on at `end`
+pub record IsSimple (bytes : List ℕ) (start : ℕ) (body : List ℕ) (end : ℕ) : Type 0 where
+  pub value : List ℕ
+  pub string : IsString (text_at bytes start) start false value (text_at bytes end)
+  pub spelled : body ≡ encode_utf8_all value
+  pub boundary : IsCharBoundary bytes end
+  pub forward : start < end
+
 pub record IsQuoted (bytes : List ℕ) (start : ℕ) (quoted : Quoted) : Type 0 where
   pub value : List ℕ
   pub string : IsString (text_at bytes start) start quoted.multiline value (text_at bytes quoted.end)

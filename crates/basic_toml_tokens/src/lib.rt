@@ -34,6 +34,6 @@ pub use punctuation::{after_feed, after_punctuation};
 pub use scan::scan as token_at;
 pub use span::Span;
 pub use step::start as start_of_text;
-pub use string::{Quoted, TokenStop, string as string_at};
+pub use string::{Quoted, TokenStop, simple_string as simple_string_at, string as string_at};
 pub use token::Token;
 pub use tokenizer::Tokenizer;

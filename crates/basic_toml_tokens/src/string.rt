@@ -1,11 +1,11 @@
 //! Strings.
-ghost use Rattle.std.specs.Prelude.{◌≡◌, ◌<◌, ◌≤◌, ◌++◌, true, false, length, slice_index, is_some, IsOk, IfOk, MatchResult, string_bytes, encode_utf8_all};
+ghost use Rattle.std.specs.Prelude.{◌≡◌, ◌<◌, ◌≤◌, ◌++◌, true, false, length, slice_index, is_some, IsOk, IfOk, IfSome, MatchResult, string_bytes, encode_utf8_all};
 ghost use Rattle.std.specs.Str.{IsCharBoundary};
 ghost use Rattle.std.specs.Cow.{cow_str_bytes};
 ghost use Rattle.basic_toml_tokens.specs.Strings.{is_quote, is_plain};
 ghost use Rattle.basic_toml_tokens.specs.Class.{passes};
 ghost use Rattle.basic_toml_tokens.specs.Quote.{chars_of};
-ghost use Rattle.basic_toml_tokens.specs.String.{IsOpen, copied_of, is_owned, IsQuoted, IsRefused};
+ghost use Rattle.basic_toml_tokens.specs.String.{IsOpen, copied_of, is_owned, IsSimple, IsQuoted, IsRefused};
 
 use crate::Error;
 use crate::class::{Class, end_of_run};
@@ -106,6 +106,28 @@ fn plain_class(quote: Quote) -> Class
         Class::Basic
     } else {
         Class::Literal
+    }
+}
+
+/// The value of the string whose first delimiter stands at the byte offset `start`, and the byte offset after it, if
+/// the string stands on one line and each of its characters stands for itself. Where it answers `None`, [`string`] tells
+/// what stands there.
+#[inline]
+pub fn simple_string(text: &str, start: usize) -> Option<(&str, usize)>
+    requires boundary { IsCharBoundary text.now start }
+    requires within { start < length text.now }
+    requires quote { is_quote (slice_index text.now start) ≡ true }
+    ensures { IfSome result (λ found. IsSimple text.now start found.0.now found.1) }
+{
+    let (quote, body) = open(text, start);
+    if quote.multiline {
+        return None;
+    }
+    let last = end_of_run(text, body, plain_class(quote));
+    if last < text.len() && text.as_bytes()[last] == quote.delimiter {
+        Some((&text[body..last], last + 1))
+    } else {
+        None
     }
 }
 

@@ -6,8 +6,18 @@ use Rattle.basic_toml_explain.specs.declared.stop.Why.TheVariants.{Value}
 use Rattle.basic_toml_grammar.specs.Sections as sections
 use Rattle.std.specs.Prelude.{◌≡◌}
 use Rattle.basic_toml_read.specs.StopsAt.{MissesString}
-use Rattle.basic_toml_read.proofs.ScalarsRead.{string_value, string_refused}
+use Rattle.basic_toml_read.proofs.ScalarsRead.{simple_value, string_value, string_refused}
+use Rattle.basic_toml_read.proofs.ViewsSeen.{string_of}
 use Rattle.basic_toml_read.proofs.scalar.string_value_at.Goals as goal
+
+pub returns-in-Some-clause-read : goal.returns-in-Some-clause-read
+returns-in-Some-clause-read c = record {
+  raw = sections.Raw.string c.in-Some.value.now;
+  seen = string_of c.in-Some.value;
+  is = simple_value c.args.text.now c.args.at c.in-Some.value.now c.in-Some.end c.in-Some.ensures;
+  boundary = c.in-Some.ensures.boundary;
+  later = c.in-Some.ensures.forward;
+}
 
 pub returns-in-Ok-clause-read : goal.returns-in-Ok-clause-read
 returns-in-Ok-clause-read c = record {
