@@ -97,6 +97,7 @@ fn members_of<'t>(
     ensures err { IfErr result (IsRefused (spec.members_of form [] (members_view members.now))) }
 {
     let mut table = Table::new(alloc);
+    table.reserve(members.len())?;
     for i in 0..members.len() {
         let member = &members[i];
         let value = member_of(alloc, form, member)?;
@@ -121,12 +122,12 @@ fn put(alloc: Global, table: &mut Table, key: &str, value: Value) -> Result<(), 
     ensures new { OnOk result (has_key table.old key.now ≡ false) }
     ensures repeated { IfErr result (IsRepeated key.now (has_key table.old key.now)) }
 {
-    match table.push(String::from_str(alloc, key)?, value) {
+    match table.push_copy(key, value) {
         Ok(()) => Ok(()),
-        Err((PushRefusal::KeyPresent, path, _)) => Err(NoTable::Refused(Refusal {
+        Err(PushRefusal::KeyPresent) => Err(NoTable::Refused(Refusal {
             fault: Fault::RepeatedKey,
-            path,
+            path: String::from_str(alloc, key)?,
         })),
-        Err((PushRefusal::OutOfMemory, _, _)) => Err(NoTable::OutOfMemory),
+        Err(PushRefusal::OutOfMemory) => Err(NoTable::OutOfMemory),
     }
 }

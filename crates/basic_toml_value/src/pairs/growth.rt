@@ -7,7 +7,7 @@ ghost use Rattle.basic_toml_value.specs.Growth.{EntersKey};
 
 use crate::index::{Found, Gap, Index};
 use crate::key::Key;
-use crate::pairs::{Pair, Pairs};
+use crate::pairs::{Pair, Pairs, PushRefusal};
 use std::alloc::{AllocError, Global};
 use std::mem;
 
@@ -67,9 +67,9 @@ pub trait Blank {
 }
 
 impl<V: Drop> Pairs<V> {
-    ghost use Rattle.std.specs.Prelude.{◌≡◌, ◌<◌, length, IfSome, IsTrue, MatchOption, None, slice_get, Some};
+    ghost use Rattle.std.specs.Prelude.{◌≡◌, ◌<◌, ◌↔◌, [], ◌∷◌, ◌++◌, false, length, IfErr, IfSome, IsTrue, MatchOption, None, OnErr, OnOk, slice_get, Some};
     ghost use Rattle.basic_toml_value.specs.Keys.{are_distinct};
-    ghost use Rattle.basic_toml_value.specs.Pairs.{keys_of, value_at};
+    ghost use Rattle.basic_toml_value.specs.Pairs.{keys_of, has_key, value_at};
     ghost use Rattle.basic_toml_value.specs.Key.{key_bytes};
     ghost use Rattle.basic_toml_value.specs.Entries.{seen, texts_of};
     ghost use Rattle.basic_toml_value.specs.Index.{IsIndex};
@@ -85,6 +85,27 @@ impl<V: Drop> Pairs<V> {
         ensures { self.new ≡ self.old }
     {
         self.entries.try_reserve_exact(more)
+    }
+
+    /// Puts a value last with a copy of a key, unless the key is there.
+    ///
+    /// # Errors
+    ///
+    /// `KeyPresent` where the key is there, and `OutOfMemory` where memory was refused. The table stays as it was.
+    #[tactic(auto, using(crate::proofs::SeenPairs::seen_pairs))]
+    pub fn push_copy(&mut self, key: &str, value: V) -> Result<(), PushRefusal>
+        ensures ok { OnOk result (self.new ≡ self.old ++ (key.now, value) ∷ []) }
+        ensures absent { OnOk result (has_key self.old key.now ≡ false) }
+        ensures present { IfErr result (λ e. (e ≡ PushRefusal.KeyPresent) ↔ IsTrue (has_key self.old key.now)) }
+        ensures err_unchanged { OnErr result (self.new ≡ self.old) }
+    {
+        match self.index.search(&self.entries, key) {
+            Found::At(_) => Err(PushRefusal::KeyPresent),
+            Found::Absent(gap) => match add(&mut self.entries, &mut self.index, key, gap, value) {
+                Ok(_) => Ok(()),
+                Err(_) => Err(PushRefusal::OutOfMemory),
+            },
+        }
     }
 
     /// The pair of a key.
