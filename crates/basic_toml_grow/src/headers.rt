@@ -1,8 +1,9 @@
 //! Puts a section into the tree: the way of its header, and the table that the header names.
 
-ghost use Rattle.std.specs.Prelude.{◌≡◌, ◌≤◌, ◌<◌, ◌+◌, ℕ, false, [], ◌∷◌, length, IfOk, IfErr};
+ghost use Rattle.std.specs.Prelude.{◌≡◌, ◌≤◌, ◌<◌, ◌+◌, ℕ, false, [], ◌∷◌, ◌++◌, length, IfOk, IfErr, Some, None};
 ghost use Rattle.basic_toml_value.specs.Nesting.{nesting_limit};
-ghost use Rattle.basic_toml_grammar.specs.Trie.{put_element};
+ghost use Rattle.basic_toml_grammar.specs.Standing.{table as table_standing};
+ghost use Rattle.basic_toml_grammar.specs.Trie.{trie, no_tries, put_element};
 ghost use Rattle.basic_toml_grammar.specs.TrieStops.{try_by_keys, try_put_table, try_put_element};
 ghost use Rattle.basic_toml_read.specs.SectionView.{header_texts, rows_view};
 ghost use Rattle.basic_toml_grow.specs.declared.item.Table.{out-Table};
@@ -216,6 +217,22 @@ fn enter_at<'de>(
     enter_item(alloc, there, rest, is_array, rows, number, level)
 }
 
+// The tables of an array but for the latest, which goes to the others, and a table without entries in its box.
+fn with_blank<'de>(
+    alloc: Global,
+    before: Box<Vec<Table<'de>>>,
+    latest: Box<Table<'de>>,
+) -> Result<(Box<Vec<Table<'de>>>, Box<Table<'de>>), AllocError>
+    ensures before { IfOk result (λ out. out.0.value.items ≡ before.entry.value.items ++ latest.entry.value ∷ []) }
+    ensures blank { IfOk result (λ out. table_trie out.1.value
+        ≡ trie (Some (table_standing false false false)) None no_tries) }
+{
+    let mut before = before;
+    let mut latest = latest;
+    before.push(mem::replace(&mut *latest, Table::empty(alloc)))?;
+    Ok((before, latest))
+}
+
 // The array of tables in a table of a level, with one more element.
 fn add_element<'de>(
     alloc: Global,
@@ -234,13 +251,9 @@ fn add_element<'de>(
         GrowsAlong (number_step (count (item_trie there.entry)) ∷ []) new
         (item_origins there.entry start section) (item_origins after start section)) }
 {
-    let before = match there {
-        Item::Nothing => Box::new(alloc, Vec::new(alloc))?,
-        Item::Tables(before, latest) => {
-            let mut before = before;
-            before.push(Box::into_inner(latest))?;
-            before
-        }
+    let (before, table) = match there {
+        Item::Nothing => (Box::new(alloc, Vec::new(alloc))?, Table::new(alloc)?),
+        Item::Tables(before, latest) => with_blank(alloc, before, latest)?,
         Item::Table(table) => {
             return Err(if table.dotted {
                 Clash::Header(1)
@@ -252,7 +265,6 @@ fn add_element<'de>(
         }
         _other => return Err(Clash::Header(1)),
     };
-    let table = Table::new(alloc)?;
     let latest = open(alloc, table, rows, number, level + 2)?;
     Ok(Item::Tables(before, latest))
 }

@@ -3,6 +3,7 @@
 ghost use Rattle.std.specs.Prelude.{◌≡◌, IfOk, IfSome, IsTrue, map, true};
 ghost use Rattle.basic_toml_value.specs.Keys.{are_distinct};
 ghost use Rattle.basic_toml_value.specs.Entries.{seen, pair_seen};
+ghost use Rattle.basic_toml_value.specs.Key.{key_bytes};
 ghost use Rattle.basic_toml_value.specs.Index.{IsIndex};
 ghost use Rattle.basic_toml_clash.specs.Simple.{key_of, are_simple};
 ghost use Rattle.basic_toml_grow.specs.Simple.{entry_of as new_entry, entries_of as new_entries, with_entries};
@@ -32,31 +33,20 @@ fn item_of<'de>(value: Raw<'de>) -> Item<'de>
     }
 }
 
-// The entry that a row of a section becomes, of one key and a plain value.
+// The entry that a row of a section becomes, of one key and a plain value. The key is a copy of the row's.
 #[inline(always)]
-fn entry_of<'de>(
-    alloc: Global,
-    row: Row<'de>,
-    section: usize,
-) -> Result<Pair<Child<'de>>, AllocError>
-    ensures { IfOk result (λ entry. pair_seen entry ≡ new_entry section row.entry) }
+fn entry_of<'de>(key: Key, row: Row<'de>, section: usize) -> Pair<Child<'de>>
+    requires { key_bytes key ≡ key_of row }
+    ensures { pair_seen result ≡ new_entry section row.entry }
 {
-    let Row {
-        key,
-        offset: _,
-        start,
-        value,
-    } = row;
-    let key = Key::from_str(alloc, key.as_str())?;
-    let item = item_of(value);
-    Ok(Pair {
+    Pair {
         key,
         value: Child {
-            start,
+            start: row.start,
             section,
-            item,
+            item: item_of(row.value),
         },
-    })
+    }
 }
 
 // The entries that rows of a section become, each of one key and a plain value.
@@ -69,7 +59,8 @@ fn entries_of<'de>(
 {
     let mut entries = Vec::with_capacity(alloc, rows.len())?;
     for row in rows {
-        entries.push_reserved(entry_of(alloc, row, section)?);
+        let key = Key::from_str(alloc, row.key.as_str())?;
+        entries.push_reserved(entry_of(key, row, section));
     }
     Ok(entries)
 }
@@ -84,7 +75,8 @@ fn many_entries_of<'de>(
 {
     let mut entries = Vec::with_capacity(alloc, rows.len())?;
     for row in drain(rows) {
-        entries.push(entry_of(alloc, row, section)?)?;
+        let key = Key::from_str(alloc, row.key.as_str())?;
+        entries.push(entry_of(key, row, section))?;
     }
     Ok(entries)
 }

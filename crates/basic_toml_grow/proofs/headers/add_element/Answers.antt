@@ -15,59 +15,76 @@ use Rattle.basic_toml_grow.proofs.HeadersStopped.{stopped, first_stops, next_sto
 use Rattle.basic_toml_grow.specs.Origins.{rows_origins}
 use Rattle.basic_toml_grow.proofs.Origins.ElementsPlaceOrigins.{first_added, next_added}
 use Rattle.basic_toml_grow.proofs.headers.add_element.Goals as goal
-use Rattle.basic_toml_grow.proofs.headers.add_element.Goals.{in-Nothing+in_ok-before-in-Nothing, in-Tables+in_ok-push-in-Tables}
+use Rattle.basic_toml_grow.proofs.headers.add_element.Goals.{in-Nothing+in_ok-new-in-Nothing+in_ok-new-in-Nothing-2, in-Tables+in_ok-before-in-Tables}
 
 pub returns-in_err-latest-clause-entered : goal.returns-in_err-latest-clause-entered
 returns-in_err-latest-clause-entered c =
     let rows = rows_view c.args.rows.items in
+    let blank : table_trie c.match-there.before.1.value ≡ fresh =
+    elim c.match-there.branch [
+      | in-Nothing+in_ok-new-in-Nothing+in_ok-new-in-Nothing-2 w ↦ ap (λ p. table_trie p.1.value) w.before-is
+          ∙ w.in_ok-new-in-Nothing-2.ensures
+      | in-Tables+in_ok-before-in-Tables w ↦ ap (λ p. table_trie p.1.value) w.before-is
+          ∙ w.in_ok-before-in-Tables.ensures.blank
+    ] in
     let puts : put_element (rows_view c.args.rows.items) (item_trie c.args.there)
-    ≡ option_map (λ u. array_of (map table_trie c.match-there.before.value.items) u)
+    ≡ option_map (λ u. array_of (map table_trie c.match-there.before.0.value.items) u)
     (put_table (rows_view c.args.rows.items) fresh) =
     elim c.match-there.branch [
-      | in-Nothing+in_ok-before-in-Nothing w ↦ first_element rows c.args.there c.match-there.before.value.items w.in-Nothing.is
-          (ap (λ b. b.value.items) w.before-is ∙ ap (λ v. v.items) w.in_ok-before-in-Nothing.ensures.ok
+      | in-Nothing+in_ok-new-in-Nothing+in_ok-new-in-Nothing-2 w ↦ first_element rows c.args.there c.match-there.before.0.value.items w.in-Nothing.is
+          (ap (λ p. p.0.value.items) w.before-is ∙ ap (λ v. v.items) w.in_ok-new-in-Nothing.ensures.ok
           ∙ w.new.ensures.items)
-      | in-Tables+in_ok-push-in-Tables w ↦ next_element rows c.args.there w.in-Tables.before w.in-Tables.latest
-          c.match-there.before.value.items w.in-Tables.is
-          (ap (λ b. b.value.items) w.before-is ∙ w.in_ok-push-in-Tables.ensures.items
-          ∙ ap (λ v. v.items ++ w.into_inner.result ∷ []) w.deref_mut.ensures.value
-          ∙ ap (λ t. w.in-Tables.before.value.items ++ t ∷ []) w.into_inner.ensures)
+      | in-Tables+in_ok-before-in-Tables w ↦ next_element rows c.args.there w.in-Tables.before w.in-Tables.latest
+          c.match-there.before.0.value.items w.in-Tables.is
+          (ap (λ p. p.0.value.items) w.before-is ∙ w.in_ok-before-in-Tables.ensures.before)
     ] in
     failed (EntersItem (put_element rows (item_trie c.args.there)) rows (c.args.level + 2))
     c.from_residual-in_err-latest.result c.in_err-latest.field-0.0 c.from_residual-in_err-latest.ensures.1
-    (element_out c.in_err-latest.field-0.0 rows c.args.level (table_trie c.in_ok-table.table.value) c.args.there
-    c.match-there.before.value.items c.in_ok-table.ensures puts c.in_err-latest.ensures.entered)
+    (element_out c.in_err-latest.field-0.0 rows c.args.level (table_trie c.match-there.before.1.value) c.args.there
+    c.match-there.before.0.value.items blank puts c.in_err-latest.ensures.entered)
 
 pub returns-clause-entered : goal.returns-clause-entered
 returns-clause-entered c =
     let rows = rows_view c.args.rows.items in
+    let blank : table_trie c.match-there.before.1.value ≡ fresh =
+    elim c.match-there.branch [
+      | in-Nothing+in_ok-new-in-Nothing+in_ok-new-in-Nothing-2 w ↦ ap (λ p. table_trie p.1.value) w.before-is
+          ∙ w.in_ok-new-in-Nothing-2.ensures
+      | in-Tables+in_ok-before-in-Tables w ↦ ap (λ p. table_trie p.1.value) w.before-is
+          ∙ w.in_ok-before-in-Tables.ensures.blank
+    ] in
     let puts : put_element (rows_view c.args.rows.items) (item_trie c.args.there)
-    ≡ option_map (λ u. array_of (map table_trie c.match-there.before.value.items) u)
+    ≡ option_map (λ u. array_of (map table_trie c.match-there.before.0.value.items) u)
     (put_table (rows_view c.args.rows.items) fresh) =
     elim c.match-there.branch [
-      | in-Nothing+in_ok-before-in-Nothing w ↦ first_element rows c.args.there c.match-there.before.value.items w.in-Nothing.is
-          (ap (λ b. b.value.items) w.before-is ∙ ap (λ v. v.items) w.in_ok-before-in-Nothing.ensures.ok
+      | in-Nothing+in_ok-new-in-Nothing+in_ok-new-in-Nothing-2 w ↦ first_element rows c.args.there c.match-there.before.0.value.items w.in-Nothing.is
+          (ap (λ p. p.0.value.items) w.before-is ∙ ap (λ v. v.items) w.in_ok-new-in-Nothing.ensures.ok
           ∙ w.new.ensures.items)
-      | in-Tables+in_ok-push-in-Tables w ↦ next_element rows c.args.there w.in-Tables.before w.in-Tables.latest
-          c.match-there.before.value.items w.in-Tables.is
-          (ap (λ b. b.value.items) w.before-is ∙ w.in_ok-push-in-Tables.ensures.items
-          ∙ ap (λ v. v.items ++ w.into_inner.result ∷ []) w.deref_mut.ensures.value
-          ∙ ap (λ t. w.in-Tables.before.value.items ++ t ∷ []) w.into_inner.ensures)
+      | in-Tables+in_ok-before-in-Tables w ↦ next_element rows c.args.there w.in-Tables.before w.in-Tables.latest
+          c.match-there.before.0.value.items w.in-Tables.is
+          (ap (λ p. p.0.value.items) w.before-is ∙ w.in_ok-before-in-Tables.ensures.before)
     ] in
-    element_in rows c.args.level (table_trie c.in_ok-table.table.value) c.args.there
-    (Tables c.match-there.before c.in_ok-latest.latest) c.match-there.before
-    c.in_ok-latest.latest c.in_ok-table.ensures puts refl c.in_ok-latest.ensures.entered
+    element_in rows c.args.level (table_trie c.match-there.before.1.value) c.args.there
+    (Tables c.match-there.before.0 c.in_ok-latest.latest) c.match-there.before.0
+    c.in_ok-latest.latest blank puts refl c.in_ok-latest.ensures.entered
 
 pub returns-in_err-latest-clause-named : goal.returns-in_err-latest-clause-named
 returns-in_err-latest-clause-named c =
     let rows = rows_view c.args.rows.items in
-    let new = table_trie c.in_ok-table.table.value in
+    let blank : table_trie c.match-there.before.1.value ≡ fresh =
+    elim c.match-there.branch [
+      | in-Nothing+in_ok-new-in-Nothing+in_ok-new-in-Nothing-2 w ↦ ap (λ p. table_trie p.1.value) w.before-is
+          ∙ w.in_ok-new-in-Nothing-2.ensures
+      | in-Tables+in_ok-before-in-Tables w ↦ ap (λ p. table_trie p.1.value) w.before-is
+          ∙ w.in_ok-before-in-Tables.ensures.blank
+    ] in
+    let new = table_trie c.match-there.before.1.value in
     let clash = c.in_err-latest.field-0.0 in
     let on : (x : Stop) → try_put_table rows new ≡ stops x → try_put_element rows (item_trie c.args.there) ≡ stops x =
     elim c.match-there.branch [
-      | in-Nothing+in_ok-before-in-Nothing w ↦ first_stops rows c.args.there new w.in-Nothing.is c.in_ok-table.ensures
-      | in-Tables+in_ok-push-in-Tables w ↦ next_stops rows c.args.there w.in-Tables.before w.in-Tables.latest new
-          w.in-Tables.is c.in_ok-table.ensures
+      | in-Nothing+in_ok-new-in-Nothing+in_ok-new-in-Nothing-2 w ↦ first_stops rows c.args.there new w.in-Nothing.is blank
+      | in-Tables+in_ok-before-in-Tables w ↦ next_stops rows c.args.there w.in-Tables.before w.in-Tables.latest new
+          w.in-Tables.is blank
     ] in
     failed (λ r. IfErr r (λ clash. NamesStop (try_put_element rows (item_trie c.args.there)) clash))
     c.from_residual-in_err-latest.result clash c.from_residual-in_err-latest.ensures.1
@@ -77,15 +94,20 @@ returns-in_err-latest-clause-named c =
 pub returns-clause-origins : goal.returns-clause-origins
 returns-clause-origins c =
     let rows = rows_origins c.args.number (rows_view c.args.rows.items) in
+    let blank : table_trie c.match-there.before.1.value ≡ fresh =
     elim c.match-there.branch [
-      | in-Nothing+in_ok-before-in-Nothing w ↦ λ at s. first_added c.args.there at s c.match-there.before c.in_ok-table.table c.in_ok-latest.latest rows
-          c.in_ok-table.ensures c.in_ok-latest.ensures.origins w.in-Nothing.is
-          (ap (λ b. b.value.items) w.before-is ∙ ap (λ v. v.items) w.in_ok-before-in-Nothing.ensures.ok
+      | in-Nothing+in_ok-new-in-Nothing+in_ok-new-in-Nothing-2 w ↦ ap (λ p. table_trie p.1.value) w.before-is
+          ∙ w.in_ok-new-in-Nothing-2.ensures
+      | in-Tables+in_ok-before-in-Tables w ↦ ap (λ p. table_trie p.1.value) w.before-is
+          ∙ w.in_ok-before-in-Tables.ensures.blank
+    ] in
+    elim c.match-there.branch [
+      | in-Nothing+in_ok-new-in-Nothing+in_ok-new-in-Nothing-2 w ↦ λ at s. first_added c.args.there at s c.match-there.before.0 c.match-there.before.1 c.in_ok-latest.latest rows
+          blank c.in_ok-latest.ensures.origins w.in-Nothing.is
+          (ap (λ p. p.0.value.items) w.before-is ∙ ap (λ v. v.items) w.in_ok-new-in-Nothing.ensures.ok
           ∙ w.new.ensures.items)
-      | in-Tables+in_ok-push-in-Tables w ↦ λ at s. next_added c.args.there at s c.match-there.before c.in_ok-table.table
-          c.in_ok-latest.latest rows c.in_ok-table.ensures c.in_ok-latest.ensures.origins w.in-Tables.before
+      | in-Tables+in_ok-before-in-Tables w ↦ λ at s. next_added c.args.there at s c.match-there.before.0 c.match-there.before.1
+          c.in_ok-latest.latest rows blank c.in_ok-latest.ensures.origins w.in-Tables.before
           w.in-Tables.latest w.in-Tables.is
-          (ap (λ b. b.value.items) w.before-is ∙ w.in_ok-push-in-Tables.ensures.items
-          ∙ ap (λ v. v.items ++ w.into_inner.result ∷ []) w.deref_mut.ensures.value
-          ∙ ap (λ t. w.in-Tables.before.value.items ++ t ∷ []) w.into_inner.ensures)
+          (ap (λ p. p.0.value.items) w.before-is ∙ w.in_ok-before-in-Tables.ensures.before)
     ]

@@ -25,8 +25,8 @@ loop-row-preserved c =
     let left = ap length c.in-Some.ensures.steps.0 in (
       mapped_next pair_seen (entry_of c.args.section) c.loop-row.entries.items c.push_reserved.new.self.items
           c.loop-row.row-iterator.rest.items c.next.new.self.rest.items c.into_iter-row-iterator.result.rest.items
-          c.in_ok-entry_of.field-0 c.in-Some.row c.in-Some.ensures.steps.0 c.push_reserved.ensures.items c.loop-row.invariant.0
-          c.in_ok-entry_of.ensures,
+          c.entry_of.result c.in-Some.row c.in-Some.ensures.steps.0 c.push_reserved.ensures.items c.loop-row.invariant.0
+          c.entry_of.ensures,
       omega (arith, left, c.loop-row.invariant.1, c.push_reserved.ensures.len, c.push_reserved.ensures.capacity),
     )
 

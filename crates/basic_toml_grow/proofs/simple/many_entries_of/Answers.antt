@@ -6,5 +6,5 @@ use Rattle.basic_toml_grow.proofs.simple.many_entries_of.Goals as goal
 pub loop-row-preserved : goal.loop-row-preserved
 loop-row-preserved c =
     mapped_next pair_seen (entry_of c.args.section) c.loop-row.entries.items c.push.new.self.items
-    c.loop-row.row-iterator c.next.new.self c.into_iter-row-iterator.result c.in_ok-entry_of.field-0 c.in-Some.row
-    c.in-Some.ensures.steps c.in_ok-push.ensures.items c.loop-row.invariant c.in_ok-entry_of.ensures
+    c.loop-row.row-iterator c.next.new.self c.into_iter-row-iterator.result c.entry_of.result c.in-Some.row
+    c.in-Some.ensures.steps c.in_ok-push.ensures.items c.loop-row.invariant c.entry_of.ensures
