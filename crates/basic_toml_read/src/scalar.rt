@@ -115,13 +115,29 @@ pub(crate) fn string_value_at<'de>(
     ensures read { ReadsStringAt text.now at result }
     ensures inside { IfErr result (λ stop. StopsInside text.now stop) }
 {
-    if let Some((value, end)) = simple_string_at(text, at) {
-        return Ok(Valued {
+    match simple_string_at(text, at) {
+        Some((value, end)) => Ok(Valued {
             offset: at,
             value: Raw::String(value),
             end,
-        });
+        }),
+        None => any_string_value_at(alloc, text, at),
     }
+}
+
+// The same, where the string may have escapes or more than one line.
+#[inline(always)]
+fn any_string_value_at<'de>(
+    alloc: Global,
+    text: &'de str,
+    at: usize,
+) -> Result<Valued<'de>, Stop>
+    requires boundary { IsCharBoundary text.now at }
+    requires within { at < length text.now }
+    requires quote { is_quote (slice_index text.now at) ≡ true }
+    ensures read { ReadsStringAt text.now at result }
+    ensures inside { IfErr result (λ stop. StopsInside text.now stop) }
+{
     match string_at(alloc, text, at) {
         Ok(quoted) => Ok(Valued {
             offset: at,

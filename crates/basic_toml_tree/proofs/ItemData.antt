@@ -16,7 +16,8 @@ use Rattle.basic_toml_grammar.specs.Mentions.{finished}
 use Rattle.basic_toml_read.specs.declared.section.Element.{Element}
 use Rattle.basic_toml_clash.specs.Plain.{plain_array, listed_data}
 use Rattle.basic_toml_clash.proofs.PlainSeen.{items_listed}
-use Rattle.basic_toml_grow.specs.declared.item.Item.{the_lemmas, Plain, Tables}
+use Rattle.basic_toml_grow.specs.declared.item.Item.{the_lemmas, Array, Inline, Plain, Tables}
+use Rattle.basic_toml_grow.specs.declared.item.Item as Item
 use Rattle.basic_toml_grow.specs.declared.item.Child.{Child, out-Child}
 use Rattle.basic_toml_grow.specs.declared.item.Table.{Table, out-Table}
 use Rattle.basic_toml_tree.specs.Nodes.{data_among, data_at}
@@ -70,6 +71,18 @@ plain_item es = search (rules, the_lemmas)
 
 pub plain_elements : (es : Vec Element Global) → data_of (Plain es) ≡ Data.array (items_of (map listed_data es.items))
 plain_elements es = plain_item es ∙ ap Data.array (items_listed es.items)
+
+-- the data of an array of other items
+pub children_data : (children : Vec Child Global)
+    → data_of (Array children) ≡ Data.array (items_of (map child_data children.items))
+children_data children = search (rules, the_lemmas)
+
+-- the data of an item that is a table
+pub inline_data : (table : Box Table Global) → data_of (Inline table) ≡ table_data table.value
+inline_data table = search (rules, the_lemmas)
+
+pub table_item_data : (table : Box Table Global) → data_of (Item.Table table) ≡ table_data table.value
+table_item_data table = search (rules, the_lemmas)
 
 -- the data of an array of tables
 pub tables_data : (before : Box (Vec Table Global) Global) (latest : Box Table Global)

@@ -2,10 +2,12 @@
 ghost use Rattle.std.specs.Prelude.{◌≡◌, IfErr, IfOk, map};
 ghost use Rattle.basic_toml_value.specs.Data.{table as table_of_members};
 ghost use Rattle.basic_toml_value.specs.View.{view, entries};
+ghost use Rattle.basic_toml_grow.specs.declared.item.Item.{Array, Plain, Tables};
 ghost use Rattle.basic_toml_tree.specs.Data.{data_of, child_data, table_data, child_pair, value_pair, HoldsAny};
 
 use basic_toml_clash::{drain, into_plain_values, plain_values};
 use basic_toml_grow::{Child, Item, Table};
+use basic_toml_read::Element;
 use basic_toml_value as values;
 use basic_toml_value::{Pair, Pairs, Value};
 use std::alloc::{AllocError, Global};
@@ -100,17 +102,52 @@ fn into_value(alloc: Global, item: Item<'_>) -> Result<Value, AllocError>
         Item::Boolean(truth) => Ok(Value::Boolean(truth)),
         Item::String(text) => Ok(Value::String(String::from_str(alloc, text)?)),
         Item::Escaped(text) => Ok(Value::String(text)),
-        Item::Array(children) => Ok(Value::Array(into_elements(alloc, children)?)),
-        Item::Plain(elements) => Ok(Value::Array(into_plain_values(alloc, elements)?)),
-        Item::Inline(table) => Ok(Value::Table(into_table(alloc, Box::into_inner(table))?)),
-        Item::Table(table) => Ok(Value::Table(into_table(alloc, Box::into_inner(table))?)),
-        Item::Tables(before, latest) => {
-            let earlier = Box::into_inner(before);
-            let mut elements = into_tables(alloc, earlier)?;
-            elements.push(Value::Table(into_table(alloc, Box::into_inner(latest))?))?;
-            Ok(Value::Array(elements))
-        }
+        Item::Array(children) => into_array(alloc, children),
+        Item::Plain(elements) => into_plain_array(alloc, elements),
+        Item::Inline(table) => into_inner_table(alloc, table),
+        Item::Table(table) => into_inner_table(alloc, table),
+        Item::Tables(before, latest) => into_array_of_tables(alloc, before, latest),
     }
+}
+
+// What holds more values is moved by functions of their own, so that the room of their results is not cleared for each
+// scalar.
+#[cycle(moves)]
+#[inline(always)]
+fn into_array(alloc: Global, children: Vec<Child<'_>>) -> Result<Value, AllocError>
+    ensures { IfOk result (λ value. view value ≡ data_of (Array children.entry)) }
+{
+    Ok(Value::Array(into_elements(alloc, children)?))
+}
+
+#[inline(always)]
+fn into_plain_array(alloc: Global, elements: Vec<Element<'_>>) -> Result<Value, AllocError>
+    ensures { IfOk result (λ value. view value ≡ data_of (Plain elements.entry)) }
+{
+    Ok(Value::Array(into_plain_values(alloc, elements)?))
+}
+
+#[cycle(moves)]
+#[inline(always)]
+fn into_inner_table(alloc: Global, table: Box<Table<'_>>) -> Result<Value, AllocError>
+    ensures { IfOk result (λ value. view value ≡ table_data table.entry.value) }
+{
+    Ok(Value::Table(into_table(alloc, Box::into_inner(table))?))
+}
+
+#[cycle(moves)]
+#[inline(always)]
+fn into_array_of_tables(
+    alloc: Global,
+    before: Box<Vec<Table<'_>>>,
+    latest: Box<Table<'_>>,
+) -> Result<Value, AllocError>
+    ensures { IfOk result (λ value. view value ≡ data_of (Tables before.entry latest.entry)) }
+{
+    let earlier = Box::into_inner(before);
+    let mut elements = into_tables(alloc, earlier)?;
+    elements.push(Value::Table(into_table(alloc, Box::into_inner(latest))?))?;
+    Ok(Value::Array(elements))
 }
 
 #[cycle(moves)]

@@ -6,7 +6,8 @@ use Rattle.basic_toml_value.proofs.Sizes.{data_size, items_size, members_size}
 use Rattle.basic_toml_tree.specs.Data.{data_of, child_data, table_data, child_pair, value_pair}
 use Rattle.basic_toml_clash.proofs.DataParts.{items_size-rest, items_size-front, items_size-last, members_size-rest}
 use Rattle.basic_toml_clash.proofs.DataParts.{mapped_next, array_seen, nothing_left, none_after}
-use Rattle.basic_toml_tree.proofs.ItemData.{child_item, plain_elements, table_of_pairs, tables_data, table_seen}
+use Rattle.basic_toml_tree.proofs.ItemData.{child_item, children_data, inline_data, table_item_data}
+use Rattle.basic_toml_tree.proofs.ItemData.{table_of_pairs, tables_data, table_seen}
 use Rattle.basic_toml_tree.proofs.ItemData.{entries_seen, keys_copied, refused_held, tables_whole}
 use Rattle.basic_toml_value.proofs.KeysSeen.{keys_of-seen}
 use Rattle.basic_toml_tree.proofs.values.+moves.Goals as goal
@@ -132,30 +133,49 @@ into_tables-loop-table-preserved t c =
     c.in-Some.ensures.steps c.in_ok-push.ensures.items c.loop-table.invariant
     (table_seen _ ∙ c.in_ok-into_table.ensures.table)
 
-pub into_value-into_tables-requires : goal.into_value-into_tables-requires
-into_value-into_tables-requires t c =
-    let front = items_size-front (map table_data c.in-Tables.before.value.items) (table_data c.in-Tables.latest.value) in
-    let same = ap data_of c.in-Tables.is ∙ tables_data c.in-Tables.before c.in-Tables.latest in
+pub into_array-into_elements-requires : goal.into_array-into_elements-requires
+into_array-into_elements-requires t c = (omega (arith, ap data_size (children_data c.args.children)), tt)
+
+pub into_inner_table-into_table-requires : goal.into_inner_table-into_table-requires
+into_inner_table-into_table-requires t c =
+    (omega (arith, ap (λ t. data_size (table_data t)) c.into_inner.ensures), tt)
+
+pub into_array_of_tables-into_tables-requires : goal.into_array_of_tables-into_tables-requires
+into_array_of_tables-into_tables-requires t c =
+    let front = items_size-front (map table_data c.args.before.value.items) (table_data c.args.latest.value) in
     let earlier = ap (λ ts. items_size (items_of (map table_data ts.items))) c.into_inner-earlier.ensures in
+    (omega (arith, ap data_size (tables_data c.args.before c.args.latest)), tt)
+
+pub into_array_of_tables-into_table-requires : goal.into_array_of_tables-into_table-requires
+into_array_of_tables-into_table-requires t c =
+    let last = items_size-last (map table_data c.args.before.value.items) (table_data c.args.latest.value) in
+    (
+      omega (arith, ap data_size (tables_data c.args.before c.args.latest),
+          ap (λ t. data_size (table_data t)) c.into_inner.ensures),
+      tt,
+    )
+
+pub into_array_of_tables-returns : goal.into_array_of_tables-returns
+into_array_of_tables-returns t c =
+    array_seen c.push.new.self
+    ∙ ap (λ ds. Data.array (items_of ds)) (tables_whole c.in_ok-elements.elements.items c.push.new.self.items
+    c.args.before.value.items _ c.args.latest.value c.in_ok-push.ensures.items
+    (c.in_ok-elements.ensures ∙ ap (λ ts. map table_data ts.items) c.into_inner-earlier.ensures)
+    (table_seen _ ∙ c.in_ok-into_table.ensures.table ∙ ap table_data c.into_inner.ensures))
+    ∙ sym (tables_data c.args.before c.args.latest)
+
+pub into_value-into_array-requires : goal.into_value-into_array-requires
+into_value-into_array-requires t c = (omega (arith, ap (λ i. data_size (data_of i)) c.in-Array.is), tt)
+
+pub into_value-into_inner_table-requires : goal.into_value-into_inner_table-requires
+into_value-into_inner_table-requires t c =
+    let same = ap data_of c.in-Inline.is ∙ inline_data c.in-Inline.table in
     (omega (arith, ap data_size same), tt)
 
-pub into_value-into_table-requires-in-Tables : goal.into_value-into_table-requires-in-Tables
-into_value-into_table-requires-in-Tables t c =
-    let last = items_size-last (map table_data c.in-Tables.before.value.items) (table_data c.in-Tables.latest.value) in
-    let same = ap data_of c.in-Tables.is ∙ tables_data c.in-Tables.before c.in-Tables.latest in
-    (omega (arith, ap data_size same, ap (λ t. data_size (table_data t)) c.into_inner-in-Tables.ensures), tt)
+pub into_value-into_inner_table-requires-in-Table : goal.into_value-into_inner_table-requires-in-Table
+into_value-into_inner_table-requires-in-Table t c =
+    let same = ap data_of c.in-Table.is ∙ table_item_data c.in-Table.table in
+    (omega (arith, ap data_size same), tt)
 
-pub into_value-returns-in_ok-push-in-Tables : goal.into_value-returns-in_ok-push-in-Tables
-into_value-returns-in_ok-push-in-Tables t c =
-    array_seen c.push.new.self
-    ∙ ap (λ ds. Data.array (items_of ds)) (tables_whole c.in_ok-elements-in-Tables.elements.items c.push.new.self.items
-    c.in-Tables.before.value.items _ c.in-Tables.latest.value c.in_ok-push-in-Tables.ensures.items
-    (c.in_ok-elements-in-Tables.ensures ∙ ap (λ ts. map table_data ts.items) c.into_inner-earlier.ensures)
-    (table_seen _ ∙ c.in_ok-into_table-in-Tables.ensures.table ∙ ap table_data c.into_inner-in-Tables.ensures))
-    ∙ sym (ap data_of c.in-Tables.is ∙ tables_data c.in-Tables.before c.in-Tables.latest)
-
-pub into_value-returns-in_ok-into_plain_values-in-Plain : goal.into_value-returns-in_ok-into_plain_values-in-Plain
-into_value-returns-in_ok-into_plain_values-in-Plain t c =
-    array_seen c.in_ok-into_plain_values-in-Plain.field-0
-    ∙ ap (λ ds. Data.array (items_of ds)) c.in_ok-into_plain_values-in-Plain.ensures
-    ∙ sym (ap data_of c.in-Plain.is ∙ plain_elements c.in-Plain.elements)
+pub into_value-into_array_of_tables-requires : goal.into_value-into_array_of_tables-requires
+into_value-into_array_of_tables-requires t c = (omega (arith, ap (λ i. data_size (data_of i)) c.in-Tables.is), tt)
