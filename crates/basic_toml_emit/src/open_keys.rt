@@ -100,8 +100,8 @@ impl OpenKeys {
 
     // Sets a key that is not the next one of those that are known. Where it is the one behind, the two change places, so
     // that a key whose entry is absent now and then is not forgotten; else those behind the ones that were entered are.
-    #[inline(never)]
     #[tactic(auto, using(crate::proofs::FirstKeys::next_unknown, crate::proofs::Turned::within_turned, crate::proofs::Turned::first_turned, crate::proofs::Turned::next_turned))]
+    #[inline(always)]
     fn set_other(&mut self, key: &str) -> Result<(), AllocError>
         ensures keys { IfOk result (λ _. keys_of self.new ≡ keys_of self.old) }
         ensures last { IfOk result (λ _. last_of self.new ≡ last_of self.old) }

@@ -33,6 +33,7 @@ fn decimal(negative: bool, digits: &[u8]) -> Option<i64>
 }
 
 // The number that a whole part writes, or the greatest `u64` where it is greater; `None` where this is none.
+#[inline(always)]
 fn whole_value(digits: &[u8]) -> Option<u64>
     ensures { result ≡ (if spec.is_whole digits.now then Some
         (min (spec.value_in 10 digits.now) (2 ^ 64 - 1)) else None) }

@@ -51,7 +51,7 @@ pub(crate) fn after_line(text: &str, at: usize) -> Option<usize>
 }
 
 /// Where the blanks, line feeds and comments at an offset end.
-#[inline]
+#[inline(always)]
 pub(crate) fn after_gap(text: &str, at: usize) -> usize
     requires { IsCharBoundary text.now at }
     ensures { Leaves text.now at result (after_gap is_comment (text_at text.now at)) }

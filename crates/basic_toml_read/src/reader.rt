@@ -34,6 +34,7 @@ fn past_line_end(text: &str, end: usize) -> Result<usize, Stop>
 }
 
 // Where the next line begins, after blanks and a comment.
+#[inline(always)]
 fn next_line(text: &str, at: usize) -> Result<usize, Stop>
     requires { IsCharBoundary text.now at }
     ensures read { EndsLineAt text.now at result }

@@ -97,7 +97,8 @@ impl Index {
 
     /// An index of any texts, made at once by sorting them, or `None` where two of them are the same.
     ///
-    /// It serves very many texts: `of` and `insert` look for the place of each among those before it.
+    /// It serves very many texts: `of` and `insert` look for the place of each among those before it. A few get an index
+    /// from it as well, though they do without one elsewhere.
     ///
     /// # Errors
     ///

@@ -134,6 +134,7 @@ fn start_value(emitter: &mut Emitter) -> Result<(), EmitError>
     Ok(())
 }
 
+#[inline(always)]
 pub(super) fn scalar_in_array(
     emitter: &mut Emitter,
     kind: ElementKind,
