@@ -1,17 +1,13 @@
 -- What the walk over a table sees: whether its rows come first, at every depth. Where they do it stays as it is.
-use Rattle.std.proofs.Common.{◌≡◌, ℕ, ◌<◌, Bool, false, cond, ◌&&◌, List, length, drop, get_or, subst, sym}
+use Rattle.std.proofs.Common.{◌≡◌, ℕ, Bool, cond, ◌&&◌, List, subst, sym}
 use Rattle.std.proofs.Common.{IsTrue}
 use Rattle.std.proofs.lemmas.Bool.{and_from, and_parts}
-use Rattle.std.proofs.Math.Bool.{and-false}
 use Rattle.basic_toml_value.specs.Data.{Items, Members, table}
-use Rattle.basic_toml_value.specs.Entries.{seen}
 use Rattle.basic_toml_value.specs.Keys.{are_distinct}
-use Rattle.basic_toml_value.specs.View.{view, entries}
-use Rattle.basic_toml_value.specs.declared.pairs.Pair.{Pair}
+use Rattle.basic_toml_value.specs.View.{entries}
 use Rattle.basic_toml_value.specs.declared.value.Value.{Value}
 use Rattle.basic_toml_value.specs.Pairs.{keys_of}
 use Rattle.basic_toml_write.proofs.TablesFit.{member_keys-entries}
-use Rattle.basic_toml_layout.proofs.DataIsLaidOut.{drop_at}
 use Rattle.basic_toml_order.specs.RowsFirst.{are_sections, are_in_order, is_in_order, lead_in_order, members_rows_first}
 use Rattle.basic_toml_order.specs.RowsFirst.{hold_in_order, items_rows_first}
 use Rattle.basic_toml_order.specs.Sound.{is_sound, hold_sound}
@@ -20,12 +16,6 @@ use Rattle.basic_toml_order.proofs.RowsComeFirst.{items_stay, members_stay}
 -- whether the members that are left are in order, where a section stood before them or none
 abbrev pub rest_in_order : Bool → Members → Bool
 rest_in_order is_late ms = cond is_late (are_sections ms) (are_in_order ms) && lead_in_order ms
-
--- a pair whose value is out of order
-pub pair_out_of_order : (is_late : Bool) (ps : List (Pair Value)) (i : ℕ) (p : Pair Value) → i < length ps
-    → p ≡ get_or ps i p → is_in_order (view p.value) ≡ false
-    → rest_in_order is_late (entries (seen (drop i ps))) ≡ false
-pair_out_of_order is_late ps i p lt read is = rw (drop_at ps i p lt read, is) (and-false _)
 
 -- the pairs of a table that differ in their keys
 pub sound_table : (ps qs : List (List ℕ × Value)) → qs ≡ ps → IsTrue (are_distinct (keys_of ps))

@@ -1,7 +1,7 @@
-//! Whether a table has its rows first already, at every depth.
+//! Whether a table has its rows first already, at every depth, and is looked up by an index where it is large.
 //!
 //! The walk only reads. That a key stands once in each table is promised of each table, and is not looked at.
-ghost use Rattle.std.specs.Prelude.{◌≡◌, IsTrue};
+ghost use Rattle.std.specs.Prelude.{IsTrue};
 ghost use Rattle.basic_toml_value.specs.Data as d;
 ghost use Rattle.basic_toml_value.specs.Entries.{seen};
 ghost use Rattle.basic_toml_value.specs.View.{view, entries, items_view};
@@ -14,7 +14,7 @@ use basic_toml_value::{Pair, Table, Value};
 // A value, and elements: whether each table in them has its rows first.
 #[cycle(looks)]
 fn is_in_order(value: &Value) -> bool
-    ensures order { result ≡ f.is_in_order (view value.now) }
+    ensures order { IsTrue result → IsTrue (f.is_in_order (view value.now)) }
     ensures sound { IsTrue result → IsTrue (is_sound (view value.now)) }
 {
     match value {
@@ -31,7 +31,7 @@ fn is_in_order(value: &Value) -> bool
 
 #[cycle(looks)]
 pub fn are_elements_in_order(values: &[Value]) -> bool
-    ensures order { result ≡ f.hold_in_order (items_view values.now) }
+    ensures order { IsTrue result → IsTrue (f.hold_in_order (items_view values.now)) }
     ensures sound { IsTrue result → IsTrue (are_sound (items_view values.now)) }
 {
     for i in 0..values.len() {
@@ -42,18 +42,18 @@ pub fn are_elements_in_order(values: &[Value]) -> bool
     true
 }
 
-// A table: whether it has its rows first, and so has each table in it.
+// A table: whether it has its rows first and an index where it is large, and so has each table in it.
 #[cycle(looks)]
 pub fn is_table_in_order(table: &Table) -> bool
-    ensures order { result ≡ f.is_in_order (d.table (entries table.now)) }
+    ensures order { IsTrue result → IsTrue (f.is_in_order (d.table (entries table.now))) }
     ensures sound { IsTrue result → IsTrue (is_sound (d.table (entries table.now))) }
 {
-    are_pairs_in_order(table.entries())
+    table.is_indexed() && are_pairs_in_order(table.entries())
 }
 
 #[cycle(looks)]
 fn are_pairs_in_order(pairs: &[Pair<Value>]) -> bool
-    ensures order { result ≡ f.is_in_order (d.table (entries (seen pairs.now))) }
+    ensures order { IsTrue result → IsTrue (f.is_in_order (d.table (entries (seen pairs.now)))) }
     ensures sound { IsTrue result → IsTrue (hold_sound (entries (seen pairs.now))) }
 {
     let mut is_late = false;

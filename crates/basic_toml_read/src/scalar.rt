@@ -127,11 +127,7 @@ pub(crate) fn string_value_at<'de>(
 
 // The same, where the string may have escapes or more than one line.
 #[inline(always)]
-fn any_string_value_at<'de>(
-    alloc: Global,
-    text: &'de str,
-    at: usize,
-) -> Result<Valued<'de>, Stop>
+fn any_string_value_at<'de>(alloc: Global, text: &'de str, at: usize) -> Result<Valued<'de>, Stop>
     requires boundary { IsCharBoundary text.now at }
     requires within { at < length text.now }
     requires quote { is_quote (slice_index text.now at) ≡ true }

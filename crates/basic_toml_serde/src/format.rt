@@ -283,7 +283,7 @@ impl<N: Source> Format for Reader<N> {
     }
 
     /// An array gives the fields in their order.
-    #[inline]
+    #[inline(always)]
     fn begin_struct(&mut self, _input: &[u8]) -> Result<bool, Fault> {
         self.note(Step::Other);
         if let Some(item) = self.walk.peek_value() {

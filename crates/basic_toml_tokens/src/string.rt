@@ -109,9 +109,9 @@ fn plain_class(quote: Quote) -> Class
     }
 }
 
-/// The value of the string whose first delimiter stands at the byte offset `start`, and the byte offset after it, if
-/// the string stands on one line and each of its characters stands for itself. Where it answers `None`, [`string`] tells
-/// what stands there.
+/// The value of the string whose first delimiter stands at the byte offset `start`, and the byte offset after it, where
+/// the string stands on one line and each of its characters stands for itself. Elsewhere it answers `None`, and
+/// `string_at` tells what stands there.
 #[inline]
 pub fn simple_string(text: &str, start: usize) -> Option<(&str, usize)>
     requires boundary { IsCharBoundary text.now start }

@@ -18,6 +18,7 @@ use std::alloc::{AllocError, Global};
 use std::borrow::CowStr;
 
 // The integer at a node; without one an error that names what was expected.
+#[inline(always)]
 fn integer_at(alloc: Global, node: Node<'_, '_>, expected: &str) -> Result<i64, Error>
     ensures { MatchResult result (λ n. integer_in (node_data node.entry) ≡ Some n)
         (λ e. (integer_in (node_data node.entry) ≡ None)

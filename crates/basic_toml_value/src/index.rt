@@ -77,6 +77,11 @@ impl Index {
         Index { leaves: None }
     }
 
+    /// Whether so many texts are looked up by an index. A few need none.
+    pub(crate) fn serves(&self, count: usize) -> bool {
+        count <= FEW || self.leaves.is_some()
+    }
+
     /// An index of texts that differ, made at once; none where the texts are few.
     ///
     /// # Errors

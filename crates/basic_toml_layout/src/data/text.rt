@@ -20,6 +20,7 @@ use std::alloc::AllocError;
 
 // A value within a row; of a table, nothing.
 #[cycle(rows)]
+#[inline(always)]
 fn write_value(text: &mut String, value: &Value) -> Result<(), AllocError>
     ensures { IfOk result (λ _. string_bytes text.new ≡ string_bytes text.old
         ++ written (written_of (view value.now))) }

@@ -29,9 +29,7 @@ fn make_room<V>(pairs: &mut Vec<Pair<V>>) -> Result<(), AllocError>
     pairs.try_reserve(1)
 }
 
-// Puts a key last with a value. Where memory is refused, all stays as it was. It stands apart from the search before
-// it, since most keys that are entered are there already.
-#[inline(never)]
+// Puts a key last with a value. Where memory is refused, all stays as it was.
 fn add<V: Drop>(
     pairs: &mut Vec<Pair<V>>,
     index: &mut Index,
@@ -91,7 +89,8 @@ impl<V: Drop> Pairs<V> {
     ///
     /// # Errors
     ///
-    /// `KeyPresent` where the key is there, and `OutOfMemory` where memory was refused. The table stays as it was.
+    /// `KeyPresent` where the key is there, and `OutOfMemory` where memory was refused. The table stays as it was, and the
+    /// value is gone.
     #[tactic(auto, using(crate::proofs::SeenPairs::seen_pairs))]
     pub fn push_copy(&mut self, key: &str, value: V) -> Result<(), PushRefusal>
         ensures ok { OnOk result (self.new ≡ self.old ++ (key.now, value) ∷ []) }

@@ -1,4 +1,4 @@
-use Rattle.std.proofs.Common.{◌≡◌, [], ◌∷◌, ◌++◌, ◌+◌, ap, ◌∙◌, map, option_map, refl}
+use Rattle.std.proofs.Common.{◌≡◌, ◌+◌, ap, ◌∙◌, map, option_map, refl}
 use Rattle.std.specs.Prelude.{IfErr}
 use Rattle.basic_toml_grammar.specs.Trie.{put_element, put_table}
 use Rattle.basic_toml_grammar.specs.Stops.{Stop, stops}

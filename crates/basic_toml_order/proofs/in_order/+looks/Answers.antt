@@ -1,6 +1,6 @@
-use Rattle.std.proofs.Common.{arith, sym, ◌∙◌}
+use Rattle.std.proofs.Common.{arith}
 use Rattle.basic_toml_value.proofs.Sizes.{data_size-at, data_size-pair}
-use Rattle.basic_toml_order.proofs.OrderIsSeen.{sound_table, pair_out_of_order}
+use Rattle.basic_toml_order.proofs.OrderIsSeen.{sound_table}
 use Rattle.basic_toml_order.proofs.in_order.+looks.Goals as goal
 
 pub are_elements_in_order-is_in_order-requires : goal.are_elements_in_order-is_in_order-requires
@@ -14,14 +14,7 @@ are_pairs_in_order-is_in_order-requires t c =
     in
     (omega arith, tt)
 
-pub is_table_in_order-returns-clause-sound : goal.is_table_in_order-returns-clause-sound
-is_table_in_order-returns-clause-sound t c = λ yes.
+pub is_table_in_order-returns-then-is_indexed-clause-sound : goal.is_table_in_order-returns-then-is_indexed-clause-sound
+is_table_in_order-returns-then-is_indexed-clause-sound t c = λ yes.
     sound_table c.args.table.now _ c.entries.ensures.pairs c.entries.ensures.distinct
     (c.are_pairs_in_order.ensures.sound yes)
-
-pub are_pairs_in_order-returns-then-not-is_in_order-clause-order :
-    goal.are_pairs_in_order-returns-then-not-is_in_order-clause-order
-are_pairs_in_order-returns-then-not-is_in_order-clause-order t c =
-    sym (sym c.loop-i.invariant.order
-    ∙ pair_out_of_order c.loop-i.is_late c.args.pairs.now c.loop-i.i c.index-pairs-i.result c.loop-i-test.true
-    c.index-pairs-i.is (sym c.is_in_order.ensures.order ∙ c.if-not-is_in_order.true))

@@ -1,4 +1,4 @@
-use Rattle.std.proofs.Common.{◌≡◌, suc, drop, false, IsTrue}
+use Rattle.std.proofs.Common.{suc, drop, false, IsTrue}
 use Rattle.basic_toml_value.specs.Entries.{seen}
 use Rattle.basic_toml_value.specs.View.{view, entries, items_view}
 use Rattle.basic_toml_value.proofs.Sizes.{data_size, items_size, members_size}
@@ -22,12 +22,13 @@ decreases-are_pairs_in_order l = members_size (entries (seen l.pairs.now))
 -- what is left gives what the whole does
 abbrev pub invariant-are_elements_in_order-loop-i : goal.invariant-are_elements_in_order-loop-i
 invariant-are_elements_in_order-loop-i l = record {
-  order : hold_in_order (items_view (drop l.i l.values)) ≡ hold_in_order (items_view l.values);
+  order : IsTrue (hold_in_order (items_view (drop l.i l.values))) → IsTrue (hold_in_order (items_view l.values));
   sound : IsTrue (are_sound (items_view (drop l.i l.values))) → IsTrue (are_sound (items_view l.values));
 }
 
 abbrev pub invariant-are_pairs_in_order-loop-i : goal.invariant-are_pairs_in_order-loop-i
 invariant-are_pairs_in_order-loop-i l = record {
-  order : rest_in_order l.is_late (entries (seen (drop l.i l.pairs))) ≡ rest_in_order false (entries (seen l.pairs));
+  order : IsTrue (rest_in_order l.is_late (entries (seen (drop l.i l.pairs))))
+      → IsTrue (rest_in_order false (entries (seen l.pairs)));
   sound : IsTrue (hold_sound (entries (seen (drop l.i l.pairs)))) → IsTrue (hold_sound (entries (seen l.pairs)));
 }

@@ -1,7 +1,7 @@
 use Rattle.std.proofs.Common.{◌≡◌, ℕ, ◌+◌, Bool, None, get_or, ap, sym, ◌∙◌, subst}
 use Rattle.basic_toml_tokens.specs.Reading.{IsRun}
 use Rattle.basic_toml_tokens.specs.Quote.{kind_of}
-use Rattle.basic_toml_tokens.proofs.PiecesSoFar.{SoFar, at_body, plain_run}
+use Rattle.basic_toml_tokens.proofs.PiecesSoFar.{at_body, plain_run}
 use Rattle.basic_toml_tokens.proofs.BytesTellThePiece.{one_ahead}
 use Rattle.basic_toml_tokens.proofs.StringIsItsPieces.{simple_closes}
 use Rattle.basic_toml_tokens.proofs.string.simple_string.Goals as goal

@@ -148,10 +148,12 @@ into_array_of_tables-into_tables-requires t c =
 
 pub into_array_of_tables-into_table-requires : goal.into_array_of_tables-into_table-requires
 into_array_of_tables-into_table-requires t c =
-    let last = items_size-last (map table_data c.args.before.value.items) (table_data c.args.latest.value) in
-    (
-      omega (arith, ap data_size (tables_data c.args.before c.args.latest),
-          ap (λ t. data_size (table_data t)) c.into_inner.ensures),
+    let last = items_size-last (map table_data c.args.before.value.items) (table_data c.args.latest.value) in (
+      omega (
+        arith,
+        ap data_size (tables_data c.args.before c.args.latest),
+        ap (λ t. data_size (table_data t)) c.into_inner.ensures,
+      ),
       tt,
     )
 
