@@ -15,76 +15,64 @@ use Rattle.basic_toml_grow.proofs.HeadersStopped.{stopped, first_stops, next_sto
 use Rattle.basic_toml_grow.specs.Origins.{rows_origins}
 use Rattle.basic_toml_grow.proofs.Origins.ElementsPlaceOrigins.{first_added, next_added}
 use Rattle.basic_toml_grow.proofs.headers.add_element.Goals as goal
+use Rattle.basic_toml_grow.proofs.headers.add_element.Goals.{After-open}
 use Rattle.basic_toml_grow.proofs.headers.add_element.Goals.{in-Nothing+in_ok-new-in-Nothing+in_ok-new-in-Nothing-2, in-Tables+in_ok-before-in-Tables}
+
+-- the table that the section opens is without entries
+blank : (c : After-open) → table_trie c.match-there.before.1.value ≡ fresh
+blank c =
+    elim c.match-there.branch [
+      | in-Nothing+in_ok-new-in-Nothing+in_ok-new-in-Nothing-2 w ↦ ap (λ p. table_trie p.1.value) w.before-is
+          ∙ w.in_ok-new-in-Nothing-2.ensures
+      | in-Tables+in_ok-before-in-Tables w ↦ ap (λ p. table_trie p.1.value) w.before-is
+          ∙ w.in_ok-before-in-Tables.ensures.blank
+    ]
+
+-- what stands there becomes an array with one element more
+puts : (c : After-open) → put_element (rows_view c.args.rows.items) (item_trie c.args.there)
+    ≡ option_map (λ u. array_of (map table_trie c.match-there.before.0.value.items) u)
+    (put_table (rows_view c.args.rows.items) fresh)
+puts c =
+    elim c.match-there.branch [
+      | in-Nothing+in_ok-new-in-Nothing+in_ok-new-in-Nothing-2 w ↦ first_element (rows_view c.args.rows.items)
+          c.args.there c.match-there.before.0.value.items w.in-Nothing.is
+          (ap (λ p. p.0.value.items) w.before-is ∙ ap (λ v. v.items) w.in_ok-new-in-Nothing.ensures.ok
+          ∙ w.new.ensures.items)
+      | in-Tables+in_ok-before-in-Tables w ↦ next_element (rows_view c.args.rows.items) c.args.there
+          w.in-Tables.before w.in-Tables.latest
+          c.match-there.before.0.value.items w.in-Tables.is
+          (ap (λ p. p.0.value.items) w.before-is ∙ w.in_ok-before-in-Tables.ensures.before)
+    ]
 
 pub returns-in_err-latest-clause-entered : goal.returns-in_err-latest-clause-entered
 returns-in_err-latest-clause-entered c =
+    let here = (goal.at.returns-in_err-latest-clause-entered c).After-open in
     let rows = rows_view c.args.rows.items in
-    let blank : table_trie c.match-there.before.1.value ≡ fresh =
-    elim c.match-there.branch [
-      | in-Nothing+in_ok-new-in-Nothing+in_ok-new-in-Nothing-2 w ↦ ap (λ p. table_trie p.1.value) w.before-is
-          ∙ w.in_ok-new-in-Nothing-2.ensures
-      | in-Tables+in_ok-before-in-Tables w ↦ ap (λ p. table_trie p.1.value) w.before-is
-          ∙ w.in_ok-before-in-Tables.ensures.blank
-    ] in
-    let puts : put_element (rows_view c.args.rows.items) (item_trie c.args.there)
-    ≡ option_map (λ u. array_of (map table_trie c.match-there.before.0.value.items) u)
-    (put_table (rows_view c.args.rows.items) fresh) =
-    elim c.match-there.branch [
-      | in-Nothing+in_ok-new-in-Nothing+in_ok-new-in-Nothing-2 w ↦ first_element rows c.args.there c.match-there.before.0.value.items w.in-Nothing.is
-          (ap (λ p. p.0.value.items) w.before-is ∙ ap (λ v. v.items) w.in_ok-new-in-Nothing.ensures.ok
-          ∙ w.new.ensures.items)
-      | in-Tables+in_ok-before-in-Tables w ↦ next_element rows c.args.there w.in-Tables.before w.in-Tables.latest
-          c.match-there.before.0.value.items w.in-Tables.is
-          (ap (λ p. p.0.value.items) w.before-is ∙ w.in_ok-before-in-Tables.ensures.before)
-    ] in
     failed (EntersItem (put_element rows (item_trie c.args.there)) rows (c.args.level + 2))
     c.from_residual-in_err-latest.result c.in_err-latest.field-0.0 c.from_residual-in_err-latest.ensures.1
     (element_out c.in_err-latest.field-0.0 rows c.args.level (table_trie c.match-there.before.1.value) c.args.there
-    c.match-there.before.0.value.items blank puts c.in_err-latest.ensures.entered)
+    c.match-there.before.0.value.items (blank here) (puts here) c.in_err-latest.ensures.entered)
 
 pub returns-clause-entered : goal.returns-clause-entered
 returns-clause-entered c =
+    let here = (goal.at.returns-clause-entered c).After-open in
     let rows = rows_view c.args.rows.items in
-    let blank : table_trie c.match-there.before.1.value ≡ fresh =
-    elim c.match-there.branch [
-      | in-Nothing+in_ok-new-in-Nothing+in_ok-new-in-Nothing-2 w ↦ ap (λ p. table_trie p.1.value) w.before-is
-          ∙ w.in_ok-new-in-Nothing-2.ensures
-      | in-Tables+in_ok-before-in-Tables w ↦ ap (λ p. table_trie p.1.value) w.before-is
-          ∙ w.in_ok-before-in-Tables.ensures.blank
-    ] in
-    let puts : put_element (rows_view c.args.rows.items) (item_trie c.args.there)
-    ≡ option_map (λ u. array_of (map table_trie c.match-there.before.0.value.items) u)
-    (put_table (rows_view c.args.rows.items) fresh) =
-    elim c.match-there.branch [
-      | in-Nothing+in_ok-new-in-Nothing+in_ok-new-in-Nothing-2 w ↦ first_element rows c.args.there c.match-there.before.0.value.items w.in-Nothing.is
-          (ap (λ p. p.0.value.items) w.before-is ∙ ap (λ v. v.items) w.in_ok-new-in-Nothing.ensures.ok
-          ∙ w.new.ensures.items)
-      | in-Tables+in_ok-before-in-Tables w ↦ next_element rows c.args.there w.in-Tables.before w.in-Tables.latest
-          c.match-there.before.0.value.items w.in-Tables.is
-          (ap (λ p. p.0.value.items) w.before-is ∙ w.in_ok-before-in-Tables.ensures.before)
-    ] in
     element_in rows c.args.level (table_trie c.match-there.before.1.value) c.args.there
     (Tables c.match-there.before.0 c.in_ok-latest.latest) c.match-there.before.0
-    c.in_ok-latest.latest blank puts refl c.in_ok-latest.ensures.entered
+    c.in_ok-latest.latest (blank here) (puts here) refl c.in_ok-latest.ensures.entered
 
 pub returns-in_err-latest-clause-named : goal.returns-in_err-latest-clause-named
 returns-in_err-latest-clause-named c =
+    let here = (goal.at.returns-in_err-latest-clause-named c).After-open in
     let rows = rows_view c.args.rows.items in
-    let blank : table_trie c.match-there.before.1.value ≡ fresh =
-    elim c.match-there.branch [
-      | in-Nothing+in_ok-new-in-Nothing+in_ok-new-in-Nothing-2 w ↦ ap (λ p. table_trie p.1.value) w.before-is
-          ∙ w.in_ok-new-in-Nothing-2.ensures
-      | in-Tables+in_ok-before-in-Tables w ↦ ap (λ p. table_trie p.1.value) w.before-is
-          ∙ w.in_ok-before-in-Tables.ensures.blank
-    ] in
     let new = table_trie c.match-there.before.1.value in
     let clash = c.in_err-latest.field-0.0 in
     let on : (x : Stop) → try_put_table rows new ≡ stops x → try_put_element rows (item_trie c.args.there) ≡ stops x =
     elim c.match-there.branch [
-      | in-Nothing+in_ok-new-in-Nothing+in_ok-new-in-Nothing-2 w ↦ first_stops rows c.args.there new w.in-Nothing.is blank
+      | in-Nothing+in_ok-new-in-Nothing+in_ok-new-in-Nothing-2 w ↦ first_stops rows c.args.there new
+          w.in-Nothing.is (blank here)
       | in-Tables+in_ok-before-in-Tables w ↦ next_stops rows c.args.there w.in-Tables.before w.in-Tables.latest new
-          w.in-Tables.is blank
+          w.in-Tables.is (blank here)
     ] in
     failed (λ r. IfErr r (λ clash. NamesStop (try_put_element rows (item_trie c.args.there)) clash))
     c.from_residual-in_err-latest.result clash c.from_residual-in_err-latest.ensures.1
@@ -93,21 +81,15 @@ returns-in_err-latest-clause-named c =
 
 pub returns-clause-origins : goal.returns-clause-origins
 returns-clause-origins c =
+    let here = (goal.at.returns-clause-origins c).After-open in
     let rows = rows_origins c.args.number (rows_view c.args.rows.items) in
-    let blank : table_trie c.match-there.before.1.value ≡ fresh =
-    elim c.match-there.branch [
-      | in-Nothing+in_ok-new-in-Nothing+in_ok-new-in-Nothing-2 w ↦ ap (λ p. table_trie p.1.value) w.before-is
-          ∙ w.in_ok-new-in-Nothing-2.ensures
-      | in-Tables+in_ok-before-in-Tables w ↦ ap (λ p. table_trie p.1.value) w.before-is
-          ∙ w.in_ok-before-in-Tables.ensures.blank
-    ] in
     elim c.match-there.branch [
       | in-Nothing+in_ok-new-in-Nothing+in_ok-new-in-Nothing-2 w ↦ λ at s. first_added c.args.there at s c.match-there.before.0 c.match-there.before.1 c.in_ok-latest.latest rows
-          blank c.in_ok-latest.ensures.origins w.in-Nothing.is
+          (blank here) c.in_ok-latest.ensures.origins w.in-Nothing.is
           (ap (λ p. p.0.value.items) w.before-is ∙ ap (λ v. v.items) w.in_ok-new-in-Nothing.ensures.ok
           ∙ w.new.ensures.items)
       | in-Tables+in_ok-before-in-Tables w ↦ λ at s. next_added c.args.there at s c.match-there.before.0 c.match-there.before.1
-          c.in_ok-latest.latest rows blank c.in_ok-latest.ensures.origins w.in-Tables.before
+          c.in_ok-latest.latest rows (blank here) c.in_ok-latest.ensures.origins w.in-Tables.before
           w.in-Tables.latest w.in-Tables.is
           (ap (λ p. p.0.value.items) w.before-is ∙ w.in_ok-before-in-Tables.ensures.before)
     ]
