@@ -1,12 +1,11 @@
 -- The classes as tests of runs.
-use Rattle.std.proofs.Common.{◌≡◌, ℕ, ◌+◌, ◌≤◌, true, false, List, drop, refl, sym, ◌∙◌, subst, arith}
-use Rattle.std.specs.List.{prefix_len}
+use Rattle.std.proofs.Common.{◌≡◌, ℕ, ◌≤◌, true, false, List, refl, sym, ◌∙◌, subst, arith}
 use Rattle.std.specs.Str.{IsUtf8, IsCharBoundary}
 use Rattle.std.proofs.lemmas.Bool.{or_from}
 use Rattle.std.proofs.lemmas.Bool.Decides.{nat_tests}
 use Rattle.basic_toml_tokens.specs.declared.class.Class.{Class}
 use Rattle.basic_toml_tokens.specs.declared.class.Class.TheVariants.{Blank, Keylike, Comment, Literal, Basic}
-use Rattle.basic_toml_tokens.specs.Class.{passes}
+use Rattle.basic_toml_tokens.specs.Class.{passes, run_end}
 use Rattle.basic_toml_tokens.specs.Reading.{IsRun}
 use Rattle.basic_toml_tokens.proofs.RunsAreFound.{IsRunTest, run_by_bytes}
 
@@ -39,8 +38,7 @@ run_test Basic = record { feed = refl; return = refl; wide = λ c d h k. basic_w
 
 -- where the bytes that pass end, the run does
 pub run_to : (class : Class) (bytes : List ℕ) (at end : ℕ) → IsUtf8 bytes → IsCharBoundary bytes at
-    → end + prefix_len (passes class) (drop end bytes) ≡ at + prefix_len (passes class) (drop at bytes)
-    → prefix_len (passes class) (drop end bytes) ≡ 0 → IsRun (passes class) bytes at end
-run_to class bytes at end whole here e none =
-    subst (λ (n : ℕ). IsRun (passes class) bytes at n) (sym e ∙ omega arith)
+    → end ≡ run_end class bytes at → IsRun (passes class) bytes at end
+run_to class bytes at end whole here e =
+    subst (λ (n : ℕ). IsRun (passes class) bytes at n) (sym e)
     (run_by_bytes (passes class) (run_test class) bytes at whole here)

@@ -2,7 +2,8 @@
 use Rattle.std.proofs.Common.{◌≡◌, ℕ, zero, suc, ◌+◌, ◌<◌, ◌≤◌, Bool, true, false, List, [], ◌∷◌, length, get_or, take}
 use Rattle.std.proofs.Common.{drop, cond, refl, sym, ap, ◌∙◌, arith, subst}
 use Rattle.std.specs.List.{prefix_len}
-use Rattle.std.proofs.lemmas.List.{drop-drop}
+use Rattle.std.proofs.lemmas.List.{drop-drop, get_or-drop, length-drop}
+use Rattle.std.proofs.lemmas.List.Sums.{prefix_len-drop_yes, prefix_len-drop_no, prefix_len-drop_all, prefix_len_stops}
 use Rattle.basic_toml_tokens.specs.Lanes.{block}
 
 module _ (p : ℕ → Bool) where
@@ -38,17 +39,6 @@ module _ (p : ℕ → Bool) where
   block_ends (suc n) (x ∷ xs) room within =
       ended (p x) (prefix_len p (take n xs)) n x xs refl (block_ends n xs (omega (arith, room))) within
 
-  -- where no run is, the first does not pass
-  pub none_passes : (xs : List ℕ) (k : ℕ) → prefix_len p (drop k xs) ≡ 0 → k < length xs
-      → p (get_or xs k 0) ≡ false
-  none_passes [] k none within = absurd (omega (arith, within))
-  none_passes (x ∷ xs) zero none within = first (p x) none
-    where
-      first : (b : Bool) → cond b (1 + prefix_len p xs) 0 ≡ 0 → b ≡ false
-      first true e = absurd (omega (arith, e))
-      first false e = refl
-  none_passes (x ∷ xs) (suc k) none within = none_passes xs k none (omega (arith, within))
-
   bounded : (b : Bool) (n m : ℕ) → n ≤ m → cond b (1 + n) 0 ≤ suc m
   bounded true n m within = omega (arith, within)
   bounded false n m within = omega arith
@@ -75,3 +65,23 @@ module _ (p : ℕ → Bool) where
         ap (prefix_len p) (sym (drop-drop r end text))
         ∙ subst (λ (n : ℕ). prefix_len p (drop n (drop end text)) ≡ 0) (sym is)
         (block_ends 16 (drop end text) room (subst (λ (n : ℕ). n < 16) is short))
+
+  -- one byte more of a run
+  pub one_more : (text : List ℕ) (end : ℕ) → end < length text → p (get_or text end 0) ≡ true
+      → (end + 1) + prefix_len p (drop (end + 1) text) ≡ end + prefix_len p (drop end text)
+  one_more text end within passes = omega (arith, prefix_len-drop_yes p text end 0 within passes)
+
+  -- no byte more
+  pub no_more : (text : List ℕ) (end : ℕ) → end < length text → p (get_or text end 0) ≡ false
+      → end ≡ end + prefix_len p (drop end text)
+  no_more text end within fails = omega (arith, prefix_len-drop_no p text end 0 within fails)
+
+  pub at_the_end : (text : List ℕ) (end : ℕ) → length text ≤ end → end ≡ end + prefix_len p (drop end text)
+  at_the_end text end over = omega (arith, prefix_len-drop_all p text end over)
+
+  -- what ends a run does not pass
+  pub stops_at : (text : List ℕ) (at r : ℕ) → r ≡ at + prefix_len p (drop at text) → r < length text
+      → p (get_or text r 0) ≡ false
+  stops_at text at r is within =
+      ap (λ (n : ℕ). p (get_or text n 0)) is ∙ ap p (sym (get_or-drop at text (prefix_len p (drop at text)) 0)) ∙
+      prefix_len_stops p (drop at text) 0 (omega (arith, length-drop at text))

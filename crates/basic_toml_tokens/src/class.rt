@@ -1,10 +1,11 @@
 //! Runs of characters, by their bytes.
-ghost use Rattle.std.specs.Prelude.{◌≡◌, ◌<◌, length, false, slice_index};
+ghost use Rattle.std.specs.Prelude.{◌≡◌, ◌<◌, ◌≤◌, length, false, slice_index};
 ghost use Rattle.std.specs.Str.{IsCharBoundary};
 ghost use Rattle.basic_toml_tokens.specs.Reading.{IsRun};
-ghost use Rattle.basic_toml_tokens.specs.Class.{passes};
+ghost use Rattle.basic_toml_tokens.specs.Class.{passes, run_end};
+ghost use Rattle.basic_toml_tokens.specs.Lanes.{class_of};
 
-use crate::lanes::{LANES, run_in_block};
+use crate::lanes::{LANES, Wide, run_in_block};
 
 /// What a run is of. None holds a line feed or a carriage return.
 #[derive(Clone, Copy, Drop)]
@@ -77,9 +78,71 @@ pub(crate) fn is_in(class: Class, byte: u8) -> bool
     CLASSES[byte as usize] & bit != 0
 }
 
-// Whether runs of a class are often longer than a byte or two, so that whole blocks are looked at first.
-fn comes_in_blocks(class: Class) -> bool {
-    !matches!(class, Class::Blank)
+// The first byte from an offset on that is not of a class, or the end of the bytes.
+#[inline]
+fn end_by_bytes(class: Class, bytes: &[u8], at: usize) -> usize
+    requires { at ≤ length bytes.now }
+    ensures { result ≡ run_end class bytes.now at }
+{
+    let mut end = at;
+    while end < bytes.len() && is_in(class, bytes[end]) {
+        end += 1;
+    }
+    end
+}
+
+// The same, by blocks as far as there are whole ones.
+#[inline]
+fn end_by_blocks(class: Wide, bytes: &[u8], at: usize) -> usize
+    requires { at ≤ length bytes.now }
+    ensures { result ≡ run_end (class_of class) bytes.now at }
+{
+    let behind = bytes.len().saturating_sub(LANES - 1);
+    let mut end = at;
+    while end < behind {
+        let run = run_in_block(class, bytes, end);
+        end += run;
+        if run < LANES {
+            return end;
+        }
+    }
+    end_by_bytes(class.class(), bytes, end)
+}
+
+// How many bytes go one by one where a run is often shorter than that.
+const FEW: usize = 3;
+
+// The same, where the run is often no longer than a few bytes: these go one by one before the blocks.
+#[inline]
+fn end_after_few(class: Wide, bytes: &[u8], at: usize) -> usize
+    requires { at ≤ length bytes.now }
+    ensures { result ≡ run_end (class_of class) bytes.now at }
+{
+    let mut end = at;
+    if at < bytes.len().saturating_sub(LANES - 1 + FEW) {
+        while end - at < FEW {
+            if !is_in(class.class(), bytes[end]) {
+                return end;
+            }
+            end += 1;
+        }
+    }
+    end_by_blocks(class, bytes, end)
+}
+
+// The same, in the way that suits the class.
+#[inline(always)]
+fn end_by_class(class: Class, bytes: &[u8], at: usize) -> usize
+    requires { at ≤ length bytes.now }
+    ensures { result ≡ run_end class bytes.now at }
+{
+    match class {
+        Class::Blank => end_by_bytes(class, bytes, at),
+        Class::Keylike => end_by_blocks(Wide::Keylike, bytes, at),
+        Class::Comment => end_after_few(Wide::Comment, bytes, at),
+        Class::Literal => end_by_blocks(Wide::Literal, bytes, at),
+        Class::Basic => end_by_blocks(Wide::Basic, bytes, at),
+    }
 }
 
 /// The byte offset where the longest run of a class ends that stands at a byte offset.
@@ -89,17 +152,25 @@ pub fn end_of_run(text: &str, at: usize, class: Class) -> usize
     ensures run { IsRun (passes class) text.now at result }
     ensures stopped { result < length text.now → passes class (slice_index text.now result) ≡ false }
 {
-    let bytes = text.as_bytes();
-    let mut end = at;
-    while comes_in_blocks(class) && bytes.len() - end >= LANES {
-        let run = run_in_block(class, bytes, end);
-        end += run;
-        if run < LANES {
-            return end;
-        }
-    }
-    while end < bytes.len() && is_in(class, bytes[end]) {
-        end += 1;
-    }
-    end
+    end_by_class(class, text.as_bytes(), at)
+}
+
+/// The same of a class that is looked at in blocks.
+#[inline]
+pub(crate) fn end_of_wide_run(text: &str, at: usize, class: Wide) -> usize
+    requires { IsCharBoundary text.now at }
+    ensures run { IsRun (passes (class_of class)) text.now at result }
+    ensures stopped { result < length text.now → passes (class_of class) (slice_index text.now result) ≡ false }
+{
+    end_by_blocks(class, text.as_bytes(), at)
+}
+
+/// The same where the run is often no longer than a few bytes.
+#[inline]
+pub(crate) fn end_of_short_run(text: &str, at: usize, class: Wide) -> usize
+    requires { IsCharBoundary text.now at }
+    ensures run { IsRun (passes (class_of class)) text.now at result }
+    ensures stopped { result < length text.now → passes (class_of class) (slice_index text.now result) ≡ false }
+{
+    end_after_few(class, text.as_bytes(), at)
 }

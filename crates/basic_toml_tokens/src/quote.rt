@@ -134,6 +134,7 @@ pub(crate) fn delimiters(text: &str, at: usize, delimiter: u8) -> usize
 }
 
 /// What stands at an offset of the body of the string from `start` on, where no plain character does.
+#[inline(always)]
 pub(crate) fn piece_at(text: &str, at: usize, quote: Quote, start: usize) -> Piece
     requires boundary { IsCharBoundary text.now at }
     requires quote { is_quote quote.delimiter ≡ true }

@@ -4,11 +4,14 @@ ghost use Rattle.std.specs.Str.{IsCharBoundary};
 ghost use Rattle.std.specs.Cow.{cow_str_bytes};
 ghost use Rattle.basic_toml_tokens.specs.Strings.{is_quote, is_plain};
 ghost use Rattle.basic_toml_tokens.specs.Class.{passes};
+ghost use Rattle.basic_toml_tokens.specs.Lanes.{class_of};
+ghost use Rattle.basic_toml_tokens.specs.Reading.{IsRun};
 ghost use Rattle.basic_toml_tokens.specs.Quote.{chars_of};
 ghost use Rattle.basic_toml_tokens.specs.String.{IsOpen, copied_of, is_owned, IsSimple, IsQuoted, IsRefused};
 
 use crate::Error;
-use crate::class::{Class, end_of_run};
+use crate::class::{Class, end_of_run, end_of_short_run, end_of_wide_run};
+use crate::lanes::Wide;
 use crate::punctuation::after_feed;
 use crate::quote::{Piece, Quote, delimiters, piece_at};
 use std::alloc::{AllocError, Global};
@@ -98,14 +101,44 @@ fn finished<'a>(copy: Option<String>, plain: &'a str) -> Result<CowStr<'a>, Allo
 }
 
 /// The class of characters that stand for themselves.
-fn plain_class(quote: Quote) -> Class
+fn plain_class(quote: Quote) -> Wide
     requires { is_quote quote.delimiter ≡ true }
-    ensures { passes result ≡ is_plain quote.delimiter }
+    ensures { passes (class_of result) ≡ is_plain quote.delimiter }
 {
     if quote.delimiter == b'"' {
-        Class::Basic
+        Wide::Basic
     } else {
-        Class::Literal
+        Wide::Literal
+    }
+}
+
+/// Where the characters from an offset on end that stand for themselves.
+#[inline(always)]
+fn end_of_plain(text: &str, at: usize, quote: Quote) -> usize
+    requires boundary { IsCharBoundary text.now at }
+    requires quote { is_quote quote.delimiter ≡ true }
+    ensures run { IsRun (is_plain quote.delimiter) text.now at result }
+    ensures stopped { result < length text.now → is_plain quote.delimiter (slice_index text.now result) ≡ false }
+{
+    if quote.delimiter == b'"' {
+        end_of_run(text, at, Class::Basic)
+    } else {
+        end_of_run(text, at, Class::Literal)
+    }
+}
+
+/// The same after a line feed or a delimiter, where often few characters stand for themselves.
+#[inline(always)]
+fn end_of_few_plain(text: &str, at: usize, quote: Quote) -> usize
+    requires boundary { IsCharBoundary text.now at }
+    requires quote { is_quote quote.delimiter ≡ true }
+    ensures run { IsRun (is_plain quote.delimiter) text.now at result }
+    ensures stopped { result < length text.now → is_plain quote.delimiter (slice_index text.now result) ≡ false }
+{
+    if quote.delimiter == b'"' {
+        end_of_short_run(text, at, Wide::Basic)
+    } else {
+        end_of_short_run(text, at, Wide::Literal)
     }
 }
 
@@ -123,7 +156,7 @@ pub fn simple_string(text: &str, start: usize) -> Option<(&str, usize)>
     if quote.multiline {
         return None;
     }
-    let last = end_of_run(text, body, plain_class(quote));
+    let last = end_of_wide_run(text, body, plain_class(quote));
     if last < text.len() && text.as_bytes()[last] == quote.delimiter {
         Some((&text[body..last], last + 1))
     } else {
@@ -142,14 +175,12 @@ pub fn string<'a>(alloc: Global, text: &'a str, start: usize) -> Result<Quoted<'
         (λ stop. IsRefused text.now start stop) }
 {
     let (quote, body) = open(text, start);
-    let class = plain_class(quote);
     let mut copy = None;
     let mut kept = body;
-    let mut at = body;
+    let mut at = end_of_plain(text, body, quote);
     loop {
-        at = end_of_run(text, at, class);
         match piece_at(text, at, quote, start) {
-            Piece::Verbatim(next) => at = next,
+            Piece::Verbatim(next) => at = end_of_few_plain(text, next, quote),
             Piece::Replaced(c, next) => {
                 match extended(alloc, copy, &text[kept..at], c) {
                     Ok(longer) => copy = Some(longer),
@@ -161,7 +192,7 @@ pub fn string<'a>(alloc: Global, text: &'a str, start: usize) -> Result<Quoted<'
                     }
                 }
                 kept = next;
-                at = next;
+                at = end_of_plain(text, next, quote);
             }
             Piece::Closed(last, end) => {
                 return match finished(copy, &text[kept..last]) {

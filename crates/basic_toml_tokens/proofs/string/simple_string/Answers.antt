@@ -10,10 +10,10 @@ pub returns-then-as_bytes-last : goal.returns-then-as_bytes-last
 returns-then-as_bytes-last c =
     let (quote, body) = c.open-body.result in
     let bytes = c.args.text.now in
-    let last = c.end_of_run-last.result in
+    let last = c.end_of_wide_run-last.result in
     let so_far = plain_run (kind_of quote) bytes body body body last None
     (at_body (kind_of quote) bytes body c.open-body.ensures.boundary)
-    (subst (λ (p : ℕ → Bool). IsRun p bytes body last) c.plain_class.ensures c.end_of_run-last.ensures.run) in
+    (subst (λ (p : ℕ → Bool). IsRun p bytes body last) c.plain_class.ensures c.end_of_wide_run-last.ensures.run) in
     let byte : get_or bytes last 0 ≡ quote.delimiter =
     ap (λ bs. get_or bs last 0) (sym c.as_bytes.ensures.value) ∙ c.if-as_bytes-last.true in
     let (tail, closes, v, g, later, none_special) = one_ahead (kind_of quote) c.args.start bytes last
