@@ -145,6 +145,14 @@ gap_stops text e = go (after_blanks text) (blank_stops text) e
         at true f k = after (after_run is_comment t) (after_twice is_comment t) k
         at false f k = stands x t (fails_first (λ c. c == 10) x t k) (fails_first is_blank x t h) f
 
+-- nor does one begin where neither a blank nor a line feed nor a comment stands
+pub gap_stands : (text : Text) → after_blanks text ≡ text → after_run (λ c. c == 10) text ≡ text
+    → after_run (λ c. c == 35) text ≡ text → after_gap is_comment text ≡ text
+gap_stands [] a b c = refl
+gap_stands (x ∷ text) a b c =
+    stands x text (fails_first (λ d. d == 10) x text b) (fails_first is_blank x text a)
+    (fails_first (λ d. d == 35) x text c)
+
 -- over a line feed
 pub gap_past_feed : {p : ℕ} {text next : Text} → StartsWith 10 text p next
     → after_gap is_comment next ≡ after_gap is_comment text

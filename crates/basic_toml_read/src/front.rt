@@ -56,6 +56,22 @@ pub(crate) fn after_gap(text: &str, at: usize) -> usize
     requires { IsCharBoundary text.now at }
     ensures { Leaves text.now at result (after_gap is_comment (text_at text.now at)) }
 {
+    let mut end = after_blanks(text, at);
+    while let Some(next) = after_feed(text, end) {
+        end = after_blanks(text, next);
+    }
+    match after_punctuation(text, end, b'#') {
+        Some(_) => after_comments(text, end),
+        None => end,
+    }
+}
+
+// The same, where a comment stands. It is seldom called, and what calls it stays small without it.
+#[inline(never)]
+fn after_comments(text: &str, at: usize) -> usize
+    requires { IsCharBoundary text.now at }
+    ensures { Leaves text.now at result (after_gap is_comment (text_at text.now at)) }
+{
     let mut end = end_of_line(text, at);
     while let Some(next) = after_feed(text, end) {
         end = end_of_line(text, next);

@@ -1,38 +1,38 @@
-use Rattle.std.proofs.Common.{◌≡◌, ap, sym, ◌∙◌, arith}
-use Rattle.basic_toml_tokens.specs.Text.{text_at, is_comment}
+use Rattle.std.proofs.Common.{ap, sym, ◌∙◌, arith}
+use Rattle.basic_toml_tokens.specs.Text.{text_at, after_blanks, is_comment}
 use Rattle.basic_toml_grammar.specs.Grammar.{after_gap}
-use Rattle.basic_toml_read.proofs.LeftAfter.{gap_past_line, gap_past_feed, gap_stops}
+use Rattle.basic_toml_read.proofs.LeftAfter.{gap_past_blanks, gap_past_feed, gap_stands, blank_stops}
 use Rattle.basic_toml_read.proofs.front.after_gap.Goals as goal
 
 pub loop-next-init : goal.loop-next-init
 loop-next-init c =
-    let line = c.end_of_line-end.ensures in
+    let text = text_at c.args.text.now c.args.at in
+    let blanks = c.after_blanks-end.ensures in
     record {
-      rest = ap (after_gap is_comment) line.left ∙ gap_past_line (text_at c.args.text.now c.args.at);
-      line = (text_at c.args.text.now c.args.at, line.left);
-      boundary = line.boundary;
-      forward = line.forward;
+      rest = ap (after_gap is_comment) blanks.left ∙ gap_past_blanks text;
+      bare = ap after_blanks blanks.left ∙ blank_stops text ∙ sym blanks.left;
+      boundary = blanks.boundary;
+      forward = blanks.forward;
     }
 
 pub loop-next-preserved : goal.loop-next-preserved
 loop-next-preserved c =
-    let line = c.end_of_line-end-in-Some.ensures in
+    let text = text_at c.args.text.now c.in-Some.next in
+    let blanks = c.after_blanks-end-in-Some.ensures in
     record {
-      rest = ap (after_gap is_comment) line.left ∙ gap_past_line (text_at c.args.text.now c.in-Some.next) ∙
-          gap_past_feed c.in-Some.ensures.0 ∙ c.loop-next.invariant.rest;
-      line = (text_at c.args.text.now c.in-Some.next, line.left);
-      boundary = line.boundary;
-      forward = omega (arith, line.forward, c.in-Some.ensures.2);
+      rest = ap (after_gap is_comment) blanks.left ∙ gap_past_blanks text ∙ gap_past_feed c.in-Some.ensures.0 ∙
+          c.loop-next.invariant.rest;
+      bare = ap after_blanks blanks.left ∙ blank_stops text ∙ sym blanks.left;
+      boundary = blanks.boundary;
+      forward = omega (arith, blanks.forward, c.in-Some.ensures.2);
     }
 
-pub returns : goal.returns
-returns c =
+pub returns-in-None : goal.returns-in-None
+returns-in-None c =
     let i = c.loop-next.invariant in
-    let stops : after_gap is_comment (text_at c.args.text.now c.loop-next.end)
-    ≡ text_at c.args.text.now c.loop-next.end =
-    rw i.line.1 (gap_stops i.line.0 (rw i.line.1 at c.in_default.ensures)) in
     record {
-      left = sym stops ∙ i.rest;
+      left = sym (gap_stands (text_at c.args.text.now c.loop-next.end) i.bare c.in_default.ensures c.in-None.ensures) ∙
+          i.rest;
       boundary = i.boundary;
       forward = i.forward;
     }

@@ -1,14 +1,14 @@
 use Rattle.std.proofs.Common.{◌≡◌, ◌≤◌, ◌-◌, length}
 use Rattle.std.specs.Str.{IsCharBoundary}
-use Rattle.basic_toml_tokens.specs.Text.{Text, text_at, is_comment}
+use Rattle.basic_toml_tokens.specs.Text.{text_at, after_blanks, is_comment}
 use Rattle.basic_toml_grammar.specs.Grammar.{after_gap}
-use Rattle.basic_toml_read.proofs.LeftAfter.{line_of}
 use Rattle.basic_toml_read.proofs.front.after_gap.Given as goal
 
+-- within the gap, and after its blanks
 abbrev pub invariant-loop-next : goal.invariant-loop-next
 invariant-loop-next l = record {
   rest : after_gap is_comment (text_at l.text l.end) ≡ after_gap is_comment (text_at l.text l.at);
-  line : (before : Text) × (text_at l.text l.end ≡ line_of before);
+  bare : after_blanks (text_at l.text l.end) ≡ text_at l.text l.end;
   boundary : IsCharBoundary l.text l.end;
   forward : l.at ≤ l.end;
 }

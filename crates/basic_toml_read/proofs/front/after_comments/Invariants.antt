@@ -1,0 +1,17 @@
+use Rattle.std.proofs.Common.{◌≡◌, ◌≤◌, ◌-◌, length}
+use Rattle.std.specs.Str.{IsCharBoundary}
+use Rattle.basic_toml_tokens.specs.Text.{Text, text_at, is_comment}
+use Rattle.basic_toml_grammar.specs.Grammar.{after_gap}
+use Rattle.basic_toml_read.proofs.LeftAfter.{line_of}
+use Rattle.basic_toml_read.proofs.front.after_comments.Given as goal
+
+abbrev pub invariant-loop-next : goal.invariant-loop-next
+invariant-loop-next l = record {
+  rest : after_gap is_comment (text_at l.text l.end) ≡ after_gap is_comment (text_at l.text l.at);
+  line : (before : Text) × (text_at l.text l.end ≡ line_of before);
+  boundary : IsCharBoundary l.text l.end;
+  forward : l.at ≤ l.end;
+}
+
+abbrev pub decreases-loop-next : goal.decreases-loop-next
+decreases-loop-next l = length l.text - l.end
