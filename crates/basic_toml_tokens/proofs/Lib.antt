@@ -3,6 +3,7 @@ pub mod TokenIsUnique
 pub mod StepIsTheFold
 pub mod RunsAreFound
 pub mod ClassesAreTests
+pub mod SimpleStrings
 pub mod LanesTellTheRun
 pub mod RunsInBlocks
 pub mod DelimitersAreCounted

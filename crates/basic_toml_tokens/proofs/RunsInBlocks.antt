@@ -1,7 +1,9 @@
 -- From the run in one block to the run in a text.
 use Rattle.std.proofs.Common.{◌≡◌, ℕ, zero, suc, ◌+◌, ◌<◌, ◌≤◌, Bool, true, false, List, [], ◌∷◌, length, get_or, take}
 use Rattle.std.proofs.Common.{drop, cond, refl, sym, ap, ◌∙◌, arith, subst}
+use lib.Dec.{ltb}
 use Rattle.std.specs.List.{prefix_len}
+use Rattle.std.proofs.lemmas.Bool.{lt-ltb}
 use Rattle.std.proofs.lemmas.List.{drop-drop, get_or-drop, length-drop}
 use Rattle.std.proofs.lemmas.List.Sums.{prefix_len-drop_yes, prefix_len-drop_no, prefix_len-drop_all, prefix_len_stops}
 use Rattle.basic_toml_tokens.specs.Lanes.{block}
@@ -85,3 +87,14 @@ module _ (p : ℕ → Bool) where
   stops_at text at r is within =
       ap (λ (n : ℕ). p (get_or text n 0)) is ∙ ap p (sym (get_or-drop at text (prefix_len p (drop at text)) 0)) ∙
       prefix_len_stops p (drop at text) 0 (omega (arith, length-drop at text))
+
+  -- a run is there where the first byte passes
+  pub first_told : (n : ℕ) (xs : List ℕ) → 0 < n → 0 < length xs
+      → ltb 0 (prefix_len p (take n xs)) ≡ p (get_or xs 0 0)
+  first_told zero xs some within = absurd (omega (arith, some))
+  first_told (suc n) [] some within = absurd (omega (arith, within))
+  first_told (suc n) (x ∷ xs) some within = go (p x) (prefix_len p (take n xs))
+    where
+      go : (b : Bool) (m : ℕ) → ltb 0 (cond b (1 + m) 0) ≡ b
+      go true m = lt-ltb 0 (1 + m) (omega arith)
+      go false m = refl

@@ -16,9 +16,9 @@ use Rattle.basic_toml_tokens.specs.Text.{text_at}
 use Rattle.basic_toml_tokens.specs.Strings.{IsPiece, Closes}
 use Rattle.basic_toml_tokens.specs.Faults.{Breaks, BreaksString}
 use Rattle.basic_toml_tokens.specs.Reading.{between}
-use Rattle.basic_toml_tokens.specs.Copies.{is_special, NeedsMemory}
+use Rattle.basic_toml_tokens.specs.Copies.{is_special, is_copied, NeedsMemory}
 use Rattle.basic_toml_tokens.specs.Quote.{kind_of, AreVerbatim, GoesOn}
-use Rattle.basic_toml_tokens.specs.String.{IsOpen, copied_of, is_owned, IsSlice, IsSimple, IsQuoted}
+use Rattle.basic_toml_tokens.specs.String.{IsOpen, copied_of, is_owned, IsSlice, IsSimple, IsVerbatim, IsQuoted}
 use Rattle.basic_toml_tokens.proofs.TextBetweenOffsets.{between_join}
 use Rattle.basic_toml_tokens.proofs.PiecesSoFar.{SoFar, pieces_join, pieces_one, special_between}
 
@@ -131,8 +131,10 @@ module _ (bytes : List ℕ) (start body kept at : ℕ) (quote : Quote) (copy : O
 pub simple_closes : (bytes : List ℕ) (start body at end : ℕ) (quote : Quote) (plain tail : List ℕ)
     → IsOpen bytes start quote body → SoFar (kind_of quote) bytes body body at None → quote.multiline ≡ false
     → Closes (kind_of quote) (text_at bytes at) tail (text_at bytes end) → AreVerbatim bytes at at tail
-    → GoesOn bytes at end → plain ≡ between bytes body at → IsSimple bytes start plain end
-simple_closes bytes start body at end quote plain tail o s one_line c v g plain_is = record {
+    → GoesOn bytes at end → list_any (is_special quote.delimiter) (between bytes at end) ≡ false
+    → plain ≡ between bytes body at → IsVerbatim (text_at bytes start) start (text_at bytes end)
+    → IsSimple bytes start plain end
+simple_closes bytes start body at end quote plain tail o s one_line c v g none_special plain_is verbatim = record {
   value = s.done ++ tail;
   string = record {
     kind = kind_of quote;
@@ -151,4 +153,11 @@ simple_closes bytes start body at end quote plain tail o s one_line c v g plain_
       ap (λ (t : List ℕ). encode_utf8_all s.done ++ t) (sym v.spelled) ∙ sym (encodes-append s.done tail);
   boundary = g.boundary;
   forward = omega (arith, o.forward, s.body_kept, s.kept_at, v.forward, g.forward);
+  verbatim = verbatim;
+  not_copied = ap (λ (m : Bool). is_copied m (between bytes start end)) (sym one_line) ∙
+      o.copies end (omega (arith, s.kept_at, g.forward)) g.boundary.0 ∙ ap (list_any (is_special quote.delimiter))
+      (sym (between_join bytes body at end s.kept_at g.forward)) ∙
+      list_any-append (is_special quote.delimiter) (between bytes body at) (between bytes at end) ∙
+      ap (λ (b : Bool). list_any (is_special quote.delimiter) (between bytes body at) || b) none_special ∙
+      ap (λ (b : Bool). b || false) s.special;
 }

@@ -11,8 +11,8 @@ use Rattle.basic_toml_tokens.specs.declared.error.Error.TheVariants.{OutOfMemory
 use Rattle.basic_toml_tokens.specs.declared.quote.Quote.{Quote}
 use Rattle.basic_toml_tokens.specs.declared.string.Quoted.{Quoted}
 use Rattle.basic_toml_tokens.specs.declared.string.TokenStop.{TokenStop}
-use Rattle.basic_toml_tokens.specs.Text.{text_at}
-use Rattle.basic_toml_tokens.specs.Strings.{is_quote, Opens, IsString}
+use Rattle.basic_toml_tokens.specs.Text.{Text, StartsWith, text_at}
+use Rattle.basic_toml_tokens.specs.Strings.{Quotes, is_quote, is_plain, Opens, IsString}
 use Rattle.basic_toml_tokens.specs.Faults.{BreaksString}
 use Rattle.basic_toml_tokens.specs.Reading.{between}
 use Rattle.basic_toml_tokens.specs.Copies.{is_special, is_copied, NeedsMemory}
@@ -44,6 +44,23 @@ IsSlice bytes start end (Borrowed text) = (i : ℕ) × (j : ℕ) × (start ≤ i
     × (text.now ≡ between bytes i j)
 IsSlice bytes start end (Owned text) = Unit {0}
 
+-- characters between two delimiters d of which each stands for itself
+pub data AreThemselves (d : ℕ) : Text → Text → Type 0 where
+  none : {text : Text} → AreThemselves d text text
+  one : {p c : ℕ} {text next rest : Text} → StartsWith c text p next → is_plain d c ≡ true
+      → AreThemselves d next rest → AreThemselves d text rest
+
+-- a string at p on one line in which each character stands for itself, and what stands after it
+pub record IsVerbatim (text : Text) (p : ℕ) (rest : Text) : Type 0 where
+  pub kind : Quotes
+  pub body : Text
+  pub opens : Opens text p kind body
+  pub one_line : kind.multiline ≡ false
+  pub closer : Text
+  pub characters : AreThemselves kind.delimiter body closer
+  pub offset : ℕ
+  pub closes : StartsWith kind.delimiter closer offset rest
+
 -- a one-line string in which each character stands for itself, and the text goes on at `end`
 pub record IsSimple (bytes : List ℕ) (start : ℕ) (body : List ℕ) (end : ℕ) : Type 0 where
   pub value : List ℕ
@@ -51,6 +68,8 @@ pub record IsSimple (bytes : List ℕ) (start : ℕ) (body : List ℕ) (end : �
   pub spelled : body ≡ encode_utf8_all value
   pub boundary : IsCharBoundary bytes end
   pub forward : start < end
+  pub verbatim : IsVerbatim (text_at bytes start) start (text_at bytes end)
+  pub not_copied : is_copied false (between bytes start end) ≡ false
 
 pub record IsQuoted (bytes : List ℕ) (start : ℕ) (quoted : Quoted) : Type 0 where
   pub value : List ℕ

@@ -9,7 +9,7 @@ use crate::class::Class;
 use std::simd::prelude::*;
 
 /// How many bytes are looked at together.
-pub(crate) const LANES: usize = 16;
+pub const LANES: usize = 16;
 
 // The place of the lowest bit that is set, or the number of lanes.
 #[inline(always)]
@@ -25,7 +25,7 @@ fn first_set(mask: u64) -> usize
 
 /// A class whose runs are often longer than a byte or two, so that whole blocks are looked at.
 #[derive(Clone, Copy, Drop)]
-pub(crate) enum Wide {
+pub enum Wide {
     Keylike,
     Comment,
     Literal,

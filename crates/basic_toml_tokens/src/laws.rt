@@ -1,6 +1,20 @@
-//! Laws about tokens and memory, each as the contract of a function that does nothing.
+//! Laws about tokens and memory, each as the contract of a function that does nothing, and one about classes, of a
+//! function that asks both ways.
 
+ghost use Rattle.std.specs.Prelude.{◌≡◌, ◌+◌, ◌≤◌, length};
 ghost use Rattle.basic_toml_tokens.specs.Statements.{WantOfMemoryIsOwed, OnlyStringsTakeMemory, OnlyCopiesTakeMemory, OnlyCopiesBeforeABreak, EndTakesNoMemory};
+
+use crate::class::is_in;
+use crate::lanes::{LANES, Wide, run_in_block};
+
+/// Whether a byte is of a class, by the table and by a block that begins with it: both say the same.
+pub fn table_and_block_agree(class: Wide, block: &[u8; LANES]) -> (bool, bool)
+    ensures { result.0 ≡ result.1 }
+{
+    let by_table = is_in(class.class(), block[0]);
+    let by_block = run_in_block(class, block, 0) > 0;
+    (by_table, by_block)
+}
 
 /// Want of memory is answered only where memory is needed, and is no error of the text.
 pub fn want_of_memory_is_owed()

@@ -1,13 +1,14 @@
 //! Strings.
-ghost use Rattle.std.specs.Prelude.{◌≡◌, ◌<◌, ◌≤◌, ◌++◌, true, false, length, slice_index, is_some, IsOk, IfOk, IfSome, MatchResult, string_bytes, encode_utf8_all};
+ghost use Rattle.std.specs.Prelude.{◌≡◌, ◌<◌, ◌≤◌, ◌++◌, true, false, length, slice_index, is_some, IsOk, IfOk, IfSome, IfNone, MatchResult, string_bytes, encode_utf8_all};
 ghost use Rattle.std.specs.Str.{IsCharBoundary};
 ghost use Rattle.std.specs.Cow.{cow_str_bytes};
 ghost use Rattle.basic_toml_tokens.specs.Strings.{is_quote, is_plain};
+ghost use Rattle.basic_toml_tokens.specs.Text.{Text, text_at};
 ghost use Rattle.basic_toml_tokens.specs.Class.{passes};
 ghost use Rattle.basic_toml_tokens.specs.Lanes.{class_of};
 ghost use Rattle.basic_toml_tokens.specs.Reading.{IsRun};
 ghost use Rattle.basic_toml_tokens.specs.Quote.{chars_of};
-ghost use Rattle.basic_toml_tokens.specs.String.{IsOpen, copied_of, is_owned, IsSimple, IsQuoted, IsRefused};
+ghost use Rattle.basic_toml_tokens.specs.String.{IsOpen, copied_of, is_owned, IsSimple, IsVerbatim, IsQuoted, IsRefused};
 
 use crate::Error;
 use crate::class::{Class, end_of_run, end_of_short_run, end_of_wide_run};
@@ -143,14 +144,15 @@ fn end_of_few_plain(text: &str, at: usize, quote: Quote) -> usize
 }
 
 /// The value of the string whose first delimiter stands at the byte offset `start`, and the byte offset after it, where
-/// the string stands on one line and each of its characters stands for itself. Elsewhere it answers `None`, and
-/// `string_at` tells what stands there.
+/// the string stands on one line and each of its characters stands for itself. It answers `None` exactly where no such
+/// string stands, and `string_at` tells what stands there.
 #[inline]
 pub fn simple_string(text: &str, start: usize) -> Option<(&str, usize)>
     requires boundary { IsCharBoundary text.now start }
     requires within { start < length text.now }
     requires quote { is_quote (slice_index text.now start) ≡ true }
-    ensures { IfSome result (λ found. IsSimple text.now start found.0.now found.1) }
+    ensures found { IfSome result (λ found. IsSimple text.now start found.0.now found.1) }
+    ensures none { IfNone result ((rest : Text) → IsVerbatim (text_at text.now start) start rest → ⊥) }
 {
     let (quote, body) = open(text, start);
     if quote.multiline {
