@@ -1,11 +1,14 @@
 -- Where reading stops, and what does not stand there.
-use Rattle.std.specs.Prelude.{◌⊎◌, ◌≡◌, ◌<◌, ℕ, true, false, List, [], Option, Some, None, Result, Ok, Err}
+use Rattle.std.specs.Prelude.{◌⊎◌, ◌≡◌, ◌<◌, ℕ, Bool, true, false, List, [], Option, Some, None, Result, Ok, Err}
 use Rattle.std.specs.Str.{IsCharBoundary}
 use Rattle.std.specs.Cow.{IsOwnedStr}
 use Rattle.basic_toml_tokens.specs.declared.error.Error.{Error}
 use Rattle.basic_toml_tokens.specs.declared.error.Error.TheVariants.{OutOfMemory}
 use Rattle.basic_toml_tokens.specs.declared.string.Quoted.{Quoted}
 use Rattle.basic_toml_tokens.specs.Text.{Text, text_at, run}
+use Rattle.basic_toml_tokens.specs.Strings.{IsString}
+use Rattle.basic_toml_tokens.specs.Reading.{between}
+use Rattle.basic_toml_tokens.specs.Copies.{is_copied}
 use Rattle.basic_toml_explain.specs.Stop.{no_memory}
 use Rattle.basic_toml_explain.specs.declared.stop.End.{End}
 use Rattle.basic_toml_explain.specs.declared.stop.Stop.{Stop}
@@ -13,6 +16,8 @@ use Rattle.basic_toml_explain.specs.declared.stop.Why.{Why}
 use Rattle.basic_toml_explain.specs.declared.stop.Why.TheVariants.{Memory, Deep, Key, Value, Word}
 use Rattle.basic_toml_read.specs.declared.scalar.Keyed.{Keyed}
 use Rattle.basic_toml_read.specs.declared.scalar.Valued.{Valued}
+use Rattle.basic_toml_read.specs.declared.section.Raw as read
+use Rattle.basic_toml_read.specs.declared.section.Raw.TheVariants.{Escaped}
 use Rattle.basic_toml_grammar.specs.Sections.{Raw}
 use Rattle.basic_toml_grammar.specs.Grammar.{is_wordlike}
 use Rattle.basic_toml_grammar.specs.Reader as reader
@@ -66,6 +71,18 @@ abbrev pub MissesString : Why → Text → Type 0
 MissesString Memory text = Unit {0}
 MissesString Value text = string_at text ≡ None
 MissesString _ text = ⊥
+
+-- whether a value is a string that was copied
+abbrev pub is_copy : read.Raw → Bool
+is_copy (Escaped text) = true
+is_copy _ = false
+
+-- the string is borrowed from the text, but where an escape or a line end asks for a copy
+pub record IsKept (bytes : List ℕ) (at : ℕ) (v : Valued) : Type 0 where
+  pub multiline : Bool
+  pub value : List ℕ
+  pub string : IsString (text_at bytes at) at multiline value (text_at bytes v.end)
+  pub copied : is_copy v.value ≡ is_copied multiline (between bytes at v.end)
 
 abbrev pub ReadsStringAt : List ℕ → ℕ → Result Valued Stop → Type 0
 ReadsStringAt bytes at (Ok v) = IsValued bytes at v (string_value_at (text_at bytes at))

@@ -1,14 +1,15 @@
 //! Reads keys, strings and words at an offset of a text.
-ghost use Rattle.std.specs.Prelude.{IfErr, ◌≡◌, ◌<◌, [], Some, true, length, slice_index};
+ghost use Rattle.std.specs.Prelude.{IfErr, IfOk, ◌≡◌, ◌<◌, [], Some, true, length, slice_index};
 ghost use Rattle.std.specs.Str.{IsCharBoundary};
 ghost use Rattle.std.specs.Cow.{cow_str_bytes};
 ghost use Rattle.basic_toml_tokens.specs.Text.{text_at, run, is_keylike};
 ghost use Rattle.basic_toml_tokens.specs.Strings.{is_quote};
+ghost use Rattle.basic_toml_tokens.specs.String.{is_owned};
 ghost use Rattle.basic_toml_grammar.specs.Sections as sections;
 ghost use Rattle.basic_toml_read.specs.Word as words;
 ghost use Rattle.basic_toml_read.specs.SectionView.{raw_of};
 ghost use Rattle.basic_toml_explain.specs.Stop.{StopsInside};
-ghost use Rattle.basic_toml_read.specs.StopsAt.{stop_of, IsKeyOf, ReadsKeyAt, ReadsStringAt, ReadsWordAt, WantsEnd};
+ghost use Rattle.basic_toml_read.specs.StopsAt.{stop_of, is_copy, IsKept, IsKeyOf, ReadsKeyAt, ReadsStringAt, ReadsWordAt, WantsEnd};
 
 use crate::front::{begins_string, end_of_word};
 use crate::key_text::KeyText;
@@ -95,7 +96,8 @@ fn key_of<'de>(alloc: Global, quoted: Quoted<'de>, at: usize) -> Result<Keyed<'d
 
 // The value of a string.
 fn string_of<'de>(text: CowStr<'de>) -> Raw<'de>
-    ensures { raw_of result ≡ Some (sections.Raw.string (cow_str_bytes text.entry)) }
+    ensures value { raw_of result ≡ Some (sections.Raw.string (cow_str_bytes text.entry)) }
+    ensures copied { is_copy result ≡ is_owned text.entry }
 {
     match text {
         CowStr::Borrowed(text) => Raw::String(text),
@@ -113,6 +115,7 @@ pub(crate) fn string_value_at<'de>(
     requires within { at < length text.now }
     requires quote { is_quote (slice_index text.now at) ≡ true }
     ensures read { ReadsStringAt text.now at result }
+    ensures kept { IfOk result (λ valued. IsKept text.now at valued) }
     ensures inside { IfErr result (λ stop. StopsInside text.now stop) }
 {
     match simple_string_at(text, at) {
@@ -132,6 +135,7 @@ fn any_string_value_at<'de>(alloc: Global, text: &'de str, at: usize) -> Result<
     requires within { at < length text.now }
     requires quote { is_quote (slice_index text.now at) ≡ true }
     ensures read { ReadsStringAt text.now at result }
+    ensures kept { IfOk result (λ valued. IsKept text.now at valued) }
     ensures inside { IfErr result (λ stop. StopsInside text.now stop) }
 {
     match string_at(alloc, text, at) {

@@ -1,4 +1,4 @@
-use Rattle.std.proofs.Common.{◌≡◌, refl, sym, subst}
+use Rattle.std.proofs.Common.{◌≡◌, ◌∙◌, refl, sym, subst}
 use Rattle.std.specs.Cow.{cow_str_bytes}
 use Rattle.basic_toml_tokens.specs.Text.{text_at}
 use Rattle.basic_toml_explain.specs.declared.stop.Stop.{Stop}
@@ -11,7 +11,7 @@ use Rattle.basic_toml_read.proofs.scalar.any_string_value_at.Goals as goal
 pub returns-in-Ok-clause-read : goal.returns-in-Ok-clause-read
 returns-in-Ok-clause-read c = record {
   raw = sections.Raw.string (cow_str_bytes c.in-Ok.quoted.val);
-  seen = c.string_of.ensures;
+  seen = c.string_of.ensures.value;
   is = string_value c.args.text.now c.args.at c.in-Ok.quoted c.in-Ok.ensures;
   boundary = c.in-Ok.ensures.boundary;
   later = c.in-Ok.ensures.forward;
@@ -22,3 +22,13 @@ returns-in-Err-clause-read c =
     subst (λ (stop : Stop). MissesString stop.why (text_at c.args.text.now c.args.at)
     × (stop.why ≡ Value → stop.at ≡ c.args.at)) (sym c.refused.ensures)
     (string_refused c.args.text.now c.args.at c.in-Err.refusal c.in-Err.ensures, λ _. refl)
+
+pub returns-in-Ok-clause-kept : goal.returns-in-Ok-clause-kept
+returns-in-Ok-clause-kept c =
+    let q = c.in-Ok.ensures in
+    record {
+      multiline = c.in-Ok.quoted.multiline;
+      value = q.value;
+      string = q.string;
+      copied = c.string_of.ensures.copied ∙ q.copied;
+    }

@@ -1,3 +1,4 @@
+use Rattle.std.proofs.Common.{false, sym}
 use Rattle.basic_toml_grammar.specs.Sections as sections
 use Rattle.basic_toml_read.proofs.ScalarsRead.{simple_value}
 use Rattle.basic_toml_read.proofs.ViewsSeen.{string_of}
@@ -7,7 +8,12 @@ pub returns-in-Some-clause-read : goal.returns-in-Some-clause-read
 returns-in-Some-clause-read c = record {
   raw = sections.Raw.string c.in-Some.value.now;
   seen = string_of c.in-Some.value;
-  is = simple_value c.args.text.now c.args.at c.in-Some.value.now c.in-Some.end c.in-Some.ensures;
-  boundary = c.in-Some.ensures.boundary;
-  later = c.in-Some.ensures.forward;
+  is = simple_value c.args.text.now c.args.at c.in-Some.value.now c.in-Some.end c.in-Some.ensures.found;
+  boundary = c.in-Some.ensures.found.boundary;
+  later = c.in-Some.ensures.found.forward;
 }
+
+pub returns-in-Some-clause-kept : goal.returns-in-Some-clause-kept
+returns-in-Some-clause-kept c =
+    let simple = c.in-Some.ensures.found in
+    record { multiline = false; value = simple.value; string = simple.string; copied = sym simple.not_copied }
