@@ -155,16 +155,6 @@ pub fn end_of_run(text: &str, at: usize, class: Class) -> usize
     end_by_class(class, text.as_bytes(), at)
 }
 
-/// The same of a class that is looked at in blocks.
-#[inline]
-pub(crate) fn end_of_wide_run(text: &str, at: usize, class: Wide) -> usize
-    requires { IsCharBoundary text.now at }
-    ensures run { IsRun (passes (class_of class)) text.now at result }
-    ensures stopped { result < length text.now → passes (class_of class) (slice_index text.now result) ≡ false }
-{
-    end_by_blocks(class, text.as_bytes(), at)
-}
-
 /// The same where the run is often no longer than a few bytes.
 #[inline]
 pub(crate) fn end_of_short_run(text: &str, at: usize, class: Wide) -> usize

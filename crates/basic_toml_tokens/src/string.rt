@@ -4,14 +4,12 @@ ghost use Rattle.std.specs.Str.{IsCharBoundary};
 ghost use Rattle.std.specs.Cow.{cow_str_bytes};
 ghost use Rattle.basic_toml_tokens.specs.Strings.{is_quote, is_plain};
 ghost use Rattle.basic_toml_tokens.specs.Text.{Text, text_at};
-ghost use Rattle.basic_toml_tokens.specs.Class.{passes};
-ghost use Rattle.basic_toml_tokens.specs.Lanes.{class_of};
 ghost use Rattle.basic_toml_tokens.specs.Reading.{IsRun};
 ghost use Rattle.basic_toml_tokens.specs.Quote.{chars_of};
 ghost use Rattle.basic_toml_tokens.specs.String.{IsOpen, copied_of, is_owned, IsSimple, IsVerbatim, IsQuoted, IsRefused};
 
 use crate::Error;
-use crate::class::{Class, end_of_run, end_of_short_run, end_of_wide_run};
+use crate::class::{Class, end_of_run, end_of_short_run};
 use crate::lanes::Wide;
 use crate::punctuation::after_feed;
 use crate::quote::{Piece, Quote, delimiters, piece_at};
@@ -101,18 +99,6 @@ fn finished<'a>(copy: Option<String>, plain: &'a str) -> Result<CowStr<'a>, Allo
     }
 }
 
-/// The class of characters that stand for themselves.
-fn plain_class(quote: Quote) -> Wide
-    requires { is_quote quote.delimiter ≡ true }
-    ensures { passes (class_of result) ≡ is_plain quote.delimiter }
-{
-    if quote.delimiter == b'"' {
-        Wide::Basic
-    } else {
-        Wide::Literal
-    }
-}
-
 /// Where the characters from an offset on end that stand for themselves.
 #[inline(always)]
 fn end_of_plain(text: &str, at: usize, quote: Quote) -> usize
@@ -158,7 +144,7 @@ pub fn simple_string(text: &str, start: usize) -> Option<(&str, usize)>
     if quote.multiline {
         return None;
     }
-    let last = end_of_wide_run(text, body, plain_class(quote));
+    let last = end_of_plain(text, body, quote);
     if last < text.len() && text.as_bytes()[last] == quote.delimiter {
         Some((&text[body..last], last + 1))
     } else {

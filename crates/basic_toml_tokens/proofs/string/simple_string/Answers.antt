@@ -1,5 +1,4 @@
-use Rattle.std.proofs.Common.{◌≡◌, ℕ, ◌+◌, Bool, true, false, None, get_or, ap, sym, ◌∙◌, subst, arith}
-use Rattle.basic_toml_tokens.specs.Reading.{IsRun}
+use Rattle.std.proofs.Common.{◌≡◌, ◌+◌, true, false, None, get_or, ap, sym, ◌∙◌, arith}
 use Rattle.basic_toml_tokens.specs.Quote.{kind_of}
 use Rattle.basic_toml_tokens.proofs.PiecesSoFar.{at_body, plain_run}
 use Rattle.basic_toml_tokens.proofs.BytesTellThePiece.{one_ahead}
@@ -12,11 +11,10 @@ pub returns-then-as_bytes-last-clause-found : goal.returns-then-as_bytes-last-cl
 returns-then-as_bytes-last-clause-found c =
     let (quote, body) = c.open-body.result in
     let bytes = c.args.text.now in
-    let last = c.end_of_wide_run-last.result in
-    let run = subst (λ (p : ℕ → Bool). IsRun p bytes body last) c.plain_class.ensures c.end_of_wide_run-last.ensures.run in
+    let last = c.end_of_plain-last.result in
+    let run = c.end_of_plain-last.ensures.run in
     let so_far = plain_run (kind_of quote) bytes body body body last None
-    (at_body (kind_of quote) bytes body c.open-body.ensures.boundary)
-    run in
+    (at_body (kind_of quote) bytes body c.open-body.ensures.boundary) run in
     let byte : get_or bytes last 0 ≡ quote.delimiter =
     ap (λ bs. get_or bs last 0) (sym c.as_bytes.ensures.value) ∙ c.if-as_bytes-last.true in
     let (tail, closes, v, g, later, none_special) = one_ahead (kind_of quote) c.args.start bytes last
@@ -35,9 +33,8 @@ pub returns-else-last-text-clause-none : goal.returns-else-last-text-clause-none
 returns-else-last-text-clause-none c =
     let (quote, body) = c.open-body.result in
     let bytes = c.args.text.now in
-    let last = c.end_of_wide_run-last.result in
-    let run = subst (λ (p : ℕ → Bool). IsRun p bytes body last) c.plain_class.ensures
-    c.end_of_wide_run-last.ensures.run in
+    let last = c.end_of_plain-last.result in
+    let run = c.end_of_plain-last.ensures.run in
     elim c.else-last-text.branch [
       | else-last-text-via-then-last-text+else-as_bytes-last w ↦
           not_elsewhere bytes c.args.start body last quote c.open-body.ensures run c.utf8.text
