@@ -101,10 +101,10 @@ fn end_by_blocks(class: Wide, bytes: &[u8], at: usize) -> usize
     let mut end = at;
     while end < behind {
         let run = run_in_block(class, bytes, end);
-        end += run;
         if run < LANES {
-            return end;
+            return end + run;
         }
+        end += LANES;
     }
     end_by_bytes(class.class(), bytes, end)
 }
