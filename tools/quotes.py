@@ -16,8 +16,9 @@ GHOST = re.compile(r"\bghost (\w+)\s*=\s*(\{)")
 TACTIC = re.compile(r"#!?\[tactic\(.*?\)\]")
 SIGNATURE_ENDS = re.compile(r"[{;]|\b(?:ensures|requires)\b|\n\s*\n|\n\s*(?:pub )?fn |\Z")
 OWNER = re.compile(r"(?:impl|pub trait|trait)\b[^{]*")
-# a word that stands in clauses alone: what a value is before and after, what is answered, a member of a type
-CLAUSE_WORD = re.compile(r"(?<!\S)\(?(?:\w+\.(?:now|old|new|entry)|T\.\w+|result)\b(?!\()|[⟦λ≡→∷×]")
+# what stands in clauses alone: what a value is before and after, a member of a type, a sign; and in a span what is answered
+CLAUSE_SIGN = re.compile(r"(?<!\S)\(?(?:\w+\.(?:now|old)|self\.new|T\.\w+)\b(?!\()|[⟦λ≡→∷×]")
+CLAUSE_WORD = re.compile(CLAUSE_SIGN.pattern + r"|(?<!\S)result\b")
 
 Function = namedtuple("Function", "crate owner signature clauses place")
 Clause = namedtuple("Clause", "keyword name text")
@@ -47,7 +48,7 @@ def braced(text, at):
 
 
 def clauses_from(text, at):
-    """Answers the clauses that stand one after another from an offset on, each with its own offset."""
+    """Answers the clauses that stand one after another from an offset on, each as (start, end, clause)."""
     found = []
     while True:
         at += len(text[at:]) - len(text[at:].lstrip())
@@ -55,7 +56,7 @@ def clauses_from(text, at):
         end = braced(text, clause.start(3)) if clause and clause[3] else None
         if end is None:
             return found
-        found.append((at, Clause(clause[1], clause[2], plain(text[clause.start(3) + 1:end - 1]))))
+        found.append((at, end, Clause(clause[1], clause[2], plain(text[clause.start(3) + 1:end - 1]))))
         at = end
 
 
@@ -87,7 +88,7 @@ class Sources:
             owner = [header for at, header in owners if at < function.start()][-1:] if is_inner else []
             signature, end = signature_at(text, function)
             crate, place = path.relative_to(TOP).parts[1], str(path.relative_to(TOP))
-            clauses = [clause for _, clause in clauses_from(text, end)]
+            clauses = [clause for _, _, clause in clauses_from(text, end)]
             self.functions.setdefault(function[2], []).append(
                 Function(crate, "".join(owner), signature, clauses, place))
         for ghost in GHOST.finditer(text):
@@ -160,9 +161,9 @@ def missing_clauses(sources, function, signature, clauses):
     if not there:
         yield function.start(), f"no function has the signature `{signature}`"
         return
-    quoted = [clause for _, clause in clauses]
+    quoted = [clause for _, _, clause in clauses]
     nearest = max(there, key=lambda each: sum(clause in each.clauses for clause in quoted))
-    for at, clause in clauses:
+    for at, _, clause in clauses:
         if clause not in nearest.clauses:
             yield at, f"`{function[2]}` of {nearest.place} has no clause `{said(clause)}`"
     for clause in nearest.clauses if clauses else []:
@@ -172,27 +173,39 @@ def missing_clauses(sources, function, signature, clauses):
 
 def missing(sources, code):
     """Yields the offset in a piece of code and what of it is not in the sources."""
-    text, owned = code.text, set()
+    text, owned, known = code.text, set(), []
     for function in FUNCTION.finditer(text):
         signature, end = signature_at(text, function)
         clauses = clauses_from(text, end)
         yield from missing_clauses(sources, function, signature, clauses)
-        owned.update(at for at, _ in clauses)
-    for clause in CLAUSE.finditer(text):
-        whole = [clause for _, clause in clauses_from(text, clause.start())[:1]]
+        owned.update(start for start, _, _ in clauses)
+    for found in CLAUSE.finditer(text):
+        whole = clauses_from(text, found.start())[:1]
+        known += [(start, end) for start, end, _ in whole]
         if not whole:
-            yield clause.start(), f"`{clause[1]}` is not followed by a name, or none, and a text in braces"
-        elif clause.start() not in owned and whole[0] not in sources.clauses:
-            yield clause.start(), f"no function has the clause `{said(whole[0])}`"
+            yield found.start(), f"`{found[1]}` is not followed by a name, or none, and a text in braces"
+        elif found.start() not in owned and whole[0][2] not in sources.clauses:
+            yield found.start(), f"no function has the clause `{said(whole[0][2])}`"
     for ghost in GHOST.finditer(text):
-        end = braced(text, ghost.start(2))
-        if end is None or (ghost[1], plain(text[ghost.start(2):end])) not in sources.ghosts:
+        end = braced(text, ghost.start(2)) or len(text)
+        known.append((ghost.start(), end))
+        if (ghost[1], plain(text[ghost.start(2):end])) not in sources.ghosts:
             yield ghost.start(), f"no type has this ghost member `{ghost[1]}`"
     for tactic in TACTIC.finditer(text):
         if plain(tactic[0]) not in sources.tactics:
             yield tactic.start(), f"no function has the attribute `{tactic[0]}`"
-    if not code.is_block and not CLAUSE.search(text) and not FUNCTION.search(text) and not GHOST.search(text):
+    if code.is_block:
+        yield from strays(text, known)
+    elif not known and not CLAUSE.search(text) and not FUNCTION.search(text):
         yield from missing_part(sources, text)
+
+
+def strays(text, known):
+    """Yields each line of a block that has a sign of clauses outside of those that are known, between (start, end)."""
+    for line in re.finditer(r".+", text):
+        signs = [line.start() + sign.start() for sign in CLAUSE_SIGN.finditer(line[0])]
+        if any(not any(start <= sign < end for start, end in known) for sign in signs):
+            yield line.start(), f"`{line[0].strip()}` stands in no clause"
 
 
 def missing_part(sources, text):
