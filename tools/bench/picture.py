@@ -147,7 +147,7 @@ def frame(names, count, programs, bottom, height):
             yield f'<rect x="{MARGIN}" y="{TOP + ROW * number}" width="{WIDTH - 2 * MARGIN}" height="{ROW}" fill="#f6f6f6"/>'
         yield text(NAMES - 10, TOP + ROW * (number + 0.5) + 4, name, anchor="end")
     left_out = count - len(names)
-    said = f" {left_out} of {count} texts, which this library refuses, are left out." if left_out else ""
+    said = f" Left out of {count} texts: those that this library refuses ({left_out})." if left_out else ""
     yield text(MARGIN, bottom + 42, f"A library that refuses a text has no mark there.{said}", 11, fill="#555")
 
 
