@@ -1,4 +1,4 @@
-"""What one run of a program costs: instructions by callgrind, and the peak of its memory."""
+"""What one run of a program costs: instructions by callgrind, and the peak of its memory; and how costs grow."""
 import json
 import os
 import re
@@ -56,3 +56,9 @@ class Meter:
             with open(self.file + ".new", "w") as new:
                 json.dump(self.counts, new, indent=0)
             os.replace(self.file + ".new", self.file)
+
+
+def slope(points):
+    """Of the line through these points that fits best."""
+    middle_x, middle_y = (sum(values) / len(points) for values in zip(*points))
+    return sum((x - middle_x) * (y - middle_y) for x, y in points) / sum((x - middle_x) ** 2 for x, _ in points)

@@ -60,7 +60,8 @@ def sawtooth(count, _):
 
 
 ORDERS = {"rising": rising, "falling": falling, "scattered": scattered, "interleaved": interleaved, "zigzag": zigzag,
-          "but-the-last": but_the_last, "sawtooth": sawtooth, "against-pivots": pivots.order}
+          "but-the-last": but_the_last, "sawtooth": sawtooth, "against-pivots": pivots.rising,
+          "against-pivots-scattered": pivots.scattered}
 
 
 # ---- keys of a number: an index compares their last eight bytes, and where these are the same the whole keys
@@ -92,7 +93,7 @@ def orders():
     for ending, name in (("", key), ("-one-ending", key_of_one_ending)):
         for order, numbers in ORDERS.items():
             yield Text(order + ending, "orders", 1.2, READ, COUNTED, TIMED, rows_in(numbers, name))
-    yield Text("long-keys", "orders", 1.2, READ, 4000, 40000, rows_in(pivots.order, long_key))
+    yield Text("long-keys", "orders", 1.2, READ, 4000, 40000, rows_in(pivots.rising, long_key))
 
 
 # ---- repeats: the row of the first key once more
@@ -127,15 +128,19 @@ def repeat_at(row, order, name):
     return make
 
 
+PLACES = {"second-row": second, "past-eighth": past_eighth, "past-quarter": past_quarter, "past-half": past_half,
+          "last-row": last}
+REPEATED = {"rising": (rising, key), "scattered": (scattered, key), "one-ending": (scattered, key_of_one_ending),
+            "against-pivots": (pivots.rising, key_of_one_ending)}
+
+
 def repeats():
-    """131,072 rows are sorted at once where 16,384 were: the row just past these costs most."""
-    for where, row, counted, timed in (("second-row", second, COUNTED, TIMED), ("past-eighth", past_eighth, 32768, 131072),
-                                       ("past-quarter", past_quarter, COUNTED, TIMED),
-                                       ("past-half", past_half, COUNTED, TIMED), ("last-row", last, COUNTED, TIMED)):
-        for order, numbers, name in (("rising", rising, key), ("scattered", scattered, key),
-                                     ("one-ending", scattered, key_of_one_ending)):
+    """A repeat is looked for among the first 64, 256 .. 16,384 rows, then among all: of 131,072, eight times these."""
+    for place, row in PLACES.items():
+        counted, timed = (32768, 131072) if row == past_eighth else (COUNTED, TIMED)
+        for order, (numbers, name) in REPEATED.items():
             make = repeat_at(row, numbers, name)
-            yield Text(f"repeat-{where}-{order}", "repeats", 1.2, REFUSED, counted, timed, make)
+            yield Text(f"repeat-{place}-{order}", "repeats", 1.2, REFUSED, counted, timed, make)
 
 
 # ---- short runs: sizes are bytes, but of keys (sections) and of families (as in generate.py)

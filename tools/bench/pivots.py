@@ -1,11 +1,11 @@
 """An order that is made against the pivots of a quicksort: each of its partitions takes few elements off.
 
-The way is McIlroy's: the sort is run on elements without values. Where it compares two of them, one gets the least value
-that is left, and that is the one which seems to be the pivot. So all pivots are among the least elements.
+The sort is run on elements without values. Where it compares two of them, one gets the least value that is left, and
+that is the one which seems to be the pivot. So all pivots are among the least elements.
 
-The sort is a model of `sort_unstable` of Rattle's std: the pivot is the median of three, of which each is such a median
-of an eighth of the elements, from 64 on; the others go to its sides by one pass from left to right; after twice the
-logarithm of their number a heap sort takes over. What it takes over has no values yet, and gets them shuffled.
+The sort is a model of `sort_unstable` of Rattle's std. The pivot is the median of three elements, and from 64 elements
+on of three such medians of an eighth each. One pass from left to right puts the others to its sides. After as many
+partitions as twice the logarithm of their number a heap sort takes over. It gets nearly all, still without values.
 """
 SMALL = 16  # so many elements are not partitioned
 
@@ -60,7 +60,7 @@ def upper_side(adversary, row, at):
         first += 1
     if first + 1 >= len(rest):
         return rest[first:]
-    # From here on the pivot has a value, and so no other element gets one: the few that are less are those that have one.
+    # The pivot has a value by now, so no other element gets one: the few that are less are among those that have one.
     bound, values = adversary.values[pivot], adversary.values
     below = [place for place in range(first + 2, len(rest)) if values[rest[place]] < bound]
     held, left = rest[first + 1], first
@@ -72,8 +72,8 @@ def upper_side(adversary, row, at):
     return rest[left + (values[held] < bound):]
 
 
-def order(count, random):
-    """The values of the elements, from 0 on, as they stand in the text."""
+def adversary_of(count):
+    """The adversary of so many elements, once all partitions are made."""
     adversary, row = Adversary(count), list(range(count))
     adversary.is_less(1, 0)
     adversary.is_less(2, 1)
@@ -84,8 +84,22 @@ def order(count, random):
         starts = (0, 4 * eighth, 7 * eighth)
         at = pivot_of(adversary, row, starts, eighth) if eighth >= 8 else median(adversary, row, starts)
         row = upper_side(adversary, row, at)
-    without = [element for element in range(count) if adversary.values[element] == count]
-    random.shuffle(without)
-    for element in without:
+    return adversary
+
+
+def values_of(count, in_order):
+    """The values of the elements, from 0 on, as they stand in the text. Those that are left are put in an order."""
+    adversary = adversary_of(count)
+    for element in in_order([element for element in range(count) if adversary.values[element] == count]):
         adversary.give(element)
     return adversary.values
+
+
+def rising(count, _):
+    """What the heap sort gets rises: an index that takes keys one after the other is fast at it."""
+    return values_of(count, lambda left: left)
+
+
+def scattered(count, chance):
+    """What the heap sort gets is shuffled, so that most of its steps miss the cache."""
+    return values_of(count, lambda left: chance.sample(left, len(left)))
