@@ -119,19 +119,25 @@ def last(count):
     return count
 
 
+def with_repeat(order):
+    """An order in which a row, by a number from 1 on, is the first one again."""
+    def numbers(count, row, chance):
+        found = order(count, chance)
+        found[row - 1] = found[0]
+        return found
+    return numbers
+
+
 def repeat_at(row, order, name):
-    """Rows in an order, of which this one, by a number from 1 on, has the key of the first."""
-    def make(count, chance):
-        numbers = order(count, chance)
-        numbers[row(count) - 1] = numbers[0]
-        return rows(map(name, numbers))
-    return make
+    """Rows of one table in such an order."""
+    return lambda count, chance: rows(map(name, order(count, row(count), chance)))
 
 
 PLACES = {"second-row": second, "past-eighth": past_eighth, "past-quarter": past_quarter, "past-half": past_half,
           "last-row": last}
-REPEATED = {"rising": (rising, key), "scattered": (scattered, key), "one-ending": (scattered, key_of_one_ending),
-            "against-pivots": (pivots.rising, key_of_one_ending)}
+REPEATED = {"rising": (with_repeat(rising), key), "scattered": (with_repeat(scattered), key),
+            "one-ending": (with_repeat(scattered), key_of_one_ending),
+            "against-pivots": (lambda count, row, _: pivots.rising_with_repeat(count, row), key_of_one_ending)}
 
 
 def repeats():

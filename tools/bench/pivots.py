@@ -72,11 +72,12 @@ def upper_side(adversary, row, at):
     return rest[left + (values[held] < bound):]
 
 
-def adversary_of(count):
-    """The adversary of so many elements, once all partitions are made."""
-    adversary, row = Adversary(count), list(range(count))
-    adversary.is_less(1, 0)
-    adversary.is_less(2, 1)
+def adversary_of(elements):
+    """The adversary of a row of elements, once all partitions are made."""
+    count, row = len(elements), list(elements)
+    adversary = Adversary(count)
+    adversary.is_less(row[1], row[0])
+    adversary.is_less(row[2], row[1])
     for _ in range(2 * (count.bit_length() - 1)):
         if len(row) <= SMALL:
             break
@@ -87,19 +88,26 @@ def adversary_of(count):
     return adversary
 
 
-def values_of(count, in_order):
-    """The values of the elements, from 0 on, as they stand in the text. Those that are left are put in an order."""
-    adversary = adversary_of(count)
-    for element in in_order([element for element in range(count) if adversary.values[element] == count]):
+def values_of(elements, in_order):
+    """The values of a row of elements, from 0 on. Those that are left without one get theirs in an order."""
+    adversary = adversary_of(elements)
+    for element in in_order([element for element in elements if adversary.values[element] == adversary.none]):
         adversary.give(element)
-    return adversary.values
+    return [adversary.values[element] for element in elements]
 
 
 def rising(count, _):
     """What the heap sort gets rises: an index that takes keys one after the other is fast at it."""
-    return values_of(count, lambda left: left)
+    return values_of(range(count), lambda left: left)
 
 
 def scattered(count, chance):
     """What the heap sort gets is shuffled, so that most of its steps miss the cache."""
-    return values_of(count, lambda left: chance.sample(left, len(left)))
+    return values_of(range(count), lambda left: chance.sample(left, len(left)))
+
+
+def rising_with_repeat(count, row):
+    """The first, where a row, by a number from 1 on, is the first one again."""
+    elements = list(range(count))
+    elements[row - 1] = elements[0]
+    return values_of(elements, lambda left: list(dict.fromkeys(left)))
