@@ -14,7 +14,9 @@ import pivots
 # `counted` and `timed` are sizes, in what `make` counts by: it makes a text of a size and a source of random numbers.
 Text = namedtuple("Text", "name group most status counted timed make")
 READ, REFUSED = 0, 1
-COUNTED, TIMED = 40000, 300000  # rows
+# Rows. The counted ones are a quarter: a repeat is looked for among four times as many rows from one time to the next,
+# so that one stands at the same place among these in both sizes.
+COUNTED, TIMED = 75000, 300000
 LETTERS = "abcdefghijklmnopqrstuvwxyz"
 
 
@@ -93,7 +95,7 @@ def orders():
     for ending, name in (("", key), ("-one-ending", key_of_one_ending)):
         for order, numbers in ORDERS.items():
             yield Text(order + ending, "orders", 1.2, READ, COUNTED, TIMED, rows_in(numbers, name))
-    yield Text("long-keys", "orders", 1.2, READ, 4000, 40000, rows_in(pivots.rising, long_key))
+    yield Text("long-keys", "orders", 1.2, READ, 10000, 40000, rows_in(pivots.rising, long_key))
 
 
 # ---- repeats: the row of the first key once more
