@@ -16,3 +16,5 @@ pub mod SlotsInLeaves
 pub mod SlotsSorted
 pub mod KeysSeen
 pub mod KeysChanged
+pub mod RunsMerged
+pub mod FirstTexts

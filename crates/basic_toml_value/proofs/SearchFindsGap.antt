@@ -47,7 +47,7 @@ module _ (keys : List (List ℕ)) (leaves : List (List Slot)) (at slot : ℕ) (k
       ) refl
 
   -- a row has the key of each of its slots
-  has : at < length leaves → slot < length (leaf_at leaves at) → key_of keys (slot_at (leaf_at leaves at) slot) ≡ key
+  pub has : at < length leaves → slot < length (leaf_at leaves at) → key_of keys (slot_at (leaf_at leaves at) slot) ≡ key
       → is_among (row_of keys leaves) key ≡ true
   has within in_leaf is =
       let here : get_or (part_at parts at) slot [] ≡ key = key_in_part keys leaves at slot in_leaf ∙ is in

@@ -1,36 +1,20 @@
--- Sorted slots: they stand for the same keys as before, these rise where each slot is before the next one, and where one
--- is not, two keys are the same.
-use Rattle.std.proofs.Common.{◌≡◌, ℕ, zero, suc, ◌+◌, ◌<◌, ◌≤◌, true, false, Bool, cond, not, ◌||◌, nat_lt, ◌==◌, List, [], ◌∷◌, ◌++◌, length, map, take, get_or, Some}
-use Rattle.std.proofs.Common.{refl, sym, ap, ◌∙◌, subst, arith, add-one, inl, inr}
-use Rattle.std.specs.List.{list_all, sum_by, slice_get}
-use Rattle.std.specs.List.Sorted.{IsPermutation, IsSortedBy, IsSortedByClosure}
-use Rattle.std.specs.Ordering.{is_lt}
-use Rattle.std.specs.declared.cmp.Ordering.{Ordering}
-use Rattle.std.specs.Fn.{Called}
+-- Keys in another order differ as before, and keys that rise differ; slots stand in the order of their keys.
+use Rattle.std.proofs.Common.{◌≡◌, ℕ, suc, ◌+◌, ◌<◌, ◌≤◌, true, false, Bool, cond, not, ◌||◌, nat_lt, ◌==◌, List, [], ◌∷◌, length, get_or}
+use Rattle.std.proofs.Common.{refl, ap, ◌∙◌, arith}
+use Rattle.std.specs.List.{list_all, sum_by}
+use Rattle.std.specs.List.Sorted.{IsPermutation}
 use Rattle.std.specs.Str.{bytes_eq}
-use Rattle.std.proofs.lemmas.Bool.{false≢true}
 use Rattle.std.proofs.lemmas.Bool.Decides.{Decides-eqb}
-use Rattle.std.proofs.lemmas.Cmp.{nat_list_cmp_total}
-use Rattle.std.proofs.lemmas.Fn.{always_returns_same}
-use Rattle.std.proofs.lemmas.List.{length-map, get_or-map, map-append, take_more}
-use Rattle.std.proofs.lemmas.Option.{slice_get_within}
-use Rattle.std.proofs.lemmas.List.Folds.{list_all-append}
-use Rattle.std.proofs.lemmas.List.Sums.{sum_by-cons, AllPass-from_list_all, list_all-from_AllPass}
-use Rattle.std.proofs.lemmas.List.Sorted.{IsPermutation-map, All-permutation, list_any-IsPermutation, sum_by-IsPermutation}
-use Rattle.std.proofs.lemmas.List.Sorted.{IsPermutation-sym, ranks_by}
+use Rattle.std.proofs.lemmas.List.Sums.{sum_by-cons}
+use Rattle.std.proofs.lemmas.List.Sorted.{sum_by-IsPermutation}
 use Rattle.std.proofs.lemmas.Slice.Eq.{bytes_eq-Decides}
-use denote.Param.Members.{Mut}
-use denote.Ref.{Bor}
 use Rattle.basic_toml_value.specs.Keys.{is_among, are_distinct}
-use Rattle.basic_toml_value.specs.Index.{ending_of, is_below, are_rising, is_sound, key_at, key_of, slot_at, joined, are_filled}
-use Rattle.basic_toml_value.specs.Index.{IsSorted, row_of}
-use Rattle.basic_toml_value.specs.SlotOrder.{slot_cmp, is_before, AreInOrder}
+use Rattle.basic_toml_value.specs.Index.{ending_of, is_below, are_rising, is_sound, key_of}
+use Rattle.basic_toml_value.specs.SlotOrder.{is_before}
 use Rattle.basic_toml_value.specs.declared.index.leaves.Slot.{Slot}
 use Rattle.basic_toml_numbers.proofs.Booleans.{and_cases}
 use Rattle.basic_toml_value.proofs.DistinctKeys.{bytes_eq-same}
-use Rattle.basic_toml_value.proofs.Order.{order_cases, all_above-through, below_asymmetric, none_above}
-use Rattle.basic_toml_value.proofs.KeysOfSlots.{sound_from}
-use Rattle.basic_toml_value.proofs.SlotsInLeaves.{joined-map, all_at}
+use Rattle.basic_toml_value.proofs.Order.{all_above-through, below_asymmetric, none_above}
 
 or_cases : (a b : Bool) → (a || b) ≡ false → (a ≡ false) × (b ≡ false)
 or_cases true b neither = absurd (cc)
@@ -97,7 +81,7 @@ distinct_moved xs ys moved distinct =
     let same = sum_by-IsPermutation (λ k. cond (bytes_eq key k) 1 0) xs ys moved in
     let low = at_most_once xs distinct key in omega (arith, same, low)))
 
--- rising keys are distinct, and distinct keys that stand side by side differ
+-- rising keys are distinct
 
 pub rising_distinct : (ks : List (List ℕ)) → are_rising ks ≡ true → are_distinct ks ≡ true
 rising_distinct [] rising = refl
@@ -105,20 +89,8 @@ rising_distinct (k ∷ ks) rising =
     let parts = and_cases (list_all (is_below k) ks) (are_rising ks) rising in
     rw (none_above ks k parts.0) (rising_distinct ks parts.1)
 
-beside_differ : (ks : List (List ℕ)) (i : ℕ) → are_distinct ks ≡ true → suc i < length ks
-    → get_or ks i [] ≡ get_or ks (suc i) [] → ⊥
-beside_differ [] i distinct within same = omega arith
-beside_differ (k ∷ []) i distinct within same = omega arith
-beside_differ (k ∷ j ∷ ks) zero distinct within same =
-    let parts = and_cases (not (is_among (j ∷ ks) k)) (are_distinct (j ∷ ks)) distinct in
-    let there : is_among (j ∷ ks) k ≡ true = ap (λ b. b || is_among ks k) ((bytes_eq-Decides k j).1 same) in
-    false≢true (sym (not_true (is_among (j ∷ ks) k) parts.0) ∙ there)
-beside_differ (k ∷ ks) (suc i) distinct within same =
-    let parts = and_cases (not (is_among ks k)) (are_distinct ks) distinct in
-    beside_differ ks i parts.1 (omega arith) same
-
 -- keys each below the next one rise
-rising_from_beside : (ks : List (List ℕ))
+pub rising_from_beside : (ks : List (List ℕ))
     → ((i : ℕ) → suc i < length ks → is_below (get_or ks i []) (get_or ks (suc i) []) ≡ true) → are_rising ks ≡ true
 rising_from_beside [] up = refl
 rising_from_beside (k ∷ []) up = refl
@@ -128,111 +100,12 @@ rising_from_beside (k ∷ j ∷ ks) up =
     let first = up 0 (omega arith) in
     rw (first, all_above-through ks j k parts.0 (below_asymmetric k j first)) rest
 
-some_leaf : (leaves : List (List Slot)) (slots : List Slot) → joined leaves ≡ slots → 0 < length slots
-    → 0 < length leaves
-some_leaf [] slots is some = let none : 0 ≡ length slots = ap (λ s. length s) is in absurd (omega (arith, none, some))
-some_leaf (l ∷ ls) slots is some = omega arith
-
--- a sort by the order of slots
-
-pub sorted_from_calls : (keys : List (List ℕ)) {F : Type 0} {g : Mut F (Bor Slot × (Bor Slot × Unit {0})) Ordering}
-    {f : F} (slots : List Slot) → IsSortedByClosure g f slots →
-    ((a : Bor Slot × (Bor Slot × Unit {0})) (r : Ordering) (f' : F) → Called g f a r f'
-    → (r ≡ slot_cmp keys a.0.now a.1.0.now) × (f' ≡ f)) → IsSortedBy (is_before keys) slots
-sorted_from_calls keys {g = g} {f = f} slots sorted calls =
-    sorted (is_before keys) (ranks_by nat_list_cmp_total (λ s. s.ending ∷ key_of keys s))
-    (always_returns_same g (λ a r. is_lt r ≡ is_before keys a.0.now a.1.0.now) f
-    (λ a r f' k. (ap (λ o. is_lt o) (calls a r f' k).0, (calls a r f' k).1)))
-
 ending_from : (keys : List (List ℕ)) (slot : Slot) → is_sound keys slot ≡ true → slot.ending ≡ ending_of (key_of keys slot)
 ending_from keys slot sound =
     (Decides-eqb slot.ending (ending_of (key_of keys slot))).0
     (and_cases (nat_lt slot.position (length keys)) (slot.ending == ending_of (key_of keys slot)) sound).1
 
 -- sound slots stand in the order of their keys
-before_is_below : (keys : List (List ℕ)) (a b : Slot) → is_sound keys a ≡ true → is_sound keys b ≡ true
+pub before_is_below : (keys : List (List ℕ)) (a b : Slot) → is_sound keys a ≡ true → is_sound keys b ≡ true
     → is_before keys a b ≡ is_below (key_of keys a) (key_of keys b)
 before_is_below keys a b sound_a sound_b = rw (ending_from keys a sound_a, ending_from keys b sound_b) refl
-
--- a slot more, for the next key
-pub slot_made : (keys : List (List ℕ)) (slots next : List Slot) (position ending : ℕ) (key : List ℕ)
-    → slice_get keys position ≡ Some key → ending ≡ ending_of key → map (key_of keys) slots ≡ take position keys
-    → list_all (is_sound keys) slots ≡ true → next ≡ slots ++ record { ending = ending; position = position } ∷ []
-    → (map (key_of keys) next ≡ take (position + 1) keys) × (list_all (is_sound keys) next ≡ true)
-slot_made keys slots next position ending key at ending_is all sound is =
-    let slot : Slot = record { ending = ending; position = position } in (
-      ap (map (key_of keys)) is ∙ map-append (key_of keys) slots (slot ∷ [])
-          ∙ ap (λ ks. ks ++ key_at keys position ∷ []) all
-          ∙ sym (take_more keys position [] (slice_get_within keys position key at)),
-      ap (list_all (is_sound keys)) is ∙ list_all-append (is_sound keys) slots (slot ∷ [])
-          ∙ rw (sound, sound_from keys slot key at ending_is) refl,
-    )
-
--- a slot for each key, moved
-module _ (keys : List (List ℕ)) (made slots : List Slot) (whole : map (key_of keys) made ≡ keys)
-    (made_sound : list_all (is_sound keys) made ≡ true) (moved : IsPermutation made slots) where
-  abbrev none : Slot
-  none = record { ending = 0; position = 0 }
-
-  abbrev row : List (List ℕ)
-  row = map (key_of keys) slots
-
-  row_moved : IsPermutation keys row
-  row_moved = subst (λ (ks : List (List ℕ)). IsPermutation ks row) whole (IsPermutation-map (key_of keys) made slots moved)
-
-  pub sound : list_all (is_sound keys) slots ≡ true
-  sound =
-      list_all-from_AllPass (is_sound keys) slots
-      (All-permutation (λ s. is_sound keys s ≡ true) made slots moved (AllPass-from_list_all (is_sound keys) made made_sound))
-
-  sound_at : (i : ℕ) → i < length slots → is_sound keys (slot_at slots i) ≡ true
-  sound_at i within = all_at (is_sound keys) slots i none sound within
-
-  row_at : (i : ℕ) → i < length slots → get_or row i [] ≡ key_of keys (slot_at slots i)
-  row_at i within = get_or-map (key_of keys) slots i none [] within
-
-  rising : AreInOrder keys slots → are_rising row ≡ true
-  rising up =
-      rising_from_beside row (λ i within. (
-      let counted = length-map slots (key_of keys) in
-      let low : i < length slots = omega (arith, counted, within) in
-      let next : suc i < length slots = omega (arith, counted, within) in
-      let here : i + 1 < length slots = omega (arith, next) in
-      rw (
-        row_at i low,
-        row_at (suc i) next,
-        ← before_is_below keys (slot_at slots i) (slot_at slots (suc i))
-            (sound_at i low) (sound_at (suc i) next),
-      ) (rw add-one at (up i here))))
-
-  pub differ : AreInOrder keys slots → are_distinct keys ≡ true
-  differ up = distinct_moved row keys (IsPermutation-sym keys row row_moved) (rising_distinct row (rising up))
-
-  pub in_leaves : AreInOrder keys slots → (leaves : List (List Slot)) → 0 < length slots → joined leaves ≡ slots
-      → are_filled leaves ≡ true → IsSorted keys leaves
-  in_leaves up leaves some is filled =
-      let row_is : row_of keys leaves ≡ row = joined-map (key_of keys) leaves ∙ ap (map (key_of keys)) is in record {
-        row = record {
-          some = some_leaf leaves slots is some;
-          filled = filled;
-          sound = rw is sound;
-          rising = rw row_is (rising up);
-        };
-        same = λ key. rw row_is (list_any-IsPermutation (bytes_eq key) row keys (IsPermutation-sym keys row row_moved));
-      }
-
-  -- slots that are sorted, of distinct keys, are in order
-  pub in_order : IsSortedBy (is_before keys) slots → are_distinct keys ≡ true → AreInOrder keys slots
-  in_order sorted distinct k within =
-      let low : k < length slots = omega arith in
-      let next : k + 1 < length slots = within in
-      let a = slot_at slots k in
-      let b = slot_at slots (k + 1) in
-      let up = before_is_below keys a b (sound_at k low) (sound_at (k + 1) next) in
-      let down = before_is_below keys b a (sound_at (k + 1) next) (sound_at k low) in
-      elim (order_cases (key_of keys a) (key_of keys b)) [
-        | inl less ↦ up ∙ less
-        | inr (inl same) ↦ absurd (beside_differ row k (distinct_moved keys row row_moved distinct)
-            (rw length-map (omega arith)) (row_at k low ∙ same ∙ sym (rw (← add-one) (row_at (k + 1) next))))
-        | inr (inr more) ↦ absurd (false≢true (sym (sorted k none (omega arith) within) ∙ down ∙ more))
-      ]

@@ -1,6 +1,6 @@
 -- An index of texts: their positions, each with an ending of its text, sorted in leaves of bounded size. Callers go by
 -- `IsIndex` and `IsGap` alone; what stands before these is the index's own.
-use Rattle.std.specs.Prelude.{◌≡◌, ◌==◌, ℕ, suc, ◌<◌, ◌≤◌, List, [], ◌∷◌, ◌++◌, Bool, true, false, ◌&&◌, nat_lt}
+use Rattle.std.specs.Prelude.{◌≡◌, ◌==◌, ℕ, suc, ◌<◌, ◌≤◌, List, [], ◌∷◌, ◌++◌, Bool, true, false, ◌&&◌, ◌||◌, nat_lt, nat_le, is_some}
 use Rattle.std.specs.Prelude.{length, map, take, drop, replicate, IsTrue, Vec, slice_index_or, slice_set, insert}
 use Rattle.std.specs.List.{list_all, flat_map}
 use Rattle.std.specs.Option.{ForSome}
@@ -128,6 +128,13 @@ pub record IsIndex (keys : List (List ℕ)) (index : Index) : Type 0 where
 pub record IsGap (keys : List (List ℕ)) (index : Index) (key : List ℕ) (gap : Gap) : Type 0 where
   pub absent : is_among keys key ≡ false
   pub place : ForSome index.leaves (λ leaves. IsPlace keys (leaves_of leaves.value.items) gap key)
+
+-- an index is enough for so many texts where it is made, or they are a few
+abbrev pub few : ℕ
+few = 16
+
+abbrev pub is_enough : Index → ℕ → Bool
+is_enough index count = nat_le count few || is_some index.leaves
 
 -- what a search answers, where it has found the key and where not
 abbrev pub IfAt : Found → (ℕ → Type 0) → Type 0

@@ -4,9 +4,9 @@
 //! beside the ending of its text, so that most comparisons touch no text. A search is one walk: it answers the position
 //! of a key, or the gap where the key would go, and `insert` takes the gap.
 ghost use Rattle.std.specs.Prelude.{◌≡◌, List, ℕ, [], ◌∷◌, ◌++◌, length, false, Some, IsTrue, IfOk, OnOk, OnErr};
-ghost use Rattle.std.specs.Prelude.{slice_get, IfSome, IfNone};
+ghost use Rattle.std.specs.Prelude.{slice_get, ◌<◌, ◌≤◌, true, take};
 ghost use Rattle.basic_toml_value.specs.Keys.{are_distinct, is_among};
-ghost use Rattle.basic_toml_value.specs.Index.{IsIndex, IsGap, IfAt, IfAbsent};
+ghost use Rattle.basic_toml_value.specs.Index.{IsIndex, IsGap, IfAt, IfAbsent, key_at, is_enough};
 
 mod ending;
 mod leaves;
@@ -77,8 +77,10 @@ impl Index {
         Index { leaves: None }
     }
 
-    /// Whether so many texts are looked up by an index. A few need none.
-    pub(crate) fn serves(&self, count: usize) -> bool {
+    /// Whether this is enough for so many texts, so that a search looks through a few of them at most.
+    pub fn is_enough_for(&self, count: usize) -> bool
+        ensures { result ≡ is_enough self.now count }
+    {
         count <= FEW || self.leaves.is_some()
     }
 
@@ -100,27 +102,27 @@ impl Index {
         })
     }
 
-    /// An index of any texts, made at once by sorting them, or `None` where two of them are the same.
-    ///
-    /// It serves very many texts: `of` and `insert` look for the place of each among those before it. A few get an index
-    /// from it as well, though they do without one elsewhere.
+    /// An index of the texts before the first one that is the same as one before it, and how many these are: all, where
+    /// no text repeats. It is made at once, by sorting, and serves very many texts: `of` and `insert` look for the place
+    /// of each among those before it.
     ///
     /// # Errors
     ///
     /// `AllocError` where memory was refused.
-    pub fn of_any<T: Texts>(alloc: Global, texts: &T) -> Result<Option<Index>, AllocError>
-        ensures index { IfOk result (λ found. IfSome found (λ index. IsIndex (T.texts texts.now) index)) }
-        ensures repeat { IfOk result (λ found. IfNone found (are_distinct (T.texts texts.now) ≡ false)) }
+    pub fn until_repeat<T: Texts>(alloc: Global, texts: &T) -> Result<(Index, usize), AllocError>
+        ensures within { IfOk result (λ found. found.1 ≤ length (T.texts texts.now)) }
+        ensures index { IfOk result (λ found. IsIndex (take found.1 (T.texts texts.now)) found.0) }
+        ensures repeat { IfOk result (λ found. found.1 < length (T.texts texts.now)
+            → is_among (take found.1 (T.texts texts.now)) (key_at (T.texts texts.now) found.1) ≡ true) }
     {
         if texts.count() == 0 {
-            return Ok(Some(Index::none()));
+            return Ok((Index::none(), 0));
         }
-        let Some(leaves) = leaves::leaves_of_any(alloc, texts)? else {
-            return Ok(None);
-        };
-        Ok(Some(Index {
+        let (leaves, count) = leaves::until_repeat(alloc, texts)?;
+        let index = Index {
             leaves: Some(Box::new(alloc, leaves)?),
-        }))
+        };
+        Ok((index, count))
     }
 
     /// The position of a key among the texts, or where it would go.

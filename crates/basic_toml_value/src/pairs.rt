@@ -190,11 +190,6 @@ impl<V> Pairs<V> {
         &self.index
     }
 
-    /// Whether a key is looked up without going through more than a few pairs. It is so where the pairs were pushed.
-    pub fn is_indexed(&self) -> bool {
-        self.index.serves(self.entries.len())
-    }
-
     // The allocator that the table keeps.
     pub(crate) fn allocator(&self) -> Global {
         *self.entries.allocator()

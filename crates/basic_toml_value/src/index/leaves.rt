@@ -9,11 +9,12 @@ ghost use Rattle.basic_toml_value.specs.Index.{ending_of, is_sound, key_of, slot
 ghost use Rattle.basic_toml_value.specs.Index.{row_of, row_with, with_slot, joined, are_filled, IsRow};
 ghost use Rattle.basic_toml_value.specs.Index.{IsSorted, IsPlace, HoldsAt, IfAt, IfAbsent};
 
+mod first;
 mod sorted;
 
 use crate::index::ending::ending_of;
 use crate::index::{Found, Gap, Texts};
-pub use sorted::leaves_of_any;
+pub use first::until_repeat;
 use std::alloc::{AllocError, Global};
 
 // How many slots any leaf has room for.
@@ -28,11 +29,12 @@ pub struct Slot {
 
 pub type Leaf = Vec<Slot>;
 
-// The position of a key, or where it would go.
+// The position of a key that a slot stands for, or where it would go.
 pub fn search<T: Texts>(leaves: &[Leaf], texts: &T, key: &str) -> Found
-    requires { IsSorted (T.texts texts.now) (leaves_of leaves.now) }
+    requires { IsRow (T.texts texts.now) (leaves_of leaves.now) }
     ensures found { IfAt result (λ position. slice_get (T.texts texts.now) position ≡ Some key.now) }
-    ensures absent { IfAbsent result (λ gap. is_among (T.texts texts.now) key.now ≡ false) }
+    ensures among { IfAt result (λ position. is_among (row_of (T.texts texts.now) (leaves_of leaves.now)) key.now ≡ true) }
+    ensures absent { IfAbsent result (λ gap. is_among (row_of (T.texts texts.now) (leaves_of leaves.now)) key.now ≡ false) }
     ensures place { IfAbsent result (λ gap. IsPlace (T.texts texts.now) (leaves_of leaves.now) gap key.now) }
 {
     let gap = gap(leaves, texts, key);

@@ -1,48 +1,222 @@
-//! Leaves of any texts, made at once: a slot for each text, sorted in place, and cut into leaves. A pass over the sorted
-//! slots sees whether each is below the next one, so that the order of the leaves rests on that pass alone.
-ghost use Rattle.std.specs.Prelude.{◌≡◌, ◌<◌, ◌↔◌, length, map, true, false, IsTrue, IfOk, IfSome, IfNone};
+//! Slots in order: a part of the texts sorted, and two sorted runs merged. Neither is done where two texts are the same.
+//!
+//! A part is sorted by the endings, which are numbers. Where that does not put it in order, since texts share their
+//! endings, halves are sorted and merged, so that no order of texts takes much longer than another.
+ghost use Rattle.std.specs.Prelude.{◌≡◌, ◌<◌, ◌≤◌, ◌+◌, ◌-◌, ◌++◌, length, map, take, drop, true, IsTrue, ◌↔◌, IfOk, IfSome};
 ghost use Rattle.std.specs.List.{list_all};
+ghost use Rattle.std.specs.List.Sorted.{IsPermutation};
 ghost use Rattle.std.specs.Ordering.{nat_cmp};
 ghost use Rattle.std.specs.Cmp.Lexicographic.{slice_cmp};
-ghost use Rattle.basic_toml_value.specs.Keys.{are_distinct};
-ghost use Rattle.basic_toml_value.specs.Index.{IsSorted, leaves_of, joined, are_filled, key_of, key_at};
-ghost use Rattle.basic_toml_value.specs.Index.{is_sound};
-ghost use Rattle.basic_toml_value.specs.SlotOrder.{slot_cmp, AreInOrder};
+ghost use Rattle.basic_toml_value.specs.Index.{key_of, key_at, is_sound, slot_at};
+ghost use Rattle.basic_toml_value.specs.SlotOrder.{slot_cmp, AreInOrder, IsRun, is_low};
+ghost use Rattle.basic_toml_value.specs.SlotOrder as order;
 
 use crate::index::Texts;
 use crate::index::ending::ending_of;
-use crate::index::leaves::{LEAF, Leaf, Slot};
+use crate::index::leaves::Slot;
 use std::alloc::{AllocError, Global};
 use std::cmp::Ordering;
 
-/// A slot for each text in leaves, or `None` where two texts are the same.
-pub fn leaves_of_any<T: Texts>(alloc: Global, texts: &T) -> Result<Option<Vec<Leaf>>, AllocError>
-    requires { 0 < length (T.texts texts.now) }
-    ensures sorted { IfOk result (λ found. IfSome found (λ leaves.
-        IsSorted (T.texts texts.now) (leaves_of leaves.items))) }
-    ensures distinct { IfOk result (λ found. IfSome found (λ leaves. IsTrue (are_distinct (T.texts texts.now)))) }
-    ensures repeat { IfOk result (λ found. IfNone found (are_distinct (T.texts texts.now) ≡ false)) }
+// So many slots are sorted by insertion.
+const FEW: usize = 16;
+
+/// The slot of the text at a position.
+#[inline(always)]
+pub fn slot_of<T: Texts>(texts: &T, position: usize) -> Slot
+    requires { position < length (T.texts texts.now) }
+    ensures position { result.position ≡ position }
+    ensures sound { is_sound (T.texts texts.now) result ≡ true }
 {
-    let mut slots = slots_of(alloc, texts)?;
-    slots.sort_unstable_by(|a, b| compare(texts, *a, *b));
-    if !are_in_order(texts, slots.as_slice()) {
-        return Ok(None);
+    Slot {
+        ending: ending_of(texts.text(position)),
+        position,
     }
-    Ok(Some(cut(alloc, slots.as_slice())?))
 }
 
-// A slot for each text, in the order of the texts.
-fn slots_of<T: Texts>(alloc: Global, texts: &T) -> Result<Vec<Slot>, AllocError>
-    ensures keys { IfOk result (λ slots. map (key_of (T.texts texts.now)) slots.items ≡ T.texts texts.now) }
-    ensures sound { IfOk result (λ slots. IsTrue (list_all (is_sound (T.texts texts.now)) slots.items)) }
+/// The slots of the texts from one position up to another, sorted; `None` where two of the texts are the same.
+pub fn sorted_part<T: Texts>(
+    alloc: Global,
+    texts: &T,
+    from: usize,
+    to: usize,
+) -> Result<Option<Vec<Slot>>, AllocError>
+    requires { (from < to) × (to ≤ length (T.texts texts.now)) }
+    ensures keys { IfOk result (λ found. IfSome found (λ run. IsPermutation
+        (take (to - from) (drop from (T.texts texts.now))) (map (key_of (T.texts texts.now)) run.items))) }
+    ensures low { IfOk result (λ found. IfSome found (λ run. list_all (is_low to) run.items ≡ true)) }
+    ensures run { IfOk result (λ found. IfSome found (λ run. IsRun (T.texts texts.now) run.items)) }
 {
-    let count = texts.count();
-    let mut slots = Vec::with_capacity(alloc, count)?;
-    for position in 0..count {
-        let ending = ending_of(texts.text(position));
-        slots.push_reserved(Slot { ending, position });
+    let slots = by_ending(texts, slots_of(alloc, texts, from, to)?)?;
+    if are_in_order(texts, slots.as_slice()) {
+        return Ok(Some(slots));
+    }
+    sorted(alloc, texts, slots.as_slice())
+}
+
+// The slots sorted by their endings; of texts that share one ending and fall, the slots from last to first.
+fn by_ending<T: Texts>(texts: &T, slots: Vec<Slot>) -> Result<Vec<Slot>, AllocError>
+    requires { 0 < length slots.items }
+    ensures moved { IfOk result (λ other. IsPermutation slots.items other.items) }
+{
+    let mut slots = slots;
+    slots.sort_by_key(|slot| slot.ending)?;
+    if ends_before(texts, slots.as_slice(), slots.as_slice()) {
+        slots.reverse();
     }
     Ok(slots)
+}
+
+// A slot for each text from one position up to another, in the order of the texts.
+fn slots_of<T: Texts>(
+    alloc: Global,
+    texts: &T,
+    from: usize,
+    to: usize,
+) -> Result<Vec<Slot>, AllocError>
+    requires { (from ≤ to) × (to ≤ length (T.texts texts.now)) }
+    ensures keys { IfOk result (λ slots. map (key_of (T.texts texts.now)) slots.items
+        ≡ take (to - from) (drop from (T.texts texts.now))) }
+    ensures sound { IfOk result (λ slots. list_all (is_sound (T.texts texts.now)) slots.items ≡ true) }
+    ensures low { IfOk result (λ slots. list_all (is_low to) slots.items ≡ true) }
+{
+    let mut slots = Vec::with_capacity(alloc, to - from)?;
+    for position in from..to {
+        slots.push_reserved(slot_of(texts, position));
+    }
+    Ok(slots)
+}
+
+// The slots sorted, or `None` where two of their texts are the same.
+fn sorted<T: Texts>(
+    alloc: Global,
+    texts: &T,
+    slots: &[Slot],
+) -> Result<Option<Vec<Slot>>, AllocError>
+    requires sound { list_all (is_sound (T.texts texts.now)) slots.now ≡ true }
+    ensures moved { IfOk result (λ found. IfSome found (λ run. IsPermutation slots.now run.items)) }
+    ensures run { IfOk result (λ found. IfSome found (λ run. IsRun (T.texts texts.now) run.items)) }
+{
+    if slots.len() <= FEW {
+        return few_sorted(alloc, texts, slots);
+    }
+    let (left, right) = slots.split_at(slots.len() / 2);
+    let Some(left) = sorted(alloc, texts, left)? else {
+        return Ok(None);
+    };
+    let Some(right) = sorted(alloc, texts, right)? else {
+        return Ok(None);
+    };
+    merged(alloc, texts, left.as_slice(), right.as_slice())
+}
+
+// The same of a few slots.
+fn few_sorted<T: Texts>(
+    alloc: Global,
+    texts: &T,
+    slots: &[Slot],
+) -> Result<Option<Vec<Slot>>, AllocError>
+    requires sound { list_all (is_sound (T.texts texts.now)) slots.now ≡ true }
+    ensures moved { IfOk result (λ found. IfSome found (λ run. IsPermutation slots.now run.items)) }
+    ensures run { IfOk result (λ found. IfSome found (λ run. IsRun (T.texts texts.now) run.items)) }
+{
+    let mut run = Vec::from_slice(alloc, slots)?;
+    run.sort_unstable_by(|a, b| compare(texts, *a, *b));
+    if are_in_order(texts, run.as_slice()) {
+        Ok(Some(run))
+    } else {
+        Ok(None)
+    }
+}
+
+/// Two sorted runs as one, or `None` where a text stands in both.
+pub fn merged<T: Texts>(
+    alloc: Global,
+    texts: &T,
+    left: &[Slot],
+    right: &[Slot],
+) -> Result<Option<Vec<Slot>>, AllocError>
+    requires some { (0 < length left.now) × (0 < length right.now) }
+    requires left { IsRun (T.texts texts.now) left.now }
+    requires right { IsRun (T.texts texts.now) right.now }
+    ensures moved { IfOk result (λ found. IfSome found (λ run. IsPermutation (left.now ++ right.now) run.items)) }
+    ensures run { IfOk result (λ found. IfSome found (λ run. IsRun (T.texts texts.now) run.items)) }
+{
+    if ends_before(texts, left, right) {
+        return Ok(Some(joined(alloc, left, right)?));
+    }
+    if ends_before(texts, right, left) {
+        return Ok(Some(joined(alloc, right, left)?));
+    }
+    interleaved(alloc, texts, left, right)
+}
+
+// Whether the last slot of a run is before the first of another.
+fn ends_before<T: Texts>(texts: &T, first: &[Slot], second: &[Slot]) -> bool
+    requires { (0 < length first.now) × (0 < length second.now) }
+    ensures { IsTrue result → IsTrue (order.is_before (T.texts texts.now) (slot_at first.now (length first.now - 1)) (slot_at second.now 0)) }
+{
+    is_before(texts, first[first.len() - 1], second[0])
+}
+
+// Slots after others.
+fn joined(alloc: Global, first: &[Slot], second: &[Slot]) -> Result<Vec<Slot>, AllocError>
+    ensures { IfOk result (λ run. run.items ≡ first.now ++ second.now) }
+{
+    let mut run = Vec::with_capacity(alloc, first.len() + second.len())?;
+    run.extend_from_slice(first)?;
+    run.extend_from_slice(second)?;
+    Ok(run)
+}
+
+// Two sorted runs slot by slot.
+fn interleaved<T: Texts>(
+    alloc: Global,
+    texts: &T,
+    left: &[Slot],
+    right: &[Slot],
+) -> Result<Option<Vec<Slot>>, AllocError>
+    requires left { IsRun (T.texts texts.now) left.now }
+    requires right { IsRun (T.texts texts.now) right.now }
+    ensures moved { IfOk result (λ found. IfSome found (λ run. IsPermutation (left.now ++ right.now) run.items)) }
+    ensures run { IfOk result (λ found. IfSome found (λ run. IsRun (T.texts texts.now) run.items)) }
+{
+    let mut run = Vec::with_capacity(alloc, left.len() + right.len())?;
+    let mut i = 0;
+    let mut j = 0;
+    while i < left.len() && j < right.len() {
+        let a = &left[i];
+        let b = &right[j];
+        if a.ending == b.ending {
+            match texts.text(a.position).cmp(texts.text(b.position)) {
+                Ordering::Less => {
+                    run.push_reserved(*a);
+                    i += 1;
+                }
+                Ordering::Equal => return Ok(None),
+                Ordering::Greater => {
+                    run.push_reserved(*b);
+                    j += 1;
+                }
+            }
+        } else {
+            // Without a branch, since which of them comes first is mostly by chance.
+            let is_left = a.ending < b.ending;
+            run.push_reserved(*(if is_left { a } else { b }));
+            i += is_left as usize;
+            j += !is_left as usize;
+        }
+    }
+    run.extend_from_slice(&left[i..])?;
+    run.extend_from_slice(&right[j..])?;
+    Ok(Some(run))
+}
+
+/// Whether a slot is before another.
+#[inline(always)]
+pub fn is_before<T: Texts>(texts: &T, a: Slot, b: Slot) -> bool
+    ensures { result ≡ order.is_before (T.texts texts.now) a b }
+{
+    compare(texts, a, b) == Ordering::Less
 }
 
 // How two slots compare: by their endings, and by their keys where these are the same.
@@ -83,26 +257,9 @@ fn are_in_order<T: Texts>(texts: &T, slots: &[Slot]) -> bool
     ensures { IsTrue result ↔ AreInOrder (T.texts texts.now) slots.now }
 {
     for at in 1..slots.len() {
-        if compare(texts, slots[at - 1], slots[at]) != Ordering::Less {
+        if !is_before(texts, slots[at - 1], slots[at]) {
             return false;
         }
     }
     true
-}
-
-// Slots cut into leaves, each with room for `LEAF` of them.
-fn cut(alloc: Global, slots: &[Slot]) -> Result<Vec<Leaf>, AllocError>
-    ensures row { IfOk result (λ leaves. joined (leaves_of leaves.items) ≡ slots.now) }
-    ensures filled { IfOk result (λ leaves. IsTrue (are_filled (leaves_of leaves.items))) }
-{
-    let mut leaves = Vec::with_capacity(alloc, slots.len() / LEAF + 1)?;
-    let mut rest = slots;
-    while !rest.is_empty() {
-        let (first, more) = rest.split_at(rest.len().min(LEAF));
-        let mut leaf = Vec::with_capacity(alloc, LEAF)?;
-        leaf.extend_from_slice(first)?;
-        leaves.push(leaf)?;
-        rest = more;
-    }
-    Ok(leaves)
 }

@@ -1,7 +1,7 @@
 -- The leaves and the slots that are left are the slots, and no leaf is empty.
 use Rattle.std.proofs.Common.{◌≡◌, ◌++◌, length, true}
 use Rattle.basic_toml_value.specs.Index.{joined, leaves_of, are_filled}
-use Rattle.basic_toml_value.proofs.index.leaves.sorted.cut.Given as goal
+use Rattle.basic_toml_value.proofs.index.leaves.first.cut.Given as goal
 
 abbrev pub invariant-loop-rest : goal.invariant-loop-rest
 invariant-loop-rest l = record {

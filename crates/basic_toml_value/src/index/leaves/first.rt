@@ -1,0 +1,223 @@
+//! Leaves of the first of any texts, up to the first text that stands before it too.
+//!
+//! Texts that rise are appended. Where they no longer do and many are left, a part after another is sorted and merged
+//! with the texts before it. A few that are left are put in one by one, and so are those of a part in which a text
+//! repeats.
+ghost use Rattle.std.specs.Prelude.{◌≡◌, ◌<◌, ◌≤◌, ◌++◌, length, take, true, IfOk, IfSome};
+ghost use Rattle.basic_toml_value.specs.Keys.{is_among};
+ghost use Rattle.basic_toml_value.specs.Index.{leaves_of, joined, are_filled, key_at};
+ghost use Rattle.basic_toml_value.specs.SlotOrder.{IsRun, IsRunOfFirst, AreFirst};
+
+use crate::index::leaves::sorted::{is_before, merged, slot_of, sorted_part};
+use crate::index::leaves::{LEAF, Leaf, Slot, insert, search};
+use crate::index::{Found, Texts};
+use std::alloc::{AllocError, Global};
+
+// So many texts are sorted together at least.
+const PART: usize = 64;
+
+// A text of more bytes than this takes long to compare.
+const LONG: usize = 64;
+
+/// Leaves of the texts before the first one that is the same as one before it, and how many these are.
+pub fn until_repeat<T: Texts>(alloc: Global, texts: &T) -> Result<(Vec<Leaf>, usize), AllocError>
+    requires { 0 < length (T.texts texts.now) }
+    ensures first { IfOk result (λ found. AreFirst (T.texts texts.now) found.1 (leaves_of found.0.items)) }
+    ensures repeat { IfOk result (λ found. found.1 < length (T.texts texts.now)
+        → is_among (take found.1 (T.texts texts.now)) (key_at (T.texts texts.now) found.1) ≡ true) }
+{
+    let (leaves, count) = rising(alloc, texts)?;
+    let (mut leaves, count) = with_sorted(alloc, texts, leaves, count)?;
+    let count = put_in(&mut leaves, texts, count)?;
+    Ok((leaves, count))
+}
+
+// Leaves of the first texts, up to the first that is not above the one before it, and how many these are.
+fn rising<T: Texts>(alloc: Global, texts: &T) -> Result<(Vec<Leaf>, usize), AllocError>
+    requires { 0 < length (T.texts texts.now) }
+    ensures { IfOk result (λ found. AreFirst (T.texts texts.now) found.1 (leaves_of found.0.items)) }
+{
+    let count = texts.count();
+    let mut leaves = Vec::new(alloc);
+    let mut leaf = Vec::with_capacity(alloc, count.min(LEAF))?;
+    let mut last = slot_of(texts, 0);
+    leaf.push(last)?;
+    for position in 1..count {
+        let slot = slot_of(texts, position);
+        if !is_before(texts, last, slot) {
+            leaves.push(leaf)?;
+            return Ok((leaves, position));
+        }
+        leaf = with_room(alloc, &mut leaves, leaf)?;
+        leaf.push(slot)?;
+        last = slot;
+    }
+    leaves.push(leaf)?;
+    Ok((leaves, count))
+}
+
+// The leaf that is filled; where it is full, it goes to the others, and another one begins.
+#[inline(always)]
+fn with_room(alloc: Global, leaves: &mut Vec<Leaf>, leaf: Leaf) -> Result<Leaf, AllocError>
+    requires some { 0 < length leaf.items }
+    requires filled { are_filled (leaves_of leaves.old.items) ≡ true }
+    ensures row { IfOk result (λ next. joined (leaves_of leaves.new.items) ++ next.items
+        ≡ joined (leaves_of leaves.old.items) ++ leaf.items) }
+    ensures filled { are_filled (leaves_of leaves.new.items) ≡ true }
+{
+    if leaf.len() < LEAF {
+        return Ok(leaf);
+    }
+    leaves.push(leaf)?;
+    Vec::with_capacity(alloc, LEAF)
+}
+
+// The slots of the first texts, as many as `count`, sorted, and what is known of the last part of them.
+#[derive(Drop)]
+struct Run {
+    slots: Vec<Slot>,
+    count: usize,
+    ties: Ties,
+}
+
+// The leaves with texts that follow, where these are many: as long as parts of them can be sorted and merged with those
+// before. And how many texts these are.
+fn with_sorted<T: Texts>(
+    alloc: Global,
+    texts: &T,
+    leaves: Vec<Leaf>,
+    count: usize,
+) -> Result<(Vec<Leaf>, usize), AllocError>
+    requires { AreFirst (T.texts texts.now) count (leaves_of leaves.items) }
+    ensures { IfOk result (λ found. AreFirst (T.texts texts.now) found.1 (leaves_of found.0.items)) }
+{
+    if texts.count() - count <= count / 8 {
+        return Ok((leaves, count));
+    }
+    let mut run = Run {
+        slots: in_a_row(alloc, leaves)?,
+        count,
+        ties: Ties::Few,
+    };
+    while run.count < texts.count() && run.ties != Ties::Long {
+        let Some(longer) = with_part(alloc, texts, &run)? else {
+            break;
+        };
+        run = longer;
+    }
+    Ok((cut(alloc, run.slots.as_slice())?, run.count))
+}
+
+// A run with a part of the texts that follow; `None` where one of these repeats.
+fn with_part<T: Texts>(alloc: Global, texts: &T, run: &Run) -> Result<Option<Run>, AllocError>
+    requires left { run.now.count < length (T.texts texts.now) }
+    requires some { 0 < run.now.count }
+    requires first { IsRunOfFirst (T.texts texts.now) run.now.count run.now.slots.items }
+    ensures more { IfOk result (λ found. IfSome found (λ longer. run.now.count < longer.count)) }
+    ensures first { IfOk result (λ found. IfSome found (λ longer.
+        IsRunOfFirst (T.texts texts.now) longer.count longer.slots.items)) }
+{
+    let count = run.count;
+    let next = count + part_after(count, run.ties).min(texts.count() - count);
+    let Some(part) = sorted_part(alloc, texts, count, next)? else {
+        return Ok(None);
+    };
+    let ties = ties_of(texts, part.as_slice());
+    let Some(slots) = merged(alloc, texts, run.slots.as_slice(), part.as_slice())? else {
+        return Ok(None);
+    };
+    Ok(Some(Run {
+        slots,
+        count: next,
+        ties,
+    }))
+}
+
+// How often texts of a part share their endings, so that the texts are compared.
+#[derive(Clone, Copy, PartialEq, Eq)]
+enum Ties {
+    Few,
+    Many,
+    // Many, and of long texts.
+    Long,
+}
+
+// How many texts are sorted next: as many as there are; fewer where texts are compared, so that not many of these are
+// sorted in vain before a text that repeats is met.
+fn part_after(count: usize, ties: Ties) -> usize
+    ensures { 0 < result }
+{
+    match ties {
+        Ties::Few => count.max(PART),
+        _ => (count / 4).max(PART),
+    }
+}
+
+// Whether an eighth of slots that are sorted share their endings with the ones before them.
+fn ties_of<T: Texts>(texts: &T, slots: &[Slot]) -> Ties
+    requires { IsRun (T.texts texts.now) slots.now }
+{
+    let mut many = 0usize;
+    let mut long = 0usize;
+    for at in 1..slots.len() {
+        if slots[at - 1].ending == slots[at].ending {
+            many = many.saturating_add(1);
+            if texts.text(slots[at].position).len() > LONG {
+                long = long.saturating_add(1);
+            }
+        }
+    }
+    let eighth = slots.len() / 8;
+    if long > eighth {
+        Ties::Long
+    } else if many > eighth {
+        Ties::Many
+    } else {
+        Ties::Few
+    }
+}
+
+// The slots of leaves in a row.
+fn in_a_row(alloc: Global, leaves: Vec<Leaf>) -> Result<Vec<Slot>, AllocError>
+    ensures { IfOk result (λ row. row.items ≡ joined (leaves_of leaves.items)) }
+{
+    let mut row = Vec::new(alloc);
+    for leaf in leaves {
+        row.extend_from_slice(leaf.as_slice())?;
+    }
+    Ok(row)
+}
+
+// Slots cut into leaves, each with room for `LEAF` of them.
+fn cut(alloc: Global, slots: &[Slot]) -> Result<Vec<Leaf>, AllocError>
+    ensures row { IfOk result (λ leaves. joined (leaves_of leaves.items) ≡ slots.now) }
+    ensures filled { IfOk result (λ leaves. are_filled (leaves_of leaves.items) ≡ true) }
+{
+    let mut leaves = Vec::with_capacity(alloc, slots.len() / LEAF + 1)?;
+    let mut rest = slots;
+    while !rest.is_empty() {
+        let (first, more) = rest.split_at(rest.len().min(LEAF));
+        let mut leaf = Vec::with_capacity(alloc, LEAF)?;
+        leaf.extend_from_slice(first)?;
+        leaves.push(leaf)?;
+        rest = more;
+    }
+    Ok(leaves)
+}
+
+// Puts in the texts that follow one by one, up to the first that stands before it too, and answers how many there are
+// then.
+fn put_in<T: Texts>(leaves: &mut Vec<Leaf>, texts: &T, count: usize) -> Result<usize, AllocError>
+    requires { AreFirst (T.texts texts.now) count (leaves_of leaves.old.items) }
+    ensures first { IfOk result (λ end. AreFirst (T.texts texts.now) end (leaves_of leaves.new.items)) }
+    ensures repeat { IfOk result (λ end. end < length (T.texts texts.now)
+        → is_among (take end (T.texts texts.now)) (key_at (T.texts texts.now) end) ≡ true) }
+{
+    for position in count..texts.count() {
+        match search(leaves.as_slice(), texts, texts.text(position)) {
+            Found::At(_) => return Ok(position),
+            Found::Absent(gap) => insert(leaves, gap, position)?,
+        }
+    }
+    Ok(texts.count())
+}
