@@ -14,6 +14,7 @@ pub mod InlineTables
 pub mod ElementsLeft
 pub mod PlainArrays
 pub mod SimpleRows
+pub mod RowsAfter
 pub mod LatestInATrie
 pub mod RowsHaveKeys
 pub mod TablesOpened

@@ -49,7 +49,7 @@ pub no_value : (v : Option Raw) → not (is_some v) ≡ true → v ≡ None
 no_value None dot = refl
 no_value (Some v) dot = absurd (cc)
 
-both : (a b : Bool) → (a && b) ≡ true → (a ≡ true) × (b ≡ true)
+pub both : (a b : Bool) → (a && b) ≡ true → (a ≡ true) × (b ≡ true)
 both true b e = (refl, e)
 both false b e = absurd (cc)
 

@@ -1,15 +1,15 @@
 -- Simple rows, put into a table one after another: they become its entries.
 use Rattle.std.proofs.Common.{◌≡◌, ◌==◌, ◌≤◌, ℕ, ◌+◌, Bool, true, false, ◌||◌, not, List, [], ◌∷◌, ◌++◌, length, map, Some, is_some}
-use Rattle.std.proofs.Common.{arith, suc, take, refl, sym, ap, ◌∙◌, subst, rules, ap₂, append_assoc, slice_get}
+use Rattle.std.proofs.Common.{arith, suc, take, drop, refl, sym, ap, ◌∙◌, subst, rules, ap₂, append_assoc, slice_get}
 use Rattle.std.specs.Str.{bytes_eq}
 use Rattle.std.proofs.lemmas.Bool.{false≢true}
-use Rattle.std.proofs.lemmas.List.{append-nil, map-append}
+use Rattle.std.proofs.lemmas.List.{append-nil, map-append, take-append-drop, take-map}
 use Rattle.std.proofs.lemmas.Slice.Eq.{bytes_eq-Decides}
 use Rattle.basic_toml_value.specs.Key.{key_bytes}
 use Rattle.basic_toml_value.specs.declared.key.Key.{Key}
 use Rattle.basic_toml_value.specs.Entries.{pair_seen}
 use Rattle.basic_toml_read.specs.KeyText.{key_text_bytes}
-use Rattle.basic_toml_value.specs.Keys.{is_among}
+use Rattle.basic_toml_value.specs.Keys.{is_among, are_distinct}
 use Rattle.basic_toml_value.specs.Nesting.{nesting_limit}
 use Rattle.basic_toml_value.specs.Pairs.{keys_of, has_key}
 use Rattle.basic_toml_value.proofs.DistinctKeys.{bytes_eq-same, is_among-push, slice_get-last}
@@ -26,9 +26,9 @@ use Rattle.basic_toml_read.specs.declared.section.Element.{Element}
 use Rattle.basic_toml_read.specs.declared.section.Row.{Row, out-Row}
 use Rattle.basic_toml_value.specs.Growth.{EntersKey, with_value, values_of}
 use Rattle.basic_toml_clash.specs.Plain.{is_plain, plain_of}
-use Rattle.basic_toml_clash.specs.Simple.{are_simple, key_of}
+use Rattle.basic_toml_clash.specs.Simple.{are_simple, are_all_plain, key_of}
 use Rattle.basic_toml_clash.proofs.PlainValues.{plain_value}
-use Rattle.basic_toml_clash.proofs.SimpleRows.{first_is_simple}
+use Rattle.basic_toml_clash.proofs.SimpleRows.{first_is_simple, simple_from_plain}
 use Rattle.basic_toml_clash.proofs.DataParts.{nothing_left}
 use Rattle.basic_toml_grow.specs.declared.item.Item.{the_lemmas}
 use Rattle.basic_toml_grow.specs.declared.item.Item as items
@@ -43,7 +43,7 @@ use Rattle.basic_toml_grow.specs.Simple.{kept, item_of, child_of, entry_of, entr
 use Rattle.basic_toml_grow.proofs.ItemTries.{no_child_trie, entries_with, with_entries_twice}
 use Rattle.basic_toml_grow.proofs.RowValues.{row_value, value_put}
 use Rattle.basic_toml_grow.proofs.RowsEntered.{row_key, step_put}
-use Rattle.basic_toml_grow.proofs.RowsLeft.{AreLeft, all_left, none_left, row_entered}
+use Rattle.basic_toml_grow.proofs.RowsLeft.{AreLeft, all_left, none_left, row_entered, both}
 use Rattle.basic_toml_grow.proofs.Origins.OriginsLeft.{OriginsLeft, one_row, origins_entered, origins_done}
 use Rattle.basic_toml_grow.proofs.Origins.RowsPlaceOrigins.{comes_first, origins_put}
 
@@ -248,21 +248,21 @@ others_apart s ps r rs apart differs k among =
         ∙ ap (is_among (map key_of rs)) (sym ((bytes_eq-Decides k (key_of r)).0 e)) ∙ among))
     other false e = refl
 
--- the rows that are left, put into a table that has none of their keys
-module _ (s level : ℕ) (low : level ≤ nesting_limit) (whole : Rows) (before : Trie) (w : Within) where
+-- the first of the rows that are left, put into a table that has none of their keys
+module _ (s level : ℕ) (low : level ≤ nesting_limit) (whole : Rows) (before : Trie) (w : Within) (more : List Row) where
   abbrev Done : Table → List Row → Type 0
   Done t rest =
-      AreLeft whole level before [] [] (table_trie (with_entries t ((out-Table t).entries ++ entries_of s rest)))
-      × OriginsLeft s whole w [] [] (table_within (with_entries t ((out-Table t).entries ++ entries_of s rest)))
+      AreLeft whole level before [] more (table_trie (with_entries t ((out-Table t).entries ++ entries_of s rest)))
+      × OriginsLeft s whole w [] more (table_within (with_entries t ((out-Table t).entries ++ entries_of s rest)))
 
   rest_in : (rest : List Row) (t : Table) → are_simple level rest ≡ true → AreApart (out-Table t).entries rest
-      → AreLeft whole level before [] rest (table_trie t) → OriginsLeft s whole w [] rest (table_within t)
-      → Done t rest
+      → AreLeft whole level before [] (rest ++ more) (table_trie t)
+      → OriginsLeft s whole w [] (rest ++ more) (table_within t) → Done t rest
   rest_in [] t simple apart left come =
       let same : t ≡ with_entries t ((out-Table t).entries ++ []) =
       sym (ap (with_entries t) (append-nil (out-Table t).entries) ∙ own_entries t) in (
-        subst (λ (t : Table). AreLeft whole level before [] [] (table_trie t)) same left,
-        subst (λ (t : Table). OriginsLeft s whole w [] [] (table_within t)) same come,
+        subst (λ (t : Table). AreLeft whole level before [] more (table_trie t)) same left,
+        subst (λ (t : Table). OriginsLeft s whole w [] more (table_within t)) same come,
       )
   rest_in (r ∷ rs) t simple apart left come =
       let first = first_is_simple level r rs simple in
@@ -273,38 +273,69 @@ module _ (s level : ℕ) (low : level ≤ nesting_limit) (whole : Rows) (before 
       let row = is_row s level low t r first.plain absent in
       let done = rest_in rs after first.others
       (subst (λ (ps : List (List ℕ × Child)). AreApart ps rs) (sym entries) (others_apart s own r rs apart first.apart))
-      (row_entered whole level before [] r rs (table_trie t) left row (table_trie after)
+      (row_entered whole level before [] r (rs ++ more) (table_trie t) left row (table_trie after)
       (row_in s level low t r first.plain absent))
-      (origins_entered s whole w (table_within t) (table_within after) [] r rs refl row come
+      (origins_entered s whole w (table_within t) (table_within after) [] r (rs ++ more) refl row come
       (row_comes s level low t r first.plain absent)) in
       let same : with_entries after ((out-Table after).entries ++ entries_of s rs)
       ≡ with_entries t (own ++ entries_of s (r ∷ rs)) =
       with_entries_twice t (own ++ entry_of s r ∷ []) ((out-Table after).entries ++ entries_of s rs)
       ∙ ap (λ ps. with_entries t (ps ++ entries_of s rs)) entries
       ∙ ap (with_entries t) (append_assoc own (entry_of s r ∷ []) (entries_of s rs)) in (
-        subst (λ (t : Table). AreLeft whole level before [] [] (table_trie t)) same done.0,
-        subst (λ (t : Table). OriginsLeft s whole w [] [] (table_within t)) same done.1,
+        subst (λ (t : Table). AreLeft whole level before [] more (table_trie t)) same done.0,
+        subst (λ (t : Table). OriginsLeft s whole w [] more (table_within t)) same done.1,
       )
 
--- all of them, put into a table without entries
-module _ (s level : ℕ) (low : level ≤ nesting_limit) (t : Table) (none : (out-Table t).entries ≡ []) (rows : List Row)
-    (simple : are_simple level rows ≡ true) where
+-- the first of all rows, put into a table without entries: the others are left
+module _ (s level : ℕ) (low : level ≤ nesting_limit) (t : Table) (none : (out-Table t).entries ≡ [])
+    (all rows more : List Row) (parts : all ≡ rows ++ more) (simple : are_simple level rows ≡ true) where
   abbrev full : Table
   full = with_entries t (entries_of s rows)
 
-  all_done : AreLeft (rows_view rows) level (table_trie t) [] [] (table_trie full)
-      × OriginsLeft s (rows_view rows) (table_within t) [] [] (table_within full)
-  all_done =
-      let done = rest_in s level low (rows_view rows) (table_trie t) (table_within t) rows t simple
-      (λ k among. ap (λ ps. has_key ps k) none) (all_left rows level (table_trie t)) refl in
+  first_in : AreLeft (rows_view all) level (table_trie t) [] more (table_trie full)
+      × OriginsLeft s (rows_view all) (table_within t) [] more (table_within full)
+  first_in =
+      let done = rest_in s level low (rows_view all) (table_trie t) (table_within t) more rows t simple
+      (λ k among. ap (λ ps. has_key ps k) none)
+      (subst (λ (rs : List Row). AreLeft (rows_view all) level (table_trie t) [] rs (table_trie t)) parts
+      (all_left all level (table_trie t)))
+      (ap (λ rs. with_more (table_within t) (rows_origins s (rows_view rs))) parts) in
       let same : with_entries t ((out-Table t).entries ++ entries_of s rows) ≡ full =
       ap (λ ps. with_entries t (ps ++ entries_of s rows)) none in (
-        subst (λ (u : Table). AreLeft (rows_view rows) level (table_trie t) [] [] (table_trie u)) same done.0,
-        subst (λ (u : Table). OriginsLeft s (rows_view rows) (table_within t) [] [] (table_within u)) same done.1,
+        subst (λ (u : Table). AreLeft (rows_view all) level (table_trie t) [] more (table_trie u)) same done.0,
+        subst (λ (u : Table). OriginsLeft s (rows_view all) (table_within t) [] more (table_within u)) same done.1,
       )
 
-  pub rows_in : AreIn (rows_view rows) level (table_trie t) (table_trie full)
-  rows_in = none_left rows [] level (table_trie t) (table_trie full) all_done.0
+  pub others_left : AreLeft (rows_view all) level (table_trie t) [] more (table_trie full)
+  others_left = first_in.0
 
-  pub rows_come : table_within full ≡ with_more (table_within t) (rows_origins s (rows_view rows))
-  rows_come = origins_done s (rows_view rows) (table_within t) (table_within full) [] refl all_done.1
+  pub others_come : OriginsLeft s (rows_view all) (table_within t) [] more (table_within full)
+  others_come = first_in.1
+
+-- and all of them
+module _ (s level : ℕ) (low : level ≤ nesting_limit) (t : Table) (none : (out-Table t).entries ≡ []) (rows : List Row)
+    (simple : are_simple level rows ≡ true) where
+  pub rows_in : AreIn (rows_view rows) level (table_trie t) (table_trie (with_entries t (entries_of s rows)))
+  rows_in =
+      none_left rows [] level (table_trie t) (table_trie (with_entries t (entries_of s rows)))
+      (others_left s level low t none rows rows [] (sym (append-nil rows)) simple)
+
+  pub rows_come : table_within (with_entries t (entries_of s rows))
+      ≡ with_more (table_within t) (rows_origins s (rows_view rows))
+  rows_come =
+      origins_done s (rows_view rows) (table_within t) (table_within (with_entries t (entries_of s rows))) [] refl
+      (others_come s level low t none rows rows [] (sym (append-nil rows)) simple)
+
+-- the first of plain rows whose keys differ are simple
+pub first_simple : (level count : ℕ) (rows : List Row) → are_all_plain level rows ≡ true
+    → are_distinct (take count (map key_of rows)) ≡ true → are_simple level (take count rows) ≡ true
+first_simple level count rows plain distinct =
+    simple_from_plain level (take count rows) (front_plain (take count rows) (drop count rows)
+    (ap (are_all_plain level) (take-append-drop count rows) ∙ plain))
+    (ap are_distinct (sym (take-map key_of count rows)) ∙ distinct)
+  where
+    front_plain : (rows more : List Row) → are_all_plain level (rows ++ more) ≡ true → are_all_plain level rows ≡ true
+    front_plain [] more plain = refl
+    front_plain (r ∷ rs) more plain =
+        let p = both (is_plain (out-Row r).value level) (are_all_plain level (rs ++ more)) plain in
+        rw (p.0, front_plain rs more p.1) refl

@@ -16,13 +16,14 @@ ghost use Rattle.basic_toml_grow.specs.Origins.{row_origins, rows_origins, value
 ghost use Rattle.basic_toml_grow.specs.Origins.{dotted_of, table_origin};
 ghost use Rattle.basic_toml_grow.specs.Rows.{EntersRow, EntersRows, Extends, Finishes, FinishesAll, key_texts};
 ghost use Rattle.basic_toml_clash.specs.Clash.{NamesStop};
+ghost use Rattle.basic_toml_clash.specs.Simple.{are_all_plain as all_plain};
 ghost use Rattle.basic_toml_grow.specs.RowStops.{line_keys, key_at, TellsLast, TellsRow, TellsExtended, SaysMet};
 ghost use Rattle.basic_toml_grow.specs.RowStops.{SaysHeld};
 ghost use Rattle.basic_toml_grow.specs.Rows.{all_dots, is_dot, reason, met_reason};
 
 use crate::item::{Child, Item, Table};
-use crate::simple::{index_of_simple, with_many_rows, with_rows};
-use basic_toml_clash::{Clash, are_plain, are_simple, drain, texts_of};
+use crate::simple::{index_until_repeat, with_first_rows, with_rows};
+use basic_toml_clash::{Clash, ItemsLeft, are_all_plain, are_plain, are_simple, drain, texts_of};
 use basic_toml_read::{Element, Raw, Row};
 use basic_toml_value::NESTING_LIMIT;
 use std::alloc::{AllocError, AllocFailed, Global};
@@ -30,7 +31,7 @@ use std::alloc::{AllocError, AllocFailed, Global};
 // Of up to so many rows it is asked whether they are simple, since each key is then compared with all others.
 const FEW: usize = 16;
 
-// Of so many rows an index of the keys is made at once, by sorting them, where the rows are simple.
+// Of so many rows an index of the keys is made at once, by sorting them, where each has one key and a plain value.
 const MANY: usize = 64;
 
 /// Why a row is not put into a table.
@@ -261,8 +262,8 @@ fn with_room<'de>(table: Box<Table<'de>>, more: usize) -> Result<Box<Table<'de>>
     Ok(table)
 }
 
-/// Puts rows into a table of a level, in order. Simple ones go into a table without entries at once, where they are few
-/// or many, and others one by one. It is inlined, since most rows are simple.
+/// Puts rows into a table of a level, in order. Into a table without entries a few simple ones go at once, and of many
+/// plain ones those before a key repeats; others go one by one. It is inlined, since most rows are simple.
 #[cycle(finishing)]
 #[inline(always)]
 pub(crate) fn take_rows<'de>(
@@ -285,35 +286,60 @@ pub(crate) fn take_rows<'de>(
     if table.entries.is_empty() && rows.len() <= FEW && are_simple(rows.as_slice(), level) {
         return Ok(with_rows(alloc, table, rows, section)?);
     }
-    if rows.len() >= MANY && table.entries.is_empty() {
-        if let Some(index) = index_of_simple(alloc, rows.as_slice(), level)? {
-            return Ok(with_many_rows(alloc, table, rows, section, index)?);
-        }
+    if rows.len() >= MANY && table.entries.is_empty() && are_all_plain(rows.as_slice(), level) {
+        return take_many_rows(alloc, table, rows, section, level);
     }
     let room = room_for(rows.as_slice());
-    enter_rows(alloc, with_room(table, room)?, rows, section, level)
+    enter_rows(alloc, with_room(table, room)?, drain(rows), section, level)
 }
 
-// Puts rows into a table of a level, one by one.
+// Puts many rows, each of one key and a plain value, into a table of a level without entries: those before the first
+// that has the key of one before it at once, and the others one by one. It is not inlined, since inline tables within
+// inline tables do without its room.
 #[cycle(finishing)]
 #[inline(never)]
-fn enter_rows<'de>(
+fn take_many_rows<'de>(
     alloc: Global,
     table: Box<Table<'de>>,
     rows: Vec<Row<'de>>,
     section: usize,
     level: usize,
 ) -> Result<Box<Table<'de>>, Clash>
-    requires { level ≤ nesting_limit }
+    requires level { level ≤ nesting_limit }
+    requires plain { all_plain level rows.items ≡ true }
+    requires none { (out-Table table.value).entries ≡ [] }
     ensures entered { EntersRows (rows_view rows.entry.items) level (table_trie table.entry.value) result }
     ensures named { IfErr result (λ clash.
         NamesStop (try_put_rows (rows_view rows.entry.items) (table_trie table.entry.value)) clash) }
     ensures origins { IfOk result (λ after. table_within after.value
         ≡ with_more (table_within table.entry.value) (rows_origins section (rows_view rows.entry.items))) }
 {
+    let (index, count) = index_until_repeat(alloc, rows.as_slice())?;
+    let mut rows = drain(rows);
+    let table = with_first_rows(alloc, table, &mut rows, section, index, count)?;
+    enter_rows(alloc, table, rows, section, level)
+}
+
+// Puts the rows that are left into a table of a level, one by one.
+#[cycle(finishing)]
+#[inline(never)]
+fn enter_rows<'de>(
+    alloc: Global,
+    table: Box<Table<'de>>,
+    rows: ItemsLeft<Row<'de>>,
+    section: usize,
+    level: usize,
+) -> Result<Box<Table<'de>>, Clash>
+    requires { level ≤ nesting_limit }
+    ensures entered { EntersRows (rows_view rows.entry) level (table_trie table.entry.value) result }
+    ensures named { IfErr result (λ clash.
+        NamesStop (try_put_rows (rows_view rows.entry) (table_trie table.entry.value)) clash) }
+    ensures origins { IfOk result (λ after. table_within after.value
+        ≡ with_more (table_within table.entry.value) (rows_origins section (rows_view rows.entry))) }
+{
     let mut table = table;
     let mut keys = Vec::new(alloc);
-    for row in drain(rows) {
+    for row in rows {
         if row.is_dot() {
             keys.push(row)?;
             continue;

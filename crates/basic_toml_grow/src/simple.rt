@@ -1,16 +1,16 @@
 //! Simple rows: a table without entries takes them all at once.
 
-ghost use Rattle.std.specs.Prelude.{◌≡◌, IfOk, IfSome, IsTrue, map, true};
+ghost use Rattle.std.specs.Prelude.{◌≡◌, ◌≤◌, IfOk, IsTrue, length, map, take, drop};
 ghost use Rattle.basic_toml_value.specs.Keys.{are_distinct};
 ghost use Rattle.basic_toml_value.specs.Entries.{seen, pair_seen};
 ghost use Rattle.basic_toml_value.specs.Key.{key_bytes};
 ghost use Rattle.basic_toml_value.specs.Index.{IsIndex};
-ghost use Rattle.basic_toml_clash.specs.Simple.{key_of, are_simple};
+ghost use Rattle.basic_toml_clash.specs.Simple.{key_of};
 ghost use Rattle.basic_toml_grow.specs.Simple.{entry_of as new_entry, entries_of as new_entries, with_entries};
 ghost use Rattle.basic_toml_grow.specs.Simple.{item_of as kept_item};
 
 use crate::item::{Child, Item, Table};
-use basic_toml_clash::{are_all_plain, drain};
+use basic_toml_clash::ItemsLeft;
 use basic_toml_read::{Raw, Row};
 use basic_toml_value::{Index, Key, Pair, Pairs, Texts};
 use std::alloc::{AllocError, Global};
@@ -65,18 +65,24 @@ fn entries_of<'de>(
     Ok(entries)
 }
 
-// The same, of many rows, whose memory is given back on the way.
-fn many_entries_of<'de>(
+// The entries that the first of the rows that are left become, each of one key and a plain value.
+fn first_entries_of<'de>(
     alloc: Global,
-    rows: Vec<Row<'de>>,
+    rows: &mut ItemsLeft<Row<'de>>,
     section: usize,
+    count: usize,
 ) -> Result<Vec<Pair<Child<'de>>>, AllocError>
-    ensures { IfOk result (λ entries. seen entries.items ≡ new_entries section rows.entry.items) }
+    requires { count ≤ length rows.old }
+    ensures entries { IfOk result (λ entries. seen entries.items ≡ new_entries section (take count rows.old)) }
+    ensures left { IfOk result (λ entries. rows.new ≡ drop count rows.old) }
 {
-    let mut entries = Vec::with_capacity(alloc, rows.len())?;
-    for row in drain(rows) {
+    let mut entries = Vec::with_capacity(alloc, count)?;
+    for _ in 0..count {
+        let Some(row) = rows.next() else {
+            unreachable!();
+        };
         let key = Key::from_str(alloc, row.key.as_str())?;
-        entries.push(entry_of(key, row, section))?;
+        entries.push_reserved(entry_of(key, row, section));
     }
     Ok(entries)
 }
@@ -100,9 +106,6 @@ pub(crate) fn with_rows<'de>(
     Ok(table)
 }
 
-// Among so many of the first rows a repeat is looked for first.
-const FIRST: usize = 64;
-
 // The keys of rows.
 #[derive(Drop)]
 struct RowKeys<'r, 'de> {
@@ -124,57 +127,37 @@ impl<'r, 'de> Texts for RowKeys<'r, 'de> {
     }
 }
 
-/// An index of the keys of rows of a table of a level, made at once, or `None` where the rows are not simple.
+/// An index of the keys of the rows before the first that has the key of one before it, and how many these are.
 #[inline(never)]
-pub(crate) fn index_of_simple(
+pub(crate) fn index_until_repeat(
     alloc: Global,
     rows: &[Row<'_>],
-    level: usize,
-) -> Result<Option<Index>, AllocError>
-    ensures index { IfOk result (λ found. IfSome found (λ index. IsIndex (map key_of rows.now) index)) }
-    ensures simple { IfOk result (λ found. IfSome found (λ index. are_simple level rows.now ≡ true)) }
+) -> Result<(Index, usize), AllocError>
+    ensures within { IfOk result (λ found. found.1 ≤ length rows.now) }
+    ensures index { IfOk result (λ found. IsIndex (take found.1 (map key_of rows.now)) found.0) }
 {
-    if !are_all_plain(rows, level) || repeats_early(alloc, rows)? {
-        return Ok(None);
-    }
-    Index::of_any(alloc, &RowKeys { rows })
+    Index::until_repeat(alloc, &RowKeys { rows })
 }
 
-// Whether a key repeats among the first rows: a few, four times as many, and so on. So what is sorted before a repeat is
-// seen is in proportion to the rows before it.
-fn repeats_early(alloc: Global, rows: &[Row<'_>]) -> Result<bool, AllocError> {
-    let mut count = FIRST;
-    for _ in 0..32 {
-        if count >= rows.len() / 2 {
-            break;
-        }
-        let first = RowKeys {
-            rows: &rows[..count],
-        };
-        if Index::of_any(alloc, &first)?.is_none() {
-            return Ok(true);
-        }
-        count = count.saturating_mul(4);
-    }
-    Ok(false)
-}
-
-/// A table with many rows of a section in the place of its entries, and with an index of their keys. Memory is given
-/// back on the way.
+/// A table with the first of the rows of a section that are left in the place of its entries, and with an index of
+/// their keys: each has one key and a plain value. Memory is given back on the way.
 #[inline(never)]
-pub(crate) fn with_many_rows<'de>(
+pub(crate) fn with_first_rows<'de>(
     alloc: Global,
     table: Box<Table<'de>>,
-    rows: Vec<Row<'de>>,
+    rows: &mut ItemsLeft<Row<'de>>,
     section: usize,
     index: Index,
+    count: usize,
 ) -> Result<Box<Table<'de>>, AllocError>
-    requires { IsIndex (map key_of rows.items) index }
-    ensures { IfOk result (λ after. after.value
-        ≡ with_entries table.entry.value (new_entries section rows.entry.items)) }
+    requires within { count ≤ length rows.old }
+    requires index { IsIndex (take count (map key_of rows.old)) index }
+    ensures after { IfOk result (λ after. after.value
+        ≡ with_entries table.entry.value (new_entries section (take count rows.old))) }
+    ensures left { IfOk result (λ after. rows.new ≡ drop count rows.old) }
 {
     let mut table = table;
-    let entries = Pairs::from_parts(many_entries_of(alloc, rows, section)?, index);
+    let entries = Pairs::from_parts(first_entries_of(alloc, rows, section, count)?, index);
     let _ = mem::replace(&mut table.entries, entries);
     Ok(table)
 }

@@ -48,7 +48,7 @@ pub fn is_table_in_order(table: &Table) -> bool
     ensures order { IsTrue result → IsTrue (f.is_in_order (d.table (entries table.now))) }
     ensures sound { IsTrue result → IsTrue (is_sound (d.table (entries table.now))) }
 {
-    table.is_indexed() && are_pairs_in_order(table.entries())
+    table.index().is_enough_for(table.len()) && are_pairs_in_order(table.entries())
 }
 
 #[cycle(looks)]

@@ -1,4 +1,4 @@
-use Rattle.std.proofs.Common.{◌≡◌, [], ◌∷◌, ◌++◌, ap, ◌∙◌, sym, subst, arith, Some, List, length, map, Bool, false, true, ◌+◌, ℕ}
+use Rattle.std.proofs.Common.{◌≡◌, [], ◌∷◌, ◌++◌, ap, ◌∙◌, sym, subst, arith, Some, List, length, map, Bool, false, true, ◌+◌, ℕ, take, drop}
 use Rattle.std.proofs.lemmas.Result.{err_from_is_err_and}
 use Rattle.basic_toml_grammar.specs.Trie.{Trie}
 use Rattle.basic_toml_read.specs.SectionView.{rows_view, elements_view, raw_of}
@@ -34,10 +34,13 @@ use Rattle.basic_toml_grow.proofs.Origins.OriginsLeft.{OriginsLeft, ElementsCome
 use Rattle.basic_toml_grow.proofs.Origins.OriginsLeft.{one_row, element_comes, elements_come, value_comes}
 use Rattle.basic_toml_clash.specs.Plain.{are_plain}
 use Rattle.basic_toml_grow.proofs.PlainArrays.{plain_finished, plain_come}
-use Rattle.basic_toml_clash.specs.Simple.{are_simple}
+use Rattle.basic_toml_value.specs.Keys.{are_distinct}
+use Rattle.basic_toml_clash.specs.Simple.{are_simple, key_of}
 use Rattle.basic_toml_clash.proofs.SimpleRows.{keys_differ}
 use Rattle.basic_toml_grow.specs.declared.item.Table.{Table}
+use Rattle.basic_toml_grow.specs.Simple.{entries_of, with_entries}
 use Rattle.basic_toml_grow.proofs.SimpleRows.{no_entries, rows_in, rows_come}
+use Rattle.basic_toml_grow.proofs.RowsAfter.{FirstIn, first_in, all_entered, all_stopped, all_come}
 use Rattle.basic_toml_grow.proofs.rows.+finishing.Goals as goal
 
 pub take_rows-returns-then-is_empty-clause-entered : goal.take_rows-returns-then-is_empty-clause-entered
@@ -48,8 +51,7 @@ take_rows-returns-then-is_empty-clause-entered t c =
 pub enter_rows-returns-in_err-table-clause-entered : goal.enter_rows-returns-in_err-table-clause-entered
 enter_rows-returns-in_err-table-clause-entered t c =
     let p = err_from_is_err_and c.from_residual-in_err-table.result c.from_residual-in_err-table.ensures.1 in
-    let start : c.into_iter-row-iterator.result ≡ c.args.rows.items =
-    c.into_iter-row-iterator.ensures.into_iter_gives ∙ c.drain-row-items.ensures in
+    let start : c.into_iter-row-iterator.result ≡ c.args.rows = c.into_iter-row-iterator.ensures.into_iter_gives in
     let before = table_trie c.args.table.value in
     let now = table_trie c.loop-row.table.value in
     let keys = c.loop-row.keys.items in
@@ -68,8 +70,7 @@ enter_rows-returns-in_err-table-clause-entered t c =
 
 pub enter_rows-returns-clause-entered : goal.enter_rows-returns-clause-entered
 enter_rows-returns-clause-entered t c =
-    let start : c.into_iter-row-iterator.result ≡ c.args.rows.items =
-    c.into_iter-row-iterator.ensures.into_iter_gives ∙ c.drain-row-items.ensures in
+    let start : c.into_iter-row-iterator.result ≡ c.args.rows = c.into_iter-row-iterator.ensures.into_iter_gives in
     let before = table_trie c.args.table.value in
     let now = table_trie c.loop-row.table.value in
     let left = subst (λ (rows : List Row). AreLeft (rows_view c.into_iter-row-iterator.result)
@@ -187,8 +188,7 @@ child_of-returns-in_ok-table-in-Inline-clause-finished t c = λ v seen.
 pub enter_rows-returns-in_err-table-clause-named : goal.enter_rows-returns-in_err-table-clause-named
 enter_rows-returns-in_err-table-clause-named t c =
     let p = err_from_is_err_and c.from_residual-in_err-table.result c.from_residual-in_err-table.ensures.1 in
-    let start : c.into_iter-row-iterator.result ≡ c.args.rows.items =
-    c.into_iter-row-iterator.ensures.into_iter_gives ∙ c.drain-row-items.ensures in
+    let start : c.into_iter-row-iterator.result ≡ c.args.rows = c.into_iter-row-iterator.ensures.into_iter_gives in
     let before = table_trie c.args.table.value in
     let now = table_trie c.loop-row.table.value in
     let keys = c.loop-row.keys.items in
@@ -276,8 +276,7 @@ take_rows-returns-then-is_empty-clause-origins t c =
 
 pub enter_rows-returns-clause-origins : goal.enter_rows-returns-clause-origins
 enter_rows-returns-clause-origins t c =
-    let start : c.into_iter-row-iterator.result ≡ c.args.rows.items =
-    c.into_iter-row-iterator.ensures.into_iter_gives ∙ c.drain-row-items.ensures in
+    let start : c.into_iter-row-iterator.result ≡ c.args.rows = c.into_iter-row-iterator.ensures.into_iter_gives in
     let come = subst (λ (rows : List Row). OriginsLeft c.args.section (rows_view
     c.into_iter-row-iterator.result) (table_within c.args.table.value) c.loop-row.keys.items rows
     (table_within c.loop-row.table.value)) c.in-None.ensures.steps.0 c.loop-row.invariant.1 in
@@ -366,27 +365,27 @@ take_rows-returns-then-are_simple-clause-origins t c =
     ap table_within c.in_ok-with_rows.ensures
     ∙ rows_come c.args.section c.args.level (omega arith) table none c.args.rows.items simple
 
--- many simple rows, taken all at once
-pub take_rows-returns-in-Some-clause-entered : goal.take_rows-returns-in-Some-clause-entered
-take_rows-returns-in-Some-clause-entered t c =
-    let table = c.args.table.value in
-    let rows = c.args.rows.items in
-    let none = no_entries table c.deref-then-len-ge-MANY.result.now c.is_empty-then-len-ge-MANY.result
-    c.deref-then-len-ge-MANY.ensures c.is_empty-then-len-ge-MANY.ensures
-    c.if-is_empty-3.true in
-    let simple = ap (are_simple c.args.level) (sym c.as_slice-then-is_empty-3.ensures.value)
-    ∙ (rw c.in-Some.is at c.in_ok-index.ensures.simple) in
-    subst (λ (t : Table). AreIn (rows_view rows) c.args.level (table_trie table) (table_trie t))
-    (sym c.in_ok-with_many_rows.ensures) (rows_in c.args.section c.args.level (omega arith) table none rows simple)
+-- many plain rows, the first of them taken at once
+many_first : (t : ℕ) (c : goal.take_many_rows-After-enter_rows t)
+    → FirstIn c.args.section c.args.level c.args.rows.items c.with_first_rows.new.rows c.args.table.value
+    c.in_ok-table.table.value
+many_first t c =
+    let count = c.in_ok-index.count in
+    first_in count (omega (arith, c.requires.level)) c.requires.none c.requires.plain
+    (subst (λ (rows : List Row). are_distinct (take count (map key_of rows)) ≡ true) c.as_slice.ensures.value
+    c.in_ok-index.ensures.index.distinct)
+    (c.in_ok-table.ensures.after
+    ∙ ap (λ rows. with_entries c.args.table.value (entries_of c.args.section (take count rows))) c.drain-rows.ensures)
+    (c.in_ok-table.ensures.left ∙ ap (drop count) c.drain-rows.ensures)
 
-pub take_rows-returns-in-Some-clause-origins : goal.take_rows-returns-in-Some-clause-origins
-take_rows-returns-in-Some-clause-origins t c =
-    let table = c.args.table.value in
-    let rows = c.args.rows.items in
-    let none = no_entries table c.deref-then-len-ge-MANY.result.now c.is_empty-then-len-ge-MANY.result
-    c.deref-then-len-ge-MANY.ensures c.is_empty-then-len-ge-MANY.ensures
-    c.if-is_empty-3.true in
-    let simple = ap (are_simple c.args.level) (sym c.as_slice-then-is_empty-3.ensures.value)
-    ∙ (rw c.in-Some.is at c.in_ok-index.ensures.simple) in
-    ap table_within c.in_ok-with_many_rows.ensures
-    ∙ rows_come c.args.section c.args.level (omega arith) table none rows simple
+pub take_many_rows-returns-clause-entered : goal.take_many_rows-returns-clause-entered
+take_many_rows-returns-clause-entered t c =
+    all_entered (many_first t c) c.enter_rows.result c.enter_rows.ensures.entered
+
+pub take_many_rows-returns-clause-named : goal.take_many_rows-returns-clause-named
+take_many_rows-returns-clause-named t c =
+    all_stopped (many_first t c) c.enter_rows.result c.enter_rows.ensures.named
+
+pub take_many_rows-returns-clause-origins : goal.take_many_rows-returns-clause-origins
+take_many_rows-returns-clause-origins t c =
+    all_come (many_first t c) c.enter_rows.result c.enter_rows.ensures.origins

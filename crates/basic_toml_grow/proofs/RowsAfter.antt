@@ -1,0 +1,108 @@
+-- The first rows of all are in the table: what the rows after them come to, all come to.
+use Rattle.std.proofs.Common.{◌≡◌, ℕ, Bool, true, false, ◌||◌, inl, inr, List, [], Some, refl, sym, ap, ◌∙◌, subst}
+use Rattle.std.proofs.Common.{Result, Ok, Err, Box, Global, IfOk, IfErr, ◌≤◌, ◌++◌, map, take, drop}
+use Rattle.std.proofs.lemmas.List.{take-append-drop}
+use Rattle.basic_toml_value.specs.Keys.{are_distinct}
+use Rattle.basic_toml_value.specs.Nesting.{nesting_limit}
+use Rattle.basic_toml_grammar.specs.Sections.{texts, Rows, no_rows, row}
+use Rattle.basic_toml_grammar.specs.Steps.{steps_of}
+use Rattle.basic_toml_grammar.specs.RowClash.{rows_clash, value_clashes, any_overlaps}
+use Rattle.basic_toml_grammar.specs.Trie.{Trie, put_rows}
+use Rattle.basic_toml_grammar.specs.Stops.{Outcome}
+use Rattle.basic_toml_grammar.specs.TrieStops.{try_put_rows}
+use Rattle.basic_toml_grammar.proofs.Tries.RowsThatOverlapAreRefused.{values_clash, put_apart}
+use Rattle.basic_toml_clash.specs.Clash.{NamesStop}
+use Rattle.basic_toml_clash.specs.Simple.{are_simple, are_all_plain, key_of}
+use Rattle.basic_toml_clash.specs.declared.clash.Clash.{Clash}
+use Rattle.basic_toml_read.specs.SectionView.{rows_view}
+use Rattle.basic_toml_read.specs.declared.section.Row.{Row}
+use Rattle.basic_toml_grow.specs.declared.item.Table.{Table, out-Table}
+use Rattle.basic_toml_grow.specs.Item.{table_trie}
+use Rattle.basic_toml_grow.specs.Origins.{table_within, with_more, rows_origins}
+use Rattle.basic_toml_grow.specs.Simple.{entries_of, with_entries}
+use Rattle.basic_toml_grow.specs.Rows.{AreIn, AreKeptOut, EntersRows, Reason, memory, deep, crossed, reason}
+use Rattle.basic_toml_grow.proofs.Reasons.{KeptFor, kept_for, for_kept}
+use Rattle.basic_toml_grow.proofs.RowsLeft.{AreLeft, rows_are_keyed}
+use Rattle.basic_toml_grow.proofs.Origins.OriginsLeft.{OriginsLeft}
+use Rattle.basic_toml_grow.proofs.SimpleRows.{first_simple, others_left, others_come}
+
+-- the values of rows that do not clash do not clash
+values_apart : (rows : Rows) → rows_clash rows ≡ false → values_clash rows ≡ false
+values_apart no_rows apart = refl
+values_apart (row ks at v rows) apart =
+    go (any_overlaps (steps_of (texts ks)) rows) (value_clashes v) (rows_clash rows) (values_clash rows) apart
+    (values_apart rows)
+  where
+    go : (a b c d : Bool) → ((a || b) || c) ≡ false → (c ≡ false → d ≡ false) → (b || d) ≡ false
+    go true b c d apart others = absurd (cc)
+    go false true c d apart others = absurd (cc)
+    go false false c d apart others = others apart
+
+-- The first rows are in the table: putting those after them into it as it is, is putting all into it as it was.
+pub record FirstIn (s level : ℕ) (rows more : List Row) (t now : Table) : Type 0 where
+  pub left : AreLeft (rows_view rows) level (table_trie t) [] more (table_trie now)
+  pub come : OriginsLeft s (rows_view rows) (table_within t) [] more (table_within now)
+
+-- plain rows, of which the first, whose keys differ, are the entries of a table that had none
+pub first_in : {s level : ℕ} {rows more : List Row} {t now : Table} (count : ℕ) → level ≤ nesting_limit
+    → (out-Table t).entries ≡ [] → are_all_plain level rows ≡ true
+    → are_distinct (take count (map key_of rows)) ≡ true → now ≡ with_entries t (entries_of s (take count rows))
+    → more ≡ drop count rows → FirstIn s level rows more t now
+first_in {s = s} {level = level} {rows = rows} {more = more} {t = t} {now = now} count low none plain distinct is_now
+    is_more =
+    let parts : rows ≡ take count rows ++ more =
+    sym (take-append-drop count rows) ∙ ap (λ rs. take count rows ++ rs) (sym is_more) in
+    let simple : are_simple level (take count rows) ≡ true = first_simple level count rows plain distinct in
+    subst (λ (u : Table). FirstIn s level rows more t u) (sym is_now) (record {
+      left = others_left s level low t none rows (take count rows) more parts simple;
+      come = others_come s level low t none rows (take count rows) more parts simple;
+    })
+
+module _ {s level : ℕ} {rows more : List Row} {t now : Table} (first : FirstIn s level rows more t now) where
+  -- where the rows after them are in the table, all are
+  others_in : (after : Trie) → AreIn (rows_view more) level (table_trie now) after
+      → AreIn (rows_view rows) level (table_trie t) after
+  others_in after entered =
+      let is_put : put_rows (rows_view rows) (table_trie t) ≡ Some after = first.left.put ∙ entered.put in
+      let free : values_clash (rows_view rows) ≡ false =
+      first.left.values ∙ values_apart (rows_view more) entered.apart in
+      record {
+        put = is_put;
+        apart = put_apart (rows_view rows) (table_trie t) after (rows_are_keyed rows) free is_put;
+        fits = first.left.fits entered.fits;
+      }
+
+  -- and what keeps these out keeps all out
+  others_kept_out : (clash : Clash) → AreKeptOut (rows_view more) level (table_trie now) clash
+      → AreKeptOut (rows_view rows) level (table_trie t) clash
+  others_kept_out clash kept =
+      kept_for (rows_view rows) level (table_trie t) clash
+      (go (reason clash) (for_kept (rows_view more) level (table_trie now) clash kept))
+    where
+      go : (why : Reason) → KeptFor (rows_view more) level (table_trie now) why
+          → KeptFor (rows_view rows) level (table_trie t) why
+      go memory kept = tt
+      go deep kept = first.left.deep kept
+      go crossed (inl c) = inl (first.left.clash c)
+      go crossed (inr none) = inr (first.left.put ∙ none)
+
+  pub all_entered : (result : Result (Box Table Global) Clash)
+      → EntersRows (rows_view more) level (table_trie now) result
+      → EntersRows (rows_view rows) level (table_trie t) result
+  all_entered (Ok after) entered = others_in (table_trie after.value) entered
+  all_entered (Err clash) kept = others_kept_out clash kept
+
+  -- what stops these stops all
+  pub all_stopped : (result : Result (Box Table Global) Clash)
+      → IfErr result (λ clash. NamesStop (try_put_rows (rows_view more) (table_trie now)) clash)
+      → IfErr result (λ clash. NamesStop (try_put_rows (rows_view rows) (table_trie t)) clash)
+  all_stopped (Ok after) named = tt
+  all_stopped (Err clash) named = subst (λ (o : Outcome Trie). NamesStop o clash) (sym first.left.tried) named
+
+  -- and where these come from, all come from
+  pub all_come : (result : Result (Box Table Global) Clash)
+      → IfOk result (λ after. table_within after.value
+      ≡ with_more (table_within now) (rows_origins s (rows_view more)))
+      → IfOk result (λ after. table_within after.value ≡ with_more (table_within t) (rows_origins s (rows_view rows)))
+  all_come (Ok after) come = come ∙ sym first.come
+  all_come (Err clash) come = tt
