@@ -145,9 +145,8 @@ fn many_entries(alloc: Global) -> Result<Vec<Pair<Value>>, AllocError> {
 #[test]
 fn makes_an_index_of_many_keys_at_once(rt: HostRuntime) -> Result<(), Fail> {
     let entries = many_entries(rt.alloc())?;
-    let Some(index) = Index::of_any(rt.alloc(), &entries)? else {
-        panic!(rt; "the keys differ");
-    };
+    let (index, count) = Index::until_repeat(rt.alloc(), &entries)?;
+    assert_eq!(rt; count, entries.len());
     let mut table = Table::from_parts(entries, index);
     for number in 300..500_u32 {
         let key = key_like_others(rt.alloc(), number)?;
@@ -164,12 +163,16 @@ fn makes_an_index_of_many_keys_at_once(rt: HostRuntime) -> Result<(), Fail> {
 }
 
 #[test]
-fn makes_no_index_where_a_key_repeats(rt: HostRuntime) -> Result<(), Fail> {
+fn makes_an_index_up_to_the_first_key_that_repeats(rt: HostRuntime) -> Result<(), Fail> {
     let mut entries = many_entries(rt.alloc())?;
-    let key = Key::from_str(rt.alloc(), key_like_others(rt.alloc(), 150)?.as_str())?;
-    let value = Value::Boolean(true);
-    entries.push(Pair { key, value })?;
-    assert!(rt; Index::of_any(rt.alloc(), &entries)?.is_none());
+    for number in [150, 300, 20_u32] {
+        let key = Key::from_str(rt.alloc(), key_like_others(rt.alloc(), number)?.as_str())?;
+        let value = Value::Boolean(true);
+        entries.push(Pair { key, value })?;
+    }
+    let (index, count) = Index::until_repeat(rt.alloc(), &entries)?;
+    assert_eq!(rt; count, 300);
+    assert!(rt; index.is_enough_for(count));
     Ok(())
 }
 
