@@ -276,12 +276,12 @@ all_more test xs next x is all here =
     ap (list_all test) is ∙ list_all-append test xs (x ∷ [])
     ∙ and_true (list_all test xs) (list_all test (x ∷ [])) all (and_true (test x) true here refl)
 
--- the keys of slots that are moved twice
-pub keys_moved : (keys part : List (List ℕ)) (made slots run : List Slot) → map (key_of keys) made ≡ part
-    → IsPermutation made slots → IsPermutation slots run → IsPermutation part (map (key_of keys) run)
-keys_moved keys part made slots run whole first second =
+-- the keys of slots that are moved
+pub keys_moved : (keys part : List (List ℕ)) (made run : List Slot) → map (key_of keys) made ≡ part
+    → IsPermutation made run → IsPermutation part (map (key_of keys) run)
+keys_moved keys part made run whole moved =
     subst (λ (ks : List (List ℕ)). IsPermutation ks (map (key_of keys) run)) whole
-    (IsPermutation-map (key_of keys) made run (IsPermutation-trans made slots run first second))
+    (IsPermutation-map (key_of keys) made run moved)
 
 -- halves that are moved, and put together
 pub halves_moved : {A : Type 0} (whole left right sorted_left sorted_right run : List A) → whole ≡ left ++ right

@@ -8,16 +8,13 @@ ghost use Rattle.basic_toml_value.specs.Keys.{is_among};
 ghost use Rattle.basic_toml_value.specs.Index.{leaves_of, joined, are_filled, key_at};
 ghost use Rattle.basic_toml_value.specs.SlotOrder.{IsRun, IsRunOfFirst, AreFirst};
 
-use crate::index::leaves::sorted::{is_before, merged, slot_of, sorted_part};
+use crate::index::leaves::sorted::{Means, is_before, merged, slot_of, sorted_part};
 use crate::index::leaves::{LEAF, Leaf, Slot, insert, search};
 use crate::index::{Found, Texts};
 use std::alloc::{AllocError, Global};
 
 // So many texts are sorted together at least.
 const PART: usize = 64;
-
-// A text of more bytes than this takes long to compare.
-const LONG: usize = 64;
 
 /// Leaves of the texts before the first one that is the same as one before it, and how many these are.
 pub fn until_repeat<T: Texts>(alloc: Global, texts: &T) -> Result<(Vec<Leaf>, usize), AllocError>
@@ -72,12 +69,13 @@ fn with_room(alloc: Global, leaves: &mut Vec<Leaf>, leaf: Leaf) -> Result<Leaf, 
     Vec::with_capacity(alloc, LEAF)
 }
 
-// The slots of the first texts, as many as `count`, sorted, and what is known of the last part of them.
+// The slots of the first texts, as many as `count`, sorted.
 #[derive(Drop)]
 struct Run {
     slots: Vec<Slot>,
     count: usize,
-    ties: Ties,
+    // How many texts are sorted next. None where that takes longer than to put them in one by one.
+    more: usize,
 }
 
 // The leaves with texts that follow, where these are many: as long as parts of them can be sorted and merged with those
@@ -97,9 +95,9 @@ fn with_sorted<T: Texts>(
     let mut run = Run {
         slots: in_a_row(alloc, leaves)?,
         count,
-        ties: Ties::Few,
+        more: count.max(PART),
     };
-    while run.count < texts.count() && run.ties != Ties::Long {
+    while run.count < texts.count() && run.more > 0 {
         let Some(longer) = with_part(alloc, texts, &run)? else {
             break;
         };
@@ -112,68 +110,35 @@ fn with_sorted<T: Texts>(
 fn with_part<T: Texts>(alloc: Global, texts: &T, run: &Run) -> Result<Option<Run>, AllocError>
     requires left { run.now.count < length (T.texts texts.now) }
     requires some { 0 < run.now.count }
+    requires more { 0 < run.now.more }
     requires first { IsRunOfFirst (T.texts texts.now) run.now.count run.now.slots.items }
     ensures more { IfOk result (λ found. IfSome found (λ longer. run.now.count < longer.count)) }
     ensures first { IfOk result (λ found. IfSome found (λ longer.
         IsRunOfFirst (T.texts texts.now) longer.count longer.slots.items)) }
 {
     let count = run.count;
-    let next = count + part_after(count, run.ties).min(texts.count() - count);
+    let next = count + run.more.min(texts.count() - count);
     let Some(part) = sorted_part(alloc, texts, count, next)? else {
         return Ok(None);
     };
-    let ties = ties_of(texts, part.as_slice());
-    let Some(slots) = merged(alloc, texts, run.slots.as_slice(), part.as_slice())? else {
+    let Some(slots) = merged(alloc, texts, run.slots.as_slice(), part.slots.as_slice())? else {
         return Ok(None);
     };
     Ok(Some(Run {
         slots,
         count: next,
-        ties,
+        more: more_after(next, part.means),
     }))
 }
 
-// How often texts of a part share their endings, so that the texts are compared.
-#[derive(Clone, Copy, PartialEq, Eq)]
-enum Ties {
-    Few,
-    Many,
-    // Many, and of long texts.
-    Long,
-}
-
-// How many texts are sorted next: as many as there are; fewer where texts are compared, so that not many of these are
-// sorted in vain before a text that repeats is met.
-fn part_after(count: usize, ties: Ties) -> usize
-    ensures { 0 < result }
-{
-    match ties {
-        Ties::Few => count.max(PART),
-        _ => (count / 4).max(PART),
-    }
-}
-
-// Whether an eighth of slots that are sorted share their endings with the ones before them.
-fn ties_of<T: Texts>(texts: &T, slots: &[Slot]) -> Ties
-    requires { IsRun (T.texts texts.now) slots.now }
-{
-    let mut many = 0usize;
-    let mut long = 0usize;
-    for at in 1..slots.len() {
-        if slots[at - 1].ending == slots[at].ending {
-            many = many.saturating_add(1);
-            if texts.text(slots[at].position).len() > LONG {
-                long = long.saturating_add(1);
-            }
-        }
-    }
-    let eighth = slots.len() / 8;
-    if long > eighth {
-        Ties::Long
-    } else if many > eighth {
-        Ties::Many
-    } else {
-        Ties::Few
+// How many texts are sorted next: as many as there are. Fewer where texts are compared, so that not many of them are
+// sorted in vain before one that repeats is met, and none where they are long.
+fn more_after(count: usize, means: Means) -> usize {
+    match means {
+        Means::Endings => count.max(PART),
+        Means::MoreBytes => (count / 2).max(PART),
+        Means::Texts => (count / 4).max(PART),
+        Means::LongTexts => 0,
     }
 }
 

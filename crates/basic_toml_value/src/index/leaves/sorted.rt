@@ -1,7 +1,8 @@
 //! Slots in order: a part of the texts sorted, and two sorted runs merged. Neither is done where two texts are the same.
 //!
-//! A part is sorted by the endings, which are numbers. Where that does not put it in order, since texts share their
-//! endings, halves are sorted and merged, so that no order of texts takes much longer than another.
+//! A part is sorted by numbers: the endings of the texts, and where that does not put it in order, eight bytes of each
+//! besides. Where that does not either, halves are sorted by the texts and merged, so that no order of texts takes much
+//! longer than another.
 ghost use Rattle.std.specs.Prelude.{◌≡◌, ◌<◌, ◌≤◌, ◌+◌, ◌-◌, ◌++◌, length, map, take, drop, true, IsTrue, ◌↔◌, IfOk, IfSome};
 ghost use Rattle.std.specs.List.{list_all};
 ghost use Rattle.std.specs.List.Sorted.{IsPermutation};
@@ -20,6 +21,9 @@ use std::cmp::Ordering;
 // So many slots are sorted by insertion.
 const FEW: usize = 16;
 
+// A text of more bytes than this takes long to compare.
+const LONG: usize = 64;
+
 /// The slot of the text at a position.
 #[inline(always)]
 pub fn slot_of<T: Texts>(texts: &T, position: usize) -> Slot
@@ -33,24 +37,62 @@ pub fn slot_of<T: Texts>(texts: &T, position: usize) -> Slot
     }
 }
 
-/// The slots of the texts from one position up to another, sorted; `None` where two of the texts are the same.
+/// What a part of the texts was sorted by.
+#[derive(Clone, Copy, Drop)]
+pub enum Means {
+    /// The endings of the texts.
+    Endings,
+    /// Their endings, and eight more bytes of each.
+    MoreBytes,
+    /// The texts.
+    Texts,
+    /// The texts, which are long.
+    LongTexts,
+}
+
+/// A part of the texts: their slots, sorted.
+#[derive(Drop)]
+pub struct Part {
+    pub slots: Vec<Slot>,
+    pub means: Means,
+}
+
+/// The texts from one position up to another, sorted; `None` where two of them are the same.
 pub fn sorted_part<T: Texts>(
     alloc: Global,
     texts: &T,
     from: usize,
     to: usize,
-) -> Result<Option<Vec<Slot>>, AllocError>
+) -> Result<Option<Part>, AllocError>
     requires { (from < to) × (to ≤ length (T.texts texts.now)) }
-    ensures keys { IfOk result (λ found. IfSome found (λ run. IsPermutation
-        (take (to - from) (drop from (T.texts texts.now))) (map (key_of (T.texts texts.now)) run.items))) }
-    ensures low { IfOk result (λ found. IfSome found (λ run. list_all (is_low to) run.items ≡ true)) }
-    ensures run { IfOk result (λ found. IfSome found (λ run. IsRun (T.texts texts.now) run.items)) }
+    ensures keys { IfOk result (λ found. IfSome found (λ part. IsPermutation
+        (take (to - from) (drop from (T.texts texts.now))) (map (key_of (T.texts texts.now)) part.slots.items))) }
+    ensures low { IfOk result (λ found. IfSome found (λ part. list_all (is_low to) part.slots.items ≡ true)) }
+    ensures run { IfOk result (λ found. IfSome found (λ part. IsRun (T.texts texts.now) part.slots.items)) }
 {
     let slots = by_ending(texts, slots_of(alloc, texts, from, to)?)?;
     if are_in_order(texts, slots.as_slice()) {
-        return Ok(Some(slots));
+        return Ok(Some(Part {
+            slots,
+            means: Means::Endings,
+        }));
     }
-    sorted(alloc, texts, slots.as_slice())
+    let slots = by_more_bytes(texts, slots)?;
+    if are_in_order(texts, slots.as_slice()) {
+        return Ok(Some(Part {
+            slots,
+            means: Means::MoreBytes,
+        }));
+    }
+    let Some(slots) = sorted(alloc, texts, slots.as_slice())? else {
+        return Ok(None);
+    };
+    let means = if text_or_empty(texts, from).len() > LONG {
+        Means::LongTexts
+    } else {
+        Means::Texts
+    };
+    Ok(Some(Part { slots, means }))
 }
 
 // The slots sorted by their endings; of texts that share one ending and fall, the slots from last to first.
@@ -64,6 +106,61 @@ fn by_ending<T: Texts>(texts: &T, slots: Vec<Slot>) -> Result<Vec<Slot>, AllocEr
         slots.reverse();
     }
     Ok(slots)
+}
+
+// The slots sorted by their endings, and where these are the same by eight bytes of the texts: those behind what all the
+// texts begin with.
+fn by_more_bytes<T: Texts>(texts: &T, slots: Vec<Slot>) -> Result<Vec<Slot>, AllocError>
+    ensures moved { IfOk result (λ other. IsPermutation slots.items other.items) }
+{
+    let mut slots = slots;
+    let from = shared_length(texts, slots.as_slice());
+    slots.sort_by_cached_key(|slot| {
+        (
+            slot.ending,
+            eight_from(text_or_empty(texts, slot.position), from),
+        )
+    })?;
+    Ok(slots)
+}
+
+// How many bytes all the texts begin with, of the first so many.
+fn shared_length<T: Texts>(texts: &T, slots: &[Slot]) -> usize {
+    let Some(first) = slots.first() else {
+        return 0;
+    };
+    let first = text_or_empty(texts, first.position);
+    let mut shared = first.len().min(LONG);
+    for slot in slots {
+        shared = common_length(first, text_or_empty(texts, slot.position), shared);
+    }
+    shared
+}
+
+// How many bytes two texts begin with, of the first so many.
+fn common_length(a: &str, b: &str, most: usize) -> usize {
+    let a = a.as_bytes();
+    let b = b.as_bytes();
+    let most = most.min(a.len()).min(b.len());
+    for at in 0..most {
+        if a[at] != b[at] {
+            return at;
+        }
+    }
+    most
+}
+
+// Eight bytes of a text as a number, zeros after a shorter one.
+fn eight_from(text: &str, from: usize) -> u64 {
+    let bytes = text.as_bytes();
+    if from >= bytes.len() {
+        return 0;
+    }
+    let rest = &bytes[from..];
+    let mut eight = [0; 8];
+    let count = rest.len().min(8);
+    eight[..count].copy_from_slice(&rest[..count]);
+    u64::from_be_bytes(eight)
 }
 
 // A slot for each text from one position up to another, in the order of the texts.
