@@ -103,14 +103,12 @@ run_length keys count slots first =
     sym (length-map slots (key_of keys)) ∙ length_permutation (take count keys) (map (key_of keys) slots) first.all
     ∙ length-take-le count keys first.within
 
-pub part_some : (keys : List (List ℕ)) (count next : ℕ) (part : List Slot) → count < next → next ≤ length keys
-    → IsPermutation (take (next - count) (drop count keys)) (map (key_of keys) part) → 0 < length part
-part_some keys count next part more within keyed =
-    let same = length_permutation (take (next - count) (drop count keys)) (map (key_of keys) part) keyed in
-    let mapped = length-map part (key_of keys) in
-    let rest = length-drop count keys in
-    let some = length-take-le (next - count) (drop count keys) (omega (arith, rest, within)) in
-    omega (arith, same, mapped, some, more)
+pub part_length : (keys : List (List ℕ)) (count next : ℕ) (part : List Slot) → next ≤ length keys
+    → IsPermutation (take (next - count) (drop count keys)) (map (key_of keys) part) → length part ≡ next - count
+part_length keys count next part within keyed =
+    sym (length-map part (key_of keys))
+    ∙ length_permutation (take (next - count) (drop count keys)) (map (key_of keys) part) keyed
+    ∙ length-take-le (next - count) (drop count keys) (let rest = length-drop count keys in omega (arith, rest, within))
 
 -- the last of some slots
 last_at : (xs : List Slot) (x : Slot) → slot_at (xs ++ x ∷ []) (length xs) ≡ x

@@ -121,7 +121,19 @@ fn with_part<T: Texts>(alloc: Global, texts: &T, run: &Run) -> Result<Option<Run
     let Some(part) = sorted_part(alloc, texts, count, next)? else {
         return Ok(None);
     };
-    let Some(slots) = merged(alloc, texts, run.slots.as_slice(), part.slots.as_slice())? else {
+    // Where texts are compared, many parts are merged. Runs that are all as long take the same memory again.
+    let room = match part.means {
+        Means::Endings => next,
+        _ => texts.count(),
+    };
+    let longer = merged(
+        alloc,
+        texts,
+        run.slots.as_slice(),
+        part.slots.as_slice(),
+        room,
+    )?;
+    let Some(slots) = longer else {
         return Ok(None);
     };
     Ok(Some(Run {

@@ -203,7 +203,7 @@ fn sorted<T: Texts>(
     let Some(right) = sorted(alloc, texts, right)? else {
         return Ok(None);
     };
-    merged(alloc, texts, left.as_slice(), right.as_slice())
+    merged(alloc, texts, left.as_slice(), right.as_slice(), slots.len())
 }
 
 // The same of a few slots.
@@ -225,26 +225,28 @@ fn few_sorted<T: Texts>(
     }
 }
 
-/// Two sorted runs as one, or `None` where a text stands in both.
+/// Two sorted runs as one, with room for so many slots; `None` where a text stands in both.
 pub fn merged<T: Texts>(
     alloc: Global,
     texts: &T,
     left: &[Slot],
     right: &[Slot],
+    room: usize,
 ) -> Result<Option<Vec<Slot>>, AllocError>
     requires some { (0 < length left.now) × (0 < length right.now) }
+    requires room { length left.now + length right.now ≤ room }
     requires left { IsRun (T.texts texts.now) left.now }
     requires right { IsRun (T.texts texts.now) right.now }
     ensures moved { IfOk result (λ found. IfSome found (λ run. IsPermutation (left.now ++ right.now) run.items)) }
     ensures run { IfOk result (λ found. IfSome found (λ run. IsRun (T.texts texts.now) run.items)) }
 {
     if ends_before(texts, left, right) {
-        return Ok(Some(joined(alloc, left, right)?));
+        return Ok(Some(joined(alloc, left, right, room)?));
     }
     if ends_before(texts, right, left) {
-        return Ok(Some(joined(alloc, right, left)?));
+        return Ok(Some(joined(alloc, right, left, room)?));
     }
-    interleaved(alloc, texts, left, right)
+    interleaved(alloc, texts, left, right, room)
 }
 
 // Whether the last slot of a run is before the first of another.
@@ -256,10 +258,15 @@ fn ends_before<T: Texts>(texts: &T, first: &[Slot], second: &[Slot]) -> bool
 }
 
 // Slots after others.
-fn joined(alloc: Global, first: &[Slot], second: &[Slot]) -> Result<Vec<Slot>, AllocError>
+fn joined(
+    alloc: Global,
+    first: &[Slot],
+    second: &[Slot],
+    room: usize,
+) -> Result<Vec<Slot>, AllocError>
     ensures { IfOk result (λ run. run.items ≡ first.now ++ second.now) }
 {
-    let mut run = Vec::with_capacity(alloc, first.len() + second.len())?;
+    let mut run = Vec::with_capacity(alloc, room)?;
     run.extend_from_slice(first)?;
     run.extend_from_slice(second)?;
     Ok(run)
@@ -271,13 +278,15 @@ fn interleaved<T: Texts>(
     texts: &T,
     left: &[Slot],
     right: &[Slot],
+    room: usize,
 ) -> Result<Option<Vec<Slot>>, AllocError>
+    requires room { length left.now + length right.now ≤ room }
     requires left { IsRun (T.texts texts.now) left.now }
     requires right { IsRun (T.texts texts.now) right.now }
     ensures moved { IfOk result (λ found. IfSome found (λ run. IsPermutation (left.now ++ right.now) run.items)) }
     ensures run { IfOk result (λ found. IfSome found (λ run. IsRun (T.texts texts.now) run.items)) }
 {
-    let mut run = Vec::with_capacity(alloc, left.len() + right.len())?;
+    let mut run = Vec::with_capacity(alloc, room)?;
     let mut i = 0;
     let mut j = 0;
     while i < left.len() && j < right.len() {

@@ -14,6 +14,20 @@ merged-requires-clause-some g n c =
       omega (arith, right, ap (λ s. length s) c.as_slice-2.ensures.value, c.split_at.ensures.back_len, c.if-slots-le-FEW.false),
     )
 
+pub merged-requires-clause-room : goal.merged-requires-clause-room
+merged-requires-clause-room g n c =
+    let left = length_permutation c.split_at.result.0.now c.in-Some.left.items (rw c.in-Some.is at c.in_ok-left.ensures.moved) in
+    let right = length_permutation c.split_at.result.1.now c.in-Some-2.right.items (rw c.in-Some-2.is at c.in_ok-right.ensures.moved) in
+    omega (
+      arith,
+      left,
+      right,
+      ap (λ s. length s) c.as_slice.ensures.value,
+      ap (λ s. length s) c.as_slice-2.ensures.value,
+      c.split_at.ensures.front_len,
+      c.split_at.ensures.back_len,
+    )
+
 pub returns-clause-moved : goal.returns-clause-moved
 returns-clause-moved g n c =
     let slots = c.args.slots.now in
