@@ -186,7 +186,7 @@ FAMILIES = {"headers_deep": READ, "header_keys": READ, "h_header_keys": REFUSED,
 def runs():
     for name, parts in PIECES.items():
         # a run of just as many bytes as go one by one takes a block besides
-        most = 1.2 if name == "comment-abc" else 1.05
+        most = 1.3 if name == "comment-abc" else 1.05
         yield Text(name, "runs", most, READ, 1000000, 10000000, filled(*parts))
     for width in (1, 2, 3, 8, 16, 40):
         yield Text(f"keys-of-{width}", "runs", 1.05, READ, 2000, 20000, keys_of(width))

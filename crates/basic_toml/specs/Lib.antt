@@ -48,3 +48,4 @@ pub use Rattle.basic_toml_typed.specs.TypeAnswers
 pub use Rattle.basic_toml_typed.specs.TypeReads
 pub use Rattle.basic_toml_typed.specs.TypeFaults
 pub use Rattle.basic_toml_typed.specs.FieldFaults
+pub use Rattle.basic_toml_typed.specs.Records

@@ -5,9 +5,10 @@ use Rattle.basic_toml_emit.specs.Items.{Item}
 use Rattle.basic_toml_layout.specs.Written as w
 use Rattle.basic_toml_write.specs.Impls.{option_calls}
 use Rattle.basic_toml_write.specs.Spelling.{root, root_some, none}
+use Rattle.basic_toml_typed.specs.Records.{default_reads}
 use Rattle.basic_toml_typed.specs.TypeReads.{field_reads, optional_reads, some_reads, maybe_reads}
 use Rattle.basic_toml_returns.specs.Means.{Means, Same}
-use Rattle.basic_toml_returns.specs.Fields.{HasAt, IsTable, SameAt, default_reads, ReturnsAt}
+use Rattle.basic_toml_returns.specs.Fields.{HasAt, IsTable, SameAt, ReturnsAt}
 
 abbrev in_some : Data → Option Data
 in_some d = Some d

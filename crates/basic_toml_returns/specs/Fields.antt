@@ -2,17 +2,11 @@
 -- What is said here of a table and its rows is closed, and each rule takes one row and hands on the rest: so a proof about a
 -- record takes a step a field, and never goes through the rows.
 use Rattle.std.specs.Prelude.{◌≡◌, ℕ, ◌==◌, Bool, true, not, ◌&&◌, List, [], ◌∷◌, ⊤}
-use Rattle.std.specs.Prelude.{Option, unwrap_or, is_some}
+use Rattle.std.specs.Prelude.{Option, is_some}
 use Rattle.basic_toml_value.specs.Data.{Data}
 use Rattle.basic_toml_tree.specs.Nodes.{is_table}
 use Rattle.basic_toml_typed.specs.FieldKeys.{text_number, position_among, child_at}
-use Rattle.basic_toml_typed.specs.TypeReads.{optional_reads}
 use Rattle.basic_toml_returns.specs.Means.{Rows, no_rows, row}
-
--- an optional field, with a value for a table that lacks the key
-unfoldable pub default_reads : {A : Type 0} → (Data → A → Type 0) → A → ℕ → Data → A → Type 0
-default_reads {A} reads default key d x =
-    (found : Option A) × optional_reads reads key d found × (x ≡ unwrap_or found default)
 
 -- ---- names
 

@@ -2,7 +2,8 @@
 ghost use Rattle.std.specs.Prelude.{Some, option_map};
 ghost use Rattle.basic_toml_write.specs.Impls.{option_calls};
 ghost use Rattle.basic_toml.specs.TypeReads.{field_reads, optional_reads};
-ghost use Rattle.basic_toml_returns.specs.Fields.{ReturnsAt, default_reads};
+ghost use Rattle.basic_toml.specs.Records.{default_reads};
+ghost use Rattle.basic_toml_returns.specs.Fields.{ReturnsAt};
 ghost use Rattle.basic_toml_returns.specs.Means.{Means};
 
 use crate::Returns;

@@ -7,3 +7,4 @@ pub mod NamesListed
 pub mod VariantsNamed
 pub mod RootsStand
 pub mod RecordsFail
+pub mod RecordsRead

@@ -3,3 +3,4 @@ pub mod TypeAnswers
 pub mod TypeReads
 pub mod TypeFaults
 pub mod FieldFaults
+pub mod Records

@@ -20,8 +20,10 @@ mod collections;
 mod deserialize;
 mod fields;
 pub mod laws;
+mod record;
 mod targets;
 
 pub use collections::read_elements;
 pub use deserialize::Deserialize;
 pub use fields::{only_fields, read_field, read_optional, variant};
+pub use record::{And, Fields, Maybe, Needed, Only, Or, Record, read_record};
