@@ -1,13 +1,11 @@
 //! What a `Cargo.toml` says of a package.
-ghost use Rattle.std.specs.Prelude.{◌≡◌, ◌⊎◌, Option, codes, unwrap_or, true, false};
-ghost use Rattle.basic_toml.specs.FieldFaults.{field_then, in_field, in_optional, optional_then};
-ghost use Rattle.basic_toml.specs.FieldKeys.{key_of};
+ghost use Rattle.std.specs.Prelude.{◌≡◌, ◌⊎◌, true, false};
 ghost use Rattle.basic_toml.specs.Nodes.{node_data, is_table};
 ghost use Rattle.basic_toml.specs.Reading.{ReadsText};
-ghost use Rattle.basic_toml.specs.TypeAnswers.{no_fault};
-ghost use Rattle.basic_toml.specs.TypeReads.{field_reads, optional_reads};
+ghost use Rattle.basic_toml.specs.Records.{done, maybe, needed, or, record_faults, record_reads};
 
-use basic_toml::{Deserialize, Error, Node, Tree, from_str, read_field, read_optional};
+use basic_toml::{Deserialize, Error, Node, Record, Tree, from_str};
+use basic_toml_typed::read_record;
 use std::alloc::Global;
 use std::collections::BTreeMap;
 
@@ -19,27 +17,23 @@ pub struct Manifest {
     pub features: Option<BTreeMap<String, Vec<String>>>,
 }
 
+impl Record for Manifest {
+    ghost fields = { needed ⟦<Package as Deserialize<'static>>⟧ "package" (λ r. r.package)
+        (maybe ⟦<BTreeMap<String, Dependency> as Deserialize<'static>>⟧ "dependencies" (λ r. r.dependencies)
+        (maybe ⟦<BTreeMap<String, Vec<String>> as Deserialize<'static>>⟧ "features" (λ r. r.features)
+        done)) };
+}
+
 impl<'de> Deserialize<'de> for Manifest {
-    ghost reads = { λ d m.
-        field_reads ⟦<Package as Deserialize<'static>>⟧.reads (key_of "package") d m.package
-        × optional_reads ⟦<BTreeMap<String, Dependency> as Deserialize<'static>>⟧.reads (key_of "dependencies") d
-        m.dependencies
-        × optional_reads ⟦<BTreeMap<String, Vec<String>> as Deserialize<'static>>⟧.reads (key_of "features") d
-        m.features };
+    ghost reads = { record_reads ⟦<Manifest as Record>⟧.fields };
 
-    ghost faults = { field_then ⟦<Package as Deserialize<'static>>⟧.faults ⟦<Package as Deserialize<'static>>⟧.reads (codes "package")
-        (optional_then ⟦<BTreeMap<String, Dependency> as Deserialize<'static>>⟧.faults
-        ⟦<BTreeMap<String, Dependency> as Deserialize<'static>>⟧.reads (codes "dependencies")
-        (optional_then ⟦<BTreeMap<String, Vec<String>> as Deserialize<'static>>⟧.faults
-        ⟦<BTreeMap<String, Vec<String>> as Deserialize<'static>>⟧.reads (codes "features")
-        no_fault)) };
+    ghost faults = { record_faults ⟦<Manifest as Record>⟧.fields };
 
-    #[tactic(auto, using(basic_toml_typed::proofs::RecordsFail::in_turn))]
     fn deserialize(alloc: Global, node: Node<'_, 'de>) -> Result<Manifest, Error> {
-        Ok(Manifest {
-            package: read_field(alloc, node, "package")?,
-            dependencies: read_optional(alloc, node, "dependencies")?,
-            features: read_optional(alloc, node, "features")?,
+        read_record!(alloc, node, Manifest {
+            package = needed("package"),
+            dependencies = maybe("dependencies"),
+            features = maybe("features"),
         })
     }
 
@@ -56,22 +50,23 @@ pub struct Package {
     pub edition: Option<String>,
 }
 
-impl<'de> Deserialize<'de> for Package {
-    ghost reads = { λ d p.
-        field_reads ⟦<String as Deserialize<'static>>⟧.reads (key_of "name") d p.name
-        × field_reads ⟦<String as Deserialize<'static>>⟧.reads (key_of "version") d p.version
-        × optional_reads ⟦<String as Deserialize<'static>>⟧.reads (key_of "edition") d p.edition };
+impl Record for Package {
+    ghost fields = { needed ⟦<String as Deserialize<'static>>⟧ "name" (λ r. r.name)
+        (needed ⟦<String as Deserialize<'static>>⟧ "version" (λ r. r.version)
+        (maybe ⟦<String as Deserialize<'static>>⟧ "edition" (λ r. r.edition)
+        done)) };
+}
 
-    ghost faults = { in_field ⟦<String as Deserialize<'static>>⟧.faults ⟦<String as Deserialize<'static>>⟧.reads (codes "name")
-        (in_field ⟦<String as Deserialize<'static>>⟧.faults ⟦<String as Deserialize<'static>>⟧.reads (codes "version")
-        (in_optional ⟦<String as Deserialize<'static>>⟧.faults ⟦<String as Deserialize<'static>>⟧.reads (codes "edition")
-        no_fault)) };
+impl<'de> Deserialize<'de> for Package {
+    ghost reads = { record_reads ⟦<Package as Record>⟧.fields };
+
+    ghost faults = { record_faults ⟦<Package as Record>⟧.fields };
 
     fn deserialize(alloc: Global, node: Node<'_, 'de>) -> Result<Package, Error> {
-        Ok(Package {
-            name: read_field(alloc, node, "name")?,
-            version: read_field(alloc, node, "version")?,
-            edition: read_optional(alloc, node, "edition")?,
+        read_record!(alloc, node, Package {
+            name = needed("name"),
+            version = needed("version"),
+            edition = maybe("edition"),
         })
     }
 
@@ -121,26 +116,23 @@ pub struct Detail {
     pub optional: bool,
 }
 
-impl<'de> Deserialize<'de> for Detail {
-    ghost reads = { λ d x.
-        optional_reads ⟦<String as Deserialize<'static>>⟧.reads (key_of "version") d x.version
-        × optional_reads ⟦<String as Deserialize<'static>>⟧.reads (key_of "path") d x.path
-        × ((optional : Option _) × optional_reads ⟦<bool as Deserialize<'static>>⟧.reads (key_of "optional") d optional
-        × (x.optional ≡ unwrap_or optional false)) };
+impl Record for Detail {
+    ghost fields = { maybe ⟦<String as Deserialize<'static>>⟧ "version" (λ r. r.version)
+        (maybe ⟦<String as Deserialize<'static>>⟧ "path" (λ r. r.path)
+        (or ⟦<bool as Deserialize<'static>>⟧ "optional" false (λ r. r.optional)
+        done)) };
+}
 
-    ghost faults = { in_optional ⟦<String as Deserialize<'static>>⟧.faults ⟦<String as Deserialize<'static>>⟧.reads (codes "version")
-        (in_optional ⟦<String as Deserialize<'static>>⟧.faults ⟦<String as Deserialize<'static>>⟧.reads (codes "path")
-        (in_optional ⟦<bool as Deserialize<'static>>⟧.faults ⟦<bool as Deserialize<'static>>⟧.reads (codes "optional")
-        no_fault)) };
+impl<'de> Deserialize<'de> for Detail {
+    ghost reads = { record_reads ⟦<Detail as Record>⟧.fields };
+
+    ghost faults = { record_faults ⟦<Detail as Record>⟧.fields };
 
     fn deserialize(alloc: Global, node: Node<'_, 'de>) -> Result<Detail, Error> {
-        let version = read_optional(alloc, node, "version")?;
-        let path = read_optional(alloc, node, "path")?;
-        let optional = read_optional(alloc, node, "optional")?.unwrap_or(false);
-        Ok(Detail {
-            version,
-            path,
-            optional,
+        read_record!(alloc, node, Detail {
+            version = maybe("version"),
+            path = maybe("path"),
+            optional = or("optional", false),
         })
     }
 
