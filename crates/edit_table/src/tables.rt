@@ -13,11 +13,14 @@ pub fn value_at<'t>(table: &'t Table, keys: &[&str]) -> Option<&'t Value> {
     table.get(last)
 }
 
-/// The same rows, but that the server is on another port, and a list of ports behind them.
+/// The same rows, but that the server is on another port, and behind them the ports that it was on, and is.
 pub fn moved_to(alloc: Global, table: &Table, port: i64) -> Result<Table, AllocError> {
     let mut moved = Table::new(alloc);
     let mut ports = Vec::new(alloc);
     for (key, value) in table {
+        if key == "history" {
+            continue;
+        }
         let value = match value.as_table() {
             Some(server) if key == "server" => {
                 if let Some(port) = server.get("port") {
@@ -35,7 +38,7 @@ pub fn moved_to(alloc: Global, table: &Table, port: i64) -> Result<Table, AllocE
     Ok(moved)
 }
 
-// A copy of a table with a value at a key: in the place of the one that stands there, or else behind all rows.
+// A copy of a table with a value at a key, behind all other rows; the one that stood at the key is left out.
 fn with_row(alloc: Global, table: &Table, key: &str, value: Value) -> Result<Table, AllocError> {
     let mut copy = Table::new(alloc);
     for (other, old) in table {
@@ -47,7 +50,7 @@ fn with_row(alloc: Global, table: &Table, key: &str, value: Value) -> Result<Tab
     Ok(copy)
 }
 
-// Puts a row behind the others; where its key stands among them, the table stays as it is.
+// Puts a row behind the others; a table that has the key stays as it is.
 fn put(alloc: Global, table: &mut Table, key: &str, value: Value) -> Result<(), AllocError> {
     let key = String::from_str(alloc, key)?;
     match table.push(key, value) {
