@@ -33,13 +33,17 @@ pub fn to_string<T: Serialize>(alloc: Global, value: &T) -> Result<String, Error
     ensures unique { SpellsAtMostOne (T.calls value.now) }
     ensures same_text { KeptHasSameText }
     ensures same_depth { KeptHasSameDepth }
+
+    // What is known of a value that was written.
+    ensures holds { IfOk result (λ _. T.holds value.now) }
 {
     write_out(alloc, value)
 }
 
 // What the calls of a value come to, with the error named.
 fn write_out<T: Serialize>(alloc: Global, value: &T) -> Result<String, Error>
-    ensures { Writes (T.calls value.now) (T.gives_up value.now) result }
+    ensures written { Writes (T.calls value.now) (T.gives_up value.now) result }
+    ensures holds { IfOk result (λ _. T.holds value.now) }
 {
     Ok(written(alloc, value)?)
 }

@@ -1,8 +1,3 @@
-pub mod SpelledParts
-pub mod FieldsMean
-pub mod RecordsMean
-pub mod ScalarsMean
-pub mod ArraysMean
-pub mod MapsMean
-pub mod ValuesReturn
+pub mod FieldsReturn
+pub mod RecordsReturn
 pub mod WrittenReturns

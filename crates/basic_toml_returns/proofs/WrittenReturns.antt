@@ -16,9 +16,8 @@ use Rattle.basic_toml_error.specs.ReadFaults.{lined}
 use Rattle.basic_toml.specs.Reading.{ReadsText, value_read, no_memory, no_document, not_taken}
 use Rattle.basic_toml.specs.Ser.{Writes, MeansKept, IsTextOf}
 use Rattle.basic_toml.proofs.TextHasOneDocument.{one_document}
-use Rattle.basic_toml_returns.specs.Means.{Means, Same}
 use Rattle.basic_toml_returns.specs.Returned.{Returned, ReturnsIt}
-use Rattle.basic_toml_returns.proofs.SpelledParts.{kept_tree}
+use Rattle.basic_toml_returns.specs.SpelledParts.{kept_tree}
 
 module _ {A : Type 0} (calls : A → List Item) (gives_up : A → List Item → WriteError → Type 0)
     (takes : Data → Type 0) (reads : Data → A → Type 0) (faults : Node → Fault → Type 0) (meant : A → Data) (x : A) where
@@ -40,7 +39,6 @@ module _ {A : Type 0} (calls : A → List Item) (gives_up : A → List Item → 
   -- the text of the calls has the data as its document
   means_it : (text : List ℕ) → Returned calls reads meant x → MeansKept (calls x) text
       → IsDocument (folded text) (meant x)
-  unfolding Means
   means_it text is means =
       subst (IsDocument (folded text)) (kept_tree is.means.value (meant x) is.means.whole)
       (means.document is.means.value is.means.spelled)
@@ -48,7 +46,6 @@ module _ {A : Type 0} (calls : A → List Item) (gives_up : A → List Item → 
   pub written_then_read : (s : String Global) (result : Result A Fault) → Returned calls reads meant x
       → Writes (calls x) (gives_up x) (Ok s) → MeansKept (calls x) (string_bytes s)
       → ReadsText takes reads faults (string_bytes s) result → ReturnsIt calls gives_up reads meant x result
-  unfolding Means Same
   written_then_read s (Ok y) is written means read =
       let t : IsTextOf (calls x) (string_bytes s) = written.text in
       let there : reads (meant x) y = read_value (string_bytes s) y (means_it (string_bytes s) is means) read in

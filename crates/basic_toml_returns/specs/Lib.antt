@@ -1,4 +1,11 @@
 pub mod Means
-pub mod Fields
+pub mod Rows
 pub mod Maps
 pub mod Returned
+pub mod RoundTrips
+pub mod SpelledParts
+pub mod ScalarsReturn
+pub mod ArraysReturn
+pub mod MapsReturn
+pub mod ValuesReturn
+pub mod Variants

@@ -14,9 +14,8 @@ meant_entries meant es = entries (from_entries {R = slice_cmp nat_cmp} (map (λ 
 abbrev pub map_members : {A : Type 0} → (A → Data) → List (String Global × A) → Members
 map_members meant es = members_of (meant_entries meant es)
 
--- Closed, so that a proof about a record of arrays and maps does not go into them.
-unfoldable pub array_meant : {A : Type 0} → (A → Data) → Vec A Global → Data
+abbrev pub array_meant : {A : Type 0} → (A → Data) → Vec A Global → Data
 array_meant meant v = array (items_of (map meant v.items))
 
-unfoldable pub map_meant : {A : Type 0} → (A → Data) → BTreeMap (String Global) A → Data
+abbrev pub map_meant : {A : Type 0} → (A → Data) → BTreeMap (String Global) A → Data
 map_meant meant m = table (map_members meant m.entries)

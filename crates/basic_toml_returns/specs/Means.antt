@@ -1,5 +1,4 @@
--- What a value means: the data that a text holds for its calls, absent options left out; and the words by which a caller's
--- record says what it means, as `a_table (a_member name data (maybe_member name option no_more))`. (own)
+-- What a value means: the data that a text holds for its calls, absent options left out. (own)
 use Rattle.std.specs.Prelude.{◌≡◌, ℕ, List, [], Option, Some, None}
 use Rattle.basic_toml_value.specs.Data.{Data, Members, no_members, member}
 use Rattle.basic_toml_layout.specs.Written.{Written, absent, Entries}
@@ -13,30 +12,16 @@ abbrev pub entry_data : Written → Option Data
 entry_data absent = None
 entry_data value = Some (tree_of (kept value))
 
--- a value that the calls spell, of which these data are kept as an entry
-pub record Meaning (calls : List Item) (data_kept : Option Data) : Type 0 where
+-- The calls spell a value, and these data are kept of it as an entry.
+pub record Means (calls : List Item) (data_kept : Option Data) : Type 0 where
   pub value : Written
   pub spelled : Spells calls value
   pub whole : entry_data value ≡ data_kept
-
--- The calls spell a value, and these data are kept of it as an entry. Closed, as the words below are: a proof about a record
--- goes by what is said of the words, a step a field, and never through the parts.
-unfoldable pub Means : List Item → Option Data → Type 0
-Means calls data_kept = Meaning calls data_kept
 
 -- Of a record: each name, and the data under it, if there are any.
 pub data Rows : Type 0 where
   no_rows : Rows
   row : List ℕ → Option Data → Rows → Rows
-
-unfoldable pub no_more : Rows
-no_more = no_rows
-
-unfoldable pub maybe_member : List ℕ → Option Data → Rows → Rows
-maybe_member name found rest = row name found rest
-
-abbrev pub a_member : List ℕ → Data → Rows → Rows
-a_member name d rest = maybe_member name (Some d) rest
 
 abbrev pub with_member : List ℕ → Option Data → Members → Members
 with_member name None members = members
@@ -47,18 +32,11 @@ members_in no_rows = no_members
 members_in (row name found rows) = with_member name found (members_in rows)
 
 -- the table of a record
-unfoldable pub a_table : Rows → Data
-a_table rows = Data.table (members_in rows)
+abbrev pub table_of : Rows → Data
+table_of rows = Data.table (members_in rows)
 
 -- the entries of a table and its end, which the calls are, and of which these rows are kept
 pub record RowsMeaning (calls : List Item) (rows : Rows) : Type 0 where
   pub held : Entries
   pub spelled : AreEntries calls held []
   pub whole : entry_trees (kept_entries held) ≡ members_in rows
-
-unfoldable pub MeansRows : List Item → Rows → Type 0
-MeansRows calls rows = RowsMeaning calls rows
-
--- data that are the same
-unfoldable pub Same : Data → Data → Type 0
-Same d e = d ≡ e

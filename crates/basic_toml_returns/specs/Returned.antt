@@ -11,14 +11,23 @@ use Rattle.basic_toml_write.specs.Shapes.{is_unsupported}
 use Rattle.basic_toml_write.specs.Spelling.{Spells}
 use Rattle.basic_toml_error.specs.Fault.{Fault, want_of_memory}
 use Rattle.basic_toml.specs.Ser.{IsFirstFault, IsOwnFault}
-use Rattle.basic_toml_returns.specs.Means.{Means, Same}
+use Rattle.basic_toml_returns.specs.Means.{Means}
 
 -- What a value's calls mean is its data, it is read from them, and what is read from them means the same.
 pub record Returned {A : Type 0} (calls : A → List Item) (reads : Data → A → Type 0) (meant : A → Data) (x : A)
     : Type 0 where
   pub means : Means (calls x) (Some (meant x))
   pub read : reads (meant x) x
-  pub once : (y : A) → reads (meant x) y → Same (meant y) (meant x)
+  pub once : (y : A) → reads (meant x) y → meant y ≡ meant x
+
+-- What a type writes, what holds of a value that was written, what the type reads, what a value means, and that each value
+-- which was written returns.
+pub record ReadBack (A : Type 0) : Type 1 where
+  pub calls : A → List Item
+  pub holds : A → Type 0
+  pub reads : Data → A → Type 0
+  pub meant : A → Data
+  pub returns : (x : A) → holds x → Returned calls reads meant x
 
 -- a value that is read from the data of the one that was written, means the same, and had a text: no unsupported shape
 -- occurs in what the calls spell

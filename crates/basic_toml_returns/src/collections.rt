@@ -1,36 +1,20 @@
 //! Vectors and maps return where what they hold does.
-ghost use Rattle.std.specs.List.{AllByRecursion};
-ghost use Rattle.basic_toml_returns.specs.Maps.{array_meant, map_meant};
-ghost use Rattle.basic_toml_returns.specs.Returned.{Returned};
+ghost use Rattle.basic_toml_returns.specs.ArraysReturn.{array_back, array_returned};
+ghost use Rattle.basic_toml_returns.specs.MapsReturn.{map_back, map_returned};
 
 use crate::Returns;
 use std::collections::BTreeMap;
 
-// Each element returns.
-fn elements_return<'de, T: Returns<'de>>(elements: &[T])
-    ensures { AllByRecursion (Returned T.calls T.reads T.meant) elements.now }
-{
-    for element in elements {
-        element.returns();
-    }
-}
-
 /// Each element in order.
 impl<'de, T: Returns<'de> + Drop> Returns<'de> for Vec<T> {
-    ghost meant = { λ xs. array_meant T.meant xs };
+    ghost read_back = { array_back T.read_back };
 
-    fn returns(&self) {
-        elements_return(self.as_slice());
-    }
+    ghost returns = { array_returned T.returns };
 }
 
 /// Each value at its key, in the order of the keys.
 impl<'de, T: Returns<'de> + Drop> Returns<'de> for BTreeMap<String, T> {
-    ghost meant = { λ m. map_meant T.meant m };
+    ghost read_back = { map_back T.read_back };
 
-    fn returns(&self) {
-        for value in self.values() {
-            value.returns();
-        }
-    }
+    ghost returns = { map_returned T.returns };
 }

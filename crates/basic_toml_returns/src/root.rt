@@ -46,9 +46,8 @@ impl<'de> Root<'de> for Table {
 /// Those of [`to_string`]. Reading back meets none but want of memory.
 #[tactic(auto, using(crate::proofs::WrittenReturns::written_returns))]
 pub fn write_then_read<'de, T: Root<'de>>(alloc: Global, value: &T) -> Result<T, Error>
-    ensures { ReturnsIt T.calls T.gives_up T.reads T.meant value.now result }
+    ensures { ReturnsIt T.calls T.gives_up T.reads T.read_back.meant value.now result }
 {
-    value.returns();
     let text = to_string(alloc, value)?;
     T::from_text(alloc, text.as_str())
 }

@@ -1,108 +1,72 @@
 //! Numbers, truth values and strings return.
-ghost use Rattle.std.specs.Prelude.{pos, string_bytes};
-ghost use Rattle.basic_toml_value.specs.Data.{boolean, float, integer, string};
+ghost use Rattle.basic_toml_returns.specs.ScalarsReturn.{bool_back, float_back, signed_back, string_back, unsigned_back};
 
 use crate::Returns;
 use basic_toml::Float;
 
 impl<'de> Returns<'de> for i8 {
-    ghost meant = { λ n. integer n };
+    ghost read_back = { signed_back 7 };
 
-    #[tactic(auto, using(crate::proofs::ScalarsMean::scalars_mean))]
-    fn returns(&self) {
-        // What is promised of this number, its range, is all that is needed of it.
-        let _number = *self;
-    }
+    ghost returns = { ⟦<i8 as Returns<'static>>⟧.read_back.returns };
 }
 
 impl<'de> Returns<'de> for i16 {
-    ghost meant = { λ n. integer n };
+    ghost read_back = { signed_back 15 };
 
-    #[tactic(auto, using(crate::proofs::ScalarsMean::scalars_mean))]
-    fn returns(&self) {
-        // What is promised of this number, its range, is all that is needed of it.
-        let _number = *self;
-    }
+    ghost returns = { ⟦<i16 as Returns<'static>>⟧.read_back.returns };
 }
 
 impl<'de> Returns<'de> for i32 {
-    ghost meant = { λ n. integer n };
+    ghost read_back = { signed_back 31 };
 
-    #[tactic(auto, using(crate::proofs::ScalarsMean::scalars_mean))]
-    fn returns(&self) {
-        // What is promised of this number, its range, is all that is needed of it.
-        let _number = *self;
-    }
+    ghost returns = { ⟦<i32 as Returns<'static>>⟧.read_back.returns };
 }
 
 impl<'de> Returns<'de> for i64 {
-    ghost meant = { λ n. integer n };
+    ghost read_back = { signed_back 63 };
 
-    #[tactic(auto, using(crate::proofs::ScalarsMean::scalars_mean))]
-    fn returns(&self) {
-        // What is promised of this number, its range, is all that is needed of it.
-        let _number = *self;
-    }
+    ghost returns = { ⟦<i64 as Returns<'static>>⟧.read_back.returns };
 }
 
 impl<'de> Returns<'de> for u8 {
-    ghost meant = { λ n. integer (pos n) };
+    ghost read_back = { unsigned_back 8 };
 
-    #[tactic(auto, using(crate::proofs::ScalarsMean::scalars_mean))]
-    fn returns(&self) {
-        // What is promised of this number, its range, is all that is needed of it.
-        let _number = *self;
-    }
+    ghost returns = { ⟦<u8 as Returns<'static>>⟧.read_back.returns };
 }
 
 impl<'de> Returns<'de> for u16 {
-    ghost meant = { λ n. integer (pos n) };
+    ghost read_back = { unsigned_back 16 };
 
-    #[tactic(auto, using(crate::proofs::ScalarsMean::scalars_mean))]
-    fn returns(&self) {
-        // What is promised of this number, its range, is all that is needed of it.
-        let _number = *self;
-    }
+    ghost returns = { ⟦<u16 as Returns<'static>>⟧.read_back.returns };
 }
 
 impl<'de> Returns<'de> for u32 {
-    ghost meant = { λ n. integer (pos n) };
+    ghost read_back = { unsigned_back 32 };
 
-    #[tactic(auto, using(crate::proofs::ScalarsMean::scalars_mean))]
-    fn returns(&self) {
-        // What is promised of this number, its range, is all that is needed of it.
-        let _number = *self;
-    }
+    ghost returns = { ⟦<u32 as Returns<'static>>⟧.read_back.returns };
 }
 
 impl<'de> Returns<'de> for u64 {
-    ghost meant = { λ n. integer (pos n) };
+    ghost read_back = { unsigned_back 64 };
 
-    #[tactic(auto, using(crate::proofs::ScalarsMean::scalars_mean))]
-    fn returns(&self) {
-        // What is promised of this number, its range, is all that is needed of it.
-        let _number = *self;
-    }
+    ghost returns = { ⟦<u64 as Returns<'static>>⟧.read_back.returns };
 }
 
 impl<'de> Returns<'de> for bool {
-    ghost meant = { λ b. boolean b };
+    ghost read_back = { bool_back };
 
-    #[tactic(auto, using(crate::proofs::ScalarsMean::scalars_mean))]
-    fn returns(&self) {}
+    ghost returns = { ⟦<bool as Returns<'static>>⟧.read_back.returns };
 }
 
 /// A float by its canonical text.
 impl<'de> Returns<'de> for Float {
-    ghost meant = { λ text. float text };
+    ghost read_back = { float_back };
 
-    #[tactic(auto, using(crate::proofs::ScalarsMean::scalars_mean))]
-    fn returns(&self) {}
+    ghost returns = { ⟦<Float as Returns<'static>>⟧.read_back.returns };
 }
 
 impl<'de> Returns<'de> for String {
-    ghost meant = { λ s. string (string_bytes s) };
+    ghost read_back = { string_back };
 
-    #[tactic(auto, using(crate::proofs::ScalarsMean::scalars_mean))]
-    fn returns(&self) {}
+    ghost returns = { ⟦<String as Returns<'static>>⟧.read_back.returns };
 }

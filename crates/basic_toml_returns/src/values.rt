@@ -1,21 +1,18 @@
 //! Values and tables return as themselves.
-ghost use Rattle.basic_toml_value.specs.Data.{table};
-ghost use Rattle.basic_toml_value.specs.View.{entries, view};
+ghost use Rattle.basic_toml_returns.specs.ValuesReturn.{table_back, value_back};
 
 use crate::Returns;
 use basic_toml::{Table, Value};
 
 impl<'de> Returns<'de> for Value {
-    ghost meant = { λ v. view v };
+    ghost read_back = { value_back };
 
-    #[tactic(auto, using(crate::proofs::ValuesReturn::values_return))]
-    fn returns(&self) {}
+    ghost returns = { ⟦<Value as Returns<'static>>⟧.read_back.returns };
 }
 
 /// The order of its keys is kept.
 impl<'de> Returns<'de> for Table {
-    ghost meant = { λ t. table (entries t) };
+    ghost read_back = { table_back };
 
-    #[tactic(auto, using(crate::proofs::ValuesReturn::values_return))]
-    fn returns(&self) {}
+    ghost returns = { ⟦<Table as Returns<'static>>⟧.read_back.returns };
 }

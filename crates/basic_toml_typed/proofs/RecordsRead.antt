@@ -1,5 +1,5 @@
 -- Fields one after another, and the record that has them.
-use Rattle.std.proofs.Common.{◌≡◌, inl, inr, ℕ, List, [], ◌∷◌, ◌++◌, map, sym, subst, Bor}
+use Rattle.std.proofs.Common.{◌≡◌, inl, inr, ℕ, List, [], ◌∷◌, ◌++◌, map, refl, sym, subst, Bor, Some, None}
 use mathlib.Core.List.{map-map}
 use Rattle.basic_toml_value.specs.Data.{Data}
 use Rattle.basic_toml_tree.specs.declared.node.Node.{Node}
@@ -8,9 +8,9 @@ use Rattle.basic_toml_typed.specs.TypeAnswers.{OnlyMemory}
 use Rattle.basic_toml_tree.specs.Nodes.{node_data}
 use Rattle.basic_toml_typed.specs.FieldFaults.{FailsOr}
 use Rattle.basic_toml_typed.specs.FieldKeys.{text_number}
-use Rattle.basic_toml_typed.specs.TypeReads.{HasOnly}
-use Rattle.basic_toml_typed.specs.Records.{Reading, FirstFails, OneReadsNone, AreRead, AllReadFrom}
-use Rattle.basic_toml_typed.specs.Records.{IsRead, only_at, Fields, done, field, only, readings, record_reads}
+use Rattle.basic_toml_typed.specs.TypeReads.{HasOnly, optional_reads}
+use Rattle.basic_toml_typed.specs.Records.{Reading, FirstFails, OneReadsNone, AreRead}
+use Rattle.basic_toml_typed.specs.Records.{IsRead, default_at, default_reads, only_at, Fields, done, field, only, readings, record_reads}
 
 -- some fields and others behind them: one of the first fails, or they are read and one behind them fails
 pub fails_first : (some others : List Reading) (node : Node) (fault : Fault) → FirstFails some node fault
@@ -42,12 +42,20 @@ pub all_read : (some others : List Reading) (node : Node) → AreRead some node 
 all_read [] others node first second = second
 all_read (r ∷ rs) others node first second = (first.0, all_read rs others node first.1 second)
 
-pub all_from : (some others : List (Data → Type 0)) (d : Data) → AllReadFrom some d → AllReadFrom others d
-    → AllReadFrom (some ++ others) d
-all_from [] others d first second = second
-all_from (p ∷ ps) others d first second = (first.0, all_from ps others d first.1 second)
+pub ruleset one_after_another = (fails_first, fails_behind, none_first, none_behind, all_read)
 
-pub ruleset one_after_another = (fails_first, fails_behind, none_first, none_behind, all_read, all_from)
+-- a field with a default: what stands there is read, or else the default
+module _ {A : Type 0} (reads : Data → A → Type 0) (faults : Node → Fault → Type 0) (name : List ℕ) (IsDefault : A → Type 0)
+    (node : Node) (x : A) where
+  pub found_is_read : optional_reads reads (text_number name) (node_data node) (Some x)
+      → IsRead (default_at reads faults name IsDefault) node
+  unfolding IsRead default_reads
+  found_is_read there = (x, (Some x, there, refl))
+
+  pub default_is_read : optional_reads reads (text_number name) (node_data node) None → IsDefault x
+      → IsRead (default_at reads faults name IsDefault) node
+  unfolding IsRead default_reads
+  default_is_read none is = (x, (None, none, is))
 
 -- names by their numbers, as fields stand in a slice
 module _ (keys : List (Bor (List ℕ))) where

@@ -4,8 +4,9 @@
 --     strict
 --         (needed ⟦<String as Deserialize<'static>>⟧ "host" (λ s. s.host)
 --         (or ⟦<u16 as Deserialize<'static>>⟧ "port" 8080 (λ s. s.port) done))
-use Rattle.std.specs.Prelude.{◌≡◌, ◌⊎◌, ℕ, List, [], ◌∷◌, Option, unwrap_or, codes, map, ⊤}
+use Rattle.std.specs.Prelude.{◌≡◌, ◌⊎◌, ℕ, List, [], ◌∷◌, Option, MatchOption, codes, map, ⊤, String, string_bytes, Vec}
 use Prim.Native.String.{String as Text}
+use Rattle.std.specs.declared.alloc.Global.{Global}
 use Rattle.basic_toml_value.specs.Data.{Data}
 use Rattle.basic_toml_tree.specs.declared.node.Node.{Node}
 use Rattle.basic_toml_tree.specs.Nodes.{node_data}
@@ -16,10 +17,10 @@ use Rattle.basic_toml_typed.specs.FieldFaults.{field_fails, optional_fails, only
 use Rattle.basic_toml_typed.specs.TypeAnswers.{OnlyMemory}
 use Rattle.basic_toml_typed.specs.TypeReads.{field_reads, optional_reads, HasOnly}
 
--- an optional field, with a value for a table that lacks the key
-unfoldable pub default_reads : {A : Type 0} → (Data → A → Type 0) → A → ℕ → Data → A → Type 0
-default_reads {A} reads default key d x =
-    (found : Option A) × optional_reads reads key d found × (x ≡ unwrap_or found default)
+-- an optional field, with what a value is for a table that lacks the key
+unfoldable pub default_reads : {A : Type 0} → (Data → A → Type 0) → (A → Type 0) → ℕ → Data → A → Type 0
+default_reads {A} reads IsDefault key d x =
+    (found : Option A) × optional_reads reads key d found × MatchOption found (IsDefault x) (λ y. x ≡ y)
 
 -- ---- one field
 
@@ -37,9 +38,9 @@ abbrev pub maybe_at : {A : Type 0} → (Data → A → Type 0) → (Node → Fau
 maybe_at {A} reads faults name =
     record { Value = Option A; reads = optional_reads reads (text_number name); fails = optional_fails faults name }
 
-abbrev pub default_at : {A : Type 0} → (Data → A → Type 0) → (Node → Fault → Type 0) → List ℕ → A → Reading
-default_at {A} reads faults name default =
-    record { Value = A; reads = default_reads reads default (text_number name); fails = optional_fails faults name }
+abbrev pub default_at : {A : Type 0} → (Data → A → Type 0) → (Node → Fault → Type 0) → List ℕ → (A → Type 0) → Reading
+default_at {A} reads faults name IsDefault =
+    record { Value = A; reads = default_reads reads IsDefault (text_number name); fails = optional_fails faults name }
 
 -- that a table has no key but these
 abbrev pub only_at : List (List ℕ) → Reading
@@ -66,11 +67,6 @@ abbrev pub OneReadsNone : List Reading → Data → Fault → Type 0
 OneReadsNone [] d fault = ⊥
 OneReadsNone (reading ∷ readings) d fault = OnlyMemory ⊥ (reading.reads d) fault ⊎ OneReadsNone readings d fault
 
--- all of them are read: each from these data
-abbrev pub AllReadFrom : List (Data → Type 0) → Data → Type 0
-AllReadFrom [] d = ⊤
-AllReadFrom (IsFrom ∷ others) d = IsFrom d × AllReadFrom others d
-
 -- ---- a record
 
 -- its fields: the name of each, how it is read, and where the record has it
@@ -86,7 +82,23 @@ abbrev pub maybe : {S A : Type 0} → deserialize.Ghosts A → Text → (S → O
 maybe T name get rest = field (codes name) (maybe_at T.reads T.faults (codes name)) get rest
 
 abbrev pub or : {S A : Type 0} → deserialize.Ghosts A → Text → A → (S → A) → Fields S → Fields S
-or T name default get rest = field (codes name) (default_at T.reads T.faults (codes name) default) get rest
+or T name default get rest = field (codes name) (default_at T.reads T.faults (codes name) (λ x. x ≡ default)) get rest
+
+-- a list that is empty where the table lacks it
+abbrev pub IsEmpty : {A : Type 0} → Vec A Global → Type 0
+IsEmpty v = v.items ≡ []
+
+abbrev pub or_empty : {S A : Type 0} → deserialize.Ghosts (Vec A Global) → Text → (S → Vec A Global) → Fields S → Fields S
+or_empty T name get rest = field (codes name) (default_at T.reads T.faults (codes name) IsEmpty) get rest
+
+-- a string that is this text where the table lacks it
+abbrev pub IsText : List ℕ → String Global → Type 0
+IsText text s = string_bytes s ≡ text
+
+abbrev pub or_text : {S : Type 0} → deserialize.Ghosts (String Global) → Text → Text → (S → String Global) → Fields S
+    → Fields S
+or_text T name default get rest =
+    field (codes name) (default_at T.reads T.faults (codes name) (IsText (codes default))) get rest
 
 abbrev pub names : {S : Type 0} → Fields S → List (List ℕ)
 names done = []

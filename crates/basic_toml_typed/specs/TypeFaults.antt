@@ -6,7 +6,8 @@ use Rattle.basic_toml_tree.specs.Nodes.{node_data, is_table, is_array, elements_
 use Rattle.basic_toml_tree.specs.Stands.{AtKey, AtNumber}
 use Rattle.basic_toml_error.specs.Fault.{Fault, custom}
 use Rattle.basic_toml_error.specs.NodeFaults.{fault_at, type_message, value_message}
-use Rattle.basic_toml_typed.specs.TypeReads.{is_within, are_read}
+use Rattle.basic_toml_write.specs.Impls.{is_within}
+use Rattle.basic_toml_typed.specs.TypeReads.{are_read}
 
 -- `invalid type: .., expected ..` and `invalid value: .., expected ..`, at a node
 abbrev pub wrong_type : List ℕ → Node → Fault

@@ -1,6 +1,6 @@
 -- What each type reads from the data of a node: `reads d x` says that the value x is read from the data d, and `takes d`
 -- that one is, memory aside. No offset plays a part. (own)
-use Rattle.std.specs.Prelude.{◌≡◌, ◌<◌, ◌^◌, ℕ, ℤ, pos, negsuc, Bool, true, nat_lt, List, [], ◌∷◌, Option}
+use Rattle.std.specs.Prelude.{◌≡◌, ◌<◌, ◌^◌, ℕ, ℤ, pos, Bool, true, List, [], ◌∷◌, Option}
 use Rattle.std.specs.Prelude.{Some, None, IsSome, IsTrue, map, ⊤, Vec, String, string_bytes}
 use Rattle.std.specs.BTreeMap.{BTreeMap, get_by_text}
 use Rattle.std.specs.Cow.{cow_str_bytes}
@@ -10,6 +10,7 @@ use Rattle.basic_toml_value.specs.Data.{Data, integer, float, boolean, string, a
 use Rattle.basic_toml_value.specs.Data.{boolean_in, float_in, string_in}
 use Rattle.basic_toml_value.specs.View.{view, entries}
 use Rattle.basic_toml_value.specs.declared.value.Value.{Value}
+use Rattle.basic_toml_write.specs.Impls.{is_within}
 use Rattle.basic_toml_tree.specs.Nodes.{is_table, listed, paired, data_among}
 use Rattle.basic_toml_typed.specs.FieldKeys.{child_at, position_among, are_listed}
 
@@ -19,11 +20,6 @@ unsigned_reads bits d n = (d ≡ integer (pos n)) × (n < 2 ^ bits)
 
 abbrev pub unsigned_takes : ℕ → Data → Type 0
 unsigned_takes bits d = (n : ℕ) × unsigned_reads bits d n
-
--- from -2^half on, and below 2^half
-abbrev pub is_within : ℕ → ℤ → Bool
-is_within half (pos n) = nat_lt n (2 ^ half)
-is_within half (negsuc n) = nat_lt n (2 ^ half)
 
 -- i8 to i64: an integer of so many bits, where `half` is one bit less
 abbrev pub signed_reads : ℕ → Data → ℤ → Type 0

@@ -1,15 +1,16 @@
 //! Records: fields of a table, read one after another.
-ghost use Rattle.std.specs.Prelude.{◌++◌, ◌∷◌, IfErr, IfOk, List, [], ⊤, map};
+ghost use Rattle.std.specs.Prelude.{◌≡◌, ◌++◌, ◌∷◌, IfErr, IfOk, List, [], ⊤, map};
 ghost use Rattle.basic_toml_error.specs.Fault.{Fault};
 ghost use Rattle.basic_toml_tree.specs.Nodes.{node_data};
 ghost use Rattle.basic_toml_tree.specs.declared.node.Node as n;
 ghost use Rattle.basic_toml_typed.specs.FieldKeys.{text_number};
 ghost use Rattle.basic_toml_typed.specs.Records as spec;
-ghost use Rattle.basic_toml_typed.specs.Records.{AllReadFrom, AreRead, FirstFails, OneReadsNone, Reading};
-ghost use Rattle.basic_toml_typed.specs.Records.{default_at, default_reads, maybe_at, needed_at, only_at};
+ghost use Rattle.basic_toml_typed.specs.Records.{AreRead, FirstFails, OneReadsNone, Reading};
+ghost use Rattle.basic_toml_typed.specs.Records.{IsEmpty, IsText, default_at, default_reads, maybe_at, needed_at, only_at};
 ghost use Rattle.basic_toml_typed.specs.Records.{readings, record_faults, record_reads};
 ghost use Rattle.basic_toml_typed.specs.TypeAnswers.{OnlyMemory, OrMemory};
-ghost use Rattle.basic_toml_typed.specs.TypeReads.{HasOnly, field_reads, optional_reads};
+ghost use Rattle.basic_toml_typed.specs.TypeFaults.{array_faults, string_faults};
+ghost use Rattle.basic_toml_typed.specs.TypeReads.{HasOnly, array_reads, field_reads, optional_reads, string_reads};
 ghost use Rattle.basic_toml_value.specs.Data.{Data};
 
 use crate::{Deserialize, only_fields, read_field, read_optional};
@@ -26,8 +27,8 @@ pub trait Fields<'de>: Sized + Drop {
     // How each is read, in their order.
     ghost readings: { Self → List Reading };
 
-    // Of values, which data each is read from.
-    ghost reads: { Self → Self.Values → List (Data → Type 0) };
+    // Which values are read from which data.
+    ghost reads: { Self → Self.Values → Data → Type 0 };
 
     /// Reads the fields of a table in their order.
     ///
@@ -35,7 +36,7 @@ pub trait Fields<'de>: Sized + Drop {
     ///
     /// That of the first field that is not read, and want of memory.
     fn read(self, alloc: Global, node: Node<'_, 'de>) -> Result<Self::Values, Error>
-        ensures ok { IfOk result (λ values. AllReadFrom (reads self values) (node_data node.entry)) }
+        ensures ok { IfOk result (λ values. reads self values (node_data node.entry)) }
         ensures taken { IfOk result (λ _. AreRead (readings self) node.entry) }
         ensures err { IfErr result (OneReadsNone (readings self) (node_data node.entry)) }
         ensures named { IfErr result (OrMemory (FirstFails (readings self) node.entry)) };
@@ -53,7 +54,7 @@ impl<'de, T: Deserialize<'de> + Drop> Fields<'de> for Needed<'_, T> {
 
     ghost readings = { λ f. needed_at T.reads T.faults f.key.now ∷ [] };
 
-    ghost reads = { λ f value. (λ d. field_reads T.reads (text_number f.key.now) d value) ∷ [] };
+    ghost reads = { λ f value d. field_reads T.reads (text_number f.key.now) d value };
 
     #[tactic(auto, using(crate::proofs::RecordsFail::in_turn), unfolding(crate::specs::Records::IsRead))]
     fn read(self, alloc: Global, node: Node<'_, 'de>) -> Result<T, Error> {
@@ -73,7 +74,7 @@ impl<'de, T: Deserialize<'de> + Drop> Fields<'de> for Maybe<'_, T> {
 
     ghost readings = { λ f. maybe_at T.reads T.faults f.key.now ∷ [] };
 
-    ghost reads = { λ f value. (λ d. optional_reads T.reads (text_number f.key.now) d value) ∷ [] };
+    ghost reads = { λ f value d. optional_reads T.reads (text_number f.key.now) d value };
 
     #[tactic(auto, using(crate::proofs::RecordsFail::in_turn), unfolding(crate::specs::Records::IsRead))]
     fn read(self, alloc: Global, node: Node<'_, 'de>) -> Result<Option<T>, Error> {
@@ -91,13 +92,61 @@ pub struct Or<'a, T> {
 impl<'de, T: Deserialize<'de> + Drop> Fields<'de> for Or<'_, T> {
     type Values = T;
 
-    ghost readings = { λ f. default_at T.reads T.faults f.key.now f.default ∷ [] };
+    ghost readings = { λ f. default_at T.reads T.faults f.key.now (λ x. x ≡ f.default) ∷ [] };
 
-    ghost reads = { λ f value. (λ d. default_reads T.reads f.default (text_number f.key.now) d value) ∷ [] };
+    ghost reads = { λ f value d. default_reads T.reads (λ x. x ≡ f.default) (text_number f.key.now) d value };
 
     #[tactic(auto, using(crate::proofs::RecordsFail::in_turn), unfolding(crate::specs::Records::IsRead, crate::specs::Records::default_reads))]
     fn read(self, alloc: Global, node: Node<'_, 'de>) -> Result<T, Error> {
         Ok(read_optional(alloc, node, self.key)?.unwrap_or(self.default))
+    }
+}
+
+/// A list that is empty for a table that lacks it.
+#[derive(Drop)]
+pub struct OrEmpty<'a, T> {
+    pub key: &'a str,
+    pub kind: PhantomData<T>,
+}
+
+impl<'de, T: Deserialize<'de> + Drop> Fields<'de> for OrEmpty<'_, T> {
+    type Values = Vec<T>;
+
+    ghost readings = { λ f.
+        default_at (array_reads T.reads) (array_faults T.faults T.reads) f.key.now IsEmpty ∷ [] };
+
+    ghost reads = { λ f value d. default_reads (array_reads T.reads) IsEmpty (text_number f.key.now) d value };
+
+    #[tactic(auto, using(crate::proofs::RecordsFail::in_turn), unfolding(crate::specs::Records::IsRead, crate::specs::Records::default_reads))]
+    fn read(self, alloc: Global, node: Node<'_, 'de>) -> Result<Vec<T>, Error> {
+        match read_optional(alloc, node, self.key)? {
+            Some(list) => Ok(list),
+            None => Ok(Vec::new(alloc)),
+        }
+    }
+}
+
+/// A string that is a text for a table that lacks it.
+#[derive(Drop)]
+pub struct OrText<'a> {
+    pub key: &'a str,
+    pub default: &'a str,
+}
+
+impl<'de> Fields<'de> for OrText<'_> {
+    type Values = String;
+
+    ghost readings = { λ f. default_at string_reads string_faults f.key.now (IsText f.default.now) ∷ [] };
+
+    ghost reads = { λ f value d.
+        default_reads string_reads (IsText f.default.now) (text_number f.key.now) d value };
+
+    #[tactic(auto, using(crate::proofs::RecordsFail::in_turn), unfolding(crate::specs::Records::IsRead, crate::specs::Records::default_reads))]
+    fn read(self, alloc: Global, node: Node<'_, 'de>) -> Result<String, Error> {
+        match read_optional(alloc, node, self.key)? {
+            Some(text) => Ok(text),
+            None => Ok(String::from_str(alloc, self.default)?),
+        }
     }
 }
 
@@ -112,7 +161,7 @@ impl<'de> Fields<'de> for Only<'_> {
 
     ghost readings = { λ f. only_at (map (λ key. key.now) f.keys.now) ∷ [] };
 
-    ghost reads = { λ f _. HasOnly (map text_number (map (λ key. key.now) f.keys.now)) ∷ [] };
+    ghost reads = { λ f _ d. HasOnly (map text_number (map (λ key. key.now) f.keys.now)) d };
 
     #[tactic(auto, using(crate::proofs::RecordsFail::in_turn, crate::proofs::RecordsRead::only_names))]
     fn read(self, alloc: Global, node: Node<'_, 'de>) -> Result<(), Error> {
@@ -132,7 +181,7 @@ impl<'de, A: Fields<'de>, B: Fields<'de>> Fields<'de> for And<A, B> {
 
     ghost readings = { λ f. A.readings f.first ++ B.readings f.rest };
 
-    ghost reads = { λ f values. A.reads f.first values.first ++ B.reads f.rest values.rest };
+    ghost reads = { λ f values d. A.reads f.first values.first d × B.reads f.rest values.rest d };
 
     #[tactic(auto, using(crate::proofs::RecordsRead::one_after_another))]
     fn read(self, alloc: Global, node: Node<'_, 'de>) -> Result<And<A::Values, B::Values>, Error> {
@@ -167,7 +216,7 @@ pub fn read_record<'de, R: Record, F: Fields<'de>>(
         → OneReadsNone (readings R.fields) d fault }
     requires faults { (at : n.Node) (fault : Fault) → FirstFails (F.readings fields) at fault
         → record_faults R.fields at fault }
-    ensures ok { IfOk result (λ values. AllReadFrom (F.reads fields values) (node_data node.entry)) }
+    ensures ok { IfOk result (λ values. F.reads fields values (node_data node.entry)) }
     ensures err { IfErr result (OnlyMemory ⊥ (record_reads R.fields (node_data node.entry))) }
     ensures named { IfErr result (OrMemory (record_faults R.fields node.entry)) }
 {
@@ -181,10 +230,13 @@ pub fn read_record<'de, R: Record, F: Fields<'de>>(
 ///     host = needed("host"),
 ///     port = or("port", 8080),
 ///     log = maybe("log"),
+///     allow = or_empty("allow"),
+///     level = or_text("level", "info"),
 /// })
 /// ```
 ///
-/// With `only` a key that is none of these is an error. The record says by [`Record`] the same of its fields.
+/// A field has to be there, has a default, is an option, is a list that is empty where it is missing, or a string that is a
+/// text then. With `only` a key that is none of these is an error. The record says by [`Record`] the same of its fields.
 #[macro_export]
 macro_rules! read_record {
     ($alloc:expr, $node:expr, only $record:ident {
@@ -214,6 +266,8 @@ macro_rules! field {
     (needed [$kind:ty] $key:expr) => { $crate::Needed::<$kind> { key: $key, kind: std::marker::PhantomData } };
     (maybe [$kind:ty] $key:expr) => { $crate::Maybe::<$kind> { key: $key, kind: std::marker::PhantomData } };
     (or [$kind:ty] $key:expr, $default:expr) => { $crate::Or::<$kind> { key: $key, default: $default } };
+    (or_empty [$kind:ty] $key:expr) => { $crate::OrEmpty::<$kind> { key: $key, kind: std::marker::PhantomData } };
+    (or_text [$kind:ty] $key:expr, $default:expr) => { $crate::OrText { key: $key, default: $default } };
 }
 
 /// Things of any types in pairs, pairs of pairs and so on, so that none lies deep.

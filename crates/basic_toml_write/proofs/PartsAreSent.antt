@@ -1,8 +1,8 @@
 -- The items of a value that opens with an item, sends its parts in turn, and closes.
 use Rattle.std.proofs.Common.{◌≡◌, ℕ, zero, suc, ◌+◌, ◌<◌, ◌≤◌, List, [], ◌∷◌, ◌++◌, length, get_or, take, drop}
 use Rattle.std.proofs.Common.{refl, sym, ◌∙◌, ap, arith, append_assoc, append-nil, add-one, subst, map, Option, Some}
-use Rattle.std.proofs.Common.{None, Ok, Err, Result}
-use Rattle.std.specs.List.{flat_map}
+use Rattle.std.proofs.Common.{None, Ok, Err, Result, IfOk}
+use Rattle.std.specs.List.{AllByRecursion, flat_map}
 use Rattle.std.specs.Map.Iter.{TakesFirst}
 use Rattle.std.proofs.lemmas.List.{map-append}
 use Rattle.std.proofs.lemmas.List.Concat.{flat_map-append}
@@ -13,6 +13,17 @@ use Rattle.basic_toml_write.specs.Impls.{AnyGivesUp}
 use Rattle.basic_toml_write.proofs.ListsAreSentInTurn.{part_after, sends_then, sends_cut, sends_never}
 use Rattle.basic_toml_write.specs.declared.error.WriteError.{WriteError}
 use Rattle.basic_toml_write.specs.declared.serializer.Serializer.{Serializer}
+
+-- what holds of each, and of one more
+pub all_more : {A : Type 0} (P : A → Type 0) (xs : List A) (x : A) → AllByRecursion P xs → P x
+    → AllByRecursion P (xs ++ (x ∷ []))
+all_more P [] x all more = (more, tt)
+all_more P (y ∷ ys) x all more = (all.0, all_more P ys x all.1 more)
+
+-- what holds at any rate holds where all went well
+pub where_ok : {A E P : Type 0} (r : Result A E) → P → IfOk r (λ x. P)
+where_ok (Ok x) p = p
+where_ok (Err e) p = tt
 
 pub take_all : {A : Type 0} (xs : List A) (n : ℕ) → length xs ≤ n → take n xs ≡ xs
 take_all [] zero le = refl

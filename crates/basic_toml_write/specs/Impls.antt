@@ -1,6 +1,6 @@
 -- The items that values of the library spell: scalars one, lists and maps those of their parts, and a tree of data
 -- those of its shape.
-use Rattle.std.specs.Prelude.{◌≡◌, ℕ, List, [], ◌∷◌, ◌++◌, Option, Some, None, string_bytes, String}
+use Rattle.std.specs.Prelude.{◌≡◌, ◌^◌, ℕ, ℤ, pos, negsuc, Bool, nat_lt, List, [], ◌∷◌, ◌++◌, Option, Some, None, string_bytes, String}
 use Rattle.std.specs.List.{flat_map}
 use Rattle.std.specs.declared.alloc.Global.{Global}
 use Rattle.basic_toml_value.specs.Data as d
@@ -9,6 +9,11 @@ use Rattle.basic_toml_write.specs.declared.error.WriteError.{WriteError}
 use Rattle.basic_toml_emit.specs.Items.{Item, a_scalar, an_absent, open_array, open_table, close, field, some_prefix}
 use Rattle.basic_toml_emit.specs.Items.{element_prefix}
 use Rattle.basic_toml_write.specs.Serializer.{PartGivesUp}
+
+-- from -2^half on, and below 2^half
+abbrev pub is_within : ℕ → ℤ → Bool
+is_within half (pos n) = nat_lt n (2 ^ half)
+is_within half (negsuc n) = nat_lt n (2 ^ half)
 
 abbrev pub scalar_calls : w.Scalar → List Item
 scalar_calls l = a_scalar l ∷ []

@@ -1,8 +1,10 @@
 //! The calls of each type.
-ghost use Rattle.std.specs.Prelude.{◌≡◌, ℕ, List, [], ◌∷◌, ◌++◌, pos, string_bytes, encode_utf8};
+ghost use Rattle.std.specs.Prelude.{◌≡◌, ◌<◌, ◌^◌, ℕ, List, [], ◌∷◌, ◌++◌, ⊤, true, IfOk, MatchOption, pos, string_bytes, string_cmp, encode_utf8};
+ghost use Rattle.std.specs.BTreeMap.{IsOrdered};
+ghost use Rattle.std.specs.List.{AllByRecursion};
 ghost use Rattle.basic_toml_layout.specs.Written as w;
 ghost use Rattle.basic_toml_write.specs.Serializer.{Sends};
-ghost use Rattle.basic_toml_write.specs.Impls.{data_calls, scalar_calls, option_calls, OptionGivesUp, array_calls, ArrayGivesUp, table_calls, TableGivesUp, map_calls, MapGivesUp};
+ghost use Rattle.basic_toml_write.specs.Impls.{data_calls, is_within, scalar_calls, option_calls, OptionGivesUp, array_calls, ArrayGivesUp, table_calls, TableGivesUp, map_calls, MapGivesUp};
 ghost use Rattle.basic_toml_value.specs.View.{view};
 
 use crate::{Serialize, Serializer, WriteError};
@@ -21,6 +23,8 @@ impl Serialize for bool {
 impl Serialize for i8 {
     ghost calls = { λ n. scalar_calls (w.integer n) };
 
+    ghost holds = { λ n. is_within 7 n ≡ true };
+
     fn serialize(&self, _alloc: Global, ser: &mut Serializer) -> Result<(), WriteError> {
         ser.serialize_i8(*self)
     }
@@ -28,6 +32,8 @@ impl Serialize for i8 {
 
 impl Serialize for i16 {
     ghost calls = { λ n. scalar_calls (w.integer n) };
+
+    ghost holds = { λ n. is_within 15 n ≡ true };
 
     fn serialize(&self, _alloc: Global, ser: &mut Serializer) -> Result<(), WriteError> {
         ser.serialize_i16(*self)
@@ -37,6 +43,8 @@ impl Serialize for i16 {
 impl Serialize for i32 {
     ghost calls = { λ n. scalar_calls (w.integer n) };
 
+    ghost holds = { λ n. is_within 31 n ≡ true };
+
     fn serialize(&self, _alloc: Global, ser: &mut Serializer) -> Result<(), WriteError> {
         ser.serialize_i32(*self)
     }
@@ -44,6 +52,8 @@ impl Serialize for i32 {
 
 impl Serialize for i64 {
     ghost calls = { λ n. scalar_calls (w.integer n) };
+
+    ghost holds = { λ n. is_within 63 n ≡ true };
 
     fn serialize(&self, _alloc: Global, ser: &mut Serializer) -> Result<(), WriteError> {
         ser.serialize_i64(*self)
@@ -53,6 +63,8 @@ impl Serialize for i64 {
 impl Serialize for u8 {
     ghost calls = { λ n. scalar_calls (w.integer (pos n)) };
 
+    ghost holds = { λ n. n < 2 ^ 8 };
+
     fn serialize(&self, _alloc: Global, ser: &mut Serializer) -> Result<(), WriteError> {
         ser.serialize_u8(*self)
     }
@@ -60,6 +72,8 @@ impl Serialize for u8 {
 
 impl Serialize for u16 {
     ghost calls = { λ n. scalar_calls (w.integer (pos n)) };
+
+    ghost holds = { λ n. n < 2 ^ 16 };
 
     fn serialize(&self, _alloc: Global, ser: &mut Serializer) -> Result<(), WriteError> {
         ser.serialize_u16(*self)
@@ -69,6 +83,8 @@ impl Serialize for u16 {
 impl Serialize for u32 {
     ghost calls = { λ n. scalar_calls (w.integer (pos n)) };
 
+    ghost holds = { λ n. n < 2 ^ 32 };
+
     fn serialize(&self, _alloc: Global, ser: &mut Serializer) -> Result<(), WriteError> {
         ser.serialize_u32(*self)
     }
@@ -76,6 +92,8 @@ impl Serialize for u32 {
 
 impl Serialize for u64 {
     ghost calls = { λ n. scalar_calls (w.integer (pos n)) };
+
+    ghost holds = { λ n. n < 2 ^ 64 };
 
     fn serialize(&self, _alloc: Global, ser: &mut Serializer) -> Result<(), WriteError> {
         ser.serialize_u64(*self)
@@ -119,6 +137,8 @@ impl<T: Serialize> Serialize for Option<T> {
 
     ghost gives_up = { OptionGivesUp T.gives_up };
 
+    ghost holds = { λ o. MatchOption o ⊤ T.holds };
+
     #[tactic(auto, using(crate::proofs::RecordIsSent::option_sent, crate::proofs::ListsAreSentInTurn::sends_never))]
     fn serialize(&self, _alloc: Global, ser: &mut Serializer) -> Result<(), WriteError> {
         match self {
@@ -130,8 +150,9 @@ impl<T: Serialize> Serialize for Option<T> {
 
 // The calls of an array.
 fn serialize_elements<T: Serialize>(elements: &[T], ser: &mut Serializer) -> Result<(), WriteError>
-    ensures { Sends (array_calls T.calls elements.now) (ArrayGivesUp T.calls T.gives_up elements.now) ser.old ser.new
-        result }
+    ensures sends { Sends (array_calls T.calls elements.now) (ArrayGivesUp T.calls T.gives_up elements.now) ser.old
+        ser.new result }
+    ensures holds { IfOk result (λ _. AllByRecursion T.holds elements.now) }
 {
     ser.serialize_seq(Some(elements.len()))?;
     for element in elements {
@@ -145,6 +166,8 @@ impl<T: Serialize> Serialize for &[T] {
 
     ghost gives_up = { λ xs. ArrayGivesUp T.calls T.gives_up xs.now };
 
+    ghost holds = { λ xs. AllByRecursion T.holds xs.now };
+
     fn serialize(&self, _alloc: Global, ser: &mut Serializer) -> Result<(), WriteError> {
         serialize_elements(*self, ser)
     }
@@ -154,6 +177,8 @@ impl<T: Serialize> Serialize for Vec<T> {
     ghost calls = { λ xs. array_calls T.calls xs.items };
 
     ghost gives_up = { λ xs. ArrayGivesUp T.calls T.gives_up xs.items };
+
+    ghost holds = { λ xs. AllByRecursion T.holds xs.items };
 
     fn serialize(&self, _alloc: Global, ser: &mut Serializer) -> Result<(), WriteError> {
         serialize_elements(self.as_slice(), ser)
@@ -188,6 +213,8 @@ impl<V: Serialize> Serialize for BTreeMap<String, V> {
     ghost calls = { λ m. map_calls V.calls m.entries };
 
     ghost gives_up = { λ m. MapGivesUp V.calls V.gives_up m.entries };
+
+    ghost holds = { λ m. IsOrdered string_cmp m × AllByRecursion (λ e. V.holds e.1) m.entries };
 
     fn serialize(&self, _alloc: Global, ser: &mut Serializer) -> Result<(), WriteError> {
         ser.serialize_map(Some(self.len()))?;

@@ -1,5 +1,5 @@
 //! What can be written.
-ghost use Rattle.std.specs.Prelude.{List};
+ghost use Rattle.std.specs.Prelude.{IfOk, List, ⊤};
 
 use crate::{Serializer, WriteError};
 use std::alloc::Global;
@@ -38,11 +38,15 @@ pub trait Serialize {
     // After which of its items, a beginning of what it sends, a value may give up, and with which errors of its own.
     ghost gives_up: { Self → List Item → WriteError → Type 0 } = { λ _. NoFault };
 
+    // What holds of a value that was written, besides its calls: an integer is in the range of its type.
+    ghost holds: { Self → Type 0 } = { λ _. ⊤ };
+
     /// Makes the calls of the value on `ser`. An error of the type's own is made by [`WriteError::custom`].
     ///
     /// # Errors
     ///
     /// The first that a call answers, or the type's own.
     fn serialize(&self, alloc: Global, ser: &mut Serializer) -> Result<(), WriteError>
-        ensures { Sends (calls self.now) (gives_up self.now) ser.old ser.new result };
+        ensures sends { Sends (calls self.now) (gives_up self.now) ser.old ser.new result }
+        ensures holds { IfOk result (λ _. holds self.now) };
 }

@@ -317,6 +317,7 @@ impl Serializer {
         ensures passes { Passes (some_prefix ∷ []) (T.calls value.now) (T.gives_up value.now) self.old self.new result }
         ensures alone { Never (T.gives_up value.now) → Sends (a_some (T.calls value.now)) NoFault self.old self.new
             result }
+        ensures holds { IfOk result (λ _. T.holds value.now) }
     {
         self.after(Call::SomePrefix, value)
     }
@@ -331,6 +332,7 @@ impl Serializer {
         ensures passes { Passes [] (T.calls value.now) (T.gives_up value.now) self.old self.new result }
         ensures same { Sends (T.calls value.now) (T.gives_up value.now) self.old self.new result }
         ensures alone { Never (T.gives_up value.now) → Sends (T.calls value.now) NoFault self.old self.new result }
+        ensures holds { IfOk result (λ _. T.holds value.now) }
     {
         self.part(value)
     }
@@ -341,6 +343,7 @@ impl Serializer {
         ensures passes { Passes (key ∷ []) (T.calls value.now) (T.gives_up value.now) self.old self.new result }
         ensures adds { IfOk result (λ _. Adds key (T.calls value.now) self.old self.new) }
         ensures fails { IfErr result (FailsToAdd key (T.calls value.now) (T.gives_up value.now) self.old self.new) }
+        ensures holds { IfOk result (λ _. T.holds value.now) }
     {
         self.after(Call::Key, value)
     }
@@ -351,6 +354,7 @@ impl Serializer {
         ensures passes { Passes (value_prefix ∷ []) (T.calls value.now) (T.gives_up value.now) self.old self.new result }
         ensures adds { IfOk result (λ _. Adds value_prefix (T.calls value.now) self.old self.new) }
         ensures fails { IfErr result (FailsToAdd value_prefix (T.calls value.now) (T.gives_up value.now) self.old self.new) }
+        ensures holds { IfOk result (λ _. T.holds value.now) }
     {
         self.after(Call::ValuePrefix, value)
     }
@@ -361,6 +365,7 @@ impl Serializer {
         ensures passes { Passes (field name.now ∷ []) (T.calls value.now) (T.gives_up value.now) self.old self.new result }
         ensures adds { IfOk result (λ _. Adds (field name.now) (T.calls value.now) self.old self.new) }
         ensures fails { IfErr result (FailsToAdd (field name.now) (T.calls value.now) (T.gives_up value.now) self.old self.new) }
+        ensures holds { IfOk result (λ _. T.holds value.now) }
     {
         self.after(Call::Field(name), value)
     }
@@ -371,6 +376,7 @@ impl Serializer {
         ensures passes { Passes (element_prefix ∷ []) (T.calls value.now) (T.gives_up value.now) self.old self.new result }
         ensures adds { IfOk result (λ _. Adds element_prefix (T.calls value.now) self.old self.new) }
         ensures fails { IfErr result (FailsToAdd element_prefix (T.calls value.now) (T.gives_up value.now) self.old self.new) }
+        ensures holds { IfOk result (λ _. T.holds value.now) }
     {
         self.after(Call::ElementPrefix, value)
     }

@@ -1,4 +1,5 @@
 //! The text of a value.
+ghost use Rattle.std.specs.Prelude.{IfOk, IsOk};
 ghost use Rattle.basic_toml_write.specs.Serializer.{Settles};
 ghost use Rattle.basic_toml_write.specs.Write.{WritesOut, IsLayout, Succeeds};
 
@@ -16,6 +17,7 @@ pub fn written<T: Serialize>(alloc: Global, value: &T) -> Result<String, WriteEr
     ensures due { WritesOut (T.calls value.now) (T.gives_up value.now) result }
     ensures text { IsLayout (T.calls value.now) result }
     ensures succeeds { Succeeds (T.calls value.now) (T.gives_up value.now) result }
+    ensures holds { IfOk result (λ _. T.holds value.now) }
 {
     write_out(alloc, value)
 }
@@ -23,7 +25,8 @@ pub fn written<T: Serialize>(alloc: Global, value: &T) -> Result<String, WriteEr
 // Makes the calls of a value, and settles what they come to.
 #[tactic(auto, using(crate::proofs::CallsAreWrittenOut::settled_out))]
 fn write_out<T: Serialize>(alloc: Global, value: &T) -> Result<String, WriteError>
-    ensures { WritesOut (T.calls value.now) (T.gives_up value.now) result }
+    ensures due { WritesOut (T.calls value.now) (T.gives_up value.now) result }
+    ensures holds { IfOk result (λ _. T.holds value.now) }
 {
     let mut ser = Serializer::new(alloc);
     let answer = value.serialize(alloc, &mut ser);
@@ -32,7 +35,8 @@ fn write_out<T: Serialize>(alloc: Global, value: &T) -> Result<String, WriteErro
 
 // The error that was met, whatever the type answered; else the type's own error; else what is handed out.
 fn settle(ser: Serializer, answer: Result<(), WriteError>) -> Result<String, WriteError>
-    ensures { Settles ser answer result }
+    ensures settles { Settles ser answer result }
+    ensures ok { IfOk result (λ _. IsOk answer) }
 {
     match answer {
         Err(error) if !ser.has_refused() => Err(error),

@@ -1,17 +1,15 @@
 //! Settings with defaults.
-ghost use Rattle.std.specs.Prelude.{false, codes, option_map};
-ghost use Rattle.basic_toml.specs.Parts.{a_field, a_record, the_end};
+ghost use Rattle.std.specs.Prelude.{false, refl};
 ghost use Rattle.basic_toml.specs.Reading.{ReadsText};
-ghost use Rattle.basic_toml.specs.Records.{done, maybe, needed, or, record_faults, record_reads, strict};
-ghost use Rattle.basic_toml_returns.specs.Means.{a_member, a_table, maybe_member, no_more};
+ghost use Rattle.basic_toml.specs.Records.{record_faults, record_reads};
+ghost use Rattle.basic_toml_returns.proofs.RecordsReturn.{record_back};
 ghost use Rattle.basic_toml_returns.specs.Returned.{ReturnsIt};
+ghost use Rattle.basic_toml_returns.specs.RoundTrips.{as_read, done, maybe, needed, or, or_empty, record_calls, record_holds, strict};
 
 use basic_toml::{
     Deserialize, Error, Node, Record, Serialize, Serializer, Tree, WriteError, from_str,
 };
-use basic_toml_returns::{
-    Returns, Root, returns_field, returns_option, returns_or, write_then_read,
-};
+use basic_toml_returns::{Returns, Root, RoundTrip, write_then_read};
 use basic_toml_typed::read_record;
 use std::alloc::Global;
 
@@ -26,15 +24,19 @@ pub struct Settings {
     pub verbose: bool,
 }
 
-impl Record for Settings {
+impl RoundTrip for Settings {
     ghost fields = { strict
-        (needed ⟦<String as Deserialize<'static>>⟧ "host" (λ s. s.host)
-        (or ⟦<u16 as Deserialize<'static>>⟧ "port" 8080 (λ s. s.port)
-        (or ⟦<u16 as Deserialize<'static>>⟧ "workers" 4 (λ s. s.workers)
-        (needed ⟦<Vec<String> as Deserialize<'static>>⟧ "allow" (λ s. s.allow)
-        (maybe ⟦<String as Deserialize<'static>>⟧ "log" (λ s. s.log)
-        (or ⟦<bool as Deserialize<'static>>⟧ "verbose" false (λ s. s.verbose)
+        (needed ⟦<String as Returns<'static>>⟧ "host" (λ s. s.host)
+        (or ⟦<u16 as Returns<'static>>⟧ "port" 8080 (λ s. s.port)
+        (or ⟦<u16 as Returns<'static>>⟧ "workers" 4 (λ s. s.workers)
+        (or_empty ⟦<Vec<String> as Returns<'static>>⟧ "allow" (λ s. s.allow)
+        (maybe ⟦<String as Returns<'static>>⟧ "log" (λ s. s.log)
+        (or ⟦<bool as Returns<'static>>⟧ "verbose" false (λ s. s.verbose)
         done)))))) };
+}
+
+impl Record for Settings {
+    ghost fields = { as_read ⟦<Settings as RoundTrip>⟧.fields };
 }
 
 impl<'de> Deserialize<'de> for Settings {
@@ -47,7 +49,7 @@ impl<'de> Deserialize<'de> for Settings {
             host = needed("host"),
             port = or("port", 8080),
             workers = or("workers", 4),
-            allow = needed("allow"),
+            allow = or_empty("allow"),
             log = maybe("log"),
             verbose = or("verbose", false),
         })
@@ -59,13 +61,9 @@ impl<'de> Deserialize<'de> for Settings {
 }
 
 impl Serialize for Settings {
-    ghost calls = { λ s. a_record
-        (a_field (codes "host") (⟦<String as Serialize>⟧.calls s.host)
-        (a_field (codes "port") (⟦<u16 as Serialize>⟧.calls s.port)
-        (a_field (codes "workers") (⟦<u16 as Serialize>⟧.calls s.workers)
-        (a_field (codes "allow") (⟦<Vec<String> as Serialize>⟧.calls s.allow)
-        (a_field (codes "log") (⟦<Option<String> as Serialize>⟧.calls s.log)
-        (a_field (codes "verbose") (⟦<bool as Serialize>⟧.calls s.verbose) the_end)))))) };
+    ghost calls = { record_calls ⟦<Settings as RoundTrip>⟧.fields };
+
+    ghost holds = { record_holds ⟦<Settings as RoundTrip>⟧.fields };
 
     fn serialize(&self, _alloc: Global, ser: &mut Serializer) -> Result<(), WriteError> {
         ser.serialize_struct("Settings", 6)?;
@@ -80,23 +78,9 @@ impl Serialize for Settings {
 }
 
 impl<'de> Returns<'de> for Settings {
-    ghost meant = { λ s. a_table
-        (a_member (codes "host") (⟦<String as Returns<'static>>⟧.meant s.host)
-        (a_member (codes "port") (⟦<u16 as Returns<'static>>⟧.meant s.port)
-        (a_member (codes "workers") (⟦<u16 as Returns<'static>>⟧.meant s.workers)
-        (a_member (codes "allow") (⟦<Vec<String> as Returns<'static>>⟧.meant s.allow)
-        (maybe_member (codes "log") (option_map ⟦<String as Returns<'static>>⟧.meant s.log)
-        (a_member (codes "verbose") (⟦<bool as Returns<'static>>⟧.meant s.verbose) no_more)))))) };
+    ghost read_back = { record_back ⟦<Settings as RoundTrip>⟧.fields (λ s. refl) };
 
-    #[tactic(auto, using(basic_toml_returns::proofs::RecordsMean::records_mean))]
-    fn returns(&self) {
-        returns_field(&self.host);
-        returns_or(&self.port, 8080);
-        returns_or(&self.workers, 4);
-        returns_field(&self.allow);
-        returns_option(&self.log);
-        returns_or(&self.verbose, false);
-    }
+    ghost returns = { ⟦<Settings as Returns<'static>>⟧.read_back.returns };
 }
 
 impl<'de> Root<'de> for Settings {
@@ -124,7 +108,7 @@ pub fn load(alloc: Global, text: &str) -> Result<Settings, Error>
 /// Those of [`to_string`](basic_toml::to_string).
 pub fn save_and_load(alloc: Global, settings: &Settings) -> Result<Settings, Error>
     ensures { ReturnsIt ⟦<Settings as Serialize>⟧.calls ⟦<Settings as Serialize>⟧.gives_up
-        ⟦<Settings as Deserialize<'static>>⟧.reads ⟦<Settings as Returns<'static>>⟧.meant settings.now result }
+        ⟦<Settings as Deserialize<'static>>⟧.reads ⟦<Settings as Returns<'static>>⟧.read_back.meant settings.now result }
 {
     write_then_read(alloc, settings)
 }

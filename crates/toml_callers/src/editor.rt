@@ -1,8 +1,11 @@
-//! A record of 20 fields, read as one list. It takes no proof, and no attribute.
-ghost use Rattle.std.specs.Prelude.{false, pos, true};
-ghost use Rattle.basic_toml.specs.Records.{done, maybe, needed, or, record_faults, record_reads, strict};
+//! A record of 20 fields, that is read back from what it writes. It takes no proof, and no attribute.
+ghost use Rattle.std.specs.Prelude.{false, pos, refl, true};
+ghost use Rattle.basic_toml.specs.Records.{record_faults, record_reads};
+ghost use Rattle.basic_toml_returns.proofs.RecordsReturn.{record_back};
+ghost use Rattle.basic_toml_returns.specs.RoundTrips.{as_read, done, maybe, needed, or, record_calls, record_holds, strict};
 
-use basic_toml::{Deserialize, Error, Node, Record, Tree};
+use basic_toml::{Deserialize, Error, Node, Record, Serialize, Serializer, Tree, WriteError};
+use basic_toml_returns::{Returns, RoundTrip};
 use basic_toml_typed::read_record;
 use std::alloc::Global;
 
@@ -31,29 +34,33 @@ pub struct Editor {
     pub zoom: i64,
 }
 
-impl Record for Editor {
+impl RoundTrip for Editor {
     ghost fields = { strict
-        (needed ⟦<String as Deserialize<'static>>⟧ "font" (λ s. s.font)
-        (or ⟦<u16 as Deserialize<'static>>⟧ "size" 12 (λ s. s.size)
-        (maybe ⟦<String as Deserialize<'static>>⟧ "theme" (λ s. s.theme)
-        (or ⟦<bool as Deserialize<'static>>⟧ "line_numbers" true (λ s. s.line_numbers)
-        (or ⟦<u8 as Deserialize<'static>>⟧ "tab_width" 4 (λ s. s.tab_width)
-        (or ⟦<bool as Deserialize<'static>>⟧ "tabs" false (λ s. s.tabs)
-        (maybe ⟦<u32 as Deserialize<'static>>⟧ "wrap_at" (λ s. s.wrap_at)
-        (needed ⟦<String as Deserialize<'static>>⟧ "language" (λ s. s.language)
-        (or ⟦<u64 as Deserialize<'static>>⟧ "undo_steps" 1000 (λ s. s.undo_steps)
-        (or ⟦<i8 as Deserialize<'static>>⟧ "scroll_lines" (pos 3) (λ s. s.scroll_lines)
-        (maybe ⟦<String as Deserialize<'static>>⟧ "cursor" (λ s. s.cursor)
-        (or ⟦<bool as Deserialize<'static>>⟧ "blink" true (λ s. s.blink)
-        (maybe ⟦<Vec<u16> as Deserialize<'static>>⟧ "rulers" (λ s. s.rulers)
-        (or ⟦<bool as Deserialize<'static>>⟧ "backup" true (λ s. s.backup)
-        (maybe ⟦<String as Deserialize<'static>>⟧ "backup_folder" (λ s. s.backup_folder)
-        (or ⟦<u32 as Deserialize<'static>>⟧ "save_after" 300 (λ s. s.save_after)
-        (maybe ⟦<String as Deserialize<'static>>⟧ "spelling" (λ s. s.spelling)
-        (maybe ⟦<Vec<String> as Deserialize<'static>>⟧ "words" (λ s. s.words)
-        (or ⟦<u8 as Deserialize<'static>>⟧ "recent" 10 (λ s. s.recent)
-        (needed ⟦<i64 as Deserialize<'static>>⟧ "zoom" (λ s. s.zoom)
+        (needed ⟦<String as Returns<'static>>⟧ "font" (λ s. s.font)
+        (or ⟦<u16 as Returns<'static>>⟧ "size" 12 (λ s. s.size)
+        (maybe ⟦<String as Returns<'static>>⟧ "theme" (λ s. s.theme)
+        (or ⟦<bool as Returns<'static>>⟧ "line_numbers" true (λ s. s.line_numbers)
+        (or ⟦<u8 as Returns<'static>>⟧ "tab_width" 4 (λ s. s.tab_width)
+        (or ⟦<bool as Returns<'static>>⟧ "tabs" false (λ s. s.tabs)
+        (maybe ⟦<u32 as Returns<'static>>⟧ "wrap_at" (λ s. s.wrap_at)
+        (needed ⟦<String as Returns<'static>>⟧ "language" (λ s. s.language)
+        (or ⟦<u64 as Returns<'static>>⟧ "undo_steps" 1000 (λ s. s.undo_steps)
+        (or ⟦<i8 as Returns<'static>>⟧ "scroll_lines" (pos 3) (λ s. s.scroll_lines)
+        (maybe ⟦<String as Returns<'static>>⟧ "cursor" (λ s. s.cursor)
+        (or ⟦<bool as Returns<'static>>⟧ "blink" true (λ s. s.blink)
+        (maybe ⟦<Vec<u16> as Returns<'static>>⟧ "rulers" (λ s. s.rulers)
+        (or ⟦<bool as Returns<'static>>⟧ "backup" true (λ s. s.backup)
+        (maybe ⟦<String as Returns<'static>>⟧ "backup_folder" (λ s. s.backup_folder)
+        (or ⟦<u32 as Returns<'static>>⟧ "save_after" 300 (λ s. s.save_after)
+        (maybe ⟦<String as Returns<'static>>⟧ "spelling" (λ s. s.spelling)
+        (maybe ⟦<Vec<String> as Returns<'static>>⟧ "words" (λ s. s.words)
+        (or ⟦<u8 as Returns<'static>>⟧ "recent" 10 (λ s. s.recent)
+        (needed ⟦<i64 as Returns<'static>>⟧ "zoom" (λ s. s.zoom)
         done)))))))))))))))))))) };
+}
+
+impl Record for Editor {
+    ghost fields = { as_read ⟦<Editor as RoundTrip>⟧.fields };
 }
 
 impl<'de> Deserialize<'de> for Editor {
@@ -89,4 +96,41 @@ impl<'de> Deserialize<'de> for Editor {
     fn from_tree(alloc: Global, tree: Tree<'de>) -> Result<Editor, Error> {
         Editor::deserialize(alloc, tree.root())
     }
+}
+
+impl Serialize for Editor {
+    ghost calls = { record_calls ⟦<Editor as RoundTrip>⟧.fields };
+
+    ghost holds = { record_holds ⟦<Editor as RoundTrip>⟧.fields };
+
+    fn serialize(&self, _alloc: Global, ser: &mut Serializer) -> Result<(), WriteError> {
+        ser.serialize_struct("Editor", 20)?;
+        ser.serialize_field("font", &self.font)?;
+        ser.serialize_field("size", &self.size)?;
+        ser.serialize_field("theme", &self.theme)?;
+        ser.serialize_field("line_numbers", &self.line_numbers)?;
+        ser.serialize_field("tab_width", &self.tab_width)?;
+        ser.serialize_field("tabs", &self.tabs)?;
+        ser.serialize_field("wrap_at", &self.wrap_at)?;
+        ser.serialize_field("language", &self.language)?;
+        ser.serialize_field("undo_steps", &self.undo_steps)?;
+        ser.serialize_field("scroll_lines", &self.scroll_lines)?;
+        ser.serialize_field("cursor", &self.cursor)?;
+        ser.serialize_field("blink", &self.blink)?;
+        ser.serialize_field("rulers", &self.rulers)?;
+        ser.serialize_field("backup", &self.backup)?;
+        ser.serialize_field("backup_folder", &self.backup_folder)?;
+        ser.serialize_field("save_after", &self.save_after)?;
+        ser.serialize_field("spelling", &self.spelling)?;
+        ser.serialize_field("words", &self.words)?;
+        ser.serialize_field("recent", &self.recent)?;
+        ser.serialize_field("zoom", &self.zoom)?;
+        ser.end()
+    }
+}
+
+impl<'de> Returns<'de> for Editor {
+    ghost read_back = { record_back ⟦<Editor as RoundTrip>⟧.fields (λ s. refl) };
+
+    ghost returns = { ⟦<Editor as Returns<'static>>⟧.read_back.returns };
 }

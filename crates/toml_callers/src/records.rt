@@ -13,19 +13,6 @@ pub struct Rule {
     pub limit: u32,
 }
 
-impl Serialize for Rule {
-    ghost calls = { λ r. a_record
-        (a_field (codes "pattern") (⟦<String as Serialize>⟧.calls r.pattern)
-        (a_field (codes "limit") (⟦<u32 as Serialize>⟧.calls r.limit) the_end)) };
-
-    fn serialize(&self, _alloc: Global, ser: &mut Serializer) -> Result<(), WriteError> {
-        ser.serialize_struct("Rule", 2)?;
-        ser.serialize_field("pattern", &self.pattern)?;
-        ser.serialize_field("limit", &self.limit)?;
-        ser.end()
-    }
-}
-
 /// A record of 5 fields: where a server listens, and what it looks for.
 #[derive(Drop)]
 pub struct Server {
@@ -34,25 +21,6 @@ pub struct Server {
     pub host_name: String,
     pub rules: Vec<Rule>,
     pub backup: Option<Vec<Rule>>,
-}
-
-impl Serialize for Server {
-    ghost calls = { λ s. a_record
-        (a_field (codes "verbose") (⟦<bool as Serialize>⟧.calls s.verbose)
-        (a_field (codes "port") (⟦<Option<u16> as Serialize>⟧.calls s.port)
-        (a_field (codes "host_name") (⟦<String as Serialize>⟧.calls s.host_name)
-        (a_field (codes "rules") (⟦<Vec<Rule> as Serialize>⟧.calls s.rules)
-        (a_field (codes "backup") (⟦<Option<Vec<Rule>> as Serialize>⟧.calls s.backup) the_end))))) };
-
-    fn serialize(&self, _alloc: Global, ser: &mut Serializer) -> Result<(), WriteError> {
-        ser.serialize_struct("Server", 5)?;
-        ser.serialize_field("verbose", &self.verbose)?;
-        ser.serialize_field("port", &self.port)?;
-        ser.serialize_field("host_name", &self.host_name)?;
-        ser.serialize_field("rules", &self.rules)?;
-        ser.serialize_field("backup", &self.backup)?;
-        ser.end()
-    }
 }
 
 /// A rule by its name, or a whole one.

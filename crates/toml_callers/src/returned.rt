@@ -1,32 +1,40 @@
 //! Records of 2, of 5 and of 16 fields, and an enum, that are read back from what they write. None takes a proof.
-ghost use Rattle.std.specs.Prelude.{codes, option_map};
-ghost use Rattle.basic_toml.specs.Data.{string};
-ghost use Rattle.basic_toml.specs.FieldKeys.{key_of};
-ghost use Rattle.basic_toml.specs.Impls.{scalar_calls};
-ghost use Rattle.basic_toml.specs.Parts.{a_field, a_record, the_end};
-ghost use Rattle.basic_toml.specs.TypeReads.{field_reads, optional_reads};
-ghost use Rattle.basic_toml.specs.Written as w;
-ghost use Rattle.basic_toml_returns.specs.Means.{a_member, a_table, maybe_member, no_more};
+ghost use Rattle.std.specs.Prelude.{[], ◌∷◌, codes, refl};
+ghost use Rattle.basic_toml.specs.Records.{record_faults, record_reads};
+ghost use Rattle.basic_toml_returns.proofs.RecordsReturn.{record_back};
+ghost use Rattle.basic_toml_returns.specs.RoundTrips.{as_read, done, maybe, needed, record_calls, record_holds};
+ghost use Rattle.basic_toml_returns.specs.Variants.{variant_back, variant_calls, variant_faults, variant_reads};
 
 use crate::records::{Rule, Server};
 use crate::types::{Color, Service};
 use basic_toml::{
-    Deserialize, Error, Float, Node, Serialize, Serializer, Tree, Value, WriteError, from_str,
-    read_field, read_optional,
+    Deserialize, Error, Float, Node, Record, Serialize, Serializer, Tree, Value, WriteError,
+    from_str, variant,
 };
-use basic_toml_returns::{Returns, Root, returns_field, returns_option};
+use basic_toml_returns::{Choice, Returns, Root, RoundTrip};
+use basic_toml_typed::read_record;
 use std::alloc::Global;
 use std::collections::BTreeMap;
 
+impl RoundTrip for Rule {
+    ghost fields = { (needed ⟦<String as Returns<'static>>⟧ "pattern" (λ s. s.pattern)
+        (needed ⟦<u32 as Returns<'static>>⟧ "limit" (λ s. s.limit)
+        done)) };
+}
+
+impl Record for Rule {
+    ghost fields = { as_read ⟦<Rule as RoundTrip>⟧.fields };
+}
+
 impl<'de> Deserialize<'de> for Rule {
-    ghost reads = { λ d r.
-        field_reads ⟦<String as Deserialize<'static>>⟧.reads (key_of "pattern") d r.pattern
-        × field_reads ⟦<u32 as Deserialize<'static>>⟧.reads (key_of "limit") d r.limit };
+    ghost reads = { record_reads ⟦<Rule as Record>⟧.fields };
+
+    ghost faults = { record_faults ⟦<Rule as Record>⟧.fields };
 
     fn deserialize(alloc: Global, node: Node<'_, 'de>) -> Result<Rule, Error> {
-        Ok(Rule {
-            pattern: read_field(alloc, node, "pattern")?,
-            limit: read_field(alloc, node, "limit")?,
+        read_record!(alloc, node, Rule {
+            pattern = needed("pattern"),
+            limit = needed("limit"),
         })
     }
 
@@ -35,33 +43,50 @@ impl<'de> Deserialize<'de> for Rule {
     }
 }
 
-impl<'de> Returns<'de> for Rule {
-    ghost meant = { λ r. a_table
-        (a_member (codes "pattern") (⟦<String as Returns<'static>>⟧.meant r.pattern)
-        (a_member (codes "limit") (⟦<u32 as Returns<'static>>⟧.meant r.limit) no_more)) };
+impl Serialize for Rule {
+    ghost calls = { record_calls ⟦<Rule as RoundTrip>⟧.fields };
 
-    #[tactic(auto, using(basic_toml_returns::proofs::RecordsMean::records_mean))]
-    fn returns(&self) {
-        returns_field(&self.pattern);
-        returns_field(&self.limit);
+    ghost holds = { record_holds ⟦<Rule as RoundTrip>⟧.fields };
+
+    fn serialize(&self, _alloc: Global, ser: &mut Serializer) -> Result<(), WriteError> {
+        ser.serialize_struct("Rule", 2)?;
+        ser.serialize_field("pattern", &self.pattern)?;
+        ser.serialize_field("limit", &self.limit)?;
+        ser.end()
     }
 }
 
+impl<'de> Returns<'de> for Rule {
+    ghost read_back = { record_back ⟦<Rule as RoundTrip>⟧.fields (λ s. refl) };
+
+    ghost returns = { ⟦<Rule as Returns<'static>>⟧.read_back.returns };
+}
+
+impl RoundTrip for Server {
+    ghost fields = { (needed ⟦<bool as Returns<'static>>⟧ "verbose" (λ s. s.verbose)
+        (maybe ⟦<u16 as Returns<'static>>⟧ "port" (λ s. s.port)
+        (needed ⟦<String as Returns<'static>>⟧ "host_name" (λ s. s.host_name)
+        (needed ⟦<Vec<Rule> as Returns<'static>>⟧ "rules" (λ s. s.rules)
+        (maybe ⟦<Vec<Rule> as Returns<'static>>⟧ "backup" (λ s. s.backup)
+        done))))) };
+}
+
+impl Record for Server {
+    ghost fields = { as_read ⟦<Server as RoundTrip>⟧.fields };
+}
+
 impl<'de> Deserialize<'de> for Server {
-    ghost reads = { λ d s.
-        field_reads ⟦<bool as Deserialize<'static>>⟧.reads (key_of "verbose") d s.verbose
-        × optional_reads ⟦<u16 as Deserialize<'static>>⟧.reads (key_of "port") d s.port
-        × field_reads ⟦<String as Deserialize<'static>>⟧.reads (key_of "host_name") d s.host_name
-        × field_reads ⟦<Vec<Rule> as Deserialize<'static>>⟧.reads (key_of "rules") d s.rules
-        × optional_reads ⟦<Vec<Rule> as Deserialize<'static>>⟧.reads (key_of "backup") d s.backup };
+    ghost reads = { record_reads ⟦<Server as Record>⟧.fields };
+
+    ghost faults = { record_faults ⟦<Server as Record>⟧.fields };
 
     fn deserialize(alloc: Global, node: Node<'_, 'de>) -> Result<Server, Error> {
-        Ok(Server {
-            verbose: read_field(alloc, node, "verbose")?,
-            port: read_optional(alloc, node, "port")?,
-            host_name: read_field(alloc, node, "host_name")?,
-            rules: read_field(alloc, node, "rules")?,
-            backup: read_optional(alloc, node, "backup")?,
+        read_record!(alloc, node, Server {
+            verbose = needed("verbose"),
+            port = maybe("port"),
+            host_name = needed("host_name"),
+            rules = needed("rules"),
+            backup = maybe("backup"),
         })
     }
 
@@ -70,22 +95,26 @@ impl<'de> Deserialize<'de> for Server {
     }
 }
 
-impl<'de> Returns<'de> for Server {
-    ghost meant = { λ s. a_table
-        (a_member (codes "verbose") (⟦<bool as Returns<'static>>⟧.meant s.verbose)
-        (maybe_member (codes "port") (option_map ⟦<u16 as Returns<'static>>⟧.meant s.port)
-        (a_member (codes "host_name") (⟦<String as Returns<'static>>⟧.meant s.host_name)
-        (a_member (codes "rules") (⟦<Vec<Rule> as Returns<'static>>⟧.meant s.rules)
-        (maybe_member (codes "backup") (option_map ⟦<Vec<Rule> as Returns<'static>>⟧.meant s.backup) no_more))))) };
+impl Serialize for Server {
+    ghost calls = { record_calls ⟦<Server as RoundTrip>⟧.fields };
 
-    #[tactic(auto, using(basic_toml_returns::proofs::RecordsMean::records_mean))]
-    fn returns(&self) {
-        returns_field(&self.verbose);
-        returns_option(&self.port);
-        returns_field(&self.host_name);
-        returns_field(&self.rules);
-        returns_option(&self.backup);
+    ghost holds = { record_holds ⟦<Server as RoundTrip>⟧.fields };
+
+    fn serialize(&self, _alloc: Global, ser: &mut Serializer) -> Result<(), WriteError> {
+        ser.serialize_struct("Server", 5)?;
+        ser.serialize_field("verbose", &self.verbose)?;
+        ser.serialize_field("port", &self.port)?;
+        ser.serialize_field("host_name", &self.host_name)?;
+        ser.serialize_field("rules", &self.rules)?;
+        ser.serialize_field("backup", &self.backup)?;
+        ser.end()
     }
+}
+
+impl<'de> Returns<'de> for Server {
+    ghost read_back = { record_back ⟦<Server as RoundTrip>⟧.fields (λ s. refl) };
+
+    ghost returns = { ⟦<Server as Returns<'static>>⟧.read_back.returns };
 }
 
 impl<'de> Root<'de> for Server {
@@ -95,25 +124,65 @@ impl<'de> Root<'de> for Server {
 }
 
 /// Its map goes last, since no row may stand behind a section.
+impl RoundTrip for Service {
+    ghost fields = { (needed ⟦<String as Returns<'static>>⟧ "name" (λ s. s.name)
+        (needed ⟦<bool as Returns<'static>>⟧ "enabled" (λ s. s.enabled)
+        (needed ⟦<i8 as Returns<'static>>⟧ "priority" (λ s. s.priority)
+        (needed ⟦<i16 as Returns<'static>>⟧ "offset" (λ s. s.offset)
+        (needed ⟦<i32 as Returns<'static>>⟧ "level" (λ s. s.level)
+        (needed ⟦<i64 as Returns<'static>>⟧ "balance" (λ s. s.balance)
+        (needed ⟦<u8 as Returns<'static>>⟧ "retries" (λ s. s.retries)
+        (needed ⟦<u16 as Returns<'static>>⟧ "port" (λ s. s.port)
+        (needed ⟦<u32 as Returns<'static>>⟧ "backlog" (λ s. s.backlog)
+        (needed ⟦<u64 as Returns<'static>>⟧ "timeout" (λ s. s.timeout)
+        (needed ⟦<Float as Returns<'static>>⟧ "ratio" (λ s. s.ratio)
+        (needed ⟦<Vec<String> as Returns<'static>>⟧ "tags" (λ s. s.tags)
+        (needed ⟦<Color as Returns<'static>>⟧ "color" (λ s. s.color)
+        (maybe ⟦<String as Returns<'static>>⟧ "log" (λ s. s.log)
+        (maybe ⟦<Value as Returns<'static>>⟧ "note" (λ s. s.note)
+        (needed ⟦<BTreeMap<String, u32> as Returns<'static>>⟧ "limits" (λ s. s.limits)
+        done)))))))))))))))) };
+}
+
+impl Record for Service {
+    ghost fields = { as_read ⟦<Service as RoundTrip>⟧.fields };
+}
+
+impl<'de> Deserialize<'de> for Service {
+    ghost reads = { record_reads ⟦<Service as Record>⟧.fields };
+
+    ghost faults = { record_faults ⟦<Service as Record>⟧.fields };
+
+    fn deserialize(alloc: Global, node: Node<'_, 'de>) -> Result<Service, Error> {
+        read_record!(alloc, node, Service {
+            name = needed("name"),
+            enabled = needed("enabled"),
+            priority = needed("priority"),
+            offset = needed("offset"),
+            level = needed("level"),
+            balance = needed("balance"),
+            retries = needed("retries"),
+            port = needed("port"),
+            backlog = needed("backlog"),
+            timeout = needed("timeout"),
+            ratio = needed("ratio"),
+            tags = needed("tags"),
+            color = needed("color"),
+            log = maybe("log"),
+            note = maybe("note"),
+            limits = needed("limits"),
+        })
+    }
+
+    fn from_tree(alloc: Global, tree: Tree<'de>) -> Result<Service, Error> {
+        Service::deserialize(alloc, tree.root())
+    }
+}
+
 impl Serialize for Service {
-    ghost calls = { λ s. a_record
-        (a_field (codes "name") (⟦<String as Serialize>⟧.calls s.name)
-        (a_field (codes "enabled") (⟦<bool as Serialize>⟧.calls s.enabled)
-        (a_field (codes "priority") (⟦<i8 as Serialize>⟧.calls s.priority)
-        (a_field (codes "offset") (⟦<i16 as Serialize>⟧.calls s.offset)
-        (a_field (codes "level") (⟦<i32 as Serialize>⟧.calls s.level)
-        (a_field (codes "balance") (⟦<i64 as Serialize>⟧.calls s.balance)
-        (a_field (codes "retries") (⟦<u8 as Serialize>⟧.calls s.retries)
-        (a_field (codes "port") (⟦<u16 as Serialize>⟧.calls s.port)
-        (a_field (codes "backlog") (⟦<u32 as Serialize>⟧.calls s.backlog)
-        (a_field (codes "timeout") (⟦<u64 as Serialize>⟧.calls s.timeout)
-        (a_field (codes "ratio") (⟦<Float as Serialize>⟧.calls s.ratio)
-        (a_field (codes "tags") (⟦<Vec<String> as Serialize>⟧.calls s.tags)
-        (a_field (codes "color") (⟦<Color as Serialize>⟧.calls s.color)
-        (a_field (codes "log") (⟦<Option<String> as Serialize>⟧.calls s.log)
-        (a_field (codes "note") (⟦<Option<Value> as Serialize>⟧.calls s.note)
-        (a_field (codes "limits") (⟦<BTreeMap<String, u32> as Serialize>⟧.calls s.limits)
-        the_end)))))))))))))))) };
+    ghost calls = { record_calls ⟦<Service as RoundTrip>⟧.fields };
+
+    ghost holds = { record_holds ⟦<Service as RoundTrip>⟧.fields };
 
     fn serialize(&self, _alloc: Global, ser: &mut Serializer) -> Result<(), WriteError> {
         ser.serialize_struct("Service", 16)?;
@@ -138,44 +207,9 @@ impl Serialize for Service {
 }
 
 impl<'de> Returns<'de> for Service {
-    ghost meant = { λ s. a_table
-        (a_member (codes "name") (⟦<String as Returns<'static>>⟧.meant s.name)
-        (a_member (codes "enabled") (⟦<bool as Returns<'static>>⟧.meant s.enabled)
-        (a_member (codes "priority") (⟦<i8 as Returns<'static>>⟧.meant s.priority)
-        (a_member (codes "offset") (⟦<i16 as Returns<'static>>⟧.meant s.offset)
-        (a_member (codes "level") (⟦<i32 as Returns<'static>>⟧.meant s.level)
-        (a_member (codes "balance") (⟦<i64 as Returns<'static>>⟧.meant s.balance)
-        (a_member (codes "retries") (⟦<u8 as Returns<'static>>⟧.meant s.retries)
-        (a_member (codes "port") (⟦<u16 as Returns<'static>>⟧.meant s.port)
-        (a_member (codes "backlog") (⟦<u32 as Returns<'static>>⟧.meant s.backlog)
-        (a_member (codes "timeout") (⟦<u64 as Returns<'static>>⟧.meant s.timeout)
-        (a_member (codes "ratio") (⟦<Float as Returns<'static>>⟧.meant s.ratio)
-        (a_member (codes "tags") (⟦<Vec<String> as Returns<'static>>⟧.meant s.tags)
-        (a_member (codes "color") (⟦<Color as Returns<'static>>⟧.meant s.color)
-        (maybe_member (codes "log") (option_map ⟦<String as Returns<'static>>⟧.meant s.log)
-        (maybe_member (codes "note") (option_map ⟦<Value as Returns<'static>>⟧.meant s.note)
-        (a_member (codes "limits") (⟦<BTreeMap<String, u32> as Returns<'static>>⟧.meant s.limits)
-        no_more)))))))))))))))) };
+    ghost read_back = { record_back ⟦<Service as RoundTrip>⟧.fields (λ s. refl) };
 
-    #[tactic(auto, using(basic_toml_returns::proofs::RecordsMean::records_mean))]
-    fn returns(&self) {
-        returns_field(&self.name);
-        returns_field(&self.enabled);
-        returns_field(&self.priority);
-        returns_field(&self.offset);
-        returns_field(&self.level);
-        returns_field(&self.balance);
-        returns_field(&self.retries);
-        returns_field(&self.port);
-        returns_field(&self.backlog);
-        returns_field(&self.timeout);
-        returns_field(&self.ratio);
-        returns_field(&self.tags);
-        returns_field(&self.color);
-        returns_option(&self.log);
-        returns_option(&self.note);
-        returns_field(&self.limits);
-    }
+    ghost returns = { ⟦<Service as Returns<'static>>⟧.read_back.returns };
 }
 
 impl<'de> Root<'de> for Service {
@@ -184,11 +218,36 @@ impl<'de> Root<'de> for Service {
     }
 }
 
-impl Serialize for Color {
+impl Choice for Color {
     ghost use Rattle.toml_callers.specs.declared.types.Color.TheVariants.{Red, Green, Blue};
 
-    ghost calls = { λ c.
-        scalar_calls (w.other_text (elim c [ Red ↦ codes "red" | Green ↦ codes "green" | Blue ↦ codes "blue" ])) };
+    ghost variants = { record {
+      names = codes "red" ∷ codes "green" ∷ codes "blue" ∷ [];
+      position = elim [ Red ↦ 0 | Green ↦ 1 | Blue ↦ 2 ];
+      apart = elim [ Red ↦ refl | Green ↦ refl | Blue ↦ refl ];
+    } };
+}
+
+impl<'de> Deserialize<'de> for Color {
+    ghost reads = { variant_reads ⟦<Color as Choice>⟧.variants };
+
+    ghost faults = { variant_faults ⟦<Color as Choice>⟧.variants };
+
+    fn deserialize(alloc: Global, node: Node<'_, 'de>) -> Result<Color, Error> {
+        match variant(alloc, node, &["red", "green", "blue"])? {
+            0 => Ok(Color::Red),
+            1 => Ok(Color::Green),
+            _ => Ok(Color::Blue),
+        }
+    }
+
+    fn from_tree(alloc: Global, tree: Tree<'de>) -> Result<Color, Error> {
+        Color::deserialize(alloc, tree.root())
+    }
+}
+
+impl Serialize for Color {
+    ghost calls = { variant_calls ⟦<Color as Choice>⟧.variants };
 
     fn serialize(&self, _alloc: Global, ser: &mut Serializer) -> Result<(), WriteError> {
         match self {
@@ -200,16 +259,7 @@ impl Serialize for Color {
 }
 
 impl<'de> Returns<'de> for Color {
-    ghost use Rattle.toml_callers.specs.declared.types.Color.TheVariants.{Red, Green, Blue};
+    ghost read_back = { variant_back ⟦<Color as Choice>⟧.variants };
 
-    ghost meant = { λ c. string (elim c [ Red ↦ codes "red" | Green ↦ codes "green" | Blue ↦ codes "blue" ]) };
-
-    #[tactic(auto, using(basic_toml_returns::proofs::ScalarsMean::scalars_mean), unfolding(basic_toml_typed::specs::TypeReads::IsVariant))]
-    fn returns(&self) {
-        match self {
-            Color::Red => {}
-            Color::Green => {}
-            Color::Blue => {}
-        }
-    }
+    ghost returns = { ⟦<Color as Returns<'static>>⟧.read_back.returns };
 }

@@ -213,27 +213,6 @@ pub enum Color {
     Blue,
 }
 
-impl<'de> Deserialize<'de> for Color {
-    ghost use Rattle.toml_callers.specs.declared.types.Color.TheVariants.{Red, Green, Blue};
-
-    ghost reads = { λ d c.
-        IsVariant (key_of "red" ∷ key_of "green" ∷ key_of "blue" ∷ []) d (elim c [ Red ↦ 0 | Green ↦ 1 | Blue ↦ 2 ]) };
-
-    ghost faults = { variant_fails (codes "red" ∷ codes "green" ∷ codes "blue" ∷ []) };
-
-    fn deserialize(alloc: Global, node: Node<'_, 'de>) -> Result<Color, Error> {
-        match variant(alloc, node, &["red", "green", "blue"])? {
-            0 => Ok(Color::Red),
-            1 => Ok(Color::Green),
-            _ => Ok(Color::Blue),
-        }
-    }
-
-    fn from_tree(alloc: Global, tree: Tree<'de>) -> Result<Color, Error> {
-        Color::deserialize(alloc, tree.root())
-    }
-}
-
 /// A choice of one.
 #[derive(Debug, Clone, Copy, PartialEq, Eq)]
 pub enum Single {
@@ -321,52 +300,6 @@ pub struct Service {
     pub color: Color,
     pub log: Option<String>,
     pub note: Option<Value>,
-}
-
-impl<'de> Deserialize<'de> for Service {
-    ghost reads = { λ d s.
-        field_reads ⟦<String as Deserialize<'static>>⟧.reads (key_of "name") d s.name
-        × field_reads ⟦<bool as Deserialize<'static>>⟧.reads (key_of "enabled") d s.enabled
-        × field_reads ⟦<i8 as Deserialize<'static>>⟧.reads (key_of "priority") d s.priority
-        × field_reads ⟦<i16 as Deserialize<'static>>⟧.reads (key_of "offset") d s.offset
-        × field_reads ⟦<i32 as Deserialize<'static>>⟧.reads (key_of "level") d s.level
-        × field_reads ⟦<i64 as Deserialize<'static>>⟧.reads (key_of "balance") d s.balance
-        × field_reads ⟦<u8 as Deserialize<'static>>⟧.reads (key_of "retries") d s.retries
-        × field_reads ⟦<u16 as Deserialize<'static>>⟧.reads (key_of "port") d s.port
-        × field_reads ⟦<u32 as Deserialize<'static>>⟧.reads (key_of "backlog") d s.backlog
-        × field_reads ⟦<u64 as Deserialize<'static>>⟧.reads (key_of "timeout") d s.timeout
-        × field_reads ⟦<Float as Deserialize<'static>>⟧.reads (key_of "ratio") d s.ratio
-        × field_reads ⟦<Vec<String> as Deserialize<'static>>⟧.reads (key_of "tags") d s.tags
-        × field_reads ⟦<BTreeMap<String, u32> as Deserialize<'static>>⟧.reads (key_of "limits") d s.limits
-        × field_reads ⟦<Color as Deserialize<'static>>⟧.reads (key_of "color") d s.color
-        × optional_reads ⟦<String as Deserialize<'static>>⟧.reads (key_of "log") d s.log
-        × optional_reads ⟦<Value as Deserialize<'static>>⟧.reads (key_of "note") d s.note };
-
-    #[tactic(auto, using(basic_toml_typed::proofs::FieldsFound::child_at_number))]
-    fn deserialize(alloc: Global, node: Node<'_, 'de>) -> Result<Service, Error> {
-        Ok(Service {
-            name: read_field(alloc, node, "name")?,
-            enabled: read_field(alloc, node, "enabled")?,
-            priority: read_field(alloc, node, "priority")?,
-            offset: read_field(alloc, node, "offset")?,
-            level: read_field(alloc, node, "level")?,
-            balance: read_field(alloc, node, "balance")?,
-            retries: read_field(alloc, node, "retries")?,
-            port: read_field(alloc, node, "port")?,
-            backlog: read_field(alloc, node, "backlog")?,
-            timeout: read_field(alloc, node, "timeout")?,
-            ratio: read_field(alloc, node, "ratio")?,
-            tags: read_field(alloc, node, "tags")?,
-            limits: read_field(alloc, node, "limits")?,
-            color: read_field(alloc, node, "color")?,
-            log: read_optional(alloc, node, "log")?,
-            note: read_optional(alloc, node, "note")?,
-        })
-    }
-
-    fn from_tree(alloc: Global, tree: Tree<'de>) -> Result<Service, Error> {
-        Service::deserialize(alloc, tree.root())
-    }
 }
 
 /// A record that tests a field itself: its error stands at that field.

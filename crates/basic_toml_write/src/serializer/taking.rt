@@ -2,7 +2,7 @@
 //!
 //! What is done with an error stands in functions of its own, which are not inlined, and an answer, which is large, is
 //! made last: a call that is taken pays for none of it.
-ghost use Rattle.std.specs.Prelude.{◌≡◌, List, [], ◌∷◌, Result, Ok, OnOk, IfErr, IsErr, IsSome, MatchOption, None};
+ghost use Rattle.std.specs.Prelude.{◌≡◌, List, [], ◌∷◌, Result, Ok, OnOk, IfErr, IsErr, IsSome, MatchOption, None, IfOk};
 ghost use Rattle.basic_toml_emit.specs.Items.{Item};
 ghost use Rattle.basic_toml_emit.specs.Recorded.{item_of};
 
@@ -129,7 +129,8 @@ impl Serializer {
     #[tactic(auto, using(crate::proofs::ListsAreSentInTurn::passes_answer))]
     fn send<T: Serialize>(&mut self, value: &T) -> Result<(), WriteError>
         requires { error_of self.old ≡ None }
-        ensures { Passes [] (T.calls value.now) (T.gives_up value.now) self.old self.new result }
+        ensures passes { Passes [] (T.calls value.now) (T.gives_up value.now) self.old self.new result }
+        ensures holds { IfOk result (λ _. T.holds value.now) }
     {
         let answer = value.serialize(self.alloc, self);
         self.answer(answer)
@@ -139,7 +140,8 @@ impl Serializer {
     #[inline(always)]
     #[tactic(auto, using(crate::proofs::ListsAreSentInTurn::passes_refused))]
     pub(super) fn part<T: Serialize>(&mut self, value: &T) -> Result<(), WriteError>
-        ensures { Passes [] (T.calls value.now) (T.gives_up value.now) self.old self.new result }
+        ensures passes { Passes [] (T.calls value.now) (T.gives_up value.now) self.old self.new result }
+        ensures holds { IfOk result (λ _. T.holds value.now) }
     {
         if self.has_refused() {
             return self.refuse_again();
@@ -156,7 +158,9 @@ impl Serializer {
         value: &T,
     ) -> Result<(), WriteError>
         requires { IsRecordable (item_of call) }
-        ensures { Passes (item_of call.entry ∷ []) (T.calls value.now) (T.gives_up value.now) self.old self.new result }
+        ensures passes { Passes (item_of call.entry ∷ []) (T.calls value.now) (T.gives_up value.now) self.old self.new
+            result }
+        ensures holds { IfOk result (λ _. T.holds value.now) }
     {
         match self.step(call) {
             Ok(()) => self.send(value),

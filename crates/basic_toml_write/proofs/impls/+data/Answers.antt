@@ -8,28 +8,28 @@ use Rattle.basic_toml_layout.proofs.ViewsOfValues.{view-Array, view-Table}
 use Rattle.basic_toml_write.proofs.DataIsSentByParts.{array_sent, table_sent, any_never}
 use Rattle.basic_toml_write.proofs.impls.+data.Goals as goal
 
-pub ValueSerialize::serialize-returns-in-Array : goal.ValueSerialize::serialize-returns-in-Array
-ValueSerialize::serialize-returns-in-Array n c =
+pub ValueSerialize::serialize-returns-in-Array-clause-sends : goal.ValueSerialize::serialize-returns-in-Array-clause-sends
+ValueSerialize::serialize-returns-in-Array-clause-sends n c =
     let xs = c.in-Array.values.items in
     subst (λ (is : List Item). Sends is NoFault c.args.ser.now c.serialize.new.ser c.serialize.result)
     (array_sent xs ∙ sym (ap data_calls (ap view c.in-Array.is ∙ view-Array c.in-Array.values)))
     (sends_widen (ArrayGivesUp (λ v. data_calls (view v)) (λ v. NoFault) xs) NoFault (any_never open_array _ _ xs)
     (array_calls (λ v. data_calls (view v)) xs) c.args.ser.now c.serialize.new.ser c.serialize.result
-    c.serialize.ensures)
+    c.serialize.ensures.sends)
 
-pub ValueSerialize::serialize-returns-in-Table : goal.ValueSerialize::serialize-returns-in-Table
-ValueSerialize::serialize-returns-in-Table n c =
+pub ValueSerialize::serialize-returns-in-Table-clause-sends : goal.ValueSerialize::serialize-returns-in-Table-clause-sends
+ValueSerialize::serialize-returns-in-Table-clause-sends n c =
     let ps = c.in-Table.table in
     subst (λ (is : List Item). Sends is NoFault c.args.ser.now c.serialize-in-Table.new.ser c.serialize-in-Table.result)
-    (table_sent ps ∙ sym (ap data_calls (ap view c.in-Table.is ∙ view-Table ps))) c.serialize-in-Table.ensures
+    (table_sent ps ∙ sym (ap data_calls (ap view c.in-Table.is ∙ view-Table ps))) c.serialize-in-Table.ensures.sends
 
-pub TableSerialize::serialize-returns-in-Some : goal.TableSerialize::serialize-returns-in-Some
-TableSerialize::serialize-returns-in-Some n c =
+pub TableSerialize::serialize-returns-in-Some-clause-sends : goal.TableSerialize::serialize-returns-in-Some-clause-sends
+TableSerialize::serialize-returns-in-Some-clause-sends n c =
     subst (λ (is : List Item). Sends is NoFault c.args.ser.now c.lay_out.new.self c.in-Some.answer)
     (sym (table_sent c.args.self.now)) c.in-Some.ensures
 
-pub TableSerialize::serialize-returns-in-None : goal.TableSerialize::serialize-returns-in-None
-TableSerialize::serialize-returns-in-None n c =
+pub TableSerialize::serialize-returns-in-None-clause-sends : goal.TableSerialize::serialize-returns-in-None-clause-sends
+TableSerialize::serialize-returns-in-None-clause-sends n c =
     let ps = c.args.self.now in
     subst (λ old. Sends (table_calls (λ v. data_calls (view v)) ps) NoFault old c.serialize_entries.new.ser
     c.serialize_entries.result) c.in-None.ensures

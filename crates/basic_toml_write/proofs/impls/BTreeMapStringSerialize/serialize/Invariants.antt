@@ -1,4 +1,5 @@
 use Rattle.std.proofs.Common.{◌≡◌, ◌++◌, map, string_bytes}
+use Rattle.std.specs.List.{AllByRecursion}
 use Rattle.std.specs.Map.Iter.{deref_pair}
 use Rattle.basic_toml_emit.specs.Items.{open_table, field}
 use Rattle.basic_toml_write.proofs.PartsAreSent.{Sent}
@@ -11,4 +12,5 @@ invariant-loop-name g l =
           (λ p. g.V.Serialize.calls p.1) (λ p. g.V.Serialize.gives_up p.1) (map deref_pair l.yielded) l.fn.ser l.ser;
       left : map deref_pair l.yielded
           ++ l.name-iterator ≡ l.self.entries;
+      held : AllByRecursion (λ e. g.V.Serialize.holds e.1) (map deref_pair l.yielded);
     }

@@ -23,16 +23,10 @@ use Rattle.basic_toml_write.specs.Kept.{kept_entries}
 use Rattle.basic_toml_write.specs.Spelling as spelling
 use Rattle.basic_toml_write.specs.Spelling.{AreEntries, IsPrefixed}
 use Rattle.basic_toml_typed.specs.TypeReads.{map_reads, maybe_reads}
-use Rattle.basic_toml_returns.specs.Maps.{map_members, meant_entries}
-use Rattle.basic_toml_returns.specs.Means.{Meaning, Means, Same, with_member}
-use Rattle.basic_toml_returns.specs.Returned.{Returned}
-use Rattle.basic_toml_returns.proofs.SpelledParts.{as_entry, kept_entry}
-
--- what holds of the values holds of each entry's
-pub of_values : {A : Type 0} (P : A → Type 0) (es : List (String Global × A)) → AllByRecursion P (map (λ e. e.1) es)
-    → AllByRecursion (λ e. P e.1) es
-of_values P [] all = tt
-of_values P (e ∷ es) all = (all.0, of_values P es all.1)
+use Rattle.basic_toml_returns.specs.Maps.{map_meant, map_members, meant_entries}
+use Rattle.basic_toml_returns.specs.Means.{Means, with_member}
+use Rattle.basic_toml_returns.specs.Returned.{ReadBack, Returned}
+use Rattle.basic_toml_returns.specs.SpelledParts.{as_entry, kept_entry}
 
 abbrev order : List ℕ → List ℕ → Ordering
 order = slice_cmp nat_cmp
@@ -121,10 +115,9 @@ module _ {A : Type 0} (calls : A → List Item) (reads : Data → A → Type 0) 
 
   entries_mean : (es : List (String Global × A)) → values_return es
       → MeansEntries (flat_map part_calls es ++ (close ∷ [])) (members_of (pairs_of meant es))
-  unfolding Means
   entries_mean [] all = record { held = w.no_entries; spelled = spelling.table_end; whole = refl }
   entries_mean (e ∷ es) all =
-      let part : Meaning (calls e.1) (Some (meant e.1)) = all.0.means in
+      let part : Means (calls e.1) (Some (meant e.1)) = all.0.means in
       let left : List Item = flat_map part_calls es ++ (close ∷ []) in
       let more : MeansEntries left (members_of (pairs_of meant es)) = entries_mean es all.1 in
       record {
@@ -138,7 +131,6 @@ module _ {A : Type 0} (calls : A → List Item) (reads : Data → A → Type 0) 
 
   pub map_means : (m : BTreeMap (String Global) A) → IsOrdered string_cmp m → values_return m.entries
       → Means (map_calls calls m.entries) (Some (table (map_members meant m.entries)))
-  unfolding Means
   map_means m ordered all =
       let more = entries_mean m.entries all in
       record {
@@ -173,7 +165,6 @@ module _ {A : Type 0} (calls : A → List Item) (reads : Data → A → Type 0) 
 
   one_read : (x : A) (o : Option A) → Returned calls reads meant x → maybe_reads reads (Some (meant x)) o
       → option_map meant o ≡ Some (meant x)
-  unfolding Same
   one_read x None is read = absurd read
   one_read x (Some y) is read = ap (λ d. Some d) (is.once y read)
 
@@ -192,8 +183,8 @@ module _ {A : Type 0} (calls : A → List Item) (reads : Data → A → Type 0) 
 
   pub map_once : (m other : BTreeMap (String Global) A) → values_return m.entries
       → map_reads reads (table (map_members meant m.entries)) other
-      → Same (table (map_members meant other.entries)) (table (map_members meant m.entries))
-  unfolding map_reads Same
+      → (table (map_members meant other.entries)) ≡ (table (map_members meant m.entries))
+  unfolding map_reads
   map_once m other all read =
       let alike : (key : List ℕ) → get (from_entries {R = order} (pairs_of meant other.entries)) key
       ≡ get (from_entries {R = order} (pairs_of meant m.entries)) key =
@@ -204,3 +195,28 @@ module _ {A : Type 0} (calls : A → List Item) (reads : Data → A → Type 0) 
       ap (λ (found : FinMap order Data). table (members_of (entries found)))
       (same_map nat_list_cmp_total exact (from_entries {R = order} (pairs_of meant other.entries))
       (from_entries {R = order} (pairs_of meant m.entries)) alike)
+
+module _ {A : Type 0} {calls : A → List Item} {holds : A → Type 0} {reads : Data → A → Type 0} {meant : A → Data} where
+  all_return : ((x : A) → holds x → Returned calls reads meant x) → (es : List (String Global × A))
+      → AllByRecursion (λ e. holds e.1) es → AllByRecursion (λ e. Returned calls reads meant e.1) es
+  all_return returns [] held = tt
+  all_return returns (e ∷ es) held = (returns e.1 held.0, all_return returns es held.1)
+
+  pub map_returned : ((x : A) → holds x → Returned calls reads meant x) → (m : BTreeMap (String Global) A)
+      → IsOrdered string_cmp m × AllByRecursion (λ e. holds e.1) m.entries
+      → Returned (λ m. map_calls calls m.entries) (map_reads reads) (map_meant meant) m
+  map_returned returns m held = let all = all_return returns m.entries held.1 in record {
+    means = map_means calls reads meant m held.0 all;
+    read = map_read calls reads meant m all;
+    once = λ y read. map_once calls reads meant m y all read;
+  }
+
+-- BTreeMap: each value at its key, in the order of the keys
+abbrev pub map_back : {A : Type 0} → ReadBack A → ReadBack (BTreeMap (String Global) A)
+map_back back = record {
+  calls = λ m. map_calls back.calls m.entries;
+  holds = λ m. IsOrdered string_cmp m × AllByRecursion (λ e. back.holds e.1) m.entries;
+  reads = map_reads back.reads;
+  meant = map_meant back.meant;
+  returns = map_returned back.returns;
+}
