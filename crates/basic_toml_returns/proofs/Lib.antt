@@ -1,3 +1,4 @@
 pub mod FieldsReturn
+pub mod FieldsSent
 pub mod RecordsReturn
 pub mod WrittenReturns

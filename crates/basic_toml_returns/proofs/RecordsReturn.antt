@@ -17,6 +17,7 @@ use Rattle.basic_toml_returns.specs.RoundTrips.{Fields, done, needed, maybe, wit
 use Rattle.basic_toml_returns.specs.RoundTrips.{record_holds, rows_of, record_meant, allows, AreApart}
 use Rattle.basic_toml_returns.specs.Rows.{is_new, are_new, are_rows_among, HasRows}
 use Rattle.basic_toml_returns.specs.SpelledParts.{as_entry, kept_entry}
+use Rattle.basic_toml_returns.specs.WrittenFields.{AllHold}
 use Rattle.basic_toml_returns.proofs.FieldsReturn.{field_returns, default_returns, option_means, option_returns}
 
 -- ---- what its calls mean
@@ -32,7 +33,7 @@ field_means name is rest found rows part more = record {
 
 fields_mean : {S : Type 0} (fields : Fields S) (s : S) → record_holds fields s
     → RowsMeaning (calls_of fields s) (rows_of fields s)
-unfolding the_end
+unfolding the_end AllHold
 fields_mean done s held = record { held = w.no_entries; spelled = spelling.table_end; whole = refl }
 fields_mean (needed T name get rest) s held =
     field_means (codes name) _ _ _ _ (T.read_back.returns (get s) held.0).means (fields_mean rest s held.1)
@@ -145,6 +146,7 @@ keeps_to names rows among = rows_among names rows among
 -- where a table has these rows, and none but those of another list
 pub fields_read : {S : Type 0} (fields : Fields S) (s : S) (all : Rows) → record_holds fields s
     → HasRows (table_of all) (rows_of fields s) → allows fields all ≡ true → record_reads (as_read fields) (table_of all) s
+unfolding AllHold
 fields_read done s all held has keeps = tt
 fields_read (needed T name get rest) s all held has keeps = (
   (field_returns T.read_back (text_number (codes name)) (get s) (T.read_back.returns (get s) held.0)).read (table_of all) refl
@@ -167,6 +169,7 @@ fields_read (only names rest) s all held has keeps =
 -- what else is read there means the same
 pub same_rows : {S : Type 0} (fields : Fields S) (s other : S) (d : Data) → record_holds fields s
     → HasRows d (rows_of fields s) → record_reads (as_read fields) d other → rows_of fields other ≡ rows_of fields s
+unfolding AllHold
 same_rows done s other d held has read = refl
 same_rows (needed T name get rest) s other d held has read =
     let here = (field_returns T.read_back (text_number (codes name)) (get s) (T.read_back.returns (get s) held.0)).once d

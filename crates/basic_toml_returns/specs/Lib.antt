@@ -2,6 +2,7 @@ pub mod Means
 pub mod Rows
 pub mod Maps
 pub mod Returned
+pub mod WrittenFields
 pub mod RoundTrips
 pub mod SpelledParts
 pub mod ScalarsReturn

@@ -20,6 +20,7 @@ use Rattle.basic_toml_typed.specs.Records.{IsEmpty, IsText, default_at, maybe_at
 use Rattle.basic_toml_returns.specs.Means.{Rows, no_rows, row, table_of}
 use Rattle.basic_toml_returns.specs.Returned.{ReadBack}
 use Rattle.basic_toml_returns.specs.Rows.{are_new, are_rows_among}
+use Rattle.basic_toml_returns.specs.WrittenFields.{AllHold}
 
 -- the ghost members of a type that is read back from what it writes
 abbrev pub Own : Type 0 → Type 1
@@ -86,12 +87,15 @@ abbrev pub record_calls : {S : Type 0} → Fields S → S → List Item
 record_calls fields s = a_record (calls_of fields s)
 
 -- what holds of each field that was written
+abbrev pub holds_of : {S : Type 0} → Fields S → S → List (Type 0)
+holds_of done s = []
+holds_of (needed T name get rest) s = T.read_back.holds (get s) ∷ holds_of rest s
+holds_of (maybe T name get rest) s = MatchOption (get s) ⊤ T.read_back.holds ∷ holds_of rest s
+holds_of (with_default T name IsDefault get rest) s = T.read_back.holds (get s) ∷ holds_of rest s
+holds_of (only names rest) s = holds_of rest s
+
 abbrev pub record_holds : {S : Type 0} → Fields S → S → Type 0
-record_holds done s = ⊤
-record_holds (needed T name get rest) s = T.read_back.holds (get s) × record_holds rest s
-record_holds (maybe T name get rest) s = MatchOption (get s) ⊤ T.read_back.holds × record_holds rest s
-record_holds (with_default T name IsDefault get rest) s = T.read_back.holds (get s) × record_holds rest s
-record_holds (only names rest) s = record_holds rest s
+record_holds fields s = AllHold (holds_of fields s)
 
 -- ---- what it means
 

@@ -11,6 +11,8 @@ mod returns;
 mod root;
 mod scalars;
 mod values;
+mod write;
 
 pub use returns::{Choice, Returns, RoundTrip};
 pub use root::{Root, write_then_read};
+pub use write::{WriteField, WriteFields, write_record};

@@ -9,7 +9,7 @@ ghost use Rattle.basic_toml_returns.specs.RoundTrips.{as_read, done, maybe, need
 use basic_toml::{
     Deserialize, Error, Node, Record, Serialize, Serializer, Tree, WriteError, from_str,
 };
-use basic_toml_returns::{Returns, Root, RoundTrip, write_then_read};
+use basic_toml_returns::{Returns, Root, RoundTrip, write_record, write_then_read};
 use basic_toml_typed::read_record;
 use std::alloc::Global;
 
@@ -66,14 +66,14 @@ impl Serialize for Settings {
     ghost holds = { record_holds ⟦<Settings as RoundTrip>⟧.fields };
 
     fn serialize(&self, _alloc: Global, ser: &mut Serializer) -> Result<(), WriteError> {
-        ser.serialize_struct("Settings", 6)?;
-        ser.serialize_field("host", &self.host)?;
-        ser.serialize_field("port", &self.port)?;
-        ser.serialize_field("workers", &self.workers)?;
-        ser.serialize_field("allow", &self.allow)?;
-        ser.serialize_field("log", &self.log)?;
-        ser.serialize_field("verbose", &self.verbose)?;
-        ser.end()
+        write_record!(ser, self, Settings {
+            host = "host",
+            port = "port",
+            workers = "workers",
+            allow = "allow",
+            log = "log",
+            verbose = "verbose",
+        })
     }
 }
 

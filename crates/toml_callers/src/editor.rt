@@ -5,7 +5,7 @@ ghost use Rattle.basic_toml_returns.proofs.RecordsReturn.{record_back};
 ghost use Rattle.basic_toml_returns.specs.RoundTrips.{as_read, done, maybe, needed, or, record_calls, record_holds, strict};
 
 use basic_toml::{Deserialize, Error, Node, Record, Serialize, Serializer, Tree, WriteError};
-use basic_toml_returns::{Returns, RoundTrip};
+use basic_toml_returns::{Returns, RoundTrip, write_record};
 use basic_toml_typed::read_record;
 use std::alloc::Global;
 
@@ -104,28 +104,28 @@ impl Serialize for Editor {
     ghost holds = { record_holds ⟦<Editor as RoundTrip>⟧.fields };
 
     fn serialize(&self, _alloc: Global, ser: &mut Serializer) -> Result<(), WriteError> {
-        ser.serialize_struct("Editor", 20)?;
-        ser.serialize_field("font", &self.font)?;
-        ser.serialize_field("size", &self.size)?;
-        ser.serialize_field("theme", &self.theme)?;
-        ser.serialize_field("line_numbers", &self.line_numbers)?;
-        ser.serialize_field("tab_width", &self.tab_width)?;
-        ser.serialize_field("tabs", &self.tabs)?;
-        ser.serialize_field("wrap_at", &self.wrap_at)?;
-        ser.serialize_field("language", &self.language)?;
-        ser.serialize_field("undo_steps", &self.undo_steps)?;
-        ser.serialize_field("scroll_lines", &self.scroll_lines)?;
-        ser.serialize_field("cursor", &self.cursor)?;
-        ser.serialize_field("blink", &self.blink)?;
-        ser.serialize_field("rulers", &self.rulers)?;
-        ser.serialize_field("backup", &self.backup)?;
-        ser.serialize_field("backup_folder", &self.backup_folder)?;
-        ser.serialize_field("save_after", &self.save_after)?;
-        ser.serialize_field("spelling", &self.spelling)?;
-        ser.serialize_field("words", &self.words)?;
-        ser.serialize_field("recent", &self.recent)?;
-        ser.serialize_field("zoom", &self.zoom)?;
-        ser.end()
+        write_record!(ser, self, Editor {
+            font = "font",
+            size = "size",
+            theme = "theme",
+            line_numbers = "line_numbers",
+            tab_width = "tab_width",
+            tabs = "tabs",
+            wrap_at = "wrap_at",
+            language = "language",
+            undo_steps = "undo_steps",
+            scroll_lines = "scroll_lines",
+            cursor = "cursor",
+            blink = "blink",
+            rulers = "rulers",
+            backup = "backup",
+            backup_folder = "backup_folder",
+            save_after = "save_after",
+            spelling = "spelling",
+            words = "words",
+            recent = "recent",
+            zoom = "zoom",
+        })
     }
 }
 

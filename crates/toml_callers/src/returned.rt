@@ -11,7 +11,7 @@ use basic_toml::{
     Deserialize, Error, Float, Node, Record, Serialize, Serializer, Tree, Value, WriteError,
     from_str, variant,
 };
-use basic_toml_returns::{Choice, Returns, Root, RoundTrip};
+use basic_toml_returns::{Choice, Returns, Root, RoundTrip, write_record};
 use basic_toml_typed::read_record;
 use std::alloc::Global;
 use std::collections::BTreeMap;
@@ -49,10 +49,10 @@ impl Serialize for Rule {
     ghost holds = { record_holds ⟦<Rule as RoundTrip>⟧.fields };
 
     fn serialize(&self, _alloc: Global, ser: &mut Serializer) -> Result<(), WriteError> {
-        ser.serialize_struct("Rule", 2)?;
-        ser.serialize_field("pattern", &self.pattern)?;
-        ser.serialize_field("limit", &self.limit)?;
-        ser.end()
+        write_record!(ser, self, Rule {
+            pattern = "pattern",
+            limit = "limit",
+        })
     }
 }
 
@@ -101,13 +101,13 @@ impl Serialize for Server {
     ghost holds = { record_holds ⟦<Server as RoundTrip>⟧.fields };
 
     fn serialize(&self, _alloc: Global, ser: &mut Serializer) -> Result<(), WriteError> {
-        ser.serialize_struct("Server", 5)?;
-        ser.serialize_field("verbose", &self.verbose)?;
-        ser.serialize_field("port", &self.port)?;
-        ser.serialize_field("host_name", &self.host_name)?;
-        ser.serialize_field("rules", &self.rules)?;
-        ser.serialize_field("backup", &self.backup)?;
-        ser.end()
+        write_record!(ser, self, Server {
+            verbose = "verbose",
+            port = "port",
+            host_name = "host_name",
+            rules = "rules",
+            backup = "backup",
+        })
     }
 }
 
@@ -185,24 +185,24 @@ impl Serialize for Service {
     ghost holds = { record_holds ⟦<Service as RoundTrip>⟧.fields };
 
     fn serialize(&self, _alloc: Global, ser: &mut Serializer) -> Result<(), WriteError> {
-        ser.serialize_struct("Service", 16)?;
-        ser.serialize_field("name", &self.name)?;
-        ser.serialize_field("enabled", &self.enabled)?;
-        ser.serialize_field("priority", &self.priority)?;
-        ser.serialize_field("offset", &self.offset)?;
-        ser.serialize_field("level", &self.level)?;
-        ser.serialize_field("balance", &self.balance)?;
-        ser.serialize_field("retries", &self.retries)?;
-        ser.serialize_field("port", &self.port)?;
-        ser.serialize_field("backlog", &self.backlog)?;
-        ser.serialize_field("timeout", &self.timeout)?;
-        ser.serialize_field("ratio", &self.ratio)?;
-        ser.serialize_field("tags", &self.tags)?;
-        ser.serialize_field("color", &self.color)?;
-        ser.serialize_field("log", &self.log)?;
-        ser.serialize_field("note", &self.note)?;
-        ser.serialize_field("limits", &self.limits)?;
-        ser.end()
+        write_record!(ser, self, Service {
+            name = "name",
+            enabled = "enabled",
+            priority = "priority",
+            offset = "offset",
+            level = "level",
+            balance = "balance",
+            retries = "retries",
+            port = "port",
+            backlog = "backlog",
+            timeout = "timeout",
+            ratio = "ratio",
+            tags = "tags",
+            color = "color",
+            log = "log",
+            note = "note",
+            limits = "limits",
+        })
     }
 }
 
