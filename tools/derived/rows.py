@@ -57,7 +57,7 @@ def rows_of(path):
         lines = [line for line in block.splitlines() if line and not line.startswith("#")]
         if not lines:
             continue
-        head = re.fullmatch(r"(read .*?)(?: (<) |: ?)(.*)", lines[0])
+        head = re.fullmatch(r"(read(?:_rows_first)? .*?)(?: (<) |: ?)(.*)", lines[0])
         asked, text = (head[1], text_of(head[3], head[2])) if head else (lines[0], b"")
         rust = [line[5:] for line in lines[1:] if line.startswith("rust ")]
         ours = [answer(line) for line in lines[1:] if not line.startswith("rust ")]
@@ -70,7 +70,7 @@ def arms(rows):
     made = {}
     for row in rows:
         how, _, what = row.asked.partition(" ")
-        call = f"read::<{what}>(rt, alloc, text)" if how == "read" else f"write(rt, alloc, &{what})"
+        call = f"{how}::<{what}>(rt, alloc, text)" if how.startswith("read") else f"{how}(rt, alloc, &{what})"
         made[row.asked] = f"        {json.dumps(row.asked, ensure_ascii=False)} => {call},\n"
     return "".join(made.values())
 
@@ -80,7 +80,8 @@ def source(name, rows):
 
 
 def is_tried(row):
-    return row.rust != ["not tried"]
+    """Answers whether Rust's serde has the type and the call of a row."""
+    return row.rust != ["not tried"] and "_rows_first " not in row.asked
 
 
 def built(basic_toml, rows):

@@ -1,13 +1,16 @@
 pub mod Added
 pub mod Ahead
 pub mod Answers
+pub mod Built
 pub mod Integers
+pub mod Listed
 pub mod Noted
 pub mod Parts
+pub mod Pieces
+pub mod Recorded
 pub mod Reports
 pub mod Sending
 pub mod Sent
 pub mod Spellings
 pub mod Taken
-pub mod Writing
 pub mod Written

@@ -20,18 +20,22 @@
 //! [`TomlValue`], [`TomlTable`] and [`TomlFloat`] are fields that hold what `basic_toml` has.
 #![tactic(auto)]
 
+pub mod as_text;
+mod built;
 mod de;
 mod failure;
 mod fault;
 mod format;
+mod items;
 mod log;
 mod names;
 mod notes;
 mod part;
-mod parts;
+mod piece;
 mod reader;
 mod sender;
 mod ser;
+mod sink;
 mod source;
 mod values;
 mod walk;
@@ -39,5 +43,5 @@ mod writer;
 
 pub use basic_toml::Error;
 pub use de::{from_slice, from_str};
-pub use ser::to_string;
+pub use ser::{to_string, to_string_rows_first};
 pub use values::{TomlFloat, TomlTable, TomlValue};

@@ -1,15 +1,14 @@
-//! What each event of a value is sent as to `basic_toml`'s serializer.
-ghost use Rattle.std.specs.Prelude.{◌≡◌, List, [], ◌∷◌, ◌++◌, Ok, OnOk, true, false};
+//! What each event of a value is sent as: items, which a sink takes.
+ghost use Rattle.std.specs.Prelude.{◌≡◌, List, [], ◌∷◌, ◌++◌, OnOk, true, false};
 ghost use Rattle.serde.specs.Event.{boolean, signed, unsigned, single, double, character, text, octets, nothing, unit_variant, seq_ends, map_ends, field_key, variant_key, key_begins, key_ends, flattens};
-ghost use Rattle.basic_toml_emit.specs.Items.{Item};
-ghost use Rattle.basic_toml_write.specs.Serializer.{HasRecorded};
-ghost use Rattle.basic_toml_write.specs.Write.{IsLayout};
+ghost use Rattle.basic_toml_serde.specs.Pieces.{items_of};
 ghost use Rattle.basic_toml_serde.specs.Sent.{Adds, AddsKey, AddsFloat, AddsFloatText, AddsName, BeginsArray, BeginsMap, Sends};
 ghost use Rattle.basic_toml_serde.specs.Sending.{SendsBy, HasSent};
 
 use crate::failure::Failure;
-use crate::parts::{KeyAlone, NoForm, Octets, OpensArray, OpensTable, VariantName};
-use basic_toml::{Float, Serialize, Serializer, WriteError};
+use crate::piece::Piece;
+use crate::sink::Sink;
+use basic_toml::Float;
 use serde::{Case, NameKind};
 use std::alloc::Global;
 use std::fmt::Display;
@@ -26,69 +25,56 @@ pub(crate) enum Next {
     Members,
 }
 
-/// The answer of a call, whose error the serializer keeps.
-#[inline(always)]
-fn taken(answer: Result<(), WriteError>) -> Result<(), Failure>
-    ensures { OnOk result (answer ≡ Ok tt) }
-{
-    if answer.is_ok() {
-        return Ok(());
-    }
-    Err(Failure::Refused)
-}
-
-/// Makes the calls of each event.
+/// Gives a sink the items of each event.
 #[derive(Drop)]
-pub(crate) struct Sender {
+pub(crate) struct Sender<S> {
     alloc: Global,
-    ser: Serializer,
+    sink: S,
     /// Of each map that is open, whether its members go into the one around it.
     maps: Vec<bool>,
     next: Next,
 }
 
 #[tactic(auto, using(crate::proofs::EventsAreSent::parts_sent))]
-impl Sender {
-    pub(crate) fn new(alloc: Global) -> Sender
-        ensures { HasSent [] result }
+impl<S: Sink> Sender<S> {
+    /// Nothing is sent, and the sink has taken nothing.
+    pub(crate) fn new(alloc: Global, sink: S) -> Sender<S>
+        requires { S.has_recorded sink [] }
+        ensures { HasSent S.has_recorded [] result }
     {
         Sender {
             alloc,
-            ser: Serializer::new(alloc),
+            sink,
             maps: Vec::new(alloc),
             next: Next::Value,
         }
     }
 
-    /// The text, where what was sent is a whole table.
-    pub(crate) fn finish(self) -> Result<String, WriteError>
-        ensures { (items : List Item) → HasRecorded self.ser items → IsLayout items result }
+    /// What has taken the items.
+    pub(crate) fn into_sink(self) -> S
+        ensures { result ≡ self.sink }
     {
-        self.ser.finish()
+        self.sink
     }
 
     /// A value or a key, or what begins it.
     #[inline(always)]
-    fn value<T: Serialize>(&mut self, value: &T) -> Result<(), Failure>
-        ensures { OnOk result (SendsBy (Adds (T.calls value.now)) self.old self.new) }
+    fn value(&mut self, piece: &Piece<'_>) -> Result<(), Failure>
+        ensures { OnOk result (SendsBy S.has_recorded (Adds (items_of piece.now)) self.old self.new) }
     {
         let Next::Value = self.next else {
-            return self.entry_key(value);
+            return self.entry_key(piece);
         };
-        let answer = value.serialize(self.alloc, &mut self.ser);
-        if answer.is_ok() && !self.ser.has_refused() {
-            return Ok(());
-        }
-        Err(Failure::Refused)
+        self.sink.add_value(self.alloc, piece)
     }
 
     /// The key of an entry, as a value.
     #[inline(never)]
-    fn entry_key<T: Serialize>(&mut self, value: &T) -> Result<(), Failure>
-        ensures { OnOk result (SendsBy (Adds (T.calls value.now)) self.old self.new) }
+    fn entry_key(&mut self, piece: &Piece<'_>) -> Result<(), Failure>
+        ensures { OnOk result (SendsBy S.has_recorded (Adds (items_of piece.now)) self.old self.new) }
     {
         match self.next {
-            Next::Key => taken(self.ser.serialize_key(value)),
+            Next::Key => self.sink.add_key(self.alloc, piece),
             Next::Value | Next::Members => Err(Failure::Unsupported),
         }
     }
@@ -96,7 +82,7 @@ impl Sender {
     /// The key of a field or of a variant's data.
     #[inline(always)]
     fn name(&mut self, kind: NameKind, name: &str, case: Case) -> Result<(), Failure>
-        ensures { OnOk result (SendsBy (AddsName kind name.now case) self.old self.new) }
+        ensures { OnOk result (SendsBy S.has_recorded (AddsName kind name.now case) self.old self.new) }
     {
         if case == Case::AsIs {
             return self.key(name);
@@ -107,7 +93,7 @@ impl Sender {
     #[cold]
     #[inline(never)]
     fn name_in_case(&mut self, kind: NameKind, name: &str, case: Case) -> Result<(), Failure>
-        ensures { OnOk result (SendsBy (AddsName kind name.now case) self.old self.new) }
+        ensures { OnOk result (SendsBy S.has_recorded (AddsName kind name.now case) self.old self.new) }
     {
         let mut text = String::new(self.alloc);
         case.append(kind, name, &mut text)?;
@@ -117,9 +103,9 @@ impl Sender {
     /// The key of the next entry, without its value.
     #[inline(never)]
     fn key(&mut self, key: &str) -> Result<(), Failure>
-        ensures { OnOk result (SendsBy (AddsKey key.now) self.old self.new) }
+        ensures { OnOk result (SendsBy S.has_recorded (AddsKey key.now) self.old self.new) }
     {
-        taken(self.ser.serialize_field(key, &KeyAlone))
+        self.sink.add_field(self.alloc, key)
     }
 
     /// A map is open, whose members go into the one around it or not.
@@ -135,7 +121,7 @@ impl Sender {
 
     /// A float by its shortest text; `wide` is the same number.
     fn float<T: Display + Drop>(&mut self, value: T, wide: f64) -> Result<(), Failure>
-        ensures { OnOk result (SendsBy (AddsFloat) self.old self.new) }
+        ensures { OnOk result (SendsBy S.has_recorded (AddsFloat) self.old self.new) }
     {
         let mut text = String::new(self.alloc);
         if wide.is_nan() {
@@ -151,88 +137,88 @@ impl Sender {
 
     /// A float by its text.
     fn float_text(&mut self, text: &str) -> Result<(), Failure>
-        ensures { OnOk result (SendsBy (AddsFloatText text.now) self.old self.new) }
+        ensures { OnOk result (SendsBy S.has_recorded (AddsFloatText text.now) self.old self.new) }
     {
         match Float::parse(self.alloc, text)? {
-            Some(float) => self.value(&float),
-            None => self.value(&NoForm),
+            Some(float) => self.value(&Piece::Float(&float)),
+            None => self.value(&Piece::NoForm),
         }
     }
 }
 
 /// The events.
 #[tactic(auto, using(crate::proofs::EventsAreSent::events_sent))]
-impl Sender {
+impl<S: Sink> Sender<S> {
     #[inline(always)]
     pub(crate) fn bool(&mut self, v: bool) -> Result<(), Failure>
-        ensures { OnOk result (SendsBy (Sends (boolean v)) self.old self.new) }
+        ensures { OnOk result (SendsBy S.has_recorded (Sends (boolean v)) self.old self.new) }
     {
-        self.value(&v)
+        self.value(&Piece::Boolean(v))
     }
 
     #[inline(always)]
     pub(crate) fn i64(&mut self, v: i64) -> Result<(), Failure>
-        ensures { OnOk result (SendsBy (Sends (signed v)) self.old self.new) }
+        ensures { OnOk result (SendsBy S.has_recorded (Sends (signed v)) self.old self.new) }
     {
-        self.value(&v)
+        self.value(&Piece::Signed(v))
     }
 
     #[inline(always)]
     pub(crate) fn u64(&mut self, v: u64) -> Result<(), Failure>
-        ensures { OnOk result (SendsBy (Sends (unsigned v)) self.old self.new) }
+        ensures { OnOk result (SendsBy S.has_recorded (Sends (unsigned v)) self.old self.new) }
     {
-        self.value(&v)
+        self.value(&Piece::Unsigned(v))
     }
 
     pub(crate) fn i128(&mut self, v: i128) -> Result<(), Failure>
-        ensures { OnOk result (SendsBy (Sends (signed v)) self.old self.new) }
+        ensures { OnOk result (SendsBy S.has_recorded (Sends (signed v)) self.old self.new) }
     {
         match i64::try_from(v) {
-            Ok(number) => self.value(&number),
-            Err(_) => self.value(&NoForm),
+            Ok(number) => self.value(&Piece::Signed(number)),
+            Err(_) => self.value(&Piece::NoForm),
         }
     }
 
     pub(crate) fn u128(&mut self, v: u128) -> Result<(), Failure>
-        ensures { OnOk result (SendsBy (Sends (unsigned v)) self.old self.new) }
+        ensures { OnOk result (SendsBy S.has_recorded (Sends (unsigned v)) self.old self.new) }
     {
         match i64::try_from(v) {
-            Ok(number) => self.value(&number),
-            Err(_) => self.value(&NoForm),
+            Ok(number) => self.value(&Piece::Signed(number)),
+            Err(_) => self.value(&Piece::NoForm),
         }
     }
 
     pub(crate) fn f32(&mut self, v: f32) -> Result<(), Failure>
-        ensures { OnOk result (SendsBy (Sends (single v)) self.old self.new) }
+        ensures { OnOk result (SendsBy S.has_recorded (Sends (single v)) self.old self.new) }
     {
         self.float(v, f64::from(v))
     }
 
     pub(crate) fn f64(&mut self, v: f64) -> Result<(), Failure>
-        ensures { OnOk result (SendsBy (Sends (double v)) self.old self.new) }
+        ensures { OnOk result (SendsBy S.has_recorded (Sends (double v)) self.old self.new) }
     {
         self.float(v, v)
     }
 
     pub(crate) fn char(&mut self, v: char) -> Result<(), Failure>
-        ensures { OnOk result (SendsBy (Sends (character v)) self.old self.new) }
+        ensures { OnOk result (SendsBy S.has_recorded (Sends (character v)) self.old self.new) }
     {
-        self.value(&v)
+        self.value(&Piece::Character(v))
     }
 
     #[inline(always)]
     pub(crate) fn str(&mut self, v: &str) -> Result<(), Failure>
-        ensures { OnOk result (SendsBy (Sends (text v.now)) self.old self.new) }
+        ensures { OnOk result (SendsBy S.has_recorded (Sends (text v.now)) self.old self.new) }
     {
-        self.value(&v)
+        self.value(&Piece::Text(v))
     }
 
     /// An array of bytes; or a float by its text, where the members of a map would come.
     pub(crate) fn bytes(&mut self, v: &[u8]) -> Result<(), Failure>
-        ensures { OnOk result (SendsBy (Sends (octets v.now)) self.old self.new) }
+        ensures { OnOk result (SendsBy S.has_recorded (Sends (octets v.now)) self.old self.new) }
     {
         let Next::Members = self.next else {
-            return self.value(&Octets(v));
+            return self.value(&Piece::Octets(v));
         };
         self.next = Next::Value;
         match str::from_utf8(v) {
@@ -243,43 +229,43 @@ impl Sender {
 
     /// An option that is not there, or a unit, which cannot be told apart.
     pub(crate) fn unit(&mut self) -> Result<(), Failure>
-        ensures { OnOk result (SendsBy (Sends nothing) self.old self.new) }
+        ensures { OnOk result (SendsBy S.has_recorded (Sends nothing) self.old self.new) }
     {
         let Next::Members = self.next else {
-            return self.value(&None::<bool>);
+            return self.value(&Piece::Absent);
         };
         self.next = Next::Value;
         Ok(())
     }
 
     pub(crate) fn str_cased(&mut self, name: &str, case: Case) -> Result<(), Failure>
-        ensures { OnOk result (SendsBy (Sends (unit_variant name.now case)) self.old self.new) }
+        ensures { OnOk result (SendsBy S.has_recorded (Sends (unit_variant name.now case)) self.old self.new) }
     {
         if case == Case::AsIs {
-            return self.value(&VariantName(name));
+            return self.value(&Piece::VariantName(name));
         }
         let mut text = String::new(self.alloc);
         case.append(NameKind::Variant, name, &mut text)?;
-        self.value(&VariantName(text.as_str()))
+        self.value(&Piece::VariantName(text.as_str()))
     }
 
     pub(crate) fn begin_seq(&mut self) -> Result<(), Failure>
-        ensures { OnOk result (SendsBy BeginsArray self.old self.new) }
+        ensures { OnOk result (SendsBy S.has_recorded BeginsArray self.old self.new) }
     {
-        self.value(&OpensArray)
+        self.value(&Piece::OpensArray)
     }
 
     pub(crate) fn end_seq(&mut self) -> Result<(), Failure>
-        ensures { OnOk result (SendsBy (Sends seq_ends) self.old self.new) }
+        ensures { OnOk result (SendsBy S.has_recorded (Sends seq_ends) self.old self.new) }
     {
-        taken(self.ser.end())
+        self.sink.add_end()
     }
 
     pub(crate) fn begin_map(&mut self) -> Result<(), Failure>
-        ensures { OnOk result (SendsBy BeginsMap self.old self.new) }
+        ensures { OnOk result (SendsBy S.has_recorded BeginsMap self.old self.new) }
     {
         let Next::Members = self.next else {
-            self.value(&OpensTable)?;
+            self.value(&Piece::OpensTable)?;
             return self.push(false);
         };
         self.next = Next::Value;
@@ -287,41 +273,41 @@ impl Sender {
     }
 
     pub(crate) fn end_map(&mut self) -> Result<(), Failure>
-        ensures { OnOk result (SendsBy (Sends map_ends) self.old self.new) }
+        ensures { OnOk result (SendsBy S.has_recorded (Sends map_ends) self.old self.new) }
     {
         if self.maps.pop().unwrap_or(false) {
             return Ok(());
         }
-        taken(self.ser.end())
+        self.sink.add_end()
     }
 
     #[inline(always)]
     pub(crate) fn key_cased(&mut self, name: &str, case: Case) -> Result<(), Failure>
-        ensures { OnOk result (SendsBy (Sends (field_key name.now case)) self.old self.new) }
+        ensures { OnOk result (SendsBy S.has_recorded (Sends (field_key name.now case)) self.old self.new) }
     {
         self.name(NameKind::Field, name, case)
     }
 
     pub(crate) fn variant_key(&mut self, name: &str, case: Case) -> Result<(), Failure>
-        ensures { OnOk result (SendsBy (Sends (variant_key name.now case)) self.old self.new) }
+        ensures { OnOk result (SendsBy S.has_recorded (Sends (variant_key name.now case)) self.old self.new) }
     {
         self.name(NameKind::Variant, name, case)
     }
 
     pub(crate) fn begin_key(&mut self)
-        ensures { SendsBy (Sends key_begins) self.old self.new }
+        ensures { SendsBy S.has_recorded (Sends key_begins) self.old self.new }
     {
         self.next = Next::Key;
     }
 
     pub(crate) fn end_key(&mut self)
-        ensures { SendsBy (Sends key_ends) self.old self.new }
+        ensures { SendsBy S.has_recorded (Sends key_ends) self.old self.new }
     {
         self.next = Next::Value;
     }
 
     pub(crate) fn flatten_next(&mut self)
-        ensures { SendsBy (Sends flattens) self.old self.new }
+        ensures { SendsBy S.has_recorded (Sends flattens) self.old self.new }
     {
         self.next = Next::Members;
     }

@@ -1,10 +1,11 @@
 //! What a value of a type that derives is written to.
-ghost use Rattle.std.specs.Prelude.{◌≡◌, [], Some, IfOk, string_bytes};
-ghost use Rattle.basic_toml_serde.specs.Written.{IsTextOf};
+ghost use Rattle.std.specs.Prelude.{◌≡◌, [], Some, IfOk};
+ghost use Rattle.basic_toml_serde.specs.Written.{HasTakenAll};
 
 use crate::failure::Failure;
 use crate::log::{Log, Note};
 use crate::sender::Sender;
+use crate::sink::Sink;
 use basic_toml::WriteError;
 use serde::{Case, Serializer};
 use std::alloc::Global;
@@ -14,8 +15,8 @@ use std::marker::Model;
 
 /// Sends each event, and keeps whether one failed.
 #[derive(Drop)]
-pub(crate) struct Writer {
-    sender: Sender,
+pub(crate) struct Writer<S: Sink> {
+    sender: Sender<S>,
     has_failed: bool,
     /// The last error of a type's own.
     message: Cell<Option<WriteError>>,
@@ -23,24 +24,27 @@ pub(crate) struct Writer {
     alloc: Global,
 }
 
-impl Model for Writer {
-    ghost use Rattle.std.specs.Prelude.{List};
+impl<S: Sink> Model for Writer<S> {
+    ghost use Rattle.std.specs.Prelude.{◌≡◌, false, List};
     ghost use Rattle.serde.specs.Event.{Event};
-    ghost use Rattle.basic_toml_serde.specs.Writing.{events_of, IsWriting};
+    ghost use Rattle.basic_toml_serde.specs.Sending.{HasSent};
 
     ghost Value = { List Event };
 
-    ghost view = { events_of };
+    ghost view = { λ w. w.log.events };
 
-    ghost invariant = { IsWriting };
+    // where no event failed, each was sent
+    ghost invariant = { λ w. w.has_failed ≡ false → HasSent S.has_recorded w.log.events w.sender };
 }
 
-impl Writer {
-    pub(crate) fn new(alloc: Global) -> Writer
+impl<S: Sink> Writer<S> {
+    /// No event was sent, and the sink has taken nothing.
+    pub(crate) fn new(alloc: Global, sink: S) -> Writer<S>
+        requires { S.has_recorded sink [] }
         ensures { result ≡ [] }
     {
         Writer {
-            sender: Sender::new(alloc),
+            sender: Sender::new(alloc, sink),
             has_failed: false,
             message: Cell::new(None),
             log: Log::new(),
@@ -48,22 +52,22 @@ impl Writer {
         }
     }
 
-    /// The text, where no event failed and what was sent is a whole table.
-    #[tactic(auto, using(crate::proofs::EventsAreSent::text_sent))]
-    pub(crate) fn finish(self) -> Result<String, WriteError>
-        ensures { IfOk result (λ text. IsTextOf self (string_bytes text)) }
+    /// What has taken the items of every event, where none failed.
+    #[tactic(auto, using(crate::proofs::EventsAreSent::all_taken))]
+    pub(crate) fn into_sink(self) -> Result<S, WriteError>
+        ensures { IfOk result (HasTakenAll S.has_recorded self) }
     {
         let Writer {
             sender,
             has_failed,
             ..
         } = self;
-        let text = sender.finish()?;
+        let sink = sender.into_sink();
         // no error was kept where what was sent found no memory of its own
         if has_failed {
-            return Err(WriteError::OutOfMemory);
+            return Err(sink.into_error().unwrap_or(WriteError::OutOfMemory));
         }
-        Ok(text)
+        Ok(sink)
     }
 
     /// The error of an event that failed.
@@ -76,7 +80,7 @@ impl Writer {
         let error = match failure {
             Failure::OutOfMemory => None,
             Failure::Unsupported => Some(WriteError::UnsupportedType),
-            Failure::Refused => sender.finish().err(),
+            Failure::Refused => sender.into_sink().into_error(),
             Failure::Custom => message.into_inner(),
         };
         error.unwrap_or(WriteError::OutOfMemory)
@@ -84,7 +88,7 @@ impl Writer {
 }
 
 #[tactic(auto, using(crate::proofs::EventsAreSent::written_on))]
-impl Serializer for Writer {
+impl<S: Sink> Serializer for Writer<S> {
     type Error = Failure;
 
     ghost written = { λ events. Some events };

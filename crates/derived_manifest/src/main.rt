@@ -1,6 +1,6 @@
 //! Reads each file that an argument names, a `Cargo.toml`, a `pyproject.toml` or a `settings.toml`, and writes what it
-//! knows of it again. What is wrong goes to standard error, as `FILE:LINE:COLUMN: message` where it has a place, and then
-//! the status is 1.
+//! knows of it again, the rows of each table first. What is wrong goes to standard error, as
+//! `FILE:LINE:COLUMN: message` where it has a place, and then the status is 1.
 #![tactic(auto)]
 
 mod manifest;
@@ -8,7 +8,7 @@ mod project;
 mod report;
 mod settings;
 
-use basic_toml_serde::{Error, from_str, to_string};
+use basic_toml_serde::{Error, from_str, to_string_rows_first};
 use manifest::Manifest;
 use project::Project;
 use report::report;
@@ -49,5 +49,5 @@ fn rewrite<'a, T: Deserialize<'a> + Serialize>(
     text: &'a str,
 ) -> Result<String, Error> {
     let value: T = from_str(alloc, text)?;
-    to_string(alloc, &value)
+    to_string_rows_first(alloc, &value)
 }
