@@ -10,14 +10,15 @@
 //! }
 //!
 //! let value: T = from_str(alloc, text)?;
-//! to_string(alloc, &value)
+//! to_string_rows_first(alloc, &value)
 //! ```
 //!
 //! This is from the program `derived_manifest`.
 //!
 //! A record is a table, a list an array, a newtype what it holds, and an option that is not there a key that is left
 //! out. A variant without data is a string; one with data is a table of one key, unless the type names a tag.
-//! [`TomlValue`], [`TomlTable`] and [`TomlFloat`] are fields that hold what `basic_toml` has.
+//! [`TomlValue`], [`TomlTable`] and [`TomlFloat`] are fields that hold what `basic_toml` has, and [`as_text`] is a `with`
+//! for those that print and parse.
 #![tactic(auto)]
 
 pub mod as_text;

@@ -14,11 +14,11 @@ use std::alloc::Global;
 /// The TOML text of a value of a type that derives.
 ///
 /// ```text
-/// to_string(alloc, &value)
+/// basic_toml_serde::to_string(alloc, &document)
 /// ```
 ///
-/// This is from the program `derived_manifest`. A record is a table, as [`basic_toml::to_string`] lays it out, so its
-/// fields that are tables stand behind the others.
+/// This is from the program `toml_workloads`. A record is a table, as [`basic_toml::to_string`] lays it out, so its
+/// fields that are tables stand behind the others, or [`to_string_rows_first`] puts them there.
 ///
 /// # Errors
 ///
