@@ -15,4 +15,4 @@ mod write;
 
 pub use returns::{Choice, Returns, RoundTrip};
 pub use root::{Root, write_then_read};
-pub use write::{WriteField, WriteFields, write_record};
+pub use write::{WriteField, WriteFields, write_record, write_variant};

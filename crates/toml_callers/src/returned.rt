@@ -11,7 +11,7 @@ use basic_toml::{
     Deserialize, Error, Float, Node, Record, Serialize, Serializer, Tree, Value, WriteError,
     from_str, variant,
 };
-use basic_toml_returns::{Choice, Returns, Root, RoundTrip, write_record};
+use basic_toml_returns::{Choice, Returns, Root, RoundTrip, write_record, write_variant};
 use basic_toml_typed::read_record;
 use std::alloc::Global;
 use std::collections::BTreeMap;
@@ -251,9 +251,9 @@ impl Serialize for Color {
 
     fn serialize(&self, _alloc: Global, ser: &mut Serializer) -> Result<(), WriteError> {
         match self {
-            Color::Red => ser.serialize_unit_variant("Color", 0, "red"),
-            Color::Green => ser.serialize_unit_variant("Color", 1, "green"),
-            Color::Blue => ser.serialize_unit_variant("Color", 2, "blue"),
+            Color::Red => write_variant(ser, self, "red"),
+            Color::Green => write_variant(ser, self, "green"),
+            Color::Blue => write_variant(ser, self, "blue"),
         }
     }
 }
