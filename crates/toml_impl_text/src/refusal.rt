@@ -1,0 +1,112 @@
+//! Why a file gets no impls.
+ghost use Rattle.std.specs.Prelude.{◌≡◌};
+
+use std::alloc::{AllocError, AllocFailed};
+use std::fmt;
+
+/// Why a file gets no impls.
+#[derive(Debug, Drop)]
+pub enum NoImpls<'t> {
+    /// What stands at this offset is refused.
+    At(usize, Reason<'t>),
+    /// Memory was refused.
+    OutOfMemory,
+}
+
+impl<'t> From<AllocError> for NoImpls<'t> {
+    fn from(_refused: AllocError) -> NoImpls<'t> {
+        NoImpls::OutOfMemory
+    }
+}
+
+impl<'t, T: Drop> From<AllocFailed<T>> for NoImpls<'t> {
+    fn from(_refused: AllocFailed<T>) -> NoImpls<'t> {
+        NoImpls::OutOfMemory
+    }
+}
+
+/// What is wrong.
+#[derive(Clone, Copy, Debug)]
+pub enum Reason<'t> {
+    /// A bracket that is not closed.
+    Unclosed,
+    /// Something else stands where this is wanted.
+    Expected(&'static str),
+    Generic,
+    NotNamed,
+    NoFields,
+    Invariant,
+    EnumNotYet,
+    /// The type of a field that no TOML value has.
+    FieldType,
+    NestedOption,
+    /// A word of serde's attributes.
+    NotTaken(&'t str),
+    Alias,
+    TwoNames,
+    SkipIf,
+    /// `rename_all` in none of serde's cases.
+    Case,
+    Key,
+    /// The key of a field that stands before.
+    RepeatedKey,
+    DefaultPath,
+    DefaultOfOption,
+    DefaultOfType,
+    DefaultOfText,
+    DefaultMisfit,
+    /// What the list of an impl has, where the program writes none such.
+    Entry,
+    /// A name that the impls need, brought in from elsewhere: the path that they need it from.
+    Taken(&'static str),
+}
+
+impl fmt::Display for Reason<'_> {
+    fn fmt<W: fmt::Write>(&self, f: &mut fmt::Formatter<W>) -> fmt::Result {
+        match self {
+            Reason::Unclosed => write!(f, "a bracket that is not closed"),
+            Reason::Expected(what) => write!(f, "expected {what}"),
+            Reason::NotTaken(word) => write!(f, "`{word}` is not taken"),
+            Reason::Taken(path) => write!(f, "the impls need what {path} has by this name"),
+            _ => f.write_str(self.text()),
+        }
+    }
+}
+
+impl Reason<'_> {
+    // The text of a reason that names nothing.
+    fn text(&self) -> &'static str {
+        match self {
+            Reason::Generic => "a generic type: write its impls by hand",
+            Reason::NotNamed => "a struct without named fields: write its impls by hand",
+            Reason::NoFields => "a struct without fields: write its impls by hand",
+            Reason::Invariant => "a struct with an invariant: write its impls by hand",
+            Reason::EnumNotYet => "an enum: not yet",
+            Reason::FieldType => "a type that is no path, as `Vec<String>` is one",
+            Reason::NestedOption => "an option of an option, which TOML has not",
+            Reason::Alias => "`alias` is not taken: a field has one key",
+            Reason::TwoNames => "a field has one key, for reading and for writing",
+            Reason::SkipIf => {
+                "only `skip_serializing_if = \"Option::is_none\"` is taken, at an option"
+            }
+            Reason::Case => {
+                "none of lowercase, UPPERCASE, PascalCase, camelCase, snake_case, \
+                 SCREAMING_SNAKE_CASE, kebab-case and SCREAMING-KEBAB-CASE"
+            }
+            Reason::Key => "a key is text between quotes, of printable ASCII without `\"` and `\\`",
+            Reason::RepeatedKey => "the key of another field",
+            Reason::DefaultPath => {
+                "a default by a function, whose value is not known here: write the value, as \
+                 `default = 8080`"
+            }
+            Reason::DefaultOfOption => "an option has no default: where the key lacks it is `None`",
+            Reason::DefaultOfType => {
+                "a default of a type that is neither `bool` nor an integer: make it an `Option`"
+            }
+            Reason::DefaultOfText => "a default is `true`, `false` or an integer",
+            Reason::DefaultMisfit => "a default that is no value of its type",
+            Reason::Entry => "an entry that is none of `needed`, `or` and `maybe`",
+            _ => "",
+        }
+    }
+}
