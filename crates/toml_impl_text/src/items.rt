@@ -21,7 +21,9 @@ pub enum ItemKind {
 pub struct Item<'c, 't> {
     pub kind: ItemKind,
     pub attributes: Vec<Attribute<'c, 't>>,
-    /// The offset of its first word, which names its kind.
+    /// The offset of its first token, attributes and visibility among them.
+    pub start: usize,
+    /// The offset of the word that names its kind.
     pub from: usize,
     /// The offset behind its last token.
     pub to: usize,
@@ -47,6 +49,7 @@ pub fn items_of<'c, 't>(
 ) -> Result<Vec<Item<'c, 't>>, NoImpls<'t>> {
     let mut items = Vec::new(alloc);
     let mut attributes = Vec::new(alloc);
+    let mut start = None;
     for _ in 0..tokens.len() {
         let Some(token) = tokens.next() else {
             break;
@@ -55,6 +58,7 @@ pub fn items_of<'c, 't>(
             tokens.group()?;
         } else if token.text == "#" {
             if let Some(attribute) = attribute_behind(token, &mut tokens)? {
+                start = start.or(Some(token.at));
                 attributes.push(attribute)?;
             }
         } else if let Some(kind) = kind_at(token, &mut tokens) {
@@ -63,11 +67,15 @@ pub fn items_of<'c, 't>(
             items.push(Item {
                 kind,
                 attributes: mem::replace(&mut attributes, Vec::new(alloc)),
+                start: start.take().unwrap_or(token.at),
                 from: token.at,
                 to: inside.last_end(),
                 tokens: inside,
             })?;
-        } else if token.text != "pub" {
+        } else if token.text == "pub" {
+            start = start.or(Some(token.at));
+        } else {
+            start = None;
             attributes.clear();
         }
     }

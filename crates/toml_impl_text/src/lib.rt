@@ -1,7 +1,27 @@
-//! The impls of the types of a file, which `toml_impls` writes behind them.
+//! A file of Rust with the impls of its types behind them: what `toml_impls` writes.
 #![tactic(auto)]
 
-pub mod cursor;
-pub mod items;
-pub mod lexer;
-pub mod refusal;
+mod case;
+mod cursor;
+mod cuts;
+mod declared;
+mod edits;
+mod file;
+mod imports;
+mod items;
+mod lexer;
+mod literal;
+mod merge;
+mod place;
+mod record;
+mod refusal;
+mod rules;
+mod templates;
+mod types;
+mod uses;
+mod wanted;
+mod written;
+
+pub use file::with_impls;
+pub use place::line_column;
+pub use refusal::{NoImpls, Reason};

@@ -1,0 +1,90 @@
+//! The structs of a file, as they stand there.
+
+use crate::cursor::Cursor;
+use crate::items::{Attribute, Item, attribute_behind};
+use crate::lexer::{Kind, Token};
+use crate::refusal::{NoImpls, Reason};
+use std::alloc::Global;
+
+/// A field, as it stands in its struct.
+#[derive(Drop)]
+pub struct DeclaredField<'c, 't> {
+    pub attributes: Vec<Attribute<'c, 't>>,
+    pub name: Token<'t>,
+    /// The tokens of its type.
+    pub kind: Cursor<'c, 't>,
+}
+
+/// The name of a type.
+pub fn type_name<'t>(item: &Item<'_, 't>) -> Result<Token<'t>, NoImpls<'t>> {
+    let mut tokens = item.tokens;
+    tokens.take(Kind::Word, "a name")
+}
+
+/// The fields of a struct.
+pub fn declared_fields<'c, 't>(
+    alloc: Global,
+    item: &Item<'c, 't>,
+) -> Result<Vec<DeclaredField<'c, 't>>, NoImpls<'t>> {
+    let mut tokens = item.tokens;
+    let name = tokens.take(Kind::Word, "a name")?;
+    let at = tokens.at();
+    if tokens.sees("<") || tokens.sees("where") {
+        return Err(NoImpls::At(at, Reason::Generic));
+    }
+    if tokens.sees("(") {
+        return Err(NoImpls::At(at, Reason::NotNamed));
+    }
+    if tokens.sees(";") {
+        return Err(NoImpls::At(name.at, Reason::NoFields));
+    }
+    tokens.expect("{")?;
+    let mut fields = Vec::new(alloc);
+    for part in tokens.group()?.parts(alloc)? {
+        fields.push(declared_field(alloc, part)?)?;
+    }
+    if fields.is_empty() {
+        return Err(NoImpls::At(name.at, Reason::NoFields));
+    }
+    Ok(fields)
+}
+
+fn declared_field<'c, 't>(
+    alloc: Global,
+    mut tokens: Cursor<'c, 't>,
+) -> Result<DeclaredField<'c, 't>, NoImpls<'t>> {
+    let attributes = attributes(alloc, &mut tokens)?;
+    if tokens.takes("pub") && tokens.takes("(") {
+        tokens.group()?;
+    }
+    let at = tokens.at();
+    if tokens.takes("ghost") && !tokens.sees(":") {
+        return Err(NoImpls::At(at, Reason::Invariant));
+    }
+    let name = tokens.take(Kind::Word, "a field")?;
+    tokens.expect(":")?;
+    Ok(DeclaredField {
+        attributes,
+        name,
+        kind: tokens,
+    })
+}
+
+// The attributes that stand in front.
+fn attributes<'c, 't>(
+    alloc: Global,
+    tokens: &mut Cursor<'c, 't>,
+) -> Result<Vec<Attribute<'c, 't>>, NoImpls<'t>> {
+    let mut attributes = Vec::new(alloc);
+    for _ in 0..tokens.len() {
+        if !tokens.sees("#") {
+            break;
+        }
+        if let Some(hash) = tokens.next() {
+            if let Some(attribute) = attribute_behind(hash, tokens)? {
+                attributes.push(attribute)?;
+            }
+        }
+    }
+    Ok(attributes)
+}

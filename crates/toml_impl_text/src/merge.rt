@@ -1,0 +1,234 @@
+//! The names that impls need, brought into a file.
+
+use crate::edits::Edit;
+use crate::imports::Import;
+use crate::uses::Use;
+use std::alloc::{AllocError, Global};
+
+// The width that a `use` line may have, and a line of its names where there are many.
+const LINE: usize = 98;
+
+const NAMES: usize = 99;
+
+// A line that the file has not yet.
+#[derive(Drop)]
+struct NewLine {
+    is_ghost: bool,
+    path: &'static str,
+    text: String,
+}
+
+/// The changes that bring in what a file has not yet. Lines go among those of their kind, by their paths.
+pub fn use_edits(
+    alloc: Global,
+    text: &str,
+    uses: &[Use<'_>],
+    imports: &[Import],
+) -> Result<Vec<Edit>, AllocError> {
+    let mut edits = Vec::new(alloc);
+    let mut lines = Vec::new(alloc);
+    for import in imports {
+        let missing = missing(alloc, uses, import)?;
+        if missing.is_empty() {
+            continue;
+        }
+        match uses.iter().find(|line| line.is_plain && line.is_of(import)) {
+            Some(line) => edits.push(longer(alloc, line, missing.as_slice())?)?,
+            None => lines.push(new_line(alloc, import, missing.as_slice())?)?,
+        }
+    }
+    for is_ghost in [true, false] {
+        place(alloc, text, uses, lines.as_slice(), is_ghost, &mut edits)?;
+    }
+    Ok(edits)
+}
+
+// The names that no line of the file has.
+fn missing(
+    alloc: Global,
+    uses: &[Use<'_>],
+    import: &Import,
+) -> Result<Vec<&'static str>, AllocError> {
+    let mut names = Vec::new(alloc);
+    for name in &import.names {
+        if !uses.iter().any(|line| line.is_of(import) && line.has(name)) {
+            names.push(*name)?;
+        }
+    }
+    Ok(names)
+}
+
+fn new_line(alloc: Global, import: &Import, names: &[&str]) -> Result<NewLine, AllocError> {
+    Ok(NewLine {
+        is_ghost: import.is_ghost,
+        path: import.path,
+        text: use_line(alloc, import.is_ghost, import.path, names)?,
+    })
+}
+
+// A line with more names, each before the first that it has behind that.
+fn longer(alloc: Global, line: &Use<'_>, missing: &[&str]) -> Result<Edit, AllocError> {
+    let mut names = Vec::from_slice(alloc, line.names.as_slice())?;
+    for name in missing {
+        let index = names
+            .iter()
+            .position(|other| is_behind(other, name))
+            .unwrap_or(names.len());
+        names.insert(index, *name)?;
+    }
+    Ok(Edit {
+        from: line.from,
+        to: line.to,
+        text: use_line(alloc, line.is_ghost, line.path, names.as_slice())?,
+    })
+}
+
+// Whether a name, which may be an operator's, comes behind another.
+fn is_behind(name: &str, other: &str) -> bool {
+    name != "self" && name > other && name.starts_with(|c: char| c.is_ascii_alphabetic())
+}
+
+// A `use` line as `rt fmt` lays it out.
+fn use_line(
+    alloc: Global,
+    is_ghost: bool,
+    path: &str,
+    names: &[&str],
+) -> Result<String, AllocError> {
+    let all = listed(alloc, names)?;
+    if is_ghost {
+        return format!(in alloc; "ghost use {path}.{{{all}}};");
+    }
+    if names.len() == 1 {
+        return format!(in alloc; "use {path}::{all};");
+    }
+    let line = format!(in alloc; "use {path}::{{{all}}};")?;
+    if line.len() <= LINE {
+        return Ok(line);
+    }
+    let filled = filled(alloc, names)?;
+    format!(in alloc; "use {path}::{{{filled}\n}};")
+}
+
+// Names with commas between them.
+fn listed(alloc: Global, names: &[&str]) -> Result<String, AllocError> {
+    let mut text = String::new(alloc);
+    for name in names {
+        text.push_str(if text.is_empty() { "" } else { ", " })?;
+        text.push_str(name)?;
+    }
+    Ok(text)
+}
+
+// Names with a comma behind each, as many on a line as there is room for.
+fn filled(alloc: Global, names: &[&str]) -> Result<String, AllocError> {
+    let mut text = String::new(alloc);
+    let mut left = 0;
+    for name in names {
+        let width = name.len().saturating_add(2);
+        if width > left {
+            write!(text, "\n    {name},")?;
+            left = NAMES.saturating_sub(width).saturating_sub(3);
+        } else {
+            write!(text, " {name},")?;
+            left -= width;
+        }
+    }
+    Ok(text)
+}
+
+// Places the new lines of one kind.
+fn place(
+    alloc: Global,
+    text: &str,
+    uses: &[Use<'_>],
+    lines: &[NewLine],
+    is_ghost: bool,
+    edits: &mut Vec<Edit>,
+) -> Result<(), AllocError> {
+    if uses.iter().any(|line| line.is_ghost == is_ghost) {
+        for line in lines {
+            if line.is_ghost == is_ghost {
+                edits.push(among(alloc, uses, line)?)?;
+            }
+        }
+        return Ok(());
+    }
+    let block = block(alloc, lines, is_ghost)?;
+    if block.is_empty() {
+        return Ok(());
+    }
+    let block = block.as_str();
+    edits.push(match (uses.first(), uses.last()) {
+        (Some(first), _) if is_ghost => insert(first.from, format!(in alloc; "{block}\n\n")?),
+        (_, Some(last)) => insert(last.to, format!(in alloc; "\n\n{block}")?),
+        _ => insert(head_len(text), format!(in alloc; "{block}\n\n")?),
+    })?;
+    Ok(())
+}
+
+fn insert(at: usize, text: String) -> Edit {
+    Edit {
+        from: at,
+        to: at,
+        text,
+    }
+}
+
+// A line among those of its kind: before the first whose path comes behind its own, or behind the last.
+fn among(alloc: Global, uses: &[Use<'_>], new: &NewLine) -> Result<Edit, AllocError> {
+    let text = new.text.as_str();
+    let mut last = 0;
+    for line in uses {
+        if line.is_ghost == new.is_ghost {
+            if rank(line.path) > rank(new.path) {
+                return Ok(insert(line.from, format!(in alloc; "{text}\n")?));
+            }
+            last = line.to;
+        }
+    }
+    Ok(insert(last, format!(in alloc; "\n{text}")?))
+}
+
+// What paths are ordered by: std's come first in clauses, and the crate's own in code.
+fn rank(path: &str) -> (u8, &str) {
+    let first = path.split("::").next().unwrap_or("");
+    match first {
+        "self" => (0, path),
+        "super" => (1, path),
+        "crate" => (2, path),
+        _ if path.starts_with("Rattle.std.") => (0, path),
+        _ => (3, path),
+    }
+}
+
+// The new lines of one kind, one below the other.
+fn block(alloc: Global, lines: &[NewLine], is_ghost: bool) -> Result<String, AllocError> {
+    let mut block = String::new(alloc);
+    for line in lines {
+        if line.is_ghost == is_ghost {
+            block.push_str(if block.is_empty() { "" } else { "\n" })?;
+            block.push_str(line.text.as_str())?;
+        }
+    }
+    Ok(block)
+}
+
+// The length of what stands before the first item: inner comments and attributes, and the modules that are named.
+fn head_len(text: &str) -> usize {
+    let mut length = 0usize;
+    for line in text.split_inclusive('\n') {
+        if !is_head(line.trim()) {
+            break;
+        }
+        length = length.saturating_add(line.len());
+    }
+    length
+}
+
+fn is_head(line: &str) -> bool {
+    line.is_empty()
+        || line.starts_with("//!")
+        || line.starts_with("#![")
+        || ((line.starts_with("mod ") || line.starts_with("pub mod ")) && line.ends_with(';'))
+}

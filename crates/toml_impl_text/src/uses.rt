@@ -1,0 +1,103 @@
+//! The `use` lines of a file.
+
+use crate::edits::between;
+use crate::imports::Import;
+use crate::items::{Item, ItemKind};
+use crate::refusal::{NoImpls, Reason};
+use std::alloc::Global;
+
+/// A `use` line.
+#[derive(Drop)]
+pub struct Use<'t> {
+    pub is_ghost: bool,
+    /// Whether names may be added to it: it has neither attributes nor `pub`.
+    pub is_plain: bool,
+    pub from: usize,
+    pub to: usize,
+    pub path: &'t str,
+    /// What it names there, as it stands.
+    pub names: Vec<&'t str>,
+}
+
+impl Use<'_> {
+    /// Whether it is of a path.
+    pub fn is_of(&self, import: &Import) -> bool {
+        self.is_ghost == import.is_ghost && self.path == import.path
+    }
+
+    /// Whether it names something so.
+    pub fn has(&self, name: &str) -> bool {
+        self.names.iter().any(|named| *named == name)
+    }
+
+    // Whether it brings in something under this name.
+    fn brings(&self, name: &str) -> bool {
+        self.names.iter().any(|named| match named.rsplit_once(" as ") {
+            Some((_, other)) => other == name,
+            None => *named == name,
+        })
+    }
+}
+
+/// The `use` lines of a file, in order.
+pub fn uses_of<'t>(
+    alloc: Global,
+    text: &'t str,
+    items: &[Item<'_, 't>],
+) -> Result<Vec<Use<'t>>, NoImpls<'t>> {
+    let mut uses = Vec::new(alloc);
+    for item in items {
+        if item.kind == ItemKind::Use || item.kind == ItemKind::GhostUse {
+            uses.push(use_of(alloc, text, item)?)?;
+        }
+    }
+    Ok(uses)
+}
+
+fn use_of<'t>(alloc: Global, text: &'t str, item: &Item<'_, 't>) -> Result<Use<'t>, NoImpls<'t>> {
+    let is_ghost = item.kind == ItemKind::GhostUse;
+    let separator = if is_ghost { "." } else { "::" };
+    let mut tokens = item.tokens;
+    let from = tokens.at();
+    for _ in 0..tokens.len() {
+        if tokens.sees("{") || tokens.sees(";") {
+            break;
+        }
+        tokens.next();
+    }
+    let whole = between(text, from, tokens.at()).trim();
+    let mut path = whole.strip_suffix(separator).unwrap_or(whole);
+    let mut names = Vec::new(alloc);
+    if tokens.takes("{") {
+        for part in tokens.group()?.parts(alloc)? {
+            names.push(between(text, part.at(), part.last_end()))?;
+        }
+    } else if let Some((front, name)) = whole.rsplit_once(separator) {
+        path = front;
+        names.push(name)?;
+    }
+    Ok(Use {
+        is_ghost,
+        is_plain: item.from == item.start,
+        from: item.start,
+        to: item.to,
+        path,
+        names,
+    })
+}
+
+/// Refuses a file that has something else under a name that the impls need.
+pub fn refuse_taken<'t>(uses: &[Use<'t>], imports: &[Import]) -> Result<(), NoImpls<'t>> {
+    for line in uses {
+        for import in imports {
+            if line.is_ghost == import.is_ghost && line.path != import.path {
+                for name in &import.names {
+                    if line.brings(name) {
+                        return Err(NoImpls::At(line.from, Reason::Taken(import.path)));
+                    }
+                }
+            }
+        }
+    }
+    Ok(())
+}

@@ -1,0 +1,141 @@
+//! The list of fields that an impl of the file has: what it says beyond the struct is kept.
+
+use crate::cursor::Cursor;
+use crate::items::{Item, ItemKind};
+use crate::lexer::Kind;
+use crate::literal::Literal;
+use crate::refusal::{NoImpls, Reason};
+use crate::rules::unquoted;
+use std::alloc::Global;
+
+/// What a list says.
+#[derive(Drop)]
+pub struct FieldList<'t> {
+    /// Whether keys that it does not have are refused.
+    pub is_strict: bool,
+    pub entries: Vec<Entry<'t>>,
+}
+
+/// What a list says of a field.
+#[derive(Clone, Copy, Debug)]
+pub struct Entry<'t> {
+    pub field: &'t str,
+    pub key: &'t str,
+    pub default: Option<Literal>,
+}
+
+impl<'t> FieldList<'t> {
+    /// What it says of a field.
+    pub fn entry(&self, field: &str) -> Option<Entry<'t>> {
+        self.entries.iter().copied().find(|e| e.field == field)
+    }
+}
+
+/// Whether an item is an impl of a trait for a type, as the program writes it.
+pub fn is_impl(item: &Item<'_, '_>, of: &str, name: &str) -> bool {
+    let mut head = item.tokens;
+    if item.kind != ItemKind::Impl {
+        return false;
+    }
+    if head.takes("<") {
+        return head.takes("'de")
+            && head.takes(">")
+            && head.takes(of)
+            && head.takes("<")
+            && head.takes("'de")
+            && head.takes(">")
+            && is_for(head, name);
+    }
+    head.takes(of) && is_for(head, name)
+}
+
+fn is_for(mut head: Cursor<'_, '_>, name: &str) -> bool {
+    head.takes("for") && head.takes(name) && head.sees("{")
+}
+
+/// The list of a type, in the impl that the program writes it into; `None` where there is none.
+pub fn list_of<'t>(
+    alloc: Global,
+    items: &[Item<'_, 't>],
+    name: &str,
+) -> Result<Option<FieldList<'t>>, NoImpls<'t>> {
+    for item in items {
+        if is_impl(item, "RoundTrip", name) {
+            return list_in(alloc, item.tokens);
+        }
+    }
+    Ok(None)
+}
+
+// The list in an impl.
+fn list_in<'t>(
+    alloc: Global,
+    mut tokens: Cursor<'_, 't>,
+) -> Result<Option<FieldList<'t>>, NoImpls<'t>> {
+    for _ in 0..tokens.len() {
+        if tokens.next().is_none() {
+            break;
+        }
+        if tokens.takes("fields") && tokens.takes("=") && tokens.takes("{") {
+            return Ok(Some(entries_in(alloc, tokens.group()?)?));
+        }
+    }
+    Ok(None)
+}
+
+fn entries_in<'t>(alloc: Global, mut tokens: Cursor<'_, 't>) -> Result<FieldList<'t>, NoImpls<'t>> {
+    let is_strict = tokens.takes("strict");
+    let mut entries = Vec::new(alloc);
+    for _ in 0..tokens.len() {
+        tokens.takes("(");
+        if tokens.takes("done") {
+            break;
+        }
+        entries.push(next_entry(alloc, &mut tokens)?)?;
+    }
+    Ok(FieldList { is_strict, entries })
+}
+
+fn next_entry<'t>(alloc: Global, tokens: &mut Cursor<'_, 't>) -> Result<Entry<'t>, NoImpls<'t>> {
+    let at = tokens.at();
+    let has_default = tokens.takes("or");
+    if !has_default && !tokens.takes("needed") && !tokens.takes("maybe") {
+        return Err(NoImpls::At(at, Reason::Entry));
+    }
+    skip_type(tokens);
+    let key = tokens.take(Kind::Text, "a key")?;
+    let default = if has_default {
+        Some(Literal::take_listed(alloc, tokens)?)
+    } else {
+        None
+    };
+    let field = field_in(tokens)?;
+    match unquoted(key.text) {
+        Some(key) => Ok(Entry {
+            field,
+            key,
+            default,
+        }),
+        None => Err(NoImpls::At(key.at, Reason::Key)),
+    }
+}
+
+// Goes behind the type of a field: `⟦<u16 as Returns<'static>>⟧`.
+fn skip_type(tokens: &mut Cursor<'_, '_>) {
+    for _ in 0..tokens.len() {
+        if tokens.takes("⟧") || tokens.next().is_none() {
+            break;
+        }
+    }
+}
+
+// The field that is read: `(λ s. s.port)`.
+fn field_in<'t>(tokens: &mut Cursor<'_, 't>) -> Result<&'t str, NoImpls<'t>> {
+    let at = tokens.at();
+    tokens.expect("(")?;
+    let mut inside = tokens.group()?;
+    match inside.rest.last() {
+        Some(token) if inside.takes("λ") && token.kind == Kind::Word => Ok(token.text),
+        _ => Err(NoImpls::At(at, Reason::Entry)),
+    }
+}

@@ -1,0 +1,84 @@
+//! `toml_impls` reads a file of Rust from standard input and writes it to standard output with the impls of its structs
+//! behind them, by which `basic_toml` reads and writes them and `basic_toml_returns` reads back what was written.
+//!
+//! It ends with status 0; with 1 where something in the file is refused, and then says on standard error what, and where,
+//! and writes nothing; and with 3 where reading, writing or memory failed, or an argument is none of its own.
+#![tactic(auto)]
+
+mod answer;
+mod run;
+
+use run::{FAILED, run};
+use std::process::ExitCode;
+use std::{env, io};
+
+const HELP: &str = "\
+toml_impls < FILE
+
+Writes the file with the impls of each struct behind it, in place of those that it has already, and with the use lines
+that they need. A struct has named fields; an Option may be missing. What serde's attributes say is taken from them:
+rename, rename_all, default (or default = 8080), deny_unknown_fields, skip_serializing_if = \"Option::is_none\". Then
+they are cut, since Rattle has none, and the list of fields in the impls keeps what they said.
+
+  --help     print this
+  --version  print the version
+
+Status: 0, or 1 where something is refused, 3 where reading, writing or memory failed.
+";
+
+/// What the program is asked to do.
+enum Request {
+    Write,
+    Help,
+    Version,
+    Refused,
+}
+
+fn main(rt: HostRuntime) -> ExitCode {
+    match status_of(&rt) {
+        Ok(status) => ExitCode::from(status),
+        Err(_) => ExitCode::from(FAILED),
+    }
+}
+
+// What the words behind the program's name ask for: at most one is taken.
+fn request_of(words: &[String]) -> Request {
+    let mut words = words.iter();
+    let word = match words.next() {
+        None => return Request::Write,
+        Some(word) => word.as_str(),
+    };
+    match (word, words.next()) {
+        ("--help", None) => Request::Help,
+        ("--version", None) => Request::Version,
+        _ => Request::Refused,
+    }
+}
+
+fn status_of(rt: &HostRuntime) -> io::Result<u8> {
+    let words: Vec<String> = env::args(rt)?.skip(1).collect(rt.alloc())?;
+    match request_of(words.as_slice()) {
+        Request::Write => {
+            let stderr = rt.stderr();
+            let mut reader = rt.reader();
+            Ok(run(
+                rt.alloc(),
+                &mut reader,
+                &mut io::writer(rt),
+                &mut io::writer(&stderr),
+            ))
+        }
+        Request::Help => {
+            print!(rt; "{HELP}")?;
+            Ok(0)
+        }
+        Request::Version => {
+            println!(rt; "toml_impls 0.1.0")?;
+            Ok(0)
+        }
+        Request::Refused => {
+            eprintln!(rt; "usage: toml_impls < FILE; toml_impls --help says more")?;
+            Ok(FAILED)
+        }
+    }
+}
