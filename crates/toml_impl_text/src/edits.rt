@@ -10,9 +10,10 @@ pub struct Edit {
     pub text: String,
 }
 
-/// The text with these changes, none of which meets another. Of those at one place the earlier comes first.
+/// The text with these changes, none of which meets another. What is put in at a place comes before what is replaced
+/// there.
 pub fn edited(alloc: Global, text: &str, mut edits: Vec<Edit>) -> Result<String, AllocError> {
-    edits.sort_by_key(|edit| edit.from)?;
+    edits.sort_by_key(|edit| (edit.from, edit.to))?;
     let mut edited = String::new(alloc);
     let mut at = 0;
     for edit in &edits {

@@ -33,7 +33,7 @@ pub fn with_impls<'t>(alloc: Global, text: &'t str) -> Result<String, NoImpls<'t
     let mut edits = Vec::new(alloc);
     let mut records = Vec::new(alloc);
     for item in &items {
-        if item.kind == ItemKind::Struct || item.kind == ItemKind::Enum {
+        if item.kind.is_type() {
             let name = type_name(item)?;
             if is_wanted(alloc, items.as_slice(), item, name.text)? {
                 let record = record_in(alloc, items.as_slice(), item, name.text)?;
@@ -45,7 +45,7 @@ pub fn with_impls<'t>(alloc: Global, text: &'t str) -> Result<String, NoImpls<'t
     }
     let imports = imports_of(alloc, records.as_slice())?;
     let uses = uses_of(alloc, text, items.as_slice())?;
-    refuse_taken(uses.as_slice(), imports.as_slice())?;
+    refuse_taken(items.as_slice(), uses.as_slice(), imports.as_slice())?;
     for edit in use_edits(alloc, text, uses.as_slice(), imports.as_slice())? {
         edits.push(edit)?;
     }

@@ -16,6 +16,13 @@ pub enum ItemKind {
     GhostUse,
 }
 
+impl ItemKind {
+    /// Whether the item declares a type.
+    pub fn is_type(self) -> bool {
+        matches!(self, ItemKind::Struct | ItemKind::Enum)
+    }
+}
+
 /// An item of a file.
 #[derive(Drop)]
 pub struct Item<'c, 't> {

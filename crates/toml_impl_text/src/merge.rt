@@ -67,7 +67,7 @@ fn new_line(alloc: Global, import: &Import, names: &[&str]) -> Result<NewLine, A
 }
 
 // A line with more names, each before the first that it has behind that.
-fn longer(alloc: Global, line: &Use<'_>, missing: &[&str]) -> Result<Edit, AllocError> {
+fn longer<'n>(alloc: Global, line: &Use<'n>, missing: &[&'n str]) -> Result<Edit, AllocError> {
     let mut names = Vec::from_slice(alloc, line.names.as_slice())?;
     for name in missing {
         let index = names

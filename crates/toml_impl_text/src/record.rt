@@ -109,6 +109,7 @@ fn key_of<'t>(
     Ok(key)
 }
 
+// Whether the key of a field has to be there: by what its attribute says, else by what the list has.
 fn presence_of<'t>(
     kind: &FieldType,
     rules: FieldRules<'t>,
@@ -116,29 +117,48 @@ fn presence_of<'t>(
     entry: Option<Entry<'t>>,
 ) -> Result<Presence, NoImpls<'t>> {
     if kind.is_option {
-        return match rules.default {
-            DefaultRule::Value(at, _) => Err(NoImpls::At(at, Reason::DefaultOfOption)),
-            _ => Ok(Presence::Maybe),
-        };
+        return option_presence(rules);
     }
-    if let Some(at) = rules.skips_none {
-        return Err(NoImpls::At(at, Reason::SkipIf));
-    }
-    let listed = match entry {
-        Some(entry) => entry.default,
-        None => None,
-    };
-    match (rules.default, listed) {
-        (DefaultRule::OfType(at), _) => match Literal::default_of(kind.name.as_str()) {
-            Some(value) => Ok(Presence::Or(value)),
-            None => Err(NoImpls::At(at, Reason::DefaultOfType)),
-        },
-        (DefaultRule::Value(at, value), _) => or(kind, at, value),
-        (DefaultRule::Unsaid, Some(value)) => or(kind, at, value),
-        (DefaultRule::Unsaid, None) => Ok(Presence::Needed),
+    match (rules.skips_none, rules.default) {
+        (Some(at), _) => Err(NoImpls::At(at, Reason::SkipIf)),
+        (None, DefaultRule::OfType(at)) => or_own(kind, at),
+        (None, DefaultRule::Value(at, value)) => or(kind, at, value),
+        (None, DefaultRule::Unsaid) => listed_presence(kind, at, entry),
     }
 }
 
+fn option_presence<'t>(rules: FieldRules<'t>) -> Result<Presence, NoImpls<'t>> {
+    match rules.default {
+        DefaultRule::Value(at, _) => Err(NoImpls::At(at, Reason::DefaultOfOption)),
+        _ => Ok(Presence::Maybe),
+    }
+}
+
+fn listed_presence<'t>(
+    kind: &FieldType,
+    at: usize,
+    entry: Option<Entry<'t>>,
+) -> Result<Presence, NoImpls<'t>> {
+    match entry {
+        Some(
+            Entry {
+                default: Some(value),
+                ..
+            },
+        ) => or(kind, at, value),
+        _ => Ok(Presence::Needed),
+    }
+}
+
+// With the default of its type.
+fn or_own<'t>(kind: &FieldType, at: usize) -> Result<Presence, NoImpls<'t>> {
+    match Literal::default_of(kind.name.as_str()) {
+        Some(value) => Ok(Presence::Or(value)),
+        None => Err(NoImpls::At(at, Reason::DefaultOfType)),
+    }
+}
+
+// With a default.
 fn or<'t>(kind: &FieldType, at: usize, value: Literal) -> Result<Presence, NoImpls<'t>> {
     if value.is_of(kind.name.as_str()) {
         Ok(Presence::Or(value))

@@ -32,10 +32,15 @@ impl Use<'_> {
 
     // Whether it brings in something under this name.
     fn brings(&self, name: &str) -> bool {
-        self.names.iter().any(|named| match named.rsplit_once(" as ") {
-            Some((_, other)) => other == name,
-            None => *named == name,
-        })
+        self.names.iter().any(|named| brought(named) == name)
+    }
+}
+
+// The name that a part of a `use` line brings in.
+fn brought(named: &str) -> &str {
+    match named.rsplit_once(" as ") {
+        Some((_, other)) => other,
+        None => named,
     }
 }
 
@@ -87,16 +92,38 @@ fn use_of<'t>(alloc: Global, text: &'t str, item: &Item<'_, 't>) -> Result<Use<'
 }
 
 /// Refuses a file that has something else under a name that the impls need.
-pub fn refuse_taken<'t>(uses: &[Use<'t>], imports: &[Import]) -> Result<(), NoImpls<'t>> {
-    for line in uses {
-        for import in imports {
-            if line.is_ghost == import.is_ghost && line.path != import.path {
-                for name in &import.names {
-                    if line.brings(name) {
-                        return Err(NoImpls::At(line.from, Reason::Taken(import.path)));
-                    }
-                }
+pub fn refuse_taken<'t>(
+    items: &[Item<'_, 't>],
+    uses: &[Use<'t>],
+    imports: &[Import],
+) -> Result<(), NoImpls<'t>> {
+    for import in imports {
+        for name in &import.names {
+            if let Some(line) = uses.iter().find(|line| takes(line, import, name)) {
+                return Err(NoImpls::At(line.from, Reason::Taken(import.path)));
             }
+            if !import.is_ghost {
+                refuse_type(items, name, import.path)?;
+            }
+        }
+    }
+    Ok(())
+}
+
+// Whether a line brings in something else under a name.
+fn takes(line: &Use<'_>, import: &Import, name: &str) -> bool {
+    line.is_ghost == import.is_ghost && line.path != import.path && line.brings(name)
+}
+
+// Refuses a file that declares a type of a name.
+fn refuse_type<'t>(
+    items: &[Item<'_, 't>],
+    name: &str,
+    path: &'static str,
+) -> Result<(), NoImpls<'t>> {
+    for item in items {
+        if item.kind.is_type() && item.tokens.sees(name) {
+            return Err(NoImpls::At(item.tokens.at(), Reason::Taken(path)));
         }
     }
     Ok(())

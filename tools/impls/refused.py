@@ -1,0 +1,82 @@
+"""Files that toml_impls refuses, and what it says of each behind `stdin:`."""
+
+FIELD = "struct S {\n    #[serde(%s)]\n    a: %s,\n}\n"
+TYPE = "#[serde(%s)]\nstruct S {\n    a: u8,\n}\n"
+CASES = ("none of lowercase, UPPERCASE, PascalCase, camelCase, snake_case, SCREAMING_SNAKE_CASE, kebab-case and "
+         "SCREAMING-KEBAB-CASE")
+KEY = 'a key is text between quotes, of printable ASCII without `"` and `\\`'
+NO_DEFAULT = "a default of a type that is neither `bool` nor an integer: make it an `Option`"
+NO_VALUE = "a default is `true`, `false` or an integer"
+MISFIT = "a default that is no value of its type"
+ONE_KEY = "a field has one key, for reading and for writing"
+SKIP_IF = 'only `skip_serializing_if = "Option::is_none"` is taken, at an option'
+LIST = """struct S {
+    a: u8,
+}
+
+impl RoundTrip for S {
+    ghost fields = { %s };
+}
+"""
+
+REFUSED = [
+    # types
+    ("struct S<T> {\n    a: T,\n}\n", "1:9: a generic type: write its impls by hand"),
+    ("struct S<'a> {\n    a: &'a str,\n}\n", "1:9: a generic type: write its impls by hand"),
+    ("pub struct S(u8);\n", "1:13: a struct without named fields: write its impls by hand"),
+    ("pub struct S;\n", "1:12: a struct without fields: write its impls by hand"),
+    ("pub struct S {}\n", "1:12: a struct without fields: write its impls by hand"),
+    ("struct S {\n    a: u8,\n    ghost low: { a < 9 },\n}\n",
+     "3:5: a struct with an invariant: write its impls by hand"),
+    ("struct S {\n    a: u8,\n", "1:8: a bracket that is not closed"),
+    ("struct S {\n    a u8,\n}\n", "2:7: expected :"),
+    # fields
+    ("struct S {\n    a: &u8,\n}\n", "2:8: a type that is no path, as `Vec<String>` is one"),
+    ("struct S {\n    a: (u8, u8),\n}\n", "2:8: a type that is no path, as `Vec<String>` is one"),
+    ("struct S {\n    a: Vec<[u8; 4]>,\n}\n", "2:12: a type that is no path, as `Vec<String>` is one"),
+    ("struct S {\n    a: Option<Option<u8>>,\n}\n", "2:15: an option of an option, which TOML has not"),
+    ("struct S {\n    a: ,\n}\n", "2:8: expected a type"),
+    ("struct S {\n    größe: u8,\n}\n", "2:5: " + KEY),
+    # keys
+    (FIELD % ("alias = \"b\"", "u8"), "2:13: `alias` is not taken: a field has one key"),
+    (FIELD % ("rename(serialize = \"b\")", "u8"), "2:19: " + ONE_KEY),
+    (FIELD % ("rename = b", "u8"), "2:22: expected a string"),
+    (FIELD % (r'rename = "b\"c"', "u8"), "2:22: " + KEY),
+    (FIELD % ('rename = "größe"', "u8"), "2:22: " + KEY),
+    (FIELD % ('rename = r"b"', "u8"), "2:22: " + KEY),
+    ("struct S {\n    a: u8,\n    #[serde(rename = \"a\")]\n    b: u8,\n}\n", "4:5: the key of another field"),
+    (TYPE % 'rename_all = "Title Case"', "1:22: " + CASES),
+    # defaults
+    (FIELD % ("default", "String"), "2:13: " + NO_DEFAULT),
+    (FIELD % ("default", "Vec<u8>"), "2:13: " + NO_DEFAULT),
+    (FIELD % ("default = 1", "Float"), "2:23: " + NO_DEFAULT),
+    (FIELD % ("default = 1", "Option<u8>"), "2:23: an option has no default: where the key lacks it is `None`"),
+    (FIELD % ('default = "port"', "u16"),
+     "2:23: a default by a function, whose value is not known here: write the value, as `default = 8080`"),
+    (FIELD % ("default = 256", "u8"), "2:23: " + MISFIT),
+    (FIELD % ("default = -1", "u8"), "2:23: " + MISFIT),
+    (FIELD % ("default = -129", "i8"), "2:23: " + MISFIT),
+    (FIELD % ("default = true", "u8"), "2:23: " + MISFIT),
+    (FIELD % ("default = 1", "bool"), "2:23: " + MISFIT),
+    (FIELD % ("default = 8080u16", "u16"), "2:23: " + NO_VALUE),
+    (FIELD % ("default = 1 + 1", "u16"), "2:25: " + NO_VALUE),
+    (FIELD % ("default = PORT", "u16"), "2:23: " + NO_VALUE),
+    (FIELD % ("default = 99999999999999999999", "u64"), "2:23: " + NO_VALUE),
+    # what else serde has
+    (FIELD % ('skip_serializing_if = "Option::is_none"', "u8"), "2:35: " + SKIP_IF),
+    (FIELD % ('skip_serializing_if = "is_odd"', "Option<u8>"), "2:35: " + SKIP_IF),
+    *((FIELD % (word, "u8"), "2:13: `%s` is not taken" % word.split()[0])
+      for word in ("skip", "flatten", 'with = "m"', "skip_serializing", "borrow")),
+    *((TYPE % word, "1:9: `%s` is not taken" % word.split()[0])
+      for word in ("default", 'tag = "kind"', 'content = "c"', "untagged", "transparent")),
+    # lists that were not written so
+    (LIST % 'own ⟦<u8 as Returns<\'static>>⟧ "a" (λ s. s.a)\n        done',
+     "6:22: an entry that is none of `needed`, `or` and `maybe`"),
+    (LIST % 'or ⟦<u8 as Returns<\'static>>⟧ "a" (two 3) (λ s. s.a)\n        done', "6:61: expected negsuc"),
+    # names of another's
+    ("use std::error::Error;\n\nstruct S {\n    a: u8,\n}\n",
+     "1:1: the impls need what basic_toml has by this name"),
+    ("use serde::{Deserialize, Serialize};\n\nstruct S {\n    a: u8,\n}\n",
+     "1:1: the impls need what basic_toml has by this name"),
+    ("struct Node {\n    a: u8,\n}\n", "1:8: the impls need what basic_toml has by this name"),
+]

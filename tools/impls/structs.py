@@ -1,0 +1,148 @@
+"""Structs that are made at random, and what the lists of their impls have to say."""
+import re
+
+WORDS = ("host", "port", "name", "limit", "rate", "log", "path", "max", "size", "user", "group", "key", "retry", "cache",
+         "index", "level", "mode", "color", "width", "tab")
+LEAST = {"i8": -2**7, "i16": -2**15, "i32": -2**31, "i64": -2**63, "u8": 0, "u16": 0, "u32": 0, "u64": 0}
+MOST = {"i8": 2**7 - 1, "i16": 2**15 - 1, "i32": 2**31 - 1, "i64": 2**63 - 1, "u8": 2**8 - 1, "u16": 2**16 - 1,
+        "u32": 2**32 - 1, "u64": 2**64 - 1}
+
+
+def capital(word):
+    return word[:1].upper() + word[1:]
+
+
+# Each case of serde, of a name in snake case.
+CASES = {
+    "lowercase": lambda name: name,
+    "UPPERCASE": lambda name: name.upper(),
+    "PascalCase": lambda name: "".join(map(capital, name.split("_"))),
+    "camelCase": lambda name: name.split("_")[0] + "".join(map(capital, name.split("_")[1:])),
+    "snake_case": lambda name: name,
+    "SCREAMING_SNAKE_CASE": lambda name: name.upper(),
+    "kebab-case": lambda name: name.replace("_", "-"),
+    "SCREAMING-KEBAB-CASE": lambda name: name.upper().replace("_", "-"),
+}
+
+
+def integer(kind, value):
+    """Returns an integer as a list of fields has it."""
+    if kind[0] == "u":
+        return str(value)
+    return "(negsuc %d)" % (-value - 1) if value < 0 else "(pos %d)" % value
+
+
+class Field:
+    """A field: its name, its type, its attributes, and its entry in the list."""
+
+    def __init__(self, chance, name, known):
+        self.name = name
+        self.key = None
+        self.default = None
+        self.attributes = []
+        self.kind = self.some_kind(chance, known)
+        self.is_option = chance.random() < 0.25
+        if chance.random() < 0.15:
+            self.key = chance.choice(("the ", "", "x-")) + name.replace("_", chance.choice(("-", " ", ".")))
+            self.attributes.append('rename = "%s"' % self.key)
+        if self.is_option:
+            if chance.random() < 0.2:
+                self.attributes.append('skip_serializing_if = "Option::is_none"')
+        elif chance.random() < 0.5:
+            self.take_default(chance)
+
+    @staticmethod
+    def some_kind(chance, known):
+        kind = chance.choice(sorted(LEAST) + ["bool", "bool", "String", "String", "Float"] + known[-4:])
+        shape = chance.random()
+        if shape < 0.1:
+            return "Vec<%s>" % kind
+        if shape < 0.2:
+            return "BTreeMap<String, %s>" % chance.choice((kind, "Vec<%s>" % kind))
+        return kind
+
+    def take_default(self, chance):
+        if self.kind == "bool":
+            value = chance.choice(("true", "false"))
+            self.default = value
+        elif self.kind in LEAST:
+            number = chance.choice((0, LEAST[self.kind], MOST[self.kind], chance.randint(LEAST[self.kind], MOST[self.kind])))
+            value = hex(number) if number >= 0 and chance.random() < 0.2 else str(number)
+            self.default = integer(self.kind, number)
+        else:
+            return
+        is_own = value in ("0", "false") and chance.random() < 0.5
+        self.attributes.append("default" if is_own else "default = " + value)
+
+    def text(self):
+        """Returns its lines in a struct, by itself or with each attribute on a line of its own."""
+        lines = ["    #[serde(%s)]\n" % one for one in self.attributes]
+        kind = "Option<%s>" % self.kind if self.is_option else self.kind
+        return "%s    pub %s: %s,\n" % ("".join(lines), self.name, kind)
+
+    def entry(self, case):
+        key = self.key or (CASES[case](self.name) if case else self.name)
+        way = "maybe" if self.is_option else "or" if self.default else "needed"
+        default = self.default + " " if self.default else ""
+        return "%s ⟦<%s as Returns<'static>>⟧ \"%s\" %s(λ s. s.%s)" % (way, self.kind, key, default, self.name)
+
+
+class Struct:
+    """A struct of 1 to 40 fields, which may be of earlier structs."""
+
+    def __init__(self, chance, name, known):
+        self.name = name
+        self.case = chance.choice([None, None] + sorted(CASES))
+        self.is_strict = chance.random() < 0.5
+        names = {}
+        for number in range(chance.choice((1, 2, 3, 5, 8, 13, 21, 30, 40))):
+            words = [chance.choice(WORDS) for _ in range(chance.randint(1, 4))]
+            names["_".join(words + [str(number)] if chance.random() < 0.5 else words)] = None
+        self.fields = []
+        keys = set()
+        for one in names:
+            field = Field(chance, one, known)
+            key = field.entry(self.case).split('"')[1]
+            if key not in keys:
+                keys.add(key)
+                self.fields.append(field)
+
+    def text(self):
+        rules = ['rename_all = "%s"' % self.case] if self.case else []
+        rules += ["deny_unknown_fields"] if self.is_strict else []
+        attribute = "#[serde(%s)]\n" % ", ".join(rules) if rules else ""
+        fields = "".join(field.text() for field in self.fields)
+        return "/// A record.\n#[derive(Debug, Drop, Serialize, Deserialize)]\n%spub struct %s {\n%s}\n" % (attribute, self.name, fields)
+
+    def listed(self):
+        return self.is_strict, [field.entry(self.case) for field in self.fields]
+
+
+class File:
+    """A file of structs."""
+
+    def __init__(self, chance, first, count):
+        self.structs = []
+        for number in range(first, first + count):
+            name = "%s%s%d" % (capital(chance.choice(WORDS)), capital(chance.choice(WORDS)), number)
+            self.structs.append(Struct(chance, name, [struct.name for struct in self.structs]))
+
+    def text(self):
+        head = "//! Records that were made at random.\n\nuse basic_toml::Float;\nuse std::collections::BTreeMap;\n\n"
+        return head + "\n".join(struct.text() for struct in self.structs)
+
+
+def changed(chance, text, made):
+    """Returns the name of a struct, and the text with a field of it changed: left out, added or given another type."""
+    struct = chance.choice(made.structs)
+    found = re.search(r"^pub struct %s \{\n(.*?)^\}\n" % struct.name, text, re.M | re.S)
+    lines = found[1].splitlines(keepends=True)
+    way = chance.choice(("add", "drop", "change"))
+    place = chance.randrange(len(lines))
+    if way == "add" or (way == "drop" and len(lines) == 1):
+        lines.insert(place, "    pub a_new_one: u16,\n")
+    elif way == "drop":
+        del lines[place]
+    else:
+        lines[place] = re.sub(r": .*", ": Option<Vec<Vec<u16>>>,", lines[place])
+    return struct.name, text[:found.start(1)] + "".join(lines) + text[found.end(1):]
