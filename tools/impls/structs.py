@@ -1,4 +1,4 @@
-"""Structs that are made at random, and what the lists of their impls have to say."""
+"""Types that are made at random, and what their impls have to say."""
 import re
 
 WORDS = ("host", "port", "name", "limit", "rate", "log", "path", "max", "size", "user", "group", "key", "retry", "cache",
@@ -22,6 +22,24 @@ CASES = {
     "SCREAMING_SNAKE_CASE": lambda name: name.upper(),
     "kebab-case": lambda name: name.replace("_", "-"),
     "SCREAMING-KEBAB-CASE": lambda name: name.upper().replace("_", "-"),
+}
+
+
+def parted(name):
+    """Returns a name in Pascal case in snake case."""
+    return re.sub(r"(?<!^)(?=[A-Z])", "_", name).lower()
+
+
+# Each case of serde, of a name in Pascal case.
+VARIANT_CASES = {
+    "lowercase": lambda name: name.lower(),
+    "UPPERCASE": lambda name: name.upper(),
+    "PascalCase": lambda name: name,
+    "camelCase": lambda name: name[:1].lower() + name[1:],
+    "snake_case": parted,
+    "SCREAMING_SNAKE_CASE": lambda name: parted(name).upper(),
+    "kebab-case": lambda name: parted(name).replace("_", "-"),
+    "SCREAMING-KEBAB-CASE": lambda name: parted(name).upper().replace("_", "-"),
 }
 
 
@@ -118,18 +136,48 @@ class Struct:
         return self.is_strict, [field.entry(self.case) for field in self.fields]
 
 
+class Enum:
+    """An enum of 1 to 12 variants."""
+
+    def __init__(self, chance, name):
+        self.name = name
+        self.case = chance.choice([None] + sorted(VARIANT_CASES))
+        self.variants = {}
+        for _ in range(chance.choice((1, 2, 3, 5, 8, 12))):
+            variant = "".join(capital(chance.choice(WORDS)) for _ in range(chance.randint(1, 3)))
+            key = "the " + variant if chance.random() < 0.2 else None
+            if variant not in self.variants and (key or self.key(variant)) not in map(self.key, self.variants):
+                self.variants[variant] = key
+
+    def key(self, variant):
+        return self.variants.get(variant) or (VARIANT_CASES[self.case](variant) if self.case else variant)
+
+    def text(self):
+        rule = '#[serde(rename_all = "%s")]\n' % self.case if self.case else ""
+        lines = ['    #[serde(rename = "%s")]\n    %s,\n' % (key, variant) if key else "    %s,\n" % variant
+                 for variant, key in self.variants.items()]
+        return "/// A choice.\n#[derive(Debug, Clone, Copy, Serialize, Deserialize)]\n%spub enum %s {\n%s}\n" % (
+            rule, self.name, "".join(lines))
+
+    def listed(self):
+        return {variant: self.key(variant) for variant in self.variants}
+
+
 class File:
-    """A file of structs."""
+    """A file of structs, and of enums that they have fields of."""
 
     def __init__(self, chance, first, count):
         self.structs = []
+        self.module = "made::made_%d" % (first // 10)
+        self.enums = [Enum(chance, "%s%sOf%d" % (capital(chance.choice(WORDS)), capital(chance.choice(WORDS)), first + number))
+                      for number in range(2)]
         for number in range(first, first + count):
             name = "%s%s%d" % (capital(chance.choice(WORDS)), capital(chance.choice(WORDS)), number)
-            self.structs.append(Struct(chance, name, [struct.name for struct in self.structs]))
+            self.structs.append(Struct(chance, name, [one.name for one in self.enums + self.structs]))
 
     def text(self):
         head = "//! Records that were made at random.\n\nuse basic_toml::Float;\nuse std::collections::BTreeMap;\n\n"
-        return head + "\n".join(struct.text() for struct in self.structs)
+        return head + "\n".join(one.text() for one in self.enums + self.structs)
 
 
 def changed(chance, text, made):

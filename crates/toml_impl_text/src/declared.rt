@@ -1,4 +1,4 @@
-//! The structs of a file, as they stand there.
+//! The types of a file, as they stand there.
 
 use crate::cursor::Cursor;
 use crate::items::{Attribute, Item, attribute_behind};
@@ -21,11 +21,39 @@ pub fn type_name<'t>(item: &Item<'_, 't>) -> Result<Token<'t>, NoImpls<'t>> {
     tokens.take(Kind::Word, "a name")
 }
 
+/// A variant, as it stands in its enum.
+#[derive(Drop)]
+pub struct DeclaredVariant<'c, 't> {
+    pub attributes: Vec<Attribute<'c, 't>>,
+    pub name: Token<'t>,
+}
+
 /// The fields of a struct.
 pub fn declared_fields<'c, 't>(
     alloc: Global,
     item: &Item<'c, 't>,
 ) -> Result<Vec<DeclaredField<'c, 't>>, NoImpls<'t>> {
+    let mut fields = Vec::new(alloc);
+    for part in members(alloc, item)? {
+        fields.push(declared_field(alloc, part)?)?;
+    }
+    Ok(fields)
+}
+
+/// The variants of an enum.
+pub fn declared_variants<'c, 't>(
+    alloc: Global,
+    item: &Item<'c, 't>,
+) -> Result<Vec<DeclaredVariant<'c, 't>>, NoImpls<'t>> {
+    let mut variants = Vec::new(alloc);
+    for part in members(alloc, item)? {
+        variants.push(declared_variant(alloc, part)?)?;
+    }
+    Ok(variants)
+}
+
+// What stands between the braces of a type, part for part.
+fn members<'c, 't>(alloc: Global, item: &Item<'c, 't>) -> Result<Vec<Cursor<'c, 't>>, NoImpls<'t>> {
     let mut tokens = item.tokens;
     let name = tokens.take(Kind::Word, "a name")?;
     let at = tokens.at();
@@ -36,17 +64,26 @@ pub fn declared_fields<'c, 't>(
         return Err(NoImpls::At(at, Reason::NotNamed));
     }
     if tokens.sees(";") {
-        return Err(NoImpls::At(name.at, Reason::NoFields));
+        return Err(NoImpls::At(name.at, Reason::Empty));
     }
     tokens.expect("{")?;
-    let mut fields = Vec::new(alloc);
-    for part in tokens.group()?.parts(alloc)? {
-        fields.push(declared_field(alloc, part)?)?;
+    let parts = tokens.group()?.parts(alloc)?;
+    if parts.is_empty() {
+        return Err(NoImpls::At(name.at, Reason::Empty));
     }
-    if fields.is_empty() {
-        return Err(NoImpls::At(name.at, Reason::NoFields));
+    Ok(parts)
+}
+
+fn declared_variant<'c, 't>(
+    alloc: Global,
+    mut tokens: Cursor<'c, 't>,
+) -> Result<DeclaredVariant<'c, 't>, NoImpls<'t>> {
+    let attributes = attributes(alloc, &mut tokens)?;
+    let name = tokens.take(Kind::Word, "a variant")?;
+    if tokens.sees("(") || tokens.sees("{") {
+        return Err(NoImpls::At(tokens.at(), Reason::VariantData));
     }
-    Ok(fields)
+    Ok(DeclaredVariant { attributes, name })
 }
 
 fn declared_field<'c, 't>(

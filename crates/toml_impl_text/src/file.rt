@@ -1,15 +1,17 @@
 //! A file with the impls of its types.
 
+use crate::choice::{Choice, choice_of, listing_impl, variant_list, variants_path};
+use crate::choice_templates::choice_impls;
 use crate::cursor::Cursor;
 use crate::cuts::cut;
-use crate::declared::{declared_fields, type_name};
+use crate::declared::{declared_fields, declared_variants, type_name};
 use crate::edits::{Edit, edited};
 use crate::imports::imports_of;
 use crate::items::{Attribute, Item, ItemKind, items_of};
-use crate::lexer::tokens_of;
+use crate::lexer::{Token, tokens_of};
 use crate::merge::use_edits;
 use crate::record::{Record, record_of};
-use crate::refusal::{NoImpls, Reason};
+use crate::refusal::NoImpls;
 use crate::rules::type_rules;
 use crate::templates::{Impl, impls_of};
 use crate::uses::{refuse_taken, uses_of};
@@ -17,90 +19,162 @@ use crate::wanted::is_wanted;
 use crate::written::{is_impl, list_of};
 use std::alloc::{AllocError, Global};
 
-/// The text of a file with the impls of its structs behind them, in place of those that it had, and with the `use`
-/// lines that they need. All else is as it was.
+/// The types of a file that get impls.
+#[derive(Drop)]
+pub struct Types<'t> {
+    pub records: Vec<Record<'t>>,
+    pub choices: Vec<Choice<'t>>,
+}
+
+/// The text of a file with the impls of its types behind them, in place of those that it had, and with the `use` lines
+/// that they need. All else is as it was. An enum needs the path of its `module`, unless it has impls already.
 ///
 /// # Errors
 ///
 /// What is refused first, and want of memory.
-pub fn with_impls<'t>(alloc: Global, text: &'t str) -> Result<String, NoImpls<'t>> {
+pub fn with_impls<'t>(
+    alloc: Global,
+    text: &'t str,
+    module: Option<&str>,
+) -> Result<String, NoImpls<'t>> {
     let tokens = tokens_of(alloc, text)?;
     let cursor = Cursor {
         rest: tokens.as_slice(),
         end: text.len(),
     };
     let items = items_of(alloc, cursor)?;
+    let file = File {
+        text,
+        module,
+        items: items.as_slice(),
+    };
+    let mut types = Types {
+        records: Vec::new(alloc),
+        choices: Vec::new(alloc),
+    };
     let mut edits = Vec::new(alloc);
-    let mut records = Vec::new(alloc);
     for item in &items {
         if item.kind.is_type() {
-            let name = type_name(item)?;
-            if is_wanted(alloc, items.as_slice(), item, name.text)? {
-                let record = record_in(alloc, items.as_slice(), item, name.text)?;
-                cut_all(alloc, text, item, &mut edits)?;
-                add_impls(alloc, items.as_slice(), item, &record, &mut edits)?;
-                records.push(record)?;
-            }
+            add_type(alloc, file, item, &mut types, &mut edits)?;
         }
     }
-    let imports = imports_of(alloc, records.as_slice())?;
-    let uses = uses_of(alloc, text, items.as_slice())?;
-    refuse_taken(items.as_slice(), uses.as_slice(), imports.as_slice())?;
-    for edit in use_edits(alloc, text, uses.as_slice(), imports.as_slice())? {
-        edits.push(edit)?;
-    }
+    add_uses(alloc, file, &types, &mut edits)?;
     Ok(edited(alloc, text, edits)?)
 }
 
-// The record that a type is.
-fn record_in<'t>(
-    alloc: Global,
-    items: &[Item<'_, 't>],
-    item: &Item<'_, 't>,
-    name: &'t str,
-) -> Result<Record<'t>, NoImpls<'t>> {
-    if item.kind == ItemKind::Enum {
-        return Err(NoImpls::At(item.from, Reason::EnumNotYet));
-    }
-    let rules = type_rules(alloc, item.attributes.as_slice())?;
-    let fields = declared_fields(alloc, item)?;
-    let list = list_of(alloc, items, name)?;
-    record_of(alloc, name, rules, fields.as_slice(), &list)
+// A file as it is.
+#[derive(Clone, Copy)]
+struct File<'i, 'c, 't> {
+    text: &'t str,
+    module: Option<&'i str>,
+    items: &'i [Item<'c, 't>],
 }
 
-// Cuts what serde has at a type and its fields.
-fn cut_all<'t>(
+// Adds a type, and the changes that give it its impls, if it is wanted.
+fn add_type<'t>(
     alloc: Global,
-    text: &str,
+    file: File<'_, '_, 't>,
     item: &Item<'_, 't>,
+    types: &mut Types<'t>,
     edits: &mut Vec<Edit>,
 ) -> Result<(), NoImpls<'t>> {
-    for attribute in &item.attributes {
+    let name = type_name(item)?;
+    if !is_wanted(alloc, file.items, item, name.text)? {
+        return Ok(());
+    }
+    cut_from(alloc, file.text, item.attributes.as_slice(), edits)?;
+    if item.kind == ItemKind::Enum {
+        let choice = choice_in(alloc, file, item, name, edits)?;
+        add_impls(
+            alloc,
+            file,
+            item,
+            name.text,
+            choice_impls(alloc, &choice)?,
+            edits,
+        )?;
+        types.choices.push(choice)?;
+    } else {
+        let record = record_in(alloc, file, item, name, edits)?;
+        add_impls(
+            alloc,
+            file,
+            item,
+            name.text,
+            impls_of(alloc, &record)?,
+            edits,
+        )?;
+        types.records.push(record)?;
+    }
+    Ok(())
+}
+
+// The record that a struct is. What serde has at its fields is cut.
+fn record_in<'t>(
+    alloc: Global,
+    file: File<'_, '_, 't>,
+    item: &Item<'_, 't>,
+    name: Token<'t>,
+    edits: &mut Vec<Edit>,
+) -> Result<Record<'t>, NoImpls<'t>> {
+    let rules = type_rules(alloc, item.attributes.as_slice())?;
+    let fields = declared_fields(alloc, item)?;
+    for field in &fields {
+        cut_from(alloc, file.text, field.attributes.as_slice(), edits)?;
+    }
+    let list = list_of(alloc, file.items, name.text)?;
+    record_of(alloc, name.text, rules, fields.as_slice(), &list)
+}
+
+// The choice that an enum is. What serde has at its variants is cut.
+fn choice_in<'t>(
+    alloc: Global,
+    file: File<'_, '_, 't>,
+    item: &Item<'_, 't>,
+    name: Token<'t>,
+    edits: &mut Vec<Edit>,
+) -> Result<Choice<'t>, NoImpls<'t>> {
+    let rules = type_rules(alloc, item.attributes.as_slice())?;
+    let variants = declared_variants(alloc, item)?;
+    for variant in &variants {
+        cut_from(alloc, file.text, variant.attributes.as_slice(), edits)?;
+    }
+    let listing = listing_impl(file.items, name.text);
+    let list = match listing {
+        Some(listing) => Some(variant_list(alloc, listing)?),
+        None => None,
+    };
+    let path = variants_path(alloc, file.text, name, file.module, listing)?;
+    choice_of(alloc, name.text, path, rules, variants.as_slice(), &list)
+}
+
+// Cuts what serde has in some attributes.
+fn cut_from<'t>(
+    alloc: Global,
+    text: &str,
+    attributes: &[Attribute<'_, 't>],
+    edits: &mut Vec<Edit>,
+) -> Result<(), NoImpls<'t>> {
+    for attribute in attributes {
         if let Some(edit) = cut(alloc, text, attribute)? {
             edits.push(edit)?;
-        }
-    }
-    for field in declared_fields(alloc, item)? {
-        for attribute in &field.attributes {
-            if let Some(edit) = cut(alloc, text, attribute)? {
-                edits.push(edit)?;
-            }
         }
     }
     Ok(())
 }
 
-// The impls of a record: each in place of the one that the file has, or behind the one before it.
+// The impls of a type: each in place of the one that the file has, or behind the one before it.
 fn add_impls(
     alloc: Global,
-    items: &[Item<'_, '_>],
+    file: File<'_, '_, '_>,
     item: &Item<'_, '_>,
-    record: &Record<'_>,
+    name: &str,
+    impls: Vec<Impl>,
     edits: &mut Vec<Edit>,
 ) -> Result<(), AllocError> {
     let mut place = item.to;
-    for Impl { of, text } in impls_of(alloc, record)? {
-        match items.iter().find(|item| is_impl(item, of, record.name)) {
+    for Impl { of, text } in impls {
+        match file.items.iter().find(|item| is_impl(item, of, name)) {
             Some(old) => {
                 edits.push(Edit {
                     from: old.from,
@@ -115,6 +189,22 @@ fn add_impls(
                 text: format!(in alloc; "\n\n{text}")?,
             })?,
         }
+    }
+    Ok(())
+}
+
+// The `use` lines that the impls of some types need.
+fn add_uses<'t>(
+    alloc: Global,
+    file: File<'_, '_, 't>,
+    types: &Types<'t>,
+    edits: &mut Vec<Edit>,
+) -> Result<(), NoImpls<'t>> {
+    let imports = imports_of(alloc, types)?;
+    let uses = uses_of(alloc, file.text, file.items)?;
+    refuse_taken(file.items, uses.as_slice(), imports.as_slice())?;
+    for edit in use_edits(alloc, file.text, uses.as_slice(), imports.as_slice())? {
+        edits.push(edit)?;
     }
     Ok(())
 }

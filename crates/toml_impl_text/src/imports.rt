@@ -1,6 +1,7 @@
 //! The names that impls need, and the paths that have them.
 
-use crate::record::{Field, Presence, Record};
+use crate::file::Types;
+use crate::record::{Field, Presence};
 use std::alloc::{AllocError, Global};
 
 /// Names that impls need from one path.
@@ -13,16 +14,31 @@ pub struct Import {
     pub names: Vec<&'static str>,
 }
 
-// What impls may need, by paths, each as a line of the file has it.
-const GHOST: [(&str, &[&str]); 3] = [
+// What the clauses of impls may need, by paths.
+const GHOST: [(&str, &[&str]); 9] = [
     (
         "Rattle.std.specs.Prelude",
-        &["false", "negsuc", "pos", "refl", "true"],
+        &[
+            "◌∷◌",
+            "[]",
+            "codes",
+            "false",
+            "negsuc",
+            "pos",
+            "refl",
+            "true",
+        ],
     ),
+    ("Rattle.basic_toml.specs.Data", &["string"]),
+    ("Rattle.basic_toml.specs.FieldFaults", &["variant_fails"]),
+    ("Rattle.basic_toml.specs.FieldKeys", &["key_of"]),
+    ("Rattle.basic_toml.specs.Impls", &["scalar_calls"]),
     (
         "Rattle.basic_toml.specs.Records",
         &["record_faults", "record_reads"],
     ),
+    ("Rattle.basic_toml.specs.TypeReads", &["IsVariant"]),
+    ("Rattle.basic_toml.specs.Written", &["other_text"]),
     (
         "Rattle.basic_toml_returns.specs.RoundTrips",
         &[
@@ -40,6 +56,7 @@ const GHOST: [(&str, &[&str]); 3] = [
     ),
 ];
 
+// What their code may need.
 const CODE: [(&str, &[&str]); 4] = [
     (
         "basic_toml",
@@ -53,6 +70,7 @@ const CODE: [(&str, &[&str]); 4] = [
             "Tree",
             "WriteError",
             "from_str",
+            "variant",
         ],
     ),
     ("basic_toml_returns", &["Returns", "Root", "RoundTrip"]),
@@ -60,17 +78,14 @@ const CODE: [(&str, &[&str]); 4] = [
     ("std::alloc", &["Global"]),
 ];
 
-/// What the impls of some records need; nothing where there is no record.
-pub fn imports_of(alloc: Global, records: &[Record<'_>]) -> Result<Vec<Import>, AllocError> {
+/// What the impls of some types need.
+pub fn imports_of(alloc: Global, types: &Types<'_>) -> Result<Vec<Import>, AllocError> {
     let mut imports = Vec::new(alloc);
-    if records.is_empty() {
-        return Ok(imports);
-    }
     for (path, names) in GHOST {
-        imports.push(import_from(alloc, true, path, names, records)?)?;
+        imports.push(import_from(alloc, true, path, names, types)?)?;
     }
     for (path, names) in CODE {
-        imports.push(import_from(alloc, false, path, names, records)?)?;
+        imports.push(import_from(alloc, false, path, names, types)?)?;
     }
     Ok(imports)
 }
@@ -80,11 +95,11 @@ fn import_from(
     is_ghost: bool,
     path: &'static str,
     names: &[&'static str],
-    records: &[Record<'_>],
+    types: &Types<'_>,
 ) -> Result<Import, AllocError> {
     let mut needed = Vec::new(alloc);
     for name in names {
-        if is_needed(records, name) {
+        if is_needed(types, name) {
             needed.push(*name)?;
         }
     }
@@ -95,13 +110,32 @@ fn import_from(
     })
 }
 
-fn is_needed(records: &[Record<'_>], name: &str) -> bool {
+fn is_needed(types: &Types<'_>, name: &str) -> bool {
     match name {
-        "strict" => records.iter().any(|record| record.is_strict),
-        "needed" | "maybe" | "or" | "true" | "false" | "pos" | "negsuc" => records.iter().any(
+        "strict" => types.records.iter().any(|record| record.is_strict),
+        "needed" | "maybe" | "or" | "true" | "false" | "pos" | "negsuc" => types.records.iter().any(
             |record| record.fields.iter().any(|field| has_word(field, name)),
         ),
-        _ => true,
+        "◌∷◌"
+        | "[]"
+        | "codes"
+        | "string"
+        | "variant_fails"
+        | "key_of"
+        | "scalar_calls"
+        | "IsVariant"
+        | "other_text"
+        | "variant" => !types.choices.is_empty(),
+        "Deserialize"
+        | "Error"
+        | "Node"
+        | "Serialize"
+        | "Serializer"
+        | "Tree"
+        | "WriteError"
+        | "Returns"
+        | "Global" => !types.records.is_empty() || !types.choices.is_empty(),
+        _ => !types.records.is_empty(),
     }
 }
 

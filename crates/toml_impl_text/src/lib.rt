@@ -2,6 +2,8 @@
 #![tactic(auto)]
 
 mod case;
+mod choice;
+mod choice_templates;
 mod cursor;
 mod cuts;
 mod declared;
@@ -9,6 +11,7 @@ mod edits;
 mod file;
 mod imports;
 mod items;
+mod layout;
 mod lexer;
 mod literal;
 mod merge;

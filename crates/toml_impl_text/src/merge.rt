@@ -2,6 +2,7 @@
 
 use crate::edits::Edit;
 use crate::imports::Import;
+use crate::layout::{filled, listed};
 use crate::uses::Use;
 use std::alloc::{AllocError, Global};
 
@@ -106,35 +107,8 @@ fn use_line(
     if line.len() <= LINE {
         return Ok(line);
     }
-    let filled = filled(alloc, names)?;
-    format!(in alloc; "use {path}::{{{filled}\n}};")
-}
-
-// Names with commas between them.
-fn listed(alloc: Global, names: &[&str]) -> Result<String, AllocError> {
-    let mut text = String::new(alloc);
-    for name in names {
-        text.push_str(if text.is_empty() { "" } else { ", " })?;
-        text.push_str(name)?;
-    }
-    Ok(text)
-}
-
-// Names with a comma behind each, as many on a line as there is room for.
-fn filled(alloc: Global, names: &[&str]) -> Result<String, AllocError> {
-    let mut text = String::new(alloc);
-    let mut left = 0;
-    for name in names {
-        let width = name.len().saturating_add(2);
-        if width > left {
-            write!(text, "\n    {name},")?;
-            left = NAMES.saturating_sub(width).saturating_sub(3);
-        } else {
-            write!(text, " {name},")?;
-            left -= width;
-        }
-    }
-    Ok(text)
+    let names = filled(alloc, names, 4, NAMES)?;
+    format!(in alloc; "use {path}::{{{names}\n}};")
 }
 
 // Places the new lines of one kind.

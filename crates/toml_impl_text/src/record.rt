@@ -83,7 +83,7 @@ fn field_of<'t>(
     Ok(Field {
         name: field.name.text,
         key: key_of(alloc, types, field, rules, entry)?,
-        presence: presence_of(&kind, rules, field.name.at, entry)?,
+        presence: presence_of(&kind, rules, field.name.at, listed_default(entry))?,
         kind: kind.name,
     })
 }
@@ -109,60 +109,62 @@ fn key_of<'t>(
     Ok(key)
 }
 
-// Whether the key of a field has to be there: by what its attribute says, else by what the list has.
+fn listed_default(entry: Option<Entry<'_>>) -> Option<Literal> {
+    match entry {
+        Some(entry) => entry.default,
+        None => None,
+    }
+}
+
+// Whether the key of a field has to be there: by what its attribute says, else by the default that the list has.
 fn presence_of<'t>(
     kind: &FieldType,
     rules: FieldRules<'t>,
     at: usize,
-    entry: Option<Entry<'t>>,
+    listed: Option<Literal>,
 ) -> Result<Presence, NoImpls<'t>> {
     if kind.is_option {
-        return option_presence(rules);
+        return option_presence(rules.default);
     }
-    match (rules.skips_none, rules.default) {
-        (Some(at), _) => Err(NoImpls::At(at, Reason::SkipIf)),
-        (None, DefaultRule::OfType(at)) => or_own(kind, at),
-        (None, DefaultRule::Value(at, value)) => or(kind, at, value),
-        (None, DefaultRule::Unsaid) => listed_presence(kind, at, entry),
+    if let Some(at) = rules.skips_none {
+        return Err(NoImpls::At(at, Reason::SkipIf));
+    }
+    let kind = kind.name.as_str();
+    match rules.default {
+        DefaultRule::OfType(at) => or_own(kind, at),
+        DefaultRule::Value(at, value) => or(kind, at, value),
+        DefaultRule::Unsaid => or_needed(kind, at, listed),
     }
 }
 
-fn option_presence<'t>(rules: FieldRules<'t>) -> Result<Presence, NoImpls<'t>> {
-    match rules.default {
+fn option_presence<'t>(default: DefaultRule) -> Result<Presence, NoImpls<'t>> {
+    match default {
         DefaultRule::Value(at, _) => Err(NoImpls::At(at, Reason::DefaultOfOption)),
         _ => Ok(Presence::Maybe),
     }
 }
 
-fn listed_presence<'t>(
-    kind: &FieldType,
-    at: usize,
-    entry: Option<Entry<'t>>,
-) -> Result<Presence, NoImpls<'t>> {
-    match entry {
-        Some(
-            Entry {
-                default: Some(value),
-                ..
-            },
-        ) => or(kind, at, value),
-        _ => Ok(Presence::Needed),
-    }
+// With a default, if there is one.
+fn or_needed<'t>(kind: &str, at: usize, default: Option<Literal>) -> Result<Presence, NoImpls<'t>> {
+    let Some(value) = default else {
+        return Ok(Presence::Needed);
+    };
+    or(kind, at, value)
 }
 
 // With the default of its type.
-fn or_own<'t>(kind: &FieldType, at: usize) -> Result<Presence, NoImpls<'t>> {
-    match Literal::default_of(kind.name.as_str()) {
+fn or_own<'t>(kind: &str, at: usize) -> Result<Presence, NoImpls<'t>> {
+    match Literal::default_of(kind) {
         Some(value) => Ok(Presence::Or(value)),
         None => Err(NoImpls::At(at, Reason::DefaultOfType)),
     }
 }
 
 // With a default.
-fn or<'t>(kind: &FieldType, at: usize, value: Literal) -> Result<Presence, NoImpls<'t>> {
-    if value.is_of(kind.name.as_str()) {
+fn or<'t>(kind: &str, at: usize, value: Literal) -> Result<Presence, NoImpls<'t>> {
+    if value.is_of(kind) {
         Ok(Presence::Or(value))
-    } else if Literal::default_of(kind.name.as_str()).is_none() {
+    } else if Literal::default_of(kind).is_none() {
         Err(NoImpls::At(at, Reason::DefaultOfType))
     } else {
         Err(NoImpls::At(at, Reason::DefaultMisfit))

@@ -34,9 +34,12 @@ pub enum Reason<'t> {
     Expected(&'static str),
     Generic,
     NotNamed,
-    NoFields,
+    /// A type without fields or variants.
+    Empty,
     Invariant,
-    EnumNotYet,
+    VariantData,
+    /// An enum, where the path of its module is not known.
+    NoModule,
     /// The type of a field that no TOML value has.
     FieldType,
     NestedOption,
@@ -45,6 +48,8 @@ pub enum Reason<'t> {
     Alias,
     TwoNames,
     SkipIf,
+    /// What only a field may have.
+    OfVariant,
     /// `rename_all` in none of serde's cases.
     Case,
     Key,
@@ -79,9 +84,12 @@ impl Reason<'_> {
         match self {
             Reason::Generic => "a generic type: write its impls by hand",
             Reason::NotNamed => "a struct without named fields: write its impls by hand",
-            Reason::NoFields => "a struct without fields: write its impls by hand",
+            Reason::Empty => "a type without fields or variants: write its impls by hand",
             Reason::Invariant => "a struct with an invariant: write its impls by hand",
-            Reason::EnumNotYet => "an enum: not yet",
+            Reason::VariantData => "a variant with data: write the impls by hand",
+            Reason::NoModule => {
+                "an enum needs the path of its module: --module my_crate::settings"
+            }
             Reason::FieldType => "a type that is no path, as `Vec<String>` is one",
             Reason::NestedOption => "an option of an option, which TOML has not",
             Reason::Alias => "`alias` is not taken: a field has one key",
@@ -89,6 +97,7 @@ impl Reason<'_> {
             Reason::SkipIf => {
                 "only `skip_serializing_if = \"Option::is_none\"` is taken, at an option"
             }
+            Reason::OfVariant => "a variant has no default, and is not left out",
             Reason::Case => {
                 "none of lowercase, UPPERCASE, PascalCase, camelCase, snake_case, \
                  SCREAMING_SNAKE_CASE, kebab-case and SCREAMING-KEBAB-CASE"

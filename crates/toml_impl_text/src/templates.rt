@@ -1,12 +1,8 @@
 //! The impls of a record, as they are written.
 
+use crate::layout::{push_call, push_signature};
 use crate::record::{Field, Presence, Record};
 use std::alloc::{AllocError, Global};
-
-// The width that a line of code may have, and the one that the arguments of a call on one line may have.
-const LINE: usize = 100;
-
-const ARGUMENTS: usize = 60;
 
 /// An impl: the trait, and its text.
 #[derive(Drop)]
@@ -90,7 +86,6 @@ impl<'de> Deserialize<'de> for {name} {{
     ghost reads = {{ record_reads ⟦<{name} as Record>⟧.fields }};
 
     ghost faults = {{ record_faults ⟦<{name} as Record>⟧.fields }};
-
 "
     )?;
     let result = format!(in alloc; "Result<{name}, Error>")?;
@@ -102,11 +97,11 @@ impl<'de> Deserialize<'de> for {name} {{
         result.as_str(),
     )?;
     let only = if record.is_strict { "only " } else { "" };
-    write!(text, "        read_record!(alloc, node, {only}{name} {{\n")?;
+    write!(text, "\n        read_record!(alloc, node, {only}{name} {{")?;
     for field in &record.fields {
         push_read(&mut text, field)?;
     }
-    text.push_str("        })\n    }\n\n")?;
+    text.push_str("\n        })\n    }\n")?;
     push_signature(
         alloc,
         &mut text,
@@ -116,7 +111,7 @@ impl<'de> Deserialize<'de> for {name} {{
     )?;
     write!(
         text,
-        "        {name}::deserialize(alloc, tree.root())\n    }}\n}}"
+        "\n        {name}::deserialize(alloc, tree.root())\n    }}\n}}"
     )?;
     Ok(text)
 }
@@ -124,9 +119,9 @@ impl<'de> Deserialize<'de> for {name} {{
 fn push_read(text: &mut String, field: &Field<'_>) -> Result<(), AllocError> {
     let Field { name, key, .. } = field;
     match field.presence {
-        Presence::Needed => write!(text, "            {name} = needed(\"{key}\"),\n"),
-        Presence::Maybe => write!(text, "            {name} = maybe(\"{key}\"),\n"),
-        Presence::Or(value) => write!(text, "            {name} = or(\"{key}\", {value}),\n"),
+        Presence::Needed => write!(text, "\n            {name} = needed(\"{key}\"),"),
+        Presence::Maybe => write!(text, "\n            {name} = maybe(\"{key}\"),"),
+        Presence::Or(value) => write!(text, "\n            {name} = or(\"{key}\", {value}),"),
     }
 }
 
@@ -141,27 +136,16 @@ impl Serialize for {name} {{
     ghost holds = {{ record_holds ⟦<{name} as RoundTrip>⟧.fields }};
 
     fn serialize(&self, _alloc: Global, ser: &mut Serializer) -> Result<(), WriteError> {{
-        ser.serialize_struct(\"{name}\", {count})?;
-"
+        ser.serialize_struct(\"{name}\", {count})?;"
     )?;
     for field in &record.fields {
-        push_write(alloc, &mut text, field)?;
+        let key = format!(in alloc; "\"{}\"", field.key)?;
+        let value = format!(in alloc; "&self.{}", field.name)?;
+        let arguments = [key.as_str(), value.as_str()];
+        push_call(alloc, &mut text, "ser.serialize_field", &arguments, 8, "?;")?;
     }
-    text.push_str("        ser.end()\n    }\n}")?;
+    text.push_str("\n        ser.end()\n    }\n}")?;
     Ok(text)
-}
-
-fn push_write(alloc: Global, text: &mut String, field: &Field<'_>) -> Result<(), AllocError> {
-    let Field { name, key, .. } = field;
-    let arguments = format!(in alloc; "\"{key}\", &self.{name}")?;
-    if arguments.len() <= ARGUMENTS {
-        write!(text, "        ser.serialize_field({arguments})?;\n")
-    } else {
-        write!(
-            text,
-            "        ser.serialize_field(\n            \"{key}\",\n            &self.{name},\n        )?;\n"
-        )
-    }
 }
 
 fn returns(alloc: Global, name: &str) -> Result<String, AllocError> {
@@ -176,7 +160,7 @@ impl<'de> Returns<'de> for {name} {{
 }
 
 fn root(alloc: Global, name: &str) -> Result<String, AllocError> {
-    let mut text = format!(in alloc; "impl<'de> Root<'de> for {name} {{\n")?;
+    let mut text = format!(in alloc; "impl<'de> Root<'de> for {name} {{")?;
     let result = format!(in alloc; "Result<{name}, Error>")?;
     push_signature(
         alloc,
@@ -185,32 +169,6 @@ fn root(alloc: Global, name: &str) -> Result<String, AllocError> {
         &["alloc: Global", "text: &str"],
         result.as_str(),
     )?;
-    text.push_str("        from_str(alloc, text)\n    }\n}")?;
+    text.push_str("\n        from_str(alloc, text)\n    }\n}")?;
     Ok(text)
-}
-
-// The first line of a function, or its first lines where that would be too long.
-fn push_signature(
-    alloc: Global,
-    text: &mut String,
-    name: &str,
-    parameters: &[&str],
-    returned: &str,
-) -> Result<(), AllocError> {
-    let mut line = format!(in alloc; "    fn {name}(")?;
-    for (index, parameter) in parameters.iter().enumerate() {
-        line.push_str(if index == 0 { "" } else { ", " })?;
-        line.push_str(parameter)?;
-    }
-    write!(line, ") -> {returned} {{")?;
-    if line.len() <= LINE {
-        text.push_str(line.as_str())?;
-    } else {
-        write!(text, "    fn {name}(\n")?;
-        for parameter in parameters {
-            write!(text, "        {parameter},\n")?;
-        }
-        write!(text, "    ) -> {returned} {{")?;
-    }
-    text.push('\n')
 }

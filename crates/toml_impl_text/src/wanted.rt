@@ -1,5 +1,6 @@
 //! Which types of a file get impls.
 
+use crate::choice::listing_impl;
 use crate::cursor::Cursor;
 use crate::cuts::asks;
 use crate::items::Item;
@@ -25,7 +26,8 @@ pub fn is_wanted<'t>(
     item: &Item<'_, 't>,
     name: &str,
 ) -> Result<bool, NoImpls<'t>> {
-    if has_impl(items, "RoundTrip", name) || has_rule(item.tokens) {
+    let is_listed = has_impl(items, "RoundTrip", name) || listing_impl(items, name).is_some();
+    if is_listed || has_rule(item.tokens) {
         return Ok(true);
     }
     for attribute in &item.attributes {

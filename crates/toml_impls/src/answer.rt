@@ -19,19 +19,19 @@ pub struct Answer {
     pub text: String,
 }
 
-/// Writes the impls of a file into it.
+/// Writes the impls of the types of a file into it, of which the path of its `module` may be known.
 ///
 /// # Errors
 ///
 /// Want of memory alone.
-pub fn answer_to(alloc: Global, input: &[u8]) -> Result<Answer, AllocError> {
+pub fn answer_to(alloc: Global, module: Option<&str>, input: &[u8]) -> Result<Answer, AllocError> {
     let Ok(text) = str::from_utf8(input) else {
         return Ok(Answer {
             status: REFUSED,
             text: String::from_str(alloc, "stdin: input is not valid UTF-8\n")?,
         });
     };
-    match with_impls(alloc, text) {
+    match with_impls(alloc, text, module) {
         Ok(text) => Ok(Answer {
             status: WRITTEN,
             text,

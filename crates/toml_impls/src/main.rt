@@ -13,22 +13,25 @@ use std::process::ExitCode;
 use std::{env, io};
 
 const HELP: &str = "\
-toml_impls < FILE
+toml_impls [--module PATH] < FILE
 
-Writes the file with the impls of each struct behind it, in place of those that it has already, and with the use lines
-that they need. A struct has named fields; an Option may be missing. What serde's attributes say is taken from them:
-rename, rename_all, default (or default = 8080), deny_unknown_fields, skip_serializing_if = \"Option::is_none\". Then
-they are cut, since Rattle has none, and the list of fields in the impls keeps what they said.
+Writes the file with the impls of each struct and enum behind it, in place of those that it has already, and with the
+use lines that they need. A struct has named fields, of which an Option may be missing; an enum has no data. What
+serde's attributes say is taken from them: rename, rename_all, default (or default = 8080), deny_unknown_fields,
+skip_serializing_if = \"Option::is_none\". Then they are cut, since Rattle has none: the impls keep what they said.
 
-  --help     print this
-  --version  print the version
+  --module PATH  the path of the file, as my_crate::settings: for enums
+  --help         print this
+  --version      print the version
 
 Status: 0, or 1 where something is refused, 3 where reading, writing or memory failed.
 ";
 
 /// What the program is asked to do.
-enum Request {
-    Write,
+#[derive(Clone, Copy)]
+enum Request<'w> {
+    /// To write impls, into a file of this path where it is known.
+    Write(Option<&'w str>),
     Help,
     Version,
     Refused,
@@ -41,16 +44,13 @@ fn main(rt: HostRuntime) -> ExitCode {
     }
 }
 
-// What the words behind the program's name ask for: at most one is taken.
-fn request_of(words: &[String]) -> Request {
-    let mut words = words.iter();
-    let word = match words.next() {
-        None => return Request::Write,
-        Some(word) => word.as_str(),
-    };
-    match (word, words.next()) {
-        ("--help", None) => Request::Help,
-        ("--version", None) => Request::Version,
+// What the words behind the program's name ask for.
+fn request_of(words: &[String]) -> Request<'_> {
+    match words {
+        [] => Request::Write(None),
+        [word] if word.as_str() == "--help" => Request::Help,
+        [word] if word.as_str() == "--version" => Request::Version,
+        [word, path] if word.as_str() == "--module" => Request::Write(Some(path.as_str())),
         _ => Request::Refused,
     }
 }
@@ -58,11 +58,12 @@ fn request_of(words: &[String]) -> Request {
 fn status_of(rt: &HostRuntime) -> io::Result<u8> {
     let words: Vec<String> = env::args(rt)?.skip(1).collect(rt.alloc())?;
     match request_of(words.as_slice()) {
-        Request::Write => {
+        Request::Write(module) => {
             let stderr = rt.stderr();
             let mut reader = rt.reader();
             Ok(run(
                 rt.alloc(),
+                module,
                 &mut reader,
                 &mut io::writer(rt),
                 &mut io::writer(&stderr),
@@ -77,7 +78,7 @@ fn status_of(rt: &HostRuntime) -> io::Result<u8> {
             Ok(0)
         }
         Request::Refused => {
-            eprintln!(rt; "usage: toml_impls < FILE; toml_impls --help says more")?;
+            eprintln!(rt; "usage: toml_impls [--module PATH] < FILE; toml_impls --help says more")?;
             Ok(FAILED)
         }
     }

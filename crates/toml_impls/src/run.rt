@@ -14,6 +14,7 @@ pub const FAILED: u8 = 3;
 /// An interrupted read or write counts as failed, and so does a write that takes no byte.
 pub fn run<R: Read, W: Write, E: Write>(
     alloc: Global,
+    module: Option<&str>,
     reader: &mut R,
     output: &mut W,
     errors: &mut E,
@@ -21,7 +22,7 @@ pub fn run<R: Read, W: Write, E: Write>(
     let Ok(input) = read_all(alloc, reader) else {
         return FAILED;
     };
-    let Ok(answer) = answer_to(alloc, input.as_slice()) else {
+    let Ok(answer) = answer_to(alloc, module, input.as_slice()) else {
         return FAILED;
     };
     if answer.status == WRITTEN {

@@ -1,0 +1,187 @@
+//! The impls of a choice, as they are written.
+
+use crate::choice::Choice;
+use crate::layout::{array, listed, push_call, push_signature};
+use crate::templates::Impl;
+use std::alloc::{AllocError, Global};
+
+/// The impls of a choice, in order.
+pub fn choice_impls(alloc: Global, choice: &Choice<'_>) -> Result<Vec<Impl>, AllocError> {
+    let mut impls = Vec::new(alloc);
+    for (of, text) in [
+        ("Deserialize", deserialize(alloc, choice)?),
+        ("Serialize", serialize(alloc, choice)?),
+        ("Returns", returns(alloc, choice)?),
+    ] {
+        impls.push(Impl { of, text })?;
+    }
+    Ok(impls)
+}
+
+fn deserialize(alloc: Global, choice: &Choice<'_>) -> Result<String, AllocError> {
+    let name = choice.name;
+    let uses = variant_uses(alloc, choice)?;
+    let keys = key_list(alloc, choice, "key_of")?;
+    let codes = key_list(alloc, choice, "codes")?;
+    let numbers = numbers(alloc, choice)?;
+    let mut text = format!(in alloc;
+        "\
+impl<'de> Deserialize<'de> for {name} {{
+    {uses}
+
+    ghost reads = {{ λ d c.
+        IsVariant ({keys}) d (elim c [ {numbers} ]) }};
+
+    ghost faults = {{ variant_fails ({codes}) }};
+"
+    )?;
+    let returned = format!(in alloc; "Result<{name}, Error>")?;
+    push_signature(
+        alloc,
+        &mut text,
+        "deserialize",
+        &["alloc: Global", "node: Node<'_, 'de>"],
+        returned.as_str(),
+    )?;
+    push_reading(alloc, &mut text, choice)?;
+    push_signature(
+        alloc,
+        &mut text,
+        "from_tree",
+        &["alloc: Global", "tree: Tree<'de>"],
+        returned.as_str(),
+    )?;
+    write!(
+        text,
+        "\n        {name}::deserialize(alloc, tree.root())\n    }}\n}}"
+    )?;
+    Ok(text)
+}
+
+// The body of `deserialize`.
+fn push_reading(alloc: Global, text: &mut String, choice: &Choice<'_>) -> Result<(), AllocError> {
+    let name = choice.name;
+    let keys = quoted_keys(alloc, choice)?;
+    let keys: Vec<&str> = keys.iter().map(|key| key.as_str()).collect(alloc)?;
+    let keys = array(alloc, keys.as_slice(), 12)?;
+    let arguments = ["alloc", "node", keys.as_str()];
+    let Some((last, others)) = choice.variants.split_last() else {
+        return Ok(());
+    };
+    if others.is_empty() {
+        push_call(alloc, text, "variant", &arguments, 8, "?;")?;
+        return write!(text, "\n        Ok({name}::{})\n    }}\n", last.name);
+    }
+    push_call(alloc, text, "match variant", &arguments, 8, "? {")?;
+    for (number, variant) in others.iter().enumerate() {
+        write!(
+            text,
+            "\n            {number} => Ok({name}::{}),",
+            variant.name
+        )?;
+    }
+    write!(
+        text,
+        "\n            _ => Ok({name}::{}),\n        }}\n    }}\n",
+        last.name
+    )
+}
+
+fn serialize(alloc: Global, choice: &Choice<'_>) -> Result<String, AllocError> {
+    let name = choice.name;
+    let uses = variant_uses(alloc, choice)?;
+    let texts = texts(alloc, choice)?;
+    let mut text = format!(in alloc;
+        "\
+impl Serialize for {name} {{
+    {uses}
+
+    ghost calls = {{ λ c.
+        scalar_calls (other_text (elim c [ {texts} ])) }};
+
+    fn serialize(&self, _alloc: Global, ser: &mut Serializer) -> Result<(), WriteError> {{
+        match self {{"
+    )?;
+    let quoted = format!(in alloc; "\"{name}\"")?;
+    for (number, variant) in choice.variants.iter().enumerate() {
+        let begun = format!(in alloc; "{name}::{} => ser.serialize_unit_variant", variant.name)?;
+        let number = format!(in alloc; "{number}")?;
+        let key = format!(in alloc; "\"{}\"", variant.key)?;
+        let arguments = [quoted.as_str(), number.as_str(), key.as_str()];
+        push_call(alloc, &mut text, begun.as_str(), &arguments, 12, ",")?;
+    }
+    text.push_str("\n        }\n    }\n}")?;
+    Ok(text)
+}
+
+fn returns(alloc: Global, choice: &Choice<'_>) -> Result<String, AllocError> {
+    let name = choice.name;
+    let uses = variant_uses(alloc, choice)?;
+    let texts = texts(alloc, choice)?;
+    let mut text = format!(in alloc;
+        "\
+impl<'de> Returns<'de> for {name} {{
+    {uses}
+
+    ghost meant = {{ λ c. string (elim c [ {texts} ]) }};
+
+    #[tactic(auto, using(basic_toml_returns::proofs::ScalarsMean::scalars_mean), \
+     unfolding(basic_toml_typed::specs::TypeReads::IsVariant))]
+    fn returns(&self) {{
+        match self {{"
+    )?;
+    for variant in &choice.variants {
+        write!(text, "\n            {name}::{} => {{}}", variant.name)?;
+    }
+    text.push_str("\n        }\n    }\n}")?;
+    Ok(text)
+}
+
+// The line that brings in the variants for the clauses of an impl.
+fn variant_uses(alloc: Global, choice: &Choice<'_>) -> Result<String, AllocError> {
+    let names: Vec<&str> = choice
+        .variants
+        .iter()
+        .map(|variant| variant.name)
+        .collect(alloc)?;
+    let names = listed(alloc, names.as_slice())?;
+    format!(in alloc; "ghost use {}.{{{names}}};", choice.path)
+}
+
+fn quoted_keys(alloc: Global, choice: &Choice<'_>) -> Result<Vec<String>, AllocError> {
+    let mut keys = Vec::new(alloc);
+    for variant in &choice.variants {
+        keys.push(format!(in alloc; "\"{}\"", variant.key)?)?;
+    }
+    Ok(keys)
+}
+
+// The list of the strings, each behind a word.
+fn key_list(alloc: Global, choice: &Choice<'_>, word: &str) -> Result<String, AllocError> {
+    let mut text = String::new(alloc);
+    for variant in &choice.variants {
+        write!(text, "{word} \"{}\" ∷ ", variant.key)?;
+    }
+    text.push_str("[]")?;
+    Ok(text)
+}
+
+// The number of each variant.
+fn numbers(alloc: Global, choice: &Choice<'_>) -> Result<String, AllocError> {
+    let mut text = String::new(alloc);
+    for (number, variant) in choice.variants.iter().enumerate() {
+        text.push_str(if number == 0 { "" } else { " | " })?;
+        write!(text, "{} ↦ {number}", variant.name)?;
+    }
+    Ok(text)
+}
+
+// The string of each variant.
+fn texts(alloc: Global, choice: &Choice<'_>) -> Result<String, AllocError> {
+    let mut text = String::new(alloc);
+    for variant in &choice.variants {
+        text.push_str(if text.is_empty() { "" } else { " | " })?;
+        write!(text, "{} ↦ codes \"{}\"", variant.name, variant.key)?;
+    }
+    Ok(text)
+}
