@@ -1,6 +1,6 @@
-//! The bytes of a file to the file with its impls, or to what is wrong with it.
+//! The bytes of a file to what is written for it, or to what is wrong with it.
 
-use crate::answer::{Answer, WRITTEN, answer_to};
+use crate::answer::{Answer, Task, WRITTEN, answer_to};
 use std::alloc::Global;
 use std::io::{Read, Write};
 use toml_streams::{read_all, write_all};
@@ -8,13 +8,13 @@ use toml_streams::{read_all, write_all};
 /// The status where reading, writing or memory failed.
 pub const FAILED: u8 = 3;
 
-/// Reads all bytes, and writes the file with its impls to `output`, or what is wrong with it to `errors`; answers the
+/// Reads all bytes, and writes what is due for them to `output`, or what is wrong with it to `errors`; answers the
 /// status.
 ///
 /// An interrupted read or write counts as failed, and so does a write that takes no byte.
 pub fn run<R: Read, W: Write, E: Write>(
     alloc: Global,
-    module: Option<&str>,
+    task: Task<'_>,
     reader: &mut R,
     output: &mut W,
     errors: &mut E,
@@ -22,7 +22,7 @@ pub fn run<R: Read, W: Write, E: Write>(
     let Ok(input) = read_all(alloc, reader) else {
         return FAILED;
     };
-    let Ok(answer) = answer_to(alloc, module, input.as_slice()) else {
+    let Ok(answer) = answer_to(alloc, task, input.as_slice()) else {
         return FAILED;
     };
     if answer.status == WRITTEN {
