@@ -50,5 +50,5 @@ pub fn with_line(text: &str, from: usize, to: usize) -> (usize, usize) {
 }
 
 fn is_blank(c: char) -> bool {
-    c == ' ' || c == '\t'
+    matches!(c, ' ' | '\t' | '\r')
 }

@@ -43,37 +43,45 @@ pub fn with_impls<'t>(
         end: text.len(),
     };
     let items = items_of(alloc, cursor)?;
-    let file = File {
-        text,
-        module,
-        items: items.as_slice(),
-    };
-    let mut types = Types {
-        records: Vec::new(alloc),
-        choices: Vec::new(alloc),
-    };
-    let mut edits = Vec::new(alloc);
-    for item in &items {
-        if item.kind.is_type() {
-            add_type(alloc, file, item, &mut types, &mut edits)?;
-        }
-    }
-    add_uses(alloc, file, &types, &mut edits)?;
+    let edits = edits_of(
+        alloc,
+        File {
+            text,
+            module,
+            items: items.as_slice(),
+        },
+    )?;
     Ok(edited(alloc, text, edits)?)
 }
 
 // A file as it is.
 #[derive(Clone, Copy)]
-struct File<'i, 'c, 't> {
+struct File<'m, 'i, 'c, 't> {
     text: &'t str,
-    module: Option<&'i str>,
+    module: Option<&'m str>,
     items: &'i [Item<'c, 't>],
+}
+
+// The changes that give the types of a file their impls.
+fn edits_of<'t>(alloc: Global, file: File<'_, '_, '_, 't>) -> Result<Vec<Edit>, NoImpls<'t>> {
+    let mut types = Types {
+        records: Vec::new(alloc),
+        choices: Vec::new(alloc),
+    };
+    let mut edits = Vec::new(alloc);
+    for item in file.items {
+        if item.kind.is_type() {
+            add_type(alloc, file, item, &mut types, &mut edits)?;
+        }
+    }
+    add_uses(alloc, file, &types, &mut edits)?;
+    Ok(edits)
 }
 
 // Adds a type, and the changes that give it its impls, if it is wanted.
 fn add_type<'t>(
     alloc: Global,
-    file: File<'_, '_, 't>,
+    file: File<'_, '_, '_, 't>,
     item: &Item<'_, 't>,
     types: &mut Types<'t>,
     edits: &mut Vec<Edit>,
@@ -112,7 +120,7 @@ fn add_type<'t>(
 // The record that a struct is. What serde has at its fields is cut.
 fn record_in<'t>(
     alloc: Global,
-    file: File<'_, '_, 't>,
+    file: File<'_, '_, '_, 't>,
     item: &Item<'_, 't>,
     name: Token<'t>,
     edits: &mut Vec<Edit>,
@@ -129,7 +137,7 @@ fn record_in<'t>(
 // The choice that an enum is. What serde has at its variants is cut.
 fn choice_in<'t>(
     alloc: Global,
-    file: File<'_, '_, 't>,
+    file: File<'_, '_, '_, 't>,
     item: &Item<'_, 't>,
     name: Token<'t>,
     edits: &mut Vec<Edit>,
@@ -166,7 +174,7 @@ fn cut_from<'t>(
 // The impls of a type: each in place of the one that the file has, or behind the one before it.
 fn add_impls(
     alloc: Global,
-    file: File<'_, '_, '_>,
+    file: File<'_, '_, '_, '_>,
     item: &Item<'_, '_>,
     name: &str,
     impls: Vec<Impl>,
@@ -196,10 +204,13 @@ fn add_impls(
 // The `use` lines that the impls of some types need.
 fn add_uses<'t>(
     alloc: Global,
-    file: File<'_, '_, 't>,
+    file: File<'_, '_, '_, 't>,
     types: &Types<'t>,
     edits: &mut Vec<Edit>,
 ) -> Result<(), NoImpls<'t>> {
+    if types.records.is_empty() && types.choices.is_empty() {
+        return Ok(());
+    }
     let imports = imports_of(alloc, types)?;
     let uses = uses_of(alloc, file.text, file.items)?;
     refuse_taken(file.items, uses.as_slice(), imports.as_slice())?;

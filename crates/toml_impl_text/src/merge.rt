@@ -1,6 +1,6 @@
 //! The names that impls need, brought into a file.
 
-use crate::edits::Edit;
+use crate::edits::{Edit, with_line};
 use crate::imports::Import;
 use crate::layout::{filled, listed};
 use crate::uses::Use;
@@ -19,7 +19,8 @@ struct NewLine {
     text: String,
 }
 
-/// The changes that bring in what a file has not yet. Lines go among those of their kind, by their paths.
+/// The changes that bring in what a file has not yet, and leave out serde's derives. Lines go among those of their kind,
+/// by their paths.
 pub fn use_edits(
     alloc: Global,
     text: &str,
@@ -40,6 +41,16 @@ pub fn use_edits(
     }
     for is_ghost in [true, false] {
         place(alloc, text, uses, lines.as_slice(), is_ghost, &mut edits)?;
+    }
+    for line in uses {
+        if line.is_serdes() && !edits.iter().any(|edit| edit.to == line.to) {
+            let (from, to) = with_line(text, line.from, line.to);
+            edits.push(Edit {
+                from,
+                to,
+                text: String::new(alloc),
+            })?;
+        }
     }
     Ok(edits)
 }
@@ -84,9 +95,13 @@ fn longer<'n>(alloc: Global, line: &Use<'n>, missing: &[&'n str]) -> Result<Edit
     })
 }
 
-// Whether a name, which may be an operator's, comes behind another.
+// Whether a name comes behind another: operators come first.
 fn is_behind(name: &str, other: &str) -> bool {
-    name != "self" && name > other && name.starts_with(|c: char| c.is_ascii_alphabetic())
+    name != "self" && (is_word(name), name) > (is_word(other), other)
+}
+
+fn is_word(name: &str) -> bool {
+    name.starts_with(|c: char| c.is_ascii_alphabetic())
 }
 
 // A `use` line as `rt fmt` lays it out.
@@ -120,7 +135,8 @@ fn place(
     is_ghost: bool,
     edits: &mut Vec<Edit>,
 ) -> Result<(), AllocError> {
-    if uses.iter().any(|line| line.is_ghost == is_ghost) {
+    let mut kind = uses.iter().filter(|line| line.is_ghost == is_ghost);
+    if kind.any(|line| !line.is_serdes()) {
         for line in lines {
             if line.is_ghost == is_ghost {
                 edits.push(among(alloc, uses, line)?)?;
@@ -132,13 +148,32 @@ fn place(
     if block.is_empty() {
         return Ok(());
     }
-    let block = block.as_str();
-    edits.push(match (uses.first(), uses.last()) {
+    edits.push(new_block(alloc, text, uses, block, is_ghost)?)?;
+    Ok(())
+}
+
+// The first lines of their kind: those of clauses before all others, and those of code in place of serde's, or behind
+// those of clauses.
+fn new_block(
+    alloc: Global,
+    text: &str,
+    uses: &[Use<'_>],
+    block: String,
+    is_ghost: bool,
+) -> Result<Edit, AllocError> {
+    let serdes = uses.iter().find(|line| !is_ghost && line.is_serdes());
+    if let Some(line) = serdes {
+        return Ok(Edit {
+            from: line.from,
+            to: line.to,
+            text: block,
+        });
+    }
+    Ok(match (uses.first(), uses.last()) {
         (Some(first), _) if is_ghost => insert(first.from, format!(in alloc; "{block}\n\n")?),
         (_, Some(last)) => insert(last.to, format!(in alloc; "\n\n{block}")?),
         _ => insert(head_len(text), format!(in alloc; "{block}\n\n")?),
-    })?;
-    Ok(())
+    })
 }
 
 fn insert(at: usize, text: String) -> Edit {
@@ -154,7 +189,7 @@ fn among(alloc: Global, uses: &[Use<'_>], new: &NewLine) -> Result<Edit, AllocEr
     let text = new.text.as_str();
     let mut last = 0;
     for line in uses {
-        if line.is_ghost == new.is_ghost {
+        if line.is_ghost == new.is_ghost && !line.is_serdes() {
             if rank(line.path) > rank(new.path) {
                 return Ok(insert(line.from, format!(in alloc; "{text}\n")?));
             }

@@ -30,6 +30,14 @@ impl Use<'_> {
         self.names.iter().any(|named| *named == name)
     }
 
+    /// Whether it brings in serde's derives alone, which the impls stand for.
+    pub fn is_serdes(&self) -> bool {
+        let mut names = self.names.iter();
+        self.is_plain
+            && self.path == "serde"
+            && names.all(|name| matches!(*name, "Serialize" | "Deserialize"))
+    }
+
     // Whether it brings in something under this name.
     fn brings(&self, name: &str) -> bool {
         self.names.iter().any(|named| brought(named) == name)
@@ -112,7 +120,10 @@ pub fn refuse_taken<'t>(
 
 // Whether a line brings in something else under a name.
 fn takes(line: &Use<'_>, import: &Import, name: &str) -> bool {
-    line.is_ghost == import.is_ghost && line.path != import.path && line.brings(name)
+    line.is_ghost == import.is_ghost
+        && line.path != import.path
+        && line.brings(name)
+        && !line.is_serdes()
 }
 
 // Refuses a file that declares a type of a name.
