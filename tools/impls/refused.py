@@ -80,7 +80,7 @@ REFUSED = [
     # names of another's
     ("use std::error::Error;\n\nstruct S {\n    a: u8,\n}\n",
      "1:1: the impls need what basic_toml has by this name"),
-    ("use serde::{Deserialize, Serialize};\n\nstruct S {\n    a: u8,\n}\n",
+    ("use serde::{Deserialize, de::Visitor};\n\nstruct S {\n    a: u8,\n}\n",
      "1:1: the impls need what basic_toml has by this name"),
     ("struct Node {\n    a: u8,\n}\n", "1:8: the impls need what basic_toml has by this name"),
 ]

@@ -169,6 +169,8 @@ class File:
     def __init__(self, chance, first, count):
         self.structs = []
         self.module = "made::made_%d" % (first // 10)
+        self.uses = chance.choice(("", "use basic_toml::Float;\n")) + chance.choice(("", "use serde::{Deserialize, Serialize};\n"))
+        self.uses += chance.choice(("", "use std::collections::BTreeMap;\n"))
         self.enums = [Enum(chance, "%s%sOf%d" % (capital(chance.choice(WORDS)), capital(chance.choice(WORDS)), first + number))
                       for number in range(2)]
         for number in range(first, first + count):
@@ -176,7 +178,7 @@ class File:
             self.structs.append(Struct(chance, name, [one.name for one in self.enums + self.structs]))
 
     def text(self):
-        head = "//! Records that were made at random.\n\nuse basic_toml::Float;\nuse std::collections::BTreeMap;\n\n"
+        head = "//! Records that were made at random.\n\n%s%s" % (self.uses, "\n" if self.uses else "")
         return head + "\n".join(one.text() for one in self.enums + self.structs)
 
 

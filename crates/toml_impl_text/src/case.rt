@@ -1,5 +1,7 @@
 //! The cases of serde's `rename_all`.
 
+ghost use Rattle.std.specs.Prelude.{◌≡◌, ◌==◌, if◌then◌else◌};
+
 use std::alloc::{AllocError, Global};
 
 /// A case of names.
@@ -63,7 +65,9 @@ impl Case {
     }
 }
 
-fn dashed(c: char) -> char {
+fn dashed(c: char) -> char
+    ensures { result ≡ (if c == 95 then 45 else c) }
+{
     if c == '_' { '-' } else { c }
 }
 

@@ -1,5 +1,7 @@
 //! Tokens, one after another.
 
+ghost use Rattle.std.specs.Prelude.{◌≡◌, ◌==◌, ◌++◌, ◌<◌, ◌↔◌, IsSome, drop, length};
+
 use crate::lexer::{Kind, Token};
 use crate::refusal::{NoImpls, Reason};
 use std::alloc::Global;
@@ -14,12 +16,16 @@ pub struct Cursor<'c, 't> {
 
 impl<'c, 't> Cursor<'c, 't> {
     /// How many tokens are left.
-    pub fn len(&self) -> usize {
+    pub fn len(&self) -> usize
+        ensures { result ≡ length self.now.rest.now }
+    {
         self.rest.len()
     }
 
     /// Whether none is left.
-    pub fn is_empty(&self) -> bool {
+    pub fn is_empty(&self) -> bool
+        ensures { result ≡ (length self.now.rest.now == 0) }
+    {
         self.rest.is_empty()
     }
 
@@ -48,7 +54,10 @@ impl<'c, 't> Cursor<'c, 't> {
     }
 
     /// Takes the next token.
-    pub fn next(&mut self) -> Option<Token<'t>> {
+    pub fn next(&mut self) -> Option<Token<'t>>
+        ensures some { IsSome result ↔ (0 < length self.old.rest.now) }
+        ensures rest { self.new.rest.now ≡ drop 1 self.old.rest.now }
+    {
         let (first, rest) = self.rest.split_first()?;
         *self = Cursor { rest, ..*self };
         Some(*first)
@@ -114,16 +123,14 @@ impl<'c, 't> Cursor<'c, 't> {
     }
 
     // Takes so many tokens, or all that are left.
-    fn front(&mut self, count: usize) -> Cursor<'c, 't> {
-        match self.rest.split_at_checked(count) {
-            Some((front, rest)) => {
-                *self = Cursor { rest, ..*self };
-                Cursor {
-                    rest: front,
-                    end: self.at(),
-                }
-            }
-            None => *self,
+    fn front(&mut self, count: usize) -> Cursor<'c, 't>
+        ensures { result.rest.now ++ self.new.rest.now ≡ self.old.rest.now }
+    {
+        let (front, rest) = self.rest.split_at(count.min(self.rest.len()));
+        *self = Cursor { rest, ..*self };
+        Cursor {
+            rest: front,
+            end: self.at(),
         }
     }
 }

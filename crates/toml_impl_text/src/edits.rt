@@ -1,5 +1,8 @@
 //! Changes of a text.
 
+ghost use Rattle.std.specs.Prelude.{◌≡◌, drop, take};
+ghost use Rattle.std.specs.Str.{IsCharBoundary};
+
 use std::alloc::{AllocError, Global};
 
 /// A change: what stands between two offsets is replaced.
@@ -26,7 +29,9 @@ pub fn edited(alloc: Global, text: &str, mut edits: Vec<Edit>) -> Result<String,
 }
 
 /// What stands between two offsets; nothing where they are no places of the text.
-pub fn between(text: &str, from: usize, to: usize) -> &str {
+pub fn between(text: &str, from: usize, to: usize) -> &str
+    ensures { IsCharBoundary text.now to → IsCharBoundary (take to text.now) from → result.now ≡ drop from (take to text.now) }
+{
     let Some((front, _)) = text.split_at_checked(to) else {
         return "";
     };

@@ -1,5 +1,5 @@
 //! The tokens of a file: of Rust, and of the clauses and ghost items in it.
-ghost use Rattle.std.specs.Prelude.{◌+◌, ◌<◌, ◌^◌, length};
+ghost use Rattle.std.specs.Prelude.{◌≡◌, ◌+◌, ◌<◌, ◌^◌, length};
 ghost use Rattle.std.specs.Iterator.{at_most};
 
 use std::alloc::{AllocError, Global};
@@ -33,7 +33,9 @@ pub struct Token<'t> {
 
 impl<'t> Token<'t> {
     /// The offset behind its last byte.
-    pub fn end(&self) -> usize {
+    pub fn end(&self) -> usize
+        ensures { result ≡ self.now.at + length self.now.text.now }
+    {
         self.at + self.text.len()
     }
 

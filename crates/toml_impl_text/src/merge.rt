@@ -1,5 +1,7 @@
 //! The names that impls need, brought into a file.
 
+ghost use Rattle.std.specs.Prelude.{◌≡◌};
+
 use crate::edits::{Edit, with_line};
 use crate::imports::Import;
 use crate::layout::{filled, listed};
@@ -176,7 +178,11 @@ fn new_block(
     })
 }
 
-fn insert(at: usize, text: String) -> Edit {
+fn insert(at: usize, text: String) -> Edit
+    ensures from { result.from ≡ at }
+    ensures to { result.to ≡ at }
+    ensures text { result.text ≡ text }
+{
     Edit {
         from: at,
         to: at,

@@ -34,7 +34,7 @@ pub fn shape_of<'v>(alloc: Global, mut values: Vec<&'v Value>) -> Result<Shape<'
         if values.iter().all(|value| value.as_array().is_some()) {
             outer.push_str("Vec<")?;
             values = elements(alloc, values.as_slice())?;
-        } else if values.iter().all(|value| is_map(value)) {
+        } else if are_maps(values.as_slice()) {
             outer.push_str("BTreeMap<String, ")?;
             values = members(alloc, values.as_slice())?;
         } else {
@@ -106,22 +106,33 @@ fn members<'v>(alloc: Global, values: &[&'v Value]) -> Result<Vec<&'v Value>, Al
     Ok(members)
 }
 
-// Whether a value is a table that no struct stands for.
-fn is_map(value: &Value) -> bool {
-    match value {
-        Value::Table(table) => !is_record(table),
-        _ => false,
+// Whether some values are tables that no struct stands for: they have no keys, or one that no field can have.
+fn are_maps(values: &[&Value]) -> bool {
+    let are_tables = values.iter().all(|value| value.as_table().is_some());
+    let are_empty = values.iter().all(|value| is_empty(value));
+    are_tables && (are_empty || !values.iter().all(|value| has_fields(value)))
+}
+
+fn is_empty(value: &Value) -> bool {
+    match value.as_table() {
+        Some(table) => table.is_empty(),
+        None => false,
     }
 }
 
-/// Whether a struct can stand for a table: it has keys, and fields can have them all.
-pub fn is_record(table: &Table) -> bool {
-    let mut has_keys = false;
+fn has_fields(value: &Value) -> bool {
+    match value.as_table() {
+        Some(table) => has_plain_keys(table),
+        None => false,
+    }
+}
+
+/// Whether fields can have all keys of a table.
+pub fn has_plain_keys(table: &Table) -> bool {
     for (key, _) in table {
-        has_keys = true;
         if !is_plain(key) {
             return false;
         }
     }
-    has_keys
+    true
 }

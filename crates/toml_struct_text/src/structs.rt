@@ -1,7 +1,7 @@
 //! The structs of a document.
 
 use crate::names::{field_name, struct_name};
-use crate::shape::{Inner, Shape, is_record, shape_of};
+use crate::shape::{Inner, Shape, has_plain_keys, shape_of};
 use basic_toml_value::{Table, Value};
 use std::alloc::{AllocError, AllocFailed, Global};
 use std::collections::VecDeque;
@@ -55,7 +55,7 @@ struct Structs<'v> {
 ///
 /// `Keys` where the document has none or one that no field can have, and want of memory.
 pub fn structs_of(alloc: Global, document: &Table) -> Result<String, NoStructs> {
-    if !is_record(document) {
+    if document.is_empty() || !has_plain_keys(document) {
         return Err(NoStructs::Keys);
     }
     let mut structs = Structs {
