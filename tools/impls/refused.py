@@ -1,4 +1,4 @@
-"""Files that toml_impls refuses, and what it says of each behind `stdin:`."""
+"""Files that toml_impls refuses, and what it says of each behind `stdin:`; and types of fields, with their entries."""
 
 FIELD = "struct S {\n    #[serde(%s)]\n    a: %s,\n}\n"
 TYPE = "#[serde(%s)]\nstruct S {\n    a: u8,\n}\n"
@@ -83,4 +83,16 @@ REFUSED = [
     ("use serde::{Deserialize, de::Visitor};\n\nstruct S {\n    a: u8,\n}\n",
      "1:1: the impls need what basic_toml has by this name"),
     ("struct Node {\n    a: u8,\n}\n", "1:8: the impls need what basic_toml has by this name"),
+]
+
+# A type, and what the list of a struct says of a field of it.
+TYPES = [
+    ("Option<u8>", "maybe ⟦<u8 as Returns<'static>>⟧"),
+    ("std::option::Option< Vec<u8> >", "maybe ⟦<Vec<u8> as Returns<'static>>⟧"),
+    ("Option<\n        BTreeMap<String, u8>,\n    >", "maybe ⟦<BTreeMap<String, u8> as Returns<'static>>⟧"),
+    ("Option<BTreeMap<String,Vec<Option<u8>>>>", "maybe ⟦<BTreeMap<String, Vec<Option<u8>>> as Returns<'static>>⟧"),
+    ("Vec<Option<u8>>", "needed ⟦<Vec<Option<u8>> as Returns<'static>>⟧"),
+    ("BTreeMap<String, Option<u8>>", "needed ⟦<BTreeMap<String, Option<u8>> as Returns<'static>>⟧"),
+    ("crate::places :: Point", "needed ⟦<crate::places::Point as Returns<'static>>⟧"),
+    ("OptionSet", "needed ⟦<OptionSet as Returns<'static>>⟧"),
 ]

@@ -2,7 +2,7 @@
 
 use crate::declared::DeclaredVariant;
 use crate::edits::between;
-use crate::items::{Item, ItemKind};
+use crate::items::Item;
 use crate::lexer::{Kind, Token};
 use crate::refusal::{NoImpls, Reason};
 use crate::rules::{DefaultRule, TypeRules, field_rules, unquoted};
@@ -46,12 +46,8 @@ pub fn listing_impl<'i, 'c, 't>(items: &'i [Item<'c, 't>], name: &str) -> Option
 }
 
 fn is_listing(item: &Item<'_, '_>) -> bool {
-    item.kind == ItemKind::Impl
-        && item
-            .tokens
-            .rest
-            .iter()
-            .any(|token| token.text == "IsVariant")
+    let mut tokens = item.tokens.rest.iter();
+    tokens.any(|token| token.text == "IsVariant") && tokens.any(|token| token.text == "↦")
 }
 
 /// The path of the variants of an enum in clauses, by that of its module, else by the line that an impl has already.

@@ -95,7 +95,7 @@ fn declared_field<'c, 't>(
         tokens.group()?;
     }
     let at = tokens.at();
-    if tokens.takes("ghost") && !tokens.sees(":") {
+    if tokens.sees("ghost") {
         return Err(NoImpls::At(at, Reason::Invariant));
     }
     let name = tokens.take(Kind::Word, "a field")?;

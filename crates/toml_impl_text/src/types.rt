@@ -39,18 +39,18 @@ fn held<'c, 't>(mut tokens: Cursor<'c, 't>) -> Option<Cursor<'c, 't>> {
     let mut last = "";
     for _ in 0..tokens.len() {
         let token = tokens.next()?;
-        if token.text == "<" && last == "Option" {
-            let (bracket, inside) = tokens.rest.split_last()?;
-            return Some(Cursor {
-                rest: inside,
-                end: bracket.at,
-            });
+        if token.text == "<" {
+            break;
         }
         if token.text != ":" {
             last = token.text;
         }
     }
-    None
+    let (bracket, inside) = tokens.rest.split_last()?;
+    (last == "Option").then_some(Cursor {
+        rest: inside,
+        end: bracket.at,
+    })
 }
 
 // The text of a path, with what it has in angle brackets.

@@ -27,7 +27,10 @@ pub struct Entry<'t> {
 impl<'t> FieldList<'t> {
     /// What it says of a field.
     pub fn entry(&self, field: &str) -> Option<Entry<'t>> {
-        self.entries.iter().copied().find(|e| e.field == field)
+        self.entries
+            .iter()
+            .copied()
+            .find(|entry| entry.field == field)
     }
 }
 
