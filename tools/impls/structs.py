@@ -163,23 +163,29 @@ class Enum:
         return {variant: self.key(variant) for variant in self.variants}
 
 
+# What a file may bring in already, by what needs it.
+USES = {"Float": "use basic_toml::Float;\n", "Serialize": "use serde::{Deserialize, Serialize};\n",
+        "BTreeMap": "use std::collections::BTreeMap;\n"}
+
+
 class File:
     """A file of structs, and of enums that they have fields of."""
 
-    def __init__(self, chance, first, count):
+    def __init__(self, chance, number, first, count):
         self.structs = []
-        self.module = "made::made_%d" % (first // 10)
-        self.uses = chance.choice(("", "use basic_toml::Float;\n")) + chance.choice(("", "use serde::{Deserialize, Serialize};\n"))
-        self.uses += chance.choice(("", "use std::collections::BTreeMap;\n"))
-        self.enums = [Enum(chance, "%s%sOf%d" % (capital(chance.choice(WORDS)), capital(chance.choice(WORDS)), first + number))
-                      for number in range(2)]
-        for number in range(first, first + count):
-            name = "%s%s%d" % (capital(chance.choice(WORDS)), capital(chance.choice(WORDS)), number)
+        self.module = "made::made_%d" % number
+        self.enums = [Enum(chance, "%s%sOf%d" % (capital(chance.choice(WORDS)), capital(chance.choice(WORDS)), first + each))
+                      for each in range(2)]
+        for each in range(first, first + count):
+            name = "%s%s%d" % (capital(chance.choice(WORDS)), capital(chance.choice(WORDS)), each)
             self.structs.append(Struct(chance, name, [one.name for one in self.enums + self.structs]))
+        self.uses = [word for word in USES if chance.random() < 0.5]
 
-    def text(self):
-        head = "//! Records that were made at random.\n\n%s%s" % (self.uses, "\n" if self.uses else "")
-        return head + "\n".join(one.text() for one in self.enums + self.structs)
+    def text(self, is_whole):
+        """Returns the file, with the `use` lines that it needs where it `is_whole`, else with some."""
+        types = "\n".join(one.text() for one in self.enums + self.structs)
+        uses = "".join(line for word, line in USES.items() if (word in types if is_whole else word in self.uses))
+        return "//! Types that were made at random.\n\n%s%s" % (uses + "\n" if uses else "", types)
 
 
 def changed(chance, text, made):
