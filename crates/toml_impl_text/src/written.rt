@@ -56,21 +56,21 @@ fn is_for(mut head: Cursor<'_, '_>, name: &str) -> bool {
     head.takes("for") && head.takes(name) && head.sees("{")
 }
 
-/// The list of a type, in the impl that the program writes it into; `None` where there is none.
+/// The list of a type: that of what it reads and writes, else that of what it reads; `None` where there is none.
 pub fn list_of<'t>(
     alloc: Global,
     items: &[Item<'_, 't>],
     name: &str,
 ) -> Result<Option<FieldList<'t>>, NoImpls<'t>> {
-    for item in items {
-        if is_impl(item, "RoundTrip", name) {
+    for of in ["RoundTrip", "Record"] {
+        if let Some(item) = items.iter().find(|item| is_impl(item, of, name)) {
             return list_in(alloc, item.tokens);
         }
     }
     Ok(None)
 }
 
-// The list in an impl.
+// The list in an impl; `None` where it goes by another list.
 fn list_in<'t>(
     alloc: Global,
     mut tokens: Cursor<'_, 't>,
@@ -80,6 +80,9 @@ fn list_in<'t>(
             break;
         }
         if tokens.takes("fields") && tokens.takes("=") && tokens.takes("{") {
+            if tokens.sees("as_read") {
+                break;
+            }
             return Ok(Some(entries_in(alloc, tokens.group()?)?));
         }
     }

@@ -1,4 +1,4 @@
-"""Files that toml_impls refuses, and what it says of each behind `stdin:`; and types of fields, with their entries."""
+"""Files that toml_impls refuses, and what it says of each behind `stdin:`; and others that it takes."""
 
 FIELD = "struct S {\n    #[serde(%s)]\n    a: %s,\n}\n"
 TYPE = "#[serde(%s)]\nstruct S {\n    a: u8,\n}\n"
@@ -96,3 +96,16 @@ TYPES = [
     ("crate::places :: Point", "needed ⟦<crate::places::Point as Returns<'static>>⟧"),
     ("OptionSet", "needed ⟦<OptionSet as Returns<'static>>⟧"),
 ]
+
+# A struct whose list is one of reading alone.
+READ_ALONE = """#[derive(Drop, Serialize)]
+struct S {
+    a: u8,
+}
+
+impl Record for S {
+    ghost fields = { strict
+        (or ⟦<u8 as Deserialize<'static>>⟧ "b" 7 (λ s. s.a)
+        done) };
+}
+"""
