@@ -79,10 +79,10 @@ REFUSED = [
     (LIST % 'or ⟦<u8 as Returns<\'static>>⟧ "a" (two 3) (λ s. s.a)\n        done', "6:61: expected negsuc"),
     # names of another's
     ("use std::error::Error;\n\nstruct S {\n    a: u8,\n}\n",
-     "1:1: the impls need what basic_toml has by this name"),
+     "1:1: `Error` is another's: the impls need that of basic_toml"),
     ("use serde::{Deserialize, de::Visitor};\n\nstruct S {\n    a: u8,\n}\n",
-     "1:1: the impls need what basic_toml has by this name"),
-    ("struct Node {\n    a: u8,\n}\n", "1:8: the impls need what basic_toml has by this name"),
+     "1:1: `Deserialize` is another's: the impls need that of basic_toml"),
+    ("struct Node {\n    a: u8,\n}\n", "1:8: `Node` is another's: the impls need that of basic_toml"),
 ]
 
 # A type, and what the list of a struct says of a field of it.

@@ -62,8 +62,8 @@ pub enum Reason<'t> {
     DefaultMisfit,
     /// What the list of an impl has, where the program writes none such.
     Entry,
-    /// A name that the impls need, brought in from elsewhere: the path that they need it from.
-    Taken(&'static str),
+    /// A name that the impls need and that is another's: the name, and the path that they need it from.
+    Taken(&'static str, &'static str),
 }
 
 impl fmt::Display for Reason<'_> {
@@ -72,7 +72,9 @@ impl fmt::Display for Reason<'_> {
             Reason::Unclosed => write!(f, "a bracket that is not closed"),
             Reason::Expected(what) => write!(f, "expected {what}"),
             Reason::NotTaken(word) => write!(f, "`{word}` is not taken"),
-            Reason::Taken(path) => write!(f, "the impls need what {path} has by this name"),
+            Reason::Taken(name, path) => {
+                write!(f, "`{name}` is another's: the impls need that of {path}")
+            }
             _ => f.write_str(self.text()),
         }
     }

@@ -108,7 +108,7 @@ pub fn refuse_taken<'t>(
     for import in imports {
         for name in &import.names {
             if let Some(line) = uses.iter().find(|line| takes(line, import, name)) {
-                return Err(NoImpls::At(line.from, Reason::Taken(import.path)));
+                return Err(NoImpls::At(line.from, Reason::Taken(name, import.path)));
             }
             if !import.is_ghost {
                 refuse_type(items, name, import.path)?;
@@ -129,12 +129,12 @@ fn takes(line: &Use<'_>, import: &Import, name: &str) -> bool {
 // Refuses a file that declares a type of a name.
 fn refuse_type<'t>(
     items: &[Item<'_, 't>],
-    name: &str,
+    name: &'static str,
     path: &'static str,
 ) -> Result<(), NoImpls<'t>> {
     for item in items {
         if item.kind.is_type() && item.tokens.sees(name) {
-            return Err(NoImpls::At(item.tokens.at(), Reason::Taken(path)));
+            return Err(NoImpls::At(item.tokens.at(), Reason::Taken(name, path)));
         }
     }
     Ok(())
