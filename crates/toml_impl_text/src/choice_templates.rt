@@ -68,36 +68,29 @@ fn push_reading(alloc: Global, text: &mut String, choice: &Choice<'_>) -> Result
     let Some((last, others)) = choice.variants.split_last() else {
         return Ok(());
     };
-    if others.is_empty() {
-        push_call(alloc, text, "variant", &arguments, 8, "?;")?;
-        return write!(text, "\n        Ok({name}::{})\n    }}\n", last.name);
-    }
-    push_call(alloc, text, "match variant", &arguments, 8, "? {")?;
+    push_call(alloc, text, "match variant", &arguments, 8, " {")?;
     for (number, variant) in others.iter().enumerate() {
         write!(
             text,
-            "\n            {number} => Ok({name}::{}),",
+            "\n            Ok({number}) => Ok({name}::{}),",
             variant.name
         )?;
     }
-    write!(
-        text,
-        "\n            _ => Ok({name}::{}),\n        }}\n    }}\n",
-        last.name
-    )
+    write!(text, "\n            Ok(_) => Ok({name}::{}),", last.name)?;
+    text.push_str("\n            Err(error) => Err(error),\n        }\n    }\n")
 }
 
 fn serialize(alloc: Global, choice: &Choice<'_>) -> Result<String, AllocError> {
     let name = choice.name;
     let uses = variant_uses(alloc, choice)?;
-    let texts = texts(alloc, choice)?;
+    let calls = calls(alloc, choice)?;
     let mut text = format!(in alloc;
         "\
 impl Serialize for {name} {{
     {uses}
 
-    ghost calls = {{ λ c.
-        scalar_calls (other_text (elim c [ {texts} ])) }};
+    ghost calls = {{ λ c. elim c [{calls}
+    ] }};
 
     fn serialize(&self, _alloc: Global, ser: &mut Serializer) -> Result<(), WriteError> {{
         match self {{"
@@ -172,6 +165,20 @@ fn numbers(alloc: Global, choice: &Choice<'_>) -> Result<String, AllocError> {
     for (number, variant) in choice.variants.iter().enumerate() {
         text.push_str(if number == 0 { "" } else { " | " })?;
         write!(text, "{} ↦ {number}", variant.name)?;
+    }
+    Ok(text)
+}
+
+// The call that writes each variant.
+fn calls(alloc: Global, choice: &Choice<'_>) -> Result<String, AllocError> {
+    let mut text = String::new(alloc);
+    for variant in &choice.variants {
+        let name = variant.name;
+        let key = variant.key.as_str();
+        write!(
+            text,
+            "\n      | {name} ↦ scalar_calls (other_text (codes \"{key}\"))"
+        )?;
     }
     Ok(text)
 }

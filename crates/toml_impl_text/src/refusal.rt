@@ -1,6 +1,4 @@
 //! Why a file gets no impls.
-ghost use Rattle.std.specs.Prelude.{◌≡◌};
-
 use std::alloc::{AllocError, AllocFailed};
 use std::fmt;
 
@@ -14,12 +12,22 @@ pub enum NoImpls<'t> {
 }
 
 impl<'t> From<AllocError> for NoImpls<'t> {
+    ghost use Rattle.std.specs.Prelude.{◌≡◌};
+    ghost use Rattle.toml_impl_text.specs.declared.refusal.NoImpls.TheVariants.{OutOfMemory};
+
+    ghost from_gives = { λ _ e. e ≡ OutOfMemory };
+
     fn from(_refused: AllocError) -> NoImpls<'t> {
         NoImpls::OutOfMemory
     }
 }
 
 impl<'t, T: Drop> From<AllocFailed<T>> for NoImpls<'t> {
+    ghost use Rattle.std.specs.Prelude.{◌≡◌};
+    ghost use Rattle.toml_impl_text.specs.declared.refusal.NoImpls.TheVariants.{OutOfMemory};
+
+    ghost from_gives = { λ _ e. e ≡ OutOfMemory };
+
     fn from(_refused: AllocFailed<T>) -> NoImpls<'t> {
         NoImpls::OutOfMemory
     }

@@ -16,12 +16,22 @@ pub enum NoStructs {
 }
 
 impl From<AllocError> for NoStructs {
+    ghost use Rattle.std.specs.Prelude.{◌≡◌};
+    ghost use Rattle.toml_struct_text.specs.declared.structs.NoStructs.TheVariants.{OutOfMemory};
+
+    ghost from_gives = { λ _ e. e ≡ OutOfMemory };
+
     fn from(_refused: AllocError) -> NoStructs {
         NoStructs::OutOfMemory
     }
 }
 
 impl<T: Drop> From<AllocFailed<T>> for NoStructs {
+    ghost use Rattle.std.specs.Prelude.{◌≡◌};
+    ghost use Rattle.toml_struct_text.specs.declared.structs.NoStructs.TheVariants.{OutOfMemory};
+
+    ghost from_gives = { λ _ e. e ≡ OutOfMemory };
+
     fn from(_refused: AllocFailed<T>) -> NoStructs {
         NoStructs::OutOfMemory
     }
