@@ -21,19 +21,19 @@ impl RoundTrip for S {
 
 REFUSED = [
     # types
-    ("struct S<T> {\n    a: T,\n}\n", "1:9: a generic type: write its impls by hand"),
-    ("struct S<'a> {\n    a: &'a str,\n}\n", "1:9: a generic type: write its impls by hand"),
-    ("pub struct S(u8);\n", "1:13: a struct without named fields: write its impls by hand"),
-    ("pub struct S;\n", "1:12: a type without fields or variants: write its impls by hand"),
-    ("pub struct S {}\n", "1:12: a type without fields or variants: write its impls by hand"),
+    ("struct S<T> {\n    a: T,\n}\n", "1:9: a generic type: write its impls by hand, or keep it in another file"),
+    ("struct S<'a> {\n    a: &'a str,\n}\n", "1:9: a generic type: write its impls by hand, or keep it in another file"),
+    ("pub struct S(u8);\n", "1:13: a struct without named fields: write its impls by hand, or keep it in another file"),
+    ("pub struct S;\n", "1:12: a type without fields or variants: write its impls by hand, or keep it in another file"),
+    ("pub struct S {}\n", "1:12: a type without fields or variants: write its impls by hand, or keep it in another file"),
     ("struct S {\n    a: u8,\n    ghost low: { a < 9 },\n}\n",
-     "3:5: a struct with an invariant: write its impls by hand"),
+     "3:5: a struct with an invariant: write its impls by hand, or keep it in another file"),
     ("struct S {\n    a: u8,\n", "1:8: a bracket that is not closed"),
     ("struct S {\n    a u8,\n}\n", "2:7: expected :"),
     ("enum E {\n    A,\n}\n", "1:6: an enum needs the path of its module: --module my_crate::settings"),
-    ("enum E {\n    A,\n    B(u8),\n}\n", "3:6: a variant with data: write the impls by hand"),
-    ("enum E {\n    A { a: u8 },\n}\n", "2:7: a variant with data: write the impls by hand"),
-    ("enum E {}\n", "1:6: a type without fields or variants: write its impls by hand"),
+    ("enum E {\n    A,\n    B(u8),\n}\n", "3:6: a variant with data: write its impls by hand, or keep it in another file"),
+    ("enum E {\n    A { a: u8 },\n}\n", "2:7: a variant with data: write its impls by hand, or keep it in another file"),
+    ("enum E {}\n", "1:6: a type without fields or variants: write its impls by hand, or keep it in another file"),
     # fields
     ("struct S {\n    a: &u8,\n}\n", "2:8: a type that is no path, as `Vec<String>` is one"),
     ("struct S {\n    a: (u8, u8),\n}\n", "2:8: a type that is no path, as `Vec<String>` is one"),

@@ -83,6 +83,17 @@ impl fmt::Display for Reason<'_> {
             Reason::Taken(name, path) => {
                 write!(f, "`{name}` is another's: the impls need that of {path}")
             }
+            Reason::Generic
+            | Reason::NotNamed
+            | Reason::Empty
+            | Reason::Invariant
+            | Reason::VariantData => {
+                let what = self.text();
+                write!(
+                    f,
+                    "{what}: write its impls by hand, or keep it in another file"
+                )
+            }
             _ => f.write_str(self.text()),
         }
     }
@@ -92,11 +103,11 @@ impl Reason<'_> {
     // The text of a reason that names nothing.
     fn text(&self) -> &'static str {
         match self {
-            Reason::Generic => "a generic type: write its impls by hand",
-            Reason::NotNamed => "a struct without named fields: write its impls by hand",
-            Reason::Empty => "a type without fields or variants: write its impls by hand",
-            Reason::Invariant => "a struct with an invariant: write its impls by hand",
-            Reason::VariantData => "a variant with data: write the impls by hand",
+            Reason::Generic => "a generic type",
+            Reason::NotNamed => "a struct without named fields",
+            Reason::Empty => "a type without fields or variants",
+            Reason::Invariant => "a struct with an invariant",
+            Reason::VariantData => "a variant with data",
             Reason::NoModule => {
                 "an enum needs the path of its module: --module my_crate::settings"
             }

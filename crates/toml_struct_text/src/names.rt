@@ -3,11 +3,11 @@
 use std::alloc::{AllocError, Global};
 
 // What no field can be called.
-const KEYWORDS: [&str; 43] = [
+const KEYWORDS: [&str; 42] = [
     "as", "async", "await", "break", "const", "continue", "crate", "dyn", "else", "ensures",
     "enum", "extern", "false", "fn", "for", "ghost", "if", "impl", "in", "let", "loop", "match",
-    "mod", "move", "mut", "pub", "ref", "requires", "result", "return", "self", "Self", "static",
-    "struct", "super", "trait", "true", "type", "unsafe", "use", "where", "while", "_",
+    "mod", "move", "mut", "pub", "ref", "requires", "return", "self", "Self", "static", "struct",
+    "super", "trait", "true", "type", "unsafe", "use", "where", "while", "_",
 ];
 
 // What no struct may be called, since the impls need another thing by this name.
