@@ -56,7 +56,8 @@ class Field:
     def __init__(self, chance, name, known):
         self.name = name
         self.key = None
-        self.default = None
+        self.way = "needed"
+        self.default = ""
         self.attributes = []
         self.kind = self.some_kind(chance, known)
         self.is_option = chance.random() < 0.25
@@ -64,6 +65,7 @@ class Field:
             self.key = chance.choice(("the ", "", "x-")) + name.replace("_", chance.choice(("-", " ", ".")))
             self.attributes.append('rename = "%s"' % self.key)
         if self.is_option:
+            self.way = "maybe"
             if chance.random() < 0.2:
                 self.attributes.append('skip_serializing_if = "Option::is_none"')
         elif chance.random() < 0.5:
@@ -82,13 +84,18 @@ class Field:
     def take_default(self, chance):
         if self.kind == "bool":
             value = chance.choice(("true", "false"))
-            self.default = value
+            self.default = value + " "
+        elif self.kind == "String" or self.kind.startswith("Vec<"):
+            self.way, self.default = ("or_text", '"" ') if self.kind == "String" else ("or_empty", "")
+            self.attributes.append("default")
+            return
         elif self.kind in LEAST:
             number = chance.choice((0, LEAST[self.kind], MOST[self.kind], chance.randint(LEAST[self.kind], MOST[self.kind])))
             value = hex(number) if number >= 0 and chance.random() < 0.2 else str(number)
-            self.default = integer(self.kind, number)
+            self.default = integer(self.kind, number) + " "
         else:
             return
+        self.way = "or"
         is_own = value in ("0", "false") and chance.random() < 0.5
         self.attributes.append("default" if is_own else "default = " + value)
 
@@ -100,9 +107,7 @@ class Field:
 
     def entry(self, case):
         key = self.key or (CASES[case](self.name) if case else self.name)
-        way = "maybe" if self.is_option else "or" if self.default else "needed"
-        default = self.default + " " if self.default else ""
-        return "%s ⟦<%s as Returns<'static>>⟧ \"%s\" %s(λ s. s.%s)" % (way, self.kind, key, default, self.name)
+        return "%s ⟦<%s as Returns<'static>>⟧ \"%s\" %s(λ s. s.%s)" % (self.way, self.kind, key, self.default, self.name)
 
 
 class Struct:

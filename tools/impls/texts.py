@@ -5,7 +5,7 @@ TYPE = "#[serde(%s)]\nstruct S {\n    a: u8,\n}\n"
 CASES = ("none of lowercase, UPPERCASE, PascalCase, camelCase, snake_case, SCREAMING_SNAKE_CASE, kebab-case and "
          "SCREAMING-KEBAB-CASE")
 KEY = 'a key is text between quotes, of printable ASCII without `"` and `\\`'
-NO_DEFAULT = "a default of a type that is neither `bool` nor an integer: make it an `Option`"
+NO_DEFAULT = "a default of a type that is none of `bool`, the integers, `String` and `Vec`: make it an `Option`"
 NO_VALUE = "a default is `true`, `false` or an integer"
 MISFIT = "a default that is no value of its type"
 ONE_KEY = "a field has one key, for reading and for writing"
@@ -51,8 +51,9 @@ REFUSED = [
     ("struct S {\n    a: u8,\n    #[serde(rename = \"a\")]\n    b: u8,\n}\n", "4:5: the key of another field"),
     (TYPE % 'rename_all = "Title Case"', "1:22: " + CASES),
     # defaults
-    (FIELD % ("default", "String"), "2:13: " + NO_DEFAULT),
-    (FIELD % ("default", "Vec<u8>"), "2:13: " + NO_DEFAULT),
+    (FIELD % ("default", "Float"), "2:13: " + NO_DEFAULT),
+    (FIELD % ("default", "BTreeMap<String, u8>"), "2:13: " + NO_DEFAULT),
+    (FIELD % ("default = 1", "Vec<u8>"), "2:23: " + MISFIT),
     (FIELD % ("default = 1", "Float"), "2:23: " + NO_DEFAULT),
     (FIELD % ("default = 1", "Option<u8>"), "2:23: an option has no default: where the key lacks it is `None`"),
     (FIELD % ('default = "port"', "u16"),
@@ -75,7 +76,7 @@ REFUSED = [
       for word in ("default", 'tag = "kind"', 'content = "c"', "untagged", "transparent")),
     # lists that were not written so
     (LIST % 'own ⟦<u8 as Returns<\'static>>⟧ "a" (λ s. s.a)\n        done',
-     "6:22: an entry that is none of `needed`, `or` and `maybe`"),
+     "6:22: an entry that is none of `needed`, `maybe`, `or`, `or_empty` and `or_text`"),
     (LIST % 'or ⟦<u8 as Returns<\'static>>⟧ "a" (two 3) (λ s. s.a)\n        done', "6:61: expected negsuc"),
     # names of another's
     ("use std::error::Error;\n\nstruct S {\n    a: u8,\n}\n",

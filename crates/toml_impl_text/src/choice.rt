@@ -42,12 +42,7 @@ impl<'t> VariantList<'t> {
 
 /// The impl of a choice that has its strings; `None` where there is none.
 pub fn listing_impl<'i, 'c, 't>(items: &'i [Item<'c, 't>], name: &str) -> Option<&'i Item<'c, 't>> {
-    items.iter().find(|item| is_impl(item, "Deserialize", name) && is_listing(item))
-}
-
-fn is_listing(item: &Item<'_, '_>) -> bool {
-    let mut tokens = item.tokens.rest.iter();
-    tokens.any(|token| token.text == "IsVariant") && tokens.any(|token| token.text == "↦")
+    items.iter().find(|item| is_impl(item, "Choice", name))
 }
 
 /// The path of the variants of an enum in clauses, by that of its module, else by the line that an impl has already.
@@ -111,10 +106,10 @@ pub fn variant_list<'t>(
         let Some(token) = tokens.next() else {
             break;
         };
-        if token.text == "faults" {
+        if token.text == "apart" {
             break;
         }
-        if token.text == "key_of" {
+        if token.text == "codes" {
             let key = tokens.take(Kind::Text, "a key")?;
             keys.push(unquoted(key.text).unwrap_or(""))?;
         } else if tokens.sees("↦") {

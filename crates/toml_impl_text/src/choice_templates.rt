@@ -9,30 +9,44 @@ use std::alloc::{AllocError, Global};
 pub fn choice_impls(alloc: Global, choice: &Choice<'_>) -> Result<Vec<Impl>, AllocError> {
     let mut impls = Vec::new(alloc);
     for (of, text) in [
+        ("Choice", list(alloc, choice)?),
         ("Deserialize", deserialize(alloc, choice)?),
         ("Serialize", serialize(alloc, choice)?),
-        ("Returns", returns(alloc, choice)?),
+        ("Returns", returns(alloc, choice.name)?),
     ] {
         impls.push(Impl { of, text })?;
     }
     Ok(impls)
 }
 
-fn deserialize(alloc: Global, choice: &Choice<'_>) -> Result<String, AllocError> {
+fn list(alloc: Global, choice: &Choice<'_>) -> Result<String, AllocError> {
     let name = choice.name;
     let uses = variant_uses(alloc, choice)?;
-    let keys = key_list(alloc, choice, "key_of")?;
-    let codes = key_list(alloc, choice, "codes")?;
-    let numbers = numbers(alloc, choice)?;
+    let keys = key_list(alloc, choice)?;
+    let positions = positions(alloc, choice)?;
+    let proofs = proofs(alloc, choice)?;
+    format!(in alloc;
+        "\
+impl Choice for {name} {{
+    {uses}
+
+    ghost variants = {{ record {{
+      names = {keys};
+      position = elim [ {positions} ];
+      apart = elim [ {proofs} ];
+    }} }};
+}}"
+    )
+}
+
+fn deserialize(alloc: Global, choice: &Choice<'_>) -> Result<String, AllocError> {
+    let name = choice.name;
     let mut text = format!(in alloc;
         "\
 impl<'de> Deserialize<'de> for {name} {{
-    {uses}
+    ghost reads = {{ variant_reads ⟦<{name} as Choice>⟧.variants }};
 
-    ghost reads = {{ λ d c.
-        IsVariant ({keys}) d (elim c [ {numbers} ]) }};
-
-    ghost faults = {{ variant_fails ({codes}) }};
+    ghost faults = {{ variant_faults ⟦<{name} as Choice>⟧.variants }};
 "
     )?;
     let returned = format!(in alloc; "Result<{name}, Error>")?;
@@ -82,52 +96,33 @@ fn push_reading(alloc: Global, text: &mut String, choice: &Choice<'_>) -> Result
 
 fn serialize(alloc: Global, choice: &Choice<'_>) -> Result<String, AllocError> {
     let name = choice.name;
-    let uses = variant_uses(alloc, choice)?;
-    let calls = calls(alloc, choice)?;
     let mut text = format!(in alloc;
         "\
 impl Serialize for {name} {{
-    {uses}
-
-    ghost calls = {{ λ c. elim c [{calls}
-    ] }};
+    ghost calls = {{ variant_calls ⟦<{name} as Choice>⟧.variants }};
 
     fn serialize(&self, _alloc: Global, ser: &mut Serializer) -> Result<(), WriteError> {{
         match self {{"
     )?;
-    let quoted = format!(in alloc; "\"{name}\"")?;
-    for (number, variant) in choice.variants.iter().enumerate() {
-        let begun = format!(in alloc; "{name}::{} => ser.serialize_unit_variant", variant.name)?;
-        let number = format!(in alloc; "{number}")?;
+    for variant in &choice.variants {
+        let begun = format!(in alloc; "{name}::{} => write_variant", variant.name)?;
         let key = format!(in alloc; "\"{}\"", variant.key)?;
-        let arguments = [quoted.as_str(), number.as_str(), key.as_str()];
+        let arguments = ["ser", "self", key.as_str()];
         push_call(alloc, &mut text, begun.as_str(), &arguments, 12, ",")?;
     }
     text.push_str("\n        }\n    }\n}")?;
     Ok(text)
 }
 
-fn returns(alloc: Global, choice: &Choice<'_>) -> Result<String, AllocError> {
-    let name = choice.name;
-    let uses = variant_uses(alloc, choice)?;
-    let texts = texts(alloc, choice)?;
-    let mut text = format!(in alloc;
+fn returns(alloc: Global, name: &str) -> Result<String, AllocError> {
+    format!(in alloc;
         "\
 impl<'de> Returns<'de> for {name} {{
-    {uses}
+    ghost read_back = {{ variant_back ⟦<{name} as Choice>⟧.variants }};
 
-    ghost meant = {{ λ c. string (elim c [ {texts} ]) }};
-
-    #[tactic(auto, using(basic_toml_returns::proofs::ScalarsMean::scalars_mean), \
-     unfolding(basic_toml_typed::specs::TypeReads::IsVariant))]
-    fn returns(&self) {{
-        match self {{"
-    )?;
-    for variant in &choice.variants {
-        write!(text, "\n            {name}::{} => {{}}", variant.name)?;
-    }
-    text.push_str("\n        }\n    }\n}")?;
-    Ok(text)
+    ghost returns = {{ ⟦<{name} as Returns<'static>>⟧.read_back.returns }};
+}}"
+    )
 }
 
 // The line that brings in the variants for the clauses of an impl.
@@ -149,18 +144,18 @@ fn quoted_keys(alloc: Global, choice: &Choice<'_>) -> Result<Vec<String>, AllocE
     Ok(keys)
 }
 
-// The list of the strings, each behind a word.
-fn key_list(alloc: Global, choice: &Choice<'_>, word: &str) -> Result<String, AllocError> {
+// The list of the strings.
+fn key_list(alloc: Global, choice: &Choice<'_>) -> Result<String, AllocError> {
     let mut text = String::new(alloc);
     for variant in &choice.variants {
-        write!(text, "{word} \"{}\" ∷ ", variant.key)?;
+        write!(text, "codes \"{}\" ∷ ", variant.key)?;
     }
     text.push_str("[]")?;
     Ok(text)
 }
 
-// The number of each variant.
-fn numbers(alloc: Global, choice: &Choice<'_>) -> Result<String, AllocError> {
+// The position of each variant.
+fn positions(alloc: Global, choice: &Choice<'_>) -> Result<String, AllocError> {
     let mut text = String::new(alloc);
     for (number, variant) in choice.variants.iter().enumerate() {
         text.push_str(if number == 0 { "" } else { " | " })?;
@@ -169,26 +164,12 @@ fn numbers(alloc: Global, choice: &Choice<'_>) -> Result<String, AllocError> {
     Ok(text)
 }
 
-// The call that writes each variant.
-fn calls(alloc: Global, choice: &Choice<'_>) -> Result<String, AllocError> {
-    let mut text = String::new(alloc);
-    for variant in &choice.variants {
-        let name = variant.name;
-        let key = variant.key.as_str();
-        write!(
-            text,
-            "\n      | {name} ↦ scalar_calls (other_text (codes \"{key}\"))"
-        )?;
-    }
-    Ok(text)
-}
-
-// The string of each variant.
-fn texts(alloc: Global, choice: &Choice<'_>) -> Result<String, AllocError> {
+// That each variant has its string at its position, which the checker computes.
+fn proofs(alloc: Global, choice: &Choice<'_>) -> Result<String, AllocError> {
     let mut text = String::new(alloc);
     for variant in &choice.variants {
         text.push_str(if text.is_empty() { "" } else { " | " })?;
-        write!(text, "{} ↦ codes \"{}\"", variant.name, variant.key)?;
+        write!(text, "{} ↦ refl", variant.name)?;
     }
     Ok(text)
 }

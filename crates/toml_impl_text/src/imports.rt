@@ -15,7 +15,7 @@ pub struct Import {
 }
 
 // What the clauses of impls may need, by paths.
-const GHOST: [(&str, &[&str]); 9] = [
+const GHOST: [(&str, &[&str]); 5] = [
     (
         "Rattle.std.specs.Prelude",
         &[
@@ -29,16 +29,14 @@ const GHOST: [(&str, &[&str]); 9] = [
             "true",
         ],
     ),
-    ("Rattle.basic_toml.specs.Data", &["string"]),
-    ("Rattle.basic_toml.specs.FieldFaults", &["variant_fails"]),
-    ("Rattle.basic_toml.specs.FieldKeys", &["key_of"]),
-    ("Rattle.basic_toml.specs.Impls", &["scalar_calls"]),
     (
         "Rattle.basic_toml.specs.Records",
         &["record_faults", "record_reads"],
     ),
-    ("Rattle.basic_toml.specs.TypeReads", &["IsVariant"]),
-    ("Rattle.basic_toml.specs.Written", &["other_text"]),
+    (
+        "Rattle.basic_toml_returns.proofs.RecordsReturn",
+        &["record_back"],
+    ),
     (
         "Rattle.basic_toml_returns.specs.RoundTrips",
         &[
@@ -47,11 +45,20 @@ const GHOST: [(&str, &[&str]); 9] = [
             "maybe",
             "needed",
             "or",
+            "or_empty",
+            "or_text",
             "record_calls",
             "record_holds",
-            "record_is_own",
-            "record_returns",
             "strict",
+        ],
+    ),
+    (
+        "Rattle.basic_toml_returns.specs.Variants",
+        &[
+            "variant_back",
+            "variant_calls",
+            "variant_faults",
+            "variant_reads",
         ],
     ),
 ];
@@ -73,7 +80,17 @@ const CODE: [(&str, &[&str]); 4] = [
             "variant",
         ],
     ),
-    ("basic_toml_returns", &["Returns", "Root", "RoundTrip"]),
+    (
+        "basic_toml_returns",
+        &[
+            "Choice",
+            "Returns",
+            "Root",
+            "RoundTrip",
+            "write_record",
+            "write_variant",
+        ],
+    ),
     ("basic_toml_typed", &["read_record"]),
     ("std::alloc", &["Global"]),
 ];
@@ -113,19 +130,21 @@ fn import_from(
 fn is_needed(types: &Types<'_>, name: &str) -> bool {
     match name {
         "strict" => types.records.iter().any(|record| record.is_strict),
-        "needed" | "maybe" | "or" | "true" | "false" | "pos" | "negsuc" => types.records.iter().any(
-            |record| record.fields.iter().any(|field| has_word(field, name)),
-        ),
+        "needed" | "maybe" | "or" | "or_empty" | "or_text" | "true" | "false" | "pos" | "negsuc" =>
+            types.records.iter().any(|record| record
+                .fields
+                .iter()
+                .any(|field| has_word(field, name))),
         "◌∷◌"
         | "[]"
         | "codes"
-        | "string"
-        | "variant_fails"
-        | "key_of"
-        | "scalar_calls"
-        | "IsVariant"
-        | "other_text"
-        | "variant" => !types.choices.is_empty(),
+        | "variant_back"
+        | "variant_calls"
+        | "variant_faults"
+        | "variant_reads"
+        | "variant"
+        | "Choice"
+        | "write_variant" => !types.choices.is_empty(),
         "Deserialize"
         | "Error"
         | "Node"
@@ -134,6 +153,7 @@ fn is_needed(types: &Types<'_>, name: &str) -> bool {
         | "Tree"
         | "WriteError"
         | "Returns"
+        | "refl"
         | "Global" => !types.records.is_empty() || !types.choices.is_empty(),
         _ => !types.records.is_empty(),
     }
@@ -144,6 +164,8 @@ fn has_word(field: &Field<'_>, word: &str) -> bool {
     match field.presence {
         Presence::Needed => word == "needed",
         Presence::Maybe => word == "maybe",
-        Presence::Or(value) => word == "or" || value.word(field.kind.as_str()) == word,
+        Presence::Or(value) => {
+            value.entry_word() == word || value.word(field.kind.as_str()) == word
+        }
     }
 }

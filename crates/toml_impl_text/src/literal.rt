@@ -1,4 +1,4 @@
-//! The defaults of fields: truth values and integers.
+//! The defaults of fields: truth values, integers, texts and empty lists.
 
 use crate::cursor::Cursor;
 use crate::lexer::Kind;
@@ -8,24 +8,28 @@ use std::fmt;
 
 /// A value that stands in the text.
 #[derive(Clone, Copy, Debug, PartialEq, Eq)]
-pub enum Literal {
+pub enum Literal<'t> {
     Bool(bool),
     Integer(u64),
     /// An integer below zero: how far below.
     Negative(u64),
+    Text(&'t str),
+    EmptyList,
 }
 
-impl Literal {
+impl<'t> Literal<'t> {
     /// The default of a type; `None` where it is none of these.
-    pub fn default_of(kind: &str) -> Option<Literal> {
+    pub fn default_of(kind: &str) -> Option<Literal<'t>> {
         match kind {
             "bool" => Some(Literal::Bool(false)),
+            "String" => Some(Literal::Text("")),
+            _ if kind.starts_with("Vec<") => Some(Literal::EmptyList),
             _ => limits(kind).map(|_| Literal::Integer(0)),
         }
     }
 
     /// Takes the value that stands in an attribute.
-    pub fn take<'t>(alloc: Global, tokens: &mut Cursor<'_, 't>) -> Result<Literal, NoImpls<'t>> {
+    pub fn take(alloc: Global, tokens: &mut Cursor<'_, 't>) -> Result<Literal<'t>, NoImpls<'t>> {
         if tokens.takes("true") {
             return Ok(Literal::Bool(true));
         }
@@ -41,10 +45,10 @@ impl Literal {
     }
 
     /// Takes the value that stands in a list of fields.
-    pub fn take_listed<'t>(
+    pub fn take_listed(
         alloc: Global,
         tokens: &mut Cursor<'_, 't>,
-    ) -> Result<Literal, NoImpls<'t>> {
+    ) -> Result<Literal<'t>, NoImpls<'t>> {
         if !tokens.takes("(") {
             return Literal::take(alloc, tokens);
         }
@@ -64,42 +68,58 @@ impl Literal {
             (Literal::Bool(_), _) => kind == "bool",
             (Literal::Integer(size), Some((_, most))) => size <= most,
             (Literal::Negative(size), Some((most, _))) => size <= most,
+            (Literal::Text(_), _) => kind == "String",
+            (Literal::EmptyList, _) => kind.starts_with("Vec<"),
             _ => false,
         }
     }
 
-    /// The word by which a list of fields has it, at a type that it is of; nothing where it is a plain number there.
+    /// The word for a field that has it as its default.
+    pub fn entry_word(self) -> &'static str {
+        match self {
+            Literal::Text(_) => "or_text",
+            Literal::EmptyList => "or_empty",
+            _ => "or",
+        }
+    }
+
+    /// The word by which a list of fields has it, at a type that it is of; nothing where it stands there as it is.
     pub fn word(self, kind: &str) -> &'static str {
         match self {
             Literal::Bool(true) => "true",
             Literal::Bool(false) => "false",
             Literal::Negative(_) => "negsuc",
             Literal::Integer(_) if kind.starts_with('i') => "pos",
-            Literal::Integer(_) => "",
+            _ => "",
         }
     }
 
-    /// How a list of fields has it, at a type that it is of.
+    /// How a list of fields has it behind the key, at a type that it is of.
     pub fn listed(self, alloc: Global, kind: &str) -> Result<String, AllocError> {
         let word = self.word(kind);
         match self {
-            Literal::Bool(_) => String::from_str(alloc, word),
-            Literal::Integer(size) if word.is_empty() => size.to_string(alloc),
-            Literal::Integer(size) => format!(in alloc; "({word} {size})"),
+            Literal::Bool(_) => format!(in alloc; " {word}"),
+            Literal::Integer(size) if word.is_empty() => format!(in alloc; " {size}"),
+            Literal::Integer(size) => format!(in alloc; " ({word} {size})"),
             Literal::Negative(size) => {
                 let before = size.saturating_sub(1);
-                format!(in alloc; "({word} {before})")
+                format!(in alloc; " ({word} {before})")
             }
+            Literal::Text(text) => format!(in alloc; " \"{text}\""),
+            Literal::EmptyList => Ok(String::new(alloc)),
         }
     }
 }
 
-impl fmt::Display for Literal {
+/// How the code has it behind the key.
+impl fmt::Display for Literal<'_> {
     fn fmt<W: fmt::Write>(&self, f: &mut fmt::Formatter<W>) -> fmt::Result {
         match self {
-            Literal::Bool(value) => write!(f, "{value}"),
-            Literal::Integer(size) => write!(f, "{size}"),
-            Literal::Negative(size) => write!(f, "-{size}"),
+            Literal::Bool(value) => write!(f, ", {value}"),
+            Literal::Integer(size) => write!(f, ", {size}"),
+            Literal::Negative(size) => write!(f, ", -{size}"),
+            Literal::Text(text) => write!(f, ", \"{text}\""),
+            Literal::EmptyList => Ok(()),
         }
     }
 }

@@ -24,17 +24,17 @@ pub struct Field<'t> {
     pub key: String,
     /// Its type; of an option, what that holds.
     pub kind: String,
-    pub presence: Presence,
+    pub presence: Presence<'t>,
 }
 
 /// Whether the key of a field has to be there.
 #[derive(Clone, Copy, Debug, PartialEq, Eq)]
-pub enum Presence {
+pub enum Presence<'t> {
     Needed,
     /// The field is an option.
     Maybe,
     /// Where it is not, the field has this value.
-    Or(Literal),
+    Or(Literal<'t>),
 }
 
 /// The record that a struct is: by what its attributes say, and, where they say nothing, by the list that its impl has.
@@ -109,7 +109,7 @@ fn key_of<'t>(
     Ok(key)
 }
 
-fn listed_default(entry: Option<Entry<'_>>) -> Option<Literal> {
+fn listed_default<'t>(entry: Option<Entry<'t>>) -> Option<Literal<'t>> {
     match entry {
         Some(entry) => entry.default,
         None => None,
@@ -121,8 +121,8 @@ fn presence_of<'t>(
     kind: &FieldType,
     rules: FieldRules<'t>,
     at: usize,
-    listed: Option<Literal>,
-) -> Result<Presence, NoImpls<'t>> {
+    listed: Option<Literal<'t>>,
+) -> Result<Presence<'t>, NoImpls<'t>> {
     if kind.is_option {
         return option_presence(rules.default);
     }
@@ -137,7 +137,7 @@ fn presence_of<'t>(
     }
 }
 
-fn option_presence<'t>(default: DefaultRule) -> Result<Presence, NoImpls<'t>> {
+fn option_presence<'t>(default: DefaultRule<'t>) -> Result<Presence<'t>, NoImpls<'t>> {
     match default {
         DefaultRule::Value(at, _) => Err(NoImpls::At(at, Reason::DefaultOfOption)),
         _ => Ok(Presence::Maybe),
@@ -145,7 +145,11 @@ fn option_presence<'t>(default: DefaultRule) -> Result<Presence, NoImpls<'t>> {
 }
 
 // With a default, if there is one.
-fn or_needed<'t>(kind: &str, at: usize, default: Option<Literal>) -> Result<Presence, NoImpls<'t>> {
+fn or_needed<'t>(
+    kind: &str,
+    at: usize,
+    default: Option<Literal<'t>>,
+) -> Result<Presence<'t>, NoImpls<'t>> {
     let Some(value) = default else {
         return Ok(Presence::Needed);
     };
@@ -153,7 +157,7 @@ fn or_needed<'t>(kind: &str, at: usize, default: Option<Literal>) -> Result<Pres
 }
 
 // With the default of its type.
-fn or_own<'t>(kind: &str, at: usize) -> Result<Presence, NoImpls<'t>> {
+fn or_own<'t>(kind: &str, at: usize) -> Result<Presence<'t>, NoImpls<'t>> {
     match Literal::default_of(kind) {
         Some(value) => Ok(Presence::Or(value)),
         None => Err(NoImpls::At(at, Reason::DefaultOfType)),
@@ -161,7 +165,7 @@ fn or_own<'t>(kind: &str, at: usize) -> Result<Presence, NoImpls<'t>> {
 }
 
 // With a default.
-fn or<'t>(kind: &str, at: usize, value: Literal) -> Result<Presence, NoImpls<'t>> {
+fn or<'t>(kind: &str, at: usize, value: Literal<'t>) -> Result<Presence<'t>, NoImpls<'t>> {
     if value.is_of(kind) {
         Ok(Presence::Or(value))
     } else if Literal::default_of(kind).is_none() {

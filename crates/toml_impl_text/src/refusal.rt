@@ -131,11 +131,13 @@ impl Reason<'_> {
             }
             Reason::DefaultOfOption => "an option has no default: where the key lacks it is `None`",
             Reason::DefaultOfType => {
-                "a default of a type that is neither `bool` nor an integer: make it an `Option`"
+                "a default of a type that is none of `bool`, the integers, `String` and `Vec`: make \
+                 it an `Option`"
             }
             Reason::DefaultOfText => "a default is `true`, `false` or an integer",
             Reason::DefaultMisfit => "a default that is no value of its type",
-            Reason::Entry => "an entry that is none of `needed`, `or` and `maybe`",
+            Reason::Entry =>
+                "an entry that is none of `needed`, `maybe`, `or`, `or_empty` and `or_text`",
             _ => "",
         }
     }

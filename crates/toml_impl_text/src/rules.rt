@@ -29,19 +29,19 @@ pub struct TypeRules {
 #[derive(Clone, Copy, Debug)]
 pub struct FieldRules<'t> {
     pub key: Option<&'t str>,
-    pub default: DefaultRule,
+    pub default: DefaultRule<'t>,
     /// Where it is said that an option may be left out.
     pub skips_none: Option<usize>,
 }
 
 /// Whether a field has a default.
 #[derive(Clone, Copy, Debug)]
-pub enum DefaultRule {
+pub enum DefaultRule<'t> {
     Unsaid,
     /// That of its type: where this is said.
     OfType(usize),
     /// A value, and where it stands.
-    Value(usize, Literal),
+    Value(usize, Literal<'t>),
 }
 
 /// Whether it is an attribute of serde's.
@@ -166,7 +166,7 @@ fn skip_in<'t>(rule: Rule<'_, 't>) -> Result<usize, NoImpls<'t>> {
     }
 }
 
-fn default_in<'t>(alloc: Global, rule: Rule<'_, 't>) -> Result<DefaultRule, NoImpls<'t>> {
+fn default_in<'t>(alloc: Global, rule: Rule<'_, 't>) -> Result<DefaultRule<'t>, NoImpls<'t>> {
     let mut value = rule.value;
     if !value.takes("=") {
         return Ok(DefaultRule::OfType(rule.name.at));

@@ -1,6 +1,6 @@
 //! The impls of a record, as they are written.
 
-use crate::layout::{push_call, push_signature};
+use crate::layout::push_signature;
 use crate::record::{Field, Presence, Record};
 use std::alloc::{AllocError, Global};
 
@@ -58,14 +58,15 @@ fn push_entry(alloc: Global, text: &mut String, field: &Field<'_>) -> Result<(),
         kind,
         presence,
     } = field;
-    match presence {
-        Presence::Needed => write!(text, "needed ⟦<{kind} as Returns<'static>>⟧ \"{key}\"")?,
-        Presence::Maybe => write!(text, "maybe ⟦<{kind} as Returns<'static>>⟧ \"{key}\"")?,
-        Presence::Or(value) => {
-            let value = value.listed(alloc, kind.as_str())?;
-            write!(text, "or ⟦<{kind} as Returns<'static>>⟧ \"{key}\" {value}")?;
-        }
-    }
+    let (word, default) = match presence {
+        Presence::Needed => ("needed", String::new(alloc)),
+        Presence::Maybe => ("maybe", String::new(alloc)),
+        Presence::Or(value) => (value.entry_word(), value.listed(alloc, kind.as_str())?),
+    };
+    write!(
+        text,
+        "{word} ⟦<{kind} as Returns<'static>>⟧ \"{key}\"{default}"
+    )?;
     write!(text, " (λ s. s.{name})")
 }
 
@@ -121,13 +122,15 @@ fn push_read(text: &mut String, field: &Field<'_>) -> Result<(), AllocError> {
     match field.presence {
         Presence::Needed => write!(text, "\n            {name} = needed(\"{key}\"),"),
         Presence::Maybe => write!(text, "\n            {name} = maybe(\"{key}\"),"),
-        Presence::Or(value) => write!(text, "\n            {name} = or(\"{key}\", {value}),"),
+        Presence::Or(value) => {
+            let word = value.entry_word();
+            write!(text, "\n            {name} = {word}(\"{key}\"{value}),")
+        }
     }
 }
 
 fn serialize(alloc: Global, record: &Record<'_>) -> Result<String, AllocError> {
     let name = record.name;
-    let count = record.fields.len();
     let mut text = format!(in alloc;
         "\
 impl Serialize for {name} {{
@@ -136,15 +139,12 @@ impl Serialize for {name} {{
     ghost holds = {{ record_holds ⟦<{name} as RoundTrip>⟧.fields }};
 
     fn serialize(&self, _alloc: Global, ser: &mut Serializer) -> Result<(), WriteError> {{
-        ser.serialize_struct(\"{name}\", {count})?;"
+        write_record!(ser, self, {name} {{"
     )?;
-    for field in &record.fields {
-        let key = format!(in alloc; "\"{}\"", field.key)?;
-        let value = format!(in alloc; "&self.{}", field.name)?;
-        let arguments = [key.as_str(), value.as_str()];
-        push_call(alloc, &mut text, "ser.serialize_field", &arguments, 8, "?;")?;
+    for Field { name, key, .. } in &record.fields {
+        write!(text, "\n            {name} = \"{key}\",")?;
     }
-    text.push_str("\n        ser.end()\n    }\n}")?;
+    text.push_str("\n        })\n    }\n}")?;
     Ok(text)
 }
 
@@ -152,9 +152,9 @@ fn returns(alloc: Global, name: &str) -> Result<String, AllocError> {
     format!(in alloc;
         "\
 impl<'de> Returns<'de> for {name} {{
-    ghost returned = {{ record_returns ⟦<{name} as RoundTrip>⟧.fields refl }};
+    ghost read_back = {{ record_back ⟦<{name} as RoundTrip>⟧.fields (λ s. refl) }};
 
-    ghost is_own = {{ record_is_own ⟦<{name} as RoundTrip>⟧.fields }};
+    ghost returns = {{ ⟦<{name} as Returns<'static>>⟧.read_back.returns }};
 }}"
     )
 }

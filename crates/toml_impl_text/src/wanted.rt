@@ -9,7 +9,8 @@ use crate::written::is_impl;
 use std::alloc::Global;
 
 // The traits whose impls are written.
-const TRAITS: [&str; 6] = [
+const TRAITS: [&str; 7] = [
+    "Choice",
     "RoundTrip",
     "Record",
     "Deserialize",

@@ -21,7 +21,7 @@ pub struct FieldList<'t> {
 pub struct Entry<'t> {
     pub field: &'t str,
     pub key: &'t str,
-    pub default: Option<Literal>,
+    pub default: Option<Literal<'t>>,
 }
 
 impl<'t> FieldList<'t> {
@@ -103,26 +103,28 @@ fn entries_in<'t>(alloc: Global, mut tokens: Cursor<'_, 't>) -> Result<FieldList
 }
 
 fn next_entry<'t>(alloc: Global, tokens: &mut Cursor<'_, 't>) -> Result<Entry<'t>, NoImpls<'t>> {
-    let at = tokens.at();
-    let has_default = tokens.takes("or");
-    if !has_default && !tokens.takes("needed") && !tokens.takes("maybe") {
-        return Err(NoImpls::At(at, Reason::Entry));
-    }
+    let word = tokens.take(Kind::Word, "an entry")?;
     skip_type(tokens);
-    let key = tokens.take(Kind::Text, "a key")?;
-    let default = if has_default {
-        Some(Literal::take_listed(alloc, tokens)?)
-    } else {
-        None
+    let key = text_in(tokens)?;
+    let default = match word.text {
+        "needed" | "maybe" => None,
+        "or" => Some(Literal::take_listed(alloc, tokens)?),
+        "or_text" => Some(Literal::Text(text_in(tokens)?)),
+        "or_empty" => Some(Literal::EmptyList),
+        _ => return Err(NoImpls::At(word.at, Reason::Entry)),
     };
-    let field = field_in(tokens)?;
-    match unquoted(key.text) {
-        Some(key) => Ok(Entry {
-            field,
-            key,
-            default,
-        }),
-        None => Err(NoImpls::At(key.at, Reason::Key)),
+    Ok(Entry {
+        field: field_in(tokens)?,
+        key,
+        default,
+    })
+}
+
+fn text_in<'t>(tokens: &mut Cursor<'_, 't>) -> Result<&'t str, NoImpls<'t>> {
+    let token = tokens.take(Kind::Text, "a string")?;
+    match unquoted(token.text) {
+        Some(text) => Ok(text),
+        None => Err(NoImpls::At(token.at, Reason::Key)),
     }
 }
 
