@@ -1,7 +1,7 @@
 //! Records: the fields of a table, written one after another.
 ghost use Rattle.std.specs.Prelude.{◌≡◌, ◌++◌, ◌∷◌, [], IfErr, IfOk, List};
 ghost use Rattle.basic_toml.specs.Items.{Item};
-ghost use Rattle.basic_toml.specs.Parts.{Never, a_field, a_record, the_end};
+ghost use Rattle.basic_toml.specs.Parts.{Never, a_field, the_end};
 ghost use Rattle.basic_toml.specs.Serializer.{NoFault, Sends};
 ghost use Rattle.basic_toml_returns.specs.RoundTrips.{calls_of, record_calls, record_holds};
 ghost use Rattle.basic_toml_returns.specs.Variants.{variant_calls, variant_name};

@@ -1,6 +1,7 @@
 //! Types as a caller writes them: records, records in records, lists, choices, newtypes and records that refuse, strict
-//! records, records that borrow and a record of sixteen fields. Each but that one says which errors it has. Two take a
-//! short proof file for that: the record that refuses a field itself, and the text that is not empty.
+//! records and records that borrow. Each says which errors it has. Two take a short proof file for that: the record that
+//! refuses a field itself, and the text that is not empty. A record of sixteen fields and a choice have their impls in
+//! `returned.rt`.
 ghost use Rattle.std.specs.Prelude.{◌≡◌, ◌≢◌, ◌≤◌, ◌<◌, ◌∷◌, [], ◌⊎◌, codes, pos, string_bytes};
 ghost use Rattle.basic_toml.specs.Data.{integer, string};
 ghost use Rattle.basic_toml.specs.Fault.{custom};
