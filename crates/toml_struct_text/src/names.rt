@@ -1,6 +1,7 @@
 //! Names of structs and fields, by the keys of tables.
 
 use std::alloc::{AllocError, Global};
+use std::collections::BTreeSet;
 
 // What no field can be called.
 const KEYWORDS: [&str; 42] = [
@@ -46,7 +47,7 @@ pub fn struct_name(
     alloc: Global,
     key: &str,
     path: &str,
-    others: &[String],
+    others: &BTreeSet<String>,
 ) -> Result<String, AllocError> {
     let name = camel_case(alloc, key)?;
     if is_free(name.as_str(), others) {
@@ -88,7 +89,11 @@ fn begins_as_name(text: &str) -> bool {
 }
 
 /// The name of a field of a key, which is none of those that are there.
-pub fn field_name(alloc: Global, key: &str, others: &[String]) -> Result<String, AllocError> {
+pub fn field_name(
+    alloc: Global,
+    key: &str,
+    others: &BTreeSet<String>,
+) -> Result<String, AllocError> {
     let mut name = String::new(alloc);
     for c in key.chars() {
         name.push(if c.is_ascii_alphanumeric() { c } else { '_' })?;
@@ -99,17 +104,17 @@ pub fn field_name(alloc: Global, key: &str, others: &[String]) -> Result<String,
     if KEYWORDS.contains(&name.as_str()) {
         name.push_str("_key")?;
     }
-    if is_among(others, name.as_str()) {
+    if others.contains(name.as_str()) {
         return numbered(alloc, name.as_str(), others);
     }
     Ok(name)
 }
 
 // A name with the first number behind it by which it is none of the others.
-fn numbered(alloc: Global, name: &str, others: &[String]) -> Result<String, AllocError> {
+fn numbered(alloc: Global, name: &str, others: &BTreeSet<String>) -> Result<String, AllocError> {
     for number in 2..u64::MAX {
         let other = format!(in alloc; "{name}{number}")?;
-        if !is_among(others, other.as_str()) {
+        if !others.contains(other.as_str()) {
             return Ok(other);
         }
     }
@@ -117,10 +122,6 @@ fn numbered(alloc: Global, name: &str, others: &[String]) -> Result<String, Allo
 }
 
 // Whether a struct may have a name.
-fn is_free(name: &str, others: &[String]) -> bool {
-    !TAKEN.contains(&name) && !is_among(others, name)
-}
-
-fn is_among(names: &[String], name: &str) -> bool {
-    names.iter().any(|other| other.as_str() == name)
+fn is_free(name: &str, others: &BTreeSet<String>) -> bool {
+    !TAKEN.contains(&name) && !others.contains(name)
 }

@@ -4,7 +4,7 @@ use crate::names::{field_name, struct_name};
 use crate::shape::{Inner, Shape, has_plain_keys, shape_of};
 use basic_toml_value::{Table, Value};
 use std::alloc::{AllocError, AllocFailed, Global};
-use std::collections::VecDeque;
+use std::collections::{BTreeSet, VecDeque};
 
 /// Why a document has no structs.
 #[derive(Clone, Copy, Debug, PartialEq, Eq)]
@@ -50,7 +50,7 @@ struct Draft<'v> {
 #[derive(Drop)]
 struct Structs<'v> {
     text: String,
-    names: Vec<String>,
+    names: BTreeSet<String>,
     drafts: VecDeque<Draft<'v>>,
     has_float: bool,
     has_value: bool,
@@ -70,7 +70,7 @@ pub fn structs_of(alloc: Global, document: &Table) -> Result<String, NoStructs> 
     }
     let mut structs = Structs {
         text: String::new(alloc),
-        names: Vec::new(alloc),
+        names: BTreeSet::new(alloc),
         drafts: VecDeque::new(alloc),
         has_float: false,
         has_value: false,
@@ -97,8 +97,8 @@ impl<'v> Structs<'v> {
         path: &str,
         tables: Vec<&'v Table>,
     ) -> Result<String, AllocError> {
-        let name = struct_name(alloc, key, path, self.names.as_slice())?;
-        self.names.push(name.clone()?)?;
+        let name = struct_name(alloc, key, path, &self.names)?;
+        self.names.insert(name.clone()?)?;
         self.drafts.push_back(Draft {
             name: name.clone()?,
             path: String::from_str(alloc, path)?,
@@ -112,7 +112,7 @@ impl<'v> Structs<'v> {
         let Draft { name, path, tables } = draft;
         let mut rows = String::new(alloc);
         let mut sections = String::new(alloc);
-        let mut fields = Vec::new(alloc);
+        let mut fields = BTreeSet::new(alloc);
         for key in keys_of(alloc, tables.as_slice())? {
             let values = values_at(alloc, tables.as_slice(), key)?;
             let is_option = values.len() < tables.len();
@@ -121,10 +121,10 @@ impl<'v> Structs<'v> {
             } else {
                 &mut rows
             };
-            let field = field_name(alloc, key, fields.as_slice())?;
+            let field = field_name(alloc, key, &fields)?;
             let kind = self.kind(alloc, key, path.as_str(), shape_of(alloc, values)?)?;
             push_field(text, field.as_str(), key, kind.as_str(), is_option)?;
-            fields.push(field)?;
+            fields.insert(field)?;
         }
         if path.is_empty() {
             self.text.push_str("\n/// The document.\n")?;
@@ -210,9 +210,10 @@ fn push_field(
 // The keys of some tables, in the order in which they come first.
 fn keys_of<'v>(alloc: Global, tables: &[&'v Table]) -> Result<Vec<&'v str>, AllocError> {
     let mut keys = Vec::new(alloc);
+    let mut seen = BTreeSet::new(alloc);
     for table in tables {
         for (key, _) in *table {
-            if !keys.contains(&key) {
+            if seen.insert(key)? {
                 keys.push(key)?;
             }
         }
