@@ -113,12 +113,12 @@ class Field:
 class Struct:
     """A struct of 1 to 40 fields, which may be of earlier structs."""
 
-    def __init__(self, chance, name, known):
+    def __init__(self, chance, name, known, size=None):
         self.name = name
         self.case = chance.choice([None, None] + sorted(CASES))
         self.is_strict = chance.random() < 0.5
         names = {}
-        for number in range(chance.choice((1, 2, 3, 5, 8, 13, 21, 30, 40))):
+        for number in range(size or chance.choice((1, 2, 3, 5, 8, 13, 21, 30, 40))):
             words = [chance.choice(WORDS) for _ in range(chance.randint(1, 4))]
             names["_".join(words + [str(number)] if chance.random() < 0.5 else words)] = None
         self.fields = []
@@ -174,16 +174,16 @@ USES = {"Float": "use basic_toml::Float;\n", "Serialize": "use serde::{Deseriali
 
 
 class File:
-    """A file of structs, and of enums that they have fields of."""
+    """A file of structs, of any size or of these sizes, and of enums that they have fields of."""
 
-    def __init__(self, chance, number, first, count):
+    def __init__(self, chance, module, first, sizes):
         self.structs = []
-        self.module = "made::made_%d" % number
+        self.module = module
         self.enums = [Enum(chance, "%s%sOf%d" % (capital(chance.choice(WORDS)), capital(chance.choice(WORDS)), first + each))
                       for each in range(2)]
-        for each in range(first, first + count):
+        for each, size in enumerate(sizes, first):
             name = "%s%s%d" % (capital(chance.choice(WORDS)), capital(chance.choice(WORDS)), each)
-            self.structs.append(Struct(chance, name, [one.name for one in self.enums + self.structs]))
+            self.structs.append(Struct(chance, name, [one.name for one in self.enums + self.structs], size))
         self.uses = [word for word in USES if chance.random() < 0.5]
 
     def text(self, is_whole):

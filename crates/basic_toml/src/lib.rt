@@ -32,7 +32,7 @@ pub use basic_toml_order::{into_rows_first, rows_first};
 pub use basic_toml_origin::{Origin, Step};
 pub use basic_toml_tree::{Elements, Entries, Node, Tree};
 pub use basic_toml_typed::{
-    And, Deserialize, Fields, Maybe, Needed, Only, Or, OrEmpty, OrText, Record, only_fields,
+    And, Deserialize, Fields, Four, Maybe, Needed, Only, Or, OrEmpty, OrText, Record, only_fields,
     read_elements, read_field, read_optional, read_record, variant,
 };
 pub use basic_toml_value::{PushRefusal, Table, Value};

@@ -8,7 +8,7 @@ ghost use Rattle.basic_toml_returns.specs.Variants.{variant_calls, variant_name}
 ghost use Rattle.basic_toml_returns.specs.WrittenFields.{AllHold, AreAdded, FailToBeAdded};
 
 use crate::{Choice, RoundTrip};
-use basic_toml::{And, Serialize, Serializer, WriteError};
+use basic_toml::{And, Four, Serialize, Serializer, WriteError};
 
 /// One or more fields of a record, as [`write_record!`](crate::write_record!) lists them.
 pub trait WriteFields: Sized + Drop {
@@ -64,6 +64,31 @@ impl<A: WriteFields, B: WriteFields> WriteFields for And<A, B> {
         let And { first, rest } = self;
         first.write(ser)?;
         rest.write(ser)
+    }
+}
+
+impl<A: WriteFields, B: WriteFields, C: WriteFields, D: WriteFields> WriteFields
+    for Four<A, B, C, D> {
+    ghost spells = { λ f more.
+        A.spells f.first (B.spells f.second (C.spells f.third (D.spells f.fourth more))) };
+
+    ghost never = { λ f. A.never f.first × B.never f.second × C.never f.third × D.never f.fourth };
+
+    ghost holds = { λ f.
+        A.holds f.first ++ (B.holds f.second ++ (C.holds f.third ++ D.holds f.fourth)) };
+
+    #[tactic(auto, using(crate::proofs::FieldsSent::fields_in_turn))]
+    fn write(self, ser: &mut Serializer) -> Result<(), WriteError> {
+        let Four {
+            first,
+            second,
+            third,
+            fourth,
+        } = self;
+        first.write(ser)?;
+        second.write(ser)?;
+        third.write(ser)?;
+        fourth.write(ser)
     }
 }
 

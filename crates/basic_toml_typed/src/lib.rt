@@ -26,4 +26,6 @@ mod targets;
 pub use collections::read_elements;
 pub use deserialize::Deserialize;
 pub use fields::{only_fields, read_field, read_optional, variant};
-pub use record::{And, Fields, Maybe, Needed, Only, Or, OrEmpty, OrText, Record, read_record};
+pub use record::{
+    And, Fields, Four, Maybe, Needed, Only, Or, OrEmpty, OrText, Record, read_record,
+};

@@ -1,5 +1,5 @@
 //! Records: fields of a table, read one after another.
-ghost use Rattle.std.specs.Prelude.{◌≡◌, ◌++◌, ◌∷◌, IfErr, IfOk, List, [], ⊤, map};
+ghost use Rattle.std.specs.Prelude.{◌≡◌, ◌++◌, ◌∷◌, IfErr, IfOk, List, [], map};
 ghost use Rattle.basic_toml_error.specs.Fault.{Fault};
 ghost use Rattle.basic_toml_tree.specs.Nodes.{node_data};
 ghost use Rattle.basic_toml_tree.specs.declared.node.Node as n;
@@ -192,6 +192,46 @@ impl<'de, A: Fields<'de>, B: Fields<'de>> Fields<'de> for And<A, B> {
     }
 }
 
+/// Four of fields, or of parts of them, one after another; or the values of each.
+#[derive(Drop)]
+pub struct Four<A, B, C, D> {
+    pub first: A,
+    pub second: B,
+    pub third: C,
+    pub fourth: D,
+}
+
+impl<'de, A: Fields<'de>, B: Fields<'de>, C: Fields<'de>, D: Fields<'de>> Fields<'de>
+    for Four<A, B, C, D> {
+    type Values = Four<A::Values, B::Values, C::Values, D::Values>;
+
+    ghost readings = { λ f.
+        A.readings f.first ++ (B.readings f.second ++ (C.readings f.third ++ D.readings f.fourth)) };
+
+    ghost reads = { λ f values d. A.reads f.first values.first d × B.reads f.second values.second d
+        × C.reads f.third values.third d × D.reads f.fourth values.fourth d };
+
+    #[tactic(auto, using(crate::proofs::RecordsRead::one_after_another))]
+    fn read(self, alloc: Global, node: Node<'_, 'de>) -> Result<Self::Values, Error> {
+        let Four {
+            first,
+            second,
+            third,
+            fourth,
+        } = self;
+        let first = first.read(alloc, node)?;
+        let second = second.read(alloc, node)?;
+        let third = third.read(alloc, node)?;
+        let fourth = fourth.read(alloc, node)?;
+        Ok(Four {
+            first,
+            second,
+            third,
+            fourth,
+        })
+    }
+}
+
 /// A type that is read from the fields of a table.
 ///
 /// The ghost member `fields` lists them, a line each; what the type reads follows from it, `record_reads`, and which errors
@@ -270,14 +310,19 @@ macro_rules! field {
     (or_text [$kind:ty] $key:expr, $default:expr) => { $crate::OrText { key: $key, default: $default } };
 }
 
-/// Things of any types in pairs, pairs of pairs and so on, so that none lies deep.
+/// Things of any types by fours, fours of fours and so on, so that none lies deep and few types are made of them.
 #[macro_export]
 macro_rules! all_of {
-    (@pairs [$one:tt]) => { $one };
-    (@pairs [$($pair:tt)+]) => { $crate::all_of!(@pairs [] $($pair)+) };
-    (@pairs [$($pair:tt)*] $one:tt) => { $crate::all_of!(@pairs [$($pair)* $one]) };
-    (@pairs [$($pair:tt)*] $first:tt $rest:tt $($more:tt)*) => {
-        $crate::all_of!(@pairs [$($pair)* ($crate::And { first: $first, rest: $rest })] $($more)*)
+    (@parts [$one:tt]) => { $one };
+    (@parts [$($part:tt)+]) => { $crate::all_of!(@parts [] $($part)+) };
+    (@parts [$($part:tt)*] $one:tt) => { $crate::all_of!(@parts [$($part)* $one]) };
+    (@parts [$($part:tt)*] $first:tt $second:tt $third:tt $fourth:tt $($more:tt)*) => {
+        $crate::all_of!(@parts [
+            $($part)* ($crate::Four { first: $first, second: $second, third: $third, fourth: $fourth })
+        ] $($more)*)
     };
-    ($($one:tt)+) => { $crate::all_of!(@pairs [] $($one)+) };
+    (@parts [$($part:tt)*] $first:tt $rest:tt $($more:tt)*) => {
+        $crate::all_of!(@parts [$($part)* ($crate::And { first: $first, rest: $rest })] $($more)*)
+    };
+    ($($one:tt)+) => { $crate::all_of!(@parts [] $($one)+) };
 }
