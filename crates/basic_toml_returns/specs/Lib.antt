@@ -10,3 +10,4 @@ pub mod ArraysReturn
 pub mod MapsReturn
 pub mod ValuesReturn
 pub mod Variants
+pub mod Forms

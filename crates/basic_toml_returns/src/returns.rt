@@ -1,4 +1,5 @@
 //! Values that are read back from what they write.
+ghost use Rattle.basic_toml_returns.specs.Forms as f;
 ghost use Rattle.basic_toml_returns.specs.Returned.{ReadBack, Returned};
 ghost use Rattle.basic_toml_returns.specs.RoundTrips as spec;
 ghost use Rattle.basic_toml_returns.specs.Variants as v;
@@ -76,4 +77,39 @@ pub trait RoundTrip: Sized {
 pub trait Choice: Sized {
     // The names, and at which position among them a variant has its own.
     ghost variants: { v.Variants Self };
+}
+
+/// A choice of two forms, as a version and a table, that is read back from what it writes.
+///
+/// The ghost member `forms` has a test of data, the type that is read where it holds, the type that is read elsewhere,
+/// and which form a value has: `one`, of the first type, or `other`, of the second. What the choice reads and writes,
+/// which errors it has and what its values mean follow from it.
+///
+/// ```text
+/// impl Forms for Dependency {
+///     ghost forms = { by_test is_table ⟦<Detail as Returns<'static>>⟧ ⟦<String as Returns<'static>>⟧
+///         (elim [ Version text ↦ other text | Detailed detail ↦ one detail ]) (λ x. refl) (λ x. refl) };
+/// }
+///
+/// impl<'de> Deserialize<'de> for Dependency {
+///     ghost reads = { form_reads ⟦<Dependency as Forms>⟧.forms };
+///
+///     ghost faults = { form_faults ⟦<Dependency as Forms>⟧.forms };
+///
+///     fn deserialize(alloc: Global, node: Node<'_, 'de>) -> Result<Dependency, Error> {
+///         if node.is_table() {
+///             Ok(Dependency::Detailed(Detail::deserialize(alloc, node)?))
+///         } else {
+///             Ok(Dependency::Version(String::deserialize(alloc, node)?))
+///         }
+///     }
+///     // ..
+/// }
+/// ```
+///
+/// This is from `toml_callers`. By the two `refl` the checker sees for itself that the test holds of whatever a
+/// `Detail` means, and of no string.
+pub trait Forms: Sized {
+    // The two, which of them a value has, and the test that tells their data apart.
+    ghost forms: { f.Forms Self };
 }
