@@ -3,6 +3,7 @@
 
 pub mod editor;
 pub mod forms;
+pub mod manifest;
 pub mod readers;
 pub mod records;
 pub mod returned;
