@@ -2,6 +2,7 @@
 use basic_toml::{Deserialize, Float, Value, from_str};
 use std::alloc::{AllocError, Global};
 use std::collections::BTreeMap;
+use toml_callers::manifest::Dependency;
 use toml_callers::types::{
     Child, Color, Interval, Listener, Lower, NonEmpty, Parent, Service, Single, Sole, Steps,
     Strict, Title,
@@ -35,6 +36,7 @@ fn of_a_map(alloc: Global, kind: &str, text: &str) -> Option<Result<String, Allo
         "map-float" => Some(answer::<BTreeMap<String, Float>>(alloc, text)),
         "map-any" => Some(answer::<BTreeMap<String, Value>>(alloc, text)),
         "map-color" => Some(answer::<BTreeMap<String, Color>>(alloc, text)),
+        "map-dependency" => Some(answer::<BTreeMap<String, Dependency>>(alloc, text)),
         "map-interval" => Some(answer::<BTreeMap<String, Interval>>(alloc, text)),
         "map-non-empty" => Some(answer::<BTreeMap<String, NonEmpty>>(alloc, text)),
         "map-steps" => Some(answer::<BTreeMap<String, Steps>>(alloc, text)),

@@ -5,6 +5,7 @@ use std::alloc::{AllocError, Global};
 use std::collections::BTreeMap;
 use std::test::Fail;
 use toml_callers::forms::{Entry, Point, Present, Wrapper};
+use toml_callers::manifest::Manifest;
 use toml_callers::records::{Choice, Job, Rule, Server};
 use toml_callers::types::Service;
 
@@ -134,5 +135,16 @@ fn a_record_of_sixteen_fields_returns(rt: HostRuntime) -> Result<(), Fail> {
     assert_eq!(rt; to_string(alloc, &service)?.as_str(), text);
     let service = write_then_read(alloc, &service)?;
     assert_eq!(rt; to_string(alloc, &service)?.as_str(), text);
+    Ok(())
+}
+
+#[test]
+fn a_choice_of_forms_returns(rt: HostRuntime) -> Result<(), Fail> {
+    let alloc = rt.alloc();
+    let text = "name = \"a\"\n\n[dependencies]\nlibc = \"0.2\"\n\n\
+                [dependencies.serde]\npath = \"serde\"\noptional = true\n";
+    let manifest: Manifest = from_str(alloc, text)?;
+    let manifest = write_then_read(alloc, &manifest)?;
+    assert_eq!(rt; to_string(alloc, &manifest)?.as_str(), text);
     Ok(())
 }
