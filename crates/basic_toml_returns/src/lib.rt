@@ -11,8 +11,10 @@ mod returns;
 mod root;
 mod scalars;
 mod values;
+mod variants;
 mod write;
 
 pub use returns::{Choice, Forms, Returns, RoundTrip};
 pub use root::{Root, write_then_read};
-pub use write::{WriteField, WriteFields, write_record, write_variant};
+pub use variants::{read_variant, write_variant};
+pub use write::{WriteField, WriteFields, write_record};

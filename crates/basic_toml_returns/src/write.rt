@@ -4,10 +4,9 @@ ghost use Rattle.basic_toml.specs.Items.{Item};
 ghost use Rattle.basic_toml.specs.Parts.{Never, a_field, the_end};
 ghost use Rattle.basic_toml.specs.Serializer.{NoFault, Sends};
 ghost use Rattle.basic_toml_returns.specs.RoundTrips.{calls_of, record_calls, record_holds};
-ghost use Rattle.basic_toml_returns.specs.Variants.{variant_calls, variant_name};
 ghost use Rattle.basic_toml_returns.specs.WrittenFields.{AllHold, AreAdded, FailToBeAdded};
 
-use crate::{Choice, RoundTrip};
+use crate::RoundTrip;
 use basic_toml::{And, Four, Serialize, Serializer, WriteError};
 
 /// One or more fields of a record, as [`write_record!`](crate::write_record!) lists them.
@@ -111,22 +110,6 @@ pub fn write_record<R: RoundTrip, F: WriteFields>(
     ser.serialize_map(None)?;
     fields.write(ser)?;
     ser.end()
-}
-
-/// Writes a variant of a choice by its name.
-///
-/// # Errors
-///
-/// That of a string which may not stand there.
-pub fn write_variant<R: Choice>(
-    ser: &mut Serializer,
-    value: &R,
-    name: &str,
-) -> Result<(), WriteError>
-    requires { variant_name R.variants value.now ≡ name.now }
-    ensures { Sends (variant_calls R.variants value.now) NoFault ser.old ser.new result }
-{
-    ser.serialize_unit_variant("", 0, name)
 }
 
 /// Writes a record as a table: its fields, each with the key that it is written at.

@@ -8,10 +8,10 @@ ghost use Rattle.basic_toml_returns.specs.RoundTrips.{as_read, done, maybe, need
 ghost use Rattle.basic_toml_returns.specs.Variants.{variant_back, variant_calls, variant_faults, variant_reads};
 
 use basic_toml::{
-    Deserialize, Error, Node, Record, Serialize, Serializer, Tree, WriteError, from_str, variant,
+    Deserialize, Error, Node, Record, Serialize, Serializer, Tree, WriteError, from_str,
 };
 use basic_toml_returns::{
-    Choice, Returns, Root, RoundTrip, write_record, write_then_read, write_variant,
+    Choice, Returns, Root, RoundTrip, read_variant, write_record, write_then_read, write_variant,
 };
 use basic_toml_typed::read_record;
 use std::alloc::Global;
@@ -141,7 +141,7 @@ impl<'de> Deserialize<'de> for Level {
     ghost faults = { variant_faults ⟦<Level as Choice>⟧.variants };
 
     fn deserialize(alloc: Global, node: Node<'_, 'de>) -> Result<Level, Error> {
-        match variant(alloc, node, &["error", "warning", "everything"]) {
+        match read_variant::<Level>(alloc, node, &["error", "warning", "everything"]) {
             Ok(0) => Ok(Level::Error),
             Ok(1) => Ok(Level::Warning),
             Ok(_) => Ok(Level::Everything),

@@ -82,7 +82,8 @@ fn push_reading(alloc: Global, text: &mut String, choice: &Choice<'_>) -> Result
     let Some((last, others)) = choice.variants.split_last() else {
         return Ok(());
     };
-    push_call(alloc, text, "match variant", &arguments, 8, " {")?;
+    let begun = format!(in alloc; "match read_variant::<{name}>")?;
+    push_call(alloc, text, begun.as_str(), &arguments, 8, " {")?;
     for (number, variant) in others.iter().enumerate() {
         write!(
             text,

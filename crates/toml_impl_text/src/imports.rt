@@ -77,7 +77,6 @@ const CODE: [(&str, &[&str]); 4] = [
             "Tree",
             "WriteError",
             "from_str",
-            "variant",
         ],
     ),
     (
@@ -87,6 +86,7 @@ const CODE: [(&str, &[&str]); 4] = [
             "Returns",
             "Root",
             "RoundTrip",
+            "read_variant",
             "write_record",
             "write_variant",
         ],
@@ -142,8 +142,8 @@ fn is_needed(types: &Types<'_>, name: &str) -> bool {
         | "variant_calls"
         | "variant_faults"
         | "variant_reads"
-        | "variant"
         | "Choice"
+        | "read_variant"
         | "write_variant" => !types.choices.is_empty(),
         "Deserialize"
         | "Error"

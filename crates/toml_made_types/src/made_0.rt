@@ -8,9 +8,10 @@ ghost use Rattle.basic_toml_returns.specs.Variants.{variant_back, variant_calls,
 
 use basic_toml::{
     Deserialize, Error, Float, Node, Record, Serialize, Serializer, Tree, WriteError, from_str,
-    variant,
 };
-use basic_toml_returns::{Choice, Returns, Root, RoundTrip, write_record, write_variant};
+use basic_toml_returns::{
+    Choice, Returns, Root, RoundTrip, read_variant, write_record, write_variant,
+};
 use basic_toml_typed::read_record;
 use std::alloc::Global;
 use std::collections::BTreeMap;
@@ -48,7 +49,7 @@ impl<'de> Deserialize<'de> for LevelSizeOf0 {
     ghost faults = { variant_faults ⟦<LevelSizeOf0 as Choice>⟧.variants };
 
     fn deserialize(alloc: Global, node: Node<'_, 'de>) -> Result<LevelSizeOf0, Error> {
-        match variant(
+        match read_variant::<LevelSizeOf0>(
             alloc,
             node,
             &[
@@ -143,7 +144,7 @@ impl<'de> Deserialize<'de> for TabLevelOf1 {
     ghost faults = { variant_faults ⟦<TabLevelOf1 as Choice>⟧.variants };
 
     fn deserialize(alloc: Global, node: Node<'_, 'de>) -> Result<TabLevelOf1, Error> {
-        match variant(
+        match read_variant::<TabLevelOf1>(
             alloc,
             node,
             &[

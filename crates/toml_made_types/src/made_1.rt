@@ -8,9 +8,10 @@ ghost use Rattle.basic_toml_returns.specs.Variants.{variant_back, variant_calls,
 
 use basic_toml::{
     Deserialize, Error, Float, Node, Record, Serialize, Serializer, Tree, WriteError, from_str,
-    variant,
 };
-use basic_toml_returns::{Choice, Returns, Root, RoundTrip, write_record, write_variant};
+use basic_toml_returns::{
+    Choice, Returns, Root, RoundTrip, read_variant, write_record, write_variant,
+};
 use basic_toml_typed::read_record;
 use std::alloc::Global;
 use std::collections::BTreeMap;
@@ -37,7 +38,7 @@ impl<'de> Deserialize<'de> for GroupMaxOf3 {
     ghost faults = { variant_faults ⟦<GroupMaxOf3 as Choice>⟧.variants };
 
     fn deserialize(alloc: Global, node: Node<'_, 'de>) -> Result<GroupMaxOf3, Error> {
-        match variant(alloc, node, &["tab-group-port"]) {
+        match read_variant::<GroupMaxOf3>(alloc, node, &["tab-group-port"]) {
             Ok(_) => Ok(GroupMaxOf3::TabGroupPort),
             Err(error) => Err(error),
         }
@@ -86,7 +87,7 @@ impl<'de> Deserialize<'de> for KeyRateOf4 {
     ghost faults = { variant_faults ⟦<KeyRateOf4 as Choice>⟧.variants };
 
     fn deserialize(alloc: Global, node: Node<'_, 'de>) -> Result<KeyRateOf4, Error> {
-        match variant(alloc, node, &["TABRATE"]) {
+        match read_variant::<KeyRateOf4>(alloc, node, &["TABRATE"]) {
             Ok(_) => Ok(KeyRateOf4::TabRate),
             Err(error) => Err(error),
         }

@@ -8,9 +8,10 @@ ghost use Rattle.basic_toml_returns.specs.Variants.{variant_back, variant_calls,
 
 use basic_toml::{
     Deserialize, Error, Float, Node, Record, Serialize, Serializer, Tree, WriteError, from_str,
-    variant,
 };
-use basic_toml_returns::{Choice, Returns, Root, RoundTrip, write_record, write_variant};
+use basic_toml_returns::{
+    Choice, Returns, Root, RoundTrip, read_variant, write_record, write_variant,
+};
 use basic_toml_typed::read_record;
 use std::alloc::Global;
 use std::collections::BTreeMap;
@@ -37,7 +38,7 @@ impl<'de> Deserialize<'de> for UserIndexOf6 {
     ghost faults = { variant_faults ⟦<UserIndexOf6 as Choice>⟧.variants };
 
     fn deserialize(alloc: Global, node: Node<'_, 'de>) -> Result<UserIndexOf6, Error> {
-        match variant(alloc, node, &["the Level"]) {
+        match read_variant::<UserIndexOf6>(alloc, node, &["the Level"]) {
             Ok(_) => Ok(UserIndexOf6::Level),
             Err(error) => Err(error),
         }
@@ -97,7 +98,7 @@ impl<'de> Deserialize<'de> for ModeMaxOf7 {
     ghost faults = { variant_faults ⟦<ModeMaxOf7 as Choice>⟧.variants };
 
     fn deserialize(alloc: Global, node: Node<'_, 'de>) -> Result<ModeMaxOf7, Error> {
-        match variant(
+        match read_variant::<ModeMaxOf7>(
             alloc,
             node,
             &[

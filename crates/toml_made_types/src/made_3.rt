@@ -8,9 +8,10 @@ ghost use Rattle.basic_toml_returns.specs.Variants.{variant_back, variant_calls,
 
 use basic_toml::{
     Deserialize, Error, Float, Node, Record, Serialize, Serializer, Tree, WriteError, from_str,
-    variant,
 };
-use basic_toml_returns::{Choice, Returns, Root, RoundTrip, write_record, write_variant};
+use basic_toml_returns::{
+    Choice, Returns, Root, RoundTrip, read_variant, write_record, write_variant,
+};
 use basic_toml_typed::read_record;
 use std::alloc::Global;
 
@@ -38,7 +39,7 @@ impl<'de> Deserialize<'de> for ColorLogOf9 {
     ghost faults = { variant_faults ⟦<ColorLogOf9 as Choice>⟧.variants };
 
     fn deserialize(alloc: Global, node: Node<'_, 'de>) -> Result<ColorLogOf9, Error> {
-        match variant(alloc, node, &["sizeLog", "host", "the RateSize"]) {
+        match read_variant::<ColorLogOf9>(alloc, node, &["sizeLog", "host", "the RateSize"]) {
             Ok(0) => Ok(ColorLogOf9::SizeLog),
             Ok(1) => Ok(ColorLogOf9::Host),
             Ok(_) => Ok(ColorLogOf9::RateSize),
@@ -102,7 +103,7 @@ impl<'de> Deserialize<'de> for TabPortOf10 {
     ghost faults = { variant_faults ⟦<TabPortOf10 as Choice>⟧.variants };
 
     fn deserialize(alloc: Global, node: Node<'_, 'de>) -> Result<TabPortOf10, Error> {
-        match variant(
+        match read_variant::<TabPortOf10>(
             alloc,
             node,
             &[
