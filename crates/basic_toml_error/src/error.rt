@@ -102,7 +102,8 @@ impl Error {
     ///
     /// An error of a clash has those of the section or the header, and in some rows the first key of the row; a type's
     /// own error has those of the section, and the first key of the row, that hold the node. Keys within a row's value
-    /// are not among them, nor are numbers of elements. Other errors have none, those of the writer too.
+    /// are not among them, nor are numbers of elements. An error of writing a type that derives has the keys that lead
+    /// to the value that was refused. Other errors have none, those of the writer too.
     ///
     /// Of the text `"[a.b]\nc.d = 1\nc.d = 2\n"` they are `a`, `b` and `c`, as `toml_vectors` has it.
     pub fn key_path(&self) -> &[String]
@@ -182,6 +183,22 @@ impl Error {
         if error.line_column.is_none() {
             error.line_column = line_column_of(text, error.offset);
         }
+        error
+    }
+
+    /// The same error with these keys, the outermost first.
+    ///
+    /// ```text
+    /// Error::from(WriteError::ValueAfterTable).with_keys(keys)
+    /// ```
+    ///
+    /// With the keys `dependencies` and `b` it prints ``values must be emitted before tables for key `dependencies.b` ``.
+    /// `to_string` of `basic_toml_serde` makes its errors so.
+    pub fn with_keys(self, keys: Vec<String>) -> Error
+        ensures { result ≡ record self { key_path = map string_bytes keys.items } }
+    {
+        let mut error = self;
+        error.key_path = Some(keys);
         error
     }
 

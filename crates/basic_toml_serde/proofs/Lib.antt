@@ -5,4 +5,5 @@ pub mod Walks
 pub mod NamesKept
 pub mod ItemsAreListed
 pub mod ItemsAreBuilt
+pub mod ItemsAreTaken
 pub mod TextRowsFirst

@@ -3,11 +3,13 @@ pub mod Ahead
 pub mod Answers
 pub mod Built
 pub mod Integers
+pub mod KeysTo
 pub mod Listed
 pub mod Noted
 pub mod Parts
 pub mod Pieces
 pub mod Recorded
+pub mod Refused
 pub mod Reports
 pub mod Sending
 pub mod Sent

@@ -11,13 +11,34 @@ use basic_toml_value::NESTING_LIMIT;
 use std::alloc::{AllocError, Global};
 use std::vec::IntoIter;
 
+/// Why items spell no table: the error, and the number of the item that met it.
+#[derive(Drop)]
+pub(crate) struct Unbuilt {
+    pub(crate) error: WriteError,
+    pub(crate) at: usize,
+}
+
 /// The table that items spell, without its absent options.
-pub(crate) fn table_of(alloc: Global, items: Vec<Item>) -> Result<Table, WriteError>
+pub(crate) fn table_of(alloc: Global, items: Vec<Item>) -> Result<Table, Unbuilt>
     ensures { IfOk result (λ table. IsTableOf (listed items.items) (entries table)) }
 {
+    let count = items.len();
     let mut rest = items.into_iter();
+    match whole_table(alloc, &mut rest) {
+        Ok(table) => Ok(table),
+        Err(error) => Err(Unbuilt {
+            error,
+            at: count.saturating_sub(rest.len()).saturating_sub(1),
+        }),
+    }
+}
+
+// The table that all items spell.
+fn whole_table(alloc: Global, rest: &mut IntoIter<Item>) -> Result<Table, WriteError>
+    ensures { IfOk result (λ table. IsTableOf (left rest.old) (entries table)) }
+{
     let table = match rest.next() {
-        Some(Item::OpenTable) => entries_of(alloc, &mut rest, NESTING_LIMIT)?,
+        Some(Item::OpenTable) => entries_of(alloc, rest, NESTING_LIMIT)?,
         Some(Item::Absent) => return Err(WriteError::UnsupportedNone),
         Some(_) => return Err(WriteError::UnsupportedType),
         None => return Err(WriteError::CallOrder),
@@ -50,7 +71,8 @@ fn value_of(
         Item::OpenTable if depth > 0 => Ok(Value::Table(entries_of(alloc, rest, depth - 1)?)),
         Item::OpenArray | Item::OpenTable => Err(WriteError::NestedTooDeeply),
         Item::Absent => Err(WriteError::UnsupportedNone),
-        Item::Close | Item::Key | Item::Field(_) => Err(WriteError::CallOrder),
+        Item::Large(_) | Item::NoForm => Err(WriteError::UnsupportedType),
+        Item::Close | Item::Key | Item::Field(_) | Item::Element => Err(WriteError::CallOrder),
     }
 }
 

@@ -5,9 +5,9 @@ ghost use Rattle.basic_toml_serde.specs.Listed.{item_of, AreListed};
 ghost use Rattle.basic_toml_serde.specs.Recorded.{Records};
 
 use crate::failure::Failure;
-use crate::piece::Piece;
+use crate::piece::{KeyAlone, Piece};
 use crate::sink::Sink;
-use basic_toml::{Float, WriteError};
+use basic_toml::{Float, Serialize, Serializer, WriteError};
 use std::alloc::Global;
 
 /// An item, with what it holds.
@@ -15,6 +15,8 @@ use std::alloc::Global;
 pub(crate) enum Item {
     Boolean(bool),
     Integer(i64),
+    /// An integer that is too large for a text.
+    Large(u64),
     Float(Float),
     /// A text, which may be a key.
     Text(String),
@@ -22,6 +24,8 @@ pub(crate) enum Item {
     OtherText(String),
     Octets(Vec<u8>),
     Absent,
+    /// A number that no text has a form for.
+    NoForm,
     OpenArray,
     OpenTable,
     /// The end of the innermost array or table.
@@ -30,6 +34,33 @@ pub(crate) enum Item {
     Key,
     /// The key of an entry.
     Field(String),
+    /// The next item is an element, or begins one.
+    Element,
+}
+
+#[tactic(auto, using(crate::proofs::ItemsAreTaken::item_sent))]
+impl Serialize for Item {
+    ghost calls = { λ item. item_of item ∷ [] };
+
+    fn serialize(&self, _alloc: Global, ser: &mut Serializer) -> Result<(), WriteError> {
+        match self {
+            Item::Boolean(truth) => ser.serialize_bool(*truth),
+            Item::Integer(number) => ser.serialize_i64(*number),
+            Item::Large(number) => ser.serialize_u64(*number),
+            Item::Float(float) => ser.serialize_float(float),
+            Item::Text(text) => ser.serialize_str(text.as_str()),
+            Item::OtherText(text) => ser.serialize_unit_variant("", 0, text.as_str()),
+            Item::Octets(octets) => ser.serialize_bytes(octets.as_slice()),
+            Item::Absent => ser.serialize_none(),
+            Item::NoForm => ser.serialize_unit(),
+            Item::OpenArray => ser.serialize_seq(None),
+            Item::OpenTable => ser.serialize_map(None),
+            Item::Close => ser.end(),
+            Item::Key => ser.serialize_key(&KeyAlone),
+            Item::Field(name) => ser.serialize_field(name.as_str(), &KeyAlone),
+            Item::Element => ser.serialize_element(&KeyAlone),
+        }
+    }
 }
 
 #[tactic(auto, using(crate::proofs::ItemsAreListed::items_listed))]
@@ -72,7 +103,7 @@ fn add(list: &mut Vec<Item>, item: Item) -> Result<(), Failure>
     }
 }
 
-/// The item of a piece. A number that no text has a form for has none.
+/// The item of a piece.
 fn item_for(alloc: Global, piece: &Piece<'_>) -> Result<Item, Failure>
     ensures { IfOk result (λ item. items_of piece.now ≡ item_of item ∷ []) }
 {
@@ -81,7 +112,7 @@ fn item_for(alloc: Global, piece: &Piece<'_>) -> Result<Item, Failure>
         Piece::Signed(number) => Ok(Item::Integer(*number)),
         Piece::Unsigned(number) => match i64::try_from(*number) {
             Ok(number) => Ok(Item::Integer(number)),
-            Err(_) => Err(Failure::Unsupported),
+            Err(_) => Ok(Item::Large(*number)),
         },
         Piece::Float(float) => Ok(Item::Float(Float::clone(*float)?)),
         Piece::Text(text) => Ok(Item::Text(String::from_str(alloc, *text)?)),
@@ -95,6 +126,6 @@ fn item_for(alloc: Global, piece: &Piece<'_>) -> Result<Item, Failure>
         Piece::Absent => Ok(Item::Absent),
         Piece::OpensArray => Ok(Item::OpenArray),
         Piece::OpensTable => Ok(Item::OpenTable),
-        Piece::NoForm => Err(Failure::Unsupported),
+        Piece::NoForm => Ok(Item::NoForm),
     }
 }
