@@ -173,8 +173,7 @@ fn text_rows_first(alloc: Global, table: Table) -> Result<String, Error>
 // The error of a table that was not written, with the keys that lead to what is refused.
 #[cold]
 #[inline(never)]
-fn keyed(alloc: Global, table: &Table, error: Error) -> Error
-{
+fn keyed(alloc: Global, table: &Table, error: Error) -> Error {
     if error.is_out_of_memory() {
         return error;
     }

@@ -1,4 +1,4 @@
-use Rattle.std.proofs.Common.{map, string_bytes, arith, ap, sym, ◌∙◌}
+use Rattle.std.proofs.Common.{map, string_bytes, arith, ap, ◌∙◌}
 use Rattle.std.specs.List.{flat_map}
 use Rattle.basic_toml_serde.specs.KeysTo.{set_keys}
 use Rattle.basic_toml_serde.specs.Stages.{stages_of}
@@ -18,4 +18,4 @@ returns c =
     c.self.inside.stages.items
     (omega (arith, c.in-None.ensures.steps.0, c.loop-stage.stage-iterator.rest.ok.0))
     (c.loop-stage.invariant ∙ start)
-    ∙ ap set_keys (sym c.self.view_is)
+    ∙ ap set_keys c.self.view_is
