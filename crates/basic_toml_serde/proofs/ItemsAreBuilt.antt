@@ -223,11 +223,11 @@ nothing : {A : Type 0} (xs : List A) → length xs ≡ 0 → xs ≡ []
 nothing [] empty = refl
 nothing (x ∷ xs) empty = absurd (cc)
 
-pub whole_table : (items begun inside : List code.Item) (ended : IntoIter code.Item Global) (ms : Members)
-    → begun ≡ items → begun ≡ it.OpenTable ∷ inside → EntriesBuilt (listed inside) ms (left ended)
-    → into_iter_len ended ≡ 0 → IsTableOf (listed items) ms
-whole_table items begun inside ended ms all opens built ends =
-    let same : listed items ≡ open_table ∷ listed inside = ap listed (sym all ∙ opens) in
+pub whole_table : (begun ended : IntoIter code.Item Global) (inside : List code.Item) (ms : Members)
+    → into_iter_items begun ≡ it.OpenTable ∷ inside → EntriesBuilt (listed inside) ms (left ended)
+    → into_iter_len ended ≡ 0 → IsTableOf (left begun) ms
+whole_table begun ended inside ms opens built ends =
+    let same : left begun ≡ open_table ∷ listed inside = ap listed opens in
     let nothing_left : left ended ≡ [] = ap listed (nothing (into_iter_items ended) (sym ended.rest.ok.0 ∙ ends)) in (
       table built.entries,
       root (subst (λ is. IsValue is (table built.entries) []) (sym same)
