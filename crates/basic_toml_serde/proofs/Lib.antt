@@ -6,4 +6,7 @@ pub mod NamesKept
 pub mod ItemsAreListed
 pub mod ItemsAreBuilt
 pub mod ItemsAreTaken
+pub mod TrailsLead
+pub mod TableIsListed
 pub mod TextRowsFirst
+pub mod RefusalsHaveKeys

@@ -1,5 +1,5 @@
 -- The text of what was sent, with the rows of each table first.
-use Rattle.std.proofs.Common.{◌≡◌, ℕ, false, List, sym, subst, ◌∙◌, Vec, Global}
+use Rattle.std.proofs.Common.{◌≡◌, ℕ, false, List, sym, subst, ◌∙◌}
 use Rattle.basic_toml_tokens.specs.Text.{folded}
 use Rattle.basic_toml_value.specs.Data.{Data, Members, table}
 use Rattle.basic_toml_value.specs.Nesting.{nesting_limit}
@@ -18,15 +18,8 @@ use Rattle.basic_toml_write.proofs.TreesAreKept.{spells_tree, tree-written}
 use Rattle.basic_toml_round_trip.proofs.KeptHasTheTree.{tree-kept}
 use Rattle.basic_toml.specs.RowsFirst.{rows_first}
 use Rattle.basic_toml.specs.Ser.{HoldsData, MeansKept}
-use Rattle.serde.specs.Event.{Event, Log}
-use Rattle.basic_toml_serde.specs.Built.{IsTableOf}
-use Rattle.basic_toml_serde.specs.Listed.{listed, AreListed}
-use Rattle.basic_toml_serde.specs.Written.{HasTakenAll, IsTableOfEvents, IsSentTable, IsTextRowsFirst, IsWrittenRowsFirst}
-use Rattle.basic_toml_serde.specs.declared.items.Item as code
-
-pub table_sent : (es : List Event) (items : Vec code.Item Global) (ms : Members) → HasTakenAll AreListed es items
-    → IsTableOf (listed items.items) ms → IsTableOfEvents es ms
-table_sent es items ms has is = (has.items, has.sent, subst (λ l. IsTableOf l ms) has.recorded is)
+use Rattle.serde.specs.Event.{Log}
+use Rattle.basic_toml_serde.specs.Written.{IsSentTable, IsTextRowsFirst, IsWrittenRowsFirst}
 
 -- the text of a table that was put in order
 pub rows_first_laid_out : (ms : Members) (moved : List (List ℕ × Value)) (text : List ℕ)

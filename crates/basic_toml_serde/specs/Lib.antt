@@ -9,6 +9,7 @@ pub mod Noted
 pub mod Parts
 pub mod Pieces
 pub mod Recorded
+pub mod Refusals
 pub mod Refused
 pub mod Reports
 pub mod Sending
