@@ -15,5 +15,6 @@ pub mod Reports
 pub mod Sending
 pub mod Sent
 pub mod Spellings
+pub mod Stages
 pub mod Taken
 pub mod Written
