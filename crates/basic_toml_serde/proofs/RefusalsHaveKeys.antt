@@ -1,6 +1,6 @@
 -- The error of a value that is not written, by the item that is refused.
-use Rattle.std.proofs.Common.{◌≡◌, ℕ, List, ◌∷◌, ◌++◌, Result, Ok, Err, ◌⊎◌, inl, inr, ap, sym, subst, refl, ◌∙◌, Vec, Global}
-use Rattle.std.proofs.Common.{String, string_bytes, map, take, drop}
+use Rattle.std.proofs.Common.{◌≡◌, ℕ, List, Result, Ok, Err, ◌⊎◌, inl, inr, ap, sym, subst, refl, ◌∙◌, Vec, Global}
+use Rattle.std.proofs.Common.{String, string_bytes, map, take, drop, IfOk}
 use Rattle.std.proofs.lemmas.List.{map-append, take-append-drop}
 use Rattle.basic_toml_value.specs.Data.{Data, Members, table}
 use Rattle.basic_toml_emit.specs.Items.{Item}
@@ -23,7 +23,8 @@ use Rattle.basic_toml_serde.specs.Refusals.{IsFaultOf, LeadsInto, HasNoKeys, IsE
 use Rattle.basic_toml_serde.specs.Refusals.{IsDataRefusal, IsRefusalRowsFirst}
 use Rattle.basic_toml_serde.specs.Refused.{IsFirstRefused}
 use Rattle.basic_toml_serde.specs.Sent.{AreItemsOf}
-use Rattle.basic_toml_serde.specs.Written.{HasTakenAll, IsSentTable}
+use Rattle.basic_toml_serde.specs.Written.{HasTakenAll, IsSentTable, IsTextRowsFirst, IsWrittenRowsFirst}
+use Rattle.basic_toml_serde.proofs.TextRowsFirst.{written_rows_first}
 use Rattle.basic_toml_serde.specs.declared.items.Item as code
 use Rattle.basic_toml_serde.specs.declared.refused.Refusal.{Refusal}
 
@@ -33,15 +34,15 @@ abbrev Due : WriteError → Result State rules.CallFault → Type 0
 Due e x = (fault : rules.CallFault) × (x ≡ Err fault) × (write_kind e ≡ fault_kind fault)
 
 rule_named : (e : WriteError) (x : Result State rules.CallFault) → (e ≡ OutOfMemory → ⊥) → Names e x → Due e x
-rule_named UnsupportedType x no named = (rules.unsupported_type, named, refl)
-rule_named KeyNotString x no named = (rules.key_not_string, named, refl)
-rule_named ValueAfterTable x no named = (rules.value_after_table, named, refl)
-rule_named UnsupportedNone x no named = (rules.unsupported_none, named, refl)
-rule_named (Custom message) x no named = absurd named
-rule_named (DuplicateKey key) x no named = (rules.duplicate_key (string_bytes key), named, refl)
-rule_named CallOrder x no named = (rules.call_order, named, refl)
-rule_named NestedTooDeeply x no named = (rules.nested_too_deeply, named, refl)
-rule_named OutOfMemory x no named = absurd (no refl)
+rule_named UnsupportedType x other named = (rules.unsupported_type, named, refl)
+rule_named KeyNotString x other named = (rules.key_not_string, named, refl)
+rule_named ValueAfterTable x other named = (rules.value_after_table, named, refl)
+rule_named UnsupportedNone x other named = (rules.unsupported_none, named, refl)
+rule_named (Custom message) x other named = absurd named
+rule_named (DuplicateKey key) x other named = (rules.duplicate_key (string_bytes key), named, refl)
+rule_named CallOrder x other named = (rules.call_order, named, refl)
+rule_named NestedTooDeeply x other named = (rules.nested_too_deeply, named, refl)
+rule_named OutOfMemory x other named = absurd (other refl)
 
 -- ---- without keys, and with those of the first item that is refused
 
@@ -49,7 +50,7 @@ abbrev with_keys : FaultKind → List (List ℕ) → Fault
 with_keys kind keys = record (without_offset kind) { key_path = keys }
 
 pub no_keys : (kind : FaultKind) (f : Fault) → f ≡ without_offset kind → HasNoKeys f
-no_keys kind f is = is ∙ ap (λ g. without_offset g.kind) (sym is)
+no_keys kind f is = is ∙ ap (λ (g : Fault). without_offset g.kind) (sym is)
 
 pub first_fault : (items : List Item) (refusal : Refusal) (f : Fault) → IsFirstRefused items refusal
     → IsErrorOf refusal f → HasNoKeys f ⊎ IsFaultOf items f
@@ -90,14 +91,14 @@ pub item_led_to : (items : List code.Item) (at : ℕ) (kind : FaultKind) (keys :
 item_led_to items at kind keys from f led made is =
     let whole : f ≡ with_keys kind (keys_to (listed (take at items))) =
     is
-    ∙ ap (λ g. record g { key_path = map string_bytes keys.items }) made
+    ∙ ap (λ (g : Fault). record g { key_path = map string_bytes keys.items }) made
     ∙ ap (with_keys kind) led
     in
     inr (record {
       before = listed (take at items);
       rest = listed (drop at items);
       split = ap listed (sym (take-append-drop at items)) ∙ map-append item_of (take at items) (drop at items);
-      named = whole ∙ ap (λ g. with_keys g.kind (keys_to (listed (take at items)))) (sym whole);
+      named = whole ∙ ap (λ (g : Fault). with_keys g.kind (keys_to (listed (take at items)))) (sym whole);
     })
 
 pub table_refused : (writes : Log → Log → Type 0) (items : List Item) (f : Fault) → AreSent writes items
@@ -121,6 +122,12 @@ pub data_refused : (d moved : Data) (own f : Fault) → moved ≡ rows_first d �
     → (f ≡ own) ⊎ IsDataRefusal moved f → IsDataRefusal (rows_first d) f
 data_refused d moved own f order none (inl same) = inl (subst HasNoKeys (sym same) none)
 data_refused d moved own f order none (inr is) = subst (λ x. IsDataRefusal x f) order is
+
+pub rows_first_written : (writes : Log → Log → Type 0) (ms : Members) (result : Result (String Global) Fault)
+    → IsSentTable writes ms → IfOk result (λ text. IsTextRowsFirst (table ms) (string_bytes text))
+    → IfOk result (λ text. IsWrittenRowsFirst writes (string_bytes text))
+rows_first_written writes ms (Ok text) sent is = written_rows_first writes ms (string_bytes text) sent is
+rows_first_written writes ms (Err f) sent is = tt
 
 pub ordered_refused : (writes : Log → Log → Type 0) (ms : Members) (f : Fault) → IsSentTable writes ms
     → IsDataRefusal (rows_first (table ms)) f → IsRefusalRowsFirst writes f

@@ -8,7 +8,7 @@ use Rattle.basic_toml_value.specs.Key.{key_bytes}
 use Rattle.basic_toml_value.specs.View.{view, entries, items_view}
 use Rattle.basic_toml_value.specs.declared.pairs.Pair.{Pair}
 use Rattle.basic_toml_value.specs.declared.value.Value.{Value}
-use Rattle.basic_toml_emit.specs.Items.{Item, open_array, open_table, close, field, element_prefix}
+use Rattle.basic_toml_emit.specs.Items.{Item, open_array, open_table, close, field}
 use Rattle.basic_toml_write.specs.Impls.{data_calls, items_calls, members_calls}
 use Rattle.basic_toml_serde.specs.Listed.{item_of, listed}
 use Rattle.basic_toml_serde.specs.declared.items.Item as code

@@ -1,10 +1,9 @@
 -- The stages of a trail, as it goes on.
-use Rattle.std.proofs.Common.{◌≡◌, ℕ, Bool, true, false, List, [], ◌∷◌, ◌++◌, Option, Some, None, ap, refl, sym, ◌∙◌}
-use Rattle.std.proofs.Common.{map, reverse, option_to_list, length, append_assoc, String, Global, string_bytes}
+use Rattle.std.proofs.Common.{◌≡◌, ℕ, List, [], ◌∷◌, ◌++◌, ap, sym, ◌∙◌, map, reverse, length, append_assoc}
+use Rattle.std.proofs.Common.{String, Global, string_bytes}
 use Rattle.std.specs.List.{flat_map}
 use Rattle.std.proofs.lemmas.List.{map-append, reverse-append, reverse-reverse, append-nil}
 use Rattle.std.proofs.lemmas.List.Folds.{flat_map-map}
-use Rattle.basic_toml_emit.specs.Open as o
 use Rattle.basic_toml_serde.specs.KeysTo.{key_of, set_keys}
 use Rattle.basic_toml_serde.specs.Stages.{stage_of, stages_of}
 use Rattle.basic_toml_serde.specs.declared.trail.Stage.{Stage}

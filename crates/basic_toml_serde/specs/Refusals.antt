@@ -1,5 +1,5 @@
 -- Why a value is not written: the error, with the keys that lead to what is refused. (own)
-use Rattle.std.specs.Prelude.{◌≡◌, ◌⊎◌, ⊥, List, [], ◌∷◌, ◌++◌, Some, Err, IsOk, map, string_bytes}
+use Rattle.std.specs.Prelude.{◌≡◌, ◌⊎◌, List, [], ◌∷◌, ◌++◌, Some, Err, IsOk, map, string_bytes}
 use Rattle.basic_toml_value.specs.Data.{Data, Members, table}
 use Rattle.basic_toml_emit.specs.Items.{Item}
 use Rattle.basic_toml_emit.specs.Rules.{CallFault}

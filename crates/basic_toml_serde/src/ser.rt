@@ -60,7 +60,7 @@ pub fn to_string<T: Serialize>(alloc: Global, value: &T) -> Result<String, Error
 ///
 /// As [`to_string`], with their keys, but for `values must be emitted before tables`, which never comes. A value that is
 /// no table is refused before an array that holds a table beside another value, or an array that holds a table.
-#[tactic(auto, using(crate::proofs::TextRowsFirst::written_rows_first, crate::proofs::RefusalsHaveKeys::ordered_refused))]
+#[tactic(auto, using(crate::proofs::RefusalsHaveKeys::ordered_refused))]
 pub fn to_string_rows_first<T: Serialize>(alloc: Global, value: &T) -> Result<String, Error>
     ensures written { IfOk result (λ text. IsWrittenRowsFirst (T.writes value.now) (string_bytes text)) }
     ensures refused { IfErr result (IsRefusalRowsFirst (T.writes value.now)) }

@@ -1,7 +1,6 @@
 use Rattle.std.proofs.Common.{map, string_bytes, arith, ap, ◌∙◌}
 use Rattle.std.specs.List.{flat_map}
 use Rattle.basic_toml_serde.specs.KeysTo.{set_keys}
-use Rattle.basic_toml_serde.specs.Stages.{stages_of}
 use Rattle.basic_toml_serde.proofs.TrailsLead.{set_key_of, one_taken, all_taken}
 use Rattle.basic_toml_serde.proofs.trail.Trail.into_keys.Goals as goal
 
