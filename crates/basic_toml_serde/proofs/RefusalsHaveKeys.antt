@@ -85,7 +85,8 @@ pub table_sent : (writes : Log → Log → Type 0) (items : List Item) (ms : Mem
     → IsTableOf items ms → IsSentTable writes ms
 table_sent writes items ms (events, sends, sent) is = (events, sends, (items, sent, is))
 
-pub item_led_to : (items : List code.Item) (at : ℕ) (kind : FaultKind) (keys : Vec (String Global) Global) (from f : Fault)
+pub item_led_to : (items : List code.Item) (at : ℕ) (kind : FaultKind) (keys : Vec (String Global) Global)
+    (from f : Fault)
     → map string_bytes keys.items ≡ keys_to (listed (take at items)) → from ≡ without_offset kind
     → f ≡ record from { key_path = map string_bytes keys.items } → HasNoKeys f ⊎ LeadsInto (listed items) f
 item_led_to items at kind keys from f led made is =

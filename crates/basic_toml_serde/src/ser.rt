@@ -32,10 +32,10 @@ use std::alloc::{AllocError, Global};
 ///
 /// The first that the value meets, as [`basic_toml::Serializer`] says of each: among them `values must be emitted
 /// before tables` where a field stands behind a table, and `unsupported None value` for an option that is not there in
-/// an array. It has the keys that lead to what is refused ([`Error::key_path`]), and prints them:
-/// ``values must be emitted before tables for key `dependencies.b` ``. The value is sent a second time for that, and only
-/// where it is refused. No keys has an error at the root, one of a type's own, want of memory, and one of a value that
-/// gives up when it is sent again.
+/// an array. It has the keys that lead to what is refused ([`Error::key_path`]), and prints them, as in
+/// ``values must be emitted before tables for key `dependencies.b` ``. For that the value is sent a second time, and
+/// only where it is refused. An error at the root has no keys, and nor has one of a type's own, want of memory, or that
+/// of a value that gives up when it is sent again.
 pub fn to_string<T: Serialize>(alloc: Global, value: &T) -> Result<String, Error>
     ensures written { IfOk result (λ text. IsWritten (T.writes value.now) (string_bytes text)) }
     ensures refused { IfErr result (IsRefusal (T.writes value.now)) }
@@ -58,8 +58,8 @@ pub fn to_string<T: Serialize>(alloc: Global, value: &T) -> Result<String, Error
 ///
 /// # Errors
 ///
-/// As [`to_string`], with their keys, but for `values must be emitted before tables`, which never comes. A value that is
-/// no table is refused before an array that holds a table beside another value, or an array that holds a table.
+/// As [`to_string`], with their keys, but for `values must be emitted before tables`, which never comes. What no table
+/// holds is refused first, and then an array that holds a table beside another value, or an array that holds a table.
 #[tactic(auto, using(crate::proofs::RefusalsHaveKeys::ordered_refused))]
 pub fn to_string_rows_first<T: Serialize>(alloc: Global, value: &T) -> Result<String, Error>
     ensures written { IfOk result (λ text. IsWrittenRowsFirst (T.writes value.now) (string_bytes text)) }
