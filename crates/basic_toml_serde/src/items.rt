@@ -5,7 +5,7 @@ ghost use Rattle.basic_toml_serde.specs.Listed.{item_of, AreListed};
 ghost use Rattle.basic_toml_serde.specs.Recorded.{Records};
 
 use crate::failure::Failure;
-use crate::piece::{KeyAlone, Piece};
+use crate::piece::Piece;
 use crate::sink::Sink;
 use basic_toml::{Float, Serialize, Serializer, WriteError};
 use std::alloc::Global;
@@ -56,10 +56,24 @@ impl Serialize for Item {
             Item::OpenArray => ser.serialize_seq(None),
             Item::OpenTable => ser.serialize_map(None),
             Item::Close => ser.end(),
-            Item::Key => ser.serialize_key(&KeyAlone),
-            Item::Field(name) => ser.serialize_field(name.as_str(), &KeyAlone),
-            Item::Element => ser.serialize_element(&KeyAlone),
+            Item::Key => ser.serialize_key(&Later),
+            Item::Field(name) => ser.serialize_field(name.as_str(), &Later),
+            Item::Element => ser.serialize_element(&Later),
         }
+    }
+}
+
+/// What stands behind a key, or is an element: it is sent later. It is a type of its own, so that the calls that a
+/// sender makes with `KeyAlone` are the only ones of their kind, and inlined.
+#[derive(Clone, Copy, Drop)]
+struct Later;
+
+impl Serialize for Later {
+    ghost calls = { λ _. [] };
+
+    #[inline(always)]
+    fn serialize(&self, _alloc: Global, _ser: &mut Serializer) -> Result<(), WriteError> {
+        Ok(())
     }
 }
 
