@@ -189,11 +189,12 @@ impl Error {
     /// The same error with these keys, the outermost first.
     ///
     /// ```text
-    /// Error::from(WriteError::ValueAfterTable).with_keys(keys)
+    /// Error::from(error).with_keys(keys)
     /// ```
     ///
-    /// With the keys `dependencies` and `b` it prints ``values must be emitted before tables for key `dependencies.b` ``.
-    /// `to_string` of `basic_toml_serde` makes its errors so.
+    /// This is from `basic_toml_serde`, whose `to_string` names the field that is not written. With the keys
+    /// `dependencies` and `b` an error prints
+    /// ``values must be emitted before tables for key `dependencies.b` ``.
     pub fn with_keys(self, keys: Vec<String>) -> Error
         ensures { result ≡ record self { key_path = map string_bytes keys.items } }
     {

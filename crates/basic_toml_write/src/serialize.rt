@@ -7,7 +7,8 @@ use std::alloc::Global;
 /// A value that tells itself to a [`Serializer`].
 ///
 /// The ghost member `calls` names the items that the value sends. A type that may give up with an error of its own
-/// names in `gives_up` after which of them, and with which error: an error of the serializer goes before it.
+/// names in `gives_up` after which of them, and with which error: an error of the serializer goes before it. What is known
+/// of a value that was written stands in `holds`, as that an integer is in the range of its type.
 ///
 /// ```text
 /// impl Serialize for Rule {
