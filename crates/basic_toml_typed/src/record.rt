@@ -280,22 +280,33 @@ pub fn read_record<'de, R: Record, F: Fields<'de>>(
 macro_rules! read_record {
     ($alloc:expr, $node:expr, only $record:ident {
         $($name:ident $(: $kind:ty)? = $way:ident($key:expr $(, $default:expr)?)),+ $(,)?
-    }) => {{
-        let fields = $crate::And {
+    }) => {
+        match $crate::read_record::<$record, _>($alloc, $node, $crate::And {
             first: $crate::Only { keys: &[$($key),+] },
             rest: $crate::all_of!($(($crate::field!($way [$($kind)?] $key $(, $default)?)))+),
-        };
-        let $crate::And { first: (), rest: $crate::all_of!($(($name))+) } =
-            $crate::read_record::<$record, _>($alloc, $node, fields)?;
-        Ok($record { $($name),+ })
-    }};
+        }) {
+            Ok(values) => {
+                let $crate::And { first: (), rest: $crate::all_of!($(($name))+) } = values;
+                Ok($record { $($name),+ })
+            }
+            Err(error) => Err(error),
+        }
+    };
     ($alloc:expr, $node:expr, $record:ident {
         $($name:ident $(: $kind:ty)? = $way:ident($key:expr $(, $default:expr)?)),+ $(,)?
-    }) => {{
-        let fields = $crate::all_of!($(($crate::field!($way [$($kind)?] $key $(, $default)?)))+);
-        let $crate::all_of!($(($name))+) = $crate::read_record::<$record, _>($alloc, $node, fields)?;
-        Ok($record { $($name),+ })
-    }};
+    }) => {
+        match $crate::read_record::<$record, _>(
+            $alloc,
+            $node,
+            $crate::all_of!($(($crate::field!($way [$($kind)?] $key $(, $default)?)))+),
+        ) {
+            Ok(values) => {
+                let $crate::all_of!($(($name))+) = values;
+                Ok($record { $($name),+ })
+            }
+            Err(error) => Err(error),
+        }
+    };
 }
 
 /// One field of [`read_record!`](crate::read_record!).
