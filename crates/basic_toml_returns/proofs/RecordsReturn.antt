@@ -9,7 +9,7 @@ use Rattle.basic_toml_emit.specs.Items.{Item}
 use Rattle.basic_toml_write.specs.Parts.{an_opening, a_part, a_field, the_end}
 use Rattle.basic_toml_write.specs.Spelling as spelling
 use Rattle.basic_toml_typed.specs.FieldKeys.{text_number, position_among, are_listed, member_at, child_at}
-use Rattle.basic_toml_typed.specs.Records.{has_only_named, reads_named, record_reads}
+use Rattle.basic_toml_typed.specs.Records.{record_reads}
 use Rattle.basic_toml_typed.specs.TypeReads.{HasOnly}
 use Rattle.basic_toml_returns.specs.Means.{Means, RowsMeaning, Rows, no_rows, row, members_in, table_of, with_member}
 use Rattle.basic_toml_returns.specs.Returned.{ReadBack}
@@ -146,7 +146,7 @@ keeps_to names rows among = rows_among names rows among
 -- where a table has these rows, and none but those of another list
 pub fields_read : {S : Type 0} (fields : Fields S) (s : S) (all : Rows) → record_holds fields s
     → HasRows (table_of all) (rows_of fields s) → allows fields all ≡ true → record_reads (as_read fields) (table_of all) s
-unfolding AllHold has_only_named reads_named
+unfolding AllHold
 fields_read done s all held has keeps = tt
 fields_read (needed T name get rest) s all held has keeps = (
   (field_returns T.read_back (text_number (codes name)) (get s) (T.read_back.returns (get s) held.0)).read (table_of all) refl
@@ -169,7 +169,7 @@ fields_read (only names rest) s all held has keeps =
 -- what else is read there means the same
 pub same_rows : {S : Type 0} (fields : Fields S) (s other : S) (d : Data) → record_holds fields s
     → HasRows d (rows_of fields s) → record_reads (as_read fields) d other → rows_of fields other ≡ rows_of fields s
-unfolding AllHold reads_named
+unfolding AllHold
 same_rows done s other d held has read = refl
 same_rows (needed T name get rest) s other d held has read =
     let here = (field_returns T.read_back (text_number (codes name)) (get s) (T.read_back.returns (get s) held.0)).once d

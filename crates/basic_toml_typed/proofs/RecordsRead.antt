@@ -11,7 +11,6 @@ use Rattle.basic_toml_typed.specs.FieldKeys.{text_number}
 use Rattle.basic_toml_typed.specs.TypeReads.{HasOnly, optional_reads}
 use Rattle.basic_toml_typed.specs.Records.{Reading, FirstFails, OneReadsNone, AreRead}
 use Rattle.basic_toml_typed.specs.Records.{IsRead, default_at, default_reads, only_at, Fields, done, field, only, readings, record_reads}
-use Rattle.basic_toml_typed.specs.Records.{has_only_named, reads_named}
 
 -- some fields and others behind them: one of the first fails, or they are read and one behind them fails
 pub fails_first : (some others : List Reading) (node : Node) (fault : Fault) → FirstFails some node fault
@@ -50,12 +49,12 @@ module _ {A : Type 0} (reads : Data → A → Type 0) (faults : Node → Fault �
     (node : Node) (x : A) where
   pub found_is_read : optional_reads reads (text_number name) (node_data node) (Some x)
       → IsRead (default_at reads faults name IsDefault) node
-  unfolding IsRead default_reads reads_named
+  unfolding IsRead default_reads
   found_is_read there = (x, (Some x, there, refl))
 
   pub default_is_read : optional_reads reads (text_number name) (node_data node) None → IsDefault x
       → IsRead (default_at reads faults name IsDefault) node
-  unfolding IsRead default_reads reads_named
+  unfolding IsRead default_reads
   default_is_read none is = (x, (None, none, is))
 
 -- names by their numbers, as fields stand in a slice
@@ -69,8 +68,7 @@ module _ (keys : List (Bor (List ℕ))) where
   same_numbers : numbers ≡ map text_number texts
   same_numbers = sym (map-map text_number (λ key. key.now) keys)
 
-  pub only_is : (d : Data) → HasOnly numbers d → has_only_named texts d
-  unfolding has_only_named
+  pub only_is : (d : Data) → HasOnly numbers d → HasOnly (map text_number texts) d
   only_is d has = subst (λ (ns : List ℕ). HasOnly ns d) same_numbers has
 
   pub only_is_read : (node : Node) → HasOnly numbers (node_data node) → IsRead (only_at texts) node
@@ -78,7 +76,6 @@ module _ (keys : List (Bor (List ℕ))) where
   only_is_read node has = (tt, only_is (node_data node) has)
 
   pub only_reads_none : (d : Data) (fault : Fault) → (HasOnly numbers d → ⊥) → OnlyMemory ⊥ ((only_at texts).reads d) fault
-  unfolding has_only_named
   only_reads_none d fault none = record {
     taken = λ no. absurd no;
     held = λ x has. absurd (none (subst (λ (ns : List ℕ). HasOnly ns d) (sym same_numbers) has));

@@ -22,18 +22,6 @@ unfoldable pub default_reads : {A : Type 0} → (Data → A → Type 0) → (A �
 default_reads {A} reads IsDefault key d x =
     (found : Option A) × optional_reads reads key d found × MatchOption found (IsDefault x) (λ y. x ≡ y)
 
--- ---- names
-
--- Closed, so that in a proof about a record names stay texts: their numbers are large.
-
--- a reading at a key, of the key with this name
-unfoldable pub reads_named : {A : Type 0} → (ℕ → Data → A → Type 0) → List ℕ → Data → A → Type 0
-reads_named reads name d x = reads (text_number name) d x
-
--- a table with no key but those with these names
-unfoldable pub has_only_named : List (List ℕ) → Data → Type 0
-has_only_named names d = HasOnly (map text_number names) d
-
 -- ---- one field
 
 -- how it is read: which values from which table, and which faults come at which node
@@ -44,19 +32,19 @@ pub record Reading : Type 1 where
 
 abbrev pub needed_at : {A : Type 0} → (Data → A → Type 0) → (Node → Fault → Type 0) → List ℕ → Reading
 needed_at {A} reads faults name =
-    record { Value = A; reads = reads_named (field_reads reads) name; fails = field_fails faults name }
+    record { Value = A; reads = field_reads reads (text_number name); fails = field_fails faults name }
 
 abbrev pub maybe_at : {A : Type 0} → (Data → A → Type 0) → (Node → Fault → Type 0) → List ℕ → Reading
 maybe_at {A} reads faults name =
-    record { Value = Option A; reads = reads_named (optional_reads reads) name; fails = optional_fails faults name }
+    record { Value = Option A; reads = optional_reads reads (text_number name); fails = optional_fails faults name }
 
 abbrev pub default_at : {A : Type 0} → (Data → A → Type 0) → (Node → Fault → Type 0) → List ℕ → (A → Type 0) → Reading
 default_at {A} reads faults name IsDefault =
-    record { Value = A; reads = reads_named (default_reads reads IsDefault) name; fails = optional_fails faults name }
+    record { Value = A; reads = default_reads reads IsDefault (text_number name); fails = optional_fails faults name }
 
 -- that a table has no key but these
 abbrev pub only_at : List (List ℕ) → Reading
-only_at names = record { Value = ⊤; reads = λ d x. has_only_named names d; fails = only_fails names }
+only_at names = record { Value = ⊤; reads = λ d x. HasOnly (map text_number names) d; fails = only_fails names }
 
 -- some value is read
 unfoldable pub IsRead : Reading → Node → Type 0
@@ -130,7 +118,7 @@ readings (only names rest) = only_at names ∷ readings rest
 abbrev pub record_reads : {S : Type 0} → Fields S → Data → S → Type 0
 record_reads done d s = ⊤
 record_reads (field name reading get rest) d s = reading.reads d (get s) × record_reads rest d s
-record_reads (only names rest) d s = has_only_named names d × record_reads rest d s
+record_reads (only names rest) d s = HasOnly (map text_number names) d × record_reads rest d s
 
 abbrev pub record_faults : {S : Type 0} → Fields S → Node → Fault → Type 0
 record_faults fields = FirstFails (readings fields)

@@ -3,13 +3,14 @@ ghost use Rattle.std.specs.Prelude.{◌≡◌, ◌++◌, ◌∷◌, IfErr, IfOk,
 ghost use Rattle.basic_toml_error.specs.Fault.{Fault};
 ghost use Rattle.basic_toml_tree.specs.Nodes.{node_data};
 ghost use Rattle.basic_toml_tree.specs.declared.node.Node as n;
+ghost use Rattle.basic_toml_typed.specs.FieldKeys.{text_number};
 ghost use Rattle.basic_toml_typed.specs.Records as spec;
 ghost use Rattle.basic_toml_typed.specs.Records.{AreRead, FirstFails, OneReadsNone, Reading};
 ghost use Rattle.basic_toml_typed.specs.Records.{IsEmpty, IsText, default_at, default_reads, maybe_at, needed_at, only_at};
-ghost use Rattle.basic_toml_typed.specs.Records.{has_only_named, readings, reads_named, record_faults, record_reads};
+ghost use Rattle.basic_toml_typed.specs.Records.{readings, record_faults, record_reads};
 ghost use Rattle.basic_toml_typed.specs.TypeAnswers.{OnlyMemory, OrMemory};
 ghost use Rattle.basic_toml_typed.specs.TypeFaults.{array_faults, string_faults};
-ghost use Rattle.basic_toml_typed.specs.TypeReads.{array_reads, field_reads, optional_reads, string_reads};
+ghost use Rattle.basic_toml_typed.specs.TypeReads.{HasOnly, array_reads, field_reads, optional_reads, string_reads};
 ghost use Rattle.basic_toml_value.specs.Data.{Data};
 
 use crate::{Deserialize, only_fields, read_field, read_optional};
@@ -53,9 +54,9 @@ impl<'de, T: Deserialize<'de> + Drop> Fields<'de> for Needed<'_, T> {
 
     ghost readings = { λ f. needed_at T.reads T.faults f.key.now ∷ [] };
 
-    ghost reads = { λ f value d. reads_named (field_reads T.reads) f.key.now d value };
+    ghost reads = { λ f value d. field_reads T.reads (text_number f.key.now) d value };
 
-    #[tactic(auto, using(crate::proofs::RecordsFail::in_turn), unfolding(crate::specs::Records::IsRead, crate::specs::Records::reads_named))]
+    #[tactic(auto, using(crate::proofs::RecordsFail::in_turn), unfolding(crate::specs::Records::IsRead))]
     fn read(self, alloc: Global, node: Node<'_, 'de>) -> Result<T, Error> {
         read_field(alloc, node, self.key)
     }
@@ -73,9 +74,9 @@ impl<'de, T: Deserialize<'de> + Drop> Fields<'de> for Maybe<'_, T> {
 
     ghost readings = { λ f. maybe_at T.reads T.faults f.key.now ∷ [] };
 
-    ghost reads = { λ f value d. reads_named (optional_reads T.reads) f.key.now d value };
+    ghost reads = { λ f value d. optional_reads T.reads (text_number f.key.now) d value };
 
-    #[tactic(auto, using(crate::proofs::RecordsFail::in_turn), unfolding(crate::specs::Records::IsRead, crate::specs::Records::reads_named))]
+    #[tactic(auto, using(crate::proofs::RecordsFail::in_turn), unfolding(crate::specs::Records::IsRead))]
     fn read(self, alloc: Global, node: Node<'_, 'de>) -> Result<Option<T>, Error> {
         read_optional(alloc, node, self.key)
     }
@@ -93,9 +94,9 @@ impl<'de, T: Deserialize<'de> + Drop> Fields<'de> for Or<'_, T> {
 
     ghost readings = { λ f. default_at T.reads T.faults f.key.now (λ x. x ≡ f.default) ∷ [] };
 
-    ghost reads = { λ f value d. reads_named (default_reads T.reads (λ x. x ≡ f.default)) f.key.now d value };
+    ghost reads = { λ f value d. default_reads T.reads (λ x. x ≡ f.default) (text_number f.key.now) d value };
 
-    #[tactic(auto, using(crate::proofs::RecordsFail::in_turn), unfolding(crate::specs::Records::IsRead, crate::specs::Records::reads_named, crate::specs::Records::default_reads))]
+    #[tactic(auto, using(crate::proofs::RecordsFail::in_turn), unfolding(crate::specs::Records::IsRead, crate::specs::Records::default_reads))]
     fn read(self, alloc: Global, node: Node<'_, 'de>) -> Result<T, Error> {
         Ok(read_optional(alloc, node, self.key)?.unwrap_or(self.default))
     }
@@ -114,9 +115,9 @@ impl<'de, T: Deserialize<'de> + Drop> Fields<'de> for OrEmpty<'_, T> {
     ghost readings = { λ f.
         default_at (array_reads T.reads) (array_faults T.faults T.reads) f.key.now IsEmpty ∷ [] };
 
-    ghost reads = { λ f value d. reads_named (default_reads (array_reads T.reads) IsEmpty) f.key.now d value };
+    ghost reads = { λ f value d. default_reads (array_reads T.reads) IsEmpty (text_number f.key.now) d value };
 
-    #[tactic(auto, using(crate::proofs::RecordsFail::in_turn), unfolding(crate::specs::Records::IsRead, crate::specs::Records::reads_named, crate::specs::Records::default_reads))]
+    #[tactic(auto, using(crate::proofs::RecordsFail::in_turn), unfolding(crate::specs::Records::IsRead, crate::specs::Records::default_reads))]
     fn read(self, alloc: Global, node: Node<'_, 'de>) -> Result<Vec<T>, Error> {
         match read_optional(alloc, node, self.key)? {
             Some(list) => Ok(list),
@@ -138,9 +139,9 @@ impl<'de> Fields<'de> for OrText<'_> {
     ghost readings = { λ f. default_at string_reads string_faults f.key.now (IsText f.default.now) ∷ [] };
 
     ghost reads = { λ f value d.
-        reads_named (default_reads string_reads (IsText f.default.now)) f.key.now d value };
+        default_reads string_reads (IsText f.default.now) (text_number f.key.now) d value };
 
-    #[tactic(auto, using(crate::proofs::RecordsFail::in_turn), unfolding(crate::specs::Records::IsRead, crate::specs::Records::reads_named, crate::specs::Records::default_reads))]
+    #[tactic(auto, using(crate::proofs::RecordsFail::in_turn), unfolding(crate::specs::Records::IsRead, crate::specs::Records::default_reads))]
     fn read(self, alloc: Global, node: Node<'_, 'de>) -> Result<String, Error> {
         match read_optional(alloc, node, self.key)? {
             Some(text) => Ok(text),
@@ -160,7 +161,7 @@ impl<'de> Fields<'de> for Only<'_> {
 
     ghost readings = { λ f. only_at (map (λ key. key.now) f.keys.now) ∷ [] };
 
-    ghost reads = { λ f _ d. has_only_named (map (λ key. key.now) f.keys.now) d };
+    ghost reads = { λ f _ d. HasOnly (map text_number (map (λ key. key.now) f.keys.now)) d };
 
     #[tactic(auto, using(crate::proofs::RecordsFail::in_turn, crate::proofs::RecordsRead::only_names))]
     fn read(self, alloc: Global, node: Node<'_, 'de>) -> Result<(), Error> {
