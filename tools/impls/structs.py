@@ -53,13 +53,13 @@ def integer(kind, value):
 class Field:
     """A field: its name, its type, its attributes, and its entry in the list."""
 
-    def __init__(self, chance, name, known):
+    def __init__(self, chance, name, known, integers):
         self.name = name
         self.key = None
         self.way = "needed"
         self.default = ""
         self.attributes = []
-        self.kind = self.some_kind(chance, known)
+        self.kind = self.some_kind(chance, known, integers)
         self.is_option = chance.random() < 0.25
         if chance.random() < 0.15:
             self.key = chance.choice(("the ", "", "x-")) + name.replace("_", chance.choice(("-", " ", ".")))
@@ -72,8 +72,8 @@ class Field:
             self.take_default(chance)
 
     @staticmethod
-    def some_kind(chance, known):
-        kind = chance.choice(sorted(LEAST) + ["bool", "bool", "String", "String", "Float"] + known[-4:])
+    def some_kind(chance, known, integers):
+        kind = chance.choice(integers + ["bool", "bool", "String", "String", "Float"] + known[-4:])
         shape = chance.random()
         if shape < 0.1:
             return "Vec<%s>" % kind
@@ -111,9 +111,9 @@ class Field:
 
 
 class Struct:
-    """A struct of 1 to 40 fields, which may be of earlier structs."""
+    """A struct of 1 to 40 fields, which may be of earlier structs and of these integers."""
 
-    def __init__(self, chance, name, known, size=None):
+    def __init__(self, chance, name, known, size=None, integers=tuple(sorted(LEAST))):
         self.name = name
         self.case = chance.choice([None, None] + sorted(CASES))
         self.is_strict = chance.random() < 0.5
@@ -124,7 +124,7 @@ class Struct:
         self.fields = []
         keys = set()
         for one in names:
-            field = Field(chance, one, known)
+            field = Field(chance, one, known, list(integers))
             key = field.entry(self.case).split('"')[1]
             if key not in keys:
                 keys.add(key)
@@ -174,16 +174,16 @@ USES = {"Float": "use basic_toml::Float;\n", "Serialize": "use serde::{Deseriali
 
 
 class File:
-    """A file of structs, of any size or of these sizes, and of enums that they have fields of."""
+    """A file of structs, each with what it takes besides its name, and of enums that they have fields of."""
 
-    def __init__(self, chance, module, first, sizes):
+    def __init__(self, chance, module, first, structs):
         self.structs = []
         self.module = module
         self.enums = [Enum(chance, "%s%sOf%d" % (capital(chance.choice(WORDS)), capital(chance.choice(WORDS)), first + each))
                       for each in range(2)]
-        for each, size in enumerate(sizes, first):
+        for each, given in enumerate(structs, first):
             name = "%s%s%d" % (capital(chance.choice(WORDS)), capital(chance.choice(WORDS)), each)
-            self.structs.append(Struct(chance, name, [one.name for one in self.enums + self.structs], size))
+            self.structs.append(Struct(chance, name, [one.name for one in self.enums + self.structs], *given))
         self.uses = [word for word in USES if chance.random() < 0.5]
 
     def text(self, is_whole):

@@ -1,8 +1,9 @@
-//! A dozen of structs of 1 to 40 fields, and enums that they have, with their impls as `toml_impls` writes them:
-//! `tools/impls/run --keep` makes them at random. They show that what it writes is proved.
+//! Structs of 1 to 40 fields, and enums that they have, with their impls as `toml_impls` writes them: `tools/impls/run
+//! --keep` makes them at random. They show that what it writes is proved.
 #![tactic(auto)]
 
 pub mod made_0;
 pub mod made_1;
 pub mod made_2;
 pub mod made_3;
+pub mod made_4;

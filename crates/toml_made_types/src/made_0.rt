@@ -1,9 +1,9 @@
 //! Types that were made at random.
 
-ghost use Rattle.std.specs.Prelude.{◌∷◌, [], codes, false, pos, refl, true};
+ghost use Rattle.std.specs.Prelude.{◌∷◌, [], codes, negsuc, pos, refl};
 ghost use Rattle.basic_toml.specs.Records.{record_faults, record_reads};
 ghost use Rattle.basic_toml_returns.proofs.RecordsReturn.{record_back};
-ghost use Rattle.basic_toml_returns.specs.RoundTrips.{as_read, done, maybe, needed, or, or_empty, or_text, record_calls, record_holds, strict};
+ghost use Rattle.basic_toml_returns.specs.RoundTrips.{as_read, done, maybe, needed, or, record_calls, record_holds, strict};
 ghost use Rattle.basic_toml_returns.specs.Variants.{variant_back, variant_calls, variant_faults, variant_reads};
 
 use basic_toml::{
@@ -18,442 +18,345 @@ use std::collections::BTreeMap;
 
 /// A choice.
 #[derive(Debug, Clone, Copy)]
-pub enum LevelSizeOf0 {
-    RateRetry,
-    LevelSize,
-    TabMax,
-    TabRateIndex,
-    PathPort,
-    Name,
-    RetryName,
-    Mode,
-    IndexLimit,
-    Color,
-    ColorLogPort,
-    NameRetryTab,
+pub enum RetryCacheOf0 {
+    LevelRetryUser,
+    WidthPath,
+    RateLimit,
 }
 
-impl Choice for LevelSizeOf0 {
-    ghost use Rattle.toml_made_types.specs.declared.made_0.LevelSizeOf0.TheVariants.{RateRetry, LevelSize, TabMax, TabRateIndex, PathPort, Name, RetryName, Mode, IndexLimit, Color, ColorLogPort, NameRetryTab};
+impl Choice for RetryCacheOf0 {
+    ghost use Rattle.toml_made_types.specs.declared.made_0.RetryCacheOf0.TheVariants.{LevelRetryUser, WidthPath, RateLimit};
 
     ghost variants = { record {
-      names = codes "the RateRetry" ∷ codes "level_size" ∷ codes "tab_max" ∷ codes "tab_rate_index" ∷ codes "path_port" ∷ codes "name" ∷ codes "the RetryName" ∷ codes "mode" ∷ codes "index_limit" ∷ codes "color" ∷ codes "color_log_port" ∷ codes "name_retry_tab" ∷ [];
-      position = elim [ RateRetry ↦ 0 | LevelSize ↦ 1 | TabMax ↦ 2 | TabRateIndex ↦ 3 | PathPort ↦ 4 | Name ↦ 5 | RetryName ↦ 6 | Mode ↦ 7 | IndexLimit ↦ 8 | Color ↦ 9 | ColorLogPort ↦ 10 | NameRetryTab ↦ 11 ];
-      apart = elim [ RateRetry ↦ refl | LevelSize ↦ refl | TabMax ↦ refl | TabRateIndex ↦ refl | PathPort ↦ refl | Name ↦ refl | RetryName ↦ refl | Mode ↦ refl | IndexLimit ↦ refl | Color ↦ refl | ColorLogPort ↦ refl | NameRetryTab ↦ refl ];
+      names = codes "LevelRetryUser" ∷ codes "WidthPath" ∷ codes "RateLimit" ∷ [];
+      position = elim [ LevelRetryUser ↦ 0 | WidthPath ↦ 1 | RateLimit ↦ 2 ];
+      apart = elim [ LevelRetryUser ↦ refl | WidthPath ↦ refl | RateLimit ↦ refl ];
     } };
 }
 
-impl<'de> Deserialize<'de> for LevelSizeOf0 {
-    ghost reads = { variant_reads ⟦<LevelSizeOf0 as Choice>⟧.variants };
+impl<'de> Deserialize<'de> for RetryCacheOf0 {
+    ghost reads = { variant_reads ⟦<RetryCacheOf0 as Choice>⟧.variants };
 
-    ghost faults = { variant_faults ⟦<LevelSizeOf0 as Choice>⟧.variants };
+    ghost faults = { variant_faults ⟦<RetryCacheOf0 as Choice>⟧.variants };
 
-    fn deserialize(alloc: Global, node: Node<'_, 'de>) -> Result<LevelSizeOf0, Error> {
-        match read_variant::<LevelSizeOf0>(
+    fn deserialize(alloc: Global, node: Node<'_, 'de>) -> Result<RetryCacheOf0, Error> {
+        match read_variant::<RetryCacheOf0>(
             alloc,
             node,
-            &[
-                "the RateRetry",
-                "level_size",
-                "tab_max",
-                "tab_rate_index",
-                "path_port",
-                "name",
-                "the RetryName",
-                "mode",
-                "index_limit",
-                "color",
-                "color_log_port",
-                "name_retry_tab",
-            ],
+            &["LevelRetryUser", "WidthPath", "RateLimit"],
         ) {
-            Ok(0) => Ok(LevelSizeOf0::RateRetry),
-            Ok(1) => Ok(LevelSizeOf0::LevelSize),
-            Ok(2) => Ok(LevelSizeOf0::TabMax),
-            Ok(3) => Ok(LevelSizeOf0::TabRateIndex),
-            Ok(4) => Ok(LevelSizeOf0::PathPort),
-            Ok(5) => Ok(LevelSizeOf0::Name),
-            Ok(6) => Ok(LevelSizeOf0::RetryName),
-            Ok(7) => Ok(LevelSizeOf0::Mode),
-            Ok(8) => Ok(LevelSizeOf0::IndexLimit),
-            Ok(9) => Ok(LevelSizeOf0::Color),
-            Ok(10) => Ok(LevelSizeOf0::ColorLogPort),
-            Ok(_) => Ok(LevelSizeOf0::NameRetryTab),
+            Ok(0) => Ok(RetryCacheOf0::LevelRetryUser),
+            Ok(1) => Ok(RetryCacheOf0::WidthPath),
+            Ok(_) => Ok(RetryCacheOf0::RateLimit),
             Err(error) => Err(error),
         }
     }
 
-    fn from_tree(alloc: Global, tree: Tree<'de>) -> Result<LevelSizeOf0, Error> {
-        LevelSizeOf0::deserialize(alloc, tree.root())
+    fn from_tree(alloc: Global, tree: Tree<'de>) -> Result<RetryCacheOf0, Error> {
+        RetryCacheOf0::deserialize(alloc, tree.root())
     }
 }
 
-impl Serialize for LevelSizeOf0 {
-    ghost calls = { variant_calls ⟦<LevelSizeOf0 as Choice>⟧.variants };
+impl Serialize for RetryCacheOf0 {
+    ghost calls = { variant_calls ⟦<RetryCacheOf0 as Choice>⟧.variants };
 
     fn serialize(&self, _alloc: Global, ser: &mut Serializer) -> Result<(), WriteError> {
         match self {
-            LevelSizeOf0::RateRetry => write_variant(ser, self, "the RateRetry"),
-            LevelSizeOf0::LevelSize => write_variant(ser, self, "level_size"),
-            LevelSizeOf0::TabMax => write_variant(ser, self, "tab_max"),
-            LevelSizeOf0::TabRateIndex => write_variant(ser, self, "tab_rate_index"),
-            LevelSizeOf0::PathPort => write_variant(ser, self, "path_port"),
-            LevelSizeOf0::Name => write_variant(ser, self, "name"),
-            LevelSizeOf0::RetryName => write_variant(ser, self, "the RetryName"),
-            LevelSizeOf0::Mode => write_variant(ser, self, "mode"),
-            LevelSizeOf0::IndexLimit => write_variant(ser, self, "index_limit"),
-            LevelSizeOf0::Color => write_variant(ser, self, "color"),
-            LevelSizeOf0::ColorLogPort => write_variant(ser, self, "color_log_port"),
-            LevelSizeOf0::NameRetryTab => write_variant(ser, self, "name_retry_tab"),
+            RetryCacheOf0::LevelRetryUser => write_variant(ser, self, "LevelRetryUser"),
+            RetryCacheOf0::WidthPath => write_variant(ser, self, "WidthPath"),
+            RetryCacheOf0::RateLimit => write_variant(ser, self, "RateLimit"),
         }
     }
 }
 
-impl<'de> Returns<'de> for LevelSizeOf0 {
-    ghost read_back = { variant_back ⟦<LevelSizeOf0 as Choice>⟧.variants };
+impl<'de> Returns<'de> for RetryCacheOf0 {
+    ghost read_back = { variant_back ⟦<RetryCacheOf0 as Choice>⟧.variants };
 
-    ghost returns = { ⟦<LevelSizeOf0 as Returns<'static>>⟧.read_back.returns };
+    ghost returns = { ⟦<RetryCacheOf0 as Returns<'static>>⟧.read_back.returns };
 }
 
 /// A choice.
 #[derive(Debug, Clone, Copy)]
-pub enum TabLevelOf1 {
-    ColorHost,
-    Path,
-    SizeKeyKey,
-    UserLimit,
-    KeyKey,
-    LogHostRetry,
-    PortMode,
-    CachePortRetry,
+pub enum SizeColorOf1 {
+    Name,
+    GroupLevelColor,
+    GroupTab,
 }
 
-impl Choice for TabLevelOf1 {
-    ghost use Rattle.toml_made_types.specs.declared.made_0.TabLevelOf1.TheVariants.{ColorHost, Path, SizeKeyKey, UserLimit, KeyKey, LogHostRetry, PortMode, CachePortRetry};
+impl Choice for SizeColorOf1 {
+    ghost use Rattle.toml_made_types.specs.declared.made_0.SizeColorOf1.TheVariants.{Name, GroupLevelColor, GroupTab};
 
     ghost variants = { record {
-      names = codes "colorhost" ∷ codes "path" ∷ codes "sizekeykey" ∷ codes "userlimit" ∷ codes "keykey" ∷ codes "loghostretry" ∷ codes "the PortMode" ∷ codes "cacheportretry" ∷ [];
-      position = elim [ ColorHost ↦ 0 | Path ↦ 1 | SizeKeyKey ↦ 2 | UserLimit ↦ 3 | KeyKey ↦ 4 | LogHostRetry ↦ 5 | PortMode ↦ 6 | CachePortRetry ↦ 7 ];
-      apart = elim [ ColorHost ↦ refl | Path ↦ refl | SizeKeyKey ↦ refl | UserLimit ↦ refl | KeyKey ↦ refl | LogHostRetry ↦ refl | PortMode ↦ refl | CachePortRetry ↦ refl ];
+      names = codes "NAME" ∷ codes "the GroupLevelColor" ∷ codes "GROUP-TAB" ∷ [];
+      position = elim [ Name ↦ 0 | GroupLevelColor ↦ 1 | GroupTab ↦ 2 ];
+      apart = elim [ Name ↦ refl | GroupLevelColor ↦ refl | GroupTab ↦ refl ];
     } };
 }
 
-impl<'de> Deserialize<'de> for TabLevelOf1 {
-    ghost reads = { variant_reads ⟦<TabLevelOf1 as Choice>⟧.variants };
+impl<'de> Deserialize<'de> for SizeColorOf1 {
+    ghost reads = { variant_reads ⟦<SizeColorOf1 as Choice>⟧.variants };
 
-    ghost faults = { variant_faults ⟦<TabLevelOf1 as Choice>⟧.variants };
+    ghost faults = { variant_faults ⟦<SizeColorOf1 as Choice>⟧.variants };
 
-    fn deserialize(alloc: Global, node: Node<'_, 'de>) -> Result<TabLevelOf1, Error> {
-        match read_variant::<TabLevelOf1>(
+    fn deserialize(alloc: Global, node: Node<'_, 'de>) -> Result<SizeColorOf1, Error> {
+        match read_variant::<SizeColorOf1>(
             alloc,
             node,
-            &[
-                "colorhost",
-                "path",
-                "sizekeykey",
-                "userlimit",
-                "keykey",
-                "loghostretry",
-                "the PortMode",
-                "cacheportretry",
-            ],
+            &["NAME", "the GroupLevelColor", "GROUP-TAB"],
         ) {
-            Ok(0) => Ok(TabLevelOf1::ColorHost),
-            Ok(1) => Ok(TabLevelOf1::Path),
-            Ok(2) => Ok(TabLevelOf1::SizeKeyKey),
-            Ok(3) => Ok(TabLevelOf1::UserLimit),
-            Ok(4) => Ok(TabLevelOf1::KeyKey),
-            Ok(5) => Ok(TabLevelOf1::LogHostRetry),
-            Ok(6) => Ok(TabLevelOf1::PortMode),
-            Ok(_) => Ok(TabLevelOf1::CachePortRetry),
+            Ok(0) => Ok(SizeColorOf1::Name),
+            Ok(1) => Ok(SizeColorOf1::GroupLevelColor),
+            Ok(_) => Ok(SizeColorOf1::GroupTab),
             Err(error) => Err(error),
         }
     }
 
-    fn from_tree(alloc: Global, tree: Tree<'de>) -> Result<TabLevelOf1, Error> {
-        TabLevelOf1::deserialize(alloc, tree.root())
+    fn from_tree(alloc: Global, tree: Tree<'de>) -> Result<SizeColorOf1, Error> {
+        SizeColorOf1::deserialize(alloc, tree.root())
     }
 }
 
-impl Serialize for TabLevelOf1 {
-    ghost calls = { variant_calls ⟦<TabLevelOf1 as Choice>⟧.variants };
+impl Serialize for SizeColorOf1 {
+    ghost calls = { variant_calls ⟦<SizeColorOf1 as Choice>⟧.variants };
 
     fn serialize(&self, _alloc: Global, ser: &mut Serializer) -> Result<(), WriteError> {
         match self {
-            TabLevelOf1::ColorHost => write_variant(ser, self, "colorhost"),
-            TabLevelOf1::Path => write_variant(ser, self, "path"),
-            TabLevelOf1::SizeKeyKey => write_variant(ser, self, "sizekeykey"),
-            TabLevelOf1::UserLimit => write_variant(ser, self, "userlimit"),
-            TabLevelOf1::KeyKey => write_variant(ser, self, "keykey"),
-            TabLevelOf1::LogHostRetry => write_variant(ser, self, "loghostretry"),
-            TabLevelOf1::PortMode => write_variant(ser, self, "the PortMode"),
-            TabLevelOf1::CachePortRetry => write_variant(ser, self, "cacheportretry"),
+            SizeColorOf1::Name => write_variant(ser, self, "NAME"),
+            SizeColorOf1::GroupLevelColor => write_variant(ser, self, "the GroupLevelColor"),
+            SizeColorOf1::GroupTab => write_variant(ser, self, "GROUP-TAB"),
         }
     }
 }
 
-impl<'de> Returns<'de> for TabLevelOf1 {
-    ghost read_back = { variant_back ⟦<TabLevelOf1 as Choice>⟧.variants };
+impl<'de> Returns<'de> for SizeColorOf1 {
+    ghost read_back = { variant_back ⟦<SizeColorOf1 as Choice>⟧.variants };
 
-    ghost returns = { ⟦<TabLevelOf1 as Returns<'static>>⟧.read_back.returns };
+    ghost returns = { ⟦<SizeColorOf1 as Returns<'static>>⟧.read_back.returns };
 }
 
 /// A record.
 #[derive(Debug, Drop)]
-pub struct TabLimit0 {
-    pub size_0: u16,
+pub struct PathColor0 {
+    pub port_color_host_0: RetryCacheOf0,
 }
 
-impl RoundTrip for TabLimit0 {
+impl RoundTrip for PathColor0 {
     ghost fields = { strict
-        (needed ⟦<u16 as Returns<'static>>⟧ "size_0" (λ s. s.size_0)
+        (needed ⟦<RetryCacheOf0 as Returns<'static>>⟧ "port-color-host-0" (λ s. s.port_color_host_0)
         done) };
 }
 
-impl Record for TabLimit0 {
-    ghost fields = { as_read ⟦<TabLimit0 as RoundTrip>⟧.fields };
+impl Record for PathColor0 {
+    ghost fields = { as_read ⟦<PathColor0 as RoundTrip>⟧.fields };
 }
 
-impl<'de> Deserialize<'de> for TabLimit0 {
-    ghost reads = { record_reads ⟦<TabLimit0 as Record>⟧.fields };
+impl<'de> Deserialize<'de> for PathColor0 {
+    ghost reads = { record_reads ⟦<PathColor0 as Record>⟧.fields };
 
-    ghost faults = { record_faults ⟦<TabLimit0 as Record>⟧.fields };
+    ghost faults = { record_faults ⟦<PathColor0 as Record>⟧.fields };
 
-    fn deserialize(alloc: Global, node: Node<'_, 'de>) -> Result<TabLimit0, Error> {
-        read_record!(alloc, node, only TabLimit0 {
-            size_0 = needed("size_0"),
+    fn deserialize(alloc: Global, node: Node<'_, 'de>) -> Result<PathColor0, Error> {
+        read_record!(alloc, node, only PathColor0 {
+            port_color_host_0 = needed("port-color-host-0"),
         })
     }
 
-    fn from_tree(alloc: Global, tree: Tree<'de>) -> Result<TabLimit0, Error> {
-        TabLimit0::deserialize(alloc, tree.root())
+    fn from_tree(alloc: Global, tree: Tree<'de>) -> Result<PathColor0, Error> {
+        PathColor0::deserialize(alloc, tree.root())
     }
 }
 
-impl Serialize for TabLimit0 {
-    ghost calls = { record_calls ⟦<TabLimit0 as RoundTrip>⟧.fields };
+impl Serialize for PathColor0 {
+    ghost calls = { record_calls ⟦<PathColor0 as RoundTrip>⟧.fields };
 
-    ghost holds = { record_holds ⟦<TabLimit0 as RoundTrip>⟧.fields };
+    ghost holds = { record_holds ⟦<PathColor0 as RoundTrip>⟧.fields };
 
     fn serialize(&self, _alloc: Global, ser: &mut Serializer) -> Result<(), WriteError> {
-        write_record!(ser, self, TabLimit0 {
-            size_0 = "size_0",
+        write_record!(ser, self, PathColor0 {
+            port_color_host_0 = "port-color-host-0",
         })
     }
 }
 
-impl<'de> Returns<'de> for TabLimit0 {
-    ghost read_back = { record_back ⟦<TabLimit0 as RoundTrip>⟧.fields (λ s. refl) };
+impl<'de> Returns<'de> for PathColor0 {
+    ghost read_back = { record_back ⟦<PathColor0 as RoundTrip>⟧.fields (λ s. refl) };
 
-    ghost returns = { ⟦<TabLimit0 as Returns<'static>>⟧.read_back.returns };
+    ghost returns = { ⟦<PathColor0 as Returns<'static>>⟧.read_back.returns };
 }
 
-impl<'de> Root<'de> for TabLimit0 {
-    fn from_text(alloc: Global, text: &str) -> Result<TabLimit0, Error> {
+impl<'de> Root<'de> for PathColor0 {
+    fn from_text(alloc: Global, text: &str) -> Result<PathColor0, Error> {
         from_str(alloc, text)
     }
 }
 
 /// A record.
 #[derive(Debug, Drop)]
-pub struct KeyPath1 {
-    pub level_max_log_index: Vec<u16>,
-    pub log_path_max: i8,
-    pub size: bool,
-    pub log_max_host: bool,
-    pub tab_limit: Option<bool>,
+pub struct LevelGroup1 {
+    pub path: bool,
+    pub max_rate: Option<BTreeMap<String, bool>>,
+    pub name_name_group_mode: Vec<i64>,
+    pub limit_user_color_user: i64,
+    pub color_path_tab: u64,
 }
 
-impl RoundTrip for KeyPath1 {
-    ghost fields = { strict
-        (needed ⟦<Vec<u16> as Returns<'static>>⟧ "LEVEL_MAX_LOG_INDEX" (λ s. s.level_max_log_index)
-        (needed ⟦<i8 as Returns<'static>>⟧ "LOG_PATH_MAX" (λ s. s.log_path_max)
-        (or ⟦<bool as Returns<'static>>⟧ "SIZE" true (λ s. s.size)
-        (or ⟦<bool as Returns<'static>>⟧ "LOG_MAX_HOST" true (λ s. s.log_max_host)
-        (maybe ⟦<bool as Returns<'static>>⟧ "the tab-limit" (λ s. s.tab_limit)
-        done))))) };
+impl RoundTrip for LevelGroup1 {
+    ghost fields = { needed ⟦<bool as Returns<'static>>⟧ "PATH" (λ s. s.path)
+        (maybe ⟦<BTreeMap<String, bool> as Returns<'static>>⟧ "MAX-RATE" (λ s. s.max_rate)
+        (needed ⟦<Vec<i64> as Returns<'static>>⟧ "NAME-NAME-GROUP-MODE" (λ s. s.name_name_group_mode)
+        (or ⟦<i64 as Returns<'static>>⟧ "LIMIT-USER-COLOR-USER" (negsuc 9223372036854775807) (λ s. s.limit_user_color_user)
+        (needed ⟦<u64 as Returns<'static>>⟧ "COLOR-PATH-TAB" (λ s. s.color_path_tab)
+        done)))) };
 }
 
-impl Record for KeyPath1 {
-    ghost fields = { as_read ⟦<KeyPath1 as RoundTrip>⟧.fields };
+impl Record for LevelGroup1 {
+    ghost fields = { as_read ⟦<LevelGroup1 as RoundTrip>⟧.fields };
 }
 
-impl<'de> Deserialize<'de> for KeyPath1 {
-    ghost reads = { record_reads ⟦<KeyPath1 as Record>⟧.fields };
+impl<'de> Deserialize<'de> for LevelGroup1 {
+    ghost reads = { record_reads ⟦<LevelGroup1 as Record>⟧.fields };
 
-    ghost faults = { record_faults ⟦<KeyPath1 as Record>⟧.fields };
+    ghost faults = { record_faults ⟦<LevelGroup1 as Record>⟧.fields };
 
-    fn deserialize(alloc: Global, node: Node<'_, 'de>) -> Result<KeyPath1, Error> {
-        read_record!(alloc, node, only KeyPath1 {
-            level_max_log_index = needed("LEVEL_MAX_LOG_INDEX"),
-            log_path_max = needed("LOG_PATH_MAX"),
-            size = or("SIZE", true),
-            log_max_host = or("LOG_MAX_HOST", true),
-            tab_limit = maybe("the tab-limit"),
+    fn deserialize(alloc: Global, node: Node<'_, 'de>) -> Result<LevelGroup1, Error> {
+        read_record!(alloc, node, LevelGroup1 {
+            path = needed("PATH"),
+            max_rate = maybe("MAX-RATE"),
+            name_name_group_mode = needed("NAME-NAME-GROUP-MODE"),
+            limit_user_color_user = or("LIMIT-USER-COLOR-USER", -9223372036854775808),
+            color_path_tab = needed("COLOR-PATH-TAB"),
         })
     }
 
-    fn from_tree(alloc: Global, tree: Tree<'de>) -> Result<KeyPath1, Error> {
-        KeyPath1::deserialize(alloc, tree.root())
+    fn from_tree(alloc: Global, tree: Tree<'de>) -> Result<LevelGroup1, Error> {
+        LevelGroup1::deserialize(alloc, tree.root())
     }
 }
 
-impl Serialize for KeyPath1 {
-    ghost calls = { record_calls ⟦<KeyPath1 as RoundTrip>⟧.fields };
+impl Serialize for LevelGroup1 {
+    ghost calls = { record_calls ⟦<LevelGroup1 as RoundTrip>⟧.fields };
 
-    ghost holds = { record_holds ⟦<KeyPath1 as RoundTrip>⟧.fields };
+    ghost holds = { record_holds ⟦<LevelGroup1 as RoundTrip>⟧.fields };
 
     fn serialize(&self, _alloc: Global, ser: &mut Serializer) -> Result<(), WriteError> {
-        write_record!(ser, self, KeyPath1 {
-            level_max_log_index = "LEVEL_MAX_LOG_INDEX",
-            log_path_max = "LOG_PATH_MAX",
-            size = "SIZE",
-            log_max_host = "LOG_MAX_HOST",
-            tab_limit = "the tab-limit",
+        write_record!(ser, self, LevelGroup1 {
+            path = "PATH",
+            max_rate = "MAX-RATE",
+            name_name_group_mode = "NAME-NAME-GROUP-MODE",
+            limit_user_color_user = "LIMIT-USER-COLOR-USER",
+            color_path_tab = "COLOR-PATH-TAB",
         })
     }
 }
 
-impl<'de> Returns<'de> for KeyPath1 {
-    ghost read_back = { record_back ⟦<KeyPath1 as RoundTrip>⟧.fields (λ s. refl) };
+impl<'de> Returns<'de> for LevelGroup1 {
+    ghost read_back = { record_back ⟦<LevelGroup1 as RoundTrip>⟧.fields (λ s. refl) };
 
-    ghost returns = { ⟦<KeyPath1 as Returns<'static>>⟧.read_back.returns };
+    ghost returns = { ⟦<LevelGroup1 as Returns<'static>>⟧.read_back.returns };
 }
 
-impl<'de> Root<'de> for KeyPath1 {
-    fn from_text(alloc: Global, text: &str) -> Result<KeyPath1, Error> {
+impl<'de> Root<'de> for LevelGroup1 {
+    fn from_text(alloc: Global, text: &str) -> Result<LevelGroup1, Error> {
         from_str(alloc, text)
     }
 }
 
 /// A record.
 #[derive(Debug, Drop)]
-pub struct SizeCache2 {
-    pub level_port_color_width: Float,
-    pub port_cache_cache: bool,
-    pub path_width_color_key: BTreeMap<String, u32>,
-    pub width_log_host_rate: String,
-    pub name: BTreeMap<String, Vec<String>>,
-    pub retry_limit: Float,
-    pub user_size: Float,
-    pub tab_tab_limit_path: Option<u64>,
-    pub width_max_name_cache_8: String,
-    pub group_9: Option<bool>,
-    pub user_10: Vec<bool>,
-    pub cache_key_11: bool,
-    pub level_tab_12: Option<i16>,
-    pub port_tab_13: Option<Vec<TabLevelOf1>>,
-    pub group_limit: bool,
-    pub key_15: Option<Vec<bool>>,
-    pub cache_user_16: i8,
-    pub mode_group_17: i32,
-    pub retry_tab_mode_max_18: Vec<u8>,
-    pub max_19: i16,
+pub struct IndexLevel2 {
+    pub level: Option<i8>,
+    pub path_max_host: Option<i32>,
+    pub max_2: PathColor0,
+    pub group_cache: Option<i32>,
+    pub rate: i8,
+    pub port_width: Float,
+    pub host_6: Option<i64>,
+    pub tab_width_7: PathColor0,
+    pub key: u16,
+    pub port: i16,
+    pub log_limit_10: Vec<RetryCacheOf0>,
+    pub host: BTreeMap<String, i32>,
 }
 
-impl RoundTrip for SizeCache2 {
+impl RoundTrip for IndexLevel2 {
     ghost fields = { strict
-        (needed ⟦<Float as Returns<'static>>⟧ "the level.port.color.width" (λ s. s.level_port_color_width)
-        (or ⟦<bool as Returns<'static>>⟧ "PortCacheCache" false (λ s. s.port_cache_cache)
-        (needed ⟦<BTreeMap<String, u32> as Returns<'static>>⟧ "path-width-color-key" (λ s. s.path_width_color_key)
-        (or_text ⟦<String as Returns<'static>>⟧ "WidthLogHostRate" "" (λ s. s.width_log_host_rate)
-        (needed ⟦<BTreeMap<String, Vec<String>> as Returns<'static>>⟧ "Name" (λ s. s.name)
-        (needed ⟦<Float as Returns<'static>>⟧ "RetryLimit" (λ s. s.retry_limit)
-        (needed ⟦<Float as Returns<'static>>⟧ "UserSize" (λ s. s.user_size)
-        (maybe ⟦<u64 as Returns<'static>>⟧ "TabTabLimitPath" (λ s. s.tab_tab_limit_path)
-        (needed ⟦<String as Returns<'static>>⟧ "WidthMaxNameCache8" (λ s. s.width_max_name_cache_8)
-        (maybe ⟦<bool as Returns<'static>>⟧ "Group9" (λ s. s.group_9)
-        (or_empty ⟦<Vec<bool> as Returns<'static>>⟧ "User10" (λ s. s.user_10)
-        (needed ⟦<bool as Returns<'static>>⟧ "CacheKey11" (λ s. s.cache_key_11)
-        (maybe ⟦<i16 as Returns<'static>>⟧ "LevelTab12" (λ s. s.level_tab_12)
-        (maybe ⟦<Vec<TabLevelOf1> as Returns<'static>>⟧ "port.tab.13" (λ s. s.port_tab_13)
-        (or ⟦<bool as Returns<'static>>⟧ "GroupLimit" true (λ s. s.group_limit)
-        (maybe ⟦<Vec<bool> as Returns<'static>>⟧ "Key15" (λ s. s.key_15)
-        (or ⟦<i8 as Returns<'static>>⟧ "CacheUser16" (pos 0) (λ s. s.cache_user_16)
-        (needed ⟦<i32 as Returns<'static>>⟧ "ModeGroup17" (λ s. s.mode_group_17)
-        (needed ⟦<Vec<u8> as Returns<'static>>⟧ "RetryTabModeMax18" (λ s. s.retry_tab_mode_max_18)
-        (needed ⟦<i16 as Returns<'static>>⟧ "Max19" (λ s. s.max_19)
-        done)))))))))))))))))))) };
+        (maybe ⟦<i8 as Returns<'static>>⟧ "level" (λ s. s.level)
+        (maybe ⟦<i32 as Returns<'static>>⟧ "path-max-host" (λ s. s.path_max_host)
+        (needed ⟦<PathColor0 as Returns<'static>>⟧ "MAX_2" (λ s. s.max_2)
+        (maybe ⟦<i32 as Returns<'static>>⟧ "GROUP_CACHE" (λ s. s.group_cache)
+        (or ⟦<i8 as Returns<'static>>⟧ "RATE" (pos 127) (λ s. s.rate)
+        (needed ⟦<Float as Returns<'static>>⟧ "PORT_WIDTH" (λ s. s.port_width)
+        (maybe ⟦<i64 as Returns<'static>>⟧ "HOST_6" (λ s. s.host_6)
+        (needed ⟦<PathColor0 as Returns<'static>>⟧ "TAB_WIDTH_7" (λ s. s.tab_width_7)
+        (needed ⟦<u16 as Returns<'static>>⟧ "KEY" (λ s. s.key)
+        (or ⟦<i16 as Returns<'static>>⟧ "PORT" (pos 25969) (λ s. s.port)
+        (needed ⟦<Vec<RetryCacheOf0> as Returns<'static>>⟧ "LOG_LIMIT_10" (λ s. s.log_limit_10)
+        (needed ⟦<BTreeMap<String, i32> as Returns<'static>>⟧ "HOST" (λ s. s.host)
+        done)))))))))))) };
 }
 
-impl Record for SizeCache2 {
-    ghost fields = { as_read ⟦<SizeCache2 as RoundTrip>⟧.fields };
+impl Record for IndexLevel2 {
+    ghost fields = { as_read ⟦<IndexLevel2 as RoundTrip>⟧.fields };
 }
 
-impl<'de> Deserialize<'de> for SizeCache2 {
-    ghost reads = { record_reads ⟦<SizeCache2 as Record>⟧.fields };
+impl<'de> Deserialize<'de> for IndexLevel2 {
+    ghost reads = { record_reads ⟦<IndexLevel2 as Record>⟧.fields };
 
-    ghost faults = { record_faults ⟦<SizeCache2 as Record>⟧.fields };
+    ghost faults = { record_faults ⟦<IndexLevel2 as Record>⟧.fields };
 
-    fn deserialize(alloc: Global, node: Node<'_, 'de>) -> Result<SizeCache2, Error> {
-        read_record!(alloc, node, only SizeCache2 {
-            level_port_color_width = needed("the level.port.color.width"),
-            port_cache_cache = or("PortCacheCache", false),
-            path_width_color_key = needed("path-width-color-key"),
-            width_log_host_rate = or_text("WidthLogHostRate", ""),
-            name = needed("Name"),
-            retry_limit = needed("RetryLimit"),
-            user_size = needed("UserSize"),
-            tab_tab_limit_path = maybe("TabTabLimitPath"),
-            width_max_name_cache_8 = needed("WidthMaxNameCache8"),
-            group_9 = maybe("Group9"),
-            user_10 = or_empty("User10"),
-            cache_key_11 = needed("CacheKey11"),
-            level_tab_12 = maybe("LevelTab12"),
-            port_tab_13 = maybe("port.tab.13"),
-            group_limit = or("GroupLimit", true),
-            key_15 = maybe("Key15"),
-            cache_user_16 = or("CacheUser16", 0),
-            mode_group_17 = needed("ModeGroup17"),
-            retry_tab_mode_max_18 = needed("RetryTabModeMax18"),
-            max_19 = needed("Max19"),
+    fn deserialize(alloc: Global, node: Node<'_, 'de>) -> Result<IndexLevel2, Error> {
+        read_record!(alloc, node, only IndexLevel2 {
+            level = maybe("level"),
+            path_max_host = maybe("path-max-host"),
+            max_2 = needed("MAX_2"),
+            group_cache = maybe("GROUP_CACHE"),
+            rate = or("RATE", 127),
+            port_width = needed("PORT_WIDTH"),
+            host_6 = maybe("HOST_6"),
+            tab_width_7 = needed("TAB_WIDTH_7"),
+            key = needed("KEY"),
+            port = or("PORT", 25969),
+            log_limit_10 = needed("LOG_LIMIT_10"),
+            host = needed("HOST"),
         })
     }
 
-    fn from_tree(alloc: Global, tree: Tree<'de>) -> Result<SizeCache2, Error> {
-        SizeCache2::deserialize(alloc, tree.root())
+    fn from_tree(alloc: Global, tree: Tree<'de>) -> Result<IndexLevel2, Error> {
+        IndexLevel2::deserialize(alloc, tree.root())
     }
 }
 
-impl Serialize for SizeCache2 {
-    ghost calls = { record_calls ⟦<SizeCache2 as RoundTrip>⟧.fields };
+impl Serialize for IndexLevel2 {
+    ghost calls = { record_calls ⟦<IndexLevel2 as RoundTrip>⟧.fields };
 
-    ghost holds = { record_holds ⟦<SizeCache2 as RoundTrip>⟧.fields };
+    ghost holds = { record_holds ⟦<IndexLevel2 as RoundTrip>⟧.fields };
 
     fn serialize(&self, _alloc: Global, ser: &mut Serializer) -> Result<(), WriteError> {
-        write_record!(ser, self, SizeCache2 {
-            level_port_color_width = "the level.port.color.width",
-            port_cache_cache = "PortCacheCache",
-            path_width_color_key = "path-width-color-key",
-            width_log_host_rate = "WidthLogHostRate",
-            name = "Name",
-            retry_limit = "RetryLimit",
-            user_size = "UserSize",
-            tab_tab_limit_path = "TabTabLimitPath",
-            width_max_name_cache_8 = "WidthMaxNameCache8",
-            group_9 = "Group9",
-            user_10 = "User10",
-            cache_key_11 = "CacheKey11",
-            level_tab_12 = "LevelTab12",
-            port_tab_13 = "port.tab.13",
-            group_limit = "GroupLimit",
-            key_15 = "Key15",
-            cache_user_16 = "CacheUser16",
-            mode_group_17 = "ModeGroup17",
-            retry_tab_mode_max_18 = "RetryTabModeMax18",
-            max_19 = "Max19",
+        write_record!(ser, self, IndexLevel2 {
+            level = "level",
+            path_max_host = "path-max-host",
+            max_2 = "MAX_2",
+            group_cache = "GROUP_CACHE",
+            rate = "RATE",
+            port_width = "PORT_WIDTH",
+            host_6 = "HOST_6",
+            tab_width_7 = "TAB_WIDTH_7",
+            key = "KEY",
+            port = "PORT",
+            log_limit_10 = "LOG_LIMIT_10",
+            host = "HOST",
         })
     }
 }
 
-impl<'de> Returns<'de> for SizeCache2 {
-    ghost read_back = { record_back ⟦<SizeCache2 as RoundTrip>⟧.fields (λ s. refl) };
+impl<'de> Returns<'de> for IndexLevel2 {
+    ghost read_back = { record_back ⟦<IndexLevel2 as RoundTrip>⟧.fields (λ s. refl) };
 
-    ghost returns = { ⟦<SizeCache2 as Returns<'static>>⟧.read_back.returns };
+    ghost returns = { ⟦<IndexLevel2 as Returns<'static>>⟧.read_back.returns };
 }
 
-impl<'de> Root<'de> for SizeCache2 {
-    fn from_text(alloc: Global, text: &str) -> Result<SizeCache2, Error> {
+impl<'de> Root<'de> for IndexLevel2 {
+    fn from_text(alloc: Global, text: &str) -> Result<IndexLevel2, Error> {
         from_str(alloc, text)
     }
 }

@@ -1,9 +1,9 @@
 //! Types that were made at random.
 
-ghost use Rattle.std.specs.Prelude.{◌∷◌, [], codes, false, pos, refl};
+ghost use Rattle.std.specs.Prelude.{◌∷◌, [], codes, false, pos, refl, true};
 ghost use Rattle.basic_toml.specs.Records.{record_faults, record_reads};
 ghost use Rattle.basic_toml_returns.proofs.RecordsReturn.{record_back};
-ghost use Rattle.basic_toml_returns.specs.RoundTrips.{as_read, done, maybe, needed, or, or_empty, or_text, record_calls, record_holds, strict};
+ghost use Rattle.basic_toml_returns.specs.RoundTrips.{as_read, done, maybe, needed, or, or_text, record_calls, record_holds, strict};
 ghost use Rattle.basic_toml_returns.specs.Variants.{variant_back, variant_calls, variant_faults, variant_reads};
 
 use basic_toml::{
@@ -18,412 +18,405 @@ use std::collections::BTreeMap;
 
 /// A choice.
 #[derive(Debug, Clone, Copy)]
-pub enum GroupMaxOf3 {
-    TabGroupPort,
+pub enum RateWidthOf3 {
+    Level,
+    RetryPath,
+    Retry,
 }
 
-impl Choice for GroupMaxOf3 {
-    ghost use Rattle.toml_made_types.specs.declared.made_1.GroupMaxOf3.TheVariants.{TabGroupPort};
+impl Choice for RateWidthOf3 {
+    ghost use Rattle.toml_made_types.specs.declared.made_1.RateWidthOf3.TheVariants.{Level, RetryPath, Retry};
 
     ghost variants = { record {
-      names = codes "tab-group-port" ∷ [];
-      position = elim [ TabGroupPort ↦ 0 ];
-      apart = elim [ TabGroupPort ↦ refl ];
+      names = codes "Level" ∷ codes "the RetryPath" ∷ codes "Retry" ∷ [];
+      position = elim [ Level ↦ 0 | RetryPath ↦ 1 | Retry ↦ 2 ];
+      apart = elim [ Level ↦ refl | RetryPath ↦ refl | Retry ↦ refl ];
     } };
 }
 
-impl<'de> Deserialize<'de> for GroupMaxOf3 {
-    ghost reads = { variant_reads ⟦<GroupMaxOf3 as Choice>⟧.variants };
+impl<'de> Deserialize<'de> for RateWidthOf3 {
+    ghost reads = { variant_reads ⟦<RateWidthOf3 as Choice>⟧.variants };
 
-    ghost faults = { variant_faults ⟦<GroupMaxOf3 as Choice>⟧.variants };
+    ghost faults = { variant_faults ⟦<RateWidthOf3 as Choice>⟧.variants };
 
-    fn deserialize(alloc: Global, node: Node<'_, 'de>) -> Result<GroupMaxOf3, Error> {
-        match read_variant::<GroupMaxOf3>(alloc, node, &["tab-group-port"]) {
-            Ok(_) => Ok(GroupMaxOf3::TabGroupPort),
+    fn deserialize(alloc: Global, node: Node<'_, 'de>) -> Result<RateWidthOf3, Error> {
+        match read_variant::<RateWidthOf3>(alloc, node, &["Level", "the RetryPath", "Retry"]) {
+            Ok(0) => Ok(RateWidthOf3::Level),
+            Ok(1) => Ok(RateWidthOf3::RetryPath),
+            Ok(_) => Ok(RateWidthOf3::Retry),
             Err(error) => Err(error),
         }
     }
 
-    fn from_tree(alloc: Global, tree: Tree<'de>) -> Result<GroupMaxOf3, Error> {
-        GroupMaxOf3::deserialize(alloc, tree.root())
+    fn from_tree(alloc: Global, tree: Tree<'de>) -> Result<RateWidthOf3, Error> {
+        RateWidthOf3::deserialize(alloc, tree.root())
     }
 }
 
-impl Serialize for GroupMaxOf3 {
-    ghost calls = { variant_calls ⟦<GroupMaxOf3 as Choice>⟧.variants };
+impl Serialize for RateWidthOf3 {
+    ghost calls = { variant_calls ⟦<RateWidthOf3 as Choice>⟧.variants };
 
     fn serialize(&self, _alloc: Global, ser: &mut Serializer) -> Result<(), WriteError> {
         match self {
-            GroupMaxOf3::TabGroupPort => write_variant(ser, self, "tab-group-port"),
+            RateWidthOf3::Level => write_variant(ser, self, "Level"),
+            RateWidthOf3::RetryPath => write_variant(ser, self, "the RetryPath"),
+            RateWidthOf3::Retry => write_variant(ser, self, "Retry"),
         }
     }
 }
 
-impl<'de> Returns<'de> for GroupMaxOf3 {
-    ghost read_back = { variant_back ⟦<GroupMaxOf3 as Choice>⟧.variants };
+impl<'de> Returns<'de> for RateWidthOf3 {
+    ghost read_back = { variant_back ⟦<RateWidthOf3 as Choice>⟧.variants };
 
-    ghost returns = { ⟦<GroupMaxOf3 as Returns<'static>>⟧.read_back.returns };
+    ghost returns = { ⟦<RateWidthOf3 as Returns<'static>>⟧.read_back.returns };
 }
 
 /// A choice.
 #[derive(Debug, Clone, Copy)]
-pub enum KeyRateOf4 {
-    TabRate,
+pub enum HostIndexOf4 {
+    Width,
+    HostHost,
+    HostRetryPath,
+    HostModeMax,
+    ColorMax,
+    MaxIndexUser,
+    ColorLimit,
+    UserLimitGroup,
+    ModeCacheMode,
+    PathUserUser,
+    ModeRetry,
+    Level,
 }
 
-impl Choice for KeyRateOf4 {
-    ghost use Rattle.toml_made_types.specs.declared.made_1.KeyRateOf4.TheVariants.{TabRate};
+impl Choice for HostIndexOf4 {
+    ghost use Rattle.toml_made_types.specs.declared.made_1.HostIndexOf4.TheVariants.{Width, HostHost, HostRetryPath, HostModeMax, ColorMax, MaxIndexUser, ColorLimit, UserLimitGroup, ModeCacheMode, PathUserUser, ModeRetry, Level};
 
     ghost variants = { record {
-      names = codes "TABRATE" ∷ [];
-      position = elim [ TabRate ↦ 0 ];
-      apart = elim [ TabRate ↦ refl ];
+      names = codes "WIDTH" ∷ codes "the HostHost" ∷ codes "HOSTRETRYPATH" ∷ codes "HOSTMODEMAX" ∷ codes "COLORMAX" ∷ codes "MAXINDEXUSER" ∷ codes "the ColorLimit" ∷ codes "USERLIMITGROUP" ∷ codes "MODECACHEMODE" ∷ codes "PATHUSERUSER" ∷ codes "MODERETRY" ∷ codes "LEVEL" ∷ [];
+      position = elim [ Width ↦ 0 | HostHost ↦ 1 | HostRetryPath ↦ 2 | HostModeMax ↦ 3 | ColorMax ↦ 4 | MaxIndexUser ↦ 5 | ColorLimit ↦ 6 | UserLimitGroup ↦ 7 | ModeCacheMode ↦ 8 | PathUserUser ↦ 9 | ModeRetry ↦ 10 | Level ↦ 11 ];
+      apart = elim [ Width ↦ refl | HostHost ↦ refl | HostRetryPath ↦ refl | HostModeMax ↦ refl | ColorMax ↦ refl | MaxIndexUser ↦ refl | ColorLimit ↦ refl | UserLimitGroup ↦ refl | ModeCacheMode ↦ refl | PathUserUser ↦ refl | ModeRetry ↦ refl | Level ↦ refl ];
     } };
 }
 
-impl<'de> Deserialize<'de> for KeyRateOf4 {
-    ghost reads = { variant_reads ⟦<KeyRateOf4 as Choice>⟧.variants };
+impl<'de> Deserialize<'de> for HostIndexOf4 {
+    ghost reads = { variant_reads ⟦<HostIndexOf4 as Choice>⟧.variants };
 
-    ghost faults = { variant_faults ⟦<KeyRateOf4 as Choice>⟧.variants };
+    ghost faults = { variant_faults ⟦<HostIndexOf4 as Choice>⟧.variants };
 
-    fn deserialize(alloc: Global, node: Node<'_, 'de>) -> Result<KeyRateOf4, Error> {
-        match read_variant::<KeyRateOf4>(alloc, node, &["TABRATE"]) {
-            Ok(_) => Ok(KeyRateOf4::TabRate),
+    fn deserialize(alloc: Global, node: Node<'_, 'de>) -> Result<HostIndexOf4, Error> {
+        match read_variant::<HostIndexOf4>(
+            alloc,
+            node,
+            &[
+                "WIDTH",
+                "the HostHost",
+                "HOSTRETRYPATH",
+                "HOSTMODEMAX",
+                "COLORMAX",
+                "MAXINDEXUSER",
+                "the ColorLimit",
+                "USERLIMITGROUP",
+                "MODECACHEMODE",
+                "PATHUSERUSER",
+                "MODERETRY",
+                "LEVEL",
+            ],
+        ) {
+            Ok(0) => Ok(HostIndexOf4::Width),
+            Ok(1) => Ok(HostIndexOf4::HostHost),
+            Ok(2) => Ok(HostIndexOf4::HostRetryPath),
+            Ok(3) => Ok(HostIndexOf4::HostModeMax),
+            Ok(4) => Ok(HostIndexOf4::ColorMax),
+            Ok(5) => Ok(HostIndexOf4::MaxIndexUser),
+            Ok(6) => Ok(HostIndexOf4::ColorLimit),
+            Ok(7) => Ok(HostIndexOf4::UserLimitGroup),
+            Ok(8) => Ok(HostIndexOf4::ModeCacheMode),
+            Ok(9) => Ok(HostIndexOf4::PathUserUser),
+            Ok(10) => Ok(HostIndexOf4::ModeRetry),
+            Ok(_) => Ok(HostIndexOf4::Level),
             Err(error) => Err(error),
         }
     }
 
-    fn from_tree(alloc: Global, tree: Tree<'de>) -> Result<KeyRateOf4, Error> {
-        KeyRateOf4::deserialize(alloc, tree.root())
+    fn from_tree(alloc: Global, tree: Tree<'de>) -> Result<HostIndexOf4, Error> {
+        HostIndexOf4::deserialize(alloc, tree.root())
     }
 }
 
-impl Serialize for KeyRateOf4 {
-    ghost calls = { variant_calls ⟦<KeyRateOf4 as Choice>⟧.variants };
+impl Serialize for HostIndexOf4 {
+    ghost calls = { variant_calls ⟦<HostIndexOf4 as Choice>⟧.variants };
 
     fn serialize(&self, _alloc: Global, ser: &mut Serializer) -> Result<(), WriteError> {
         match self {
-            KeyRateOf4::TabRate => write_variant(ser, self, "TABRATE"),
+            HostIndexOf4::Width => write_variant(ser, self, "WIDTH"),
+            HostIndexOf4::HostHost => write_variant(ser, self, "the HostHost"),
+            HostIndexOf4::HostRetryPath => write_variant(ser, self, "HOSTRETRYPATH"),
+            HostIndexOf4::HostModeMax => write_variant(ser, self, "HOSTMODEMAX"),
+            HostIndexOf4::ColorMax => write_variant(ser, self, "COLORMAX"),
+            HostIndexOf4::MaxIndexUser => write_variant(ser, self, "MAXINDEXUSER"),
+            HostIndexOf4::ColorLimit => write_variant(ser, self, "the ColorLimit"),
+            HostIndexOf4::UserLimitGroup => write_variant(ser, self, "USERLIMITGROUP"),
+            HostIndexOf4::ModeCacheMode => write_variant(ser, self, "MODECACHEMODE"),
+            HostIndexOf4::PathUserUser => write_variant(ser, self, "PATHUSERUSER"),
+            HostIndexOf4::ModeRetry => write_variant(ser, self, "MODERETRY"),
+            HostIndexOf4::Level => write_variant(ser, self, "LEVEL"),
         }
     }
 }
 
-impl<'de> Returns<'de> for KeyRateOf4 {
-    ghost read_back = { variant_back ⟦<KeyRateOf4 as Choice>⟧.variants };
+impl<'de> Returns<'de> for HostIndexOf4 {
+    ghost read_back = { variant_back ⟦<HostIndexOf4 as Choice>⟧.variants };
 
-    ghost returns = { ⟦<KeyRateOf4 as Returns<'static>>⟧.read_back.returns };
+    ghost returns = { ⟦<HostIndexOf4 as Returns<'static>>⟧.read_back.returns };
 }
 
 /// A record.
 #[derive(Debug, Drop)]
-pub struct HostPath3 {
-    pub group_retry_group_group: i32,
-    pub group_path_tab_color: Option<u64>,
+pub struct RetryCache3 {
+    pub name_index_mode_0: Option<Vec<String>>,
+    pub mode_retry_1: bool,
 }
 
-impl RoundTrip for HostPath3 {
+impl RoundTrip for RetryCache3 {
     ghost fields = { strict
-        (or ⟦<i32 as Returns<'static>>⟧ "GROUP-RETRY-GROUP-GROUP" (pos 2147483647) (λ s. s.group_retry_group_group)
-        (maybe ⟦<u64 as Returns<'static>>⟧ "GROUP-PATH-TAB-COLOR" (λ s. s.group_path_tab_color)
+        (maybe ⟦<Vec<String> as Returns<'static>>⟧ "NameIndexMode0" (λ s. s.name_index_mode_0)
+        (or ⟦<bool as Returns<'static>>⟧ "ModeRetry1" true (λ s. s.mode_retry_1)
         done)) };
 }
 
-impl Record for HostPath3 {
-    ghost fields = { as_read ⟦<HostPath3 as RoundTrip>⟧.fields };
+impl Record for RetryCache3 {
+    ghost fields = { as_read ⟦<RetryCache3 as RoundTrip>⟧.fields };
 }
 
-impl<'de> Deserialize<'de> for HostPath3 {
-    ghost reads = { record_reads ⟦<HostPath3 as Record>⟧.fields };
+impl<'de> Deserialize<'de> for RetryCache3 {
+    ghost reads = { record_reads ⟦<RetryCache3 as Record>⟧.fields };
 
-    ghost faults = { record_faults ⟦<HostPath3 as Record>⟧.fields };
+    ghost faults = { record_faults ⟦<RetryCache3 as Record>⟧.fields };
 
-    fn deserialize(alloc: Global, node: Node<'_, 'de>) -> Result<HostPath3, Error> {
-        read_record!(alloc, node, only HostPath3 {
-            group_retry_group_group = or("GROUP-RETRY-GROUP-GROUP", 2147483647),
-            group_path_tab_color = maybe("GROUP-PATH-TAB-COLOR"),
+    fn deserialize(alloc: Global, node: Node<'_, 'de>) -> Result<RetryCache3, Error> {
+        read_record!(alloc, node, only RetryCache3 {
+            name_index_mode_0 = maybe("NameIndexMode0"),
+            mode_retry_1 = or("ModeRetry1", true),
         })
     }
 
-    fn from_tree(alloc: Global, tree: Tree<'de>) -> Result<HostPath3, Error> {
-        HostPath3::deserialize(alloc, tree.root())
+    fn from_tree(alloc: Global, tree: Tree<'de>) -> Result<RetryCache3, Error> {
+        RetryCache3::deserialize(alloc, tree.root())
     }
 }
 
-impl Serialize for HostPath3 {
-    ghost calls = { record_calls ⟦<HostPath3 as RoundTrip>⟧.fields };
+impl Serialize for RetryCache3 {
+    ghost calls = { record_calls ⟦<RetryCache3 as RoundTrip>⟧.fields };
 
-    ghost holds = { record_holds ⟦<HostPath3 as RoundTrip>⟧.fields };
+    ghost holds = { record_holds ⟦<RetryCache3 as RoundTrip>⟧.fields };
 
     fn serialize(&self, _alloc: Global, ser: &mut Serializer) -> Result<(), WriteError> {
-        write_record!(ser, self, HostPath3 {
-            group_retry_group_group = "GROUP-RETRY-GROUP-GROUP",
-            group_path_tab_color = "GROUP-PATH-TAB-COLOR",
+        write_record!(ser, self, RetryCache3 {
+            name_index_mode_0 = "NameIndexMode0",
+            mode_retry_1 = "ModeRetry1",
         })
     }
 }
 
-impl<'de> Returns<'de> for HostPath3 {
-    ghost read_back = { record_back ⟦<HostPath3 as RoundTrip>⟧.fields (λ s. refl) };
+impl<'de> Returns<'de> for RetryCache3 {
+    ghost read_back = { record_back ⟦<RetryCache3 as RoundTrip>⟧.fields (λ s. refl) };
 
-    ghost returns = { ⟦<HostPath3 as Returns<'static>>⟧.read_back.returns };
+    ghost returns = { ⟦<RetryCache3 as Returns<'static>>⟧.read_back.returns };
 }
 
-impl<'de> Root<'de> for HostPath3 {
-    fn from_text(alloc: Global, text: &str) -> Result<HostPath3, Error> {
+impl<'de> Root<'de> for RetryCache3 {
+    fn from_text(alloc: Global, text: &str) -> Result<RetryCache3, Error> {
         from_str(alloc, text)
     }
 }
 
 /// A record.
 #[derive(Debug, Drop)]
-pub struct KeyColor4 {
-    pub retry_group_user_0: bool,
-    pub mode_tab_index_1: HostPath3,
-    pub path_group_tab_key: u64,
-    pub user_group_3: String,
-    pub port_mode_group_color_4: Option<bool>,
-    pub size_5: BTreeMap<String, Vec<String>>,
-    pub name_user_log_index_6: Option<bool>,
-    pub max_7: Option<HostPath3>,
+pub struct PathColor4 {
+    pub width_key_index: i64,
+    pub retry: Option<i8>,
+    pub mode_color_2: Option<bool>,
+    pub level: HostIndexOf4,
+    pub mode_cache_4: u64,
+    pub cache_key_host: Option<RateWidthOf3>,
+    pub index_tab_host: u32,
+    pub color_width_7: HostIndexOf4,
 }
 
-impl RoundTrip for KeyColor4 {
-    ghost fields = { or ⟦<bool as Returns<'static>>⟧ "RetryGroupUser0" false (λ s. s.retry_group_user_0)
-        (needed ⟦<HostPath3 as Returns<'static>>⟧ "ModeTabIndex1" (λ s. s.mode_tab_index_1)
-        (needed ⟦<u64 as Returns<'static>>⟧ "PathGroupTabKey" (λ s. s.path_group_tab_key)
-        (or_text ⟦<String as Returns<'static>>⟧ "x-user group 3" "" (λ s. s.user_group_3)
-        (maybe ⟦<bool as Returns<'static>>⟧ "PortModeGroupColor4" (λ s. s.port_mode_group_color_4)
-        (needed ⟦<BTreeMap<String, Vec<String>> as Returns<'static>>⟧ "the size 5" (λ s. s.size_5)
-        (maybe ⟦<bool as Returns<'static>>⟧ "NameUserLogIndex6" (λ s. s.name_user_log_index_6)
-        (maybe ⟦<HostPath3 as Returns<'static>>⟧ "Max7" (λ s. s.max_7)
-        done))))))) };
+impl RoundTrip for PathColor4 {
+    ghost fields = { strict
+        (or ⟦<i64 as Returns<'static>>⟧ "width_key_index" (pos 9223372036854775807) (λ s. s.width_key_index)
+        (maybe ⟦<i8 as Returns<'static>>⟧ "retry" (λ s. s.retry)
+        (maybe ⟦<bool as Returns<'static>>⟧ "mode_color_2" (λ s. s.mode_color_2)
+        (needed ⟦<HostIndexOf4 as Returns<'static>>⟧ "level" (λ s. s.level)
+        (needed ⟦<u64 as Returns<'static>>⟧ "mode_cache_4" (λ s. s.mode_cache_4)
+        (maybe ⟦<RateWidthOf3 as Returns<'static>>⟧ "the cache-key-host" (λ s. s.cache_key_host)
+        (needed ⟦<u32 as Returns<'static>>⟧ "index_tab_host" (λ s. s.index_tab_host)
+        (needed ⟦<HostIndexOf4 as Returns<'static>>⟧ "color_width_7" (λ s. s.color_width_7)
+        done)))))))) };
 }
 
-impl Record for KeyColor4 {
-    ghost fields = { as_read ⟦<KeyColor4 as RoundTrip>⟧.fields };
+impl Record for PathColor4 {
+    ghost fields = { as_read ⟦<PathColor4 as RoundTrip>⟧.fields };
 }
 
-impl<'de> Deserialize<'de> for KeyColor4 {
-    ghost reads = { record_reads ⟦<KeyColor4 as Record>⟧.fields };
+impl<'de> Deserialize<'de> for PathColor4 {
+    ghost reads = { record_reads ⟦<PathColor4 as Record>⟧.fields };
 
-    ghost faults = { record_faults ⟦<KeyColor4 as Record>⟧.fields };
+    ghost faults = { record_faults ⟦<PathColor4 as Record>⟧.fields };
 
-    fn deserialize(alloc: Global, node: Node<'_, 'de>) -> Result<KeyColor4, Error> {
-        read_record!(alloc, node, KeyColor4 {
-            retry_group_user_0 = or("RetryGroupUser0", false),
-            mode_tab_index_1 = needed("ModeTabIndex1"),
-            path_group_tab_key = needed("PathGroupTabKey"),
-            user_group_3 = or_text("x-user group 3", ""),
-            port_mode_group_color_4 = maybe("PortModeGroupColor4"),
-            size_5 = needed("the size 5"),
-            name_user_log_index_6 = maybe("NameUserLogIndex6"),
-            max_7 = maybe("Max7"),
+    fn deserialize(alloc: Global, node: Node<'_, 'de>) -> Result<PathColor4, Error> {
+        read_record!(alloc, node, only PathColor4 {
+            width_key_index = or("width_key_index", 9223372036854775807),
+            retry = maybe("retry"),
+            mode_color_2 = maybe("mode_color_2"),
+            level = needed("level"),
+            mode_cache_4 = needed("mode_cache_4"),
+            cache_key_host = maybe("the cache-key-host"),
+            index_tab_host = needed("index_tab_host"),
+            color_width_7 = needed("color_width_7"),
         })
     }
 
-    fn from_tree(alloc: Global, tree: Tree<'de>) -> Result<KeyColor4, Error> {
-        KeyColor4::deserialize(alloc, tree.root())
+    fn from_tree(alloc: Global, tree: Tree<'de>) -> Result<PathColor4, Error> {
+        PathColor4::deserialize(alloc, tree.root())
     }
 }
 
-impl Serialize for KeyColor4 {
-    ghost calls = { record_calls ⟦<KeyColor4 as RoundTrip>⟧.fields };
+impl Serialize for PathColor4 {
+    ghost calls = { record_calls ⟦<PathColor4 as RoundTrip>⟧.fields };
 
-    ghost holds = { record_holds ⟦<KeyColor4 as RoundTrip>⟧.fields };
+    ghost holds = { record_holds ⟦<PathColor4 as RoundTrip>⟧.fields };
 
     fn serialize(&self, _alloc: Global, ser: &mut Serializer) -> Result<(), WriteError> {
-        write_record!(ser, self, KeyColor4 {
-            retry_group_user_0 = "RetryGroupUser0",
-            mode_tab_index_1 = "ModeTabIndex1",
-            path_group_tab_key = "PathGroupTabKey",
-            user_group_3 = "x-user group 3",
-            port_mode_group_color_4 = "PortModeGroupColor4",
-            size_5 = "the size 5",
-            name_user_log_index_6 = "NameUserLogIndex6",
-            max_7 = "Max7",
+        write_record!(ser, self, PathColor4 {
+            width_key_index = "width_key_index",
+            retry = "retry",
+            mode_color_2 = "mode_color_2",
+            level = "level",
+            mode_cache_4 = "mode_cache_4",
+            cache_key_host = "the cache-key-host",
+            index_tab_host = "index_tab_host",
+            color_width_7 = "color_width_7",
         })
     }
 }
 
-impl<'de> Returns<'de> for KeyColor4 {
-    ghost read_back = { record_back ⟦<KeyColor4 as RoundTrip>⟧.fields (λ s. refl) };
+impl<'de> Returns<'de> for PathColor4 {
+    ghost read_back = { record_back ⟦<PathColor4 as RoundTrip>⟧.fields (λ s. refl) };
 
-    ghost returns = { ⟦<KeyColor4 as Returns<'static>>⟧.read_back.returns };
+    ghost returns = { ⟦<PathColor4 as Returns<'static>>⟧.read_back.returns };
 }
 
-impl<'de> Root<'de> for KeyColor4 {
-    fn from_text(alloc: Global, text: &str) -> Result<KeyColor4, Error> {
+impl<'de> Root<'de> for PathColor4 {
+    fn from_text(alloc: Global, text: &str) -> Result<PathColor4, Error> {
         from_str(alloc, text)
     }
 }
 
 /// A record.
 #[derive(Debug, Drop)]
-pub struct RetryMode5 {
-    pub path_rate_path: Option<u16>,
-    pub max_1: Option<BTreeMap<String, Vec<u16>>>,
-    pub limit_level_tab_mode_2: HostPath3,
-    pub cache_3: Option<Float>,
-    pub retry_key_retry_name_4: Option<u32>,
-    pub color_color_retry_color_5: String,
-    pub cache_rate_host_6: BTreeMap<String, u16>,
-    pub mode: BTreeMap<String, Vec<u8>>,
-    pub user_max_user_8: Option<KeyColor4>,
-    pub mode_name_port_user: i64,
-    pub user_key_name: Option<i16>,
-    pub limit: u64,
-    pub name_tab_12: Vec<i16>,
-    pub log_color: KeyRateOf4,
-    pub max_retry_host: Option<BTreeMap<String, Vec<KeyColor4>>>,
-    pub index_width_index: Option<String>,
-    pub size_host_16: String,
-    pub path_log_host_tab_17: i8,
-    pub limit_tab_level_18: Option<i8>,
-    pub group_port_width_19: Option<HostPath3>,
-    pub user: HostPath3,
-    pub rate_port_group_21: Option<Float>,
-    pub limit_name: BTreeMap<String, Vec<KeyRateOf4>>,
-    pub tab_23: Option<Vec<i32>>,
-    pub group_size_port_cache_24: u32,
-    pub group_group_port: Vec<String>,
-    pub level_path_max: Option<Vec<u64>>,
-    pub level_27: Option<i16>,
-    pub mode_path: Vec<u16>,
-    pub color_retry_group_path: u32,
+pub struct GroupCache5 {
+    pub path_port_0: Option<u32>,
+    pub user: bool,
+    pub log_cache_width_2: BTreeMap<String, RetryCache3>,
+    pub color: u16,
+    pub width: Vec<Float>,
+    pub log_tab_mode_port_5: String,
+    pub limit_path_width: BTreeMap<String, bool>,
+    pub width_path_level_limit: i8,
+    pub user_mode_level_host_8: Option<BTreeMap<String, Vec<RateWidthOf3>>>,
+    pub user_host_log_path: i8,
+    pub group_cache_10: bool,
+    pub retry: i16,
+    pub color_level_color_12: i64,
+    pub name_13: Option<u64>,
 }
 
-impl RoundTrip for RetryMode5 {
-    ghost fields = { maybe ⟦<u16 as Returns<'static>>⟧ "PATH_RATE_PATH" (λ s. s.path_rate_path)
-        (maybe ⟦<BTreeMap<String, Vec<u16>> as Returns<'static>>⟧ "MAX_1" (λ s. s.max_1)
-        (needed ⟦<HostPath3 as Returns<'static>>⟧ "LIMIT_LEVEL_TAB_MODE_2" (λ s. s.limit_level_tab_mode_2)
-        (maybe ⟦<Float as Returns<'static>>⟧ "CACHE_3" (λ s. s.cache_3)
-        (maybe ⟦<u32 as Returns<'static>>⟧ "RETRY_KEY_RETRY_NAME_4" (λ s. s.retry_key_retry_name_4)
-        (needed ⟦<String as Returns<'static>>⟧ "color.color.retry.color.5" (λ s. s.color_color_retry_color_5)
-        (needed ⟦<BTreeMap<String, u16> as Returns<'static>>⟧ "CACHE_RATE_HOST_6" (λ s. s.cache_rate_host_6)
-        (needed ⟦<BTreeMap<String, Vec<u8>> as Returns<'static>>⟧ "MODE" (λ s. s.mode)
-        (maybe ⟦<KeyColor4 as Returns<'static>>⟧ "USER_MAX_USER_8" (λ s. s.user_max_user_8)
-        (needed ⟦<i64 as Returns<'static>>⟧ "MODE_NAME_PORT_USER" (λ s. s.mode_name_port_user)
-        (maybe ⟦<i16 as Returns<'static>>⟧ "USER_KEY_NAME" (λ s. s.user_key_name)
-        (needed ⟦<u64 as Returns<'static>>⟧ "LIMIT" (λ s. s.limit)
-        (or_empty ⟦<Vec<i16> as Returns<'static>>⟧ "name.tab.12" (λ s. s.name_tab_12)
-        (needed ⟦<KeyRateOf4 as Returns<'static>>⟧ "LOG_COLOR" (λ s. s.log_color)
-        (maybe ⟦<BTreeMap<String, Vec<KeyColor4>> as Returns<'static>>⟧ "MAX_RETRY_HOST" (λ s. s.max_retry_host)
-        (maybe ⟦<String as Returns<'static>>⟧ "the index width index" (λ s. s.index_width_index)
-        (or_text ⟦<String as Returns<'static>>⟧ "x-size.host.16" "" (λ s. s.size_host_16)
-        (or ⟦<i8 as Returns<'static>>⟧ "PATH_LOG_HOST_TAB_17" (pos 127) (λ s. s.path_log_host_tab_17)
-        (maybe ⟦<i8 as Returns<'static>>⟧ "LIMIT_TAB_LEVEL_18" (λ s. s.limit_tab_level_18)
-        (maybe ⟦<HostPath3 as Returns<'static>>⟧ "the group-port-width-19" (λ s. s.group_port_width_19)
-        (needed ⟦<HostPath3 as Returns<'static>>⟧ "USER" (λ s. s.user)
-        (maybe ⟦<Float as Returns<'static>>⟧ "RATE_PORT_GROUP_21" (λ s. s.rate_port_group_21)
-        (needed ⟦<BTreeMap<String, Vec<KeyRateOf4>> as Returns<'static>>⟧ "LIMIT_NAME" (λ s. s.limit_name)
-        (maybe ⟦<Vec<i32> as Returns<'static>>⟧ "TAB_23" (λ s. s.tab_23)
-        (or ⟦<u32 as Returns<'static>>⟧ "GROUP_SIZE_PORT_CACHE_24" 4294967295 (λ s. s.group_size_port_cache_24)
-        (or_empty ⟦<Vec<String> as Returns<'static>>⟧ "group group port" (λ s. s.group_group_port)
-        (maybe ⟦<Vec<u64> as Returns<'static>>⟧ "LEVEL_PATH_MAX" (λ s. s.level_path_max)
-        (maybe ⟦<i16 as Returns<'static>>⟧ "x-level.27" (λ s. s.level_27)
-        (or_empty ⟦<Vec<u16> as Returns<'static>>⟧ "MODE_PATH" (λ s. s.mode_path)
-        (or ⟦<u32 as Returns<'static>>⟧ "the color.retry.group.path" 0 (λ s. s.color_retry_group_path)
-        done))))))))))))))))))))))))))))) };
+impl RoundTrip for GroupCache5 {
+    ghost fields = { maybe ⟦<u32 as Returns<'static>>⟧ "path_port_0" (λ s. s.path_port_0)
+        (needed ⟦<bool as Returns<'static>>⟧ "user" (λ s. s.user)
+        (needed ⟦<BTreeMap<String, RetryCache3> as Returns<'static>>⟧ "log_cache_width_2" (λ s. s.log_cache_width_2)
+        (needed ⟦<u16 as Returns<'static>>⟧ "color" (λ s. s.color)
+        (needed ⟦<Vec<Float> as Returns<'static>>⟧ "width" (λ s. s.width)
+        (or_text ⟦<String as Returns<'static>>⟧ "log_tab_mode_port_5" "" (λ s. s.log_tab_mode_port_5)
+        (needed ⟦<BTreeMap<String, bool> as Returns<'static>>⟧ "x-limit-path-width" (λ s. s.limit_path_width)
+        (needed ⟦<i8 as Returns<'static>>⟧ "width_path_level_limit" (λ s. s.width_path_level_limit)
+        (maybe ⟦<BTreeMap<String, Vec<RateWidthOf3>> as Returns<'static>>⟧ "user_mode_level_host_8" (λ s. s.user_mode_level_host_8)
+        (needed ⟦<i8 as Returns<'static>>⟧ "user_host_log_path" (λ s. s.user_host_log_path)
+        (or ⟦<bool as Returns<'static>>⟧ "group_cache_10" false (λ s. s.group_cache_10)
+        (or ⟦<i16 as Returns<'static>>⟧ "retry" (pos 32767) (λ s. s.retry)
+        (or ⟦<i64 as Returns<'static>>⟧ "color_level_color_12" (pos 9223372036854775807) (λ s. s.color_level_color_12)
+        (maybe ⟦<u64 as Returns<'static>>⟧ "name-13" (λ s. s.name_13)
+        done))))))))))))) };
 }
 
-impl Record for RetryMode5 {
-    ghost fields = { as_read ⟦<RetryMode5 as RoundTrip>⟧.fields };
+impl Record for GroupCache5 {
+    ghost fields = { as_read ⟦<GroupCache5 as RoundTrip>⟧.fields };
 }
 
-impl<'de> Deserialize<'de> for RetryMode5 {
-    ghost reads = { record_reads ⟦<RetryMode5 as Record>⟧.fields };
+impl<'de> Deserialize<'de> for GroupCache5 {
+    ghost reads = { record_reads ⟦<GroupCache5 as Record>⟧.fields };
 
-    ghost faults = { record_faults ⟦<RetryMode5 as Record>⟧.fields };
+    ghost faults = { record_faults ⟦<GroupCache5 as Record>⟧.fields };
 
-    fn deserialize(alloc: Global, node: Node<'_, 'de>) -> Result<RetryMode5, Error> {
-        read_record!(alloc, node, RetryMode5 {
-            path_rate_path = maybe("PATH_RATE_PATH"),
-            max_1 = maybe("MAX_1"),
-            limit_level_tab_mode_2 = needed("LIMIT_LEVEL_TAB_MODE_2"),
-            cache_3 = maybe("CACHE_3"),
-            retry_key_retry_name_4 = maybe("RETRY_KEY_RETRY_NAME_4"),
-            color_color_retry_color_5 = needed("color.color.retry.color.5"),
-            cache_rate_host_6 = needed("CACHE_RATE_HOST_6"),
-            mode = needed("MODE"),
-            user_max_user_8 = maybe("USER_MAX_USER_8"),
-            mode_name_port_user = needed("MODE_NAME_PORT_USER"),
-            user_key_name = maybe("USER_KEY_NAME"),
-            limit = needed("LIMIT"),
-            name_tab_12 = or_empty("name.tab.12"),
-            log_color = needed("LOG_COLOR"),
-            max_retry_host = maybe("MAX_RETRY_HOST"),
-            index_width_index = maybe("the index width index"),
-            size_host_16 = or_text("x-size.host.16", ""),
-            path_log_host_tab_17 = or("PATH_LOG_HOST_TAB_17", 127),
-            limit_tab_level_18 = maybe("LIMIT_TAB_LEVEL_18"),
-            group_port_width_19 = maybe("the group-port-width-19"),
-            user = needed("USER"),
-            rate_port_group_21 = maybe("RATE_PORT_GROUP_21"),
-            limit_name = needed("LIMIT_NAME"),
-            tab_23 = maybe("TAB_23"),
-            group_size_port_cache_24 = or("GROUP_SIZE_PORT_CACHE_24", 4294967295),
-            group_group_port = or_empty("group group port"),
-            level_path_max = maybe("LEVEL_PATH_MAX"),
-            level_27 = maybe("x-level.27"),
-            mode_path = or_empty("MODE_PATH"),
-            color_retry_group_path = or("the color.retry.group.path", 0),
+    fn deserialize(alloc: Global, node: Node<'_, 'de>) -> Result<GroupCache5, Error> {
+        read_record!(alloc, node, GroupCache5 {
+            path_port_0 = maybe("path_port_0"),
+            user = needed("user"),
+            log_cache_width_2 = needed("log_cache_width_2"),
+            color = needed("color"),
+            width = needed("width"),
+            log_tab_mode_port_5 = or_text("log_tab_mode_port_5", ""),
+            limit_path_width = needed("x-limit-path-width"),
+            width_path_level_limit = needed("width_path_level_limit"),
+            user_mode_level_host_8 = maybe("user_mode_level_host_8"),
+            user_host_log_path = needed("user_host_log_path"),
+            group_cache_10 = or("group_cache_10", false),
+            retry = or("retry", 32767),
+            color_level_color_12 = or("color_level_color_12", 9223372036854775807),
+            name_13 = maybe("name-13"),
         })
     }
 
-    fn from_tree(alloc: Global, tree: Tree<'de>) -> Result<RetryMode5, Error> {
-        RetryMode5::deserialize(alloc, tree.root())
+    fn from_tree(alloc: Global, tree: Tree<'de>) -> Result<GroupCache5, Error> {
+        GroupCache5::deserialize(alloc, tree.root())
     }
 }
 
-impl Serialize for RetryMode5 {
-    ghost calls = { record_calls ⟦<RetryMode5 as RoundTrip>⟧.fields };
+impl Serialize for GroupCache5 {
+    ghost calls = { record_calls ⟦<GroupCache5 as RoundTrip>⟧.fields };
 
-    ghost holds = { record_holds ⟦<RetryMode5 as RoundTrip>⟧.fields };
+    ghost holds = { record_holds ⟦<GroupCache5 as RoundTrip>⟧.fields };
 
     fn serialize(&self, _alloc: Global, ser: &mut Serializer) -> Result<(), WriteError> {
-        write_record!(ser, self, RetryMode5 {
-            path_rate_path = "PATH_RATE_PATH",
-            max_1 = "MAX_1",
-            limit_level_tab_mode_2 = "LIMIT_LEVEL_TAB_MODE_2",
-            cache_3 = "CACHE_3",
-            retry_key_retry_name_4 = "RETRY_KEY_RETRY_NAME_4",
-            color_color_retry_color_5 = "color.color.retry.color.5",
-            cache_rate_host_6 = "CACHE_RATE_HOST_6",
-            mode = "MODE",
-            user_max_user_8 = "USER_MAX_USER_8",
-            mode_name_port_user = "MODE_NAME_PORT_USER",
-            user_key_name = "USER_KEY_NAME",
-            limit = "LIMIT",
-            name_tab_12 = "name.tab.12",
-            log_color = "LOG_COLOR",
-            max_retry_host = "MAX_RETRY_HOST",
-            index_width_index = "the index width index",
-            size_host_16 = "x-size.host.16",
-            path_log_host_tab_17 = "PATH_LOG_HOST_TAB_17",
-            limit_tab_level_18 = "LIMIT_TAB_LEVEL_18",
-            group_port_width_19 = "the group-port-width-19",
-            user = "USER",
-            rate_port_group_21 = "RATE_PORT_GROUP_21",
-            limit_name = "LIMIT_NAME",
-            tab_23 = "TAB_23",
-            group_size_port_cache_24 = "GROUP_SIZE_PORT_CACHE_24",
-            group_group_port = "group group port",
-            level_path_max = "LEVEL_PATH_MAX",
-            level_27 = "x-level.27",
-            mode_path = "MODE_PATH",
-            color_retry_group_path = "the color.retry.group.path",
+        write_record!(ser, self, GroupCache5 {
+            path_port_0 = "path_port_0",
+            user = "user",
+            log_cache_width_2 = "log_cache_width_2",
+            color = "color",
+            width = "width",
+            log_tab_mode_port_5 = "log_tab_mode_port_5",
+            limit_path_width = "x-limit-path-width",
+            width_path_level_limit = "width_path_level_limit",
+            user_mode_level_host_8 = "user_mode_level_host_8",
+            user_host_log_path = "user_host_log_path",
+            group_cache_10 = "group_cache_10",
+            retry = "retry",
+            color_level_color_12 = "color_level_color_12",
+            name_13 = "name-13",
         })
     }
 }
 
-impl<'de> Returns<'de> for RetryMode5 {
-    ghost read_back = { record_back ⟦<RetryMode5 as RoundTrip>⟧.fields (λ s. refl) };
+impl<'de> Returns<'de> for GroupCache5 {
+    ghost read_back = { record_back ⟦<GroupCache5 as RoundTrip>⟧.fields (λ s. refl) };
 
-    ghost returns = { ⟦<RetryMode5 as Returns<'static>>⟧.read_back.returns };
+    ghost returns = { ⟦<GroupCache5 as Returns<'static>>⟧.read_back.returns };
 }
 
-impl<'de> Root<'de> for RetryMode5 {
-    fn from_text(alloc: Global, text: &str) -> Result<RetryMode5, Error> {
+impl<'de> Root<'de> for GroupCache5 {
+    fn from_text(alloc: Global, text: &str) -> Result<GroupCache5, Error> {
         from_str(alloc, text)
     }
 }

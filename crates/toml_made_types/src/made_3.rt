@@ -1,6 +1,6 @@
 //! Types that were made at random.
 
-ghost use Rattle.std.specs.Prelude.{◌∷◌, [], codes, false, negsuc, pos, refl};
+ghost use Rattle.std.specs.Prelude.{◌∷◌, [], codes, false, pos, refl};
 ghost use Rattle.basic_toml.specs.Records.{record_faults, record_reads};
 ghost use Rattle.basic_toml_returns.proofs.RecordsReturn.{record_back};
 ghost use Rattle.basic_toml_returns.specs.RoundTrips.{as_read, done, maybe, needed, or, or_empty, or_text, record_calls, record_holds, strict};
@@ -14,433 +14,382 @@ use basic_toml_returns::{
 };
 use basic_toml_typed::read_record;
 use std::alloc::Global;
+use std::collections::BTreeMap;
 
 /// A choice.
 #[derive(Debug, Clone, Copy)]
-pub enum ColorLogOf9 {
-    SizeLog,
-    Host,
-    RateSize,
+pub enum MaxWidthOf9 {
+    TabLevel,
+    Tab,
 }
 
-impl Choice for ColorLogOf9 {
-    ghost use Rattle.toml_made_types.specs.declared.made_3.ColorLogOf9.TheVariants.{SizeLog, Host, RateSize};
+impl Choice for MaxWidthOf9 {
+    ghost use Rattle.toml_made_types.specs.declared.made_3.MaxWidthOf9.TheVariants.{TabLevel, Tab};
 
     ghost variants = { record {
-      names = codes "sizeLog" ∷ codes "host" ∷ codes "the RateSize" ∷ [];
-      position = elim [ SizeLog ↦ 0 | Host ↦ 1 | RateSize ↦ 2 ];
-      apart = elim [ SizeLog ↦ refl | Host ↦ refl | RateSize ↦ refl ];
+      names = codes "tab_level" ∷ codes "the Tab" ∷ [];
+      position = elim [ TabLevel ↦ 0 | Tab ↦ 1 ];
+      apart = elim [ TabLevel ↦ refl | Tab ↦ refl ];
     } };
 }
 
-impl<'de> Deserialize<'de> for ColorLogOf9 {
-    ghost reads = { variant_reads ⟦<ColorLogOf9 as Choice>⟧.variants };
+impl<'de> Deserialize<'de> for MaxWidthOf9 {
+    ghost reads = { variant_reads ⟦<MaxWidthOf9 as Choice>⟧.variants };
 
-    ghost faults = { variant_faults ⟦<ColorLogOf9 as Choice>⟧.variants };
+    ghost faults = { variant_faults ⟦<MaxWidthOf9 as Choice>⟧.variants };
 
-    fn deserialize(alloc: Global, node: Node<'_, 'de>) -> Result<ColorLogOf9, Error> {
-        match read_variant::<ColorLogOf9>(alloc, node, &["sizeLog", "host", "the RateSize"]) {
-            Ok(0) => Ok(ColorLogOf9::SizeLog),
-            Ok(1) => Ok(ColorLogOf9::Host),
-            Ok(_) => Ok(ColorLogOf9::RateSize),
+    fn deserialize(alloc: Global, node: Node<'_, 'de>) -> Result<MaxWidthOf9, Error> {
+        match read_variant::<MaxWidthOf9>(alloc, node, &["tab_level", "the Tab"]) {
+            Ok(0) => Ok(MaxWidthOf9::TabLevel),
+            Ok(_) => Ok(MaxWidthOf9::Tab),
             Err(error) => Err(error),
         }
     }
 
-    fn from_tree(alloc: Global, tree: Tree<'de>) -> Result<ColorLogOf9, Error> {
-        ColorLogOf9::deserialize(alloc, tree.root())
+    fn from_tree(alloc: Global, tree: Tree<'de>) -> Result<MaxWidthOf9, Error> {
+        MaxWidthOf9::deserialize(alloc, tree.root())
     }
 }
 
-impl Serialize for ColorLogOf9 {
-    ghost calls = { variant_calls ⟦<ColorLogOf9 as Choice>⟧.variants };
+impl Serialize for MaxWidthOf9 {
+    ghost calls = { variant_calls ⟦<MaxWidthOf9 as Choice>⟧.variants };
 
     fn serialize(&self, _alloc: Global, ser: &mut Serializer) -> Result<(), WriteError> {
         match self {
-            ColorLogOf9::SizeLog => write_variant(ser, self, "sizeLog"),
-            ColorLogOf9::Host => write_variant(ser, self, "host"),
-            ColorLogOf9::RateSize => write_variant(ser, self, "the RateSize"),
+            MaxWidthOf9::TabLevel => write_variant(ser, self, "tab_level"),
+            MaxWidthOf9::Tab => write_variant(ser, self, "the Tab"),
         }
     }
 }
 
-impl<'de> Returns<'de> for ColorLogOf9 {
-    ghost read_back = { variant_back ⟦<ColorLogOf9 as Choice>⟧.variants };
+impl<'de> Returns<'de> for MaxWidthOf9 {
+    ghost read_back = { variant_back ⟦<MaxWidthOf9 as Choice>⟧.variants };
 
-    ghost returns = { ⟦<ColorLogOf9 as Returns<'static>>⟧.read_back.returns };
+    ghost returns = { ⟦<MaxWidthOf9 as Returns<'static>>⟧.read_back.returns };
 }
 
 /// A choice.
 #[derive(Debug, Clone, Copy)]
-pub enum TabPortOf10 {
-    ModeColorHost,
-    ModeLevelName,
-    RateName,
-    KeyIndex,
-    Limit,
-    UserIndexRate,
-    Log,
-    CacheIndexCache,
-    HostPathPath,
-    UserMode,
-    TabColor,
-    Width,
+pub enum LevelSizeOf10 {
+    Level,
+    LevelRetryRate,
 }
 
-impl Choice for TabPortOf10 {
-    ghost use Rattle.toml_made_types.specs.declared.made_3.TabPortOf10.TheVariants.{ModeColorHost, ModeLevelName, RateName, KeyIndex, Limit, UserIndexRate, Log, CacheIndexCache, HostPathPath, UserMode, TabColor, Width};
+impl Choice for LevelSizeOf10 {
+    ghost use Rattle.toml_made_types.specs.declared.made_3.LevelSizeOf10.TheVariants.{Level, LevelRetryRate};
 
     ghost variants = { record {
-      names = codes "mode_color_host" ∷ codes "mode_level_name" ∷ codes "rate_name" ∷ codes "the KeyIndex" ∷ codes "limit" ∷ codes "the UserIndexRate" ∷ codes "log" ∷ codes "the CacheIndexCache" ∷ codes "host_path_path" ∷ codes "user_mode" ∷ codes "the TabColor" ∷ codes "the Width" ∷ [];
-      position = elim [ ModeColorHost ↦ 0 | ModeLevelName ↦ 1 | RateName ↦ 2 | KeyIndex ↦ 3 | Limit ↦ 4 | UserIndexRate ↦ 5 | Log ↦ 6 | CacheIndexCache ↦ 7 | HostPathPath ↦ 8 | UserMode ↦ 9 | TabColor ↦ 10 | Width ↦ 11 ];
-      apart = elim [ ModeColorHost ↦ refl | ModeLevelName ↦ refl | RateName ↦ refl | KeyIndex ↦ refl | Limit ↦ refl | UserIndexRate ↦ refl | Log ↦ refl | CacheIndexCache ↦ refl | HostPathPath ↦ refl | UserMode ↦ refl | TabColor ↦ refl | Width ↦ refl ];
+      names = codes "level" ∷ codes "level_retry_rate" ∷ [];
+      position = elim [ Level ↦ 0 | LevelRetryRate ↦ 1 ];
+      apart = elim [ Level ↦ refl | LevelRetryRate ↦ refl ];
     } };
 }
 
-impl<'de> Deserialize<'de> for TabPortOf10 {
-    ghost reads = { variant_reads ⟦<TabPortOf10 as Choice>⟧.variants };
+impl<'de> Deserialize<'de> for LevelSizeOf10 {
+    ghost reads = { variant_reads ⟦<LevelSizeOf10 as Choice>⟧.variants };
 
-    ghost faults = { variant_faults ⟦<TabPortOf10 as Choice>⟧.variants };
+    ghost faults = { variant_faults ⟦<LevelSizeOf10 as Choice>⟧.variants };
 
-    fn deserialize(alloc: Global, node: Node<'_, 'de>) -> Result<TabPortOf10, Error> {
-        match read_variant::<TabPortOf10>(
-            alloc,
-            node,
-            &[
-                "mode_color_host",
-                "mode_level_name",
-                "rate_name",
-                "the KeyIndex",
-                "limit",
-                "the UserIndexRate",
-                "log",
-                "the CacheIndexCache",
-                "host_path_path",
-                "user_mode",
-                "the TabColor",
-                "the Width",
-            ],
-        ) {
-            Ok(0) => Ok(TabPortOf10::ModeColorHost),
-            Ok(1) => Ok(TabPortOf10::ModeLevelName),
-            Ok(2) => Ok(TabPortOf10::RateName),
-            Ok(3) => Ok(TabPortOf10::KeyIndex),
-            Ok(4) => Ok(TabPortOf10::Limit),
-            Ok(5) => Ok(TabPortOf10::UserIndexRate),
-            Ok(6) => Ok(TabPortOf10::Log),
-            Ok(7) => Ok(TabPortOf10::CacheIndexCache),
-            Ok(8) => Ok(TabPortOf10::HostPathPath),
-            Ok(9) => Ok(TabPortOf10::UserMode),
-            Ok(10) => Ok(TabPortOf10::TabColor),
-            Ok(_) => Ok(TabPortOf10::Width),
+    fn deserialize(alloc: Global, node: Node<'_, 'de>) -> Result<LevelSizeOf10, Error> {
+        match read_variant::<LevelSizeOf10>(alloc, node, &["level", "level_retry_rate"]) {
+            Ok(0) => Ok(LevelSizeOf10::Level),
+            Ok(_) => Ok(LevelSizeOf10::LevelRetryRate),
             Err(error) => Err(error),
         }
     }
 
-    fn from_tree(alloc: Global, tree: Tree<'de>) -> Result<TabPortOf10, Error> {
-        TabPortOf10::deserialize(alloc, tree.root())
+    fn from_tree(alloc: Global, tree: Tree<'de>) -> Result<LevelSizeOf10, Error> {
+        LevelSizeOf10::deserialize(alloc, tree.root())
     }
 }
 
-impl Serialize for TabPortOf10 {
-    ghost calls = { variant_calls ⟦<TabPortOf10 as Choice>⟧.variants };
+impl Serialize for LevelSizeOf10 {
+    ghost calls = { variant_calls ⟦<LevelSizeOf10 as Choice>⟧.variants };
 
     fn serialize(&self, _alloc: Global, ser: &mut Serializer) -> Result<(), WriteError> {
         match self {
-            TabPortOf10::ModeColorHost => write_variant(ser, self, "mode_color_host"),
-            TabPortOf10::ModeLevelName => write_variant(ser, self, "mode_level_name"),
-            TabPortOf10::RateName => write_variant(ser, self, "rate_name"),
-            TabPortOf10::KeyIndex => write_variant(ser, self, "the KeyIndex"),
-            TabPortOf10::Limit => write_variant(ser, self, "limit"),
-            TabPortOf10::UserIndexRate => write_variant(ser, self, "the UserIndexRate"),
-            TabPortOf10::Log => write_variant(ser, self, "log"),
-            TabPortOf10::CacheIndexCache => write_variant(ser, self, "the CacheIndexCache"),
-            TabPortOf10::HostPathPath => write_variant(ser, self, "host_path_path"),
-            TabPortOf10::UserMode => write_variant(ser, self, "user_mode"),
-            TabPortOf10::TabColor => write_variant(ser, self, "the TabColor"),
-            TabPortOf10::Width => write_variant(ser, self, "the Width"),
+            LevelSizeOf10::Level => write_variant(ser, self, "level"),
+            LevelSizeOf10::LevelRetryRate => write_variant(ser, self, "level_retry_rate"),
         }
     }
 }
 
-impl<'de> Returns<'de> for TabPortOf10 {
-    ghost read_back = { variant_back ⟦<TabPortOf10 as Choice>⟧.variants };
+impl<'de> Returns<'de> for LevelSizeOf10 {
+    ghost read_back = { variant_back ⟦<LevelSizeOf10 as Choice>⟧.variants };
 
-    ghost returns = { ⟦<TabPortOf10 as Returns<'static>>⟧.read_back.returns };
+    ghost returns = { ⟦<LevelSizeOf10 as Returns<'static>>⟧.read_back.returns };
 }
 
 /// A record.
 #[derive(Debug, Drop)]
-pub struct UserWidth9 {
-    pub name_mode_0: Float,
-    pub group_width_tab_1: String,
-    pub retry_limit_user_path: Vec<i64>,
-    pub group_width_max: Vec<Float>,
+pub struct RateMode9 {
+    pub log: Vec<i32>,
+    pub user: Float,
+    pub level_tab_retry: u32,
+    pub retry_width_index_rate: Option<LevelSizeOf10>,
 }
 
-impl RoundTrip for UserWidth9 {
-    ghost fields = { strict
-        (needed ⟦<Float as Returns<'static>>⟧ "name-mode-0" (λ s. s.name_mode_0)
-        (needed ⟦<String as Returns<'static>>⟧ "group-width-tab-1" (λ s. s.group_width_tab_1)
-        (needed ⟦<Vec<i64> as Returns<'static>>⟧ "retry-limit-user-path" (λ s. s.retry_limit_user_path)
-        (needed ⟦<Vec<Float> as Returns<'static>>⟧ "group-width-max" (λ s. s.group_width_max)
-        done)))) };
+impl RoundTrip for RateMode9 {
+    ghost fields = { needed ⟦<Vec<i32> as Returns<'static>>⟧ "log" (λ s. s.log)
+        (needed ⟦<Float as Returns<'static>>⟧ "user" (λ s. s.user)
+        (or ⟦<u32 as Returns<'static>>⟧ "levelTabRetry" 4294967295 (λ s. s.level_tab_retry)
+        (maybe ⟦<LevelSizeOf10 as Returns<'static>>⟧ "retryWidthIndexRate" (λ s. s.retry_width_index_rate)
+        done))) };
 }
 
-impl Record for UserWidth9 {
-    ghost fields = { as_read ⟦<UserWidth9 as RoundTrip>⟧.fields };
+impl Record for RateMode9 {
+    ghost fields = { as_read ⟦<RateMode9 as RoundTrip>⟧.fields };
 }
 
-impl<'de> Deserialize<'de> for UserWidth9 {
-    ghost reads = { record_reads ⟦<UserWidth9 as Record>⟧.fields };
+impl<'de> Deserialize<'de> for RateMode9 {
+    ghost reads = { record_reads ⟦<RateMode9 as Record>⟧.fields };
 
-    ghost faults = { record_faults ⟦<UserWidth9 as Record>⟧.fields };
+    ghost faults = { record_faults ⟦<RateMode9 as Record>⟧.fields };
 
-    fn deserialize(alloc: Global, node: Node<'_, 'de>) -> Result<UserWidth9, Error> {
-        read_record!(alloc, node, only UserWidth9 {
-            name_mode_0 = needed("name-mode-0"),
-            group_width_tab_1 = needed("group-width-tab-1"),
-            retry_limit_user_path = needed("retry-limit-user-path"),
-            group_width_max = needed("group-width-max"),
+    fn deserialize(alloc: Global, node: Node<'_, 'de>) -> Result<RateMode9, Error> {
+        read_record!(alloc, node, RateMode9 {
+            log = needed("log"),
+            user = needed("user"),
+            level_tab_retry = or("levelTabRetry", 4294967295),
+            retry_width_index_rate = maybe("retryWidthIndexRate"),
         })
     }
 
-    fn from_tree(alloc: Global, tree: Tree<'de>) -> Result<UserWidth9, Error> {
-        UserWidth9::deserialize(alloc, tree.root())
+    fn from_tree(alloc: Global, tree: Tree<'de>) -> Result<RateMode9, Error> {
+        RateMode9::deserialize(alloc, tree.root())
     }
 }
 
-impl Serialize for UserWidth9 {
-    ghost calls = { record_calls ⟦<UserWidth9 as RoundTrip>⟧.fields };
+impl Serialize for RateMode9 {
+    ghost calls = { record_calls ⟦<RateMode9 as RoundTrip>⟧.fields };
 
-    ghost holds = { record_holds ⟦<UserWidth9 as RoundTrip>⟧.fields };
+    ghost holds = { record_holds ⟦<RateMode9 as RoundTrip>⟧.fields };
 
     fn serialize(&self, _alloc: Global, ser: &mut Serializer) -> Result<(), WriteError> {
-        write_record!(ser, self, UserWidth9 {
-            name_mode_0 = "name-mode-0",
-            group_width_tab_1 = "group-width-tab-1",
-            retry_limit_user_path = "retry-limit-user-path",
-            group_width_max = "group-width-max",
+        write_record!(ser, self, RateMode9 {
+            log = "log",
+            user = "user",
+            level_tab_retry = "levelTabRetry",
+            retry_width_index_rate = "retryWidthIndexRate",
         })
     }
 }
 
-impl<'de> Returns<'de> for UserWidth9 {
-    ghost read_back = { record_back ⟦<UserWidth9 as RoundTrip>⟧.fields (λ s. refl) };
+impl<'de> Returns<'de> for RateMode9 {
+    ghost read_back = { record_back ⟦<RateMode9 as RoundTrip>⟧.fields (λ s. refl) };
 
-    ghost returns = { ⟦<UserWidth9 as Returns<'static>>⟧.read_back.returns };
+    ghost returns = { ⟦<RateMode9 as Returns<'static>>⟧.read_back.returns };
 }
 
-impl<'de> Root<'de> for UserWidth9 {
-    fn from_text(alloc: Global, text: &str) -> Result<UserWidth9, Error> {
+impl<'de> Root<'de> for RateMode9 {
+    fn from_text(alloc: Global, text: &str) -> Result<RateMode9, Error> {
         from_str(alloc, text)
     }
 }
 
 /// A record.
 #[derive(Debug, Drop)]
-pub struct KeyRate10 {
-    pub rate_name_group: ColorLogOf9,
-    pub tab_1: i32,
-    pub path_log_port_2: bool,
-    pub path_retry_width_level: ColorLogOf9,
-    pub host_key_rate_4: String,
-    pub port_width_5: i64,
-    pub port_6: Vec<i64>,
-    pub group_level_log_7: Vec<UserWidth9>,
-    pub cache_size: TabPortOf10,
-    pub size_mode_9: i64,
+pub struct WidthSize10 {
+    pub level_name_key_name_0: bool,
+    pub host_user_1: Vec<String>,
+    pub limit_port_tab_tab: Vec<u16>,
+    pub width_group_color_size: String,
+    pub user_4: i16,
+    pub tab: BTreeMap<String, String>,
+    pub cache_user: Option<bool>,
+    pub port_group_7: Option<u16>,
+    pub retry_retry_8: u32,
+    pub tab_color_limit_tab: u8,
 }
 
-impl RoundTrip for KeyRate10 {
+impl RoundTrip for WidthSize10 {
     ghost fields = { strict
-        (needed ⟦<ColorLogOf9 as Returns<'static>>⟧ "RATE-NAME-GROUP" (λ s. s.rate_name_group)
-        (needed ⟦<i32 as Returns<'static>>⟧ "TAB-1" (λ s. s.tab_1)
-        (or ⟦<bool as Returns<'static>>⟧ "PATH-LOG-PORT-2" false (λ s. s.path_log_port_2)
-        (needed ⟦<ColorLogOf9 as Returns<'static>>⟧ "PATH-RETRY-WIDTH-LEVEL" (λ s. s.path_retry_width_level)
-        (or_text ⟦<String as Returns<'static>>⟧ "HOST-KEY-RATE-4" "" (λ s. s.host_key_rate_4)
-        (or ⟦<i64 as Returns<'static>>⟧ "PORT-WIDTH-5" (pos 9223372036854775807) (λ s. s.port_width_5)
-        (needed ⟦<Vec<i64> as Returns<'static>>⟧ "PORT-6" (λ s. s.port_6)
-        (needed ⟦<Vec<UserWidth9> as Returns<'static>>⟧ "GROUP-LEVEL-LOG-7" (λ s. s.group_level_log_7)
-        (needed ⟦<TabPortOf10 as Returns<'static>>⟧ "CACHE-SIZE" (λ s. s.cache_size)
-        (or ⟦<i64 as Returns<'static>>⟧ "SIZE-MODE-9" (negsuc 9223372036854775807) (λ s. s.size_mode_9)
+        (or ⟦<bool as Returns<'static>>⟧ "LEVEL_NAME_KEY_NAME_0" false (λ s. s.level_name_key_name_0)
+        (or_empty ⟦<Vec<String> as Returns<'static>>⟧ "HOST_USER_1" (λ s. s.host_user_1)
+        (needed ⟦<Vec<u16> as Returns<'static>>⟧ "LIMIT_PORT_TAB_TAB" (λ s. s.limit_port_tab_tab)
+        (needed ⟦<String as Returns<'static>>⟧ "WIDTH_GROUP_COLOR_SIZE" (λ s. s.width_group_color_size)
+        (needed ⟦<i16 as Returns<'static>>⟧ "USER_4" (λ s. s.user_4)
+        (needed ⟦<BTreeMap<String, String> as Returns<'static>>⟧ "TAB" (λ s. s.tab)
+        (maybe ⟦<bool as Returns<'static>>⟧ "CACHE_USER" (λ s. s.cache_user)
+        (maybe ⟦<u16 as Returns<'static>>⟧ "PORT_GROUP_7" (λ s. s.port_group_7)
+        (needed ⟦<u32 as Returns<'static>>⟧ "x-retry retry 8" (λ s. s.retry_retry_8)
+        (or ⟦<u8 as Returns<'static>>⟧ "TAB_COLOR_LIMIT_TAB" 111 (λ s. s.tab_color_limit_tab)
         done)))))))))) };
 }
 
-impl Record for KeyRate10 {
-    ghost fields = { as_read ⟦<KeyRate10 as RoundTrip>⟧.fields };
+impl Record for WidthSize10 {
+    ghost fields = { as_read ⟦<WidthSize10 as RoundTrip>⟧.fields };
 }
 
-impl<'de> Deserialize<'de> for KeyRate10 {
-    ghost reads = { record_reads ⟦<KeyRate10 as Record>⟧.fields };
+impl<'de> Deserialize<'de> for WidthSize10 {
+    ghost reads = { record_reads ⟦<WidthSize10 as Record>⟧.fields };
 
-    ghost faults = { record_faults ⟦<KeyRate10 as Record>⟧.fields };
+    ghost faults = { record_faults ⟦<WidthSize10 as Record>⟧.fields };
 
-    fn deserialize(alloc: Global, node: Node<'_, 'de>) -> Result<KeyRate10, Error> {
-        read_record!(alloc, node, only KeyRate10 {
-            rate_name_group = needed("RATE-NAME-GROUP"),
-            tab_1 = needed("TAB-1"),
-            path_log_port_2 = or("PATH-LOG-PORT-2", false),
-            path_retry_width_level = needed("PATH-RETRY-WIDTH-LEVEL"),
-            host_key_rate_4 = or_text("HOST-KEY-RATE-4", ""),
-            port_width_5 = or("PORT-WIDTH-5", 9223372036854775807),
-            port_6 = needed("PORT-6"),
-            group_level_log_7 = needed("GROUP-LEVEL-LOG-7"),
-            cache_size = needed("CACHE-SIZE"),
-            size_mode_9 = or("SIZE-MODE-9", -9223372036854775808),
+    fn deserialize(alloc: Global, node: Node<'_, 'de>) -> Result<WidthSize10, Error> {
+        read_record!(alloc, node, only WidthSize10 {
+            level_name_key_name_0 = or("LEVEL_NAME_KEY_NAME_0", false),
+            host_user_1 = or_empty("HOST_USER_1"),
+            limit_port_tab_tab = needed("LIMIT_PORT_TAB_TAB"),
+            width_group_color_size = needed("WIDTH_GROUP_COLOR_SIZE"),
+            user_4 = needed("USER_4"),
+            tab = needed("TAB"),
+            cache_user = maybe("CACHE_USER"),
+            port_group_7 = maybe("PORT_GROUP_7"),
+            retry_retry_8 = needed("x-retry retry 8"),
+            tab_color_limit_tab = or("TAB_COLOR_LIMIT_TAB", 111),
         })
     }
 
-    fn from_tree(alloc: Global, tree: Tree<'de>) -> Result<KeyRate10, Error> {
-        KeyRate10::deserialize(alloc, tree.root())
+    fn from_tree(alloc: Global, tree: Tree<'de>) -> Result<WidthSize10, Error> {
+        WidthSize10::deserialize(alloc, tree.root())
     }
 }
 
-impl Serialize for KeyRate10 {
-    ghost calls = { record_calls ⟦<KeyRate10 as RoundTrip>⟧.fields };
+impl Serialize for WidthSize10 {
+    ghost calls = { record_calls ⟦<WidthSize10 as RoundTrip>⟧.fields };
 
-    ghost holds = { record_holds ⟦<KeyRate10 as RoundTrip>⟧.fields };
+    ghost holds = { record_holds ⟦<WidthSize10 as RoundTrip>⟧.fields };
 
     fn serialize(&self, _alloc: Global, ser: &mut Serializer) -> Result<(), WriteError> {
-        write_record!(ser, self, KeyRate10 {
-            rate_name_group = "RATE-NAME-GROUP",
-            tab_1 = "TAB-1",
-            path_log_port_2 = "PATH-LOG-PORT-2",
-            path_retry_width_level = "PATH-RETRY-WIDTH-LEVEL",
-            host_key_rate_4 = "HOST-KEY-RATE-4",
-            port_width_5 = "PORT-WIDTH-5",
-            port_6 = "PORT-6",
-            group_level_log_7 = "GROUP-LEVEL-LOG-7",
-            cache_size = "CACHE-SIZE",
-            size_mode_9 = "SIZE-MODE-9",
+        write_record!(ser, self, WidthSize10 {
+            level_name_key_name_0 = "LEVEL_NAME_KEY_NAME_0",
+            host_user_1 = "HOST_USER_1",
+            limit_port_tab_tab = "LIMIT_PORT_TAB_TAB",
+            width_group_color_size = "WIDTH_GROUP_COLOR_SIZE",
+            user_4 = "USER_4",
+            tab = "TAB",
+            cache_user = "CACHE_USER",
+            port_group_7 = "PORT_GROUP_7",
+            retry_retry_8 = "x-retry retry 8",
+            tab_color_limit_tab = "TAB_COLOR_LIMIT_TAB",
         })
     }
 }
 
-impl<'de> Returns<'de> for KeyRate10 {
-    ghost read_back = { record_back ⟦<KeyRate10 as RoundTrip>⟧.fields (λ s. refl) };
+impl<'de> Returns<'de> for WidthSize10 {
+    ghost read_back = { record_back ⟦<WidthSize10 as RoundTrip>⟧.fields (λ s. refl) };
 
-    ghost returns = { ⟦<KeyRate10 as Returns<'static>>⟧.read_back.returns };
+    ghost returns = { ⟦<WidthSize10 as Returns<'static>>⟧.read_back.returns };
 }
 
-impl<'de> Root<'de> for KeyRate10 {
-    fn from_text(alloc: Global, text: &str) -> Result<KeyRate10, Error> {
+impl<'de> Root<'de> for WidthSize10 {
+    fn from_text(alloc: Global, text: &str) -> Result<WidthSize10, Error> {
         from_str(alloc, text)
     }
 }
 
 /// A record.
 #[derive(Debug, Drop)]
-pub struct RetryColor11 {
-    pub cache_index: Option<Vec<u32>>,
-    pub limit_rate_key_max: u8,
-    pub retry_width: Option<Vec<Float>>,
-    pub log_key: Vec<Float>,
-    pub color_limit: UserWidth9,
-    pub size_level_limit_port_5: i16,
-    pub color_mode_6: UserWidth9,
-    pub path_path_7: Option<u32>,
-    pub log: Option<bool>,
-    pub port_mode_name: Option<i8>,
-    pub index_color_size_level: KeyRate10,
-    pub host: i8,
-    pub log_cache_group_cache_12: String,
-    pub color_index_retry_port_13: u8,
-    pub color_tab_14: KeyRate10,
-    pub tab: String,
+pub struct LimitPort11 {
+    pub width_log_size_0: bool,
+    pub tab_1: bool,
+    pub cache_user: i16,
+    pub index_key_cache_3: u32,
+    pub port_cache_rate_path_4: String,
+    pub color_max_port_index: i16,
+    pub color_group_max: String,
+    pub limit_max_port_7: Option<MaxWidthOf9>,
+    pub cache_width_8: Option<i64>,
+    pub limit_log_mode_user_9: BTreeMap<String, bool>,
+    pub mode: WidthSize10,
+    pub tab_11: i8,
+    pub size_color_12: BTreeMap<String, Float>,
+    pub key_13: i8,
+    pub color: Vec<i64>,
+    pub log_15: Option<i8>,
 }
 
-impl RoundTrip for RetryColor11 {
-    ghost fields = { strict
-        (maybe ⟦<Vec<u32> as Returns<'static>>⟧ "cache_index" (λ s. s.cache_index)
-        (or ⟦<u8 as Returns<'static>>⟧ "limit_rate_key_max" 255 (λ s. s.limit_rate_key_max)
-        (maybe ⟦<Vec<Float> as Returns<'static>>⟧ "retry_width" (λ s. s.retry_width)
-        (or_empty ⟦<Vec<Float> as Returns<'static>>⟧ "the log key" (λ s. s.log_key)
-        (needed ⟦<UserWidth9 as Returns<'static>>⟧ "the color-limit" (λ s. s.color_limit)
-        (or ⟦<i16 as Returns<'static>>⟧ "size_level_limit_port_5" (negsuc 13830) (λ s. s.size_level_limit_port_5)
-        (needed ⟦<UserWidth9 as Returns<'static>>⟧ "color_mode_6" (λ s. s.color_mode_6)
-        (maybe ⟦<u32 as Returns<'static>>⟧ "path_path_7" (λ s. s.path_path_7)
-        (maybe ⟦<bool as Returns<'static>>⟧ "log" (λ s. s.log)
-        (maybe ⟦<i8 as Returns<'static>>⟧ "port_mode_name" (λ s. s.port_mode_name)
-        (needed ⟦<KeyRate10 as Returns<'static>>⟧ "index_color_size_level" (λ s. s.index_color_size_level)
-        (needed ⟦<i8 as Returns<'static>>⟧ "host" (λ s. s.host)
-        (or_text ⟦<String as Returns<'static>>⟧ "log_cache_group_cache_12" "" (λ s. s.log_cache_group_cache_12)
-        (needed ⟦<u8 as Returns<'static>>⟧ "color_index_retry_port_13" (λ s. s.color_index_retry_port_13)
-        (needed ⟦<KeyRate10 as Returns<'static>>⟧ "color.tab.14" (λ s. s.color_tab_14)
-        (needed ⟦<String as Returns<'static>>⟧ "tab" (λ s. s.tab)
-        done)))))))))))))))) };
+impl RoundTrip for LimitPort11 {
+    ghost fields = { or ⟦<bool as Returns<'static>>⟧ "width_log_size_0" false (λ s. s.width_log_size_0)
+        (or ⟦<bool as Returns<'static>>⟧ "tab_1" false (λ s. s.tab_1)
+        (or ⟦<i16 as Returns<'static>>⟧ "the cache-user" (pos 0) (λ s. s.cache_user)
+        (needed ⟦<u32 as Returns<'static>>⟧ "index_key_cache_3" (λ s. s.index_key_cache_3)
+        (or_text ⟦<String as Returns<'static>>⟧ "port_cache_rate_path_4" "" (λ s. s.port_cache_rate_path_4)
+        (or ⟦<i16 as Returns<'static>>⟧ "the color-max-port-index" (pos 0) (λ s. s.color_max_port_index)
+        (needed ⟦<String as Returns<'static>>⟧ "color_group_max" (λ s. s.color_group_max)
+        (maybe ⟦<MaxWidthOf9 as Returns<'static>>⟧ "limit_max_port_7" (λ s. s.limit_max_port_7)
+        (maybe ⟦<i64 as Returns<'static>>⟧ "the cache width 8" (λ s. s.cache_width_8)
+        (needed ⟦<BTreeMap<String, bool> as Returns<'static>>⟧ "limit_log_mode_user_9" (λ s. s.limit_log_mode_user_9)
+        (needed ⟦<WidthSize10 as Returns<'static>>⟧ "mode" (λ s. s.mode)
+        (or ⟦<i8 as Returns<'static>>⟧ "tab_11" (pos 0) (λ s. s.tab_11)
+        (needed ⟦<BTreeMap<String, Float> as Returns<'static>>⟧ "size_color_12" (λ s. s.size_color_12)
+        (needed ⟦<i8 as Returns<'static>>⟧ "key_13" (λ s. s.key_13)
+        (needed ⟦<Vec<i64> as Returns<'static>>⟧ "color" (λ s. s.color)
+        (maybe ⟦<i8 as Returns<'static>>⟧ "log_15" (λ s. s.log_15)
+        done))))))))))))))) };
 }
 
-impl Record for RetryColor11 {
-    ghost fields = { as_read ⟦<RetryColor11 as RoundTrip>⟧.fields };
+impl Record for LimitPort11 {
+    ghost fields = { as_read ⟦<LimitPort11 as RoundTrip>⟧.fields };
 }
 
-impl<'de> Deserialize<'de> for RetryColor11 {
-    ghost reads = { record_reads ⟦<RetryColor11 as Record>⟧.fields };
+impl<'de> Deserialize<'de> for LimitPort11 {
+    ghost reads = { record_reads ⟦<LimitPort11 as Record>⟧.fields };
 
-    ghost faults = { record_faults ⟦<RetryColor11 as Record>⟧.fields };
+    ghost faults = { record_faults ⟦<LimitPort11 as Record>⟧.fields };
 
-    fn deserialize(alloc: Global, node: Node<'_, 'de>) -> Result<RetryColor11, Error> {
-        read_record!(alloc, node, only RetryColor11 {
-            cache_index = maybe("cache_index"),
-            limit_rate_key_max = or("limit_rate_key_max", 255),
-            retry_width = maybe("retry_width"),
-            log_key = or_empty("the log key"),
-            color_limit = needed("the color-limit"),
-            size_level_limit_port_5 = or("size_level_limit_port_5", -13831),
-            color_mode_6 = needed("color_mode_6"),
-            path_path_7 = maybe("path_path_7"),
-            log = maybe("log"),
-            port_mode_name = maybe("port_mode_name"),
-            index_color_size_level = needed("index_color_size_level"),
-            host = needed("host"),
-            log_cache_group_cache_12 = or_text("log_cache_group_cache_12", ""),
-            color_index_retry_port_13 = needed("color_index_retry_port_13"),
-            color_tab_14 = needed("color.tab.14"),
-            tab = needed("tab"),
+    fn deserialize(alloc: Global, node: Node<'_, 'de>) -> Result<LimitPort11, Error> {
+        read_record!(alloc, node, LimitPort11 {
+            width_log_size_0 = or("width_log_size_0", false),
+            tab_1 = or("tab_1", false),
+            cache_user = or("the cache-user", 0),
+            index_key_cache_3 = needed("index_key_cache_3"),
+            port_cache_rate_path_4 = or_text("port_cache_rate_path_4", ""),
+            color_max_port_index = or("the color-max-port-index", 0),
+            color_group_max = needed("color_group_max"),
+            limit_max_port_7 = maybe("limit_max_port_7"),
+            cache_width_8 = maybe("the cache width 8"),
+            limit_log_mode_user_9 = needed("limit_log_mode_user_9"),
+            mode = needed("mode"),
+            tab_11 = or("tab_11", 0),
+            size_color_12 = needed("size_color_12"),
+            key_13 = needed("key_13"),
+            color = needed("color"),
+            log_15 = maybe("log_15"),
         })
     }
 
-    fn from_tree(alloc: Global, tree: Tree<'de>) -> Result<RetryColor11, Error> {
-        RetryColor11::deserialize(alloc, tree.root())
+    fn from_tree(alloc: Global, tree: Tree<'de>) -> Result<LimitPort11, Error> {
+        LimitPort11::deserialize(alloc, tree.root())
     }
 }
 
-impl Serialize for RetryColor11 {
-    ghost calls = { record_calls ⟦<RetryColor11 as RoundTrip>⟧.fields };
+impl Serialize for LimitPort11 {
+    ghost calls = { record_calls ⟦<LimitPort11 as RoundTrip>⟧.fields };
 
-    ghost holds = { record_holds ⟦<RetryColor11 as RoundTrip>⟧.fields };
+    ghost holds = { record_holds ⟦<LimitPort11 as RoundTrip>⟧.fields };
 
     fn serialize(&self, _alloc: Global, ser: &mut Serializer) -> Result<(), WriteError> {
-        write_record!(ser, self, RetryColor11 {
-            cache_index = "cache_index",
-            limit_rate_key_max = "limit_rate_key_max",
-            retry_width = "retry_width",
-            log_key = "the log key",
-            color_limit = "the color-limit",
-            size_level_limit_port_5 = "size_level_limit_port_5",
-            color_mode_6 = "color_mode_6",
-            path_path_7 = "path_path_7",
-            log = "log",
-            port_mode_name = "port_mode_name",
-            index_color_size_level = "index_color_size_level",
-            host = "host",
-            log_cache_group_cache_12 = "log_cache_group_cache_12",
-            color_index_retry_port_13 = "color_index_retry_port_13",
-            color_tab_14 = "color.tab.14",
-            tab = "tab",
+        write_record!(ser, self, LimitPort11 {
+            width_log_size_0 = "width_log_size_0",
+            tab_1 = "tab_1",
+            cache_user = "the cache-user",
+            index_key_cache_3 = "index_key_cache_3",
+            port_cache_rate_path_4 = "port_cache_rate_path_4",
+            color_max_port_index = "the color-max-port-index",
+            color_group_max = "color_group_max",
+            limit_max_port_7 = "limit_max_port_7",
+            cache_width_8 = "the cache width 8",
+            limit_log_mode_user_9 = "limit_log_mode_user_9",
+            mode = "mode",
+            tab_11 = "tab_11",
+            size_color_12 = "size_color_12",
+            key_13 = "key_13",
+            color = "color",
+            log_15 = "log_15",
         })
     }
 }
 
-impl<'de> Returns<'de> for RetryColor11 {
-    ghost read_back = { record_back ⟦<RetryColor11 as RoundTrip>⟧.fields (λ s. refl) };
+impl<'de> Returns<'de> for LimitPort11 {
+    ghost read_back = { record_back ⟦<LimitPort11 as RoundTrip>⟧.fields (λ s. refl) };
 
-    ghost returns = { ⟦<RetryColor11 as Returns<'static>>⟧.read_back.returns };
+    ghost returns = { ⟦<LimitPort11 as Returns<'static>>⟧.read_back.returns };
 }
 
-impl<'de> Root<'de> for RetryColor11 {
-    fn from_text(alloc: Global, text: &str) -> Result<RetryColor11, Error> {
+impl<'de> Root<'de> for LimitPort11 {
+    fn from_text(alloc: Global, text: &str) -> Result<LimitPort11, Error> {
         from_str(alloc, text)
     }
 }
