@@ -1,9 +1,9 @@
 //! Types that were made at random.
 
-ghost use Rattle.std.specs.Prelude.{◌∷◌, [], codes, negsuc, pos, refl, true};
+ghost use Rattle.std.specs.Prelude.{◌∷◌, [], codes, pos, refl};
 ghost use Rattle.basic_toml.specs.Records.{record_faults, record_reads};
 ghost use Rattle.basic_toml_returns.proofs.RecordsReturn.{record_back};
-ghost use Rattle.basic_toml_returns.specs.RoundTrips.{as_read, done, maybe, needed, or, or_empty, record_calls, record_holds};
+ghost use Rattle.basic_toml_returns.specs.RoundTrips.{as_read, done, maybe, needed, or, record_calls, record_holds};
 ghost use Rattle.basic_toml_returns.specs.Variants.{variant_back, variant_calls, variant_faults, variant_reads};
 
 use basic_toml::{
@@ -304,133 +304,6 @@ impl<'de> Returns<'de> for WidthCache7 {
 
 impl<'de> Root<'de> for WidthCache7 {
     fn from_text(alloc: Global, text: &str) -> Result<WidthCache7, Error> {
-        from_str(alloc, text)
-    }
-}
-
-/// A record.
-#[derive(Debug, Drop)]
-pub struct LevelKey8 {
-    pub tab_0: Vec<PortNameOf6>,
-    pub user_host_cache_1: u32,
-    pub path_host_index_2: u16,
-    pub index_path_width_tab_3: ModeColor6,
-    pub host_key_user: ModeColor6,
-    pub max: i64,
-    pub limit_width_6: Float,
-    pub rate_key_retry_limit_7: String,
-    pub name: Vec<i8>,
-    pub retry_path_limit_9: Option<u64>,
-    pub port_level_user_key: u64,
-    pub key_size_11: WidthCache7,
-    pub cache_level_user_retry_12: i64,
-    pub tab_size_color_cache: i64,
-    pub width: BTreeMap<String, Vec<i32>>,
-    pub name_15: bool,
-    pub cache_name: Option<Float>,
-    pub rate: u16,
-    pub max_group_index_log: bool,
-}
-
-impl RoundTrip for LevelKey8 {
-    ghost fields = { or_empty ⟦<Vec<PortNameOf6> as Returns<'static>>⟧ "tab_0" (λ s. s.tab_0)
-        (needed ⟦<u32 as Returns<'static>>⟧ "user_host_cache_1" (λ s. s.user_host_cache_1)
-        (or ⟦<u16 as Returns<'static>>⟧ "path_host_index_2" 23648 (λ s. s.path_host_index_2)
-        (needed ⟦<ModeColor6 as Returns<'static>>⟧ "index_path_width_tab_3" (λ s. s.index_path_width_tab_3)
-        (needed ⟦<ModeColor6 as Returns<'static>>⟧ "host_key_user" (λ s. s.host_key_user)
-        (needed ⟦<i64 as Returns<'static>>⟧ "max" (λ s. s.max)
-        (needed ⟦<Float as Returns<'static>>⟧ "limit_width_6" (λ s. s.limit_width_6)
-        (needed ⟦<String as Returns<'static>>⟧ "rate_key_retry_limit_7" (λ s. s.rate_key_retry_limit_7)
-        (needed ⟦<Vec<i8> as Returns<'static>>⟧ "name" (λ s. s.name)
-        (maybe ⟦<u64 as Returns<'static>>⟧ "retry_path_limit_9" (λ s. s.retry_path_limit_9)
-        (or ⟦<u64 as Returns<'static>>⟧ "port_level_user_key" 2543310349183429776 (λ s. s.port_level_user_key)
-        (needed ⟦<WidthCache7 as Returns<'static>>⟧ "key_size_11" (λ s. s.key_size_11)
-        (needed ⟦<i64 as Returns<'static>>⟧ "cache_level_user_retry_12" (λ s. s.cache_level_user_retry_12)
-        (or ⟦<i64 as Returns<'static>>⟧ "tab_size_color_cache" (negsuc 9223372036854775807) (λ s. s.tab_size_color_cache)
-        (needed ⟦<BTreeMap<String, Vec<i32>> as Returns<'static>>⟧ "width" (λ s. s.width)
-        (needed ⟦<bool as Returns<'static>>⟧ "name_15" (λ s. s.name_15)
-        (maybe ⟦<Float as Returns<'static>>⟧ "cache_name" (λ s. s.cache_name)
-        (or ⟦<u16 as Returns<'static>>⟧ "rate" 65535 (λ s. s.rate)
-        (or ⟦<bool as Returns<'static>>⟧ "max_group_index_log" true (λ s. s.max_group_index_log)
-        done)))))))))))))))))) };
-}
-
-impl Record for LevelKey8 {
-    ghost fields = { as_read ⟦<LevelKey8 as RoundTrip>⟧.fields };
-}
-
-impl<'de> Deserialize<'de> for LevelKey8 {
-    ghost reads = { record_reads ⟦<LevelKey8 as Record>⟧.fields };
-
-    ghost faults = { record_faults ⟦<LevelKey8 as Record>⟧.fields };
-
-    fn deserialize(alloc: Global, node: Node<'_, 'de>) -> Result<LevelKey8, Error> {
-        read_record!(alloc, node, LevelKey8 {
-            tab_0 = or_empty("tab_0"),
-            user_host_cache_1 = needed("user_host_cache_1"),
-            path_host_index_2 = or("path_host_index_2", 23648),
-            index_path_width_tab_3 = needed("index_path_width_tab_3"),
-            host_key_user = needed("host_key_user"),
-            max = needed("max"),
-            limit_width_6 = needed("limit_width_6"),
-            rate_key_retry_limit_7 = needed("rate_key_retry_limit_7"),
-            name = needed("name"),
-            retry_path_limit_9 = maybe("retry_path_limit_9"),
-            port_level_user_key = or("port_level_user_key", 2543310349183429776),
-            key_size_11 = needed("key_size_11"),
-            cache_level_user_retry_12 = needed("cache_level_user_retry_12"),
-            tab_size_color_cache = or("tab_size_color_cache", -9223372036854775808),
-            width = needed("width"),
-            name_15 = needed("name_15"),
-            cache_name = maybe("cache_name"),
-            rate = or("rate", 65535),
-            max_group_index_log = or("max_group_index_log", true),
-        })
-    }
-
-    fn from_tree(alloc: Global, tree: Tree<'de>) -> Result<LevelKey8, Error> {
-        LevelKey8::deserialize(alloc, tree.root())
-    }
-}
-
-impl Serialize for LevelKey8 {
-    ghost calls = { record_calls ⟦<LevelKey8 as RoundTrip>⟧.fields };
-
-    ghost holds = { record_holds ⟦<LevelKey8 as RoundTrip>⟧.fields };
-
-    fn serialize(&self, _alloc: Global, ser: &mut Serializer) -> Result<(), WriteError> {
-        write_record!(ser, self, LevelKey8 {
-            tab_0 = "tab_0",
-            user_host_cache_1 = "user_host_cache_1",
-            path_host_index_2 = "path_host_index_2",
-            index_path_width_tab_3 = "index_path_width_tab_3",
-            host_key_user = "host_key_user",
-            max = "max",
-            limit_width_6 = "limit_width_6",
-            rate_key_retry_limit_7 = "rate_key_retry_limit_7",
-            name = "name",
-            retry_path_limit_9 = "retry_path_limit_9",
-            port_level_user_key = "port_level_user_key",
-            key_size_11 = "key_size_11",
-            cache_level_user_retry_12 = "cache_level_user_retry_12",
-            tab_size_color_cache = "tab_size_color_cache",
-            width = "width",
-            name_15 = "name_15",
-            cache_name = "cache_name",
-            rate = "rate",
-            max_group_index_log = "max_group_index_log",
-        })
-    }
-}
-
-impl<'de> Returns<'de> for LevelKey8 {
-    ghost read_back = { record_back ⟦<LevelKey8 as RoundTrip>⟧.fields (λ s. refl) };
-
-    ghost returns = { ⟦<LevelKey8 as Returns<'static>>⟧.read_back.returns };
-}
-
-impl<'de> Root<'de> for LevelKey8 {
-    fn from_text(alloc: Global, text: &str) -> Result<LevelKey8, Error> {
         from_str(alloc, text)
     }
 }
