@@ -1,5 +1,5 @@
-//! Structs of 1 to 37 fields, and enums that they have, with their impls as `toml_impls` writes them: `tools/impls/run
-//! --keep` makes them at random. They show that what it writes is proved.
+//! Structs of 1 to 37 fields, and enums that they have, with their impls as `toml_impls` writes them. They are made at
+//! random, by `tools/impls/run --keep`, and show that what it writes is proved.
 #![tactic(auto)]
 
 pub mod made_0;
