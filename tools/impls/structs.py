@@ -53,13 +53,13 @@ def integer(kind, value):
 class Field:
     """A field: its name, its type, its attributes, and its entry in the list."""
 
-    def __init__(self, chance, name, known, integers):
+    def __init__(self, chance, name, known):
         self.name = name
         self.key = None
         self.way = "needed"
         self.default = ""
         self.attributes = []
-        self.kind = self.some_kind(chance, known, integers)
+        self.kind = self.some_kind(chance, known)
         self.is_option = chance.random() < 0.25
         if chance.random() < 0.15:
             self.key = chance.choice(("the ", "", "x-")) + name.replace("_", chance.choice(("-", " ", ".")))
@@ -72,8 +72,8 @@ class Field:
             self.take_default(chance)
 
     @staticmethod
-    def some_kind(chance, known, integers):
-        kind = chance.choice(integers + ["bool", "bool", "String", "String", "Float"] + known[-4:])
+    def some_kind(chance, known):
+        kind = chance.choice(sorted(LEAST) + ["bool", "bool", "String", "String", "Float"] + known[-4:])
         shape = chance.random()
         if shape < 0.1:
             return "Vec<%s>" % kind
@@ -111,22 +111,21 @@ class Field:
 
 
 class Struct:
-    """A struct of 1 to 40 fields, which may be of earlier structs and of these integers."""
+    """A struct of so many fields, else of 1 to 40, which may be of earlier structs."""
 
-    def __init__(self, chance, name, known, size=None, integers=tuple(sorted(LEAST))):
+    def __init__(self, chance, name, known, size):
         self.name = name
         self.case = chance.choice([None, None] + sorted(CASES))
         self.is_strict = chance.random() < 0.5
-        names = {}
-        for number in range(size or chance.choice((1, 2, 3, 5, 8, 13, 21, 30, 40))):
-            words = [chance.choice(WORDS) for _ in range(chance.randint(1, 4))]
-            names["_".join(words + [str(number)] if chance.random() < 0.5 else words)] = None
         self.fields = []
-        keys = set()
-        for one in names:
-            field = Field(chance, one, known, list(integers))
+        size = size or chance.choice((1, 2, 3, 5, 8, 13, 21, 30, 40))
+        names, keys = set(), set()
+        while len(self.fields) < size:
+            words = [chance.choice(WORDS) for _ in range(chance.randint(1, 4))]
+            field = Field(chance, "_".join(words + [str(size)] if chance.random() < 0.5 else words), known)
             key = field.entry(self.case).split('"')[1]
-            if key not in keys:
+            if field.name not in names and key not in keys:
+                names.add(field.name)
                 keys.add(key)
                 self.fields.append(field)
 
@@ -174,16 +173,16 @@ USES = {"Float": "use basic_toml::Float;\n", "Serialize": "use serde::{Deseriali
 
 
 class File:
-    """A file of structs, each with what it takes besides its name, and of enums that they have fields of."""
+    """A file of structs, each of so many fields or of any number, and of enums that they have fields of."""
 
-    def __init__(self, chance, module, first, structs):
+    def __init__(self, chance, module, first, sizes):
         self.structs = []
         self.module = module
         self.enums = [Enum(chance, "%s%sOf%d" % (capital(chance.choice(WORDS)), capital(chance.choice(WORDS)), first + each))
                       for each in range(2)]
-        for each, given in enumerate(structs, first):
+        for each, size in enumerate(sizes, first):
             name = "%s%s%d" % (capital(chance.choice(WORDS)), capital(chance.choice(WORDS)), each)
-            self.structs.append(Struct(chance, name, [one.name for one in self.enums + self.structs], *given))
+            self.structs.append(Struct(chance, name, [one.name for one in self.enums + self.structs], size))
         self.uses = [word for word in USES if chance.random() < 0.5]
 
     def text(self, is_whole):

@@ -29,6 +29,7 @@ Own A = record {
   takes : Data → Type 0;
   faults : Node → Fault → Type 0;
   grows : Data → Type 0;
+  moved : A → A;
   calls : A → List Item;
   gives_up : A → List Item → WriteError → Type 0;
   holds : A → Type 0;

@@ -1,7 +1,8 @@
 -- What a type answers to data, and to a node. A type's `reads` says which of its values are read from which data, its
 -- `takes` from which data it reads a value, memory aside, its `faults` which errors it has at which node, and its `grows`
 -- from which data it may ask for memory. (own)
-use Rattle.std.specs.Prelude.{◌≡◌, ◌⊎◌, Result, IfOk, IfErr, [], ⊤}
+use Rattle.std.specs.Prelude.{◌≡◌, ◌⊎◌, ℤ, Result, IfOk, IfErr, [], ⊤}
+use Rattle.std.specs.Int.{Width, cast_signed, cast_unsigned}
 use Rattle.basic_toml_value.specs.Data.{Data}
 use Rattle.basic_toml_tree.specs.declared.node.Node.{Node}
 use Rattle.basic_toml_tree.specs.declared.tree.Tree.{Tree}
@@ -44,3 +45,7 @@ no_fault node fault = ⊥
 abbrev pub AtRoot : (Node → Type 0) → Tree → Type 0
 AtRoot Holds tree =
     (root : Node) × (node_data root ≡ table_data tree.root) × StandsAt tree [] root × Holds root
+
+-- a signed integer as it stands in a struct that it was moved into: the integer of its bits, which is itself
+abbrev pub by_bits : Width → ℤ → ℤ
+by_bits w z = cast_signed w (cast_unsigned w z)

@@ -1,5 +1,5 @@
 //! Types that are read, and tables.
-ghost use Rattle.std.specs.Prelude.{IfOk, IfErr};
+ghost use Rattle.std.specs.Prelude.{◌≡◌, IfOk, IfErr};
 ghost use Rattle.basic_toml_value.specs.Data.{Data};
 ghost use Rattle.basic_toml_tree.specs.Data.{table_data, HoldsAny};
 ghost use Rattle.basic_toml_tree.specs.Nodes.{node_data};
@@ -50,6 +50,10 @@ pub trait Deserialize<'de>: Sized {
     // From which data it may ask for memory. A type that leaves it out may from any.
     ghost grows: { Data → Type 0 } = { any_data };
 
+    // How a value stands in a struct that it was moved into. A signed integer stands there by its bits; a type that leaves
+    // it out stands there as it is.
+    ghost moved: { Self → Self } = { λ value. value };
+
     /// Reads a value from a node.
     ///
     /// # Errors
@@ -60,7 +64,8 @@ pub trait Deserialize<'de>: Sized {
         ensures ok { IfOk result (λ value. reads (node_data node.entry) value) }
         ensures err { IfErr result (OnlyMemory (takes (node_data node.entry)) (reads (node_data node.entry))) }
         ensures named { IfErr result (OrMemory (faults node.entry)) }
-        ensures memory { IfErr result (IfGrows (grows (node_data node.entry))) };
+        ensures memory { IfErr result (IfGrows (grows (node_data node.entry))) }
+        ensures same { IfOk result (λ value. moved value ≡ value) };
 
     /// Reads a value from the whole of a tree, which it may use up. A type that has no use for the tree reads itself
     /// from its root: `Self::deserialize(alloc, tree.root())`.

@@ -1,5 +1,5 @@
 //! The fields of a record, and the names of a choice.
-ghost use Rattle.std.specs.Prelude.{◌≡◌, ◌<◌, IfOk, IfErr, MatchOption, map, length, None, Some};
+ghost use Rattle.std.specs.Prelude.{◌≡◌, ◌<◌, ⊤, IfOk, IfErr, MatchOption, map, length, None, Some};
 ghost use Rattle.std.specs.List.{position};
 ghost use Rattle.std.specs.Option.{option_copied};
 ghost use Rattle.std.specs.Str.{bytes_eq};
@@ -40,6 +40,7 @@ pub fn read_field<'de, T: Deserialize<'de>>(
         (field_reads T.reads (text_number key.now) (node_data node.entry))) }
     ensures taken { IfOk result (λ _. field_taken T.reads key.now node.entry) }
     ensures named { IfErr result (OrMemory (field_fails T.faults key.now node.entry)) }
+    ensures same { IfOk result (λ value. T.moved value ≡ value) }
 {
     match field_at(alloc, node, key)? {
         Some(child) => T::deserialize(alloc, child),
@@ -63,6 +64,7 @@ pub fn read_optional<'de, T: Deserialize<'de>>(
         (optional_reads T.reads (text_number key.now) (node_data node.entry))) }
     ensures taken { IfOk result (λ _. optional_taken T.reads key.now node.entry) }
     ensures named { IfErr result (OrMemory (optional_fails T.faults key.now node.entry)) }
+    ensures same { IfOk result (λ found. MatchOption found ⊤ (λ value. T.moved value ≡ value)) }
 {
     match field_at(alloc, node, key)? {
         Some(child) => Ok(Some(T::deserialize(alloc, child)?)),

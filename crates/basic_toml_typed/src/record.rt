@@ -1,5 +1,5 @@
 //! Records: fields of a table, read one after another.
-ghost use Rattle.std.specs.Prelude.{◌≡◌, ◌++◌, ◌∷◌, IfErr, IfOk, List, [], map};
+ghost use Rattle.std.specs.Prelude.{◌≡◌, ◌++◌, ◌∷◌, ⊤, IfErr, IfOk, List, [], map};
 ghost use Rattle.basic_toml_error.specs.Fault.{Fault};
 ghost use Rattle.basic_toml_tree.specs.Nodes.{node_data};
 ghost use Rattle.basic_toml_tree.specs.declared.node.Node as n;
@@ -27,8 +27,11 @@ pub trait Fields<'de>: Sized + Drop {
     // How each is read, in their order.
     ghost readings: { Self → List Reading };
 
-    // Which values are read from which data.
+    // Which values are read from which data, as they stand in a struct that they are moved into.
     ghost reads: { Self → Self.Values → Data → Type 0 };
+
+    // A default stands there as it is.
+    ghost fits: { Self → Type 0 };
 
     /// Reads the fields of a table in their order.
     ///
@@ -36,6 +39,7 @@ pub trait Fields<'de>: Sized + Drop {
     ///
     /// That of the first field that is not read, and want of memory.
     fn read(self, alloc: Global, node: Node<'_, 'de>) -> Result<Self::Values, Error>
+        requires fits { fits self }
         ensures ok { IfOk result (λ values. reads self values (node_data node.entry)) }
         ensures taken { IfOk result (λ _. AreRead (readings self) node.entry) }
         ensures err { IfErr result (OneReadsNone (readings self) (node_data node.entry)) }
@@ -54,7 +58,9 @@ impl<'de, T: Deserialize<'de> + Drop> Fields<'de> for Needed<'_, T> {
 
     ghost readings = { λ f. needed_at T.reads T.faults f.key.now ∷ [] };
 
-    ghost reads = { λ f value d. field_reads T.reads (text_number f.key.now) d value };
+    ghost reads = { λ f value d. field_reads T.reads (text_number f.key.now) d (T.moved value) };
+
+    ghost fits = { λ _. ⊤ };
 
     #[tactic(auto, using(crate::proofs::RecordsFail::in_turn), unfolding(crate::specs::Records::IsRead))]
     fn read(self, alloc: Global, node: Node<'_, 'de>) -> Result<T, Error> {
@@ -76,6 +82,8 @@ impl<'de, T: Deserialize<'de> + Drop> Fields<'de> for Maybe<'_, T> {
 
     ghost reads = { λ f value d. optional_reads T.reads (text_number f.key.now) d value };
 
+    ghost fits = { λ _. ⊤ };
+
     #[tactic(auto, using(crate::proofs::RecordsFail::in_turn), unfolding(crate::specs::Records::IsRead))]
     fn read(self, alloc: Global, node: Node<'_, 'de>) -> Result<Option<T>, Error> {
         read_optional(alloc, node, self.key)
@@ -94,7 +102,9 @@ impl<'de, T: Deserialize<'de> + Drop> Fields<'de> for Or<'_, T> {
 
     ghost readings = { λ f. default_at T.reads T.faults f.key.now (λ x. x ≡ f.default) ∷ [] };
 
-    ghost reads = { λ f value d. default_reads T.reads (λ x. x ≡ f.default) (text_number f.key.now) d value };
+    ghost reads = { λ f value d. default_reads T.reads (λ x. x ≡ f.default) (text_number f.key.now) d (T.moved value) };
+
+    ghost fits = { λ f. T.moved f.default ≡ f.default };
 
     #[tactic(auto, using(crate::proofs::RecordsFail::in_turn), unfolding(crate::specs::Records::IsRead, crate::specs::Records::default_reads))]
     fn read(self, alloc: Global, node: Node<'_, 'de>) -> Result<T, Error> {
@@ -116,6 +126,8 @@ impl<'de, T: Deserialize<'de> + Drop> Fields<'de> for OrEmpty<'_, T> {
         default_at (array_reads T.reads) (array_faults T.faults T.reads) f.key.now IsEmpty ∷ [] };
 
     ghost reads = { λ f value d. default_reads (array_reads T.reads) IsEmpty (text_number f.key.now) d value };
+
+    ghost fits = { λ _. ⊤ };
 
     #[tactic(auto, using(crate::proofs::RecordsFail::in_turn), unfolding(crate::specs::Records::IsRead, crate::specs::Records::default_reads))]
     fn read(self, alloc: Global, node: Node<'_, 'de>) -> Result<Vec<T>, Error> {
@@ -141,6 +153,8 @@ impl<'de> Fields<'de> for OrText<'_> {
     ghost reads = { λ f value d.
         default_reads string_reads (IsText f.default.now) (text_number f.key.now) d value };
 
+    ghost fits = { λ _. ⊤ };
+
     #[tactic(auto, using(crate::proofs::RecordsFail::in_turn), unfolding(crate::specs::Records::IsRead, crate::specs::Records::default_reads))]
     fn read(self, alloc: Global, node: Node<'_, 'de>) -> Result<String, Error> {
         match read_optional(alloc, node, self.key)? {
@@ -163,6 +177,8 @@ impl<'de> Fields<'de> for Only<'_> {
 
     ghost reads = { λ f _ d. HasOnly (map text_number (map (λ key. key.now) f.keys.now)) d };
 
+    ghost fits = { λ _. ⊤ };
+
     #[tactic(auto, using(crate::proofs::RecordsFail::in_turn, crate::proofs::RecordsRead::only_names))]
     fn read(self, alloc: Global, node: Node<'_, 'de>) -> Result<(), Error> {
         only_fields(alloc, node, self.keys)
@@ -182,6 +198,8 @@ impl<'de, A: Fields<'de>, B: Fields<'de>> Fields<'de> for And<A, B> {
     ghost readings = { λ f. A.readings f.first ++ B.readings f.rest };
 
     ghost reads = { λ f values d. A.reads f.first values.first d × B.reads f.rest values.rest d };
+
+    ghost fits = { λ f. A.fits f.first × B.fits f.rest };
 
     #[tactic(auto, using(crate::proofs::RecordsRead::one_after_another))]
     fn read(self, alloc: Global, node: Node<'_, 'de>) -> Result<And<A::Values, B::Values>, Error> {
@@ -210,6 +228,8 @@ impl<'de, A: Fields<'de>, B: Fields<'de>, C: Fields<'de>, D: Fields<'de>> Fields
 
     ghost reads = { λ f values d. A.reads f.first values.first d × B.reads f.second values.second d
         × C.reads f.third values.third d × D.reads f.fourth values.fourth d };
+
+    ghost fits = { λ f. A.fits f.first × B.fits f.second × C.fits f.third × D.fits f.fourth };
 
     #[tactic(auto, using(crate::proofs::RecordsRead::one_after_another))]
     fn read(self, alloc: Global, node: Node<'_, 'de>) -> Result<Self::Values, Error> {
@@ -256,6 +276,7 @@ pub fn read_record<'de, R: Record, F: Fields<'de>>(
         → OneReadsNone (readings R.fields) d fault }
     requires faults { (at : n.Node) (fault : Fault) → FirstFails (F.readings fields) at fault
         → record_faults R.fields at fault }
+    requires fits { F.fits fields }
     ensures ok { IfOk result (λ values. F.reads fields values (node_data node.entry)) }
     ensures err { IfErr result (OnlyMemory ⊥ (record_reads R.fields (node_data node.entry))) }
     ensures named { IfErr result (OrMemory (record_faults R.fields node.entry)) }

@@ -1,10 +1,11 @@
 //! The types that are read as they stand: numbers, truth values, strings, and whatever stands there.
+ghost use Rattle.std.specs.Int.{w16, w32, w64, w8};
 ghost use Rattle.std.specs.Prelude.{◌≡◌, MatchResult, Some, None, codes};
 ghost use Rattle.basic_toml_value.specs.Data.{integer_in};
 ghost use Rattle.basic_toml_tree.specs.Data.{HoldsAny};
 ghost use Rattle.basic_toml_tree.specs.Nodes.{node_data};
 ghost use Rattle.basic_toml_error.specs.NodeFaults.{IsFault};
-ghost use Rattle.basic_toml_typed.specs.TypeAnswers.{no_fault};
+ghost use Rattle.basic_toml_typed.specs.TypeAnswers.{by_bits, no_fault};
 ghost use Rattle.basic_toml_typed.specs.TypeFaults.{wrong_type, signed_faults, unsigned_faults, bool_faults, string_faults, float_faults};
 ghost use Rattle.basic_toml_typed.specs.TypeReads.{signed_reads, signed_takes, unsigned_reads, unsigned_takes, bool_reads, bool_takes};
 ghost use Rattle.basic_toml_typed.specs.TypeReads.{string_reads, cow_reads, string_takes, float_reads, float_takes};
@@ -37,6 +38,8 @@ impl<'de> Deserialize<'de> for i8 {
 
     ghost faults = { signed_faults 7 (codes "i8") };
 
+    ghost moved = { by_bits w8 };
+
     fn deserialize(alloc: Global, node: Node<'_, 'de>) -> Result<i8, Error> {
         match i8::try_from(integer_at(alloc, node, "i8")?) {
             Ok(number) => Ok(number),
@@ -55,6 +58,8 @@ impl<'de> Deserialize<'de> for i16 {
     ghost takes = { signed_takes 15 };
 
     ghost faults = { signed_faults 15 (codes "i16") };
+
+    ghost moved = { by_bits w16 };
 
     fn deserialize(alloc: Global, node: Node<'_, 'de>) -> Result<i16, Error> {
         match i16::try_from(integer_at(alloc, node, "i16")?) {
@@ -75,6 +80,8 @@ impl<'de> Deserialize<'de> for i32 {
 
     ghost faults = { signed_faults 31 (codes "i32") };
 
+    ghost moved = { by_bits w32 };
+
     fn deserialize(alloc: Global, node: Node<'_, 'de>) -> Result<i32, Error> {
         match i32::try_from(integer_at(alloc, node, "i32")?) {
             Ok(number) => Ok(number),
@@ -93,6 +100,8 @@ impl<'de> Deserialize<'de> for i64 {
     ghost takes = { signed_takes 63 };
 
     ghost faults = { signed_faults 63 (codes "i64") };
+
+    ghost moved = { by_bits w64 };
 
     fn deserialize(alloc: Global, node: Node<'_, 'de>) -> Result<i64, Error> {
         integer_at(alloc, node, "i64")
@@ -219,7 +228,7 @@ impl<'de> Deserialize<'de> for String {
 
 /// Borrows what the text that was read holds as it stands, and copies the rest.
 impl<'de> Deserialize<'de> for CowStr<'de> {
-    ghost use Rattle.std.specs.Prelude.{◌↔◌, IfOk, IfErr, IsTrue};
+    ghost use Rattle.std.specs.Prelude.{◌≡◌, ◌↔◌, IfOk, IfErr, IsTrue};
     ghost use Rattle.std.specs.Cow.{IsBorrowedStr};
     ghost use Rattle.basic_toml_tree.specs.Origin.{is_borrowed};
     ghost use Rattle.basic_toml_typed.specs.TypeAnswers.{OnlyMemory, OrMemory, IfGrows, any_data};
@@ -235,6 +244,7 @@ impl<'de> Deserialize<'de> for CowStr<'de> {
         ensures err { IfErr result (OnlyMemory (string_takes (node_data node.entry)) (cow_reads (node_data node.entry))) }
         ensures named { IfErr result (OrMemory (string_faults node.entry)) }
         ensures memory { IfErr result (IfGrows (any_data (node_data node.entry))) }
+        ensures same { IfOk result (λ text. text ≡ text) }
         ensures borrowed { IfOk result (λ text. IsBorrowedStr text ↔ IsTrue (is_borrowed node.entry)) }
     {
         if let Some(text) = node.borrowed_text() {

@@ -1,4 +1,5 @@
-//! Records of 2, of 5 and of 16 fields, and an enum, as a caller writes them. None takes a proof.
+//! Records of 2, of 5 and of 16 fields, and an enum, as a caller has them. None takes a proof. `returned.rt` writes the
+//! first two.
 ghost use Rattle.std.specs.Prelude.{codes};
 ghost use Rattle.basic_toml.specs.Parts.{a_record, a_field, the_end};
 

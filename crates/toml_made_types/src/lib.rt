@@ -1,4 +1,4 @@
-//! Structs of 1 to 37 fields, and enums that they have, with their impls as `toml_impls` writes them. They are made at
+//! Structs of 1 to 40 fields, and enums that they have, with their impls as `toml_impls` writes them. They are made at
 //! random, by `tools/impls/run --keep`, and show that what it writes is proved.
 #![tactic(auto)]
 

@@ -1,13 +1,13 @@
 //! Types that were made at random.
 
-ghost use Rattle.std.specs.Prelude.{◌∷◌, [], codes, negsuc, pos, refl};
+ghost use Rattle.std.specs.Prelude.{◌∷◌, [], codes, pos, refl};
 ghost use Rattle.basic_toml.specs.Records.{record_faults, record_reads};
 ghost use Rattle.basic_toml_returns.proofs.RecordsReturn.{record_back};
-ghost use Rattle.basic_toml_returns.specs.RoundTrips.{as_read, done, maybe, needed, or, record_calls, record_holds, strict};
+ghost use Rattle.basic_toml_returns.specs.RoundTrips.{as_read, done, maybe, needed, or, or_text, record_calls, record_holds, strict};
 ghost use Rattle.basic_toml_returns.specs.Variants.{variant_back, variant_calls, variant_faults, variant_reads};
 
 use basic_toml::{
-    Deserialize, Error, Float, Node, Record, Serialize, Serializer, Tree, WriteError, from_str,
+    Deserialize, Error, Node, Record, Serialize, Serializer, Tree, WriteError, from_str,
 };
 use basic_toml_returns::{
     Choice, Returns, Root, RoundTrip, read_variant, write_record, write_variant,
@@ -137,12 +137,12 @@ impl<'de> Returns<'de> for SizeColorOf1 {
 /// A record.
 #[derive(Debug, Drop)]
 pub struct PathColor0 {
-    pub port_color_host_0: RetryCacheOf0,
+    pub port_color_host_1: RetryCacheOf0,
 }
 
 impl RoundTrip for PathColor0 {
     ghost fields = { strict
-        (needed ⟦<RetryCacheOf0 as Returns<'static>>⟧ "port-color-host-0" (λ s. s.port_color_host_0)
+        (needed ⟦<RetryCacheOf0 as Returns<'static>>⟧ "port-color-host-1" (λ s. s.port_color_host_1)
         done) };
 }
 
@@ -157,7 +157,7 @@ impl<'de> Deserialize<'de> for PathColor0 {
 
     fn deserialize(alloc: Global, node: Node<'_, 'de>) -> Result<PathColor0, Error> {
         read_record!(alloc, node, only PathColor0 {
-            port_color_host_0 = needed("port-color-host-0"),
+            port_color_host_1 = needed("port-color-host-1"),
         })
     }
 
@@ -173,7 +173,7 @@ impl Serialize for PathColor0 {
 
     fn serialize(&self, _alloc: Global, ser: &mut Serializer) -> Result<(), WriteError> {
         write_record!(ser, self, PathColor0 {
-            port_color_host_0 = "port-color-host-0",
+            port_color_host_1 = "port-color-host-1",
         })
     }
 }
@@ -193,19 +193,19 @@ impl<'de> Root<'de> for PathColor0 {
 /// A record.
 #[derive(Debug, Drop)]
 pub struct LevelGroup1 {
-    pub path: bool,
-    pub max_rate: Option<BTreeMap<String, bool>>,
-    pub name_name_group_mode: Vec<i64>,
-    pub limit_user_color_user: i64,
-    pub color_path_tab: u64,
+    pub path: u8,
+    pub limit_user_color_user: String,
+    pub index_name_tab: String,
+    pub level_name_name: u16,
+    pub mode_size_mode_max: RetryCacheOf0,
 }
 
 impl RoundTrip for LevelGroup1 {
-    ghost fields = { needed ⟦<bool as Returns<'static>>⟧ "PATH" (λ s. s.path)
-        (maybe ⟦<BTreeMap<String, bool> as Returns<'static>>⟧ "MAX-RATE" (λ s. s.max_rate)
-        (needed ⟦<Vec<i64> as Returns<'static>>⟧ "NAME-NAME-GROUP-MODE" (λ s. s.name_name_group_mode)
-        (or ⟦<i64 as Returns<'static>>⟧ "LIMIT-USER-COLOR-USER" (negsuc 9223372036854775807) (λ s. s.limit_user_color_user)
-        (needed ⟦<u64 as Returns<'static>>⟧ "COLOR-PATH-TAB" (λ s. s.color_path_tab)
+    ghost fields = { or ⟦<u8 as Returns<'static>>⟧ "PATH" 255 (λ s. s.path)
+        (needed ⟦<String as Returns<'static>>⟧ "LIMIT-USER-COLOR-USER" (λ s. s.limit_user_color_user)
+        (or_text ⟦<String as Returns<'static>>⟧ "INDEX-NAME-TAB" "" (λ s. s.index_name_tab)
+        (needed ⟦<u16 as Returns<'static>>⟧ "LEVEL-NAME-NAME" (λ s. s.level_name_name)
+        (needed ⟦<RetryCacheOf0 as Returns<'static>>⟧ "MODE-SIZE-MODE-MAX" (λ s. s.mode_size_mode_max)
         done)))) };
 }
 
@@ -220,11 +220,11 @@ impl<'de> Deserialize<'de> for LevelGroup1 {
 
     fn deserialize(alloc: Global, node: Node<'_, 'de>) -> Result<LevelGroup1, Error> {
         read_record!(alloc, node, LevelGroup1 {
-            path = needed("PATH"),
-            max_rate = maybe("MAX-RATE"),
-            name_name_group_mode = needed("NAME-NAME-GROUP-MODE"),
-            limit_user_color_user = or("LIMIT-USER-COLOR-USER", -9223372036854775808),
-            color_path_tab = needed("COLOR-PATH-TAB"),
+            path = or("PATH", 255),
+            limit_user_color_user = needed("LIMIT-USER-COLOR-USER"),
+            index_name_tab = or_text("INDEX-NAME-TAB", ""),
+            level_name_name = needed("LEVEL-NAME-NAME"),
+            mode_size_mode_max = needed("MODE-SIZE-MODE-MAX"),
         })
     }
 
@@ -241,10 +241,10 @@ impl Serialize for LevelGroup1 {
     fn serialize(&self, _alloc: Global, ser: &mut Serializer) -> Result<(), WriteError> {
         write_record!(ser, self, LevelGroup1 {
             path = "PATH",
-            max_rate = "MAX-RATE",
-            name_name_group_mode = "NAME-NAME-GROUP-MODE",
             limit_user_color_user = "LIMIT-USER-COLOR-USER",
-            color_path_tab = "COLOR-PATH-TAB",
+            index_name_tab = "INDEX-NAME-TAB",
+            level_name_name = "LEVEL-NAME-NAME",
+            mode_size_mode_max = "MODE-SIZE-MODE-MAX",
         })
     }
 }
@@ -263,100 +263,99 @@ impl<'de> Root<'de> for LevelGroup1 {
 
 /// A record.
 #[derive(Debug, Drop)]
-pub struct IndexLevel2 {
-    pub level: Option<i8>,
-    pub path_max_host: Option<i32>,
-    pub max_2: PathColor0,
-    pub group_cache: Option<i32>,
-    pub rate: i8,
-    pub port_width: Float,
-    pub host_6: Option<i64>,
-    pub tab_width_7: PathColor0,
-    pub key: u16,
-    pub port: i16,
-    pub log_limit_10: Vec<RetryCacheOf0>,
-    pub host: BTreeMap<String, i32>,
+pub struct KeyName2 {
+    pub width_group_path_max_12: BTreeMap<String, bool>,
+    pub limit: Vec<u8>,
+    pub host_12: u64,
+    pub limit_level_12: Option<i32>,
+    pub name_max_name: Option<String>,
+    pub path_size_key_level: Option<u32>,
+    pub log_group: i8,
+    pub size_rate_color_host_12: Option<i64>,
+    pub key_tab_user_key: u16,
+    pub tab_12: BTreeMap<String, String>,
+    pub port_retry_width_cache: BTreeMap<String, i32>,
+    pub color_tab_host_port_12: Option<bool>,
 }
 
-impl RoundTrip for IndexLevel2 {
-    ghost fields = { strict
-        (maybe ⟦<i8 as Returns<'static>>⟧ "level" (λ s. s.level)
-        (maybe ⟦<i32 as Returns<'static>>⟧ "path-max-host" (λ s. s.path_max_host)
-        (needed ⟦<PathColor0 as Returns<'static>>⟧ "MAX_2" (λ s. s.max_2)
-        (maybe ⟦<i32 as Returns<'static>>⟧ "GROUP_CACHE" (λ s. s.group_cache)
-        (or ⟦<i8 as Returns<'static>>⟧ "RATE" (pos 127) (λ s. s.rate)
-        (needed ⟦<Float as Returns<'static>>⟧ "PORT_WIDTH" (λ s. s.port_width)
-        (maybe ⟦<i64 as Returns<'static>>⟧ "HOST_6" (λ s. s.host_6)
-        (needed ⟦<PathColor0 as Returns<'static>>⟧ "TAB_WIDTH_7" (λ s. s.tab_width_7)
-        (needed ⟦<u16 as Returns<'static>>⟧ "KEY" (λ s. s.key)
-        (or ⟦<i16 as Returns<'static>>⟧ "PORT" (pos 25969) (λ s. s.port)
-        (needed ⟦<Vec<RetryCacheOf0> as Returns<'static>>⟧ "LOG_LIMIT_10" (λ s. s.log_limit_10)
-        (needed ⟦<BTreeMap<String, i32> as Returns<'static>>⟧ "HOST" (λ s. s.host)
-        done)))))))))))) };
+impl RoundTrip for KeyName2 {
+    ghost fields = { needed ⟦<BTreeMap<String, bool> as Returns<'static>>⟧ "WIDTH_GROUP_PATH_MAX_12" (λ s. s.width_group_path_max_12)
+        (needed ⟦<Vec<u8> as Returns<'static>>⟧ "LIMIT" (λ s. s.limit)
+        (or ⟦<u64 as Returns<'static>>⟧ "HOST_12" 0 (λ s. s.host_12)
+        (maybe ⟦<i32 as Returns<'static>>⟧ "LIMIT_LEVEL_12" (λ s. s.limit_level_12)
+        (maybe ⟦<String as Returns<'static>>⟧ "NAME_MAX_NAME" (λ s. s.name_max_name)
+        (maybe ⟦<u32 as Returns<'static>>⟧ "PATH_SIZE_KEY_LEVEL" (λ s. s.path_size_key_level)
+        (or ⟦<i8 as Returns<'static>>⟧ "LOG_GROUP" (pos 127) (λ s. s.log_group)
+        (maybe ⟦<i64 as Returns<'static>>⟧ "SIZE_RATE_COLOR_HOST_12" (λ s. s.size_rate_color_host_12)
+        (needed ⟦<u16 as Returns<'static>>⟧ "KEY_TAB_USER_KEY" (λ s. s.key_tab_user_key)
+        (needed ⟦<BTreeMap<String, String> as Returns<'static>>⟧ "TAB_12" (λ s. s.tab_12)
+        (needed ⟦<BTreeMap<String, i32> as Returns<'static>>⟧ "PORT_RETRY_WIDTH_CACHE" (λ s. s.port_retry_width_cache)
+        (maybe ⟦<bool as Returns<'static>>⟧ "COLOR_TAB_HOST_PORT_12" (λ s. s.color_tab_host_port_12)
+        done))))))))))) };
 }
 
-impl Record for IndexLevel2 {
-    ghost fields = { as_read ⟦<IndexLevel2 as RoundTrip>⟧.fields };
+impl Record for KeyName2 {
+    ghost fields = { as_read ⟦<KeyName2 as RoundTrip>⟧.fields };
 }
 
-impl<'de> Deserialize<'de> for IndexLevel2 {
-    ghost reads = { record_reads ⟦<IndexLevel2 as Record>⟧.fields };
+impl<'de> Deserialize<'de> for KeyName2 {
+    ghost reads = { record_reads ⟦<KeyName2 as Record>⟧.fields };
 
-    ghost faults = { record_faults ⟦<IndexLevel2 as Record>⟧.fields };
+    ghost faults = { record_faults ⟦<KeyName2 as Record>⟧.fields };
 
-    fn deserialize(alloc: Global, node: Node<'_, 'de>) -> Result<IndexLevel2, Error> {
-        read_record!(alloc, node, only IndexLevel2 {
-            level = maybe("level"),
-            path_max_host = maybe("path-max-host"),
-            max_2 = needed("MAX_2"),
-            group_cache = maybe("GROUP_CACHE"),
-            rate = or("RATE", 127),
-            port_width = needed("PORT_WIDTH"),
-            host_6 = maybe("HOST_6"),
-            tab_width_7 = needed("TAB_WIDTH_7"),
-            key = needed("KEY"),
-            port = or("PORT", 25969),
-            log_limit_10 = needed("LOG_LIMIT_10"),
-            host = needed("HOST"),
+    fn deserialize(alloc: Global, node: Node<'_, 'de>) -> Result<KeyName2, Error> {
+        read_record!(alloc, node, KeyName2 {
+            width_group_path_max_12 = needed("WIDTH_GROUP_PATH_MAX_12"),
+            limit = needed("LIMIT"),
+            host_12 = or("HOST_12", 0),
+            limit_level_12 = maybe("LIMIT_LEVEL_12"),
+            name_max_name = maybe("NAME_MAX_NAME"),
+            path_size_key_level = maybe("PATH_SIZE_KEY_LEVEL"),
+            log_group = or("LOG_GROUP", 127),
+            size_rate_color_host_12 = maybe("SIZE_RATE_COLOR_HOST_12"),
+            key_tab_user_key = needed("KEY_TAB_USER_KEY"),
+            tab_12 = needed("TAB_12"),
+            port_retry_width_cache = needed("PORT_RETRY_WIDTH_CACHE"),
+            color_tab_host_port_12 = maybe("COLOR_TAB_HOST_PORT_12"),
         })
     }
 
-    fn from_tree(alloc: Global, tree: Tree<'de>) -> Result<IndexLevel2, Error> {
-        IndexLevel2::deserialize(alloc, tree.root())
+    fn from_tree(alloc: Global, tree: Tree<'de>) -> Result<KeyName2, Error> {
+        KeyName2::deserialize(alloc, tree.root())
     }
 }
 
-impl Serialize for IndexLevel2 {
-    ghost calls = { record_calls ⟦<IndexLevel2 as RoundTrip>⟧.fields };
+impl Serialize for KeyName2 {
+    ghost calls = { record_calls ⟦<KeyName2 as RoundTrip>⟧.fields };
 
-    ghost holds = { record_holds ⟦<IndexLevel2 as RoundTrip>⟧.fields };
+    ghost holds = { record_holds ⟦<KeyName2 as RoundTrip>⟧.fields };
 
     fn serialize(&self, _alloc: Global, ser: &mut Serializer) -> Result<(), WriteError> {
-        write_record!(ser, self, IndexLevel2 {
-            level = "level",
-            path_max_host = "path-max-host",
-            max_2 = "MAX_2",
-            group_cache = "GROUP_CACHE",
-            rate = "RATE",
-            port_width = "PORT_WIDTH",
-            host_6 = "HOST_6",
-            tab_width_7 = "TAB_WIDTH_7",
-            key = "KEY",
-            port = "PORT",
-            log_limit_10 = "LOG_LIMIT_10",
-            host = "HOST",
+        write_record!(ser, self, KeyName2 {
+            width_group_path_max_12 = "WIDTH_GROUP_PATH_MAX_12",
+            limit = "LIMIT",
+            host_12 = "HOST_12",
+            limit_level_12 = "LIMIT_LEVEL_12",
+            name_max_name = "NAME_MAX_NAME",
+            path_size_key_level = "PATH_SIZE_KEY_LEVEL",
+            log_group = "LOG_GROUP",
+            size_rate_color_host_12 = "SIZE_RATE_COLOR_HOST_12",
+            key_tab_user_key = "KEY_TAB_USER_KEY",
+            tab_12 = "TAB_12",
+            port_retry_width_cache = "PORT_RETRY_WIDTH_CACHE",
+            color_tab_host_port_12 = "COLOR_TAB_HOST_PORT_12",
         })
     }
 }
 
-impl<'de> Returns<'de> for IndexLevel2 {
-    ghost read_back = { record_back ⟦<IndexLevel2 as RoundTrip>⟧.fields (λ s. refl) };
+impl<'de> Returns<'de> for KeyName2 {
+    ghost read_back = { record_back ⟦<KeyName2 as RoundTrip>⟧.fields (λ s. refl) };
 
-    ghost returns = { ⟦<IndexLevel2 as Returns<'static>>⟧.read_back.returns };
+    ghost returns = { ⟦<KeyName2 as Returns<'static>>⟧.read_back.returns };
 }
 
-impl<'de> Root<'de> for IndexLevel2 {
-    fn from_text(alloc: Global, text: &str) -> Result<IndexLevel2, Error> {
+impl<'de> Root<'de> for KeyName2 {
+    fn from_text(alloc: Global, text: &str) -> Result<KeyName2, Error> {
         from_str(alloc, text)
     }
 }

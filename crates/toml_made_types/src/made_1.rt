@@ -1,9 +1,9 @@
 //! Types that were made at random.
 
-ghost use Rattle.std.specs.Prelude.{◌∷◌, [], codes, false, pos, refl, true};
+ghost use Rattle.std.specs.Prelude.{◌∷◌, [], codes, negsuc, pos, refl};
 ghost use Rattle.basic_toml.specs.Records.{record_faults, record_reads};
 ghost use Rattle.basic_toml_returns.proofs.RecordsReturn.{record_back};
-ghost use Rattle.basic_toml_returns.specs.RoundTrips.{as_read, done, maybe, needed, or, or_text, record_calls, record_holds, strict};
+ghost use Rattle.basic_toml_returns.specs.RoundTrips.{as_read, done, maybe, needed, or, or_empty, record_calls, record_holds, strict};
 ghost use Rattle.basic_toml_returns.specs.Variants.{variant_back, variant_calls, variant_faults, variant_reads};
 
 use basic_toml::{
@@ -173,14 +173,14 @@ impl<'de> Returns<'de> for HostIndexOf4 {
 /// A record.
 #[derive(Debug, Drop)]
 pub struct RetryCache3 {
-    pub name_index_mode_0: Option<Vec<String>>,
-    pub mode_retry_1: bool,
+    pub name_index_mode_2: i64,
+    pub mode_max: BTreeMap<String, Float>,
 }
 
 impl RoundTrip for RetryCache3 {
     ghost fields = { strict
-        (maybe ⟦<Vec<String> as Returns<'static>>⟧ "NameIndexMode0" (λ s. s.name_index_mode_0)
-        (or ⟦<bool as Returns<'static>>⟧ "ModeRetry1" true (λ s. s.mode_retry_1)
+        (or ⟦<i64 as Returns<'static>>⟧ "NameIndexMode2" (negsuc 9223372036854775807) (λ s. s.name_index_mode_2)
+        (needed ⟦<BTreeMap<String, Float> as Returns<'static>>⟧ "ModeMax" (λ s. s.mode_max)
         done)) };
 }
 
@@ -195,8 +195,8 @@ impl<'de> Deserialize<'de> for RetryCache3 {
 
     fn deserialize(alloc: Global, node: Node<'_, 'de>) -> Result<RetryCache3, Error> {
         read_record!(alloc, node, only RetryCache3 {
-            name_index_mode_0 = maybe("NameIndexMode0"),
-            mode_retry_1 = or("ModeRetry1", true),
+            name_index_mode_2 = or("NameIndexMode2", -9223372036854775808),
+            mode_max = needed("ModeMax"),
         })
     }
 
@@ -212,8 +212,8 @@ impl Serialize for RetryCache3 {
 
     fn serialize(&self, _alloc: Global, ser: &mut Serializer) -> Result<(), WriteError> {
         write_record!(ser, self, RetryCache3 {
-            name_index_mode_0 = "NameIndexMode0",
-            mode_retry_1 = "ModeRetry1",
+            name_index_mode_2 = "NameIndexMode2",
+            mode_max = "ModeMax",
         })
     }
 }
@@ -232,191 +232,190 @@ impl<'de> Root<'de> for RetryCache3 {
 
 /// A record.
 #[derive(Debug, Drop)]
-pub struct PathColor4 {
-    pub width_key_index: i64,
-    pub retry: Option<i8>,
-    pub mode_color_2: Option<bool>,
-    pub level: HostIndexOf4,
-    pub mode_cache_4: u64,
-    pub cache_key_host: Option<RateWidthOf3>,
-    pub index_tab_host: u32,
-    pub color_width_7: HostIndexOf4,
+pub struct KeyIndex4 {
+    pub retry: u16,
+    pub cache_key_host: Option<String>,
+    pub name_color: Vec<bool>,
+    pub max_size_limit: Option<u32>,
+    pub size_user_8: Option<String>,
+    pub size_limit_8: u64,
+    pub color_max_mode_index_8: i16,
+    pub user_8: u64,
 }
 
-impl RoundTrip for PathColor4 {
-    ghost fields = { strict
-        (or ⟦<i64 as Returns<'static>>⟧ "width_key_index" (pos 9223372036854775807) (λ s. s.width_key_index)
-        (maybe ⟦<i8 as Returns<'static>>⟧ "retry" (λ s. s.retry)
-        (maybe ⟦<bool as Returns<'static>>⟧ "mode_color_2" (λ s. s.mode_color_2)
-        (needed ⟦<HostIndexOf4 as Returns<'static>>⟧ "level" (λ s. s.level)
-        (needed ⟦<u64 as Returns<'static>>⟧ "mode_cache_4" (λ s. s.mode_cache_4)
-        (maybe ⟦<RateWidthOf3 as Returns<'static>>⟧ "the cache-key-host" (λ s. s.cache_key_host)
-        (needed ⟦<u32 as Returns<'static>>⟧ "index_tab_host" (λ s. s.index_tab_host)
-        (needed ⟦<HostIndexOf4 as Returns<'static>>⟧ "color_width_7" (λ s. s.color_width_7)
-        done)))))))) };
+impl RoundTrip for KeyIndex4 {
+    ghost fields = { or ⟦<u16 as Returns<'static>>⟧ "RETRY" 0 (λ s. s.retry)
+        (maybe ⟦<String as Returns<'static>>⟧ "CACHE_KEY_HOST" (λ s. s.cache_key_host)
+        (or_empty ⟦<Vec<bool> as Returns<'static>>⟧ "the name color" (λ s. s.name_color)
+        (maybe ⟦<u32 as Returns<'static>>⟧ "MAX_SIZE_LIMIT" (λ s. s.max_size_limit)
+        (maybe ⟦<String as Returns<'static>>⟧ "SIZE_USER_8" (λ s. s.size_user_8)
+        (or ⟦<u64 as Returns<'static>>⟧ "SIZE_LIMIT_8" 0 (λ s. s.size_limit_8)
+        (needed ⟦<i16 as Returns<'static>>⟧ "COLOR_MAX_MODE_INDEX_8" (λ s. s.color_max_mode_index_8)
+        (or ⟦<u64 as Returns<'static>>⟧ "USER_8" 0 (λ s. s.user_8)
+        done))))))) };
 }
 
-impl Record for PathColor4 {
-    ghost fields = { as_read ⟦<PathColor4 as RoundTrip>⟧.fields };
+impl Record for KeyIndex4 {
+    ghost fields = { as_read ⟦<KeyIndex4 as RoundTrip>⟧.fields };
 }
 
-impl<'de> Deserialize<'de> for PathColor4 {
-    ghost reads = { record_reads ⟦<PathColor4 as Record>⟧.fields };
+impl<'de> Deserialize<'de> for KeyIndex4 {
+    ghost reads = { record_reads ⟦<KeyIndex4 as Record>⟧.fields };
 
-    ghost faults = { record_faults ⟦<PathColor4 as Record>⟧.fields };
+    ghost faults = { record_faults ⟦<KeyIndex4 as Record>⟧.fields };
 
-    fn deserialize(alloc: Global, node: Node<'_, 'de>) -> Result<PathColor4, Error> {
-        read_record!(alloc, node, only PathColor4 {
-            width_key_index = or("width_key_index", 9223372036854775807),
-            retry = maybe("retry"),
-            mode_color_2 = maybe("mode_color_2"),
-            level = needed("level"),
-            mode_cache_4 = needed("mode_cache_4"),
-            cache_key_host = maybe("the cache-key-host"),
-            index_tab_host = needed("index_tab_host"),
-            color_width_7 = needed("color_width_7"),
+    fn deserialize(alloc: Global, node: Node<'_, 'de>) -> Result<KeyIndex4, Error> {
+        read_record!(alloc, node, KeyIndex4 {
+            retry = or("RETRY", 0),
+            cache_key_host = maybe("CACHE_KEY_HOST"),
+            name_color = or_empty("the name color"),
+            max_size_limit = maybe("MAX_SIZE_LIMIT"),
+            size_user_8 = maybe("SIZE_USER_8"),
+            size_limit_8 = or("SIZE_LIMIT_8", 0),
+            color_max_mode_index_8 = needed("COLOR_MAX_MODE_INDEX_8"),
+            user_8 = or("USER_8", 0),
         })
     }
 
-    fn from_tree(alloc: Global, tree: Tree<'de>) -> Result<PathColor4, Error> {
-        PathColor4::deserialize(alloc, tree.root())
+    fn from_tree(alloc: Global, tree: Tree<'de>) -> Result<KeyIndex4, Error> {
+        KeyIndex4::deserialize(alloc, tree.root())
     }
 }
 
-impl Serialize for PathColor4 {
-    ghost calls = { record_calls ⟦<PathColor4 as RoundTrip>⟧.fields };
+impl Serialize for KeyIndex4 {
+    ghost calls = { record_calls ⟦<KeyIndex4 as RoundTrip>⟧.fields };
 
-    ghost holds = { record_holds ⟦<PathColor4 as RoundTrip>⟧.fields };
+    ghost holds = { record_holds ⟦<KeyIndex4 as RoundTrip>⟧.fields };
 
     fn serialize(&self, _alloc: Global, ser: &mut Serializer) -> Result<(), WriteError> {
-        write_record!(ser, self, PathColor4 {
-            width_key_index = "width_key_index",
-            retry = "retry",
-            mode_color_2 = "mode_color_2",
-            level = "level",
-            mode_cache_4 = "mode_cache_4",
-            cache_key_host = "the cache-key-host",
-            index_tab_host = "index_tab_host",
-            color_width_7 = "color_width_7",
+        write_record!(ser, self, KeyIndex4 {
+            retry = "RETRY",
+            cache_key_host = "CACHE_KEY_HOST",
+            name_color = "the name color",
+            max_size_limit = "MAX_SIZE_LIMIT",
+            size_user_8 = "SIZE_USER_8",
+            size_limit_8 = "SIZE_LIMIT_8",
+            color_max_mode_index_8 = "COLOR_MAX_MODE_INDEX_8",
+            user_8 = "USER_8",
         })
     }
 }
 
-impl<'de> Returns<'de> for PathColor4 {
-    ghost read_back = { record_back ⟦<PathColor4 as RoundTrip>⟧.fields (λ s. refl) };
+impl<'de> Returns<'de> for KeyIndex4 {
+    ghost read_back = { record_back ⟦<KeyIndex4 as RoundTrip>⟧.fields (λ s. refl) };
 
-    ghost returns = { ⟦<PathColor4 as Returns<'static>>⟧.read_back.returns };
+    ghost returns = { ⟦<KeyIndex4 as Returns<'static>>⟧.read_back.returns };
 }
 
-impl<'de> Root<'de> for PathColor4 {
-    fn from_text(alloc: Global, text: &str) -> Result<PathColor4, Error> {
+impl<'de> Root<'de> for KeyIndex4 {
+    fn from_text(alloc: Global, text: &str) -> Result<KeyIndex4, Error> {
         from_str(alloc, text)
     }
 }
 
 /// A record.
 #[derive(Debug, Drop)]
-pub struct GroupCache5 {
-    pub path_port_0: Option<u32>,
-    pub user: bool,
-    pub log_cache_width_2: BTreeMap<String, RetryCache3>,
-    pub color: u16,
-    pub width: Vec<Float>,
-    pub log_tab_mode_port_5: String,
-    pub limit_path_width: BTreeMap<String, bool>,
-    pub width_path_level_limit: i8,
-    pub user_mode_level_host_8: Option<BTreeMap<String, Vec<RateWidthOf3>>>,
-    pub user_host_log_path: i8,
-    pub group_cache_10: bool,
-    pub retry: i16,
-    pub color_level_color_12: i64,
-    pub name_13: Option<u64>,
+pub struct WidthIndex5 {
+    pub retry_14: i8,
+    pub mode_level_host_14: Option<Float>,
+    pub group_cache_14: i8,
+    pub color_max_name_port_14: BTreeMap<String, u32>,
+    pub key_group_group_14: u8,
+    pub width_color: Option<Vec<String>>,
+    pub group_limit: Vec<Float>,
+    pub user_width_color: Option<HostIndexOf4>,
+    pub name_14: Option<BTreeMap<String, Vec<i32>>>,
+    pub limit_cache: Float,
+    pub group_limit_path_group_14: i16,
+    pub group: BTreeMap<String, HostIndexOf4>,
+    pub key_size_log_color_14: Option<u64>,
+    pub name_width_group_max_14: Option<Vec<bool>>,
 }
 
-impl RoundTrip for GroupCache5 {
-    ghost fields = { maybe ⟦<u32 as Returns<'static>>⟧ "path_port_0" (λ s. s.path_port_0)
-        (needed ⟦<bool as Returns<'static>>⟧ "user" (λ s. s.user)
-        (needed ⟦<BTreeMap<String, RetryCache3> as Returns<'static>>⟧ "log_cache_width_2" (λ s. s.log_cache_width_2)
-        (needed ⟦<u16 as Returns<'static>>⟧ "color" (λ s. s.color)
-        (needed ⟦<Vec<Float> as Returns<'static>>⟧ "width" (λ s. s.width)
-        (or_text ⟦<String as Returns<'static>>⟧ "log_tab_mode_port_5" "" (λ s. s.log_tab_mode_port_5)
-        (needed ⟦<BTreeMap<String, bool> as Returns<'static>>⟧ "x-limit-path-width" (λ s. s.limit_path_width)
-        (needed ⟦<i8 as Returns<'static>>⟧ "width_path_level_limit" (λ s. s.width_path_level_limit)
-        (maybe ⟦<BTreeMap<String, Vec<RateWidthOf3>> as Returns<'static>>⟧ "user_mode_level_host_8" (λ s. s.user_mode_level_host_8)
-        (needed ⟦<i8 as Returns<'static>>⟧ "user_host_log_path" (λ s. s.user_host_log_path)
-        (or ⟦<bool as Returns<'static>>⟧ "group_cache_10" false (λ s. s.group_cache_10)
-        (or ⟦<i16 as Returns<'static>>⟧ "retry" (pos 32767) (λ s. s.retry)
-        (or ⟦<i64 as Returns<'static>>⟧ "color_level_color_12" (pos 9223372036854775807) (λ s. s.color_level_color_12)
-        (maybe ⟦<u64 as Returns<'static>>⟧ "name-13" (λ s. s.name_13)
+impl RoundTrip for WidthIndex5 {
+    ghost fields = { or ⟦<i8 as Returns<'static>>⟧ "Retry14" (negsuc 74) (λ s. s.retry_14)
+        (maybe ⟦<Float as Returns<'static>>⟧ "ModeLevelHost14" (λ s. s.mode_level_host_14)
+        (needed ⟦<i8 as Returns<'static>>⟧ "GroupCache14" (λ s. s.group_cache_14)
+        (needed ⟦<BTreeMap<String, u32> as Returns<'static>>⟧ "ColorMaxNamePort14" (λ s. s.color_max_name_port_14)
+        (needed ⟦<u8 as Returns<'static>>⟧ "KeyGroupGroup14" (λ s. s.key_group_group_14)
+        (maybe ⟦<Vec<String> as Returns<'static>>⟧ "WidthColor" (λ s. s.width_color)
+        (needed ⟦<Vec<Float> as Returns<'static>>⟧ "GroupLimit" (λ s. s.group_limit)
+        (maybe ⟦<HostIndexOf4 as Returns<'static>>⟧ "user-width-color" (λ s. s.user_width_color)
+        (maybe ⟦<BTreeMap<String, Vec<i32>> as Returns<'static>>⟧ "Name14" (λ s. s.name_14)
+        (needed ⟦<Float as Returns<'static>>⟧ "LimitCache" (λ s. s.limit_cache)
+        (or ⟦<i16 as Returns<'static>>⟧ "GroupLimitPathGroup14" (pos 32767) (λ s. s.group_limit_path_group_14)
+        (needed ⟦<BTreeMap<String, HostIndexOf4> as Returns<'static>>⟧ "Group" (λ s. s.group)
+        (maybe ⟦<u64 as Returns<'static>>⟧ "KeySizeLogColor14" (λ s. s.key_size_log_color_14)
+        (maybe ⟦<Vec<bool> as Returns<'static>>⟧ "NameWidthGroupMax14" (λ s. s.name_width_group_max_14)
         done))))))))))))) };
 }
 
-impl Record for GroupCache5 {
-    ghost fields = { as_read ⟦<GroupCache5 as RoundTrip>⟧.fields };
+impl Record for WidthIndex5 {
+    ghost fields = { as_read ⟦<WidthIndex5 as RoundTrip>⟧.fields };
 }
 
-impl<'de> Deserialize<'de> for GroupCache5 {
-    ghost reads = { record_reads ⟦<GroupCache5 as Record>⟧.fields };
+impl<'de> Deserialize<'de> for WidthIndex5 {
+    ghost reads = { record_reads ⟦<WidthIndex5 as Record>⟧.fields };
 
-    ghost faults = { record_faults ⟦<GroupCache5 as Record>⟧.fields };
+    ghost faults = { record_faults ⟦<WidthIndex5 as Record>⟧.fields };
 
-    fn deserialize(alloc: Global, node: Node<'_, 'de>) -> Result<GroupCache5, Error> {
-        read_record!(alloc, node, GroupCache5 {
-            path_port_0 = maybe("path_port_0"),
-            user = needed("user"),
-            log_cache_width_2 = needed("log_cache_width_2"),
-            color = needed("color"),
-            width = needed("width"),
-            log_tab_mode_port_5 = or_text("log_tab_mode_port_5", ""),
-            limit_path_width = needed("x-limit-path-width"),
-            width_path_level_limit = needed("width_path_level_limit"),
-            user_mode_level_host_8 = maybe("user_mode_level_host_8"),
-            user_host_log_path = needed("user_host_log_path"),
-            group_cache_10 = or("group_cache_10", false),
-            retry = or("retry", 32767),
-            color_level_color_12 = or("color_level_color_12", 9223372036854775807),
-            name_13 = maybe("name-13"),
+    fn deserialize(alloc: Global, node: Node<'_, 'de>) -> Result<WidthIndex5, Error> {
+        read_record!(alloc, node, WidthIndex5 {
+            retry_14 = or("Retry14", -75),
+            mode_level_host_14 = maybe("ModeLevelHost14"),
+            group_cache_14 = needed("GroupCache14"),
+            color_max_name_port_14 = needed("ColorMaxNamePort14"),
+            key_group_group_14 = needed("KeyGroupGroup14"),
+            width_color = maybe("WidthColor"),
+            group_limit = needed("GroupLimit"),
+            user_width_color = maybe("user-width-color"),
+            name_14 = maybe("Name14"),
+            limit_cache = needed("LimitCache"),
+            group_limit_path_group_14 = or("GroupLimitPathGroup14", 32767),
+            group = needed("Group"),
+            key_size_log_color_14 = maybe("KeySizeLogColor14"),
+            name_width_group_max_14 = maybe("NameWidthGroupMax14"),
         })
     }
 
-    fn from_tree(alloc: Global, tree: Tree<'de>) -> Result<GroupCache5, Error> {
-        GroupCache5::deserialize(alloc, tree.root())
+    fn from_tree(alloc: Global, tree: Tree<'de>) -> Result<WidthIndex5, Error> {
+        WidthIndex5::deserialize(alloc, tree.root())
     }
 }
 
-impl Serialize for GroupCache5 {
-    ghost calls = { record_calls ⟦<GroupCache5 as RoundTrip>⟧.fields };
+impl Serialize for WidthIndex5 {
+    ghost calls = { record_calls ⟦<WidthIndex5 as RoundTrip>⟧.fields };
 
-    ghost holds = { record_holds ⟦<GroupCache5 as RoundTrip>⟧.fields };
+    ghost holds = { record_holds ⟦<WidthIndex5 as RoundTrip>⟧.fields };
 
     fn serialize(&self, _alloc: Global, ser: &mut Serializer) -> Result<(), WriteError> {
-        write_record!(ser, self, GroupCache5 {
-            path_port_0 = "path_port_0",
-            user = "user",
-            log_cache_width_2 = "log_cache_width_2",
-            color = "color",
-            width = "width",
-            log_tab_mode_port_5 = "log_tab_mode_port_5",
-            limit_path_width = "x-limit-path-width",
-            width_path_level_limit = "width_path_level_limit",
-            user_mode_level_host_8 = "user_mode_level_host_8",
-            user_host_log_path = "user_host_log_path",
-            group_cache_10 = "group_cache_10",
-            retry = "retry",
-            color_level_color_12 = "color_level_color_12",
-            name_13 = "name-13",
+        write_record!(ser, self, WidthIndex5 {
+            retry_14 = "Retry14",
+            mode_level_host_14 = "ModeLevelHost14",
+            group_cache_14 = "GroupCache14",
+            color_max_name_port_14 = "ColorMaxNamePort14",
+            key_group_group_14 = "KeyGroupGroup14",
+            width_color = "WidthColor",
+            group_limit = "GroupLimit",
+            user_width_color = "user-width-color",
+            name_14 = "Name14",
+            limit_cache = "LimitCache",
+            group_limit_path_group_14 = "GroupLimitPathGroup14",
+            group = "Group",
+            key_size_log_color_14 = "KeySizeLogColor14",
+            name_width_group_max_14 = "NameWidthGroupMax14",
         })
     }
 }
 
-impl<'de> Returns<'de> for GroupCache5 {
-    ghost read_back = { record_back ⟦<GroupCache5 as RoundTrip>⟧.fields (λ s. refl) };
+impl<'de> Returns<'de> for WidthIndex5 {
+    ghost read_back = { record_back ⟦<WidthIndex5 as RoundTrip>⟧.fields (λ s. refl) };
 
-    ghost returns = { ⟦<GroupCache5 as Returns<'static>>⟧.read_back.returns };
+    ghost returns = { ⟦<WidthIndex5 as Returns<'static>>⟧.read_back.returns };
 }
 
-impl<'de> Root<'de> for GroupCache5 {
-    fn from_text(alloc: Global, text: &str) -> Result<GroupCache5, Error> {
+impl<'de> Root<'de> for WidthIndex5 {
+    fn from_text(alloc: Global, text: &str) -> Result<WidthIndex5, Error> {
         from_str(alloc, text)
     }
 }

@@ -1,13 +1,13 @@
 //! Types that were made at random.
 
-ghost use Rattle.std.specs.Prelude.{◌∷◌, [], codes, pos, refl};
+ghost use Rattle.std.specs.Prelude.{◌∷◌, [], codes, false, pos, refl};
 ghost use Rattle.basic_toml.specs.Records.{record_faults, record_reads};
 ghost use Rattle.basic_toml_returns.proofs.RecordsReturn.{record_back};
 ghost use Rattle.basic_toml_returns.specs.RoundTrips.{as_read, done, maybe, needed, or, record_calls, record_holds};
 ghost use Rattle.basic_toml_returns.specs.Variants.{variant_back, variant_calls, variant_faults, variant_reads};
 
 use basic_toml::{
-    Deserialize, Error, Float, Node, Record, Serialize, Serializer, Tree, WriteError, from_str,
+    Deserialize, Error, Node, Record, Serialize, Serializer, Tree, WriteError, from_str,
 };
 use basic_toml_returns::{
     Choice, Returns, Root, RoundTrip, read_variant, write_record, write_variant,
@@ -145,15 +145,15 @@ impl<'de> Returns<'de> for ModeKeyOf7 {
 /// A record.
 #[derive(Debug, Drop)]
 pub struct ModeColor6 {
-    pub cache_mode_key_width_0: u32,
-    pub log_retry_index_mode_1: BTreeMap<String, Vec<PortNameOf6>>,
-    pub level_mode_mode: Float,
+    pub cache_mode_key_width_3: Option<PortNameOf6>,
+    pub mode_max_level_size: bool,
+    pub level_max_group_log: bool,
 }
 
 impl RoundTrip for ModeColor6 {
-    ghost fields = { or ⟦<u32 as Returns<'static>>⟧ "CacheModeKeyWidth0" 0 (λ s. s.cache_mode_key_width_0)
-        (needed ⟦<BTreeMap<String, Vec<PortNameOf6>> as Returns<'static>>⟧ "LogRetryIndexMode1" (λ s. s.log_retry_index_mode_1)
-        (needed ⟦<Float as Returns<'static>>⟧ "LevelModeMode" (λ s. s.level_mode_mode)
+    ghost fields = { maybe ⟦<PortNameOf6 as Returns<'static>>⟧ "CacheModeKeyWidth3" (λ s. s.cache_mode_key_width_3)
+        (or ⟦<bool as Returns<'static>>⟧ "ModeMaxLevelSize" false (λ s. s.mode_max_level_size)
+        (needed ⟦<bool as Returns<'static>>⟧ "LevelMaxGroupLog" (λ s. s.level_max_group_log)
         done)) };
 }
 
@@ -168,9 +168,9 @@ impl<'de> Deserialize<'de> for ModeColor6 {
 
     fn deserialize(alloc: Global, node: Node<'_, 'de>) -> Result<ModeColor6, Error> {
         read_record!(alloc, node, ModeColor6 {
-            cache_mode_key_width_0 = or("CacheModeKeyWidth0", 0),
-            log_retry_index_mode_1 = needed("LogRetryIndexMode1"),
-            level_mode_mode = needed("LevelModeMode"),
+            cache_mode_key_width_3 = maybe("CacheModeKeyWidth3"),
+            mode_max_level_size = or("ModeMaxLevelSize", false),
+            level_max_group_log = needed("LevelMaxGroupLog"),
         })
     }
 
@@ -186,9 +186,9 @@ impl Serialize for ModeColor6 {
 
     fn serialize(&self, _alloc: Global, ser: &mut Serializer) -> Result<(), WriteError> {
         write_record!(ser, self, ModeColor6 {
-            cache_mode_key_width_0 = "CacheModeKeyWidth0",
-            log_retry_index_mode_1 = "LogRetryIndexMode1",
-            level_mode_mode = "LevelModeMode",
+            cache_mode_key_width_3 = "CacheModeKeyWidth3",
+            mode_max_level_size = "ModeMaxLevelSize",
+            level_max_group_log = "LevelMaxGroupLog",
         })
     }
 }
@@ -207,103 +207,103 @@ impl<'de> Root<'de> for ModeColor6 {
 
 /// A record.
 #[derive(Debug, Drop)]
-pub struct WidthCache7 {
-    pub mode_key_tab_name: i16,
-    pub host_path_limit_1: Option<u16>,
-    pub size: Vec<i8>,
-    pub mode_3: Float,
-    pub max_path_port_4: bool,
-    pub port_5: Option<Vec<bool>>,
-    pub max_host_6: Option<i32>,
-    pub host_7: u8,
-    pub key_8: BTreeMap<String, Vec<i16>>,
-    pub log_mode: Vec<i8>,
-    pub width_port_max_rate: ModeKeyOf7,
-    pub key: u64,
-    pub user_12: i32,
+pub struct ModeColor7 {
+    pub user_path_level_mode_13: i64,
+    pub mode_13: Option<bool>,
+    pub port_13: Option<u32>,
+    pub key_13: u32,
+    pub rate_port_13: i8,
+    pub size: Option<u16>,
+    pub host_13: u16,
+    pub host_color_rate_port_13: BTreeMap<String, u16>,
+    pub max_13: Option<Vec<ModeKeyOf7>>,
+    pub size_cache_size: BTreeMap<String, Vec<i16>>,
+    pub path_path_cache_cache: i32,
+    pub key_host_mode_limit: bool,
+    pub limit_limit_user_path: Option<i16>,
 }
 
-impl RoundTrip for WidthCache7 {
-    ghost fields = { or ⟦<i16 as Returns<'static>>⟧ "MODE_KEY_TAB_NAME" (pos 1827) (λ s. s.mode_key_tab_name)
-        (maybe ⟦<u16 as Returns<'static>>⟧ "HOST_PATH_LIMIT_1" (λ s. s.host_path_limit_1)
-        (needed ⟦<Vec<i8> as Returns<'static>>⟧ "SIZE" (λ s. s.size)
-        (needed ⟦<Float as Returns<'static>>⟧ "MODE_3" (λ s. s.mode_3)
-        (needed ⟦<bool as Returns<'static>>⟧ "x-max-path-port-4" (λ s. s.max_path_port_4)
-        (maybe ⟦<Vec<bool> as Returns<'static>>⟧ "x-port-5" (λ s. s.port_5)
-        (maybe ⟦<i32 as Returns<'static>>⟧ "MAX_HOST_6" (λ s. s.max_host_6)
-        (or ⟦<u8 as Returns<'static>>⟧ "HOST_7" 255 (λ s. s.host_7)
-        (needed ⟦<BTreeMap<String, Vec<i16>> as Returns<'static>>⟧ "x-key-8" (λ s. s.key_8)
-        (needed ⟦<Vec<i8> as Returns<'static>>⟧ "the log.mode" (λ s. s.log_mode)
-        (needed ⟦<ModeKeyOf7 as Returns<'static>>⟧ "WIDTH_PORT_MAX_RATE" (λ s. s.width_port_max_rate)
-        (needed ⟦<u64 as Returns<'static>>⟧ "KEY" (λ s. s.key)
-        (needed ⟦<i32 as Returns<'static>>⟧ "USER_12" (λ s. s.user_12)
+impl RoundTrip for ModeColor7 {
+    ghost fields = { or ⟦<i64 as Returns<'static>>⟧ "the user.path.level.mode.13" (pos 9223372036854775807) (λ s. s.user_path_level_mode_13)
+        (maybe ⟦<bool as Returns<'static>>⟧ "mode_13" (λ s. s.mode_13)
+        (maybe ⟦<u32 as Returns<'static>>⟧ "the port-13" (λ s. s.port_13)
+        (needed ⟦<u32 as Returns<'static>>⟧ "x-key-13" (λ s. s.key_13)
+        (needed ⟦<i8 as Returns<'static>>⟧ "rate_port_13" (λ s. s.rate_port_13)
+        (maybe ⟦<u16 as Returns<'static>>⟧ "size" (λ s. s.size)
+        (or ⟦<u16 as Returns<'static>>⟧ "host_13" 65535 (λ s. s.host_13)
+        (needed ⟦<BTreeMap<String, u16> as Returns<'static>>⟧ "host_color_rate_port_13" (λ s. s.host_color_rate_port_13)
+        (maybe ⟦<Vec<ModeKeyOf7> as Returns<'static>>⟧ "max_13" (λ s. s.max_13)
+        (needed ⟦<BTreeMap<String, Vec<i16>> as Returns<'static>>⟧ "x-size-cache-size" (λ s. s.size_cache_size)
+        (needed ⟦<i32 as Returns<'static>>⟧ "path_path_cache_cache" (λ s. s.path_path_cache_cache)
+        (needed ⟦<bool as Returns<'static>>⟧ "key_host_mode_limit" (λ s. s.key_host_mode_limit)
+        (maybe ⟦<i16 as Returns<'static>>⟧ "limit_limit_user_path" (λ s. s.limit_limit_user_path)
         done)))))))))))) };
 }
 
-impl Record for WidthCache7 {
-    ghost fields = { as_read ⟦<WidthCache7 as RoundTrip>⟧.fields };
+impl Record for ModeColor7 {
+    ghost fields = { as_read ⟦<ModeColor7 as RoundTrip>⟧.fields };
 }
 
-impl<'de> Deserialize<'de> for WidthCache7 {
-    ghost reads = { record_reads ⟦<WidthCache7 as Record>⟧.fields };
+impl<'de> Deserialize<'de> for ModeColor7 {
+    ghost reads = { record_reads ⟦<ModeColor7 as Record>⟧.fields };
 
-    ghost faults = { record_faults ⟦<WidthCache7 as Record>⟧.fields };
+    ghost faults = { record_faults ⟦<ModeColor7 as Record>⟧.fields };
 
-    fn deserialize(alloc: Global, node: Node<'_, 'de>) -> Result<WidthCache7, Error> {
-        read_record!(alloc, node, WidthCache7 {
-            mode_key_tab_name = or("MODE_KEY_TAB_NAME", 1827),
-            host_path_limit_1 = maybe("HOST_PATH_LIMIT_1"),
-            size = needed("SIZE"),
-            mode_3 = needed("MODE_3"),
-            max_path_port_4 = needed("x-max-path-port-4"),
-            port_5 = maybe("x-port-5"),
-            max_host_6 = maybe("MAX_HOST_6"),
-            host_7 = or("HOST_7", 255),
-            key_8 = needed("x-key-8"),
-            log_mode = needed("the log.mode"),
-            width_port_max_rate = needed("WIDTH_PORT_MAX_RATE"),
-            key = needed("KEY"),
-            user_12 = needed("USER_12"),
+    fn deserialize(alloc: Global, node: Node<'_, 'de>) -> Result<ModeColor7, Error> {
+        read_record!(alloc, node, ModeColor7 {
+            user_path_level_mode_13 = or("the user.path.level.mode.13", 9223372036854775807),
+            mode_13 = maybe("mode_13"),
+            port_13 = maybe("the port-13"),
+            key_13 = needed("x-key-13"),
+            rate_port_13 = needed("rate_port_13"),
+            size = maybe("size"),
+            host_13 = or("host_13", 65535),
+            host_color_rate_port_13 = needed("host_color_rate_port_13"),
+            max_13 = maybe("max_13"),
+            size_cache_size = needed("x-size-cache-size"),
+            path_path_cache_cache = needed("path_path_cache_cache"),
+            key_host_mode_limit = needed("key_host_mode_limit"),
+            limit_limit_user_path = maybe("limit_limit_user_path"),
         })
     }
 
-    fn from_tree(alloc: Global, tree: Tree<'de>) -> Result<WidthCache7, Error> {
-        WidthCache7::deserialize(alloc, tree.root())
+    fn from_tree(alloc: Global, tree: Tree<'de>) -> Result<ModeColor7, Error> {
+        ModeColor7::deserialize(alloc, tree.root())
     }
 }
 
-impl Serialize for WidthCache7 {
-    ghost calls = { record_calls ⟦<WidthCache7 as RoundTrip>⟧.fields };
+impl Serialize for ModeColor7 {
+    ghost calls = { record_calls ⟦<ModeColor7 as RoundTrip>⟧.fields };
 
-    ghost holds = { record_holds ⟦<WidthCache7 as RoundTrip>⟧.fields };
+    ghost holds = { record_holds ⟦<ModeColor7 as RoundTrip>⟧.fields };
 
     fn serialize(&self, _alloc: Global, ser: &mut Serializer) -> Result<(), WriteError> {
-        write_record!(ser, self, WidthCache7 {
-            mode_key_tab_name = "MODE_KEY_TAB_NAME",
-            host_path_limit_1 = "HOST_PATH_LIMIT_1",
-            size = "SIZE",
-            mode_3 = "MODE_3",
-            max_path_port_4 = "x-max-path-port-4",
-            port_5 = "x-port-5",
-            max_host_6 = "MAX_HOST_6",
-            host_7 = "HOST_7",
-            key_8 = "x-key-8",
-            log_mode = "the log.mode",
-            width_port_max_rate = "WIDTH_PORT_MAX_RATE",
-            key = "KEY",
-            user_12 = "USER_12",
+        write_record!(ser, self, ModeColor7 {
+            user_path_level_mode_13 = "the user.path.level.mode.13",
+            mode_13 = "mode_13",
+            port_13 = "the port-13",
+            key_13 = "x-key-13",
+            rate_port_13 = "rate_port_13",
+            size = "size",
+            host_13 = "host_13",
+            host_color_rate_port_13 = "host_color_rate_port_13",
+            max_13 = "max_13",
+            size_cache_size = "x-size-cache-size",
+            path_path_cache_cache = "path_path_cache_cache",
+            key_host_mode_limit = "key_host_mode_limit",
+            limit_limit_user_path = "limit_limit_user_path",
         })
     }
 }
 
-impl<'de> Returns<'de> for WidthCache7 {
-    ghost read_back = { record_back ⟦<WidthCache7 as RoundTrip>⟧.fields (λ s. refl) };
+impl<'de> Returns<'de> for ModeColor7 {
+    ghost read_back = { record_back ⟦<ModeColor7 as RoundTrip>⟧.fields (λ s. refl) };
 
-    ghost returns = { ⟦<WidthCache7 as Returns<'static>>⟧.read_back.returns };
+    ghost returns = { ⟦<ModeColor7 as Returns<'static>>⟧.read_back.returns };
 }
 
-impl<'de> Root<'de> for WidthCache7 {
-    fn from_text(alloc: Global, text: &str) -> Result<WidthCache7, Error> {
+impl<'de> Root<'de> for ModeColor7 {
+    fn from_text(alloc: Global, text: &str) -> Result<ModeColor7, Error> {
         from_str(alloc, text)
     }
 }

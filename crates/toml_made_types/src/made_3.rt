@@ -1,9 +1,9 @@
 //! Types that were made at random.
 
-ghost use Rattle.std.specs.Prelude.{◌∷◌, [], codes, false, pos, refl};
+ghost use Rattle.std.specs.Prelude.{◌∷◌, [], codes, false, negsuc, pos, refl};
 ghost use Rattle.basic_toml.specs.Records.{record_faults, record_reads};
 ghost use Rattle.basic_toml_returns.proofs.RecordsReturn.{record_back};
-ghost use Rattle.basic_toml_returns.specs.RoundTrips.{as_read, done, maybe, needed, or, or_empty, or_text, record_calls, record_holds, strict};
+ghost use Rattle.basic_toml_returns.specs.RoundTrips.{as_read, done, maybe, needed, or, or_empty, record_calls, record_holds};
 ghost use Rattle.basic_toml_returns.specs.Variants.{variant_back, variant_calls, variant_faults, variant_reads};
 
 use basic_toml::{
@@ -123,17 +123,17 @@ impl<'de> Returns<'de> for LevelSizeOf10 {
 /// A record.
 #[derive(Debug, Drop)]
 pub struct RateMode9 {
-    pub log: Vec<i32>,
-    pub user: Float,
-    pub level_tab_retry: u32,
-    pub retry_width_index_rate: Option<LevelSizeOf10>,
+    pub log: Vec<bool>,
+    pub cache_retry_width_index: Option<i64>,
+    pub user_cache_mode_retry: bool,
+    pub size: String,
 }
 
 impl RoundTrip for RateMode9 {
-    ghost fields = { needed ⟦<Vec<i32> as Returns<'static>>⟧ "log" (λ s. s.log)
-        (needed ⟦<Float as Returns<'static>>⟧ "user" (λ s. s.user)
-        (or ⟦<u32 as Returns<'static>>⟧ "levelTabRetry" 4294967295 (λ s. s.level_tab_retry)
-        (maybe ⟦<LevelSizeOf10 as Returns<'static>>⟧ "retryWidthIndexRate" (λ s. s.retry_width_index_rate)
+    ghost fields = { or_empty ⟦<Vec<bool> as Returns<'static>>⟧ "log" (λ s. s.log)
+        (maybe ⟦<i64 as Returns<'static>>⟧ "the cache retry width index" (λ s. s.cache_retry_width_index)
+        (needed ⟦<bool as Returns<'static>>⟧ "userCacheModeRetry" (λ s. s.user_cache_mode_retry)
+        (needed ⟦<String as Returns<'static>>⟧ "size" (λ s. s.size)
         done))) };
 }
 
@@ -148,10 +148,10 @@ impl<'de> Deserialize<'de> for RateMode9 {
 
     fn deserialize(alloc: Global, node: Node<'_, 'de>) -> Result<RateMode9, Error> {
         read_record!(alloc, node, RateMode9 {
-            log = needed("log"),
-            user = needed("user"),
-            level_tab_retry = or("levelTabRetry", 4294967295),
-            retry_width_index_rate = maybe("retryWidthIndexRate"),
+            log = or_empty("log"),
+            cache_retry_width_index = maybe("the cache retry width index"),
+            user_cache_mode_retry = needed("userCacheModeRetry"),
+            size = needed("size"),
         })
     }
 
@@ -168,9 +168,9 @@ impl Serialize for RateMode9 {
     fn serialize(&self, _alloc: Global, ser: &mut Serializer) -> Result<(), WriteError> {
         write_record!(ser, self, RateMode9 {
             log = "log",
-            user = "user",
-            level_tab_retry = "levelTabRetry",
-            retry_width_index_rate = "retryWidthIndexRate",
+            cache_retry_width_index = "the cache retry width index",
+            user_cache_mode_retry = "userCacheModeRetry",
+            size = "size",
         })
     }
 }
@@ -189,207 +189,222 @@ impl<'de> Root<'de> for RateMode9 {
 
 /// A record.
 #[derive(Debug, Drop)]
-pub struct WidthSize10 {
-    pub level_name_key_name_0: bool,
-    pub host_user_1: Vec<String>,
-    pub limit_port_tab_tab: Vec<u16>,
-    pub width_group_color_size: String,
-    pub user_4: i16,
-    pub tab: BTreeMap<String, String>,
-    pub cache_user: Option<bool>,
-    pub port_group_7: Option<u16>,
-    pub retry_retry_8: u32,
-    pub tab_color_limit_tab: u8,
+pub struct WidthWidth10 {
+    pub width_size_10: i64,
+    pub limit_port_tab_tab: Float,
+    pub port_user_10: Option<i8>,
+    pub rate_port_group_10: u16,
+    pub tab: bool,
+    pub host_cache_width_10: Float,
+    pub tab_size_level_10: Option<i32>,
+    pub width_tab_group_10: u32,
+    pub user_mode_10: Option<bool>,
+    pub tab_10: Option<String>,
 }
 
-impl RoundTrip for WidthSize10 {
-    ghost fields = { strict
-        (or ⟦<bool as Returns<'static>>⟧ "LEVEL_NAME_KEY_NAME_0" false (λ s. s.level_name_key_name_0)
-        (or_empty ⟦<Vec<String> as Returns<'static>>⟧ "HOST_USER_1" (λ s. s.host_user_1)
-        (needed ⟦<Vec<u16> as Returns<'static>>⟧ "LIMIT_PORT_TAB_TAB" (λ s. s.limit_port_tab_tab)
-        (needed ⟦<String as Returns<'static>>⟧ "WIDTH_GROUP_COLOR_SIZE" (λ s. s.width_group_color_size)
-        (needed ⟦<i16 as Returns<'static>>⟧ "USER_4" (λ s. s.user_4)
-        (needed ⟦<BTreeMap<String, String> as Returns<'static>>⟧ "TAB" (λ s. s.tab)
-        (maybe ⟦<bool as Returns<'static>>⟧ "CACHE_USER" (λ s. s.cache_user)
-        (maybe ⟦<u16 as Returns<'static>>⟧ "PORT_GROUP_7" (λ s. s.port_group_7)
-        (needed ⟦<u32 as Returns<'static>>⟧ "x-retry retry 8" (λ s. s.retry_retry_8)
-        (or ⟦<u8 as Returns<'static>>⟧ "TAB_COLOR_LIMIT_TAB" 111 (λ s. s.tab_color_limit_tab)
-        done)))))))))) };
+impl RoundTrip for WidthWidth10 {
+    ghost fields = { or ⟦<i64 as Returns<'static>>⟧ "width_size_10" (negsuc 8852124752587223216) (λ s. s.width_size_10)
+        (needed ⟦<Float as Returns<'static>>⟧ "limit_port_tab_tab" (λ s. s.limit_port_tab_tab)
+        (maybe ⟦<i8 as Returns<'static>>⟧ "port_user_10" (λ s. s.port_user_10)
+        (needed ⟦<u16 as Returns<'static>>⟧ "rate_port_group_10" (λ s. s.rate_port_group_10)
+        (or ⟦<bool as Returns<'static>>⟧ "tab" false (λ s. s.tab)
+        (needed ⟦<Float as Returns<'static>>⟧ "x-host cache width 10" (λ s. s.host_cache_width_10)
+        (maybe ⟦<i32 as Returns<'static>>⟧ "tab_size_level_10" (λ s. s.tab_size_level_10)
+        (or ⟦<u32 as Returns<'static>>⟧ "width_tab_group_10" 0 (λ s. s.width_tab_group_10)
+        (maybe ⟦<bool as Returns<'static>>⟧ "user_mode_10" (λ s. s.user_mode_10)
+        (maybe ⟦<String as Returns<'static>>⟧ "tab_10" (λ s. s.tab_10)
+        done))))))))) };
 }
 
-impl Record for WidthSize10 {
-    ghost fields = { as_read ⟦<WidthSize10 as RoundTrip>⟧.fields };
+impl Record for WidthWidth10 {
+    ghost fields = { as_read ⟦<WidthWidth10 as RoundTrip>⟧.fields };
 }
 
-impl<'de> Deserialize<'de> for WidthSize10 {
-    ghost reads = { record_reads ⟦<WidthSize10 as Record>⟧.fields };
+impl<'de> Deserialize<'de> for WidthWidth10 {
+    ghost reads = { record_reads ⟦<WidthWidth10 as Record>⟧.fields };
 
-    ghost faults = { record_faults ⟦<WidthSize10 as Record>⟧.fields };
+    ghost faults = { record_faults ⟦<WidthWidth10 as Record>⟧.fields };
 
-    fn deserialize(alloc: Global, node: Node<'_, 'de>) -> Result<WidthSize10, Error> {
-        read_record!(alloc, node, only WidthSize10 {
-            level_name_key_name_0 = or("LEVEL_NAME_KEY_NAME_0", false),
-            host_user_1 = or_empty("HOST_USER_1"),
-            limit_port_tab_tab = needed("LIMIT_PORT_TAB_TAB"),
-            width_group_color_size = needed("WIDTH_GROUP_COLOR_SIZE"),
-            user_4 = needed("USER_4"),
-            tab = needed("TAB"),
-            cache_user = maybe("CACHE_USER"),
-            port_group_7 = maybe("PORT_GROUP_7"),
-            retry_retry_8 = needed("x-retry retry 8"),
-            tab_color_limit_tab = or("TAB_COLOR_LIMIT_TAB", 111),
+    fn deserialize(alloc: Global, node: Node<'_, 'de>) -> Result<WidthWidth10, Error> {
+        read_record!(alloc, node, WidthWidth10 {
+            width_size_10 = or("width_size_10", -8852124752587223217),
+            limit_port_tab_tab = needed("limit_port_tab_tab"),
+            port_user_10 = maybe("port_user_10"),
+            rate_port_group_10 = needed("rate_port_group_10"),
+            tab = or("tab", false),
+            host_cache_width_10 = needed("x-host cache width 10"),
+            tab_size_level_10 = maybe("tab_size_level_10"),
+            width_tab_group_10 = or("width_tab_group_10", 0),
+            user_mode_10 = maybe("user_mode_10"),
+            tab_10 = maybe("tab_10"),
         })
     }
 
-    fn from_tree(alloc: Global, tree: Tree<'de>) -> Result<WidthSize10, Error> {
-        WidthSize10::deserialize(alloc, tree.root())
+    fn from_tree(alloc: Global, tree: Tree<'de>) -> Result<WidthWidth10, Error> {
+        WidthWidth10::deserialize(alloc, tree.root())
     }
 }
 
-impl Serialize for WidthSize10 {
-    ghost calls = { record_calls ⟦<WidthSize10 as RoundTrip>⟧.fields };
+impl Serialize for WidthWidth10 {
+    ghost calls = { record_calls ⟦<WidthWidth10 as RoundTrip>⟧.fields };
 
-    ghost holds = { record_holds ⟦<WidthSize10 as RoundTrip>⟧.fields };
+    ghost holds = { record_holds ⟦<WidthWidth10 as RoundTrip>⟧.fields };
 
     fn serialize(&self, _alloc: Global, ser: &mut Serializer) -> Result<(), WriteError> {
-        write_record!(ser, self, WidthSize10 {
-            level_name_key_name_0 = "LEVEL_NAME_KEY_NAME_0",
-            host_user_1 = "HOST_USER_1",
-            limit_port_tab_tab = "LIMIT_PORT_TAB_TAB",
-            width_group_color_size = "WIDTH_GROUP_COLOR_SIZE",
-            user_4 = "USER_4",
-            tab = "TAB",
-            cache_user = "CACHE_USER",
-            port_group_7 = "PORT_GROUP_7",
-            retry_retry_8 = "x-retry retry 8",
-            tab_color_limit_tab = "TAB_COLOR_LIMIT_TAB",
+        write_record!(ser, self, WidthWidth10 {
+            width_size_10 = "width_size_10",
+            limit_port_tab_tab = "limit_port_tab_tab",
+            port_user_10 = "port_user_10",
+            rate_port_group_10 = "rate_port_group_10",
+            tab = "tab",
+            host_cache_width_10 = "x-host cache width 10",
+            tab_size_level_10 = "tab_size_level_10",
+            width_tab_group_10 = "width_tab_group_10",
+            user_mode_10 = "user_mode_10",
+            tab_10 = "tab_10",
         })
     }
 }
 
-impl<'de> Returns<'de> for WidthSize10 {
-    ghost read_back = { record_back ⟦<WidthSize10 as RoundTrip>⟧.fields (λ s. refl) };
+impl<'de> Returns<'de> for WidthWidth10 {
+    ghost read_back = { record_back ⟦<WidthWidth10 as RoundTrip>⟧.fields (λ s. refl) };
 
-    ghost returns = { ⟦<WidthSize10 as Returns<'static>>⟧.read_back.returns };
+    ghost returns = { ⟦<WidthWidth10 as Returns<'static>>⟧.read_back.returns };
 }
 
-impl<'de> Root<'de> for WidthSize10 {
-    fn from_text(alloc: Global, text: &str) -> Result<WidthSize10, Error> {
+impl<'de> Root<'de> for WidthWidth10 {
+    fn from_text(alloc: Global, text: &str) -> Result<WidthWidth10, Error> {
         from_str(alloc, text)
     }
 }
 
 /// A record.
 #[derive(Debug, Drop)]
-pub struct LimitPort11 {
-    pub width_log_size_0: bool,
-    pub tab_1: bool,
-    pub cache_user: i16,
-    pub index_key_cache_3: u32,
-    pub port_cache_rate_path_4: String,
-    pub color_max_port_index: i16,
-    pub color_group_max: String,
-    pub limit_max_port_7: Option<MaxWidthOf9>,
-    pub cache_width_8: Option<i64>,
-    pub limit_log_mode_user_9: BTreeMap<String, bool>,
-    pub mode: WidthSize10,
-    pub tab_11: i8,
-    pub size_color_12: BTreeMap<String, Float>,
-    pub key_13: i8,
-    pub color: Vec<i64>,
-    pub log_15: Option<i8>,
+pub struct NameGroup11 {
+    pub size_max_limit_port: u64,
+    pub name_tab_key: MaxWidthOf9,
+    pub user_cache_width_cache_20: BTreeMap<String, MaxWidthOf9>,
+    pub color_max_port_index: WidthWidth10,
+    pub limit_max_port_20: WidthWidth10,
+    pub level: Option<u32>,
+    pub group_20: Option<RateMode9>,
+    pub log_20: bool,
+    pub max_size_tab: Vec<MaxWidthOf9>,
+    pub port_limit_20: RateMode9,
+    pub name_key_retry: Option<bool>,
+    pub retry: Vec<u32>,
+    pub tab: i32,
+    pub color_size: Option<i64>,
+    pub limit_index_limit: WidthWidth10,
+    pub width: Option<BTreeMap<String, Vec<RateMode9>>>,
+    pub host_group: Option<Vec<i8>>,
+    pub width_user_name_20: Option<WidthWidth10>,
+    pub color_20: Option<u32>,
+    pub size_key_tab_retry: MaxWidthOf9,
 }
 
-impl RoundTrip for LimitPort11 {
-    ghost fields = { or ⟦<bool as Returns<'static>>⟧ "width_log_size_0" false (λ s. s.width_log_size_0)
-        (or ⟦<bool as Returns<'static>>⟧ "tab_1" false (λ s. s.tab_1)
-        (or ⟦<i16 as Returns<'static>>⟧ "the cache-user" (pos 0) (λ s. s.cache_user)
-        (needed ⟦<u32 as Returns<'static>>⟧ "index_key_cache_3" (λ s. s.index_key_cache_3)
-        (or_text ⟦<String as Returns<'static>>⟧ "port_cache_rate_path_4" "" (λ s. s.port_cache_rate_path_4)
-        (or ⟦<i16 as Returns<'static>>⟧ "the color-max-port-index" (pos 0) (λ s. s.color_max_port_index)
-        (needed ⟦<String as Returns<'static>>⟧ "color_group_max" (λ s. s.color_group_max)
-        (maybe ⟦<MaxWidthOf9 as Returns<'static>>⟧ "limit_max_port_7" (λ s. s.limit_max_port_7)
-        (maybe ⟦<i64 as Returns<'static>>⟧ "the cache width 8" (λ s. s.cache_width_8)
-        (needed ⟦<BTreeMap<String, bool> as Returns<'static>>⟧ "limit_log_mode_user_9" (λ s. s.limit_log_mode_user_9)
-        (needed ⟦<WidthSize10 as Returns<'static>>⟧ "mode" (λ s. s.mode)
-        (or ⟦<i8 as Returns<'static>>⟧ "tab_11" (pos 0) (λ s. s.tab_11)
-        (needed ⟦<BTreeMap<String, Float> as Returns<'static>>⟧ "size_color_12" (λ s. s.size_color_12)
-        (needed ⟦<i8 as Returns<'static>>⟧ "key_13" (λ s. s.key_13)
-        (needed ⟦<Vec<i64> as Returns<'static>>⟧ "color" (λ s. s.color)
-        (maybe ⟦<i8 as Returns<'static>>⟧ "log_15" (λ s. s.log_15)
-        done))))))))))))))) };
+impl RoundTrip for NameGroup11 {
+    ghost fields = { needed ⟦<u64 as Returns<'static>>⟧ "SIZE-MAX-LIMIT-PORT" (λ s. s.size_max_limit_port)
+        (needed ⟦<MaxWidthOf9 as Returns<'static>>⟧ "NAME-TAB-KEY" (λ s. s.name_tab_key)
+        (needed ⟦<BTreeMap<String, MaxWidthOf9> as Returns<'static>>⟧ "USER-CACHE-WIDTH-CACHE-20" (λ s. s.user_cache_width_cache_20)
+        (needed ⟦<WidthWidth10 as Returns<'static>>⟧ "COLOR-MAX-PORT-INDEX" (λ s. s.color_max_port_index)
+        (needed ⟦<WidthWidth10 as Returns<'static>>⟧ "LIMIT-MAX-PORT-20" (λ s. s.limit_max_port_20)
+        (maybe ⟦<u32 as Returns<'static>>⟧ "x-level" (λ s. s.level)
+        (maybe ⟦<RateMode9 as Returns<'static>>⟧ "GROUP-20" (λ s. s.group_20)
+        (or ⟦<bool as Returns<'static>>⟧ "LOG-20" false (λ s. s.log_20)
+        (needed ⟦<Vec<MaxWidthOf9> as Returns<'static>>⟧ "MAX-SIZE-TAB" (λ s. s.max_size_tab)
+        (needed ⟦<RateMode9 as Returns<'static>>⟧ "x-port limit 20" (λ s. s.port_limit_20)
+        (maybe ⟦<bool as Returns<'static>>⟧ "NAME-KEY-RETRY" (λ s. s.name_key_retry)
+        (needed ⟦<Vec<u32> as Returns<'static>>⟧ "RETRY" (λ s. s.retry)
+        (or ⟦<i32 as Returns<'static>>⟧ "TAB" (pos 833752833) (λ s. s.tab)
+        (maybe ⟦<i64 as Returns<'static>>⟧ "the color size" (λ s. s.color_size)
+        (needed ⟦<WidthWidth10 as Returns<'static>>⟧ "LIMIT-INDEX-LIMIT" (λ s. s.limit_index_limit)
+        (maybe ⟦<BTreeMap<String, Vec<RateMode9>> as Returns<'static>>⟧ "the width" (λ s. s.width)
+        (maybe ⟦<Vec<i8> as Returns<'static>>⟧ "HOST-GROUP" (λ s. s.host_group)
+        (maybe ⟦<WidthWidth10 as Returns<'static>>⟧ "WIDTH-USER-NAME-20" (λ s. s.width_user_name_20)
+        (maybe ⟦<u32 as Returns<'static>>⟧ "COLOR-20" (λ s. s.color_20)
+        (needed ⟦<MaxWidthOf9 as Returns<'static>>⟧ "SIZE-KEY-TAB-RETRY" (λ s. s.size_key_tab_retry)
+        done))))))))))))))))))) };
 }
 
-impl Record for LimitPort11 {
-    ghost fields = { as_read ⟦<LimitPort11 as RoundTrip>⟧.fields };
+impl Record for NameGroup11 {
+    ghost fields = { as_read ⟦<NameGroup11 as RoundTrip>⟧.fields };
 }
 
-impl<'de> Deserialize<'de> for LimitPort11 {
-    ghost reads = { record_reads ⟦<LimitPort11 as Record>⟧.fields };
+impl<'de> Deserialize<'de> for NameGroup11 {
+    ghost reads = { record_reads ⟦<NameGroup11 as Record>⟧.fields };
 
-    ghost faults = { record_faults ⟦<LimitPort11 as Record>⟧.fields };
+    ghost faults = { record_faults ⟦<NameGroup11 as Record>⟧.fields };
 
-    fn deserialize(alloc: Global, node: Node<'_, 'de>) -> Result<LimitPort11, Error> {
-        read_record!(alloc, node, LimitPort11 {
-            width_log_size_0 = or("width_log_size_0", false),
-            tab_1 = or("tab_1", false),
-            cache_user = or("the cache-user", 0),
-            index_key_cache_3 = needed("index_key_cache_3"),
-            port_cache_rate_path_4 = or_text("port_cache_rate_path_4", ""),
-            color_max_port_index = or("the color-max-port-index", 0),
-            color_group_max = needed("color_group_max"),
-            limit_max_port_7 = maybe("limit_max_port_7"),
-            cache_width_8 = maybe("the cache width 8"),
-            limit_log_mode_user_9 = needed("limit_log_mode_user_9"),
-            mode = needed("mode"),
-            tab_11 = or("tab_11", 0),
-            size_color_12 = needed("size_color_12"),
-            key_13 = needed("key_13"),
-            color = needed("color"),
-            log_15 = maybe("log_15"),
+    fn deserialize(alloc: Global, node: Node<'_, 'de>) -> Result<NameGroup11, Error> {
+        read_record!(alloc, node, NameGroup11 {
+            size_max_limit_port = needed("SIZE-MAX-LIMIT-PORT"),
+            name_tab_key = needed("NAME-TAB-KEY"),
+            user_cache_width_cache_20 = needed("USER-CACHE-WIDTH-CACHE-20"),
+            color_max_port_index = needed("COLOR-MAX-PORT-INDEX"),
+            limit_max_port_20 = needed("LIMIT-MAX-PORT-20"),
+            level = maybe("x-level"),
+            group_20 = maybe("GROUP-20"),
+            log_20 = or("LOG-20", false),
+            max_size_tab = needed("MAX-SIZE-TAB"),
+            port_limit_20 = needed("x-port limit 20"),
+            name_key_retry = maybe("NAME-KEY-RETRY"),
+            retry = needed("RETRY"),
+            tab = or("TAB", 833752833),
+            color_size = maybe("the color size"),
+            limit_index_limit = needed("LIMIT-INDEX-LIMIT"),
+            width = maybe("the width"),
+            host_group = maybe("HOST-GROUP"),
+            width_user_name_20 = maybe("WIDTH-USER-NAME-20"),
+            color_20 = maybe("COLOR-20"),
+            size_key_tab_retry = needed("SIZE-KEY-TAB-RETRY"),
         })
     }
 
-    fn from_tree(alloc: Global, tree: Tree<'de>) -> Result<LimitPort11, Error> {
-        LimitPort11::deserialize(alloc, tree.root())
+    fn from_tree(alloc: Global, tree: Tree<'de>) -> Result<NameGroup11, Error> {
+        NameGroup11::deserialize(alloc, tree.root())
     }
 }
 
-impl Serialize for LimitPort11 {
-    ghost calls = { record_calls ⟦<LimitPort11 as RoundTrip>⟧.fields };
+impl Serialize for NameGroup11 {
+    ghost calls = { record_calls ⟦<NameGroup11 as RoundTrip>⟧.fields };
 
-    ghost holds = { record_holds ⟦<LimitPort11 as RoundTrip>⟧.fields };
+    ghost holds = { record_holds ⟦<NameGroup11 as RoundTrip>⟧.fields };
 
     fn serialize(&self, _alloc: Global, ser: &mut Serializer) -> Result<(), WriteError> {
-        write_record!(ser, self, LimitPort11 {
-            width_log_size_0 = "width_log_size_0",
-            tab_1 = "tab_1",
-            cache_user = "the cache-user",
-            index_key_cache_3 = "index_key_cache_3",
-            port_cache_rate_path_4 = "port_cache_rate_path_4",
-            color_max_port_index = "the color-max-port-index",
-            color_group_max = "color_group_max",
-            limit_max_port_7 = "limit_max_port_7",
-            cache_width_8 = "the cache width 8",
-            limit_log_mode_user_9 = "limit_log_mode_user_9",
-            mode = "mode",
-            tab_11 = "tab_11",
-            size_color_12 = "size_color_12",
-            key_13 = "key_13",
-            color = "color",
-            log_15 = "log_15",
+        write_record!(ser, self, NameGroup11 {
+            size_max_limit_port = "SIZE-MAX-LIMIT-PORT",
+            name_tab_key = "NAME-TAB-KEY",
+            user_cache_width_cache_20 = "USER-CACHE-WIDTH-CACHE-20",
+            color_max_port_index = "COLOR-MAX-PORT-INDEX",
+            limit_max_port_20 = "LIMIT-MAX-PORT-20",
+            level = "x-level",
+            group_20 = "GROUP-20",
+            log_20 = "LOG-20",
+            max_size_tab = "MAX-SIZE-TAB",
+            port_limit_20 = "x-port limit 20",
+            name_key_retry = "NAME-KEY-RETRY",
+            retry = "RETRY",
+            tab = "TAB",
+            color_size = "the color size",
+            limit_index_limit = "LIMIT-INDEX-LIMIT",
+            width = "the width",
+            host_group = "HOST-GROUP",
+            width_user_name_20 = "WIDTH-USER-NAME-20",
+            color_20 = "COLOR-20",
+            size_key_tab_retry = "SIZE-KEY-TAB-RETRY",
         })
     }
 }
 
-impl<'de> Returns<'de> for LimitPort11 {
-    ghost read_back = { record_back ⟦<LimitPort11 as RoundTrip>⟧.fields (λ s. refl) };
+impl<'de> Returns<'de> for NameGroup11 {
+    ghost read_back = { record_back ⟦<NameGroup11 as RoundTrip>⟧.fields (λ s. refl) };
 
-    ghost returns = { ⟦<LimitPort11 as Returns<'static>>⟧.read_back.returns };
+    ghost returns = { ⟦<NameGroup11 as Returns<'static>>⟧.read_back.returns };
 }
 
-impl<'de> Root<'de> for LimitPort11 {
-    fn from_text(alloc: Global, text: &str) -> Result<LimitPort11, Error> {
+impl<'de> Root<'de> for NameGroup11 {
+    fn from_text(alloc: Global, text: &str) -> Result<NameGroup11, Error> {
         from_str(alloc, text)
     }
 }

@@ -1,6 +1,6 @@
 //! Types that were made at random.
 
-ghost use Rattle.std.specs.Prelude.{◌∷◌, [], codes, false, refl, true};
+ghost use Rattle.std.specs.Prelude.{◌∷◌, [], codes, false, negsuc, pos, refl, true};
 ghost use Rattle.basic_toml.specs.Records.{record_faults, record_reads};
 ghost use Rattle.basic_toml_returns.proofs.RecordsReturn.{record_back};
 ghost use Rattle.basic_toml_returns.specs.RoundTrips.{as_read, done, maybe, needed, or, or_empty, or_text, record_calls, record_holds};
@@ -167,84 +167,90 @@ impl<'de> Returns<'de> for UserSizeOf13 {
 /// A record.
 #[derive(Debug, Drop)]
 pub struct SizeMode12 {
-    pub rate_path_name_0: Vec<u16>,
-    pub index_size_1: bool,
-    pub width_group_color_path: u16,
-    pub port: String,
-    pub width_tab_max_4: String,
-    pub user_index_5: u32,
-    pub name_user_group_6: u16,
-    pub group_rate_cache: Option<bool>,
-    pub user: u8,
-    pub user_rate_size_retry: String,
-    pub group_width_10: BTreeMap<String, bool>,
-    pub index_11: bool,
-    pub user_width_limit_12: u16,
-    pub cache_path_13: BTreeMap<String, bool>,
-    pub tab_port: u16,
-    pub group_port_16: BTreeMap<String, Vec<u16>>,
-    pub cache_path_level_17: UserSizeOf13,
-    pub cache_level_port_max_18: String,
-    pub cache_path_19: UserSizeOf13,
-    pub port_20: bool,
-    pub mode_path: Option<String>,
-    pub size_rate_group_port: bool,
-    pub width_limit_width_23: String,
-    pub level_24: Option<BTreeMap<String, Vec<u8>>>,
-    pub path_width_log_group_25: Vec<u64>,
-    pub group_cache_mode_path: UserSizeOf13,
-    pub group_retry_level_27: u16,
-    pub path_port_retry: Option<Float>,
-    pub size_port: BTreeMap<String, Vec<String>>,
-    pub width_level_retry_retry_30: String,
-    pub path: Vec<UserSizeOf13>,
-    pub tab: Option<MaxUserOf12>,
-    pub retry: BTreeMap<String, Vec<Float>>,
-    pub max_color_port_path_34: Option<String>,
-    pub color_level_mode_35: String,
-    pub level: Option<String>,
-    pub tab_rate_port_38: UserSizeOf13,
+    pub rate_path_name_40: i8,
+    pub limit_port_max_40: Option<bool>,
+    pub host_port_key_name: u16,
+    pub tab_name_user_tab_40: u8,
+    pub key_key: Vec<bool>,
+    pub port_40: i64,
+    pub group_port_40: bool,
+    pub index_cache_40: Option<i8>,
+    pub path_port_port_size_40: Option<bool>,
+    pub group: bool,
+    pub level_40: u64,
+    pub user_level_group: bool,
+    pub size: BTreeMap<String, Vec<String>>,
+    pub index_width_40: Option<u64>,
+    pub limit_retry_retry: Vec<bool>,
+    pub mode_index_host_name_40: BTreeMap<String, Vec<bool>>,
+    pub user: Vec<MaxUserOf12>,
+    pub retry_max_level: Option<Vec<u64>>,
+    pub cache_index_name_path: UserSizeOf13,
+    pub log_rate_40: MaxUserOf12,
+    pub user_40: i32,
+    pub host_port: u32,
+    pub tab_tab_index_retry_40: Float,
+    pub tab_log_40: BTreeMap<String, Vec<u32>>,
+    pub group_key_40: u16,
+    pub key: BTreeMap<String, Vec<i32>>,
+    pub log: Option<String>,
+    pub tab_max_level_max_40: i8,
+    pub user_index_cache: BTreeMap<String, Vec<u16>>,
+    pub tab_host_rate_mode_40: String,
+    pub level_max_level: Vec<Float>,
+    pub host_mode_max_40: i32,
+    pub tab_log_rate: i64,
+    pub mode_cache_40: MaxUserOf12,
+    pub mode_retry_color: Option<MaxUserOf12>,
+    pub color_host_40: String,
+    pub group_log_mode_width_40: u8,
+    pub tab_port_path_size: Float,
+    pub name_max_group: Option<String>,
+    pub name_log_port_40: bool,
 }
 
 impl RoundTrip for SizeMode12 {
-    ghost fields = { needed ⟦<Vec<u16> as Returns<'static>>⟧ "rate_path_name_0" (λ s. s.rate_path_name_0)
-        (or ⟦<bool as Returns<'static>>⟧ "index_size_1" true (λ s. s.index_size_1)
-        (needed ⟦<u16 as Returns<'static>>⟧ "width_group_color_path" (λ s. s.width_group_color_path)
-        (or_text ⟦<String as Returns<'static>>⟧ "the port" "" (λ s. s.port)
-        (needed ⟦<String as Returns<'static>>⟧ "width_tab_max_4" (λ s. s.width_tab_max_4)
-        (or ⟦<u32 as Returns<'static>>⟧ "user_index_5" 4294967295 (λ s. s.user_index_5)
-        (or ⟦<u16 as Returns<'static>>⟧ "name_user_group_6" 32170 (λ s. s.name_user_group_6)
-        (maybe ⟦<bool as Returns<'static>>⟧ "group_rate_cache" (λ s. s.group_rate_cache)
-        (or ⟦<u8 as Returns<'static>>⟧ "user" 156 (λ s. s.user)
-        (needed ⟦<String as Returns<'static>>⟧ "user_rate_size_retry" (λ s. s.user_rate_size_retry)
-        (needed ⟦<BTreeMap<String, bool> as Returns<'static>>⟧ "group_width_10" (λ s. s.group_width_10)
-        (or ⟦<bool as Returns<'static>>⟧ "index_11" true (λ s. s.index_11)
-        (needed ⟦<u16 as Returns<'static>>⟧ "user_width_limit_12" (λ s. s.user_width_limit_12)
-        (needed ⟦<BTreeMap<String, bool> as Returns<'static>>⟧ "cache_path_13" (λ s. s.cache_path_13)
-        (or ⟦<u16 as Returns<'static>>⟧ "tab_port" 0 (λ s. s.tab_port)
-        (needed ⟦<BTreeMap<String, Vec<u16>> as Returns<'static>>⟧ "group_port_16" (λ s. s.group_port_16)
-        (needed ⟦<UserSizeOf13 as Returns<'static>>⟧ "cache_path_level_17" (λ s. s.cache_path_level_17)
-        (or_text ⟦<String as Returns<'static>>⟧ "cache_level_port_max_18" "" (λ s. s.cache_level_port_max_18)
-        (needed ⟦<UserSizeOf13 as Returns<'static>>⟧ "cache_path_19" (λ s. s.cache_path_19)
-        (or ⟦<bool as Returns<'static>>⟧ "the port.20" false (λ s. s.port_20)
-        (maybe ⟦<String as Returns<'static>>⟧ "x-mode path" (λ s. s.mode_path)
-        (needed ⟦<bool as Returns<'static>>⟧ "size_rate_group_port" (λ s. s.size_rate_group_port)
-        (or_text ⟦<String as Returns<'static>>⟧ "the width-limit-width-23" "" (λ s. s.width_limit_width_23)
-        (maybe ⟦<BTreeMap<String, Vec<u8>> as Returns<'static>>⟧ "level_24" (λ s. s.level_24)
-        (or_empty ⟦<Vec<u64> as Returns<'static>>⟧ "the path.width.log.group.25" (λ s. s.path_width_log_group_25)
-        (needed ⟦<UserSizeOf13 as Returns<'static>>⟧ "group_cache_mode_path" (λ s. s.group_cache_mode_path)
-        (needed ⟦<u16 as Returns<'static>>⟧ "group_retry_level_27" (λ s. s.group_retry_level_27)
-        (maybe ⟦<Float as Returns<'static>>⟧ "path_port_retry" (λ s. s.path_port_retry)
-        (needed ⟦<BTreeMap<String, Vec<String>> as Returns<'static>>⟧ "size_port" (λ s. s.size_port)
-        (or_text ⟦<String as Returns<'static>>⟧ "width_level_retry_retry_30" "" (λ s. s.width_level_retry_retry_30)
-        (or_empty ⟦<Vec<UserSizeOf13> as Returns<'static>>⟧ "path" (λ s. s.path)
-        (maybe ⟦<MaxUserOf12 as Returns<'static>>⟧ "tab" (λ s. s.tab)
-        (needed ⟦<BTreeMap<String, Vec<Float>> as Returns<'static>>⟧ "retry" (λ s. s.retry)
-        (maybe ⟦<String as Returns<'static>>⟧ "max_color_port_path_34" (λ s. s.max_color_port_path_34)
-        (needed ⟦<String as Returns<'static>>⟧ "color_level_mode_35" (λ s. s.color_level_mode_35)
-        (maybe ⟦<String as Returns<'static>>⟧ "level" (λ s. s.level)
-        (needed ⟦<UserSizeOf13 as Returns<'static>>⟧ "tab_rate_port_38" (λ s. s.tab_rate_port_38)
-        done)))))))))))))))))))))))))))))))))))) };
+    ghost fields = { or ⟦<i8 as Returns<'static>>⟧ "rate_path_name_40" (negsuc 127) (λ s. s.rate_path_name_40)
+        (maybe ⟦<bool as Returns<'static>>⟧ "limit_port_max_40" (λ s. s.limit_port_max_40)
+        (needed ⟦<u16 as Returns<'static>>⟧ "host port key name" (λ s. s.host_port_key_name)
+        (or ⟦<u8 as Returns<'static>>⟧ "tab_name_user_tab_40" 255 (λ s. s.tab_name_user_tab_40)
+        (or_empty ⟦<Vec<bool> as Returns<'static>>⟧ "key_key" (λ s. s.key_key)
+        (needed ⟦<i64 as Returns<'static>>⟧ "port_40" (λ s. s.port_40)
+        (or ⟦<bool as Returns<'static>>⟧ "group_port_40" true (λ s. s.group_port_40)
+        (maybe ⟦<i8 as Returns<'static>>⟧ "index_cache_40" (λ s. s.index_cache_40)
+        (maybe ⟦<bool as Returns<'static>>⟧ "path_port_port_size_40" (λ s. s.path_port_port_size_40)
+        (needed ⟦<bool as Returns<'static>>⟧ "group" (λ s. s.group)
+        (needed ⟦<u64 as Returns<'static>>⟧ "level_40" (λ s. s.level_40)
+        (or ⟦<bool as Returns<'static>>⟧ "user_level_group" false (λ s. s.user_level_group)
+        (needed ⟦<BTreeMap<String, Vec<String>> as Returns<'static>>⟧ "size" (λ s. s.size)
+        (maybe ⟦<u64 as Returns<'static>>⟧ "the index-width-40" (λ s. s.index_width_40)
+        (needed ⟦<Vec<bool> as Returns<'static>>⟧ "limit_retry_retry" (λ s. s.limit_retry_retry)
+        (needed ⟦<BTreeMap<String, Vec<bool>> as Returns<'static>>⟧ "mode-index-host-name-40" (λ s. s.mode_index_host_name_40)
+        (or_empty ⟦<Vec<MaxUserOf12> as Returns<'static>>⟧ "user" (λ s. s.user)
+        (maybe ⟦<Vec<u64> as Returns<'static>>⟧ "retry_max_level" (λ s. s.retry_max_level)
+        (needed ⟦<UserSizeOf13 as Returns<'static>>⟧ "cache_index_name_path" (λ s. s.cache_index_name_path)
+        (needed ⟦<MaxUserOf12 as Returns<'static>>⟧ "log_rate_40" (λ s. s.log_rate_40)
+        (or ⟦<i32 as Returns<'static>>⟧ "user_40" (pos 2147483647) (λ s. s.user_40)
+        (needed ⟦<u32 as Returns<'static>>⟧ "host_port" (λ s. s.host_port)
+        (needed ⟦<Float as Returns<'static>>⟧ "tab_tab_index_retry_40" (λ s. s.tab_tab_index_retry_40)
+        (needed ⟦<BTreeMap<String, Vec<u32>> as Returns<'static>>⟧ "tab_log_40" (λ s. s.tab_log_40)
+        (needed ⟦<u16 as Returns<'static>>⟧ "group_key_40" (λ s. s.group_key_40)
+        (needed ⟦<BTreeMap<String, Vec<i32>> as Returns<'static>>⟧ "key" (λ s. s.key)
+        (maybe ⟦<String as Returns<'static>>⟧ "log" (λ s. s.log)
+        (or ⟦<i8 as Returns<'static>>⟧ "tab_max_level_max_40" (pos 76) (λ s. s.tab_max_level_max_40)
+        (needed ⟦<BTreeMap<String, Vec<u16>> as Returns<'static>>⟧ "user_index_cache" (λ s. s.user_index_cache)
+        (or_text ⟦<String as Returns<'static>>⟧ "tab_host_rate_mode_40" "" (λ s. s.tab_host_rate_mode_40)
+        (or_empty ⟦<Vec<Float> as Returns<'static>>⟧ "the level-max-level" (λ s. s.level_max_level)
+        (needed ⟦<i32 as Returns<'static>>⟧ "host-mode-max-40" (λ s. s.host_mode_max_40)
+        (needed ⟦<i64 as Returns<'static>>⟧ "tab_log_rate" (λ s. s.tab_log_rate)
+        (needed ⟦<MaxUserOf12 as Returns<'static>>⟧ "mode_cache_40" (λ s. s.mode_cache_40)
+        (maybe ⟦<MaxUserOf12 as Returns<'static>>⟧ "the mode retry color" (λ s. s.mode_retry_color)
+        (needed ⟦<String as Returns<'static>>⟧ "color_host_40" (λ s. s.color_host_40)
+        (needed ⟦<u8 as Returns<'static>>⟧ "group_log_mode_width_40" (λ s. s.group_log_mode_width_40)
+        (needed ⟦<Float as Returns<'static>>⟧ "tab_port_path_size" (λ s. s.tab_port_path_size)
+        (maybe ⟦<String as Returns<'static>>⟧ "name_max_group" (λ s. s.name_max_group)
+        (or ⟦<bool as Returns<'static>>⟧ "x-name-log-port-40" true (λ s. s.name_log_port_40)
+        done))))))))))))))))))))))))))))))))))))))) };
 }
 
 impl Record for SizeMode12 {
@@ -258,43 +264,46 @@ impl<'de> Deserialize<'de> for SizeMode12 {
 
     fn deserialize(alloc: Global, node: Node<'_, 'de>) -> Result<SizeMode12, Error> {
         read_record!(alloc, node, SizeMode12 {
-            rate_path_name_0 = needed("rate_path_name_0"),
-            index_size_1 = or("index_size_1", true),
-            width_group_color_path = needed("width_group_color_path"),
-            port = or_text("the port", ""),
-            width_tab_max_4 = needed("width_tab_max_4"),
-            user_index_5 = or("user_index_5", 4294967295),
-            name_user_group_6 = or("name_user_group_6", 32170),
-            group_rate_cache = maybe("group_rate_cache"),
-            user = or("user", 156),
-            user_rate_size_retry = needed("user_rate_size_retry"),
-            group_width_10 = needed("group_width_10"),
-            index_11 = or("index_11", true),
-            user_width_limit_12 = needed("user_width_limit_12"),
-            cache_path_13 = needed("cache_path_13"),
-            tab_port = or("tab_port", 0),
-            group_port_16 = needed("group_port_16"),
-            cache_path_level_17 = needed("cache_path_level_17"),
-            cache_level_port_max_18 = or_text("cache_level_port_max_18", ""),
-            cache_path_19 = needed("cache_path_19"),
-            port_20 = or("the port.20", false),
-            mode_path = maybe("x-mode path"),
-            size_rate_group_port = needed("size_rate_group_port"),
-            width_limit_width_23 = or_text("the width-limit-width-23", ""),
-            level_24 = maybe("level_24"),
-            path_width_log_group_25 = or_empty("the path.width.log.group.25"),
-            group_cache_mode_path = needed("group_cache_mode_path"),
-            group_retry_level_27 = needed("group_retry_level_27"),
-            path_port_retry = maybe("path_port_retry"),
-            size_port = needed("size_port"),
-            width_level_retry_retry_30 = or_text("width_level_retry_retry_30", ""),
-            path = or_empty("path"),
-            tab = maybe("tab"),
-            retry = needed("retry"),
-            max_color_port_path_34 = maybe("max_color_port_path_34"),
-            color_level_mode_35 = needed("color_level_mode_35"),
-            level = maybe("level"),
-            tab_rate_port_38 = needed("tab_rate_port_38"),
+            rate_path_name_40 = or("rate_path_name_40", -128),
+            limit_port_max_40 = maybe("limit_port_max_40"),
+            host_port_key_name = needed("host port key name"),
+            tab_name_user_tab_40 = or("tab_name_user_tab_40", 255),
+            key_key = or_empty("key_key"),
+            port_40 = needed("port_40"),
+            group_port_40 = or("group_port_40", true),
+            index_cache_40 = maybe("index_cache_40"),
+            path_port_port_size_40 = maybe("path_port_port_size_40"),
+            group = needed("group"),
+            level_40 = needed("level_40"),
+            user_level_group = or("user_level_group", false),
+            size = needed("size"),
+            index_width_40 = maybe("the index-width-40"),
+            limit_retry_retry = needed("limit_retry_retry"),
+            mode_index_host_name_40 = needed("mode-index-host-name-40"),
+            user = or_empty("user"),
+            retry_max_level = maybe("retry_max_level"),
+            cache_index_name_path = needed("cache_index_name_path"),
+            log_rate_40 = needed("log_rate_40"),
+            user_40 = or("user_40", 2147483647),
+            host_port = needed("host_port"),
+            tab_tab_index_retry_40 = needed("tab_tab_index_retry_40"),
+            tab_log_40 = needed("tab_log_40"),
+            group_key_40 = needed("group_key_40"),
+            key = needed("key"),
+            log = maybe("log"),
+            tab_max_level_max_40 = or("tab_max_level_max_40", 76),
+            user_index_cache = needed("user_index_cache"),
+            tab_host_rate_mode_40 = or_text("tab_host_rate_mode_40", ""),
+            level_max_level = or_empty("the level-max-level"),
+            host_mode_max_40 = needed("host-mode-max-40"),
+            tab_log_rate = needed("tab_log_rate"),
+            mode_cache_40 = needed("mode_cache_40"),
+            mode_retry_color = maybe("the mode retry color"),
+            color_host_40 = needed("color_host_40"),
+            group_log_mode_width_40 = needed("group_log_mode_width_40"),
+            tab_port_path_size = needed("tab_port_path_size"),
+            name_max_group = maybe("name_max_group"),
+            name_log_port_40 = or("x-name-log-port-40", true),
         })
     }
 
@@ -310,43 +319,46 @@ impl Serialize for SizeMode12 {
 
     fn serialize(&self, _alloc: Global, ser: &mut Serializer) -> Result<(), WriteError> {
         write_record!(ser, self, SizeMode12 {
-            rate_path_name_0 = "rate_path_name_0",
-            index_size_1 = "index_size_1",
-            width_group_color_path = "width_group_color_path",
-            port = "the port",
-            width_tab_max_4 = "width_tab_max_4",
-            user_index_5 = "user_index_5",
-            name_user_group_6 = "name_user_group_6",
-            group_rate_cache = "group_rate_cache",
+            rate_path_name_40 = "rate_path_name_40",
+            limit_port_max_40 = "limit_port_max_40",
+            host_port_key_name = "host port key name",
+            tab_name_user_tab_40 = "tab_name_user_tab_40",
+            key_key = "key_key",
+            port_40 = "port_40",
+            group_port_40 = "group_port_40",
+            index_cache_40 = "index_cache_40",
+            path_port_port_size_40 = "path_port_port_size_40",
+            group = "group",
+            level_40 = "level_40",
+            user_level_group = "user_level_group",
+            size = "size",
+            index_width_40 = "the index-width-40",
+            limit_retry_retry = "limit_retry_retry",
+            mode_index_host_name_40 = "mode-index-host-name-40",
             user = "user",
-            user_rate_size_retry = "user_rate_size_retry",
-            group_width_10 = "group_width_10",
-            index_11 = "index_11",
-            user_width_limit_12 = "user_width_limit_12",
-            cache_path_13 = "cache_path_13",
-            tab_port = "tab_port",
-            group_port_16 = "group_port_16",
-            cache_path_level_17 = "cache_path_level_17",
-            cache_level_port_max_18 = "cache_level_port_max_18",
-            cache_path_19 = "cache_path_19",
-            port_20 = "the port.20",
-            mode_path = "x-mode path",
-            size_rate_group_port = "size_rate_group_port",
-            width_limit_width_23 = "the width-limit-width-23",
-            level_24 = "level_24",
-            path_width_log_group_25 = "the path.width.log.group.25",
-            group_cache_mode_path = "group_cache_mode_path",
-            group_retry_level_27 = "group_retry_level_27",
-            path_port_retry = "path_port_retry",
-            size_port = "size_port",
-            width_level_retry_retry_30 = "width_level_retry_retry_30",
-            path = "path",
-            tab = "tab",
-            retry = "retry",
-            max_color_port_path_34 = "max_color_port_path_34",
-            color_level_mode_35 = "color_level_mode_35",
-            level = "level",
-            tab_rate_port_38 = "tab_rate_port_38",
+            retry_max_level = "retry_max_level",
+            cache_index_name_path = "cache_index_name_path",
+            log_rate_40 = "log_rate_40",
+            user_40 = "user_40",
+            host_port = "host_port",
+            tab_tab_index_retry_40 = "tab_tab_index_retry_40",
+            tab_log_40 = "tab_log_40",
+            group_key_40 = "group_key_40",
+            key = "key",
+            log = "log",
+            tab_max_level_max_40 = "tab_max_level_max_40",
+            user_index_cache = "user_index_cache",
+            tab_host_rate_mode_40 = "tab_host_rate_mode_40",
+            level_max_level = "the level-max-level",
+            host_mode_max_40 = "host-mode-max-40",
+            tab_log_rate = "tab_log_rate",
+            mode_cache_40 = "mode_cache_40",
+            mode_retry_color = "the mode retry color",
+            color_host_40 = "color_host_40",
+            group_log_mode_width_40 = "group_log_mode_width_40",
+            tab_port_path_size = "tab_port_path_size",
+            name_max_group = "name_max_group",
+            name_log_port_40 = "x-name-log-port-40",
         })
     }
 }
