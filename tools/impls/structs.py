@@ -167,27 +167,61 @@ class Enum:
         return {variant: self.key(variant) for variant in self.variants}
 
 
+class Forms:
+    """An untagged enum of two variants: one holds a table, as a struct made before, and one another value."""
+
+    def __init__(self, chance, name, structs, enums):
+        self.name = name
+        table = chance.choice(structs[-2:] * 3 + ["BTreeMap<String, u8>", "BTreeMap<String, Vec<%s>>" % structs[-1]])
+        other = chance.choice(["String", "bool", "i64", "u8", "Float", "Vec<String>", "Vec<%s>" % structs[-1]] + enums)
+        self.table, self.other = table, other
+        self.variants = [(capital(chance.choice(WORDS)) + "Table", table, "one"),
+                         (capital(chance.choice(WORDS)), other, "other")]
+        if chance.random() < 0.5:
+            self.variants.reverse()
+
+    def text(self):
+        lines = ["    %s(%s),\n" % (variant, kind) for variant, kind, _ in self.variants]
+        derive = "#[derive(Debug, Drop, Serialize, Deserialize)]\n#[serde(untagged)]\n"
+        return "/// One of two forms.\n%spub enum %s {\n%s}\n" % (derive, self.name, "".join(lines))
+
+    def listed(self):
+        return self.table, self.other, [(variant, side) for variant, _, side in self.variants]
+
+
 # What a file may bring in already, by what needs it.
 USES = {"Float": "use basic_toml::Float;\n", "Serialize": "use serde::{Deserialize, Serialize};\n",
         "BTreeMap": "use std::collections::BTreeMap;\n"}
 
 
 class File:
-    """A file of structs, each of so many fields or of any number, and of enums that they have fields of."""
+    """A file of structs, each of so many fields or of any number, and of enums that they have fields of.
 
-    def __init__(self, chance, module, first, sizes):
+    Behind `forms` of a hundred structs stands a choice of two forms.
+    """
+
+    def __init__(self, chance, module, first, sizes, forms):
         self.structs = []
+        self.forms = []
         self.module = module
         self.enums = [Enum(chance, "%s%sOf%d" % (capital(chance.choice(WORDS)), capital(chance.choice(WORDS)), first + each))
                       for each in range(2)]
+        self.types = list(self.enums)
         for each, size in enumerate(sizes, first):
             name = "%s%s%d" % (capital(chance.choice(WORDS)), capital(chance.choice(WORDS)), each)
-            self.structs.append(Struct(chance, name, [one.name for one in self.enums + self.structs], size))
+            self.add(self.structs, Struct(chance, name, [one.name for one in self.types], size))
+            if forms and chance.randrange(100) < forms:
+                names = [[one.name for one in kind] for kind in (self.structs, self.enums)]
+                self.add(self.forms, Forms(chance, "%sOr%d" % (capital(chance.choice(WORDS)), each), *names))
         self.uses = [word for word in USES if chance.random() < 0.5]
+
+    def add(self, kind, one):
+        kind.append(one)
+        self.types.append(one)
 
     def text(self, is_whole):
         """Returns the file, with the `use` lines that it needs where it `is_whole`, else with some."""
-        types = "\n".join(one.text() for one in self.enums + self.structs)
+        types = "\n".join(one.text() for one in self.types)
         uses = "".join(line for word, line in USES.items() if (word in types if is_whole else word in self.uses))
         return "//! Types that were made at random.\n\n%s%s" % (uses + "\n" if uses else "", types)
 

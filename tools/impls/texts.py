@@ -10,6 +10,16 @@ NO_VALUE = "a default is `true`, `false` or an integer"
 MISFIT = "a default that is no value of its type"
 ONE_KEY = "a field has one key, for reading and for writing"
 SKIP_IF = 'only `skip_serializing_if = "Option::is_none"` is taken, at an option'
+BY_HAND = ": write its impls by hand, or keep it in another file"
+VARIANT_DATA = "a variant with data, where the enum is not `untagged`" + BY_HAND
+NOT_TWO = "an `untagged` enum of more or fewer variants than two" + BY_HAND
+NOT_ONE = "a variant that does not hold one value, as `Version(String)` does" + BY_HAND
+SAME_FORM = "both variants hold a table, or neither does" + BY_HAND
+FORM_TYPE = "it is not known here whether this type is a table: take a type of this file, or write the impls by hand"
+OTHER_TEST = "another test than `is_table`: leave out what serde has at the enum, and its impls stay"
+FORMS = "#[serde(untagged)]\nenum E {\n    A(%s),\n    B(%s),\n}\n"
+FORMS_TYPE = "#[serde(untagged, %s)]\nenum E {\n    A(u8),\n    B(Table),\n}\n"
+FORMS_RULE = "#[serde(untagged)]\nenum E {\n    #[serde(%s)]\n    A(u8),\n    B(#[serde(%s)] Table),\n}\n"
 LIST = """struct S {
     a: u8,
 }
@@ -31,9 +41,37 @@ REFUSED = [
     ("struct S {\n    a: u8,\n", "1:8: a bracket that is not closed"),
     ("struct S {\n    a u8,\n}\n", "2:7: expected :"),
     ("enum E {\n    A,\n}\n", "1:6: an enum needs the path of its module: --module my_crate::settings"),
-    ("enum E {\n    A,\n    B(u8),\n}\n", "3:6: a variant with data: write its impls by hand, or keep it in another file"),
-    ("enum E {\n    A { a: u8 },\n}\n", "2:7: a variant with data: write its impls by hand, or keep it in another file"),
+    ("enum E {\n    A,\n    B(u8),\n}\n", "3:6: " + VARIANT_DATA),
+    ("enum E {\n    A { a: u8 },\n}\n", "2:7: " + VARIANT_DATA),
+    ("enum E {\n    A(u8),\n    B(Table),\n}\n", "2:6: " + VARIANT_DATA),
     ("enum E {}\n", "1:6: a type without fields or variants: write its impls by hand, or keep it in another file"),
+    # two forms
+    (FORMS % ("u8", "Table"), "2:6: an enum needs the path of its module: --module my_crate::settings"),
+    ("#[serde(untagged)]\nenum E {\n    A(u8),\n}\n", "2:6: " + NOT_TWO),
+    ("#[serde(untagged)]\nenum E {\n    A(u8),\n    B(Table),\n    C(bool),\n}\n", "2:6: " + NOT_TWO),
+    ("#[serde(untagged)]\nenum E {\n    A(u8, u8),\n    B(Table),\n}\n", "3:5: " + NOT_ONE),
+    ("#[serde(untagged)]\nenum E {\n    A(u8),\n    B(),\n}\n", "4:5: " + NOT_ONE),
+    ("#[serde(untagged)]\nenum E {\n    A(u8),\n    B { b: Table },\n}\n", "4:5: " + NOT_ONE),
+    ("#[serde(untagged)]\nenum E {\n    A(u8),\n    B,\n}\n", "4:5: " + NOT_ONE),
+    *((FORMS % kinds, "2:6: " + SAME_FORM)
+      for kinds in (("u8", "String"), ("Float", "Vec<Table>"), ("Table", "BTreeMap<String, u8>"))),
+    (FORMS % ("S", "Table") + "\nstruct S {\n    a: u8,\n}\n", "2:6: " + SAME_FORM),
+    (FORMS % ("Two", "u8") + "\nenum Two {\n    A,\n    B,\n}\n", "2:6: " + SAME_FORM),
+    *((FORMS % ("Table", kind), "4:7: " + FORM_TYPE)
+      for kind in ("Unknown", "super::S", "Option<u8>", "usize", "Value", "BTreeMap<u8, u8>")),
+    (FORMS % ("E", "Table"), "3:7: " + FORM_TYPE),
+    (FORMS % ("u8", "&Table"), "4:7: a type that is no path, as `Vec<String>` is one"),
+    *((FORMS_TYPE % word, "1:19: `%s` says nothing of an `untagged` enum: leave it out" % word.split()[0])
+      for word in ('rename_all = "lowercase"', "deny_unknown_fields")),
+    (FORMS_TYPE % 'tag = "kind"', "1:19: `tag` is not taken"),
+    *((FORMS_RULE % (word, ""), "3:13: `%s` says nothing of an `untagged` enum: leave it out" % word.split()[0])
+      for word in ('rename = "a"', 'alias = "a"', "default", 'skip_serializing_if = "Option::is_none"')),
+    (FORMS_RULE % ("untagged", ""), "3:13: `untagged` is not taken"),
+    (FORMS_RULE % ("", "default"), "5:15: `default` says nothing of an `untagged` enum: leave it out"),
+    (FORMS_RULE % ("", 'with = "m"'), "5:15: `with` is not taken"),
+    ("#[serde(untagged)]\nenum E {\n    A,\n    B,\n}\n", "1:9: `untagged` is not taken"),
+    (FORMS % ("u8", "Table") + "\nimpl Forms for E {\n    ghost forms = { by_test is_array };\n}\n",
+     "7:1: " + OTHER_TEST),
     # fields
     ("struct S {\n    a: &u8,\n}\n", "2:8: a type that is no path, as `Vec<String>` is one"),
     ("struct S {\n    a: (u8, u8),\n}\n", "2:8: a type that is no path, as `Vec<String>` is one"),
@@ -108,5 +146,21 @@ impl Record for S {
     ghost fields = { strict
         (or ⟦<u8 as Deserialize<'static>>⟧ "b" 7 (λ s. s.a)
         done) };
+}
+"""
+
+# A choice of two forms of types from elsewhere, whose impl says which of them is a table, by this test.
+FORMS_BY_HAND = """use crate::details::Detail;
+
+enum E {
+    A(Detail),
+    B(crate::versions::Version),
+}
+
+impl Forms for E {
+    ghost use Rattle.made.specs.declared.forms.E.TheVariants.{A, B};
+
+    ghost forms = { by_test %s ⟦<Detail as Returns<'static>>⟧ ⟦<crate::versions::Version as Returns<'static>>⟧
+        (elim [ A detail ↦ one detail | B version ↦ other version ]) (λ x. refl) (λ x. refl) };
 }
 """

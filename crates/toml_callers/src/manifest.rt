@@ -1,4 +1,5 @@
-//! A choice of two forms in a map of a record, that are read back from what they write. None takes a proof.
+//! A choice of two forms in a map of a record, that are read back from what they write. None takes a proof. The impls
+//! are those that `toml_impls` writes.
 ghost use Rattle.std.specs.Prelude.{false, refl};
 ghost use Rattle.basic_toml.specs.Nodes.{is_table};
 ghost use Rattle.basic_toml.specs.Records.{record_faults, record_reads};
@@ -38,10 +39,10 @@ pub struct Detail {
 }
 
 impl RoundTrip for Manifest {
-    ghost fields = { (needed ⟦<String as Returns<'static>>⟧ "name" (λ s. s.name)
+    ghost fields = { needed ⟦<String as Returns<'static>>⟧ "name" (λ s. s.name)
         (maybe ⟦<String as Returns<'static>>⟧ "edition" (λ s. s.edition)
         (needed ⟦<BTreeMap<String, Dependency> as Returns<'static>>⟧ "dependencies" (λ s. s.dependencies)
-        done))) };
+        done)) };
 }
 
 impl Record for Manifest {
@@ -96,7 +97,7 @@ impl Forms for Dependency {
     ghost use Rattle.toml_callers.specs.declared.manifest.Dependency.TheVariants.{Version, Detailed};
 
     ghost forms = { by_test is_table ⟦<Detail as Returns<'static>>⟧ ⟦<String as Returns<'static>>⟧
-        (elim [ Version text ↦ other text | Detailed detail ↦ one detail ]) (λ x. refl) (λ x. refl) };
+        (elim [ Version x ↦ other x | Detailed x ↦ one x ]) (λ x. refl) (λ x. refl) };
 }
 
 impl<'de> Deserialize<'de> for Dependency {
@@ -106,9 +107,11 @@ impl<'de> Deserialize<'de> for Dependency {
 
     fn deserialize(alloc: Global, node: Node<'_, 'de>) -> Result<Dependency, Error> {
         if node.is_table() {
-            Ok(Dependency::Detailed(Detail::deserialize(alloc, node)?))
+            let value = Detail::deserialize(alloc, node)?;
+            Ok(Dependency::Detailed(value))
         } else {
-            Ok(Dependency::Version(String::deserialize(alloc, node)?))
+            let value = String::deserialize(alloc, node)?;
+            Ok(Dependency::Version(value))
         }
     }
 
@@ -124,8 +127,8 @@ impl Serialize for Dependency {
 
     fn serialize(&self, alloc: Global, ser: &mut Serializer) -> Result<(), WriteError> {
         match self {
-            Dependency::Version(text) => text.serialize(alloc, ser),
-            Dependency::Detailed(detail) => detail.serialize(alloc, ser),
+            Dependency::Version(value) => value.serialize(alloc, ser),
+            Dependency::Detailed(value) => value.serialize(alloc, ser),
         }
     }
 }
@@ -137,10 +140,10 @@ impl<'de> Returns<'de> for Dependency {
 }
 
 impl RoundTrip for Detail {
-    ghost fields = { (maybe ⟦<String as Returns<'static>>⟧ "version" (λ s. s.version)
+    ghost fields = { maybe ⟦<String as Returns<'static>>⟧ "version" (λ s. s.version)
         (maybe ⟦<String as Returns<'static>>⟧ "path" (λ s. s.path)
         (or ⟦<bool as Returns<'static>>⟧ "optional" false (λ s. s.optional)
-        done))) };
+        done)) };
 }
 
 impl Record for Detail {
@@ -183,4 +186,10 @@ impl<'de> Returns<'de> for Detail {
     ghost read_back = { record_back ⟦<Detail as RoundTrip>⟧.fields (λ s. refl) };
 
     ghost returns = { ⟦<Detail as Returns<'static>>⟧.read_back.returns };
+}
+
+impl<'de> Root<'de> for Detail {
+    fn from_text(alloc: Global, text: &str) -> Result<Detail, Error> {
+        from_str(alloc, text)
+    }
 }

@@ -119,6 +119,14 @@ pub fn variant_list<'t>(
     Ok(VariantList { names, keys })
 }
 
+/// Refuses variants that hold something.
+pub fn refuse_data<'t>(declared: &[DeclaredVariant<'_, 't>]) -> Result<(), NoImpls<'t>> {
+    match declared.iter().find(|variant| variant.has_data()) {
+        Some(variant) => Err(NoImpls::At(variant.data.at(), Reason::VariantData)),
+        None => Ok(()),
+    }
+}
+
 /// The choice that an enum is: by what its attributes say, and, where they say nothing, by the impl that it has.
 pub fn choice_of<'t>(
     alloc: Global,

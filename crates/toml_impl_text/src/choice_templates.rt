@@ -2,7 +2,7 @@
 
 use crate::choice::Choice;
 use crate::layout::{array, listed, push_call, push_signature};
-use crate::templates::Impl;
+use crate::templates::{Impl, push_from_tree};
 use std::alloc::{AllocError, Global};
 
 /// The impls of a choice, in order.
@@ -58,17 +58,7 @@ impl<'de> Deserialize<'de> for {name} {{
         returned.as_str(),
     )?;
     push_reading(alloc, &mut text, choice)?;
-    push_signature(
-        alloc,
-        &mut text,
-        "from_tree",
-        &["alloc: Global", "tree: Tree<'de>"],
-        returned.as_str(),
-    )?;
-    write!(
-        text,
-        "\n        {name}::deserialize(alloc, tree.root())\n    }}\n}}"
-    )?;
+    push_from_tree(alloc, &mut text, name)?;
     Ok(text)
 }
 

@@ -26,6 +26,15 @@ pub fn type_name<'t>(item: &Item<'_, 't>) -> Result<Token<'t>, NoImpls<'t>> {
 pub struct DeclaredVariant<'c, 't> {
     pub attributes: Vec<Attribute<'c, 't>>,
     pub name: Token<'t>,
+    /// What stands behind its name.
+    pub data: Cursor<'c, 't>,
+}
+
+impl DeclaredVariant<'_, '_> {
+    /// Whether it holds something.
+    pub fn has_data(&self) -> bool {
+        self.data.sees("(") || self.data.sees("{")
+    }
 }
 
 /// The fields of a struct.
@@ -80,10 +89,11 @@ fn declared_variant<'c, 't>(
 ) -> Result<DeclaredVariant<'c, 't>, NoImpls<'t>> {
     let attributes = attributes(alloc, &mut tokens)?;
     let name = tokens.take(Kind::Word, "a variant")?;
-    if tokens.sees("(") || tokens.sees("{") {
-        return Err(NoImpls::At(tokens.at(), Reason::VariantData));
-    }
-    Ok(DeclaredVariant { attributes, name })
+    Ok(DeclaredVariant {
+        attributes,
+        name,
+        data: tokens,
+    })
 }
 
 fn declared_field<'c, 't>(
@@ -107,8 +117,8 @@ fn declared_field<'c, 't>(
     })
 }
 
-// The attributes that stand in front.
-fn attributes<'c, 't>(
+/// The attributes that stand in front.
+pub fn attributes<'c, 't>(
     alloc: Global,
     tokens: &mut Cursor<'c, 't>,
 ) -> Result<Vec<Attribute<'c, 't>>, NoImpls<'t>> {

@@ -1,18 +1,20 @@
 //! A file with the impls of its types.
 
-use crate::choice::{Choice, choice_of, listing_impl, variant_list, variants_path};
+use crate::choice::{Choice, choice_of, listing_impl, refuse_data, variant_list, variants_path};
 use crate::choice_templates::choice_impls;
 use crate::cursor::Cursor;
 use crate::cuts::cut;
 use crate::declared::{declared_fields, declared_variants, type_name};
 use crate::edits::{Edit, edited};
+use crate::form_templates::form_impls;
+use crate::forms::{Forms, forms_impl, forms_of, has_forms};
 use crate::imports::imports_of;
 use crate::items::{Attribute, Item, ItemKind, items_of};
 use crate::lexer::{Token, tokens_of};
 use crate::merge::use_edits;
 use crate::record::{Record, record_of};
 use crate::refusal::NoImpls;
-use crate::rules::type_rules;
+use crate::rules::{refuse_rules, type_rules};
 use crate::templates::{Impl, impls_of};
 use crate::uses::{refuse_taken, uses_of};
 use crate::wanted::is_wanted;
@@ -24,6 +26,14 @@ use std::alloc::{AllocError, Global};
 pub struct Types<'t> {
     pub records: Vec<Record<'t>>,
     pub choices: Vec<Choice<'t>>,
+    pub forms: Vec<Forms<'t>>,
+}
+
+impl Types<'_> {
+    /// Whether there is none.
+    pub fn is_empty(&self) -> bool {
+        self.records.is_empty() && self.choices.is_empty() && self.forms.is_empty()
+    }
 }
 
 /// The text of a file with the impls of its types behind them, in place of those that it had, and with the `use` lines
@@ -67,6 +77,7 @@ fn edits_of<'t>(alloc: Global, file: File<'_, '_, '_, 't>) -> Result<Vec<Edit>, 
     let mut types = Types {
         records: Vec::new(alloc),
         choices: Vec::new(alloc),
+        forms: Vec::new(alloc),
     };
     let mut edits = Vec::new(alloc);
     for item in file.items {
@@ -91,29 +102,23 @@ fn add_type<'t>(
         return Ok(());
     }
     cut_from(alloc, file.text, item.attributes.as_slice(), edits)?;
-    if item.kind == ItemKind::Enum {
-        let choice = choice_in(alloc, file, item, name, edits)?;
-        add_impls(
-            alloc,
-            file,
-            item,
-            name.text,
-            choice_impls(alloc, &choice)?,
-            edits,
-        )?;
-        types.choices.push(choice)?;
-    } else {
+    let impls = if item.kind == ItemKind::Struct {
         let record = record_in(alloc, file, item, name, edits)?;
-        add_impls(
-            alloc,
-            file,
-            item,
-            name.text,
-            impls_of(alloc, &record)?,
-            edits,
-        )?;
+        let impls = impls_of(alloc, &record)?;
         types.records.push(record)?;
-    }
+        impls
+    } else if has_forms(alloc, file.items, item, name.text)? {
+        let forms = forms_in(alloc, file, item, name)?;
+        let impls = form_impls(alloc, &forms)?;
+        types.forms.push(forms)?;
+        impls
+    } else {
+        let choice = choice_in(alloc, file, item, name, edits)?;
+        let impls = choice_impls(alloc, &choice)?;
+        types.choices.push(choice)?;
+        impls
+    };
+    add_impls(alloc, file, item, name.text, impls, edits)?;
     Ok(())
 }
 
@@ -144,6 +149,7 @@ fn choice_in<'t>(
 ) -> Result<Choice<'t>, NoImpls<'t>> {
     let rules = type_rules(alloc, item.attributes.as_slice())?;
     let variants = declared_variants(alloc, item)?;
+    refuse_data(variants.as_slice())?;
     for variant in &variants {
         cut_from(alloc, file.text, variant.attributes.as_slice(), edits)?;
     }
@@ -154,6 +160,25 @@ fn choice_in<'t>(
     };
     let path = variants_path(alloc, file.text, name, file.module, listing)?;
     choice_of(alloc, name.text, path, rules, variants.as_slice(), &list)
+}
+
+// The choice of two forms that an enum is.
+fn forms_in<'t>(
+    alloc: Global,
+    file: File<'_, '_, '_, 't>,
+    item: &Item<'_, 't>,
+    name: Token<'t>,
+) -> Result<Forms<'t>, NoImpls<'t>> {
+    refuse_rules(alloc, item.attributes.as_slice(), &["rename", "untagged"])?;
+    let variants = declared_variants(alloc, item)?;
+    let (first, second) = forms_of(alloc, file.items, name, variants.as_slice())?;
+    let listing = forms_impl(file.items, name.text);
+    Ok(Forms {
+        name: name.text,
+        path: variants_path(alloc, file.text, name, file.module, listing)?,
+        first,
+        second,
+    })
 }
 
 // Cuts what serde has in some attributes.
@@ -208,7 +233,7 @@ fn add_uses<'t>(
     types: &Types<'t>,
     edits: &mut Vec<Edit>,
 ) -> Result<(), NoImpls<'t>> {
-    if types.records.is_empty() && types.choices.is_empty() {
+    if types.is_empty() {
         return Ok(());
     }
     let imports = imports_of(alloc, types)?;

@@ -15,7 +15,7 @@ pub struct Import {
 }
 
 // What the clauses of impls may need, by paths.
-const GHOST: [(&str, &[&str]); 5] = [
+const GHOST: [(&str, &[&str]); 7] = [
     (
         "Rattle.std.specs.Prelude",
         &[
@@ -29,6 +29,7 @@ const GHOST: [(&str, &[&str]); 5] = [
             "true",
         ],
     ),
+    ("Rattle.basic_toml.specs.Nodes", &["is_table"]),
     (
         "Rattle.basic_toml.specs.Records",
         &["record_faults", "record_reads"],
@@ -36,6 +37,19 @@ const GHOST: [(&str, &[&str]); 5] = [
     (
         "Rattle.basic_toml_returns.proofs.RecordsReturn",
         &["record_back"],
+    ),
+    (
+        "Rattle.basic_toml_returns.specs.Forms",
+        &[
+            "by_test",
+            "form_back",
+            "form_calls",
+            "form_faults",
+            "form_holds",
+            "form_reads",
+            "one",
+            "other",
+        ],
     ),
     (
         "Rattle.basic_toml_returns.specs.RoundTrips",
@@ -83,6 +97,7 @@ const CODE: [(&str, &[&str]); 4] = [
         "basic_toml_returns",
         &[
             "Choice",
+            "Forms",
             "Returns",
             "Root",
             "RoundTrip",
@@ -145,6 +160,16 @@ fn is_needed(types: &Types<'_>, name: &str) -> bool {
         | "Choice"
         | "read_variant"
         | "write_variant" => !types.choices.is_empty(),
+        "is_table"
+        | "by_test"
+        | "form_back"
+        | "form_calls"
+        | "form_faults"
+        | "form_holds"
+        | "form_reads"
+        | "one"
+        | "other"
+        | "Forms" => !types.forms.is_empty(),
         "Deserialize"
         | "Error"
         | "Node"
@@ -154,7 +179,7 @@ fn is_needed(types: &Types<'_>, name: &str) -> bool {
         | "WriteError"
         | "Returns"
         | "refl"
-        | "Global" => !types.records.is_empty() || !types.choices.is_empty(),
+        | "Global" => !types.is_empty(),
         _ => !types.records.is_empty(),
     }
 }

@@ -102,6 +102,31 @@ pub fn push_call(
     write!(text, "){end}")
 }
 
+/// Puts an arm of a match that is a call.
+pub fn push_arm(
+    alloc: Global,
+    text: &mut String,
+    pattern: &str,
+    called: &str,
+    arguments: &str,
+) -> Result<(), AllocError> {
+    let begun = format!(in alloc; "            {pattern} => {called}(")?;
+    let line = format!(in alloc; "{begun}{arguments}),")?;
+    if line.len() <= LINE {
+        write!(text, "\n{line}")
+    } else if begun.len() <= LINE {
+        write!(
+            text,
+            "\n{begun}\n                {arguments},\n            ),"
+        )
+    } else {
+        write!(
+            text,
+            "\n            {pattern} =>\n                {called}({arguments}),"
+        )
+    }
+}
+
 /// Puts the first line of a function of an impl, or its first lines where that would be too long.
 pub fn push_signature(
     alloc: Global,

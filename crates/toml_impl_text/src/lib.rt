@@ -9,6 +9,8 @@ mod cuts;
 mod declared;
 mod edits;
 mod file;
+mod form_templates;
+mod forms;
 mod imports;
 mod items;
 mod layout;

@@ -45,7 +45,20 @@ pub enum Reason<'t> {
     /// A type without fields or variants.
     Empty,
     Invariant,
+    /// A variant that holds something, where the enum is not `untagged`.
     VariantData,
+    /// More or fewer variants than two.
+    NotTwo,
+    /// A variant that holds more or less than one value.
+    NotOne,
+    /// Two variants that hold tables, or two that hold none.
+    SameForm,
+    /// A type that may be a table.
+    FormType,
+    /// Another test than the program's.
+    OtherTest,
+    /// What has no meaning for a choice of two forms.
+    OfForms(&'t str),
     /// An enum, where the path of its module is not known.
     NoModule,
     /// The type of a field that no TOML value has.
@@ -80,6 +93,12 @@ impl fmt::Display for Reason<'_> {
             Reason::Unclosed => write!(f, "a bracket that is not closed"),
             Reason::Expected(what) => write!(f, "expected {what}"),
             Reason::NotTaken(word) => write!(f, "`{word}` is not taken"),
+            Reason::OfForms(word) => {
+                write!(
+                    f,
+                    "`{word}` says nothing of an `untagged` enum: leave it out"
+                )
+            }
             Reason::Taken(name, path) => {
                 write!(f, "`{name}` is another's: the impls need that of {path}")
             }
@@ -87,7 +106,10 @@ impl fmt::Display for Reason<'_> {
             | Reason::NotNamed
             | Reason::Empty
             | Reason::Invariant
-            | Reason::VariantData => {
+            | Reason::VariantData
+            | Reason::NotTwo
+            | Reason::NotOne
+            | Reason::SameForm => {
                 let what = self.text();
                 write!(
                     f,
@@ -107,7 +129,17 @@ impl Reason<'_> {
             Reason::NotNamed => "a struct without named fields",
             Reason::Empty => "a type without fields or variants",
             Reason::Invariant => "a struct with an invariant",
-            Reason::VariantData => "a variant with data",
+            Reason::VariantData => "a variant with data, where the enum is not `untagged`",
+            Reason::NotTwo => "an `untagged` enum of more or fewer variants than two",
+            Reason::NotOne => "a variant that does not hold one value, as `Version(String)` does",
+            Reason::SameForm => "both variants hold a table, or neither does",
+            Reason::FormType => {
+                "it is not known here whether this type is a table: take a type of this file, or \
+                 write the impls by hand"
+            }
+            Reason::OtherTest => {
+                "another test than `is_table`: leave out what serde has at the enum, and its impls stay"
+            }
             Reason::NoModule => {
                 "an enum needs the path of its module: --module my_crate::settings"
             }

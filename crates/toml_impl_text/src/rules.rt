@@ -73,6 +73,46 @@ pub fn type_rules<'t>(
     Ok(rules)
 }
 
+/// Whether the attributes of an enum say that its variants are told apart by what they hold.
+pub fn is_untagged<'t>(
+    alloc: Global,
+    attributes: &[Attribute<'_, 't>],
+) -> Result<bool, NoImpls<'t>> {
+    for attribute in attributes {
+        let rules = rules_in(alloc, attribute)?;
+        if rules.iter().any(|rule| rule.name.text == "untagged") {
+            return Ok(true);
+        }
+    }
+    Ok(false)
+}
+
+/// Refuses what the attributes of a choice of two forms, or of its variants, say but for these words.
+pub fn refuse_rules<'t>(
+    alloc: Global,
+    attributes: &[Attribute<'_, 't>],
+    taken: &[&str],
+) -> Result<(), NoImpls<'t>> {
+    for attribute in attributes {
+        for rule in rules_in(alloc, attribute)? {
+            let Rule { name, .. } = rule;
+            match name.text {
+                word if taken.iter().any(|one| *one == word) => {}
+                "rename"
+                | "rename_all"
+                | "deny_unknown_fields"
+                | "default"
+                | "alias"
+                | "skip_serializing_if" => {
+                    return Err(NoImpls::At(name.at, Reason::OfForms(name.text)));
+                }
+                _ => return Err(not_taken(rule)),
+            }
+        }
+    }
+    Ok(())
+}
+
 /// What the attributes of a field or a variant say of it.
 pub fn field_rules<'t>(
     alloc: Global,

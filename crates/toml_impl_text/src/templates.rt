@@ -103,18 +103,24 @@ impl<'de> Deserialize<'de> for {name} {{
         push_read(&mut text, field)?;
     }
     text.push_str("\n        })\n    }\n")?;
+    push_from_tree(alloc, &mut text, name)?;
+    Ok(text)
+}
+
+/// Puts `from_tree` and the end of its impl.
+pub fn push_from_tree(alloc: Global, text: &mut String, name: &str) -> Result<(), AllocError> {
+    let returned = format!(in alloc; "Result<{name}, Error>")?;
     push_signature(
         alloc,
-        &mut text,
+        text,
         "from_tree",
         &["alloc: Global", "tree: Tree<'de>"],
-        result.as_str(),
+        returned.as_str(),
     )?;
     write!(
         text,
         "\n        {name}::deserialize(alloc, tree.root())\n    }}\n}}"
-    )?;
-    Ok(text)
+    )
 }
 
 fn push_read(text: &mut String, field: &Field<'_>) -> Result<(), AllocError> {

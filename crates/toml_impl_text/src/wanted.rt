@@ -3,14 +3,16 @@
 use crate::choice::listing_impl;
 use crate::cursor::Cursor;
 use crate::cuts::asks;
+use crate::forms::{forms_impl, is_by_table};
 use crate::items::Item;
 use crate::refusal::NoImpls;
 use crate::written::is_impl;
 use std::alloc::Global;
 
 // The traits whose impls are written.
-const TRAITS: [&str; 7] = [
+const TRAITS: [&str; 8] = [
     "Choice",
+    "Forms",
     "RoundTrip",
     "Record",
     "Deserialize",
@@ -27,7 +29,9 @@ pub fn is_wanted<'t>(
     item: &Item<'_, 't>,
     name: &str,
 ) -> Result<bool, NoImpls<'t>> {
-    let is_listed = has_impl(items, "RoundTrip", name) || listing_impl(items, name).is_some();
+    let is_listed = has_impl(items, "RoundTrip", name)
+        || listing_impl(items, name).is_some()
+        || forms_impl(items, name).is_some_and(|forms| is_by_table(forms));
     if is_listed || has_rule(item.tokens) {
         return Ok(true);
     }

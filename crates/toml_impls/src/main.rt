@@ -19,8 +19,9 @@ toml_impls [--module PATH] < FILE
 toml_impls --from < TOML
 
 Writes the file with the impls of each struct and enum behind it, in place of those that it has already, and with the
-use lines that they need. A struct has named fields, of which an Option may be missing; an enum has no data. What
-serde's attributes say is taken from them: rename, rename_all, default (or default = 8080), deny_unknown_fields,
+use lines that they need. A struct has named fields, of which an Option may be missing; an enum has no data, or is
+untagged and has two variants, one that holds a table and one that holds another value. What serde's attributes say is
+taken from them: rename, rename_all, default (or default = 8080), deny_unknown_fields, untagged,
 skip_serializing_if = \"Option::is_none\". Then they are cut, since Rattle has none: the impls keep what they said.
 
   --module PATH  the path of the file, as my_crate::settings: for enums

@@ -1,5 +1,5 @@
-//! Structs of 1 to 40 fields, and enums that they have, with their impls as `toml_impls` writes them. They are made at
-//! random, by `tools/impls/run --keep`, and show that what it writes is proved.
+//! Structs of 1 to 40 fields, and enums of names and of two forms, with their impls as `toml_impls` writes them. They
+//! are made at random, by `tools/impls/run --keep`, and show that what it writes is proved.
 #![tactic(auto)]
 
 pub mod made_0;
@@ -7,3 +7,4 @@ pub mod made_1;
 pub mod made_2;
 pub mod made_3;
 pub mod made_4;
+pub mod made_5;
