@@ -88,7 +88,7 @@ pub trait Choice: Sized {
 /// ```text
 /// impl Forms for Dependency {
 ///     ghost forms = { by_test is_table ⟦<Detail as Returns<'static>>⟧ ⟦<String as Returns<'static>>⟧
-///         (elim [ Version text ↦ other text | Detailed detail ↦ one detail ]) (λ x. refl) (λ x. refl) };
+///         (elim [ Version x ↦ other x | Detailed x ↦ one x ]) (λ x. refl) (λ x. refl) };
 /// }
 ///
 /// impl<'de> Deserialize<'de> for Dependency {
@@ -98,9 +98,11 @@ pub trait Choice: Sized {
 ///
 ///     fn deserialize(alloc: Global, node: Node<'_, 'de>) -> Result<Dependency, Error> {
 ///         if node.is_table() {
-///             Ok(Dependency::Detailed(Detail::deserialize(alloc, node)?))
+///             let value = Detail::deserialize(alloc, node)?;
+///             Ok(Dependency::Detailed(value))
 ///         } else {
-///             Ok(Dependency::Version(String::deserialize(alloc, node)?))
+///             let value = String::deserialize(alloc, node)?;
+///             Ok(Dependency::Version(value))
 ///         }
 ///     }
 ///     // ..
