@@ -109,11 +109,13 @@ pub refused_first : (items : List code.Item) (i : ℕ) (item : code.Item) (old n
 refused_first items i item old new kept trail keys at recorded behind refuses is all =
     let before : List Item = listed (take i items) in
     record {
-      before = before;
-      item = item_of item;
-      rest = listed (drop (suc i) items);
-      split = split_at items i item at;
-      taken = subst IsOk (sym recorded.taken) refl;
+      place = record {
+        before = before;
+        item = item_of item;
+        rest = listed (drop (suc i) items);
+        split = split_at items i item at;
+        taken = subst IsOk (sym recorded.taken) refl;
+      };
       met = named before (item_of item) kept (error_of new) is (refuses.due before recorded);
       keys = all ∙ ap set_keys behind;
     }

@@ -58,11 +58,7 @@ first_fault items refusal f first (inl memory) = inl (no_keys _ f memory)
 first_fault items refusal f first (inr (other, is)) =
     let (fault, met, same) = rule_named refusal.error _ other first.met in
     inr (record {
-      before = first.before;
-      item = first.item;
-      rest = first.rest;
-      split = first.split;
-      taken = first.taken;
+      place = first.place;
       error = fault;
       met = met;
       named = is

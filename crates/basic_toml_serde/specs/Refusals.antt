@@ -1,5 +1,5 @@
 -- Why a value is not written: the error, with the keys that lead to what is refused. (own)
-use Rattle.std.specs.Prelude.{◌≡◌, ◌⊎◌, List, [], ◌∷◌, ◌++◌, Some, Err, IsOk, map, string_bytes}
+use Rattle.std.specs.Prelude.{◌≡◌, ◌⊎◌, List, [], ◌∷◌, ◌++◌, Some, Err, map, string_bytes}
 use Rattle.basic_toml_value.specs.Data.{Data, Members, table}
 use Rattle.basic_toml_emit.specs.Items.{Item}
 use Rattle.basic_toml_emit.specs.Rules.{CallFault}
@@ -12,20 +12,17 @@ use Rattle.basic_toml.specs.RowsFirst.{rows_first}
 use Rattle.basic_toml.specs.Ser.{fault_kind}
 use Rattle.serde.specs.Event.{Event, Log}
 use Rattle.basic_toml_serde.specs.KeysTo.{keys_to}
+use Rattle.basic_toml_serde.specs.Refused.{Place}
 use Rattle.basic_toml_serde.specs.Sent.{AreItemsOf}
 use Rattle.basic_toml_serde.specs.Written.{IsSentTable}
 use Rattle.basic_toml_serde.specs.declared.refused.Refusal.{Refusal}
 
 -- The fault is that of the first of the items that is refused, with the keys that lead to it.
 pub record IsFaultOf (items : List Item) (f : Fault) : Type 0 where
-  pub before : List Item
-  pub item : Item
-  pub rest : List Item
-  pub split : items ≡ before ++ item ∷ rest
-  pub taken : IsOk (ran before)
+  pub place : Place items
   pub error : CallFault
-  pub met : ran (before ++ item ∷ []) ≡ Err error
-  pub named : f ≡ record (without_offset (fault_kind error)) { key_path = keys_to before }
+  pub met : ran (place.before ++ place.item ∷ []) ≡ Err error
+  pub named : f ≡ record (without_offset (fault_kind error)) { key_path = keys_to place.before }
 
 -- the fault has the keys that lead to one of the items
 pub record LeadsInto (items : List Item) (f : Fault) : Type 0 where

@@ -18,12 +18,16 @@ abbrev pub TakesIf : Bool → Item → Serializer → Serializer → Type 0
 TakesIf true item old new = Records HasRecorded (item ∷ []) old new
 TakesIf false item old new = Refuses item old new
 
--- One of the items is the first that is refused, as the error names it, and the keys lead to it.
-pub record IsFirstRefused (items : List Item) (refusal : Refusal) : Type 0 where
+-- one of the items, behind some that are all taken
+pub record Place (items : List Item) : Type 0 where
   pub before : List Item
   pub item : Item
   pub rest : List Item
   pub split : items ≡ before ++ item ∷ rest
   pub taken : IsOk (ran before)
-  pub met : Names refusal.error (ran (before ++ item ∷ []))
-  pub keys : map string_bytes refusal.keys.items ≡ keys_to before
+
+-- One of the items is the first that is refused, as the error names it, and the keys lead to it.
+pub record IsFirstRefused (items : List Item) (refusal : Refusal) : Type 0 where
+  pub place : Place items
+  pub met : Names refusal.error (ran (place.before ++ place.item ∷ []))
+  pub keys : map string_bytes refusal.keys.items ≡ keys_to place.before

@@ -68,7 +68,7 @@ fn kept_error(ser: Serializer) -> WriteError
         return WriteError::OutOfMemory;
     }
     match ser.finish() {
-        Ok(_) => WriteError::OutOfMemory,
+        Ok(_) => unreachable!(),
         Err(error) => error,
     }
 }
