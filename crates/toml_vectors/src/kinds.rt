@@ -1,25 +1,8 @@
-// Types of a caller and of the library, behind calls.
-use crate::parts::{Careless, Halting, Silent, text_or_fault};
+// Types of the library, behind calls.
 use basic_toml_value::{Table, Value};
-use basic_toml_write::{Serializer, WriteError, written};
+use basic_toml_write::{Serializer, WriteError};
 use std::alloc::{AllocError, Global};
 use std::collections::BTreeMap;
-
-#[test]
-fn answers_for_the_type(rt: HostRuntime) -> Result<(), AllocError> {
-    let alloc = rt.alloc();
-    let silent = text_or_fault(alloc, written(alloc, &Silent))?;
-    assert_eq!(rt; silent.as_str(), "CallOrder");
-    let careless = text_or_fault(alloc, written(alloc, &Careless))?;
-    assert_eq!(rt; careless.as_str(), "UnsupportedType");
-    let halting = text_or_fault(alloc, written(alloc, &Halting))?;
-    assert_eq!(rt; halting.as_str(), "Custom(\"no\")");
-    // A type's own error is no error.
-    let mut ser = Serializer::new(alloc);
-    assert!(rt; ser.serialize_newtype_struct("H", &Halting).is_err());
-    assert!(rt; !ser.has_refused());
-    Ok(())
-}
 
 // Values of other types behind a key each.
 #[test]

@@ -13,8 +13,6 @@ mod kinds;
 #[cfg(test)]
 mod messages;
 #[cfg(test)]
-mod nodes;
-#[cfg(test)]
 mod parts;
 #[cfg(test)]
 mod rows;

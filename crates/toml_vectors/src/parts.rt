@@ -1,12 +1,11 @@
-// Types whose calls the tests make, and what an answer shows.
+// Types whose calls the tests make.
 ghost use Rattle.std.specs.Prelude.{[], ◌∷◌, codes};
 ghost use Rattle.basic_toml_write.specs.Error.{IsCustom};
-ghost use Rattle.basic_toml_emit.specs.Items.{a_scalar, open_table};
-ghost use Rattle.basic_toml_layout.specs.Written.{refused};
+ghost use Rattle.basic_toml_emit.specs.Items.{open_table};
 ghost use Rattle.basic_toml_write.specs.Serializer.{GivesUpAfter};
 
 use basic_toml_write::{Serialize, Serializer, WriteError};
-use std::alloc::{AllocError, Global};
+use std::alloc::Global;
 
 // A part that makes no call.
 pub struct Silent;
@@ -34,29 +33,5 @@ impl Serialize for Halting {
     fn serialize(&self, alloc: Global, ser: &mut Serializer) -> Result<(), WriteError> {
         let _ = ser.serialize_map(None);
         Err(WriteError::custom(alloc, "no"))
-    }
-}
-
-// Drops the error of its call.
-pub struct Careless;
-
-impl Serialize for Careless {
-    ghost calls = { λ _. a_scalar refused ∷ [] };
-
-    #[tactic(auto, using(basic_toml_write::proofs::OneCallIsSent::sends_dropped))]
-    fn serialize(&self, alloc: Global, ser: &mut Serializer) -> Result<(), WriteError> {
-        let _ = alloc;
-        let _ = ser.serialize_unit();
-        Ok(())
-    }
-}
-
-pub fn text_or_fault(
-    alloc: Global,
-    answer: Result<String, WriteError>,
-) -> Result<String, AllocError> {
-    match answer {
-        Ok(text) => Ok(text),
-        Err(fault) => format!(in alloc; "{fault:?}"),
     }
 }

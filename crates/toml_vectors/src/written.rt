@@ -59,22 +59,6 @@ fn job(alloc: Global, choice: Choice) -> Result<Job, AllocError> {
 }
 
 #[test]
-fn writes_records(rt: HostRuntime) -> Result<(), Fail> {
-    let alloc = rt.alloc();
-    let rule = rule(alloc, "*.md", 80)?;
-    assert_eq!(rt;
-        to_string(alloc, &rule)?.as_str(),
-        "pattern = \"*.md\"\nlimit = 80\n"
-    );
-    let server = server(alloc)?;
-    assert_eq!(rt;
-        to_string(alloc, &server)?.as_str(),
-        "verbose = true\nport = 80\nhost_name = \"localhost\"\n\n[[rules]]\npattern = \"*.md\"\nlimit = 80\n\n[[rules]]\npattern = \"*.rs\"\nlimit = 120\n"
-    );
-    Ok(())
-}
-
-#[test]
 fn writes_a_record_of_many_fields(rt: HostRuntime) -> Result<(), Fail> {
     let alloc = rt.alloc();
     let start =
@@ -109,18 +93,6 @@ fn writes_other_forms(rt: HostRuntime) -> Result<(), Fail> {
         to_string(alloc, &Present(Wrapper(entry)))?.as_str(),
         "\"a b\" = [[1, \"one\"]]\n"
     );
-    Ok(())
-}
-
-#[test]
-fn a_record_returns(rt: HostRuntime) -> Result<(), Fail> {
-    let alloc = rt.alloc();
-    let server = write_then_read(alloc, &server(alloc)?)?;
-    assert!(rt; server.verbose && server.backup.is_none());
-    assert_eq!(rt; server.port, Some(80));
-    assert_eq!(rt; server.host_name.as_str(), "localhost");
-    assert_eq!(rt; server.rules.len(), 2);
-    assert_eq!(rt; server.rules[1].limit, 120);
     Ok(())
 }
 
