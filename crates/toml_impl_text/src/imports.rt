@@ -14,173 +14,155 @@ pub struct Import {
     pub names: Vec<&'static str>,
 }
 
+// Which types need a name.
+#[derive(Clone, Copy)]
+enum Need {
+    All,
+    Records,
+    // Records with an entry that has the name.
+    Words,
+    // Records that take no key but theirs.
+    Strict,
+    Choices,
+    Forms,
+}
+
+// Names by need, in order.
+type Names = &'static [(Need, &'static [&'static str])];
+
 // What the clauses of impls may need, by paths.
-const GHOST: [(&str, &[&str]); 7] = [
+const GHOST: &[(&str, Names)] = &[
     (
         "Rattle.std.specs.Prelude",
         &[
-            "◌∷◌",
-            "[]",
-            "codes",
-            "false",
-            "negsuc",
-            "pos",
-            "refl",
-            "true",
+            (Need::Choices, &["◌∷◌", "[]", "codes"]),
+            (Need::Words, &["false", "negsuc", "pos"]),
+            (Need::All, &["refl"]),
+            (Need::Words, &["true"]),
         ],
     ),
-    ("Rattle.basic_toml.specs.Nodes", &["is_table"]),
+    (
+        "Rattle.basic_toml.specs.Nodes",
+        &[(Need::Forms, &["is_table"])],
+    ),
     (
         "Rattle.basic_toml.specs.Records",
-        &["record_faults", "record_reads"],
+        &[(Need::Records, &["record_faults", "record_reads"])],
     ),
     (
         "Rattle.basic_toml_returns.proofs.RecordsReturn",
-        &["record_back"],
+        &[(Need::Records, &["record_back"])],
     ),
     (
         "Rattle.basic_toml_returns.specs.Forms",
-        &[
-            "by_test",
-            "form_back",
-            "form_calls",
-            "form_faults",
-            "form_holds",
-            "form_reads",
-            "one",
-            "other",
-        ],
+        &[(
+            Need::Forms,
+            &[
+                "by_test",
+                "form_back",
+                "form_calls",
+                "form_faults",
+                "form_holds",
+                "form_reads",
+                "one",
+                "other",
+            ],
+        )],
     ),
     (
         "Rattle.basic_toml_returns.specs.RoundTrips",
         &[
-            "as_read",
-            "done",
-            "maybe",
-            "needed",
-            "or",
-            "or_empty",
-            "or_text",
-            "record_calls",
-            "record_holds",
-            "strict",
+            (Need::Records, &["as_read", "done"]),
+            (
+                Need::Words,
+                &["maybe", "needed", "or", "or_empty", "or_text"],
+            ),
+            (Need::Records, &["record_calls", "record_holds"]),
+            (Need::Strict, &["strict"]),
         ],
     ),
     (
         "Rattle.basic_toml_returns.specs.Variants",
-        &[
-            "variant_back",
-            "variant_calls",
-            "variant_faults",
-            "variant_reads",
-        ],
+        &[(
+            Need::Choices,
+            &[
+                "variant_back",
+                "variant_calls",
+                "variant_faults",
+                "variant_reads",
+            ],
+        )],
     ),
 ];
 
 // What their code may need.
-const CODE: [(&str, &[&str]); 4] = [
+const CODE: &[(&str, Names)] = &[
     (
         "basic_toml",
         &[
-            "Deserialize",
-            "Error",
-            "Node",
-            "Record",
-            "Serialize",
-            "Serializer",
-            "Tree",
-            "WriteError",
-            "from_str",
+            (Need::All, &["Deserialize", "Error", "Node"]),
+            (Need::Records, &["Record"]),
+            (
+                Need::All,
+                &["Serialize", "Serializer", "Tree", "WriteError"],
+            ),
+            (Need::Records, &["from_str"]),
         ],
     ),
     (
         "basic_toml_returns",
         &[
-            "Choice",
-            "Forms",
-            "Returns",
-            "Root",
-            "RoundTrip",
-            "read_variant",
-            "write_record",
-            "write_variant",
+            (Need::Choices, &["Choice"]),
+            (Need::Forms, &["Forms"]),
+            (Need::All, &["Returns"]),
+            (Need::Records, &["Root", "RoundTrip"]),
+            (Need::Choices, &["read_variant"]),
+            (Need::Records, &["write_record"]),
+            (Need::Choices, &["write_variant"]),
         ],
     ),
-    ("basic_toml_typed", &["read_record"]),
-    ("std::alloc", &["Global"]),
+    ("basic_toml_typed", &[(Need::Records, &["read_record"])]),
+    ("std::alloc", &[(Need::All, &["Global"])]),
 ];
 
 /// What the impls of some types need.
 pub fn imports_of(alloc: Global, types: &Types<'_>) -> Result<Vec<Import>, AllocError> {
     let mut imports = Vec::new(alloc);
-    for (path, names) in GHOST {
-        imports.push(import_from(alloc, true, path, names, types)?)?;
-    }
-    for (path, names) in CODE {
-        imports.push(import_from(alloc, false, path, names, types)?)?;
+    for (is_ghost, paths) in [(true, GHOST), (false, CODE)] {
+        for (path, names) in paths {
+            imports.push(Import {
+                is_ghost,
+                path,
+                names: needed(alloc, names, types)?,
+            })?;
+        }
     }
     Ok(imports)
 }
 
-fn import_from(
-    alloc: Global,
-    is_ghost: bool,
-    path: &'static str,
-    names: &[&'static str],
-    types: &Types<'_>,
-) -> Result<Import, AllocError> {
+fn needed(alloc: Global, names: Names, types: &Types<'_>) -> Result<Vec<&'static str>, AllocError> {
     let mut needed = Vec::new(alloc);
-    for name in names {
-        if is_needed(types, name) {
-            needed.push(*name)?;
+    for (need, names) in names {
+        for name in *names {
+            if is_needed(types, *need, name) {
+                needed.push(*name)?;
+            }
         }
     }
-    Ok(Import {
-        is_ghost,
-        path,
-        names: needed,
-    })
+    Ok(needed)
 }
 
-fn is_needed(types: &Types<'_>, name: &str) -> bool {
-    match name {
-        "strict" => types.records.iter().any(|record| record.is_strict),
-        "needed" | "maybe" | "or" | "or_empty" | "or_text" | "true" | "false" | "pos" | "negsuc" =>
-            types.records.iter().any(|record| record
-                .fields
-                .iter()
-                .any(|field| has_word(field, name))),
-        "◌∷◌"
-        | "[]"
-        | "codes"
-        | "variant_back"
-        | "variant_calls"
-        | "variant_faults"
-        | "variant_reads"
-        | "Choice"
-        | "read_variant"
-        | "write_variant" => !types.choices.is_empty(),
-        "is_table"
-        | "by_test"
-        | "form_back"
-        | "form_calls"
-        | "form_faults"
-        | "form_holds"
-        | "form_reads"
-        | "one"
-        | "other"
-        | "Forms" => !types.forms.is_empty(),
-        "Deserialize"
-        | "Error"
-        | "Node"
-        | "Serialize"
-        | "Serializer"
-        | "Tree"
-        | "WriteError"
-        | "Returns"
-        | "refl"
-        | "Global" => !types.is_empty(),
-        _ => !types.records.is_empty(),
+fn is_needed(types: &Types<'_>, need: Need, name: &str) -> bool {
+    match need {
+        Need::All => !types.is_empty(),
+        Need::Records => !types.records.is_empty(),
+        Need::Words => types.records.iter().any(|record| record
+            .fields
+            .iter()
+            .any(|field| has_word(field, name))),
+        Need::Strict => types.records.iter().any(|record| record.is_strict),
+        Need::Choices => !types.choices.is_empty(),
+        Need::Forms => !types.forms.is_empty(),
     }
 }
 

@@ -7,7 +7,7 @@ use std::alloc::Global;
 use std::mem;
 
 /// What kind of item it is.
-#[derive(Clone, Copy, Debug, PartialEq, Eq)]
+#[derive(Clone, Copy, PartialEq, Eq)]
 pub enum ItemKind {
     Struct,
     Enum,

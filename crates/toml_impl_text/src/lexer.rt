@@ -5,7 +5,7 @@ ghost use Rattle.std.specs.Iterator.{at_most};
 use std::alloc::{AllocError, Global};
 
 /// What a token is.
-#[derive(Clone, Copy, Debug, PartialEq, Eq)]
+#[derive(Clone, Copy, PartialEq, Eq)]
 pub enum Kind {
     /// A name or a keyword.
     Word,
@@ -22,7 +22,7 @@ pub enum Kind {
 }
 
 /// A token and where it stands.
-#[derive(Clone, Copy, Debug)]
+#[derive(Clone, Copy)]
 pub struct Token<'t> {
     pub kind: Kind,
     pub text: &'t str,

@@ -7,7 +7,7 @@ use std::alloc::{AllocError, Global};
 use std::fmt;
 
 /// A value that stands in the text.
-#[derive(Clone, Copy, Debug, PartialEq, Eq)]
+#[derive(Clone, Copy, PartialEq, Eq)]
 pub enum Literal<'t> {
     Bool(bool),
     Integer(u64),

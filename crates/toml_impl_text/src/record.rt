@@ -28,7 +28,7 @@ pub struct Field<'t> {
 }
 
 /// Whether the key of a field has to be there.
-#[derive(Clone, Copy, Debug, PartialEq, Eq)]
+#[derive(Clone, Copy, PartialEq, Eq)]
 pub enum Presence<'t> {
     Needed,
     /// The field is an option.

@@ -17,7 +17,7 @@ struct Rule<'c, 't> {
 }
 
 /// What is said of a type.
-#[derive(Clone, Copy, Debug)]
+#[derive(Clone, Copy)]
 pub struct TypeRules {
     /// The case of its keys.
     pub case: Option<Case>,
@@ -26,7 +26,7 @@ pub struct TypeRules {
 }
 
 /// What is said of a field or a variant.
-#[derive(Clone, Copy, Debug)]
+#[derive(Clone, Copy)]
 pub struct FieldRules<'t> {
     pub key: Option<&'t str>,
     pub default: DefaultRule<'t>,
@@ -35,7 +35,7 @@ pub struct FieldRules<'t> {
 }
 
 /// Whether a field has a default.
-#[derive(Clone, Copy, Debug)]
+#[derive(Clone, Copy)]
 pub enum DefaultRule<'t> {
     Unsaid,
     /// That of its type: where this is said.

@@ -17,7 +17,7 @@ pub struct FieldList<'t> {
 }
 
 /// What a list says of a field.
-#[derive(Clone, Copy, Debug)]
+#[derive(Clone, Copy)]
 pub struct Entry<'t> {
     pub field: &'t str,
     pub key: &'t str,
