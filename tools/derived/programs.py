@@ -49,15 +49,15 @@ def written(folder, sources):
             file.write(text)
 
 
-def libraries():
-    """Answers the libraries that ours stands on, lowest last."""
+def libraries(crates):
+    """Answers these libraries and those that they stand on, lowest last."""
     needs = {}
     with open(os.path.join(TOP, "crates.txt"), encoding="utf-8") as lines:
         for line in lines:
             name, _, below = line.partition(":")
             if not line.startswith("#"):
                 needs[name.split(" ")[0]] = below.split()
-    names, found = ["basic_toml_serde"], []
+    names, found = crates.split(), []
     while names:
         name = names.pop()
         if name in needs and name not in found:
@@ -92,14 +92,14 @@ def laid_out(tree, sources):
             written(tree, {name: text})
 
 
-def ours(name, sources, *level):
-    """Builds a program over `basic_toml_serde` of these files of its src/, without proofs, `-O0` or optimized."""
+def ours(name, sources, *level, crates="basic_toml_serde basic_toml serde"):
+    """Builds a program over these crates of these files of its src/, without proofs, `-O0` or optimized."""
     program = os.path.join(OUT, name + "".join(level or ["-O3"]))
-    libraries_below = libraries()
+    libraries_below = libraries(crates)
     files = {**sources_of(libraries_below), **{f"crates/{name}/src/{file}": text for file, text in sources.items()}}
     with open(os.path.join(TOP, "crates.txt"), encoding="utf-8") as lines:
         listed = [line for line in lines if line.partition(":")[0] in libraries_below]
-    files["crates.txt"] = "".join(listed) + f"{name}: basic_toml_serde basic_toml serde\n"
+    files["crates.txt"] = "".join(listed) + f"{name}: {crates}\n"
     key = key_of(files, *level)
     if is_newest(program, key):
         return program
