@@ -1,6 +1,6 @@
 //! Types that were made at random.
 
-ghost use Rattle.std.specs.Prelude.{◌∷◌, [], codes, negsuc, pos, refl};
+ghost use Rattle.std.specs.Prelude.{◌∷◌, [], codes, negsuc, refl};
 ghost use Rattle.basic_toml.specs.Records.{record_faults, record_reads};
 ghost use Rattle.basic_toml_returns.proofs.RecordsReturn.{record_back};
 ghost use Rattle.basic_toml_returns.specs.RoundTrips.{as_read, done, maybe, needed, or, or_empty, record_calls, record_holds, strict};
@@ -309,113 +309,6 @@ impl<'de> Returns<'de> for KeyIndex4 {
 
 impl<'de> Root<'de> for KeyIndex4 {
     fn from_text(alloc: Global, text: &str) -> Result<KeyIndex4, Error> {
-        from_str(alloc, text)
-    }
-}
-
-/// A record.
-#[derive(Debug, Drop)]
-pub struct WidthIndex5 {
-    pub retry_14: i8,
-    pub mode_level_host_14: Option<Float>,
-    pub group_cache_14: i8,
-    pub color_max_name_port_14: BTreeMap<String, u32>,
-    pub key_group_group_14: u8,
-    pub width_color: Option<Vec<String>>,
-    pub group_limit: Vec<Float>,
-    pub user_width_color: Option<HostIndexOf4>,
-    pub name_14: Option<BTreeMap<String, Vec<i32>>>,
-    pub limit_cache: Float,
-    pub group_limit_path_group_14: i16,
-    pub group: BTreeMap<String, HostIndexOf4>,
-    pub key_size_log_color_14: Option<u64>,
-    pub name_width_group_max_14: Option<Vec<bool>>,
-}
-
-impl RoundTrip for WidthIndex5 {
-    ghost fields = { or ⟦<i8 as Returns<'static>>⟧ "Retry14" (negsuc 74) (λ s. s.retry_14)
-        (maybe ⟦<Float as Returns<'static>>⟧ "ModeLevelHost14" (λ s. s.mode_level_host_14)
-        (needed ⟦<i8 as Returns<'static>>⟧ "GroupCache14" (λ s. s.group_cache_14)
-        (needed ⟦<BTreeMap<String, u32> as Returns<'static>>⟧ "ColorMaxNamePort14" (λ s. s.color_max_name_port_14)
-        (needed ⟦<u8 as Returns<'static>>⟧ "KeyGroupGroup14" (λ s. s.key_group_group_14)
-        (maybe ⟦<Vec<String> as Returns<'static>>⟧ "WidthColor" (λ s. s.width_color)
-        (needed ⟦<Vec<Float> as Returns<'static>>⟧ "GroupLimit" (λ s. s.group_limit)
-        (maybe ⟦<HostIndexOf4 as Returns<'static>>⟧ "user-width-color" (λ s. s.user_width_color)
-        (maybe ⟦<BTreeMap<String, Vec<i32>> as Returns<'static>>⟧ "Name14" (λ s. s.name_14)
-        (needed ⟦<Float as Returns<'static>>⟧ "LimitCache" (λ s. s.limit_cache)
-        (or ⟦<i16 as Returns<'static>>⟧ "GroupLimitPathGroup14" (pos 32767) (λ s. s.group_limit_path_group_14)
-        (needed ⟦<BTreeMap<String, HostIndexOf4> as Returns<'static>>⟧ "Group" (λ s. s.group)
-        (maybe ⟦<u64 as Returns<'static>>⟧ "KeySizeLogColor14" (λ s. s.key_size_log_color_14)
-        (maybe ⟦<Vec<bool> as Returns<'static>>⟧ "NameWidthGroupMax14" (λ s. s.name_width_group_max_14)
-        done))))))))))))) };
-}
-
-impl Record for WidthIndex5 {
-    ghost fields = { as_read ⟦<WidthIndex5 as RoundTrip>⟧.fields };
-}
-
-impl<'de> Deserialize<'de> for WidthIndex5 {
-    ghost reads = { record_reads ⟦<WidthIndex5 as Record>⟧.fields };
-
-    ghost faults = { record_faults ⟦<WidthIndex5 as Record>⟧.fields };
-
-    fn deserialize(alloc: Global, node: Node<'_, 'de>) -> Result<WidthIndex5, Error> {
-        read_record!(alloc, node, WidthIndex5 {
-            retry_14 = or("Retry14", -75),
-            mode_level_host_14 = maybe("ModeLevelHost14"),
-            group_cache_14 = needed("GroupCache14"),
-            color_max_name_port_14 = needed("ColorMaxNamePort14"),
-            key_group_group_14 = needed("KeyGroupGroup14"),
-            width_color = maybe("WidthColor"),
-            group_limit = needed("GroupLimit"),
-            user_width_color = maybe("user-width-color"),
-            name_14 = maybe("Name14"),
-            limit_cache = needed("LimitCache"),
-            group_limit_path_group_14 = or("GroupLimitPathGroup14", 32767),
-            group = needed("Group"),
-            key_size_log_color_14 = maybe("KeySizeLogColor14"),
-            name_width_group_max_14 = maybe("NameWidthGroupMax14"),
-        })
-    }
-
-    fn from_tree(alloc: Global, tree: Tree<'de>) -> Result<WidthIndex5, Error> {
-        WidthIndex5::deserialize(alloc, tree.root())
-    }
-}
-
-impl Serialize for WidthIndex5 {
-    ghost calls = { record_calls ⟦<WidthIndex5 as RoundTrip>⟧.fields };
-
-    ghost holds = { record_holds ⟦<WidthIndex5 as RoundTrip>⟧.fields };
-
-    fn serialize(&self, _alloc: Global, ser: &mut Serializer) -> Result<(), WriteError> {
-        write_record!(ser, self, WidthIndex5 {
-            retry_14 = "Retry14",
-            mode_level_host_14 = "ModeLevelHost14",
-            group_cache_14 = "GroupCache14",
-            color_max_name_port_14 = "ColorMaxNamePort14",
-            key_group_group_14 = "KeyGroupGroup14",
-            width_color = "WidthColor",
-            group_limit = "GroupLimit",
-            user_width_color = "user-width-color",
-            name_14 = "Name14",
-            limit_cache = "LimitCache",
-            group_limit_path_group_14 = "GroupLimitPathGroup14",
-            group = "Group",
-            key_size_log_color_14 = "KeySizeLogColor14",
-            name_width_group_max_14 = "NameWidthGroupMax14",
-        })
-    }
-}
-
-impl<'de> Returns<'de> for WidthIndex5 {
-    ghost read_back = { record_back ⟦<WidthIndex5 as RoundTrip>⟧.fields (λ s. refl) };
-
-    ghost returns = { ⟦<WidthIndex5 as Returns<'static>>⟧.read_back.returns };
-}
-
-impl<'de> Root<'de> for WidthIndex5 {
-    fn from_text(alloc: Global, text: &str) -> Result<WidthIndex5, Error> {
         from_str(alloc, text)
     }
 }

@@ -208,36 +208,42 @@ impl<'de> Root<'de> for ModeColor6 {
 /// A record.
 #[derive(Debug, Drop)]
 pub struct ModeColor7 {
-    pub user_path_level_mode_13: i64,
-    pub mode_13: Option<bool>,
-    pub port_13: Option<u32>,
-    pub key_13: u32,
-    pub rate_port_13: i8,
+    pub user_path_level_mode_16: i64,
+    pub mode_16: Option<bool>,
+    pub port_16: Option<u32>,
+    pub key_16: u32,
+    pub rate_port_16: i8,
     pub size: Option<u16>,
-    pub host_13: u16,
-    pub host_color_rate_port_13: BTreeMap<String, u16>,
-    pub max_13: Option<Vec<ModeKeyOf7>>,
+    pub host_16: u16,
+    pub host_color_rate_port_16: BTreeMap<String, u16>,
+    pub max_16: Option<Vec<ModeKeyOf7>>,
     pub size_cache_size: BTreeMap<String, Vec<i16>>,
     pub path_path_cache_cache: i32,
     pub key_host_mode_limit: bool,
     pub limit_limit_user_path: Option<i16>,
+    pub width_16: BTreeMap<String, Vec<ModeKeyOf7>>,
+    pub retry_path_limit_16: ModeColor6,
+    pub rate_key_size_level: ModeColor6,
 }
 
 impl RoundTrip for ModeColor7 {
-    ghost fields = { or ⟦<i64 as Returns<'static>>⟧ "the user.path.level.mode.13" (pos 9223372036854775807) (λ s. s.user_path_level_mode_13)
-        (maybe ⟦<bool as Returns<'static>>⟧ "mode_13" (λ s. s.mode_13)
-        (maybe ⟦<u32 as Returns<'static>>⟧ "the port-13" (λ s. s.port_13)
-        (needed ⟦<u32 as Returns<'static>>⟧ "x-key-13" (λ s. s.key_13)
-        (needed ⟦<i8 as Returns<'static>>⟧ "rate_port_13" (λ s. s.rate_port_13)
+    ghost fields = { or ⟦<i64 as Returns<'static>>⟧ "the user.path.level.mode.16" (pos 9223372036854775807) (λ s. s.user_path_level_mode_16)
+        (maybe ⟦<bool as Returns<'static>>⟧ "mode_16" (λ s. s.mode_16)
+        (maybe ⟦<u32 as Returns<'static>>⟧ "the port-16" (λ s. s.port_16)
+        (needed ⟦<u32 as Returns<'static>>⟧ "x-key-16" (λ s. s.key_16)
+        (needed ⟦<i8 as Returns<'static>>⟧ "rate_port_16" (λ s. s.rate_port_16)
         (maybe ⟦<u16 as Returns<'static>>⟧ "size" (λ s. s.size)
-        (or ⟦<u16 as Returns<'static>>⟧ "host_13" 65535 (λ s. s.host_13)
-        (needed ⟦<BTreeMap<String, u16> as Returns<'static>>⟧ "host_color_rate_port_13" (λ s. s.host_color_rate_port_13)
-        (maybe ⟦<Vec<ModeKeyOf7> as Returns<'static>>⟧ "max_13" (λ s. s.max_13)
+        (or ⟦<u16 as Returns<'static>>⟧ "host_16" 65535 (λ s. s.host_16)
+        (needed ⟦<BTreeMap<String, u16> as Returns<'static>>⟧ "host_color_rate_port_16" (λ s. s.host_color_rate_port_16)
+        (maybe ⟦<Vec<ModeKeyOf7> as Returns<'static>>⟧ "max_16" (λ s. s.max_16)
         (needed ⟦<BTreeMap<String, Vec<i16>> as Returns<'static>>⟧ "x-size-cache-size" (λ s. s.size_cache_size)
         (needed ⟦<i32 as Returns<'static>>⟧ "path_path_cache_cache" (λ s. s.path_path_cache_cache)
         (needed ⟦<bool as Returns<'static>>⟧ "key_host_mode_limit" (λ s. s.key_host_mode_limit)
         (maybe ⟦<i16 as Returns<'static>>⟧ "limit_limit_user_path" (λ s. s.limit_limit_user_path)
-        done)))))))))))) };
+        (needed ⟦<BTreeMap<String, Vec<ModeKeyOf7>> as Returns<'static>>⟧ "the width-16" (λ s. s.width_16)
+        (needed ⟦<ModeColor6 as Returns<'static>>⟧ "retry_path_limit_16" (λ s. s.retry_path_limit_16)
+        (needed ⟦<ModeColor6 as Returns<'static>>⟧ "rate_key_size_level" (λ s. s.rate_key_size_level)
+        done))))))))))))))) };
 }
 
 impl Record for ModeColor7 {
@@ -251,19 +257,22 @@ impl<'de> Deserialize<'de> for ModeColor7 {
 
     fn deserialize(alloc: Global, node: Node<'_, 'de>) -> Result<ModeColor7, Error> {
         read_record!(alloc, node, ModeColor7 {
-            user_path_level_mode_13 = or("the user.path.level.mode.13", 9223372036854775807),
-            mode_13 = maybe("mode_13"),
-            port_13 = maybe("the port-13"),
-            key_13 = needed("x-key-13"),
-            rate_port_13 = needed("rate_port_13"),
+            user_path_level_mode_16 = or("the user.path.level.mode.16", 9223372036854775807),
+            mode_16 = maybe("mode_16"),
+            port_16 = maybe("the port-16"),
+            key_16 = needed("x-key-16"),
+            rate_port_16 = needed("rate_port_16"),
             size = maybe("size"),
-            host_13 = or("host_13", 65535),
-            host_color_rate_port_13 = needed("host_color_rate_port_13"),
-            max_13 = maybe("max_13"),
+            host_16 = or("host_16", 65535),
+            host_color_rate_port_16 = needed("host_color_rate_port_16"),
+            max_16 = maybe("max_16"),
             size_cache_size = needed("x-size-cache-size"),
             path_path_cache_cache = needed("path_path_cache_cache"),
             key_host_mode_limit = needed("key_host_mode_limit"),
             limit_limit_user_path = maybe("limit_limit_user_path"),
+            width_16 = needed("the width-16"),
+            retry_path_limit_16 = needed("retry_path_limit_16"),
+            rate_key_size_level = needed("rate_key_size_level"),
         })
     }
 
@@ -279,19 +288,22 @@ impl Serialize for ModeColor7 {
 
     fn serialize(&self, _alloc: Global, ser: &mut Serializer) -> Result<(), WriteError> {
         write_record!(ser, self, ModeColor7 {
-            user_path_level_mode_13 = "the user.path.level.mode.13",
-            mode_13 = "mode_13",
-            port_13 = "the port-13",
-            key_13 = "x-key-13",
-            rate_port_13 = "rate_port_13",
+            user_path_level_mode_16 = "the user.path.level.mode.16",
+            mode_16 = "mode_16",
+            port_16 = "the port-16",
+            key_16 = "x-key-16",
+            rate_port_16 = "rate_port_16",
             size = "size",
-            host_13 = "host_13",
-            host_color_rate_port_13 = "host_color_rate_port_13",
-            max_13 = "max_13",
+            host_16 = "host_16",
+            host_color_rate_port_16 = "host_color_rate_port_16",
+            max_16 = "max_16",
             size_cache_size = "x-size-cache-size",
             path_path_cache_cache = "path_path_cache_cache",
             key_host_mode_limit = "key_host_mode_limit",
             limit_limit_user_path = "limit_limit_user_path",
+            width_16 = "the width-16",
+            retry_path_limit_16 = "retry_path_limit_16",
+            rate_key_size_level = "rate_key_size_level",
         })
     }
 }

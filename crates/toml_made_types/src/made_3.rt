@@ -190,30 +190,50 @@ impl<'de> Root<'de> for RateMode9 {
 /// A record.
 #[derive(Debug, Drop)]
 pub struct WidthWidth10 {
-    pub width_size_10: i64,
+    pub width_size_20: i64,
     pub limit_port_tab_tab: Float,
-    pub port_user_10: Option<i8>,
-    pub rate_port_group_10: u16,
+    pub port_user_20: Option<i8>,
+    pub rate_port_group_20: u16,
     pub tab: bool,
-    pub host_cache_width_10: Float,
-    pub tab_size_level_10: Option<i32>,
-    pub width_tab_group_10: u32,
-    pub user_mode_10: Option<bool>,
-    pub tab_10: Option<String>,
+    pub host_cache_width_20: Float,
+    pub tab_size_level_20: Option<i32>,
+    pub width_tab_group_20: u32,
+    pub user_mode_20: Option<bool>,
+    pub tab_20: Option<String>,
+    pub group: u64,
+    pub size_group: i64,
+    pub index_key_cache_20: Vec<MaxWidthOf9>,
+    pub color_max_port_index: bool,
+    pub limit_max_port_20: u64,
+    pub mode: i32,
+    pub color: BTreeMap<String, Vec<i8>>,
+    pub level: Vec<Float>,
+    pub port_level_group_host: Option<Vec<u16>>,
+    pub size_path_group_20: u16,
 }
 
 impl RoundTrip for WidthWidth10 {
-    ghost fields = { or ⟦<i64 as Returns<'static>>⟧ "width_size_10" (negsuc 8852124752587223216) (λ s. s.width_size_10)
+    ghost fields = { or ⟦<i64 as Returns<'static>>⟧ "width_size_20" (negsuc 8852124752587223216) (λ s. s.width_size_20)
         (needed ⟦<Float as Returns<'static>>⟧ "limit_port_tab_tab" (λ s. s.limit_port_tab_tab)
-        (maybe ⟦<i8 as Returns<'static>>⟧ "port_user_10" (λ s. s.port_user_10)
-        (needed ⟦<u16 as Returns<'static>>⟧ "rate_port_group_10" (λ s. s.rate_port_group_10)
+        (maybe ⟦<i8 as Returns<'static>>⟧ "port_user_20" (λ s. s.port_user_20)
+        (needed ⟦<u16 as Returns<'static>>⟧ "rate_port_group_20" (λ s. s.rate_port_group_20)
         (or ⟦<bool as Returns<'static>>⟧ "tab" false (λ s. s.tab)
-        (needed ⟦<Float as Returns<'static>>⟧ "x-host cache width 10" (λ s. s.host_cache_width_10)
-        (maybe ⟦<i32 as Returns<'static>>⟧ "tab_size_level_10" (λ s. s.tab_size_level_10)
-        (or ⟦<u32 as Returns<'static>>⟧ "width_tab_group_10" 0 (λ s. s.width_tab_group_10)
-        (maybe ⟦<bool as Returns<'static>>⟧ "user_mode_10" (λ s. s.user_mode_10)
-        (maybe ⟦<String as Returns<'static>>⟧ "tab_10" (λ s. s.tab_10)
-        done))))))))) };
+        (needed ⟦<Float as Returns<'static>>⟧ "x-host cache width 20" (λ s. s.host_cache_width_20)
+        (maybe ⟦<i32 as Returns<'static>>⟧ "tab_size_level_20" (λ s. s.tab_size_level_20)
+        (or ⟦<u32 as Returns<'static>>⟧ "width_tab_group_20" 0 (λ s. s.width_tab_group_20)
+        (maybe ⟦<bool as Returns<'static>>⟧ "user_mode_20" (λ s. s.user_mode_20)
+        (maybe ⟦<String as Returns<'static>>⟧ "tab_20" (λ s. s.tab_20)
+        (or ⟦<u64 as Returns<'static>>⟧ "group" 18446744073709551615 (λ s. s.group)
+        (needed ⟦<i64 as Returns<'static>>⟧ "size.group" (λ s. s.size_group)
+        (or_empty ⟦<Vec<MaxWidthOf9> as Returns<'static>>⟧ "index_key_cache_20" (λ s. s.index_key_cache_20)
+        (needed ⟦<bool as Returns<'static>>⟧ "color_max_port_index" (λ s. s.color_max_port_index)
+        (or ⟦<u64 as Returns<'static>>⟧ "limit_max_port_20" 18446744073709551615 (λ s. s.limit_max_port_20)
+        (or ⟦<i32 as Returns<'static>>⟧ "mode" (pos 2147483647) (λ s. s.mode)
+        (needed ⟦<BTreeMap<String, Vec<i8>> as Returns<'static>>⟧ "color" (λ s. s.color)
+        (needed ⟦<Vec<Float> as Returns<'static>>⟧ "level" (λ s. s.level)
+        (maybe ⟦<Vec<u16> as Returns<'static>>⟧ "port_level_group_host" (λ s. s.port_level_group_host)
+        (or ⟦<u16 as Returns<'static>>⟧ "size_path_group_20" 0 (λ s. s.size_path_group_20)
+        done))))))))))))))))))) };
 }
 
 impl Record for WidthWidth10 {
@@ -227,16 +247,26 @@ impl<'de> Deserialize<'de> for WidthWidth10 {
 
     fn deserialize(alloc: Global, node: Node<'_, 'de>) -> Result<WidthWidth10, Error> {
         read_record!(alloc, node, WidthWidth10 {
-            width_size_10 = or("width_size_10", -8852124752587223217),
+            width_size_20 = or("width_size_20", -8852124752587223217),
             limit_port_tab_tab = needed("limit_port_tab_tab"),
-            port_user_10 = maybe("port_user_10"),
-            rate_port_group_10 = needed("rate_port_group_10"),
+            port_user_20 = maybe("port_user_20"),
+            rate_port_group_20 = needed("rate_port_group_20"),
             tab = or("tab", false),
-            host_cache_width_10 = needed("x-host cache width 10"),
-            tab_size_level_10 = maybe("tab_size_level_10"),
-            width_tab_group_10 = or("width_tab_group_10", 0),
-            user_mode_10 = maybe("user_mode_10"),
-            tab_10 = maybe("tab_10"),
+            host_cache_width_20 = needed("x-host cache width 20"),
+            tab_size_level_20 = maybe("tab_size_level_20"),
+            width_tab_group_20 = or("width_tab_group_20", 0),
+            user_mode_20 = maybe("user_mode_20"),
+            tab_20 = maybe("tab_20"),
+            group = or("group", 18446744073709551615),
+            size_group = needed("size.group"),
+            index_key_cache_20 = or_empty("index_key_cache_20"),
+            color_max_port_index = needed("color_max_port_index"),
+            limit_max_port_20 = or("limit_max_port_20", 18446744073709551615),
+            mode = or("mode", 2147483647),
+            color = needed("color"),
+            level = needed("level"),
+            port_level_group_host = maybe("port_level_group_host"),
+            size_path_group_20 = or("size_path_group_20", 0),
         })
     }
 
@@ -252,16 +282,26 @@ impl Serialize for WidthWidth10 {
 
     fn serialize(&self, _alloc: Global, ser: &mut Serializer) -> Result<(), WriteError> {
         write_record!(ser, self, WidthWidth10 {
-            width_size_10 = "width_size_10",
+            width_size_20 = "width_size_20",
             limit_port_tab_tab = "limit_port_tab_tab",
-            port_user_10 = "port_user_10",
-            rate_port_group_10 = "rate_port_group_10",
+            port_user_20 = "port_user_20",
+            rate_port_group_20 = "rate_port_group_20",
             tab = "tab",
-            host_cache_width_10 = "x-host cache width 10",
-            tab_size_level_10 = "tab_size_level_10",
-            width_tab_group_10 = "width_tab_group_10",
-            user_mode_10 = "user_mode_10",
-            tab_10 = "tab_10",
+            host_cache_width_20 = "x-host cache width 20",
+            tab_size_level_20 = "tab_size_level_20",
+            width_tab_group_20 = "width_tab_group_20",
+            user_mode_20 = "user_mode_20",
+            tab_20 = "tab_20",
+            group = "group",
+            size_group = "size.group",
+            index_key_cache_20 = "index_key_cache_20",
+            color_max_port_index = "color_max_port_index",
+            limit_max_port_20 = "limit_max_port_20",
+            mode = "mode",
+            color = "color",
+            level = "level",
+            port_level_group_host = "port_level_group_host",
+            size_path_group_20 = "size_path_group_20",
         })
     }
 }
@@ -274,137 +314,6 @@ impl<'de> Returns<'de> for WidthWidth10 {
 
 impl<'de> Root<'de> for WidthWidth10 {
     fn from_text(alloc: Global, text: &str) -> Result<WidthWidth10, Error> {
-        from_str(alloc, text)
-    }
-}
-
-/// A record.
-#[derive(Debug, Drop)]
-pub struct NameGroup11 {
-    pub size_max_limit_port: u64,
-    pub name_tab_key: MaxWidthOf9,
-    pub user_cache_width_cache_20: BTreeMap<String, MaxWidthOf9>,
-    pub color_max_port_index: WidthWidth10,
-    pub limit_max_port_20: WidthWidth10,
-    pub level: Option<u32>,
-    pub group_20: Option<RateMode9>,
-    pub log_20: bool,
-    pub max_size_tab: Vec<MaxWidthOf9>,
-    pub port_limit_20: RateMode9,
-    pub name_key_retry: Option<bool>,
-    pub retry: Vec<u32>,
-    pub tab: i32,
-    pub color_size: Option<i64>,
-    pub limit_index_limit: WidthWidth10,
-    pub width: Option<BTreeMap<String, Vec<RateMode9>>>,
-    pub host_group: Option<Vec<i8>>,
-    pub width_user_name_20: Option<WidthWidth10>,
-    pub color_20: Option<u32>,
-    pub size_key_tab_retry: MaxWidthOf9,
-}
-
-impl RoundTrip for NameGroup11 {
-    ghost fields = { needed ⟦<u64 as Returns<'static>>⟧ "SIZE-MAX-LIMIT-PORT" (λ s. s.size_max_limit_port)
-        (needed ⟦<MaxWidthOf9 as Returns<'static>>⟧ "NAME-TAB-KEY" (λ s. s.name_tab_key)
-        (needed ⟦<BTreeMap<String, MaxWidthOf9> as Returns<'static>>⟧ "USER-CACHE-WIDTH-CACHE-20" (λ s. s.user_cache_width_cache_20)
-        (needed ⟦<WidthWidth10 as Returns<'static>>⟧ "COLOR-MAX-PORT-INDEX" (λ s. s.color_max_port_index)
-        (needed ⟦<WidthWidth10 as Returns<'static>>⟧ "LIMIT-MAX-PORT-20" (λ s. s.limit_max_port_20)
-        (maybe ⟦<u32 as Returns<'static>>⟧ "x-level" (λ s. s.level)
-        (maybe ⟦<RateMode9 as Returns<'static>>⟧ "GROUP-20" (λ s. s.group_20)
-        (or ⟦<bool as Returns<'static>>⟧ "LOG-20" false (λ s. s.log_20)
-        (needed ⟦<Vec<MaxWidthOf9> as Returns<'static>>⟧ "MAX-SIZE-TAB" (λ s. s.max_size_tab)
-        (needed ⟦<RateMode9 as Returns<'static>>⟧ "x-port limit 20" (λ s. s.port_limit_20)
-        (maybe ⟦<bool as Returns<'static>>⟧ "NAME-KEY-RETRY" (λ s. s.name_key_retry)
-        (needed ⟦<Vec<u32> as Returns<'static>>⟧ "RETRY" (λ s. s.retry)
-        (or ⟦<i32 as Returns<'static>>⟧ "TAB" (pos 833752833) (λ s. s.tab)
-        (maybe ⟦<i64 as Returns<'static>>⟧ "the color size" (λ s. s.color_size)
-        (needed ⟦<WidthWidth10 as Returns<'static>>⟧ "LIMIT-INDEX-LIMIT" (λ s. s.limit_index_limit)
-        (maybe ⟦<BTreeMap<String, Vec<RateMode9>> as Returns<'static>>⟧ "the width" (λ s. s.width)
-        (maybe ⟦<Vec<i8> as Returns<'static>>⟧ "HOST-GROUP" (λ s. s.host_group)
-        (maybe ⟦<WidthWidth10 as Returns<'static>>⟧ "WIDTH-USER-NAME-20" (λ s. s.width_user_name_20)
-        (maybe ⟦<u32 as Returns<'static>>⟧ "COLOR-20" (λ s. s.color_20)
-        (needed ⟦<MaxWidthOf9 as Returns<'static>>⟧ "SIZE-KEY-TAB-RETRY" (λ s. s.size_key_tab_retry)
-        done))))))))))))))))))) };
-}
-
-impl Record for NameGroup11 {
-    ghost fields = { as_read ⟦<NameGroup11 as RoundTrip>⟧.fields };
-}
-
-impl<'de> Deserialize<'de> for NameGroup11 {
-    ghost reads = { record_reads ⟦<NameGroup11 as Record>⟧.fields };
-
-    ghost faults = { record_faults ⟦<NameGroup11 as Record>⟧.fields };
-
-    fn deserialize(alloc: Global, node: Node<'_, 'de>) -> Result<NameGroup11, Error> {
-        read_record!(alloc, node, NameGroup11 {
-            size_max_limit_port = needed("SIZE-MAX-LIMIT-PORT"),
-            name_tab_key = needed("NAME-TAB-KEY"),
-            user_cache_width_cache_20 = needed("USER-CACHE-WIDTH-CACHE-20"),
-            color_max_port_index = needed("COLOR-MAX-PORT-INDEX"),
-            limit_max_port_20 = needed("LIMIT-MAX-PORT-20"),
-            level = maybe("x-level"),
-            group_20 = maybe("GROUP-20"),
-            log_20 = or("LOG-20", false),
-            max_size_tab = needed("MAX-SIZE-TAB"),
-            port_limit_20 = needed("x-port limit 20"),
-            name_key_retry = maybe("NAME-KEY-RETRY"),
-            retry = needed("RETRY"),
-            tab = or("TAB", 833752833),
-            color_size = maybe("the color size"),
-            limit_index_limit = needed("LIMIT-INDEX-LIMIT"),
-            width = maybe("the width"),
-            host_group = maybe("HOST-GROUP"),
-            width_user_name_20 = maybe("WIDTH-USER-NAME-20"),
-            color_20 = maybe("COLOR-20"),
-            size_key_tab_retry = needed("SIZE-KEY-TAB-RETRY"),
-        })
-    }
-
-    fn from_tree(alloc: Global, tree: Tree<'de>) -> Result<NameGroup11, Error> {
-        NameGroup11::deserialize(alloc, tree.root())
-    }
-}
-
-impl Serialize for NameGroup11 {
-    ghost calls = { record_calls ⟦<NameGroup11 as RoundTrip>⟧.fields };
-
-    ghost holds = { record_holds ⟦<NameGroup11 as RoundTrip>⟧.fields };
-
-    fn serialize(&self, _alloc: Global, ser: &mut Serializer) -> Result<(), WriteError> {
-        write_record!(ser, self, NameGroup11 {
-            size_max_limit_port = "SIZE-MAX-LIMIT-PORT",
-            name_tab_key = "NAME-TAB-KEY",
-            user_cache_width_cache_20 = "USER-CACHE-WIDTH-CACHE-20",
-            color_max_port_index = "COLOR-MAX-PORT-INDEX",
-            limit_max_port_20 = "LIMIT-MAX-PORT-20",
-            level = "x-level",
-            group_20 = "GROUP-20",
-            log_20 = "LOG-20",
-            max_size_tab = "MAX-SIZE-TAB",
-            port_limit_20 = "x-port limit 20",
-            name_key_retry = "NAME-KEY-RETRY",
-            retry = "RETRY",
-            tab = "TAB",
-            color_size = "the color size",
-            limit_index_limit = "LIMIT-INDEX-LIMIT",
-            width = "the width",
-            host_group = "HOST-GROUP",
-            width_user_name_20 = "WIDTH-USER-NAME-20",
-            color_20 = "COLOR-20",
-            size_key_tab_retry = "SIZE-KEY-TAB-RETRY",
-        })
-    }
-}
-
-impl<'de> Returns<'de> for NameGroup11 {
-    ghost read_back = { record_back ⟦<NameGroup11 as RoundTrip>⟧.fields (λ s. refl) };
-
-    ghost returns = { ⟦<NameGroup11 as Returns<'static>>⟧.read_back.returns };
-}
-
-impl<'de> Root<'de> for NameGroup11 {
-    fn from_text(alloc: Global, text: &str) -> Result<NameGroup11, Error> {
         from_str(alloc, text)
     }
 }
