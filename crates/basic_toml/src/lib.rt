@@ -35,7 +35,7 @@ pub use basic_toml_typed::{
     And, Deserialize, Fields, Four, Maybe, Needed, Only, Or, OrEmpty, OrText, Record, only_fields,
     read_elements, read_field, read_optional, read_record, variant,
 };
-pub use basic_toml_value::{PushRefusal, Table, Value};
+pub use basic_toml_value::{PushRefusal, Table, Text, Value};
 pub use basic_toml_write::{Serialize, Serializer, WriteError};
 pub use de::{from_slice, from_str, read_tree};
 pub use origin::origin_of;

@@ -8,7 +8,7 @@ ghost use Rattle.basic_toml_clash.specs.Plain.{plain_data, listed_data};
 
 use crate::items_left::drain;
 use basic_toml_read::{Element, Raw};
-use basic_toml_value::{NESTING_LIMIT, Table, Value};
+use basic_toml_value::{NESTING_LIMIT, Table, Text, Value};
 use std::alloc::{AllocError, Global};
 
 // Of so many elements the memory is given back while they are moved. Fewer are moved in less by a plain iterator.
@@ -59,8 +59,8 @@ pub fn plain_value(alloc: Global, value: &Raw<'_>) -> Result<Value, AllocError>
         Raw::Integer(number) => Ok(Value::Integer(*number)),
         Raw::Float(float) => Ok(Value::Float(float.clone()?)),
         Raw::Boolean(truth) => Ok(Value::Boolean(*truth)),
-        Raw::String(text) => Ok(Value::String(String::from_str(alloc, text)?)),
-        Raw::Escaped(text) => Ok(Value::String(text.clone()?)),
+        Raw::String(text) => Ok(Value::String(Text::from_str(alloc, text)?)),
+        Raw::Escaped(text) => Ok(Value::String(Text::from(text.clone()?))),
         Raw::Array(elements) => Ok(Value::Array(plain_values(alloc, elements.as_slice())?)),
         Raw::Inline(_) => Ok(Value::Table(Table::new(alloc))),
     }
@@ -93,8 +93,8 @@ fn into_plain_value(alloc: Global, value: Raw<'_>) -> Result<Value, AllocError>
         Raw::Integer(number) => Ok(Value::Integer(number)),
         Raw::Float(float) => Ok(Value::Float(float)),
         Raw::Boolean(truth) => Ok(Value::Boolean(truth)),
-        Raw::String(text) => Ok(Value::String(String::from_str(alloc, text)?)),
-        Raw::Escaped(text) => Ok(Value::String(text)),
+        Raw::String(text) => Ok(Value::String(Text::from_str(alloc, text)?)),
+        Raw::Escaped(text) => Ok(Value::String(Text::from(text))),
         Raw::Array(elements) => Ok(Value::Array(into_plain_values(alloc, elements)?)),
         Raw::Inline(_) => Ok(Value::Table(Table::new(alloc))),
     }

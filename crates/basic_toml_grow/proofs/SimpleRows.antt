@@ -5,8 +5,8 @@ use Rattle.std.specs.Str.{bytes_eq}
 use Rattle.std.proofs.lemmas.Bool.{false≢true}
 use Rattle.std.proofs.lemmas.List.{append-nil, map-append, take-append-drop, take-map}
 use Rattle.std.proofs.lemmas.Slice.Eq.{bytes_eq-Decides}
-use Rattle.basic_toml_value.specs.Key.{key_bytes}
-use Rattle.basic_toml_value.specs.declared.key.Key.{Key}
+use Rattle.basic_toml_value.specs.Text.{text_bytes}
+use Rattle.basic_toml_value.specs.declared.text.Text.{Text}
 use Rattle.basic_toml_value.specs.Entries.{pair_seen}
 use Rattle.basic_toml_read.specs.KeyText.{key_text_bytes}
 use Rattle.basic_toml_value.specs.Keys.{is_among, are_distinct}
@@ -108,7 +108,7 @@ entry_keys s [] = refl
 entry_keys s (r ∷ rs) = ap (λ ks. key_of r ∷ ks) (entry_keys s rs)
 
 -- a row as the entry that it becomes
-pub same_entry : (s : ℕ) (r : Row) (key : Key) (item : items.Item) → key_bytes key ≡ key_text_bytes (out-Row r).key
+pub same_entry : (s : ℕ) (r : Row) (key : Text) (item : items.Item) → text_bytes key ≡ key_text_bytes (out-Row r).key
     → item ≡ item_of (out-Row r).value
     → pair_seen (record { key = key; value = roll-Child (record { start = (out-Row r).start; section = s; item = item }) })
     ≡ entry_of s r

@@ -3,8 +3,8 @@
 ghost use Rattle.std.specs.Prelude.{◌≡◌, ◌≤◌, IfOk, IsTrue, length, map, take, drop};
 ghost use Rattle.basic_toml_value.specs.Keys.{are_distinct};
 ghost use Rattle.basic_toml_value.specs.Entries.{seen, pair_seen};
-ghost use Rattle.basic_toml_value.specs.Key.{key_bytes};
-ghost use Rattle.basic_toml_value.specs.Index.{IsIndex};
+ghost use Rattle.basic_toml_value.specs.Text.{text_bytes};
+ghost use Rattle.basic_toml_value.specs.Index.{IsIndex, few};
 ghost use Rattle.basic_toml_clash.specs.Simple.{key_of};
 ghost use Rattle.basic_toml_grow.specs.Simple.{entry_of as new_entry, entries_of as new_entries, with_entries};
 ghost use Rattle.basic_toml_grow.specs.Simple.{item_of as kept_item};
@@ -12,7 +12,7 @@ ghost use Rattle.basic_toml_grow.specs.Simple.{item_of as kept_item};
 use crate::item::{Child, Item, Table};
 use basic_toml_clash::ItemsLeft;
 use basic_toml_read::{Raw, Row};
-use basic_toml_value::{Index, Key, Pair, Pairs, Texts};
+use basic_toml_value::{Index, Pair, Pairs, Text, Texts};
 use std::alloc::{AllocError, Global};
 use std::mem;
 
@@ -35,8 +35,8 @@ fn item_of<'de>(value: Raw<'de>) -> Item<'de>
 
 // The entry that a row of a section becomes, of one key and a plain value. The key is a copy of the row's.
 #[inline(always)]
-fn entry_of<'de>(key: Key, row: Row<'de>, section: usize) -> Pair<Child<'de>>
-    requires { key_bytes key ≡ key_of row }
+fn entry_of<'de>(key: Text, row: Row<'de>, section: usize) -> Pair<Child<'de>>
+    requires { text_bytes key ≡ key_of row }
     ensures { pair_seen result ≡ new_entry section row.entry }
 {
     Pair {
@@ -59,7 +59,7 @@ fn entries_of<'de>(
 {
     let mut entries = Vec::with_capacity(alloc, rows.len())?;
     for row in rows {
-        let key = Key::from_str(alloc, row.key.as_str())?;
+        let key = Text::from_str(alloc, row.key.as_str())?;
         entries.push_reserved(entry_of(key, row, section));
     }
     Ok(entries)
@@ -81,14 +81,14 @@ fn first_entries_of<'de>(
         let Some(row) = rows.next() else {
             unreachable!();
         };
-        let key = Key::from_str(alloc, row.key.as_str())?;
+        let key = Text::from_str(alloc, row.key.as_str())?;
         entries.push_reserved(entry_of(key, row, section));
     }
     Ok(entries)
 }
 
-/// A table with rows of a section in the place of its entries: their keys differ, and each has one key and a plain
-/// value.
+/// A table with a few rows of a section in the place of its entries: their keys differ, and each has one key and a
+/// plain value.
 #[inline(never)]
 pub(crate) fn with_rows<'de>(
     alloc: Global,
@@ -96,7 +96,8 @@ pub(crate) fn with_rows<'de>(
     rows: Vec<Row<'de>>,
     section: usize,
 ) -> Result<Box<Table<'de>>, AllocError>
-    requires { IsTrue (are_distinct (map key_of rows.items)) }
+    requires distinct { IsTrue (are_distinct (map key_of rows.items)) }
+    requires few { length rows.items ≤ few }
     ensures { IfOk result (λ after. after.value
         ≡ with_entries table.entry.value (new_entries section rows.entry.items)) }
 {

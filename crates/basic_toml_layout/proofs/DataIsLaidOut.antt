@@ -10,7 +10,7 @@ use Rattle.basic_toml_value.proofs.Sizes.{data_size, members_size}
 use Rattle.std.proofs.lemmas.Bool.{true≢false}
 use Rattle.basic_toml_tokens.specs.Ascii as ascii
 use Rattle.basic_toml_value.specs.Data.{Data, integer, float, boolean, string, array, table, Items, no_items, item}
-use Rattle.basic_toml_value.specs.Key.{key_bytes}
+use Rattle.basic_toml_value.specs.Text.{text_bytes}
 use Rattle.basic_toml_value.specs.Entries.{seen}
 use Rattle.basic_toml_value.specs.View.{view, entries}
 use Rattle.basic_toml_value.specs.declared.pairs.Pair.{Pair}
@@ -52,15 +52,15 @@ entries_next keys later k (table ms) es = refl
 -- an entry was written, and the rest is left
 pub entries_step : (pairs : List (Pair Value)) (i : ℕ) (pair : Pair Value) → i < length pairs
     → pair ≡ get_or pairs i pair → (keys : List (List ℕ)) (later : Bool) (t t' whole : List ℕ)
-    → t' ≡ t ++ entry_text keys (key_bytes pair.key) later (written_of (view pair.value))
+    → t' ≡ t ++ entry_text keys (text_bytes pair.key) later (written_of (view pair.value))
     → t ++ entries_text keys later (entries_of (entries (seen (drop i pairs)))) ≡ whole
     → t' ++ entries_text keys true (entries_of (entries (seen (drop (i + 1) pairs)))) ≡ whole
 entries_step pairs i pair lt read keys later t t' whole is left =
     let more : w.Entries = entries_of (entries (seen (drop (i + 1) pairs))) in
-    let own : List ℕ = entry_text keys (key_bytes pair.key) later (written_of (view pair.value)) in
+    let own : List ℕ = entry_text keys (text_bytes pair.key) later (written_of (view pair.value)) in
     ap (λ z. z ++ entries_text keys true more) is
     ∙ (append_assoc t own (entries_text keys true more)
-    ∙ (ap (λ z. t ++ z) (sym (entries_next keys later (key_bytes pair.key) (view pair.value) more))
+    ∙ (ap (λ z. t ++ z) (sym (entries_next keys later (text_bytes pair.key) (view pair.value) more))
     ∙ (ap (λ ps. t ++ entries_text keys later (entries_of (entries (seen ps)))) (sym (drop_at pairs i pair lt read))
     ∙ left)))
 

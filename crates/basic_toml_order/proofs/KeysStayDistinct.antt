@@ -4,7 +4,7 @@ use Rattle.std.proofs.Common.{cond, Bool, ap}
 use Rattle.std.specs.Str.{bytes_eq}
 use Rattle.basic_toml_value.specs.Data.{Members, no_members, member}
 use Rattle.basic_toml_value.specs.Entries.{seen, texts_of}
-use Rattle.basic_toml_value.specs.Key.{key_bytes}
+use Rattle.basic_toml_value.specs.Text.{text_bytes}
 use Rattle.basic_toml_value.specs.Keys.{is_among, are_distinct}
 use Rattle.basic_toml_value.specs.View.{entries}
 use Rattle.basic_toml_value.specs.declared.pairs.Pair.{Pair}
@@ -16,7 +16,7 @@ use Rattle.basic_toml_order.specs.RowsFirst.{followed_by, rows_of, sections_of, 
 
 pub member_keys-seen : (ps : List (Pair Value)) → member_keys (entries (seen ps)) ≡ texts_of ps
 member_keys-seen [] = refl
-member_keys-seen (p ∷ ps) = ap (λ ks. key_bytes p.key ∷ ks) (member_keys-seen ps)
+member_keys-seen (p ∷ ps) = ap (λ ks. text_bytes p.key ∷ ks) (member_keys-seen ps)
 
 pub member_keys-followed : (ms ns : Members) → member_keys (followed_by ms ns) ≡ member_keys ms ++ member_keys ns
 member_keys-followed no_members ns = refl

@@ -4,7 +4,7 @@ use Rattle.std.proofs.Common.{IsTrue}
 use Rattle.std.proofs.lemmas.Bool.{and_from}
 use Rattle.basic_toml_value.specs.Data.{Items, no_items, item, Members, no_members, member}
 use Rattle.basic_toml_value.specs.Entries.{seen}
-use Rattle.basic_toml_value.specs.Key.{key_bytes}
+use Rattle.basic_toml_value.specs.Text.{text_bytes}
 use Rattle.basic_toml_value.specs.View.{view, entries, items_view}
 use Rattle.basic_toml_value.specs.declared.pairs.Pair.{Pair}
 use Rattle.basic_toml_value.specs.declared.value.Value.{Value}
@@ -24,7 +24,7 @@ items_then (v ∷ vs) xs = item (view v) (items_then vs xs)
 -- pairs, and what follows them
 abbrev pub members_then : List (Pair Value) → Members → Members
 members_then [] ms = ms
-members_then (p ∷ ps) ms = member (key_bytes p.key) (view p.value) (members_then ps ms)
+members_then (p ∷ ps) ms = member (text_bytes p.key) (view p.value) (members_then ps ms)
 
 pub items_then-push : (vs : List Value) (v : Value) (xs : Items)
     → items_then (vs ++ v ∷ []) xs ≡ items_then vs (item (view v) xs)
@@ -36,18 +36,18 @@ items_then-end [] = refl
 items_then-end (v ∷ vs) = ap (item (view v)) (items_then-end vs)
 
 pub members_then-push : (ps : List (Pair Value)) (p : Pair Value) (ms : Members)
-    → members_then (ps ++ p ∷ []) ms ≡ members_then ps (member (key_bytes p.key) (view p.value) ms)
+    → members_then (ps ++ p ∷ []) ms ≡ members_then ps (member (text_bytes p.key) (view p.value) ms)
 members_then-push [] p ms = refl
-members_then-push (q ∷ ps) p ms = ap (member (key_bytes q.key) (view q.value)) (members_then-push ps p ms)
+members_then-push (q ∷ ps) p ms = ap (member (text_bytes q.key) (view q.value)) (members_then-push ps p ms)
 
 pub members_then-end : (ps : List (Pair Value)) → members_then ps no_members ≡ entries (seen ps)
 members_then-end [] = refl
-members_then-end (p ∷ ps) = ap (member (key_bytes p.key) (view p.value)) (members_then-end ps)
+members_then-end (p ∷ ps) = ap (member (text_bytes p.key) (view p.value)) (members_then-end ps)
 
 pub entries-followed : (ps qs : List (Pair Value))
     → entries (seen (ps ++ qs)) ≡ followed_by (entries (seen ps)) (entries (seen qs))
 entries-followed [] qs = refl
-entries-followed (p ∷ ps) qs = ap (member (key_bytes p.key) (view p.value)) (entries-followed ps qs)
+entries-followed (p ∷ ps) qs = ap (member (text_bytes p.key) (view p.value)) (entries-followed ps qs)
 
 -- an element more is moved
 module _ (moved next left rest : List Value) (done value : Value) (split : left ≡ value ∷ rest) where
@@ -79,29 +79,29 @@ module _ (moved next left rest : List (Pair Value)) (done pair : Pair Value) (sp
       subst (λ ps. IsTrue (hold_sound (entries (seen ps)))) (sym split) (and_from _ _ here more)
 
   pub row_moved : (whole : Members) → is_section (view pair.value) ≡ false → next ≡ moved ++ done ∷ []
-      → key_bytes done.key ≡ key_bytes pair.key → view done.value ≡ rows_first (view pair.value)
+      → text_bytes done.key ≡ text_bytes pair.key → view done.value ≡ rows_first (view pair.value)
       → members_then moved (rows_of (entries (seen left))) ≡ whole
       → members_then next (rows_of (entries (seen rest))) ≡ whole
   row_moved whole is pushed key same before =
       ap (λ ps. members_then ps (rows_of (entries (seen rest)))) pushed
       ∙ members_then-push moved done (rows_of (entries (seen rest)))
       ∙ ap (λ k. members_then moved (member k (view done.value) (rows_of (entries (seen rest))))) key
-      ∙ ap (λ d. members_then moved (member (key_bytes pair.key) d (rows_of (entries (seen rest))))) same
+      ∙ ap (λ d. members_then moved (member (text_bytes pair.key) d (rows_of (entries (seen rest))))) same
       ∙ sym (ap (λ b. members_then moved (cond b (rows_of (entries (seen rest)))
-      (member (key_bytes pair.key) (rows_first (view pair.value)) (rows_of (entries (seen rest)))))) is)
+      (member (text_bytes pair.key) (rows_first (view pair.value)) (rows_of (entries (seen rest)))))) is)
       ∙ ap (λ ps. members_then moved (rows_of (entries (seen ps)))) (sym split) ∙ before
 
   pub section_moved : (whole : Members) → is_section (view pair.value) ≡ true → next ≡ moved ++ done ∷ []
-      → key_bytes done.key ≡ key_bytes pair.key → view done.value ≡ rows_first (view pair.value)
+      → text_bytes done.key ≡ text_bytes pair.key → view done.value ≡ rows_first (view pair.value)
       → members_then moved (sections_of (entries (seen left))) ≡ whole
       → members_then next (sections_of (entries (seen rest))) ≡ whole
   section_moved whole is pushed key same before =
       ap (λ ps. members_then ps (sections_of (entries (seen rest)))) pushed
       ∙ members_then-push moved done (sections_of (entries (seen rest)))
       ∙ ap (λ k. members_then moved (member k (view done.value) (sections_of (entries (seen rest))))) key
-      ∙ ap (λ d. members_then moved (member (key_bytes pair.key) d (sections_of (entries (seen rest))))) same
+      ∙ ap (λ d. members_then moved (member (text_bytes pair.key) d (sections_of (entries (seen rest))))) same
       ∙ sym (ap (λ b. members_then moved (cond b
-      (member (key_bytes pair.key) (rows_first (view pair.value)) (sections_of (entries (seen rest))))
+      (member (text_bytes pair.key) (rows_first (view pair.value)) (sections_of (entries (seen rest))))
       (sections_of (entries (seen rest))))) is)
       ∙ ap (λ ps. members_then moved (sections_of (entries (seen ps)))) (sym split) ∙ before
 
@@ -111,7 +111,7 @@ pub row_passed : (moved left rest : List (Pair Value)) (pair : Pair Value) (whol
     → members_then moved (rows_of (entries (seen rest))) ≡ whole
 row_passed moved left rest pair whole split is before =
     sym (ap (λ b. members_then moved (cond b (rows_of (entries (seen rest)))
-    (member (key_bytes pair.key) (rows_first (view pair.value)) (rows_of (entries (seen rest)))))) is)
+    (member (text_bytes pair.key) (rows_first (view pair.value)) (rows_of (entries (seen rest)))))) is)
     ∙ ap (λ ps. members_then moved (rows_of (entries (seen ps)))) (sym split) ∙ before
 
 pub section_passed : (moved left rest : List (Pair Value)) (pair : Pair Value) (whole : Members) → left ≡ pair ∷ rest
@@ -119,7 +119,7 @@ pub section_passed : (moved left rest : List (Pair Value)) (pair : Pair Value) (
     → members_then moved (sections_of (entries (seen rest))) ≡ whole
 section_passed moved left rest pair whole split is before =
     sym (ap (λ b. members_then moved (cond b
-    (member (key_bytes pair.key) (rows_first (view pair.value)) (sections_of (entries (seen rest))))
+    (member (text_bytes pair.key) (rows_first (view pair.value)) (sections_of (entries (seen rest))))
     (sections_of (entries (seen rest))))) is)
     ∙ ap (λ ps. members_then moved (sections_of (entries (seen ps)))) (sym split) ∙ before
 

@@ -1,4 +1,4 @@
-//! Whether a table has its rows first already, at every depth, and is looked up by an index where it is large.
+//! Whether a table has its rows first already, at every depth.
 //!
 //! The walk only reads. That a key stands once in each table is promised of each table, and is not looked at.
 ghost use Rattle.std.specs.Prelude.{IsTrue};
@@ -42,13 +42,13 @@ pub fn are_elements_in_order(values: &[Value]) -> bool
     true
 }
 
-// A table: whether it has its rows first and an index where it is large, and so has each table in it.
+// Whether a table has its rows first, and so has each table in it.
 #[cycle(looks)]
 pub fn is_table_in_order(table: &Table) -> bool
     ensures order { IsTrue result → IsTrue (f.is_in_order (d.table (entries table.now))) }
     ensures sound { IsTrue result → IsTrue (is_sound (d.table (entries table.now))) }
 {
-    table.index().is_enough_for(table.len()) && are_pairs_in_order(table.entries())
+    are_pairs_in_order(table.entries())
 }
 
 #[cycle(looks)]

@@ -7,7 +7,9 @@ use Rattle.basic_toml_value.specs.Data as d
 use Rattle.basic_toml_value.specs.Data.{Data, Items, no_items, item, Members, no_members, member}
 use Rattle.basic_toml_value.specs.View.{view, entries, items_view}
 use Rattle.basic_toml_value.specs.declared.value.Value.{Value, the_lemmas}
-use Rattle.basic_toml_value.specs.declared.value.Value.TheVariants.{Integer, Float, Boolean, String as Text, Array, Table}
+use Rattle.basic_toml_value.specs.declared.value.Value.TheVariants.{Integer, Float, Boolean, String as Words, Array, Table}
+use Rattle.basic_toml_value.specs.Text.{text_bytes}
+use Rattle.basic_toml_value.specs.declared.text.Text.{Text}
 use Rattle.basic_toml_layout.specs.Trees.{number_items, scalar_tree, tree_of, element_trees, entry_trees}
 use Rattle.basic_toml_layout.specs.Written.{Scalar, integer, boolean, float, text, other_text, bytes, Written, scalar}
 use Rattle.basic_toml_layout.specs.Written.{absent, array, table, Elements, no_elements, element, Entries, no_entries}
@@ -36,13 +38,20 @@ boolean_built b rest = built (boolean b) _ rest (search (rules, the_lemmas))
 pub float_built : (f : List ℕ) (rest : List Item) → IsBuilt (a_scalar (float f) ∷ rest) (view (Float f)) rest
 float_built f rest = built (float f) _ rest (search (rules, the_lemmas))
 
-pub text_built : (s : String Global) (rest : List Item)
-    → IsBuilt (a_scalar (text (string_bytes s)) ∷ rest) (view (Text s)) rest
-text_built s rest = built (text (string_bytes s)) _ rest (search (rules, the_lemmas))
+view-String : (t : Text) → view (Words t) ≡ d.string (text_bytes t)
+view-String t = search (rules, the_lemmas)
 
-pub other_text_built : (s : String Global) (rest : List Item)
-    → IsBuilt (a_scalar (other_text (string_bytes s)) ∷ rest) (view (Text s)) rest
-other_text_built s rest = built (other_text (string_bytes s)) _ rest (search (rules, the_lemmas))
+string_built : (l : Scalar) (s : List ℕ) (t : Text) (rest : List Item) → scalar_tree l ≡ d.string s → text_bytes t ≡ s
+    → IsBuilt (a_scalar l ∷ rest) (view (Words t)) rest
+string_built l s t rest tree same = built l _ rest (tree ∙ ap d.string (sym same) ∙ sym (view-String t))
+
+pub text_built : (s : String Global) (t : Text) (rest : List Item) → text_bytes t ≡ string_bytes s
+    → IsBuilt (a_scalar (text (string_bytes s)) ∷ rest) (view (Words t)) rest
+text_built s t rest same = string_built (text (string_bytes s)) (string_bytes s) t rest refl same
+
+pub other_text_built : (s : String Global) (t : Text) (rest : List Item) → text_bytes t ≡ string_bytes s
+    → IsBuilt (a_scalar (other_text (string_bytes s)) ∷ rest) (view (Words t)) rest
+other_text_built s t rest same = string_built (other_text (string_bytes s)) (string_bytes s) t rest refl same
 
 numbers_seen : (ns : List ℕ) → d.items_of (map (λ n. d.integer (pos n)) ns) ≡ number_items ns
 numbers_seen [] = refl

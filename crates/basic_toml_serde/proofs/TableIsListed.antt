@@ -4,7 +4,7 @@ use Rattle.std.proofs.Common.{String, Global, string_bytes, length, get_or, drop
 use Rattle.std.proofs.lemmas.List.{map-append, append-nil}
 use Rattle.basic_toml_value.specs.Data.{array, table}
 use Rattle.basic_toml_value.specs.Entries.{seen}
-use Rattle.basic_toml_value.specs.Key.{key_bytes}
+use Rattle.basic_toml_value.specs.Text.{text_bytes}
 use Rattle.basic_toml_value.specs.View.{view, entries, items_view}
 use Rattle.basic_toml_value.specs.declared.pairs.Pair.{Pair}
 use Rattle.basic_toml_value.specs.declared.value.Value.{Value}
@@ -47,7 +47,7 @@ element_listed now mid new all values i value within read marked added so_far =
 
 pub entry_listed : (now mid new : List code.Item) (all : List Item) (pairs : List (Pair Value)) (i : ℕ)
     (pair : Pair Value) (name : String Global)
-    → i < length pairs → pair ≡ get_or pairs i pair → string_bytes name ≡ key_bytes pair.key
+    → i < length pairs → pair ≡ get_or pairs i pair → string_bytes name ≡ text_bytes pair.key
     → mid ≡ now ++ it.Field name ∷ [] → listed new ≡ listed mid ++ data_calls (view pair.value)
     → listed now ++ entries_from i pairs ≡ all → listed new ++ entries_from (suc i) pairs ≡ all
 entry_listed now mid new all pairs i pair name within read same marked added so_far =

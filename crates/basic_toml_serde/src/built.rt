@@ -6,7 +6,7 @@ ghost use Rattle.basic_toml_serde.specs.Listed.{item_of, listed};
 ghost use Rattle.basic_toml_serde.specs.Built.{left, IsTableOf, IsBuilt, AreBuilt, EntriesBuilt, IsNextElement, IsNextKey, IsNextValue};
 
 use crate::items::Item;
-use basic_toml::{PushRefusal, Table, Value, WriteError};
+use basic_toml::{PushRefusal, Table, Text, Value, WriteError};
 use basic_toml_value::NESTING_LIMIT;
 use std::alloc::{AllocError, Global};
 use std::vec::IntoIter;
@@ -64,8 +64,8 @@ fn value_of(
         Item::Boolean(truth) => Ok(Value::Boolean(truth)),
         Item::Integer(number) => Ok(Value::Integer(number)),
         Item::Float(float) => Ok(Value::Float(float)),
-        Item::Text(text) => Ok(Value::String(text)),
-        Item::OtherText(text) => Ok(Value::String(text)),
+        Item::Text(text) => Ok(Value::String(Text::from(text))),
+        Item::OtherText(text) => Ok(Value::String(Text::from(text))),
         Item::Octets(octets) => Ok(Value::Array(numbers_of(alloc, octets.as_slice())?)),
         Item::OpenArray if depth > 0 => Ok(Value::Array(elements_of(alloc, rest, depth - 1)?)),
         Item::OpenTable if depth > 0 => Ok(Value::Table(entries_of(alloc, rest, depth - 1)?)),

@@ -29,7 +29,7 @@ fn add_value(alloc: Global, value: &Value, items: &mut Vec<Item>) -> Result<(), 
         Value::Integer(number) => items.push(Item::Integer(*number))?,
         Value::Float(float) => items.push(Item::Float(float.clone()?))?,
         Value::Boolean(truth) => items.push(Item::Boolean(*truth))?,
-        Value::String(text) => items.push(Item::Text(text.clone()?))?,
+        Value::String(text) => items.push(Item::Text(String::from_str(alloc, text.as_str())?))?,
         Value::Array(values) => add_array(alloc, values.as_slice(), items)?,
         Value::Table(table) => add_table(alloc, table, items)?,
     }

@@ -2,7 +2,7 @@
 //!
 //! They are read and written whatever they hold, by [`crate::from_str`] and [`crate::to_string`]; other formats of
 //! `serde` refuse floats.
-use basic_toml::{Float, PushRefusal, Table, Value};
+use basic_toml::{Float, PushRefusal, Table, Text, Value};
 use basic_toml_value::NESTING_LIMIT;
 use serde::{
     Described, Deserialize, DeserializeOwned, Deserializer, Format, Kind, Serialize, Serializer,
@@ -152,7 +152,7 @@ fn fetch<F: Format>(
         Kind::Bool => Ok(Value::Boolean(from.bool()?)),
         Kind::Unsigned | Kind::Signed => Ok(Value::Integer(from.i64()?)),
         Kind::Float => Ok(Value::Float(fetch_float(alloc, from)?)),
-        Kind::Str => Ok(Value::String(from.string(alloc)?)),
+        Kind::Str => Ok(Value::String(Text::from(from.string(alloc)?))),
         Kind::Seq if depth > 0 => Ok(Value::Array(fetch_elements(alloc, from, depth - 1)?)),
         Kind::Map if depth > 0 => Ok(Value::Table(fetch_entries(alloc, from, depth - 1)?)),
         Kind::Seq | Kind::Map => Err(from.custom("nested too deeply")),

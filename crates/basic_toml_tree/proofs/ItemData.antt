@@ -6,7 +6,7 @@ use Rattle.std.specs.Str.{bytes_eq}
 use Rattle.std.proofs.lemmas.Bool.{false≢true}
 use Rattle.std.proofs.lemmas.List.{map-append}
 use Rattle.basic_toml_value.specs.Data.{Data, Members, items_of, no_members, member, members_of}
-use Rattle.basic_toml_value.specs.Key.{key_bytes}
+use Rattle.basic_toml_value.specs.Text.{text_bytes}
 use Rattle.basic_toml_value.specs.Entries.{seen, texts_of}
 use Rattle.basic_toml_value.specs.Pairs.{keys_of, value_at}
 use Rattle.basic_toml_value.specs.View.{view, entries}
@@ -96,7 +96,7 @@ table_seen pairs = search (rules, values.the_lemmas)
 
 pub entries_seen : (copies : List (Pair values.Value)) → entries (seen copies) ≡ members_of (map value_pair copies)
 entries_seen [] = refl
-entries_seen (p ∷ ps) = ap (λ ms. member (key_bytes p.key) (view p.value) ms) (entries_seen ps)
+entries_seen (p ∷ ps) = ap (λ ms. member (text_bytes p.key) (view p.value) ms) (entries_seen ps)
 
 -- copies of the same pairs have the same keys
 pub keys_copied : (copies : List (Pair values.Value)) (pairs : List (Pair Child)) (old : List (List ℕ × Child))
@@ -106,11 +106,11 @@ keys_copied copies pairs old same is =
   where
     child_keys : (pairs : List (Pair Child)) → keys_of (seen pairs) ≡ map (λ p. p.0) (map child_pair pairs)
     child_keys [] = refl
-    child_keys (p ∷ ps) = ap (λ l. key_bytes p.key ∷ l) (child_keys ps)
+    child_keys (p ∷ ps) = ap (λ l. text_bytes p.key ∷ l) (child_keys ps)
 
     value_keys : (copies : List (Pair values.Value)) → texts_of copies ≡ map (λ p. p.0) (map value_pair copies)
     value_keys [] = refl
-    value_keys (p ∷ ps) = ap (λ l. key_bytes p.key ∷ l) (value_keys ps)
+    value_keys (p ∷ ps) = ap (λ l. text_bytes p.key ∷ l) (value_keys ps)
 
 -- values of the tables before and of the latest are those of an array of tables
 pub tables_whole : (elements next : List values.Value) (before : List Table) (v : values.Value) (latest : Table)

@@ -1,7 +1,7 @@
 -- The data that an item stands for.
 use Rattle.std.specs.Prelude.{◌≡◌, ℕ, List, [], ◌∷◌, ◌++◌, string_bytes}
 use Rattle.basic_toml_value.specs.Data.{Data, no_members, items_of, members_of}
-use Rattle.basic_toml_value.specs.Key.{key_bytes}
+use Rattle.basic_toml_value.specs.Text.{text_bytes}
 use Rattle.basic_toml_value.specs.View.{view}
 use Rattle.basic_toml_value.specs.declared.pairs.Pair.{Pair}
 use Rattle.basic_toml_value.specs.declared.value.Value.{Value}
@@ -51,7 +51,7 @@ HoldsAny d = d ≡ Data.table no_members → ⊥
 
 -- a key with the data at it
 abbrev pub child_pair : Pair children.Child → List ℕ × Data
-child_pair pair = (key_bytes pair.key, child_data pair.value)
+child_pair pair = (text_bytes pair.key, child_data pair.value)
 
 abbrev pub value_pair : Pair Value → List ℕ × Data
-value_pair pair = (key_bytes pair.key, view pair.value)
+value_pair pair = (text_bytes pair.key, view pair.value)

@@ -9,7 +9,7 @@ use basic_toml_clash::{drain, into_plain_values, plain_values};
 use basic_toml_grow::{Child, Item, Table};
 use basic_toml_read::Element;
 use basic_toml_value as values;
-use basic_toml_value::{Pair, Pairs, Value};
+use basic_toml_value::{Pair, Pairs, Text, Value};
 use std::alloc::{AllocError, Global};
 
 // Of so many entries the memory is given back while they are moved. Fewer are moved in less by a plain iterator.
@@ -25,8 +25,8 @@ pub(crate) fn value_of(alloc: Global, item: &Item<'_>) -> Result<Value, AllocErr
         Item::Integer(number) => Ok(Value::Integer(*number)),
         Item::Float(float) => Ok(Value::Float(float.clone()?)),
         Item::Boolean(truth) => Ok(Value::Boolean(*truth)),
-        Item::String(text) => Ok(Value::String(String::from_str(alloc, text)?)),
-        Item::Escaped(text) => Ok(Value::String(text.clone()?)),
+        Item::String(text) => Ok(Value::String(Text::from_str(alloc, text)?)),
+        Item::Escaped(text) => Ok(Value::String(Text::from(text.clone()?))),
         Item::Array(children) => Ok(Value::Array(elements_of(alloc, children.as_slice())?)),
         Item::Plain(elements) => Ok(Value::Array(plain_values(alloc, elements.as_slice())?)),
         Item::Inline(table) => Ok(Value::Table(table_of(alloc, table)?)),
@@ -100,8 +100,8 @@ fn into_value(alloc: Global, item: Item<'_>) -> Result<Value, AllocError>
         Item::Integer(number) => Ok(Value::Integer(number)),
         Item::Float(float) => Ok(Value::Float(float)),
         Item::Boolean(truth) => Ok(Value::Boolean(truth)),
-        Item::String(text) => Ok(Value::String(String::from_str(alloc, text)?)),
-        Item::Escaped(text) => Ok(Value::String(text)),
+        Item::String(text) => Ok(Value::String(Text::from_str(alloc, text)?)),
+        Item::Escaped(text) => Ok(Value::String(Text::from(text))),
         Item::Array(children) => into_array(alloc, children),
         Item::Plain(elements) => into_plain_array(alloc, elements),
         Item::Inline(table) => into_inner_table(alloc, table),

@@ -1,11 +1,11 @@
 -- What an index is after a call: of the same texts, or of one text more.
-use Rattle.std.proofs.Common.{◌≡◌, ℕ, ◌<◌, List, [], ◌∷◌, ◌++◌, length, Option, Some, Result, Ok, Err, OnOk, Box}
+use Rattle.std.proofs.Common.{◌≡◌, ℕ, ◌<◌, ◌≤◌, List, [], ◌∷◌, ◌++◌, length, Option, Some, Result, Ok, Err, OnOk, Box}
 use Rattle.std.proofs.Common.{Vec, subst, IsTrue, true}
 use Rattle.std.specs.Option.{ForSome}
 use Rattle.std.specs.declared.alloc.AllocError.{AllocError}
 use Rattle.std.specs.declared.alloc.Global.{Global}
 use Rattle.basic_toml_value.specs.Keys.{are_distinct}
-use Rattle.basic_toml_value.specs.Index.{leaves_of, joined, before, after, are_filled, IsIndex, IsGap, IsSorted}
+use Rattle.basic_toml_value.specs.Index.{leaves_of, joined, before, after, are_filled, few, IsIndex, IsGap, IsSorted}
 use Rattle.basic_toml_value.specs.declared.index.Gap.{Gap}
 use Rattle.basic_toml_value.specs.declared.index.Index.{Index}
 use Rattle.basic_toml_value.specs.declared.index.leaves.Slot.{Slot}
@@ -25,11 +25,13 @@ IsIndex-boxed keys boxed distinct sorted =
       distinct = distinct;
       sorted =
           for_some boxed (λ leaves. IsSorted keys (leaves_of leaves.value.items)) sorted;
+      unsorted = λ none. absurd (cc);
     }
 
-pub IsIndex-none : (keys : List (List ℕ)) (leaves : Option Boxed) → IsTrue (are_distinct keys)
+pub IsIndex-none : (keys : List (List ℕ)) (leaves : Option Boxed) → IsTrue (are_distinct keys) → length keys ≤ few
     → ((boxed : Boxed) → leaves ≡ Some boxed → ⊥) → IsIndex keys (record { leaves = leaves })
-IsIndex-none keys leaves distinct none = record { distinct = distinct; sorted = λ boxed is. absurd (none boxed is) }
+IsIndex-none keys leaves distinct low none =
+    record { distinct = distinct; sorted = λ boxed is. absurd (none boxed is); unsorted = λ is. low }
 
 pub distinct_with : (keys : List (List ℕ)) (index : Index) (gap : Gap) (key : List ℕ) → IsIndex keys index
     → IsGap keys index key gap → IsTrue (are_distinct (keys ++ key ∷ []))

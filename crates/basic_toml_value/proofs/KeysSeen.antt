@@ -4,7 +4,7 @@ use Rattle.std.proofs.Common.{ap, ◌∙◌, arith, Some, get_or, take, IsTrue}
 use Rattle.std.specs.List.{slice_get, slice_set}
 use Rattle.std.proofs.lemmas.List.{map-append}
 use Rattle.basic_toml_value.specs.declared.pairs.Pair.{Pair}
-use Rattle.basic_toml_value.specs.Key.{key_bytes}
+use Rattle.basic_toml_value.specs.Text.{text_bytes}
 use Rattle.basic_toml_value.specs.Entries.{pair_seen, seen, texts_of}
 use Rattle.basic_toml_value.specs.Keys.{is_among, are_distinct}
 use Rattle.basic_toml_value.specs.Pairs.{keys_of, has_key}
@@ -19,7 +19,7 @@ take-front (k ∷ ks) key = ap (λ ks. k ∷ ks) (take-front ks key)
 module _ {V : Type 0} where
   pub keys_of-seen : (pairs : List (Pair V)) → keys_of (seen pairs) ≡ texts_of pairs
   keys_of-seen [] = refl
-  keys_of-seen (p ∷ ps) = ap (λ keys. key_bytes p.key ∷ keys) (keys_of-seen ps)
+  keys_of-seen (p ∷ ps) = ap (λ keys. text_bytes p.key ∷ keys) (keys_of-seen ps)
 
   pub has_key-seen : (pairs : List (Pair V)) (key : List ℕ) → has_key (seen pairs) key ≡ is_among (texts_of pairs) key
   has_key-seen pairs key = ap (λ keys. is_among keys key) (keys_of-seen pairs)
@@ -29,9 +29,9 @@ module _ {V : Type 0} where
   has_key-found pairs i key at = has_key-seen pairs key ∙ is_among_at (texts_of pairs) i key at
 
   pub text_at : (pairs : List (Pair V)) (i : ℕ) (pair : Pair V) → slice_get pairs i ≡ Some pair
-      → slice_get (texts_of pairs) i ≡ Some (key_bytes pair.key)
+      → slice_get (texts_of pairs) i ≡ Some (text_bytes pair.key)
   text_at [] i pair read = absurd (cc)
-  text_at (p ∷ ps) zero pair read = let same : p ≡ pair = cc in ap (λ p. Some (key_bytes p.key)) same
+  text_at (p ∷ ps) zero pair read = let same : p ≡ pair = cc in ap (λ p. Some (text_bytes p.key)) same
   text_at (p ∷ ps) (suc i) pair read = text_at ps i pair read
 
   -- a key that is found is entered
@@ -49,8 +49,8 @@ module _ {V : Type 0} where
   seen-push pairs pair = map-append pair_seen pairs (pair ∷ [])
 
   texts_of-push : (pairs : List (Pair V)) (pair : Pair V)
-      → texts_of (pairs ++ pair ∷ []) ≡ texts_of pairs ++ key_bytes pair.key ∷ []
-  texts_of-push pairs pair = map-append (λ p. key_bytes p.key) pairs (pair ∷ [])
+      → texts_of (pairs ++ pair ∷ []) ≡ texts_of pairs ++ text_bytes pair.key ∷ []
+  texts_of-push pairs pair = map-append (λ p. text_bytes p.key) pairs (pair ∷ [])
 
   length-texts : (pairs : List (Pair V)) → length (texts_of pairs) ≡ length pairs
   length-texts [] = refl
@@ -58,30 +58,30 @@ module _ {V : Type 0} where
 
   -- a key that is absent is entered last
   pub entered_last : (pairs : List (Pair V)) (old : List (List ℕ × V)) (pair : Pair V) (key : List ℕ) (v : V)
-      → seen pairs ≡ old → is_among (texts_of pairs) key ≡ false → key_bytes pair.key ≡ key → pair.value ≡ v
+      → seen pairs ≡ old → is_among (texts_of pairs) key ≡ false → text_bytes pair.key ≡ key → pair.value ≡ v
       → EntersKey key v old (seen (pairs ++ pair ∷ [])) (length pairs)
   entered_last pairs old pair key v same absent at_key at_value =
       let none : has_key old key ≡ false = rw (← same) (has_key-seen pairs key ∙ absent) in record {
         at = rw (keys_of-seen (pairs ++ pair ∷ []), texts_of-push pairs pair, at_key, ← length-texts pairs)
             (slice_get-last (texts_of pairs) key);
         first = rw (keys_of-seen (pairs ++ pair ∷ []), texts_of-push pairs pair, ← length-texts pairs)
-            (rw (take-front (texts_of pairs) (key_bytes pair.key)) absent);
+            (rw (take-front (texts_of pairs) (text_bytes pair.key)) absent);
         pairs = rw (none, seen-push pairs pair, same, at_key, at_value) refl;
       }
 
   pub seen-set : (pairs : List (Pair V)) (i : ℕ) (pair : Pair V) (v : V) → i < length pairs → pair ≡ get_or pairs i pair
       → seen (slice_set pairs i (record { key = pair.key; value = v })) ≡ with_value (seen pairs) i v
   seen-set [] i pair v within read = absurd (omega arith)
-  seen-set (p ∷ ps) zero pair v within read = rw (ap (λ x. key_bytes x.key) read) refl
+  seen-set (p ∷ ps) zero pair v within read = rw (ap (λ x. text_bytes x.key) read) refl
   seen-set (p ∷ ps) (suc i) pair v within read = ap (λ l. pair_seen p ∷ l) (seen-set ps i pair v (omega arith) read)
 
   pub texts_of-set : (pairs : List (Pair V)) (i : ℕ) (pair : Pair V) (v : V) → i < length pairs
       → pair ≡ get_or pairs i pair
       → texts_of (slice_set pairs i (record { key = pair.key; value = v })) ≡ texts_of pairs
   texts_of-set [] i pair v within read = absurd (omega arith)
-  texts_of-set (p ∷ ps) zero pair v within read = rw (ap (λ x. key_bytes x.key) read) refl
+  texts_of-set (p ∷ ps) zero pair v within read = rw (ap (λ x. text_bytes x.key) read) refl
   texts_of-set (p ∷ ps) (suc i) pair v within read =
-      ap (λ l. key_bytes p.key ∷ l) (texts_of-set ps i pair v (omega arith) read)
+      ap (λ l. text_bytes p.key ∷ l) (texts_of-set ps i pair v (omega arith) read)
 
   pub length-seen : (pairs : List (Pair V)) → length (seen pairs) ≡ length pairs
   length-seen [] = refl
@@ -89,9 +89,9 @@ module _ {V : Type 0} where
 
   -- the key of the pair at a position
   pub key_at : (pairs : List (Pair V)) (i : ℕ) (pair : Pair V) → i < length pairs → pair ≡ get_or pairs i pair
-      → slice_get (keys_of (seen pairs)) i ≡ Some (key_bytes pair.key)
+      → slice_get (keys_of (seen pairs)) i ≡ Some (text_bytes pair.key)
   key_at [] i pair within read = absurd (omega arith)
-  key_at (p ∷ ps) zero pair within read = ap (λ x. Some (key_bytes x.key)) (sym read)
+  key_at (p ∷ ps) zero pair within read = ap (λ x. Some (text_bytes x.key)) (sym read)
   key_at (p ∷ ps) (suc i) pair within read = key_at ps i pair (omega arith) read
 
   -- the value of the pair at a position

@@ -2,7 +2,7 @@ pub mod DistinctKeys
 pub mod IndexAfterInsert
 pub mod IndexGrows
 pub mod InsertByShift
-pub mod KeyIsText
+pub mod TextIsUtf8
 pub mod KeysOfSlots
 pub mod LastEightBytes
 pub mod LengthsDecide

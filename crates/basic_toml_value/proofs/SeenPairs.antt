@@ -5,7 +5,7 @@ use Rattle.std.specs.Str.{bytes_eq}
 use Rattle.std.specs.List.{slice_get}
 use Rattle.std.proofs.lemmas.List.{map-append}
 use Rattle.basic_toml_value.specs.declared.pairs.Pair.{Pair}
-use Rattle.basic_toml_value.specs.Key.{key_bytes}
+use Rattle.basic_toml_value.specs.Text.{text_bytes}
 use Rattle.basic_toml_value.specs.Entries.{pair_seen, seen, texts_of}
 use Rattle.basic_toml_value.specs.Keys.{is_among, are_distinct}
 use Rattle.basic_toml_value.specs.Pairs.{keys_of, has_key, value_at, Gains}
@@ -14,7 +14,7 @@ use Rattle.basic_toml_value.proofs.DistinctKeys.{bytes_eq-same, first_differs, i
 module _ {V : Type 0} where
   pub keys_of-seen : (pairs : List (Pair V)) → keys_of (seen pairs) ≡ texts_of pairs
   keys_of-seen [] = refl
-  keys_of-seen (p ∷ ps) = ap (λ keys. key_bytes p.key ∷ keys) (keys_of-seen ps)
+  keys_of-seen (p ∷ ps) = ap (λ keys. text_bytes p.key ∷ keys) (keys_of-seen ps)
 
   pub has_key-seen : (pairs : List (Pair V)) (key : List ℕ) → has_key (seen pairs) key ≡ is_among (texts_of pairs) key
   has_key-seen pairs key = ap (λ keys. is_among keys key) (keys_of-seen pairs)
@@ -29,9 +29,9 @@ module _ {V : Type 0} where
       → IsTrue (are_distinct (texts_of pairs)) → slice_get (texts_of pairs) i ≡ Some key → pair ≡ get_or pairs i pair
       → value_at (seen pairs) key ≡ Some pair.value
   value_at-found [] i pair key distinct at read = absurd (cc)
-  value_at-found (p ∷ ps) zero pair key distinct at read = grind (arith, bytes_eq-same (key_bytes p.key), at, read)
+  value_at-found (p ∷ ps) zero pair key distinct at read = grind (arith, bytes_eq-same (text_bytes p.key), at, read)
   value_at-found (p ∷ ps) (suc i) pair key distinct at read =
-      rw (first_differs (key_bytes p.key) (texts_of ps) i key distinct at)
+      rw (first_differs (text_bytes p.key) (texts_of ps) i key distinct at)
       (value_at-found ps i pair key (grind (arith, distinct)) at read)
 
   pub value_at-absent : (pairs : List (Pair V)) (key : List ℕ) → is_among (texts_of pairs) key ≡ false
@@ -47,8 +47,8 @@ module _ {V : Type 0} where
   seen-push pairs pair = map-append pair_seen pairs (pair ∷ [])
 
   pub texts_of-push : (pairs : List (Pair V)) (pair : Pair V) → texts_of (pairs ++ pair ∷ []) ≡ texts_of pairs
-      ++ key_bytes pair.key ∷ []
-  texts_of-push pairs pair = map-append (λ p. key_bytes p.key) pairs (pair ∷ [])
+      ++ text_bytes pair.key ∷ []
+  texts_of-push pairs pair = map-append (λ p. text_bytes p.key) pairs (pair ∷ [])
 
   -- the pair at an index, and the pairs after it
   pub seen-drop : (pairs : List (Pair V)) (i : ℕ) (pair : Pair V) → i < length pairs → pair ≡ get_or pairs i pair

@@ -1,6 +1,6 @@
 -- An index of texts: their positions, each with an ending of its text, sorted in leaves of bounded size. Callers go by
 -- `IsIndex` and `IsGap` alone; what stands before these is the index's own.
-use Rattle.std.specs.Prelude.{◌≡◌, ◌==◌, ℕ, suc, ◌<◌, ◌≤◌, List, [], ◌∷◌, ◌++◌, Bool, true, false, ◌&&◌, ◌||◌, nat_lt, nat_le, is_some}
+use Rattle.std.specs.Prelude.{◌≡◌, ◌==◌, ℕ, suc, ◌<◌, ◌≤◌, List, [], ◌∷◌, ◌++◌, Bool, true, false, ◌&&◌, nat_lt, None}
 use Rattle.std.specs.Prelude.{length, map, take, drop, replicate, IsTrue, Vec, slice_index_or, slice_set, insert}
 use Rattle.std.specs.List.{list_all, flat_map}
 use Rattle.std.specs.Option.{ForSome}
@@ -119,22 +119,20 @@ pub record HoldsAt (keys : List (List ℕ)) (leaves : List (List Slot)) (gap : G
   pub in_leaf : gap.slot < length (leaf_at leaves gap.leaf)
   pub holds : key_of keys (slot_at (leaf_at leaves gap.leaf) gap.slot) ≡ key
 
--- the keys differ, and the index, where there is one, is one of them
+-- so many keys at most stand without an index
+abbrev pub few : ℕ
+few = 16
+
+-- the keys differ, and the index is one of them, or there is none and they are a few
 pub record IsIndex (keys : List (List ℕ)) (index : Index) : Type 0 where
   pub distinct : IsTrue (are_distinct keys)
   pub sorted : ForSome index.leaves (λ leaves. IsSorted keys (leaves_of leaves.value.items))
+  pub unsorted : index.leaves ≡ None → length keys ≤ few
 
 -- a key is none of the keys, and goes into the gap
 pub record IsGap (keys : List (List ℕ)) (index : Index) (key : List ℕ) (gap : Gap) : Type 0 where
   pub absent : is_among keys key ≡ false
   pub place : ForSome index.leaves (λ leaves. IsPlace keys (leaves_of leaves.value.items) gap key)
-
--- an index is enough for so many texts where it is made, or they are a few
-abbrev pub few : ℕ
-few = 16
-
-abbrev pub is_enough : Index → ℕ → Bool
-is_enough index count = nat_le count few || is_some index.leaves
 
 -- what a search answers, where it has found the key and where not
 abbrev pub IfAt : Found → (ℕ → Type 0) → Type 0

@@ -1,7 +1,8 @@
 -- The data that a `Value` and a `Table` stand for: what contracts see of them.
-use Rattle.std.specs.Prelude.{ℕ, List, map, string_bytes}
+use Rattle.std.specs.Prelude.{ℕ, List, map}
 use Rattle.basic_toml_value.specs.Data.{Data, integer, float, boolean, string, array, table, Items, Members}
 use Rattle.basic_toml_value.specs.Data.{items_of, members_of}
+use Rattle.basic_toml_value.specs.Text.{text_bytes}
 use Rattle.basic_toml_value.specs.declared.value.Value.{Value, fold-Value}
 use Rattle.basic_toml_value.specs.declared.value.Value.TheOpen.{Value-F}
 
@@ -10,7 +11,7 @@ abbrev pub view_step : Value-F Data → Data
 view_step (Value-F.Integer n) = integer n
 view_step (Value-F.Float text) = float text
 view_step (Value-F.Boolean b) = boolean b
-view_step (Value-F.String text) = string (string_bytes text)
+view_step (Value-F.String text) = string (text_bytes text)
 view_step (Value-F.Array values) = array (items_of values.items)
 view_step (Value-F.Table pairs) = table (members_of pairs)
 

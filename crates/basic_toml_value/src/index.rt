@@ -6,7 +6,7 @@
 ghost use Rattle.std.specs.Prelude.{◌≡◌, List, ℕ, [], ◌∷◌, ◌++◌, length, false, Some, IsTrue, IfOk, OnOk, OnErr};
 ghost use Rattle.std.specs.Prelude.{slice_get, ◌<◌, ◌≤◌, true, take};
 ghost use Rattle.basic_toml_value.specs.Keys.{are_distinct, is_among};
-ghost use Rattle.basic_toml_value.specs.Index.{IsIndex, IsGap, IfAt, IfAbsent, key_at, is_enough};
+ghost use Rattle.basic_toml_value.specs.Index.{IsIndex, IsGap, IfAt, IfAbsent, key_at, few};
 
 mod ending;
 mod leaves;
@@ -70,18 +70,11 @@ pub struct Index {
 }
 
 impl Index {
-    /// No index, which takes no memory: it serves any texts that differ, and a search looks through them.
+    /// No index, which takes no memory: it serves up to 16 texts that differ, and a search looks through them.
     pub fn none() -> Index
-        ensures { (keys : List (List ℕ)) → IsTrue (are_distinct keys) → IsIndex keys result }
+        ensures { (keys : List (List ℕ)) → IsTrue (are_distinct keys) → length keys ≤ few → IsIndex keys result }
     {
         Index { leaves: None }
-    }
-
-    /// Whether this is enough for so many texts, so that a search looks through a few of them at most.
-    pub fn is_enough_for(&self, count: usize) -> bool
-        ensures { result ≡ is_enough self.now count }
-    {
-        count <= FEW || self.leaves.is_some()
     }
 
     /// An index of texts that differ, made at once; none where the texts are few.
@@ -135,18 +128,6 @@ impl Index {
         match &self.leaves {
             Some(leaves) => leaves::search(leaves.as_slice(), texts, key),
             None => look_through(texts, key),
-        }
-    }
-
-    /// Where a key goes that is none of the texts, as the caller has seen: `search` without looking through them.
-    pub fn gap<T: Texts>(&self, texts: &T, key: &str) -> Gap
-        requires index { IsIndex (T.texts texts.now) self.now }
-        requires absent { is_among (T.texts texts.now) key.now ≡ false }
-        ensures { IsGap (T.texts texts.now) self.now key.now result }
-    {
-        match &self.leaves {
-            Some(leaves) => leaves::gap(leaves.as_slice(), texts, key),
-            None => Gap::none(),
         }
     }
 

@@ -12,12 +12,12 @@
 #![tactic(auto)]
 
 mod index;
-mod key;
 mod pairs;
+mod text;
 mod value;
 
 pub use basic_toml_numbers::Float;
 pub use index::{Found, Gap, Index, Texts};
-pub use key::Key;
 pub use pairs::{Blank, Iter, Pair, Pairs, PushRefusal};
+pub use text::Text;
 pub use value::{NESTING_LIMIT, Table, Value};

@@ -8,7 +8,7 @@ ghost use Rattle.basic_toml_value.specs.Entries.{seen, texts_of};
 ghost use Rattle.basic_toml_value.specs.Pairs.{keys_of, has_key, value_at, Gains};
 
 use crate::index::{Found, Gap, Index, Texts};
-use crate::key::Key;
+use crate::text::Text;
 use std::alloc::Global;
 use std::fmt;
 use std::marker::Model;
@@ -30,7 +30,7 @@ pub enum PushRefusal {
 #[derive(Drop)]
 pub struct Pair<V> {
     /// The key.
-    pub key: Key,
+    pub key: Text,
     /// Its value.
     pub value: V,
 }
@@ -86,10 +86,7 @@ impl<V> Pairs<V> {
         }
     }
 
-    /// A table of pairs whose keys differ, with an index of the keys.
-    ///
-    /// Where the index is `Index::none()`, `get` looks through the pairs, however many there are, and the first push
-    /// makes an index of more than a few.
+    /// A table of pairs whose keys differ, with an index of the keys, which only up to 16 do without.
     pub fn from_parts(entries: Vec<Pair<V>>, index: Index) -> Pairs<V>
         requires { IsIndex (texts_of entries.items) index }
         ensures { result ≡ seen entries.items }
@@ -145,23 +142,6 @@ impl<V> Pairs<V> {
                 Err((key, value)) => Err((PushRefusal::OutOfMemory, key, value)),
             },
         }
-    }
-
-    /// Puts a pair last whose key is not there, as the caller has seen: `push` that looks through no pairs.
-    ///
-    /// # Errors
-    ///
-    /// Where memory is refused, the pair comes back and the table stays as it was.
-    #[tactic(auto, using(crate::proofs::SeenPairs::seen_pairs))]
-    pub fn push_new(&mut self, key: String, value: V) -> Result<(), (String, V)>
-        requires { has_key self.old (string_bytes key) ≡ false }
-        ensures ok { OnOk result (self.new ≡ self.old ++ (string_bytes key, value) ∷ []) }
-        ensures gains { OnOk result (Gains self.old (string_bytes key) value self.new) }
-        ensures err_unchanged { OnErr result (self.new ≡ self.old) }
-        ensures pair_back { IfErr result (λ e. (e.0 ≡ key) × (e.1 ≡ value)) }
-    {
-        let gap = self.index.gap(&self.entries, key.as_str());
-        put(&mut self.entries, &mut self.index, gap, key, value)
     }
 
     /// The pairs in order.
@@ -230,7 +210,7 @@ fn put<V>(
     if index.insert(alloc, entries, key.as_str(), gap).is_err() {
         return Err((key, value));
     }
-    let key = Key::of(key);
+    let key = Text::of(key);
     entries.push_reserved(Pair { key, value });
     Ok(())
 }

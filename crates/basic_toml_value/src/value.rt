@@ -4,12 +4,13 @@ ghost use Rattle.std.specs.Option.{option_copied};
 ghost use Rattle.std.specs.Ordering.{on};
 ghost use Rattle.std.specs.Str.{bytes_eq};
 ghost use Rattle.basic_toml_value.specs.Data.{integer_in, float_in, boolean_in, string_in, array_in, table_in};
-ghost use Rattle.basic_toml_value.specs.Key.{key_bytes};
+ghost use Rattle.basic_toml_value.specs.Text.{text_bytes};
 ghost use Rattle.basic_toml_value.specs.Entries.{seen, texts_of};
 ghost use Rattle.basic_toml_value.specs.Equal.{data_eq, items_eq, members_eq};
 ghost use Rattle.basic_toml_value.specs.View.{view, entries, items_view};
 
 use crate::pairs::{Pair, Pairs};
+use crate::text::Text;
 use basic_toml_numbers::Float;
 use std::alloc::{AllocError, Global};
 
@@ -39,7 +40,7 @@ pub enum Value {
     /// `true` or `false` ("Boolean").
     Boolean(bool),
     /// A text ("String").
-    String(String),
+    String(Text),
     /// An array ("Array", "Array of Tables"), whose elements may be of different kinds.
     Array(Vec<Value>),
     /// A table ("Table", "Inline Table").
@@ -270,7 +271,7 @@ fn same_entries(left: &[Pair<Value>], right: &[Pair<Value>]) -> bool
 
 #[cycle(same)]
 fn same_pairs(left: &Pair<Value>, right: &Pair<Value>) -> bool
-    ensures { result ≡ (bytes_eq (key_bytes left.now.key) (key_bytes right.now.key)
+    ensures { result ≡ (bytes_eq (text_bytes left.now.key) (text_bytes right.now.key)
         && data_eq (view left.now.value) (view right.now.value)) }
 {
     left.key.as_str() == right.key.as_str() && same_values(&left.value, &right.value)

@@ -1,16 +1,16 @@
 -- What the calls of data record, by that of its parts.
-use Rattle.std.proofs.Common.{◌≡◌, ℕ, ◌+◌, ◌<◌, List, [], ◌∷◌, ◌++◌, length, drop, get_or, subst, sym, ap, ◌∙◌, string_bytes}
-use Rattle.std.proofs.Common.{rules, String, Global, ℤ}
+use Rattle.std.proofs.Common.{◌≡◌, ℕ, ◌+◌, ◌<◌, List, [], ◌∷◌, ◌++◌, length, drop, get_or, subst, sym, ap, ◌∙◌}
+use Rattle.std.proofs.Common.{rules, ℤ}
 use Rattle.std.proofs.lemmas.List.Elements.{All-nil, All-cons, All-append}
-use Rattle.std.proofs.lemmas.Str.{IsUtf8-string_bytes}
 use Rattle.basic_toml_value.specs.Data.{Data, integer, string, array, table, Items, Members}
-use Rattle.basic_toml_value.specs.Key.{key_bytes}
+use Rattle.basic_toml_value.specs.Text.{text_bytes}
 use Rattle.basic_toml_value.specs.Entries.{seen}
 use Rattle.basic_toml_value.specs.View.{view, entries, items_view}
 use Rattle.basic_toml_value.specs.declared.pairs.Pair.{Pair}
 use Rattle.basic_toml_value.specs.declared.value.Value.{Value, the_lemmas}
-use Rattle.basic_toml_value.specs.declared.value.Value.TheVariants.{Integer as Whole, String as Text}
-use Rattle.basic_toml_value.proofs.KeyIsText.{IsUtf8-key_bytes}
+use Rattle.basic_toml_value.specs.declared.value.Value.TheVariants.{Integer as Whole, String as Words}
+use Rattle.basic_toml_value.specs.declared.text.Text.{Text}
+use Rattle.basic_toml_value.proofs.TextIsUtf8.{IsUtf8-text_bytes}
 use Rattle.basic_toml_layout.specs.Written as w
 use Rattle.basic_toml_layout.specs.Written.{text}
 use Rattle.basic_toml_emit.specs.Items.{Item, a_scalar, open_array, open_table, close, field, element_prefix}
@@ -21,15 +21,15 @@ use Rattle.basic_toml_layout.proofs.DataIsLaidOut.{drop_at}
 pub recordable_one : (i : Item) → IsRecordable i → AreRecordable (i ∷ [])
 recordable_one i can = All-cons IsRecordable i [] can (All-nil IsRecordable)
 
-view-String : (s : String Global) → view (Text s) ≡ string (string_bytes s)
-view-String s = search (rules, the_lemmas)
+view-String : (t : Text) → view (Words t) ≡ string (text_bytes t)
+view-String t = search (rules, the_lemmas)
 
 view-Integer : (z : ℤ) → view (Whole z) ≡ integer z
 view-Integer z = search (rules, the_lemmas)
 
-pub recordable_string : (v : Value) (s : String Global) → v ≡ Text s → AreRecordable (data_calls (view v))
-recordable_string v s is = subst (λ z. AreRecordable (data_calls z)) (sym (ap view is ∙ view-String s))
-    (recordable_one (a_scalar (text (string_bytes s))) (IsUtf8-string_bytes s))
+pub recordable_string : (v : Value) (t : Text) → v ≡ Words t → AreRecordable (data_calls (view v))
+recordable_string v t is = subst (λ z. AreRecordable (data_calls z)) (sym (ap view is ∙ view-String t))
+    (recordable_one (a_scalar (text (text_bytes t))) (IsUtf8-text_bytes t))
 
 pub recordable_integer : (v : Value) (z : ℤ) → v ≡ Whole z → IsRecordableScalar (w.integer z)
     → AreRecordable (data_calls (view v))
@@ -65,6 +65,6 @@ pub recordable_member : (ps : List (Pair Value)) (i : ℕ) (p : Pair Value) → 
     → AreRecordable (members_calls (entries (seen (drop i ps))))
 recordable_member ps i p lt read one more =
     subst (λ z. AreRecordable (members_calls (entries (seen z)))) (sym (drop_at ps i p lt read))
-    (All-cons IsRecordable (field (key_bytes p.key))
-    (data_calls (view p.value) ++ members_calls (entries (seen (drop (i + 1) ps)))) (IsUtf8-key_bytes p.key)
+    (All-cons IsRecordable (field (text_bytes p.key))
+    (data_calls (view p.value) ++ members_calls (entries (seen (drop (i + 1) ps)))) (IsUtf8-text_bytes p.key)
     (All-append IsRecordable (data_calls (view p.value)) (members_calls (entries (seen (drop (i + 1) ps)))) one more))

@@ -152,7 +152,7 @@ fn text_of(alloc: Global, value: &Value) -> Result<String, AllocError>
     ensures { IfOk result (λ text. string_bytes text ≡ spec.text_of (view value.now)) }
 {
     match value {
-        Value::String(text) => text.clone(),
+        Value::String(text) => String::from_str(alloc, text.as_str()),
         Value::Float(float) => String::from_str(alloc, float.as_str()),
         Value::Integer(number) => format!(in alloc; "{number}"),
         Value::Boolean(truth) => format!(in alloc; "{truth}"),

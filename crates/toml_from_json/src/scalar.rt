@@ -7,7 +7,7 @@ ghost use Rattle.toml_from_json.specs.Meaning.{IsRefused, number_data, tagged_da
 
 use crate::refusal::{Fault, NoTable, refused};
 use basic_toml_numbers::integer_of;
-use basic_toml_value::{Float, Value};
+use basic_toml_value::{Float, Text, Value};
 use json::Value as Json;
 use std::alloc::{AllocError, Global};
 
@@ -74,7 +74,7 @@ pub fn tagged_of(alloc: Global, kind: &str, text: &str) -> Result<Value, NoTable
             "false" => Ok(Value::Boolean(false)),
             _ => Err(refused(alloc, Fault::WrongValue)),
         },
-        "string" => Ok(Value::String(String::from_str(alloc, text)?)),
+        "string" => Ok(Value::String(Text::from_str(alloc, text)?)),
         "datetime" => Err(refused(alloc, Fault::OffsetDateTime)),
         "datetime-local" => Err(refused(alloc, Fault::LocalDateTime)),
         "date-local" => Err(refused(alloc, Fault::LocalDate)),

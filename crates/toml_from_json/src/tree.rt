@@ -10,7 +10,7 @@ ghost use Rattle.toml_from_json.specs.Meaning.{IsRefused, IsRepeated, data_of, i
 
 use crate::refusal::{Fault, NoTable, Refusal, refused, under};
 use crate::scalar::{number_of, tag_of, tagged_of};
-use basic_toml_value::{PushRefusal, Table, Value};
+use basic_toml_value::{PushRefusal, Table, Text, Value};
 use json::Value as Json;
 use std::alloc::Global;
 use toml_json_text::Form;
@@ -47,7 +47,7 @@ fn value_of<'t>(alloc: Global, form: Form, json: &Json<'t>) -> Result<Value, NoT
             Form::Tagged => Err(refused(alloc, Fault::NoType)),
         },
         Json::String(text) => match form {
-            Form::Plain => Ok(Value::String(String::from_str(alloc, *text)?)),
+            Form::Plain => Ok(Value::String(Text::from_str(alloc, *text)?)),
             Form::Tagged => Err(refused(alloc, Fault::NoType)),
         },
         Json::Array(values) => Ok(Value::Array(elements_of(alloc, form, values.as_slice())?)),

@@ -2,7 +2,7 @@
 use Rattle.std.proofs.Common.{◌≡◌, ℕ, ◌+◌, ◌<◌, Bool, true, List, ◌++◌, length, drop, get_or, sym, ◌∙◌, ap}
 use Rattle.std.proofs.Common.{append_assoc}
 use Rattle.basic_toml_value.specs.Entries.{seen}
-use Rattle.basic_toml_value.specs.Key.{key_bytes}
+use Rattle.basic_toml_value.specs.Text.{text_bytes}
 use Rattle.basic_toml_value.specs.View.{view, entries, items_view}
 use Rattle.basic_toml_value.specs.declared.pairs.Pair.{Pair}
 use Rattle.basic_toml_value.specs.declared.value.Value.{Value}
@@ -29,11 +29,11 @@ elements_step form values i value lt read later t t' t'' whole first second left
 
 pub members_step : (form : Form) (pairs : List (Pair Value)) (i : ℕ) (pair : Pair Value) → i < length pairs
     → pair ≡ get_or pairs i pair → (later : Bool) (t t' whole : List ℕ)
-    → t' ≡ t ++ (name_text later (key_bytes pair.key) ++ json form (view pair.value))
+    → t' ≡ t ++ (name_text later (text_bytes pair.key) ++ json form (view pair.value))
     → t ++ members_text form later (entries (seen (drop i pairs))) ≡ whole
     → t' ++ members_text form true (entries (seen (drop (i + 1) pairs))) ≡ whole
 members_step form pairs i pair lt read later t t' whole put left =
-    let name : List ℕ = name_text later (key_bytes pair.key) in
+    let name : List ℕ = name_text later (text_bytes pair.key) in
     let value : List ℕ = json form (view pair.value) in
     let rest : List ℕ = members_text form true (entries (seen (drop (i + 1) pairs))) in
     ap (λ z. z ++ rest) put

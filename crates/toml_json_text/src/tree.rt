@@ -2,7 +2,7 @@
 ghost use Rattle.std.specs.Prelude.{◌≡◌, ◌++◌, false, IfOk, string_bytes};
 ghost use Rattle.basic_toml_value.specs.Data as d;
 ghost use Rattle.basic_toml_value.specs.Entries.{seen};
-ghost use Rattle.basic_toml_value.specs.Key.{key_bytes};
+ghost use Rattle.basic_toml_value.specs.Text.{text_bytes};
 ghost use Rattle.basic_toml_value.specs.View.{view, entries, items_view};
 ghost use Rattle.toml_json_text.specs.Json.{json, name_text, object_text, elements_text, members_text};
 
@@ -100,7 +100,7 @@ fn push_member(
     pair: &Pair<Value>,
 ) -> Result<(), AllocError>
     ensures { IfOk result (λ _. string_bytes text.new ≡ string_bytes text.old
-        ++ (name_text is_later (key_bytes pair.now.key) ++ json form (view pair.now.value))) }
+        ++ (name_text is_later (text_bytes pair.now.key) ++ json form (view pair.now.value))) }
 {
     push_name(text, is_later, pair.key.as_str())?;
     push_value(text, form, &pair.value)

@@ -1,6 +1,6 @@
 // Tables and their values, each call once: that it succeeds with ample memory.
 use basic_toml::from_str;
-use basic_toml_value::{Index, Key, Pairs, Table, Value};
+use basic_toml_value::{Index, Pairs, Table, Text, Value};
 use std::alloc::{AllocError, Global};
 use std::test::Fail;
 
@@ -21,10 +21,8 @@ fn fills_tables(rt: HostRuntime) -> Result<(), Fail> {
         let key = format!(in alloc; "key-{number}")?;
         assert!(rt; table.push(key, Value::Integer(number)).is_ok());
     }
-    let key = String::from_str(alloc, "new")?;
-    assert!(rt; table.push_new(key, Value::Boolean(true)).is_ok());
     assert!(rt; table.push_copy("copied", Value::Boolean(false)).is_ok());
-    assert_eq!(rt; table.len(), 42);
+    assert_eq!(rt; table.len(), 41);
     Ok(())
 }
 
@@ -58,10 +56,17 @@ fn makes_tables_of_parts(rt: HostRuntime) -> Result<(), Fail> {
 }
 
 #[test]
-fn copies_short_and_long_keys(rt: HostRuntime) -> Result<(), Fail> {
-    for text in ["short", "a key of more than 23 bytes"] {
-        let key = Key::from_str(rt.alloc(), text)?;
-        assert_eq!(rt; key.clone()?.as_str(), text);
+fn holds_short_and_long_texts(rt: HostRuntime) -> Result<(), Fail> {
+    let alloc = rt.alloc();
+    for words in ["localhost", "a text of more than 23 bytes"] {
+        let text = Text::from_str(alloc, words)?;
+        let same = Text::from(String::from_str(alloc, words)?);
+        assert!(rt; text == same);
+        assert_eq!(rt; format!(in alloc; "{text}")?.as_str(), words);
+        let quoted = format!(in alloc; "\"{words}\"")?;
+        assert_eq!(rt; format!(in alloc; "{text:?}")?.as_str(), quoted.as_str());
+        assert_eq!(rt; text.clone()?.into_string(alloc)?.as_str(), words);
+        assert_eq!(rt; Value::String(same).as_str(), Some(words));
     }
     Ok(())
 }

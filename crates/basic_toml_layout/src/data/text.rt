@@ -4,7 +4,7 @@
 //! was.
 ghost use Rattle.std.specs.Prelude.{◌≡◌, ℕ, List, [], ◌∷◌, ◌++◌, true, false, cond, IfOk, string_bytes};
 ghost use Rattle.basic_toml_tokens.specs.Ascii as ascii;
-ghost use Rattle.basic_toml_value.specs.Key.{key_bytes};
+ghost use Rattle.basic_toml_value.specs.Text.{text_bytes};
 ghost use Rattle.basic_toml_value.specs.Entries.{seen};
 ghost use Rattle.basic_toml_value.specs.View.{view, entries, items_view};
 ghost use Rattle.basic_toml_layout.specs.Layout.{written, written_elements, row_start, table_header, element_header, is_header_due, entry_text, array_text, entries_text};
@@ -139,7 +139,7 @@ fn write_entry(
     pair: &Pair<Value>,
 ) -> Result<(), AllocError>
     ensures text { GoesOn (string_bytes path.old) (string_bytes text.old) (string_bytes text.new)
-        (λ keys. entry_text keys (key_bytes pair.now.key) is_later (written_of (view pair.now.value))) result }
+        (λ keys. entry_text keys (text_bytes pair.now.key) is_later (written_of (view pair.now.value))) result }
     ensures path { IfOk result (λ _. string_bytes path.new ≡ string_bytes path.old) }
 {
     if !is_section(&pair.value) {

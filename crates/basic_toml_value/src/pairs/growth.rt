@@ -6,8 +6,8 @@ ghost use Rattle.basic_toml_value.specs.Index.{IsGap, IsIndex};
 ghost use Rattle.basic_toml_value.specs.Growth.{EntersKey};
 
 use crate::index::{Found, Gap, Index};
-use crate::key::Key;
 use crate::pairs::{Pair, Pairs, PushRefusal};
+use crate::text::Text;
 use std::alloc::{AllocError, Global};
 use std::mem;
 
@@ -46,7 +46,7 @@ fn add<V: Drop>(
 {
     let alloc = *pairs.allocator();
     let position = pairs.len();
-    let key = Key::from_str(alloc, key)?;
+    let key = Text::from_str(alloc, key)?;
     make_room(pairs)?;
     index.insert(alloc, pairs, key.as_str(), gap)?;
     pairs.push_reserved(Pair { key, value });
@@ -68,7 +68,7 @@ impl<V: Drop> Pairs<V> {
     ghost use Rattle.std.specs.Prelude.{◌≡◌, ◌<◌, ◌↔◌, [], ◌∷◌, ◌++◌, false, length, IfErr, IfSome, IsTrue, MatchOption, None, OnErr, OnOk, slice_get, Some};
     ghost use Rattle.basic_toml_value.specs.Keys.{are_distinct};
     ghost use Rattle.basic_toml_value.specs.Pairs.{keys_of, has_key, value_at};
-    ghost use Rattle.basic_toml_value.specs.Key.{key_bytes};
+    ghost use Rattle.basic_toml_value.specs.Text.{text_bytes};
     ghost use Rattle.basic_toml_value.specs.Entries.{seen, texts_of};
     ghost use Rattle.basic_toml_value.specs.Index.{IsIndex};
     ghost use Rattle.basic_toml_value.specs.Growth.{with_value, values_of};
@@ -112,7 +112,7 @@ impl<V: Drop> Pairs<V> {
     pub fn pair(&self, key: &str) -> Option<&Pair<V>>
         ensures value { MatchOption result (value_at self.now key.now ≡ None)
             (λ pair. value_at self.now key.now ≡ Some pair.now.value) }
-        ensures same { IfSome result (λ pair. key_bytes pair.now.key ≡ key.now) }
+        ensures same { IfSome result (λ pair. text_bytes pair.now.key ≡ key.now) }
     {
         match self.index.search(&self.entries, key) {
             Found::At(position) => Some(&self.entries[position]),

@@ -339,8 +339,8 @@ row_value-returns-then-are_plain-clause-origins t c = λ v seen.
     c.args.start c.args.section
 
 -- simple rows, taken all at once
-pub take_rows-with_rows-requires : goal.take_rows-with_rows-requires
-take_rows-with_rows-requires t c =
+pub take_rows-with_rows-requires-clause-distinct : goal.take_rows-with_rows-requires-clause-distinct
+take_rows-with_rows-requires-clause-distinct t c =
     keys_differ c.args.level c.args.rows.items (ap (are_simple c.args.level) (sym c.as_slice.ensures.value)
     ∙ sym {A = Bool} c.are_simple.ensures ∙ c.if-are_simple.true)
 

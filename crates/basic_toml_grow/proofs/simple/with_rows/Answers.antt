@@ -1,7 +1,9 @@
-use Rattle.std.proofs.Common.{List, ℕ, ap, sym, ◌∙◌, subst, IsTrue}
+use Rattle.std.proofs.Common.{List, ℕ, ap, sym, ◌∙◌, subst, IsTrue, length, arith}
+use Rattle.std.proofs.lemmas.List.{length-map}
 use Rattle.basic_toml_value.specs.Keys.{are_distinct}
 use Rattle.basic_toml_value.specs.Pairs.{keys_of}
 use Rattle.basic_toml_value.proofs.KeysSeen.{keys_of-seen}
+use Rattle.basic_toml_clash.specs.Simple.{key_of}
 use Rattle.basic_toml_grow.proofs.SimpleRows.{entry_keys}
 use Rattle.basic_toml_grow.proofs.simple.with_rows.Goals as goal
 
@@ -9,4 +11,6 @@ pub from_parts-entries-requires : goal.from_parts-entries-requires
 from_parts-entries-requires c =
     let keys = sym (keys_of-seen c.in_ok-entries_of.field-0.items) ∙ ap keys_of c.in_ok-entries_of.ensures
     ∙ entry_keys c.args.section c.args.rows.items in
-    c.none.ensures _ (subst (λ (ks : List (List ℕ)). IsTrue (are_distinct ks)) (sym keys) c.requires)
+    let count = ap length keys ∙ length-map c.args.rows.items key_of in
+    c.none.ensures _ (subst (λ (ks : List (List ℕ)). IsTrue (are_distinct ks)) (sym keys) c.requires.distinct)
+    (omega (arith, count, c.requires.few))

@@ -14,8 +14,7 @@ are_pairs_in_order-is_in_order-requires t c =
     in
     (omega arith, tt)
 
-pub is_table_in_order-returns-then-is_enough_for-clause-sound :
-    goal.is_table_in_order-returns-then-is_enough_for-clause-sound
-is_table_in_order-returns-then-is_enough_for-clause-sound t c = λ yes.
+pub is_table_in_order-returns-clause-sound : goal.is_table_in_order-returns-clause-sound
+is_table_in_order-returns-clause-sound t c = λ yes.
     sound_table c.args.table.now _ c.entries.ensures.pairs c.entries.ensures.distinct
     (c.are_pairs_in_order.ensures.sound yes)

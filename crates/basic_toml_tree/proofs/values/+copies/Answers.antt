@@ -37,7 +37,7 @@ entries_of-loop-pair-preserved t c =
     mapped_more value_pair child_pair c.loop-pair.copies.items c.push.new.self.items c.args.pairs.now
     c.loop-pair.pair-index (record { key = c.in_ok-key.key; value = c.in_ok-value.value }) c.pair-item.result
     c.loop-pair-test.true c.pair-item.is c.in_ok-push.ensures.items c.loop-pair.invariant
-    (rw (c.in_ok-key.ensures, c.in_ok-value.ensures, child_item c.pair-item.result.value) refl)
+    (rw (c.in_ok-key.ensures.cases, c.in_ok-value.ensures, child_item c.pair-item.result.value) refl)
 
 pub table_of-entries_of-requires : goal.table_of-entries_of-requires
 table_of-entries_of-requires t c =

@@ -29,9 +29,9 @@ clone_entries-loop-pair-preserved t c = record {
   same = entries-copied c.loop-pair.copies.items c.push.new.self.items c.args.pairs.now c.loop-pair.pair-index
       (record { key = c.in_ok-key.key; value = c.in_ok-value.value }) c.pair-item.result c.loop-pair-test.true
       c.pair-item.is
-      c.in_ok-push.ensures.items c.loop-pair.invariant.same c.in_ok-key.ensures c.in_ok-value.ensures;
+      c.in_ok-push.ensures.items c.loop-pair.invariant.same c.in_ok-key.ensures.cases c.in_ok-value.ensures;
   texts = texts-copied c.loop-pair.copies.items c.push.new.self.items c.args.pairs.now c.loop-pair.pair-index
       (record { key = c.in_ok-key.key; value = c.in_ok-value.value }) c.pair-item.result c.loop-pair-test.true
       c.pair-item.is
-      c.in_ok-push.ensures.items c.loop-pair.invariant.texts c.in_ok-key.ensures;
+      c.in_ok-push.ensures.items c.loop-pair.invariant.texts c.in_ok-key.ensures.cases;
 }

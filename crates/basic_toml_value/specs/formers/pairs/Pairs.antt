@@ -14,40 +14,40 @@ use Rattle.std.specs.declared.alloc.Global.{Global}
 use Rattle.std.specs.contracts.alloc.Global as heap
 use Rattle.std.specs.contracts.impls.GlobalAllocator.TheImpl.{ghosts}
 use Rattle.basic_toml_value.specs.declared.index.Index.{Index}
-use Rattle.basic_toml_value.specs.declared.key.Key.{Key}
+use Rattle.basic_toml_value.specs.declared.text.Text.{Text}
 use Rattle.basic_toml_value.specs.declared.pairs.Pair.{Pair}
 use Rattle.basic_toml_value.specs.declared.pairs.Pairs.TheInside.{Inside}
 use Rattle.basic_toml_value.specs.declared.pairs.Pairs.TheView.{view, invariant}
 use Rattle.basic_toml_value.specs.contracts.pairs.Pair as P
 use Rattle.basic_toml_value.specs.contracts.pairs.Pairs as C
 use Rattle.basic_toml_value.specs.contracts.pairs.Pairs.TheInside as I
-use Rattle.basic_toml_value.specs.Key.{key_bytes}
+use Rattle.basic_toml_value.specs.Text.{text_bytes}
 use Rattle.basic_toml_value.specs.Entries.{pair_seen, seen, texts_of}
 use Rattle.basic_toml_value.specs.Index.{IsIndex}
 use Rattle.basic_toml_value.specs.IndexLaws.{IsIndex-prop}
 
-abbrev Text : Type 0
-Text = List ℕ
+abbrev Bytes : Type 0
+Bytes = List ℕ
 
 -- a key beside one of g's values
 abbrev entry : Former {0} → Former {0}
-entry g = pair (const Text) g
+entry g = pair (const Bytes) g
 
-abbrev on_value : {X Y : Type 0} → (X → Y) → Text × X → Text × Y
+abbrev on_value : {X Y : Type 0} → (X → Y) → Bytes × X → Bytes × Y
 on_value h p = (p.0, h p.1)
 
 abbrev pub the_former : Former {0} → Former {0}
 the_former g = list (entry g)
 
 abbrev pub the_weighed : {g : Former {0}} → Weighed g → Weighed (the_former g)
-the_weighed w = w_list (w_pair (w_const Text) w)
+the_weighed w = w_list (w_pair (w_const Bytes) w)
 
-pub the_empty : List (Text × ⊥)
+pub the_empty : List (Bytes × ⊥)
 the_empty = []
 
 -- a pair in memory
 abbrev in_memory : Former {0}
-in_memory = via (pair (const Key) this) Pair (λ X p. (p.key, p.value))
+in_memory = via (pair (const Text) this) Pair (λ X p. (p.key, p.value))
     (λ X v. record { key = v.0; value = v.1 }) (λ X p. refl) (λ X v. refl)
 
 abbrev on_pair : {X Y : Type 0} → (X → Y) → Pair X → Pair Y
@@ -63,7 +63,7 @@ seen-map h (p ∷ ps) = ap (λ l. on_value h (pair_seen p) ∷ l) (seen-map h ps
 
 texts_of-map : {X Y : Type 0} (h : X → Y) (ps : List (Pair X)) → texts_of (map (on_pair h) ps) ≡ texts_of ps
 texts_of-map h [] = refl
-texts_of-map h (p ∷ ps) = ap (λ l. key_bytes p.key ∷ l) (texts_of-map h ps)
+texts_of-map h (p ∷ ps) = ap (λ l. text_bytes p.key ∷ l) (texts_of-map h ps)
 
 seen-held : (X : Type 0) (ps : List (Pair X)) → held (list (entry this)) X (seen ps) ≡ held (list in_memory) X ps
 seen-held X [] = refl
@@ -79,8 +79,8 @@ module _ (R S : RattleType) (h : R.Denot → S.Denot) where
       (λ X u. seen-held X u.entries.items)
       R.Denot S.Denot h (C.the_row R).coded (C.the_row S).coded
       (invariant R.Denot) (invariant S.Denot) (λ u. IsIndex-prop _ _) (λ u. IsIndex-prop _ _)
-      (λ u. subst (λ (keys : List Text). IsIndex keys u.index) (sym (texts_of-map h u.entries.items)))
-      (λ u. subst (λ (keys : List Text). IsIndex keys u.index) (texts_of-map h u.entries.items))
+      (λ u. subst (λ (keys : List Bytes). IsIndex keys u.index) (sym (texts_of-map h u.entries.items)))
+      (λ u. subst (λ (keys : List Bytes). IsIndex keys u.index) (texts_of-map h u.entries.items))
       (over (I.the_row R)) (over (I.the_row S))
       (struct_places (I.the_type R) (I.the_type S) (vec.mapped (on_pair h), (λ n. n, tt)) _ (λ d. refl) refl (
         laid _ _ _ (vec.the_places heap.the_row ghosts (P.the_row R) (P.the_row S) (on_pair h) (pair_places a)),

@@ -1,7 +1,7 @@
 use Rattle.std.proofs.Common.{◌≡◌, ℕ, List, arith, rules, tests, ap, sym, ◌∙◌, string_bytes, ◌++◌, ◌∷◌, true}
 use Rattle.basic_toml_layout.specs.Trees.{written_of}
 use Rattle.basic_toml_layout.specs.DataText.{part_text}
-use Rattle.basic_toml_value.specs.Key.{key_bytes}
+use Rattle.basic_toml_value.specs.Text.{text_bytes}
 use Rattle.basic_toml_value.specs.View.{view}
 use Rattle.basic_toml_value.proofs.Sizes.{data_size-at, data_size-pair}
 use Rattle.basic_toml_layout.proofs.DataIsLaidOut.{if_ok, entries_step, part_is, element_is, cut_back}
@@ -77,5 +77,5 @@ write_entry-returns-clause-text t c = λ keys leads.
     ++ part_text (k ∷ keys) c.args.is_later (written_of (view c.args.pair.now.value)) in
     c.in_ok-write_part.ensures.text (c.as_str-2.result.now ∷ keys) (c.in_ok-add_key.ensures.keys keys leads) ∙
     (ap part c.as_str-2.ensures.value ∙ ap (λ z. string_bytes c.args.text.now ++ z)
-    (part_is keys (key_bytes c.args.pair.now.key) c.args.is_later (view c.args.pair.now.value)
+    (part_is keys (text_bytes c.args.pair.now.key) c.args.is_later (view c.args.pair.now.value)
     (sym c.is_section.ensures ∙ section)))

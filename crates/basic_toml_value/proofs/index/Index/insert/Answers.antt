@@ -1,4 +1,5 @@
-use Rattle.std.proofs.lemmas.List.{length-map}
+use Rattle.std.proofs.Common.{arith, [], ◌∷◌}
+use Rattle.std.proofs.lemmas.List.{length-map, length-append}
 use Rattle.std.specs.Box.{with_value}
 use Rattle.basic_toml_value.proofs.IndexAfterInsert.{IsIndex-boxed, IsIndex-none, IsIndex-insert, distinct_with}
 use Rattle.basic_toml_value.specs.Index.{leaves_of}
@@ -37,4 +38,9 @@ pub returns-else-count-ge-FEW-clause-ok : goal.returns-else-count-ge-FEW-clause-
 returns-else-count-ge-FEW-clause-ok g c =
     IsIndex-none _ c.args.self.now.leaves
     (distinct_with (g.T.Texts.texts c.args.texts.now) c.args.self.now c.args.gap c.args.key.now c.requires.index
-    c.requires.gap) (λ boxed is. c.in_default.not-Some boxed is)
+    c.requires.gap) (omega (
+      arith,
+      c.count-count.ensures,
+      c.if-count-ge-FEW.false,
+      length-append (g.T.Texts.texts c.args.texts.now) (c.args.key.now ∷ []),
+    )) (λ boxed is. c.in_default.not-Some boxed is)

@@ -1,11 +1,11 @@
-use Rattle.std.proofs.Common.{[], refl}
+use Rattle.std.proofs.Common.{[], refl, arith}
 use Rattle.basic_toml_value.specs.Index.{leaves_of}
 use Rattle.basic_toml_value.proofs.FirstTexts.{sorted_first, distinct_first}
 use Rattle.basic_toml_value.proofs.IndexAfterInsert.{IsIndex-boxed}
 use Rattle.basic_toml_value.proofs.index.Index.until_repeat.Goals as goal
 
 pub returns-then-count-eq0-clause-index : goal.returns-then-count-eq0-clause-index
-returns-then-count-eq0-clause-index g c = c.none.ensures [] refl
+returns-then-count-eq0-clause-index g c = c.none.ensures [] refl (omega arith)
 
 pub returns-clause-index : goal.returns-clause-index
 returns-clause-index g c =
