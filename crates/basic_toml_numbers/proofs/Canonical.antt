@@ -17,11 +17,11 @@ use Rattle.basic_toml_numbers.proofs.Booleans.{and_cases, or_cases}
 digit_range : (c : ℕ) → is_digit c 10 ≡ true → (48 ≤ c) × (c ≤ 57)
 digit_range c is = grind (arith, nat_tests)
 
-canonical-keeps : (c : ℕ) (cs : List ℕ) → (c == plus || c == underscore) ≡ false → (c == 101) ≡ false
+pub canonical-keeps : (c : ℕ) (cs : List ℕ) → (c == plus || c == underscore) ≡ false → (c == 101) ≡ false
     → canonical (c ∷ cs) ≡ c ∷ canonical cs
 canonical-keeps c cs stays same = rw (stays, same) refl
 
-canonical-drops : (c : ℕ) (cs : List ℕ) → (c == plus || c == underscore) ≡ true → canonical (c ∷ cs) ≡ canonical cs
+pub canonical-drops : (c : ℕ) (cs : List ℕ) → (c == plus || c == underscore) ≡ true → canonical (c ∷ cs) ≡ canonical cs
 canonical-drops c cs goes = rw goes refl
 
 canonical-digit : (c : ℕ) (cs : List ℕ) → is_digit c 10 ≡ true → canonical (c ∷ cs) ≡ c ∷ canonical cs
@@ -310,7 +310,7 @@ is_canonical-canonical cs is =
 
 -- a float's text is ASCII
 
-is_ascii-cons : (c : ℕ) (cs : List ℕ) → c < 128 → IsAscii cs → IsAscii (c ∷ cs)
+pub is_ascii-cons : (c : ℕ) (cs : List ℕ) → c < 128 → IsAscii cs → IsAscii (c ∷ cs)
 is_ascii-cons c cs small more zero = small
 is_ascii-cons c cs small more (suc i) = more i
 

@@ -1,5 +1,6 @@
 pub mod Booleans
 pub mod Canonical
 pub mod Digits
+pub mod KeptInPlace
 pub mod NumberRows
 pub mod NumbersLemmas

@@ -1,34 +1,36 @@
 //! A float, held as its canonical text.
-ghost use Rattle.std.specs.Prelude.{◌≡◌, IfOk, Some, nat_eq, string_bytes};
-ghost use Rattle.std.specs.List.{list_all};
+ghost use Rattle.std.specs.Prelude.{◌≡◌, IfOk, Some, nat_eq};
 ghost use Rattle.std.specs.Cmp.Rules.{comparing};
 ghost use Rattle.std.specs.Cmp.Lexicographic.{pointwise};
 ghost use Rattle.std.proofs.Common.{rules};
-ghost use Rattle.std.specs.Str.{IsAscii};
-ghost use Rattle.basic_toml_numbers.specs.Numbers as spec;
 ghost use Rattle.basic_toml_numbers.specs.Numbers.{float_of};
 
 use crate::numbers::is_float;
 use std::alloc::{AllocError, Global};
 use std::marker::Model;
 
+mod text;
+
+use text::FloatText;
+
 /// A float (TOML v0.5.0, "Float"), as its canonical text: no plus signs and no underscores, the exponent lettered `E`.
 ///
 /// A float is never computed. Two floats are equal where their texts are.
 #[derive(Debug, Drop)]
 pub struct Float {
-    text: String,
+    text: FloatText,
 }
 
 impl Model for Float {
-    ghost use Rattle.std.specs.Prelude.{ℕ, List, IsTrue, string_bytes};
+    ghost use Rattle.std.specs.Prelude.{ℕ, List, IsTrue};
+    ghost use Rattle.basic_toml_numbers.specs.FloatText.{text_bytes};
     ghost use Rattle.basic_toml_numbers.specs.Numbers.{is_canonical};
 
     ghost Value = { List ℕ };
 
-    ghost view = { λ f. string_bytes f.text };
+    ghost view = { λ f. text_bytes f.text };
 
-    ghost invariant = { λ f. IsTrue (is_canonical (string_bytes f.text)) };
+    ghost invariant = { λ f. IsTrue (is_canonical (text_bytes f.text)) };
 }
 
 impl Float {
@@ -46,7 +48,7 @@ impl Float {
         if !is_float(text.as_bytes()) {
             return Ok(None);
         }
-        let text = canonical(alloc, text)?;
+        let text = FloatText::canonical(alloc, text)?;
         Ok(Some(Float { text }))
     }
 
@@ -77,37 +79,6 @@ pub fn float_of(alloc: Global, text: &str) -> Result<Option<Float>, AllocError>
     ensures { IfOk result (λ found. found ≡ float_of text.now) }
 {
     Float::parse(alloc, text)
-}
-
-// Whether a byte is neither left out of the canonical text nor changed in it.
-fn stays(byte: u8) -> bool
-    ensures { result ≡ spec.stays byte }
-{
-    byte != b'+' && byte != b'_' && byte != b'e'
-}
-
-fn all_stay(text: &[u8]) -> bool
-    ensures { result ≡ list_all spec.stays text.now }
-{
-    text.iter().all(|byte| stays(*byte))
-}
-
-// The text without plus signs and underscores, with `E` for `e`.
-#[tactic(auto, using(crate::proofs::Canonical::canonical_of_staying))]
-fn canonical(alloc: Global, text: &str) -> Result<String, AllocError>
-    requires { IsAscii text.now }
-    ensures { IfOk result (λ kept. string_bytes kept ≡ spec.canonical text.now) }
-{
-    if all_stay(text.as_bytes()) {
-        return String::from_str(alloc, text);
-    }
-    let mut kept = String::with_capacity(alloc, text.len())?;
-    for byte in text.as_bytes() {
-        if *byte != b'+' && *byte != b'_' {
-            kept.push(if *byte == b'e' { 'E' } else { *byte as char })?;
-        }
-    }
-    Ok(kept)
 }
 
 impl PartialEq for Float {
