@@ -60,7 +60,7 @@ pub fn plain_value(alloc: Global, value: &Raw<'_>) -> Result<Value, AllocError>
         Raw::Float(float) => Ok(Value::Float(float.clone()?)),
         Raw::Boolean(truth) => Ok(Value::Boolean(*truth)),
         Raw::String(text) => Ok(Value::String(Text::from_str(alloc, text)?)),
-        Raw::Escaped(text) => Ok(Value::String(Text::from(text.clone()?))),
+        Raw::Escaped(text) => Ok(Value::String(Text::from_str(alloc, text.as_str())?)),
         Raw::Array(elements) => Ok(Value::Array(plain_values(alloc, elements.as_slice())?)),
         Raw::Inline(_) => Ok(Value::Table(Table::new(alloc))),
     }

@@ -26,7 +26,7 @@ pub(crate) fn value_of(alloc: Global, item: &Item<'_>) -> Result<Value, AllocErr
         Item::Float(float) => Ok(Value::Float(float.clone()?)),
         Item::Boolean(truth) => Ok(Value::Boolean(*truth)),
         Item::String(text) => Ok(Value::String(Text::from_str(alloc, text)?)),
-        Item::Escaped(text) => Ok(Value::String(Text::from(text.clone()?))),
+        Item::Escaped(text) => Ok(Value::String(Text::from_str(alloc, text.as_str())?)),
         Item::Array(children) => Ok(Value::Array(elements_of(alloc, children.as_slice())?)),
         Item::Plain(elements) => Ok(Value::Array(plain_values(alloc, elements.as_slice())?)),
         Item::Inline(table) => Ok(Value::Table(table_of(alloc, table)?)),

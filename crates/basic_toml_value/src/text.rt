@@ -50,7 +50,8 @@ enum Form {
     Long(String),
 }
 
-/// The text of a key or of a string value. One of at most 23 bytes takes no memory of its own.
+/// The text of a key or of a string value (TOML v0.5.0, "Keys", "String"). One of at most 23 bytes takes no memory of
+/// its own.
 ///
 /// ```text
 /// let text = Text::from_str(alloc, words)?;
@@ -127,6 +128,11 @@ impl Text {
     }
 }
 
+/// A copy stands in place where it fits there, also that of a `String`.
+///
+/// # Errors
+///
+/// `AllocError` where memory for a text of more than 23 bytes was refused.
 impl Clone for Text {
     ghost use Rattle.basic_toml_value.specs.Text.{text_bytes};
 
@@ -134,11 +140,12 @@ impl Clone for Text {
 
     #[tactic(auto, unfolding(crate::specs::Text::text_bytes))]
     fn clone(&self) -> Result<Text, AllocError> {
-        let form = match &self.form {
-            Form::Short(text) => Form::Short(Short::of(text.as_str())),
-            Form::Long(text) => Form::Long(text.clone()?),
-        };
-        Ok(Text { form })
+        match &self.form {
+            Form::Short(text) => Ok(Text {
+                form: Form::Short(Short::of(text.as_str())),
+            }),
+            Form::Long(text) => Text::from_str(*text.allocator(), text.as_str()),
+        }
     }
 }
 

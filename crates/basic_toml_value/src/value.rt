@@ -30,7 +30,7 @@ pub type Table = Pairs<Value>;
 /// }
 /// ```
 ///
-/// This is from `toml_vectors`.
+/// This is from `toml_callers`.
 #[derive(Debug, Drop)]
 pub enum Value {
     /// A whole number ("Integer").
