@@ -15,7 +15,8 @@ use text::FloatText;
 
 /// A float (TOML v0.5.0, "Float"), as its canonical text: no plus signs and no underscores, the exponent lettered `E`.
 ///
-/// A float is never computed. Two floats are equal where their texts are.
+/// A float is never computed. Two floats are equal where their texts are. One of at most 22 bytes takes no memory of
+/// its own.
 #[derive(Debug, Drop)]
 pub struct Float {
     text: FloatText,

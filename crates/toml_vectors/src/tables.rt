@@ -29,8 +29,9 @@ fn fills_tables(rt: HostRuntime) -> Result<(), Fail> {
 #[test]
 fn reads_and_copies_tables(rt: HostRuntime) -> Result<(), Fail> {
     let alloc = rt.alloc();
-    let values = "1e5, true, 'short', 'a string of more than 23 bytes', [7, { b = 8 }]";
-    let text = format!(in alloc; "a = [{values}]\n'a key of more than 23 bytes' = 9\n")?;
+    let floats = "1e5, 1_234_567_890.123_456_789_012e5";
+    let values = "true, 'short', 'a string of more than 23 bytes', [7, { b = 8 }]";
+    let text = format!(in alloc; "a = [{floats}, {values}]\n'a key of more than 23 bytes' = 9\n")?;
     let table: Table = from_str(alloc, text.as_str())?;
     assert!(rt; table.clone()? == table);
     for count in [15, 16, 17, 63, 64, 300_u32] {
@@ -61,7 +62,7 @@ fn holds_short_and_long_texts(rt: HostRuntime) -> Result<(), Fail> {
     for words in ["localhost", "a text of more than 23 bytes"] {
         let text = Text::from_str(alloc, words)?;
         let same = Text::from(String::from_str(alloc, words)?);
-        assert!(rt; text == same);
+        assert!(rt; text == same && text == same.clone()?);
         assert_eq!(rt; format!(in alloc; "{text}")?.as_str(), words);
         let quoted = format!(in alloc; "\"{words}\"")?;
         assert_eq!(rt; format!(in alloc; "{text:?}")?.as_str(), quoted.as_str());
