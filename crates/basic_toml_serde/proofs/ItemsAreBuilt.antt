@@ -14,7 +14,7 @@ use Rattle.basic_toml_layout.specs.Trees.{number_items, scalar_tree, tree_of, el
 use Rattle.basic_toml_layout.specs.Written.{Scalar, integer, boolean, float, text, other_text, bytes, Written, scalar}
 use Rattle.basic_toml_layout.specs.Written.{absent, array, table, Elements, no_elements, element, Entries, no_entries}
 use Rattle.basic_toml_layout.specs.Written.{entry, is_absent}
-use Rattle.basic_toml_layout.proofs.ViewsOfValues.{view-Array, view-Table}
+use Rattle.basic_toml_layout.proofs.ViewsOfValues.{view-String, view-Array, view-Table}
 use Rattle.basic_toml_emit.specs.Items.{Item, a_scalar, an_absent, open_array, open_table, close, key}
 use Rattle.basic_toml_write.specs.Spelling as s
 use Rattle.basic_toml_write.specs.Spelling.{IsValue, one_scalar, none, an_array, a_table, AreElements, array_end}
@@ -37,9 +37,6 @@ boolean_built b rest = built (boolean b) _ rest (search (rules, the_lemmas))
 
 pub float_built : (f : List ℕ) (rest : List Item) → IsBuilt (a_scalar (float f) ∷ rest) (view (Float f)) rest
 float_built f rest = built (float f) _ rest (search (rules, the_lemmas))
-
-view-String : (t : Text) → view (Words t) ≡ d.string (text_bytes t)
-view-String t = search (rules, the_lemmas)
 
 string_built : (l : Scalar) (s : List ℕ) (t : Text) (rest : List Item) → scalar_tree l ≡ d.string s → text_bytes t ≡ s
     → IsBuilt (a_scalar l ∷ rest) (view (Words t)) rest

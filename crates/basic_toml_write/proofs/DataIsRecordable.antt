@@ -2,7 +2,7 @@
 use Rattle.std.proofs.Common.{◌≡◌, ℕ, ◌+◌, ◌<◌, List, [], ◌∷◌, ◌++◌, length, drop, get_or, subst, sym, ap, ◌∙◌}
 use Rattle.std.proofs.Common.{rules, ℤ}
 use Rattle.std.proofs.lemmas.List.Elements.{All-nil, All-cons, All-append}
-use Rattle.basic_toml_value.specs.Data.{Data, integer, string, array, table, Items, Members}
+use Rattle.basic_toml_value.specs.Data.{Data, integer, array, table, Items, Members}
 use Rattle.basic_toml_value.specs.Text.{text_bytes}
 use Rattle.basic_toml_value.specs.Entries.{seen}
 use Rattle.basic_toml_value.specs.View.{view, entries, items_view}
@@ -17,12 +17,10 @@ use Rattle.basic_toml_emit.specs.Items.{Item, a_scalar, open_array, open_table, 
 use Rattle.basic_toml_write.specs.Impls.{data_calls, items_calls, members_calls}
 use Rattle.basic_toml_write.specs.Recordable.{IsRecordableScalar, IsRecordable, AreRecordable}
 use Rattle.basic_toml_layout.proofs.DataIsLaidOut.{drop_at}
+use Rattle.basic_toml_layout.proofs.ViewsOfValues.{view-String}
 
 pub recordable_one : (i : Item) → IsRecordable i → AreRecordable (i ∷ [])
 recordable_one i can = All-cons IsRecordable i [] can (All-nil IsRecordable)
-
-view-String : (t : Text) → view (Words t) ≡ string (text_bytes t)
-view-String t = search (rules, the_lemmas)
 
 view-Integer : (z : ℤ) → view (Whole z) ≡ integer z
 view-Integer z = search (rules, the_lemmas)
