@@ -1,11 +1,9 @@
 //! The cases of serde's `rename_all`.
 
-ghost use Rattle.std.specs.Prelude.{◌≡◌, ◌==◌, if◌then◌else◌};
-
 use std::alloc::{AllocError, Global};
 
 /// A case of names.
-#[derive(Clone, Copy, PartialEq, Eq)]
+#[derive(Clone, Copy)]
 pub enum Case {
     Lower,
     Upper,
@@ -37,14 +35,9 @@ impl Case {
     pub fn of_field(self, alloc: Global, name: &str) -> Result<String, AllocError> {
         match self {
             Case::Lower | Case::Snake => String::from_str(alloc, name),
-            Case::Upper | Case::ScreamingSnake => {
-                name.chars().map(|c| c.to_ascii_uppercase()).collect(alloc)
-            }
-            Case::Kebab => name.chars().map(dashed).collect(alloc),
-            Case::ScreamingKebab => name
-                .chars()
-                .map(|c| dashed(c.to_ascii_uppercase()))
-                .collect(alloc),
+            Case::Upper | Case::ScreamingSnake => name.to_ascii_uppercase(alloc),
+            Case::Kebab => name.replace(alloc, '_', "-"),
+            Case::ScreamingKebab => name.to_ascii_uppercase(alloc)?.replace(alloc, '_', "-"),
             Case::Pascal => joined(alloc, name, true),
             Case::Camel => joined(alloc, name, false),
         }
@@ -54,39 +47,30 @@ impl Case {
     pub fn of_variant(self, alloc: Global, name: &str) -> Result<String, AllocError> {
         match self {
             Case::Pascal => String::from_str(alloc, name),
-            Case::Lower => name.chars().map(|c| c.to_ascii_lowercase()).collect(alloc),
-            Case::Upper => name.chars().map(|c| c.to_ascii_uppercase()).collect(alloc),
+            Case::Lower => name.to_ascii_lowercase(alloc),
+            Case::Upper => name.to_ascii_uppercase(alloc),
             Case::Camel => joined(alloc, name, false),
             Case::Snake | Case::ScreamingSnake | Case::Kebab | Case::ScreamingKebab => {
-                let words = parted(alloc, name)?;
-                self.of_field(alloc, words.as_str())
+                self.of_field(alloc, parted(alloc, name)?.as_str())
             }
         }
     }
 }
 
-fn dashed(c: char) -> char
-    ensures { result ≡ (if c == 95 then 45 else c) }
-{
-    if c == '_' { '-' } else { c }
-}
-
 // The words of a name in snake case, joined, each with a capital, but the first only where it `is_capital`.
 fn joined(alloc: Global, name: &str, is_capital: bool) -> Result<String, AllocError> {
     let mut text = String::new(alloc);
-    let mut begins = is_capital;
-    for c in name.chars() {
-        if c == '_' {
-            begins = true;
-        } else if text.is_empty() && !is_capital {
-            text.push(c.to_ascii_lowercase())?;
-            begins = false;
-        } else if begins {
-            text.push(c.to_ascii_uppercase())?;
-            begins = false;
+    for word in name.split('_') {
+        let mut letters = word.chars();
+        let Some(first) = letters.next() else {
+            continue;
+        };
+        text.push(if is_capital || !text.is_empty() {
+            first.to_ascii_uppercase()
         } else {
-            text.push(c)?;
-        }
+            first.to_ascii_lowercase()
+        })?;
+        text.push_str(letters.as_str())?;
     }
     Ok(text)
 }

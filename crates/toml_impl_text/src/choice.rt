@@ -1,12 +1,12 @@
 //! An enum of variants without data as a choice of TOML: each is a string.
 
-use crate::declared::DeclaredVariant;
+use crate::declared::Member;
 use crate::edits::between;
 use crate::items::Item;
+use crate::keys::key_of;
 use crate::lexer::{Kind, Token};
 use crate::refusal::{NoImpls, Reason};
 use crate::rules::{DefaultRule, TypeRules, field_rules, unquoted};
-use crate::written::is_impl;
 use std::alloc::{AllocError, Global};
 
 /// An enum as a choice.
@@ -40,11 +40,6 @@ impl<'t> VariantList<'t> {
     }
 }
 
-/// The impl of a choice that has its strings; `None` where there is none.
-pub fn listing_impl<'i, 'c, 't>(items: &'i [Item<'c, 't>], name: &str) -> Option<&'i Item<'c, 't>> {
-    items.iter().find(|item| is_impl(item, "Choice", name))
-}
-
 /// The path of the variants of an enum in clauses, by that of its module, else by the line that an impl has already.
 pub fn variants_path<'t>(
     alloc: Global,
@@ -53,25 +48,17 @@ pub fn variants_path<'t>(
     module: Option<&str>,
     item: Option<&Item<'_, 't>>,
 ) -> Result<String, NoImpls<'t>> {
-    if let Some(module) = module {
-        return Ok(module_path(alloc, module, name.text)?);
-    }
-    match item {
-        Some(item) => Ok(String::from_str(alloc, written_path(text, item))?),
-        None => Err(NoImpls::At(name.at, Reason::NoModule)),
+    match (module, item) {
+        (Some(module), _) => Ok(module_path(alloc, module, name.text)?),
+        (None, Some(item)) => Ok(String::from_str(alloc, written_path(text, item))?),
+        (None, None) => Err(NoImpls::At(name.at, Reason::NoModule)),
     }
 }
 
 fn module_path(alloc: Global, module: &str, name: &str) -> Result<String, AllocError> {
-    let mut path = String::from_str(alloc, "Rattle")?;
-    for (number, part) in module.split("::").enumerate() {
-        write!(path, ".{part}")?;
-        if number == 0 {
-            path.push_str(".specs.declared")?;
-        }
-    }
-    write!(path, ".{name}.TheVariants")?;
-    Ok(path)
+    let path = format!(in alloc; "Rattle.{module}::{name}.TheVariants")?;
+    path.replacen(alloc, "::", ".specs.declared.", 1)?
+        .replace(alloc, "::", ".")
 }
 
 // The path of the first `ghost use` of an impl.
@@ -84,12 +71,7 @@ fn written_path<'t>(text: &'t str, item: &Item<'_, '_>) -> &'t str {
         tokens.next();
     }
     let from = tokens.at();
-    for _ in 0..tokens.len() {
-        if tokens.sees("{") {
-            break;
-        }
-        tokens.next();
-    }
+    tokens.skip_to("{");
     let path = between(text, from, tokens.at()).trim_end();
     path.strip_suffix('.').unwrap_or(path)
 }
@@ -103,59 +85,53 @@ pub fn variant_list<'t>(
     let mut keys = Vec::new(alloc);
     let mut tokens = item.tokens;
     for _ in 0..tokens.len() {
-        let Some(token) = tokens.next() else {
-            break;
-        };
-        if token.text == "apart" {
+        if tokens.takes("apart") {
             break;
         }
-        if token.text == "codes" {
+        if tokens.takes("codes") {
             let key = tokens.take(Kind::Text, "a key")?;
             keys.push(unquoted(key.text).unwrap_or(""))?;
-        } else if tokens.sees("↦") {
-            names.push(token.text)?;
+        } else if let Some(token) = tokens.next() {
+            if tokens.sees("↦") {
+                names.push(token.text)?;
+            }
         }
     }
     Ok(VariantList { names, keys })
 }
 
 /// Refuses variants that hold something.
-pub fn refuse_data<'t>(declared: &[DeclaredVariant<'_, 't>]) -> Result<(), NoImpls<'t>> {
+pub fn refuse_data<'t>(declared: &[Member<'_, 't>]) -> Result<(), NoImpls<'t>> {
     match declared.iter().find(|variant| variant.has_data()) {
-        Some(variant) => Err(NoImpls::At(variant.data.at(), Reason::VariantData)),
+        Some(variant) => Err(NoImpls::At(variant.rest.at(), Reason::VariantData)),
         None => Ok(()),
     }
 }
 
-/// The choice that an enum is: by what its attributes say, and, where they say nothing, by the impl that it has.
-pub fn choice_of<'t>(
+/// The variants of a choice: by what the attributes say, and, where they say nothing, by the impl that the enum has.
+pub fn variants_of<'t>(
     alloc: Global,
-    name: &'t str,
-    path: String,
     rules: TypeRules,
-    declared: &[DeclaredVariant<'_, 't>],
+    declared: &[Member<'_, 't>],
     list: &Option<VariantList<'t>>,
-) -> Result<Choice<'t>, NoImpls<'t>> {
+) -> Result<Vec<Variant<'t>>, NoImpls<'t>> {
     let mut variants = Vec::new(alloc);
     for variant in declared {
+        let name = variant.name;
         let listed = match list {
-            Some(list) => list.key(variant.name.text),
+            Some(list) => list.key(name.text),
             None => None,
         };
         let key = variant_key(alloc, rules, variant, listed)?;
         if has_key(variants.as_slice(), key.as_str()) {
-            return Err(NoImpls::At(variant.name.at, Reason::RepeatedKey));
+            return Err(NoImpls::At(name.at, Reason::RepeatedKey));
         }
         variants.push(Variant {
-            name: variant.name.text,
+            name: name.text,
             key,
         })?;
     }
-    Ok(Choice {
-        name,
-        path,
-        variants,
-    })
+    Ok(variants)
 }
 
 fn has_key(variants: &[Variant<'_>], key: &str) -> bool {
@@ -165,7 +141,7 @@ fn has_key(variants: &[Variant<'_>], key: &str) -> bool {
 fn variant_key<'t>(
     alloc: Global,
     types: TypeRules,
-    variant: &DeclaredVariant<'_, 't>,
+    variant: &Member<'_, 't>,
     listed: Option<&'t str>,
 ) -> Result<String, NoImpls<'t>> {
     let rules = field_rules(alloc, variant.attributes.as_slice())?;
@@ -175,14 +151,5 @@ fn variant_key<'t>(
             return Err(NoImpls::At(at, Reason::OfVariant));
         }
     }
-    let name = variant.name.text;
-    if !name.is_ascii() {
-        return Err(NoImpls::At(variant.name.at, Reason::Key));
-    }
-    let key = match (rules.key, listed, types.case) {
-        (Some(key), _, _) | (None, Some(key), _) => String::from_str(alloc, key)?,
-        (None, None, Some(case)) => case.of_variant(alloc, name)?,
-        (None, None, None) => String::from_str(alloc, name)?,
-    };
-    Ok(key)
+    key_of(alloc, variant.name, rules.key.or(listed), types.case, true)
 }

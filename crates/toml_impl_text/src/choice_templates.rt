@@ -1,166 +1,171 @@
 //! The impls of a choice, as they are written.
 
 use crate::choice::Choice;
-use crate::layout::{array, listed, push_call, push_signature};
-use crate::templates::{Impl, push_from_tree};
+use crate::impls::{Impl, impls_by, signatures};
+use crate::layout::{array, call};
+use crate::template::push_filled;
 use std::alloc::{AllocError, Global};
+
+const IMPLS: &[(&str, &str)] = &[
+    (
+        "Choice",
+        "\
+impl Choice for $name$ {
+    ghost use $path$.{$variants$};
+
+    ghost variants = { record {
+      names = $keys$ ∷ [];
+      position = elim [ $positions$ ];
+      apart = elim [ $proofs$ ];
+    } };
+}",
+    ),
+    (
+        "Deserialize",
+        "\
+impl<'de> Deserialize<'de> for $name$ {
+    ghost reads = { variant_reads ⟦<$name$ as Choice>⟧.variants };
+
+    ghost faults = { variant_faults ⟦<$name$ as Choice>⟧.variants };
+
+$deserialize$
+$reading$
+            $reads$
+            Err(error) => Err(error),
+        }
+    }
+
+$from_tree$
+        $name$::deserialize(alloc, tree.root())
+    }
+}",
+    ),
+    (
+        "Serialize",
+        "\
+impl Serialize for $name$ {
+    ghost calls = { variant_calls ⟦<$name$ as Choice>⟧.variants };
+
+    fn serialize(&self, _alloc: Global, ser: &mut Serializer) -> Result<(), WriteError> {
+        match self {$writes$
+        }
+    }
+}",
+    ),
+    (
+        "Returns",
+        "\
+impl<'de> Returns<'de> for $name$ {
+    ghost read_back = { variant_back ⟦<$name$ as Choice>⟧.variants };
+
+    ghost returns = { ⟦<$name$ as Returns<'static>>⟧.read_back.returns };
+}",
+    ),
+];
+
+// How a position is read.
+const READING: [&str; 2] = [
+    "        match read_variant::<$name$>(alloc, node, $array$) {",
+    "        match read_variant::<$name$>(
+            alloc,
+            node,
+            $array$,
+        ) {",
+];
+
+// The parts that are made of the variants: the template of each variant, and what stands between them.
+const PARTS: &[(&str, &str, &str)] = &[
+    ("variants", "$variant$", ", "),
+    ("keys", "codes \"$key$\"", " ∷ "),
+    ("positions", "$variant$ ↦ $position$", " | "),
+    ("proofs", "$variant$ ↦ refl", " | "),
+    (
+        "reads",
+        "Ok($pattern$) => Ok($name$::$variant$),",
+        "\n            ",
+    ),
+];
+
+// The arm of a variant where it is written.
+const WRITE: [&str; 2] = [
+    "            $name$::$variant$ => write_variant(ser, self, \"$key$\"),",
+    "            $name$::$variant$ => write_variant(
+                ser,
+                self,
+                \"$key$\",
+            ),",
+];
 
 /// The impls of a choice, in order.
 pub fn choice_impls(alloc: Global, choice: &Choice<'_>) -> Result<Vec<Impl>, AllocError> {
-    let mut impls = Vec::new(alloc);
-    for (of, text) in [
-        ("Choice", list(alloc, choice)?),
-        ("Deserialize", deserialize(alloc, choice)?),
-        ("Serialize", serialize(alloc, choice)?),
-        ("Returns", returns(alloc, choice.name)?),
-    ] {
-        impls.push(Impl { of, text })?;
+    let mut made = signatures(alloc, choice.name)?;
+    for (word, template, between) in PARTS {
+        made.push((*word, each(alloc, choice, template, between)?))?;
     }
-    Ok(impls)
+    made.push(("reading", reading(alloc, choice)?))?;
+    made.push(("writes", writes(alloc, choice)?))?;
+    let own = [("name", choice.name), ("path", choice.path.as_str())];
+    impls_by(alloc, IMPLS, &own, made.as_slice())
 }
 
-fn list(alloc: Global, choice: &Choice<'_>) -> Result<String, AllocError> {
-    let name = choice.name;
-    let uses = variant_uses(alloc, choice)?;
-    let keys = key_list(alloc, choice)?;
-    let positions = positions(alloc, choice)?;
-    let proofs = proofs(alloc, choice)?;
-    format!(in alloc;
-        "\
-impl Choice for {name} {{
-    {uses}
-
-    ghost variants = {{ record {{
-      names = {keys};
-      position = elim [ {positions} ];
-      apart = elim [ {proofs} ];
-    }} }};
-}}"
-    )
-}
-
-fn deserialize(alloc: Global, choice: &Choice<'_>) -> Result<String, AllocError> {
-    let name = choice.name;
-    let mut text = format!(in alloc;
-        "\
-impl<'de> Deserialize<'de> for {name} {{
-    ghost reads = {{ variant_reads ⟦<{name} as Choice>⟧.variants }};
-
-    ghost faults = {{ variant_faults ⟦<{name} as Choice>⟧.variants }};
-"
-    )?;
-    let returned = format!(in alloc; "Result<{name}, Error>")?;
-    push_signature(
-        alloc,
-        &mut text,
-        "deserialize",
-        &["alloc: Global", "node: Node<'_, 'de>"],
-        returned.as_str(),
-    )?;
-    push_reading(alloc, &mut text, choice)?;
-    push_from_tree(alloc, &mut text, name)?;
+// A template for each variant, with this between them.
+fn each(
+    alloc: Global,
+    choice: &Choice<'_>,
+    template: &str,
+    between: &str,
+) -> Result<String, AllocError> {
+    let mut text = String::new(alloc);
+    let last = choice.variants.len().saturating_sub(1);
+    for (number, variant) in choice.variants.iter().enumerate() {
+        let own = [
+            ("name", choice.name),
+            ("variant", variant.name),
+            ("key", variant.key.as_str()),
+        ];
+        let made = [
+            ("position", format!(in alloc; "{number}")?),
+            ("pattern", pattern(alloc, number, number == last)?),
+        ];
+        text.push_str(if number == 0 { "" } else { between })?;
+        push_filled(&mut text, template, &own, &made)?;
+    }
     Ok(text)
 }
 
-// The body of `deserialize`.
-fn push_reading(alloc: Global, text: &mut String, choice: &Choice<'_>) -> Result<(), AllocError> {
-    let name = choice.name;
-    let keys = quoted_keys(alloc, choice)?;
-    let keys: Vec<&str> = keys.iter().map(|key| key.as_str()).collect(alloc)?;
-    let keys = array(alloc, keys.as_slice(), 12)?;
-    let arguments = ["alloc", "node", keys.as_str()];
-    let Some((last, others)) = choice.variants.split_last() else {
-        return Ok(());
-    };
-    let begun = format!(in alloc; "match read_variant::<{name}>")?;
-    push_call(alloc, text, begun.as_str(), &arguments, 8, " {")?;
-    for (number, variant) in others.iter().enumerate() {
-        write!(
-            text,
-            "\n            Ok({number}) => Ok({name}::{}),",
-            variant.name
-        )?;
+// The pattern of a position; that of the last holds for all others, too.
+fn pattern(alloc: Global, number: usize, is_last: bool) -> Result<String, AllocError> {
+    if is_last {
+        return String::from_str(alloc, "_");
     }
-    write!(text, "\n            Ok(_) => Ok({name}::{}),", last.name)?;
-    text.push_str("\n            Err(error) => Err(error),\n        }\n    }\n")
+    format!(in alloc; "{number}")
 }
 
-fn serialize(alloc: Global, choice: &Choice<'_>) -> Result<String, AllocError> {
-    let name = choice.name;
-    let mut text = format!(in alloc;
-        "\
-impl Serialize for {name} {{
-    ghost calls = {{ variant_calls ⟦<{name} as Choice>⟧.variants }};
-
-    fn serialize(&self, _alloc: Global, ser: &mut Serializer) -> Result<(), WriteError> {{
-        match self {{"
-    )?;
-    for variant in &choice.variants {
-        let begun = format!(in alloc; "{name}::{} => write_variant", variant.name)?;
-        let key = format!(in alloc; "\"{}\"", variant.key)?;
-        let arguments = ["ser", "self", key.as_str()];
-        push_call(alloc, &mut text, begun.as_str(), &arguments, 12, ",")?;
-    }
-    text.push_str("\n        }\n    }\n}")?;
-    Ok(text)
-}
-
-fn returns(alloc: Global, name: &str) -> Result<String, AllocError> {
-    format!(in alloc;
-        "\
-impl<'de> Returns<'de> for {name} {{
-    ghost read_back = {{ variant_back ⟦<{name} as Choice>⟧.variants }};
-
-    ghost returns = {{ ⟦<{name} as Returns<'static>>⟧.read_back.returns }};
-}}"
-    )
-}
-
-// The line that brings in the variants for the clauses of an impl.
-fn variant_uses(alloc: Global, choice: &Choice<'_>) -> Result<String, AllocError> {
-    let names: Vec<&str> = choice
-        .variants
-        .iter()
-        .map(|variant| variant.name)
-        .collect(alloc)?;
-    let names = listed(alloc, names.as_slice())?;
-    format!(in alloc; "ghost use {}.{{{names}}};", choice.path)
-}
-
-fn quoted_keys(alloc: Global, choice: &Choice<'_>) -> Result<Vec<String>, AllocError> {
+// The line that reads a position, or the lines.
+fn reading(alloc: Global, choice: &Choice<'_>) -> Result<String, AllocError> {
     let mut keys = Vec::new(alloc);
     for variant in &choice.variants {
         keys.push(format!(in alloc; "\"{}\"", variant.key)?)?;
     }
-    Ok(keys)
+    let array = array(alloc, keys.as_slice())?;
+    let arguments = array.len().saturating_add("alloc, node, ".len());
+    let made = [("array", array)];
+    call(alloc, &READING, arguments, &[("name", choice.name)], &made)
 }
 
-// The list of the strings.
-fn key_list(alloc: Global, choice: &Choice<'_>) -> Result<String, AllocError> {
+// The arms that write the variants.
+fn writes(alloc: Global, choice: &Choice<'_>) -> Result<String, AllocError> {
     let mut text = String::new(alloc);
     for variant in &choice.variants {
-        write!(text, "codes \"{}\" ∷ ", variant.key)?;
-    }
-    text.push_str("[]")?;
-    Ok(text)
-}
-
-// The position of each variant.
-fn positions(alloc: Global, choice: &Choice<'_>) -> Result<String, AllocError> {
-    let mut text = String::new(alloc);
-    for (number, variant) in choice.variants.iter().enumerate() {
-        text.push_str(if number == 0 { "" } else { " | " })?;
-        write!(text, "{} ↦ {number}", variant.name)?;
-    }
-    Ok(text)
-}
-
-// That each variant has its string at its position, which the checker computes.
-fn proofs(alloc: Global, choice: &Choice<'_>) -> Result<String, AllocError> {
-    let mut text = String::new(alloc);
-    for variant in &choice.variants {
-        text.push_str(if text.is_empty() { "" } else { " | " })?;
-        write!(text, "{} ↦ refl", variant.name)?;
+        let key = variant.key.as_str();
+        let arguments = key.len().saturating_add("ser, self, \"\"".len());
+        let own = [
+            ("name", choice.name),
+            ("variant", variant.name),
+            ("key", key),
+        ];
+        text.push('\n')?;
+        text.push_str(call(alloc, &WRITE, arguments, &own, &[])?.as_str())?;
     }
     Ok(text)
 }

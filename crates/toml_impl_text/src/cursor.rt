@@ -1,10 +1,10 @@
 //! Tokens, one after another.
 
 ghost use Rattle.std.specs.Prelude.{◌≡◌, ◌==◌, ◌++◌, ◌<◌, ◌↔◌, IsSome, drop, length};
+ghost use Rattle.std.specs.Iterator.{at_most};
 
 use crate::lexer::{Kind, Token};
 use crate::refusal::{NoImpls, Reason};
-use std::alloc::Global;
 
 /// Tokens that are still to be read.
 #[derive(Clone, Copy)]
@@ -72,6 +72,16 @@ impl<'c, 't> Cursor<'c, 't> {
         is_next
     }
 
+    /// Whether these are the next tokens.
+    pub fn begins(mut self, texts: &[&str]) -> bool {
+        for text in texts {
+            if !self.takes(text) {
+                return false;
+            }
+        }
+        true
+    }
+
     /// Takes the next token, which has to be this one.
     pub fn expect(&mut self, text: &'static str) -> Result<(), NoImpls<'t>> {
         if self.takes(text) {
@@ -102,24 +112,33 @@ impl<'c, 't> Cursor<'c, 't> {
 
     /// Takes an item: up to a semicolon, or to the brace that closes its block where it `has_block`.
     pub fn item(&mut self, has_block: bool) -> Result<Cursor<'c, 't>, NoImpls<'t>> {
-        match item_len(self.rest, has_block) {
-            Some(length) => Ok(self.front(length)),
-            None => Err(NoImpls::At(self.at(), Reason::Unclosed)),
-        }
+        let Some(length) = item_len(self.rest, has_block) else {
+            return Err(NoImpls::At(self.at(), Reason::Unclosed));
+        };
+        Ok(self.front(length))
     }
 
     /// The parts between commas, but for empty ones; what stands in brackets, also in angle brackets, is not parted.
-    pub fn parts(mut self, alloc: Global) -> Result<Vec<Cursor<'c, 't>>, NoImpls<'t>> {
-        let mut parts = Vec::new(alloc);
-        for _ in 0..self.len() {
-            let length = comma(self.rest);
-            let part = self.front(length);
-            self.takes(",");
-            if !part.is_empty() {
-                parts.push(part)?;
-            }
+    pub fn parts(self) -> Parts<'c, 't> {
+        Parts { tokens: self }
+    }
+
+    /// No tokens, where these stand.
+    pub fn nothing(self) -> Cursor<'c, 't> {
+        Cursor {
+            rest: &[],
+            end: self.at(),
         }
-        Ok(parts)
+    }
+
+    /// Goes to the next token that is this one, or behind the last.
+    pub fn skip_to(&mut self, text: &str) {
+        for _ in 0..self.len() {
+            if self.sees(text) {
+                break;
+            }
+            self.next();
+        }
     }
 
     // Takes so many tokens, or all that are left.
@@ -132,6 +151,29 @@ impl<'c, 't> Cursor<'c, 't> {
             rest: front,
             end: self.at(),
         }
+    }
+}
+
+/// Tokens, part for part.
+#[derive(Drop)]
+pub struct Parts<'c, 't> {
+    tokens: Cursor<'c, 't>,
+}
+
+impl<'c, 't> Iterator for Parts<'c, 't> {
+    type Item = Cursor<'c, 't>;
+
+    ghost remaining = { λ s. at_most (length s.tokens.rest.now) };
+
+    fn next(&mut self) -> Option<Cursor<'c, 't>> {
+        let commas = self.tokens.rest.iter().position(|token| token.text != ",")?;
+        self.tokens.front(commas);
+        let length = comma(self.tokens.rest);
+        let part = self.tokens.front(length);
+        if part.is_empty() {
+            return None;
+        }
+        Some(part)
     }
 }
 

@@ -8,15 +8,8 @@ use crate::rules::is_rule;
 use std::alloc::Global;
 
 /// Whether an attribute asks for impls: it is one of serde's, or derives what they stand for.
-pub fn asks<'t>(alloc: Global, attribute: &Attribute<'_, 't>) -> Result<bool, NoImpls<'t>> {
-    if is_rule(attribute) {
-        return Ok(true);
-    }
-    Ok(
-        derived(alloc, attribute)?
-            .iter()
-            .any(|part| is_serdes(*part)),
-    )
+pub fn asks<'t>(attribute: &Attribute<'_, 't>) -> Result<bool, NoImpls<'t>> {
+    Ok(is_rule(attribute) || derived(attribute)?.parts().any(is_serdes))
 }
 
 /// The change that leaves out what asks for impls; `None` where nothing does.
@@ -25,42 +18,36 @@ pub fn cut<'t>(
     text: &str,
     attribute: &Attribute<'_, 't>,
 ) -> Result<Option<Edit>, NoImpls<'t>> {
-    if !asks(alloc, attribute)? {
+    if !asks(attribute)? {
         return Ok(None);
     }
     let mut kept = String::new(alloc);
-    for part in derived(alloc, attribute)? {
+    for part in derived(attribute)?.parts() {
         if !is_serdes(part) {
             kept.push_str(if kept.is_empty() { "" } else { ", " })?;
             kept.push_str(between(text, part.at(), part.last_end()))?;
         }
     }
+    let (mut from, mut to) = (attribute.from, attribute.to);
     if kept.is_empty() {
-        let (from, to) = with_line(text, attribute.from, attribute.to);
-        return Ok(Some(Edit {
-            from,
-            to,
-            text: kept,
-        }));
+        (from, to) = with_line(text, from, to);
+    } else {
+        kept = format!(in alloc; "#[derive({kept})]")?;
     }
     Ok(Some(Edit {
-        from: attribute.from,
-        to: attribute.to,
-        text: format!(in alloc; "#[derive({kept})]")?,
+        from,
+        to,
+        text: kept,
     }))
 }
 
 // What an attribute derives; nothing where it is no derive.
-fn derived<'c, 't>(
-    alloc: Global,
-    attribute: &Attribute<'c, 't>,
-) -> Result<Vec<Cursor<'c, 't>>, NoImpls<'t>> {
+fn derived<'c, 't>(attribute: &Attribute<'c, 't>) -> Result<Cursor<'c, 't>, NoImpls<'t>> {
     let mut inside = attribute.inside;
     if inside.takes("derive") && inside.takes("(") {
-        inside.group()?.parts(alloc)
-    } else {
-        Ok(Vec::new(alloc))
+        return inside.group();
     }
+    Ok(inside.nothing())
 }
 
 // Whether a derive is one of serde's, by its last word.

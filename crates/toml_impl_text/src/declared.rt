@@ -1,18 +1,25 @@
 //! The types of a file, as they stand there.
 
 use crate::cursor::Cursor;
-use crate::items::{Attribute, Item, attribute_behind};
+use crate::items::{Attribute, Item, ItemKind, attribute_behind};
 use crate::lexer::{Kind, Token};
 use crate::refusal::{NoImpls, Reason};
 use std::alloc::Global;
 
-/// A field, as it stands in its struct.
+/// A field of a struct or a variant of an enum, as it stands there.
 #[derive(Drop)]
-pub struct DeclaredField<'c, 't> {
+pub struct Member<'c, 't> {
     pub attributes: Vec<Attribute<'c, 't>>,
     pub name: Token<'t>,
-    /// The tokens of its type.
-    pub kind: Cursor<'c, 't>,
+    /// The tokens of the type of a field; what stands behind the name of a variant.
+    pub rest: Cursor<'c, 't>,
+}
+
+impl Member<'_, '_> {
+    /// Whether a variant holds something.
+    pub fn has_data(&self) -> bool {
+        self.rest.sees("(") || self.rest.sees("{")
+    }
 }
 
 /// The name of a type.
@@ -21,100 +28,70 @@ pub fn type_name<'t>(item: &Item<'_, 't>) -> Result<Token<'t>, NoImpls<'t>> {
     tokens.take(Kind::Word, "a name")
 }
 
-/// A variant, as it stands in its enum.
-#[derive(Drop)]
-pub struct DeclaredVariant<'c, 't> {
-    pub attributes: Vec<Attribute<'c, 't>>,
-    pub name: Token<'t>,
-    /// What stands behind its name.
-    pub data: Cursor<'c, 't>,
-}
-
-impl DeclaredVariant<'_, '_> {
-    /// Whether it holds something.
-    pub fn has_data(&self) -> bool {
-        self.data.sees("(") || self.data.sees("{")
-    }
-}
-
-/// The fields of a struct.
-pub fn declared_fields<'c, 't>(
+/// The fields of a struct, or the variants of an enum.
+pub fn members<'c, 't>(
     alloc: Global,
     item: &Item<'c, 't>,
-) -> Result<Vec<DeclaredField<'c, 't>>, NoImpls<'t>> {
-    let mut fields = Vec::new(alloc);
-    for part in members(alloc, item)? {
-        fields.push(declared_field(alloc, part)?)?;
+) -> Result<Vec<Member<'c, 't>>, NoImpls<'t>> {
+    let name = type_name(item)?;
+    let mut members = Vec::new(alloc);
+    for part in block(item)?.parts() {
+        members.push(member_of(alloc, part, item.kind == ItemKind::Struct)?)?;
     }
-    Ok(fields)
+    if members.is_empty() {
+        return Err(NoImpls::At(name.at, Reason::Empty));
+    }
+    Ok(members)
 }
 
-/// The variants of an enum.
-pub fn declared_variants<'c, 't>(
-    alloc: Global,
-    item: &Item<'c, 't>,
-) -> Result<Vec<DeclaredVariant<'c, 't>>, NoImpls<'t>> {
-    let mut variants = Vec::new(alloc);
-    for part in members(alloc, item)? {
-        variants.push(declared_variant(alloc, part)?)?;
-    }
-    Ok(variants)
-}
-
-// What stands between the braces of a type, part for part.
-fn members<'c, 't>(alloc: Global, item: &Item<'c, 't>) -> Result<Vec<Cursor<'c, 't>>, NoImpls<'t>> {
+// What stands between the braces of a type.
+fn block<'c, 't>(item: &Item<'c, 't>) -> Result<Cursor<'c, 't>, NoImpls<'t>> {
     let mut tokens = item.tokens;
     let name = tokens.take(Kind::Word, "a name")?;
     let at = tokens.at();
-    if tokens.sees("<") || tokens.sees("where") {
-        return Err(NoImpls::At(at, Reason::Generic));
+    if tokens.takes("{") {
+        return tokens.group();
     }
-    if tokens.sees("(") {
-        return Err(NoImpls::At(at, Reason::NotNamed));
-    }
-    if tokens.sees(";") {
-        return Err(NoImpls::At(name.at, Reason::Empty));
-    }
-    tokens.expect("{")?;
-    let parts = tokens.group()?.parts(alloc)?;
-    if parts.is_empty() {
-        return Err(NoImpls::At(name.at, Reason::Empty));
-    }
-    Ok(parts)
-}
-
-fn declared_variant<'c, 't>(
-    alloc: Global,
-    mut tokens: Cursor<'c, 't>,
-) -> Result<DeclaredVariant<'c, 't>, NoImpls<'t>> {
-    let attributes = attributes(alloc, &mut tokens)?;
-    let name = tokens.take(Kind::Word, "a variant")?;
-    Ok(DeclaredVariant {
-        attributes,
-        name,
-        data: tokens,
+    Err(if tokens.sees("<") || tokens.sees("where") {
+        NoImpls::At(at, Reason::Generic)
+    } else if tokens.sees("(") {
+        NoImpls::At(at, Reason::NotNamed)
+    } else if tokens.sees(";") {
+        NoImpls::At(name.at, Reason::Empty)
+    } else {
+        NoImpls::At(at, Reason::Expected("{"))
     })
 }
 
-fn declared_field<'c, 't>(
+fn member_of<'c, 't>(
     alloc: Global,
     mut tokens: Cursor<'c, 't>,
-) -> Result<DeclaredField<'c, 't>, NoImpls<'t>> {
+    is_field: bool,
+) -> Result<Member<'c, 't>, NoImpls<'t>> {
     let attributes = attributes(alloc, &mut tokens)?;
+    let name = if is_field {
+        field_name(&mut tokens)?
+    } else {
+        tokens.take(Kind::Word, "a variant")?
+    };
+    Ok(Member {
+        attributes,
+        name,
+        rest: tokens,
+    })
+}
+
+// Takes the name of a field, with what stands before and behind it.
+fn field_name<'t>(tokens: &mut Cursor<'_, 't>) -> Result<Token<'t>, NoImpls<'t>> {
     if tokens.takes("pub") && tokens.takes("(") {
         tokens.group()?;
     }
-    let at = tokens.at();
     if tokens.sees("ghost") {
-        return Err(NoImpls::At(at, Reason::Invariant));
+        return Err(NoImpls::At(tokens.at(), Reason::Invariant));
     }
     let name = tokens.take(Kind::Word, "a field")?;
     tokens.expect(":")?;
-    Ok(DeclaredField {
-        attributes,
-        name,
-        kind: tokens,
-    })
+    Ok(name)
 }
 
 /// The attributes that stand in front.

@@ -1,40 +1,26 @@
 //! A file with the impls of its types.
 
-use crate::choice::{Choice, choice_of, listing_impl, refuse_data, variant_list, variants_path};
+use crate::choice::{Choice, refuse_data, variant_list, variants_of, variants_path};
 use crate::choice_templates::choice_impls;
 use crate::cursor::Cursor;
 use crate::cuts::cut;
-use crate::declared::{declared_fields, declared_variants, type_name};
+use crate::declared::{members, type_name};
 use crate::edits::{Edit, edited};
 use crate::form_templates::form_impls;
-use crate::forms::{Forms, forms_impl, forms_of, has_forms};
-use crate::imports::imports_of;
+use crate::forms::{Forms, forms_of, has_forms};
+use crate::impls::Impl;
+use crate::imports::{Needs, imports_of};
 use crate::items::{Attribute, Item, ItemKind, items_of};
 use crate::lexer::{Token, tokens_of};
-use crate::merge::use_edits;
+use crate::merge::add_use_edits;
 use crate::record::{Record, record_of};
 use crate::refusal::NoImpls;
 use crate::rules::{refuse_rules, type_rules};
-use crate::templates::{Impl, impls_of};
+use crate::templates::impls_of;
 use crate::uses::{refuse_taken, uses_of};
 use crate::wanted::is_wanted;
-use crate::written::{is_impl, list_of};
+use crate::written::{impl_of, list_of};
 use std::alloc::{AllocError, Global};
-
-/// The types of a file that get impls.
-#[derive(Drop)]
-pub struct Types<'t> {
-    pub records: Vec<Record<'t>>,
-    pub choices: Vec<Choice<'t>>,
-    pub forms: Vec<Forms<'t>>,
-}
-
-impl Types<'_> {
-    /// Whether there is none.
-    pub fn is_empty(&self) -> bool {
-        self.records.is_empty() && self.choices.is_empty() && self.forms.is_empty()
-    }
-}
 
 /// The text of a file with the impls of its types behind them, in place of those that it had, and with the `use` lines
 /// that they need. All else is as it was. An enum needs the path of its `module`, unless it has impls already.
@@ -52,15 +38,7 @@ pub fn with_impls<'t>(
         rest: tokens.as_slice(),
         end: text.len(),
     };
-    let items = items_of(alloc, cursor)?;
-    let edits = edits_of(
-        alloc,
-        File {
-            text,
-            module,
-            items: items.as_slice(),
-        },
-    )?;
+    let edits = edits_of(alloc, text, module, cursor)?;
     Ok(edited(alloc, text, edits)?)
 }
 
@@ -73,19 +51,26 @@ struct File<'m, 'i, 'c, 't> {
 }
 
 // The changes that give the types of a file their impls.
-fn edits_of<'t>(alloc: Global, file: File<'_, '_, '_, 't>) -> Result<Vec<Edit>, NoImpls<'t>> {
-    let mut types = Types {
-        records: Vec::new(alloc),
-        choices: Vec::new(alloc),
-        forms: Vec::new(alloc),
+fn edits_of<'t>(
+    alloc: Global,
+    text: &'t str,
+    module: Option<&str>,
+    tokens: Cursor<'_, 't>,
+) -> Result<Vec<Edit>, NoImpls<'t>> {
+    let items = items_of(alloc, tokens)?;
+    let file = File {
+        text,
+        module,
+        items: items.as_slice(),
     };
+    let mut needs = Needs::new(alloc);
     let mut edits = Vec::new(alloc);
     for item in file.items {
         if item.kind.is_type() {
-            add_type(alloc, file, item, &mut types, &mut edits)?;
+            add_type(alloc, file, item, &mut needs, &mut edits)?;
         }
     }
-    add_uses(alloc, file, &types, &mut edits)?;
+    add_uses(alloc, file, &needs, &mut edits)?;
     Ok(edits)
 }
 
@@ -94,32 +79,26 @@ fn add_type<'t>(
     alloc: Global,
     file: File<'_, '_, '_, 't>,
     item: &Item<'_, 't>,
-    types: &mut Types<'t>,
+    needs: &mut Needs,
     edits: &mut Vec<Edit>,
 ) -> Result<(), NoImpls<'t>> {
     let name = type_name(item)?;
-    if !is_wanted(alloc, file.items, item, name.text)? {
+    if !is_wanted(file.items, item, name.text)? {
         return Ok(());
     }
     cut_from(alloc, file.text, item.attributes.as_slice(), edits)?;
     let impls = if item.kind == ItemKind::Struct {
         let record = record_in(alloc, file, item, name, edits)?;
-        let impls = impls_of(alloc, &record)?;
-        types.records.push(record)?;
-        impls
+        needs.add_record(&record)?;
+        impls_of(alloc, &record)?
     } else if has_forms(alloc, file.items, item, name.text)? {
-        let forms = forms_in(alloc, file, item, name)?;
-        let impls = form_impls(alloc, &forms)?;
-        types.forms.push(forms)?;
-        impls
+        needs.has_forms = true;
+        form_impls(alloc, &forms_in(alloc, file, item, name)?)?
     } else {
-        let choice = choice_in(alloc, file, item, name, edits)?;
-        let impls = choice_impls(alloc, &choice)?;
-        types.choices.push(choice)?;
-        impls
+        needs.has_choices = true;
+        choice_impls(alloc, &choice_in(alloc, file, item, name, edits)?)?
     };
-    add_impls(alloc, file, item, name.text, impls, edits)?;
-    Ok(())
+    Ok(add_impls(alloc, file, item, name.text, impls, edits)?)
 }
 
 // The record that a struct is. What serde has at its fields is cut.
@@ -130,8 +109,8 @@ fn record_in<'t>(
     name: Token<'t>,
     edits: &mut Vec<Edit>,
 ) -> Result<Record<'t>, NoImpls<'t>> {
-    let rules = type_rules(alloc, item.attributes.as_slice())?;
-    let fields = declared_fields(alloc, item)?;
+    let rules = type_rules(item.attributes.as_slice())?;
+    let fields = members(alloc, item)?;
     for field in &fields {
         cut_from(alloc, file.text, field.attributes.as_slice(), edits)?;
     }
@@ -147,19 +126,22 @@ fn choice_in<'t>(
     name: Token<'t>,
     edits: &mut Vec<Edit>,
 ) -> Result<Choice<'t>, NoImpls<'t>> {
-    let rules = type_rules(alloc, item.attributes.as_slice())?;
-    let variants = declared_variants(alloc, item)?;
+    let rules = type_rules(item.attributes.as_slice())?;
+    let variants = members(alloc, item)?;
     refuse_data(variants.as_slice())?;
     for variant in &variants {
         cut_from(alloc, file.text, variant.attributes.as_slice(), edits)?;
     }
-    let listing = listing_impl(file.items, name.text);
+    let listing = impl_of(file.items, "Choice", name.text);
     let list = match listing {
         Some(listing) => Some(variant_list(alloc, listing)?),
         None => None,
     };
-    let path = variants_path(alloc, file.text, name, file.module, listing)?;
-    choice_of(alloc, name.text, path, rules, variants.as_slice(), &list)
+    Ok(Choice {
+        name: name.text,
+        path: variants_path(alloc, file.text, name, file.module, listing)?,
+        variants: variants_of(alloc, rules, variants.as_slice(), &list)?,
+    })
 }
 
 // The choice of two forms that an enum is.
@@ -169,10 +151,10 @@ fn forms_in<'t>(
     item: &Item<'_, 't>,
     name: Token<'t>,
 ) -> Result<Forms<'t>, NoImpls<'t>> {
-    refuse_rules(alloc, item.attributes.as_slice(), &["rename", "untagged"])?;
-    let variants = declared_variants(alloc, item)?;
+    refuse_rules(item.attributes.as_slice(), &["rename", "untagged"])?;
+    let variants = members(alloc, item)?;
     let (first, second) = forms_of(alloc, file.items, name, variants.as_slice())?;
-    let listing = forms_impl(file.items, name.text);
+    let listing = impl_of(file.items, "Forms", name.text);
     Ok(Forms {
         name: name.text,
         path: variants_path(alloc, file.text, name, file.module, listing)?,
@@ -207,40 +189,28 @@ fn add_impls(
 ) -> Result<(), AllocError> {
     let mut place = item.to;
     for Impl { of, text } in impls {
-        match file.items.iter().find(|item| is_impl(item, of, name)) {
-            Some(old) => {
-                edits.push(Edit {
-                    from: old.from,
-                    to: old.to,
-                    text,
-                })?;
-                place = old.to;
-            }
-            None => edits.push(Edit {
-                from: place,
-                to: place,
-                text: format!(in alloc; "\n\n{text}")?,
-            })?,
-        }
+        let (from, to, text) = match impl_of(file.items, of, name) {
+            Some(old) => (old.from, old.to, text),
+            None => (place, place, format!(in alloc; "\n\n{text}")?),
+        };
+        edits.push(Edit { from, to, text })?;
+        place = to;
     }
     Ok(())
 }
 
-// The `use` lines that the impls of some types need.
+// The `use` lines that the impls of the types need.
 fn add_uses<'t>(
     alloc: Global,
     file: File<'_, '_, '_, 't>,
-    types: &Types<'t>,
+    needs: &Needs,
     edits: &mut Vec<Edit>,
 ) -> Result<(), NoImpls<'t>> {
-    if types.is_empty() {
+    if needs.is_empty() {
         return Ok(());
     }
-    let imports = imports_of(alloc, types)?;
+    let imports = imports_of(alloc, needs)?;
     let uses = uses_of(alloc, file.text, file.items)?;
     refuse_taken(file.items, uses.as_slice(), imports.as_slice())?;
-    for edit in use_edits(alloc, file.text, uses.as_slice(), imports.as_slice())? {
-        edits.push(edit)?;
-    }
-    Ok(())
+    Ok(add_use_edits(alloc, file.text, uses.as_slice(), imports.as_slice(), edits)?)
 }

@@ -1,48 +1,109 @@
 //! The impls of a choice of two forms, as they are written.
 
 use crate::forms::{Form, Forms};
-use crate::layout::{push_arm, push_signature};
-use crate::templates::{Impl, push_from_tree};
+use crate::impls::{Impl, impls_by, signatures};
+use crate::layout::laid_out;
 use std::alloc::{AllocError, Global};
+
+const IMPLS: &[(&str, &str)] = &[
+    (
+        "Forms",
+        "\
+impl Forms for $name$ {
+    ghost use $path$.{$first$, $second$};
+
+    ghost forms = { by_test is_table ⟦<$table_type$ as Returns<'static>>⟧ ⟦<$other_type$ as Returns<'static>>⟧
+        (elim [ $first$ x ↦ $first_form$ x | $second$ x ↦ $second_form$ x ]) (λ x. refl) (λ x. refl) };
+}",
+    ),
+    (
+        "Deserialize",
+        "\
+impl<'de> Deserialize<'de> for $name$ {
+    ghost reads = { form_reads ⟦<$name$ as Forms>⟧.forms };
+
+    ghost faults = { form_faults ⟦<$name$ as Forms>⟧.forms };
+
+$deserialize$
+        if node.is_table() {
+            let value = $table_path$::deserialize(alloc, node)?;
+            Ok($name$::$table$(value))
+        } else {
+            let value = $other_path$::deserialize(alloc, node)?;
+            Ok($name$::$other$(value))
+        }
+    }
+
+$from_tree$
+        $name$::deserialize(alloc, tree.root())
+    }
+}",
+    ),
+    (
+        "Serialize",
+        "\
+impl Serialize for $name$ {
+    ghost calls = { form_calls ⟦<$name$ as Forms>⟧.forms };
+
+    ghost holds = { form_holds ⟦<$name$ as Forms>⟧.forms };
+
+    fn serialize(&self, alloc: Global, ser: &mut Serializer) -> Result<(), WriteError> {
+        match self {
+$write_first$
+$write_second$
+        }
+    }
+}",
+    ),
+    (
+        "Returns",
+        "\
+impl<'de> Returns<'de> for $name$ {
+    ghost read_back = { form_back ⟦<$name$ as Forms>⟧.forms };
+
+    ghost returns = { ⟦<$name$ as Returns<'static>>⟧.read_back.returns };
+}",
+    ),
+];
+
+// The arm of a variant where it is written.
+const WRITE: [&str; 3] = [
+    "            $name$::$variant$(value) => value.serialize(alloc, ser),",
+    "            $name$::$variant$(value) => value.serialize(
+                alloc, ser,
+            ),",
+    "            $name$::$variant$(value) =>
+                value.serialize(alloc, ser),",
+];
 
 /// The impls of a choice of two forms, in order.
 pub fn form_impls(alloc: Global, forms: &Forms<'_>) -> Result<Vec<Impl>, AllocError> {
-    let mut impls = Vec::new(alloc);
-    for (of, text) in [
-        ("Forms", list(alloc, forms)?),
-        ("Deserialize", deserialize(alloc, forms)?),
-        ("Serialize", serialize(alloc, forms)?),
-        ("Returns", returns(alloc, forms.name)?),
-    ] {
-        impls.push(Impl { of, text })?;
-    }
-    Ok(impls)
+    let name = forms.name;
+    let (first, second) = (&forms.first, &forms.second);
+    let (table, other) = forms.table_and_other();
+    let own = [
+        ("name", name),
+        ("path", forms.path.as_str()),
+        ("first", first.name),
+        ("first_form", word(first)),
+        ("second", second.name),
+        ("second_form", word(second)),
+        ("table", table.name),
+        ("table_type", table.kind.as_str()),
+        ("table_path", path(table)),
+        ("other", other.name),
+        ("other_type", other.kind.as_str()),
+        ("other_path", path(other)),
+    ];
+    let mut made = signatures(alloc, name)?;
+    made.push(("write_first", write(alloc, name, first.name)?))?;
+    made.push(("write_second", write(alloc, name, second.name)?))?;
+    impls_by(alloc, IMPLS, &own, made.as_slice())
 }
 
-fn list(alloc: Global, forms: &Forms<'_>) -> Result<String, AllocError> {
-    let Forms {
-        name,
-        path,
-        first,
-        second,
-    } = forms;
-    let (table, other) = forms.table_and_other();
-    let (table, other) = (table.kind.as_str(), other.kind.as_str());
-    format!(in alloc;
-        "\
-impl Forms for {name} {{
-    ghost use {path}.{{{}, {}}};
-
-    ghost forms = {{ by_test is_table ⟦<{table} as Returns<'static>>⟧ ⟦<{other} as Returns<'static>>⟧
-        (elim [ {} x ↦ {} x | {} x ↦ {} x ]) (λ x. refl) (λ x. refl) }};
-}}",
-        first.name,
-        second.name,
-        first.name,
-        word(first),
-        second.name,
-        word(second)
-    )
+// The arm that writes a variant.
+fn write<'p>(alloc: Global, name: &'p str, variant: &'p str) -> Result<String, AllocError> {
+    laid_out(alloc, &WRITE, &[("name", name), ("variant", variant)], &[])
 }
 
 // What a variant is to the clauses.
@@ -50,78 +111,8 @@ fn word(form: &Form<'_>) -> &'static str {
     if form.is_table { "one" } else { "other" }
 }
 
-fn deserialize(alloc: Global, forms: &Forms<'_>) -> Result<String, AllocError> {
-    let name = forms.name;
-    let mut text = format!(in alloc;
-        "\
-impl<'de> Deserialize<'de> for {name} {{
-    ghost reads = {{ form_reads ⟦<{name} as Forms>⟧.forms }};
-
-    ghost faults = {{ form_faults ⟦<{name} as Forms>⟧.forms }};
-"
-    )?;
-    let returned = format!(in alloc; "Result<{name}, Error>")?;
-    push_signature(
-        alloc,
-        &mut text,
-        "deserialize",
-        &["alloc: Global", "node: Node<'_, 'de>"],
-        returned.as_str(),
-    )?;
-    let (table, other) = forms.table_and_other();
-    text.push_str("\n        if node.is_table() {")?;
-    push_reading(&mut text, name, table)?;
-    text.push_str("\n        } else {")?;
-    push_reading(&mut text, name, other)?;
-    text.push_str("\n        }\n    }\n")?;
-    push_from_tree(alloc, &mut text, name)?;
-    Ok(text)
-}
-
-// The lines that read one form. What its type has in angle brackets is known from the variant.
-fn push_reading(text: &mut String, name: &str, form: &Form<'_>) -> Result<(), AllocError> {
+// The path by which a form is read: what its type has in angle brackets is known from the variant.
+fn path<'f>(form: &'f Form<'_>) -> &'f str {
     let kind = form.kind.as_str();
-    let kind = kind.split('<').next().unwrap_or(kind);
-    write!(
-        text,
-        "\n            let value = {kind}::deserialize(alloc, node)?;"
-    )?;
-    write!(text, "\n            Ok({name}::{}(value))", form.name)
-}
-
-fn serialize(alloc: Global, forms: &Forms<'_>) -> Result<String, AllocError> {
-    let name = forms.name;
-    let mut text = format!(in alloc;
-        "\
-impl Serialize for {name} {{
-    ghost calls = {{ form_calls ⟦<{name} as Forms>⟧.forms }};
-
-    ghost holds = {{ form_holds ⟦<{name} as Forms>⟧.forms }};
-
-    fn serialize(&self, alloc: Global, ser: &mut Serializer) -> Result<(), WriteError> {{
-        match self {{"
-    )?;
-    for form in [&forms.first, &forms.second] {
-        let pattern = format!(in alloc; "{name}::{}(value)", form.name)?;
-        push_arm(
-            alloc,
-            &mut text,
-            pattern.as_str(),
-            "value.serialize",
-            "alloc, ser",
-        )?;
-    }
-    text.push_str("\n        }\n    }\n}")?;
-    Ok(text)
-}
-
-fn returns(alloc: Global, name: &str) -> Result<String, AllocError> {
-    format!(in alloc;
-        "\
-impl<'de> Returns<'de> for {name} {{
-    ghost read_back = {{ form_back ⟦<{name} as Forms>⟧.forms }};
-
-    ghost returns = {{ ⟦<{name} as Returns<'static>>⟧.read_back.returns }};
-}}"
-    )
+    kind.split('<').next().unwrap_or(kind)
 }

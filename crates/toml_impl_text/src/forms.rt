@@ -1,14 +1,14 @@
 //! An enum of two variants, of which one holds a table and the other none, as a choice of two forms of TOML.
 
 use crate::cursor::Cursor;
-use crate::declared::{DeclaredVariant, attributes, declared_variants};
+use crate::declared::{Member, attributes, members};
 use crate::items::{Item, ItemKind};
 use crate::lexer::Token;
 use crate::literal::Literal;
 use crate::refusal::{NoImpls, Reason};
 use crate::rules::{is_untagged, refuse_rules};
 use crate::types::{FieldType, field_type};
-use crate::written::is_impl;
+use crate::written::impl_of;
 use std::alloc::Global;
 
 /// An enum as a choice of two forms.
@@ -40,21 +40,11 @@ impl<'t> Forms<'t> {
     }
 }
 
-/// The impl that says which two forms a type has; `None` where there is none.
-pub fn forms_impl<'i, 'c, 't>(items: &'i [Item<'c, 't>], name: &str) -> Option<&'i Item<'c, 't>> {
-    items.iter().find(|item| is_impl(item, "Forms", name))
-}
-
 /// Whether an impl tells the two forms apart as the program does.
 pub fn is_by_table(item: &Item<'_, '_>) -> bool {
     let mut tokens = item.tokens;
-    for _ in 0..tokens.len() {
-        if tokens.takes("by_test") {
-            return tokens.sees("is_table");
-        }
-        tokens.next();
-    }
-    false
+    tokens.skip_to("by_test");
+    tokens.begins(&["by_test", "is_table"])
 }
 
 /// Whether an enum has forms: it says so or has the impl already, and a variant of it holds something.
@@ -64,7 +54,7 @@ pub fn has_forms<'t>(
     item: &Item<'_, 't>,
     name: &str,
 ) -> Result<bool, NoImpls<'t>> {
-    if forms_impl(items, name).is_none() && !is_untagged(alloc, item.attributes.as_slice())? {
+    if impl_of(items, "Forms", name).is_none() && !is_untagged(item.attributes.as_slice())? {
         return Ok(false);
     }
     Ok(!is_plain(alloc, item)?)
@@ -72,7 +62,7 @@ pub fn has_forms<'t>(
 
 // Whether no variant of an enum holds something.
 fn is_plain<'t>(alloc: Global, item: &Item<'_, 't>) -> Result<bool, NoImpls<'t>> {
-    let variants = declared_variants(alloc, item)?;
+    let variants = members(alloc, item)?;
     Ok(!variants.iter().any(|variant| variant.has_data()))
 }
 
@@ -81,9 +71,9 @@ pub fn forms_of<'t>(
     alloc: Global,
     items: &[Item<'_, 't>],
     name: Token<'t>,
-    declared: &[DeclaredVariant<'_, 't>],
+    declared: &[Member<'_, 't>],
 ) -> Result<(Form<'t>, Form<'t>), NoImpls<'t>> {
-    let listing = forms_impl(items, name.text);
+    let listing = impl_of(items, "Forms", name.text);
     if let Some(listing) = listing {
         if !is_by_table(listing) {
             return Err(NoImpls::At(listing.from, Reason::OtherTest));
@@ -104,11 +94,11 @@ fn form_of<'t>(
     alloc: Global,
     items: &[Item<'_, 't>],
     listing: Option<&Item<'_, 't>>,
-    variant: &DeclaredVariant<'_, 't>,
+    variant: &Member<'_, 't>,
 ) -> Result<Form<'t>, NoImpls<'t>> {
-    refuse_rules(alloc, variant.attributes.as_slice(), &[])?;
-    let mut held = held(alloc, variant)?;
-    refuse_rules(alloc, attributes(alloc, &mut held)?.as_slice(), &[])?;
+    refuse_rules(variant.attributes.as_slice(), &[])?;
+    let mut held = held(variant)?;
+    refuse_rules(attributes(alloc, &mut held)?.as_slice(), &[])?;
     let kind = field_type(alloc, held)?;
     let name = variant.name.text;
     match is_table(alloc, items, listing, name, &kind)? {
@@ -139,15 +129,12 @@ fn is_table<'t>(
 }
 
 // The type that a variant holds.
-fn held<'c, 't>(
-    alloc: Global,
-    variant: &DeclaredVariant<'c, 't>,
-) -> Result<Cursor<'c, 't>, NoImpls<'t>> {
-    let mut data = variant.data;
+fn held<'c, 't>(variant: &Member<'c, 't>) -> Result<Cursor<'c, 't>, NoImpls<'t>> {
+    let mut data = variant.rest;
     if data.takes("(") {
-        let parts = data.group()?.parts(alloc)?;
-        if let [kind] = parts.as_slice() {
-            return Ok(*kind);
+        let mut parts = data.group()?.parts();
+        if let (Some(kind), None) = (parts.next(), parts.next()) {
+            return Ok(kind);
         }
     }
     Err(NoImpls::At(variant.name.at, Reason::NotOne))

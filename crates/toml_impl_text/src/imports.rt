@@ -1,7 +1,6 @@
 //! The names that impls need, and the paths that have them.
 
-use crate::file::Types;
-use crate::record::{Field, Presence};
+use crate::record::{Presence, Record};
 use std::alloc::{AllocError, Global};
 
 /// Names that impls need from one path.
@@ -12,6 +11,61 @@ pub struct Import {
     pub path: &'static str,
     /// In order.
     pub names: Vec<&'static str>,
+}
+
+/// What the impls of the types of a file need.
+#[derive(Drop)]
+pub struct Needs {
+    has_records: bool,
+    // Whether a record takes no key but its own.
+    is_strict: bool,
+    // The words in the lists of fields.
+    words: Vec<&'static str>,
+    pub has_choices: bool,
+    pub has_forms: bool,
+}
+
+impl Needs {
+    /// Those of no types.
+    pub fn new(alloc: Global) -> Needs {
+        Needs {
+            has_records: false,
+            is_strict: false,
+            words: Vec::new(alloc),
+            has_choices: false,
+            has_forms: false,
+        }
+    }
+
+    /// Whether there are no types.
+    pub fn is_empty(&self) -> bool {
+        !self.has_records && !self.has_choices && !self.has_forms
+    }
+
+    /// Adds those of a record.
+    pub fn add_record(&mut self, record: &Record<'_>) -> Result<(), AllocError> {
+        self.has_records = true;
+        self.is_strict |= record.is_strict;
+        for field in &record.fields {
+            self.words.push(field.presence.word())?;
+            if let Presence::Or(value) = field.presence {
+                self.words.push(value.word(field.kind.as_str()))?;
+            }
+        }
+        Ok(())
+    }
+
+    // Whether a name is among them.
+    fn has(&self, need: Need, name: &str) -> bool {
+        match need {
+            Need::All => !self.is_empty(),
+            Need::Records => self.has_records,
+            Need::Words => self.words.contains(&name),
+            Need::Strict => self.is_strict,
+            Need::Choices => self.has_choices,
+            Need::Forms => self.has_forms,
+        }
+    }
 }
 
 // Which types need a name.
@@ -125,54 +179,30 @@ const CODE: &[(&str, Names)] = &[
     ("std::alloc", &[(Need::All, &["Global"])]),
 ];
 
-/// What the impls of some types need.
-pub fn imports_of(alloc: Global, types: &Types<'_>) -> Result<Vec<Import>, AllocError> {
+/// The names that are needed, by their paths.
+pub fn imports_of(alloc: Global, needs: &Needs) -> Result<Vec<Import>, AllocError> {
     let mut imports = Vec::new(alloc);
     for (is_ghost, paths) in [(true, GHOST), (false, CODE)] {
         for (path, names) in paths {
+            let names = needed(alloc, names, needs)?;
             imports.push(Import {
                 is_ghost,
                 path,
-                names: needed(alloc, names, types)?,
+                names,
             })?;
         }
     }
     Ok(imports)
 }
 
-fn needed(alloc: Global, names: Names, types: &Types<'_>) -> Result<Vec<&'static str>, AllocError> {
+fn needed(alloc: Global, names: Names, needs: &Needs) -> Result<Vec<&'static str>, AllocError> {
     let mut needed = Vec::new(alloc);
     for (need, names) in names {
         for name in *names {
-            if is_needed(types, *need, name) {
+            if needs.has(*need, name) {
                 needed.push(*name)?;
             }
         }
     }
     Ok(needed)
-}
-
-fn is_needed(types: &Types<'_>, need: Need, name: &str) -> bool {
-    match need {
-        Need::All => !types.is_empty(),
-        Need::Records => !types.records.is_empty(),
-        Need::Words => types.records.iter().any(|record| record
-            .fields
-            .iter()
-            .any(|field| has_word(field, name))),
-        Need::Strict => types.records.iter().any(|record| record.is_strict),
-        Need::Choices => !types.choices.is_empty(),
-        Need::Forms => !types.forms.is_empty(),
-    }
-}
-
-// Whether the entry of a field in a list has a word.
-fn has_word(field: &Field<'_>, word: &str) -> bool {
-    match field.presence {
-        Presence::Needed => word == "needed",
-        Presence::Maybe => word == "maybe",
-        Presence::Or(value) => {
-            value.entry_word() == word || value.word(field.kind.as_str()) == word
-        }
-    }
 }

@@ -4,7 +4,6 @@ use crate::cursor::Cursor;
 use crate::lexer::Token;
 use crate::refusal::NoImpls;
 use std::alloc::Global;
-use std::mem;
 
 /// What kind of item it is.
 #[derive(Clone, Copy, PartialEq, Eq)]
@@ -55,6 +54,20 @@ pub fn items_of<'c, 't>(
     mut tokens: Cursor<'c, 't>,
 ) -> Result<Vec<Item<'c, 't>>, NoImpls<'t>> {
     let mut items = Vec::new(alloc);
+    for _ in 0..tokens.len() {
+        match next_item(alloc, &mut tokens)? {
+            Some(item) => items.push(item)?,
+            None => break,
+        }
+    }
+    Ok(items)
+}
+
+// Takes the next item, and what stands before it.
+fn next_item<'c, 't>(
+    alloc: Global,
+    tokens: &mut Cursor<'c, 't>,
+) -> Result<Option<Item<'c, 't>>, NoImpls<'t>> {
     let mut attributes = Vec::new(alloc);
     let mut start = None;
     for _ in 0..tokens.len() {
@@ -64,21 +77,21 @@ pub fn items_of<'c, 't>(
         if token.opens() {
             tokens.group()?;
         } else if token.text == "#" {
-            if let Some(attribute) = attribute_behind(token, &mut tokens)? {
+            if let Some(attribute) = attribute_behind(token, tokens)? {
                 start = start.or(Some(token.at));
                 attributes.push(attribute)?;
             }
-        } else if let Some(kind) = kind_at(token, &mut tokens) {
+        } else if let Some(kind) = kind_at(token, tokens) {
             let has_block = !matches!(kind, ItemKind::Use | ItemKind::GhostUse);
             let inside = tokens.item(has_block)?;
-            items.push(Item {
+            return Ok(Some(Item {
                 kind,
-                attributes: mem::replace(&mut attributes, Vec::new(alloc)),
-                start: start.take().unwrap_or(token.at),
+                attributes,
+                start: start.unwrap_or(token.at),
                 from: token.at,
                 to: inside.last_end(),
                 tokens: inside,
-            })?;
+            }));
         } else if token.text == "pub" {
             start = start.or(Some(token.at));
         } else {
@@ -86,7 +99,7 @@ pub fn items_of<'c, 't>(
             attributes.clear();
         }
     }
-    Ok(items)
+    Ok(None)
 }
 
 /// The attribute whose hash sign was taken; `None` where it is one of the whole file.

@@ -4,45 +4,26 @@ ghost use Rattle.std.specs.Prelude.{◌≡◌};
 
 use crate::edits::{Edit, with_line};
 use crate::imports::Import;
-use crate::layout::{filled, listed};
+use crate::layout::in_lines;
 use crate::uses::Use;
 use std::alloc::{AllocError, Global};
 
-// The width that a `use` line may have, and a line of its names where there are many.
+// The width that a `use` line may have, and what a line of its names has behind its blanks where there are many.
 const LINE: usize = 98;
 
-const NAMES: usize = 99;
+const NAMES: usize = 95;
 
-// A line that the file has not yet.
-#[derive(Drop)]
-struct NewLine {
-    is_ghost: bool,
-    path: &'static str,
-    text: String,
-}
-
-/// The changes that bring in what a file has not yet, and leave out serde's derives. Lines go among those of their kind,
-/// by their paths.
-pub fn use_edits(
+/// Adds the changes that bring in what a file has not yet, and leave out serde's derives. Lines go among those of their
+/// kind, by their paths.
+pub fn add_use_edits(
     alloc: Global,
     text: &str,
     uses: &[Use<'_>],
     imports: &[Import],
-) -> Result<Vec<Edit>, AllocError> {
-    let mut edits = Vec::new(alloc);
-    let mut lines = Vec::new(alloc);
-    for import in imports {
-        let missing = missing(alloc, uses, import)?;
-        if missing.is_empty() {
-            continue;
-        }
-        match uses.iter().find(|line| line.is_plain && line.is_of(import)) {
-            Some(line) => edits.push(longer(alloc, line, missing.as_slice())?)?,
-            None => lines.push(new_line(alloc, import, missing.as_slice())?)?,
-        }
-    }
+    edits: &mut Vec<Edit>,
+) -> Result<(), AllocError> {
     for is_ghost in [true, false] {
-        place(alloc, text, uses, lines.as_slice(), is_ghost, &mut edits)?;
+        add_names(alloc, text, uses, imports, is_ghost, edits)?;
     }
     for line in uses {
         if line.is_serdes() && !edits.iter().any(|edit| edit.to == line.to) {
@@ -54,7 +35,43 @@ pub fn use_edits(
             })?;
         }
     }
-    Ok(edits)
+    Ok(())
+}
+
+// Adds the changes that bring in the names of one kind that no line of the file has.
+fn add_names(
+    alloc: Global,
+    text: &str,
+    uses: &[Use<'_>],
+    imports: &[Import],
+    is_ghost: bool,
+    edits: &mut Vec<Edit>,
+) -> Result<(), AllocError> {
+    let has_kind = uses
+        .iter()
+        .any(|line| line.is_ghost == is_ghost && !line.is_serdes());
+    let mut block = String::new(alloc);
+    for import in imports {
+        let missing = missing(alloc, uses, import)?;
+        if missing.is_empty() || import.is_ghost != is_ghost {
+            continue;
+        }
+        if let Some(line) = uses.iter().find(|line| line.is_plain && line.is_of(import)) {
+            edits.push(longer(alloc, line, missing.as_slice())?)?;
+            continue;
+        }
+        let new = use_line(alloc, is_ghost, import.path, missing.as_slice())?;
+        if has_kind {
+            edits.push(among(alloc, uses, import, new.as_str())?)?;
+        } else {
+            block.push_str(if block.is_empty() { "" } else { "\n" })?;
+            block.push_str(new.as_str())?;
+        }
+    }
+    if !block.is_empty() {
+        edits.push(new_block(alloc, text, uses, block, is_ghost)?)?;
+    }
+    Ok(())
 }
 
 // The names that no line of the file has.
@@ -70,14 +87,6 @@ fn missing(
         }
     }
     Ok(names)
-}
-
-fn new_line(alloc: Global, import: &Import, names: &[&str]) -> Result<NewLine, AllocError> {
-    Ok(NewLine {
-        is_ghost: import.is_ghost,
-        path: import.path,
-        text: use_line(alloc, import.is_ghost, import.path, names)?,
-    })
 }
 
 // A line with more names, each before the first that it has behind that.
@@ -113,7 +122,7 @@ fn use_line(
     path: &str,
     names: &[&str],
 ) -> Result<String, AllocError> {
-    let all = listed(alloc, names)?;
+    let all = names.join(alloc, ", ")?;
     if is_ghost {
         return format!(in alloc; "ghost use {path}.{{{all}}};");
     }
@@ -124,34 +133,8 @@ fn use_line(
     if line.len() <= LINE {
         return Ok(line);
     }
-    let names = filled(alloc, names, 4, NAMES)?;
+    let names = in_lines(alloc, names, "\n    ", NAMES)?;
     format!(in alloc; "use {path}::{{{names}\n}};")
-}
-
-// Places the new lines of one kind.
-fn place(
-    alloc: Global,
-    text: &str,
-    uses: &[Use<'_>],
-    lines: &[NewLine],
-    is_ghost: bool,
-    edits: &mut Vec<Edit>,
-) -> Result<(), AllocError> {
-    let mut kind = uses.iter().filter(|line| line.is_ghost == is_ghost);
-    if kind.any(|line| !line.is_serdes()) {
-        for line in lines {
-            if line.is_ghost == is_ghost {
-                edits.push(among(alloc, uses, line)?)?;
-            }
-        }
-        return Ok(());
-    }
-    let block = block(alloc, lines, is_ghost)?;
-    if block.is_empty() {
-        return Ok(());
-    }
-    edits.push(new_block(alloc, text, uses, block, is_ghost)?)?;
-    Ok(())
 }
 
 // The first lines of their kind: those of clauses before all others, and those of code in place of serde's, or behind
@@ -191,12 +174,11 @@ fn insert(at: usize, text: String) -> Edit
 }
 
 // A line among those of its kind: before the first whose path comes behind its own, or behind the last.
-fn among(alloc: Global, uses: &[Use<'_>], new: &NewLine) -> Result<Edit, AllocError> {
-    let text = new.text.as_str();
+fn among(alloc: Global, uses: &[Use<'_>], import: &Import, text: &str) -> Result<Edit, AllocError> {
     let mut last = 0;
     for line in uses {
-        if line.is_ghost == new.is_ghost && !line.is_serdes() {
-            if rank(line.path) > rank(new.path) {
+        if line.is_ghost == import.is_ghost && !line.is_serdes() {
+            if rank(line.path) > rank(import.path) {
                 return Ok(insert(line.from, format!(in alloc; "{text}\n")?));
             }
             last = line.to;
@@ -207,26 +189,13 @@ fn among(alloc: Global, uses: &[Use<'_>], new: &NewLine) -> Result<Edit, AllocEr
 
 // What paths are ordered by: std's come first in clauses, and the crate's own in code.
 fn rank(path: &str) -> (u8, &str) {
-    let first = path.split("::").next().unwrap_or("");
-    match first {
-        "self" => (0, path),
-        "super" => (1, path),
-        "crate" => (2, path),
+    match path.split("::").next() {
+        Some("self") => (0, path),
+        Some("super") => (1, path),
+        Some("crate") => (2, path),
         _ if path.starts_with("Rattle.std.") => (0, path),
         _ => (3, path),
     }
-}
-
-// The new lines of one kind, one below the other.
-fn block(alloc: Global, lines: &[NewLine], is_ghost: bool) -> Result<String, AllocError> {
-    let mut block = String::new(alloc);
-    for line in lines {
-        if line.is_ghost == is_ghost {
-            block.push_str(if block.is_empty() { "" } else { "\n" })?;
-            block.push_str(line.text.as_str())?;
-        }
-    }
-    Ok(block)
 }
 
 // The length of what stands before the first item: inner comments and attributes, and the modules that are named.

@@ -1,6 +1,7 @@
 //! A struct as a record of TOML: its fields, their keys and their defaults.
 
-use crate::declared::DeclaredField;
+use crate::declared::Member;
+use crate::keys::key_of;
 use crate::literal::Literal;
 use crate::refusal::{NoImpls, Reason};
 use crate::rules::{DefaultRule, FieldRules, TypeRules, field_rules};
@@ -28,7 +29,7 @@ pub struct Field<'t> {
 }
 
 /// Whether the key of a field has to be there.
-#[derive(Clone, Copy, PartialEq, Eq)]
+#[derive(Clone, Copy)]
 pub enum Presence<'t> {
     Needed,
     /// The field is an option.
@@ -37,12 +38,23 @@ pub enum Presence<'t> {
     Or(Literal<'t>),
 }
 
+impl Presence<'_> {
+    /// The word of the field in a list of fields, and where it is read.
+    pub fn word(self) -> &'static str {
+        match self {
+            Presence::Needed => "needed",
+            Presence::Maybe => "maybe",
+            Presence::Or(value) => value.entry_word(),
+        }
+    }
+}
+
 /// The record that a struct is: by what its attributes say, and, where they say nothing, by the list that its impl has.
 pub fn record_of<'t>(
     alloc: Global,
     name: &'t str,
     rules: TypeRules,
-    declared: &[DeclaredField<'_, 't>],
+    declared: &[Member<'_, 't>],
     list: &Option<FieldList<'t>>,
 ) -> Result<Record<'t>, NoImpls<'t>> {
     let mut fields = Vec::new(alloc);
@@ -75,45 +87,21 @@ fn has_key(fields: &[Field<'_>], key: &str) -> bool {
 fn field_of<'t>(
     alloc: Global,
     types: TypeRules,
-    field: &DeclaredField<'_, 't>,
+    field: &Member<'_, 't>,
     entry: Option<Entry<'t>>,
 ) -> Result<Field<'t>, NoImpls<'t>> {
     let rules = field_rules(alloc, field.attributes.as_slice())?;
-    let kind = field_type(alloc, field.kind)?;
+    let kind = field_type(alloc, field.rest)?;
+    let (key, default) = match entry {
+        Some(entry) => (Some(entry.key), entry.default),
+        None => (None, None),
+    };
     Ok(Field {
         name: field.name.text,
-        key: key_of(alloc, types, field, rules, entry)?,
-        presence: presence_of(&kind, rules, field.name.at, listed_default(entry))?,
+        key: key_of(alloc, field.name, rules.key.or(key), types.case, false)?,
+        presence: presence_of(&kind, rules, field.name.at, default)?,
         kind: kind.name,
     })
-}
-
-// The key of a field: as its attribute says, else as the list has it, else its name in the case of its type.
-fn key_of<'t>(
-    alloc: Global,
-    types: TypeRules,
-    field: &DeclaredField<'_, 't>,
-    rules: FieldRules<'t>,
-    entry: Option<Entry<'t>>,
-) -> Result<String, NoImpls<'t>> {
-    let name = field.name.text;
-    if !name.is_ascii() {
-        return Err(NoImpls::At(field.name.at, Reason::Key));
-    }
-    let key = match (rules.key, entry, types.case) {
-        (Some(key), _, _) => String::from_str(alloc, key)?,
-        (None, Some(entry), _) => String::from_str(alloc, entry.key)?,
-        (None, None, Some(case)) => case.of_field(alloc, name)?,
-        (None, None, None) => String::from_str(alloc, name)?,
-    };
-    Ok(key)
-}
-
-fn listed_default<'t>(entry: Option<Entry<'t>>) -> Option<Literal<'t>> {
-    match entry {
-        Some(entry) => entry.default,
-        None => None,
-    }
 }
 
 // Whether the key of a field has to be there: by what its attribute says, else by the default that the list has.
@@ -130,10 +118,16 @@ fn presence_of<'t>(
         return Err(NoImpls::At(at, Reason::SkipIf));
     }
     let kind = kind.name.as_str();
-    match rules.default {
-        DefaultRule::OfType(at) => or_own(kind, at),
-        DefaultRule::Value(at, value) => or(kind, at, value),
-        DefaultRule::Unsaid => or_needed(kind, at, listed),
+    let (at, value) = match (rules.default, listed) {
+        (DefaultRule::OfType(at), _) => (at, Literal::default_of(kind)),
+        (DefaultRule::Value(at, value), _) => (at, Some(value)),
+        (DefaultRule::Unsaid, Some(value)) => (at, Some(value)),
+        (DefaultRule::Unsaid, None) => return Ok(Presence::Needed),
+    };
+    match value {
+        Some(value) if value.is_of(kind) => Ok(Presence::Or(value)),
+        _ if Literal::default_of(kind).is_none() => Err(NoImpls::At(at, Reason::DefaultOfType)),
+        _ => Err(NoImpls::At(at, Reason::DefaultMisfit)),
     }
 }
 
@@ -141,36 +135,5 @@ fn option_presence<'t>(default: DefaultRule<'t>) -> Result<Presence<'t>, NoImpls
     match default {
         DefaultRule::Value(at, _) => Err(NoImpls::At(at, Reason::DefaultOfOption)),
         _ => Ok(Presence::Maybe),
-    }
-}
-
-// With a default, if there is one.
-fn or_needed<'t>(
-    kind: &str,
-    at: usize,
-    default: Option<Literal<'t>>,
-) -> Result<Presence<'t>, NoImpls<'t>> {
-    let Some(value) = default else {
-        return Ok(Presence::Needed);
-    };
-    or(kind, at, value)
-}
-
-// With the default of its type.
-fn or_own<'t>(kind: &str, at: usize) -> Result<Presence<'t>, NoImpls<'t>> {
-    match Literal::default_of(kind) {
-        Some(value) => Ok(Presence::Or(value)),
-        None => Err(NoImpls::At(at, Reason::DefaultOfType)),
-    }
-}
-
-// With a default.
-fn or<'t>(kind: &str, at: usize, value: Literal<'t>) -> Result<Presence<'t>, NoImpls<'t>> {
-    if value.is_of(kind) {
-        Ok(Presence::Or(value))
-    } else if Literal::default_of(kind).is_none() {
-        Err(NoImpls::At(at, Reason::DefaultOfType))
-    } else {
-        Err(NoImpls::At(at, Reason::DefaultMisfit))
     }
 }

@@ -3,7 +3,7 @@ use std::alloc::{AllocError, AllocFailed};
 use std::fmt;
 
 /// Why a file gets no impls.
-#[derive(Debug, Drop)]
+#[derive(Drop)]
 pub enum NoImpls<'t> {
     /// What stands at this offset is refused.
     At(usize, Reason<'t>),
@@ -34,7 +34,7 @@ impl<'t, T: Drop> From<AllocFailed<T>> for NoImpls<'t> {
 }
 
 /// What is wrong.
-#[derive(Clone, Copy, Debug)]
+#[derive(Clone, Copy)]
 pub enum Reason<'t> {
     /// A bracket that is not closed.
     Unclosed,
@@ -90,7 +90,6 @@ pub enum Reason<'t> {
 impl fmt::Display for Reason<'_> {
     fn fmt<W: fmt::Write>(&self, f: &mut fmt::Formatter<W>) -> fmt::Result {
         match self {
-            Reason::Unclosed => write!(f, "a bracket that is not closed"),
             Reason::Expected(what) => write!(f, "expected {what}"),
             Reason::NotTaken(word) => write!(f, "`{word}` is not taken"),
             Reason::OfForms(word) => {
@@ -125,6 +124,7 @@ impl Reason<'_> {
     // The text of a reason that names nothing.
     fn text(&self) -> &'static str {
         match self {
+            Reason::Unclosed => "a bracket that is not closed",
             Reason::Generic => "a generic type",
             Reason::NotNamed => "a struct without named fields",
             Reason::Empty => "a type without fields or variants",

@@ -44,22 +44,30 @@ pub enum DefaultRule<'t> {
     Value(usize, Literal<'t>),
 }
 
+// What is taken elsewhere, and says nothing of a choice of two forms.
+const NOT_OF_FORMS: [&str; 6] = [
+    "rename",
+    "rename_all",
+    "deny_unknown_fields",
+    "default",
+    "alias",
+    "skip_serializing_if",
+];
+
 /// Whether it is an attribute of serde's.
 pub fn is_rule(attribute: &Attribute<'_, '_>) -> bool {
     attribute.inside.sees("serde")
 }
 
 /// What the attributes of a type say of it.
-pub fn type_rules<'t>(
-    alloc: Global,
-    attributes: &[Attribute<'_, 't>],
-) -> Result<TypeRules, NoImpls<'t>> {
+pub fn type_rules<'t>(attributes: &[Attribute<'_, 't>]) -> Result<TypeRules, NoImpls<'t>> {
     let mut rules = TypeRules {
         case: None,
         is_strict: false,
     };
     for attribute in attributes {
-        for rule in rules_in(alloc, attribute)? {
+        for part in rules_in(attribute)?.parts() {
+            let rule = Rule::of(part)?;
             match rule.name.text {
                 "rename_all" => rules.case = Some(case_in(rule)?),
                 "deny_unknown_fields" => rules.is_strict = true,
@@ -74,14 +82,12 @@ pub fn type_rules<'t>(
 }
 
 /// Whether the attributes of an enum say that its variants are told apart by what they hold.
-pub fn is_untagged<'t>(
-    alloc: Global,
-    attributes: &[Attribute<'_, 't>],
-) -> Result<bool, NoImpls<'t>> {
+pub fn is_untagged<'t>(attributes: &[Attribute<'_, 't>]) -> Result<bool, NoImpls<'t>> {
     for attribute in attributes {
-        let rules = rules_in(alloc, attribute)?;
-        if rules.iter().any(|rule| rule.name.text == "untagged") {
-            return Ok(true);
+        for part in rules_in(attribute)?.parts() {
+            if part.sees("untagged") {
+                return Ok(true);
+            }
         }
     }
     Ok(false)
@@ -89,24 +95,19 @@ pub fn is_untagged<'t>(
 
 /// Refuses what the attributes of a choice of two forms, or of its variants, say but for these words.
 pub fn refuse_rules<'t>(
-    alloc: Global,
     attributes: &[Attribute<'_, 't>],
     taken: &[&str],
 ) -> Result<(), NoImpls<'t>> {
     for attribute in attributes {
-        for rule in rules_in(alloc, attribute)? {
-            let Rule { name, .. } = rule;
-            match name.text {
-                word if taken.iter().any(|one| *one == word) => {}
-                "rename"
-                | "rename_all"
-                | "deny_unknown_fields"
-                | "default"
-                | "alias"
-                | "skip_serializing_if" => {
-                    return Err(NoImpls::At(name.at, Reason::OfForms(name.text)));
-                }
-                _ => return Err(not_taken(rule)),
+        for part in rules_in(attribute)?.parts() {
+            let rule = Rule::of(part)?;
+            let word = rule.name.text;
+            if !taken.contains(&word) {
+                return Err(if NOT_OF_FORMS.contains(&word) {
+                    NoImpls::At(rule.name.at, Reason::OfForms(word))
+                } else {
+                    not_taken(rule)
+                });
             }
         }
     }
@@ -124,7 +125,8 @@ pub fn field_rules<'t>(
         skips_none: None,
     };
     for attribute in attributes {
-        for rule in rules_in(alloc, attribute)? {
+        for part in rules_in(attribute)?.parts() {
+            let rule = Rule::of(part)?;
             match rule.name.text {
                 "rename" => rules.key = Some(key_in(rule)?),
                 "default" => rules.default = default_in(alloc, rule)?,
@@ -137,20 +139,25 @@ pub fn field_rules<'t>(
     Ok(rules)
 }
 
-// The rules of an attribute; none of one that is not serde's.
-fn rules_in<'c, 't>(
-    alloc: Global,
-    attribute: &Attribute<'c, 't>,
-) -> Result<Vec<Rule<'c, 't>>, NoImpls<'t>> {
-    let mut rules = Vec::new(alloc);
+impl<'c, 't> Rule<'c, 't> {
+    // The rule that a part of an attribute is.
+    fn of(part: Cursor<'c, 't>) -> Result<Rule<'c, 't>, NoImpls<'t>> {
+        let mut value = part;
+        let name = value.take(Kind::Word, "a word of serde's attributes")?;
+        Ok(Rule { name, value })
+    }
+}
+
+// The rules of an attribute, between commas; none of one that is not serde's.
+fn rules_in<'c, 't>(attribute: &Attribute<'c, 't>) -> Result<Cursor<'c, 't>, NoImpls<'t>> {
     let mut inside = attribute.inside;
-    if inside.takes("serde") {
-        inside.expect("(")?;
-        for part in inside.group()?.parts(alloc)? {
-            let mut value = part;
-            let name = value.take(Kind::Word, "a word of serde's attributes")?;
-            rules.push(Rule { name, value })?;
-        }
+    if !inside.takes("serde") {
+        return Ok(inside.nothing());
+    }
+    inside.expect("(")?;
+    let rules = inside.group()?;
+    for part in rules.parts() {
+        Rule::of(part)?;
     }
     Ok(rules)
 }
@@ -193,10 +200,7 @@ fn key_in<'t>(rule: Rule<'_, 't>) -> Result<&'t str, NoImpls<'t>> {
 
 fn case_in<'t>(rule: Rule<'_, 't>) -> Result<Case, NoImpls<'t>> {
     let (at, name) = text_in(rule)?;
-    match Case::named(name) {
-        Some(case) => Ok(case),
-        None => Err(NoImpls::At(at, Reason::Case)),
-    }
+    Case::named(name).ok_or(NoImpls::At(at, Reason::Case))
 }
 
 fn skip_in<'t>(rule: Rule<'_, 't>) -> Result<usize, NoImpls<'t>> {
@@ -212,14 +216,12 @@ fn default_in<'t>(alloc: Global, rule: Rule<'_, 't>) -> Result<DefaultRule<'t>, 
         return Ok(DefaultRule::OfType(rule.name.at));
     }
     let at = value.at();
-    match value.rest.first() {
-        Some(token) if token.kind == Kind::Text => Err(NoImpls::At(at, Reason::DefaultPath)),
-        _ => {
-            let literal = Literal::take(alloc, &mut value)?;
-            if !value.is_empty() {
-                return Err(NoImpls::At(value.at(), Reason::DefaultOfText));
-            }
-            Ok(DefaultRule::Value(at, literal))
-        }
+    if matches!(value.rest.first(), Some(token) if token.kind == Kind::Text) {
+        return Err(NoImpls::At(at, Reason::DefaultPath));
     }
+    let literal = Literal::take(alloc, &mut value)?;
+    if !value.is_empty() {
+        return Err(NoImpls::At(value.at(), Reason::DefaultOfText));
+    }
+    Ok(DefaultRule::Value(at, literal))
 }

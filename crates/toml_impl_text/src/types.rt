@@ -19,19 +19,17 @@ pub fn field_type<'t>(alloc: Global, tokens: Cursor<'_, 't>) -> Result<FieldType
     if tokens.is_empty() {
         return Err(NoImpls::At(tokens.at(), Reason::Expected("a type")));
     }
-    match held(tokens) {
-        Some(inside) if held(inside).is_some() => {
-            Err(NoImpls::At(inside.at(), Reason::NestedOption))
-        }
-        Some(inside) => Ok(FieldType {
-            is_option: true,
-            name: path_text(alloc, inside)?,
-        }),
-        None => Ok(FieldType {
-            is_option: false,
-            name: path_text(alloc, tokens)?,
-        }),
+    let (is_option, path) = match held(tokens) {
+        Some(inside) => (true, inside),
+        None => (false, tokens),
+    };
+    if is_option && held(path).is_some() {
+        return Err(NoImpls::At(path.at(), Reason::NestedOption));
     }
+    Ok(FieldType {
+        is_option,
+        name: path_text(alloc, path)?,
+    })
 }
 
 // What an option holds; `None` of any other type.

@@ -27,7 +27,7 @@ impl Use<'_> {
 
     /// Whether it names something so.
     pub fn has(&self, name: &str) -> bool {
-        self.names.iter().any(|named| *named == name)
+        self.names.contains(&name)
     }
 
     /// Whether it brings in serde's derives alone, which the impls stand for.
@@ -82,7 +82,7 @@ fn use_of<'t>(alloc: Global, text: &'t str, item: &Item<'_, 't>) -> Result<Use<'
     let mut path = whole.strip_suffix(separator).unwrap_or(whole);
     let mut names = Vec::new(alloc);
     if tokens.takes("{") {
-        for part in tokens.group()?.parts(alloc)? {
+        for part in tokens.group()?.parts() {
             names.push(between(text, part.at(), part.last_end()))?;
         }
     } else if let Some((front, name)) = whole.rsplit_once(separator) {

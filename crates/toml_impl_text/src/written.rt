@@ -34,26 +34,20 @@ impl<'t> FieldList<'t> {
     }
 }
 
-/// Whether an item is an impl of a trait for a type, as the program writes it.
-pub fn is_impl(item: &Item<'_, '_>, of: &str, name: &str) -> bool {
-    let mut head = item.tokens;
-    if item.kind != ItemKind::Impl {
-        return false;
-    }
-    if head.takes("<") {
-        return head.takes("'de")
-            && head.takes(">")
-            && head.takes(of)
-            && head.takes("<")
-            && head.takes("'de")
-            && head.takes(">")
-            && is_for(head, name);
-    }
-    head.takes(of) && is_for(head, name)
+/// The impl of a trait for a type, as the program writes it; `None` where there is none.
+pub fn impl_of<'i, 'c, 't>(
+    items: &'i [Item<'c, 't>],
+    of: &str,
+    name: &str,
+) -> Option<&'i Item<'c, 't>> {
+    items.iter().find(|item| is_impl(item, of, name))
 }
 
-fn is_for(mut head: Cursor<'_, '_>, name: &str) -> bool {
-    head.takes("for") && head.takes(name) && head.sees("{")
+fn is_impl(item: &Item<'_, '_>, of: &str, name: &str) -> bool {
+    let head = item.tokens;
+    item.kind == ItemKind::Impl
+        && (head.begins(&[of, "for", name, "{"])
+            || head.begins(&["<", "'de", ">", of, "<", "'de", ">", "for", name, "{"]))
 }
 
 /// The list of a type: that of what it reads and writes, else that of what it reads; `None` where there is none.
@@ -63,7 +57,7 @@ pub fn list_of<'t>(
     name: &str,
 ) -> Result<Option<FieldList<'t>>, NoImpls<'t>> {
     for of in ["RoundTrip", "Record"] {
-        if let Some(item) = items.iter().find(|item| is_impl(item, of, name)) {
+        if let Some(item) = impl_of(items, of, name) {
             return list_in(alloc, item.tokens);
         }
     }
@@ -122,19 +116,13 @@ fn next_entry<'t>(alloc: Global, tokens: &mut Cursor<'_, 't>) -> Result<Entry<'t
 
 fn text_in<'t>(tokens: &mut Cursor<'_, 't>) -> Result<&'t str, NoImpls<'t>> {
     let token = tokens.take(Kind::Text, "a string")?;
-    match unquoted(token.text) {
-        Some(text) => Ok(text),
-        None => Err(NoImpls::At(token.at, Reason::Key)),
-    }
+    unquoted(token.text).ok_or(NoImpls::At(token.at, Reason::Key))
 }
 
 // Goes behind the type of a field: `⟦<u16 as Returns<'static>>⟧`.
 fn skip_type(tokens: &mut Cursor<'_, '_>) {
-    for _ in 0..tokens.len() {
-        if tokens.takes("⟧") || tokens.next().is_none() {
-            break;
-        }
-    }
+    tokens.skip_to("⟧");
+    tokens.next();
 }
 
 // The field that is read: `(λ s. s.port)`.
