@@ -60,17 +60,18 @@ impl Case {
 // The words of a name in snake case, joined, each with a capital, but the first only where it `is_capital`.
 fn joined(alloc: Global, name: &str, is_capital: bool) -> Result<String, AllocError> {
     let mut text = String::new(alloc);
-    for word in name.split('_') {
-        let mut letters = word.chars();
-        let Some(first) = letters.next() else {
-            continue;
-        };
-        text.push(if is_capital || !text.is_empty() {
-            first.to_ascii_uppercase()
-        } else {
-            first.to_ascii_lowercase()
-        })?;
-        text.push_str(letters.as_str())?;
+    let mut begins = true;
+    for c in name.chars() {
+        if c != '_' {
+            text.push(if !begins {
+                c
+            } else if is_capital || !text.is_empty() {
+                c.to_ascii_uppercase()
+            } else {
+                c.to_ascii_lowercase()
+            })?;
+        }
+        begins = c == '_';
     }
     Ok(text)
 }
