@@ -1,8 +1,10 @@
 -- The tries of items, one level at a time.
-use Rattle.std.proofs.Common.{◌≡◌, List, ℕ, Some, None, rules}
+use Rattle.std.proofs.Common.{◌≡◌, List, ℕ, Some, None, Box, Global, rules}
 use Rattle.basic_toml_grammar.specs.Standing as standings
 use Rattle.basic_toml_grammar.specs.Trie.{trie, nothing, standing}
 use Rattle.basic_toml_grow.specs.declared.item.Item.{the_lemmas}
+use Rattle.basic_toml_grow.specs.declared.item.Item as items
+use Rattle.basic_toml_grow.specs.declared.item.Item.TheViews.{roll-Child}
 use Rattle.basic_toml_grow.specs.declared.item.Child.{Child, out-Child}
 use Rattle.basic_toml_grow.specs.declared.item.Table.{Table, out-Table}
 use Rattle.basic_toml_grow.specs.Item.{item_trie, child_trie, table_trie, by_keys, no_child}
@@ -36,3 +38,8 @@ pub with_entries_trie : (t : Table) (ps : List (List ℕ × Child))
     → table_trie (with_entries t ps) ≡ trie (standing (table_trie t)) None (by_keys (tries_of child_trie ps))
 unfolding tries_of
 with_entries_trie t ps = search (rules, the_lemmas)
+
+-- a child that is a table
+pub table_child_trie : (at s : ℕ) (t : Box Table Global)
+    → child_trie (roll-Child (record { start = at; section = s; item = items.Table t })) ≡ table_trie t.value
+table_child_trie at s t = search (rules, the_lemmas)

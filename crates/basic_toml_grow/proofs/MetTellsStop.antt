@@ -1,5 +1,5 @@
 -- What a row meets tells what stops it, key by key.
-use Rattle.std.proofs.Common.{◌≡◌, ℕ, suc, ◌+◌, Bool, true, false, ◌||◌, List, [], ◌∷◌, ◌++◌, refl, sym, ap, ◌∙◌}
+use Rattle.std.proofs.Common.{rules, ◌≡◌, ℕ, suc, ◌+◌, Bool, true, false, ◌||◌, List, [], ◌∷◌, ◌++◌, refl, sym, ap, ◌∙◌}
 use Rattle.std.proofs.Common.{Option, Some, None, length, take, map, Box, Vec, Global, subst, arith}
 use Rattle.std.proofs.Common.{cond}
 use Rattle.std.specs.Option.{option_or}
@@ -17,8 +17,9 @@ use Rattle.basic_toml_grammar.proofs.Tries.StopsForgotten.{goes, left_here}
 use Rattle.basic_toml_read.specs.declared.section.Row.{Row}
 use Rattle.basic_toml_grow.specs.declared.item.Item as items
 use Rattle.basic_toml_grow.specs.declared.item.Child.{Child, out-Child}
-use Rattle.basic_toml_grow.specs.declared.item.Item.TheOpen.{Table-F}
-use Rattle.basic_toml_grow.specs.declared.item.Item.TheViews.{out-roll-Table}
+use Rattle.basic_toml_grow.specs.declared.item.Item.{the_lemmas}
+use Rattle.basic_toml_grow.specs.declared.item.Item.TheOpen.{Item-F, Table-F}
+use Rattle.basic_toml_grow.specs.declared.item.Item.TheViews.{roll-Item, roll-out-Item, out-roll-Table}
 use Rattle.basic_toml_grow.specs.declared.item.Table.{Table, out-Table, roll-Table}
 use Rattle.basic_toml_grow.specs.declared.rows.Met.{Met}
 use Rattle.basic_toml_grow.specs.declared.rows.Met.TheVariants as mets
@@ -253,6 +254,39 @@ named_refuses c t is named =
         (by_keys (tries_of child_trie (out-Table t.value).entries))) ≡ None
     go true set = refl
     go false set = absurd (cc)
+
+-- what is neither nothing nor a table refuses dots
+pub other_refuses : (c : Child) → ((out-Child c).item ≡ items.Nothing → ⊥)
+    → ((t : Box Table Global) → (out-Child c).item ≡ items.Table t → ⊥) → mark_here dotted (child_trie c) ≡ None
+other_refuses c no_nothing no_table = ap (mark_here dotted) (child_item_trie c) ∙ go (items.out-Item i) refl
+  where
+    i : items.Item
+    i = (out-Child c).item
+
+    of : (x : Item-F items.Item Child Table) → items.out-Item i ≡ x → i ≡ roll-Item x
+    of x e = sym (roll-out-Item i) ∙ ap roll-Item e
+
+    go : (x : Item-F items.Item Child Table) → items.out-Item i ≡ x → mark_here dotted (item_trie i) ≡ None
+    go Item-F.Nothing e = absurd (no_nothing (of Item-F.Nothing e ∙ search (rules, the_lemmas)))
+    go (Item-F.Table t) e = absurd (no_table t (of (Item-F.Table t) e ∙ search (rules, the_lemmas)))
+    go (Item-F.Integer z) e = ap (λ i. mark_here dotted (item_trie i)) (of (Item-F.Integer z) e)
+        ∙ search (rules, the_lemmas)
+    go (Item-F.Float z) e = ap (λ i. mark_here dotted (item_trie i)) (of (Item-F.Float z) e)
+        ∙ search (rules, the_lemmas)
+    go (Item-F.Boolean z) e = ap (λ i. mark_here dotted (item_trie i)) (of (Item-F.Boolean z) e)
+        ∙ search (rules, the_lemmas)
+    go (Item-F.String z) e = ap (λ i. mark_here dotted (item_trie i)) (of (Item-F.String z) e)
+        ∙ search (rules, the_lemmas)
+    go (Item-F.Escaped z) e = ap (λ i. mark_here dotted (item_trie i)) (of (Item-F.Escaped z) e)
+        ∙ search (rules, the_lemmas)
+    go (Item-F.Array z) e = ap (λ i. mark_here dotted (item_trie i)) (of (Item-F.Array z) e)
+        ∙ search (rules, the_lemmas)
+    go (Item-F.Plain z) e = ap (λ i. mark_here dotted (item_trie i)) (of (Item-F.Plain z) e)
+        ∙ search (rules, the_lemmas)
+    go (Item-F.Inline z) e = ap (λ i. mark_here dotted (item_trie i)) (of (Item-F.Inline z) e)
+        ∙ search (rules, the_lemmas)
+    go (Item-F.Tables b l) e = ap (λ i. mark_here dotted (item_trie i)) (of (Item-F.Tables b l) e)
+        ∙ search (rules, the_lemmas)
 
 pub tables_stand : (c : Child) (b : Box (Vec Table Global) Global) (latest : Box Table Global)
     → (out-Child c).item ≡ items.Tables b latest → TellsLast (child_trie c) (mets.Header 1)

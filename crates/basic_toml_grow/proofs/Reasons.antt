@@ -61,10 +61,9 @@ unfinished_for v level Named u = u
 unfinished_for v level Redefined u = u
 unfinished_for v level (Row met) u = u
 
-pub kept_for_met : {A : Type 0} (f : A → Trie) (changed : Option Trie) (rows : Rows) (level : ℕ) (before : Trie)
-    (met : Met)
-    → Enters f changed (Err met) → (changed ≡ None → put_rows rows before ≡ None)
+pub kept_for_met : (after : Trie) (changed : Option Trie) (rows : Rows) (level : ℕ) (before : Trie) (met : Met)
+    → Enters changed after (Err met) → (changed ≡ None → put_rows rows before ≡ None)
     → KeptFor rows level before (met_reason met)
-kept_for_met f changed rows level before mets.Memory entered on = tt
-kept_for_met f changed rows level before (mets.Header left) entered on = inr (on entered)
-kept_for_met f changed rows level before mets.Row entered on = inr (on entered)
+kept_for_met after changed rows level before mets.Memory entered on = tt
+kept_for_met after changed rows level before (mets.Header left) entered on = inr (on entered)
+kept_for_met after changed rows level before mets.Row entered on = inr (on entered)

@@ -137,13 +137,13 @@ module _ (keys : List lines.Row) (r : lines.Row) (level : ℕ) (before : Trie) (
         }
 
     -- something is met
-    pub value_met : (child : Trie) {A : Type 0} (f : A → Trie) (met : Met) (clash : Clash)
+    pub value_met : (child after : Trie) (met : Met) (clash : Clash)
         → reason clash ≡ met_reason met
         → ((v : Raw) → raw_of (lines.out-Row r).value ≡ Some v → IsFinished v (level + length keys) child)
-        → ((d : Data) → child ≡ leaf d → Enters f (put_row texts_are d before) (Err met))
+        → ((d : Data) → child ≡ leaf d → Enters (put_row texts_are d before) after (Err met))
         → AreKeptOut (rows_view (keys ++ r ∷ [])) level before clash
-    value_met child f met clash same done entered =
+    value_met child after met clash same done entered =
         kept_for (rows_view (keys ++ r ∷ [])) level before clash (subst
         (λ (why : Reason). KeptFor (rows_view (keys ++ r ∷ [])) level before why) (sym same)
-        (kept_for_met f (put_row texts_are (finished w.0) before) (rows_view (keys ++ r ∷ [])) level before met
+        (kept_for_met after (put_row texts_are (finished w.0) before) (rows_view (keys ++ r ∷ [])) level before met
         (entered (finished w.0) (done w.0 seen).value) (λ none. put_one ∙ none)))

@@ -1,6 +1,7 @@
 -- A row put into a table: its first key, and what that key leads to.
-use Rattle.std.proofs.Common.{◌≡◌, ℕ, List, [], ◌∷◌, ◌++◌, ap, ◌∙◌, refl, sym, Option, Some, None, Err, rules, length}
-use Rattle.std.proofs.Common.{arith, Box, Global, subst}
+use Rattle.std.proofs.Common.{◌≡◌, ℕ, List, [], ◌∷◌, ◌++◌, ap, ◌∙◌, refl, sym, Option, Some, None, Result, Ok, Err}
+use Rattle.std.proofs.Common.{rules, length, arith, subst}
+use Rattle.std.specs.Prelude.{IfOk, IfErr}
 use Rattle.std.specs.List.{slice_get}
 use Rattle.basic_toml_value.specs.Data.{Data}
 use Rattle.basic_toml_grammar.specs.Sections.{KeyTexts}
@@ -21,26 +22,35 @@ use Rattle.basic_toml_grow.specs.Simple.{with_entries}
 use Rattle.basic_toml_grow.specs.Item.{child_trie, table_trie, by_keys}
 use Rattle.basic_toml_value.specs.Growth.{with_value, values_of, EntersKey}
 use Rattle.basic_toml_grow.specs.Rows.{Enters, key_texts}
-use Rattle.basic_toml_grow.proofs.KeysInATrie.{tries_of, with_twice, change_put_once, change_refused}
+use Rattle.basic_toml_grow.proofs.KeysInATrie.{tries_of, change_put_once, change_refused}
 use Rattle.basic_toml_grow.proofs.ItemTries.{table_entries_trie, entries_with, with_entries_twice}
 use Rattle.basic_toml_grow.proofs.ItemTries.{with_entries_trie}
 
--- the trie of a table in its place
-abbrev pub boxed_trie : Box Table Global → Trie
-boxed_trie table = table_trie table.value
+-- what is met
+pub is_met : (changed : Option Trie) (after : Trie) (met : Met) → changed ≡ None → Enters changed after (Err met)
+is_met changed after mets.Memory none = tt
+is_met changed after (mets.Header left) none = none
+is_met changed after mets.Row none = none
 
--- what is met, and what another change meets
-pub is_met : {A : Type 0} (f : A → Trie) (changed : Option Trie) (met : Met) → changed ≡ None
-    → Enters f changed (Err met)
-is_met f changed mets.Memory none = tt
-is_met f changed (mets.Header left) none = none
-is_met f changed mets.Row none = none
+-- what holds of an answer, carried over
+pub err_on : {A E : Type 0} (P Q : E → Type 0) (result : Result A E) → ((e : E) → P e → Q e) → IfErr result P
+    → IfErr result Q
+err_on P Q (Ok x) on is = tt
+err_on P Q (Err e) on is = on e is
 
-pub is_met_on : {A B : Type 0} (f : A → Trie) (g : B → Trie) (changed whole : Option Trie) (met : Met)
-    → Enters f changed (Err met) → (changed ≡ None → whole ≡ None) → Enters g whole (Err met)
-is_met_on f g changed whole mets.Memory entered on = tt
-is_met_on f g changed whole (mets.Header left) entered on = on entered
-is_met_on f g changed whole mets.Row entered on = on entered
+pub ok_on : {A E : Type 0} (P Q : A → Type 0) (result : Result A E) → ((x : A) → P x → Q x) → IfOk result P
+    → IfOk result Q
+ok_on P Q (Ok x) on is = on x is
+ok_on P Q (Err e) on is = tt
+
+-- a change within another, which it makes or stops
+pub within : (changed whole : Option Trie) (inner outer : Trie) (result : Result (Unit {0}) Met)
+    → (changed ≡ None → whole ≡ None) → (changed ≡ Some inner → whole ≡ Some outer)
+    → Enters changed inner result → Enters whole outer result
+within changed whole inner outer (Ok _) none some entered = some entered
+within changed whole inner outer (Err mets.Memory) none some entered = tt
+within changed whole inner outer (Err (mets.Header left)) none some entered = none entered
+within changed whole inner outer (Err mets.Row) none some entered = none entered
 
 -- the key of a row
 pub row_key : (row : Row) → (lined_of row).key.text ≡ key_text_bytes (out-Row row).key
@@ -97,29 +107,6 @@ module _ (before : Table) (k : List ℕ) (fresh : Child) (new : List (List ℕ �
       put_after g child ps changed (ap (λ ps. by_keys (tries_of child_trie ps)) same)
       ∙ ap Some (sym (ap table_trie (ap (λ t. with_entries t ps) is_mid ∙ with_entries_twice before new ps)
       ∙ with_entries_trie before ps))
-
-  -- where the value is taken out first
-  pub step_put_back : (g : Trie → Option Trie) (child v : Child) (first mid : Table) (qs ps : List (List ℕ × Child))
-      → g (child_trie there) ≡ Some (child_trie child) → first ≡ with_entries before new
-      → qs ≡ with_value (out-Table first).entries position v → mid ≡ with_entries first qs
-      → ps ≡ with_value (out-Table mid).entries position child
-      → at_step (steps.key k) g (table_trie before) ≡ Some (table_trie (with_entries mid ps))
-  step_put_back g child v first mid qs ps changed is_first is_qs is_mid is_ps =
-      let middle : qs ≡ with_value new position v = is_qs
-      ∙ ap (λ t. with_value (out-Table t).entries position v) is_first
-      ∙ ap (λ qs. with_value qs position v) (entries_with before new) in
-      let same : ps ≡ with_value (with_value new position v) position child =
-      is_ps
-      ∙ ap (λ t. with_value (out-Table t).entries position child) is_mid
-      ∙ ap (λ qs. with_value qs position child) (entries_with first qs ∙ middle) in
-      let tables : with_entries mid ps ≡ with_entries before ps =
-      ap (λ t. with_entries t ps) is_mid
-      ∙ with_entries_twice first qs ps
-      ∙ ap (λ t. with_entries t ps) is_first
-      ∙ with_entries_twice before new ps in
-      put_after g child ps changed
-      (ap (λ ps. by_keys (tries_of child_trie ps)) (same ∙ with_twice new position v child))
-      ∙ ap Some (sym (ap table_trie tables ∙ with_entries_trie before ps))
 
   pub step_refused : (g : Trie → Option Trie) → g (child_trie there) ≡ None
       → at_step (steps.key k) g (table_trie before) ≡ None

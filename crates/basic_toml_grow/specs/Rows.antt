@@ -65,18 +65,18 @@ abbrev pub key_texts : List Row → KeyTexts
 key_texts rows = map (λ r. (lined_of r).key.text) rows
 
 -- what a change that may meet something gives
-abbrev pub Enters : {A : Type 0} → (A → Trie) → Option Trie → Result A Met → Type 0
-Enters f changed (Ok after) = changed ≡ Some (f after)
-Enters f changed (Err mets.Memory) = ⊤
-Enters f changed (Err _) = changed ≡ None
+abbrev pub Enters : Option Trie → Trie → Result (Unit {0}) Met → Type 0
+Enters changed after (Ok _) = changed ≡ Some after
+Enters changed after (Err mets.Memory) = ⊤
+Enters changed after (Err _) = changed ≡ None
 
 -- one row with these keys, put into a table; and what its first key leads to, with the others put there
-abbrev pub EntersRow : KeyTexts → Data → Trie → Result (Box Table Global) Met → Type 0
-EntersRow keys d before result = Enters (λ after. table_trie after.value) (put_row keys d before) result
+abbrev pub EntersRow : KeyTexts → Data → Trie → Trie → Result (Unit {0}) Met → Type 0
+EntersRow keys d before after result = Enters (put_row keys d before) after result
 
-abbrev pub Extends : KeyTexts → Data → Trie → Result Child Met → Type 0
-Extends keys d before result =
-    Enters child_trie (and_then (mark_here dotted before) (λ t. put_row keys d t)) result
+abbrev pub Extends : KeyTexts → Data → Trie → Trie → Result (Unit {0}) Met → Type 0
+Extends keys d before after result =
+    Enters (and_then (mark_here dotted before) (λ t. put_row keys d t)) after result
 
 -- a value of a level, finished, and its elements
 pub record IsFinished (v : Raw) (level : ℕ) (t : Trie) : Type 0 where

@@ -90,34 +90,32 @@ fn what_is_met(there: &Child<'_>) -> Option<Met>
 #[inline(always)]
 fn enter_row<'de>(
     alloc: Global,
-    table: Box<Table<'de>>,
+    table: &mut Table<'de>,
     keys: &[Row<'de>],
     last: &str,
     child: Child<'de>,
-) -> Result<Box<Table<'de>>, Met>
+) -> Result<(), Met>
     ensures entered { (d : Data) → child_trie child.entry ≡ leaf d
-        → EntersRow (key_texts keys.entry.now ++ last.entry.now ∷ []) d (table_trie table.entry.value) result }
+        → EntersRow (key_texts keys.entry.now ++ last.entry.now ∷ []) d (table_trie table.old) (table_trie table.new)
+        result }
     ensures named { IfErr result (λ met. (d : Data) → child_trie child.entry ≡ leaf d
-        → TellsRow (line_keys keys.entry.now) last.entry.now d (table_trie table.entry.value) met) }
+        → TellsRow (line_keys keys.entry.now) last.entry.now d (table_trie table.old) met) }
     ensures origins { let row = row_origins (key_texts keys.entry.now ++ last.entry.now ∷ []) (dotted_of child.entry)
         (child_origins child.entry) in
-        IfOk result (λ after. table_within after.value ≡ with_more (table_within table.entry.value) row) }
+        IfOk result (λ _. table_within table.new ≡ with_more (table_within table.old) row) }
 {
-    let mut table = table;
     let Some((row, rest)) = keys.split_first() else {
         let position = table.entries.enter(last)?;
         if let Some(met) = what_is_met(table.entries.value(position)) {
             return Err(met);
         }
         table.entries.put(position, child);
-        return Ok(table);
+        return Ok(());
     };
     let position = table.entries.enter_again(row.key.as_str())?;
-    let room = room_like(&table, position);
-    let there = table.entries.replace(position, Child::nothing());
-    let extended = extend(alloc, there, rest, last, child, room)?;
-    table.entries.put(position, extended);
-    Ok(table)
+    let room = room_like(table, position);
+    let there = table.entries.value_mut(position);
+    extend(alloc, there, rest, last, child, room)
 }
 
 // The room that a table at this position may want: as many entries as the one before it has, since such tables are
@@ -134,56 +132,47 @@ fn room_like(table: &Table<'_>, position: usize) -> usize
     }
 }
 
-// The table at a key that a period follows, with the rest of the row put into it. Where it is new, it has this room.
+// Puts the rest of a row into the table at a key that a period follows. Where it is new, it has this room.
 #[cycle(leading)]
 #[inline(never)]
 fn extend<'de>(
     alloc: Global,
-    there: Child<'de>,
+    there: &mut Child<'de>,
     keys: &[Row<'de>],
     last: &str,
     child: Child<'de>,
     room: usize,
-) -> Result<Child<'de>, Met>
+) -> Result<(), Met>
     ensures entered { (d : Data) → child_trie child.entry ≡ leaf d
-        → Extends (key_texts keys.entry.now ++ last.entry.now ∷ []) d (child_trie there.entry) result }
+        → Extends (key_texts keys.entry.now ++ last.entry.now ∷ []) d (child_trie there.old) (child_trie there.new)
+        result }
     ensures named { IfErr result (λ met. (d : Data) → child_trie child.entry ≡ leaf d
-        → TellsExtended (line_keys keys.entry.now) last.entry.now d (child_trie there.entry) met) }
+        → TellsExtended (line_keys keys.entry.now) last.entry.now d (child_trie there.old) met) }
     ensures origins { let row = row_origins (key_texts keys.entry.now ++ last.entry.now ∷ []) (dotted_of child.entry)
         (child_origins child.entry) in
-        IfOk result (λ after. child_origins after ≡ or_else (child_origins there.entry)
+        IfOk result (λ _. child_origins there.new ≡ or_else (child_origins there.old)
         (entry (dotted_of child.entry) row)) }
 {
-    let Child {
-        start,
-        section,
-        item,
-    } = there;
-    match item {
+    match &mut there.item {
         Item::Nothing => {
             let mut table = with_room(Table::new(alloc)?, room)?;
             table.dotted = true;
             let start = child.start;
             let section = child.section;
-            let table = enter_row(alloc, table, keys, last, child)?;
-            Ok(Child {
+            enter_row(alloc, &mut *table, keys, last, child)?;
+            *there = Child {
                 start,
                 section,
                 item: Item::Table(table),
-            })
+            };
+            Ok(())
         }
         Item::Table(table) => {
-            let mut table = table;
             if table.named {
                 return Err(Met::Header(keys.len() + 2));
             }
             table.dotted = true;
-            let table = enter_row(alloc, table, keys, last, child)?;
-            Ok(Child {
-                start,
-                section,
-                item: Item::Table(table),
-            })
+            enter_row(alloc, table, keys, last, child)
         }
         _other => Err(Met::Header(keys.len() + 2)),
     }
@@ -373,6 +362,7 @@ fn enter_value<'de>(
     if keys.len() > NESTING_LIMIT - level {
         return Err(Clash::Deep);
     }
+    let mut table = table;
     let Row {
         key,
         offset,
@@ -381,8 +371,8 @@ fn enter_value<'de>(
     } = row;
     match row_value(alloc, value, start, section, level + keys.len()) {
         Err(clash) => Err(value_clash(alloc, clash, keys, key.as_str())?),
-        Ok(child) => match enter_row(alloc, table, keys, key.as_str(), child) {
-            Ok(table) => Ok(table),
+        Ok(child) => match enter_row(alloc, &mut *table, keys, key.as_str(), child) {
+            Ok(()) => Ok(table),
             Err(met) => Err(row_clash(alloc, met, keys, key.as_str(), offset)?),
         },
     }

@@ -20,7 +20,7 @@ use Rattle.basic_toml_grow.specs.Origins.{item_origins, table_within, with_more,
 use Rattle.basic_toml_grow.proofs.ItemTries.{entries_with}
 use Rattle.basic_toml_grow.proofs.KeysInATrie.{with_twice}
 use Rattle.basic_toml_grow.proofs.Origins.OriginsSeen.{child_seen, table_seen, made_seen, nothing_seen}
-use Rattle.basic_toml_grow.proofs.Origins.OriginsSeen.{nothing_comes}
+use Rattle.basic_toml_grow.proofs.Origins.OriginsSeen.{nothing_comes, table_item_seen}
 use Rattle.basic_toml_grow.proofs.MetTellsStop.{dotted_fields}
 use Rattle.basic_toml_grow.proofs.Origins.OriginsSeen.{grows_at, table_origins}
 
@@ -39,7 +39,7 @@ entries_made : (t : Table) (ps : List (List ℕ × Child))
     → (table_within (with_entries t ps)).made ≡ (table_within t).made
 entries_made t ps = made_seen (with_entries t ps) ∙ search (rules, the_lemmas) ∙ sym (made_seen t)
 
--- a table in which a key is entered, what stands there is taken out, and another child is put in
+-- a table in which a key is entered, and another child is put in the place of what stands there
 module _ (before : Table) (k : List ℕ) (fresh there child : Child) (new : List (List ℕ × Child)) (position : ℕ)
     (is_nothing : child_trie fresh ≡ nothing) (entered : EntersKey k fresh (out-Table before).entries new position)
     (stands : slice_get (values_of new) position ≡ Some there) (below : Origins)
@@ -61,21 +61,6 @@ module _ (before : Table) (k : List ℕ) (fresh there child : Child) (new : List
       ∙ ap (λ t. with_value (out-Table t).entries position child) is_mid
       ∙ ap (λ qs. with_value qs position child) (entries_with before new)
       ∙ sym (with_twice new position child child))
-
-  -- where the value is taken out first
-  pub origins_put_back : (v : Child) (first mid : Table) (qs ps : List (List ℕ × Child))
-      → first ≡ with_entries before new → qs ≡ with_value (out-Table first).entries position v
-      → mid ≡ with_entries first qs → ps ≡ with_value (out-Table mid).entries position child
-      → table_within (with_entries mid ps) ≡ with_more (table_within before) (beyond (key k) below)
-  origins_put_back v first mid qs ps is_first is_qs is_mid is_ps =
-      held_put v (with_entries mid ps)
-      (entries_made mid ps ∙ ap (λ t. (table_within t).made) is_mid ∙ entries_made first qs
-      ∙ ap (λ t. (table_within t).made) is_first ∙ entries_made before new)
-      (entries_with mid ps ∙ is_ps
-      ∙ ap (λ t. with_value (out-Table t).entries position child) is_mid
-      ∙ ap (λ ps. with_value ps position child) (entries_with first qs ∙ is_qs
-      ∙ ap (λ t. with_value (out-Table t).entries position v) is_first
-      ∙ ap (λ qs. with_value qs position v) (entries_with before new)))
 
 -- what comes where nothing stands
 pub comes_first : (there : Child) (below : Origins) → child_trie there ≡ nothing
@@ -106,3 +91,24 @@ pub child_of_table : (t : Box Table Global) (at s : ℕ)
     → child_origins (roll-Child (record { start = at; section = s; item = items.Table t }))
     ≡ entry (table_origin (table_within t.value).made at s) (table_origins t.value)
 child_of_table t at s = search (rules, the_lemmas)
+
+-- dots that extend a table: what the row brings comes beside what was there
+or_entry : (o u : Origin) (f g : Origins) → entry o (or_else f g) ≡ or_else (entry o f) (entry u g)
+or_entry o u f g = fun_ext go
+  where
+    go : (p : Path) → entry o (or_else f g) p ≡ or_else (entry o f) (entry u g) p
+    go [] = refl
+    go (s ∷ p) = refl
+
+pub table_extended : (there : Child) (old : Box Table Global) (u now : Table) (row : Origins) (o : Origin)
+    → (out-Child there).item ≡ items.Table old → table_within u ≡ table_within old.value
+    → table_within now ≡ with_more (table_within u) row
+    → entry (table_origin (table_within now).made (out-Child there).start (out-Child there).section) (table_origins now)
+    ≡ or_else (child_origins there) (entry o row)
+table_extended there old u now row o is same more =
+    let at = (out-Child there).start in
+    let s = (out-Child there).section in
+    ap (λ w. entry (table_origin w.made at s) w.below) (more ∙ ap (λ w. with_more w row) same)
+    ∙ or_entry (table_origin (table_within old.value).made at s) o (table_origins old.value) row
+    ∙ sym (ap (λ f. or_else f (entry o row))
+    (child_seen there ∙ ap (λ i. item_origins i at s) is ∙ table_item_seen old at s))

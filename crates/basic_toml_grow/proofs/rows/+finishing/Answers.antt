@@ -1,14 +1,15 @@
-use Rattle.std.proofs.Common.{◌≡◌, [], ◌∷◌, ◌++◌, ap, ◌∙◌, sym, subst, arith, Some, List, length, map, Bool, false, true, ◌+◌, ℕ, take, drop}
+use Rattle.std.proofs.Common.{◌≡◌, [], ◌∷◌, ◌++◌, ap, ◌∙◌, sym, subst, arith, Some, List, length, map, Bool, false, true, ◌+◌, ℕ, take, drop, Err}
 use Rattle.std.proofs.lemmas.Result.{err_from_is_err_and}
-use Rattle.basic_toml_grammar.specs.Trie.{Trie}
+use Rattle.basic_toml_value.specs.Data.{Data}
+use Rattle.basic_toml_grammar.specs.Trie.{Trie, put_row}
 use Rattle.basic_toml_read.specs.SectionView.{rows_view, elements_view, raw_of}
 use Rattle.basic_toml_read.specs.declared.section.Row.{Row}
 use Rattle.basic_toml_read.specs.declared.section.Element.{Element}
 use Rattle.basic_toml_grow.specs.declared.item.Child.{Child}
 use Rattle.basic_toml_grammar.specs.Standing as standings
-use Rattle.basic_toml_grow.specs.Item.{child_trie, table_trie}
-use Rattle.basic_toml_grow.specs.Rows.{AreIn, AreKeptOut, IsFinished, AreFinished, key_texts}
-use Rattle.basic_toml_grow.proofs.RowsEntered.{boxed_trie, row_key}
+use Rattle.basic_toml_grow.specs.Item.{leaf, child_trie, table_trie}
+use Rattle.basic_toml_grow.specs.Rows.{AreIn, AreKeptOut, Enters, IsFinished, AreFinished, key_texts}
+use Rattle.basic_toml_grow.proofs.RowsEntered.{row_key}
 use Rattle.basic_toml_grow.proofs.RowsLeft.{AreLeft, has_value, row_entered, row_kept_out, none_left}
 use Rattle.basic_toml_grow.proofs.RowsLeft.{row_stopped, no_value, no_rows_left}
 use Rattle.basic_toml_grow.proofs.RowValues.{value_stopped, met_stopped}
@@ -17,7 +18,7 @@ use Rattle.basic_toml_grow.proofs.ElementsLeft.{element_stopped, element_skipped
 use Rattle.basic_toml_grammar.specs.Sections.{Elements}
 use Rattle.basic_toml_grow.proofs.ClashSaysMet.{row_offset}
 use Rattle.basic_toml_clash.specs.Clash.{NamesStop}
-use Rattle.basic_toml_grow.specs.RowStops.{line_keys, key_at, SaysHeld}
+use Rattle.basic_toml_grow.specs.RowStops.{line_keys, key_at, TellsRow, SaysHeld}
 use Rattle.basic_toml_read.specs.SectionView.{lined_of}
 use Rattle.basic_toml_grammar.specs.TrieStops.{try_put_rows, try_put_elements}
 use Rattle.basic_toml_grow.proofs.RowValues.{last_deep, value_kept_out, value_put, value_met}
@@ -27,7 +28,7 @@ use Rattle.basic_toml_grow.specs.Origins.{table_within, with_more, rows_origins,
 use Rattle.std.proofs.Common.{codes}
 use Rattle.basic_toml_grammar.specs.Sections.{Raw}
 use Rattle.basic_toml_read.proofs.ViewsSeen.{inline_of}
-use Rattle.basic_toml_grow.specs.Origins.{entry, value_origin, value_origins}
+use Rattle.basic_toml_grow.specs.Origins.{entry, value_origin, value_origins, row_origins, dotted_of}
 use Rattle.basic_toml_grow.proofs.Origins.OriginsSeen.{inline_seen, fresh_within}
 use Rattle.basic_toml_grow.specs.Rows.{is_dot}
 use Rattle.basic_toml_grow.proofs.Origins.OriginsLeft.{OriginsLeft, ElementsCome, origins_entered, origins_done, no_rows_come}
@@ -123,16 +124,22 @@ enter_value-returns-in-Ok-enter_row-clause-entered t c =
     value_put c.args.keys.now c.args.row c.args.level (table_trie c.args.table.value) c.requires.keys c.requires.row
     (key_texts c.args.keys.now ++ c.as_str-in-Ok.result.now ∷ [])
     (ap (λ k. key_texts c.args.keys.now ++ k ∷ []) (c.as_str-in-Ok.ensures.value ∙ sym (row_key c.args.row)))
-    (child_trie c.in-Ok.child) (table_trie c.in-Ok-enter_row.table.value) c.in-Ok.ensures.finished (omega arith)
-    c.in-Ok-enter_row.ensures.entered
+    (child_trie c.in-Ok.child) (table_trie c.enter_row.new.table) c.in-Ok.ensures.finished (omega arith)
+    (λ d is_leaf. ap (λ t. put_row (key_texts c.args.keys.now ++ c.as_str-in-Ok.result.now ∷ []) d (table_trie t))
+    (sym c.deref_mut.ensures.value) ∙ c.in-Ok-enter_row.ensures.entered d is_leaf)
 
 pub enter_value-returns-clause-entered : goal.enter_value-returns-clause-entered
 enter_value-returns-clause-entered t c =
     value_met c.args.keys.now c.args.row c.args.level (table_trie c.args.table.value) c.requires.keys c.requires.row
     (key_texts c.args.keys.now ++ c.as_str-in-Ok.result.now ∷ [])
     (ap (λ k. key_texts c.args.keys.now ++ k ∷ []) (c.as_str-in-Ok.ensures.value ∙ sym (row_key c.args.row)))
-    (child_trie c.in-Ok.child) boxed_trie c.in-Err-enter_row.met c.in_ok-row_clash-in-Err-enter_row.field-0
-    c.in_ok-row_clash-in-Err-enter_row.ensures.same c.in-Ok.ensures.finished c.in-Err-enter_row.ensures.entered
+    (child_trie c.in-Ok.child) (table_trie c.enter_row.new.table) c.in-Err-enter_row.met
+    c.in_ok-row_clash-in-Err-enter_row.field-0 c.in_ok-row_clash-in-Err-enter_row.ensures.same
+    c.in-Ok.ensures.finished
+    (subst (λ (t : Table). (d : Data) → child_trie c.in-Ok.child ≡ leaf d
+    → Enters (put_row (key_texts c.args.keys.now ++ c.as_str-in-Ok.result.now ∷ []) d (table_trie t))
+    (table_trie c.enter_row.new.table) (Err c.in-Err-enter_row.met))
+    c.deref_mut.ensures.value c.in-Err-enter_row.ensures.entered)
 
 pub children_of-loop-element-preserved : goal.children_of-loop-element-preserved
 children_of-loop-element-preserved t c =
@@ -224,7 +231,10 @@ enter_value-returns-clause-named t c =
     (c.as_str-in-Ok.ensures.value ∙ sym (row_key c.args.row))
     (c.as_str-in-Err-enter_row.ensures.value ∙ sym (row_key c.args.row))
     (row_offset c.args.row)
-    c.in_ok-row_clash-in-Err-enter_row.ensures.named c.in-Ok.ensures.finished c.in-Err-enter_row.ensures.named
+    c.in_ok-row_clash-in-Err-enter_row.ensures.named c.in-Ok.ensures.finished
+    (subst (λ (t : Table). (d : Data) → child_trie c.in-Ok.child ≡ leaf d
+    → TellsRow (line_keys c.args.keys.now) c.as_str-in-Ok.result.now d (table_trie t) c.in-Err-enter_row.met)
+    c.deref_mut.ensures.value c.in-Err-enter_row.ensures.named)
 
 pub child_of-returns-in_err-table-in-Inline-clause-named : goal.child_of-returns-in_err-table-in-Inline-clause-named
 child_of-returns-in_err-table-in-Inline-clause-named t c =
@@ -288,6 +298,8 @@ enter_rows-returns-clause-origins t c =
 pub enter_value-returns-in-Ok-enter_row-clause-origins : goal.enter_value-returns-in-Ok-enter_row-clause-origins
 enter_value-returns-in-Ok-enter_row-clause-origins t c =
     c.in-Ok-enter_row.ensures.origins
+    ∙ ap (λ t. with_more (table_within t) (row_origins (key_texts c.args.keys.now ++ c.as_str-in-Ok.result.now ∷ [])
+    (dotted_of c.in-Ok.child) (child_origins c.in-Ok.child))) c.deref_mut.ensures.value
     ∙ ap (with_more (table_within c.args.table.value))
     (one_row c.args.section c.args.keys.now c.args.row c.as_str-in-Ok.result.now c.in-Ok.child c.requires.keys
     c.requires.row c.as_str-in-Ok.ensures.value c.in-Ok.ensures.origins c.in-Ok.ensures.dotted)
