@@ -14,20 +14,21 @@ use Rattle.basic_toml_grammar.specs.Steps.{key}
 use Rattle.basic_toml_clash.specs.declared.clash.Clash.{Clash}
 use Rattle.basic_toml_grow.specs.declared.item.Item.{the_lemmas, Nothing, Tables}
 use Rattle.basic_toml_grow.specs.declared.item.Item as items
-use Rattle.basic_toml_grow.specs.declared.item.Item.TheOpen.{Item-F}
-use Rattle.basic_toml_grow.specs.declared.item.Item.TheViews.{roll-Item, out-Item, roll-out-Item}
+use Rattle.basic_toml_grow.specs.declared.item.Item.TheOpen.{Item-F, Table-F}
+use Rattle.basic_toml_grow.specs.declared.item.Item.TheViews.{roll-Item, out-Item, roll-out-Item, roll-Child, roll-Table}
 use Rattle.basic_toml_grow.specs.declared.item.Child.{Child, out-Child}
 use Rattle.basic_toml_grow.specs.declared.item.Table.{Table, out-Table}
-use Rattle.basic_toml_grow.specs.Item.{item_trie, child_trie, table_trie, tree_data, leaf, by_keys}
+use Rattle.basic_toml_grow.specs.Item.{item_trie, child_trie, table_trie, tree_data, leaf, by_keys, no_child}
 use Rattle.basic_toml_value.specs.Growth.{EntersKey, with_value, values_of}
-use Rattle.basic_toml_grow.specs.Headers.{IsIn, IsKeptOut, EntersItem, entered_by, steps_by, entered_at}
-use Rattle.basic_toml_grow.specs.Headers.{steps_at, holding, Passes, PutsBack}
-use Rattle.basic_toml_grow.proofs.KeysInATrie.{tries_of, stood_there, change_put, change_refused}
-use Rattle.basic_toml_grow.proofs.ItemTries.{child_item_trie, table_entries_trie}
+use Rattle.basic_toml_grow.specs.Headers.{IsIn, IsKeptOut, EntersHeader, EntersItem, entered_by, steps_by}
+use Rattle.basic_toml_grow.specs.Headers.{entered_at, steps_at}
+use Rattle.basic_toml_grow.specs.Simple.{with_entries}
+use Rattle.basic_toml_grow.proofs.KeysInATrie.{tries_of, stood_there, change_put_once, change_refused}
+use Rattle.basic_toml_grow.proofs.ItemTries.{child_item_trie, table_entries_trie, entries_with, no_child_trie}
 use Rattle.basic_toml_grow.proofs.HeadersInATrie.{made, fresh, array_of, is_in, is_kept_out}
 use Rattle.basic_toml_grow.proofs.HeadersInATrie.{walk_fresh, steps_fresh, walk_through, steps_through, enter_latest}
 use Rattle.basic_toml_grow.proofs.HeadersInATrie.{steps_latest, through, walk_barred}
-use Rattle.basic_toml_grow.proofs.TablesOpened.{tables_trie, nothing_trie, table_item_trie}
+use Rattle.basic_toml_grow.proofs.TablesOpened.{tables_trie, nothing_trie, table_item_trie, numbered_fields}
 
 -- what a header does at a key, where nothing stands there, a table, or an array of tables
 pub into_fresh : (a : Bool) (rows : Rows) (keys : KeyTexts) (i : items.Item) (new : Trie) → i ≡ Nothing
@@ -72,19 +73,19 @@ steps_into_latest a keys i b latest is =
     ∙ steps_latest a keys (map table_trie b.value.items) (table_trie latest.value)
 
 -- on by the keys that are left, where the key before them adds no element
-pub no_array : (a : Bool) (rows : Rows) (keys : KeyTexts) (level : ℕ) (t : Trie) (r : Result items.Item Clash) → a ≡ false
-    → EntersItem (entered_by a rows keys t) rows (level + steps_by a keys t) r
-    → EntersItem (entered_at a rows keys t) rows (level + steps_at a keys t) r
-no_array true rows keys level t r not is = cc
-no_array false rows keys level t r not is = is
+pub no_array : (a : Bool) (rows : Rows) (keys : KeyTexts) (level : ℕ) (t after : Trie) (r : Result (Unit {0}) Clash)
+    → a ≡ false → EntersItem (entered_by a rows keys t) rows (level + steps_by a keys t) after r
+    → EntersItem (entered_at a rows keys t) rows (level + steps_at a keys t) after r
+no_array true rows keys level t after r not is = cc
+no_array false rows keys level t after r not is = is
 
-pub not_last : (a : Bool) (rows : Rows) (keys : List code.Key) (level : ℕ) (t : Trie) (r : Result items.Item Clash)
+pub not_last : (a : Bool) (rows : Rows) (keys : List code.Key) (level : ℕ) (t after : Trie) (r : Result (Unit {0}) Clash)
     → 1 ≤ length keys
-    → EntersItem (entered_by a rows (header_texts keys) t) rows (level + steps_by a (header_texts keys) t) r
-    → EntersItem (entered_at a rows (header_texts keys) t) rows (level + steps_at a (header_texts keys) t) r
-not_last a rows [] level t r some is = absurd (omega arith)
-not_last true rows (k ∷ keys) level t r some is = is
-not_last false rows (k ∷ keys) level t r some is = is
+    → EntersItem (entered_by a rows (header_texts keys) t) rows (level + steps_by a (header_texts keys) t) after r
+    → EntersItem (entered_at a rows (header_texts keys) t) rows (level + steps_at a (header_texts keys) t) after r
+not_last a rows [] level t after r some is = absurd (omega arith)
+not_last true rows (k ∷ keys) level t after r some is = is
+not_last false rows (k ∷ keys) level t after r some is = is
 
 -- what the exit of a `?` answers
 pub failed : {A : Type 0} (P : Result A Clash → Type 0) (result : Result A Clash) (clash : Clash)
@@ -93,17 +94,17 @@ failed P (Ok x) clash h p = absurd h
 failed P (Err f) clash h p = subst (λ (g : Clash). P (Err g)) (sym h) p
 
 -- what goes on from a table of its own, or from the latest one, is what goes on from the item that holds it
-pub item_in : (e : Option Trie) (rows : Rows) (level m n : ℕ) (w : Option Trie) (t : Trie) (item : items.Item)
-    (f : Trie → Trie) → e ≡ option_map f w → level + n ≡ m → IsIn w rows m t → item_trie item ≡ f t
-    → IsIn e rows (level + n) (item_trie item)
-item_in e rows level m n w t item f goes steps is made_of =
-    is_in w e rows m (level + n) t (item_trie item)
-    (goes ∙ ap (option_map f) is.gives ∙ ap Some (sym made_of)) steps is
-
 pub item_out : (e : Option Trie) (rows : Rows) (level m n : ℕ) (w : Option Trie) (clash : Clash) (f : Trie → Trie)
     → e ≡ option_map f w → level + n ≡ m → IsKeptOut w rows m clash → IsKeptOut e rows (level + n) clash
 item_out e rows level m n w clash f goes steps out =
     is_kept_out clash w e rows m (level + n) (λ none. goes ∙ ap (option_map f) none) steps out
+
+pub item_by : (e : Option Trie) (rows : Rows) (level m n : ℕ) (w : Option Trie) (t after : Trie) (f : Trie → Trie)
+    (r : Result (Unit {0}) Clash) → e ≡ option_map f w → level + n ≡ m → after ≡ f t → EntersItem w rows m t r
+    → EntersItem e rows (level + n) after r
+item_by e rows level m n w t after f (Ok x) goes steps made_of is =
+    is_in w e rows m (level + n) t after (goes ∙ ap (option_map f) is.gives ∙ ap Some (sym made_of)) steps is
+item_by e rows level m n w t after f (Err clash) goes steps made_of out = item_out e rows level m n w clash f goes steps out
 
 pub same_mapped : (e w : Option Trie) → e ≡ w → e ≡ option_map (λ t. t) w
 same_mapped e None is = is
@@ -188,13 +189,13 @@ module _ (a : Bool) (rows : Rows) (k : List ℕ) (keys whole : KeyTexts) (level 
       ∙ ap (steps_at a keys)
       (stood_there child_trie k blank (out-Table t).entries new position is_nothing entered there stands))
 
-  pub header_in : (u : Table) (other child : Child) → (out-Table u).passed ≡ true
+  header_in : (u : Table) (child : Child) → (out-Table u).passed ≡ true
       → (out-Table u).named ≡ (out-Table t).named → (out-Table u).dotted ≡ (out-Table t).dotted
-      → (out-Table u).entries ≡ with_value (with_value new position other) position child
+      → (out-Table u).entries ≡ with_value new position child
       → IsIn (entered_at a rows keys (child_trie there)) rows (level + steps_at a keys (child_trie there))
       (child_trie child)
       → IsIn (walk a rows whole (table_trie t)) rows (level + steps_to a whole (table_trie t)) (table_trie u)
-  header_in u other child passed named dotted entries is =
+  header_in u child passed named dotted entries is =
       let after : made true (out-Table t).named (out-Table t).dotted (by_keys (tries_of child_trie (out-Table
       u).entries))
       ≡ table_trie u = rw (table_entries_trie u, passed, named, dotted) refl in
@@ -203,13 +204,13 @@ module _ (a : Bool) (rows : Rows) (k : List ℕ) (keys whole : KeyTexts) (level 
       (table_trie u)
       (walked
       ∙ ap (through (out-Table t).named (out-Table t).dotted)
-      (change_put child_trie k blank (out-Table t).entries new position is_nothing entered there stands
-      (λ t. entered_at a rows keys t) child other is.gives
+      (change_put_once child_trie k blank (out-Table t).entries new position is_nothing entered there stands
+      (λ t. entered_at a rows keys t) child is.gives
       ∙ ap (λ ps. Some (by_keys (tries_of child_trie ps))) (sym entries))
       ∙ ap Some after)
       steps is
 
-  pub header_out : (clash : Clash)
+  header_out : (clash : Clash)
       → IsKeptOut (entered_at a rows keys (child_trie there)) rows (level + steps_at a keys (child_trie there)) clash
       → IsKeptOut (walk a rows whole (table_trie t)) rows (level + steps_to a whole (table_trie t)) clash
   header_out clash out =
@@ -221,42 +222,82 @@ module _ (a : Bool) (rows : Rows) (k : List ℕ) (keys whole : KeyTexts) (level 
       (λ t. entered_at a rows keys t) none))
       steps out
 
--- the child that a header's step leaves at a position
+-- a child with another item
+abbrev pub holding : Child → items.Item → Child
+holding c i = roll-Child (record { start = (out-Child c).start; section = (out-Child c).section; item = i })
+
 pub out_holding : (c : Child) (i : items.Item) → out-Child (holding c i)
     ≡ record { start = (out-Child c).start; section = (out-Child c).section; item = i }
 out_holding c i = search (rules, the_lemmas)
 
-pub holding_trie : (c : Child) (i : items.Item) → child_trie (holding c i) ≡ item_trie i
+holding_trie : (c : Child) (i : items.Item) → child_trie (holding c i) ≡ item_trie i
 holding_trie c i = child_item_trie (holding c i) ∙ ap (λ o. item_trie o.item) (out_holding c i)
 
-pub passed_trie : (k : List ℕ) (o p : Table) (position : ℕ) (there : items.Item)
-    (passes : Passes k o p position there) → child_trie passes.child ≡ item_trie there
-passed_trie k o p position there passes = child_item_trie passes.child ∙ ap item_trie passes.item
+-- A header passes a table by a key: the key is there, at this position, and another item stands at it then.
+pub record Passes (k : List ℕ) (old : Table) (position : ℕ) (there now : items.Item) (new : Table) : Type 0 where
+  pub passed : (out-Table new).passed ≡ true
+  pub named : (out-Table new).named ≡ (out-Table old).named
+  pub dotted : (out-Table new).dotted ≡ (out-Table old).dotted
+  pub entries : List (List ℕ × Child)
+  pub entered : EntersKey k no_child (out-Table old).entries entries position
+  pub child : Child
+  pub stands : slice_get (values_of entries) position ≡ Some child
+  pub item : (out-Child child).item ≡ there
+  pub left : (out-Table new).entries ≡ with_value entries position (holding child now)
+
+-- a table as the code changes it: a header passes it, and it gets the number of a section
+abbrev pub passed_fields : Table → Table-F items.Item Child Table
+passed_fields t =
+    let o = out-Table t in
+    record { passed = true; named = o.named; dotted = o.dotted; section = o.section; entries = o.entries }
+
+abbrev pub passed_table : Table → List (List ℕ × Child) → ℕ → Table
+passed_table t new n = roll-Table (numbered_fields n (roll-Table (passed_fields (with_entries t new))))
+
+passed_entries : (t : Table) (new : List (List ℕ × Child)) (n : ℕ) → (out-Table (passed_table t new n)).entries ≡ new
+passed_entries t new n = search (rules, the_lemmas)
+
+passed_marks : (t : Table) (new ps : List (List ℕ × Child)) (n : ℕ)
+    → ((out-Table (with_entries (passed_table t new n) ps)).passed ≡ true)
+    × ((out-Table (with_entries (passed_table t new n) ps)).named ≡ (out-Table t).named)
+    × ((out-Table (with_entries (passed_table t new n) ps)).dotted ≡ (out-Table t).dotted)
+passed_marks t new ps n = (search (rules, the_lemmas), search (rules, the_lemmas), search (rules, the_lemmas))
+
+pub passes : (k : List ℕ) (t : Table) (new : List (List ℕ × Child)) (n position : ℕ) (child : Child)
+    (now : items.Item) → EntersKey k no_child (out-Table t).entries new position
+    → slice_get (values_of (out-Table (passed_table t new n)).entries) position ≡ Some child
+    → Passes k t position (out-Child child).item now
+    (with_entries (passed_table t new n) (with_value (out-Table (passed_table t new n)).entries position
+    (holding child now)))
+passes k t new n position child now entered stands =
+    let after = with_value (out-Table (passed_table t new n)).entries position (holding child now) in
+    let marks = passed_marks t new after n in record {
+      passed = marks.0;
+      named = marks.1;
+      dotted = marks.2;
+      entries = new;
+      entered = entered;
+      child = child;
+      stands = sym (ap (λ es. slice_get (values_of es) position) (passed_entries t new n)) ∙ stands;
+      item = refl;
+      left = entries_with (passed_table t new n) after
+          ∙ ap (λ es. with_value es position (holding child now)) (passed_entries t new n);
+    }
+
+pub passed_trie : (k : List ℕ) (t u : Table) (position : ℕ) (there now : items.Item)
+    (pass : Passes k t position there now u) → child_trie pass.child ≡ item_trie there
+passed_trie k t u position there now pass = child_item_trie pass.child ∙ ap item_trie pass.item
 
 -- a table that a header passes, where the section is entered below it, and where it is not
-pub passed_in : (a : Bool) (rows : Rows) (k : List ℕ) (keys whole : KeyTexts) (level : ℕ) (t o p q u : Table)
-    (position : ℕ) (there item : items.Item) → whole ≡ k ∷ keys → o ≡ t → Passes k o p position there → q ≡ p
-    → PutsBack q position item u
-    → IsIn (entered_at a rows keys (item_trie there)) rows (level + steps_at a keys (item_trie there))
-    (item_trie item)
-    → IsIn (walk a rows whole (table_trie t)) rows (level + steps_to a whole (table_trie t)) (table_trie u)
-passed_in a rows k keys whole level t o p q u position there item is_whole is_old passed same puts is =
-    let passes = subst (λ (t : Table). Passes k t p position there) is_old passed in
-    let f : out-Table q ≡ out-Table p = ap out-Table same in
-    header_in a rows k keys whole level t passes.blank passes.entries position passes.child is_whole passes.is_nothing
-    passes.entered passes.stands u (holding passes.child Nothing) (holding puts.child item)
-    (puts.passed ∙ ap (λ f. f.passed) f ∙ passes.passed)
-    (puts.named ∙ ap (λ f. f.named) f ∙ passes.named)
-    (puts.dotted ∙ ap (λ f. f.dotted) f ∙ passes.dotted)
-    (puts.entries ∙ ap (λ f. with_value f.entries position (holding puts.child item)) f
-    ∙ ap (λ es. with_value es position (holding puts.child item)) passes.left)
-    (rw (passed_trie k t p position there passes, holding_trie puts.child item) is)
-
-pub passed_out : (a : Bool) (rows : Rows) (k : List ℕ) (keys whole : KeyTexts) (level : ℕ) (t o p : Table)
-    (position : ℕ) (there : items.Item) (clash : Clash) → whole ≡ k ∷ keys → o ≡ t → Passes k o p position there
-    → IsKeptOut (entered_at a rows keys (item_trie there)) rows (level + steps_at a keys (item_trie there)) clash
-    → IsKeptOut (walk a rows whole (table_trie t)) rows (level + steps_to a whole (table_trie t)) clash
-passed_out a rows k keys whole level t o p position there clash is_whole is_old passed out =
-    let passes = subst (λ (t : Table). Passes k t p position there) is_old passed in
-    header_out a rows k keys whole level t passes.blank passes.entries position passes.child is_whole passes.is_nothing
-    passes.entered passes.stands clash (rw (passed_trie k t p position there passes) out)
+pub passed_by : (a : Bool) (rows : Rows) (k : List ℕ) (keys whole : KeyTexts) (level : ℕ) (t u : Table) (position : ℕ)
+    (there now : items.Item) (r : Result (Unit {0}) Clash) → whole ≡ k ∷ keys → Passes k t position there now u
+    → EntersItem (entered_at a rows keys (item_trie there)) rows (level + steps_at a keys (item_trie there))
+    (item_trie now) r
+    → EntersHeader a rows whole level (table_trie t) (table_trie u) r
+passed_by a rows k keys whole level t u position there now (Ok x) is_whole pass is =
+    header_in a rows k keys whole level t no_child pass.entries position pass.child is_whole no_child_trie pass.entered
+    pass.stands u (holding pass.child now) pass.passed pass.named pass.dotted pass.left
+    (rw (passed_trie k t u position there now pass, holding_trie pass.child now) is)
+passed_by a rows k keys whole level t u position there now (Err clash) is_whole pass out =
+    header_out a rows k keys whole level t no_child pass.entries position pass.child is_whole no_child_trie pass.entered
+    pass.stands clash (rw (passed_trie k t u position there now pass) out)

@@ -1,6 +1,6 @@
 -- What stops a header on its way through tables is what its steps name.
 use Rattle.std.proofs.Common.{◌≡◌, ℕ, suc, ◌+◌, ◌<◌, ◌≤◌, Bool, true, false, cond, List, [], ◌∷◌, ◌++◌, length, map}
-use Rattle.std.proofs.Common.{Some, None, refl, ap, sym, ◌∙◌, subst, arith, nat_eq, Vec, Box, Global}
+use Rattle.std.proofs.Common.{Some, None, refl, ap, sym, ◌∙◌, arith, nat_eq, Vec, Box, Global}
 use Rattle.basic_toml_read.specs.declared.section.Key as code
 use Rattle.basic_toml_read.specs.SectionView.{header_texts}
 use Rattle.basic_toml_value.specs.Data.{Data}
@@ -16,12 +16,12 @@ use Rattle.basic_toml_clash.specs.declared.clash.Clash.TheVariants.{Memory, Deep
 use Rattle.basic_toml_grow.specs.declared.item.Item.{Nothing, Tables}
 use Rattle.basic_toml_grow.specs.declared.item.Item as items
 use Rattle.basic_toml_grow.specs.declared.item.Table.{Table, out-Table}
-use Rattle.basic_toml_grow.specs.Item.{item_trie, child_trie, table_trie, by_keys, by_numbers, leaf}
+use Rattle.basic_toml_grow.specs.Item.{item_trie, child_trie, table_trie, by_keys, by_numbers, leaf, no_child}
 use Rattle.basic_toml_clash.specs.Clash.{NamesStop}
-use Rattle.basic_toml_grow.specs.Headers.{tried_by, tried_at, Passes}
-use Rattle.basic_toml_grow.proofs.HeadersEntered.{passed_trie}
+use Rattle.basic_toml_grow.specs.Headers.{tried_by, tried_at}
+use Rattle.basic_toml_grow.proofs.HeadersEntered.{Passes, passed_trie}
 use Rattle.basic_toml_grow.proofs.KeysInATrie.{tries_of, stood_there}
-use Rattle.basic_toml_grow.proofs.ItemTries.{table_entries_trie}
+use Rattle.basic_toml_grow.proofs.ItemTries.{table_entries_trie, no_child_trie}
 use Rattle.basic_toml_clash.proofs.HeadersNamed.{texts_count}
 use Rattle.basic_toml_grow.proofs.LatestInATrie.{find_latest}
 use Rattle.basic_toml_grow.proofs.HeadersInATrie.{made, fresh, array_of}
@@ -67,18 +67,17 @@ through_stops a rows k keys p n d ts x e =
     tried_through a rows k keys p n d ts
     ∙ ap (λ o. outcome_map (λ ts. made true n d ts) o) (among_stops (key k) (λ t. tried_at a rows keys t) ts x e)
 
-pub passed_stops : (a : Bool) (rows : Rows) (k : List ℕ) (keys whole : KeyTexts) (t o p : Table) (position : ℕ)
-    (there : items.Item) → whole ≡ k ∷ keys → o ≡ t → Passes k o p position there → (x : Stop)
+pub passed_stops : (a : Bool) (rows : Rows) (k : List ℕ) (keys whole : KeyTexts) (t u : Table) (position : ℕ)
+    (there now : items.Item) → whole ≡ k ∷ keys → Passes k t position there now u → (x : Stop)
     → tried_at a rows keys (item_trie there) ≡ stops x → try_by_keys a rows whole (table_trie t) ≡ stops x
-passed_stops a rows k keys whole t o p position there is_whole is_old passed x e =
-    let passes = subst (λ (t : Table). Passes k t p position there) is_old passed in
+passed_stops a rows k keys whole t u position there now is_whole pass x e =
     let f = out-Table t in
     ap (λ ks. try_by_keys a rows ks (table_trie t)) is_whole
     ∙ ap (try_by_keys a rows (k ∷ keys)) (table_entries_trie t)
     ∙ through_stops a rows k keys f.passed f.named f.dotted (by_keys (tries_of child_trie f.entries)) x
     (ap (tried_at a rows keys)
-    (stood_there child_trie k passes.blank f.entries passes.entries position passes.is_nothing passes.entered
-    passes.child passes.stands ∙ passed_trie k t p position there passes) ∙ e)
+    (stood_there child_trie k no_child f.entries pass.entries position no_child_trie pass.entered pass.child pass.stands
+    ∙ passed_trie k t u position there now pass) ∙ e)
 
 -- a fresh table stops a header as nothing does
 pub tried_fresh : (a : Bool) (rows : Rows) (keys : KeyTexts)

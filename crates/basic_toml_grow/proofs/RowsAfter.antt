@@ -1,6 +1,6 @@
 -- The first rows of all are in the table: what the rows after them come to, all come to.
 use Rattle.std.proofs.Common.{◌≡◌, ℕ, Bool, true, false, ◌||◌, inl, inr, List, [], Some, refl, sym, ap, ◌∙◌, subst}
-use Rattle.std.proofs.Common.{Result, Ok, Err, Box, Global, IfOk, IfErr, ◌≤◌, ◌++◌, map, take, drop}
+use Rattle.std.proofs.Common.{Result, Ok, Err, IfErr, ◌≤◌, ◌++◌, map, take, drop}
 use Rattle.std.proofs.lemmas.List.{take-append-drop}
 use Rattle.basic_toml_value.specs.Keys.{are_distinct}
 use Rattle.basic_toml_value.specs.Nesting.{nesting_limit}
@@ -86,23 +86,20 @@ module _ {s level : ℕ} {rows more : List Row} {t now : Table} (first : FirstIn
       go crossed (inl c) = inl (first.left.clash c)
       go crossed (inr none) = inr (first.left.put ∙ none)
 
-  pub all_entered : (result : Result (Box Table Global) Clash)
-      → EntersRows (rows_view more) level (table_trie now) result
-      → EntersRows (rows_view rows) level (table_trie t) result
-  all_entered (Ok after) entered = others_in (table_trie after.value) entered
-  all_entered (Err clash) kept = others_kept_out clash kept
+  pub all_entered : (after : Trie) (result : Result (Unit {0}) Clash)
+      → EntersRows (rows_view more) level (table_trie now) after result
+      → EntersRows (rows_view rows) level (table_trie t) after result
+  all_entered after (Ok x) entered = others_in after entered
+  all_entered after (Err clash) kept = others_kept_out clash kept
 
   -- what stops these stops all
-  pub all_stopped : (result : Result (Box Table Global) Clash)
+  pub all_stopped : (result : Result (Unit {0}) Clash)
       → IfErr result (λ clash. NamesStop (try_put_rows (rows_view more) (table_trie now)) clash)
       → IfErr result (λ clash. NamesStop (try_put_rows (rows_view rows) (table_trie t)) clash)
   all_stopped (Ok after) named = tt
   all_stopped (Err clash) named = subst (λ (o : Outcome Trie). NamesStop o clash) (sym first.left.tried) named
 
   -- and where these come from, all come from
-  pub all_come : (result : Result (Box Table Global) Clash)
-      → IfOk result (λ after. table_within after.value
-      ≡ with_more (table_within now) (rows_origins s (rows_view more)))
-      → IfOk result (λ after. table_within after.value ≡ with_more (table_within t) (rows_origins s (rows_view rows)))
-  all_come (Ok after) come = come ∙ sym first.come
-  all_come (Err clash) come = tt
+  pub all_come : (u : Table) → table_within u ≡ with_more (table_within now) (rows_origins s (rows_view more))
+      → table_within u ≡ with_more (table_within t) (rows_origins s (rows_view rows))
+  all_come u come = come ∙ sym first.come

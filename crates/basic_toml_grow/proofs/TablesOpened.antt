@@ -26,12 +26,12 @@ pub named_table : (t u : Table) (rows : Rows) → (out-Table t).named ≡ false 
 named_table t u rows named dotted passed names dots entries =
     rw (table_entries_trie t, table_entries_trie u, named, dotted, passed, names, dots, entries) refl
 
-pub open_in : (rows : Rows) (level : ℕ) (t u : Trie) (r : Result (Box Table Global) Clash)
-    → put_table rows t ≡ put_rows rows u → level ≤ nesting_limit → EntersRows rows level u r
-    → EntersHeader false rows [] level t r
-open_in rows level t u (Ok after) same within are =
-    rows_in (put_table rows t) rows level (level + 0) u (table_trie after.value) same (omega arith) within are
-open_in rows level t u (Err clash) same within out =
+pub open_in : (rows : Rows) (level : ℕ) (t u after : Trie) (r : Result (Unit {0}) Clash)
+    → put_table rows t ≡ put_rows rows u → level ≤ nesting_limit → EntersRows rows level u after r
+    → EntersHeader false rows [] level t after r
+open_in rows level t u after (Ok x) same within are =
+    rows_in (put_table rows t) rows level (level + 0) u after same (omega arith) within are
+open_in rows level t u after (Err clash) same within out =
     rows_kept_out clash (put_table rows t) rows level (level + 0) u same (omega arith) out
 
 -- a table as the code changes it: it is named, and then it gets its section
@@ -45,21 +45,25 @@ numbered_fields n t =
     let o = out-Table t in
     record { passed = o.passed; named = o.named; dotted = o.dotted; section = n; entries = o.entries }
 
-pub open_named : (t d e : Table) (n : ℕ) (rows : Rows) (level : ℕ) (r : Result (Box Table Global) Clash)
-    → (out-Table t).named ≡ false → (out-Table t).dotted ≡ false → d ≡ t → e ≡ roll-Table (named_fields d)
-    → level ≤ nesting_limit → EntersRows rows level (table_trie (roll-Table (numbered_fields n e))) r
-    → EntersHeader false rows [] level (table_trie t) r
-open_named t d e n rows level r named dotted same is within rows_in =
-    let a : out-Table (roll-Table (numbered_fields n e)) ≡ numbered_fields n e =
-    out-roll-Table (numbered_fields n e) in
-    let b : out-Table e ≡ named_fields d = ap out-Table is ∙ out-roll-Table (named_fields d) in
-    open_in rows level (table_trie t) (table_trie (roll-Table (numbered_fields n e))) r
-    (named_table t (roll-Table (numbered_fields n e)) rows named dotted
-    (ap (λ o. o.passed) a ∙ ap (λ o. o.passed) b ∙ ap (λ t. (out-Table t).passed) same)
+-- the table that takes the rows
+abbrev pub opened_table : Table → ℕ → Table
+opened_table t n = roll-Table (numbered_fields n (roll-Table (named_fields t)))
+
+pub open_named : (t : Table) (n : ℕ) (rows : Rows) (level : ℕ) (after : Trie) (r : Result (Unit {0}) Clash)
+    → (out-Table t).named ≡ false → (out-Table t).dotted ≡ false → level ≤ nesting_limit
+    → EntersRows rows level (table_trie (opened_table t n)) after r
+    → EntersHeader false rows [] level (table_trie t) after r
+open_named t n rows level after r named dotted within entered =
+    let e = roll-Table (named_fields t) in
+    let a = out-roll-Table (numbered_fields n e) in
+    let b = out-roll-Table (named_fields t) in
+    open_in rows level (table_trie t) (table_trie (opened_table t n)) after r
+    (named_table t (opened_table t n) rows named dotted
+    (ap (λ o. o.passed) a ∙ ap (λ o. o.passed) b)
     (ap (λ o. o.named) a ∙ ap (λ o. o.named) b)
-    (ap (λ o. o.dotted) a ∙ ap (λ o. o.dotted) b ∙ ap (λ t. (out-Table t).dotted) same ∙ dotted)
-    (ap (λ o. o.entries) a ∙ ap (λ o. o.entries) b ∙ ap (λ t. (out-Table t).entries) same))
-    within rows_in
+    (ap (λ o. o.dotted) a ∙ ap (λ o. o.dotted) b ∙ dotted)
+    (ap (λ o. o.entries) a ∙ ap (λ o. o.entries) b))
+    within entered
 
 pub tables_trie : (before : Box (Vec Table Global) Global) (latest : Box Table Global)
     → item_trie (Tables before latest) ≡ array_of (map table_trie before.value.items) (table_trie latest.value)

@@ -1,5 +1,5 @@
 -- How rows are put into a table, and what keeps them out.
-use Rattle.std.specs.Prelude.{◌≡◌, ◌⊎◌, ⊤, ◌≤◌, ◌<◌, ℕ, List, true, false, Option, Some, None, Result, Ok, Err, Box}
+use Rattle.std.specs.Prelude.{◌≡◌, ◌⊎◌, ⊤, ◌≤◌, ◌<◌, ℕ, List, true, false, Option, Some, None, Result, Ok, Err}
 use Rattle.std.specs.Prelude.{Vec, map}
 use Rattle.std.specs.Prelude.{Bool, not, is_some}
 use Rattle.std.specs.List.{list_all}
@@ -15,13 +15,12 @@ use Rattle.basic_toml_grammar.specs.Marks.{dotted}
 use Rattle.basic_toml_grammar.specs.Entering.{and_then}
 use Rattle.basic_toml_read.specs.declared.section.Row.{Row}
 use Rattle.basic_toml_read.specs.SectionView.{lined_of}
-use Rattle.basic_toml_grow.specs.declared.item.Table.{Table}
 use Rattle.basic_toml_clash.specs.declared.clash.Clash.{Clash}
 use Rattle.basic_toml_clash.specs.declared.clash.Clash.TheVariants.{Memory, Deep}
 use Rattle.basic_toml_grow.specs.declared.item.Child.{Child}
 use Rattle.basic_toml_grow.specs.declared.rows.Met.{Met}
 use Rattle.basic_toml_grow.specs.declared.rows.Met.TheVariants as mets
-use Rattle.basic_toml_grow.specs.Item.{leaf, tree_data, child_trie, table_trie}
+use Rattle.basic_toml_grow.specs.Item.{leaf, tree_data, child_trie}
 
 -- the rows stand in the table, beside what stood there
 pub record AreIn (rows : Rows) (level : ℕ) (before after : Trie) : Type 0 where
@@ -36,9 +35,9 @@ AreKeptOut rows level before Memory = ⊤
 AreKeptOut rows level before Deep = nesting_limit < rows_level level rows
 AreKeptOut rows level before _ = (rows_clash rows ≡ true) ⊎ (put_rows rows before ≡ None)
 
-abbrev pub EntersRows : Rows → ℕ → Trie → Result (Box Table Global) Clash → Type 0
-EntersRows rows level before (Ok after) = AreIn rows level before (table_trie after.value)
-EntersRows rows level before (Err clash) = AreKeptOut rows level before clash
+abbrev pub EntersRows : Rows → ℕ → Trie → Trie → Result (Unit {0}) Clash → Type 0
+EntersRows rows level before after (Ok _) = AreIn rows level before after
+EntersRows rows level before after (Err clash) = AreKeptOut rows level before clash
 
 -- why something is not put into the tree
 pub data Reason : Type 0 where

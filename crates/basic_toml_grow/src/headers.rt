@@ -1,19 +1,19 @@
 //! Puts a section into the tree: the way of its header, and the table that the header names.
 
-ghost use Rattle.std.specs.Prelude.{◌≡◌, ◌≤◌, ◌<◌, ◌+◌, ℕ, false, [], ◌∷◌, ◌++◌, length, IfOk, IfErr, Some, None};
+ghost use Rattle.std.specs.Prelude.{◌≡◌, ◌≤◌, ◌+◌, ℕ, false, [], ◌∷◌, ◌++◌, IfOk, IfErr, Some, None};
+ghost use Rattle.std.specs.Result.{MatchResult};
 ghost use Rattle.basic_toml_value.specs.Nesting.{nesting_limit};
 ghost use Rattle.basic_toml_grammar.specs.Standing.{table as table_standing};
 ghost use Rattle.basic_toml_grammar.specs.Trie.{trie, no_tries, put_element};
 ghost use Rattle.basic_toml_grammar.specs.TrieStops.{try_by_keys, try_put_table, try_put_element};
 ghost use Rattle.basic_toml_read.specs.SectionView.{header_texts, rows_view};
-ghost use Rattle.basic_toml_grow.specs.declared.item.Table.{out-Table};
 ghost use Rattle.basic_toml_clash.specs.Clash.{NamesStop};
 ghost use Rattle.basic_toml_grow.specs.Item.{table_trie, item_trie};
 ghost use Rattle.basic_toml_grammar.specs.Steps.{number as number_step};
 ghost use Rattle.basic_toml_grammar.specs.Trie.{count};
 ghost use Rattle.basic_toml_grow.specs.Origins.{item_origins, table_within, or_else, rows_origins};
 ghost use Rattle.basic_toml_grow.specs.Ways.{way, way_by, way_at, GrowsAlong};
-ghost use Rattle.basic_toml_grow.specs.Headers.{EntersHeader, EntersItem, Passes, PutsBack};
+ghost use Rattle.basic_toml_grow.specs.Headers.{EntersHeader, EntersItem, IsIn, IsKeptOut};
 ghost use Rattle.basic_toml_grow.specs.Headers.{entered_by, steps_by, entered_at, steps_at, tried_by, tried_at};
 
 use crate::item::{Item, Table};
@@ -30,26 +30,25 @@ use std::mem;
 /// # Errors
 ///
 /// The [`Clash`] that stops the section: what stands in the table is in its way, or two of its rows clash. It is
-/// `Deep` where a key or a bracket of the section is above [`NESTING_LIMIT`], and `Memory` where memory is refused. The
-/// table is gone then.
+/// `Deep` where a key or a bracket of the section is above [`NESTING_LIMIT`], and `Memory` where memory is refused. What
+/// stands in the table then is not said.
 ///
 /// `basic_toml_tree` calls it for each section of a list.
 pub fn enter_section<'de>(
     alloc: Global,
-    root: Box<Table<'de>>,
+    root: &mut Table<'de>,
     section: &mut Section<'de>,
     number: usize,
-) -> Result<Box<Table<'de>>, Clash>
+) -> Result<(), Clash>
     ensures entered { EntersHeader section.old.is_array (rows_view section.old.rows.items)
-        (header_texts section.old.header.items) 1 (table_trie root.entry.value) result }
+        (header_texts section.old.header.items) 1 (table_trie root.old) (table_trie root.new) result }
     ensures named { let keys = header_texts section.old.header.items in
-        let tried = try_by_keys section.old.is_array (rows_view section.old.rows.items) keys
-        (table_trie root.entry.value) in
+        let tried = try_by_keys section.old.is_array (rows_view section.old.rows.items) keys (table_trie root.old) in
         IfErr result (λ clash. NamesStop tried clash) }
     ensures origins { let keys = header_texts section.old.header.items in
         let rows = rows_origins number (rows_view section.old.rows.items) in
-        IfOk result (λ after. GrowsAlong (way section.old.is_array keys (table_trie root.entry.value)) rows
-        (table_within root.entry.value).below (table_within after.value).below) }
+        IfOk result (λ _. GrowsAlong (way section.old.is_array keys (table_trie root.old)) rows
+        (table_within root.old).below (table_within root.new).below) }
     ensures at { section.new.at ≡ section.old.at }
     ensures is_array { section.new.is_array ≡ section.old.is_array }
     ensures header { section.new.header ≡ section.old.header }
@@ -57,34 +56,27 @@ pub fn enter_section<'de>(
 {
     let rows = mem::replace(&mut section.rows, Vec::new(alloc));
     let is_array = section.is_array;
-    enter_header(
-        alloc,
-        root,
-        section.header.as_slice(),
-        is_array,
-        rows,
-        number,
-        1,
-    )
+    let header = section.header.as_slice();
+    enter_header(alloc, root, header, is_array, rows, number, 1)
 }
 
-// The table at a level that a header names, with the rows of its section.
+// The table at a level that a header names takes the rows of its section.
 #[inline(always)]
 fn open<'de>(
     alloc: Global,
-    table: Box<Table<'de>>,
+    table: &mut Table<'de>,
     rows: Vec<Row<'de>>,
     number: usize,
     level: usize,
-) -> Result<Box<Table<'de>>, Clash>
+) -> Result<(), Clash>
     requires { level ≤ nesting_limit + 2 }
-    ensures entered { EntersHeader false (rows_view rows.entry.items) [] level (table_trie table.entry.value) result }
-    ensures named { let tried = try_put_table (rows_view rows.entry.items) (table_trie table.entry.value) in
+    ensures entered { EntersHeader false (rows_view rows.entry.items) [] level (table_trie table.old)
+        (table_trie table.new) result }
+    ensures named { let tried = try_put_table (rows_view rows.entry.items) (table_trie table.old) in
         IfErr result (λ clash. NamesStop tried clash) }
-    ensures origins { IfOk result (λ after. (table_within after.value).below
-        ≡ or_else (table_within table.entry.value).below (rows_origins number (rows_view rows.entry.items))) }
+    ensures origins { IfOk result (λ _. (table_within table.new).below
+        ≡ or_else (table_within table.old).below (rows_origins number (rows_view rows.entry.items))) }
 {
-    let mut table = table;
     if level > NESTING_LIMIT {
         return Err(Clash::Deep);
     }
@@ -105,22 +97,22 @@ fn open<'de>(
 #[inline(always)]
 fn enter_header<'de>(
     alloc: Global,
-    table: Box<Table<'de>>,
+    table: &mut Table<'de>,
     keys: &[Key<'de>],
     is_array: bool,
     rows: Vec<Row<'de>>,
     number: usize,
     level: usize,
-) -> Result<Box<Table<'de>>, Clash>
+) -> Result<(), Clash>
     requires { level ≤ nesting_limit + 2 }
     ensures entered { EntersHeader is_array (rows_view rows.entry.items) (header_texts keys.now) level
-        (table_trie table.entry.value) result }
+        (table_trie table.old) (table_trie table.new) result }
     ensures named { let keys = header_texts keys.now in
-        let tried = try_by_keys is_array (rows_view rows.entry.items) keys (table_trie table.entry.value) in
+        let tried = try_by_keys is_array (rows_view rows.entry.items) keys (table_trie table.old) in
         IfErr result (λ clash. NamesStop tried clash) }
     ensures origins { let new = rows_origins number (rows_view rows.entry.items) in
-        IfOk result (λ after. GrowsAlong (way is_array (header_texts keys.now) (table_trie table.entry.value)) new
-        (table_within table.entry.value).below (table_within after.value).below) }
+        IfOk result (λ _. GrowsAlong (way is_array (header_texts keys.now) (table_trie table.old)) new
+        (table_within table.old).below (table_within table.new).below) }
 {
     match keys.split_first() {
         None => open(alloc, table, rows, number, level),
@@ -133,86 +125,65 @@ fn enter_header<'de>(
 #[inline(never)]
 fn enter_below<'de>(
     alloc: Global,
-    table: Box<Table<'de>>,
+    table: &mut Table<'de>,
     key: &Key<'de>,
     rest: &[Key<'de>],
     is_array: bool,
     rows: Vec<Row<'de>>,
     number: usize,
     level: usize,
-) -> Result<Box<Table<'de>>, Clash>
+) -> Result<(), Clash>
     requires { level ≤ nesting_limit + 2 }
     ensures entered { EntersHeader is_array (rows_view rows.entry.items) (header_texts (key.now ∷ rest.now)) level
-        (table_trie table.entry.value) result }
+        (table_trie table.old) (table_trie table.new) result }
     ensures named { let keys = header_texts (key.now ∷ rest.now) in
-        let tried = try_by_keys is_array (rows_view rows.entry.items) keys (table_trie table.entry.value) in
+        let tried = try_by_keys is_array (rows_view rows.entry.items) keys (table_trie table.old) in
         IfErr result (λ clash. NamesStop tried clash) }
     ensures origins { let new = rows_origins number (rows_view rows.entry.items) in
         let keys = header_texts (key.now ∷ rest.now) in
-        IfOk result (λ after. GrowsAlong (way is_array keys (table_trie table.entry.value)) new
-        (table_within table.entry.value).below (table_within after.value).below) }
+        IfOk result (λ _. GrowsAlong (way is_array keys (table_trie table.old)) new
+        (table_within table.old).below (table_within table.new).below) }
 {
     if level > NESTING_LIMIT {
         return Err(Clash::Deep);
     }
-    let mut table = table;
-    let (position, there) = pass(&mut table, key.text.as_str(), number)?;
-    let item = enter_at(alloc, there, rest, is_array, rows, number, level)?;
-    put_back(&mut table, position, item);
-    Ok(table)
-}
-
-// Passes through a table by a key: takes out the item that stands there, and answers its position too.
-fn pass<'de>(
-    table: &mut Table<'de>,
-    key: &str,
-    number: usize,
-) -> Result<(usize, Item<'de>), AllocError>
-    ensures { IfOk result (λ out. Passes key.now table.old table.new out.0 out.1) }
-{
-    let position = table.entries.enter(key)?;
-    let child = table.entries.value_mut(position);
-    let there = mem::replace(&mut child.item, Item::Nothing);
+    let position = table.entries.enter(key.text.as_str())?;
     table.passed = true;
     table.section = number;
-    Ok((position, there))
+    let there = table.entries.value_mut(position);
+    enter_at(alloc, &mut there.item, rest, is_array, rows, number, level)
 }
 
-// Puts an item back in its place.
-fn put_back<'de>(table: &mut Table<'de>, position: usize, item: Item<'de>)
-    requires { position < length (out-Table table.old).entries }
-    ensures { PutsBack table.old position item.entry table.new }
-{
-    let child = table.entries.value_mut(position);
-    child.item = item;
-}
-
-// What stands at a key in a table of a level, with the section in it whose header goes on by the keys that are left.
+// Goes on from what stands at a key in a table of a level: to a new element of an array, where the header of one ends
+// there, and else by the keys that are left.
 #[cycle(walk)]
+#[inline(always)]
 fn enter_at<'de>(
     alloc: Global,
-    there: Item<'de>,
+    there: &mut Item<'de>,
     rest: &[Key<'de>],
     is_array: bool,
     rows: Vec<Row<'de>>,
     number: usize,
     level: usize,
-) -> Result<Item<'de>, Clash>
+) -> Result<(), Clash>
     requires { level ≤ nesting_limit }
     ensures entered { let rows = rows_view rows.entry.items in
         let keys = header_texts rest.now in
-        EntersItem (entered_at is_array rows keys (item_trie there.entry)) rows
-        (level + steps_at is_array keys (item_trie there.entry)) result }
+        EntersItem (entered_at is_array rows keys (item_trie there.old)) rows
+        (level + steps_at is_array keys (item_trie there.old)) (item_trie there.new) result }
     ensures named { let tried = tried_at is_array (rows_view rows.entry.items) (header_texts rest.now)
-        (item_trie there.entry) in
+        (item_trie there.old) in
         IfErr result (λ clash. NamesStop tried clash) }
     ensures origins { let new = rows_origins number (rows_view rows.entry.items) in
-        IfOk result (λ after. (start section : ℕ) →
-        GrowsAlong (way_at is_array (header_texts rest.now) (item_trie there.entry)) new
-        (item_origins there.entry start section) (item_origins after start section)) }
+        IfOk result (λ _. (start section : ℕ) →
+        GrowsAlong (way_at is_array (header_texts rest.now) (item_trie there.old)) new
+        (item_origins there.old start section) (item_origins there.new start section)) }
 {
     if is_array && rest.is_empty() {
-        return add_element(alloc, there, rows, number, level);
+        let tables = mem::replace(there, Item::Nothing);
+        *there = add_element(alloc, tables, rows, number, level)?;
+        return Ok(());
     }
     enter_item(alloc, there, rest, is_array, rows, number, level)
 }
@@ -243,7 +214,8 @@ fn add_element<'de>(
 ) -> Result<Item<'de>, Clash>
     requires { level ≤ nesting_limit }
     ensures entered { let rows = rows_view rows.entry.items in
-        EntersItem (put_element rows (item_trie there.entry)) rows (level + 2) result }
+        MatchResult result (λ item. IsIn (put_element rows (item_trie there.entry)) rows (level + 2) (item_trie item))
+        (λ clash. IsKeptOut (put_element rows (item_trie there.entry)) rows (level + 2) clash) }
     ensures named { let tried = try_put_element (rows_view rows.entry.items) (item_trie there.entry) in
         IfErr result (λ clash. NamesStop tried clash) }
     ensures origins { let new = rows_origins number (rows_view rows.entry.items) in
@@ -265,53 +237,47 @@ fn add_element<'de>(
         }
         _other => return Err(Clash::Header(1)),
     };
-    let latest = open(alloc, table, rows, number, level + 2)?;
+    let mut latest = table;
+    open(alloc, &mut *latest, rows, number, level + 2)?;
     Ok(Item::Tables(before, latest))
 }
 
 // Goes on from what stands at a key in a table of a level by the keys that are left after it.
 #[cycle(walk)]
+#[inline(always)]
 fn enter_item<'de>(
     alloc: Global,
-    there: Item<'de>,
+    there: &mut Item<'de>,
     rest: &[Key<'de>],
     is_array: bool,
     rows: Vec<Row<'de>>,
     number: usize,
     level: usize,
-) -> Result<Item<'de>, Clash>
+) -> Result<(), Clash>
     requires { level ≤ nesting_limit }
     ensures entered { let rows = rows_view rows.entry.items in
         let keys = header_texts rest.now in
-        EntersItem (entered_by is_array rows keys (item_trie there.entry)) rows
-        (level + steps_by is_array keys (item_trie there.entry)) result }
+        EntersItem (entered_by is_array rows keys (item_trie there.old)) rows
+        (level + steps_by is_array keys (item_trie there.old)) (item_trie there.new) result }
     ensures named { let tried = tried_by is_array (rows_view rows.entry.items) (header_texts rest.now)
-        (item_trie there.entry) in
+        (item_trie there.old) in
         IfErr result (λ clash. NamesStop tried clash) }
     ensures origins { let new = rows_origins number (rows_view rows.entry.items) in
-        IfOk result (λ after. (start section : ℕ) →
-        GrowsAlong (way_by is_array (header_texts rest.now) (item_trie there.entry)) new
-        (item_origins there.entry start section) (item_origins after start section)) }
+        IfOk result (λ _. (start section : ℕ) →
+        GrowsAlong (way_by is_array (header_texts rest.now) (item_trie there.old)) new
+        (item_origins there.old start section) (item_origins there.new start section)) }
 {
-    let item = match there {
+    match there {
         Item::Nothing => {
-            let table = Table::new(alloc)?;
-            Item::Table(enter_header(alloc, table, rest, is_array, rows, number, level + 1)?)
+            let mut table = Table::new(alloc)?;
+            enter_header(alloc, &mut *table, rest, is_array, rows, number, level + 1)?;
+            *there = Item::Table(table);
+            Ok(())
         }
-        Item::Table(table) => Item::Table(enter_header(
-            alloc,
-            table,
-            rest,
-            is_array,
-            rows,
-            number,
-            level + 1,
-        )?),
-        Item::Tables(before, latest) => {
-            let latest = enter_header(alloc, latest, rest, is_array, rows, number, level + 2)?;
-            Item::Tables(before, latest)
+        Item::Table(table) => enter_header(alloc, table, rest, is_array, rows, number, level + 1),
+        Item::Tables(_, latest) => {
+            enter_header(alloc, latest, rest, is_array, rows, number, level + 2)
         }
-        _other => return Err(Clash::Header(rest.len() + 1)),
-    };
-    Ok(item)
+        _other => Err(Clash::Header(rest.len() + 1)),
+    }
 }

@@ -155,7 +155,8 @@ fn extend<'de>(
 {
     match &mut there.item {
         Item::Nothing => {
-            let mut table = with_room(Table::new(alloc)?, room)?;
+            let mut table = Table::new(alloc)?;
+            make_room(&mut *table, room)?;
             table.dotted = true;
             let start = child.start;
             let section = child.section;
@@ -242,13 +243,11 @@ fn room_for(rows: &[Row<'_>]) -> usize {
     room
 }
 
-// A table with room for so many more entries.
-fn with_room<'de>(table: Box<Table<'de>>, more: usize) -> Result<Box<Table<'de>>, AllocError>
-    ensures { IfOk result (λ after. after.value ≡ table.entry.value) }
+// Makes room in a table for so many more entries.
+fn make_room(table: &mut Table<'_>, more: usize) -> Result<(), AllocError>
+    ensures { table.new ≡ table.old }
 {
-    let mut table = table;
-    table.entries.reserve(more)?;
-    Ok(table)
+    table.entries.reserve(more)
 }
 
 /// Puts rows into a table of a level, in order. Into a table without entries a few simple ones go at once, and of many
@@ -257,20 +256,21 @@ fn with_room<'de>(table: Box<Table<'de>>, more: usize) -> Result<Box<Table<'de>>
 #[inline(always)]
 pub(crate) fn take_rows<'de>(
     alloc: Global,
-    table: Box<Table<'de>>,
+    table: &mut Table<'de>,
     rows: Vec<Row<'de>>,
     section: usize,
     level: usize,
-) -> Result<Box<Table<'de>>, Clash>
+) -> Result<(), Clash>
     requires { level ≤ nesting_limit }
-    ensures entered { EntersRows (rows_view rows.entry.items) level (table_trie table.entry.value) result }
+    ensures entered { EntersRows (rows_view rows.entry.items) level (table_trie table.old) (table_trie table.new)
+        result }
     ensures named { IfErr result (λ clash.
-        NamesStop (try_put_rows (rows_view rows.entry.items) (table_trie table.entry.value)) clash) }
-    ensures origins { IfOk result (λ after. table_within after.value
-        ≡ with_more (table_within table.entry.value) (rows_origins section (rows_view rows.entry.items))) }
+        NamesStop (try_put_rows (rows_view rows.entry.items) (table_trie table.old)) clash) }
+    ensures origins { IfOk result (λ _. table_within table.new
+        ≡ with_more (table_within table.old) (rows_origins section (rows_view rows.entry.items))) }
 {
     if rows.is_empty() {
-        return Ok(table);
+        return Ok(());
     }
     if table.entries.is_empty() && rows.len() <= FEW && are_simple(rows.as_slice(), level) {
         return Ok(with_rows(alloc, table, rows, section)?);
@@ -278,8 +278,8 @@ pub(crate) fn take_rows<'de>(
     if rows.len() >= MANY && table.entries.is_empty() && are_all_plain(rows.as_slice(), level) {
         return take_many_rows(alloc, table, rows, section, level);
     }
-    let room = room_for(rows.as_slice());
-    enter_rows(alloc, with_room(table, room)?, drain(rows), section, level)
+    make_room(table, room_for(rows.as_slice()))?;
+    enter_rows(alloc, table, drain(rows), section, level)
 }
 
 // Puts many rows, each of one key and a plain value, into a table of a level without entries: those before the first
@@ -289,23 +289,24 @@ pub(crate) fn take_rows<'de>(
 #[inline(never)]
 fn take_many_rows<'de>(
     alloc: Global,
-    table: Box<Table<'de>>,
+    table: &mut Table<'de>,
     rows: Vec<Row<'de>>,
     section: usize,
     level: usize,
-) -> Result<Box<Table<'de>>, Clash>
+) -> Result<(), Clash>
     requires level { level ≤ nesting_limit }
     requires plain { all_plain level rows.items ≡ true }
-    requires none { (out-Table table.value).entries ≡ [] }
-    ensures entered { EntersRows (rows_view rows.entry.items) level (table_trie table.entry.value) result }
+    requires none { (out-Table table.old).entries ≡ [] }
+    ensures entered { EntersRows (rows_view rows.entry.items) level (table_trie table.old) (table_trie table.new)
+        result }
     ensures named { IfErr result (λ clash.
-        NamesStop (try_put_rows (rows_view rows.entry.items) (table_trie table.entry.value)) clash) }
-    ensures origins { IfOk result (λ after. table_within after.value
-        ≡ with_more (table_within table.entry.value) (rows_origins section (rows_view rows.entry.items))) }
+        NamesStop (try_put_rows (rows_view rows.entry.items) (table_trie table.old)) clash) }
+    ensures origins { IfOk result (λ _. table_within table.new
+        ≡ with_more (table_within table.old) (rows_origins section (rows_view rows.entry.items))) }
 {
     let (index, count) = index_until_repeat(alloc, rows.as_slice())?;
     let mut rows = drain(rows);
-    let table = with_first_rows(alloc, table, &mut rows, section, index, count)?;
+    with_first_rows(alloc, table, &mut rows, section, index, count)?;
     enter_rows(alloc, table, rows, section, level)
 }
 
@@ -314,55 +315,53 @@ fn take_many_rows<'de>(
 #[inline(never)]
 fn enter_rows<'de>(
     alloc: Global,
-    table: Box<Table<'de>>,
+    table: &mut Table<'de>,
     rows: ItemsLeft<Row<'de>>,
     section: usize,
     level: usize,
-) -> Result<Box<Table<'de>>, Clash>
+) -> Result<(), Clash>
     requires { level ≤ nesting_limit }
-    ensures entered { EntersRows (rows_view rows.entry) level (table_trie table.entry.value) result }
+    ensures entered { EntersRows (rows_view rows.entry) level (table_trie table.old) (table_trie table.new) result }
     ensures named { IfErr result (λ clash.
-        NamesStop (try_put_rows (rows_view rows.entry) (table_trie table.entry.value)) clash) }
-    ensures origins { IfOk result (λ after. table_within after.value
-        ≡ with_more (table_within table.entry.value) (rows_origins section (rows_view rows.entry))) }
+        NamesStop (try_put_rows (rows_view rows.entry) (table_trie table.old)) clash) }
+    ensures origins { IfOk result (λ _. table_within table.new
+        ≡ with_more (table_within table.old) (rows_origins section (rows_view rows.entry))) }
 {
-    let mut table = table;
     let mut keys = Vec::new(alloc);
     for row in rows {
         if row.is_dot() {
             keys.push(row)?;
             continue;
         }
-        table = enter_value(alloc, table, keys.as_slice(), row, section, level)?;
+        enter_value(alloc, table, keys.as_slice(), row, section, level)?;
         keys.clear();
     }
-    Ok(table)
+    Ok(())
 }
 
 // Puts the row of some keys that periods follow, and of one with a value, into a table of a level.
 #[cycle(finishing)]
 fn enter_value<'de>(
     alloc: Global,
-    table: Box<Table<'de>>,
+    table: &mut Table<'de>,
     keys: &[Row<'de>],
     row: Row<'de>,
     section: usize,
     level: usize,
-) -> Result<Box<Table<'de>>, Clash>
+) -> Result<(), Clash>
     requires level { level ≤ nesting_limit }
     requires keys { all_dots keys.now ≡ true }
     requires row { is_dot row ≡ false }
-    ensures entered { EntersRows (rows_view (keys.entry.now ++ row.entry ∷ [])) level (table_trie table.entry.value)
-        result }
+    ensures entered { EntersRows (rows_view (keys.entry.now ++ row.entry ∷ [])) level (table_trie table.old)
+        (table_trie table.new) result }
     ensures named { IfErr result (λ clash.
-        NamesStop (try_put_rows (rows_view (keys.entry.now ++ row.entry ∷ [])) (table_trie table.entry.value)) clash) }
+        NamesStop (try_put_rows (rows_view (keys.entry.now ++ row.entry ∷ [])) (table_trie table.old)) clash) }
     ensures origins { let row = rows_origins section (rows_view (keys.entry.now ++ row.entry ∷ [])) in
-        IfOk result (λ after. table_within after.value ≡ with_more (table_within table.entry.value) row) }
+        IfOk result (λ _. table_within table.new ≡ with_more (table_within table.old) row) }
 {
     if keys.len() > NESTING_LIMIT - level {
         return Err(Clash::Deep);
     }
-    let mut table = table;
     let Row {
         key,
         offset,
@@ -371,8 +370,8 @@ fn enter_value<'de>(
     } = row;
     match row_value(alloc, value, start, section, level + keys.len()) {
         Err(clash) => Err(value_clash(alloc, clash, keys, key.as_str())?),
-        Ok(child) => match enter_row(alloc, &mut *table, keys, key.as_str(), child) {
-            Ok(()) => Ok(table),
+        Ok(child) => match enter_row(alloc, table, keys, key.as_str(), child) {
+            Ok(()) => Ok(()),
             Err(met) => Err(row_clash(alloc, met, keys, key.as_str(), offset)?),
         },
     }
@@ -452,7 +451,8 @@ fn child_of<'de>(
             if level >= NESTING_LIMIT {
                 return Err(Clash::Deep);
             }
-            let table = take_rows(alloc, Table::new(alloc)?, rows, section, level + 1)?;
+            let mut table = Table::new(alloc)?;
+            take_rows(alloc, &mut *table, rows, section, level + 1)?;
             Ok(Child::at(start, section, Item::Inline(table)))
         }
     }

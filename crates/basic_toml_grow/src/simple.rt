@@ -87,24 +87,22 @@ fn first_entries_of<'de>(
     Ok(entries)
 }
 
-/// A table with a few rows of a section in the place of its entries: their keys differ, and each has one key and a
-/// plain value.
+/// Puts a few rows of a section in the place of a table's entries: their keys differ, and each has one key and a plain
+/// value.
 #[inline(never)]
 pub(crate) fn with_rows<'de>(
     alloc: Global,
-    table: Box<Table<'de>>,
+    table: &mut Table<'de>,
     rows: Vec<Row<'de>>,
     section: usize,
-) -> Result<Box<Table<'de>>, AllocError>
+) -> Result<(), AllocError>
     requires distinct { IsTrue (are_distinct (map key_of rows.items)) }
     requires few { length rows.items ≤ few }
-    ensures { IfOk result (λ after. after.value
-        ≡ with_entries table.entry.value (new_entries section rows.entry.items)) }
+    ensures { IfOk result (λ _. table.new ≡ with_entries table.old (new_entries section rows.entry.items)) }
 {
-    let mut table = table;
     let entries = Pairs::from_parts(entries_of(alloc, rows, section)?, Index::none());
     let _ = mem::replace(&mut table.entries, entries);
-    Ok(table)
+    Ok(())
 }
 
 // The keys of rows.
@@ -140,25 +138,24 @@ pub(crate) fn index_until_repeat(
     Index::until_repeat(alloc, &RowKeys { rows })
 }
 
-/// A table with the first of the rows of a section that are left in the place of its entries, and with an index of
-/// their keys: each has one key and a plain value. Memory is given back on the way.
+/// Puts the first of the rows of a section that are left in the place of a table's entries, with an index of their
+/// keys: each has one key and a plain value. Memory is given back on the way.
 #[inline(never)]
 pub(crate) fn with_first_rows<'de>(
     alloc: Global,
-    table: Box<Table<'de>>,
+    table: &mut Table<'de>,
     rows: &mut ItemsLeft<Row<'de>>,
     section: usize,
     index: Index,
     count: usize,
-) -> Result<Box<Table<'de>>, AllocError>
+) -> Result<(), AllocError>
     requires within { count ≤ length rows.old }
     requires index { IsIndex (take count (map key_of rows.old)) index }
-    ensures after { IfOk result (λ after. after.value
-        ≡ with_entries table.entry.value (new_entries section (take count rows.old))) }
-    ensures left { IfOk result (λ after. rows.new ≡ drop count rows.old) }
+    ensures after { IfOk result (λ _. table.new
+        ≡ with_entries table.old (new_entries section (take count rows.old))) }
+    ensures left { IfOk result (λ _. rows.new ≡ drop count rows.old) }
 {
-    let mut table = table;
     let entries = Pairs::from_parts(first_entries_of(alloc, rows, section, count)?, index);
     let _ = mem::replace(&mut table.entries, entries);
-    Ok(table)
+    Ok(())
 }

@@ -107,16 +107,13 @@ fn grow<'de>(alloc: Global, sections: Vec<Section<'de>>) -> Result<Tree<'de>, Re
     if let Some(at) = crossed_value(alloc, sections.as_slice())? {
         return Err(ReadError::at(at, ReadErrorKind::DottedKeyInvalidType));
     }
-    let mut root = Table::new(alloc)?;
+    let mut root = Table::empty(alloc);
     for number in 0..sections.len() {
         let section = &mut sections[number];
-        root = match enter_section(alloc, root, section, number) {
-            Ok(root) => root,
+        match enter_section(alloc, &mut root, section, number) {
+            Ok(()) => {}
             Err(clash) => return Err(clash.error(alloc, section)),
-        };
+        }
     }
-    Ok(Tree {
-        sections,
-        root: Box::into_inner(root),
-    })
+    Ok(Tree { sections, root })
 }

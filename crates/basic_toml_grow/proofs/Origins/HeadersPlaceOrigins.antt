@@ -1,9 +1,8 @@
 -- The way of a header through the tree: what its rows bring comes at the way's end.
 use Rattle.std.proofs.Common.{◌≡◌, ℕ, Bool, true, false, ◌≤◌, List, [], ◌∷◌}
 use Rattle.std.proofs.Common.{refl, ap}
-use Rattle.std.proofs.Common.{sym, ◌∙◌, subst, map, arith, length, slice_get, Some, Vec, Box, Global, Result, Ok}
-use Rattle.std.proofs.Common.{Err}
-use Rattle.std.specs.Prelude.{IfOk, ◌&&◌}
+use Rattle.std.proofs.Common.{sym, ◌∙◌, subst, map, arith, length, Some, Vec, Box, Global}
+use Rattle.std.specs.Prelude.{◌&&◌}
 use Rattle.std.specs.Option.{option_or}
 use Rattle.std.proofs.lemmas.Bool.{false≢true}
 use Rattle.basic_toml_value.proofs.DistinctKeys.{bytes_eq-same}
@@ -12,27 +11,24 @@ use Rattle.basic_toml_read.specs.declared.section.Key.{Key}
 use Rattle.basic_toml_read.specs.SectionView.{header_texts}
 use Rattle.basic_toml_grammar.specs.Steps.{Step, key, number, Path, begins}
 use Rattle.basic_toml_grammar.specs.Trie.{Trie, nothing, find, Tries}
-use Rattle.basic_toml_clash.specs.declared.clash.Clash.{Clash}
 use Rattle.basic_toml_grow.specs.declared.item.Item.{the_lemmas, Nothing, Tables}
 use Rattle.basic_toml_grow.specs.declared.item.Item as items
 use Rattle.basic_toml_grow.specs.declared.item.Item.TheViews.{roll-Table, out-roll-Table}
 use Rattle.basic_toml_grow.specs.declared.item.Child.{Child, out-Child}
 use Rattle.basic_toml_grow.specs.declared.item.Table.{Table, out-Table}
-use Rattle.basic_toml_grow.specs.Item.{item_trie, child_trie, table_trie, by_keys}
-use Rattle.basic_toml_value.specs.Growth.{with_value, values_of}
-use Rattle.basic_toml_grow.specs.Headers.{holding, Passes, PutsBack}
+use Rattle.basic_toml_grow.specs.Item.{item_trie, child_trie, table_trie, by_keys, no_child}
+use Rattle.basic_toml_value.specs.Growth.{with_value}
 use Rattle.basic_toml_grow.specs.Origins.{Origins, at_keys}
 use Rattle.basic_toml_grow.specs.Origins.{child_origins, item_origins, table_within}
 use Rattle.basic_toml_grow.specs.Origins.{with_more, or_else, along}
 use Rattle.basic_toml_grow.specs.Ways.{way, way_by, way_at, GrowsAlong}
-use Rattle.basic_toml_value.proofs.KeysChanged.{value_put}
 use Rattle.basic_toml_grow.proofs.HeadersInATrie.{made, fresh, array_of}
-use Rattle.basic_toml_grow.proofs.HeadersEntered.{out_holding, passed_trie}
-use Rattle.basic_toml_grow.proofs.ItemTries.{table_entries_trie}
-use Rattle.basic_toml_grow.proofs.KeysInATrie.{tries_of, stood_there}
+use Rattle.basic_toml_grow.proofs.HeadersEntered.{holding, out_holding, Passes, passed_trie}
+use Rattle.basic_toml_grow.proofs.ItemTries.{table_entries_trie, no_child_trie}
+use Rattle.basic_toml_grow.proofs.KeysInATrie.{tries_of, stood_there, with_twice}
 use Rattle.basic_toml_grow.proofs.LatestInATrie.{find_latest}
-use Rattle.basic_toml_grow.proofs.TablesOpened.{named_fields, numbered_fields, tables_trie, nothing_trie}
-use Rattle.basic_toml_grow.proofs.TablesOpened.{table_item_trie}
+use Rattle.basic_toml_grow.proofs.TablesOpened.{named_fields, numbered_fields, opened_table}
+use Rattle.basic_toml_grow.proofs.TablesOpened.{tables_trie, nothing_trie, table_item_trie}
 use Rattle.basic_toml_grow.proofs.Origins.OriginsSeen.{child_seen, below_seen, nothing_seen, table_item_seen}
 use Rattle.basic_toml_grow.proofs.Origins.OriginsSeen.{table_origins, nothing_comes, fresh_within, grows_at}
 
@@ -84,18 +80,14 @@ same_below t u same = below_seen u ∙ sym (below_seen t ∙ ap (λ ps. at_all p
     at_all : List (List ℕ × Child) → Origins
     at_all ps = at_keys (map (λ p. (p.0, child_origins p.1)) ps)
 
-pub opened : (t d e : Table) (n : ℕ) (rows : Origins) (r : Result (Box Table Global) Clash)
-    → d ≡ t → e ≡ roll-Table (named_fields d)
-    → IfOk r (λ after. table_within after.value
-    ≡ with_more (table_within (roll-Table (numbered_fields n e))) rows)
-    → IfOk r (λ after. table_origins after.value ≡ or_else (table_origins t) rows)
-opened t d e n rows (Err clash) same is comes = tt
-opened t d e n rows (Ok after) same is comes =
-    let a = out-roll-Table (numbered_fields n e) in
-    let b = ap out-Table is ∙ out-roll-Table (named_fields d) in
+pub opened : (t : Table) (n : ℕ) (rows : Origins) (u : Table)
+    → table_within u ≡ with_more (table_within (opened_table t n)) rows
+    → table_origins u ≡ or_else (table_origins t) rows
+opened t n rows u comes =
+    let a = out-roll-Table (numbered_fields n (roll-Table (named_fields t))) in
+    let b = out-roll-Table (named_fields t) in
     ap (λ w. w.below) comes
-    ∙ ap (λ f. or_else f rows) (same_below t (roll-Table (numbered_fields n e))
-    (ap (λ o. o.entries) a ∙ ap (λ o. o.entries) b ∙ ap (λ t. (out-Table t).entries) same))
+    ∙ ap (λ f. or_else f rows) (same_below t (opened_table t n) (ap (λ o. o.entries) a ∙ ap (λ o. o.entries) b))
 
 -- no element is added: the way is that of the keys that are left
 pub no_array_way : (a : Bool) (keys : KeyTexts) (t : Trie) → a ≡ false → way_at a keys t ≡ way_by a keys t
@@ -109,17 +101,13 @@ not_last_way true (k ∷ keys) t some = refl
 not_last_way false (k ∷ keys) t some = refl
 
 -- a table that a header passes
-pub passed_grows : (a : Bool) (rows : Origins) (k : List ℕ) (keys whole : KeyTexts) (t o p q u : Table)
-    (position : ℕ) (there item : items.Item) → whole ≡ k ∷ keys → o ≡ t → Passes k o p position there → q ≡ p
-    → PutsBack q position item u
-    → ((at s : ℕ) → GrowsAlong (way_at a keys (item_trie there)) rows (item_origins there at s) (item_origins item at s))
+pub passed_grows : (a : Bool) (rows : Origins) (k : List ℕ) (keys whole : KeyTexts) (t u : Table) (position : ℕ)
+    (there now : items.Item) → whole ≡ k ∷ keys → Passes k t position there now u
+    → ((at s : ℕ) → GrowsAlong (way_at a keys (item_trie there)) rows (item_origins there at s) (item_origins now at s))
     → GrowsAlong (way a whole (table_trie t)) rows (table_origins t) (table_origins u)
-passed_grows a rows k keys whole t o p q u position there item is_whole is_old passed same puts grows =
+passed_grows a rows k keys whole t u position there now is_whole pass grows =
     subst (λ w. GrowsAlong w rows (table_origins t) (table_origins u)) (sym is_way) go
   where
-    passes : Passes k t p position there
-    passes = subst (λ (t : Table). Passes k t p position there) is_old passed
-
     w : Path
     w = way_at a keys (item_trie there)
 
@@ -130,49 +118,35 @@ passed_grows a rows k keys whole t o p q u position there item is_whole is_old p
         ∙ way_through a k keys (out-Table t).passed (out-Table t).named (out-Table t).dotted
         (by_keys (tries_of child_trie (out-Table t).entries))
         ∙ ap (λ t. key k ∷ way_at a keys t)
-        (stood_there child_trie k passes.blank (out-Table t).entries passes.entries position passes.is_nothing
-        passes.entered passes.child passes.stands ∙ passed_trie k t p position there passes)
+        (stood_there child_trie k no_child (out-Table t).entries pass.entries position no_child_trie pass.entered pass.child
+        pass.stands ∙ passed_trie k t u position there now pass)
 
     put : (out-Table u).entries
-        ≡ with_value (with_value passes.entries position (holding passes.child Nothing)) position
-        (holding puts.child item)
-    put =
-        puts.entries ∙ ap (λ t. with_value (out-Table t).entries position (holding puts.child item)) same
-        ∙ ap (λ es. with_value es position (holding puts.child item)) passes.left
-
-    -- the child that the item is put back into is the one that it was taken out of
-    same_child : puts.child ≡ holding passes.child Nothing
-    same_child =
-        some_same (sym puts.stands
-        ∙ ap (λ t. slice_get (values_of (out-Table t).entries) position) same
-        ∙ ap (λ es. slice_get (values_of es) position) passes.left
-        ∙ value_put passes.entries position passes.child (holding passes.child Nothing) passes.stands)
+        ≡ with_value (with_value pass.entries position (holding pass.child now)) position (holding pass.child now)
+    put = pass.left ∙ sym (with_twice pass.entries position (holding pass.child now) (holding pass.child now))
 
     at : ℕ
-    at = (out-Child passes.child).start
+    at = (out-Child pass.child).start
 
     s : ℕ
-    s = (out-Child passes.child).section
+    s = (out-Child pass.child).section
 
-    was : child_origins passes.child ≡ item_origins there at s
-    was = child_seen passes.child ∙ ap (λ i. item_origins i at s) passes.item
+    was : child_origins pass.child ≡ item_origins there at s
+    was = child_seen pass.child ∙ ap (λ i. item_origins i at s) pass.item
 
-    is : child_origins (holding puts.child item) ≡ item_origins item at s
+    is : child_origins (holding pass.child now) ≡ item_origins now at s
     is =
-        child_seen (holding puts.child item)
-        ∙ ap (λ o. item_origins o.item o.start o.section)
-        (out_holding puts.child item
-        ∙ ap (λ o. record { start = o.start; section = o.section; item = item })
-        (ap out-Child same_child ∙ out_holding passes.child Nothing))
+        child_seen (holding pass.child now)
+        ∙ ap (λ o. item_origins o.item o.start o.section) (out_holding pass.child now)
 
-    below : GrowsAlong w rows (child_origins passes.child) (child_origins (holding puts.child item))
+    below : GrowsAlong w rows (child_origins pass.child) (child_origins (holding pass.child now))
     below y not =
         ap (λ f. f y) is ∙ grows at s y not ∙ ap (λ f. or_else f (along w rows) y) (sym was)
 
     go : GrowsAlong (key k ∷ w) rows (table_origins t) (table_origins u)
     go x not =
-        grows_at t u passes.blank passes.child (holding puts.child item) (holding passes.child Nothing) k passes.entries
-        position (nothing_comes passes.blank passes.is_nothing) passes.entered passes.stands put (along w rows) x
+        grows_at t u no_child pass.child (holding pass.child now) (holding pass.child now) k pass.entries
+        position (nothing_comes no_child no_child_trie) pass.entered pass.stands put (along w rows) x
         (λ y is. below y (further y (sym (ap (λ x. begins x (key k ∷ w)) is) ∙ not)))
       where
         further : (y : Path) → begins (key k ∷ y) (key k ∷ w) ≡ false → begins y w ≡ false

@@ -1,5 +1,7 @@
 use Rattle.std.proofs.Common.{◌≡◌, ◌+◌, ap, ◌∙◌, map, option_map, refl}
 use Rattle.std.specs.Prelude.{IfErr}
+use Rattle.std.specs.Result.{MatchResult}
+use Rattle.std.specs.Box as boxes
 use Rattle.basic_toml_grammar.specs.Trie.{put_element, put_table}
 use Rattle.basic_toml_grammar.specs.Stops.{Stop, stops}
 use Rattle.basic_toml_grammar.specs.TrieStops.{try_put_table, try_put_element}
@@ -7,12 +9,12 @@ use Rattle.basic_toml_read.specs.SectionView.{rows_view}
 use Rattle.basic_toml_grow.specs.declared.item.Item.{Tables}
 use Rattle.basic_toml_grow.specs.Item.{item_trie, table_trie}
 use Rattle.basic_toml_clash.specs.Clash.{NamesStop}
-use Rattle.basic_toml_grow.specs.Headers.{EntersItem}
+use Rattle.basic_toml_grow.specs.Headers.{IsIn, IsKeptOut}
 use Rattle.basic_toml_grow.proofs.HeadersInATrie.{array_of, fresh}
 use Rattle.basic_toml_grow.proofs.HeadersEntered.{failed}
 use Rattle.basic_toml_grow.proofs.TablesOpened.{first_element, next_element, element_in, element_out}
 use Rattle.basic_toml_grow.proofs.HeadersStopped.{stopped, first_stops, next_stops}
-use Rattle.basic_toml_grow.specs.Origins.{rows_origins}
+use Rattle.basic_toml_grow.specs.Origins.{rows_origins, table_within, or_else}
 use Rattle.basic_toml_grow.proofs.Origins.ElementsPlaceOrigins.{first_added, next_added}
 use Rattle.basic_toml_grow.proofs.headers.add_element.Goals as goal
 use Rattle.basic_toml_grow.proofs.headers.add_element.Goals.{After-open}
@@ -44,52 +46,58 @@ puts c =
           (ap (λ p. p.0.value.items) w.before-is ∙ w.in_ok-before-in-Tables.ensures.before)
     ]
 
-pub returns-in_err-latest-clause-entered : goal.returns-in_err-latest-clause-entered
-returns-in_err-latest-clause-entered c =
-    let here = (goal.at.returns-in_err-latest-clause-entered c).After-open in
+pub returns-in_err-open-clause-entered : goal.returns-in_err-open-clause-entered
+returns-in_err-open-clause-entered c =
+    let here = (goal.at.returns-in_err-open-clause-entered c).After-open in
     let rows = rows_view c.args.rows.items in
-    failed (EntersItem (put_element rows (item_trie c.args.there)) rows (c.args.level + 2))
-    c.from_residual-in_err-latest.result c.in_err-latest.field-0.0 c.from_residual-in_err-latest.ensures.1
-    (element_out c.in_err-latest.field-0.0 rows c.args.level (table_trie c.match-there.before.1.value) c.args.there
-    c.match-there.before.0.value.items (blank here) (puts here) c.in_err-latest.ensures.entered)
+    let entered = put_element rows (item_trie c.args.there) in
+    failed (λ r. MatchResult r (λ item. IsIn entered rows (c.args.level + 2) (item_trie item))
+    (λ clash. IsKeptOut entered rows (c.args.level + 2) clash))
+    c.from_residual-in_err-open.result c.in_err-open.field-0.0 c.from_residual-in_err-open.ensures.1
+    (element_out c.in_err-open.field-0.0 rows c.args.level (table_trie c.deref_mut.result.now) c.args.there
+    c.match-there.before.0.value.items (ap table_trie c.deref_mut.ensures.value ∙ blank here) (puts here)
+    c.in_err-open.ensures.entered)
 
 pub returns-clause-entered : goal.returns-clause-entered
 returns-clause-entered c =
     let here = (goal.at.returns-clause-entered c).After-open in
-    let rows = rows_view c.args.rows.items in
-    element_in rows c.args.level (table_trie c.match-there.before.1.value) c.args.there
-    (Tables c.match-there.before.0 c.in_ok-latest.latest) c.match-there.before.0
-    c.in_ok-latest.latest (blank here) (puts here) refl c.in_ok-latest.ensures.entered
+    let latest = boxes.with_value c.match-there.before.1 c.«open».new.table in
+    element_in (rows_view c.args.rows.items) c.args.level (table_trie c.deref_mut.result.now) c.args.there
+    (Tables c.match-there.before.0 latest) c.match-there.before.0 latest
+    (ap table_trie c.deref_mut.ensures.value ∙ blank here) (puts here) refl c.in_ok-open.ensures.entered
 
-pub returns-in_err-latest-clause-named : goal.returns-in_err-latest-clause-named
-returns-in_err-latest-clause-named c =
-    let here = (goal.at.returns-in_err-latest-clause-named c).After-open in
+pub returns-in_err-open-clause-named : goal.returns-in_err-open-clause-named
+returns-in_err-open-clause-named c =
+    let here = (goal.at.returns-in_err-open-clause-named c).After-open in
     let rows = rows_view c.args.rows.items in
-    let new = table_trie c.match-there.before.1.value in
-    let clash = c.in_err-latest.field-0.0 in
+    let new = table_trie c.deref_mut.result.now in
+    let is_fresh = ap table_trie c.deref_mut.ensures.value ∙ blank here in
+    let clash = c.in_err-open.field-0.0 in
     let on : (x : Stop) → try_put_table rows new ≡ stops x → try_put_element rows (item_trie c.args.there) ≡ stops x =
     elim c.match-there.branch [
       | in-Nothing+in_ok-new-in-Nothing+in_ok-new-in-Nothing-2 w ↦ first_stops rows c.args.there new
-          w.in-Nothing.is (blank here)
+          w.in-Nothing.is is_fresh
       | in-Tables+in_ok-before-in-Tables w ↦ next_stops rows c.args.there w.in-Tables.before w.in-Tables.latest new
-          w.in-Tables.is (blank here)
+          w.in-Tables.is is_fresh
     ] in
     failed (λ r. IfErr r (λ clash. NamesStop (try_put_element rows (item_trie c.args.there)) clash))
-    c.from_residual-in_err-latest.result clash c.from_residual-in_err-latest.ensures.1
+    c.from_residual-in_err-open.result clash c.from_residual-in_err-open.ensures.1
     (stopped clash (try_put_table rows new) (try_put_element rows (item_trie c.args.there)) on
-    c.in_err-latest.ensures.named)
+    c.in_err-open.ensures.named)
 
 pub returns-clause-origins : goal.returns-clause-origins
 returns-clause-origins c =
     let here = (goal.at.returns-clause-origins c).After-open in
     let rows = rows_origins c.args.number (rows_view c.args.rows.items) in
+    let latest = boxes.with_value c.match-there.before.1 c.«open».new.table in
+    let grown = c.in_ok-open.ensures.origins
+    ∙ ap (λ t. or_else (table_within t).below rows) c.deref_mut.ensures.value in
     elim c.match-there.branch [
-      | in-Nothing+in_ok-new-in-Nothing+in_ok-new-in-Nothing-2 w ↦ λ at s. first_added c.args.there at s c.match-there.before.0 c.match-there.before.1 c.in_ok-latest.latest rows
-          (blank here) c.in_ok-latest.ensures.origins w.in-Nothing.is
+      | in-Nothing+in_ok-new-in-Nothing+in_ok-new-in-Nothing-2 w ↦ λ at s. first_added c.args.there at s
+          c.match-there.before.0 c.match-there.before.1 latest rows (blank here) grown w.in-Nothing.is
           (ap (λ p. p.0.value.items) w.before-is ∙ ap (λ v. v.items) w.in_ok-new-in-Nothing.ensures.ok
           ∙ w.new.ensures.items)
-      | in-Tables+in_ok-before-in-Tables w ↦ λ at s. next_added c.args.there at s c.match-there.before.0 c.match-there.before.1
-          c.in_ok-latest.latest rows (blank here) c.in_ok-latest.ensures.origins w.in-Tables.before
-          w.in-Tables.latest w.in-Tables.is
+      | in-Tables+in_ok-before-in-Tables w ↦ λ at s. next_added c.args.there at s c.match-there.before.0
+          c.match-there.before.1 latest rows (blank here) grown w.in-Tables.before w.in-Tables.latest w.in-Tables.is
           (ap (λ p. p.0.value.items) w.before-is ∙ w.in_ok-before-in-Tables.ensures.before)
     ]

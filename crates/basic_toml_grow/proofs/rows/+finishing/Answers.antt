@@ -1,15 +1,15 @@
-use Rattle.std.proofs.Common.{◌≡◌, [], ◌∷◌, ◌++◌, ap, ◌∙◌, sym, subst, arith, Some, List, length, map, Bool, false, true, ◌+◌, ℕ, take, drop, Err}
+use Rattle.std.proofs.Common.{refl, ◌≡◌, [], ◌∷◌, ◌++◌, ap, ◌∙◌, sym, subst, arith, Some, List, length, map, Bool, false, true, ◌+◌, ℕ, take, drop}
 use Rattle.std.proofs.lemmas.Result.{err_from_is_err_and}
-use Rattle.basic_toml_value.specs.Data.{Data}
-use Rattle.basic_toml_grammar.specs.Trie.{Trie, put_row}
+use Rattle.basic_toml_grammar.specs.Trie.{Trie}
 use Rattle.basic_toml_read.specs.SectionView.{rows_view, elements_view, raw_of}
 use Rattle.basic_toml_read.specs.declared.section.Row.{Row}
 use Rattle.basic_toml_read.specs.declared.section.Element.{Element}
 use Rattle.basic_toml_grow.specs.declared.item.Child.{Child}
 use Rattle.basic_toml_grammar.specs.Standing as standings
-use Rattle.basic_toml_grow.specs.Item.{leaf, child_trie, table_trie}
-use Rattle.basic_toml_grow.specs.Rows.{AreIn, AreKeptOut, Enters, IsFinished, AreFinished, key_texts}
-use Rattle.basic_toml_grow.proofs.RowsEntered.{row_key}
+use Rattle.basic_toml_grow.specs.Item.{child_trie, table_trie}
+use Rattle.basic_toml_grow.specs.Rows.{AreIn, AreKeptOut, IsFinished, AreFinished, key_texts}
+use Rattle.std.specs.Box as boxes
+use Rattle.basic_toml_grow.proofs.RowsEntered.{row_key, ok_on}
 use Rattle.basic_toml_grow.proofs.RowsLeft.{AreLeft, has_value, row_entered, row_kept_out, none_left}
 use Rattle.basic_toml_grow.proofs.RowsLeft.{row_stopped, no_value, no_rows_left}
 use Rattle.basic_toml_grow.proofs.RowValues.{value_stopped, met_stopped}
@@ -18,7 +18,7 @@ use Rattle.basic_toml_grow.proofs.ElementsLeft.{element_stopped, element_skipped
 use Rattle.basic_toml_grammar.specs.Sections.{Elements}
 use Rattle.basic_toml_grow.proofs.ClashSaysMet.{row_offset}
 use Rattle.basic_toml_clash.specs.Clash.{NamesStop}
-use Rattle.basic_toml_grow.specs.RowStops.{line_keys, key_at, TellsRow, SaysHeld}
+use Rattle.basic_toml_grow.specs.RowStops.{line_keys, key_at, SaysHeld}
 use Rattle.basic_toml_read.specs.SectionView.{lined_of}
 use Rattle.basic_toml_grammar.specs.TrieStops.{try_put_rows, try_put_elements}
 use Rattle.basic_toml_grow.proofs.RowValues.{last_deep, value_kept_out, value_put, value_met}
@@ -28,7 +28,7 @@ use Rattle.basic_toml_grow.specs.Origins.{table_within, with_more, rows_origins,
 use Rattle.std.proofs.Common.{codes}
 use Rattle.basic_toml_grammar.specs.Sections.{Raw}
 use Rattle.basic_toml_read.proofs.ViewsSeen.{inline_of}
-use Rattle.basic_toml_grow.specs.Origins.{entry, value_origin, value_origins, row_origins, dotted_of}
+use Rattle.basic_toml_grow.specs.Origins.{entry, value_origin, value_origins}
 use Rattle.basic_toml_grow.proofs.Origins.OriginsSeen.{inline_seen, fresh_within}
 use Rattle.basic_toml_grow.specs.Rows.{is_dot}
 use Rattle.basic_toml_grow.proofs.Origins.OriginsLeft.{OriginsLeft, ElementsCome, origins_entered, origins_done, no_rows_come}
@@ -47,14 +47,14 @@ use Rattle.basic_toml_grow.proofs.rows.+finishing.Goals as goal
 pub take_rows-returns-then-is_empty-clause-entered : goal.take_rows-returns-then-is_empty-clause-entered
 take_rows-returns-then-is_empty-clause-entered t c =
     let none : length c.args.rows.items ≡ 0 = grind (arith, c.is_empty.ensures, c.if-is_empty.true, c.args.rows.ok.0) in
-    no_rows_left c.args.rows.items c.args.level (table_trie c.args.table.value) none
+    no_rows_left c.args.rows.items c.args.level (table_trie c.args.table.now) none
 
-pub enter_rows-returns-in_err-table-clause-entered : goal.enter_rows-returns-in_err-table-clause-entered
-enter_rows-returns-in_err-table-clause-entered t c =
-    let p = err_from_is_err_and c.from_residual-in_err-table.result c.from_residual-in_err-table.ensures.1 in
+pub enter_rows-returns-in_err-enter_value-clause-entered : goal.enter_rows-returns-in_err-enter_value-clause-entered
+enter_rows-returns-in_err-enter_value-clause-entered t c =
+    let p = err_from_is_err_and c.from_residual-in_err-enter_value.result c.from_residual-in_err-enter_value.ensures.1 in
     let start : c.into_iter-row-iterator.result ≡ c.args.rows = c.into_iter-row-iterator.ensures.into_iter_gives in
-    let before = table_trie c.args.table.value in
-    let now = table_trie c.loop-row.table.value in
+    let before = table_trie c.args.table.now in
+    let now = table_trie c.loop-row.table in
     let keys = c.loop-row.keys.items in
     let rest = c.next.new.self in
     let row = c.in-Some.row in
@@ -62,18 +62,18 @@ enter_rows-returns-in_err-table-clause-entered t c =
     c.args.level before keys rows now)
     c.in-Some.ensures.steps c.loop-row.invariant.0 in
     let kept = subst (λ (ks : List Row). AreKeptOut (rows_view (ks ++ row ∷ [])) c.args.level now
-    c.in_err-table.field-0.0)
-    c.as_slice.ensures.value c.in_err-table.ensures.entered in
+    c.in_err-enter_value.field-0.0)
+    c.as_slice.ensures.value c.in_err-enter_value.ensures.entered in
     rw (p.1, p.2) (subst (λ (rows : List Row). AreKeptOut (rows_view rows) c.args.level before
-    c.in_err-table.field-0.0) start
+    c.in_err-enter_value.field-0.0) start
     (row_kept_out (rows_view c.into_iter-row-iterator.result) c.args.level before keys row rest now left
-    (sym c.is_dot.ensures ∙ c.if-is_dot.false) c.in_err-table.field-0.0 kept))
+    (sym c.is_dot.ensures ∙ c.if-is_dot.false) c.in_err-enter_value.field-0.0 kept))
 
 pub enter_rows-returns-clause-entered : goal.enter_rows-returns-clause-entered
 enter_rows-returns-clause-entered t c =
     let start : c.into_iter-row-iterator.result ≡ c.args.rows = c.into_iter-row-iterator.ensures.into_iter_gives in
-    let before = table_trie c.args.table.value in
-    let now = table_trie c.loop-row.table.value in
+    let before = table_trie c.args.table.now in
+    let now = table_trie c.loop-row.table in
     let left = subst (λ (rows : List Row). AreLeft (rows_view c.into_iter-row-iterator.result)
     c.args.level before
     c.loop-row.keys.items rows now) c.in-None.ensures.steps.0 c.loop-row.invariant.0 in
@@ -82,9 +82,9 @@ enter_rows-returns-clause-entered t c =
 
 pub enter_rows-loop-row-preserved : goal.enter_rows-loop-row-preserved
 enter_rows-loop-row-preserved t c =
-    let before = table_trie c.args.table.value in
-    let now = table_trie c.loop-row.table.value in
-    let after = table_trie c.in_ok-table.table.value in
+    let before = table_trie c.args.table.now in
+    let now = table_trie c.loop-row.table in
+    let after = table_trie c.enter_value.new.table in
     let whole = rows_view c.into_iter-row-iterator.result in
     let keys = c.loop-row.keys.items in
     let rest = c.next.new.self in
@@ -92,54 +92,50 @@ enter_rows-loop-row-preserved t c =
     let left = subst (λ (rows : List Row). AreLeft whole c.args.level before keys rows now) c.in-Some.ensures.steps
     c.loop-row.invariant.0 in
     let entered = subst (λ (ks : List Row). AreIn (rows_view (ks ++ row ∷ [])) c.args.level now after)
-    c.as_slice.ensures.value c.in_ok-table.ensures.entered in
+    c.as_slice.ensures.value c.in_ok-enter_value.ensures.entered in
     let s = c.args.section in
     let is_row : is_dot row ≡ false = sym c.is_dot.ensures ∙ c.if-is_dot.false in
-    let come = subst (λ (rows : List Row). OriginsLeft s whole (table_within c.args.table.value) keys rows
-    (table_within c.loop-row.table.value)) c.in-Some.ensures.steps c.loop-row.invariant.1 in
-    let more = c.in_ok-table.ensures.origins
-    ∙ ap (λ ks. with_more (table_within c.loop-row.table.value) (rows_origins s (rows_view (ks ++ row ∷ []))))
+    let come = subst (λ (rows : List Row). OriginsLeft s whole (table_within c.args.table.now) keys rows
+    (table_within c.loop-row.table)) c.in-Some.ensures.steps c.loop-row.invariant.1 in
+    let more = c.in_ok-enter_value.ensures.origins
+    ∙ ap (λ ks. with_more (table_within c.loop-row.table) (rows_origins s (rows_view (ks ++ row ∷ []))))
     c.as_slice.ensures.value in (
       subst (λ (ks : List Row). AreLeft whole c.args.level before ks rest after) (sym c.clear.ensures.items)
           (row_entered whole c.args.level before keys row rest now left is_row after entered),
-      subst (λ (ks : List Row). OriginsLeft s whole (table_within c.args.table.value) ks rest
-          (table_within c.in_ok-table.table.value)) (sym c.clear.ensures.items)
-          (origins_entered s whole (table_within c.args.table.value) (table_within c.loop-row.table.value)
-          (table_within c.in_ok-table.table.value) keys row rest left.dots is_row come more),
+      subst (λ (ks : List Row). OriginsLeft s whole (table_within c.args.table.now) ks rest
+          (table_within c.enter_value.new.table)) (sym c.clear.ensures.items)
+          (origins_entered s whole (table_within c.args.table.now) (table_within c.loop-row.table)
+          (table_within c.enter_value.new.table) keys row rest left.dots is_row come more),
     )
 
 pub enter_value-returns-then-keys-level-clause-entered : goal.enter_value-returns-then-keys-level-clause-entered
 enter_value-returns-then-keys-level-clause-entered t c =
-    last_deep c.args.keys.now c.args.row c.args.level (table_trie c.args.table.value) c.requires.keys c.requires.row
+    last_deep c.args.keys.now c.args.row c.args.level (table_trie c.args.table.now) c.requires.keys c.requires.row
     (omega arith)
 
 pub enter_value-returns-in-Err-clause-entered : goal.enter_value-returns-in-Err-clause-entered
 enter_value-returns-in-Err-clause-entered t c =
-    value_kept_out c.args.keys.now c.args.row c.args.level (table_trie c.args.table.value) c.requires.keys
+    value_kept_out c.args.keys.now c.args.row c.args.level (table_trie c.args.table.now) c.requires.keys
     c.requires.row
     c.in-Err.clash c.in_ok-value_clash-in-Err.field-0 c.in_ok-value_clash-in-Err.ensures.same c.in-Err.ensures.finished
 
 pub enter_value-returns-in-Ok-enter_row-clause-entered : goal.enter_value-returns-in-Ok-enter_row-clause-entered
 enter_value-returns-in-Ok-enter_row-clause-entered t c =
-    value_put c.args.keys.now c.args.row c.args.level (table_trie c.args.table.value) c.requires.keys c.requires.row
+    value_put c.args.keys.now c.args.row c.args.level (table_trie c.args.table.now) c.requires.keys c.requires.row
     (key_texts c.args.keys.now ++ c.as_str-in-Ok.result.now ∷ [])
     (ap (λ k. key_texts c.args.keys.now ++ k ∷ []) (c.as_str-in-Ok.ensures.value ∙ sym (row_key c.args.row)))
     (child_trie c.in-Ok.child) (table_trie c.enter_row.new.table) c.in-Ok.ensures.finished (omega arith)
-    (λ d is_leaf. ap (λ t. put_row (key_texts c.args.keys.now ++ c.as_str-in-Ok.result.now ∷ []) d (table_trie t))
-    (sym c.deref_mut.ensures.value) ∙ c.in-Ok-enter_row.ensures.entered d is_leaf)
+    c.in-Ok-enter_row.ensures.entered
 
 pub enter_value-returns-clause-entered : goal.enter_value-returns-clause-entered
 enter_value-returns-clause-entered t c =
-    value_met c.args.keys.now c.args.row c.args.level (table_trie c.args.table.value) c.requires.keys c.requires.row
+    value_met c.args.keys.now c.args.row c.args.level (table_trie c.args.table.now) c.requires.keys c.requires.row
     (key_texts c.args.keys.now ++ c.as_str-in-Ok.result.now ∷ [])
     (ap (λ k. key_texts c.args.keys.now ++ k ∷ []) (c.as_str-in-Ok.ensures.value ∙ sym (row_key c.args.row)))
     (child_trie c.in-Ok.child) (table_trie c.enter_row.new.table) c.in-Err-enter_row.met
     c.in_ok-row_clash-in-Err-enter_row.field-0 c.in_ok-row_clash-in-Err-enter_row.ensures.same
     c.in-Ok.ensures.finished
-    (subst (λ (t : Table). (d : Data) → child_trie c.in-Ok.child ≡ leaf d
-    → Enters (put_row (key_texts c.args.keys.now ++ c.as_str-in-Ok.result.now ∷ []) d (table_trie t))
-    (table_trie c.enter_row.new.table) (Err c.in-Err-enter_row.met))
-    c.deref_mut.ensures.value c.in-Err-enter_row.ensures.entered)
+    c.in-Err-enter_row.ensures.entered
 
 pub children_of-loop-element-preserved : goal.children_of-loop-element-preserved
 children_of-loop-element-preserved t c =
@@ -175,45 +171,49 @@ children_of-returns-clause-finished t c =
     subst (λ (es : List Element). AreFinished (elements_view es) c.args.level ts) start
     (elements_done (elements_view c.into_iter-element-iterator.result) c.args.level ts left)
 
-pub child_of-returns-in_err-table-in-Inline-clause-finished :
-    goal.child_of-returns-in_err-table-in-Inline-clause-finished
-child_of-returns-in_err-table-in-Inline-clause-finished t c = λ v seen.
-    let p = err_from_is_err_and c.from_residual-in_err-table-in-Inline.result
-    c.from_residual-in_err-table-in-Inline.ensures.1 in
+pub child_of-returns-in_err-take_rows-in-Inline-clause-finished :
+    goal.child_of-returns-in_err-take_rows-in-Inline-clause-finished
+child_of-returns-in_err-take_rows-in-Inline-clause-finished t c = λ v seen.
+    let p = err_from_is_err_and c.from_residual-in_err-take_rows-in-Inline.result
+    c.from_residual-in_err-take_rows-in-Inline.ensures.1 in
     rw (p.1, p.2) (inline_kept_out c.in-Inline.rows (Some (standings.table false false false))
-    (table_trie c.in_ok-new-in-Inline.field-0.value) c.args.level v c.in_err-table-in-Inline.field-0.0
-    (ap raw_of (sym c.in-Inline.is) ∙ seen) c.in_ok-new-in-Inline.ensures c.in_err-table-in-Inline.ensures.entered)
+    (table_trie c.deref_mut.result.now) c.args.level v c.in_err-take_rows-in-Inline.field-0.0
+    (ap raw_of (sym c.in-Inline.is) ∙ seen)
+    (ap table_trie c.deref_mut.ensures.value ∙ c.in_ok-table-in-Inline.ensures)
+    c.in_err-take_rows-in-Inline.ensures.entered)
 
-pub child_of-returns-in_ok-table-in-Inline-clause-finished : goal.child_of-returns-in_ok-table-in-Inline-clause-finished
-child_of-returns-in_ok-table-in-Inline-clause-finished t c = λ v seen.
+pub child_of-returns-in_ok-take_rows-in-Inline-clause-finished :
+    goal.child_of-returns-in_ok-take_rows-in-Inline-clause-finished
+child_of-returns-in_ok-take_rows-in-Inline-clause-finished t c = λ v seen.
     subst (λ (u : Trie). IsFinished v c.args.level u) (sym c.at-in-Inline.ensures.trie)
-    (inline_finished c.in-Inline.rows c.in_ok-table-in-Inline.table (Some (standings.table false false false))
-    (table_trie c.in_ok-new-in-Inline.field-0.value) c.args.level v (ap raw_of (sym c.in-Inline.is)
-    ∙ seen) (omega arith)
-    c.in_ok-new-in-Inline.ensures c.in_ok-table-in-Inline.ensures.entered)
+    (inline_finished c.in-Inline.rows (boxes.with_value c.in_ok-table-in-Inline.table c.take_rows.new.table)
+    (Some (standings.table false false false)) (table_trie c.deref_mut.result.now) c.args.level v
+    (ap raw_of (sym c.in-Inline.is) ∙ seen) (omega arith)
+    (ap table_trie c.deref_mut.ensures.value ∙ c.in_ok-table-in-Inline.ensures)
+    c.in_ok-take_rows-in-Inline.ensures.entered)
 
-pub enter_rows-returns-in_err-table-clause-named : goal.enter_rows-returns-in_err-table-clause-named
-enter_rows-returns-in_err-table-clause-named t c =
-    let p = err_from_is_err_and c.from_residual-in_err-table.result c.from_residual-in_err-table.ensures.1 in
+pub enter_rows-returns-in_err-enter_value-clause-named : goal.enter_rows-returns-in_err-enter_value-clause-named
+enter_rows-returns-in_err-enter_value-clause-named t c =
+    let p = err_from_is_err_and c.from_residual-in_err-enter_value.result c.from_residual-in_err-enter_value.ensures.1 in
     let start : c.into_iter-row-iterator.result ≡ c.args.rows = c.into_iter-row-iterator.ensures.into_iter_gives in
-    let before = table_trie c.args.table.value in
-    let now = table_trie c.loop-row.table.value in
+    let before = table_trie c.args.table.now in
+    let now = table_trie c.loop-row.table in
     let keys = c.loop-row.keys.items in
     let rest = c.next.new.self in
     let row = c.in-Some.row in
-    let clash = c.in_err-table.field-0.0 in
+    let clash = c.in_err-enter_value.field-0.0 in
     let whole = rows_view c.into_iter-row-iterator.result in
     let left = subst (λ (rows : List Row). AreLeft whole c.args.level before keys rows now)
     c.in-Some.ensures.steps c.loop-row.invariant.0 in
     let named = subst (λ (ks : List Row). NamesStop (try_put_rows (rows_view (ks ++ row ∷ [])) now) clash)
-    c.as_slice.ensures.value c.in_err-table.ensures.named in
+    c.as_slice.ensures.value c.in_err-enter_value.ensures.named in
     rw (p.1, p.2) (subst (λ (rows : List Row). NamesStop (try_put_rows (rows_view rows) before) clash) start
     (row_stopped whole c.args.level before keys row rest now left
     (sym c.is_dot.ensures ∙ c.if-is_dot.false) clash named))
 
 pub enter_value-returns-in-Err-clause-named : goal.enter_value-returns-in-Err-clause-named
 enter_value-returns-in-Err-clause-named t c =
-    value_stopped c.args.keys.now c.args.row c.args.level (table_trie c.args.table.value) c.requires.keys
+    value_stopped c.args.keys.now c.args.row c.args.level (table_trie c.args.table.now) c.requires.keys
     c.requires.row
     c.in-Err.clash c.in_ok-value_clash-in-Err.field-0
     (subst (λ (l : List ℕ). SaysHeld (line_keys c.args.keys.now ++ key_at (lined_of c.args.row).key.offset l ∷ [])
@@ -224,7 +224,7 @@ enter_value-returns-in-Err-clause-named t c =
 
 pub enter_value-returns-clause-named : goal.enter_value-returns-clause-named
 enter_value-returns-clause-named t c =
-    met_stopped c.args.keys.now c.args.row c.args.level (table_trie c.args.table.value) c.requires.keys
+    met_stopped c.args.keys.now c.args.row c.args.level (table_trie c.args.table.now) c.requires.keys
     c.requires.row
     (child_trie c.in-Ok.child) c.in-Err-enter_row.met c.in_ok-row_clash-in-Err-enter_row.field-0
     c.as_str-in-Ok.result.now c.as_str-in-Err-enter_row.result.now c.args.row.offset
@@ -232,17 +232,18 @@ enter_value-returns-clause-named t c =
     (c.as_str-in-Err-enter_row.ensures.value ∙ sym (row_key c.args.row))
     (row_offset c.args.row)
     c.in_ok-row_clash-in-Err-enter_row.ensures.named c.in-Ok.ensures.finished
-    (subst (λ (t : Table). (d : Data) → child_trie c.in-Ok.child ≡ leaf d
-    → TellsRow (line_keys c.args.keys.now) c.as_str-in-Ok.result.now d (table_trie t) c.in-Err-enter_row.met)
-    c.deref_mut.ensures.value c.in-Err-enter_row.ensures.named)
+    c.in-Err-enter_row.ensures.named
 
-pub child_of-returns-in_err-table-in-Inline-clause-named : goal.child_of-returns-in_err-table-in-Inline-clause-named
-child_of-returns-in_err-table-in-Inline-clause-named t c =
-    let p = err_from_is_err_and c.from_residual-in_err-table-in-Inline.result
-    c.from_residual-in_err-table-in-Inline.ensures.1 in
+pub child_of-returns-in_err-take_rows-in-Inline-clause-named :
+    goal.child_of-returns-in_err-take_rows-in-Inline-clause-named
+child_of-returns-in_err-take_rows-in-Inline-clause-named t c =
+    let p = err_from_is_err_and c.from_residual-in_err-take_rows-in-Inline.result
+    c.from_residual-in_err-take_rows-in-Inline.ensures.1 in
     rw (p.1, p.2) (λ v seen. inline_stopped c.in-Inline.rows (Some (standings.table false false false))
-    (table_trie c.in_ok-new-in-Inline.field-0.value) v c.in_err-table-in-Inline.field-0.0
-    (ap raw_of (sym c.in-Inline.is) ∙ seen) c.in_ok-new-in-Inline.ensures c.in_err-table-in-Inline.ensures.named)
+    (table_trie c.deref_mut.result.now) v c.in_err-take_rows-in-Inline.field-0.0
+    (ap raw_of (sym c.in-Inline.is) ∙ seen)
+    (ap table_trie c.deref_mut.ensures.value ∙ c.in_ok-table-in-Inline.ensures)
+    c.in_err-take_rows-in-Inline.ensures.named)
 
 pub children_of-returns-in_err-child_of-clause-named :
     goal.children_of-returns-in_err-child_of-clause-named
@@ -282,25 +283,23 @@ children_of-loop-element-preserved-then-is_dot_value t c =
 pub take_rows-returns-then-is_empty-clause-origins : goal.take_rows-returns-then-is_empty-clause-origins
 take_rows-returns-then-is_empty-clause-origins t c =
     let none : length c.args.rows.items ≡ 0 = grind (arith, c.is_empty.ensures, c.if-is_empty.true, c.args.rows.ok.0) in
-    no_rows_come c.args.section c.args.rows.items (table_within c.args.table.value) none
+    no_rows_come c.args.section c.args.rows.items (table_within c.args.table.now) none
 
 pub enter_rows-returns-clause-origins : goal.enter_rows-returns-clause-origins
 enter_rows-returns-clause-origins t c =
     let start : c.into_iter-row-iterator.result ≡ c.args.rows = c.into_iter-row-iterator.ensures.into_iter_gives in
     let come = subst (λ (rows : List Row). OriginsLeft c.args.section (rows_view
-    c.into_iter-row-iterator.result) (table_within c.args.table.value) c.loop-row.keys.items rows
-    (table_within c.loop-row.table.value)) c.in-None.ensures.steps.0 c.loop-row.invariant.1 in
+    c.into_iter-row-iterator.result) (table_within c.args.table.now) c.loop-row.keys.items rows
+    (table_within c.loop-row.table)) c.in-None.ensures.steps.0 c.loop-row.invariant.1 in
     origins_done c.args.section (rows_view c.into_iter-row-iterator.result)
-    (table_within c.args.table.value) (table_within c.loop-row.table.value) c.loop-row.keys.items
+    (table_within c.args.table.now) (table_within c.loop-row.table) c.loop-row.keys.items
     c.loop-row.invariant.0.dots come
-    ∙ ap (λ rows. with_more (table_within c.args.table.value) (rows_origins c.args.section (rows_view rows))) start
+    ∙ ap (λ rows. with_more (table_within c.args.table.now) (rows_origins c.args.section (rows_view rows))) start
 
 pub enter_value-returns-in-Ok-enter_row-clause-origins : goal.enter_value-returns-in-Ok-enter_row-clause-origins
 enter_value-returns-in-Ok-enter_row-clause-origins t c =
     c.in-Ok-enter_row.ensures.origins
-    ∙ ap (λ t. with_more (table_within t) (row_origins (key_texts c.args.keys.now ++ c.as_str-in-Ok.result.now ∷ [])
-    (dotted_of c.in-Ok.child) (child_origins c.in-Ok.child))) c.deref_mut.ensures.value
-    ∙ ap (with_more (table_within c.args.table.value))
+    ∙ ap (with_more (table_within c.args.table.now))
     (one_row c.args.section c.args.keys.now c.args.row c.as_str-in-Ok.result.now c.in-Ok.child c.requires.keys
     c.requires.row c.as_str-in-Ok.ensures.value c.in-Ok.ensures.origins c.in-Ok.ensures.dotted)
 
@@ -315,19 +314,20 @@ children_of-returns-clause-origins t c =
     c.loop-element.children.items come
     ∙ ap (λ es. elements_origins c.args.section (elements_view es)) start
 
-pub child_of-returns-in_ok-table-in-Inline-clause-origins :
-    goal.child_of-returns-in_ok-table-in-Inline-clause-origins
-child_of-returns-in_ok-table-in-Inline-clause-origins t c = λ v seen.
+pub child_of-returns-in_ok-take_rows-in-Inline-clause-origins :
+    goal.child_of-returns-in_ok-take_rows-in-Inline-clause-origins
+child_of-returns-in_ok-take_rows-in-Inline-clause-origins t c = λ v seen.
     let s = c.args.section in
     let at = c.args.start in
     let rows = rows_view c.in-Inline.rows.items in
-    let table = c.in_ok-table-in-Inline.table in
+    let new = c.in_ok-table-in-Inline.table in
+    let table = boxes.with_value new c.take_rows.new.table in
     let comes : child_origins c.at-in-Inline.result ≡ value_origins s at (Raw.inline rows) =
     c.at-in-Inline.ensures.origins ∙ inline_seen table at s
     ∙ ap (λ w. entry (value_origin (codes "inline table") at s) w.below)
-    (c.in_ok-table-in-Inline.ensures.origins
-    ∙ ap (λ w. with_more w (rows_origins s rows)) (fresh_within c.in_ok-new-in-Inline.field-0.value
-    c.in_ok-new-in-Inline.ensures)) in
+    (c.in_ok-take_rows-in-Inline.ensures.origins
+    ∙ ap (λ w. with_more w (rows_origins s rows)) (ap table_within c.deref_mut.ensures.value
+    ∙ fresh_within new.value c.in_ok-table-in-Inline.ensures)) in
     value_comes c.args.value (Raw.inline rows) (child_origins c.at-in-Inline.result) s at
     (ap raw_of c.in-Inline.is ∙ inline_of c.in-Inline.rows) comes v seen
 
@@ -358,10 +358,9 @@ take_rows-with_rows-requires-clause-distinct t c =
 
 pub take_rows-returns-then-are_simple-clause-entered : goal.take_rows-returns-then-are_simple-clause-entered
 take_rows-returns-then-are_simple-clause-entered t c =
-    let table = c.args.table.value in
+    let table = c.args.table.now in
     let rows = c.args.rows.items in
-    let none = no_entries table c.deref.result.now c.is_empty-2.result c.deref.ensures c.is_empty-2.ensures
-    c.if-is_empty-2.true in
+    let none = no_entries table table c.is_empty-2.result refl c.is_empty-2.ensures c.if-is_empty-2.true in
     let simple = ap (are_simple c.args.level) (sym c.as_slice.ensures.value)
     ∙ sym {A = Bool} c.are_simple.ensures ∙ c.if-are_simple.true in
     subst (λ (t : Table). AreIn (rows_view rows) c.args.level (table_trie table) (table_trie t))
@@ -369,9 +368,8 @@ take_rows-returns-then-are_simple-clause-entered t c =
 
 pub take_rows-returns-then-are_simple-clause-origins : goal.take_rows-returns-then-are_simple-clause-origins
 take_rows-returns-then-are_simple-clause-origins t c =
-    let table = c.args.table.value in
-    let none = no_entries table c.deref.result.now c.is_empty-2.result c.deref.ensures c.is_empty-2.ensures
-    c.if-is_empty-2.true in
+    let table = c.args.table.now in
+    let none = no_entries table table c.is_empty-2.result refl c.is_empty-2.ensures c.if-is_empty-2.true in
     let simple = ap (are_simple c.args.level) (sym c.as_slice.ensures.value)
     ∙ sym {A = Bool} c.are_simple.ensures ∙ c.if-are_simple.true in
     ap table_within c.in_ok-with_rows.ensures
@@ -379,20 +377,20 @@ take_rows-returns-then-are_simple-clause-origins t c =
 
 -- many plain rows, the first of them taken at once
 many_first : (t : ℕ) (c : goal.take_many_rows-After-enter_rows t)
-    → FirstIn c.args.section c.args.level c.args.rows.items c.with_first_rows.new.rows c.args.table.value
-    c.in_ok-table.table.value
+    → FirstIn c.args.section c.args.level c.args.rows.items c.with_first_rows.new.rows c.args.table.now
+    c.with_first_rows.new.table
 many_first t c =
     let count = c.in_ok-index.count in
     first_in count (omega (arith, c.requires.level)) c.requires.none c.requires.plain
     (subst (λ (rows : List Row). are_distinct (take count (map key_of rows)) ≡ true) c.as_slice.ensures.value
     c.in_ok-index.ensures.index.distinct)
-    (c.in_ok-table.ensures.after
-    ∙ ap (λ rows. with_entries c.args.table.value (entries_of c.args.section (take count rows))) c.drain-rows.ensures)
-    (c.in_ok-table.ensures.left ∙ ap (drop count) c.drain-rows.ensures)
+    (c.in_ok-with_first_rows.ensures.after
+    ∙ ap (λ rows. with_entries c.args.table.now (entries_of c.args.section (take count rows))) c.drain-rows.ensures)
+    (c.in_ok-with_first_rows.ensures.left ∙ ap (drop count) c.drain-rows.ensures)
 
 pub take_many_rows-returns-clause-entered : goal.take_many_rows-returns-clause-entered
 take_many_rows-returns-clause-entered t c =
-    all_entered (many_first t c) c.enter_rows.result c.enter_rows.ensures.entered
+    all_entered (many_first t c) (table_trie c.enter_rows.new.table) c.enter_rows.result c.enter_rows.ensures.entered
 
 pub take_many_rows-returns-clause-named : goal.take_many_rows-returns-clause-named
 take_many_rows-returns-clause-named t c =
@@ -400,4 +398,5 @@ take_many_rows-returns-clause-named t c =
 
 pub take_many_rows-returns-clause-origins : goal.take_many_rows-returns-clause-origins
 take_many_rows-returns-clause-origins t c =
-    all_come (many_first t c) c.enter_rows.result c.enter_rows.ensures.origins
+    ok_on _ _ c.enter_rows.result (λ x come. all_come (many_first t c) c.enter_rows.new.table come)
+    c.enter_rows.ensures.origins

@@ -32,10 +32,10 @@ decreases-children_of l = 6 * (nesting_limit - l.level) + 1
 -- what the rows that are left put into the table as it is, all put into it as it was
 abbrev pub invariant-enter_rows-loop-row : goal.invariant-enter_rows-loop-row
 invariant-enter_rows-loop-row l =
-    AreLeft (rows_view l.initial.row-iterator) l.level (table_trie l.initial.table.value) l.keys.items
-    l.row-iterator (table_trie l.table.value)
-    × OriginsLeft l.section (rows_view l.initial.row-iterator) (table_within l.initial.table.value)
-    l.keys.items l.row-iterator (table_within l.table.value)
+    AreLeft (rows_view l.initial.row-iterator) l.level (table_trie l.initial.table) l.keys.items
+    l.row-iterator (table_trie l.table)
+    × OriginsLeft l.section (rows_view l.initial.row-iterator) (table_within l.initial.table)
+    l.keys.items l.row-iterator (table_within l.table)
 
 abbrev pub invariant-children_of-loop-element : goal.invariant-children_of-loop-element
 invariant-children_of-loop-element l =

@@ -122,10 +122,11 @@ extend-returns-in_err-enter_row-in-Nothing-clause-named t c =
     c.from_residual-in_err-enter_row-in-Nothing.ensures.1 in
     rw (p.1, p.2) (λ d is_leaf.
     extended_on (line_keys c.args.keys.now) c.args.last.now d (child_trie c.args.there.now)
-    (table_trie c.deref_mut-in-Nothing.result.now) c.in_err-enter_row-in-Nothing.field-0.0
-    (dotted_nothing c.args.there.now c.in_ok-table-in-Nothing.table.value c.deref_mut.result.now c.in-Nothing.is
-    c.deref_mut.ensures.value (ap table_trie c.in_ok-table-in-Nothing.ensures ∙ c.in_ok-new-in-Nothing.ensures)
-    ∙ ap (λ t. Some (table_trie t)) (sym c.deref_mut-in-Nothing.ensures.value))
+    (table_trie c.deref_mut-in-Nothing-2.result.now) c.in_err-enter_row-in-Nothing.field-0.0
+    (dotted_nothing c.args.there.now c.in_ok-table-in-Nothing.table.value c.deref_mut-in-Nothing.result.now
+    c.in-Nothing.is (c.deref_mut-in-Nothing.ensures.value ∙ c.make_room.ensures ∙ c.deref_mut.ensures.value)
+    c.in_ok-table-in-Nothing.ensures
+    ∙ ap (λ t. Some (table_trie t)) (sym c.deref_mut-in-Nothing-2.ensures.value))
     (c.in_err-enter_row-in-Nothing.ensures.named d is_leaf))
 
 pub extend-returns-then-deref-clause-named : goal.extend-returns-then-deref-clause-named
@@ -150,13 +151,14 @@ extend-returns-in_default t c =
 pub extend-returns-in_ok-enter_row-in-Nothing-clause-entered :
     goal.extend-returns-in_ok-enter_row-in-Nothing-clause-entered
 extend-returns-in_ok-enter_row-in-Nothing-clause-entered t c = λ d is_leaf.
-    let after = boxes.with_value (boxes.with_value c.in_ok-table-in-Nothing.table
-    (roll-Table (dotted_fields c.deref_mut.result.now))) c.enter_row.new.table in
+    let after = boxes.with_value (boxes.with_value (boxes.with_value c.in_ok-table-in-Nothing.table
+    c.make_room.new.table) (roll-Table (dotted_fields c.deref_mut-in-Nothing.result.now))) c.enter_row.new.table in
     let keys = key_texts c.args.keys.now ++ c.args.last.now ∷ [] in
     ap (λ m. and_then m (λ t. put_row keys d t))
-    (dotted_nothing c.args.there.now c.in_ok-table-in-Nothing.table.value c.deref_mut.result.now c.in-Nothing.is
-    c.deref_mut.ensures.value (ap table_trie c.in_ok-table-in-Nothing.ensures ∙ c.in_ok-new-in-Nothing.ensures)
-    ∙ ap (λ t. Some (table_trie t)) (sym c.deref_mut-in-Nothing.ensures.value))
+    (dotted_nothing c.args.there.now c.in_ok-table-in-Nothing.table.value c.deref_mut-in-Nothing.result.now
+    c.in-Nothing.is (c.deref_mut-in-Nothing.ensures.value ∙ c.make_room.ensures ∙ c.deref_mut.ensures.value)
+    c.in_ok-table-in-Nothing.ensures
+    ∙ ap (λ t. Some (table_trie t)) (sym c.deref_mut-in-Nothing-2.ensures.value))
     ∙ c.in_ok-enter_row-in-Nothing.ensures.entered d is_leaf
     ∙ ap Some (sym (table_child_trie c.args.child.start c.args.child.section after))
 
@@ -233,15 +235,14 @@ pub extend-returns-in_ok-enter_row-in-Nothing-clause-origins :
 extend-returns-in_ok-enter_row-in-Nothing-clause-origins t c =
     let at = c.args.child.start in
     let s = c.args.child.section in
-    let now = c.deref_mut.result.now in
-    let fresh = ap table_within c.deref_mut-in-Nothing.ensures.value ∙ dotted_within now
-    ∙ ap table_within c.deref_mut.ensures.value
-    ∙ fresh_within c.in_ok-table-in-Nothing.table.value
-    (ap table_trie c.in_ok-table-in-Nothing.ensures ∙ c.in_ok-new-in-Nothing.ensures) in
-    let after = boxes.with_value (boxes.with_value c.in_ok-table-in-Nothing.table (roll-Table (dotted_fields now)))
-    c.enter_row.new.table in
+    let now = c.deref_mut-in-Nothing.result.now in
+    let fresh = ap table_within c.deref_mut-in-Nothing-2.ensures.value ∙ dotted_within now
+    ∙ ap table_within (c.deref_mut-in-Nothing.ensures.value ∙ c.make_room.ensures ∙ c.deref_mut.ensures.value)
+    ∙ fresh_within c.in_ok-table-in-Nothing.table.value c.in_ok-table-in-Nothing.ensures in
+    let after = boxes.with_value (boxes.with_value (boxes.with_value c.in_ok-table-in-Nothing.table
+    c.make_room.new.table) (roll-Table (dotted_fields now))) c.enter_row.new.table in
     child_of_table after at s
-    ∙ new_table c.args.there.now after c.deref_mut-in-Nothing.result.now
+    ∙ new_table c.args.there.now after c.deref_mut-in-Nothing-2.result.now
     (row_origins (key_texts c.args.keys.now ++ c.args.last.now ∷ []) (dotted_of c.args.child)
     (child_origins c.args.child)) at s c.in-Nothing.is fresh c.in_ok-enter_row-in-Nothing.ensures.origins
 

@@ -1,4 +1,4 @@
-use Rattle.std.proofs.Common.{◌<◌, ◌∙◌, ap, sym, map, length, arith, rules, set, subst}
+use Rattle.std.proofs.Common.{◌<◌, ◌∙◌, ap, sym, map, length, arith, rules, set}
 use Rattle.std.proofs.lemmas.List.{length-set, get_or-set_other}
 use Rattle.basic_toml_read.specs.SectionView.{section_of}
 use Rattle.basic_toml_clash.specs.Crossed.{first_crossed}
@@ -6,8 +6,6 @@ use Rattle.basic_toml_grow.specs.Item.{table_trie}
 use Rattle.basic_toml_tree.proofs.SectionsResolved.{want_of, goes_on_from_a_value, kept_out, none_crossed, goes_on}
 use Rattle.basic_toml_tree.proofs.SectionsResolved.{resolved, heads_kept, brings_on, brings_none, begins, none_left}
 use Rattle.basic_toml_grow.specs.Origins.{table_within}
-use Rattle.basic_toml_grow.specs.declared.item.Table.{Table}
-use Rattle.basic_toml_tree.specs.Resolve.{IsResolved}
 use Rattle.basic_toml_tree.proofs.tree.grow.Goals as goal
 
 pub returns-in_err-at : goal.returns-in_err-at
@@ -21,17 +19,12 @@ returns-in-Some c = λ keyed.
     (ap (λ ss. first_crossed (map section_of ss)) (sym c.as_slice.ensures.value) ∙ sym c.in_ok-at.ensures ∙ c.in-Some.is)
     c.at.ensures
 
-pub returns-in_err-root : goal.returns-in_err-root
-returns-in_err-root c =
-    want_of c.args.sections c.from_residual-in_err-root.result (sym c.is_empty.ensures ∙ c.if-is_empty.false)
-    c.from_residual-in_err-root.ensures.1
-
 pub returns-in-Err : goal.returns-in-Err
 returns-in-Err c = λ keyed.
     let within : c.loop-number.number < length c.loop-number.sections.items =
     omega (arith, c.len-number-end.ensures, c.loop-number-test.true, c.loop-number.invariant.0.count) in
     kept_out c.args.sections.items c.loop-number.sections.items c.loop-number.number
-    (table_trie c.loop-number.root.value) c.loop-number.invariant.0 c.index_mut-section.result.now within
+    (table_trie c.loop-number.root) c.loop-number.invariant.0 c.index_mut-section.result.now within
     (search (rules, c.index_mut-section.ensures.value))
     (ap (λ ss. first_crossed (map section_of ss)) (sym c.as_slice.ensures.value) ∙ sym c.in_ok-at.ensures
     ∙ none_crossed c.in_ok-at.field-0 c.in_default.not-Some) c.in-Err.clash c.error.result
@@ -45,25 +38,23 @@ loop-number-preserved c =
     let next = c.enter_section.new.section in
     let within : c.loop-number.number < length c.loop-number.sections.items =
     omega (arith, c.len-number-end.ensures, c.loop-number-test.true, c.loop-number.invariant.0.count) in (
-      goes_on c.args.sections.items now n (table_trie c.loop-number.root.value) c.loop-number.invariant.0
+      goes_on c.args.sections.items now n (table_trie c.loop-number.root) c.loop-number.invariant.0
           c.index_mut-section.result.now within (search (rules, c.index_mut-section.ensures.value)) (set now n next)
-          (table_trie c.in-Ok.root.value) c.in-Ok.ensures.entered (length-set now n next)
+          (table_trie c.enter_section.new.root) c.in-Ok.ensures.entered (length-set now n next)
           (λ k d past. get_or-set_other now n k next d (omega (arith, past)))
           (heads_kept now n c.index_mut-section.result.now next (search (rules, c.index_mut-section.ensures.value))
           c.enter_section.ensures.at c.enter_section.ensures.header),
-      λ keyed. brings_on c.args.sections.items now n (table_trie c.loop-number.root.value) c.loop-number.invariant.0
+      λ keyed. brings_on c.args.sections.items now n (table_trie c.loop-number.root) c.loop-number.invariant.0
           c.index_mut-section.result.now within (search (rules, c.index_mut-section.ensures.value))
-          (table_within c.loop-number.root.value).below (table_within c.in-Ok.root.value).below keyed
+          (table_within c.loop-number.root).below (table_within c.enter_section.new.root).below keyed
           (c.loop-number.invariant.1 keyed) c.in-Ok.ensures.origins,
     )
 
 pub returns : goal.returns
 returns c = λ keyed.
-    subst (λ (root : Table). IsResolved (map section_of c.args.sections.items)
-    (record { sections = c.loop-number.sections; root = root })) (sym c.into_inner.ensures)
-    (resolved c.args.sections.items c.loop-number.number
-    (record { sections = c.loop-number.sections; root = c.loop-number.root.value }) c.loop-number.invariant.0
-    (omega (arith, c.len-number-end.ensures, c.loop-number-test.false)) keyed (c.loop-number.invariant.1 keyed))
+    resolved c.args.sections.items c.loop-number.number
+    (record { sections = c.loop-number.sections; root = c.loop-number.root }) c.loop-number.invariant.0
+    (omega (arith, c.len-number-end.ensures, c.loop-number-test.false)) keyed (c.loop-number.invariant.1 keyed)
 
 pub returns-then-is_empty : goal.returns-then-is_empty
 returns-then-is_empty c = λ keyed.
@@ -74,6 +65,6 @@ returns-then-is_empty c = λ keyed.
 
 pub loop-number-init : goal.loop-number-init
 loop-number-init c = (
-  begins c.args.sections.items (table_trie c.in_ok-root.root.value) c.in_ok-root.ensures,
-  λ keyed. brings_none c.in_ok-root.root.value c.in_ok-root.ensures,
+  begins c.args.sections.items (table_trie c.empty-root.result) c.empty-root.ensures,
+  λ keyed. brings_none c.empty-root.result c.empty-root.ensures,
 )

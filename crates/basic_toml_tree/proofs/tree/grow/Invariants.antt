@@ -10,6 +10,6 @@ use Rattle.basic_toml_tree.proofs.tree.grow.Given as goal
 -- the sections so far are entered, and those that are left are as they were; what rows made comes from them
 abbrev pub invariant-loop-number : goal.invariant-loop-number
 invariant-loop-number l =
-    Goes l.initial.sections.items l.sections.items l.number (table_trie l.root.value)
+    Goes l.initial.sections.items l.sections.items l.number (table_trie l.root)
     × (all_keyed (map section_of l.initial.sections.items) ≡ true
-    → Brought (map section_of (take l.number l.initial.sections.items)) (table_within l.root.value).below)
+    → Brought (map section_of (take l.number l.initial.sections.items)) (table_within l.root).below)
