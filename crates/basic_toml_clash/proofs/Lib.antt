@@ -8,6 +8,7 @@ pub mod RowsOfKeys
 pub mod KeyTreeGrows
 pub mod ValuesOnTheWay
 pub mod DataParts
+pub mod PlainRows
 pub mod PlainSeen
 pub mod PlainValues
 pub mod SimpleRows

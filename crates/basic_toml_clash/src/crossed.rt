@@ -10,6 +10,7 @@ ghost use Rattle.basic_toml_clash.specs.Crossed.{first_crossed, Looks};
 ghost use Rattle.basic_toml_clash.specs.KeyTree.{FollowsTo, no_key_tree, path_of};
 ghost use Rattle.basic_toml_clash.specs.declared.crossed.Crossed.TheVariants.{Memory};
 
+use crate::simple::are_all_plain;
 use basic_toml_read::{Element, Raw, Row, Section};
 use basic_toml_value::{Blank, Pairs};
 use std::alloc::{AllocError, Global};
@@ -134,11 +135,15 @@ fn follow_rows(alloc: Global, rows: &[Row<'_>]) -> Result<(), Crossed>
     Ok(())
 }
 
-// Looks for a row that goes on from a value: among these rows, and then within the value of each.
+// Looks for a row that goes on from a value: among these rows, and then within the value of each. Among plain rows, and
+// most rows are plain, there is none.
 #[cycle(looking)]
 fn look_through(alloc: Global, rows: &[Row<'_>]) -> Result<(), Crossed>
     ensures { Looks (crossed_in (rows_view rows.now)) result }
 {
+    if are_all_plain(rows, 0) {
+        return Ok(());
+    }
     look_between(alloc, rows)?;
     for row in rows {
         look_into(alloc, &row.value)?;

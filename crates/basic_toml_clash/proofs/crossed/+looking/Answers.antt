@@ -6,6 +6,7 @@ use Rattle.basic_toml_read.proofs.ViewsSeen.{array_of}
 use Rattle.basic_toml_clash.specs.Crossed.{crossed_between, crossed_among, crossed_within, crossed_in, crossed_where}
 use Rattle.basic_toml_clash.specs.Crossed.{Looks}
 use Rattle.basic_toml_clash.proofs.FirstGathered.{found_at, none_more, none_in_all, looks_more}
+use Rattle.basic_toml_clash.proofs.PlainRows.{none_crossed}
 use Rattle.basic_toml_clash.proofs.RowsOfKeys.{lined_is, placed_is, row_values, element_values}
 use Rattle.basic_toml_clash.proofs.crossed.+looking.Goals as goal
 
@@ -41,6 +42,10 @@ look_into-returns-in-Array t c =
     ∙ ap crossed_where (array_of c.in-Array.elements)
     ∙ ap (λ es. crossed_among (elements_view es)) (sym c.as_slice.ensures.value) in
     subst (λ (o : Option ℕ). Looks o c.look_among.result) (sym same) c.look_among.ensures
+
+pub look_through-returns-then-are_all_plain : goal.look_through-returns-then-are_all_plain
+look_through-returns-then-are_all_plain t c =
+    none_crossed 0 c.args.rows.now (sym c.are_all_plain.ensures ∙ c.if-are_all_plain.true)
 
 pub look_through-returns-in_err-look_between : goal.look_through-returns-in_err-look_between
 look_through-returns-in_err-look_between t c =
