@@ -1,6 +1,6 @@
 -- A plain value is the grammar's value that it is seen as; nothing clashes in it, no row goes on from a value there, and
 -- it is no deeper than the limit.
-use Rattle.std.proofs.Common.{◌≡◌, ◌≤◌, ℕ, ◌+◌, Bool, true, false, List, [], ◌∷◌, map, Option, Some, None, refl, sym, ap}
+use Rattle.std.proofs.Common.{◌≡◌, ◌≤◌, ℕ, ◌+◌, Bool, true, false, List, [], ◌∷◌, map, None, refl, sym, ap}
 use Rattle.std.proofs.Common.{◌∙◌, subst, arith, rules}
 use Rattle.std.specs.Prelude.{⊤, ◌&&◌, nat_lt, string_bytes}
 use Rattle.std.proofs.lemmas.Bool.{false≢true}
@@ -13,14 +13,15 @@ use Rattle.basic_toml_read.specs.declared.section.Raw.{Raw, Array, map-Raw, ind-
 use Rattle.basic_toml_read.specs.declared.section.Raw.TheOpen.{Raw-F, Element-F}
 use Rattle.basic_toml_read.specs.declared.section.Element.{Element, roll-Element, ind-Element}
 use Rattle.basic_toml_read.specs.declared.section.Row.{Row}
-use Rattle.basic_toml_read.specs.SectionView.{raw_of, placed_of, elements_from, elements_view, with_element}
+use Rattle.basic_toml_read.specs.declared.section.Rows.{Rows}
+use Rattle.basic_toml_read.specs.SectionView.{raw_of, placed_of, elements_from, elements_view}
 use Rattle.basic_toml_clash.specs.Crossed.{crossed_of, crossed_among}
 use Rattle.basic_toml_clash.specs.Plain.{is_plain, is_plain_element, are_plain, plain_of, listed, listed_of}
 use Rattle.basic_toml_clash.proofs.PlainSeen.{array_is, array_of}
 
 -- a plain value within something of a level
-pub record PlainAt (l : ℕ) (o : Option sections.Raw) (v : sections.Raw) : Type 0 where
-  pub is : o ≡ Some v
+pub record PlainAt (l : ℕ) (r : sections.Raw) (v : sections.Raw) : Type 0 where
+  pub is : r ≡ v
   pub apart : value_clashes v ≡ false
   pub none_crossed : crossed_of v ≡ None
   pub fits : value_level l v ≤ nesting_limit
@@ -42,6 +43,9 @@ OfElement e = (l : ℕ) → is_plain_element e l ≡ true
 abbrev OfRow : Row → Type 0
 OfRow r = ⊤
 
+abbrev OfRows : Rows → Type 0
+OfRows rs = ⊤
+
 abbrev AllOf : List Element → Type 0
 AllOf es = (l : ℕ) → are_plain l es ≡ true
     → AllPlainAt l (elements_from (map placed_of es)) (listed (map listed_of es))
@@ -62,7 +66,7 @@ one_more l e es here there first later =
     let low = a.1.fits in
     let lows = b.fit in
     record {
-      are = ap (λ o. with_element (placed_of e).offset o (elements_from (map placed_of es))) a.1.is
+      are = ap (λ v. element (placed_of e).offset v (elements_from (map placed_of es))) a.1.is
           ∙ ap (λ at. element at (listed_of e).value (elements_from (map placed_of es))) a.0
           ∙ ap (element (listed_of e).offset (listed_of e).value) b.are;
       apart = rw (a.1.apart, b.apart) refl;
@@ -77,11 +81,11 @@ all_of (e ∷ es) l plain =
     let p = both (is_plain_element e.0 l) (are_plain l rest) plain in
     one_more l e.0 rest e.1 (all_of es) p.0 p.1
 
-abbrev Parts : Raw-F Raw Element Row → Type 0
+abbrev Parts : Raw-F Raw Element Row Rows → Type 0
 Parts (Raw-F.Array es) = AllOf es.items
 Parts _ = ⊤
 
-scalar : (r : Raw) (v : sections.Raw) → raw_of r ≡ Some v → plain_of r ≡ v → value_clashes v ≡ false
+scalar : (r : Raw) (v : sections.Raw) → raw_of r ≡ v → plain_of r ≡ v → value_clashes v ≡ false
     → crossed_of v ≡ None → ((l : ℕ) → value_level l v ≡ 0) → OfRaw r
 scalar r v is seen apart none_crossed level l plain =
     let none = level l in
@@ -92,9 +96,10 @@ scalar r v is seen apart none_crossed level l plain =
       fits = omega arith;
     })
 
-raw_is : (x : Raw-F Raw Element Row) → Parts x → OfRaw (roll-Raw x)
-raw_is Raw-F.Dot parts l plain =
-    let not : is_plain (roll-Raw Raw-F.Dot) l ≡ false = search (rules, the_lemmas) in absurd (false≢true (sym not ∙ plain))
+raw_is : (x : Raw-F Raw Element Row Rows) → Parts x → OfRaw (roll-Raw x)
+raw_is (Raw-F.Dotted rs) parts l plain =
+    let not : is_plain (roll-Raw (Raw-F.Dotted rs)) l ≡ false = search (rules, the_lemmas) in
+    absurd (false≢true (sym not ∙ plain))
 raw_is (Raw-F.Inline rs) parts l plain =
     let not : is_plain (roll-Raw (Raw-F.Inline rs)) l ≡ false = search (rules, the_lemmas) in
     absurd (false≢true (sym not ∙ plain))
@@ -120,16 +125,16 @@ raw_is (Raw-F.Array es) parts l plain =
     let all = parts (l + 1) p.1 in
     let low : l + 1 ≤ nesting_limit = grind (arith, p.0) in
     let lows = all.fit in
-    let is : raw_of (roll-Raw (Raw-F.Array es)) ≡ Some (sections.Raw.array (elements_from (map placed_of es.items)))
+    let is : raw_of (roll-Raw (Raw-F.Array es)) ≡ sections.Raw.array (elements_from (map placed_of es.items))
     = search (rules, the_lemmas) in
     subst (λ v. PlainAt l (raw_of (roll-Raw (Raw-F.Array es))) v) (sym (ap plain_of made ∙ array_of es)) (record {
-      is = is ∙ ap (λ es. Some (sections.Raw.array es)) all.are;
+      is = is ∙ ap sections.Raw.array all.are;
       apart = all.apart;
       none_crossed = all.none_crossed;
       fits = omega arith;
     })
 
-element_is : (x : Element-F Raw Element Row) → OfRaw x.value → OfElement (roll-Element x)
+element_is : (x : Element-F Raw Element Row Rows) → OfRaw x.value → OfElement (roll-Element x)
 element_is x here l plain =
     let a : (placed_of (roll-Element x)).value ≡ raw_of x.value = search (rules, the_lemmas) in
     let b : (listed_of (roll-Element x)).value ≡ plain_of x.value = search (rules, the_lemmas) in
@@ -149,9 +154,11 @@ Element1 = (e : Element) × OfElement e
 abbrev Row1 : Type 0
 Row1 = (r : Row) × OfRow r
 
-parts_are : (y : Raw-F Raw1 Element1 Row1)
-    → Parts (map-Raw Raw1 Element1 Row1 Raw Element Row (λ e. e.0) (λ e. e.0) (λ e. e.0) y)
-parts_are Raw-F.Dot = tt
+abbrev Rows1 : Type 0
+Rows1 = (rs : Rows) × OfRows rs
+
+parts_are : (y : Raw-F Raw1 Element1 Row1 Rows1)
+    → Parts (map-Raw Raw1 Element1 Row1 Rows1 Raw Element Row Rows (λ e. e.0) (λ e. e.0) (λ e. e.0) (λ e. e.0) y)
 parts_are (Raw-F.Integer z) = tt
 parts_are (Raw-F.Float text) = tt
 parts_are (Raw-F.Boolean b) = tt
@@ -159,18 +166,19 @@ parts_are (Raw-F.String text) = tt
 parts_are (Raw-F.Escaped text) = tt
 parts_are (Raw-F.Array es) = all_of es.items
 parts_are (Raw-F.Inline rs) = tt
+parts_are (Raw-F.Dotted rs) = tt
 
 every_value : (r : Raw) → OfRaw r
 every_value =
-    ind-Raw OfRaw OfElement OfRow (λ x y is. raw_is x (subst Parts is (parts_are y)))
+    ind-Raw OfRaw OfElement OfRow OfRows (λ x y is. raw_is x (subst Parts is (parts_are y)))
     (λ x y is. element_is x (subst (λ z. OfRaw z.value) is y.value.1))
-    (λ x y is. tt)
+    (λ x y is. tt) (λ x y is. tt)
 
 every_element : (e : Element) → OfElement e
 every_element =
-    ind-Element OfRaw OfElement OfRow (λ x y is. raw_is x (subst Parts is (parts_are y)))
+    ind-Element OfRaw OfElement OfRow OfRows (λ x y is. raw_is x (subst Parts is (parts_are y)))
     (λ x y is. element_is x (subst (λ z. OfRaw z.value) is y.value.1))
-    (λ x y is. tt)
+    (λ x y is. tt) (λ x y is. tt)
 
 pub plain_value : (r : Raw) (l : ℕ) → is_plain r l ≡ true → PlainAt l (raw_of r) (plain_of r)
 plain_value r = every_value r

@@ -57,11 +57,6 @@ abbrev pub first_crossed : List Section → Option ℕ
 first_crossed [] = None
 first_crossed (s ∷ sections) = option_or (crossed_in s.rows) (first_crossed sections)
 
--- in a value, where there is one
-abbrev pub crossed_where : Option Raw → Option ℕ
-crossed_where None = None
-crossed_where (Some value) = crossed_of value
-
 -- what is answered, memory apart
 abbrev pub Looks : Option ℕ → Result (Unit {0}) Crossed → Type 0
 Looks first (Ok _) = first ≡ None

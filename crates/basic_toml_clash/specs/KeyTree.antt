@@ -1,10 +1,8 @@
 -- Where the values of rows begin, by their paths, and how a row goes on from them.
-use Rattle.std.specs.Prelude.{◌≡◌, ◌⊎◌, ⊤, ℕ, List, [], ◌∷◌, Option, Some, None, map, Result, Ok, Err}
+use Rattle.std.specs.Prelude.{◌≡◌, ◌⊎◌, ⊤, ℕ, List, [], ◌∷◌, Option, Some, None, Result, Ok, Err}
 use Rattle.std.specs.Option.{option_or}
 use Rattle.basic_toml_value.specs.Pairs.{value_at}
 use Rattle.basic_toml_grammar.specs.Sections.{KeyTexts}
-use Rattle.basic_toml_read.specs.declared.section.Row as rows
-use Rattle.basic_toml_read.specs.SectionView.{lined_of}
 use Rattle.basic_toml_clash.specs.declared.crossed.KeyTree.{KeyTree, fold-KeyTree, roll-KeyTree}
 use Rattle.basic_toml_clash.specs.declared.crossed.KeyTree.TheOpen.{KeyTree-F}
 use Rattle.basic_toml_clash.specs.declared.crossed.Crossed.{Crossed}
@@ -32,10 +30,6 @@ ends_of = fold-KeyTree Ends key_tree_step
 -- no row is followed yet
 abbrev pub no_key_tree : KeyTree
 no_key_tree = roll-KeyTree (record { end = None; below = [] })
-
--- the path of a row, each key in a row of its own
-abbrev pub path_of : List rows.Row → KeyTexts
-path_of keys = map (λ r. (lined_of r).key.text) keys
 
 -- Where the value begins that a path goes on from: of those on its way, the one with the fewest keys.
 abbrev pub value_on : Ends → KeyTexts → Option ℕ

@@ -8,28 +8,31 @@ use Rattle.basic_toml_grammar.specs.Mentions.{finished}
 use Rattle.basic_toml_grammar.specs.Sections.{Raw, Elements, no_elements, element, no_rows}
 use Rattle.basic_toml_read.specs.declared.section.Raw.{fold-Raw}
 use Rattle.basic_toml_read.specs.declared.section.Raw as raws
-use Rattle.basic_toml_read.specs.declared.section.Raw.TheOpen.{Raw-F, Element-F, Row-F}
+use Rattle.basic_toml_read.specs.declared.section.Raw.TheOpen.{Raw-F, Element-F, Row-F, Rows-F}
 use Rattle.basic_toml_read.specs.declared.section.Element as elements
 use Rattle.basic_toml_read.specs.declared.section.Element.{fold-Element}
 
 -- one level, the parts seen already: whether a value is plain within something of a level
-abbrev pub raw_plain : Raw-F (ℕ → Bool) (ℕ → Bool) ⊤ → ℕ → Bool
-raw_plain Raw-F.Dot l = false
+abbrev pub raw_plain : Raw-F (ℕ → Bool) (ℕ → Bool) ⊤ ⊤ → ℕ → Bool
 raw_plain (Raw-F.Inline rs) l = false
+raw_plain (Raw-F.Dotted rs) l = false
 raw_plain (Raw-F.Array es) l = nat_lt l nesting_limit && list_all (λ e. e (l + 1)) es.items
 raw_plain _ l = true
 
-abbrev pub element_plain : Element-F (ℕ → Bool) (ℕ → Bool) ⊤ → ℕ → Bool
+abbrev pub element_plain : Element-F (ℕ → Bool) (ℕ → Bool) ⊤ ⊤ → ℕ → Bool
 element_plain e = e.value
 
-abbrev pub row_plain : Row-F (ℕ → Bool) (ℕ → Bool) ⊤ → ⊤
+abbrev pub row_plain : Row-F (ℕ → Bool) (ℕ → Bool) ⊤ ⊤ → ⊤
 row_plain r = tt
 
+abbrev pub rows_plain : Rows-F (ℕ → Bool) (ℕ → Bool) ⊤ ⊤ → ⊤
+rows_plain rs = tt
+
 abbrev pub is_plain : raws.Raw → ℕ → Bool
-is_plain = fold-Raw (ℕ → Bool) (ℕ → Bool) ⊤ raw_plain element_plain row_plain
+is_plain = fold-Raw (ℕ → Bool) (ℕ → Bool) ⊤ ⊤ raw_plain element_plain row_plain rows_plain
 
 abbrev pub is_plain_element : elements.Element → ℕ → Bool
-is_plain_element = fold-Element (ℕ → Bool) (ℕ → Bool) ⊤ raw_plain element_plain row_plain
+is_plain_element = fold-Element (ℕ → Bool) (ℕ → Bool) ⊤ ⊤ raw_plain element_plain row_plain rows_plain
 
 abbrev pub are_plain : ℕ → List elements.Element → Bool
 are_plain l es = list_all (λ e. is_plain_element e l) es
@@ -44,8 +47,7 @@ listed [] = no_elements
 listed (e ∷ es) = element e.offset e.value (listed es)
 
 -- one level, the parts seen already; what is not plain is seen as an inline table without rows
-abbrev pub raw_seen : Raw-F Raw Listed ⊤ → Raw
-raw_seen Raw-F.Dot = Raw.inline no_rows
+abbrev pub raw_seen : Raw-F Raw Listed ⊤ ⊤ → Raw
 raw_seen (Raw-F.Integer z) = Raw.integer z
 raw_seen (Raw-F.Float text) = Raw.float text
 raw_seen (Raw-F.Boolean b) = Raw.boolean b
@@ -53,18 +55,22 @@ raw_seen (Raw-F.String text) = Raw.string text.now
 raw_seen (Raw-F.Escaped text) = Raw.string (string_bytes text)
 raw_seen (Raw-F.Array es) = Raw.array (listed es.items)
 raw_seen (Raw-F.Inline rs) = Raw.inline no_rows
+raw_seen (Raw-F.Dotted rs) = Raw.inline no_rows
 
-abbrev pub element_seen : Element-F Raw Listed ⊤ → Listed
+abbrev pub element_seen : Element-F Raw Listed ⊤ ⊤ → Listed
 element_seen e = record { offset = e.offset; value = e.value }
 
-abbrev pub row_seen : Row-F Raw Listed ⊤ → ⊤
+abbrev pub row_seen : Row-F Raw Listed ⊤ ⊤ → ⊤
 row_seen r = tt
 
+abbrev pub rows_seen : Rows-F Raw Listed ⊤ ⊤ → ⊤
+rows_seen rs = tt
+
 abbrev pub plain_of : raws.Raw → Raw
-plain_of = fold-Raw Raw Listed ⊤ raw_seen element_seen row_seen
+plain_of = fold-Raw Raw Listed ⊤ ⊤ raw_seen element_seen row_seen rows_seen
 
 abbrev pub listed_of : elements.Element → Listed
-listed_of = fold-Element Raw Listed ⊤ raw_seen element_seen row_seen
+listed_of = fold-Element Raw Listed ⊤ ⊤ raw_seen element_seen row_seen rows_seen
 
 -- an array of plain elements
 abbrev pub plain_array : List elements.Element → Raw

@@ -1,4 +1,4 @@
--- Simple rows: each has a plain value and one key, which none of those after it has.
+-- Simple rows: each has a plain value and a key that none of those after it has.
 use Rattle.std.specs.Prelude.{ℕ, Bool, true, not, ◌&&◌, List, [], ◌∷◌, map}
 use Rattle.std.specs.List.{list_all}
 use Rattle.basic_toml_value.specs.Keys.{is_among}
@@ -14,6 +14,6 @@ abbrev pub are_simple : ℕ → List Row → Bool
 are_simple l [] = true
 are_simple l (r ∷ rs) = (is_plain (out-Row r).value l && not (is_among (map key_of rs) (key_of r))) && are_simple l rs
 
--- each has one key and a plain value
+-- each has a plain value
 abbrev pub are_all_plain : ℕ → List Row → Bool
 are_all_plain l rows = list_all (λ r. is_plain (out-Row r).value l) rows

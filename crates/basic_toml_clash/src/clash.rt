@@ -1,15 +1,14 @@
 //! Why a section is not entered, and the error that names it.
 
-ghost use Rattle.std.specs.Prelude.{◌≡◌, IfOk, map, string_bytes, take};
+ghost use Rattle.std.specs.Prelude.{◌≡◌, IfOk, map, string_bytes};
 ghost use Rattle.std.specs.List.{join_with_byte};
 ghost use Rattle.basic_toml_tokens.specs.Ascii.{period};
 ghost use Rattle.basic_toml_grammar.specs.NamedClash.{nth_key};
 ghost use Rattle.basic_toml_grammar.specs.Stops.{at_header, at_row, stop_fault};
 ghost use Rattle.basic_toml_read.specs.SectionView.{section_of, key_of, header_texts};
-ghost use Rattle.basic_toml_clash.specs.KeyTree.{path_of};
 ghost use Rattle.basic_toml_clash.specs.Clash.{IsFaultOf, IsStop, NamesClash};
 
-use basic_toml_read::{Key, ReadError, ReadErrorKind, Row, Section};
+use basic_toml_read::{Key, ReadError, ReadErrorKind, Section};
 use std::alloc::{AllocError, AllocFailed, Global};
 
 /// Why a section is not entered.
@@ -75,24 +74,6 @@ impl<T: Drop> From<AllocFailed<T>> for Clash {
     fn from(_failed: AllocFailed<T>) -> Clash {
         Clash::Memory
     }
-}
-
-/// The texts of the first of some keys.
-pub fn texts_of(alloc: Global, keys: &[Row<'_>], count: usize) -> Result<Vec<String>, AllocError>
-    ensures { IfOk result (λ texts. map string_bytes texts.items ≡ path_of (take count keys.now)) }
-{
-    all_texts(alloc, &keys[..count.min(keys.len())])
-}
-
-// The texts of keys.
-fn all_texts(alloc: Global, keys: &[Row<'_>]) -> Result<Vec<String>, AllocError>
-    ensures { IfOk result (λ texts. map string_bytes texts.items ≡ path_of keys.now) }
-{
-    let mut texts = Vec::new(alloc);
-    for row in keys {
-        texts.push(String::from_str(alloc, row.key.as_str())?)?;
-    }
-    Ok(texts)
 }
 
 /// Copies of the texts of keys.

@@ -1,17 +1,15 @@
 //! Rows that go on from a value: the clash that comes before all others.
 
-ghost use Rattle.std.specs.Prelude.{◌≡◌, ◌≤◌, ◌<◌, None, false, IfNone, IfOk, IfSome, is_some, map};
-ghost use Rattle.std.specs.Prelude.{length, true};
-ghost use Rattle.std.specs.List.{AllWithin, HoldsAt};
-ghost use Rattle.std.specs.Option.{ForSome};
-ghost use Rattle.basic_toml_read.specs.SectionView.{elements_view, lined_of, raw_of, rows_view, section_of};
-ghost use Rattle.basic_toml_clash.specs.Crossed.{crossed_between, crossed_among, crossed_in, crossed_where};
+ghost use Rattle.std.specs.Prelude.{◌≡◌, List, [], ◌∷◌, ◌++◌, None, false, IfOk, map};
+ghost use Rattle.basic_toml_read.specs.declared.section.Key as keys;
+ghost use Rattle.basic_toml_read.specs.SectionView.{elements_view, header_texts, raw_of, rows_seen, section_of};
+ghost use Rattle.basic_toml_clash.specs.Crossed.{crossed_between, crossed_among, crossed_in, crossed_of};
 ghost use Rattle.basic_toml_clash.specs.Crossed.{first_crossed, Looks};
-ghost use Rattle.basic_toml_clash.specs.KeyTree.{FollowsTo, no_key_tree, path_of};
+ghost use Rattle.basic_toml_clash.specs.KeyTree.{ends_of, Follows, FollowsTo, no_key_tree};
 ghost use Rattle.basic_toml_clash.specs.declared.crossed.Crossed.TheVariants.{Memory};
 
 use crate::simple::are_all_plain;
-use basic_toml_read::{Element, Raw, Row, Section};
+use basic_toml_read::{Element, Key, Raw, Row, Section};
 use basic_toml_value::{Blank, Pairs};
 use std::alloc::{AllocError, Global};
 
@@ -50,87 +48,84 @@ impl Blank for KeyTree {
     }
 }
 
-// Goes by the keys of a row that are left. The row's value begins at `start`.
-fn follow(alloc: Global, tree: KeyTree, keys: &[Row<'_>], start: usize) -> Result<KeyTree, Crossed>
-    ensures { FollowsTo tree (path_of keys.now) start result }
+// The keys of a row end here, whose value begins at `start`.
+fn ends(tree: KeyTree, start: usize) -> KeyTree
+    ensures { Follows (ends_of tree) (ends_of result) [] start }
+{
+    KeyTree {
+        end: Some(tree.end.unwrap_or(start)),
+        below: tree.below,
+    }
+}
+
+// Goes by the parents of a row that are left, and its last key. The row's value begins at `start`.
+fn follow(
+    alloc: Global,
+    tree: KeyTree,
+    parents: &[Key<'_>],
+    last: &str,
+    start: usize,
+) -> Result<KeyTree, Crossed>
+    ensures { FollowsTo tree (header_texts parents.now ++ last.now ∷ []) start result }
 {
     let KeyTree { end, below } = tree;
-    match keys.split_first() {
-        None => Ok(KeyTree {
-            end: Some(end.unwrap_or(start)),
-            below,
-        }),
-        Some((row, rest)) => {
-            if let Some(end) = end {
-                return Err(Crossed::At(end));
-            }
-            let mut below = below;
-            let position = below.enter(row.key.as_str())?;
+    if let Some(end) = end {
+        return Err(Crossed::At(end));
+    }
+    let mut below = below;
+    match parents.split_first() {
+        None => {
+            let position = below.enter(last)?;
             let there = below.replace(position, KeyTree::blank(alloc));
-            let followed = follow(alloc, there, rest, start)?;
+            let _ = below.replace(position, ends(there, start));
+            Ok(KeyTree { end: None, below })
+        }
+        Some((key, rest)) => {
+            let position = below.enter(key.text.as_str())?;
+            let there = below.replace(position, KeyTree::blank(alloc));
+            let followed = follow(alloc, there, rest, last, start)?;
             let _ = below.replace(position, followed);
             Ok(KeyTree { end: None, below })
         }
     }
 }
 
-// The number of the last key of the row that begins at a key.
-fn last_key(rows: &[Row<'_>], first: usize) -> Option<usize>
-    ensures within { ForSome result (λ last. (first ≤ last) × (last < length rows.now)) }
-    ensures dots { IfSome result (λ last. AllWithin (λ r. (lined_of r).value ≡ None) rows.now first last) }
-    ensures last { IfSome result (λ last. HoldsAt (λ r. is_some (lined_of r).value ≡ true) rows.now last) }
-    ensures none { IfNone result (AllWithin (λ r. (lined_of r).value ≡ None) rows.now first (length rows.now)) }
-{
-    for at in first..rows.len() {
-        if !rows[at].is_dot() {
-            return Some(at);
-        }
-    }
-    None
-}
-
 // Whether some row has more keys than the one before it.
 fn has_longer(rows: &[Row<'_>]) -> bool
-    ensures { result ≡ false → crossed_between (rows_view rows.now) ≡ None }
+    ensures { result ≡ false → (parents : List keys.Key) → crossed_between (rows_seen parents rows.now) ≡ None }
 {
     let mut most = usize::MAX;
-    let mut keys = 0;
     for row in rows {
-        keys += 1;
-        if keys > most {
+        if row.parents > most {
             return true;
         }
-        if row.is_dot() {
-            continue;
-        }
-        most = keys;
-        keys = 0;
+        most = row.parents;
     }
     false
 }
 
 // Looks for a row that goes on from the value of one before it. It has more keys than that one.
-fn look_between(alloc: Global, rows: &[Row<'_>]) -> Result<(), Crossed>
-    ensures { Looks (crossed_between (rows_view rows.now)) result }
+fn look_between<'de>(alloc: Global, parents: &[Key<'de>], rows: &[Row<'de>]) -> Result<(), Crossed>
+    ensures { Looks (crossed_between (rows_seen parents.now rows.now)) result }
 {
     if !has_longer(rows) {
         return Ok(());
     }
-    follow_rows(alloc, rows)
+    follow_rows(alloc, parents, rows)
 }
 
 // Follows the keys of all rows, one row after another. It stands apart, since in most tables no row has more keys than
 // the one before it.
 #[inline(never)]
-fn follow_rows(alloc: Global, rows: &[Row<'_>]) -> Result<(), Crossed>
-    ensures { Looks (crossed_between (rows_view rows.now)) result }
+fn follow_rows<'de>(alloc: Global, parents: &[Key<'de>], rows: &[Row<'de>]) -> Result<(), Crossed>
+    ensures { Looks (crossed_between (rows_seen parents.now rows.now)) result }
 {
     let mut tree = KeyTree::blank(alloc);
-    let mut first = 0;
-    while let Some(last) = last_key(rows, first) {
-        let start = rows[last].start;
-        tree = follow(alloc, tree, &rows[first..last + 1], start)?;
-        first = last + 1;
+    let mut left = parents;
+    for row in rows {
+        let own = row.own_parents(left);
+        tree = follow(alloc, tree, own, row.key.as_str(), row.start)?;
+        left = &left[own.len()..];
     }
     Ok(())
 }
@@ -138,13 +133,13 @@ fn follow_rows(alloc: Global, rows: &[Row<'_>]) -> Result<(), Crossed>
 // Looks for a row that goes on from a value: among these rows, and then within the value of each. Among plain rows, and
 // most rows are plain, there is none.
 #[cycle(looking)]
-fn look_through(alloc: Global, rows: &[Row<'_>]) -> Result<(), Crossed>
-    ensures { Looks (crossed_in (rows_view rows.now)) result }
+fn look_through<'de>(alloc: Global, parents: &[Key<'de>], rows: &[Row<'de>]) -> Result<(), Crossed>
+    ensures { Looks (crossed_in (rows_seen parents.now rows.now)) result }
 {
-    if are_all_plain(rows, 0) {
+    if parents.is_empty() && are_all_plain(rows, 0) {
         return Ok(());
     }
-    look_between(alloc, rows)?;
+    look_between(alloc, parents, rows)?;
     for row in rows {
         look_into(alloc, &row.value)?;
     }
@@ -155,11 +150,12 @@ fn look_through(alloc: Global, rows: &[Row<'_>]) -> Result<(), Crossed>
 #[cycle(looking)]
 #[inline(always)]
 fn look_into(alloc: Global, value: &Raw<'_>) -> Result<(), Crossed>
-    ensures { Looks (crossed_where (raw_of value.now)) result }
+    ensures { Looks (crossed_of (raw_of value.now)) result }
 {
     match value {
         Raw::Array(elements) => look_among(alloc, elements.as_slice()),
-        Raw::Inline(rows) => look_through(alloc, rows.as_slice()),
+        Raw::Inline(rows) => look_through(alloc, &[], rows.as_slice()),
+        Raw::Dotted(rows) => look_through(alloc, rows.parents.as_slice(), rows.rows.as_slice()),
         _ => Ok(()),
     }
 }
@@ -190,7 +186,8 @@ pub fn crossed_value(alloc: Global, sections: &[Section<'_>]) -> Result<Option<u
     ensures { IfOk result (λ found. found ≡ first_crossed (map section_of sections.now)) }
 {
     for section in sections {
-        match look_through(alloc, section.rows.as_slice()) {
+        let rows = &section.rows;
+        match look_through(alloc, rows.parents.as_slice(), rows.rows.as_slice()) {
             Ok(()) => {}
             Err(Crossed::Memory) => return Err(AllocError),
             Err(Crossed::At(at)) => return Ok(Some(at)),

@@ -16,7 +16,7 @@ mod items_left;
 mod plain;
 mod simple;
 
-pub use clash::{Clash, Repeated, key_texts, texts_of};
+pub use clash::{Clash, Repeated, key_texts};
 pub use crossed::crossed_value;
 pub use items_left::{ItemsLeft, drain};
 pub use plain::{are_plain, into_plain_values, plain_value, plain_values};

@@ -36,8 +36,7 @@ pub(crate) fn is_plain(value: &Raw<'_>, level: usize) -> bool
     ensures { result ≡ plain_within value.now level }
 {
     match value {
-        Raw::Dot => false,
-        Raw::Inline(_) => false,
+        Raw::Inline(_) | Raw::Dotted(_) => false,
         Raw::Array(elements) => {
             level < NESTING_LIMIT && are_plain(elements.as_slice(), level + 1)
         }
@@ -55,14 +54,13 @@ pub fn plain_value(alloc: Global, value: &Raw<'_>) -> Result<Value, AllocError>
     ensures { IfOk result (λ copy. view copy ≡ plain_data value.now) }
 {
     match value {
-        Raw::Dot => Ok(Value::Table(Table::new(alloc))),
         Raw::Integer(number) => Ok(Value::Integer(*number)),
         Raw::Float(float) => Ok(Value::Float(float.clone()?)),
         Raw::Boolean(truth) => Ok(Value::Boolean(*truth)),
         Raw::String(text) => Ok(Value::String(Text::from_str(alloc, text)?)),
         Raw::Escaped(text) => Ok(Value::String(Text::from_str(alloc, text.as_str())?)),
         Raw::Array(elements) => Ok(Value::Array(plain_values(alloc, elements.as_slice())?)),
-        Raw::Inline(_) => Ok(Value::Table(Table::new(alloc))),
+        Raw::Inline(_) | Raw::Dotted(_) => Ok(Value::Table(Table::new(alloc))),
     }
 }
 
@@ -89,14 +87,13 @@ fn into_plain_value(alloc: Global, value: Raw<'_>) -> Result<Value, AllocError>
     ensures { IfOk result (λ moved. view moved ≡ plain_data value.entry) }
 {
     match value {
-        Raw::Dot => Ok(Value::Table(Table::new(alloc))),
         Raw::Integer(number) => Ok(Value::Integer(number)),
         Raw::Float(float) => Ok(Value::Float(float)),
         Raw::Boolean(truth) => Ok(Value::Boolean(truth)),
         Raw::String(text) => Ok(Value::String(Text::from_str(alloc, text)?)),
         Raw::Escaped(text) => Ok(Value::String(Text::from(text))),
         Raw::Array(elements) => Ok(Value::Array(into_plain_values(alloc, elements)?)),
-        Raw::Inline(_) => Ok(Value::Table(Table::new(alloc))),
+        Raw::Inline(_) | Raw::Dotted(_) => Ok(Value::Table(Table::new(alloc))),
     }
 }
 

@@ -1,5 +1,5 @@
-//! Simple rows: each has one key, which no other has, and a plain value. Nothing clashes among them, and a table
-//! without entries takes them all at once.
+//! Simple rows: each has a last key that no other has, and a plain value. Where none has parents, nothing clashes among
+//! them, and a table without entries takes them all at once.
 
 ghost use Rattle.std.specs.Prelude.{◌≡◌, map};
 ghost use Rattle.basic_toml_value.specs.Keys.{is_among};
@@ -22,8 +22,8 @@ pub fn are_simple(rows: &[Row<'_>], level: usize) -> bool
     }
 }
 
-/// Whether the rows of a table of a level are all plain: each has one key and a plain value. Rows of such whose keys
-/// differ are simple, so this serves very many rows, of which `are_simple` would compare each with all after it.
+/// Whether the rows of a table of a level are all plain: each has a plain value. Rows of such whose keys differ are
+/// simple, so this serves very many rows, of which `are_simple` would compare each with all after it.
 pub fn are_all_plain(rows: &[Row<'_>], level: usize) -> bool
     ensures { result ≡ all_plain level rows.now }
 {

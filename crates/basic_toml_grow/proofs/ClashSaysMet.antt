@@ -1,20 +1,20 @@
 -- The clash that is answered for a row says what was met, or what stops its value.
 use Rattle.std.proofs.Common.{◌≡◌, ◌<◌, ◌≤◌, get_or, ℕ, suc, zero, ◌+◌, ◌-◌, List, [], ◌∷◌, ◌++◌, refl, sym}
 use Rattle.std.proofs.Common.{ap, ◌∙◌, Some, None, length}
-use Rattle.std.proofs.Common.{take, arith, rules, Result, Ok, Err, IfOk}
+use Rattle.std.proofs.Common.{take, map, arith, rules, Result, Ok, Err, IfOk}
 use Rattle.std.specs.List.{slice_get}
 use Rattle.basic_toml_grammar.specs.Sections.{Key, KeyTexts, texts}
 use Rattle.basic_toml_grammar.specs.Trie.{Trie}
 use Rattle.basic_toml_grammar.specs.Stops.{Stop, at_row, Outcome, stops}
 use Rattle.basic_toml_read.specs.declared.section.Raw.{the_lemmas}
+use Rattle.basic_toml_read.specs.declared.section.Key as keys
 use Rattle.basic_toml_read.specs.declared.section.Row.{Row, out-Row}
-use Rattle.basic_toml_read.specs.SectionView.{lined_of}
+use Rattle.basic_toml_read.specs.SectionView.{key_of, header_texts, lined_of}
 use Rattle.basic_toml_clash.specs.declared.clash.Clash.{Clash}
 use Rattle.basic_toml_clash.specs.declared.clash.Clash.TheVariants as clashes
 use Rattle.basic_toml_grow.specs.declared.rows.Met.TheVariants as mets
-use Rattle.basic_toml_clash.specs.KeyTree.{path_of}
 use Rattle.basic_toml_clash.specs.Clash.{IsStop, NamesStop}
-use Rattle.basic_toml_grow.specs.RowStops.{line_keys, key_at, StopsAtKey, SaysMet}
+use Rattle.basic_toml_grow.specs.RowStops.{key_at, StopsAtKey, SaysMet}
 
 pub same_row : {p q : KeyTexts} {n m : ℕ} {t u : List ℕ} → p ≡ q → n ≡ m → t ≡ u
     → at_row p (key_at n t) ≡ at_row q (key_at m u)
@@ -38,43 +38,44 @@ if_stop (Err error) x P f is = tt
 pub row_offset : (r : Row) → (out-Row r).offset ≡ (lined_of r).key.offset
 row_offset r = search (rules, the_lemmas)
 
--- a row at a number, or none
-pub row_at : (rows : List Row) (n : ℕ) (r : Row) → n < length rows → r ≡ get_or rows n r → slice_get rows n ≡ Some r
-row_at [] n r within at = absurd (omega arith)
-row_at (s ∷ rows) zero r within at = ap Some (sym at)
-row_at (s ∷ rows) (suc n) r within at = row_at rows n r (omega arith) at
+-- a key at a number, or none
+pub key_there : (ks : List keys.Key) (n : ℕ) (k : keys.Key) → n < length ks → k ≡ get_or ks n k → slice_get ks n
+    ≡ Some k
+key_there [] n k within at = absurd (omega arith)
+key_there (s ∷ ks) zero k within at = ap Some (sym at)
+key_there (s ∷ ks) (suc n) k within at = key_there ks n k (omega arith) at
 
-pub none_at : (rows : List Row) (n : ℕ) → length rows ≤ n → slice_get rows n ≡ None
-none_at [] n past = refl
-none_at (s ∷ rows) zero past = absurd (omega arith)
-none_at (s ∷ rows) (suc n) past = none_at rows n (omega arith)
+pub none_there : (ks : List keys.Key) (n : ℕ) → length ks ≤ n → slice_get ks n ≡ None
+none_there [] n past = refl
+none_there (s ∷ ks) zero past = absurd (omega arith)
+none_there (s ∷ ks) (suc n) past = none_there ks n (omega arith)
 
 -- the key met, which is the last one or not
-record KeyIs (rows : List Row) (k : Key) (front : List Key) (there : Key) : Type 0 where
-  before : texts front ≡ path_of (take (length front) rows)
-  one : (r : Row) → slice_get rows (length front) ≡ Some r → there ≡ (lined_of r).key
-  last : slice_get rows (length front) ≡ None → there ≡ k
+record KeyIs (parents : List keys.Key) (k : Key) (front : List Key) (there : Key) : Type 0 where
+  before : texts front ≡ header_texts (take (length front) parents)
+  one : (r : keys.Key) → slice_get parents (length front) ≡ Some r → there ≡ key_of r
+  last : slice_get parents (length front) ≡ None → there ≡ k
 
-key_is : (rows : List Row) (k : Key) (front : List Key) (there : Key) (rest : List Key)
-    → line_keys rows ++ k ∷ [] ≡ front ++ there ∷ rest → KeyIs rows k front there
+key_is : (parents : List keys.Key) (k : Key) (front : List Key) (there : Key) (rest : List Key)
+    → map key_of parents ++ k ∷ [] ≡ front ++ there ∷ rest → KeyIs parents k front there
 key_is [] k [] there rest parts = record { before = refl; one = λ r at. absurd (cc); last = λ none. cc }
 key_is [] k (f ∷ []) there rest parts = absurd (cc)
 key_is [] k (f ∷ g ∷ front) there rest parts = absurd (cc)
 key_is (r ∷ rs) k [] there rest parts = record { before = refl; one = λ s at. cc; last = λ none. absurd (cc) }
 key_is (r ∷ rs) k (f ∷ front) there rest parts =
-    let head : f ≡ (lined_of r).key = cc in
+    let head : f ≡ (key_of r) = cc in
     let h = key_is rs k front there rest (cc) in record {
-      before = ap (λ f. f.text ∷ texts front) head ∙ ap (λ ks. (lined_of r).key.text ∷ ks) h.before;
+      before = ap (λ f. f.text ∷ texts front) head ∙ ap (λ ks. (key_of r).text ∷ ks) h.before;
       one = h.one;
       last = h.last;
     }
 
-count_front : (rows : List Row) (k : Key) (front : List Key) (there : Key) (rest : List Key)
-    → line_keys rows ++ k ∷ [] ≡ front ++ there ∷ rest → length rows + 1 ≡ length front + suc (length rest)
-count_front rows k front there rest parts =
-    sym (lines rows) ∙ ap length parts ∙ after front
+count_front : (parents : List keys.Key) (k : Key) (front : List Key) (there : Key) (rest : List Key)
+    → map key_of parents ++ k ∷ [] ≡ front ++ there ∷ rest → length parents + 1 ≡ length front + suc (length rest)
+count_front parents k front there rest parts =
+    sym (lines parents) ∙ ap length parts ∙ after front
   where
-    lines : (rows : List Row) → length (line_keys rows ++ k ∷ []) ≡ length rows + 1
+    lines : (parents : List keys.Key) → length (map key_of parents ++ k ∷ []) ≡ length parents + 1
     lines [] = refl
     lines (r ∷ rs) = let h = lines rs in omega arith
 
@@ -82,36 +83,37 @@ count_front rows k front there rest parts =
     after [] = omega arith
     after (f ∷ front) = let h = after front in omega arith
 
-module _ (rows : List Row) (offset : ℕ) (last : List ℕ) (left number : ℕ) (is_number : number ≡ length rows + 1 - left)
-    (path : KeyTexts) (is_path : path ≡ path_of (take number rows)) (clash : Clash) where
+module _ (parents : List keys.Key) (offset : ℕ) (last : List ℕ) (left number : ℕ)
+    (is_number : number ≡ length parents + 1 - left)
+    (path : KeyTexts) (is_path : path ≡ header_texts (take number parents)) (clash : Clash) where
   abbrev MetKey : Outcome Trie → Type 0
-  MetKey o = StopsAtKey [] (line_keys rows ++ key_at offset last ∷ []) left o
+  MetKey o = StopsAtKey [] (map key_of parents ++ key_at offset last ∷ []) left o
 
   at_front : (o : Outcome Trie) (m : MetKey o) → number ≡ length m.front
   at_front o m =
-      let count = count_front rows (key_at offset last) m.front m.there m.rest m.parts in
+      let count = count_front parents (key_at offset last) m.front m.there m.rest m.parts in
       let c = m.count in
       omega arith
 
   -- the stop at a key, whose place is known
   told_at : (o : Outcome Trie) (m : MetKey o) (k : Key) → m.there ≡ k
-      → texts m.front ≡ path_of (take (length m.front) rows) → IsStop clash (at_row path k) → NamesStop o clash
+      → texts m.front ≡ header_texts (take (length m.front) parents) → IsStop clash (at_row path k) → NamesStop o clash
   told_at o m k there before said =
       let n = at_front o m in
       names clash (at_row path k) o said
       (m.stop ∙ ap stops (ap (λ k. at_row (texts m.front) k) there
-      ∙ same_row (before ∙ ap (λ n. path_of (take n rows)) (sym n) ∙ sym is_path) refl refl))
+      ∙ same_row (before ∙ ap (λ n. header_texts (take n parents)) (sym n) ∙ sym is_path) refl refl))
 
-  pub key_said : (r : Row) → slice_get rows number ≡ Some r → IsStop clash (at_row path (lined_of r).key)
-      → SaysMet (line_keys rows) (key_at offset last) (mets.Header left) clash
+  pub key_said : (r : keys.Key) → slice_get parents number ≡ Some r → IsStop clash (at_row path (key_of r))
+      → SaysMet (map key_of parents) (key_at offset last) (mets.Header left) clash
   key_said r at said = λ o told.
       let n = at_front o told in
-      let k = key_is rows (key_at offset last) told.front told.there told.rest told.parts in
-      told_at o told (lined_of r).key (k.one r (ap (slice_get rows) (sym n) ∙ at)) k.before said
+      let k = key_is parents (key_at offset last) told.front told.there told.rest told.parts in
+      told_at o told (key_of r) (k.one r (ap (slice_get parents) (sym n) ∙ at)) k.before said
 
-  pub last_said : slice_get rows number ≡ None → IsStop clash (at_row path (key_at offset last))
-      → SaysMet (line_keys rows) (key_at offset last) (mets.Header left) clash
+  pub last_said : slice_get parents number ≡ None → IsStop clash (at_row path (key_at offset last))
+      → SaysMet (map key_of parents) (key_at offset last) (mets.Header left) clash
   last_said none said = λ o told.
       let n = at_front o told in
-      let k = key_is rows (key_at offset last) told.front told.there told.rest told.parts in
-      told_at o told (key_at offset last) (k.last (ap (slice_get rows) (sym n) ∙ none)) k.before said
+      let k = key_is parents (key_at offset last) told.front told.there told.rest told.parts in
+      told_at o told (key_at offset last) (k.last (ap (slice_get parents) (sym n) ∙ none)) k.before said

@@ -1,15 +1,15 @@
 -- Elements that are left, and what all elements of an array come to.
 use Rattle.std.proofs.Common.{◌≡◌, ◌≤◌, ◌<◌, ℕ, ◌||◌, List, []}
-use Rattle.std.proofs.Common.{◌∷◌, ◌++◌, map, Some, None, refl, sym, ap, ◌∙◌, arith, rules, subst}
+use Rattle.std.proofs.Common.{◌∷◌, ◌++◌, map, refl, sym, ap, ◌∙◌, arith, rules, subst}
 use Rattle.std.proofs.lemmas.List.{map-append}
 use Rattle.basic_toml_value.specs.Data.{Data, Items, no_items, item, items_of}
 use Rattle.basic_toml_value.specs.Nesting.{nesting_limit}
-use Rattle.basic_toml_grammar.specs.Sections.{Raw, Elements, no_elements, element}
+use Rattle.basic_toml_grammar.specs.Sections.{Elements, no_elements, element}
 use Rattle.basic_toml_grammar.specs.RowClash.{elements_clash}
 use Rattle.basic_toml_grammar.specs.Levels.{elements_level}
 use Rattle.basic_toml_grammar.specs.Mentions.{finished, finished_elements}
 use Rattle.basic_toml_grammar.specs.Trie.{Trie}
-use Rattle.basic_toml_read.specs.SectionView.{raw_of, placed_of, elements_view, with_element}
+use Rattle.basic_toml_read.specs.SectionView.{raw_of, placed_of, elements_view}
 use Rattle.basic_toml_read.specs.declared.section.Raw as raws
 use Rattle.basic_toml_read.specs.declared.section.Element as elements
 use Rattle.basic_toml_grow.specs.declared.item.Child.{Child}
@@ -20,7 +20,8 @@ use Rattle.basic_toml_grammar.specs.TrieStops.{try_put_value, try_put_elements}
 use Rattle.basic_toml_grammar.proofs.Naming.WhatIsPutGoesOn.{value_goes}
 use Rattle.basic_toml_clash.specs.declared.clash.Clash.{Clash}
 use Rattle.basic_toml_clash.specs.Clash.{NamesStop}
-use Rattle.basic_toml_grow.proofs.RowsHaveKeys.{kept, every_element}
+use Rattle.basic_toml_grow.proofs.RowsHaveKeys.{every_element}
+use Rattle.basic_toml_grammar.specs.Entering.{value_keyed}
 use Rattle.basic_toml_grow.proofs.RowsLeft.{stopped_then}
 
 -- data before that of elements
@@ -40,11 +41,10 @@ pub record ElementsAreLeft (whole : Elements) (level : ℕ) (ts : List Trie) (re
 element_value : (e : elements.Element) → (placed_of e).value ≡ raw_of (elements.out-Element e).value
 element_value e = search (rules, raws.the_lemmas)
 
-pub element_seen : (e : elements.Element) (rest : List elements.Element) (v : Raw)
-    → raw_of (elements.out-Element e).value ≡ Some v
-    → elements_view (e ∷ rest) ≡ element (placed_of e).offset v (elements_view rest)
-element_seen e rest v some =
-    ap (λ v. with_element (placed_of e).offset v (elements_view rest)) (element_value e ∙ some)
+pub element_seen : (e : elements.Element) (rest : List elements.Element)
+    → elements_view (e ∷ rest)
+    ≡ element (placed_of e).offset (raw_of (elements.out-Element e).value) (elements_view rest)
+element_seen e rest = ap (λ v. element (placed_of e).offset v (elements_view rest)) (element_value e)
 
 one_more : (ds : List Data) (d : Data) (rest : Items) → before_items (ds ++ d ∷ []) rest
     ≡ before_items ds (item d rest)
@@ -53,12 +53,12 @@ one_more (e ∷ ds) d rest = ap (λ is. item e is) (one_more ds d rest)
 
 -- one more element is finished
 pub element_entered : (whole : Elements) (level : ℕ) (children : List Child) (child : Child) (e : elements.Element)
-    (rest : List elements.Element) (v : Raw) → raw_of (elements.out-Element e).value ≡ Some v
-    → ElementsAreLeft whole level (map child_trie children) (elements_view (e ∷ rest))
-    → IsFinished v level (child_trie child)
+    (rest : List elements.Element) → ElementsAreLeft whole level (map child_trie children) (elements_view (e ∷ rest))
+    → IsFinished (raw_of (elements.out-Element e).value) level (child_trie child)
     → ElementsAreLeft whole level (map child_trie (children ++ child ∷ [])) (elements_view rest)
-element_entered whole level children child e rest v some left done =
-    let seen = element_seen e rest v some in
+element_entered whole level children child e rest left done =
+    let v = raw_of (elements.out-Element e).value in
+    let seen = element_seen e rest in
     let was = subst (λ (es : Elements). ElementsAreLeft whole level (map child_trie children) es) seen left in
     let datas : map tree_data (map child_trie (children ++ child ∷ []))
     ≡ map tree_data (map child_trie children) ++ finished v ∷ []
@@ -73,7 +73,7 @@ element_entered whole level children child e rest v some left done =
           ∙ was.values;
       clash = was.clash ∙ ap (λ b. b || elements_clash others) done.apart;
       tried = was.tried ∙ ap (λ o. and_on o (λ _. try_put_elements others))
-          (value_goes v (sym (ap kept (element_value e ∙ some)) ∙ every_element e) done.apart).1;
+          (value_goes v (sym (ap value_keyed (element_value e)) ∙ every_element e) done.apart).1;
       fits = λ f. was.fits (omega arith);
       deep = λ d. was.deep (omega arith);
     }
@@ -93,16 +93,9 @@ elements_done whole level ts left = record {
 
 -- what stops the next element stops all
 pub element_stopped : (whole : Elements) (level : ℕ) (ts : List Trie) (e : elements.Element)
-    (rest : List elements.Element) (v : Raw) (clash : Clash) → raw_of (elements.out-Element e).value ≡ Some v
-    → ElementsAreLeft whole level ts (elements_view (e ∷ rest)) → NamesStop (try_put_value v) clash
-    → NamesStop (try_put_elements whole) clash
-element_stopped whole level ts e rest v clash some left named =
-    stopped_then (try_put_value v) (try_put_elements whole) (λ _. try_put_elements (elements_view rest)) clash
-    (left.tried ∙ ap (λ es. try_put_elements es) (element_seen e rest v some)) named
-
--- what only stands for a period is none
-pub element_skipped : (e : elements.Element) (rest : List elements.Element) → raw_of (elements.out-Element e).value
-    ≡ None
-    → elements_view (e ∷ rest) ≡ elements_view rest
-element_skipped e rest none =
-    ap (λ v. with_element (placed_of e).offset v (elements_view rest)) (element_value e ∙ none)
+    (rest : List elements.Element) (clash : Clash) → ElementsAreLeft whole level ts (elements_view (e ∷ rest))
+    → NamesStop (try_put_value (raw_of (elements.out-Element e).value)) clash → NamesStop (try_put_elements whole) clash
+element_stopped whole level ts e rest clash left named =
+    stopped_then (try_put_value (raw_of (elements.out-Element e).value)) (try_put_elements whole)
+    (λ _. try_put_elements (elements_view rest)) clash
+    (left.tried ∙ ap (λ es. try_put_elements es) (element_seen e rest)) named

@@ -1,6 +1,6 @@
 -- The table of an inline table: it is finished as the tree of its rows, and what keeps a row out makes rows clash.
 use Rattle.std.proofs.Common.{◌≡◌, ◌<◌, ℕ, ◌+◌, Bool, true, false, inl, inr}
-use Rattle.std.proofs.Common.{Option, Some, None, refl, sym, ap, ◌∙◌, arith, rules, subst, Vec, Box, Global}
+use Rattle.std.proofs.Common.{Option, Some, None, refl, sym, ap, ◌∙◌, arith, rules, subst, Box, Global}
 use Rattle.basic_toml_value.specs.Nesting.{nesting_limit}
 use Rattle.basic_toml_grammar.specs.Sections.{Raw, Rows}
 use Rattle.basic_toml_grammar.specs.RowClash.{rows_clash}
@@ -8,10 +8,6 @@ use Rattle.basic_toml_grammar.specs.Entering.{rows_keyed}
 use Rattle.basic_toml_grammar.specs.Standing as standings
 use Rattle.basic_toml_grammar.specs.Trie.{Trie, trie, no_tries, put_rows}
 use Rattle.basic_toml_grammar.proofs.Tries.RowsInATrie.{rows_put, inline_data}
-use Rattle.basic_toml_read.specs.SectionView.{raw_of, rows_view}
-use Rattle.basic_toml_read.proofs.ViewsSeen.{inline_of}
-use Rattle.basic_toml_read.specs.declared.section.Raw as raws
-use Rattle.basic_toml_read.specs.declared.section.Row as lines
 use Rattle.basic_toml_grow.specs.declared.item.Item as items
 use Rattle.basic_toml_grow.specs.declared.item.Table.{Table}
 use Rattle.basic_toml_clash.specs.declared.clash.Clash.{Clash}
@@ -25,30 +21,21 @@ use Rattle.basic_toml_grammar.specs.TrieStops.{try_put_rows, try_put_value}
 use Rattle.basic_toml_grammar.proofs.Naming.WhatIsPutGoesOn.{rows_aside}
 use Rattle.basic_toml_clash.specs.declared.clash.Clash.TheVariants as clashes
 use Rattle.basic_toml_clash.specs.Clash.{NamesStop}
-use Rattle.basic_toml_grow.proofs.RowsLeft.{rows_are_keyed}
 
-same_some : {A : Type 0} {a b : A} → Some a ≡ Some b → a ≡ b
-same_some same = cc
-
-finished_is : (v u : Raw) (level : ℕ) (t : Trie) → Some u ≡ Some v → IsFinished u level t → IsFinished v level t
-finished_is v u level t same done = subst (λ (v : Raw). IsFinished v level t) (same_some same) done
-
-pub inline_finished : (rs : Vec lines.Row Global) (table : Box Table Global) (s : Option standings.Standing)
-    (before : Trie) (level : ℕ) (v : Raw) → raw_of (raws.Inline rs) ≡ Some v → level < nesting_limit
-    → before ≡ trie s None no_tries → AreIn (rows_view rs.items) (level + 1) before (table_trie table.value)
-    → IsFinished v level (item_trie (items.Inline table))
-inline_finished rs table s before level v seen low empty done =
+pub inline_finished : (rows : Rows) (table : Box Table Global) (s : Option standings.Standing)
+    (before : Trie) (level : ℕ) → rows_keyed rows ≡ true → level < nesting_limit
+    → before ≡ trie s None no_tries → AreIn rows (level + 1) before (table_trie table.value)
+    → IsFinished (Raw.inline rows) level (item_trie (items.Inline table))
+inline_finished rows table s before level keyed low empty done =
     let is : item_trie (items.Inline table) ≡ leaf (tree_data (table_trie table.value)) =
     search (rules, items.the_lemmas) in
     let fits = done.fits in
-    finished_is v (Raw.inline (rows_view rs.items)) level (item_trie (items.Inline table)) (sym (inline_of rs) ∙ seen)
-    (record {
-      value = is ∙ ap leaf (inline_data (rows_view rs.items) s (table_trie table.value) (rows_are_keyed rs.items)
-          done.apart
-          (ap (λ t. put_rows (rows_view rs.items) t) (sym empty) ∙ done.put));
+    record {
+      value = is ∙ ap leaf (inline_data rows s (table_trie table.value) keyed done.apart
+          (ap (λ t. put_rows rows t) (sym empty) ∙ done.put));
       apart = done.apart;
       fits = omega arith;
-    })
+    }
 
 -- rows that no empty table takes clash
 refused_clash : (rows : Rows) (s : Option standings.Standing) → rows_keyed rows ≡ true
@@ -59,37 +46,31 @@ refused_clash rows s keyed none false clear =
     let is : put_rows rows (trie s None no_tries) ≡ Some put.0 = put.1 in
     absurd (cc (none, is))
 
-pub inline_kept_out : (rs : Vec lines.Row Global) (s : Option standings.Standing) (before : Trie) (level : ℕ) (v : Raw)
-    (clash : Clash) → raw_of (raws.Inline rs) ≡ Some v → before ≡ trie s None no_tries
-    → AreKeptOut (rows_view rs.items) (level + 1) before clash → IsUnfinished v level clash
-inline_kept_out rs s before level v clash seen empty kept =
-    subst (λ (v : Raw). IsUnfinished v level clash) (same_some (sym (inline_of rs) ∙ seen))
-    (unfinished_for (Raw.inline (rows_view rs.items)) level clash
-    (go (reason clash) (for_kept (rows_view rs.items) (level + 1) before clash kept)))
+pub inline_kept_out : (rows : Rows) (s : Option standings.Standing) (before : Trie) (level : ℕ) (clash : Clash)
+    → rows_keyed rows ≡ true → before ≡ trie s None no_tries → AreKeptOut rows (level + 1) before clash
+    → IsUnfinished (Raw.inline rows) level clash
+inline_kept_out rows s before level clash keyed empty kept =
+    unfinished_for (Raw.inline rows) level clash (go (reason clash) (for_kept rows (level + 1) before clash kept))
   where
-    go : (why : Reason) → KeptFor (rows_view rs.items) (level + 1) before why
-        → UnfinishedFor (Raw.inline (rows_view rs.items)) level why
+    go : (why : Reason) → KeptFor rows (level + 1) before why → UnfinishedFor (Raw.inline rows) level why
     go memory kept = tt
     go deep kept = omega arith
     go crossed (inl clash) = clash
     go crossed (inr none) =
-        refused_clash (rows_view rs.items) s (rows_are_keyed rs.items)
-        (ap (λ t. put_rows (rows_view rs.items) t) (sym empty) ∙ none) (rows_clash (rows_view rs.items)) refl
+        refused_clash rows s keyed (ap (λ t. put_rows rows t) (sym empty) ∙ none) (rows_clash rows) refl
 
 -- what stops the rows of an empty table stops those of an inline table
-pub inline_stopped : (rs : Vec lines.Row Global) (s : Option standings.Standing) (before : Trie) (v : Raw)
-    (clash : Clash) → raw_of (raws.Inline rs) ≡ Some v → before ≡ trie s None no_tries
-    → NamesStop (try_put_rows (rows_view rs.items) before) clash → NamesStop (try_put_value v) clash
-inline_stopped rs s before v clash seen empty named =
-    subst (λ (v : Raw). NamesStop (try_put_value v) clash) (same_some (sym (inline_of rs) ∙ seen))
-    (go clash (subst (λ (t : Trie). NamesStop (try_put_rows (rows_view rs.items) t) clash) empty named))
+pub inline_stopped : (rows : Rows) (s : Option standings.Standing) (before : Trie) (clash : Clash)
+    → rows_keyed rows ≡ true → before ≡ trie s None no_tries → NamesStop (try_put_rows rows before) clash
+    → NamesStop (try_put_value (Raw.inline rows)) clash
+inline_stopped rows s before clash keyed empty named =
+    go clash (subst (λ (t : Trie). NamesStop (try_put_rows rows t) clash) empty named)
   where
-    aside : (x : Stop) → try_put_rows (rows_view rs.items) (trie s None no_tries) ≡ stops x
-        → try_put_rows (rows_view rs.items) nothing ≡ stops x
-    aside x stop = rows_aside (rows_view rs.items) s None None None no_tries x (rows_are_keyed rs.items) stop
+    aside : (x : Stop) → try_put_rows rows (trie s None no_tries) ≡ stops x → try_put_rows rows nothing ≡ stops x
+    aside x stop = rows_aside rows s None None None no_tries x keyed stop
 
-    go : (clash : Clash) → NamesStop (try_put_rows (rows_view rs.items) (trie s None no_tries)) clash
-        → NamesStop (try_put_rows (rows_view rs.items) nothing) clash
+    go : (clash : Clash) → NamesStop (try_put_rows rows (trie s None no_tries)) clash
+        → NamesStop (try_put_rows rows nothing) clash
     go clashes.Memory named = tt
     go clashes.Deep named = tt
     go (clashes.Header left) named = (named.0, (named.1.0, aside named.0 named.1.1))

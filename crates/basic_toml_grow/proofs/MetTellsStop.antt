@@ -3,6 +3,7 @@ use Rattle.std.proofs.Common.{rules, ◌≡◌, ℕ, suc, ◌+◌, Bool, true, f
 use Rattle.std.proofs.Common.{Option, Some, None, length, take, map, Box, Vec, Global, subst, arith}
 use Rattle.std.proofs.Common.{cond}
 use Rattle.std.specs.Option.{option_or}
+use Rattle.std.proofs.lemmas.List.{length-map}
 use Rattle.std.specs.List.{slice_get}
 use Rattle.basic_toml_value.specs.Data.{Data}
 use Rattle.basic_toml_grammar.specs.Sections.{Key, KeyTexts, texts}
@@ -14,7 +15,8 @@ use Rattle.basic_toml_grammar.specs.Stops.{Stop, at_row, last_stop, Outcome, goe
 use Rattle.basic_toml_grammar.specs.TrieStops.{try_here, try_step, try_put_row}
 use Rattle.basic_toml_grammar.proofs.Tries.StopsByPath.{path_here, path_stop}
 use Rattle.basic_toml_grammar.proofs.Tries.StopsForgotten.{goes, left_here}
-use Rattle.basic_toml_read.specs.declared.section.Row.{Row}
+use Rattle.basic_toml_read.specs.declared.section.Key as code_keys
+use Rattle.basic_toml_read.specs.SectionView.{key_of}
 use Rattle.basic_toml_grow.specs.declared.item.Item as items
 use Rattle.basic_toml_grow.specs.declared.item.Child.{Child, out-Child}
 use Rattle.basic_toml_grow.specs.declared.item.Item.{the_lemmas}
@@ -25,7 +27,7 @@ use Rattle.basic_toml_grow.specs.declared.rows.Met.{Met}
 use Rattle.basic_toml_grow.specs.declared.rows.Met.TheVariants as mets
 use Rattle.basic_toml_grow.specs.Item.{child_trie, table_trie, item_trie, by_keys, by_numbers}
 use Rattle.basic_toml_value.specs.Growth.{values_of, EntersKey}
-use Rattle.basic_toml_grow.specs.RowStops.{line_keys, key_at, StopsAtKey, TellsStop, TellsLast, TellsRow, TellsExtended}
+use Rattle.basic_toml_grow.specs.RowStops.{key_at, StopsAtKey, TellsStop, TellsLast, TellsRow, TellsExtended}
 use Rattle.basic_toml_grow.proofs.KeysInATrie.{tries_of, stood_there}
 use Rattle.basic_toml_grow.proofs.ItemTries.{child_item_trie, table_entries_trie}
 use Rattle.basic_toml_grow.proofs.TablesOpened.{table_item_trie, tables_trie, nothing_trie}
@@ -165,10 +167,6 @@ length_last : (ks : List Key) (k : Key) → length (ks ++ k ∷ []) ≡ suc (len
 length_last [] k = refl
 length_last (l ∷ ks) k = ap suc (length_last ks k)
 
-length_lines : (rows : List Row) → length (line_keys rows) ≡ length rows
-length_lines [] = refl
-length_lines (r ∷ rs) = ap suc (length_lines rs)
-
 stopped_here : (before : KeyTexts) (first : Key) (t : Trie) → mark_here dotted t ≡ None
     → try_here dotted (λ m. at_row before first) t ≡ stops (at_row before first)
 stopped_here before first (trie s v ts) none = go (standings.fits dotted s) none
@@ -181,18 +179,19 @@ stopped_here before first (trie s v ts) none = go (standings.fits dotted s) none
     go true none = absurd (cc)
     go false none = refl
 
-pub extended_refused : (rows : List Row) (last : List ℕ) (d : Data) (t : Trie) (left : ℕ) → left ≡ length rows + 2
-    → mark_here dotted t ≡ None → TellsExtended (line_keys rows) last d t (mets.Header left)
-extended_refused rows last d t left count none = λ before first offset.
-    let more = length_last (line_keys rows) (key_at offset last) in
-    let lines = length_lines rows in record {
+pub extended_refused : (parents : List code_keys.Key) (last : List ℕ) (d : Data) (t : Trie) (left : ℕ)
+    → left ≡ length parents + 2 → mark_here dotted t ≡ None → TellsExtended (map key_of parents) last d t
+    (mets.Header left)
+extended_refused parents last d t left count none = λ before first offset.
+    let more = length_last (map key_of parents) (key_at offset last) in
+    let lines = length-map parents key_of in record {
       front = [];
       there = first;
-      rest = line_keys rows ++ key_at offset last ∷ [];
+      rest = map key_of parents ++ key_at offset last ∷ [];
       parts = refl;
       count = omega arith;
       stop = ap (λ o. and_on o (λ t. try_put_row (before ++ first.text ∷ [])
-          (line_keys rows ++ key_at offset last ∷ []) d t)) (stopped_here before first t none)
+          (map key_of parents ++ key_at offset last ∷ []) d t)) (stopped_here before first t none)
           ∙ ap (λ b. stops (at_row b first)) (sym (none_after before));
     }
 
@@ -295,6 +294,6 @@ tables_stand c b latest is =
     (by_numbers 0 (map table_trie b.value.items ++ table_trie latest.value ∷ []))
     (child_item_trie c ∙ ap item_trie is ∙ tables_trie b latest)
 
-pub no_keys : (rows : List Row) → length rows ≡ 0 → line_keys rows ≡ []
+pub no_keys : (ks : List code_keys.Key) → length ks ≡ 0 → map key_of ks ≡ []
 no_keys [] none = refl
-no_keys (r ∷ rs) none = absurd (omega arith)
+no_keys (k ∷ ks) none = absurd (omega arith)

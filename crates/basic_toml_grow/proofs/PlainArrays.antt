@@ -1,5 +1,5 @@
 -- Arrays of plain values, kept as they are read.
-use Rattle.std.proofs.Common.{◌≡◌, ◌<◌, ◌+◌, ℕ, true, Some, sym, ap, ◌∙◌, arith, rules, subst, Vec, Global}
+use Rattle.std.proofs.Common.{◌≡◌, ◌<◌, ◌+◌, ℕ, true, sym, ap, ◌∙◌, arith, rules, subst, Vec, Global}
 use Rattle.basic_toml_value.specs.Nesting.{nesting_limit}
 use Rattle.basic_toml_grammar.specs.Mentions.{finished}
 use Rattle.basic_toml_grammar.specs.Sections as sections
@@ -21,16 +21,12 @@ pub plain_origins : (es : Vec Element Global) (at s : ℕ)
     → item_origins (Plain es) at s ≡ value_origins s at (plain_array es.items)
 plain_origins es at s = search (rules, the_lemmas)
 
-module _ (es : Vec Element Global) (l : ℕ) (plain : are_plain (l + 1) es.items ≡ true) (v : sections.Raw)
-    (read : raw_of (raws.Array es) ≡ Some v) where
+module _ (es : Vec Element Global) (l : ℕ) (plain : are_plain (l + 1) es.items ≡ true) where
   -- it is the value that is read
-  is_read : plain_array es.items ≡ v
-  is_read =
-      let same : Some (plain_array es.items) ≡ Some v =
-      sym (ap (λ es. Some (sections.Raw.array es)) (all_plain (l + 1) es.items plain).are) ∙ sym (array_of es) ∙ read in
-      cc
+  is_read : plain_array es.items ≡ raw_of (raws.Array es)
+  is_read = sym (ap sections.Raw.array (all_plain (l + 1) es.items plain).are) ∙ sym (array_of es)
 
-  pub plain_finished : l < nesting_limit → IsFinished v l (item_trie (Plain es))
+  pub plain_finished : l < nesting_limit → IsFinished (raw_of (raws.Array es)) l (item_trie (Plain es))
   plain_finished low =
       let all = all_plain (l + 1) es.items plain in
       let fit = all.fit in
@@ -40,5 +36,5 @@ module _ (es : Vec Element Global) (l : ℕ) (plain : are_plain (l + 1) es.items
         fits = omega arith;
       })
 
-  pub plain_come : (at s : ℕ) → item_origins (Plain es) at s ≡ value_origins s at v
+  pub plain_come : (at s : ℕ) → item_origins (Plain es) at s ≡ value_origins s at (raw_of (raws.Array es))
   plain_come at s = plain_origins es at s ∙ ap (value_origins s at) is_read

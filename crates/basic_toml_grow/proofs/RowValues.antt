@@ -1,30 +1,30 @@
 -- One row with its value, put into a table of a level.
-use Rattle.std.proofs.Common.{◌≡◌, ◌≤◌, ◌<◌, ℕ, ◌+◌, ◌-◌, true, false, inl, List, []}
-use Rattle.std.proofs.Common.{◌∷◌, ◌++◌, length, Some, Err, refl, sym, ap, ◌∙◌, arith, rules, subst}
+use Rattle.std.proofs.Common.{◌≡◌, ◌≤◌, ◌<◌, ℕ, ◌+◌, ◌-◌, inl, List, []}
+use Rattle.std.proofs.Common.{◌∷◌, ◌++◌, length, map, Some, Err, refl, sym, ap, ◌∙◌, arith, rules, subst}
 use Rattle.basic_toml_value.specs.Data.{Data}
 use Rattle.basic_toml_value.specs.Nesting.{nesting_limit}
-use Rattle.basic_toml_grammar.specs.Sections.{Key, texts, Raw, Rows, no_rows, row, KeyTexts}
-use Rattle.basic_toml_grammar.specs.RowClash.{rows_clash}
+use Rattle.basic_toml_grammar.specs.Sections.{Key, texts, Raw, no_rows, row, KeyTexts}
 use Rattle.basic_toml_grammar.specs.Levels.{rows_level, value_level}
 use Rattle.basic_toml_grammar.specs.Mentions.{finished}
 use Rattle.basic_toml_grammar.specs.Trie.{Trie, put_row, put_rows}
-use Rattle.basic_toml_read.specs.SectionView.{lined_of, raw_of, rows_view}
+use Rattle.std.proofs.lemmas.List.{map-append}
+use Rattle.basic_toml_read.specs.SectionView.{key_of, header_texts, lined_of, raw_of}
+use Rattle.basic_toml_read.specs.declared.section.Key as keys
 use Rattle.basic_toml_read.specs.declared.section.Raw as raws
 use Rattle.basic_toml_read.specs.declared.section.Row as lines
 use Rattle.basic_toml_clash.specs.declared.clash.Clash.{Clash}
 use Rattle.basic_toml_grow.specs.declared.rows.Met.{Met}
 use Rattle.basic_toml_grow.specs.Item.{leaf}
-use Rattle.basic_toml_grow.specs.Rows.{AreIn, AreKeptOut, is_dot, all_dots, key_texts, Reason, memory, deep, crossed}
-use Rattle.basic_toml_grow.specs.Rows.{reason}
+use Rattle.basic_toml_grow.specs.Rows.{AreIn, AreKeptOut, one_row, Reason, memory, deep, crossed, reason}
 use Rattle.basic_toml_grow.specs.Rows.{met_reason, Enters, IsFinished, IsUnfinished}
 use Rattle.basic_toml_grow.proofs.Reasons.{KeptFor, kept_for, UnfinishedFor, for_unfinished, kept_for_met}
 use Rattle.basic_toml_grammar.specs.Stops.{goes_on, and_on, held}
 use Rattle.basic_toml_grammar.specs.TrieStops.{try_put_row, try_put_rows, try_put_value}
 use Rattle.basic_toml_grammar.proofs.Naming.WhatIsPutGoesOn.{value_goes}
 use Rattle.basic_toml_clash.specs.Clash.{NamesStop}
-use Rattle.basic_toml_grow.specs.RowStops.{line_keys, key_at, TellsRow, SaysMet, SaysHeld}
-use Rattle.basic_toml_grow.proofs.RowsHaveKeys.{kept, every_row}
-use Rattle.basic_toml_grow.proofs.RowsLeft.{line_texts, line_view, has_value, clash_alone, then_same, stopped_then}
+use Rattle.basic_toml_grow.specs.RowStops.{key_at, TellsRow, SaysMet, SaysHeld}
+use Rattle.basic_toml_grow.proofs.RowsHaveKeys.{every_row}
+use Rattle.basic_toml_grow.proofs.RowsLeft.{clash_alone, then_same, stopped_then}
 
 kept_by_value : (ks : List Key) (at : ℕ) (v : Raw) (level last : ℕ) (before : Trie) (why : Reason)
     → last ≡ level + length ks - 1 → UnfinishedFor v last why → KeptFor (row ks at v no_rows) level before why
@@ -42,108 +42,103 @@ same_key a b = cc
 pub row_value : (r : lines.Row) → (lined_of r).value ≡ raw_of (lines.out-Row r).value
 row_value r = search (rules, raws.the_lemmas)
 
-length-lines : (keys : List lines.Row) (k : Key) → length (line_keys keys ++ k ∷ []) ≡ length keys + 1
-length-lines [] k = refl
-length-lines (r ∷ rs) k = let more = length-lines rs k in omega arith
+length-keys : (ks : List keys.Key) (k : Key) → length (map key_of ks ++ k ∷ []) ≡ length ks + 1
+length-keys [] k = refl
+length-keys (r ∷ rs) k = let more = length-keys rs k in omega arith
 
-module _ (keys : List lines.Row) (r : lines.Row) (level : ℕ) (before : Trie) (dots : all_dots keys ≡ true)
-    (valued : is_dot r ≡ false) where
-  abbrev w : (w : Raw) × ((lined_of r).value ≡ Some w)
-  w = has_value (lined_of r).value valued
-
+module _ (parents : List keys.Key) (r : lines.Row) (level : ℕ) (before : Trie) where
   abbrev ks : List Key
-  ks = line_keys keys ++ (lined_of r).key ∷ []
+  ks = map key_of parents ++ (lined_of r).key ∷ []
 
-  one : rows_view (keys ++ r ∷ []) ≡ row ks (lined_of r).start w.0 no_rows
-  one = line_view keys r [] w.0 dots w.1
+  abbrev v : Raw
+  v = (lined_of r).value
 
-  last_level : level + length keys ≡ level + length ks - 1
-  last_level = let count = length-lines keys (lined_of r).key in omega arith
-
-  seen : raw_of (lines.out-Row r).value ≡ Some w.0
-  seen = sym (row_value r) ∙ w.1
+  last_level : level + length parents ≡ level + length ks - 1
+  last_level = let count = length-keys parents (lined_of r).key in omega arith
 
   -- its last key is too deep
-  pub last_deep : nesting_limit < level + length keys → nesting_limit < rows_level level (rows_view (keys ++ r ∷ []))
-  last_deep high =
-      let count = length-lines keys (lined_of r).key in
-      subst (λ (rs : Rows). nesting_limit < rows_level level rs) (sym one) (omega arith)
+  pub last_deep : nesting_limit < level + length parents → nesting_limit < rows_level level (one_row parents r)
+  last_deep high = let count = length-keys parents (lined_of r).key in omega arith
 
   -- its value is in the way
   pub value_kept_out : (clash held : Clash) → reason held ≡ reason clash
-      → ((v : Raw) → raw_of (lines.out-Row r).value ≡ Some v → IsUnfinished v (level + length keys) clash)
-      → AreKeptOut (rows_view (keys ++ r ∷ [])) level before held
+      → IsUnfinished (raw_of (lines.out-Row r).value) (level + length parents) clash
+      → AreKeptOut (one_row parents r) level before held
   value_kept_out clash held same unfinished =
-      kept_for (rows_view (keys ++ r ∷ [])) level before held (subst
-      (λ (why : Reason). KeptFor (rows_view (keys ++ r ∷ [])) level before why) (sym same)
-      (subst (λ (rs : Rows). KeptFor rs level before (reason clash)) (sym one)
-      (kept_by_value ks (lined_of r).start w.0 level (level + length keys) before (reason clash) last_level
-      (for_unfinished w.0 (level + length keys) clash (unfinished w.0 seen)))))
+      kept_for (one_row parents r) level before held (subst
+      (λ (why : Reason). KeptFor (one_row parents r) level before why) (sym same)
+      (kept_by_value ks (lined_of r).start v level (level + length parents) before (reason clash) last_level
+      (for_unfinished v (level + length parents) clash
+      (subst (λ (w : Raw). IsUnfinished w (level + length parents) clash) (sym (row_value r)) unfinished))))
 
   -- what stops its value stops it
   pub value_stopped : (clash outer : Clash) → SaysHeld ks clash outer
-      → ((v : Raw) → raw_of (lines.out-Row r).value ≡ Some v → NamesStop (try_put_value v) clash)
-      → NamesStop (try_put_rows (rows_view (keys ++ r ∷ [])) before) outer
+      → NamesStop (try_put_value (raw_of (lines.out-Row r).value)) clash
+      → NamesStop (try_put_rows (one_row parents r) before) outer
   value_stopped clash outer says named =
-      stopped_then (held ks (try_put_value w.0)) (try_put_rows (rows_view (keys ++ r ∷ [])) before)
-      (λ _. and_on (try_put_row [] ks (finished w.0) before) (λ t. goes_on t)) outer
-      (ap (λ rs. try_put_rows rs before) one) (says (try_put_value w.0) (named w.0 seen))
+      stopped_then (held ks (try_put_value v)) (try_put_rows (one_row parents r) before)
+      (λ _. and_on (try_put_row [] ks (finished v) before) (λ t. goes_on t)) outer
+      refl (says (try_put_value v) (subst (λ (w : Raw). NamesStop (try_put_value w) clash) (sym (row_value r)) named))
+
+  -- what its value comes to
+  its_value : (child : Trie) → IsFinished (raw_of (lines.out-Row r).value) (level + length parents) child
+      → IsFinished v (level + length parents) child
+  its_value child done =
+      subst (λ (w : Raw). IsFinished w (level + length parents) child) (sym (row_value r)) done
 
   -- and what is met
   pub met_stopped : (child : Trie) (met : Met) (clash : Clash) (a b : List ℕ) (offset : ℕ)
       → a ≡ (lined_of r).key.text → b ≡ (lined_of r).key.text → offset ≡ (lined_of r).key.offset
-      → SaysMet (line_keys keys) (key_at offset b) met clash
-      → ((v : Raw) → raw_of (lines.out-Row r).value ≡ Some v → IsFinished v (level + length keys) child)
-      → ((d : Data) → child ≡ leaf d → TellsRow (line_keys keys) a d before met)
-      → NamesStop (try_put_rows (rows_view (keys ++ r ∷ [])) before) clash
+      → SaysMet (map key_of parents) (key_at offset b) met clash
+      → IsFinished (raw_of (lines.out-Row r).value) (level + length parents) child
+      → ((d : Data) → child ≡ leaf d → TellsRow (map key_of parents) a d before met)
+      → NamesStop (try_put_rows (one_row parents r) before) clash
   met_stopped child met clash a b offset is_a is_b is_offset says done tells =
-      let f = done w.0 seen in
-      let g = value_goes w.0 (sym (ap kept w.1) ∙ every_row r) f.apart in
+      let f = its_value child done in
+      let g = value_goes v (every_row r) f.apart in
       let k : key_at offset b ≡ (lined_of r).key = same_key is_offset is_b in
-      let told = subst (λ (l : List ℕ). TellsRow (line_keys keys) l (finished w.0) before met) is_a
-      (tells (finished w.0) f.value) in
-      stopped_then (try_put_row [] ks (finished w.0) before) (try_put_rows (rows_view (keys ++ r ∷ [])) before)
+      let told = subst (λ (l : List ℕ). TellsRow (map key_of parents) l (finished v) before met) is_a
+      (tells (finished v) f.value) in
+      stopped_then (try_put_row [] ks (finished v) before) (try_put_rows (one_row parents r) before)
       (λ t. goes_on t) clash
-      (ap (λ rs. try_put_rows rs before) one
-      ∙ ap (λ o. and_on (held ks o) (λ _. and_on (try_put_row [] ks (finished w.0) before) (λ t. goes_on t))) g.1)
-      (subst (λ (k : Key). SaysMet (line_keys keys) k met clash) k says
-      (try_put_row [] ks (finished w.0) before) (told [] (lined_of r).key.offset))
+      (ap (λ o. and_on (held ks o) (λ _. and_on (try_put_row [] ks (finished v) before) (λ t. goes_on t))) g.1)
+      (subst (λ (k : Key). SaysMet (map key_of parents) k met clash) k says
+      (try_put_row [] ks (finished v) before) (told [] (lined_of r).key.offset))
 
-  module _ (texts_are : KeyTexts) (is_texts : texts_are ≡ key_texts keys ++ (lined_of r).key.text ∷ []) where
+  module _ (texts_are : KeyTexts) (is_texts : texts_are ≡ header_texts parents ++ (lined_of r).key.text ∷ []) where
     same_texts : texts ks ≡ texts_are
-    same_texts = line_texts keys (lined_of r).key ∙ sym is_texts
+    same_texts = map-append (λ (k : Key). k.text) (map key_of parents) ((lined_of r).key ∷ []) ∙ sym is_texts
 
-    put_one : put_rows (rows_view (keys ++ r ∷ [])) before ≡ put_row texts_are (finished w.0) before
+    put_one : put_rows (one_row parents r) before ≡ put_row texts_are (finished v) before
     put_one =
-        ap (λ rs. put_rows rs before) one
-        ∙ then_same (put_row (texts ks) (finished w.0) before)
-        ∙ ap (λ ts. put_row ts (finished w.0) before) same_texts
+        then_same (put_row (texts ks) (finished v) before)
+        ∙ ap (λ ts. put_row ts (finished v) before) same_texts
 
     -- it is put
     pub value_put : (child after : Trie)
-        → ((v : Raw) → raw_of (lines.out-Row r).value ≡ Some v → IsFinished v (level + length keys) child)
-        → level + length keys ≤ nesting_limit
+        → IsFinished (raw_of (lines.out-Row r).value) (level + length parents) child
+        → level + length parents ≤ nesting_limit
         → ((d : Data) → child ≡ leaf d → put_row texts_are d before ≡ Some after)
-        → AreIn (rows_view (keys ++ r ∷ [])) level before after
+        → AreIn (one_row parents r) level before after
     value_put child after done low entered =
-        let f = done w.0 seen in
-        let count = length-lines keys (lined_of r).key in
-        let fits : value_level (level + length ks - 1) w.0 ≤ nesting_limit =
-        subst (λ (l : ℕ). value_level l w.0 ≤ nesting_limit) last_level f.fits in
+        let f = its_value child done in
+        let count = length-keys parents (lined_of r).key in
+        let fits : value_level (level + length ks - 1) v ≤ nesting_limit =
+        subst (λ (l : ℕ). value_level l v ≤ nesting_limit) last_level f.fits in
         record {
-          put = put_one ∙ entered (finished w.0) f.value;
-          apart = ap rows_clash one ∙ clash_alone ks (lined_of r).start w.0 ∙ f.apart;
-          fits = subst (λ (rs : Rows). rows_level level rs ≤ nesting_limit) (sym one) (omega arith);
+          put = put_one ∙ entered (finished v) f.value;
+          apart = clash_alone ks (lined_of r).start v ∙ f.apart;
+          fits = omega arith;
         }
 
     -- something is met
     pub value_met : (child after : Trie) (met : Met) (clash : Clash)
         → reason clash ≡ met_reason met
-        → ((v : Raw) → raw_of (lines.out-Row r).value ≡ Some v → IsFinished v (level + length keys) child)
+        → IsFinished (raw_of (lines.out-Row r).value) (level + length parents) child
         → ((d : Data) → child ≡ leaf d → Enters (put_row texts_are d before) after (Err met))
-        → AreKeptOut (rows_view (keys ++ r ∷ [])) level before clash
+        → AreKeptOut (one_row parents r) level before clash
     value_met child after met clash same done entered =
-        kept_for (rows_view (keys ++ r ∷ [])) level before clash (subst
-        (λ (why : Reason). KeptFor (rows_view (keys ++ r ∷ [])) level before why) (sym same)
-        (kept_for_met after (put_row texts_are (finished w.0) before) (rows_view (keys ++ r ∷ [])) level before met
-        (entered (finished w.0) (done w.0 seen).value) (λ none. put_one ∙ none)))
+        kept_for (one_row parents r) level before clash (subst
+        (λ (why : Reason). KeptFor (one_row parents r) level before why) (sym same)
+        (kept_for_met after (put_row texts_are (finished v) before) (one_row parents r) level before met
+        (entered (finished v) (its_value child done).value) (λ none. put_one ∙ none)))

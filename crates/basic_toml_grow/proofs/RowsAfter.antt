@@ -14,7 +14,7 @@ use Rattle.basic_toml_grammar.proofs.Tries.RowsThatOverlapAreRefused.{values_cla
 use Rattle.basic_toml_clash.specs.Clash.{NamesStop}
 use Rattle.basic_toml_clash.specs.Simple.{are_simple, are_all_plain, key_of}
 use Rattle.basic_toml_clash.specs.declared.clash.Clash.{Clash}
-use Rattle.basic_toml_read.specs.SectionView.{rows_view}
+use Rattle.basic_toml_read.specs.SectionView.{rows_seen}
 use Rattle.basic_toml_read.specs.declared.section.Row.{Row}
 use Rattle.basic_toml_grow.specs.declared.item.Table.{Table, out-Table}
 use Rattle.basic_toml_grow.specs.Item.{table_trie}
@@ -22,7 +22,8 @@ use Rattle.basic_toml_grow.specs.Origins.{table_within, with_more, rows_origins}
 use Rattle.basic_toml_grow.specs.Simple.{entries_of, with_entries}
 use Rattle.basic_toml_grow.specs.Rows.{AreIn, AreKeptOut, EntersRows, Reason, memory, deep, crossed, reason}
 use Rattle.basic_toml_grow.proofs.Reasons.{KeptFor, kept_for, for_kept}
-use Rattle.basic_toml_grow.proofs.RowsLeft.{AreLeft, rows_are_keyed}
+use Rattle.basic_toml_grow.proofs.RowsLeft.{AreLeft}
+use Rattle.basic_toml_grow.proofs.RowsHaveKeys.{rows_are_keyed}
 use Rattle.basic_toml_grow.proofs.Origins.OriginsLeft.{OriginsLeft}
 use Rattle.basic_toml_grow.proofs.SimpleRows.{first_simple, others_left, others_come}
 
@@ -40,8 +41,8 @@ values_apart (row ks at v rows) apart =
 
 -- The first rows are in the table: putting those after them into it as it is, is putting all into it as it was.
 pub record FirstIn (s level : ℕ) (rows more : List Row) (t now : Table) : Type 0 where
-  pub left : AreLeft (rows_view rows) level (table_trie t) [] more (table_trie now)
-  pub come : OriginsLeft s (rows_view rows) (table_within t) [] more (table_within now)
+  pub left : AreLeft (rows_seen [] rows) level (table_trie t) (rows_seen [] more) (table_trie now)
+  pub come : OriginsLeft s (rows_seen [] rows) (table_within t) (rows_seen [] more) (table_within now)
 
 -- plain rows, of which the first, whose keys differ, are the entries of a table that had none
 pub first_in : {s level : ℕ} {rows more : List Row} {t now : Table} (count : ℕ) → level ≤ nesting_limit
@@ -60,46 +61,46 @@ first_in {s = s} {level = level} {rows = rows} {more = more} {t = t} {now = now}
 
 module _ {s level : ℕ} {rows more : List Row} {t now : Table} (first : FirstIn s level rows more t now) where
   -- where the rows after them are in the table, all are
-  others_in : (after : Trie) → AreIn (rows_view more) level (table_trie now) after
-      → AreIn (rows_view rows) level (table_trie t) after
+  others_in : (after : Trie) → AreIn (rows_seen [] more) level (table_trie now) after
+      → AreIn (rows_seen [] rows) level (table_trie t) after
   others_in after entered =
-      let is_put : put_rows (rows_view rows) (table_trie t) ≡ Some after = first.left.put ∙ entered.put in
-      let free : values_clash (rows_view rows) ≡ false =
-      first.left.values ∙ values_apart (rows_view more) entered.apart in
+      let is_put : put_rows (rows_seen [] rows) (table_trie t) ≡ Some after = first.left.put ∙ entered.put in
+      let free : values_clash (rows_seen [] rows) ≡ false =
+      first.left.values ∙ values_apart (rows_seen [] more) entered.apart in
       record {
         put = is_put;
-        apart = put_apart (rows_view rows) (table_trie t) after (rows_are_keyed rows) free is_put;
+        apart = put_apart (rows_seen [] rows) (table_trie t) after (rows_are_keyed [] rows) free is_put;
         fits = first.left.fits entered.fits;
       }
 
   -- and what keeps these out keeps all out
-  others_kept_out : (clash : Clash) → AreKeptOut (rows_view more) level (table_trie now) clash
-      → AreKeptOut (rows_view rows) level (table_trie t) clash
+  others_kept_out : (clash : Clash) → AreKeptOut (rows_seen [] more) level (table_trie now) clash
+      → AreKeptOut (rows_seen [] rows) level (table_trie t) clash
   others_kept_out clash kept =
-      kept_for (rows_view rows) level (table_trie t) clash
-      (go (reason clash) (for_kept (rows_view more) level (table_trie now) clash kept))
+      kept_for (rows_seen [] rows) level (table_trie t) clash
+      (go (reason clash) (for_kept (rows_seen [] more) level (table_trie now) clash kept))
     where
-      go : (why : Reason) → KeptFor (rows_view more) level (table_trie now) why
-          → KeptFor (rows_view rows) level (table_trie t) why
+      go : (why : Reason) → KeptFor (rows_seen [] more) level (table_trie now) why
+          → KeptFor (rows_seen [] rows) level (table_trie t) why
       go memory kept = tt
       go deep kept = first.left.deep kept
       go crossed (inl c) = inl (first.left.clash c)
       go crossed (inr none) = inr (first.left.put ∙ none)
 
   pub all_entered : (after : Trie) (result : Result (Unit {0}) Clash)
-      → EntersRows (rows_view more) level (table_trie now) after result
-      → EntersRows (rows_view rows) level (table_trie t) after result
+      → EntersRows (rows_seen [] more) level (table_trie now) after result
+      → EntersRows (rows_seen [] rows) level (table_trie t) after result
   all_entered after (Ok x) entered = others_in after entered
   all_entered after (Err clash) kept = others_kept_out clash kept
 
   -- what stops these stops all
   pub all_stopped : (result : Result (Unit {0}) Clash)
-      → IfErr result (λ clash. NamesStop (try_put_rows (rows_view more) (table_trie now)) clash)
-      → IfErr result (λ clash. NamesStop (try_put_rows (rows_view rows) (table_trie t)) clash)
+      → IfErr result (λ clash. NamesStop (try_put_rows (rows_seen [] more) (table_trie now)) clash)
+      → IfErr result (λ clash. NamesStop (try_put_rows (rows_seen [] rows) (table_trie t)) clash)
   all_stopped (Ok after) named = tt
   all_stopped (Err clash) named = subst (λ (o : Outcome Trie). NamesStop o clash) (sym first.left.tried) named
 
   -- and where these come from, all come from
-  pub all_come : (u : Table) → table_within u ≡ with_more (table_within now) (rows_origins s (rows_view more))
-      → table_within u ≡ with_more (table_within t) (rows_origins s (rows_view rows))
+  pub all_come : (u : Table) → table_within u ≡ with_more (table_within now) (rows_origins s (rows_seen [] more))
+      → table_within u ≡ with_more (table_within t) (rows_origins s (rows_seen [] rows))
   all_come u come = come ∙ sym first.come

@@ -11,7 +11,8 @@ use Rattle.basic_toml_grammar.specs.Entering.{and_then}
 use Rattle.basic_toml_grammar.specs.Trie.{Trie, trie, nothing, standing, with_tries, mark_here, among, at_step}
 use Rattle.basic_toml_grammar.specs.Trie.{put_row}
 use Rattle.basic_toml_read.specs.KeyText.{key_text_bytes}
-use Rattle.basic_toml_read.specs.SectionView.{lined_of}
+use Rattle.basic_toml_read.specs.SectionView.{header_texts, lined_of}
+use Rattle.basic_toml_read.specs.declared.section.Key as keys
 use Rattle.basic_toml_read.specs.declared.section.Raw.{the_lemmas}
 use Rattle.basic_toml_read.specs.declared.section.Row.{Row, out-Row}
 use Rattle.basic_toml_grow.specs.declared.item.Child.{Child}
@@ -21,7 +22,7 @@ use Rattle.basic_toml_grow.specs.declared.rows.Met.TheVariants as mets
 use Rattle.basic_toml_grow.specs.Simple.{with_entries}
 use Rattle.basic_toml_grow.specs.Item.{child_trie, table_trie, by_keys}
 use Rattle.basic_toml_value.specs.Growth.{with_value, values_of, EntersKey}
-use Rattle.basic_toml_grow.specs.Rows.{Enters, key_texts}
+use Rattle.basic_toml_grow.specs.Rows.{Enters}
 use Rattle.basic_toml_grow.proofs.KeysInATrie.{tries_of, change_put_once, change_refused}
 use Rattle.basic_toml_grow.proofs.ItemTries.{table_entries_trie, entries_with, with_entries_twice}
 use Rattle.basic_toml_grow.proofs.ItemTries.{with_entries_trie}
@@ -56,14 +57,10 @@ within changed whole inner outer (Err mets.Row) none some entered = none entered
 pub row_key : (row : Row) → (lined_of row).key.text ≡ key_text_bytes (out-Row row).key
 row_key row = search (rules, the_lemmas)
 
--- no rows, and a first one
-pub no_texts : (rows : List Row) → length rows ≡ 0 → key_texts rows ≡ []
+-- where no keys are
+pub no_texts : (ks : List keys.Key) → length ks ≡ 0 → header_texts ks ≡ []
 no_texts [] none = refl
-no_texts (r ∷ rs) none = absurd (omega arith)
-
-pub first_text : (rows : List Row) (row : Row) (rest : List Row) → rows ≡ row ∷ rest
-    → key_texts rows ≡ key_text_bytes (out-Row row).key ∷ key_texts rest
-first_text rows row rest same = ap key_texts same ∙ ap (λ k. k ∷ key_texts rest) (row_key row)
+no_texts (k ∷ ks) none = absurd (omega arith)
 
 -- a row with a key more before its last one
 pub row_on : (k : List ℕ) (ks : KeyTexts) (last : List ℕ) (d : Data) (t : Trie)

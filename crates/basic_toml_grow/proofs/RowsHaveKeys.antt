@@ -1,98 +1,120 @@
 -- Rows that the code reads have keys at every depth.
-use Rattle.std.proofs.Common.{◌≡◌, ℕ, Bool, true, false, List, [], ◌∷◌, map, Option, Some, None, refl, ap, ◌∙◌, subst}
-use Rattle.std.proofs.Common.{rules}
-use Rattle.std.specs.Prelude.{⊤, ◌&&◌}
+use Rattle.std.proofs.Common.{◌≡◌, true, List, [], ◌∷◌, ◌++◌, map, take, drop, refl, ap, ◌∙◌, subst, rules}
+use Rattle.std.specs.Prelude.{⊤}
 use Rattle.std.specs.String.{string_bytes}
 use Rattle.basic_toml_grammar.specs.Sections.{Key, Elements, Rows, no_rows, row}
 use Rattle.basic_toml_grammar.specs.Sections as sections
 use Rattle.basic_toml_read.specs.declared.section.Raw.{Raw, map-Raw, roll-Raw, the_lemmas}
-use Rattle.basic_toml_read.specs.declared.section.Raw.TheOpen.{Raw-F, Element-F, Row-F}
+use Rattle.basic_toml_read.specs.declared.section.Raw.TheOpen.{Raw-F, Element-F, Row-F, Rows-F}
 use Rattle.basic_toml_read.specs.declared.section.Element.{Element, roll-Element, ind-Element}
+use Rattle.basic_toml_read.specs.declared.section.Key as keys
 use Rattle.basic_toml_read.specs.declared.section.Row.{Row, ind-Row, roll-Row}
+use Rattle.basic_toml_read.specs.declared.section.Rows as tables
+use Rattle.basic_toml_read.specs.declared.section.Rows.{roll-Rows}
 use Rattle.basic_toml_read.specs.declared.section.Section as code
-use Rattle.basic_toml_read.specs.SectionView.{raw_of, placed_of, lined_of, elements_from, rows_from, with_element}
-use Rattle.basic_toml_read.specs.SectionView.{with_row, rows_view, section_of}
-use Rattle.basic_toml_grammar.specs.Entering.{has_key, keyed_within, value_keyed, elements_keyed, all_keyed_within}
+use Rattle.basic_toml_read.specs.SectionView.{Lined, key_of, raw_of, placed_of, lined_of, elements_from, rows_from}
+use Rattle.basic_toml_read.specs.SectionView.{rows_seen, rows_view, section_of}
+use Rattle.basic_toml_grammar.specs.Entering.{has_key, rows_keyed, keyed_within, value_keyed, elements_keyed}
+use Rattle.basic_toml_grammar.specs.Entering.{all_keyed_within}
 
--- a value, where there is one, has keys at every depth
-abbrev pub kept : Option sections.Raw → Bool
-kept None = true
-kept (Some v) = value_keyed v
-
-abbrev pub OfRaw : Raw → Type 0
-OfRaw v = kept (raw_of v) ≡ true
+abbrev OfRaw : Raw → Type 0
+OfRaw v = value_keyed (raw_of v) ≡ true
 
 abbrev pub OfElement : Element → Type 0
-OfElement e = kept (placed_of e).value ≡ true
+OfElement e = value_keyed (placed_of e).value ≡ true
 
 abbrev pub OfRow : Row → Type 0
-OfRow r = kept (lined_of r).value ≡ true
+OfRow r = value_keyed (lined_of r).value ≡ true
 
-one_more_element : (p : ℕ) (o : Option sections.Raw) (es : Elements) → kept o ≡ true → elements_keyed es ≡ true
-    → elements_keyed (with_element p o es) ≡ true
-one_more_element p None es here there = there
-one_more_element p (Some v) es here there = rw (here, there) refl
+abbrev OfRows : tables.Rows → Type 0
+OfRows rs = keyed_within (rows_view rs) ≡ true
 
-with_a_key : (a b c : Bool) → ((a && b) && c) ≡ true → ((true && b) && c) ≡ true
-with_a_key true b c e = e
-with_a_key false b c e = cc
+-- a last key is one
+last_is_one : (ks : List Key) (k : Key) → has_key (ks ++ k ∷ []) ≡ true
+last_is_one [] k = refl
+last_is_one (l ∷ ks) k = refl
 
-one_more_row : (k : Key) (p : ℕ) (o : Option sections.Raw) (rs : Rows) → kept o ≡ true → keyed_within rs ≡ true
-    → keyed_within (with_row k p o rs) ≡ true
-one_more_row k p None no_rows here there = refl
-one_more_row k p None (row keys q v rs) here there = with_a_key (has_key keys) (value_keyed v) (keyed_within rs) there
-one_more_row k p (Some v) rs here there = rw (here, there) refl
+-- each row has a key
+lines_are_keyed : (parents : List Key) (ls : List Lined) → rows_keyed (rows_from parents ls) ≡ true
+lines_are_keyed parents [] = refl
+lines_are_keyed parents (l ∷ ls) =
+    one_more (take l.parents parents) (rows_from (drop l.parents parents) ls)
+    (lines_are_keyed (drop l.parents parents) ls)
+  where
+    one_more : (ks : List Key) (rows : Rows) → rows_keyed rows ≡ true
+        → rows_keyed (row (ks ++ l.key ∷ []) l.start l.value rows) ≡ true
+    one_more [] rows others = others
+    one_more (k ∷ ks) rows others = others
+
+pub are_keyed : (rs : tables.Rows) → rows_keyed (rows_view rs) ≡ true
+are_keyed rs =
+    lines_are_keyed (map key_of (tables.out-Rows rs).parents.items) (map lined_of (tables.out-Rows rs).rows.items)
+
+pub rows_are_keyed : (parents : List keys.Key) (rows : List Row) → rows_keyed (rows_seen parents rows) ≡ true
+rows_are_keyed parents rows = lines_are_keyed (map key_of parents) (map lined_of rows)
 
 elements_kept : (es : List ((e : Element) × OfElement e))
     → elements_keyed (elements_from (map placed_of (map (λ e. e.0) es))) ≡ true
 elements_kept [] = refl
-elements_kept (e ∷ es) =
-    one_more_element (placed_of e.0).offset (placed_of e.0).value
-    (elements_from (map placed_of (map (λ (e : (e : Element) × OfElement e). e.0) es))) e.1 (elements_kept es)
+elements_kept (e ∷ es) = rw (e.1, elements_kept es) refl
 
-rows_kept : (rs : List ((r : Row) × OfRow r)) → keyed_within (rows_from (map lined_of (map (λ r. r.0) rs))) ≡ true
-rows_kept [] = refl
-rows_kept (r ∷ rs) =
-    one_more_row (lined_of r.0).key (lined_of r.0).start (lined_of r.0).value
-    (rows_from (map lined_of (map (λ (r : (r : Row) × OfRow r). r.0) rs))) r.1 (rows_kept rs)
+lines_kept : (parents : List Key) (rs : List ((r : Row) × OfRow r))
+    → keyed_within (rows_from parents (map lined_of (map (λ r. r.0) rs))) ≡ true
+lines_kept parents [] = refl
+lines_kept parents (r ∷ rs) =
+    rw (
+      last_is_one (take (lined_of r.0).parents parents) (lined_of r.0).key,
+      r.1,
+      lines_kept (drop (lined_of r.0).parents parents) rs,
+    )
+    refl
 
 -- that the parts of a value have keys
-abbrev Parts : Raw-F Raw Element Row → Type 0
+abbrev Parts : Raw-F Raw Element Row tables.Rows → Type 0
 Parts (Raw-F.Array es) = elements_keyed (elements_from (map placed_of es.items)) ≡ true
-Parts (Raw-F.Inline rs) = keyed_within (rows_from (map lined_of rs.items)) ≡ true
+Parts (Raw-F.Inline rs) = keyed_within (rows_from [] (map lined_of rs.items)) ≡ true
+Parts (Raw-F.Dotted rs) = OfRows rs.value
 Parts _ = ⊤
 
-raw_kept : (x : Raw-F Raw Element Row) → Parts x → OfRaw (roll-Raw x)
-raw_kept Raw-F.Dot parts = let a : raw_of (roll-Raw Raw-F.Dot) ≡ None = search (rules, the_lemmas) in ap kept a
+raw_kept : (x : Raw-F Raw Element Row tables.Rows) → Parts x → OfRaw (roll-Raw x)
 raw_kept (Raw-F.Integer z) parts =
-    let a : raw_of (roll-Raw (Raw-F.Integer z)) ≡ Some (sections.Raw.integer z)
-    = search (rules, the_lemmas) in ap kept a
+    let a : raw_of (roll-Raw (Raw-F.Integer z)) ≡ sections.Raw.integer z = search (rules, the_lemmas) in
+    ap value_keyed a
 raw_kept (Raw-F.Float text) parts =
-    let a : raw_of (roll-Raw (Raw-F.Float text)) ≡ Some (sections.Raw.float text) = search (rules, the_lemmas) in
-    ap kept a
+    let a : raw_of (roll-Raw (Raw-F.Float text)) ≡ sections.Raw.float text = search (rules, the_lemmas) in
+    ap value_keyed a
 raw_kept (Raw-F.Boolean b) parts =
-    let a : raw_of (roll-Raw (Raw-F.Boolean b)) ≡ Some (sections.Raw.boolean b)
-    = search (rules, the_lemmas) in ap kept a
+    let a : raw_of (roll-Raw (Raw-F.Boolean b)) ≡ sections.Raw.boolean b = search (rules, the_lemmas) in
+    ap value_keyed a
 raw_kept (Raw-F.String text) parts =
-    let a : raw_of (roll-Raw (Raw-F.String text)) ≡ Some (sections.Raw.string text.now) = search (rules, the_lemmas) in
-    ap kept a
+    let a : raw_of (roll-Raw (Raw-F.String text)) ≡ sections.Raw.string text.now = search (rules, the_lemmas) in
+    ap value_keyed a
 raw_kept (Raw-F.Escaped text) parts =
-    let a : raw_of (roll-Raw (Raw-F.Escaped text)) ≡ Some (sections.Raw.string (string_bytes text)) =
-    search (rules, the_lemmas) in ap kept a
+    let a : raw_of (roll-Raw (Raw-F.Escaped text)) ≡ sections.Raw.string (string_bytes text) =
+    search (rules, the_lemmas) in ap value_keyed a
 raw_kept (Raw-F.Array es) parts =
-    let a : raw_of (roll-Raw (Raw-F.Array es)) ≡ Some (sections.Raw.array (elements_from (map placed_of es.items))) =
-    search (rules, the_lemmas) in ap kept a ∙ parts
+    let a : raw_of (roll-Raw (Raw-F.Array es)) ≡ sections.Raw.array (elements_from (map placed_of es.items)) =
+    search (rules, the_lemmas) in ap value_keyed a ∙ parts
 raw_kept (Raw-F.Inline rs) parts =
-    let a : raw_of (roll-Raw (Raw-F.Inline rs)) ≡ Some (sections.Raw.inline (rows_from (map lined_of rs.items))) =
-    search (rules, the_lemmas) in ap kept a ∙ parts
+    let a : raw_of (roll-Raw (Raw-F.Inline rs)) ≡ sections.Raw.inline (rows_from [] (map lined_of rs.items)) =
+    search (rules, the_lemmas) in ap value_keyed a ∙ parts
+raw_kept (Raw-F.Dotted rs) parts =
+    let a : raw_of (roll-Raw (Raw-F.Dotted rs)) ≡ sections.Raw.inline (rows_view rs.value) =
+    search (rules, the_lemmas) in ap value_keyed a ∙ parts
 
-element_kept : (x : Element-F Raw Element Row) → OfRaw x.value → OfElement (roll-Element x)
+element_kept : (x : Element-F Raw Element Row tables.Rows) → OfRaw x.value → OfElement (roll-Element x)
 element_kept x parts =
-    let a : (placed_of (roll-Element x)).value ≡ raw_of x.value = search (rules, the_lemmas) in ap kept a ∙ parts
+    let a : (placed_of (roll-Element x)).value ≡ raw_of x.value = search (rules, the_lemmas) in ap value_keyed a ∙ parts
 
-row_kept : (x : Row-F Raw Element Row) → OfRaw x.value → OfRow (roll-Row x)
+row_kept : (x : Row-F Raw Element Row tables.Rows) → OfRaw x.value → OfRow (roll-Row x)
 row_kept x parts =
-    let a : (lined_of (roll-Row x)).value ≡ raw_of x.value = search (rules, the_lemmas) in ap kept a ∙ parts
+    let a : (lined_of (roll-Row x)).value ≡ raw_of x.value = search (rules, the_lemmas) in ap value_keyed a ∙ parts
+
+rows_kept : (x : Rows-F Raw Element Row tables.Rows)
+    → keyed_within (rows_from (map key_of x.parents.items) (map lined_of x.rows.items)) ≡ true → OfRows (roll-Rows x)
+rows_kept x parts =
+    let a : rows_view (roll-Rows x) ≡ rows_from (map key_of x.parents.items) (map lined_of x.rows.items) =
+    search (rules, the_lemmas) in ap keyed_within a ∙ parts
 
 abbrev Raw1 : Type 0
 Raw1 = (v : Raw) × OfRaw v
@@ -103,34 +125,55 @@ Element1 = (e : Element) × OfElement e
 abbrev Row1 : Type 0
 Row1 = (r : Row) × OfRow r
 
-parts_kept : (y : Raw-F Raw1 Element1 Row1)
-    → Parts (map-Raw Raw1 Element1 Row1 Raw Element Row (λ e. e.0) (λ e. e.0) (λ e. e.0) y)
-parts_kept Raw-F.Dot = tt
+abbrev Rows1 : Type 0
+Rows1 = (rs : tables.Rows) × OfRows rs
+
+parts_kept : (y : Raw-F Raw1 Element1 Row1 Rows1)
+    → Parts (map-Raw Raw1 Element1 Row1 Rows1 Raw Element Row tables.Rows (λ e. e.0) (λ e. e.0) (λ e. e.0) (λ e. e.0) y)
 parts_kept (Raw-F.Integer z) = tt
 parts_kept (Raw-F.Float text) = tt
 parts_kept (Raw-F.Boolean b) = tt
 parts_kept (Raw-F.String text) = tt
 parts_kept (Raw-F.Escaped text) = tt
 parts_kept (Raw-F.Array es) = elements_kept es.items
-parts_kept (Raw-F.Inline rs) = rows_kept rs.items
+parts_kept (Raw-F.Inline rs) = lines_kept [] rs.items
+parts_kept (Raw-F.Dotted rs) = rs.value.1
 
 pub every_row : (r : Row) → OfRow r
 every_row =
-    ind-Row OfRaw OfElement OfRow (λ x y is. raw_kept x (subst Parts is (parts_kept y)))
+    ind-Row OfRaw OfElement OfRow OfRows (λ x y is. raw_kept x (subst Parts is (parts_kept y)))
     (λ x y is. element_kept x (subst (λ z. OfRaw z.value) is y.value.1))
     (λ x y is. row_kept x (subst (λ z. OfRaw z.value) is y.value.1))
+    (λ x y is. rows_kept x (subst
+    (λ z. keyed_within (rows_from (map key_of z.parents.items) (map lined_of z.rows.items)) ≡ true) is
+    (lines_kept (map key_of y.parents.items) y.rows.items)))
 
 pub every_element : (e : Element) → OfElement e
 every_element =
-    ind-Element OfRaw OfElement OfRow (λ x y is. raw_kept x (subst Parts is (parts_kept y)))
+    ind-Element OfRaw OfElement OfRow OfRows (λ x y is. raw_kept x (subst Parts is (parts_kept y)))
     (λ x y is. element_kept x (subst (λ z. OfRaw z.value) is y.value.1))
     (λ x y is. row_kept x (subst (λ z. OfRaw z.value) is y.value.1))
+    (λ x y is. rows_kept x (subst
+    (λ z. keyed_within (rows_from (map key_of z.parents.items) (map lined_of z.rows.items)) ≡ true) is
+    (lines_kept (map key_of y.parents.items) y.rows.items)))
 
-pub rows_have_keys : (rs : List Row) → keyed_within (rows_view rs) ≡ true
-rows_have_keys [] = refl
-rows_have_keys (r ∷ rs) =
-    one_more_row (lined_of r).key (lined_of r).start (lined_of r).value (rows_view rs) (every_row r) (rows_have_keys rs)
+lines_have_keys : (parents : List Key) (rs : List Row) → keyed_within (rows_from parents (map lined_of rs)) ≡ true
+lines_have_keys parents [] = refl
+lines_have_keys parents (r ∷ rs) =
+    rw (
+      last_is_one (take (lined_of r).parents parents) (lined_of r).key,
+      every_row r,
+      lines_have_keys (drop (lined_of r).parents parents) rs,
+    )
+    refl
+
+pub one_has_keys : (ks : List Key) (r : Row)
+    → keyed_within (row (ks ++ (lined_of r).key ∷ []) (lined_of r).start (lined_of r).value no_rows) ≡ true
+one_has_keys ks r = rw (last_is_one ks (lined_of r).key, every_row r) refl
+
+pub rows_have_keys : (rs : tables.Rows) → keyed_within (rows_view rs) ≡ true
+rows_have_keys rs = lines_have_keys (map key_of (tables.out-Rows rs).parents.items) (tables.out-Rows rs).rows.items
 
 pub sections_have_keys : (ss : List code.Section) → all_keyed_within (map section_of ss) ≡ true
 sections_have_keys [] = refl
-sections_have_keys (s ∷ ss) = rw (rows_have_keys s.rows.items, sections_have_keys ss) refl
+sections_have_keys (s ∷ ss) = rw (rows_have_keys s.rows, sections_have_keys ss) refl

@@ -1,5 +1,5 @@
 -- Simple rows, put into a table one after another: they become its entries.
-use Rattle.std.proofs.Common.{◌≡◌, ◌==◌, ◌≤◌, ℕ, ◌+◌, Bool, true, false, ◌||◌, not, List, [], ◌∷◌, ◌++◌, length, map, Some, is_some}
+use Rattle.std.proofs.Common.{◌≡◌, ◌==◌, ◌≤◌, ℕ, ◌+◌, Bool, true, false, ◌||◌, List, [], ◌∷◌, ◌++◌, length, map, Some}
 use Rattle.std.proofs.Common.{arith, suc, take, drop, refl, sym, ap, ◌∙◌, subst, rules, ap₂, append_assoc, slice_get}
 use Rattle.std.specs.Str.{bytes_eq}
 use Rattle.std.proofs.lemmas.Bool.{false≢true}
@@ -18,7 +18,10 @@ use Rattle.basic_toml_grammar.specs.Mentions.{finished}
 use Rattle.basic_toml_grammar.specs.Sections as sections
 use Rattle.basic_toml_grammar.specs.Sections.{Rows}
 use Rattle.basic_toml_grammar.specs.Trie.{Trie, mark_here}
-use Rattle.basic_toml_read.specs.SectionView.{lined_of, rows_view}
+use Rattle.basic_toml_read.specs.SectionView.{lined_of, raw_of, rows_seen}
+use Rattle.basic_toml_read.specs.declared.section.Key as keys
+use Rattle.basic_toml_read.specs.declared.section.Rows as tables
+use Rattle.basic_toml_read.proofs.NextRow.{lone_row}
 use Rattle.basic_toml_read.specs.declared.section.Raw as raws
 use Rattle.basic_toml_read.specs.declared.section.Raw.{Raw, out-Raw, roll-Raw, roll-out-Raw}
 use Rattle.basic_toml_read.specs.declared.section.Raw.TheOpen.{Raw-F}
@@ -38,20 +41,21 @@ use Rattle.basic_toml_grow.specs.declared.item.Table.{Table, out-Table}
 use Rattle.basic_toml_grow.specs.Item.{item_trie, leaf, child_trie, table_trie, no_child}
 use Rattle.basic_toml_grow.specs.Origins.{Within, item_origins, child_origins, table_within, value_origins, table_origin}
 use Rattle.basic_toml_grow.specs.Origins.{with_more, rows_origins, dotted_of}
-use Rattle.basic_toml_grow.specs.Rows.{AreIn, IsFinished, is_dot}
+use Rattle.basic_toml_grow.specs.Rows.{AreIn, IsFinished, one_row}
 use Rattle.basic_toml_grow.specs.Simple.{kept, item_of, child_of, entry_of, entries_of, with_entries}
 use Rattle.basic_toml_grow.proofs.ItemTries.{no_child_trie, entries_with, with_entries_twice}
-use Rattle.basic_toml_grow.proofs.RowValues.{row_value, value_put}
+use Rattle.basic_toml_grow.proofs.RowValues.{value_put}
+use Rattle.basic_toml_grow.proofs.RowsHaveKeys.{one_has_keys, rows_are_keyed}
 use Rattle.basic_toml_grow.proofs.RowsEntered.{row_key, step_put}
 use Rattle.basic_toml_grow.proofs.RowsLeft.{AreLeft, all_left, none_left, row_entered, both}
-use Rattle.basic_toml_grow.proofs.Origins.OriginsLeft.{OriginsLeft, one_row, origins_entered, origins_done}
+use Rattle.basic_toml_grow.proofs.Origins.OriginsLeft.{OriginsLeft, row_comes, origins_entered, origins_done}
 use Rattle.basic_toml_grow.proofs.Origins.RowsPlaceOrigins.{comes_first, origins_put}
 
 -- a plain value, as the item that it is kept as
-kept_trie : (x : Raw-F Raw Element Row) (l : ℕ) → is_plain (roll-Raw x) l ≡ true
+kept_trie : (x : Raw-F Raw Element Row tables.Rows) (l : ℕ) → is_plain (roll-Raw x) l ≡ true
     → item_trie (kept x) ≡ leaf (finished (plain_of (roll-Raw x)))
-kept_trie Raw-F.Dot l plain =
-    let not_plain : is_plain (roll-Raw Raw-F.Dot) l ≡ false = search (rules, raws.the_lemmas) in
+kept_trie (Raw-F.Dotted rs) l plain =
+    let not_plain : is_plain (roll-Raw (Raw-F.Dotted rs)) l ≡ false = search (rules, raws.the_lemmas) in
     absurd (false≢true (sym not_plain ∙ plain))
 kept_trie (Raw-F.Inline rs) l plain =
     let not_plain : is_plain (roll-Raw (Raw-F.Inline rs)) l ≡ false = search (rules, raws.the_lemmas) in
@@ -63,10 +67,10 @@ kept_trie (Raw-F.String text) l plain = search (rules, the_lemmas, raws.the_lemm
 kept_trie (Raw-F.Escaped text) l plain = search (rules, the_lemmas, raws.the_lemmas)
 kept_trie (Raw-F.Array es) l plain = search (rules, the_lemmas, raws.the_lemmas)
 
-kept_comes : (x : Raw-F Raw Element Row) (l : ℕ) → is_plain (roll-Raw x) l ≡ true → (at s : ℕ)
+kept_comes : (x : Raw-F Raw Element Row tables.Rows) (l : ℕ) → is_plain (roll-Raw x) l ≡ true → (at s : ℕ)
     → item_origins (kept x) at s ≡ value_origins s at (plain_of (roll-Raw x))
-kept_comes Raw-F.Dot l plain at s =
-    let not_plain : is_plain (roll-Raw Raw-F.Dot) l ≡ false = search (rules, raws.the_lemmas) in
+kept_comes (Raw-F.Dotted rs) l plain at s =
+    let not_plain : is_plain (roll-Raw (Raw-F.Dotted rs)) l ≡ false = search (rules, raws.the_lemmas) in
     absurd (false≢true (sym not_plain ∙ plain))
 kept_comes (Raw-F.Inline rs) l plain at s =
     let not_plain : is_plain (roll-Raw (Raw-F.Inline rs)) l ≡ false = search (rules, raws.the_lemmas) in
@@ -99,9 +103,6 @@ child_comes s r = search (rules, the_lemmas)
 
 child_dotted : (s : ℕ) (r : Row) → dotted_of (child_of s r) ≡ table_origin false (out-Row r).start s
 child_dotted s r = search (rules, the_lemmas)
-
-same_value : {u v : sections.Raw} → Some u ≡ Some v → u ≡ v
-same_value e = cc
 
 pub entry_keys : (s : ℕ) (rows : List Row) → keys_of (entries_of s rows) ≡ map key_of rows
 entry_keys s [] = refl
@@ -169,11 +170,8 @@ module _ (s level : ℕ) (low : level ≤ nesting_limit) (t : Table) (r : Row)
   abbrev after : Table
   after = with_entries t (own ++ entry_of s r ∷ [])
 
-  read : (lined_of r).value ≡ Some (plain_of (out-Row r).value)
-  read = row_value r ∙ (plain_value (out-Row r).value level plain).is
-
-  is_row : is_dot r ≡ false
-  is_row = ap (λ v. not (is_some v)) read
+  read : raw_of (out-Row r).value ≡ plain_of (out-Row r).value
+  read = (plain_value (out-Row r).value level plain).is
 
   entered : EntersKey (key_of r) no_child own blank (length own)
   entered = enters own (key_of r) no_child absent
@@ -187,15 +185,14 @@ module _ (s level : ℕ) (low : level ≤ nesting_limit) (t : Table) (r : Row)
   is_after : with_entries (with_entries t blank) (own ++ entry_of s r ∷ []) ≡ after
   is_after = with_entries_twice t blank (own ++ entry_of s r ∷ [])
 
-  row_in : AreIn (rows_view (r ∷ [])) level (table_trie t) (table_trie after)
+  row_in : AreIn (one_row [] r) level (table_trie t) (table_trie after)
   row_in =
       let p = plain_value (out-Row r).value level plain in
-      let here : level + length {A = Row} [] ≡ level = omega arith in
-      value_put [] r level (table_trie t) refl is_row (key_of r ∷ []) (ap (λ k. k ∷ []) (sym (row_key r)))
+      let here : level + length {A = keys.Key} [] ≡ level = omega arith in
+      value_put [] r level (table_trie t) (key_of r ∷ []) (ap (λ k. k ∷ []) (sym (row_key r)))
       (child_trie (child_of s r)) (table_trie after)
-      (λ v seen.
-      subst (λ (l : ℕ). IsFinished v l (child_trie (child_of s r))) (sym here)
-      (subst (λ (v : sections.Raw). IsFinished v level (child_trie (child_of s r))) (same_value (sym p.is ∙ seen))
+      (subst (λ (l : ℕ). IsFinished (raw_of (out-Row r).value) l (child_trie (child_of s r))) (sym here)
+      (subst (λ (v : sections.Raw). IsFinished v level (child_trie (child_of s r))) (sym read)
       (record {
         value = child_item s r ∙ item_is (out-Row r).value level plain;
         apart = p.apart;
@@ -208,19 +205,17 @@ module _ (s level : ℕ) (low : level ≤ nesting_limit) (t : Table) (r : Row)
       (ap (mark_here (valued d)) no_child_trie ∙ ap Some (sym is_leaf)) refl filled
       ∙ ap (λ t. Some (table_trie t)) is_after)
 
-  row_comes : table_within after ≡ with_more (table_within t) (rows_origins s (rows_view (r ∷ [])))
-  row_comes =
-      let p = plain_value (out-Row r).value level plain in
+  row_is_placed : table_within after ≡ with_more (table_within t) (rows_origins s (one_row [] r))
+  row_is_placed =
       sym (ap table_within is_after)
       ∙ origins_put t (key_of r) no_child no_child (child_of s r) blank (length own) no_child_trie entered
       (last_value own (key_of r) no_child) (child_origins (child_of s r))
       (comes_first no_child (child_origins (child_of s r)) no_child_trie)
       (with_entries t blank) (own ++ entry_of s r ∷ []) refl filled
       ∙ ap (with_more (table_within t))
-      (one_row s [] r (key_of r) (child_of s r) refl is_row refl
-      (λ v seen.
-      child_comes s r ∙ item_comes (out-Row r).value level plain (out-Row r).start s
-      ∙ ap (value_origins s (out-Row r).start) (same_value (sym p.is ∙ seen)))
+      (row_comes s [] r (key_of r) (child_of s r) refl
+      (child_comes s r ∙ item_comes (out-Row r).value level plain (out-Row r).start s
+      ∙ ap (value_origins s (out-Row r).start) (sym read))
       (child_dotted s r))
 
 -- keys that are none of those entered
@@ -252,17 +247,19 @@ others_apart s ps r rs apart differs k among =
 module _ (s level : ℕ) (low : level ≤ nesting_limit) (whole : Rows) (before : Trie) (w : Within) (more : List Row) where
   abbrev Done : Table → List Row → Type 0
   Done t rest =
-      AreLeft whole level before [] more (table_trie (with_entries t ((out-Table t).entries ++ entries_of s rest)))
-      × OriginsLeft s whole w [] more (table_within (with_entries t ((out-Table t).entries ++ entries_of s rest)))
+      AreLeft whole level before (rows_seen [] more)
+      (table_trie (with_entries t ((out-Table t).entries ++ entries_of s rest)))
+      × OriginsLeft s whole w (rows_seen [] more)
+      (table_within (with_entries t ((out-Table t).entries ++ entries_of s rest)))
 
   rest_in : (rest : List Row) (t : Table) → are_simple level rest ≡ true → AreApart (out-Table t).entries rest
-      → AreLeft whole level before [] (rest ++ more) (table_trie t)
-      → OriginsLeft s whole w [] (rest ++ more) (table_within t) → Done t rest
+      → AreLeft whole level before (rows_seen [] (rest ++ more)) (table_trie t)
+      → OriginsLeft s whole w (rows_seen [] (rest ++ more)) (table_within t) → Done t rest
   rest_in [] t simple apart left come =
       let same : t ≡ with_entries t ((out-Table t).entries ++ []) =
       sym (ap (with_entries t) (append-nil (out-Table t).entries) ∙ own_entries t) in (
-        subst (λ (t : Table). AreLeft whole level before [] more (table_trie t)) same left,
-        subst (λ (t : Table). OriginsLeft s whole w [] more (table_within t)) same come,
+        subst (λ (t : Table). AreLeft whole level before (rows_seen [] more) (table_trie t)) same left,
+        subst (λ (t : Table). OriginsLeft s whole w (rows_seen [] more) (table_within t)) same come,
       )
   rest_in (r ∷ rs) t simple apart left come =
       let first = first_is_simple level r rs simple in
@@ -270,20 +267,23 @@ module _ (s level : ℕ) (low : level ≤ nesting_limit) (whole : Rows) (before 
       let absent = first_apart own r rs apart in
       let after = with_entries t (own ++ entry_of s r ∷ []) in
       let entries : (out-Table after).entries ≡ own ++ entry_of s r ∷ [] = entries_with t (own ++ entry_of s r ∷ []) in
-      let row = is_row s level low t r first.plain absent in
+      let ks = (lined_of r).key ∷ [] in
+      let others = rows_seen [] (rs ++ more) in
       let done = rest_in rs after first.others
       (subst (λ (ps : List (List ℕ × Child)). AreApart ps rs) (sym entries) (others_apart s own r rs apart first.apart))
-      (row_entered whole level before [] r (rs ++ more) (table_trie t) left row (table_trie after)
-      (row_in s level low t r first.plain absent))
-      (origins_entered s whole w (table_within t) (table_within after) [] r (rs ++ more) refl row come
-      (row_comes s level low t r first.plain absent)) in
+      (row_entered whole level before ks (lined_of r).start (lined_of r).value others (table_trie t)
+      (subst (λ (rows : Rows). AreLeft whole level before rows (table_trie t)) (lone_row r (rs ++ more)) left)
+      (table_trie after) (one_has_keys [] r) (row_in s level low t r first.plain absent))
+      (origins_entered s whole w (table_within t) (table_within after) ks (lined_of r).start (lined_of r).value others
+      (subst (λ (rows : Rows). OriginsLeft s whole w rows (table_within t)) (lone_row r (rs ++ more)) come)
+      (row_is_placed s level low t r first.plain absent)) in
       let same : with_entries after ((out-Table after).entries ++ entries_of s rs)
       ≡ with_entries t (own ++ entries_of s (r ∷ rs)) =
       with_entries_twice t (own ++ entry_of s r ∷ []) ((out-Table after).entries ++ entries_of s rs)
       ∙ ap (λ ps. with_entries t (ps ++ entries_of s rs)) entries
       ∙ ap (with_entries t) (append_assoc own (entry_of s r ∷ []) (entries_of s rs)) in (
-        subst (λ (t : Table). AreLeft whole level before [] more (table_trie t)) same done.0,
-        subst (λ (t : Table). OriginsLeft s whole w [] more (table_within t)) same done.1,
+        subst (λ (t : Table). AreLeft whole level before (rows_seen [] more) (table_trie t)) same done.0,
+        subst (λ (t : Table). OriginsLeft s whole w (rows_seen [] more) (table_within t)) same done.1,
       )
 
 -- the first of all rows, put into a table without entries: the others are left
@@ -292,38 +292,40 @@ module _ (s level : ℕ) (low : level ≤ nesting_limit) (t : Table) (none : (ou
   abbrev full : Table
   full = with_entries t (entries_of s rows)
 
-  first_in : AreLeft (rows_view all) level (table_trie t) [] more (table_trie full)
-      × OriginsLeft s (rows_view all) (table_within t) [] more (table_within full)
+  first_in : AreLeft (rows_seen [] all) level (table_trie t) (rows_seen [] more) (table_trie full)
+      × OriginsLeft s (rows_seen [] all) (table_within t) (rows_seen [] more) (table_within full)
   first_in =
-      let done = rest_in s level low (rows_view all) (table_trie t) (table_within t) more rows t simple
+      let done = rest_in s level low (rows_seen [] all) (table_trie t) (table_within t) more rows t simple
       (λ k among. ap (λ ps. has_key ps k) none)
-      (subst (λ (rs : List Row). AreLeft (rows_view all) level (table_trie t) [] rs (table_trie t)) parts
-      (all_left all level (table_trie t)))
-      (ap (λ rs. with_more (table_within t) (rows_origins s (rows_view rs))) parts) in
+      (subst (λ (rs : List Row). AreLeft (rows_seen [] all) level (table_trie t) (rows_seen [] rs) (table_trie t)) parts
+      (all_left (rows_seen [] all) level (table_trie t)))
+      (ap (λ rs. with_more (table_within t) (rows_origins s (rows_seen [] rs))) parts) in
       let same : with_entries t ((out-Table t).entries ++ entries_of s rows) ≡ full =
       ap (λ ps. with_entries t (ps ++ entries_of s rows)) none in (
-        subst (λ (u : Table). AreLeft (rows_view all) level (table_trie t) [] more (table_trie u)) same done.0,
-        subst (λ (u : Table). OriginsLeft s (rows_view all) (table_within t) [] more (table_within u)) same done.1,
+        subst (λ (u : Table). AreLeft (rows_seen [] all) level (table_trie t) (rows_seen [] more) (table_trie u)) same
+            done.0,
+        subst (λ (u : Table). OriginsLeft s (rows_seen [] all) (table_within t) (rows_seen [] more) (table_within u))
+            same done.1,
       )
 
-  pub others_left : AreLeft (rows_view all) level (table_trie t) [] more (table_trie full)
+  pub others_left : AreLeft (rows_seen [] all) level (table_trie t) (rows_seen [] more) (table_trie full)
   others_left = first_in.0
 
-  pub others_come : OriginsLeft s (rows_view all) (table_within t) [] more (table_within full)
+  pub others_come : OriginsLeft s (rows_seen [] all) (table_within t) (rows_seen [] more) (table_within full)
   others_come = first_in.1
 
 -- and all of them
 module _ (s level : ℕ) (low : level ≤ nesting_limit) (t : Table) (none : (out-Table t).entries ≡ []) (rows : List Row)
     (simple : are_simple level rows ≡ true) where
-  pub rows_in : AreIn (rows_view rows) level (table_trie t) (table_trie (with_entries t (entries_of s rows)))
+  pub rows_in : AreIn (rows_seen [] rows) level (table_trie t) (table_trie (with_entries t (entries_of s rows)))
   rows_in =
-      none_left rows [] level (table_trie t) (table_trie (with_entries t (entries_of s rows)))
-      (others_left s level low t none rows rows [] (sym (append-nil rows)) simple)
+      none_left (rows_seen [] rows) level (table_trie t) (table_trie (with_entries t (entries_of s rows)))
+      (rows_are_keyed [] rows) (others_left s level low t none rows rows [] (sym (append-nil rows)) simple)
 
   pub rows_come : table_within (with_entries t (entries_of s rows))
-      ≡ with_more (table_within t) (rows_origins s (rows_view rows))
+      ≡ with_more (table_within t) (rows_origins s (rows_seen [] rows))
   rows_come =
-      origins_done s (rows_view rows) (table_within t) (table_within (with_entries t (entries_of s rows))) [] refl
+      origins_done s (rows_seen [] rows) (table_within t) (table_within (with_entries t (entries_of s rows)))
       (others_come s level low t none rows rows [] (sym (append-nil rows)) simple)
 
 -- the first of plain rows whose keys differ are simple

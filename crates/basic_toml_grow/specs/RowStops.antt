@@ -1,21 +1,15 @@
 -- Which stop the clash of a row is, and what the last key or another one meets.
-use Rattle.std.specs.Prelude.{◌≡◌, ⊤, ℕ, suc, List, [], ◌∷◌, ◌++◌, map, length, take}
+use Rattle.std.specs.Prelude.{◌≡◌, ⊤, ℕ, suc, List, [], ◌∷◌, ◌++◌, length, take}
 use Rattle.basic_toml_value.specs.Data.{Data}
 use Rattle.basic_toml_grammar.specs.Sections.{Key, KeyTexts, texts}
 use Rattle.basic_toml_grammar.specs.Marks.{dotted, valued}
 use Rattle.basic_toml_grammar.specs.Trie.{Trie}
 use Rattle.basic_toml_grammar.specs.Stops.{at_row, last_stop, Outcome, stops, and_on, held}
 use Rattle.basic_toml_grammar.specs.TrieStops.{try_here, try_put_row}
-use Rattle.basic_toml_read.specs.declared.section.Row.{Row}
-use Rattle.basic_toml_read.specs.SectionView.{lined_of}
 use Rattle.basic_toml_clash.specs.declared.clash.Clash.{Clash}
 use Rattle.basic_toml_grow.specs.declared.rows.Met.{Met}
 use Rattle.basic_toml_grow.specs.declared.rows.Met.TheVariants as mets
 use Rattle.basic_toml_clash.specs.Clash.{NamesStop}
-
--- the keys of rows, each with its offset
-abbrev pub line_keys : List Row → List Key
-line_keys rows = map (λ r. (lined_of r).key) rows
 
 abbrev pub key_at : ℕ → List ℕ → Key
 key_at offset text = record { offset = offset; text = text }

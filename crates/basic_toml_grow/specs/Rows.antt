@@ -1,20 +1,19 @@
 -- How rows are put into a table, and what keeps them out.
 use Rattle.std.specs.Prelude.{◌≡◌, ◌⊎◌, ⊤, ◌≤◌, ◌<◌, ℕ, List, true, false, Option, Some, None, Result, Ok, Err}
-use Rattle.std.specs.Prelude.{Vec, map}
-use Rattle.std.specs.Prelude.{Bool, not, is_some}
-use Rattle.std.specs.List.{list_all}
+use Rattle.std.specs.Prelude.{Vec, map, [], ◌∷◌, ◌++◌}
 use Rattle.std.specs.declared.alloc.Global.{Global}
 use Rattle.basic_toml_value.specs.Nesting.{nesting_limit}
 use Rattle.basic_toml_value.specs.Data.{Data, items_of}
-use Rattle.basic_toml_grammar.specs.Sections.{KeyTexts, Rows, Raw, Elements}
+use Rattle.basic_toml_grammar.specs.Sections.{KeyTexts, Rows, no_rows, row, Raw, Elements}
 use Rattle.basic_toml_grammar.specs.Mentions.{finished, finished_elements}
 use Rattle.basic_toml_grammar.specs.RowClash.{rows_clash, value_clashes, elements_clash}
 use Rattle.basic_toml_grammar.specs.Levels.{rows_level, value_level, elements_level}
 use Rattle.basic_toml_grammar.specs.Trie.{Trie, put_rows, put_row, mark_here}
 use Rattle.basic_toml_grammar.specs.Marks.{dotted}
 use Rattle.basic_toml_grammar.specs.Entering.{and_then}
+use Rattle.basic_toml_read.specs.declared.section.Key as keys
 use Rattle.basic_toml_read.specs.declared.section.Row.{Row}
-use Rattle.basic_toml_read.specs.SectionView.{lined_of}
+use Rattle.basic_toml_read.specs.SectionView.{key_of, lined_of}
 use Rattle.basic_toml_clash.specs.declared.clash.Clash.{Clash}
 use Rattle.basic_toml_clash.specs.declared.clash.Clash.TheVariants.{Memory, Deep}
 use Rattle.basic_toml_grow.specs.declared.item.Child.{Child}
@@ -52,16 +51,10 @@ abbrev pub met_reason : Met → Reason
 met_reason mets.Memory = memory
 met_reason _ = crossed
 
--- whether a row is a key that a period follows, and whether all are
-abbrev pub is_dot : Row → Bool
-is_dot r = not (is_some (lined_of r).value)
-
-abbrev pub all_dots : List Row → Bool
-all_dots rows = list_all is_dot rows
-
--- the keys that rows have, as bytes
-abbrev pub key_texts : List Row → KeyTexts
-key_texts rows = map (λ r. (lined_of r).key.text) rows
+-- a row with these parents, alone
+abbrev pub one_row : List keys.Key → Row → Rows
+one_row parents r =
+    row (map key_of parents ++ (lined_of r).key ∷ []) (lined_of r).start (lined_of r).value no_rows
 
 -- what a change that may meet something gives
 abbrev pub Enters : Option Trie → Trie → Result (Unit {0}) Met → Type 0

@@ -4,6 +4,7 @@ use Rattle.basic_toml_read.specs.declared.section.Raw.{Raw, out-Raw}
 use Rattle.basic_toml_read.specs.declared.section.Raw.TheOpen.{Raw-F}
 use Rattle.basic_toml_read.specs.declared.section.Element.{Element}
 use Rattle.basic_toml_read.specs.declared.section.Row.{Row, out-Row}
+use Rattle.basic_toml_read.specs.declared.section.Rows.{Rows}
 use Rattle.basic_toml_clash.specs.Simple.{key_of}
 use Rattle.basic_toml_grow.specs.declared.item.Item as items
 use Rattle.basic_toml_grow.specs.declared.item.Item.TheViews.{roll-Child, roll-Table}
@@ -11,8 +12,7 @@ use Rattle.basic_toml_grow.specs.declared.item.Child.{Child}
 use Rattle.basic_toml_grow.specs.declared.item.Table.{Table, out-Table}
 
 -- a plain value as an item; what is not plain is kept as nothing
-abbrev pub kept : Raw-F Raw Element Row → items.Item
-kept Raw-F.Dot = items.Nothing
+abbrev pub kept : Raw-F Raw Element Row Rows → items.Item
 kept (Raw-F.Integer z) = items.Integer z
 kept (Raw-F.Float text) = items.Float text
 kept (Raw-F.Boolean b) = items.Boolean b
@@ -20,6 +20,7 @@ kept (Raw-F.String text) = items.String text
 kept (Raw-F.Escaped text) = items.Escaped text
 kept (Raw-F.Array es) = items.Plain es
 kept (Raw-F.Inline rs) = items.Nothing
+kept (Raw-F.Dotted rs) = items.Nothing
 
 abbrev pub item_of : Raw → items.Item
 item_of v = kept (out-Raw v)

@@ -19,7 +19,7 @@ ghost use Rattle.basic_toml_grow.specs.Headers.{entered_by, steps_by, entered_at
 use crate::item::{Item, Table};
 use crate::rows::take_rows;
 use basic_toml_clash::Clash;
-use basic_toml_read::{Key, Row, Section};
+use basic_toml_read::{Key, Rows, Section};
 use basic_toml_value::NESTING_LIMIT;
 use std::alloc::{AllocError, Global};
 use std::mem;
@@ -40,24 +40,22 @@ pub fn enter_section<'de>(
     section: &mut Section<'de>,
     number: usize,
 ) -> Result<(), Clash>
-    ensures entered { EntersHeader section.old.is_array (rows_view section.old.rows.items)
+    ensures entered { EntersHeader section.old.is_array (rows_view section.old.rows)
         (header_texts section.old.header.items) 1 (table_trie root.old) (table_trie root.new) result }
     ensures named { let keys = header_texts section.old.header.items in
-        let tried = try_by_keys section.old.is_array (rows_view section.old.rows.items) keys (table_trie root.old) in
+        let tried = try_by_keys section.old.is_array (rows_view section.old.rows) keys (table_trie root.old) in
         IfErr result (λ clash. NamesStop tried clash) }
     ensures origins { let keys = header_texts section.old.header.items in
-        let rows = rows_origins number (rows_view section.old.rows.items) in
+        let rows = rows_origins number (rows_view section.old.rows) in
         IfOk result (λ _. GrowsAlong (way section.old.is_array keys (table_trie root.old)) rows
         (table_within root.old).below (table_within root.new).below) }
     ensures at { section.new.at ≡ section.old.at }
     ensures is_array { section.new.is_array ≡ section.old.is_array }
     ensures header { section.new.header ≡ section.old.header }
-    ensures rows { section.new.rows.items ≡ [] }
 {
-    let rows = mem::replace(&mut section.rows, Vec::new(alloc));
     let is_array = section.is_array;
     let header = section.header.as_slice();
-    enter_header(alloc, root, header, is_array, rows, number, 1)
+    enter_header(alloc, root, header, is_array, &mut section.rows, number, 1)
 }
 
 // The table at a level that a header names takes the rows of its section.
@@ -65,17 +63,17 @@ pub fn enter_section<'de>(
 fn open<'de>(
     alloc: Global,
     table: &mut Table<'de>,
-    rows: Vec<Row<'de>>,
+    rows: &mut Rows<'de>,
     number: usize,
     level: usize,
 ) -> Result<(), Clash>
     requires { level ≤ nesting_limit + 2 }
-    ensures entered { EntersHeader false (rows_view rows.entry.items) [] level (table_trie table.old)
+    ensures entered { EntersHeader false (rows_view rows.old) [] level (table_trie table.old)
         (table_trie table.new) result }
-    ensures named { let tried = try_put_table (rows_view rows.entry.items) (table_trie table.old) in
+    ensures named { let tried = try_put_table (rows_view rows.old) (table_trie table.old) in
         IfErr result (λ clash. NamesStop tried clash) }
     ensures origins { IfOk result (λ _. (table_within table.new).below
-        ≡ or_else (table_within table.old).below (rows_origins number (rows_view rows.entry.items))) }
+        ≡ or_else (table_within table.old).below (rows_origins number (rows_view rows.old))) }
 {
     if level > NESTING_LIMIT {
         return Err(Clash::Deep);
@@ -100,17 +98,17 @@ fn enter_header<'de>(
     table: &mut Table<'de>,
     keys: &[Key<'de>],
     is_array: bool,
-    rows: Vec<Row<'de>>,
+    rows: &mut Rows<'de>,
     number: usize,
     level: usize,
 ) -> Result<(), Clash>
     requires { level ≤ nesting_limit + 2 }
-    ensures entered { EntersHeader is_array (rows_view rows.entry.items) (header_texts keys.now) level
+    ensures entered { EntersHeader is_array (rows_view rows.old) (header_texts keys.now) level
         (table_trie table.old) (table_trie table.new) result }
     ensures named { let keys = header_texts keys.now in
-        let tried = try_by_keys is_array (rows_view rows.entry.items) keys (table_trie table.old) in
+        let tried = try_by_keys is_array (rows_view rows.old) keys (table_trie table.old) in
         IfErr result (λ clash. NamesStop tried clash) }
-    ensures origins { let new = rows_origins number (rows_view rows.entry.items) in
+    ensures origins { let new = rows_origins number (rows_view rows.old) in
         IfOk result (λ _. GrowsAlong (way is_array (header_texts keys.now) (table_trie table.old)) new
         (table_within table.old).below (table_within table.new).below) }
 {
@@ -129,17 +127,17 @@ fn enter_below<'de>(
     key: &Key<'de>,
     rest: &[Key<'de>],
     is_array: bool,
-    rows: Vec<Row<'de>>,
+    rows: &mut Rows<'de>,
     number: usize,
     level: usize,
 ) -> Result<(), Clash>
     requires { level ≤ nesting_limit + 2 }
-    ensures entered { EntersHeader is_array (rows_view rows.entry.items) (header_texts (key.now ∷ rest.now)) level
+    ensures entered { EntersHeader is_array (rows_view rows.old) (header_texts (key.now ∷ rest.now)) level
         (table_trie table.old) (table_trie table.new) result }
     ensures named { let keys = header_texts (key.now ∷ rest.now) in
-        let tried = try_by_keys is_array (rows_view rows.entry.items) keys (table_trie table.old) in
+        let tried = try_by_keys is_array (rows_view rows.old) keys (table_trie table.old) in
         IfErr result (λ clash. NamesStop tried clash) }
-    ensures origins { let new = rows_origins number (rows_view rows.entry.items) in
+    ensures origins { let new = rows_origins number (rows_view rows.old) in
         let keys = header_texts (key.now ∷ rest.now) in
         IfOk result (λ _. GrowsAlong (way is_array keys (table_trie table.old)) new
         (table_within table.old).below (table_within table.new).below) }
@@ -163,19 +161,19 @@ fn enter_at<'de>(
     there: &mut Item<'de>,
     rest: &[Key<'de>],
     is_array: bool,
-    rows: Vec<Row<'de>>,
+    rows: &mut Rows<'de>,
     number: usize,
     level: usize,
 ) -> Result<(), Clash>
     requires { level ≤ nesting_limit }
-    ensures entered { let rows = rows_view rows.entry.items in
+    ensures entered { let rows = rows_view rows.old in
         let keys = header_texts rest.now in
         EntersItem (entered_at is_array rows keys (item_trie there.old)) rows
         (level + steps_at is_array keys (item_trie there.old)) (item_trie there.new) result }
-    ensures named { let tried = tried_at is_array (rows_view rows.entry.items) (header_texts rest.now)
+    ensures named { let tried = tried_at is_array (rows_view rows.old) (header_texts rest.now)
         (item_trie there.old) in
         IfErr result (λ clash. NamesStop tried clash) }
-    ensures origins { let new = rows_origins number (rows_view rows.entry.items) in
+    ensures origins { let new = rows_origins number (rows_view rows.old) in
         IfOk result (λ _. (start section : ℕ) →
         GrowsAlong (way_at is_array (header_texts rest.now) (item_trie there.old)) new
         (item_origins there.old start section) (item_origins there.new start section)) }
@@ -208,17 +206,17 @@ fn with_blank<'de>(
 fn add_element<'de>(
     alloc: Global,
     there: Item<'de>,
-    rows: Vec<Row<'de>>,
+    rows: &mut Rows<'de>,
     number: usize,
     level: usize,
 ) -> Result<Item<'de>, Clash>
     requires { level ≤ nesting_limit }
-    ensures entered { let rows = rows_view rows.entry.items in
+    ensures entered { let rows = rows_view rows.old in
         MatchResult result (λ item. IsIn (put_element rows (item_trie there.entry)) rows (level + 2) (item_trie item))
         (λ clash. IsKeptOut (put_element rows (item_trie there.entry)) rows (level + 2) clash) }
-    ensures named { let tried = try_put_element (rows_view rows.entry.items) (item_trie there.entry) in
+    ensures named { let tried = try_put_element (rows_view rows.old) (item_trie there.entry) in
         IfErr result (λ clash. NamesStop tried clash) }
-    ensures origins { let new = rows_origins number (rows_view rows.entry.items) in
+    ensures origins { let new = rows_origins number (rows_view rows.old) in
         IfOk result (λ after. (start section : ℕ) →
         GrowsAlong (number_step (count (item_trie there.entry)) ∷ []) new
         (item_origins there.entry start section) (item_origins after start section)) }
@@ -250,19 +248,19 @@ fn enter_item<'de>(
     there: &mut Item<'de>,
     rest: &[Key<'de>],
     is_array: bool,
-    rows: Vec<Row<'de>>,
+    rows: &mut Rows<'de>,
     number: usize,
     level: usize,
 ) -> Result<(), Clash>
     requires { level ≤ nesting_limit }
-    ensures entered { let rows = rows_view rows.entry.items in
+    ensures entered { let rows = rows_view rows.old in
         let keys = header_texts rest.now in
         EntersItem (entered_by is_array rows keys (item_trie there.old)) rows
         (level + steps_by is_array keys (item_trie there.old)) (item_trie there.new) result }
-    ensures named { let tried = tried_by is_array (rows_view rows.entry.items) (header_texts rest.now)
+    ensures named { let tried = tried_by is_array (rows_view rows.old) (header_texts rest.now)
         (item_trie there.old) in
         IfErr result (λ clash. NamesStop tried clash) }
-    ensures origins { let new = rows_origins number (rows_view rows.entry.items) in
+    ensures origins { let new = rows_origins number (rows_view rows.old) in
         IfOk result (λ _. (start section : ℕ) →
         GrowsAlong (way_by is_array (header_texts rest.now) (item_trie there.old)) new
         (item_origins there.old start section) (item_origins there.new start section)) }

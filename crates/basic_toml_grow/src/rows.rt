@@ -1,6 +1,6 @@
 //! Puts the rows of a section into its table: their values, and the tables that their dotted keys lead through.
 
-ghost use Rattle.std.specs.Prelude.{◌≡◌, ◌≤◌, ◌<◌, ℕ, length, [], ◌∷◌, ◌++◌, Some, None, true, false, not, is_some, map};
+ghost use Rattle.std.specs.Prelude.{◌≡◌, ◌≤◌, ◌<◌, ℕ, length, [], ◌∷◌, ◌++◌, None, true, false, map, string_bytes, take};
 ghost use Rattle.std.specs.Prelude.{MatchOption, IfOk, IfErr, IfSome};
 ghost use Rattle.basic_toml_value.specs.Nesting.{nesting_limit};
 ghost use Rattle.basic_toml_value.specs.Data.{Data};
@@ -8,25 +8,26 @@ ghost use Rattle.basic_toml_grammar.specs.Sections.{Raw as spec_raw};
 ghost use Rattle.basic_toml_grammar.specs.Marks.{valued};
 ghost use Rattle.basic_toml_grammar.specs.Trie.{nothing, mark_here};
 ghost use Rattle.basic_toml_grammar.specs.TrieStops.{try_put_rows, try_put_value, try_put_elements};
-ghost use Rattle.basic_toml_read.specs.SectionView.{raw_of, rows_view, elements_view};
+ghost use Rattle.basic_toml_read.specs.SectionView.{raw_of, key_of, header_texts, rows_seen, rows_view, elements_view};
 ghost use Rattle.basic_toml_grow.specs.declared.item.Table.{out-Table};
 ghost use Rattle.basic_toml_grow.specs.Item.{leaf, child_trie, table_trie};
 ghost use Rattle.basic_toml_grow.specs.Origins.{child_origins, table_within, with_more, or_else, entry};
 ghost use Rattle.basic_toml_grow.specs.Origins.{row_origins, rows_origins, value_origins, elements_origins};
 ghost use Rattle.basic_toml_grow.specs.Origins.{dotted_of, table_origin};
-ghost use Rattle.basic_toml_grow.specs.Rows.{EntersRow, EntersRows, Extends, Finishes, FinishesAll, key_texts};
+ghost use Rattle.basic_toml_grow.specs.Rows.{EntersRow, EntersRows, Extends, Finishes, FinishesAll};
 ghost use Rattle.basic_toml_clash.specs.Clash.{NamesStop};
 ghost use Rattle.basic_toml_clash.specs.Simple.{are_all_plain as all_plain};
-ghost use Rattle.basic_toml_grow.specs.RowStops.{line_keys, key_at, TellsLast, TellsRow, TellsExtended, SaysMet};
+ghost use Rattle.basic_toml_grow.specs.RowStops.{key_at, TellsLast, TellsRow, TellsExtended, SaysMet};
 ghost use Rattle.basic_toml_grow.specs.RowStops.{SaysHeld};
-ghost use Rattle.basic_toml_grow.specs.Rows.{all_dots, is_dot, reason, met_reason};
+ghost use Rattle.basic_toml_grow.specs.Rows.{one_row, reason, met_reason};
 
 use crate::item::{Child, Item, Table};
 use crate::simple::{index_until_repeat, with_first_rows, with_rows};
-use basic_toml_clash::{Clash, ItemsLeft, are_all_plain, are_plain, are_simple, drain, texts_of};
-use basic_toml_read::{Element, Raw, Row};
+use basic_toml_clash::{Clash, ItemsLeft, are_all_plain, are_plain, are_simple, drain, key_texts};
+use basic_toml_read::{Element, Key, Raw, Row, Rows};
 use basic_toml_value::NESTING_LIMIT;
 use std::alloc::{AllocError, AllocFailed, Global};
+use std::mem;
 
 // Of up to so many rows it is asked whether they are simple, since each key is then compared with all others.
 const FEW: usize = 16;
@@ -91,20 +92,20 @@ fn what_is_met(there: &Child<'_>) -> Option<Met>
 fn enter_row<'de>(
     alloc: Global,
     table: &mut Table<'de>,
-    keys: &[Row<'de>],
+    keys: &[Key<'de>],
     last: &str,
     child: Child<'de>,
 ) -> Result<(), Met>
     ensures entered { (d : Data) → child_trie child.entry ≡ leaf d
-        → EntersRow (key_texts keys.entry.now ++ last.entry.now ∷ []) d (table_trie table.old) (table_trie table.new)
+        → EntersRow (header_texts keys.entry.now ++ last.entry.now ∷ []) d (table_trie table.old) (table_trie table.new)
         result }
     ensures named { IfErr result (λ met. (d : Data) → child_trie child.entry ≡ leaf d
-        → TellsRow (line_keys keys.entry.now) last.entry.now d (table_trie table.old) met) }
-    ensures origins { let row = row_origins (key_texts keys.entry.now ++ last.entry.now ∷ []) (dotted_of child.entry)
+        → TellsRow (map key_of keys.entry.now) last.entry.now d (table_trie table.old) met) }
+    ensures origins { let row = row_origins (header_texts keys.entry.now ++ last.entry.now ∷ []) (dotted_of child.entry)
         (child_origins child.entry) in
         IfOk result (λ _. table_within table.new ≡ with_more (table_within table.old) row) }
 {
-    let Some((row, rest)) = keys.split_first() else {
+    let Some((key, rest)) = keys.split_first() else {
         let position = table.entries.enter(last)?;
         if let Some(met) = what_is_met(table.entries.value(position)) {
             return Err(met);
@@ -112,7 +113,7 @@ fn enter_row<'de>(
         table.entries.put(position, child);
         return Ok(());
     };
-    let position = table.entries.enter_again(row.key.as_str())?;
+    let position = table.entries.enter_again(key.text.as_str())?;
     let room = room_like(table, position);
     let there = table.entries.value_mut(position);
     extend(alloc, there, rest, last, child, room)
@@ -138,17 +139,17 @@ fn room_like(table: &Table<'_>, position: usize) -> usize
 fn extend<'de>(
     alloc: Global,
     there: &mut Child<'de>,
-    keys: &[Row<'de>],
+    keys: &[Key<'de>],
     last: &str,
     child: Child<'de>,
     room: usize,
 ) -> Result<(), Met>
     ensures entered { (d : Data) → child_trie child.entry ≡ leaf d
-        → Extends (key_texts keys.entry.now ++ last.entry.now ∷ []) d (child_trie there.old) (child_trie there.new)
+        → Extends (header_texts keys.entry.now ++ last.entry.now ∷ []) d (child_trie there.old) (child_trie there.new)
         result }
     ensures named { IfErr result (λ met. (d : Data) → child_trie child.entry ≡ leaf d
-        → TellsExtended (line_keys keys.entry.now) last.entry.now d (child_trie there.old) met) }
-    ensures origins { let row = row_origins (key_texts keys.entry.now ++ last.entry.now ∷ []) (dotted_of child.entry)
+        → TellsExtended (map key_of keys.entry.now) last.entry.now d (child_trie there.old) met) }
+    ensures origins { let row = row_origins (header_texts keys.entry.now ++ last.entry.now ∷ []) (dotted_of child.entry)
         (child_origins child.entry) in
         IfOk result (λ _. child_origins there.new ≡ or_else (child_origins there.old)
         (entry (dotted_of child.entry) row)) }
@@ -179,25 +180,32 @@ fn extend<'de>(
     }
 }
 
+// The texts of the first of some keys.
+fn first_texts(alloc: Global, keys: &[Key<'_>], count: usize) -> Result<Vec<String>, AllocError>
+    ensures { IfOk result (λ texts. map string_bytes texts.items ≡ header_texts (take count keys.now)) }
+{
+    key_texts(alloc, &keys[..count.min(keys.len())])
+}
+
 // The clash of a row with these keys that periods follow, and this last key.
 fn row_clash(
     alloc: Global,
     met: Met,
-    keys: &[Row<'_>],
+    keys: &[Key<'_>],
     last: &str,
     offset: usize,
 ) -> Result<Clash, AllocError>
     ensures same { IfOk result (λ clash. reason clash ≡ met_reason met) }
-    ensures named { IfOk result (λ clash. SaysMet (line_keys keys.now) (key_at offset last.now) met clash) }
+    ensures named { IfOk result (λ clash. SaysMet (map key_of keys.now) (key_at offset last.now) met clash) }
 {
     match met {
         Met::Memory => Ok(Clash::Memory),
-        Met::Row => Clash::row(alloc, texts_of(alloc, keys, 1)?, last, offset),
+        Met::Row => Clash::row(alloc, first_texts(alloc, keys, 1)?, last, offset),
         Met::Header(left) => {
             let number = (keys.len() + 1).saturating_sub(left);
-            let path = texts_of(alloc, keys, number)?;
+            let path = first_texts(alloc, keys, number)?;
             match keys.get(number) {
-                Some(row) => Clash::row(alloc, path, row.key.as_str(), row.offset),
+                Some(key) => Clash::row(alloc, path, key.text.as_str(), key.offset),
                 None => Clash::row(alloc, path, last, offset),
             }
         }
@@ -208,17 +216,17 @@ fn row_clash(
 fn value_clash(
     alloc: Global,
     clash: Clash,
-    keys: &[Row<'_>],
+    keys: &[Key<'_>],
     last: &str,
 ) -> Result<Clash, AllocError>
     ensures same { IfOk result (λ held. reason held ≡ reason clash) }
     ensures named { (offset : ℕ)
-        → IfOk result (λ held. SaysHeld (line_keys keys.now ++ key_at offset last.now ∷ []) clash held) }
+        → IfOk result (λ held. SaysHeld (map key_of keys.now ++ key_at offset last.now ∷ []) clash held) }
 {
     match clash {
         Clash::Row(repeated) => {
             let mut repeated = repeated;
-            let mut path = texts_of(alloc, keys, 1)?;
+            let mut path = first_texts(alloc, keys, 1)?;
             if keys.is_empty() {
                 path.push(String::from_str(alloc, last)?)?;
             }
@@ -232,13 +240,10 @@ fn value_clash(
 // The room that the rows of one key want, each of which makes an entry of its own.
 fn room_for(rows: &[Row<'_>]) -> usize {
     let mut room = 0;
-    let mut goes_on = false;
     for row in rows {
-        let is_dot = row.is_dot();
-        if !is_dot && !goes_on {
+        if row.parents == 0 {
             room += 1;
         }
-        goes_on = is_dot;
     }
     room
 }
@@ -257,29 +262,38 @@ fn make_room(table: &mut Table<'_>, more: usize) -> Result<(), AllocError>
 pub(crate) fn take_rows<'de>(
     alloc: Global,
     table: &mut Table<'de>,
-    rows: Vec<Row<'de>>,
+    rows: &mut Rows<'de>,
     section: usize,
     level: usize,
 ) -> Result<(), Clash>
     requires { level ≤ nesting_limit }
-    ensures entered { EntersRows (rows_view rows.entry.items) level (table_trie table.old) (table_trie table.new)
-        result }
+    ensures entered { EntersRows (rows_view rows.old) level (table_trie table.old) (table_trie table.new) result }
     ensures named { IfErr result (λ clash.
-        NamesStop (try_put_rows (rows_view rows.entry.items) (table_trie table.old)) clash) }
+        NamesStop (try_put_rows (rows_view rows.old) (table_trie table.old)) clash) }
     ensures origins { IfOk result (λ _. table_within table.new
-        ≡ with_more (table_within table.old) (rows_origins section (rows_view rows.entry.items))) }
+        ≡ with_more (table_within table.old) (rows_origins section (rows_view rows.old))) }
 {
-    if rows.is_empty() {
+    if rows.rows.is_empty() {
         return Ok(());
     }
-    if table.entries.is_empty() && rows.len() <= FEW && are_simple(rows.as_slice(), level) {
-        return Ok(with_rows(alloc, table, rows, section)?);
-    }
-    if rows.len() >= MANY && table.entries.is_empty() && are_all_plain(rows.as_slice(), level) {
-        return take_many_rows(alloc, table, rows, section, level);
+    let Rows { parents, rows } = mem::replace(rows, Rows::none(alloc));
+    if parents.is_empty() && table.entries.is_empty() {
+        if rows.len() <= FEW && are_simple(rows.as_slice(), level) {
+            return Ok(with_rows(alloc, table, rows, section)?);
+        }
+        if rows.len() >= MANY && are_all_plain(rows.as_slice(), level) {
+            return take_many_rows(alloc, table, rows, section, level);
+        }
     }
     make_room(table, room_for(rows.as_slice()))?;
-    enter_rows(alloc, table, drain(rows), section, level)
+    enter_rows(
+        alloc,
+        table,
+        parents.as_slice(),
+        drain(rows),
+        section,
+        level,
+    )
 }
 
 // Puts many rows, each of one key and a plain value, into a table of a level without entries: those before the first
@@ -297,17 +311,17 @@ fn take_many_rows<'de>(
     requires level { level ≤ nesting_limit }
     requires plain { all_plain level rows.items ≡ true }
     requires none { (out-Table table.old).entries ≡ [] }
-    ensures entered { EntersRows (rows_view rows.entry.items) level (table_trie table.old) (table_trie table.new)
+    ensures entered { EntersRows (rows_seen [] rows.entry.items) level (table_trie table.old) (table_trie table.new)
         result }
     ensures named { IfErr result (λ clash.
-        NamesStop (try_put_rows (rows_view rows.entry.items) (table_trie table.old)) clash) }
+        NamesStop (try_put_rows (rows_seen [] rows.entry.items) (table_trie table.old)) clash) }
     ensures origins { IfOk result (λ _. table_within table.new
-        ≡ with_more (table_within table.old) (rows_origins section (rows_view rows.entry.items))) }
+        ≡ with_more (table_within table.old) (rows_origins section (rows_seen [] rows.entry.items))) }
 {
     let (index, count) = index_until_repeat(alloc, rows.as_slice())?;
     let mut rows = drain(rows);
     with_first_rows(alloc, table, &mut rows, section, index, count)?;
-    enter_rows(alloc, table, rows, section, level)
+    enter_rows(alloc, table, &[], rows, section, level)
 }
 
 // Puts the rows that are left into a table of a level, one by one.
@@ -316,47 +330,45 @@ fn take_many_rows<'de>(
 fn enter_rows<'de>(
     alloc: Global,
     table: &mut Table<'de>,
+    parents: &[Key<'de>],
     rows: ItemsLeft<Row<'de>>,
     section: usize,
     level: usize,
 ) -> Result<(), Clash>
     requires { level ≤ nesting_limit }
-    ensures entered { EntersRows (rows_view rows.entry) level (table_trie table.old) (table_trie table.new) result }
+    ensures entered { EntersRows (rows_seen parents.entry.now rows.entry) level (table_trie table.old)
+        (table_trie table.new) result }
     ensures named { IfErr result (λ clash.
-        NamesStop (try_put_rows (rows_view rows.entry) (table_trie table.old)) clash) }
+        NamesStop (try_put_rows (rows_seen parents.entry.now rows.entry) (table_trie table.old)) clash) }
     ensures origins { IfOk result (λ _. table_within table.new
-        ≡ with_more (table_within table.old) (rows_origins section (rows_view rows.entry))) }
+        ≡ with_more (table_within table.old) (rows_origins section (rows_seen parents.entry.now rows.entry))) }
 {
-    let mut keys = Vec::new(alloc);
+    let mut left = parents;
     for row in rows {
-        if row.is_dot() {
-            keys.push(row)?;
-            continue;
-        }
-        enter_value(alloc, table, keys.as_slice(), row, section, level)?;
-        keys.clear();
+        let own = row.own_parents(left);
+        enter_value(alloc, table, own, row, section, level)?;
+        left = &left[own.len()..];
     }
     Ok(())
 }
 
-// Puts the row of some keys that periods follow, and of one with a value, into a table of a level.
+// Puts a row with these keys before its last one into a table of a level. It is inlined, so that a row is not moved.
 #[cycle(finishing)]
+#[inline(always)]
 fn enter_value<'de>(
     alloc: Global,
     table: &mut Table<'de>,
-    keys: &[Row<'de>],
+    keys: &[Key<'de>],
     row: Row<'de>,
     section: usize,
     level: usize,
 ) -> Result<(), Clash>
     requires level { level ≤ nesting_limit }
-    requires keys { all_dots keys.now ≡ true }
-    requires row { is_dot row ≡ false }
-    ensures entered { EntersRows (rows_view (keys.entry.now ++ row.entry ∷ [])) level (table_trie table.old)
+    ensures entered { EntersRows (one_row keys.entry.now row.entry) level (table_trie table.old)
         (table_trie table.new) result }
     ensures named { IfErr result (λ clash.
-        NamesStop (try_put_rows (rows_view (keys.entry.now ++ row.entry ∷ [])) (table_trie table.old)) clash) }
-    ensures origins { let row = rows_origins section (rows_view (keys.entry.now ++ row.entry ∷ [])) in
+        NamesStop (try_put_rows (one_row keys.entry.now row.entry) (table_trie table.old)) clash) }
+    ensures origins { let row = rows_origins section (one_row keys.entry.now row.entry) in
         IfOk result (λ _. table_within table.new ≡ with_more (table_within table.old) row) }
 {
     if keys.len() > NESTING_LIMIT - level {
@@ -365,6 +377,7 @@ fn enter_value<'de>(
     let Row {
         key,
         offset,
+        parents: _,
         start,
         value,
     } = row;
@@ -389,11 +402,9 @@ fn row_value<'de>(
     level: usize,
 ) -> Result<Child<'de>, Clash>
     requires { level ≤ nesting_limit }
-    ensures finished { (v : spec_raw) → raw_of value.entry ≡ Some v → Finishes v level result }
-    ensures named { IfErr result (λ clash. (v : spec_raw) → raw_of value.entry ≡ Some v
-        → NamesStop (try_put_value v) clash) }
-    ensures origins { IfOk result (λ child. (v : spec_raw) → raw_of value.entry ≡ Some v
-        → child_origins child ≡ value_origins section start v) }
+    ensures finished { Finishes (raw_of value.entry) level result }
+    ensures named { IfErr result (λ clash. NamesStop (try_put_value (raw_of value.entry)) clash) }
+    ensures origins { IfOk result (λ child. child_origins child ≡ value_origins section start (raw_of value.entry)) }
     ensures dotted { IfOk result (λ child. dotted_of child ≡ table_origin false start section) }
 {
     match value {
@@ -405,13 +416,6 @@ fn row_value<'de>(
         }
         value => child_of(alloc, value, start, section, level),
     }
-}
-
-// Whether a value is none, and stands for the period after a key.
-fn is_dot_value(value: &Raw<'_>) -> bool
-    ensures { result ≡ not (is_some (raw_of value.now)) }
-{
-    matches!(value, Raw::Dot)
 }
 
 // The item of a value that begins at an offset, within a table or an array of a level. It is inlined, since most
@@ -426,15 +430,12 @@ fn child_of<'de>(
     level: usize,
 ) -> Result<Child<'de>, Clash>
     requires { level ≤ nesting_limit }
-    ensures finished { (v : spec_raw) → raw_of value.entry ≡ Some v → Finishes v level result }
-    ensures named { IfErr result (λ clash. (v : spec_raw) → raw_of value.entry ≡ Some v
-        → NamesStop (try_put_value v) clash) }
-    ensures origins { IfOk result (λ child. (v : spec_raw) → raw_of value.entry ≡ Some v
-        → child_origins child ≡ value_origins section start v) }
+    ensures finished { Finishes (raw_of value.entry) level result }
+    ensures named { IfErr result (λ clash. NamesStop (try_put_value (raw_of value.entry)) clash) }
+    ensures origins { IfOk result (λ child. child_origins child ≡ value_origins section start (raw_of value.entry)) }
     ensures dotted { IfOk result (λ child. dotted_of child ≡ table_origin false start section) }
 {
     match value {
-        Raw::Dot => Ok(Child::at(start, section, Item::Nothing)),
         Raw::Integer(number) => Ok(Child::at(start, section, Item::Integer(number))),
         Raw::Float(float) => Ok(Child::at(start, section, Item::Float(float))),
         Raw::Boolean(truth) => Ok(Child::at(start, section, Item::Boolean(truth))),
@@ -448,14 +449,37 @@ fn child_of<'de>(
             Ok(Child::at(start, section, Item::Array(children)))
         }
         Raw::Inline(rows) => {
-            if level >= NESTING_LIMIT {
-                return Err(Clash::Deep);
-            }
-            let mut table = Table::new(alloc)?;
-            take_rows(alloc, &mut *table, rows, section, level + 1)?;
-            Ok(Child::at(start, section, Item::Inline(table)))
+            let parents = Vec::new(alloc);
+            inline_child(alloc, Rows { parents, rows }, start, section, level)
         }
+        Raw::Dotted(rows) => inline_child(alloc, Box::into_inner(rows), start, section, level),
     }
+}
+
+// The item of an inline table of rows that begins at an offset, within a table or an array of a level.
+#[cycle(finishing)]
+#[inline(always)]
+fn inline_child<'de>(
+    alloc: Global,
+    rows: Rows<'de>,
+    start: usize,
+    section: usize,
+    level: usize,
+) -> Result<Child<'de>, Clash>
+    requires { level ≤ nesting_limit }
+    ensures finished { Finishes (spec_raw.inline (rows_view rows.entry)) level result }
+    ensures named { IfErr result (λ clash. NamesStop (try_put_value (spec_raw.inline (rows_view rows.entry))) clash) }
+    ensures origins { IfOk result (λ child.
+        child_origins child ≡ value_origins section start (spec_raw.inline (rows_view rows.entry))) }
+    ensures dotted { IfOk result (λ child. dotted_of child ≡ table_origin false start section) }
+{
+    if level >= NESTING_LIMIT {
+        return Err(Clash::Deep);
+    }
+    let mut rows = rows;
+    let mut table = Table::new(alloc)?;
+    take_rows(alloc, &mut *table, &mut rows, section, level + 1)?;
+    Ok(Child::at(start, section, Item::Inline(table)))
 }
 
 // The items of the values of elements, within an array of a level.
@@ -476,9 +500,6 @@ fn children_of<'de>(
     let mut children = Vec::with_capacity(alloc, elements.len())?;
     for element in drain(elements) {
         let Element { offset, value } = element;
-        if is_dot_value(&value) {
-            continue;
-        }
         children.push(child_of(alloc, value, offset, section, level)?)?;
     }
     Ok(children)

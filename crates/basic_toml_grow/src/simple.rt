@@ -22,14 +22,13 @@ fn item_of<'de>(value: Raw<'de>) -> Item<'de>
     ensures { result ≡ kept_item value.entry }
 {
     match value {
-        Raw::Dot => Item::Nothing,
         Raw::Integer(number) => Item::Integer(number),
         Raw::Float(float) => Item::Float(float),
         Raw::Boolean(truth) => Item::Boolean(truth),
         Raw::String(text) => Item::String(text),
         Raw::Escaped(text) => Item::Escaped(text),
         Raw::Array(elements) => Item::Plain(elements),
-        Raw::Inline(_) => Item::Nothing,
+        Raw::Inline(_) | Raw::Dotted(_) => Item::Nothing,
     }
 }
 

@@ -1,4 +1,4 @@
-pub mod RowsResume
+pub mod RowsLeft
 pub mod StepsLeft
 pub mod WaysMeet
 pub mod SectionsMeet

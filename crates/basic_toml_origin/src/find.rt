@@ -86,7 +86,12 @@ fn by_rows(section: &Section<'_>, path: &[Step<'_>], met: Meeting) -> Option<Ori
     let Meeting::Reaches(left) = met else {
         return None;
     };
-    in_rows(section.rows.as_slice(), &path[path.len() - left..])
+    let rows = &section.rows;
+    in_rows(
+        rows.parents.as_slice(),
+        rows.rows.as_slice(),
+        &path[path.len() - left..],
+    )
 }
 
 // By the header of a section, if the path is on its way.

@@ -1,50 +1,27 @@
 //! What a path leads to in rows and values.
-ghost use Rattle.std.specs.Prelude.{◌≡◌, None, Some, not, is_some};
-ghost use Rattle.std.specs.Option.{option_and_then};
-ghost use Rattle.basic_toml_read.specs.SectionView.{elements_view, lined_of, placed_of, raw_of, rows_view};
-ghost use Rattle.basic_toml_origin.specs.Origin.{in_rows, in_elements};
+ghost use Rattle.std.specs.Prelude.{◌≡◌, [], ◌∷◌, ◌++◌, map};
+ghost use Rattle.basic_toml_read.specs.SectionView.{elements_view, key_of, lined_of, raw_of, rows_seen};
+ghost use Rattle.basic_toml_origin.specs.Origin.{by_row, in_elements, in_rows, in_value};
 ghost use Rattle.basic_toml_origin.specs.Path.{path_of};
-ghost use Rattle.basic_toml_origin.specs.Parts.{in_part, behind_name, left_of, table_made};
+ghost use Rattle.basic_toml_origin.specs.Parts.{behind_name, left_of};
 
 use crate::origin::Origin;
 use crate::step::Step;
-use basic_toml_read::{Element, Raw, Row};
+use basic_toml_read::{Element, Key, Raw, Row};
 
 // What is left of a path behind a key, if the path begins with it.
-fn behind<'a, 'p>(path: Option<&'a [Step<'p>]>, key: &str) -> Option<&'a [Step<'p>]>
-    ensures { left_of result ≡ option_and_then (behind_name key.now) (left_of path.entry) }
+fn behind<'a, 'p>(path: &'a [Step<'p>], key: &str) -> Option<&'a [Step<'p>]>
+    ensures { left_of result ≡ behind_name key.now (path_of path.now) }
 {
-    let (step, rest) = path?.split_first()?;
+    let (step, rest) = path.split_first()?;
     if step.is_key(key) { Some(rest) } else { None }
-}
-
-// The table that a period behind a key makes, where the path ends with that key; else what was found before.
-fn table_made(offset: usize, rest: Option<&[Step<'_>]>, before: Option<Origin>) -> Option<Origin>
-    ensures { result ≡ table_made offset (left_of rest.entry) before }
-{
-    match rest {
-        Some(steps) if steps.is_empty() => Some(Origin {
-            at: offset,
-            key: Some(offset),
-        }),
-        _ => before,
-    }
-}
-
-fn is_dot(value: &Raw<'_>) -> bool
-    ensures { result ≡ not (is_some (raw_of value.now)) }
-{
-    matches!(value, Raw::Dot)
 }
 
 // In a value that begins at an offset, behind this key.
 #[cycle(values)]
 fn in_value(key: Option<usize>, at: usize, value: &Raw<'_>, path: &[Step<'_>]) -> Option<Origin>
-    ensures { result ≡ in_part key at (raw_of value.now) (path_of path.now) }
+    ensures { result ≡ in_value key at (raw_of value.now) (path_of path.now) }
 {
-    if is_dot(value) {
-        return None;
-    }
     let Some((step, rest)) = path.split_first() else {
         return Some(Origin { at, key });
     };
@@ -52,7 +29,10 @@ fn in_value(key: Option<usize>, at: usize, value: &Raw<'_>, path: &[Step<'_>]) -
         (Raw::Array(elements), Step::Element(number)) => {
             in_elements(elements.as_slice(), *number, rest)
         }
-        (Raw::Inline(rows), Step::Key(_)) => in_rows(rows.as_slice(), path),
+        (Raw::Inline(rows), Step::Key(_)) => in_rows(&[], rows.as_slice(), path),
+        (Raw::Dotted(rows), Step::Key(_)) => {
+            in_rows(rows.parents.as_slice(), rows.rows.as_slice(), path)
+        }
         _ => None,
     }
 }
@@ -64,9 +44,6 @@ fn in_elements(elements: &[Element<'_>], number: usize, path: &[Step<'_>]) -> Op
 {
     let mut before = number;
     for element in elements {
-        if is_dot(&element.value) {
-            continue;
-        }
         if before == 0 {
             return in_value(None, element.offset, &element.value, path);
         }
@@ -77,40 +54,40 @@ fn in_elements(elements: &[Element<'_>], number: usize, path: &[Step<'_>]) -> Op
 
 /// By the first of these rows that leads there.
 #[cycle(values)]
-pub(crate) fn in_rows(rows: &[Row<'_>], path: &[Step<'_>]) -> Option<Origin>
-    ensures { result ≡ in_rows (rows_view rows.now) (path_of path.now) }
+pub(crate) fn in_rows<'de>(
+    parents: &[Key<'de>],
+    rows: &[Row<'de>],
+    path: &[Step<'_>],
+) -> Option<Origin>
+    ensures { result ≡ in_rows (rows_seen parents.now rows.now) (path_of path.now) }
 {
-    // what is left behind the keys of a row so far, and the table that its dots make at the end of the path
-    let mut left = Some(path);
-    let mut table = None;
+    let mut left = parents;
     for row in rows {
-        let rest = behind(left, row.key.as_str());
-        if row.is_dot() {
-            table = table_made(row.offset, rest, table);
-            left = rest;
-            continue;
+        let own = row.own_parents(left);
+        if let Some(origin) = in_row(own, row, path) {
+            return Some(origin);
         }
-        let found = in_rest(row.offset, row.start, &row.value, rest).or(table);
-        if found.is_some() {
-            return found;
-        }
-        left = Some(path);
+        left = &left[own.len()..];
     }
     None
 }
 
-// In the value behind the last key of a row, if the path leads there.
+// By a row with these keys before its last one.
 #[cycle(values)]
-fn in_rest(
-    offset: usize,
-    start: usize,
-    value: &Raw<'_>,
-    rest: Option<&[Step<'_>]>,
-) -> Option<Origin>
-    ensures { result ≡ option_and_then (in_part (Some offset) start (raw_of value.now)) (left_of rest.entry) }
+fn in_row(parents: &[Key<'_>], row: &Row<'_>, path: &[Step<'_>]) -> Option<Origin>
+    ensures { result ≡ by_row (map key_of parents.now ++ (lined_of row.now).key ∷ [])
+        (λ k q. in_value k (lined_of row.now).start (lined_of row.now).value q) (path_of path.now) }
 {
-    match rest {
-        Some(steps) => in_value(Some(offset), start, value, steps),
-        None => None,
+    let Some((key, others)) = parents.split_first() else {
+        let rest = behind(path, row.key.as_str())?;
+        return in_value(Some(row.offset), row.start, &row.value, rest);
+    };
+    let left = behind(path, key.text.as_str())?;
+    if left.is_empty() {
+        return Some(Origin {
+            at: key.offset,
+            key: Some(key.offset),
+        });
     }
+    in_row(others, row, left)
 }

@@ -19,9 +19,9 @@ use Rattle.basic_toml_grammar.specs.Reader as reader
 use Rattle.basic_toml_grammar.specs.Reader.{char_at, if_found}
 use Rattle.basic_toml_read.specs.FrontOf.{value_of, elements_of}
 use Rattle.basic_toml_read.specs.AtPlace.{Leaves}
-use Rattle.basic_toml_read.specs.SectionView.{raw_of, placed_of, with_element, elements_view}
+use Rattle.basic_toml_read.specs.SectionView.{raw_of, placed_of, elements_view}
 use Rattle.basic_toml_read.specs.StopsAt.{Misses}
-use Rattle.basic_toml_read.specs.Gathers.{IsValueRead, AreElementsRead, ClosesAt, ReadsElements}
+use Rattle.basic_toml_read.specs.Gathers.{lines_of, IsValueRead, AreElementsRead, ClosesAt, ReadsElements}
 use Rattle.basic_toml_grammar.proofs.Grammar.StringsAreRead.{then_some}
 use Rattle.basic_toml_grammar.proofs.Grammar.ReaderIsSound.{found_some}
 use Rattle.basic_toml_grammar.proofs.Grammar.ReaderIsComplete.{gap}
@@ -74,29 +74,21 @@ level_joined l no_elements es = omega arith
 level_joined l (element p v front) es = omega (arith, level_joined l front es)
 
 -- an element more
-pub elements_view_more : (es : List Element) (p : ℕ) (value : code.Raw) (v : Raw) → raw_of value ≡ Some v
+pub elements_view_more : (es : List Element) (p : ℕ) (value : code.Raw) (v : Raw) → raw_of value ≡ v
     → elements_view (es ++ roll-Element (record { offset = p; value = value }) ∷ [])
     ≡ joined (elements_view es) (element p v no_elements)
 unfolding joined
 elements_view_more [] p value v e =
-    ap (λ q. with_element q.offset q.value no_elements) (element_seen p value) ∙
-    ap (λ o. with_element p o no_elements) e
-elements_view_more (x ∷ es) p value v e = go (placed_of x).value (elements_view_more es p value v e)
-  where
-    go : (o : Option Raw) → elements_view (es ++ roll-Element (record { offset = p; value = value }) ∷ [])
-        ≡ joined (elements_view es) (element p v no_elements)
-        → with_element (placed_of x).offset o
-        (elements_view (es ++ roll-Element (record { offset = p; value = value }) ∷ []))
-        ≡ joined (with_element (placed_of x).offset o (elements_view es)) (element p v no_elements)
-    go None h = h
-    go (Some w) h = ap (element (placed_of x).offset w) h
+    ap (λ q. element q.offset q.value no_elements) (element_seen p value) ∙ ap (λ o. element p o no_elements) e
+elements_view_more (x ∷ es) p value v e =
+    ap (element (placed_of x).offset (placed_of x).value) (elements_view_more es p value v e)
 
 -- the elements of an array up to an offset
 pub record ElementsSoFar (bytes : List ℕ) (start level at : ℕ) (old new : Gathered) : Type 0 where
   pub got : List Element
   pub told : elements_of (text_at bytes start) ≡ after_elements (elements_view got) (elements_of (text_at bytes at))
   pub pushed : new.elements.items ≡ old.elements.items ++ got
-  pub rows : new.rows.items ≡ old.rows.items
+  pub lines : lines_of new ≡ lines_of old
   pub limit : elements_level level (elements_view got) ≤ nesting_limit
   pub boundary : IsCharBoundary bytes at
   pub forward : start ≤ at
@@ -112,7 +104,7 @@ elements_start bytes start level old b = record {
   got = [];
   told = after_none (elements_of (text_at bytes start));
   pushed = sym (append-nil old.elements.items);
-  rows = refl;
+  lines = refl;
   limit = omega arith;
   boundary = b;
   forward = omega arith;
@@ -167,7 +159,7 @@ module _ (bytes : List ℕ) (start level at : ℕ) (old new : Gathered) (s : Ele
           (sign_there sign.0))
           ∙ ap (λ (es : Elements). Some (es, text_at bytes end)) (joined_none (elements_view s.got));
       pushed = s.pushed;
-      rows = s.rows;
+      lines = s.lines;
       limit = s.limit;
       boundary = sign.1;
       later = omega (arith, s.forward, sign.2);
@@ -209,7 +201,7 @@ module _ (bytes : List ℕ) (start level at : ℕ) (old new : Gathered) (s : Ele
         (left : Leaves bytes v.end after (gap (text_at bytes v.end))) (unclosed : IsPunctuationEnd 93 bytes at None)
         (pushed : new'.elements.items ≡ mid.elements.items
         ++ (roll-Element (record { offset = v.offset; value = v.value }) ∷ []))
-        (rows : new'.rows.items ≡ mid.rows.items) where
+        (lines : lines_of new' ≡ lines_of mid) where
       got' : List Element
       got' = s.got ++ (roll-Element (record { offset = v.offset; value = v.value }) ∷ [])
 
@@ -256,7 +248,7 @@ module _ (bytes : List ℕ) (start level at : ℕ) (old new : Gathered) (s : Ele
             (elements_view (s.got ++ (roll-Element (record { offset = v.offset; value = v.value }) ∷ [])))
             (elements_of t)) (sym later.left);
         pushed = pushed';
-        rows = rows ∙ r.keeps.rows ∙ s.rows;
+        lines = lines ∙ r.keeps.lines ∙ s.lines;
         limit = limit';
         boundary = later.boundary;
         forward = omega (arith, s.forward, r.found.later, left.forward, sign.2, later.forward);
@@ -302,7 +294,7 @@ module _ (bytes : List ℕ) (start level at : ℕ) (old new : Gathered) (s : Ele
             (and_then o (λ s. Some (element v.offset r.found.raw no_elements, s.1)))) closes.0
             ∙ ap (λ (es : Elements). Some (es, text_at bytes end)) (sym view');
         pushed = pushed';
-        rows = rows ∙ r.keeps.rows ∙ s.rows;
+        lines = lines ∙ r.keeps.lines ∙ s.lines;
         limit = limit';
         boundary = closes.1;
         later = omega (arith, s.forward, r.found.later, left.forward, closes.2);

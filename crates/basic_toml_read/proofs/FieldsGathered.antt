@@ -1,11 +1,10 @@
 -- The rows of an inline table, one by one.
-use Rattle.std.proofs.Common.{inl, inr, ◌≡◌, ℕ, ◌<◌, ◌≤◌, List, [], ◌++◌, max, refl, ap, sym, ◌∙◌, subst, arith}
-use Rattle.std.proofs.Common.{append_assoc, append-nil, Option, Some, None, Result, Ok, Err}
+use Rattle.std.proofs.Common.{inl, inr, ◌≡◌, ℕ, ◌<◌, ◌≤◌, List, max, refl, ap, sym, ◌∙◌, subst, arith}
+use Rattle.std.proofs.Common.{Option, Some, None, Result, Ok, Err}
 use Rattle.std.specs.Str.{IsCharBoundary}
 use Rattle.basic_toml_value.specs.Nesting.{nesting_limit}
 use Rattle.basic_toml_tokens.specs.Text.{Text, text_at, after_blanks}
 use Rattle.basic_toml_tokens.specs.Punctuation.{IsPunctuationEnd}
-use Rattle.basic_toml_read.specs.declared.section.Row.{Row}
 use Rattle.basic_toml_explain.specs.declared.stop.Stop.{Stop}
 use Rattle.basic_toml_explain.specs.declared.stop.Why.{Why}
 use Rattle.basic_toml_explain.specs.declared.stop.Why.TheVariants as why
@@ -17,9 +16,9 @@ use Rattle.basic_toml_grammar.specs.Reader as reader
 use Rattle.basic_toml_grammar.specs.Reader.{char_at, if_found}
 use Rattle.basic_toml_read.specs.FrontOf.{fields_of, fields_on_of, row_of}
 use Rattle.basic_toml_read.specs.AtPlace.{Leaves}
-use Rattle.basic_toml_read.specs.SectionView.{rows_view}
 use Rattle.basic_toml_read.specs.StopsAt.{Misses}
-use Rattle.basic_toml_read.specs.Gathers.{row_level, IsRowRead, AreFieldsRead, ClosesAt, ReadsFields}
+use Rattle.basic_toml_read.specs.Gathers.{Lines, no_lines, and_lines, lines_of, lines_view, row_level, IsRowRead}
+use Rattle.basic_toml_read.specs.Gathers.{AreFieldsRead, ClosesAt, ReadsFields}
 use Rattle.basic_toml_grammar.proofs.Grammar.StringsAreRead.{then_some}
 use Rattle.basic_toml_grammar.proofs.Grammar.ReaderIsSound.{found_some}
 use Rattle.basic_toml_grammar.specs.DeepStops.{DeepFields}
@@ -31,6 +30,7 @@ use Rattle.basic_toml_read.proofs.ValueHoles.{hole_past_field}
 use Rattle.basic_toml_read.proofs.EnoughSteps.{fields_is, fields_on_is}
 use Rattle.basic_toml_read.proofs.LeftAfter.{sign_there, sign_missing}
 use Rattle.basic_toml_read.proofs.KeysTold.{misses_then}
+use Rattle.basic_toml_read.proofs.ViewsSeen.{lines_assoc, lines_none}
 
 -- the rows of an inline table up to an offset
 unfoldable pub joined_rows : Rows → Rows → Rows
@@ -69,41 +69,42 @@ unfolding joined_rows
 level_joined_rows l no_rows rs = omega arith
 level_joined_rows l (row keys p v front) rs = omega (arith, level_joined_rows l front rs)
 
--- rows that end with a value
-pub record Whole (got : List Row) : Type 0 where
-  pub seen : (rest : List Row) → rows_view (got ++ rest) ≡ joined_rows (rows_view got) (rows_view rest)
+-- lines, each of whose rows has its own parents
+pub record Whole (got : Lines) : Type 0 where
+  pub seen : (rest : Lines) → lines_view (and_lines got rest) ≡ joined_rows (lines_view got) (lines_view rest)
 
-pub whole_none : Whole []
+pub whole_none : Whole no_lines
 unfolding joined_rows
 whole_none = record { seen = λ rest. refl }
 
-pub whole_one : (added : List Row) (keys : List Key) (p : ℕ) (v : Raw)
-    → ((rest : List Row) → rows_view (added ++ rest) ≡ row keys p v (rows_view rest))
-    → rows_view added ≡ row keys p v no_rows
-whole_one added keys p v h = ap rows_view (sym (append-nil added)) ∙ h []
+pub whole_one : (added : Lines) (keys : List Key) (p : ℕ) (v : Raw)
+    → ((rest : Lines) → lines_view (and_lines added rest) ≡ row keys p v (lines_view rest))
+    → lines_view added ≡ row keys p v no_rows
+whole_one added keys p v h = ap lines_view (sym (lines_none added)) ∙ h no_lines
 
-pub whole_more : (got added : List Row) (keys : List Key) (p : ℕ) (v : Raw) → Whole got
-    → ((rest : List Row) → rows_view (added ++ rest) ≡ row keys p v (rows_view rest))
-    → Whole (got ++ added) × (rows_view (got ++ added) ≡ joined_rows (rows_view got) (row keys p v no_rows))
+pub whole_more : (got added : Lines) (keys : List Key) (p : ℕ) (v : Raw) → Whole got
+    → ((rest : Lines) → lines_view (and_lines added rest) ≡ row keys p v (lines_view rest))
+    → Whole (and_lines got added)
+    × (lines_view (and_lines got added) ≡ joined_rows (lines_view got) (row keys p v no_rows))
 whole_more got added keys p v w h =
-    let view : rows_view (got ++ added) ≡ joined_rows (rows_view got) (row keys p v no_rows) = w.seen added ∙
-    ap (joined_rows (rows_view got)) (whole_one added keys p v h) in (
+    let view : lines_view (and_lines got added) ≡ joined_rows (lines_view got) (row keys p v no_rows) = w.seen added ∙
+    ap (joined_rows (lines_view got)) (whole_one added keys p v h) in (
       record {
-        seen = λ rest. ap rows_view (append_assoc got added rest) ∙ w.seen (added ++ rest) ∙
-            ap (joined_rows (rows_view got)) (h rest)
-            ∙ joined_rows_more (rows_view got) keys p v (rows_view rest) ∙
-            ap (λ (rs : Rows). joined_rows rs (rows_view rest)) (sym view);
+        seen = λ rest. ap lines_view (lines_assoc got added rest) ∙ w.seen (and_lines added rest) ∙
+            ap (joined_rows (lines_view got)) (h rest)
+            ∙ joined_rows_more (lines_view got) keys p v (lines_view rest) ∙
+            ap (λ (rs : Rows). joined_rows rs (lines_view rest)) (sym view);
       },
       view,
     )
 
 pub record FieldsSoFar (bytes : List ℕ) (start level at : ℕ) (old new : Gathered) : Type 0 where
-  pub got : List Row
+  pub got : Lines
   pub whole : Whole got
-  pub told : fields_of (text_at bytes start) ≡ after_rows (rows_view got) (fields_on_of (text_at bytes at))
-  pub pushed : new.rows.items ≡ old.rows.items ++ got
+  pub told : fields_of (text_at bytes start) ≡ after_rows (lines_view got) (fields_on_of (text_at bytes at))
+  pub pushed : lines_of new ≡ and_lines (lines_of old) got
   pub elements : new.elements.items ≡ old.elements.items
-  pub limit : rows_level level (rows_view got) ≤ nesting_limit
+  pub limit : rows_level level (lines_view got) ≤ nesting_limit
   pub boundary : IsCharBoundary bytes at
   pub forward : start ≤ at
   pub leads : (p : ℕ) → DeepFields nesting_limit level (text_at bytes at) p
@@ -121,10 +122,10 @@ no_brace bytes start sign = fields_is (text_at bytes start) ∙
 pub fields_start : (bytes : List ℕ) (start level : ℕ) (old : Gathered) → IsCharBoundary bytes start
     → IsPunctuationEnd 125 bytes start None → FieldsSoFar bytes start level start old old
 fields_start bytes start level old b sign = record {
-  got = [];
+  got = no_lines;
   whole = whole_none;
   told = no_brace bytes start sign ∙ after_no_rows (fields_on_of (text_at bytes start));
-  pushed = sym (append-nil old.rows.items);
+  pushed = sym (lines_none (lines_of old));
   elements = refl;
   limit = omega arith;
   boundary = b;
@@ -137,10 +138,10 @@ fields_start bytes start level old b sign = record {
 pub fields_none : (bytes : List ℕ) (start level end : ℕ) (old : Gathered) → IsPunctuationEnd 125 bytes start (Some end)
     → AreFieldsRead bytes start level old old end
 fields_none bytes start level end old sign = record {
-  added = [];
+  added = no_lines;
   is = fields_is (text_at bytes start) ∙
       ap (λ o. if_found o (λ s. Some (no_rows, s.1)) (fields_on_of (text_at bytes start))) (sign_there sign.0);
-  pushed = sym (append-nil old.rows.items);
+  pushed = sym (lines_none (lines_of old));
   elements = refl;
   limit = omega arith;
   boundary = sign.1;
@@ -183,12 +184,12 @@ module _ (bytes : List ℕ) (start level at : ℕ) (old new : Gathered) (s : Fie
   fields_missing w m =
       misses_then w (row_of (text_at bytes at)) (fields_of (text_at bytes start)) (λ r. nesting_limit < row_level level
       r) (λ r. nesting_limit < rows_level level r.0)
-      (λ e. there ∙ ap (λ o. after_rows (rows_view s.got) (and_then o fields_on)) e)
+      (λ e. there ∙ ap (λ o. after_rows (lines_view s.got) (and_then o fields_on)) e)
       (λ y e. let (q, q_is, f) =
       then_some (and_then (row_of (text_at bytes at)) fields_on)
-      (λ r. Some (joined_rows (rows_view s.got) r.0, r.1)) y (sym there ∙ e) in
+      (λ r. Some (joined_rows (lines_view s.got) r.0, r.1)) y (sym there ∙ e) in
       let (r, r_is, g) = then_some (row_of (text_at bytes at)) fields_on q q_is in
-      let same : joined_rows (rows_view s.got) q.0 ≡ y.0 = cc in (
+      let same : joined_rows (lines_view s.got) q.0 ≡ y.0 = cc in (
         r,
         r_is,
         λ h. omega (
@@ -196,57 +197,57 @@ module _ (bytes : List ℕ) (start level at : ℕ) (old new : Gathered) (s : Fie
           h,
           row_level_on level r q g,
           ap (rows_level level) same,
-          level_joined_rows level (rows_view s.got) q.0,
+          level_joined_rows level (lines_view s.got) q.0,
         ),
       ))
       m
     where
       there : fields_of (text_at bytes start)
-          ≡ after_rows (rows_view s.got) (and_then (row_of (text_at bytes at)) fields_on)
-      there = s.told ∙ ap (after_rows (rows_view s.got)) (fields_by_row (text_at bytes at))
+          ≡ after_rows (lines_view s.got) (and_then (row_of (text_at bytes at)) fields_on)
+      there = s.told ∙ ap (after_rows (lines_view s.got)) (fields_by_row (text_at bytes at))
 
   -- after a row
   module _ (new' : Gathered) (end : ℕ) (r : IsRowRead bytes at level new new' end) (after : ℕ)
       (left : Leaves bytes end after (after_blanks (text_at bytes end))) where
-    view' : rows_view (s.got ++ r.added)
-        ≡ joined_rows (rows_view s.got) (row r.found.keys r.found.offset r.found.value no_rows)
+    view' : lines_view (and_lines s.got r.added)
+        ≡ joined_rows (lines_view s.got) (row r.found.keys r.found.offset r.found.value no_rows)
     view' = (whole_more s.got r.added r.found.keys r.found.offset r.found.value s.whole r.seen).1
 
-    limit' : rows_level level (rows_view (s.got ++ r.added)) ≤ nesting_limit
+    limit' : rows_level level (lines_view (and_lines s.got r.added)) ≤ nesting_limit
     limit' = omega (
       arith,
       ap (rows_level level) view',
-      level_joined_rows level (rows_view s.got) (row r.found.keys r.found.offset r.found.value no_rows),
+      level_joined_rows level (lines_view s.got) (row r.found.keys r.found.offset r.found.value no_rows),
       s.limit,
       r.limit,
     )
 
-    pushed' : new'.rows.items ≡ old.rows.items ++ (s.got ++ r.added)
-    pushed' = r.pushed ∙ ap (λ (l : List Row). l ++ r.added) s.pushed ∙ append_assoc old.rows.items s.got r.added
+    pushed' : lines_of new' ≡ and_lines (lines_of old) (and_lines s.got r.added)
+    pushed' = r.pushed ∙ ap (λ (l : Lines). and_lines l r.added) s.pushed ∙ lines_assoc (lines_of old) s.got r.added
 
     rest' : after_blanks r.found.rest ≡ text_at bytes after
     rest' = ap after_blanks r.rest ∙ sym left.left
 
-    told' : fields_of (text_at bytes start) ≡ after_rows (rows_view s.got) (fields_on r.found)
-    told' = s.told ∙ ap (after_rows (rows_view s.got)) (fields_by_row (text_at bytes at) ∙
+    told' : fields_of (text_at bytes start) ≡ after_rows (lines_view s.got) (fields_on r.found)
+    told' = s.told ∙ ap (after_rows (lines_view s.got)) (fields_by_row (text_at bytes at) ∙
         ap (λ o. and_then o fields_on) r.is)
 
     pub fields_more : (next at' : ℕ) → IsPunctuationEnd 44 bytes after (Some next)
         → Leaves bytes next at' (after_blanks (text_at bytes next)) → FieldsSoFar bytes start level at' old new'
     unfolding fields_on
     fields_more next at' sign later = record {
-      got = s.got ++ r.added;
+      got = and_lines s.got r.added;
       whole = (whole_more s.got r.added r.found.keys r.found.offset r.found.value s.whole r.seen).0;
-      told = told' ∙ ap (λ o. after_rows (rows_view s.got)
+      told = told' ∙ ap (λ o. after_rows (lines_view s.got)
           (if_found o (λ s. and_then (fields_on_of (after_blanks s.1))
           (λ q. Some (row r.found.keys r.found.offset r.found.value q.0, q.1)))
           (and_then (char_at 125 (after_blanks r.found.rest))
           (λ s. Some (row r.found.keys r.found.offset r.found.value no_rows, s.1))))) (ap (char_at 44) rest' ∙
           sign_there sign.0)
-          ∙ after_rows_more (rows_view s.got) r.found.keys r.found.offset r.found.value
+          ∙ after_rows_more (lines_view s.got) r.found.keys r.found.offset r.found.value
           (fields_on_of (after_blanks (text_at bytes next)))
           ∙ ap (λ (rs : Rows). after_rows rs (fields_on_of (after_blanks (text_at bytes next)))) (sym view')
-          ∙ ap (λ (t : Text). after_rows (rows_view (s.got ++ r.added)) (fields_on_of t)) (sym later.left);
+          ∙ ap (λ (t : Text). after_rows (lines_view (and_lines s.got r.added)) (fields_on_of t)) (sym later.left);
       pushed = pushed';
       elements = r.elements ∙ s.elements;
       limit = limit';
@@ -267,26 +268,26 @@ module _ (bytes : List ℕ) (start level at : ℕ) (old new : Gathered) (s : Fie
     fields_over sign p d = last_field bytes at end after level r.found r.is r.rest r.limit left sign p (s.backs p d)
 
     last_on : IsPunctuationEnd 44 bytes after None → fields_of (text_at bytes start)
-        ≡ after_rows (rows_view s.got)
+        ≡ after_rows (lines_view s.got)
         (and_then (char_at 125 (text_at bytes after))
         (λ s. Some (row r.found.keys r.found.offset r.found.value no_rows, s.1)))
     unfolding fields_on
     last_on sign = told' ∙ ap
-        (λ o. after_rows (rows_view s.got)
+        (λ o. after_rows (lines_view s.got)
         (if_found o (λ s. and_then (fields_on_of (after_blanks s.1))
         (λ q. Some (row r.found.keys r.found.offset r.found.value q.0, q.1)))
         (and_then (char_at 125 (after_blanks r.found.rest))
         (λ s. Some (row r.found.keys r.found.offset r.found.value no_rows, s.1))))) (ap (char_at 44) rest' ∙
         sign_missing 44 (text_at bytes after) sign)
-        ∙ ap (λ (t : Text). after_rows (rows_view s.got)
+        ∙ ap (λ (t : Text). after_rows (lines_view s.got)
         (and_then (char_at 125 t) (λ s. Some (row r.found.keys r.found.offset r.found.value no_rows, s.1)))) rest'
 
     pub fields_close : (result : Result ℕ Stop) → IsPunctuationEnd 44 bytes after None
         → ClosesAt 125 why.Comma bytes after result → ReadsFields bytes start level old new' result
     unfolding after_rows
     fields_close (Ok close) sign closes = record {
-      added = s.got ++ r.added;
-      is = last_on sign ∙ ap (λ o. after_rows (rows_view s.got)
+      added = and_lines s.got r.added;
+      is = last_on sign ∙ ap (λ o. after_rows (lines_view s.got)
           (and_then o (λ s. Some (row r.found.keys r.found.offset r.found.value no_rows, s.1)))) closes.0
           ∙ ap (λ (rs : Rows). Some (rs, text_at bytes close)) (sym view');
       pushed = pushed';
@@ -297,5 +298,5 @@ module _ (bytes : List ℕ) (start level at : ℕ) (old new : Gathered) (s : Fie
     }
     fields_close (Err stop) sign closes =
         subst (λ stop. ReadsFields bytes start level old new' (Err stop)) (sym closes.1)
-        (last_on sign ∙ ap (λ o. after_rows (rows_view s.got)
+        (last_on sign ∙ ap (λ o. after_rows (lines_view s.got)
         (and_then o (λ s. Some (row r.found.keys r.found.offset r.found.value no_rows, s.1)))) closes.0)

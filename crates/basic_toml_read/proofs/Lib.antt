@@ -1,5 +1,6 @@
 pub mod WordIsRead
 pub mod ViewsSeen
+pub mod NextRow
 pub mod LeftAfter
 pub mod EnoughSteps
 pub mod ScalarsRead

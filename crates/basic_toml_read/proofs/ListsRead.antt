@@ -1,12 +1,16 @@
 -- The sections of a text, one by one.
 use Rattle.std.proofs.Common.{◌≡◌, ℕ, ◌+◌, ◌-◌, ◌<◌, ◌≤◌, max, false, List, [], ◌∷◌, ◌++◌, length, map, refl, ap}
 use Rattle.std.proofs.Common.{sym, ◌∙◌, arith, append_assoc, append-nil, Option, Some, None, Ok, Err, Vec, Global}
-use Rattle.std.proofs.Common.{drop, take, subst, suc, ◌*◌, Result, IfErr}
+use Rattle.std.proofs.Common.{subst, suc, ◌*◌, ◌==◌, Result, IfErr}
+use Rattle.std.specs.Vec.{vec_len}
 use Rattle.std.proofs.lemmas.List.{map-append}
 use Rattle.basic_toml_value.specs.Nesting.{nesting_limit}
 use Rattle.basic_toml_tokens.specs.Text.{Text, text_at, folded, start_of, after_blanks}
 use Rattle.basic_toml_read.specs.declared.header.Header.{Header}
+use Rattle.basic_toml_read.specs.declared.section.Element.{Element}
+use Rattle.basic_toml_read.specs.declared.section.Key as code_keys
 use Rattle.basic_toml_read.specs.declared.section.Row as code_rows
+use Rattle.basic_toml_read.specs.declared.section.Rows as code_tables
 use Rattle.basic_toml_read.specs.declared.section.Section as code
 use Rattle.basic_toml_explain.specs.declared.stop.Stop.{Stop}
 use Rattle.basic_toml_explain.specs.declared.stop.Why.{Why}
@@ -18,9 +22,10 @@ use Rattle.basic_toml_grammar.specs.Levels.{rows_level, section_level, highest_l
 use Rattle.basic_toml_grammar.specs.Reader as reader
 use Rattle.basic_toml_grammar.specs.Reader.{line_end_at, section_list_of}
 use Rattle.basic_toml_read.specs.FrontOf.{rows_of, header_of, sections_of}
-use Rattle.basic_toml_read.specs.SectionView.{rows_view, key_of, section_of}
+use Rattle.basic_toml_read.specs.SectionView.{rows_seen, rows_view, key_of, section_of}
+use Rattle.basic_toml_read.specs.Gathers.{Lines, no_lines, and_lines, lines_of, lines_view}
 use Rattle.basic_toml_read.specs.StopsAt.{Misses}
-use Rattle.basic_toml_read.specs.Lists.{IsHeaderRead, EndsLineAt, AreRowsRead, NextAt, IsFrom, root_view, TakesRoot}
+use Rattle.basic_toml_read.specs.Lists.{IsHeaderRead, EndsLineAt, AreRowsRead, NextAt, IsFrom, TakesAllRows, TakesRoot}
 use Rattle.basic_toml_read.specs.Lists.{sections_from, IsSectionRead, ReadsList, IsGap, PassesGaps}
 use Rattle.basic_toml_grammar.proofs.Grammar.StringsAreRead.{then_some}
 use Rattle.basic_toml_tokens.specs.Text.{is_comment}
@@ -94,12 +99,51 @@ pub if_err : {A : Type 0} (P : Type 0) (result : Result A Stop) → P → IfErr 
 if_err P (Ok x) p = tt
 if_err P (Err stop) p = p
 
+-- what is gathered where nothing was
+added_lines : (old new : Gathered) (added : Lines) → lines_of old ≡ no_lines
+    → lines_of new ≡ and_lines (lines_of old) added → lines_of new ≡ added
+added_lines old new added empty pushed = pushed ∙ ap (λ (l : Lines). and_lines l added) empty
+
+pub nothing_gathered : (elements : Vec Element Global) (parents : Vec code_keys.Key Global)
+    (rows : Vec code_rows.Row Global) (alloc : Global) → parents.items ≡ [] → rows.items ≡ []
+    → lines_of (record { alloc = alloc; elements = elements; parents = parents; rows = rows }) ≡ no_lines
+nothing_gathered elements parents rows alloc no_parents none = cc
+
+-- rows that are taken as the section before the first header
+rooted : (parents : List code_keys.Key) (rows : List code_rows.Row) → (length rows == 0) ≡ false
+    → with_root (rows_seen parents rows) []
+    ≡ record { at = 0; header = []; is_array = false; rows = rows_seen parents rows } ∷ []
+rooted parents [] some = cc
+rooted parents (r ∷ rows) some = refl
+
+pub root_taken : (old new : Gathered) (before after : Vec code.Section Global) (kept : code_tables.Rows)
+    (header : Vec code_keys.Key Global) → (vec_len old.rows == 0) ≡ false → TakesAllRows old new kept
+    → header.items ≡ [] → after.items ≡ before.items
+    ++ (record { at = 0; is_array = false; header = header; rows = kept } ∷ [])
+    → TakesRoot old new before after (Ok tt)
+root_taken old new before after kept header some taken none pushed = (
+  taken.1,
+  ap (map section_of) pushed
+      ∙ map-append section_of before.items (record { at = 0; is_array = false; header = header; rows = kept } ∷ [])
+      ∙ ap (λ (l : List Section). map section_of before.items ++ l)
+      (one ∙ sym (rooted old.parents.items old.rows.items counted)),
+)
+  where
+    counted : (length old.rows.items == 0) ≡ false
+    counted =
+        let same : length old.rows.items ≡ vec_len old.rows = omega (arith, old.rows.ok.0) in
+        ap (λ (n : ℕ). n == 0) same ∙ some
+
+    one : section_of (record { at = 0; is_array = false; header = header; rows = kept }) ∷ []
+        ≡ record { at = 0; header = []; is_array = false; rows = lines_view (lines_of old) } ∷ []
+    one = rw (none, taken.0) refl
+
 -- the sections up to an offset
 pub record ListSoFar (bytes : List ℕ) (next : Option ℕ) (gathered : Gathered) (list : List code.Section) : Type 0 where
   pub rest : Text
   pub ends : NextAt bytes rest next
   pub told : section_list_of (folded bytes) ≡ onto (map section_of list) (sections_of rest)
-  pub none : gathered.rows.items ≡ []
+  pub none : lines_of gathered ≡ no_lines
   pub limit : highest_level (map section_of list) ≤ nesting_limit
   pub gaps : IsGap (folded bytes) → next ≡ None
   pub leads : (p : ℕ) → DeepSections nesting_limit rest p → DeepStop nesting_limit (folded bytes) p
@@ -154,7 +198,7 @@ module _ (bytes : List ℕ) (start : ℕ) (start_is : start ≡ start_of bytes) 
 
   -- rows that a gap has none of
   pub gap_passed : (old mid : Gathered) (next : Option ℕ) → PassesGaps bytes start old mid (Ok next)
-      → IsGap (folded bytes) → (next ≡ None) × (mid.rows.items ≡ old.rows.items)
+      → IsGap (folded bytes) → (next ≡ None) × (lines_of mid ≡ lines_of old)
   gap_passed old mid next p g =
       let there = p (subst (λ (n : ℕ). IsGap (text_at bytes n)) (sym start_is) g) in
       let same : next ≡ None = (let e = there.0 in cc) in (same, there.1)
@@ -164,8 +208,18 @@ module _ (bytes : List ℕ) (start : ℕ) (start_is : start ≡ start_of bytes) 
   gap_stopped old mid stop p g =
       let there = p (subst (λ (n : ℕ). IsGap (text_at bytes n)) (sym start_is) g) in let e = there.0 in cc
 
+  -- where no row is, no parents are
+  pub root_parents : (old mid : Gathered) (next : Option ℕ) → lines_of old ≡ no_lines
+      → AreRowsRead bytes start 1 old mid next → mid.rows.items ≡ [] → mid.parents.items ≡ []
+  root_parents old mid next empty r none =
+      ap (λ (l : Lines). l.parents) (added_lines old mid r.added empty r.pushed ∙ r.some
+      (ap (λ (l : List code_rows.Row). rows_seen r.added.parents l) (rows_of_added ∙ none)))
+    where
+      rows_of_added : r.added.rows ≡ mid.rows.items
+      rows_of_added = ap (λ (l : Lines). l.rows) (sym (added_lines old mid r.added empty r.pushed))
+
   pub root_there : (old mid new : Gathered) (next : Option ℕ) (before after : Vec code.Section Global)
-      → old.rows.items ≡ [] → AreRowsRead bytes start 1 old mid next
+      → lines_of old ≡ no_lines → AreRowsRead bytes start 1 old mid next
       → PassesGaps bytes start old mid (Ok next) → before.items ≡ []
       → TakesRoot mid new before after (Ok tt) → ListSoFar bytes next new after.items
   root_there old mid new next before after empty r passed none taken = record {
@@ -173,39 +227,27 @@ module _ (bytes : List ℕ) (start : ℕ) (start_is : start ≡ start_of bytes) 
     ends = r.ends;
     told = told ∙ ap (λ (l : List Section). onto l (sections_of r.rest)) same;
     none = taken.0;
-    limit = omega (arith, ap highest_level same, (root_level (rows_view r.added)).1, r.limit);
+    limit = omega (arith, ap highest_level same, (root_level (lines_view r.added)).1, r.limit);
     gaps = λ g. (gap_passed old mid next passed g).0;
     leads = λ p d. deep.headed
-        (subst (λ (n : ℕ). IsRows is_comment (text_at bytes n) (rows_view r.added) r.rest) start_is
-        (rows_here (text_at bytes start) (rows_view r.added, r.rest) r.is)) r.limit d;
+        (subst (λ (n : ℕ). IsRows is_comment (text_at bytes n) (lines_view r.added) r.rest) start_is
+        (rows_here (text_at bytes start) (lines_view r.added, r.rest) r.is)) r.limit d;
     backs = λ p d. within.past_root
-        (subst (λ (n : ℕ). IsRows is_comment (text_at bytes n) (rows_view r.added) r.rest) start_is
-        (rows_here (text_at bytes start) (rows_view r.added, r.rest) r.is)) r.limit d;
-    holes = over_root (subst (λ (n : ℕ). IsRows is_comment (text_at bytes n) (rows_view r.added) r.rest) start_is
-        (rows_here (text_at bytes start) (rows_view r.added, r.rest) r.is));
+        (subst (λ (n : ℕ). IsRows is_comment (text_at bytes n) (lines_view r.added) r.rest) start_is
+        (rows_here (text_at bytes start) (lines_view r.added, r.rest) r.is)) r.limit d;
+    holes = over_root (subst (λ (n : ℕ). IsRows is_comment (text_at bytes n) (lines_view r.added) r.rest) start_is
+        (rows_here (text_at bytes start) (lines_view r.added, r.rest) r.is));
   }
     where
-      items : mid.rows.items ≡ r.added
-      items = r.pushed ∙ ap (λ (l : List code_rows.Row). l ++ r.added) empty
+      same : with_root (lines_view r.added) [] ≡ map section_of after.items
+      same = sym (taken.1
+          ∙ ap (λ (l : List code.Section). map section_of l ++ with_root (lines_view (lines_of mid)) []) none
+          ∙ ap (λ (l : Lines). with_root (lines_view l) []) (added_lines old mid r.added empty r.pushed))
 
-      view : (rs : List code_rows.Row) → (rows_view rs ≡ no_rows → rs ≡ []) → with_root (rows_view rs) [] ≡ root_view rs
-      view [] some = refl
-      view (x ∷ rs) some = by (rows_view (x ∷ rs)) (λ e. let z : x ∷ rs ≡ [] = some e in cc)
-        where
-          by : (t : Rows) → (t ≡ no_rows → ⊥)
-              → with_root t [] ≡ record { at = 0; header = []; is_array = false; rows = t } ∷ []
-          by no_rows h = absurd (h refl)
-          by (row keys p v t) h = refl
-
-      same : with_root (rows_view r.added) [] ≡ map section_of after.items
-      same = view r.added r.some ∙
-          sym (taken.1 ∙ ap (λ (l : List code.Section). map section_of l ++ root_view mid.rows.items) none ∙
-          ap root_view items)
-
-      told : section_list_of (folded bytes) ≡ onto (with_root (rows_view r.added) []) (sections_of r.rest)
+      told : section_list_of (folded bytes) ≡ onto (with_root (lines_view r.added) []) (sections_of r.rest)
       told = list_by ∙ ap (λ o. and_then o
           (λ rows. and_then (sections_of rows.1) (λ headed. Some (with_root rows.0 headed)))) r.is ∙
-          root_first (rows_view r.added) (sections_of r.rest)
+          root_first (lines_view r.added) (sections_of r.rest)
 
 -- from a header on
 list_from : (bytes : List ℕ) (at : ℕ) (gathered : Gathered) (list : List code.Section)
@@ -342,18 +384,15 @@ module _ (bytes : List ℕ) (at : ℕ) where
           m
 
       pub section_there : (old mid new : Gathered) (next : Option ℕ) (before after : Vec code.Section Global)
-          (kept : Vec code_rows.Row Global) → old.rows.items ≡ []
-          → AreRowsRead bytes line (length h.keys.items + 1) old mid next → kept.items ≡ drop 0 mid.rows.items
-          → new.rows.items ≡ take 0 mid.rows.items
+          (kept : code_tables.Rows) → lines_of old ≡ no_lines
+          → AreRowsRead bytes line (length h.keys.items + 1) old mid next → TakesAllRows mid new kept
           → after.items ≡ before.items
           ++ (record { at = h.at; is_array = h.is_array; header = h.keys; rows = kept } ∷ [])
           → IsSectionRead bytes at new before after next
       unfolding made keys_here
-      section_there old mid new next before after kept empty r kept_is rest_is pushed =
-          let items : r.added ≡ kept.items =
-          sym (kept_is ∙ r.pushed ∙ ap (λ (l : List code_rows.Row). l ++ r.added) empty) in
-          let view : made (rows_view r.added) ≡ made (rows_view kept.items) =
-          ap (λ (l : List code_rows.Row). made (rows_view l)) items in
+      section_there old mid new next before after kept empty r taken pushed =
+          let view : made (lines_view r.added) ≡ made (rows_view kept) =
+          ap made (sym (taken.0 ∙ ap lines_view (added_lines old mid r.added empty r.pushed))) in
           record {
             made = record { at = h.at; is_array = h.is_array; header = h.keys; rows = kept };
             pushed = pushed;
@@ -366,36 +405,36 @@ module _ (bytes : List ℕ) (at : ℕ) where
             leads = λ text here p d. deep.later_section
                 (header_is text here)
                 (line_end_read (text_at bytes h.end) (text_at bytes line) ended.0)
-                (rows_here (text_at bytes line) (rows_view r.added, r.rest) r.is)
+                (rows_here (text_at bytes line) (lines_view r.added, r.rest) r.is)
                 (omega (
                   arith,
                   r.limit,
                   read.limit,
                   level_here,
-                  ap (λ n. rows_level (n + 1) (rows_view r.added)) level_here,
+                  ap (λ n. rows_level (n + 1) (lines_view r.added)) level_here,
                 )) d;
             backs = λ text here p d. within.past_section
                 (header_is text here)
                 (line_end_read (text_at bytes h.end) (text_at bytes line) ended.0)
-                (rows_here (text_at bytes line) (rows_view r.added, r.rest) r.is)
+                (rows_here (text_at bytes line) (lines_view r.added, r.rest) r.is)
                 (omega (
                   arith,
                   r.limit,
                   read.limit,
                   level_here,
-                  ap (λ n. rows_level (n + 1) (rows_view r.added)) level_here,
+                  ap (λ n. rows_level (n + 1) (lines_view r.added)) level_here,
                 )) d;
             holes = λ text here. over_section (header_is text here)
                 (line_end_read (text_at bytes h.end) (text_at bytes line) ended.0)
-                (rows_here (text_at bytes line) (rows_view r.added, r.rest) r.is);
-            none = rest_is;
+                (rows_here (text_at bytes line) (lines_view r.added, r.rest) r.is);
+            none = taken.1;
             limit = omega (
               arith,
               ap section_level view,
               r.limit,
               read.limit,
               level_here,
-              ap (λ n. rows_level (n + 1) (rows_view r.added)) level_here,
+              ap (λ n. rows_level (n + 1) (lines_view r.added)) level_here,
             );
           }
         where

@@ -1,6 +1,6 @@
 -- The rows of a section, line by line.
-use Rattle.std.proofs.Common.{◌⊎◌, inl, inr, ◌≡◌, ℕ, ◌<◌, ◌≤◌, List, [], ◌∷◌, ◌++◌, length, refl, ap, sym, ◌∙◌}
-use Rattle.std.proofs.Common.{subst, ◌+◌, ◌*◌, arith, append_assoc, append-nil, true, false, Option, Some, None}
+use Rattle.std.proofs.Common.{◌⊎◌, inl, inr, ◌≡◌, ℕ, ◌<◌, ◌≤◌, List, [], ◌∷◌, length, refl, ap, sym, ◌∙◌}
+use Rattle.std.proofs.Common.{subst, ◌+◌, ◌*◌, arith, true, false, Option, Some, None}
 use Rattle.std.proofs.Common.{is_some, Result, Ok, Err}
 use Rattle.std.specs.Result.{IsErrAnd}
 use Rattle.std.specs.Str.{IsUtf8, IsCharBoundary}
@@ -9,7 +9,6 @@ use Rattle.basic_toml_tokens.specs.Text.{Text, StartsWith, text_at, is_comment, 
 use Rattle.basic_toml_tokens.specs.Punctuation.{IsPunctuationEnd}
 use Rattle.basic_toml_tokens.proofs.RestsArePartsOfText.{over_at_end}
 use Rattle.basic_toml_tokens.proofs.StepIsTheFold.{text_end}
-use Rattle.basic_toml_read.specs.declared.section.Row.{Row}
 use Rattle.basic_toml_explain.specs.declared.stop.Stop.{Stop}
 use Rattle.basic_toml_explain.specs.declared.stop.Why.{Why}
 use Rattle.basic_toml_read.specs.declared.values.Gathered.{Gathered}
@@ -21,9 +20,8 @@ use Rattle.basic_toml_grammar.specs.Reader as reader
 use Rattle.basic_toml_grammar.specs.Reader.{char_at, key_at, if_found, end_of, line_end_at}
 use Rattle.basic_toml_read.specs.FrontOf.{keys_of, value_of, rows_of, row_of}
 use Rattle.basic_toml_read.specs.AtPlace.{Leaves}
-use Rattle.basic_toml_read.specs.SectionView.{rows_view}
 use Rattle.basic_toml_read.specs.StopsAt.{Misses}
-use Rattle.basic_toml_read.specs.Gathers.{row_level, IsRowRead}
+use Rattle.basic_toml_read.specs.Gathers.{Lines, no_lines, and_lines, lines_of, lines_view, row_level, IsRowRead}
 use Rattle.basic_toml_read.specs.Lists.{EndsOrStops, EndsLineAt, AreRowsRead, IsGap}
 use Rattle.basic_toml_grammar.proofs.Grammar.StringsAreRead.{then_some}
 use Rattle.basic_toml_grammar.specs.DeepStops.{DeepRows, this_row, after_empty, later_row, DeepRow}
@@ -34,6 +32,7 @@ use Rattle.basic_toml_read.proofs.EnoughSteps.{keys_is, row_is, rows_is, rows_is
 use Rattle.basic_toml_read.proofs.LeftAfter.{sign_there, sign_missing, gap_past_line, gap_over, gap_ends_line}
 use Rattle.basic_toml_read.proofs.LeftAfter.{gap_has_no_bracket, line_of, no_comment}
 use Rattle.basic_toml_read.proofs.KeysTold.{misses_then, misses_none, stopped}
+use Rattle.basic_toml_read.proofs.ViewsSeen.{lines_assoc, lines_none}
 use Rattle.basic_toml_grammar.specs.Holes.{Hole, HoleInRows}
 use Rattle.basic_toml_read.specs.StopsReached.{InHole, LeadsTo, in_row, in_rows}
 use Rattle.basic_toml_read.proofs.HolesLeadOn.{stays_in, then_in, moved_in, to_row, over_empty, over_row_line}
@@ -42,16 +41,16 @@ use Rattle.basic_toml_read.proofs.FieldsGathered.{joined_rows, joined_rows_none,
 use Rattle.basic_toml_read.proofs.FieldsGathered.{after_no_rows, level_joined_rows, Whole, whole_none, whole_more}
 
 pub record RowsSoFar (bytes : List ℕ) (start level at : ℕ) (old new : Gathered) : Type 0 where
-  pub got : List Row
+  pub got : Lines
   pub whole : Whole got
-  pub told : rows_of (text_at bytes start) ≡ after_rows (rows_view got) (rows_of (text_at bytes at))
-  pub pushed : new.rows.items ≡ old.rows.items ++ got
-  pub some : rows_view got ≡ no_rows → got ≡ []
+  pub told : rows_of (text_at bytes start) ≡ after_rows (lines_view got) (rows_of (text_at bytes at))
+  pub pushed : lines_of new ≡ and_lines (lines_of old) got
+  pub some : lines_view got ≡ no_rows → got ≡ no_lines
   pub elements : new.elements.items ≡ old.elements.items
-  pub limit : rows_level level (rows_view got) ≤ nesting_limit
+  pub limit : rows_level level (lines_view got) ≤ nesting_limit
   pub boundary : IsCharBoundary bytes at
   pub forward : start ≤ at
-  pub gaps : IsGap (text_at bytes start) → IsGap (text_at bytes at) × (new.rows.items ≡ old.rows.items)
+  pub gaps : IsGap (text_at bytes start) → IsGap (text_at bytes at) × (lines_of new ≡ lines_of old)
   pub leads : (p : ℕ) → DeepRows nesting_limit level (text_at bytes at) p
       → DeepRows nesting_limit level (text_at bytes start) p
   pub backs : (p : ℕ) → DeepRows nesting_limit level (text_at bytes start) p
@@ -61,10 +60,10 @@ pub record RowsSoFar (bytes : List ℕ) (start level at : ℕ) (old new : Gather
 pub rows_start : (bytes : List ℕ) (start level : ℕ) (old : Gathered) → IsCharBoundary bytes start
     → RowsSoFar bytes start level start old old
 rows_start bytes start level old b = record {
-  got = [];
+  got = no_lines;
   whole = whole_none;
   told = after_no_rows (rows_of (text_at bytes start));
-  pushed = sym (append-nil old.rows.items);
+  pushed = sym (lines_none (lines_of old));
   some = λ _. refl;
   elements = refl;
   limit = omega arith;
@@ -129,9 +128,9 @@ module _ (bytes : List ℕ) (start level at : ℕ) (old new : Gathered) (s : Row
   rows_over h = record {
     added = s.got;
     rest = [];
-    is = s.told ∙ ap (λ t. after_rows (rows_view s.got) (rows_of t)) (text_end bytes at h) ∙
-        ap (after_rows (rows_view s.got)) rows_is_none
-        ∙ ap (λ (rs : Rows). Some (rs, [])) (joined_rows_none (rows_view s.got));
+    is = s.told ∙ ap (λ t. after_rows (lines_view s.got) (rows_of t)) (text_end bytes at h) ∙
+        ap (after_rows (lines_view s.got)) rows_is_none
+        ∙ ap (λ (rs : Rows). Some (rs, [])) (joined_rows_none (lines_view s.got));
     pushed = s.pushed;
     some = s.some;
     elements = s.elements;
@@ -174,8 +173,8 @@ module _ (bytes : List ℕ) (start level at : ℕ) (old new : Gathered) (s : Row
     rows_bracket next sign = record {
       added = s.got;
       rest = x ∷ line;
-      is = s.told ∙ ap (after_rows (rows_view s.got)) (by_line (Some (front, text_at bytes next)) (sign_there sign.0))
-          ∙ ap (λ (rs : Rows). Some (rs, x ∷ line)) (joined_rows_none (rows_view s.got));
+      is = s.told ∙ ap (after_rows (lines_view s.got)) (by_line (Some (front, text_at bytes next)) (sign_there sign.0))
+          ∙ ap (λ (rs : Rows). Some (rs, x ∷ line)) (joined_rows_none (lines_view s.got));
       pushed = s.pushed;
       some = s.some;
       elements = s.elements;
@@ -213,7 +212,7 @@ module _ (bytes : List ℕ) (start level at : ℕ) (old new : Gathered) (s : Row
       rows_empty next e boundary less = record {
         got = s.got;
         whole = s.whole;
-        told = s.told ∙ ap (after_rows (rows_view s.got)) (by_end_of_line (Some (text_at bytes next)) e);
+        told = s.told ∙ ap (after_rows (lines_view s.got)) (by_end_of_line (Some (text_at bytes next)) e);
         pushed = s.pushed;
         some = s.some;
         elements = s.elements;
@@ -265,8 +264,8 @@ module _ (bytes : List ℕ) (start level at : ℕ) (old new : Gathered) (s : Row
             within.no_row_line (sym blanks.left ∙ hash.0) (λ mid e. within.no_end goes_on e) refl (s.backs p d)
 
         told' : rows_of (text_at bytes start)
-            ≡ after_rows (rows_view s.got) (and_then (row_of (text_at bytes front)) row_on)
-        told' = s.told ∙ ap (after_rows (rows_view s.got)) (by_end_of_line None goes_on)
+            ≡ after_rows (lines_view s.got) (and_then (row_of (text_at bytes front)) row_on)
+        told' = s.told ∙ ap (after_rows (lines_view s.got)) (by_end_of_line None goes_on)
 
         -- a comment that goes on
         pub comment_unended : (next : ℕ) → IsPunctuationEnd 35 bytes front (Some next) → (w : Why)
@@ -274,7 +273,7 @@ module _ (bytes : List ℕ) (start level at : ℕ) (old new : Gathered) (s : Row
         unfolding after_rows
         comment_unended next hash w =
             misses_none w (rows_of (text_at bytes start)) (λ r. nesting_limit < rows_level level r.0)
-            (told' ∙ ap (λ o. after_rows (rows_view s.got) (and_then o row_on))
+            (told' ∙ ap (λ o. after_rows (lines_view s.got) (and_then o row_on))
             (no_row_at_hash (text_at bytes front) hash.0))
 
         pub comment_hole : (next : ℕ) → IsPunctuationEnd 35 bytes front (Some next) → (end : ℕ)
@@ -299,10 +298,10 @@ module _ (bytes : List ℕ) (start level at : ℕ) (old new : Gathered) (s : Row
         rows_missing w m =
             misses_then w (row_of (text_at bytes front)) (rows_of (text_at bytes start))
             (λ r. nesting_limit < row_level level r) (λ r. nesting_limit < rows_level level r.0)
-            (λ e. told' ∙ ap (λ o. after_rows (rows_view s.got) (and_then o row_on)) e)
+            (λ e. told' ∙ ap (λ o. after_rows (lines_view s.got) (and_then o row_on)) e)
             (λ y e. let (q, q_is, f) =
             then_some (and_then (row_of (text_at bytes front)) row_on)
-            (λ r. Some (joined_rows (rows_view s.got) r.0, r.1)) y (sym told' ∙ e) in
+            (λ r. Some (joined_rows (lines_view s.got) r.0, r.1)) y (sym told' ∙ e) in
             let (r, r_is, g) = then_some (row_of (text_at bytes front)) row_on q q_is in
             let (next, next_is, i) =
             then_some (line_end_at r.rest)
@@ -311,8 +310,8 @@ module _ (bytes : List ℕ) (start level at : ℕ) (old new : Gathered) (s : Row
             then_some (rows_of next) (λ rows. Some (row r.keys r.offset r.value rows.0, rows.1)) q i in
             let there : row r.keys r.offset r.value rows.0 ≡ q.0 =
             some_first (row r.keys r.offset r.value rows.0, rows.1) q same in
-            let joined : joined_rows (rows_view s.got) q.0 ≡ y.0 =
-            some_first (joined_rows (rows_view s.got) q.0, q.1) y f in (
+            let joined : joined_rows (lines_view s.got) q.0 ≡ y.0 =
+            some_first (joined_rows (lines_view s.got) q.0, q.1) y f in (
               r,
               r_is,
               λ h. omega (
@@ -320,7 +319,7 @@ module _ (bytes : List ℕ) (start level at : ℕ) (old new : Gathered) (s : Row
                 h,
                 ap (rows_level level) there,
                 ap (rows_level level) joined,
-                level_joined_rows level (rows_view s.got) q.0,
+                level_joined_rows level (lines_view s.got) q.0,
               ),
             ))
             m
@@ -328,11 +327,11 @@ module _ (bytes : List ℕ) (start level at : ℕ) (old new : Gathered) (s : Row
         -- a row
         module _ (new' : Gathered) (after : ℕ) (r : IsRowRead bytes front level new new' after) where
           by_end : rows_of (text_at bytes start)
-              ≡ after_rows (rows_view s.got) (and_then (line_end_at (text_at bytes after)) (λ next.
+              ≡ after_rows (lines_view s.got) (and_then (line_end_at (text_at bytes after)) (λ next.
               and_then (rows_of next) (λ rows. Some (row r.found.keys r.found.offset r.found.value rows.0, rows.1))))
           unfolding row_on
-          by_end = told' ∙ ap (λ o. after_rows (rows_view s.got) (and_then o row_on)) r.is
-              ∙ ap (λ t. after_rows (rows_view s.got) (and_then (line_end_at t) (λ next.
+          by_end = told' ∙ ap (λ o. after_rows (lines_view s.got) (and_then o row_on)) r.is
+              ∙ ap (λ t. after_rows (lines_view s.got) (and_then (line_end_at t) (λ next.
               and_then (rows_of next) (λ rows. Some (row r.found.keys r.found.offset r.found.value rows.0, rows.1)))))
               r.rest
 
@@ -362,7 +361,7 @@ module _ (bytes : List ℕ) (start level at : ℕ) (old new : Gathered) (s : Row
           unfolding after_rows
           rows_unended stop e =
               misses_none stop.why (rows_of (text_at bytes start)) (λ r. nesting_limit < rows_level level r.0)
-              (by_end ∙ ap (λ o. after_rows (rows_view s.got)
+              (by_end ∙ ap (λ o. after_rows (lines_view s.got)
               (and_then o (λ next. and_then (rows_of next)
               (λ rows. Some (row r.found.keys r.found.offset r.found.value rows.0, rows.1))))) e.0)
 
@@ -370,23 +369,23 @@ module _ (bytes : List ℕ) (start level at : ℕ) (old new : Gathered) (s : Row
           rows_more next e =
               let w = whole_more s.got r.added r.found.keys r.found.offset r.found.value s.whole r.seen in
               record {
-                got = s.got ++ r.added;
+                got = and_lines s.got r.added;
                 whole = w.0;
-                told = by_end ∙ ap (λ o. after_rows (rows_view s.got)
+                told = by_end ∙ ap (λ o. after_rows (lines_view s.got)
                     (and_then o (λ next. and_then (rows_of next)
                     (λ rows. Some (row r.found.keys r.found.offset r.found.value rows.0, rows.1))))) e.0
-                    ∙ after_rows_more (rows_view s.got) r.found.keys r.found.offset r.found.value
+                    ∙ after_rows_more (lines_view s.got) r.found.keys r.found.offset r.found.value
                     (rows_of (text_at bytes next))
                     ∙ ap (λ (rs : Rows). after_rows rs (rows_of (text_at bytes next))) (sym w.1);
-                pushed = r.pushed ∙ ap (λ (l : List Row). l ++ r.added) s.pushed ∙
-                    append_assoc old.rows.items s.got r.added;
-                some = λ none. absurd (joined_some (rows_view s.got) r.found.keys r.found.offset r.found.value
+                pushed = r.pushed ∙ ap (λ (l : Lines). and_lines l r.added) s.pushed ∙
+                    lines_assoc (lines_of old) s.got r.added;
+                some = λ none. absurd (joined_some (lines_view s.got) r.found.keys r.found.offset r.found.value
                     (sym w.1 ∙ none));
                 elements = r.elements ∙ s.elements;
                 limit = omega (
                   arith,
                   ap (rows_level level) w.1,
-                  level_joined_rows level (rows_view s.got) (row r.found.keys r.found.offset r.found.value no_rows),
+                  level_joined_rows level (lines_view s.got) (row r.found.keys r.found.offset r.found.value no_rows),
                   s.limit,
                   r.limit,
                 );

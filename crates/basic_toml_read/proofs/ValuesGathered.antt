@@ -1,15 +1,17 @@
 -- Rows and values, by what stands in them.
 use Rattle.std.proofs.Common.{◌⊎◌, inl, inr, ◌≡◌, ℕ, ◌+◌, ◌-◌, ◌<◌, ◌≤◌, List, [], ◌∷◌, ◌++◌, length, drop, take}
-use Rattle.std.proofs.Common.{refl, ap, sym, ◌∙◌, subst, arith, append_assoc, length-append, Option, Some, None}
+use Rattle.std.proofs.Common.{refl, ap, sym, ◌∙◌, subst, arith, length-append, Option, Some, None}
 use Rattle.std.proofs.Common.{Result, Ok, Err, Vec, Global, ℤ, Bool, true, false, cond, encode_utf8_all}
 use Rattle.std.specs.Prelude.{codes}
 use Rattle.std.specs.Str.{bytes_eq}
 use Rattle.std.proofs.Math.Seq.{drop-append_seam, take-append_seam}
+use Rattle.std.proofs.lemmas.List.{length-map}
 use Rattle.std.specs.Option.{option_or}
 use Rattle.basic_toml_tokens.specs.Text.{Text, text_at, run, after_run, after_blanks}
 use Rattle.basic_toml_tokens.specs.Punctuation.{IsPunctuationEnd}
 use Rattle.basic_toml_read.specs.declared.section.Raw as code
 use Rattle.basic_toml_read.specs.declared.section.Element.{Element}
+use Rattle.basic_toml_read.specs.declared.section.Key as code_keys
 use Rattle.basic_toml_read.specs.declared.section.Row.{Row, roll-Row}
 use Rattle.basic_toml_explain.specs.declared.stop.Stop.{Stop}
 use Rattle.basic_toml_explain.specs.declared.stop.Why.{Why}
@@ -17,7 +19,7 @@ use Rattle.basic_toml_explain.specs.declared.stop.Why.TheVariants as why
 use Rattle.basic_toml_read.specs.declared.scalar.Valued.{Valued}
 use Rattle.basic_toml_read.specs.declared.values.Gathered.{Gathered}
 use Rattle.basic_toml_read.specs.declared.values.LastKey.{LastKey}
-use Rattle.basic_toml_grammar.specs.Sections.{Key, Raw, Elements, Rows}
+use Rattle.basic_toml_grammar.specs.Sections.{Key, Raw, Elements, Rows, row}
 use Rattle.basic_toml_grammar.specs.Entering.{and_then}
 use Rattle.basic_toml_grammar.specs.Levels.{value_level, elements_level, rows_level}
 use Rattle.basic_toml_grammar.specs.Reader as reader
@@ -28,18 +30,18 @@ use Rattle.basic_toml_grammar.specs.Grammar.{is_wordlike, number_value, word_val
 use Rattle.basic_toml_read.specs.KeyText.{key_text_bytes}
 use Rattle.basic_toml_read.specs.FrontOf.{keys_of, value_of, elements_of, fields_of, row_of}
 use Rattle.basic_toml_read.specs.AtPlace.{Leaves}
-use Rattle.basic_toml_read.specs.SectionView.{elements_view, rows_view}
+use Rattle.basic_toml_read.specs.SectionView.{key_of, elements_view, rows_seen}
 use Rattle.basic_toml_read.specs.StopsAt.{Misses, ReadsStringAt, ReadsWordAt, MissesString, MissesWord}
-use Rattle.basic_toml_read.specs.Gathers.{with_keys, IsLastKey, row_level, IsRowRead, Keeps, IsValueRead}
+use Rattle.basic_toml_read.specs.Gathers.{Lines, lines_of, lines_view, IsLastKey, row_level, IsRowRead, Keeps}
+use Rattle.basic_toml_read.specs.Gathers.{IsValueRead, IsTableTaken}
 use Rattle.basic_toml_read.specs.Gathers.{AreElementsRead, IsArrayRead, AreFieldsRead, IsInlineRead, ReadsValue}
 use Rattle.basic_toml_read.specs.Gathers.{ReadsArray, ReadsInline}
 use Rattle.basic_toml_grammar.proofs.Grammar.StringsAreRead.{then_some}
 use Rattle.basic_toml_grammar.proofs.Grammar.ReaderIsComplete.{gap}
 use Rattle.basic_toml_read.proofs.EnoughSteps.{value_is, row_is}
 use Rattle.basic_toml_read.proofs.LeftAfter.{sign_there, sign_missing}
-use Rattle.basic_toml_read.proofs.ViewsSeen.{row_before, array_of, inline_of}
+use Rattle.basic_toml_read.proofs.ViewsSeen.{row_before, array_of}
 use Rattle.basic_toml_read.proofs.KeysTold.{misses_then}
-use Rattle.basic_toml_read.proofs.KeysGathered.{with_keys_row}
 
 -- a row without keys
 pub keys_missed : (level : ℕ) (text : Text) (w : Why)
@@ -119,31 +121,32 @@ module _ (bytes : List ℕ) (at level : ℕ) (old mid : Gathered) (last : LastKe
             let e : level + length all_keys - 1 ≡ last.level = omega (arith, length_keys, k.level_is) in
             omega (arith, h, ap (λ n. value_level n v.value) e)
 
-    pub row_there : (new mid' : Gathered) (v : Valued) → IsValueRead bytes at' last.level mid mid' v
-        → new.rows.items ≡ mid'.rows.items
-        ++ (roll-Row (record { key = last.key; offset = last.offset; start = v.offset; value = v.value }) ∷ [])
+    pub row_there : (new mid' : Gathered) (v : Valued) (n : ℕ) → IsValueRead bytes at' last.level mid mid' v
+        → n ≡ last.level - level → new.parents.items ≡ mid'.parents.items
+        → new.rows.items ≡ mid'.rows.items ++ (roll-Row (record {
+          key = last.key;
+          offset = last.offset;
+          parents = n;
+          start = v.offset;
+          value = v.value;
+        }) ∷ [])
         → new.elements.items ≡ mid'.elements.items
         → IsRowRead bytes at level old new v.end
     unfolding assigned all_keys
-    row_there new mid' v r pushed elements = record {
+    row_there new mid' v n r n_is parents pushed elements = record {
       found = assigned all_keys (record { offset = v.offset; value = r.found.raw; rest = text_at bytes v.end });
       is = row_by_value ∙ ap (λ o. and_then o (λ v. Some (assigned all_keys v))) r.found.is;
       rest = refl;
-      added = k.dots ++ (roll-Row (record { key = last.key; offset = last.offset; start = v.offset; value = v.value })
-          ∷ []);
-      pushed = pushed ∙ ap (λ (l : List Row). l
-          ++ (roll-Row (record { key = last.key; offset = last.offset; start = v.offset; value = v.value }) ∷ []))
-          (r.keeps.rows ∙ k.pushed)
-          ∙ append_assoc old.rows.items k.dots
-          (roll-Row (record { key = last.key; offset = last.offset; start = v.offset; value = v.value }) ∷ []);
-      seen = λ rest. ap rows_view
-          (append_assoc k.dots (roll-Row
-          (record { key = last.key; offset = last.offset; start = v.offset; value = v.value }) ∷ []) rest)
-          ∙ k.seen (roll-Row (record { key = last.key; offset = last.offset; start = v.offset; value = v.value })
-          ∷ rest)
-          ∙ ap (with_keys k.front) (row_before last.key last.offset v.offset v.value r.found.raw rest r.found.seen)
-          ∙ with_keys_row k.front (record { offset = last.offset; text = key_text_bytes last.key }) [] v.offset
-          r.found.raw (rows_view rest);
+      added = record { parents = k.parents; rows = made ∷ [] };
+      pushed =
+          let keys : new.parents.items ≡ old.parents.items ++ k.parents =
+          parents ∙ ap (λ (l : Lines). l.parents) r.keeps.lines ∙ k.pushed in
+          let rows : new.rows.items ≡ old.rows.items ++ made ∷ [] =
+          pushed ∙ ap (λ (l : List Row). l ++ made ∷ []) (ap (λ (l : Lines). l.rows) r.keeps.lines ∙ k.rows) in
+          cc;
+      seen = λ rest. row_before last.key last.offset n v.offset v.value r.found.raw k.parents rest r.found.seen count
+          ∙ ap (λ (ks : List Key). row (ks ++ record { offset = last.offset; text = key_text_bytes last.key } ∷ [])
+          v.offset r.found.raw (lines_view rest)) k.seen;
       elements = elements ∙ r.keeps.elements ∙ k.elements;
       limit =
           let e : level + length all_keys - 1 ≡ last.level = omega (arith, length_keys, k.level_is) in
@@ -151,6 +154,18 @@ module _ (bytes : List ℕ) (at level : ℕ) (old mid : Gathered) (last : LastKe
       boundary = r.found.boundary;
       later = omega (arith, k.later, sign.2, left.forward, r.found.later);
     }
+      where
+        made : Row
+        made = roll-Row (record {
+          key = last.key;
+          offset = last.offset;
+          parents = n;
+          start = v.offset;
+          value = v.value;
+        })
+
+        count : n ≡ length k.parents
+        count = omega (arith, n_is, k.level_is, ap (λ (ks : List Key). length ks) k.seen, length-map k.parents key_of)
 
 -- a value, by its first character
 value_by_bracket : (bytes : List ℕ) (at next : ℕ) → IsPunctuationEnd 91 bytes at (Some next)
@@ -257,7 +272,7 @@ inline_value bytes at next level old new (Err stop) none sign m =
 
 -- a scalar has no level
 keeps_all : (g : Gathered) → Keeps g g
-keeps_all g = record { elements = refl; rows = refl }
+keeps_all g = record { elements = refl; lines = refl }
 
 string_level : (l : ℕ) (text : Text) (v : reader.Valued) → string_value_at text ≡ Some v → value_level l v.value ≡ 0
 string_level l text v e =
@@ -358,45 +373,58 @@ pub array_whole : (bytes : List ℕ) (offset at start level end : ℕ) (old mid 
     (kept : Vec Element Global) → level ≤ nesting_limit
     → Leaves bytes at start (gap (text_at bytes at)) → AreElementsRead bytes start level old mid end
     → kept.items ≡ drop (length old.elements.items) mid.elements.items
-    → new.elements.items ≡ take (length old.elements.items) mid.elements.items → new.rows.items ≡ mid.rows.items
+    → new.elements.items ≡ take (length old.elements.items) mid.elements.items → lines_of new ≡ lines_of mid
     → IsArrayRead bytes offset at level old new (record { offset = offset; value = code.Array kept; end = end })
-array_whole bytes offset at start level end old mid new kept low left r kept_is rest_is rows =
+array_whole bytes offset at start level end old mid new kept low left r kept_is rest_is lines =
     let items : kept.items ≡ r.added = kept_is ∙ ap (drop (length old.elements.items)) r.pushed ∙
     drop-append_seam old.elements.items r.added in
     record {
       elements = elements_view r.added;
-      seen = array_of kept ∙ ap (λ (l : List Element). Some (Raw.array (elements_view l))) items;
+      seen = array_of kept ∙ ap (λ (l : List Element). Raw.array (elements_view l)) items;
       is = ap elements_of (sym left.left) ∙ r.is;
       offset_is = refl;
       limit = (low, r.limit);
       keeps = record {
         elements = rest_is ∙ ap (take (length old.elements.items)) r.pushed ∙
             take-append_seam old.elements.items r.added;
-        rows = rows ∙ r.rows;
+        lines = lines ∙ r.lines;
       };
       boundary = r.boundary;
       later = omega (arith, left.forward, r.later);
     }
 
-pub inline_whole : (bytes : List ℕ) (offset at start level end : ℕ) (old mid new : Gathered) (kept : Vec Row Global)
+pub inline_whole : (bytes : List ℕ) (offset at start level end : ℕ) (old mid new : Gathered) (value : code.Raw)
     → level ≤ nesting_limit
     → Leaves bytes at start (after_blanks (text_at bytes at)) → AreFieldsRead bytes start level old mid end
-    → kept.items ≡ drop (length old.rows.items) mid.rows.items
-    → new.rows.items ≡ take (length old.rows.items) mid.rows.items → new.elements.items ≡ mid.elements.items
-    → IsInlineRead bytes offset at level old new (record { offset = offset; value = code.Inline kept; end = end })
-inline_whole bytes offset at start level end old mid new kept low left r kept_is rest_is elements =
-    let items : kept.items ≡ r.added = kept_is ∙ ap (drop (length old.rows.items)) r.pushed ∙
-    drop-append_seam old.rows.items r.added in
+    → IsTableTaken mid new (length old.parents.items) (length old.rows.items) value
+    → IsInlineRead bytes offset at level old new (record { offset = offset; value = value; end = end })
+inline_whole bytes offset at start level end old mid new value low left r taken =
     record {
-      rows = rows_view r.added;
-      seen = inline_of kept ∙ ap (λ (l : List Row). Some (Raw.inline (rows_view l))) items;
+      rows = lines_view r.added;
+      seen = taken.seen
+          ∙ ap (λ (l : List code_keys.Key). Raw.inline (rows_seen l (drop (length old.rows.items) mid.rows.items)))
+          (ap (drop (length old.parents.items)) parents ∙ drop-append_seam old.parents.items r.added.parents)
+          ∙ ap (λ (l : List Row). Raw.inline (rows_seen r.added.parents l))
+          (ap (drop (length old.rows.items)) rows ∙ drop-append_seam old.rows.items r.added.rows);
       is = ap fields_of (sym left.left) ∙ r.is;
       offset_is = refl;
       limit = (low, r.limit);
       keeps = record {
-        elements = elements ∙ r.elements;
-        rows = rest_is ∙ ap (take (length old.rows.items)) r.pushed ∙ take-append_seam old.rows.items r.added;
+        elements = taken.elements ∙ r.elements;
+        lines =
+            let parents_left : new.parents.items ≡ old.parents.items =
+            taken.parents_left ∙ ap (take (length old.parents.items)) parents
+            ∙ take-append_seam old.parents.items r.added.parents in
+            let rows_left : new.rows.items ≡ old.rows.items =
+            taken.rows_left ∙ ap (take (length old.rows.items)) rows ∙ take-append_seam old.rows.items r.added.rows in
+            cc;
       };
       boundary = r.boundary;
       later = omega (arith, left.forward, r.later);
     }
+  where
+    parents : mid.parents.items ≡ old.parents.items ++ r.added.parents
+    parents = ap (λ (l : Lines). l.parents) r.pushed
+
+    rows : mid.rows.items ≡ old.rows.items ++ r.added.rows
+    rows = ap (λ (l : Lines). l.rows) r.pushed

@@ -1,10 +1,13 @@
 -- What reading rows and values answers, and what is gathered on the way.
-use Rattle.std.specs.Prelude.{◌⊎◌, ◌≡◌, ◌≤◌, ◌<◌, ◌+◌, ◌-◌, ℕ, List, [], ◌∷◌, ◌++◌, length, Some, None, Result, Ok, Err}
+use Rattle.std.specs.Prelude.{◌⊎◌, ◌≡◌, ◌≤◌, ◌<◌, ◌+◌, ◌-◌, ℕ, List, [], ◌∷◌, ◌++◌, length, map, Some, None, Result, Ok}
+use Rattle.std.specs.Prelude.{Err, drop, take}
 use Rattle.std.specs.Str.{IsCharBoundary}
 use Rattle.basic_toml_value.specs.Nesting.{nesting_limit}
 use Rattle.basic_toml_tokens.specs.Ascii as ascii
 use Rattle.basic_toml_tokens.specs.Text.{Text, text_at, is_comment, after_blanks}
+use Rattle.basic_toml_read.specs.declared.section.Raw as raws
 use Rattle.basic_toml_read.specs.declared.section.Element as code_elements
+use Rattle.basic_toml_read.specs.declared.section.Key as code_keys
 use Rattle.basic_toml_read.specs.declared.section.Row as code_rows
 use Rattle.basic_toml_read.specs.declared.scalar.Valued.{Valued}
 use Rattle.basic_toml_explain.specs.declared.stop.Stop.{Stop}
@@ -19,7 +22,7 @@ use Rattle.basic_toml_grammar.specs.Reader as reader
 use Rattle.basic_toml_grammar.specs.Reader.{char_at}
 use Rattle.basic_toml_read.specs.FrontOf.{keys_of, value_of, elements_of, fields_of, row_of}
 use Rattle.basic_toml_read.specs.KeyText.{key_text_bytes}
-use Rattle.basic_toml_read.specs.SectionView.{raw_of, elements_view, rows_view, with_key}
+use Rattle.basic_toml_read.specs.SectionView.{raw_of, key_of, elements_view, rows_seen}
 use Rattle.basic_toml_read.specs.StopsAt.{Misses, IsValued}
 
 -- a level within the limit
@@ -33,10 +36,23 @@ ClosesAt c why bytes at (Ok next) = (char_at c (text_at bytes at) ≡ Some (at, 
     × IsCharBoundary bytes next × (at < next)
 ClosesAt c why bytes at (Err stop) = (char_at c (text_at bytes at) ≡ None) × (stop ≡ record { at = at; why = why })
 
--- keys before those of the first row
-abbrev pub with_keys : List Key → Rows → Rows
-with_keys [] rs = rs
-with_keys (k ∷ keys) rs = with_key k (with_keys keys rs)
+-- rows as they are gathered, and the keys before their last ones
+pub record Lines : Type 0 where
+  pub parents : List code_keys.Key
+  pub rows : List code_rows.Row
+
+abbrev pub no_lines : Lines
+no_lines = record { parents = []; rows = [] }
+
+-- some after others
+abbrev pub and_lines : Lines → Lines → Lines
+and_lines a b = record { parents = a.parents ++ b.parents; rows = a.rows ++ b.rows }
+
+abbrev pub lines_of : Gathered → Lines
+lines_of g = record { parents = g.parents.items; rows = g.rows.items }
+
+abbrev pub lines_view : Lines → Rows
+lines_view l = rows_seen l.parents l.rows
 
 pub record IsLastKey (bytes : List ℕ) (at level : ℕ) (old new : Gathered) (last : LastKey) : Type 0 where
   pub front : List Key
@@ -45,9 +61,10 @@ pub record IsLastKey (bytes : List ℕ) (at level : ℕ) (old new : Gathered) (l
       ≡ Some (front ++ (record { offset = last.offset; text = key_text_bytes last.key } ∷ []), mid)
   pub after : text_at bytes last.end ≡ after_blanks mid
   pub over : char_at ascii.period (text_at bytes last.end) ≡ None
-  pub dots : List code_rows.Row
-  pub pushed : new.rows.items ≡ old.rows.items ++ dots
-  pub seen : (rest : List code_rows.Row) → rows_view (dots ++ rest) ≡ with_keys front (rows_view rest)
+  pub parents : List code_keys.Key
+  pub pushed : new.parents.items ≡ old.parents.items ++ parents
+  pub seen : map key_of parents ≡ front
+  pub rows : new.rows.items ≡ old.rows.items
   pub elements : new.elements.items ≡ old.elements.items
   pub level_is : last.level ≡ level + length front
   pub limit : last.level ≤ nesting_limit
@@ -67,10 +84,10 @@ pub record IsRowRead (bytes : List ℕ) (at level : ℕ) (old new : Gathered) (e
   pub found : reader.Assigned
   pub is : row_of (text_at bytes at) ≡ Some found
   pub rest : found.rest ≡ text_at bytes end
-  pub added : List code_rows.Row
-  pub pushed : new.rows.items ≡ old.rows.items ++ added
-  pub seen : (rest : List code_rows.Row)
-      → rows_view (added ++ rest) ≡ row found.keys found.offset found.value (rows_view rest)
+  pub added : Lines
+  pub pushed : lines_of new ≡ and_lines (lines_of old) added
+  pub seen : (rest : Lines)
+      → lines_view (and_lines added rest) ≡ row found.keys found.offset found.value (lines_view rest)
   pub elements : new.elements.items ≡ old.elements.items
   pub limit : row_level level found ≤ nesting_limit
   pub boundary : IsCharBoundary bytes end
@@ -84,7 +101,7 @@ ReadsRow bytes at level old new (Err stop) =
 -- the vectors hold what they held
 pub record Keeps (old new : Gathered) : Type 0 where
   pub elements : new.elements.items ≡ old.elements.items
-  pub rows : new.rows.items ≡ old.rows.items
+  pub lines : lines_of new ≡ lines_of old
 
 pub record IsValueRead (bytes : List ℕ) (at level : ℕ) (old new : Gathered) (v : Valued) : Type 0 where
   pub found : IsValued bytes at v (value_of (text_at bytes at))
@@ -100,7 +117,7 @@ pub record AreElementsRead (bytes : List ℕ) (at level : ℕ) (old new : Gather
   pub added : List code_elements.Element
   pub is : elements_of (text_at bytes at) ≡ Some (elements_view added, text_at bytes end)
   pub pushed : new.elements.items ≡ old.elements.items ++ added
-  pub rows : new.rows.items ≡ old.rows.items
+  pub lines : lines_of new ≡ lines_of old
   pub limit : elements_level level (elements_view added) ≤ nesting_limit
   pub boundary : IsCharBoundary bytes end
   pub later : at < end
@@ -112,7 +129,7 @@ ReadsElements bytes at level old new (Err stop) =
 
 pub record IsArrayRead (bytes : List ℕ) (offset at level : ℕ) (old new : Gathered) (v : Valued) : Type 0 where
   pub elements : Elements
-  pub seen : raw_of v.value ≡ Some (Raw.array elements)
+  pub seen : raw_of v.value ≡ Raw.array elements
   pub is : elements_of (after_gap is_comment (text_at bytes at)) ≡ Some (elements, text_at bytes v.end)
   pub offset_is : v.offset ≡ offset
   pub limit : (level ≤ nesting_limit) × (elements_level level elements ≤ nesting_limit)
@@ -127,11 +144,11 @@ ReadsArray bytes offset at level old new (Err stop) =
     ⊎ (nesting_limit < elements_level level r.0))
 
 pub record AreFieldsRead (bytes : List ℕ) (at level : ℕ) (old new : Gathered) (end : ℕ) : Type 0 where
-  pub added : List code_rows.Row
-  pub is : fields_of (text_at bytes at) ≡ Some (rows_view added, text_at bytes end)
-  pub pushed : new.rows.items ≡ old.rows.items ++ added
+  pub added : Lines
+  pub is : fields_of (text_at bytes at) ≡ Some (lines_view added, text_at bytes end)
+  pub pushed : lines_of new ≡ and_lines (lines_of old) added
   pub elements : new.elements.items ≡ old.elements.items
-  pub limit : rows_level level (rows_view added) ≤ nesting_limit
+  pub limit : rows_level level (lines_view added) ≤ nesting_limit
   pub boundary : IsCharBoundary bytes end
   pub later : at < end
 
@@ -140,9 +157,16 @@ ReadsFields bytes at level old new (Ok end) = AreFieldsRead bytes at level old n
 ReadsFields bytes at level old new (Err stop) =
     Misses stop.why (fields_of (text_at bytes at)) (λ r. nesting_limit < rows_level level r.0)
 
+-- the inline table of the rows from a number on, whose parents are those from another one on
+pub record IsTableTaken (old new : Gathered) (parents from : ℕ) (value : raws.Raw) : Type 0 where
+  pub seen : raw_of value ≡ Raw.inline (rows_seen (drop parents old.parents.items) (drop from old.rows.items))
+  pub parents_left : new.parents.items ≡ take parents old.parents.items
+  pub rows_left : new.rows.items ≡ take from old.rows.items
+  pub elements : new.elements.items ≡ old.elements.items
+
 pub record IsInlineRead (bytes : List ℕ) (offset at level : ℕ) (old new : Gathered) (v : Valued) : Type 0 where
   pub rows : Rows
-  pub seen : raw_of v.value ≡ Some (Raw.inline rows)
+  pub seen : raw_of v.value ≡ Raw.inline rows
   pub is : fields_of (after_blanks (text_at bytes at)) ≡ Some (rows, text_at bytes v.end)
   pub offset_is : v.offset ≡ offset
   pub limit : (level ≤ nesting_limit) × (rows_level level rows ≤ nesting_limit)

@@ -1,5 +1,5 @@
 -- What reading headers, rows and whole texts answers.
-use Rattle.std.specs.Prelude.{◌⊎◌, false, ◌≡◌, ◌≤◌, ◌<◌, ◌+◌, ℕ, List, [], ◌∷◌, ◌++◌, length, map, Option, Some, None}
+use Rattle.std.specs.Prelude.{◌⊎◌, ◌≡◌, ◌≤◌, ◌<◌, ◌+◌, ℕ, List, [], ◌∷◌, ◌++◌, length, map, Option, Some, None}
 use Rattle.std.specs.Prelude.{Result, Ok, Err, Vec}
 use Rattle.std.specs.Str.{IsCharBoundary}
 use Rattle.std.specs.declared.alloc.Global.{Global}
@@ -8,12 +8,12 @@ use Rattle.basic_toml_tokens.specs.Ascii as ascii
 use Rattle.basic_toml_tokens.specs.Text.{Text, text_at, folded, is_comment, after_blanks}
 use Rattle.basic_toml_read.specs.declared.header.Header.{Header}
 use Rattle.basic_toml_read.specs.declared.header.HeaderKeys.{HeaderKeys}
-use Rattle.basic_toml_read.specs.declared.section.Row as code_rows
+use Rattle.basic_toml_read.specs.declared.section.Rows as code_rows
 use Rattle.basic_toml_read.specs.declared.section.Section as code_sections
 use Rattle.basic_toml_explain.specs.declared.stop.Stop.{Stop}
 use Rattle.basic_toml_explain.specs.declared.stop.Why.TheVariants.{Memory, Newline}
 use Rattle.basic_toml_read.specs.declared.values.Gathered.{Gathered}
-use Rattle.basic_toml_grammar.specs.Grammar.{after_comment_by, after_gap}
+use Rattle.basic_toml_grammar.specs.Grammar.{after_comment_by, after_gap, with_root}
 use Rattle.basic_toml_grammar.specs.Sections.{no_rows, Section}
 use Rattle.basic_toml_grammar.specs.Levels.{rows_level, section_level, highest_level}
 use Rattle.basic_toml_grammar.specs.Reader as reader
@@ -22,6 +22,7 @@ use Rattle.basic_toml_read.specs.AtPlace.{EndsAt}
 use Rattle.basic_toml_read.specs.FrontOf.{keys_of, header_of, rows_of, sections_of}
 use Rattle.basic_toml_grammar.specs.Entering.{and_then}
 use Rattle.basic_toml_grammar.specs.DeepStops.{DeepSections}
+use Rattle.basic_toml_read.specs.Gathers.{Lines, no_lines, and_lines, lines_of, lines_view}
 use Rattle.basic_toml_read.specs.SectionView.{rows_view, key_of, section_of}
 use Rattle.basic_toml_read.specs.StopsAt.{Misses}
 use Rattle.basic_toml_read.specs.StopsReached.{LeadsTo, in_sections}
@@ -81,13 +82,13 @@ IsFrom start None = Unit {0}
 IsFrom start (Some at) = start ≤ at
 
 pub record AreRowsRead (bytes : List ℕ) (start level : ℕ) (old new : Gathered) (next : Option ℕ) : Type 0 where
-  pub added : List code_rows.Row
+  pub added : Lines
   pub rest : Text
-  pub is : rows_of (text_at bytes start) ≡ Some (rows_view added, rest)
-  pub pushed : new.rows.items ≡ old.rows.items ++ added
-  pub some : rows_view added ≡ no_rows → added ≡ []
+  pub is : rows_of (text_at bytes start) ≡ Some (lines_view added, rest)
+  pub pushed : lines_of new ≡ and_lines (lines_of old) added
+  pub some : lines_view added ≡ no_rows → added ≡ no_lines
   pub elements : new.elements.items ≡ old.elements.items
-  pub limit : rows_level level (rows_view added) ≤ nesting_limit
+  pub limit : rows_level level (lines_view added) ≤ nesting_limit
   pub ends : NextAt bytes rest next
   pub from : IsFrom start next
 
@@ -103,18 +104,18 @@ IsGap text = after_gap is_comment text ≡ []
 -- in a gap stand no rows, and no header follows
 abbrev pub PassesGaps : List ℕ → ℕ → Gathered → Gathered → Result (Option ℕ) Stop → Type 0
 PassesGaps bytes start old new result = IsGap (text_at bytes start) → (result ≡ Ok None)
-    × (new.rows.items ≡ old.rows.items)
+    × (lines_of new ≡ lines_of old)
 
--- the rows before the first header
-abbrev pub root_view : List code_rows.Row → List Section
-root_view [] = []
-root_view (r ∷ rs) = record { at = 0; header = []; is_array = false; rows = rows_view (r ∷ rs) } ∷ []
+-- all rows so far, of which none is left
+abbrev pub TakesAllRows : Gathered → Gathered → code_rows.Rows → Type 0
+TakesAllRows old new rows = (rows_view rows ≡ lines_view (lines_of old)) × (lines_of new ≡ no_lines)
 
+-- the rows before the first header, as a section if there are any
 abbrev pub TakesRoot : Gathered → Gathered → Vec code_sections.Section Global → Vec code_sections.Section Global
     → Result (Unit {0}) Stop → Type 0
-TakesRoot old new before after (Ok _) = (new.rows.items ≡ [])
-    × (map section_of after.items ≡ map section_of before.items ++ root_view old.rows.items)
-TakesRoot old new before after (Err stop) = (stop.why ≡ Memory) × (old.rows.items ≡ [] → ⊥)
+TakesRoot old new before after (Ok _) = (lines_of new ≡ no_lines)
+    × (map section_of after.items ≡ map section_of before.items ++ with_root (lines_view (lines_of old)) [])
+TakesRoot old new before after (Err stop) = (stop.why ≡ Memory) × (lines_of old ≡ no_lines → ⊥)
 
 -- the sections from a header on
 abbrev pub sections_from : reader.Headed → Option (List Section)
@@ -136,7 +137,7 @@ pub record IsSectionRead (bytes : List ℕ) (at : ℕ) (new : Gathered) (before 
   pub backs : (text : Text) → text_at bytes at ≡ after_blanks text → (p : ℕ) → DeepSections nesting_limit text p
       → DeepSections nesting_limit rest p
   pub holes : (text : Text) → text_at bytes at ≡ after_blanks text → LeadsTo (in_sections rest) (in_sections text)
-  pub none : new.rows.items ≡ []
+  pub none : lines_of new ≡ no_lines
   pub limit : section_level (section_of made) ≤ nesting_limit
 
 abbrev pub ReadsSection : List ℕ → ℕ → Gathered → Vec code_sections.Section Global → Vec code_sections.Section Global

@@ -61,7 +61,7 @@ IsKeyOf quoted at (Err stop) = ((quoted.multiline ≡ true) × (stop ≡ record 
 -- the value that the code has, and where it ends
 pub record IsValued (bytes : List ℕ) (at : ℕ) (v : Valued) (found : Option reader.Valued) : Type 0 where
   pub raw : Raw
-  pub seen : raw_of v.value ≡ Some raw
+  pub seen : raw_of v.value ≡ raw
   pub is : found ≡ Some (record { offset = v.offset; value = raw; rest = text_at bytes v.end })
   pub boundary : IsCharBoundary bytes v.end
   pub later : at < v.end

@@ -16,4 +16,4 @@ mod word;
 pub use basic_toml_explain::{ReadError, ReadErrorKind};
 pub use key_text::KeyText;
 pub use reader::sections;
-pub use section::{Element, Key, Raw, Row, Section};
+pub use section::{Element, Key, Raw, Row, Rows, Section};

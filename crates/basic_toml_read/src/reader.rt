@@ -1,5 +1,5 @@
 //! Reads a text to its section list, line by line: headers, and the rows after each.
-ghost use Rattle.std.specs.Prelude.{IfErr, ◌≡◌, ◌≤◌, []};
+ghost use Rattle.std.specs.Prelude.{IfErr, IfOk, ◌≡◌, ◌≤◌, []};
 ghost use Rattle.std.specs.Str.{IsCharBoundary};
 ghost use Rattle.basic_toml_value.specs.Nesting.{nesting_limit};
 ghost use Rattle.basic_toml_tokens.specs.Text.{text_at, folded};
@@ -7,15 +7,16 @@ ghost use Rattle.basic_toml_explain.specs.Stop.{StopsInside};
 ghost use Rattle.basic_toml_read.specs.StopsReached.{IfDeep, IfDeepSection, InHole, InSectionHole, in_rows, in_text};
 ghost use Rattle.basic_toml_grammar.specs.DeepStops.{DeepRows, DeepStop};
 ghost use Rattle.basic_toml_read.specs.SectionsAnswer.{AnswersSections, HoldsMore};
-ghost use Rattle.basic_toml_read.specs.Lists.{EndsOrStops, EndsLineAt, ReadsRows, PassesGaps, TakesRoot, ReadsSection, ReadsList};
+ghost use Rattle.basic_toml_read.specs.Lists.{EndsOrStops, EndsLineAt, ReadsRows, PassesGaps, TakesAllRows, TakesRoot, ReadsSection, ReadsList};
+ghost use Rattle.basic_toml_read.specs.Gathers.{lines_of, no_lines};
 
 use crate::front::{after_blanks, after_comment, after_line, end_of_line};
 use crate::header::header_at;
-use crate::section::Section;
+use crate::section::{Rows, Section};
 use crate::values::{Gathered, taken};
 use basic_toml_explain::{End, ReadError, Stop, Why, error_at};
 use basic_toml_tokens::{after_punctuation, start_of_text};
-use std::alloc::Global;
+use std::alloc::{AllocError, Global};
 
 // Where the next line begins, if this one ends at an offset.
 #[inline]
@@ -78,14 +79,26 @@ impl<'de> Gathered<'de> {
 }
 
 impl<'de> Gathered<'de> {
+    // The rows so far, of which none is left.
+    #[inline(always)]
+    fn all_rows(&mut self) -> Result<Rows<'de>, AllocError>
+        ensures { IfOk result (TakesAllRows self.old self.new) }
+    {
+        Ok(Rows {
+            parents: taken(&mut self.parents, 0)?,
+            rows: taken(&mut self.rows, 0)?,
+        })
+    }
+
     // Adds the rows before the first header as a section, if there are any.
     fn root(&mut self, sections: &mut Vec<Section<'de>>) -> Result<(), Stop>
+        requires { self.old.rows.items ≡ [] → self.old.parents.items ≡ [] }
         ensures { TakesRoot self.old self.new sections.old sections.new result }
     {
         if self.rows.is_empty() {
             return Ok(());
         }
-        let rows = taken(&mut self.rows, 0)?;
+        let rows = self.all_rows()?;
         sections.push(Section {
             at: 0,
             is_array: false,
@@ -103,7 +116,7 @@ impl<'de> Gathered<'de> {
         sections: &mut Vec<Section<'de>>,
     ) -> Result<Option<usize>, Stop>
         requires boundary { IsCharBoundary text.now at }
-        requires none { self.old.rows.items ≡ [] }
+        requires none { lines_of self.old ≡ no_lines }
         ensures read { ReadsSection text.now at self.new sections.old sections.new result }
         ensures inside { IfErr result (λ stop. StopsInside text.now stop) }
         ensures deep { IfDeepSection text.now at result }
@@ -112,7 +125,7 @@ impl<'de> Gathered<'de> {
         let header = header_at(self.alloc, text, at)?;
         let line = next_line(text, header.end)?;
         let next = self.rows(text, line, header.keys.len() + 1)?;
-        let rows = taken(&mut self.rows, 0)?;
+        let rows = self.all_rows()?;
         sections.push(Section {
             at: header.at,
             is_array: header.is_array,
@@ -134,6 +147,7 @@ pub(crate) fn list<'de>(alloc: Global, text: &'de str) -> Result<Vec<Section<'de
     let mut gathered = Gathered {
         alloc,
         elements: Vec::new(alloc),
+        parents: Vec::new(alloc),
         rows: Vec::new(alloc),
     };
     let mut sections = Vec::new(alloc);

@@ -1,5 +1,5 @@
 //! Reads keys, strings and words at an offset of a text.
-ghost use Rattle.std.specs.Prelude.{IfErr, IfOk, ◌≡◌, ◌<◌, [], Some, true, length, slice_index};
+ghost use Rattle.std.specs.Prelude.{IfErr, IfOk, ◌≡◌, ◌<◌, [], true, length, slice_index};
 ghost use Rattle.std.specs.Str.{IsCharBoundary};
 ghost use Rattle.std.specs.Cow.{cow_str_bytes};
 ghost use Rattle.basic_toml_tokens.specs.Text.{text_at, run, is_keylike};
@@ -96,7 +96,7 @@ fn key_of<'de>(alloc: Global, quoted: Quoted<'de>, at: usize) -> Result<Keyed<'d
 
 // The value of a string.
 fn string_of<'de>(text: CowStr<'de>) -> Raw<'de>
-    ensures value { raw_of result ≡ Some (sections.Raw.string (cow_str_bytes text.entry)) }
+    ensures value { raw_of result ≡ sections.Raw.string (cow_str_bytes text.entry) }
     ensures copied { is_copy result ≡ is_owned text.entry }
 {
     match text {
@@ -150,7 +150,7 @@ fn any_string_value_at<'de>(alloc: Global, text: &'de str, at: usize) -> Result<
 
 // The value of a word.
 fn raw<'de>(word: Word) -> Raw<'de>
-    ensures { raw_of result ≡ Some (words.raw_of word) }
+    ensures { raw_of result ≡ words.raw_of word }
 {
     match word {
         Word::Boolean(value) => Raw::Boolean(value),

@@ -1,16 +1,17 @@
 //! What a section list is made of: sections, the keys of their headers, their rows, and values as they are written.
-ghost use Rattle.std.specs.Prelude.{◌≡◌, not, is_some};
-ghost use Rattle.basic_toml_read.specs.SectionView.{section_of, lined_of};
+ghost use Rattle.std.specs.Prelude.{◌≡◌, [], take};
+ghost use Rattle.basic_toml_read.specs.declared.section.Row.{out-Row};
+ghost use Rattle.basic_toml_read.specs.declared.section.Rows.{out-Rows};
+ghost use Rattle.basic_toml_read.specs.SectionView.{section_of};
 
 use crate::key_text::KeyText;
 use basic_toml_value::Float;
+use std::alloc::Global;
 
 /// A value as it is written (TOML v0.5.0, "Integer" to "Inline Table").
 #[cycle(raws)]
 #[derive(Drop)]
 pub enum Raw<'de> {
-    /// No value: the next row goes on after a period.
-    Dot,
     /// A whole number.
     Integer(i64),
     /// A float, as its canonical text.
@@ -23,8 +24,10 @@ pub enum Raw<'de> {
     Escaped(String),
     /// The elements of an array.
     Array(Vec<Element<'de>>),
-    /// The rows of an inline table.
+    /// The rows of an inline table, each of one key.
     Inline(Vec<Row<'de>>),
+    /// The rows of an inline table in which a key has a period.
+    Dotted(Box<Rows<'de>>),
 }
 
 /// An element of an array, and the offset of its value.
@@ -37,30 +40,57 @@ pub struct Element<'de> {
     pub value: Raw<'de>,
 }
 
-/// A key of a row with its offset. The last key of a row has the value of the row too, which begins at `start`.
+/// The last key of a row, and the value.
 #[cycle(raws)]
 #[derive(Drop)]
 pub struct Row<'de> {
-    /// The key.
+    /// The last key.
     pub key: KeyText<'de>,
-    /// The byte offset of the key.
+    /// The byte offset of that key.
     pub offset: usize,
-    /// The byte offset of the value, after the last key.
+    /// How many keys stand before it, each with a period after it.
+    pub parents: usize,
+    /// The byte offset of the value.
     pub start: usize,
-    /// The value, and `Raw::Dot` before the last key.
+    /// The value.
     pub value: Raw<'de>,
 }
 
 impl<'de> Row<'de> {
-    /// Whether the next row goes on after a period.
-    pub fn is_dot(&self) -> bool
-        ensures { result ≡ not (is_some (lined_of self.now).value) }
+    /// Its own of the parents that the rows before it leave.
+    #[inline]
+    pub fn own_parents<'p>(&self, left: &'p [Key<'de>]) -> &'p [Key<'de>]
+        ensures { result.now ≡ take (out-Row self.now).parents left.now }
     {
-        matches!(self.value, Raw::Dot)
+        &left[..self.parents.min(left.len())]
     }
 }
 
-/// A key of a header, and its offset.
+/// The rows of a table (TOML v0.5.0, "Keys": dotted keys).
+#[cycle(raws)]
+#[derive(Drop)]
+pub struct Rows<'de> {
+    /// The keys with a period after them, of all rows in order: each row has as many of them as it has parents, after
+    /// those of the rows before it.
+    pub parents: Vec<Key<'de>>,
+    /// The rows.
+    pub rows: Vec<Row<'de>>,
+}
+
+impl<'de> Rows<'de> {
+    /// No rows, which take no memory.
+    pub fn none(alloc: Global) -> Rows<'de>
+        ensures parents { (out-Rows result).parents.items ≡ [] }
+        ensures rows { (out-Rows result).rows.items ≡ [] }
+    {
+        Rows {
+            parents: Vec::new(alloc),
+            rows: Vec::new(alloc),
+        }
+    }
+}
+
+/// A key, and its offset.
 #[derive(Drop)]
 pub struct Key<'de> {
     /// The key.
@@ -78,8 +108,8 @@ pub struct Section<'de> {
     pub is_array: bool,
     /// The keys of the header.
     pub header: Vec<Key<'de>>,
-    /// The rows, each key of a row for itself.
-    pub rows: Vec<Row<'de>>,
+    /// The rows.
+    pub rows: Rows<'de>,
 }
 
 impl<'de> Section<'de> {

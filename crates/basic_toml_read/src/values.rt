@@ -9,12 +9,12 @@ ghost use Rattle.basic_toml_tokens.specs.Text.{text_at, is_comment, after_blanks
 ghost use Rattle.basic_toml_grammar.specs.Grammar.{after_gap};
 ghost use Rattle.basic_toml_grammar.specs.DeepStops.{DeepKeys, DeepRow, DeepValue, DeepArray, DeepElements, DeepInline, DeepFields};
 ghost use Rattle.basic_toml_tokens.specs.Punctuation.{is_lone};
-ghost use Rattle.basic_toml_read.specs.Gathers.{RaisesTo, ClosesAt, ReadsKeys, ReadsRow, ReadsValue, ReadsElements, ReadsArray, ReadsFields, ReadsInline};
+ghost use Rattle.basic_toml_read.specs.Gathers.{RaisesTo, ClosesAt, ReadsKeys, ReadsRow, ReadsValue, ReadsElements, ReadsArray, ReadsFields, ReadsInline, IsTableTaken};
 
 use crate::front::{after_blanks, after_gap, begins_string};
 use crate::key_text::KeyText;
 use crate::scalar::{Valued, key_at, string_value_at, word_at};
-use crate::section::{Element, Raw, Row};
+use crate::section::{Element, Key, Raw, Row, Rows};
 use basic_toml_explain::{End, Stop, Why};
 use basic_toml_tokens::after_punctuation;
 use basic_toml_value::NESTING_LIMIT;
@@ -27,6 +27,8 @@ use std::mem;
 pub(crate) struct Gathered<'de> {
     pub alloc: Global,
     pub elements: Vec<Element<'de>>,
+    /// The keys of rows that a period follows.
+    pub parents: Vec<Key<'de>>,
     pub rows: Vec<Row<'de>>,
 }
 
@@ -70,7 +72,7 @@ pub(crate) fn taken<T>(items: &mut Vec<T>, from: usize) -> Result<Vec<T>, AllocE
 }
 
 impl<'de> Gathered<'de> {
-    // Reads the keys of a row, the first of which has this level. Each but the last becomes a row without a value.
+    // Reads the keys of a row, the first of which has this level. Each but the last goes to the parents.
     fn keys(&mut self, text: &'de str, at: usize, first: usize) -> Result<LastKey<'de>, Stop>
         requires boundary { IsCharBoundary text.now at }
         requires level { first ≤ nesting_limit }
@@ -87,11 +89,9 @@ impl<'de> Gathered<'de> {
             let end = after_blanks(text, keyed.end);
             match after_punctuation(text, end, b'.') {
                 Some(next) => {
-                    self.rows.push(Row {
-                        key: keyed.key,
+                    self.parents.push(Key {
+                        text: keyed.key,
                         offset,
-                        start: 0,
-                        value: Raw::Dot,
                     })?;
                     offset = after_blanks(text, next);
                     level += 1;
@@ -136,6 +136,7 @@ impl<'de> Gathered<'de> {
         self.rows.push(Row {
             key: last.key,
             offset: last.offset,
+            parents: last.level - level,
             start: valued.offset,
             value: valued.value,
         })?;
@@ -243,13 +244,25 @@ impl<'de> Gathered<'de> {
         ensures hole { InHole (in_fields (after_blanks (text_at text.now at))) text.now result }
     {
         raise(level, offset)?;
+        let parents = self.parents.len();
         let from = self.rows.len();
         let end = self.fields(text, after_blanks(text, at), level)?;
-        Ok(Valued {
-            offset,
-            value: Raw::Inline(taken(&mut self.rows, from)?),
-            end,
-        })
+        let value = self.table(parents, from)?;
+        Ok(Valued { offset, value, end })
+    }
+
+    // The inline table of the rows from a number on, whose parents are those from another one on.
+    fn table(&mut self, parents: usize, from: usize) -> Result<Raw<'de>, AllocError>
+        requires parents { parents ≤ length self.old.parents.items }
+        requires from { from ≤ length self.old.rows.items }
+        ensures { IfOk result (IsTableTaken self.old self.new parents from) }
+    {
+        let rows = taken(&mut self.rows, from)?;
+        if parents == self.parents.len() {
+            return Ok(Raw::Inline(rows));
+        }
+        let parents = taken(&mut self.parents, parents)?;
+        Ok(Raw::Dotted(Box::new(self.alloc, Rows { parents, rows })?))
     }
 
     // Reads the rows of an inline table up to its closing brace, and answers where that ends.

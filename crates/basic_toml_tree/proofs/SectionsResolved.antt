@@ -108,7 +108,7 @@ module _ (old now : List code.Section) (n : ℕ) (t : Trie) (goes : Goes old now
       ∙ map-append section_of (take n old) (s ∷ [])
 
   pub goes_on : (next : List code.Section) (u : Trie)
-      → IsIn (walk s.is_array (rows_view s.rows.items) (header_texts s.header.items) t) (rows_view s.rows.items)
+      → IsIn (walk s.is_array (rows_view s.rows) (header_texts s.header.items) t) (rows_view s.rows)
       (1 + steps_to s.is_array (header_texts s.header.items) t) u
       → length next ≡ length now → ((k : ℕ) (d : code.Section) → n + 1 ≤ k → get_or next k d ≡ get_or now k d)
       → map head (map section_of next) ≡ map head (map section_of now) → Goes old next (n + 1) u
@@ -125,7 +125,7 @@ module _ (old now : List code.Section) (n : ℕ) (t : Trie) (goes : Goes old now
   -- what the rows of the section bring
   pub brings_on : (before after : Origins) → all_keyed (map section_of old) ≡ true
       → Brought (map section_of (take n old)) before
-      → GrowsAlong (way s.is_array (header_texts s.header.items) t) (rows_origins n (rows_view s.rows.items))
+      → GrowsAlong (way s.is_array (header_texts s.header.items) t) (rows_origins n (rows_view s.rows))
       before after
       → Brought (map section_of (take (n + 1) old)) after
   brings_on before after keyed brought grows =
@@ -157,7 +157,7 @@ module _ (old now : List code.Section) (n : ℕ) (t : Trie) (goes : Goes old now
 
     barred : (fault : Fault) (now : code.Section) (x y : Stop) → now.at ≡ s.at → now.header ≡ s.header
         → fault ≡ stop_fault (section_of now) x → y ≡ x
-        → try_by_keys s.is_array (rows_view s.rows.items) (header_texts s.header.items) t ≡ stops y
+        → try_by_keys s.is_array (rows_view s.rows) (header_texts s.header.items) t ≡ stops y
         → IsUnresolved (map section_of old) fault
     barred fault now x y at header is same tried =
         let keys : (section_of now).header ≡ (section_of s).header = rw header refl in
@@ -165,9 +165,9 @@ module _ (old now : List code.Section) (n : ℕ) (t : Trie) (goes : Goes old now
         (sym (is ∙ same_fault (section_of now) (section_of s) keys at x)) (clash (tried ∙ ap stops same)))
 
     named : (c : Clash) (fault : Fault)
-        → IsKeptOut (walk s.is_array (rows_view s.rows.items) (header_texts s.header.items) t)
-        (rows_view s.rows.items) (1 + steps_to s.is_array (header_texts s.header.items) t) c
-        → NamesStop (try_by_keys s.is_array (rows_view s.rows.items) (header_texts s.header.items) t) c
+        → IsKeptOut (walk s.is_array (rows_view s.rows) (header_texts s.header.items) t)
+        (rows_view s.rows) (1 + steps_to s.is_array (header_texts s.header.items) t) c
+        → NamesStop (try_by_keys s.is_array (rows_view s.rows) (header_texts s.header.items) t) c
         → (now : code.Section) → now.at ≡ s.at → now.header ≡ s.header
         → IsFaultOf now c fault → IsUnresolved (map section_of old) fault
     named Memory fault out stop now same header is =
@@ -187,9 +187,9 @@ module _ (old now : List code.Section) (n : ℕ) (t : Trie) (goes : Goes old now
         barred fault now (row_stop met.value) stop.0 same header is stop.1.0 stop.1.1
 
     pub kept_out : (c : Clash) (fault : Fault)
-        → IsKeptOut (walk s.is_array (rows_view s.rows.items) (header_texts s.header.items) t)
-        (rows_view s.rows.items) (1 + steps_to s.is_array (header_texts s.header.items) t) c
-        → NamesStop (try_by_keys s.is_array (rows_view s.rows.items) (header_texts s.header.items) t) c
+        → IsKeptOut (walk s.is_array (rows_view s.rows) (header_texts s.header.items) t)
+        (rows_view s.rows) (1 + steps_to s.is_array (header_texts s.header.items) t) c
+        → NamesStop (try_by_keys s.is_array (rows_view s.rows) (header_texts s.header.items) t) c
         → (now : code.Section) → now.at ≡ s.at → now.header ≡ s.header
         → NamesClash now c fault → IsUnresolved (map section_of old) fault
     kept_out c fault out stop now same header (inl is) =

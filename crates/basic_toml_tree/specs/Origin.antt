@@ -10,6 +10,7 @@ use Rattle.basic_toml_read.specs.declared.section.Raw.{Raw, out-Raw}
 use Rattle.basic_toml_read.specs.declared.section.Raw.TheOpen.{Raw-F}
 use Rattle.basic_toml_read.specs.declared.section.Element.{Element}
 use Rattle.basic_toml_read.specs.declared.section.Row.{Row}
+use Rattle.basic_toml_read.specs.declared.section.Rows.{Rows}
 use Rattle.basic_toml_clash.specs.Plain.{plain_of}
 use Rattle.basic_toml_grow.specs.declared.item.Item.{Item, out-Item}
 use Rattle.basic_toml_grow.specs.declared.item.Item.TheOpen.{Item-F}
@@ -69,7 +70,7 @@ abbrev pub holds_string : Item-F Item Child Table → Bool
 holds_string (Item-F.String _) = true
 holds_string _ = false
 
-abbrev pub is_string : Raw-F Raw Element Row → Bool
+abbrev pub is_string : Raw-F Raw Element Row Rows → Bool
 is_string (Raw-F.String _) = true
 is_string _ = false
 
@@ -94,7 +95,7 @@ item_is_literal (Item-F.Array _) = true
 item_is_literal (Item-F.Plain _) = true
 item_is_literal _ = false
 
-abbrev pub raw_is_array : Raw-F Raw Element Row → Bool
+abbrev pub raw_is_array : Raw-F Raw Element Row Rows → Bool
 raw_is_array (Raw-F.Array _) = true
 raw_is_array _ = false
 

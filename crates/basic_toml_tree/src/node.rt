@@ -129,8 +129,7 @@ impl<'t, 'de> Node<'t, 'de> {
                 _ => None,
             },
             // no value of a plain array is one
-            Spot::Plain(Raw::Dot) => Some(None),
-            Spot::Plain(Raw::Inline(_)) => Some(None),
+            Spot::Plain(Raw::Inline(_) | Raw::Dotted(_)) => Some(None),
             Spot::Plain(_) => None,
         }
     }

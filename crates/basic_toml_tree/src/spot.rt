@@ -64,13 +64,12 @@ impl<'t, 'de> Spot<'t, 'de> {
                 Item::Tables(_, _) => "array",
             },
             Spot::Plain(value) => match value {
-                Raw::Dot => "inline table",
                 Raw::Integer(_) => "integer",
                 Raw::Float(_) => "float",
                 Raw::Boolean(_) => "boolean",
                 Raw::String(_) | Raw::Escaped(_) => "string",
                 Raw::Array(_) => "array",
-                Raw::Inline(_) => "inline table",
+                Raw::Inline(_) | Raw::Dotted(_) => "inline table",
             },
         }
     }

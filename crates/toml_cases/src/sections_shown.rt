@@ -1,23 +1,32 @@
 //! The section list of a text: each section by its offset, kind and header, each key and value by its offset.
 use crate::escapes::push_escaped;
-use basic_toml_read::{Element, Raw, Row, Section, sections};
+use basic_toml_read::{Element, Key, Raw, Row, Section, sections};
 use std::alloc::{AllocError, Global};
 
-// Each key with its offset, `=` and the offset of the value after the last.
+fn push_key(out: &mut String, offset: usize, key: &str) -> Result<(), AllocError> {
+    write!(out, " {offset}:")?;
+    push_escaped(out, key)
+}
+
+// Each key with its offset, a period after each but the last, `=` and the offset of the value.
 #[cycle(shown)]
-fn push_rows(out: &mut String, rows: &[Row<'_>]) -> Result<(), AllocError> {
+fn push_rows<'de>(
+    out: &mut String,
+    parents: &[Key<'de>],
+    rows: &[Row<'de>],
+) -> Result<(), AllocError> {
+    let mut left = parents;
     for row in rows {
-        let offset = row.offset;
-        write!(out, " {offset}:")?;
-        push_escaped(out, row.key.as_str())?;
-        match &row.value {
-            Raw::Dot => out.push('.')?,
-            value => {
-                let start = row.start;
-                write!(out, "={start}:")?;
-                push_raw(out, value)?;
-            }
+        let own = row.own_parents(left);
+        for key in own {
+            push_key(out, key.offset, key.text.as_str())?;
+            out.push('.')?;
         }
+        push_key(out, row.offset, row.key.as_str())?;
+        let start = row.start;
+        write!(out, "={start}:")?;
+        push_raw(out, &row.value)?;
+        left = &left[own.len()..];
     }
     Ok(())
 }
@@ -36,7 +45,6 @@ fn push_elements(out: &mut String, elements: &[Element<'_>]) -> Result<(), Alloc
 #[cycle(shown)]
 fn push_raw(out: &mut String, value: &Raw<'_>) -> Result<(), AllocError> {
     match value {
-        Raw::Dot => out.push('.'),
         Raw::Integer(number) => {
             let number = *number;
             write!(out, "{number}")
@@ -58,7 +66,12 @@ fn push_raw(out: &mut String, value: &Raw<'_>) -> Result<(), AllocError> {
         }
         Raw::Inline(rows) => {
             out.push('{')?;
-            push_rows(out, rows.as_slice())?;
+            push_rows(out, &[], rows.as_slice())?;
+            out.push_str(" }")
+        }
+        Raw::Dotted(rows) => {
+            out.push('{')?;
+            push_rows(out, rows.parents.as_slice(), rows.rows.as_slice())?;
             out.push_str(" }")
         }
     }
@@ -79,7 +92,11 @@ fn push_section(out: &mut String, section: &Section<'_>) -> Result<(), AllocErro
         push_escaped(out, key.text.as_str())?;
     }
     out.push(':')?;
-    push_rows(out, section.rows.as_slice())?;
+    push_rows(
+        out,
+        section.rows.parents.as_slice(),
+        section.rows.rows.as_slice(),
+    )?;
     out.push(';')
 }
 

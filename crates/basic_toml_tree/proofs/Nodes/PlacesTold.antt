@@ -19,6 +19,7 @@ use Rattle.basic_toml_read.specs.declared.section.Raw as raws
 use Rattle.basic_toml_read.specs.declared.section.Raw.TheOpen.{Raw-F}
 use Rattle.basic_toml_read.specs.declared.section.Element.{Element}
 use Rattle.basic_toml_read.specs.declared.section.Row.{Row}
+use Rattle.basic_toml_read.specs.declared.section.Rows as code_rows
 use Rattle.basic_toml_clash.specs.Plain.{plain_of}
 use Rattle.std.proofs.lemmas.Bool.{false≢true}
 use Rattle.basic_toml_grow.specs.declared.item.Item.{Item, out-Item}
@@ -122,8 +123,8 @@ literal_name count (spots.Item b) not = go (out-Item b.now) not
 literal_name count (spots.Plain b) not =
     ap (λ v. names_array (raw_name (plain_of v))) (sym (raws.roll-out-Raw b.now)) ∙ go (raws.out-Raw b.now)
   where
-    go : (x : Raw-F raws.Raw Element Row) → names_array (raw_name (plain_of (raws.roll-Raw x))) ≡ raw_is_array x
-    go Raw-F.Dot = search (rules, raws.the_lemmas)
+    go : (x : Raw-F raws.Raw Element Row code_rows.Rows) → names_array (raw_name (plain_of (raws.roll-Raw x)))
+        ≡ raw_is_array x
     go (Raw-F.Integer z) = search (rules, raws.the_lemmas)
     go (Raw-F.Float z) = search (rules, raws.the_lemmas)
     go (Raw-F.Boolean z) = search (rules, raws.the_lemmas)
@@ -131,6 +132,7 @@ literal_name count (spots.Plain b) not =
     go (Raw-F.Escaped z) = search (rules, raws.the_lemmas)
     go (Raw-F.Array z) = search (rules, raws.the_lemmas)
     go (Raw-F.Inline z) = search (rules, raws.the_lemmas)
+    go (Raw-F.Dotted z) = search (rules, raws.the_lemmas)
 
 -- a node that headers did not make
 module _ (node : nodes.Node) (found : Node) (told : RowTold node found) where

@@ -1,45 +1,56 @@
-use Rattle.std.proofs.Common.{◌≡◌, ◌+◌, ◌-◌, true, refl, sym, is_some, arith, subst, take, drop}
+use Rattle.std.proofs.Common.{◌+◌, List, [], ◌∷◌, ◌++◌, refl, arith, subst, drop, map}
+use Rattle.std.proofs.lemmas.List.{drop_all}
 use Rattle.std.proofs.lemmas.Result.{err_from_is_err_and}
 use Rattle.basic_toml_grammar.specs.Sections.{Rows}
+use Rattle.basic_toml_read.specs.declared.section.Key as keys
 use Rattle.basic_toml_read.specs.declared.section.Row.{Row, out-Row}
-use Rattle.basic_toml_read.specs.SectionView.{lined_of, rows_view}
-use Rattle.basic_toml_clash.specs.KeyTree.{ends_of, path_of, Follows}
+use Rattle.basic_toml_read.specs.SectionView.{header_texts, key_of, lined_of, rows_from, rows_seen}
+use Rattle.basic_toml_read.proofs.NextRow.{next_row, parents_left}
+use Rattle.basic_toml_clash.specs.KeyTree.{ends_of}
 use Rattle.basic_toml_clash.proofs.RowIsFollowed.{Passed, none_passed, all_passed, gone_on, stopped}
-use Rattle.basic_toml_clash.proofs.RowsOfKeys.{no_row}
 use Rattle.basic_toml_clash.proofs.crossed.follow_rows.Goals as goal
+
+pub loop-row-init : goal.loop-row-init
+loop-row-init c = record {
+  within = omega arith;
+  passed = none_passed (rows_seen c.args.parents.now c.args.rows.now) c.blank-tree.result c.blank-tree.ensures;
+}
 
 pub returns-in_err-tree : goal.returns-in_err-tree
 returns-in_err-tree c =
     let p = err_from_is_err_and c.from_residual.result c.from_residual.ensures.1 in
-    let within = c.in-Some.ensures.within c.in-Some.last refl in
+    let left = c.loop-row.left.now in
     rw (p.1, p.2)
-    (stopped c.args.rows.now c.loop-last.first c.in-Some.last c.index-rows-last.result c.loop-last.tree within.0
-    within.1 c.index-rows-last.is c.in-Some.ensures.dots
-    (subst (λ (r : Row). is_some (lined_of r).value ≡ true) (sym c.index-rows-last.is)
-    (c.in-Some.ensures.last c.index-rows-last.result))
-    c.loop-last.invariant.passed c.in_err-tree.field-0.0 c.in_err-tree.ensures)
+    (stopped (rows_seen c.args.parents.now c.args.rows.now) left c.row-item.result
+    (drop (c.loop-row.row-index + 1) c.args.rows.now) c.loop-row.tree
+    (header_texts c.own_parents-own.result.now ++ c.as_str.result.now ∷ []) (out-Row c.row-item.result).start
+    (rw (c.own_parents-own.ensures, c.as_str.ensures.value) refl) refl
+    (subst (λ (rs : Rows). Passed (rows_seen c.args.parents.now c.args.rows.now) rs (ends_of c.loop-row.tree))
+    (next_row left c.args.rows.now c.loop-row.row-index c.row-item.result c.loop-row-test.true c.row-item.is)
+    c.loop-row.invariant.passed) c.in_err-tree.field-0.0 c.in_err-tree.ensures)
 
-pub loop-last-preserved : goal.loop-last-preserved
-loop-last-preserved c =
-    let within = c.in-Some.ensures.within c.in-Some.last refl in
+pub loop-row-preserved : goal.loop-row-preserved
+loop-row-preserved c =
+    let r = c.row-item.result in
+    let all = rows_seen c.args.parents.now c.args.rows.now in
+    let left = c.loop-row.left.now in
+    let rest = drop (c.loop-row.row-index + 1) c.args.rows.now in
+    let own = parents_left (out-Row r).parents left c.own_parents-own.result.now c.own_parents-own.ensures in
     record {
-      within = omega (arith, within.1);
-      passed = gone_on c.args.rows.now c.loop-last.first c.in-Some.last c.index-rows-last.result c.loop-last.tree
-          within.0 within.1 c.index-rows-last.is c.in-Some.ensures.dots
-          (subst (λ (r : Row). is_some (lined_of r).value ≡ true) (sym c.index-rows-last.is)
-          (c.in-Some.ensures.last c.index-rows-last.result))
-          c.loop-last.invariant.passed c.in_ok-tree.tree
-          (subst (λ (r : Row). Follows (ends_of c.loop-last.tree) (ends_of c.in_ok-tree.tree)
-          (path_of (take (c.in-Some.last + 1 - c.loop-last.first) (drop c.loop-last.first c.args.rows.now)))
-          (out-Row r).start)
-          (sym c.index-rows-last.is) c.in_ok-tree.ensures);
+      within = omega (arith, own.0, c.loop-row.invariant.within);
+      passed = subst (λ (ks : List keys.Key). Passed all (rows_from (map key_of ks) (map lined_of rest))
+          (ends_of c.in_ok-tree.tree)) own.1
+          (gone_on all left r rest c.loop-row.tree
+          (header_texts c.own_parents-own.result.now ++ c.as_str.result.now ∷ []) (out-Row r).start
+          (rw (c.own_parents-own.ensures, c.as_str.ensures.value) refl) refl
+          (subst (λ (rs : Rows). Passed all rs (ends_of c.loop-row.tree))
+          (next_row left c.args.rows.now c.loop-row.row-index r c.loop-row-test.true c.row-item.is)
+          c.loop-row.invariant.passed) c.in_ok-tree.tree c.in_ok-tree.ensures);
     }
 
 pub returns : goal.returns
 returns c =
-    all_passed (rows_view c.args.rows.now) (ends_of c.loop-last.tree)
-    (subst (λ (left : Rows). Passed (rows_view c.args.rows.now) left (ends_of c.loop-last.tree))
-    (no_row lined_of c.args.rows.now c.loop-last.first c.in_default.ensures.none) c.loop-last.invariant.passed)
-
-pub loop-last-init : goal.loop-last-init
-loop-last-init c = record { within = omega arith; passed = none_passed (rows_view c.args.rows.now) c.blank-tree.result c.blank-tree.ensures }
+    all_passed (rows_seen c.args.parents.now c.args.rows.now) (ends_of c.loop-row.tree)
+    (subst (λ (rs : List Row). Passed (rows_seen c.args.parents.now c.args.rows.now)
+    (rows_from (map key_of (c.loop-row.left.now)) (map lined_of rs)) (ends_of c.loop-row.tree))
+    (drop_all c.loop-row.row-index c.args.rows.now c.loop-row-test.false) c.loop-row.invariant.passed)

@@ -33,7 +33,7 @@ use Rattle.basic_toml_grow.proofs.headers.+walk.Goals.{enter_at-else-is_array-vi
 
 pub enter_at-returns-clause-entered : goal.enter_at-returns-clause-entered
 enter_at-returns-clause-entered t c =
-    let rows = rows_view c.args.rows.items in
+    let rows = rows_view c.args.rows.now in
     let there = item_trie c.args.there.now in
     elim c.else-is_array.branch [
       | enter_at-else-is_array-via-then-is_array+else-is_empty w ↦
@@ -49,7 +49,7 @@ enter_at-returns-clause-entered t c =
 
 pub enter_at-returns-clause-named : goal.enter_at-returns-clause-named
 enter_at-returns-clause-named t c =
-    let rows = rows_view c.args.rows.items in
+    let rows = rows_view c.args.rows.now in
     let there = item_trie c.args.there.now in
     let same : tried_at c.args.is_array rows (header_texts c.args.rest.now) there
     ≡ tried_by c.args.is_array rows (header_texts c.args.rest.now) there =
@@ -64,7 +64,7 @@ enter_at-returns-clause-named t c =
 
 pub enter_at-returns-clause-origins : goal.enter_at-returns-clause-origins
 enter_at-returns-clause-origins t c =
-    let new = rows_origins c.args.number (rows_view c.args.rows.items) in
+    let new = rows_origins c.args.number (rows_view c.args.rows.now) in
     let there = item_trie c.args.there.now in
     let same : way_at c.args.is_array (header_texts c.args.rest.now) there
     ≡ way_by c.args.is_array (header_texts c.args.rest.now) there =
@@ -88,7 +88,7 @@ enter_below-returns-clause-entered t c =
     let at = c.in_ok-position.position in
     let pass = passes k c.args.table.now c.enter.new.self c.args.number at child c.enter_at.new.there
     c.in_ok-position.ensures.entered c.value_mut-there.ensures.value in
-    passed_by c.args.is_array (rows_view c.args.rows.items) k (header_texts c.args.rest.now)
+    passed_by c.args.is_array (rows_view c.args.rows.now) k (header_texts c.args.rest.now)
     (header_texts (c.args.key.now ∷ c.args.rest.now)) c.args.level c.args.table.now _ at (out-Child child).item
     c.enter_at.new.there c.enter_at.result (ap (λ k. k ∷ header_texts c.args.rest.now) (sym c.as_str.ensures.value)) pass
     c.enter_at.ensures.entered
@@ -96,7 +96,7 @@ enter_below-returns-clause-entered t c =
 pub enter_below-returns-clause-named : goal.enter_below-returns-clause-named
 enter_below-returns-clause-named t c =
     let a = c.args.is_array in
-    let rows = rows_view c.args.rows.items in
+    let rows = rows_view c.args.rows.now in
     let k = c.as_str.result.now in
     let keys = header_texts c.args.rest.now in
     let whole = header_texts (c.args.key.now ∷ c.args.rest.now) in
@@ -119,7 +119,7 @@ enter_below-returns-clause-origins t c =
     let pass = passes k c.args.table.now c.enter.new.self c.args.number at child c.enter_at.new.there
     c.in_ok-position.ensures.entered c.value_mut-there.ensures.value in
     ok_on _ _ c.enter_at.result
-    (λ x grows. passed_grows c.args.is_array (rows_origins c.args.number (rows_view c.args.rows.items)) k keys
+    (λ x grows. passed_grows c.args.is_array (rows_origins c.args.number (rows_view c.args.rows.now)) k keys
     (header_texts (c.args.key.now ∷ c.args.rest.now)) c.args.table.now _ at (out-Child child).item
     c.enter_at.new.there (ap (λ k. k ∷ keys) (sym c.as_str.ensures.value)) pass grows) c.enter_at.ensures.origins
 
@@ -128,7 +128,7 @@ pub enter_item-returns-in_err-enter_header-in-Nothing-clause-entered :
     goal.enter_item-returns-in_err-enter_header-in-Nothing-clause-entered
 enter_item-returns-in_err-enter_header-in-Nothing-clause-entered t c =
     let a = c.args.is_array in
-    let rows = rows_view c.args.rows.items in
+    let rows = rows_view c.args.rows.now in
     let keys = header_texts c.args.rest.now in
     let there = c.args.there.now in
     let new = table_trie c.deref_mut.result.now in
@@ -148,7 +148,7 @@ pub enter_item-returns-in_err-enter_header-in-Nothing-clause-named :
     goal.enter_item-returns-in_err-enter_header-in-Nothing-clause-named
 enter_item-returns-in_err-enter_header-in-Nothing-clause-named t c =
     let a = c.args.is_array in
-    let rows = rows_view c.args.rows.items in
+    let rows = rows_view c.args.rows.now in
     let keys = header_texts c.args.rest.now in
     let there = c.args.there.now in
     let new = table_trie c.deref_mut.result.now in
@@ -165,7 +165,7 @@ pub enter_item-returns-in_ok-enter_header-in-Nothing-clause-entered :
     goal.enter_item-returns-in_ok-enter_header-in-Nothing-clause-entered
 enter_item-returns-in_ok-enter_header-in-Nothing-clause-entered t c =
     let a = c.args.is_array in
-    let rows = rows_view c.args.rows.items in
+    let rows = rows_view c.args.rows.now in
     let keys = header_texts c.args.rest.now in
     let there = c.args.there.now in
     let new = table_trie c.deref_mut.result.now in
@@ -184,7 +184,7 @@ pub enter_item-returns-in_ok-enter_header-in-Nothing-clause-origins :
 enter_item-returns-in_ok-enter_header-in-Nothing-clause-origins t c =
     let a = c.args.is_array in
     let keys = header_texts c.args.rest.now in
-    let rows = rows_origins c.args.number (rows_view c.args.rows.items) in
+    let rows = rows_origins c.args.number (rows_view c.args.rows.now) in
     let new = c.in_ok-table-in-Nothing.table in
     let now = c.enter_header.new.table in
     let after = boxes.with_value new now in
@@ -198,7 +198,7 @@ pub enter_item-returns-in-Table-clause-entered : goal.enter_item-returns-in-Tabl
 unfolding out-Item out
 enter_item-returns-in-Table-clause-entered t c =
     let a = c.args.is_array in
-    let rows = rows_view c.args.rows.items in
+    let rows = rows_view c.args.rows.now in
     let keys = header_texts c.args.rest.now in
     let there = c.args.there.now in
     let table = c.in-Table.table in
@@ -219,7 +219,7 @@ unfolding out-Item out
 enter_item-returns-in-Table-clause-origins t c =
     let a = c.args.is_array in
     let keys = header_texts c.args.rest.now in
-    let rows = rows_origins c.args.number (rows_view c.args.rows.items) in
+    let rows = rows_origins c.args.number (rows_view c.args.rows.now) in
     let table = c.in-Table.table in
     let now = c.enter_header-in-Table.new.table in
     let same : c.deref_mut-in-Table.result.now ≡ table.value =
@@ -235,7 +235,7 @@ pub enter_item-returns-in-Tables-clause-entered : goal.enter_item-returns-in-Tab
 unfolding out-Item out
 enter_item-returns-in-Tables-clause-entered t c =
     let a = c.args.is_array in
-    let rows = rows_view c.args.rows.items in
+    let rows = rows_view c.args.rows.now in
     let keys = header_texts c.args.rest.now in
     let there = c.args.there.now in
     let before = c.in-Tables.field-0 in
@@ -258,7 +258,7 @@ pub enter_item-returns-in-Tables-clause-named : goal.enter_item-returns-in-Table
 unfolding out-Item out
 enter_item-returns-in-Tables-clause-named t c =
     let a = c.args.is_array in
-    let rows = rows_view c.args.rows.items in
+    let rows = rows_view c.args.rows.now in
     let keys = header_texts c.args.rest.now in
     let there = c.args.there.now in
     let latest = c.in-Tables.latest in
@@ -276,7 +276,7 @@ unfolding out-Item out
 enter_item-returns-in-Tables-clause-origins t c =
     let a = c.args.is_array in
     let keys = header_texts c.args.rest.now in
-    let rows = rows_origins c.args.number (rows_view c.args.rows.items) in
+    let rows = rows_origins c.args.number (rows_view c.args.rows.now) in
     let latest = c.in-Tables.latest in
     let now = c.enter_header-in-Tables.new.table in
     let same : c.deref_mut-in-Tables.result.now ≡ latest.value =
@@ -291,8 +291,8 @@ pub enter_item-returns-in_default : goal.enter_item-returns-in_default
 enter_item-returns-in_default t c =
     let there = c.args.there.now in
     let seen = other_is_leaf there c.in_default.not-Nothing c.in_default.not-Table c.in_default.not-Tables in record {
-      entered = inr (other_bars c.args.is_array (rows_view c.args.rows.items) (header_texts c.args.rest.now) there
+      entered = inr (other_bars c.args.is_array (rows_view c.args.rows.now) (header_texts c.args.rest.now) there
           c.in_default.not-Nothing c.in_default.not-Table c.in_default.not-Tables);
-      named = value_stopped c.args.is_array (rows_view c.args.rows.items) c.args.rest.now there seen.0 seen.1;
+      named = value_stopped c.args.is_array (rows_view c.args.rows.now) c.args.rest.now there seen.0 seen.1;
       origins = tt;
     }

@@ -31,16 +31,16 @@ blank c =
     ]
 
 -- what stands there becomes an array with one element more
-puts : (c : After-open) → put_element (rows_view c.args.rows.items) (item_trie c.args.there)
+puts : (c : After-open) → put_element (rows_view c.args.rows.now) (item_trie c.args.there)
     ≡ option_map (λ u. array_of (map table_trie c.match-there.before.0.value.items) u)
-    (put_table (rows_view c.args.rows.items) fresh)
+    (put_table (rows_view c.args.rows.now) fresh)
 puts c =
     elim c.match-there.branch [
-      | in-Nothing+in_ok-new-in-Nothing+in_ok-new-in-Nothing-2 w ↦ first_element (rows_view c.args.rows.items)
+      | in-Nothing+in_ok-new-in-Nothing+in_ok-new-in-Nothing-2 w ↦ first_element (rows_view c.args.rows.now)
           c.args.there c.match-there.before.0.value.items w.in-Nothing.is
           (ap (λ p. p.0.value.items) w.before-is ∙ ap (λ v. v.items) w.in_ok-new-in-Nothing.ensures.ok
           ∙ w.new.ensures.items)
-      | in-Tables+in_ok-before-in-Tables w ↦ next_element (rows_view c.args.rows.items) c.args.there
+      | in-Tables+in_ok-before-in-Tables w ↦ next_element (rows_view c.args.rows.now) c.args.there
           w.in-Tables.before w.in-Tables.latest
           c.match-there.before.0.value.items w.in-Tables.is
           (ap (λ p. p.0.value.items) w.before-is ∙ w.in_ok-before-in-Tables.ensures.before)
@@ -49,7 +49,7 @@ puts c =
 pub returns-in_err-open-clause-entered : goal.returns-in_err-open-clause-entered
 returns-in_err-open-clause-entered c =
     let here = (goal.at.returns-in_err-open-clause-entered c).After-open in
-    let rows = rows_view c.args.rows.items in
+    let rows = rows_view c.args.rows.now in
     let entered = put_element rows (item_trie c.args.there) in
     failed (λ r. MatchResult r (λ item. IsIn entered rows (c.args.level + 2) (item_trie item))
     (λ clash. IsKeptOut entered rows (c.args.level + 2) clash))
@@ -62,14 +62,14 @@ pub returns-clause-entered : goal.returns-clause-entered
 returns-clause-entered c =
     let here = (goal.at.returns-clause-entered c).After-open in
     let latest = boxes.with_value c.match-there.before.1 c.«open».new.table in
-    element_in (rows_view c.args.rows.items) c.args.level (table_trie c.deref_mut.result.now) c.args.there
+    element_in (rows_view c.args.rows.now) c.args.level (table_trie c.deref_mut.result.now) c.args.there
     (Tables c.match-there.before.0 latest) c.match-there.before.0 latest
     (ap table_trie c.deref_mut.ensures.value ∙ blank here) (puts here) refl c.in_ok-open.ensures.entered
 
 pub returns-in_err-open-clause-named : goal.returns-in_err-open-clause-named
 returns-in_err-open-clause-named c =
     let here = (goal.at.returns-in_err-open-clause-named c).After-open in
-    let rows = rows_view c.args.rows.items in
+    let rows = rows_view c.args.rows.now in
     let new = table_trie c.deref_mut.result.now in
     let is_fresh = ap table_trie c.deref_mut.ensures.value ∙ blank here in
     let clash = c.in_err-open.field-0.0 in
@@ -88,7 +88,7 @@ returns-in_err-open-clause-named c =
 pub returns-clause-origins : goal.returns-clause-origins
 returns-clause-origins c =
     let here = (goal.at.returns-clause-origins c).After-open in
-    let rows = rows_origins c.args.number (rows_view c.args.rows.items) in
+    let rows = rows_origins c.args.number (rows_view c.args.rows.now) in
     let latest = boxes.with_value c.match-there.before.1 c.«open».new.table in
     let grown = c.in_ok-open.ensures.origins
     ∙ ap (λ t. or_else (table_within t).below rows) c.deref_mut.ensures.value in

@@ -1,42 +1,45 @@
-use Rattle.std.proofs.Common.{refl, ◌≡◌, [], ◌∷◌, ◌++◌, ap, ◌∙◌, sym, subst, arith, Some, List, length, map, Bool, false, true, ◌+◌, ℕ, take, drop}
+use Rattle.std.proofs.Common.{refl, ◌≡◌, [], ◌∷◌, ◌++◌, ap, ◌∙◌, sym, subst, arith, Some, List, map, Bool, false, true, ◌+◌, ℕ, take, drop}
 use Rattle.std.proofs.lemmas.Result.{err_from_is_err_and}
 use Rattle.basic_toml_grammar.specs.Trie.{Trie}
-use Rattle.basic_toml_read.specs.SectionView.{rows_view, elements_view, raw_of}
-use Rattle.basic_toml_read.specs.declared.section.Row.{Row}
+use Rattle.basic_toml_read.specs.SectionView.{key_of, header_texts, rows_seen, rows_view, elements_view, raw_of}
+use Rattle.basic_toml_read.specs.declared.section.Row.{Row, out-Row}
 use Rattle.basic_toml_read.specs.declared.section.Element.{Element}
 use Rattle.basic_toml_grow.specs.declared.item.Child.{Child}
 use Rattle.basic_toml_grammar.specs.Standing as standings
 use Rattle.basic_toml_grow.specs.Item.{child_trie, table_trie}
-use Rattle.basic_toml_grow.specs.Rows.{AreIn, AreKeptOut, IsFinished, AreFinished, key_texts}
+use Rattle.basic_toml_grow.specs.Rows.{AreIn, AreKeptOut, IsFinished, AreFinished, one_row}
 use Rattle.std.specs.Box as boxes
 use Rattle.basic_toml_grow.proofs.RowsEntered.{row_key, ok_on}
-use Rattle.basic_toml_grow.proofs.RowsLeft.{AreLeft, has_value, row_entered, row_kept_out, none_left}
-use Rattle.basic_toml_grow.proofs.RowsLeft.{row_stopped, no_value, no_rows_left}
+use Rattle.basic_toml_grow.proofs.RowsLeft.{AreLeft, all_left, none_seen, no_parents_seen, none_put, row_entered, row_kept_out}
+use Rattle.basic_toml_grow.proofs.RowsLeft.{none_left, row_stopped}
+use Rattle.basic_toml_grow.proofs.RowsHaveKeys.{one_has_keys, are_keyed, rows_are_keyed}
+use Rattle.basic_toml_read.proofs.NextRow.{first_row, parents_left}
+use Rattle.basic_toml_read.specs.declared.section.Key as keys
+use Rattle.basic_toml_read.specs.declared.section.Raw as raws
+use Rattle.basic_toml_read.specs.declared.section.Rows as tables
 use Rattle.basic_toml_grow.proofs.RowValues.{value_stopped, met_stopped}
 use Rattle.basic_toml_grow.proofs.InlineTables.{inline_stopped}
-use Rattle.basic_toml_grow.proofs.ElementsLeft.{element_stopped, element_skipped}
-use Rattle.basic_toml_grammar.specs.Sections.{Elements}
+use Rattle.basic_toml_grow.proofs.ElementsLeft.{element_stopped}
+use Rattle.basic_toml_grammar.specs.Sections.{Rows}
 use Rattle.basic_toml_grow.proofs.ClashSaysMet.{row_offset}
 use Rattle.basic_toml_clash.specs.Clash.{NamesStop}
-use Rattle.basic_toml_grow.specs.RowStops.{line_keys, key_at, SaysHeld}
+use Rattle.basic_toml_grow.specs.RowStops.{key_at, SaysHeld}
 use Rattle.basic_toml_read.specs.SectionView.{lined_of}
 use Rattle.basic_toml_grammar.specs.TrieStops.{try_put_rows, try_put_elements}
 use Rattle.basic_toml_grow.proofs.RowValues.{last_deep, value_kept_out, value_put, value_met}
 use Rattle.basic_toml_grow.proofs.InlineTables.{inline_finished, inline_kept_out}
 use Rattle.basic_toml_grow.proofs.ElementsLeft.{ElementsAreLeft, element_entered, elements_done}
-use Rattle.basic_toml_grow.specs.Origins.{table_within, with_more, rows_origins, elements_origins, child_origins}
+use Rattle.basic_toml_grow.specs.Origins.{table_within, with_more, rows_origins, elements_origins}
 use Rattle.std.proofs.Common.{codes}
 use Rattle.basic_toml_grammar.specs.Sections.{Raw}
-use Rattle.basic_toml_read.proofs.ViewsSeen.{inline_of}
 use Rattle.basic_toml_grow.specs.Origins.{entry, value_origin, value_origins}
 use Rattle.basic_toml_grow.proofs.Origins.OriginsSeen.{inline_seen, fresh_within}
-use Rattle.basic_toml_grow.specs.Rows.{is_dot}
-use Rattle.basic_toml_grow.proofs.Origins.OriginsLeft.{OriginsLeft, ElementsCome, origins_entered, origins_done, no_rows_come}
-use Rattle.basic_toml_grow.proofs.Origins.OriginsLeft.{one_row, element_comes, elements_come, value_comes}
+use Rattle.basic_toml_grow.proofs.Origins.OriginsLeft.{OriginsLeft, ElementsCome, origins_entered, origins_done, more_none}
+use Rattle.basic_toml_grow.proofs.Origins.OriginsLeft.{row_comes, element_comes, elements_come}
 use Rattle.basic_toml_clash.specs.Plain.{are_plain}
 use Rattle.basic_toml_grow.proofs.PlainArrays.{plain_finished, plain_come}
 use Rattle.basic_toml_value.specs.Keys.{are_distinct}
-use Rattle.basic_toml_clash.specs.Simple.{are_simple, key_of}
+use Rattle.basic_toml_clash.specs.Simple.{are_simple, key_of as last_key}
 use Rattle.basic_toml_clash.proofs.SimpleRows.{keys_differ}
 use Rattle.basic_toml_grow.specs.declared.item.Table.{Table}
 use Rattle.basic_toml_grow.specs.Simple.{entries_of, with_entries}
@@ -46,92 +49,106 @@ use Rattle.basic_toml_grow.proofs.rows.+finishing.Goals as goal
 
 pub take_rows-returns-then-is_empty-clause-entered : goal.take_rows-returns-then-is_empty-clause-entered
 take_rows-returns-then-is_empty-clause-entered t c =
-    let none : length c.args.rows.items ≡ 0 = grind (arith, c.is_empty.ensures, c.if-is_empty.true, c.args.rows.ok.0) in
-    no_rows_left c.args.rows.items c.args.level (table_trie c.args.table.now) none
+    none_put (rows_view c.args.rows.now) c.args.level (table_trie c.args.table.now)
+    (none_seen c.args.rows.now (grind (
+      arith,
+      c.is_empty.ensures,
+      c.if-is_empty.true,
+      (tables.out-Rows c.args.rows.now).rows.ok.0,
+    )))
+
+pub enter_rows-loop-row-init : goal.enter_rows-loop-row-init
+enter_rows-loop-row-init t c = record {
+  within = omega arith;
+  left = all_left (rows_seen c.args.parents.now c.into_iter-row-iterator.result) c.args.level
+      (table_trie c.args.table.now);
+  come = refl;
+}
 
 pub enter_rows-returns-in_err-enter_value-clause-entered : goal.enter_rows-returns-in_err-enter_value-clause-entered
 enter_rows-returns-in_err-enter_value-clause-entered t c =
-    let p = err_from_is_err_and c.from_residual-in_err-enter_value.result c.from_residual-in_err-enter_value.ensures.1 in
+    let p = err_from_is_err_and c.from_residual.result c.from_residual.ensures.1 in
     let start : c.into_iter-row-iterator.result ≡ c.args.rows = c.into_iter-row-iterator.ensures.into_iter_gives in
+    let whole = rows_seen c.args.parents.now c.into_iter-row-iterator.result in
     let before = table_trie c.args.table.now in
     let now = table_trie c.loop-row.table in
-    let keys = c.loop-row.keys.items in
-    let rest = c.next.new.self in
     let row = c.in-Some.row in
-    let left = subst (λ (rows : List Row). AreLeft (rows_view c.into_iter-row-iterator.result)
-    c.args.level before keys rows now)
-    c.in-Some.ensures.steps c.loop-row.invariant.0 in
-    let kept = subst (λ (ks : List Row). AreKeptOut (rows_view (ks ++ row ∷ [])) c.args.level now
-    c.in_err-enter_value.field-0.0)
-    c.as_slice.ensures.value c.in_err-enter_value.ensures.entered in
-    rw (p.1, p.2) (subst (λ (rows : List Row). AreKeptOut (rows_view rows) c.args.level before
-    c.in_err-enter_value.field-0.0) start
-    (row_kept_out (rows_view c.into_iter-row-iterator.result) c.args.level before keys row rest now left
-    (sym c.is_dot.ensures ∙ c.if-is_dot.false) c.in_err-enter_value.field-0.0 kept))
+    let left = c.loop-row.left.now in
+    let clash = c.in_err-enter_value.field-0.0 in
+    let seen = ap (rows_seen left) c.in-Some.ensures.steps ∙ first_row left row c.next.new.self in
+    let are_left = subst (λ (rows : Rows). AreLeft whole c.args.level before rows now) seen c.loop-row.invariant.left in
+    let kept = subst (λ (ks : List keys.Key). AreKeptOut (one_row ks row) c.args.level now clash)
+    c.own_parents-own.ensures c.in_err-enter_value.ensures.entered in
+    rw (p.1, p.2)
+    (subst (λ (rows : List Row). AreKeptOut (rows_seen c.args.parents.now rows) c.args.level before clash) start
+    (row_kept_out whole c.args.level before _ _ _ _ now are_left clash kept))
 
 pub enter_rows-returns-clause-entered : goal.enter_rows-returns-clause-entered
 enter_rows-returns-clause-entered t c =
     let start : c.into_iter-row-iterator.result ≡ c.args.rows = c.into_iter-row-iterator.ensures.into_iter_gives in
+    let whole = rows_seen c.args.parents.now c.into_iter-row-iterator.result in
     let before = table_trie c.args.table.now in
     let now = table_trie c.loop-row.table in
-    let left = subst (λ (rows : List Row). AreLeft (rows_view c.into_iter-row-iterator.result)
-    c.args.level before
-    c.loop-row.keys.items rows now) c.in-None.ensures.steps.0 c.loop-row.invariant.0 in
-    subst (λ (rows : List Row). AreIn (rows_view rows) c.args.level before now) start
-    (none_left c.into_iter-row-iterator.result c.loop-row.keys.items c.args.level before now left)
+    let left = subst (λ (rows : List Row). AreLeft whole c.args.level before (rows_seen c.loop-row.left.now rows) now)
+    c.in-None.ensures.steps.0 c.loop-row.invariant.left in
+    subst (λ (rows : List Row). AreIn (rows_seen c.args.parents.now rows) c.args.level before now) start
+    (none_left whole c.args.level before now (rows_are_keyed c.args.parents.now c.into_iter-row-iterator.result) left)
 
 pub enter_rows-loop-row-preserved : goal.enter_rows-loop-row-preserved
 enter_rows-loop-row-preserved t c =
+    let s = c.args.section in
+    let whole = rows_seen c.args.parents.now c.into_iter-row-iterator.result in
     let before = table_trie c.args.table.now in
     let now = table_trie c.loop-row.table in
     let after = table_trie c.enter_value.new.table in
-    let whole = rows_view c.into_iter-row-iterator.result in
-    let keys = c.loop-row.keys.items in
-    let rest = c.next.new.self in
     let row = c.in-Some.row in
-    let left = subst (λ (rows : List Row). AreLeft whole c.args.level before keys rows now) c.in-Some.ensures.steps
-    c.loop-row.invariant.0 in
-    let entered = subst (λ (ks : List Row). AreIn (rows_view (ks ++ row ∷ [])) c.args.level now after)
-    c.as_slice.ensures.value c.in_ok-enter_value.ensures.entered in
-    let s = c.args.section in
-    let is_row : is_dot row ≡ false = sym c.is_dot.ensures ∙ c.if-is_dot.false in
-    let come = subst (λ (rows : List Row). OriginsLeft s whole (table_within c.args.table.now) keys rows
-    (table_within c.loop-row.table)) c.in-Some.ensures.steps c.loop-row.invariant.1 in
+    let rest = c.next.new.self in
+    let left = c.loop-row.left.now in
+    let n = (out-Row row).parents in
+    let own = parents_left n left c.own_parents-own.result.now c.own_parents-own.ensures in
+    let seen = ap (rows_seen left) c.in-Some.ensures.steps ∙ first_row left row rest in
+    let are_left = subst (λ (rows : Rows). AreLeft whole c.args.level before rows now) seen c.loop-row.invariant.left in
+    let come = subst (λ (rows : Rows). OriginsLeft s whole (table_within c.args.table.now) rows
+    (table_within c.loop-row.table)) seen c.loop-row.invariant.come in
+    let entered = subst (λ (ks : List keys.Key). AreIn (one_row ks row) c.args.level now after)
+    c.own_parents-own.ensures c.in_ok-enter_value.ensures.entered in
     let more = c.in_ok-enter_value.ensures.origins
-    ∙ ap (λ ks. with_more (table_within c.loop-row.table) (rows_origins s (rows_view (ks ++ row ∷ []))))
-    c.as_slice.ensures.value in (
-      subst (λ (ks : List Row). AreLeft whole c.args.level before ks rest after) (sym c.clear.ensures.items)
-          (row_entered whole c.args.level before keys row rest now left is_row after entered),
-      subst (λ (ks : List Row). OriginsLeft s whole (table_within c.args.table.now) ks rest
-          (table_within c.enter_value.new.table)) (sym c.clear.ensures.items)
+    ∙ ap (λ (ks : List keys.Key). with_more (table_within c.loop-row.table) (rows_origins s (one_row ks row)))
+    c.own_parents-own.ensures in
+    record {
+      within = omega (arith, own.0, c.loop-row.invariant.within);
+      left = subst (λ (ks : List keys.Key). AreLeft whole c.args.level before (rows_seen ks rest) after) own.1
+          (row_entered whole c.args.level before _ _ _ _ now are_left after
+          (one_has_keys (map key_of (take n left)) row) entered);
+      come = subst (λ (ks : List keys.Key). OriginsLeft s whole (table_within c.args.table.now) (rows_seen ks rest)
+          (table_within c.enter_value.new.table)) own.1
           (origins_entered s whole (table_within c.args.table.now) (table_within c.loop-row.table)
-          (table_within c.enter_value.new.table) keys row rest left.dots is_row come more),
-    )
+          (table_within c.enter_value.new.table) _ _ _ _ come more);
+    }
 
 pub enter_value-returns-then-keys-level-clause-entered : goal.enter_value-returns-then-keys-level-clause-entered
 enter_value-returns-then-keys-level-clause-entered t c =
-    last_deep c.args.keys.now c.args.row c.args.level (table_trie c.args.table.now) c.requires.keys c.requires.row
+    last_deep c.args.keys.now c.args.row c.args.level (table_trie c.args.table.now)
     (omega arith)
 
 pub enter_value-returns-in-Err-clause-entered : goal.enter_value-returns-in-Err-clause-entered
 enter_value-returns-in-Err-clause-entered t c =
-    value_kept_out c.args.keys.now c.args.row c.args.level (table_trie c.args.table.now) c.requires.keys
-    c.requires.row
+    value_kept_out c.args.keys.now c.args.row c.args.level (table_trie c.args.table.now)
     c.in-Err.clash c.in_ok-value_clash-in-Err.field-0 c.in_ok-value_clash-in-Err.ensures.same c.in-Err.ensures.finished
 
 pub enter_value-returns-in-Ok-enter_row-clause-entered : goal.enter_value-returns-in-Ok-enter_row-clause-entered
 enter_value-returns-in-Ok-enter_row-clause-entered t c =
-    value_put c.args.keys.now c.args.row c.args.level (table_trie c.args.table.now) c.requires.keys c.requires.row
-    (key_texts c.args.keys.now ++ c.as_str-in-Ok.result.now ∷ [])
-    (ap (λ k. key_texts c.args.keys.now ++ k ∷ []) (c.as_str-in-Ok.ensures.value ∙ sym (row_key c.args.row)))
+    value_put c.args.keys.now c.args.row c.args.level (table_trie c.args.table.now)
+    (header_texts c.args.keys.now ++ c.as_str-in-Ok.result.now ∷ [])
+    (ap (λ k. header_texts c.args.keys.now ++ k ∷ []) (c.as_str-in-Ok.ensures.value ∙ sym (row_key c.args.row)))
     (child_trie c.in-Ok.child) (table_trie c.enter_row.new.table) c.in-Ok.ensures.finished (omega arith)
     c.in-Ok-enter_row.ensures.entered
 
 pub enter_value-returns-clause-entered : goal.enter_value-returns-clause-entered
 enter_value-returns-clause-entered t c =
-    value_met c.args.keys.now c.args.row c.args.level (table_trie c.args.table.now) c.requires.keys c.requires.row
-    (key_texts c.args.keys.now ++ c.as_str-in-Ok.result.now ∷ [])
-    (ap (λ k. key_texts c.args.keys.now ++ k ∷ []) (c.as_str-in-Ok.ensures.value ∙ sym (row_key c.args.row)))
+    value_met c.args.keys.now c.args.row c.args.level (table_trie c.args.table.now)
+    (header_texts c.args.keys.now ++ c.as_str-in-Ok.result.now ∷ [])
+    (ap (λ k. header_texts c.args.keys.now ++ k ∷ []) (c.as_str-in-Ok.ensures.value ∙ sym (row_key c.args.row)))
     (child_trie c.in-Ok.child) (table_trie c.enter_row.new.table) c.in-Err-enter_row.met
     c.in_ok-row_clash-in-Err-enter_row.field-0 c.in_ok-row_clash-in-Err-enter_row.ensures.same
     c.in-Ok.ensures.finished
@@ -139,15 +156,12 @@ enter_value-returns-clause-entered t c =
 
 pub children_of-loop-element-preserved : goal.children_of-loop-element-preserved
 children_of-loop-element-preserved t c =
-    let some = has_value (raw_of c.in-Some.element.value) (sym {A = Bool} c.is_dot_value.ensures
-    ∙ c.if-is_dot_value.false) in
     let whole = elements_view c.into_iter-element-iterator.result in
     let left = subst (λ (es : List Element). ElementsAreLeft whole c.args.level (map child_trie
     c.loop-element.children.items)
     (elements_view es)) c.in-Some.ensures.steps c.loop-element.invariant.0 in
     let entered = element_entered whole c.args.level c.loop-element.children.items c.in_ok-child_of.field-0
-    c.in-Some.element
-    c.next.new.self some.0 some.1 left (c.in_ok-child_of.ensures.finished some.0 some.1) in
+    c.in-Some.element c.next.new.self left c.in_ok-child_of.ensures.finished in
     let s = c.args.section in
     let come = subst (λ (es : List Element). ElementsCome s whole c.loop-element.children.items (elements_view es))
     c.in-Some.ensures.steps c.loop-element.invariant.1 in (
@@ -157,7 +171,7 @@ children_of-loop-element-preserved t c =
       subst (λ (cs : List Child). ElementsCome s whole cs (elements_view c.next.new.self))
           (sym c.in_ok-push.ensures.items)
           (element_comes s whole c.loop-element.children.items c.in_ok-child_of.field-0 c.in-Some.element
-          c.next.new.self some.0 some.1 come (c.in_ok-child_of.ensures.origins some.0 some.1)),
+          c.next.new.self come c.in_ok-child_of.ensures.origins),
     )
 
 pub children_of-returns-clause-finished : goal.children_of-returns-clause-finished
@@ -171,52 +185,44 @@ children_of-returns-clause-finished t c =
     subst (λ (es : List Element). AreFinished (elements_view es) c.args.level ts) start
     (elements_done (elements_view c.into_iter-element-iterator.result) c.args.level ts left)
 
-pub child_of-returns-in_err-take_rows-in-Inline-clause-finished :
-    goal.child_of-returns-in_err-take_rows-in-Inline-clause-finished
-child_of-returns-in_err-take_rows-in-Inline-clause-finished t c = λ v seen.
-    let p = err_from_is_err_and c.from_residual-in_err-take_rows-in-Inline.result
-    c.from_residual-in_err-take_rows-in-Inline.ensures.1 in
-    rw (p.1, p.2) (inline_kept_out c.in-Inline.rows (Some (standings.table false false false))
-    (table_trie c.deref_mut.result.now) c.args.level v c.in_err-take_rows-in-Inline.field-0.0
-    (ap raw_of (sym c.in-Inline.is) ∙ seen)
-    (ap table_trie c.deref_mut.ensures.value ∙ c.in_ok-table-in-Inline.ensures)
-    c.in_err-take_rows-in-Inline.ensures.entered)
+pub inline_child-returns-in_err-take_rows-clause-finished : goal.inline_child-returns-in_err-take_rows-clause-finished
+inline_child-returns-in_err-take_rows-clause-finished t c =
+    let p = err_from_is_err_and c.from_residual-in_err-take_rows.result c.from_residual-in_err-take_rows.ensures.1 in
+    rw (p.1, p.2) (inline_kept_out (rows_view c.args.rows) (Some (standings.table false false false))
+    (table_trie c.deref_mut.result.now) c.args.level c.in_err-take_rows.field-0.0 (are_keyed c.args.rows)
+    (ap table_trie c.deref_mut.ensures.value ∙ c.in_ok-table.ensures) c.in_err-take_rows.ensures.entered)
 
-pub child_of-returns-in_ok-take_rows-in-Inline-clause-finished :
-    goal.child_of-returns-in_ok-take_rows-in-Inline-clause-finished
-child_of-returns-in_ok-take_rows-in-Inline-clause-finished t c = λ v seen.
-    subst (λ (u : Trie). IsFinished v c.args.level u) (sym c.at-in-Inline.ensures.trie)
-    (inline_finished c.in-Inline.rows (boxes.with_value c.in_ok-table-in-Inline.table c.take_rows.new.table)
-    (Some (standings.table false false false)) (table_trie c.deref_mut.result.now) c.args.level v
-    (ap raw_of (sym c.in-Inline.is) ∙ seen) (omega arith)
-    (ap table_trie c.deref_mut.ensures.value ∙ c.in_ok-table-in-Inline.ensures)
-    c.in_ok-take_rows-in-Inline.ensures.entered)
+pub inline_child-returns-clause-finished : goal.inline_child-returns-clause-finished
+inline_child-returns-clause-finished t c =
+    subst (λ (u : Trie). IsFinished (Raw.inline (rows_view c.args.rows)) c.args.level u) (sym c.at.ensures.trie)
+    (inline_finished (rows_view c.args.rows) (boxes.with_value c.in_ok-table.table c.take_rows.new.table)
+    (Some (standings.table false false false)) (table_trie c.deref_mut.result.now) c.args.level
+    (are_keyed c.args.rows) (omega arith) (ap table_trie c.deref_mut.ensures.value ∙ c.in_ok-table.ensures)
+    c.in_ok-take_rows.ensures.entered)
 
 pub enter_rows-returns-in_err-enter_value-clause-named : goal.enter_rows-returns-in_err-enter_value-clause-named
 enter_rows-returns-in_err-enter_value-clause-named t c =
-    let p = err_from_is_err_and c.from_residual-in_err-enter_value.result c.from_residual-in_err-enter_value.ensures.1 in
+    let p = err_from_is_err_and c.from_residual.result c.from_residual.ensures.1 in
     let start : c.into_iter-row-iterator.result ≡ c.args.rows = c.into_iter-row-iterator.ensures.into_iter_gives in
+    let whole = rows_seen c.args.parents.now c.into_iter-row-iterator.result in
     let before = table_trie c.args.table.now in
     let now = table_trie c.loop-row.table in
-    let keys = c.loop-row.keys.items in
-    let rest = c.next.new.self in
     let row = c.in-Some.row in
+    let left = c.loop-row.left.now in
     let clash = c.in_err-enter_value.field-0.0 in
-    let whole = rows_view c.into_iter-row-iterator.result in
-    let left = subst (λ (rows : List Row). AreLeft whole c.args.level before keys rows now)
-    c.in-Some.ensures.steps c.loop-row.invariant.0 in
-    let named = subst (λ (ks : List Row). NamesStop (try_put_rows (rows_view (ks ++ row ∷ [])) now) clash)
-    c.as_slice.ensures.value c.in_err-enter_value.ensures.named in
-    rw (p.1, p.2) (subst (λ (rows : List Row). NamesStop (try_put_rows (rows_view rows) before) clash) start
-    (row_stopped whole c.args.level before keys row rest now left
-    (sym c.is_dot.ensures ∙ c.if-is_dot.false) clash named))
+    let seen = ap (rows_seen left) c.in-Some.ensures.steps ∙ first_row left row c.next.new.self in
+    let are_left = subst (λ (rows : Rows). AreLeft whole c.args.level before rows now) seen c.loop-row.invariant.left in
+    let named = subst (λ (ks : List keys.Key). NamesStop (try_put_rows (one_row ks row) now) clash)
+    c.own_parents-own.ensures c.in_err-enter_value.ensures.named in
+    rw (p.1, p.2)
+    (subst (λ (rows : List Row). NamesStop (try_put_rows (rows_seen c.args.parents.now rows) before) clash) start
+    (row_stopped whole c.args.level before _ _ _ _ now are_left clash named))
 
 pub enter_value-returns-in-Err-clause-named : goal.enter_value-returns-in-Err-clause-named
 enter_value-returns-in-Err-clause-named t c =
-    value_stopped c.args.keys.now c.args.row c.args.level (table_trie c.args.table.now) c.requires.keys
-    c.requires.row
+    value_stopped c.args.keys.now c.args.row c.args.level (table_trie c.args.table.now)
     c.in-Err.clash c.in_ok-value_clash-in-Err.field-0
-    (subst (λ (l : List ℕ). SaysHeld (line_keys c.args.keys.now ++ key_at (lined_of c.args.row).key.offset l ∷ [])
+    (subst (λ (l : List ℕ). SaysHeld (map key_of c.args.keys.now ++ key_at (lined_of c.args.row).key.offset l ∷ [])
     c.in-Err.clash c.in_ok-value_clash-in-Err.field-0)
     (c.as_str.ensures.value ∙ sym (row_key c.args.row))
     (c.in_ok-value_clash-in-Err.ensures.named (lined_of c.args.row).key.offset))
@@ -224,8 +230,7 @@ enter_value-returns-in-Err-clause-named t c =
 
 pub enter_value-returns-clause-named : goal.enter_value-returns-clause-named
 enter_value-returns-clause-named t c =
-    met_stopped c.args.keys.now c.args.row c.args.level (table_trie c.args.table.now) c.requires.keys
-    c.requires.row
+    met_stopped c.args.keys.now c.args.row c.args.level (table_trie c.args.table.now)
     (child_trie c.in-Ok.child) c.in-Err-enter_row.met c.in_ok-row_clash-in-Err-enter_row.field-0
     c.as_str-in-Ok.result.now c.as_str-in-Err-enter_row.result.now c.args.row.offset
     (c.as_str-in-Ok.ensures.value ∙ sym (row_key c.args.row))
@@ -234,16 +239,12 @@ enter_value-returns-clause-named t c =
     c.in_ok-row_clash-in-Err-enter_row.ensures.named c.in-Ok.ensures.finished
     c.in-Err-enter_row.ensures.named
 
-pub child_of-returns-in_err-take_rows-in-Inline-clause-named :
-    goal.child_of-returns-in_err-take_rows-in-Inline-clause-named
-child_of-returns-in_err-take_rows-in-Inline-clause-named t c =
-    let p = err_from_is_err_and c.from_residual-in_err-take_rows-in-Inline.result
-    c.from_residual-in_err-take_rows-in-Inline.ensures.1 in
-    rw (p.1, p.2) (λ v seen. inline_stopped c.in-Inline.rows (Some (standings.table false false false))
-    (table_trie c.deref_mut.result.now) v c.in_err-take_rows-in-Inline.field-0.0
-    (ap raw_of (sym c.in-Inline.is) ∙ seen)
-    (ap table_trie c.deref_mut.ensures.value ∙ c.in_ok-table-in-Inline.ensures)
-    c.in_err-take_rows-in-Inline.ensures.named)
+pub inline_child-returns-in_err-take_rows-clause-named : goal.inline_child-returns-in_err-take_rows-clause-named
+inline_child-returns-in_err-take_rows-clause-named t c =
+    let p = err_from_is_err_and c.from_residual-in_err-take_rows.result c.from_residual-in_err-take_rows.ensures.1 in
+    rw (p.1, p.2) (inline_stopped (rows_view c.args.rows) (Some (standings.table false false false))
+    (table_trie c.deref_mut.result.now) c.in_err-take_rows.field-0.0 (are_keyed c.args.rows)
+    (ap table_trie c.deref_mut.ensures.value ∙ c.in_ok-table.ensures) c.in_err-take_rows.ensures.named)
 
 pub children_of-returns-in_err-child_of-clause-named :
     goal.children_of-returns-in_err-child_of-clause-named
@@ -251,57 +252,39 @@ children_of-returns-in_err-child_of-clause-named t c =
     let p = err_from_is_err_and c.from_residual-in_err-child_of.result c.from_residual-in_err-child_of.ensures.1 in
     let start : c.into_iter-element-iterator.result ≡ c.args.elements.items =
     c.into_iter-element-iterator.ensures.into_iter_gives ∙ c.drain-element-items.ensures in
-    let some = has_value (raw_of c.in-Some.element.value) (sym {A = Bool} c.is_dot_value.ensures
-    ∙ c.if-is_dot_value.false) in
     let clash = c.in_err-child_of.field-0.0 in
     let whole = elements_view c.into_iter-element-iterator.result in
     let ts = map child_trie c.loop-element.children.items in
     let left = subst (λ (es : List Element). ElementsAreLeft whole c.args.level ts (elements_view es))
     c.in-Some.ensures.steps c.loop-element.invariant.0 in
     rw (p.1, p.2) (subst (λ (es : List Element). NamesStop (try_put_elements (elements_view es)) clash) start
-    (element_stopped whole c.args.level ts c.in-Some.element c.next.new.self some.0 clash some.1 left
-    (c.in_err-child_of.ensures.named some.0 some.1)))
-
-pub children_of-loop-element-preserved-then-is_dot_value :
-    goal.children_of-loop-element-preserved-then-is_dot_value
-children_of-loop-element-preserved-then-is_dot_value t c =
-    let whole = elements_view c.into_iter-element-iterator.result in
-    let ts = map child_trie c.loop-element.children.items in
-    let left = subst (λ (es : List Element). ElementsAreLeft whole c.args.level ts (elements_view es))
-    c.in-Some.ensures.steps c.loop-element.invariant.0 in
-    let none = no_value (raw_of c.in-Some.element.value) (sym {A = Bool} c.is_dot_value.ensures
-    ∙ c.if-is_dot_value.true) in
-    let come = subst (λ (es : List Element). ElementsCome c.args.section whole c.loop-element.children.items
-    (elements_view es)) c.in-Some.ensures.steps c.loop-element.invariant.1 in (
-      subst (λ (es : Elements). ElementsAreLeft whole c.args.level ts es)
-          (element_skipped c.in-Some.element c.next.new.self none) left,
-      subst (λ (es : Elements). ElementsCome c.args.section whole c.loop-element.children.items es)
-          (element_skipped c.in-Some.element c.next.new.self none) come,
-    )
+    (element_stopped whole c.args.level ts c.in-Some.element c.next.new.self clash left
+    c.in_err-child_of.ensures.named))
 
 -- where what is put into the table comes from
 pub take_rows-returns-then-is_empty-clause-origins : goal.take_rows-returns-then-is_empty-clause-origins
 take_rows-returns-then-is_empty-clause-origins t c =
-    let none : length c.args.rows.items ≡ 0 = grind (arith, c.is_empty.ensures, c.if-is_empty.true, c.args.rows.ok.0) in
-    no_rows_come c.args.section c.args.rows.items (table_within c.args.table.now) none
+    let w = table_within c.args.table.now in
+    sym (ap (λ rows. with_more w (rows_origins c.args.section rows)) (none_seen c.args.rows.now
+    (grind (arith, c.is_empty.ensures, c.if-is_empty.true, (tables.out-Rows c.args.rows.now).rows.ok.0)))
+    ∙ more_none w)
 
 pub enter_rows-returns-clause-origins : goal.enter_rows-returns-clause-origins
 enter_rows-returns-clause-origins t c =
     let start : c.into_iter-row-iterator.result ≡ c.args.rows = c.into_iter-row-iterator.ensures.into_iter_gives in
-    let come = subst (λ (rows : List Row). OriginsLeft c.args.section (rows_view
-    c.into_iter-row-iterator.result) (table_within c.args.table.now) c.loop-row.keys.items rows
-    (table_within c.loop-row.table)) c.in-None.ensures.steps.0 c.loop-row.invariant.1 in
-    origins_done c.args.section (rows_view c.into_iter-row-iterator.result)
-    (table_within c.args.table.now) (table_within c.loop-row.table) c.loop-row.keys.items
-    c.loop-row.invariant.0.dots come
-    ∙ ap (λ rows. with_more (table_within c.args.table.now) (rows_origins c.args.section (rows_view rows))) start
+    let whole = rows_seen c.args.parents.now c.into_iter-row-iterator.result in
+    let w = table_within c.args.table.now in
+    let come = subst (λ (rows : List Row). OriginsLeft c.args.section whole w (rows_seen c.loop-row.left.now rows)
+    (table_within c.loop-row.table)) c.in-None.ensures.steps.0 c.loop-row.invariant.come in
+    origins_done c.args.section whole w (table_within c.loop-row.table) come
+    ∙ ap (λ rows. with_more w (rows_origins c.args.section (rows_seen c.args.parents.now rows))) start
 
 pub enter_value-returns-in-Ok-enter_row-clause-origins : goal.enter_value-returns-in-Ok-enter_row-clause-origins
 enter_value-returns-in-Ok-enter_row-clause-origins t c =
     c.in-Ok-enter_row.ensures.origins
     ∙ ap (with_more (table_within c.args.table.now))
-    (one_row c.args.section c.args.keys.now c.args.row c.as_str-in-Ok.result.now c.in-Ok.child c.requires.keys
-    c.requires.row c.as_str-in-Ok.ensures.value c.in-Ok.ensures.origins c.in-Ok.ensures.dotted)
+    (row_comes c.args.section c.args.keys.now c.args.row c.as_str-in-Ok.result.now c.in-Ok.child
+    c.as_str-in-Ok.ensures.value c.in-Ok.ensures.origins c.in-Ok.ensures.dotted)
 
 pub children_of-returns-clause-origins : goal.children_of-returns-clause-origins
 children_of-returns-clause-origins t c =
@@ -314,66 +297,72 @@ children_of-returns-clause-origins t c =
     c.loop-element.children.items come
     ∙ ap (λ es. elements_origins c.args.section (elements_view es)) start
 
-pub child_of-returns-in_ok-take_rows-in-Inline-clause-origins :
-    goal.child_of-returns-in_ok-take_rows-in-Inline-clause-origins
-child_of-returns-in_ok-take_rows-in-Inline-clause-origins t c = λ v seen.
+pub inline_child-returns-clause-origins : goal.inline_child-returns-clause-origins
+inline_child-returns-clause-origins t c =
     let s = c.args.section in
-    let at = c.args.start in
-    let rows = rows_view c.in-Inline.rows.items in
-    let new = c.in_ok-table-in-Inline.table in
+    let rows = rows_view c.args.rows in
+    let new = c.in_ok-table.table in
     let table = boxes.with_value new c.take_rows.new.table in
-    let comes : child_origins c.at-in-Inline.result ≡ value_origins s at (Raw.inline rows) =
-    c.at-in-Inline.ensures.origins ∙ inline_seen table at s
-    ∙ ap (λ w. entry (value_origin (codes "inline table") at s) w.below)
-    (c.in_ok-take_rows-in-Inline.ensures.origins
+    c.at.ensures.origins ∙ inline_seen table c.args.start s
+    ∙ ap (λ w. entry (value_origin (codes "inline table") c.args.start s) w.below)
+    (c.in_ok-take_rows.ensures.origins
     ∙ ap (λ w. with_more w (rows_origins s rows)) (ap table_within c.deref_mut.ensures.value
-    ∙ fresh_within new.value c.in_ok-table-in-Inline.ensures)) in
-    value_comes c.args.value (Raw.inline rows) (child_origins c.at-in-Inline.result) s at
-    (ap raw_of c.in-Inline.is ∙ inline_of c.in-Inline.rows) comes v seen
+    ∙ fresh_within new.value c.in_ok-table.ensures))
 
 -- an array of plain values, kept as it was read
 pub row_value-returns-then-are_plain-clause-finished : goal.row_value-returns-then-are_plain-clause-finished
-row_value-returns-then-are_plain-clause-finished t c = λ v seen.
+row_value-returns-then-are_plain-clause-finished t c =
     let plain : are_plain (c.args.level + 1) c.in-Array.elements.items ≡ true =
     ap (are_plain (c.args.level + 1)) (sym c.as_slice.ensures.value) ∙ sym {A = Bool} c.are_plain.ensures
     ∙ c.if-are_plain.true in
-    subst (λ (u : Trie). IsFinished v c.args.level u) (sym c.at.ensures.trie)
-    (plain_finished c.in-Array.elements c.args.level plain v (ap raw_of (sym c.in-Array.is) ∙ seen)
-    c.if-level-lt-NESTING_LIMIT.true)
+    subst (λ (v : raws.Raw). IsFinished (raw_of v) c.args.level (child_trie c.at.result)) (sym c.in-Array.is)
+    (subst (λ (u : Trie). IsFinished (raw_of (raws.Array c.in-Array.elements)) c.args.level u) (sym c.at.ensures.trie)
+    (plain_finished c.in-Array.elements c.args.level plain c.if-level-lt-NESTING_LIMIT.true))
 
 pub row_value-returns-then-are_plain-clause-origins : goal.row_value-returns-then-are_plain-clause-origins
-row_value-returns-then-are_plain-clause-origins t c = λ v seen.
+row_value-returns-then-are_plain-clause-origins t c =
     let plain : are_plain (c.args.level + 1) c.in-Array.elements.items ≡ true =
     ap (are_plain (c.args.level + 1)) (sym c.as_slice.ensures.value) ∙ sym {A = Bool} c.are_plain.ensures
     ∙ c.if-are_plain.true in
     c.at.ensures.origins
-    ∙ plain_come c.in-Array.elements c.args.level plain v (ap raw_of (sym c.in-Array.is) ∙ seen)
-    c.args.start c.args.section
+    ∙ plain_come c.in-Array.elements c.args.level plain c.args.start c.args.section
+    ∙ ap (λ v. value_origins c.args.section c.args.start (raw_of v)) (sym c.in-Array.is)
 
 -- simple rows, taken all at once
 pub take_rows-with_rows-requires-clause-distinct : goal.take_rows-with_rows-requires-clause-distinct
 take_rows-with_rows-requires-clause-distinct t c =
-    keys_differ c.args.level c.args.rows.items (ap (are_simple c.args.level) (sym c.as_slice.ensures.value)
-    ∙ sym {A = Bool} c.are_simple.ensures ∙ c.if-are_simple.true)
+    keys_differ c.args.level (tables.out-Rows c.replace-parents.result).rows.items
+    (ap (are_simple c.args.level) (sym c.as_slice.ensures.value) ∙ sym {A = Bool} c.are_simple.ensures
+    ∙ c.if-are_simple.true)
 
 pub take_rows-returns-then-are_simple-clause-entered : goal.take_rows-returns-then-are_simple-clause-entered
 take_rows-returns-then-are_simple-clause-entered t c =
     let table = c.args.table.now in
-    let rows = c.args.rows.items in
-    let none = no_entries table table c.is_empty-2.result refl c.is_empty-2.ensures c.if-is_empty-2.true in
+    let taken = c.replace-parents.result in
+    let none = no_entries table table c.is_empty-then-is_empty-2.result refl c.is_empty-then-is_empty-2.ensures
+    c.if-is_empty-3.true in
     let simple = ap (are_simple c.args.level) (sym c.as_slice.ensures.value)
     ∙ sym {A = Bool} c.are_simple.ensures ∙ c.if-are_simple.true in
-    subst (λ (t : Table). AreIn (rows_view rows) c.args.level (table_trie table) (table_trie t))
-    (sym c.in_ok-with_rows.ensures) (rows_in c.args.section c.args.level (omega arith) table none rows simple)
+    let seen = no_parents_seen c.args.rows.now taken c.replace-parents.ensures.value
+    (grind (arith, c.is_empty-2.ensures, c.if-is_empty-2.true, (tables.out-Rows taken).parents.ok.0)) in
+    subst (λ (rows : Rows). AreIn rows c.args.level (table_trie table) (table_trie c.with_rows.new.table)) (sym seen)
+    (subst (λ (t : Table). AreIn (rows_seen [] (tables.out-Rows taken).rows.items) c.args.level (table_trie table)
+    (table_trie t)) (sym c.in_ok-with_rows.ensures)
+    (rows_in c.args.section c.args.level (omega arith) table none (tables.out-Rows taken).rows.items simple))
 
 pub take_rows-returns-then-are_simple-clause-origins : goal.take_rows-returns-then-are_simple-clause-origins
 take_rows-returns-then-are_simple-clause-origins t c =
     let table = c.args.table.now in
-    let none = no_entries table table c.is_empty-2.result refl c.is_empty-2.ensures c.if-is_empty-2.true in
+    let taken = c.replace-parents.result in
+    let none = no_entries table table c.is_empty-then-is_empty-2.result refl c.is_empty-then-is_empty-2.ensures
+    c.if-is_empty-3.true in
     let simple = ap (are_simple c.args.level) (sym c.as_slice.ensures.value)
     ∙ sym {A = Bool} c.are_simple.ensures ∙ c.if-are_simple.true in
+    let seen = no_parents_seen c.args.rows.now taken c.replace-parents.ensures.value
+    (grind (arith, c.is_empty-2.ensures, c.if-is_empty-2.true, (tables.out-Rows taken).parents.ok.0)) in
     ap table_within c.in_ok-with_rows.ensures
-    ∙ rows_come c.args.section c.args.level (omega arith) table none c.args.rows.items simple
+    ∙ rows_come c.args.section c.args.level (omega arith) table none (tables.out-Rows taken).rows.items simple
+    ∙ ap (λ rows. with_more (table_within table) (rows_origins c.args.section rows)) (sym seen)
 
 -- many plain rows, the first of them taken at once
 many_first : (t : ℕ) (c : goal.take_many_rows-After-enter_rows t)
@@ -382,7 +371,7 @@ many_first : (t : ℕ) (c : goal.take_many_rows-After-enter_rows t)
 many_first t c =
     let count = c.in_ok-index.count in
     first_in count (omega (arith, c.requires.level)) c.requires.none c.requires.plain
-    (subst (λ (rows : List Row). are_distinct (take count (map key_of rows)) ≡ true) c.as_slice.ensures.value
+    (subst (λ (rows : List Row). are_distinct (take count (map last_key rows)) ≡ true) c.as_slice.ensures.value
     c.in_ok-index.ensures.index.distinct)
     (c.in_ok-with_first_rows.ensures.after
     ∙ ap (λ rows. with_entries c.args.table.now (entries_of c.args.section (take count rows))) c.drain-rows.ensures)

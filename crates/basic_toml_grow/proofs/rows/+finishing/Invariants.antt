@@ -1,6 +1,6 @@
-use Rattle.std.proofs.Common.{◌+◌, ◌-◌, ◌*◌, map}
+use Rattle.std.proofs.Common.{◌≤◌, ◌+◌, ◌-◌, ◌*◌, length, map}
 use Rattle.basic_toml_value.specs.Nesting.{nesting_limit}
-use Rattle.basic_toml_read.specs.SectionView.{rows_view, elements_view}
+use Rattle.basic_toml_read.specs.SectionView.{rows_seen, elements_view}
 use Rattle.basic_toml_grow.specs.Item.{child_trie, table_trie}
 use Rattle.basic_toml_grow.specs.Origins.{table_within}
 use Rattle.basic_toml_grow.proofs.Origins.OriginsLeft.{OriginsLeft, ElementsCome}
@@ -9,33 +9,38 @@ use Rattle.basic_toml_grow.proofs.ElementsLeft.{ElementsAreLeft}
 use Rattle.basic_toml_grow.proofs.rows.+finishing.Given as goal
 
 abbrev pub decreases-take_rows : goal.decreases-take_rows
-decreases-take_rows l = 6 * (nesting_limit - l.level) + 5
+decreases-take_rows l = 7 * (nesting_limit - l.level) + 6
 
 abbrev pub decreases-take_many_rows : goal.decreases-take_many_rows
-decreases-take_many_rows l = 6 * (nesting_limit - l.level) + 4
+decreases-take_many_rows l = 7 * (nesting_limit - l.level) + 5
 
 abbrev pub decreases-enter_rows : goal.decreases-enter_rows
-decreases-enter_rows l = 6 * (nesting_limit - l.level) + 3
+decreases-enter_rows l = 7 * (nesting_limit - l.level) + 4
 
 abbrev pub decreases-enter_value : goal.decreases-enter_value
-decreases-enter_value l = 6 * (nesting_limit - l.level) + 2
+decreases-enter_value l = 7 * (nesting_limit - l.level) + 3
 
 abbrev pub decreases-row_value : goal.decreases-row_value
-decreases-row_value l = 6 * (nesting_limit - l.level) + 1
+decreases-row_value l = 7 * (nesting_limit - l.level) + 2
 
 abbrev pub decreases-child_of : goal.decreases-child_of
-decreases-child_of l = 6 * (nesting_limit - l.level)
+decreases-child_of l = 7 * (nesting_limit - l.level) + 1
+
+abbrev pub decreases-inline_child : goal.decreases-inline_child
+decreases-inline_child l = 7 * (nesting_limit - l.level)
 
 abbrev pub decreases-children_of : goal.decreases-children_of
-decreases-children_of l = 6 * (nesting_limit - l.level) + 1
+decreases-children_of l = 7 * (nesting_limit - l.level) + 2
 
 -- what the rows that are left put into the table as it is, all put into it as it was
 abbrev pub invariant-enter_rows-loop-row : goal.invariant-enter_rows-loop-row
-invariant-enter_rows-loop-row l =
-    AreLeft (rows_view l.initial.row-iterator) l.level (table_trie l.initial.table) l.keys.items
-    l.row-iterator (table_trie l.table)
-    × OriginsLeft l.section (rows_view l.initial.row-iterator) (table_within l.initial.table)
-    l.keys.items l.row-iterator (table_within l.table)
+invariant-enter_rows-loop-row l = record {
+  within : length l.left ≤ length l.parents;
+  left : AreLeft (rows_seen l.parents l.initial.row-iterator) l.level (table_trie l.initial.table)
+      (rows_seen l.left l.row-iterator) (table_trie l.table);
+  come : OriginsLeft l.section (rows_seen l.parents l.initial.row-iterator) (table_within l.initial.table)
+      (rows_seen l.left l.row-iterator) (table_within l.table);
+}
 
 abbrev pub invariant-children_of-loop-element : goal.invariant-children_of-loop-element
 invariant-children_of-loop-element l =

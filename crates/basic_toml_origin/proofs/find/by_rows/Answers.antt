@@ -1,7 +1,10 @@
-use Rattle.std.proofs.Common.{◌-◌, ap, drop, length, sym, take, ◌∙◌}
+use Rattle.std.proofs.Common.{◌-◌, List, ap, drop, length, sym, take, ◌∙◌}
 use Rattle.std.proofs.lemmas.List.{take_rest}
 use Rattle.std.specs.Option.{option_and_then}
-use Rattle.basic_toml_read.specs.SectionView.{rows_view}
+use Rattle.basic_toml_read.specs.declared.section.Key.{Key}
+use Rattle.basic_toml_read.specs.declared.section.Row.{Row}
+use Rattle.basic_toml_read.specs.declared.section.Rows.{out-Rows}
+use Rattle.basic_toml_read.specs.SectionView.{rows_seen, rows_view}
 use Rattle.basic_toml_origin.specs.Origin.{in_rows}
 use Rattle.basic_toml_origin.specs.Path.{path_of}
 use Rattle.basic_toml_origin.specs.Ways.{left_in}
@@ -12,9 +15,12 @@ pub returns : goal.returns
 returns c =
     let steps = c.args.path.now in
     let first = length steps - c.in-Reaches.left in
-    let rows = rows_view c.args.section.now.rows.items in
+    let rows = rows_view c.args.section.now.rows in
+    let left = path_of (take (length steps - first) (drop first steps)) in
     c.in_rows.ensures
-    ∙ ap (λ rs. in_rows (rows_view rs) (path_of (take (length steps - first) (drop first steps)))) c.as_slice.ensures.value
+    ∙ ap (λ (ks : List Key). in_rows (rows_seen ks c.as_slice-2.result.now) left) c.as_slice.ensures.value
+    ∙ ap (λ (rs : List Row). in_rows (rows_seen (out-Rows c.args.section.now.rows).parents.items rs) left)
+    c.as_slice-2.ensures.value
     ∙ ap (λ q. in_rows rows (path_of q)) (take_rest steps first)
-    ∙ ap (in_rows rows) (sym (steps_left c.args.path.now c.in-Reaches.left))
-    ∙ ap (λ m. option_and_then (in_rows rows) (left_in (path_of c.args.path.now) m)) (sym c.in-Reaches.is)
+    ∙ ap (in_rows rows) (sym (steps_left steps c.in-Reaches.left))
+    ∙ ap (λ m. option_and_then (in_rows rows) (left_in (path_of steps) m)) (sym c.in-Reaches.is)

@@ -2,7 +2,8 @@ use Rattle.std.proofs.Common.{ℕ, ◌<◌, Option, subst, ◌∙◌}
 use Rattle.basic_toml_value.specs.Nesting.{nesting_limit}
 use Rattle.basic_toml_read.specs.Lists.{ReadsList}
 use Rattle.basic_toml_read.proofs.KeysTold.{stopped}
-use Rattle.basic_toml_read.proofs.ListsRead.{ListSoFar, root_missing, root_there, list_more, list_missing, falls}
+use Rattle.basic_toml_read.proofs.ListsRead.{ListSoFar, nothing_gathered, root_missing, root_parents, root_there, list_more}
+use Rattle.basic_toml_read.proofs.ListsRead.{list_missing, falls}
 use Rattle.basic_toml_read.proofs.ListsRead.{list_over}
 use Rattle.basic_toml_tokens.specs.Text.{folded}
 use Rattle.basic_toml_read.proofs.ListsRead.{gap_stopped, gap_passed, if_err, some_none}
@@ -18,6 +19,13 @@ use Rattle.basic_toml_read.proofs.HolesLeadOn.{hole_on}
 use Rattle.basic_toml_read.proofs.ListsRead.{root_holes, section_hole}
 use Rattle.basic_toml_read.proofs.reader.list.Goals as goal
 
+pub root-requires : goal.root-requires
+root-requires c =
+    root_parents c.args.text.now c.start.result c.start.ensures.offset
+    (record { alloc = c.args.alloc; elements = c.new.result; parents = c.new-2.result; rows = c.new-3.result })
+    c.rows.new.self c.in_ok-bracket.bracket (nothing_gathered c.new.result c.new-2.result c.new-3.result c.args.alloc
+    c.new-2.ensures.items c.new-3.ensures.items) c.in_ok-bracket.ensures.read
+
 pub returns-in_err-bracket-clause-read : goal.returns-in_err-bracket-clause-read
 returns-in_err-bracket-clause-read c =
     let stop = c.in_err-bracket.field-0.0 in
@@ -27,9 +35,11 @@ returns-in_err-bracket-clause-read c =
 pub loop-bracket-init : goal.loop-bracket-init
 loop-bracket-init c =
     root_there c.args.text.now c.start.result c.start.ensures.offset
-    (record { alloc = c.args.alloc; elements = c.new.result; rows = c.new-2.result }) c.rows.new.self
+    (record { alloc = c.args.alloc; elements = c.new.result; parents = c.new-2.result; rows = c.new-3.result })
+    c.rows.new.self
     c.root.new.self c.in_ok-bracket.bracket
-    c.new-sections.result c.root.new.sections c.new-2.ensures.items c.in_ok-bracket.ensures.read
+    c.new-sections.result c.root.new.sections (nothing_gathered c.new.result c.new-2.result c.new-3.result c.args.alloc
+    c.new-2.ensures.items c.new-3.ensures.items) c.in_ok-bracket.ensures.read
     c.in_ok-bracket.ensures.gaps c.new-sections.ensures.items c.in_ok-root.ensures
 
 pub returns-in_err-bracket-2-clause-read : goal.returns-in_err-bracket-2-clause-read
@@ -67,14 +77,18 @@ pub returns-in_err-bracket-clause-more : goal.returns-in_err-bracket-clause-more
 returns-in_err-bracket-clause-more c =
     if_err (HoldsMore (folded c.args.text.now)) c.from_residual.result
     (gap_stopped c.args.text.now c.start.result c.start.ensures.offset
-    (record { alloc = c.args.alloc; elements = c.new.result; rows = c.new-2.result }) c.rows.new.self
+    (record { alloc = c.args.alloc; elements = c.new.result; parents = c.new-2.result; rows = c.new-3.result })
+    c.rows.new.self
     c.in_err-bracket.field-0.0 c.in_err-bracket.ensures.gaps)
 
 pub returns-in_err-root-clause-more : goal.returns-in_err-root-clause-more
 returns-in_err-root-clause-more c =
     if_err (HoldsMore (folded c.args.text.now)) c.from_residual-in_err-root.result
     (λ g. c.in_err-root.ensures.1 ((gap_passed c.args.text.now c.start.result c.start.ensures.offset
-    (record { alloc = c.args.alloc; elements = c.new.result; rows = c.new-2.result }) c.rows.new.self c.in_ok-bracket.bracket c.in_ok-bracket.ensures.gaps g).1 ∙ c.new-2.ensures.items))
+    (record { alloc = c.args.alloc; elements = c.new.result; parents = c.new-2.result; rows = c.new-3.result })
+    c.rows.new.self c.in_ok-bracket.bracket c.in_ok-bracket.ensures.gaps g).1
+    ∙ nothing_gathered c.new.result c.new-2.result c.new-3.result c.args.alloc c.new-2.ensures.items
+    c.new-3.ensures.items))
 
 pub returns-in_err-bracket-2-clause-more : goal.returns-in_err-bracket-2-clause-more
 returns-in_err-bracket-2-clause-more c =

@@ -1,8 +1,8 @@
-use Rattle.std.proofs.Common.{◌≡◌, ◌<◌, ℕ, ◌+◌, ◌-◌, length, drop, take, ap, ◌∙◌, arith, refl}
+use Rattle.std.proofs.Common.{◌≡◌, ◌<◌, ℕ, ◌+◌, ◌-◌, length, drop, take, ap, subst, ◌∙◌, arith, refl}
 use Rattle.basic_toml_value.specs.Nesting.{nesting_limit}
 use Rattle.basic_toml_tokens.specs.Text.{text_at}
 use Rattle.basic_toml_grammar.specs.Levels.{value_level}
-use Rattle.basic_toml_read.specs.Gathers.{ReadsRow, ReadsElements, ReadsFields, row_level}
+use Rattle.basic_toml_read.specs.Gathers.{ReadsRow, ReadsElements, ReadsFields, IsTableTaken, row_level}
 use Rattle.basic_toml_read.proofs.KeysTold.{stopped}
 use Rattle.basic_toml_read.proofs.ElementsGathered.{elements_start, elements_end, elements_missing, elements_more}
 use Rattle.basic_toml_read.proofs.ElementsGathered.{elements_close, elements_over}
@@ -57,8 +57,8 @@ elements-returns-in_default-after_punctuation-clause-read t c =
     c.value.new.self (record {
       alloc = c.value.new.self.alloc;
       elements = c.push.new.self;
-      rows =
-          c.value.new.self.rows;
+      parents = c.value.new.self.parents;
+      rows = c.value.new.self.rows;
     }) c.in_ok-valued.valued c.in_ok-valued.ensures.read
     c.after_gap-after.result c.after_gap-after.ensures c.in_default.ensures c.in_ok-push.ensures.items refl
     c.closed.result c.in_default-after_punctuation.ensures c.closed.ensures.read
@@ -70,8 +70,8 @@ elements-loop-end-preserved t c =
     c.value.new.self (record {
       alloc = c.value.new.self.alloc;
       elements = c.push.new.self;
-      rows =
-          c.value.new.self.rows;
+      parents = c.value.new.self.parents;
+      rows = c.value.new.self.rows;
     }) c.in_ok-valued.valued c.in_ok-valued.ensures.read
     c.after_gap-after.result c.after_gap-after.ensures c.in_default.ensures c.in_ok-push.ensures.items refl
     c.in-Some-after_punctuation.next c.after_gap-at.result c.in-Some-after_punctuation.ensures c.after_gap-at.ensures
@@ -134,8 +134,13 @@ row-returns-clause-read t c =
     row_there c.args.text.now c.args.at c.args.level c.args.self.now c.keys.new.self c.in_ok-last.last
     c.in_ok-last.ensures.read
     c.in-Some.next c.after_blanks.result c.in-Some.ensures c.after_blanks.ensures
-    (record { alloc = c.value.new.self.alloc; elements = c.value.new.self.elements; rows = c.push.new.self })
-    c.value.new.self c.in_ok-valued.valued c.in_ok-valued.ensures.read c.in_ok-push.ensures.items refl
+    (record {
+      alloc = c.value.new.self.alloc;
+      elements = c.value.new.self.elements;
+      parents = c.value.new.self.parents;
+      rows = c.push.new.self;
+    })
+    c.value.new.self c.in_ok-valued.valued _ c.in_ok-valued.ensures.read refl refl c.in_ok-push.ensures.items refl
 
 pub value-returns-in-Some-clause-read : goal.value-returns-in-Some-clause-read
 value-returns-in-Some-clause-read t c =
@@ -164,7 +169,7 @@ array-returns-clause-read t c =
     let counted : c.len-from.result ≡ length c.args.self.now.elements.items =
     omega (arith, c.len-from.ensures, c.args.self.now.elements.ok.0) in
     array_whole c.args.text.now c.args.offset c.args.at c.after_gap.result c.args.level c.in_ok-end.end
-    c.args.self.now g (record { alloc = g.alloc; elements = c.taken.new.items; rows = g.rows })
+    c.args.self.now g (record { alloc = g.alloc; elements = c.taken.new.items; parents = g.parents; rows = g.rows })
     c.in_ok-taken.field-0
     c.in_ok-raise.ensures c.after_gap.ensures c.in_ok-end.ensures.read
     (c.in_ok-taken.ensures.0 ∙ ap (λ (n : ℕ). drop n g.elements.items) counted) (c.in_ok-taken.ensures.1 ∙
@@ -172,15 +177,17 @@ array-returns-clause-read t c =
 
 pub inline-returns-clause-read : goal.inline-returns-clause-read
 inline-returns-clause-read t c =
-    let g = c.fields.new.self in
-    let counted : c.len-from.result ≡ length c.args.self.now.rows.items =
-    omega (arith, c.len-from.ensures, c.args.self.now.rows.ok.0) in
+    let g = c.args.self.now in
+    let parents : c.len-parents.result ≡ length g.parents.items = omega
+    (arith, c.len-parents.ensures, g.parents.ok.0) in
+    let rows : c.len-from.result ≡ length g.rows.items = omega (arith, c.len-from.ensures, g.rows.ok.0) in
     inline_whole c.args.text.now c.args.offset c.args.at c.after_blanks.result c.args.level c.in_ok-end.end
-    c.args.self.now g (record { alloc = g.alloc; elements = g.elements; rows = c.taken.new.items })
-    c.in_ok-taken.field-0
-    c.in_ok-raise.ensures c.after_blanks.ensures c.in_ok-end.ensures.read
-    (c.in_ok-taken.ensures.0 ∙ ap (λ (n : ℕ). drop n g.rows.items) counted) (c.in_ok-taken.ensures.1 ∙
-    ap (λ (n : ℕ). take n g.rows.items) counted) refl
+    g c.fields.new.self c.table.new.self c.in_ok-value.value c.in_ok-raise.ensures c.after_blanks.ensures
+    c.in_ok-end.ensures.read
+    (subst (λ (n : ℕ). IsTableTaken c.fields.new.self c.table.new.self n (length g.rows.items) c.in_ok-value.value)
+    parents
+    (subst (λ (n : ℕ). IsTableTaken c.fields.new.self c.table.new.self c.len-parents.result n c.in_ok-value.value) rows
+    c.in_ok-value.ensures))
 
 -- levels
 pub array-returns-in_err-raise-clause-deep : goal.array-returns-in_err-raise-clause-deep
@@ -236,8 +243,8 @@ elements-returns-in_default-after_punctuation-clause-deep t c =
     c.value.new.self (record {
       alloc = c.value.new.self.alloc;
       elements = c.push.new.self;
-      rows =
-          c.value.new.self.rows;
+      parents = c.value.new.self.parents;
+      rows = c.value.new.self.rows;
     }) c.in_ok-valued.valued c.in_ok-valued.ensures.read
     c.after_gap-after.result c.after_gap-after.ensures c.in_default.ensures c.in_ok-push.ensures.items refl
     c.in_default-after_punctuation.ensures) c.closed.ensures.read

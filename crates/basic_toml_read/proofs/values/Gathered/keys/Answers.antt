@@ -2,7 +2,6 @@ use Rattle.std.proofs.Common.{refl, sym, subst, Err}
 use Rattle.basic_toml_value.specs.Nesting.{nesting_limit}
 use Rattle.basic_toml_explain.specs.declared.stop.Stop.{Stop}
 use Rattle.basic_toml_read.specs.Gathers.{ReadsKeys}
-use Rattle.basic_toml_read.proofs.ViewsSeen.{dot_before}
 use Rattle.basic_toml_read.proofs.KeysTold.{stopped, keys_missing, keys_deep, key_is_deep}
 use Rattle.basic_toml_read.proofs.KeysGathered.{keys_start, keys_more, keys_last}
 use Rattle.basic_toml_tokens.specs.Text.{text_at}
@@ -40,9 +39,13 @@ loop-keyed-preserved c =
     c.loop-keyed.self c.loop-keyed.invariant
     k c.in_ok-keyed.ensures.read c.after_blanks-end.result c.after_blanks-end.ensures c.in_ok-raise.ensures
     c.in-Some.next c.after_blanks-offset.result
-    (record { alloc = c.loop-keyed.self.alloc; elements = c.loop-keyed.self.elements; rows = c.push.new.self }) _
-    c.in-Some.ensures c.after_blanks-offset.ensures (dot_before k.key c.loop-keyed.offset)
-    c.in_ok-push-in-Some.ensures.items refl
+    (record {
+      alloc = c.loop-keyed.self.alloc;
+      elements = c.loop-keyed.self.elements;
+      parents = c.push.new.self;
+      rows = c.loop-keyed.self.rows;
+    }) _
+    c.in-Some.ensures c.after_blanks-offset.ensures refl c.in_ok-push-in-Some.ensures.items refl refl
 
 pub returns-in-None-clause-read : goal.returns-in-None-clause-read
 returns-in-None-clause-read c =

@@ -38,7 +38,7 @@ returns-clause-read c =
     c.args.self.now mid _ c.in_ok-next.next c.args.sections.now c.push.new.self c.in_ok-rows.rows c.requires.none
     (subst (λ (n : ℕ). AreRowsRead c.args.text.now c.in_ok-line.line (n + 1) c.args.self.now mid c.in_ok-next.next)
     counted c.in_ok-next.ensures.read)
-    c.in_ok-rows.ensures.0 c.in_ok-rows.ensures.1 c.in_ok-push.ensures.items
+    c.in_ok-rows.ensures c.in_ok-push.ensures.items
 
 -- levels
 pub returns-in_err-header-clause-deep : goal.returns-in_err-header-clause-deep

@@ -1,0 +1,72 @@
+-- The next of a table's rows, with its parents.
+use Rattle.std.proofs.Common.{◌≡◌, ℕ, ◌+◌, ◌<◌, List, [], ◌∷◌, ◌++◌, drop, take, length, get_or, map, refl, ap, sym, ◌∙◌}
+use Rattle.std.proofs.Common.{zero, suc, ◌-◌, ◌≤◌, arith, rules}
+use Rattle.std.proofs.lemmas.List.{drop_more, take_rest, length-drop, take-map, drop-map}
+use Rattle.basic_toml_read.specs.declared.section.Raw.{the_lemmas}
+use Rattle.basic_toml_read.specs.declared.section.Row.{Row, out-Row}
+use Rattle.basic_toml_read.specs.declared.section.Key as code_keys
+use Rattle.basic_toml_grammar.specs.Sections.{Key, Rows, row}
+use Rattle.basic_toml_read.specs.KeyText.{key_text_bytes}
+use Rattle.basic_toml_read.specs.SectionView.{Lined, key_of, raw_of, lined_of, rows_from}
+
+pub lined_is : (r : Row) → lined_of r ≡ record {
+  key = record { offset = (out-Row r).offset; text = key_text_bytes (out-Row r).key };
+  parents = (out-Row r).parents;
+  start = (out-Row r).start;
+  value = raw_of (out-Row r).value;
+}
+lined_is r = search (rules, the_lemmas)
+
+-- the row, and those after it
+abbrev pub and_rows : List code_keys.Key → Row → List Row → Rows
+and_rows parents r rest =
+    row (map key_of (take (out-Row r).parents parents) ++ (lined_of r).key ∷ []) (lined_of r).start (lined_of r).value
+    (rows_from (map key_of (drop (out-Row r).parents parents)) (map lined_of rest))
+
+pub first_row : (parents : List code_keys.Key) (r : Row) (rest : List Row)
+    → rows_from (map key_of parents) (map lined_of (r ∷ rest)) ≡ and_rows parents r rest
+first_row parents r rest =
+    ap (λ (n : ℕ). row (take n (map key_of parents) ++ (lined_of r).key ∷ []) (lined_of r).start (lined_of r).value
+    (rows_from (drop n (map key_of parents)) (map lined_of rest))) (ap (λ (l : Lined). l.parents) (lined_is r))
+    ∙ ap (λ (ks : List Key). row (ks ++ (lined_of r).key ∷ []) (lined_of r).start (lined_of r).value
+    (rows_from (drop (out-Row r).parents (map key_of parents)) (map lined_of rest)))
+    (take-map key_of (out-Row r).parents parents)
+    ∙ ap (λ (ks : List Key). row (map key_of (take (out-Row r).parents parents) ++ (lined_of r).key ∷ [])
+    (lined_of r).start (lined_of r).value (rows_from ks (map lined_of rest)))
+    (drop-map key_of (out-Row r).parents parents)
+
+-- where there are no parents
+pub lone_row : (r : Row) (rest : List Row)
+    → rows_from [] (map lined_of (r ∷ rest))
+    ≡ row ((lined_of r).key ∷ []) (lined_of r).start (lined_of r).value (rows_from [] (map lined_of rest))
+lone_row r rest = alone (lined_of r).parents
+  where
+    alone : (n : ℕ) → row (take n [] ++ (lined_of r).key ∷ []) (lined_of r).start (lined_of r).value
+        (rows_from (drop n []) (map lined_of rest))
+        ≡ row ((lined_of r).key ∷ []) (lined_of r).start (lined_of r).value (rows_from [] (map lined_of rest))
+    alone zero = refl
+    alone (suc n) = refl
+
+-- the row at a number
+pub next_row : (parents : List code_keys.Key) (rows : List Row) (i : ℕ) (r : Row) → i < length rows
+    → r ≡ get_or rows i r
+    → rows_from (map key_of parents) (map lined_of (drop i rows)) ≡ and_rows parents r (drop (i + 1) rows)
+next_row parents rows i r within is =
+    ap (λ (rs : List Row). rows_from (map key_of parents) (map lined_of rs))
+    (drop_more rows i r within ∙ ap (λ (x : Row). x ∷ drop (i + 1) rows) (sym is))
+    ∙ first_row parents r (drop (i + 1) rows)
+
+-- the parents that are left for the rows after it
+pub parents_left : (n : ℕ) (parents own : List code_keys.Key) → own ≡ take n parents
+    → (length (take (length parents - length own) (drop (length own) parents)) ≤ length parents)
+    × (drop n parents ≡ take (length parents - length own) (drop (length own) parents))
+parents_left n parents own is =
+    let rest = take_rest parents (length own) in (
+      omega (arith, ap length rest, length-drop (length own) parents),
+      dropped n parents ∙ ap (λ (m : ℕ). drop m parents) (sym (ap length is)) ∙ sym rest,
+    )
+  where
+    dropped : (n : ℕ) (ks : List code_keys.Key) → drop n ks ≡ drop (length (take n ks)) ks
+    dropped zero ks = refl
+    dropped (suc n) [] = refl
+    dropped (suc n) (k ∷ ks) = dropped n ks
