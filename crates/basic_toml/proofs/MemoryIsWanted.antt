@@ -12,14 +12,13 @@ use Rattle.basic_toml_grammar.specs.Grammar.{IsSectionList}
 use Rattle.basic_toml_grammar.specs.Levels.{highest_level}
 use Rattle.basic_toml_grammar.specs.Faults as read
 use Rattle.basic_toml_grammar.proofs.LawsHold.{keyed, unambiguous}
-use Rattle.basic_toml_read.specs.declared.section.Section as code
-use Rattle.basic_toml_read.specs.SectionView.{section_of}
 use Rattle.basic_toml_read.specs.SectionsAnswer as answer
 use Rattle.basic_toml_read.specs.SectionsAnswer.{IsRefused, HoldsMore}
 use Rattle.basic_toml_tree.specs.declared.tree.Tree.{Tree}
 use Rattle.basic_toml_tree.specs.Data.{table_data}
 use Rattle.basic_toml_tree.specs.Resolve as resolve
-use Rattle.basic_toml_tree.specs.Resolve.{Resolves, IsUnresolved}
+use Rattle.basic_toml_tree.specs.OfText.{AnswersText}
+use Rattle.basic_toml_tree.specs.Resolve.{IsUnresolved}
 use Rattle.basic_toml_error.specs.Fault.{Fault, FaultKind, out_of_memory, want_of_memory}
 use Rattle.basic_toml_error.specs.ReadFaults.{lined}
 use Rattle.basic_toml_typed.specs.TypeAnswers.{IfGrows}
@@ -35,7 +34,7 @@ text_holds : (text : List ℕ) (error : read.Fault) → IsTextFault text error �
 text_holds text error why gap =
     refused_has_no_document text error (Data.table no_members) why (gap_is_empty (folded text) gap)
 
-pub unlisted_holds : (text : List ℕ) (error : read.Fault) → IsRefused text error → HoldsMore (folded text)
+unlisted_holds : (text : List ℕ) (error : read.Fault) → IsRefused text error → HoldsMore (folded text)
 unlisted_holds text _ (answer.memory more) = more
 unlisted_holds text _ (answer.deep passes first met) =
     text_holds text _ (deep (record { passes = passes; first = first; met = met }))
@@ -47,17 +46,10 @@ unresolved_holds text sections _ grammar low (resolve.memory listed) =
     λ gap. listed (unambiguous _ (folded text) sections [] grammar (gap_is_listed (folded text) gap))
 unresolved_holds text sections error grammar low (resolve.refused why) = text_holds text error (no_tree grammar low why)
 
-pub if_err : {A E : Type 0} (P : Type 0) (result : Result A E) → P → IfErr result (λ e. P)
-if_err P (Ok x) p = tt
-if_err P (Err e) p = p
-
-pub resolved_holds : (text : List ℕ) (list : List code.Section) (result : Result Tree read.Fault)
-    → IsSectionList (folded text) (map section_of list) → highest_level (map section_of list) ≤ nesting_limit
-    → Resolves list result → IfErr result (λ _. HoldsMore (folded text))
-resolved_holds text list (Ok tree) grammar low is = tt
-resolved_holds text list (Err error) grammar low is =
-    unresolved_holds text (map section_of list) error grammar low
-    (is (keyed (folded text) (map section_of list) grammar))
+pub more_held : (text : List ℕ) (error : read.Fault) → AnswersText text (Err error) → HoldsMore (folded text)
+more_held text error (inl why) = unlisted_holds text error why
+more_held text error (inr why) =
+    unresolved_holds text why.sections error why.list.grammar why.list.limit why.unresolved
 
 -- want of memory has no line and no column, so a type's own has none before them
 abbrev fault_of : FaultKind → List (List ℕ) → Option ℕ → Option (ℕ × ℕ) → Fault

@@ -13,15 +13,15 @@ use Rattle.basic_toml_grammar.specs.Document.{has_clash, tree_of_sections, docum
 use Rattle.basic_toml_grammar.specs.Faults as read
 use Rattle.basic_toml_grammar.proofs.LawsHold.{keyed}
 use Rattle.basic_toml_explain.specs.Error as explain
-use Rattle.basic_toml_read.specs.declared.section.Section as code
-use Rattle.basic_toml_read.specs.SectionView.{section_of}
 use Rattle.basic_toml_read.specs.SectionsAnswer as answer
 use Rattle.basic_toml_read.specs.SectionsAnswer.{IsRefused}
 use Rattle.basic_toml_tree.specs.declared.node.Node.{Node}
 use Rattle.basic_toml_tree.specs.declared.tree.Tree.{Tree}
 use Rattle.basic_toml_tree.specs.Data.{table_data}
 use Rattle.basic_toml_tree.specs.Resolve as resolve
-use Rattle.basic_toml_tree.specs.Resolve.{Resolves, IsResolved, IsUnresolved}
+use Rattle.basic_toml_tree.specs.OfText.{AnswersText}
+use Rattle.basic_toml_tree.specs.Resolve.{IsResolved, IsUnresolved}
+use Rattle.basic_toml.proofs.MemoryIsWanted.{more_held}
 use Rattle.basic_toml_tree.specs.Stands.{StandsAt}
 use Rattle.basic_toml_tree.proofs.ItemData.{table_is_table}
 use Rattle.basic_toml_error.specs.Fault.{Fault, want_of_memory}
@@ -55,38 +55,38 @@ not_resolved : (text : List ℕ) (sections : List Section) (error : read.Fault) 
 not_resolved text sections _ grammar low (resolve.memory listed) = inl refl
 not_resolved text sections _ grammar low (resolve.refused why) = inr (no_tree grammar low why)
 
-pub refused : (text : List ℕ) (error : read.Fault) → IsRefused text error → GivesTree text (Err error)
-refused text error why = not_listed text error why
-
-pub resolved : (text : List ℕ) (list : List code.Section) (result : Result Tree read.Fault)
-    → IsSectionList (folded text) (map section_of list) → highest_level (map section_of list) ≤ nesting_limit
-    → Resolves list result → GivesTree text result
-resolved text list (Ok tree) grammar low is =
-    let there : IsResolved (map section_of list) tree = is (keyed (folded text) (map section_of list) grammar) in
-    record {
-      sections = map section_of list;
-      grammar = grammar;
-      resolved = there;
-      document = record {
-        sections = map section_of list;
-        grammar = grammar;
-        means =
-            document_found (map section_of list) (table_data tree.root) there.clash there.fits there.grown;
-      };
-    }
-resolved text list (Err error) grammar low why =
-    not_resolved text (map section_of list) error grammar low (why (keyed (folded text) (map section_of list) grammar))
-
-pub ruleset tree_given = (refused, resolved)
+-- the tree of a text, or why there is none, as the document of the text tells it
+pub given : (text : List ℕ) (result : Result Tree read.Fault) → AnswersText text result → GivesTree text result
+given text (Ok tree) found = record {
+  sections = found.sections;
+  grammar = found.list.grammar;
+  resolved = found.resolved;
+  document = record {
+    sections = found.sections;
+    grammar = found.list.grammar;
+    means = document_found found.sections (table_data tree.root) found.resolved.clash found.resolved.fits
+        found.resolved.grown;
+  };
+}
+given text (Err error) (inl why) = not_listed text error why
+given text (Err error) (inr why) =
+    not_resolved text why.sections error why.list.grammar why.list.limit why.unresolved
 
 -- the error with its line and its column
-pub located_error : (text : List ℕ) (error : read.Fault) (fault : Fault) → GivesTree text (Err error)
+located_error : (text : List ℕ) (error : read.Fault) (fault : Fault) → GivesTree text (Err error)
     → (fault ≡ want_of_memory) ⊎ (fault ≡ fault_in text error) → AnswersTree text (Err fault)
 located_error text error fault why (inl memory) = inl memory
 located_error text error fault (inl memory) (inr same) = inl (same ∙ ap (fault_in text) memory)
 located_error text error fault (inr why) (inr same) = inr (error, why, same)
 
-pub ruleset with_lines = (located_error)
+pub error_located : (text : List ℕ) (error : read.Fault) (fault : Fault) → AnswersText text (Err error)
+    → (fault ≡ want_of_memory) ⊎ (fault ≡ fault_in text error) → AnswersTree text (Err fault)
+error_located text error fault why same = located_error text error fault (given text (Err error) why) same
+
+pub tree_found : (text : List ℕ) (tree : Tree) → AnswersText text (Ok tree) → AnswersTree text (Ok tree)
+tree_found text tree found = given text (Ok tree) found
+
+pub ruleset with_lines = (error_located, tree_found, more_held)
 
 -- the error of a type with its line and its column
 pub lined_error : {T : Type 0} (takes : Type 0) (reads : T → Type 0) (IsNamed : Fault → Type 0) (text : List ℕ)

@@ -9,12 +9,11 @@ ghost use Rattle.basic_toml_read.specs.SectionsAnswer.{HoldsMore};
 ghost use Rattle.basic_toml_tree.specs.Data.{table_data};
 ghost use Rattle.basic_toml_typed.specs.TypeAnswers.{AtRoot, IfGrows, OrMemory};
 ghost use Rattle.basic_toml_error.specs.Fault.{not_text};
-ghost use Rattle.basic_toml.specs.Reading.{IsLined, ReadsText, ReadsData, GivesTree, AnswersTree, ReadsTree};
+ghost use Rattle.basic_toml.specs.Reading.{IsLined, ReadsText, ReadsData, AnswersTree, ReadsTree};
 ghost use Rattle.basic_toml.specs.Reading.{WantsMemory};
 
 use crate::{Deserialize, Error};
-use basic_toml_read::{ReadError, sections};
-use basic_toml_tree::{Tree, resolve};
+use basic_toml_tree::{Tree, tree_of};
 use std::alloc::Global;
 
 /// Reads a value from a text (TOML v0.5.0, without dates and times).
@@ -56,7 +55,7 @@ fn read_text<'de, T: Deserialize<'de>>(alloc: Global, text: &'de str) -> Result<
     ensures read { ReadsText T.takes T.reads T.faults text.now result }
     ensures memory { IfErr result (WantsMemory T.grows text.now) }
 {
-    let tree = tree_of(alloc, text)?;
+    let tree = tree_in(alloc, text)?;
     read_from(alloc, tree, text)
 }
 
@@ -97,29 +96,19 @@ pub fn read_tree<'de>(alloc: Global, text: &'de str) -> Result<Tree<'de>, Error>
     ensures tree { ReadsTree text.now result }
     ensures more { IfErr result (λ _. HoldsMore (folded text.now)) }
 {
-    tree_of(alloc, text)
+    tree_in(alloc, text)
 }
 
 // The tree of a text's document, or its error with line and column.
 #[tactic(auto, using(crate::proofs::ReadingEnds::with_lines))]
-fn tree_of<'de>(alloc: Global, text: &'de str) -> Result<Tree<'de>, Error>
+fn tree_in<'de>(alloc: Global, text: &'de str) -> Result<Tree<'de>, Error>
     ensures tree { AnswersTree text.now result }
     ensures more { IfErr result (λ _. HoldsMore (folded text.now)) }
 {
-    match tree_in(alloc, text) {
+    match tree_of(alloc, text) {
         Ok(tree) => Ok(tree),
         Err(error) => Err(Error::in_text(alloc, text, &error)),
     }
-}
-
-// The tree of a text's document, or why there is none.
-#[tactic(auto, using(crate::proofs::ReadingEnds::tree_given))]
-fn tree_in<'de>(alloc: Global, text: &'de str) -> Result<Tree<'de>, ReadError>
-    ensures tree { GivesTree text.now result }
-    ensures more { IfErr result (λ _. HoldsMore (folded text.now)) }
-{
-    let sections = sections(alloc, text)?;
-    resolve(alloc, sections)
 }
 
 /// Reads a value from bytes, as [`from_str`] does where they are UTF-8 (TOML v0.5.0, "Spec"). `toml_answer` calls it.

@@ -172,9 +172,9 @@ fn look_among(alloc: Global, elements: &[Element<'_>]) -> Result<(), Crossed>
     Ok(())
 }
 
-/// The byte offset where the first value begins that a later row of its table goes on from, in any section, and none
-/// where no row does. After `a = 1` the row `a.b = 2` goes on from the value at `1` (TOML v0.5.0, "Table": dotted
-/// keys).
+/// The byte offset where the first value begins that a later row of its table goes on from, in the rows of a section,
+/// and none where no row does. After `a = 1` the row `a.b = 2` goes on from the value at `1` (TOML v0.5.0, "Table":
+/// dotted keys).
 ///
 /// The first is that of the first row that goes on from a value, and of several values on its way the one with the
 /// fewest keys. The rows of a table among themselves come before those within their values.
@@ -182,15 +182,31 @@ fn look_among(alloc: Global, elements: &[Element<'_>]) -> Result<(), Crossed>
 /// # Errors
 ///
 /// `AllocError` where memory is refused.
-pub fn crossed_value(alloc: Global, sections: &[Section<'_>]) -> Result<Option<usize>, AllocError>
+pub fn crossed_value(alloc: Global, section: &Section<'_>) -> Result<Option<usize>, AllocError>
+    ensures { IfOk result (λ found. found ≡ crossed_in (section_of section.now).rows) }
+{
+    let rows = &section.rows;
+    match look_through(alloc, rows.parents.as_slice(), rows.rows.as_slice()) {
+        Ok(()) => Ok(None),
+        Err(Crossed::Memory) => Err(AllocError),
+        Err(Crossed::At(at)) => Ok(Some(at)),
+    }
+}
+
+/// The same of the first of these sections in which a row goes on from a value.
+///
+/// # Errors
+///
+/// `AllocError` where memory is refused.
+pub fn first_crossed_value(
+    alloc: Global,
+    sections: &[Section<'_>],
+) -> Result<Option<usize>, AllocError>
     ensures { IfOk result (λ found. found ≡ first_crossed (map section_of sections.now)) }
 {
     for section in sections {
-        let rows = &section.rows;
-        match look_through(alloc, rows.parents.as_slice(), rows.rows.as_slice()) {
-            Ok(()) => {}
-            Err(Crossed::Memory) => return Err(AllocError),
-            Err(Crossed::At(at)) => return Ok(Some(at)),
+        if let Some(at) = crossed_value(alloc, section)? {
+            return Ok(Some(at));
         }
     }
     Ok(None)

@@ -6,7 +6,7 @@
 //! - [`drain`]: the items of a vector that shrinks as they are taken.
 //!
 //! `basic_toml_grow` keeps arrays that [`are_plain`] as they were read, takes rows that [`are_simple`] all at once, and
-//! answers the [`Clash`] that stops a section. `basic_toml_tree` asks for [`crossed_value`] before it takes a section list
+//! answers the [`Clash`] that stops a section. `basic_toml_tree` asks for [`crossed_value`] before it takes a section
 //! apart, and answers the error of a clash.
 #![tactic(auto)]
 
@@ -17,7 +17,7 @@ mod plain;
 mod simple;
 
 pub use clash::{Clash, Repeated, key_texts};
-pub use crossed::crossed_value;
+pub use crossed::{crossed_value, first_crossed_value};
 pub use items_left::{ItemsLeft, drain};
 pub use plain::{are_plain, into_plain_values, plain_value, plain_values};
 pub use simple::{are_all_plain, are_simple};

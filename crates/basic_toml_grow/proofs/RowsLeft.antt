@@ -65,12 +65,9 @@ none_seen rows none =
     (nothing_left (tables.out-Rows rows).rows.items none)
 
 -- and rows without parents are seen so
-pub no_parents_seen : (rows taken : tables.Rows) → taken ≡ rows → length (tables.out-Rows taken).parents.items ≡ 0
-    → rows_view rows ≡ rows_seen [] (tables.out-Rows taken).rows.items
-no_parents_seen rows taken is none =
-    sym (ap rows_view is)
-    ∙ ap (λ (ks : List keys.Key). rows_seen ks (tables.out-Rows taken).rows.items)
-    (nothing_left (tables.out-Rows taken).parents.items none)
+pub no_parents_seen : (rows : tables.Rows) → (tables.out-Rows rows).parents.items ≡ []
+    → rows_view rows ≡ rows_seen [] (tables.out-Rows rows).rows.items
+no_parents_seen rows none = ap (λ (ks : List keys.Key). rows_seen ks (tables.out-Rows rows).rows.items) none
 
 pub none_put : (rows : Rows) (level : ℕ) (t : Trie) → rows ≡ no_rows → AreIn rows level t t
 none_put rows level t none =

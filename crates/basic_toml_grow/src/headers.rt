@@ -6,7 +6,7 @@ ghost use Rattle.basic_toml_value.specs.Nesting.{nesting_limit};
 ghost use Rattle.basic_toml_grammar.specs.Standing.{table as table_standing};
 ghost use Rattle.basic_toml_grammar.specs.Trie.{trie, no_tries, put_element};
 ghost use Rattle.basic_toml_grammar.specs.TrieStops.{try_by_keys, try_put_table, try_put_element};
-ghost use Rattle.basic_toml_read.specs.SectionView.{header_texts, rows_view};
+ghost use Rattle.basic_toml_read.specs.SectionView.{NoneLeft, header_texts, rows_view};
 ghost use Rattle.basic_toml_clash.specs.Clash.{NamesStop};
 ghost use Rattle.basic_toml_grow.specs.Item.{table_trie, item_trie};
 ghost use Rattle.basic_toml_grammar.specs.Steps.{number as number_step};
@@ -25,7 +25,8 @@ use std::alloc::{AllocError, Global};
 use std::mem;
 
 /// Enters a section, which has this number in its list, into the table of a document (TOML v0.5.0, "Table" and "Array
-/// of Tables"). Its rows go into the table; its header stays, as the keys of nodes are read from it.
+/// of Tables"). Its rows go into the table, so that none is left in the section; its header stays, as the keys of nodes
+/// are read from it.
 ///
 /// # Errors
 ///
@@ -49,6 +50,7 @@ pub fn enter_section<'de>(
         let rows = rows_origins number (rows_view section.old.rows) in
         IfOk result (λ _. GrowsAlong (way section.old.is_array keys (table_trie root.old)) rows
         (table_within root.old).below (table_within root.new).below) }
+    ensures taken { IfOk result (λ _. NoneLeft section.new.rows) }
     ensures at { section.new.at ≡ section.old.at }
     ensures is_array { section.new.is_array ≡ section.old.is_array }
     ensures header { section.new.header ≡ section.old.header }
@@ -74,6 +76,7 @@ fn open<'de>(
         IfErr result (λ clash. NamesStop tried clash) }
     ensures origins { IfOk result (λ _. (table_within table.new).below
         ≡ or_else (table_within table.old).below (rows_origins number (rows_view rows.old))) }
+    ensures taken { IfOk result (λ _. NoneLeft rows.new) }
 {
     if level > NESTING_LIMIT {
         return Err(Clash::Deep);
@@ -111,6 +114,7 @@ fn enter_header<'de>(
     ensures origins { let new = rows_origins number (rows_view rows.old) in
         IfOk result (λ _. GrowsAlong (way is_array (header_texts keys.now) (table_trie table.old)) new
         (table_within table.old).below (table_within table.new).below) }
+    ensures taken { IfOk result (λ _. NoneLeft rows.new) }
 {
     match keys.split_first() {
         None => open(alloc, table, rows, number, level),
@@ -141,6 +145,7 @@ fn enter_below<'de>(
         let keys = header_texts (key.now ∷ rest.now) in
         IfOk result (λ _. GrowsAlong (way is_array keys (table_trie table.old)) new
         (table_within table.old).below (table_within table.new).below) }
+    ensures taken { IfOk result (λ _. NoneLeft rows.new) }
 {
     if level > NESTING_LIMIT {
         return Err(Clash::Deep);
@@ -177,6 +182,7 @@ fn enter_at<'de>(
         IfOk result (λ _. (start section : ℕ) →
         GrowsAlong (way_at is_array (header_texts rest.now) (item_trie there.old)) new
         (item_origins there.old start section) (item_origins there.new start section)) }
+    ensures taken { IfOk result (λ _. NoneLeft rows.new) }
 {
     if is_array && rest.is_empty() {
         let tables = mem::replace(there, Item::Nothing);
@@ -220,6 +226,7 @@ fn add_element<'de>(
         IfOk result (λ after. (start section : ℕ) →
         GrowsAlong (number_step (count (item_trie there.entry)) ∷ []) new
         (item_origins there.entry start section) (item_origins after start section)) }
+    ensures taken { IfOk result (λ _. NoneLeft rows.new) }
 {
     let (before, table) = match there {
         Item::Nothing => (Box::new(alloc, Vec::new(alloc))?, Table::new(alloc)?),
@@ -264,6 +271,7 @@ fn enter_item<'de>(
         IfOk result (λ _. (start section : ℕ) →
         GrowsAlong (way_by is_array (header_texts rest.now) (item_trie there.old)) new
         (item_origins there.old start section) (item_origins there.new start section)) }
+    ensures taken { IfOk result (λ _. NoneLeft rows.new) }
 {
     match there {
         Item::Nothing => {

@@ -6,6 +6,7 @@
 
 mod headers;
 mod item;
+mod row_clash;
 mod rows;
 mod simple;
 

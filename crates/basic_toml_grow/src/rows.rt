@@ -1,6 +1,6 @@
 //! Puts the rows of a section into its table: their values, and the tables that their dotted keys lead through.
 
-ghost use Rattle.std.specs.Prelude.{◌≡◌, ◌≤◌, ◌<◌, ℕ, length, [], ◌∷◌, ◌++◌, None, true, false, map, string_bytes, take};
+ghost use Rattle.std.specs.Prelude.{◌≡◌, ◌≤◌, ◌<◌, length, [], ◌∷◌, ◌++◌, None, true, false, map};
 ghost use Rattle.std.specs.Prelude.{MatchOption, IfOk, IfErr, IfSome};
 ghost use Rattle.basic_toml_value.specs.Nesting.{nesting_limit};
 ghost use Rattle.basic_toml_value.specs.Data.{Data};
@@ -8,22 +8,21 @@ ghost use Rattle.basic_toml_grammar.specs.Sections.{Raw as spec_raw};
 ghost use Rattle.basic_toml_grammar.specs.Marks.{valued};
 ghost use Rattle.basic_toml_grammar.specs.Trie.{nothing, mark_here};
 ghost use Rattle.basic_toml_grammar.specs.TrieStops.{try_put_rows, try_put_value, try_put_elements};
-ghost use Rattle.basic_toml_read.specs.SectionView.{raw_of, key_of, header_texts, rows_seen, rows_view, elements_view};
+ghost use Rattle.basic_toml_read.specs.SectionView.{raw_of, key_of, header_texts, rows_seen, rows_view, elements_view, NoneLeft};
 ghost use Rattle.basic_toml_grow.specs.declared.item.Table.{out-Table};
 ghost use Rattle.basic_toml_grow.specs.Item.{leaf, child_trie, table_trie};
 ghost use Rattle.basic_toml_grow.specs.Origins.{child_origins, table_within, with_more, or_else, entry};
 ghost use Rattle.basic_toml_grow.specs.Origins.{row_origins, rows_origins, value_origins, elements_origins};
 ghost use Rattle.basic_toml_grow.specs.Origins.{dotted_of, table_origin};
-ghost use Rattle.basic_toml_grow.specs.Rows.{EntersRow, EntersRows, Extends, Finishes, FinishesAll};
+ghost use Rattle.basic_toml_grow.specs.Rows.{EntersRow, EntersRows, Extends, Finishes, FinishesAll, one_row};
 ghost use Rattle.basic_toml_clash.specs.Clash.{NamesStop};
 ghost use Rattle.basic_toml_clash.specs.Simple.{are_all_plain as all_plain};
-ghost use Rattle.basic_toml_grow.specs.RowStops.{key_at, TellsLast, TellsRow, TellsExtended, SaysMet};
-ghost use Rattle.basic_toml_grow.specs.RowStops.{SaysHeld};
-ghost use Rattle.basic_toml_grow.specs.Rows.{one_row, reason, met_reason};
+ghost use Rattle.basic_toml_grow.specs.RowStops.{TellsLast, TellsRow, TellsExtended};
 
 use crate::item::{Child, Item, Table};
+use crate::row_clash::{row_clash, value_clash};
 use crate::simple::{index_until_repeat, with_first_rows, with_rows};
-use basic_toml_clash::{Clash, ItemsLeft, are_all_plain, are_plain, are_simple, drain, key_texts};
+use basic_toml_clash::{Clash, ItemsLeft, are_all_plain, are_plain, are_simple, drain};
 use basic_toml_read::{Element, Key, Raw, Row, Rows};
 use basic_toml_value::NESTING_LIMIT;
 use std::alloc::{AllocError, AllocFailed, Global};
@@ -37,7 +36,7 @@ const MANY: usize = 64;
 
 /// Why a row is not put into a table.
 #[derive(Clone, Copy, Drop)]
-enum Met {
+pub(crate) enum Met {
     Memory,
     /// What stands at one of its keys is in the way, with so many keys left from that key on.
     Header(usize),
@@ -180,63 +179,6 @@ fn extend<'de>(
     }
 }
 
-// The texts of the first of some keys.
-fn first_texts(alloc: Global, keys: &[Key<'_>], count: usize) -> Result<Vec<String>, AllocError>
-    ensures { IfOk result (λ texts. map string_bytes texts.items ≡ header_texts (take count keys.now)) }
-{
-    key_texts(alloc, &keys[..count.min(keys.len())])
-}
-
-// The clash of a row with these keys that periods follow, and this last key.
-fn row_clash(
-    alloc: Global,
-    met: Met,
-    keys: &[Key<'_>],
-    last: &str,
-    offset: usize,
-) -> Result<Clash, AllocError>
-    ensures same { IfOk result (λ clash. reason clash ≡ met_reason met) }
-    ensures named { IfOk result (λ clash. SaysMet (map key_of keys.now) (key_at offset last.now) met clash) }
-{
-    match met {
-        Met::Memory => Ok(Clash::Memory),
-        Met::Row => Clash::row(alloc, first_texts(alloc, keys, 1)?, last, offset),
-        Met::Header(left) => {
-            let number = (keys.len() + 1).saturating_sub(left);
-            let path = first_texts(alloc, keys, number)?;
-            match keys.get(number) {
-                Some(key) => Clash::row(alloc, path, key.text.as_str(), key.offset),
-                None => Clash::row(alloc, path, last, offset),
-            }
-        }
-    }
-}
-
-// The clash within a value, told as a clash of the row that holds the value.
-fn value_clash(
-    alloc: Global,
-    clash: Clash,
-    keys: &[Key<'_>],
-    last: &str,
-) -> Result<Clash, AllocError>
-    ensures same { IfOk result (λ held. reason held ≡ reason clash) }
-    ensures named { (offset : ℕ)
-        → IfOk result (λ held. SaysHeld (map key_of keys.now ++ key_at offset last.now ∷ []) clash held) }
-{
-    match clash {
-        Clash::Row(repeated) => {
-            let mut repeated = repeated;
-            let mut path = first_texts(alloc, keys, 1)?;
-            if keys.is_empty() {
-                path.push(String::from_str(alloc, last)?)?;
-            }
-            repeated.path = path;
-            Ok(Clash::Row(repeated))
-        }
-        clash => Ok(clash),
-    }
-}
-
 // The room that the rows of one key want, each of which makes an entry of its own.
 fn room_for(rows: &[Row<'_>]) -> usize {
     let mut room = 0;
@@ -256,7 +198,8 @@ fn make_room(table: &mut Table<'_>, more: usize) -> Result<(), AllocError>
 }
 
 /// Puts rows into a table of a level, in order. Into a table without entries a few simple ones go at once, and of many
-/// plain ones those before a key repeats; others go one by one. It is inlined, since most rows are simple.
+/// plain ones those before a key repeats; others go one by one. The vector of a few simple rows keeps its room. It is
+/// inlined, since most rows are simple.
 #[cycle(finishing)]
 #[inline(always)]
 pub(crate) fn take_rows<'de>(
@@ -272,18 +215,25 @@ pub(crate) fn take_rows<'de>(
         NamesStop (try_put_rows (rows_view rows.old) (table_trie table.old)) clash) }
     ensures origins { IfOk result (λ _. table_within table.new
         ≡ with_more (table_within table.old) (rows_origins section (rows_view rows.old))) }
+    ensures taken { IfOk result (λ _. NoneLeft rows.new) }
 {
-    if rows.rows.is_empty() {
+    if rows.rows.is_empty() && rows.parents.is_empty() {
         return Ok(());
     }
+    if rows.rows.len() <= FEW
+        && rows.parents.is_empty()
+        && table.entries.is_empty()
+        && are_simple(rows.rows.as_slice(), level)
+    {
+        return Ok(with_rows(alloc, table, &mut rows.rows, section)?);
+    }
     let Rows { parents, rows } = mem::replace(rows, Rows::none(alloc));
-    if parents.is_empty() && table.entries.is_empty() {
-        if rows.len() <= FEW && are_simple(rows.as_slice(), level) {
-            return Ok(with_rows(alloc, table, rows, section)?);
-        }
-        if rows.len() >= MANY && are_all_plain(rows.as_slice(), level) {
-            return take_many_rows(alloc, table, rows, section, level);
-        }
+    if rows.len() >= MANY
+        && parents.is_empty()
+        && table.entries.is_empty()
+        && are_all_plain(rows.as_slice(), level)
+    {
+        return take_many_rows(alloc, table, rows, section, level);
     }
     make_room(table, room_for(rows.as_slice()))?;
     enter_rows(

@@ -1,6 +1,6 @@
 //! Simple rows: a table without entries takes them all at once.
 
-ghost use Rattle.std.specs.Prelude.{◌≡◌, ◌≤◌, IfOk, IsTrue, length, map, take, drop};
+ghost use Rattle.std.specs.Prelude.{◌≡◌, ◌≤◌, [], IfOk, IsTrue, length, map, take, drop};
 ghost use Rattle.basic_toml_value.specs.Keys.{are_distinct};
 ghost use Rattle.basic_toml_value.specs.Entries.{seen, pair_seen};
 ghost use Rattle.basic_toml_value.specs.Text.{text_bytes};
@@ -48,19 +48,22 @@ fn entry_of<'de>(key: Text, row: Row<'de>, section: usize) -> Pair<Child<'de>>
     }
 }
 
-// The entries that rows of a section become, each of one key and a plain value.
+// The entries that rows of a section become, each of one key and a plain value. No row is left then.
 fn entries_of<'de>(
     alloc: Global,
-    rows: Vec<Row<'de>>,
+    rows: &mut Vec<Row<'de>>,
     section: usize,
 ) -> Result<Vec<Pair<Child<'de>>>, AllocError>
-    ensures { IfOk result (λ entries. seen entries.items ≡ new_entries section rows.entry.items) }
+    ensures entries { IfOk result (λ entries. seen entries.items ≡ new_entries section rows.old.items) }
+    ensures taken { IfOk result (λ _. rows.new.items ≡ []) }
 {
     let mut entries = Vec::with_capacity(alloc, rows.len())?;
-    for row in rows {
+    for row in rows.drain(..) {
         let key = Text::from_str(alloc, row.key.as_str())?;
         entries.push_reserved(entry_of(key, row, section));
     }
+    // Nothing is left to clear. A drain of rows that borrow from a text does not say so.
+    rows.clear();
     Ok(entries)
 }
 
@@ -87,17 +90,18 @@ fn first_entries_of<'de>(
 }
 
 /// Puts a few rows of a section in the place of a table's entries: their keys differ, and each has one key and a plain
-/// value.
+/// value. Their vector keeps its room.
 #[inline(never)]
 pub(crate) fn with_rows<'de>(
     alloc: Global,
     table: &mut Table<'de>,
-    rows: Vec<Row<'de>>,
+    rows: &mut Vec<Row<'de>>,
     section: usize,
 ) -> Result<(), AllocError>
-    requires distinct { IsTrue (are_distinct (map key_of rows.items)) }
-    requires few { length rows.items ≤ few }
-    ensures { IfOk result (λ _. table.new ≡ with_entries table.old (new_entries section rows.entry.items)) }
+    requires distinct { IsTrue (are_distinct (map key_of rows.old.items)) }
+    requires few { length rows.old.items ≤ few }
+    ensures after { IfOk result (λ _. table.new ≡ with_entries table.old (new_entries section rows.old.items)) }
+    ensures taken { IfOk result (λ _. rows.new.items ≡ []) }
 {
     let entries = Pairs::from_parts(entries_of(alloc, rows, section)?, Index::none());
     let _ = mem::replace(&mut table.entries, entries);

@@ -11,7 +11,10 @@ pub mod FieldsGathered
 pub mod ValuesGathered
 pub mod HeadersRead
 pub mod RowsRead
+pub mod RootRead
+pub mod SectionRead
 pub mod ListsRead
+pub mod SectionsHandedOut
 pub mod ListIsAnswered
 pub mod DeepFurtherOn
 pub mod DeepStops

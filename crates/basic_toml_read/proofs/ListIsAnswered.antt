@@ -10,12 +10,13 @@ use Rattle.basic_toml_grammar.specs.Reader.{section_list_of}
 use Rattle.basic_toml_grammar.proofs.Grammar.ReaderIsComplete.{list_found}
 use Rattle.basic_toml_grammar.proofs.Grammar.ReaderIsSound.{list_read}
 use Rattle.basic_toml_grammar.proofs.Nesting.DeepStopsAreTooDeep.{deep_stops_are_too_deep}
+use Rattle.basic_toml_explain.specs.declared.stop.Stop.{Stop}
 use Rattle.basic_toml_explain.specs.declared.stop.Why.{Why}
 use Rattle.basic_toml_explain.specs.declared.stop.Why.TheVariants.{Memory, Deep}
 use Rattle.basic_toml_explain.specs.Explain.{IsDue, IsOutside, ExplainsWhy}
 use Rattle.basic_toml_read.specs.declared.section.Section as code
 use Rattle.basic_toml_read.specs.StopsAt.{Misses}
-use Rattle.basic_toml_read.specs.Lists.{ReadsList}
+use Rattle.basic_toml_read.specs.SectionsRead.{ReadsList, IsStop}
 use Rattle.basic_toml_read.specs.StopsReached.{AtDeep}
 use Rattle.basic_toml_read.specs.SectionsAnswer.{HoldsMore, IsRefused, memory, deep, outside}
 use Rattle.basic_toml_read.specs.SectionsAnswer.{AnswersSections}
@@ -23,7 +24,7 @@ use Rattle.basic_toml_read.specs.SectionsAnswer.{AnswersSections}
 -- the list that is read is the one of the grammar
 pub list_answered : (bytes : List ℕ) (list : Vec code.Section Global) → ReadsList bytes (Ok list)
     → AnswersSections bytes (Ok list)
-list_answered bytes list r = (list_read (folded bytes) _ r.0, r.1)
+list_answered bytes list r = (list_read (folded bytes) _ r.is, r.limit)
 
 none_found : (bytes : List ℕ) → section_list_of (folded bytes) ≡ None → IsOutside bytes
 none_found bytes none sections g =
@@ -34,12 +35,17 @@ of_grammar : (bytes : List ℕ) (fault : Fault) → HoldsMore (folded bytes) →
 of_grammar bytes fault more none within (inl m) = subst (IsRefused bytes) (sym m) (memory more)
 of_grammar bytes fault more none within (inr s) = outside (s (none_found bytes none)) within
 
-pub stop_answered : (bytes : List ℕ) (w : Why) (at : ℕ) (fault : Fault) → IsUtf8 bytes → HoldsMore (folded bytes)
+why_answered : (bytes : List ℕ) (w : Why) (at : ℕ) (fault : Fault) → IsUtf8 bytes → HoldsMore (folded bytes)
     → AtDeep (DeepStop nesting_limit (folded bytes)) w at
     → Misses w (section_list_of (folded bytes)) (λ sections. nesting_limit < highest_level sections)
     → ExplainsWhy bytes w at fault → IsRefused bytes fault
-stop_answered bytes Memory at fault u more low m e = subst (IsRefused bytes) (sym e) (memory more)
-stop_answered bytes Deep at fault u more low m e =
+why_answered bytes Memory at fault u more low m e = subst (IsRefused bytes) (sym e) (memory more)
+why_answered bytes Deep at fault u more low m e =
     subst (IsRefused bytes) (sym e) (deep (λ sections g. m sections (list_found (folded bytes) sections g))
     (deep_stops_are_too_deep nesting_limit at bytes u low) low)
-stop_answered bytes _ at fault u more low m e = of_grammar bytes fault more m low e
+why_answered bytes _ at fault u more low m e = of_grammar bytes fault more m low e
+
+-- the error of a stop is one that the text allows
+pub stop_answered : (bytes : List ℕ) (stop : Stop) (fault : Fault) → IsUtf8 bytes → IsStop bytes stop
+    → ExplainsWhy bytes stop.why stop.at fault → IsRefused bytes fault
+stop_answered bytes stop fault u is e = why_answered bytes stop.why stop.at fault u is.more is.deep is.missed e

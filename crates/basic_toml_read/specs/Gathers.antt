@@ -9,6 +9,8 @@ use Rattle.basic_toml_read.specs.declared.section.Raw as raws
 use Rattle.basic_toml_read.specs.declared.section.Element as code_elements
 use Rattle.basic_toml_read.specs.declared.section.Key as code_keys
 use Rattle.basic_toml_read.specs.declared.section.Row as code_rows
+use Rattle.basic_toml_read.specs.declared.section.Rows as code_tables
+use Rattle.basic_toml_read.specs.declared.section.Rows.{out-Rows}
 use Rattle.basic_toml_read.specs.declared.scalar.Valued.{Valued}
 use Rattle.basic_toml_explain.specs.declared.stop.Stop.{Stop}
 use Rattle.basic_toml_explain.specs.declared.stop.Why.{Why}
@@ -50,6 +52,9 @@ and_lines a b = record { parents = a.parents ++ b.parents; rows = a.rows ++ b.ro
 
 abbrev pub lines_of : Gathered → Lines
 lines_of g = record { parents = g.parents.items; rows = g.rows.items }
+
+abbrev pub lines_in : code_tables.Rows → Lines
+lines_in rs = record { parents = (out-Rows rs).parents.items; rows = (out-Rows rs).rows.items }
 
 abbrev pub lines_view : Lines → Rows
 lines_view l = rows_seen l.parents l.rows

@@ -8,3 +8,4 @@ pub mod StopsReached
 pub mod Gathers
 pub mod Lists
 pub mod SectionsAnswer
+pub mod SectionsRead

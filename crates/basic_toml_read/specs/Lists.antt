@@ -1,19 +1,16 @@
 -- What reading headers, rows and whole texts answers.
-use Rattle.std.specs.Prelude.{◌⊎◌, ◌≡◌, ◌≤◌, ◌<◌, ◌+◌, ℕ, List, [], ◌∷◌, ◌++◌, length, map, Option, Some, None}
-use Rattle.std.specs.Prelude.{Result, Ok, Err, Vec}
+use Rattle.std.specs.Prelude.{◌⊎◌, ◌≡◌, ◌≤◌, ◌<◌, ◌+◌, ℕ, List, [], ◌∷◌, length, map, Option, Some, None}
+use Rattle.std.specs.Prelude.{Result, Ok, Err}
 use Rattle.std.specs.Str.{IsCharBoundary}
-use Rattle.std.specs.declared.alloc.Global.{Global}
 use Rattle.basic_toml_value.specs.Nesting.{nesting_limit}
 use Rattle.basic_toml_tokens.specs.Ascii as ascii
-use Rattle.basic_toml_tokens.specs.Text.{Text, text_at, folded, is_comment, after_blanks}
+use Rattle.basic_toml_tokens.specs.Text.{Text, text_at, is_comment, after_blanks}
 use Rattle.basic_toml_read.specs.declared.header.Header.{Header}
 use Rattle.basic_toml_read.specs.declared.header.HeaderKeys.{HeaderKeys}
-use Rattle.basic_toml_read.specs.declared.section.Rows as code_rows
-use Rattle.basic_toml_read.specs.declared.section.Section as code_sections
 use Rattle.basic_toml_explain.specs.declared.stop.Stop.{Stop}
-use Rattle.basic_toml_explain.specs.declared.stop.Why.TheVariants.{Memory, Newline}
+use Rattle.basic_toml_explain.specs.declared.stop.Why.TheVariants.{Newline}
 use Rattle.basic_toml_read.specs.declared.values.Gathered.{Gathered}
-use Rattle.basic_toml_grammar.specs.Grammar.{after_comment_by, after_gap, with_root}
+use Rattle.basic_toml_grammar.specs.Grammar.{after_comment_by, after_gap}
 use Rattle.basic_toml_grammar.specs.Sections.{no_rows, Section}
 use Rattle.basic_toml_grammar.specs.Levels.{rows_level, section_level, highest_level}
 use Rattle.basic_toml_grammar.specs.Reader as reader
@@ -23,7 +20,7 @@ use Rattle.basic_toml_read.specs.FrontOf.{keys_of, header_of, rows_of, sections_
 use Rattle.basic_toml_grammar.specs.Entering.{and_then}
 use Rattle.basic_toml_grammar.specs.DeepStops.{DeepSections}
 use Rattle.basic_toml_read.specs.Gathers.{Lines, no_lines, and_lines, lines_of, lines_view}
-use Rattle.basic_toml_read.specs.SectionView.{rows_view, key_of, section_of}
+use Rattle.basic_toml_read.specs.SectionView.{key_of}
 use Rattle.basic_toml_read.specs.StopsAt.{Misses}
 use Rattle.basic_toml_read.specs.StopsReached.{LeadsTo, in_sections}
 
@@ -106,30 +103,21 @@ abbrev pub PassesGaps : List ℕ → ℕ → Gathered → Gathered → Result (O
 PassesGaps bytes start old new result = IsGap (text_at bytes start) → (result ≡ Ok None)
     × (lines_of new ≡ lines_of old)
 
--- all rows so far, of which none is left
-abbrev pub TakesAllRows : Gathered → Gathered → code_rows.Rows → Type 0
-TakesAllRows old new rows = (rows_view rows ≡ lines_view (lines_of old)) × (lines_of new ≡ no_lines)
-
--- the rows before the first header, as a section if there are any
-abbrev pub TakesRoot : Gathered → Gathered → Vec code_sections.Section Global → Vec code_sections.Section Global
-    → Result (Unit {0}) Stop → Type 0
-TakesRoot old new before after (Ok _) = (lines_of new ≡ no_lines)
-    × (map section_of after.items ≡ map section_of before.items ++ with_root (lines_view (lines_of old)) [])
-TakesRoot old new before after (Err stop) = (stop.why ≡ Memory) × (lines_of old ≡ no_lines → ⊥)
-
 -- the sections from a header on
 abbrev pub sections_from : reader.Headed → Option (List Section)
 sections_from h = and_then (line_end_at h.rest)
     (λ next. and_then (rows_of next) (λ rows. and_then (sections_of rows.1) (λ sections.
     Some (record { at = h.offset; header = h.keys; is_array = h.is_array; rows = rows.0 } ∷ sections))))
 
-pub record IsSectionRead (bytes : List ℕ) (at : ℕ) (new : Gathered) (before after : Vec code_sections.Section Global)
-    (next : Option ℕ) : Type 0 where
-  pub made : code_sections.Section
-  pub pushed : after.items ≡ before.items ++ (made ∷ [])
+-- a header with the rows after it, as they were gathered
+abbrev pub section_seen : Header → Lines → Section
+section_seen h lines =
+    record { at = h.at; header = map key_of h.keys.items; is_array = h.is_array; rows = lines_view lines }
+
+pub record IsSectionRead (bytes : List ℕ) (at : ℕ) (new : Gathered) (h : Header) (next : Option ℕ) : Type 0 where
   pub rest : Text
   pub is : and_then (header_of (text_at bytes at)) sections_from
-      ≡ and_then (sections_of rest) (λ sections. Some (section_of made ∷ sections))
+      ≡ and_then (sections_of rest) (λ sections. Some (section_seen h (lines_of new) ∷ sections))
   pub ends : NextAt bytes rest next
   pub from : IsFrom (at + 1) next
   pub leads : (text : Text) → text_at bytes at ≡ after_blanks text → (p : ℕ) → DeepSections nesting_limit rest p
@@ -137,20 +125,10 @@ pub record IsSectionRead (bytes : List ℕ) (at : ℕ) (new : Gathered) (before 
   pub backs : (text : Text) → text_at bytes at ≡ after_blanks text → (p : ℕ) → DeepSections nesting_limit text p
       → DeepSections nesting_limit rest p
   pub holes : (text : Text) → text_at bytes at ≡ after_blanks text → LeadsTo (in_sections rest) (in_sections text)
-  pub none : lines_of new ≡ no_lines
-  pub limit : section_level (section_of made) ≤ nesting_limit
+  pub limit : section_level (section_seen h (lines_of new)) ≤ nesting_limit
 
-abbrev pub ReadsSection : List ℕ → ℕ → Gathered → Vec code_sections.Section Global → Vec code_sections.Section Global
-    → Result (Option ℕ) Stop → Type 0
-ReadsSection bytes at new before after (Ok next) = IsSectionRead bytes at new before after next
-ReadsSection bytes at new before after (Err stop) =
+abbrev pub ReadsSection : List ℕ → ℕ → Gathered → Result (Header × Option ℕ) Stop → Type 0
+ReadsSection bytes at new (Ok read) = IsSectionRead bytes at new read.0 read.1
+ReadsSection bytes at new (Err stop) =
     Misses stop.why (and_then (header_of (text_at bytes at)) sections_from)
     (λ sections. nesting_limit < highest_level sections)
-
--- the section list of the text, within the limit
-abbrev pub ReadsList : List ℕ → Result (Vec code_sections.Section Global) Stop → Type 0
-ReadsList bytes (Ok list) =
-    (section_list_of (folded bytes) ≡ Some (map section_of list.items))
-    × (highest_level (map section_of list.items) ≤ nesting_limit)
-ReadsList bytes (Err stop) =
-    Misses stop.why (section_list_of (folded bytes)) (λ sections. nesting_limit < highest_level sections)

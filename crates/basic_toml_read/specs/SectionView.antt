@@ -1,5 +1,5 @@
 -- What the code's values, rows and sections stand for.
-use Rattle.std.specs.Prelude.{ℕ, List, [], ◌∷◌, ◌++◌, map, take, drop}
+use Rattle.std.specs.Prelude.{◌≡◌, ℕ, List, [], ◌∷◌, ◌++◌, map, take, drop}
 use Rattle.std.specs.String.{string_bytes}
 use Rattle.basic_toml_read.specs.declared.section.Raw.{fold-Raw}
 use Rattle.basic_toml_read.specs.declared.section.Raw as raws
@@ -82,6 +82,10 @@ rows_seen parents rs = rows_from (map key_of parents) (map lined_of rs)
 
 abbrev pub rows_view : tables.Rows → Rows
 rows_view rs = rows_seen (out-Rows rs).parents.items (out-Rows rs).rows.items
+
+-- no row is left, and no key before one
+abbrev pub NoneLeft : tables.Rows → Type 0
+NoneLeft rs = ((out-Rows rs).parents.items ≡ []) × ((out-Rows rs).rows.items ≡ [])
 
 -- the texts of the keys of a header
 abbrev pub header_texts : List keys.Key → KeyTexts

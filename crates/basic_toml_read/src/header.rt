@@ -1,5 +1,5 @@
 //! Reads the header of a section: its brackets and its keys.
-ghost use Rattle.std.specs.Prelude.{IfErr};
+ghost use Rattle.std.specs.Prelude.{◌≡◌, [], IfErr};
 ghost use Rattle.std.specs.Str.{IsCharBoundary};
 ghost use Rattle.basic_toml_value.specs.Nesting.{nesting_limit};
 ghost use Rattle.basic_toml_explain.specs.Stop.{StopsInside};
@@ -16,7 +16,7 @@ use basic_toml_explain::{Stop, Why};
 use basic_toml_tokens::after_punctuation;
 use std::alloc::Global;
 
-// The list of a header's keys has room for so many from the start, which few headers pass.
+// A header's keys have room for so many from the start, which few headers pass.
 const ROOM: usize = 3;
 
 /// A header and where it ends. `at` is the offset of its first bracket.
@@ -35,16 +35,23 @@ struct HeaderKeys<'de> {
     end: usize,
 }
 
-// The keys of a header, the first of which has level 2.
+// The keys of a header, the first of which has level 2. They go into a vector that holds none yet.
 #[inline(always)]
-fn header_keys<'de>(alloc: Global, text: &'de str, at: usize) -> Result<HeaderKeys<'de>, Stop>
-    requires { IsCharBoundary text.now at }
+fn header_keys<'de>(
+    alloc: Global,
+    text: &'de str,
+    at: usize,
+    keys: Vec<Key<'de>>,
+) -> Result<HeaderKeys<'de>, Stop>
+    requires boundary { IsCharBoundary text.now at }
+    requires none { keys.items ≡ [] }
     ensures read { ReadsHeaderKeys text.now at result }
     ensures inside { IfErr result (λ stop. StopsInside text.now stop) }
     ensures deep { IfDeep (DeepKeys nesting_limit 2 (text_at text.now at)) result }
     ensures hole { InKeyHole (text_at text.now at) text.now result }
 {
-    let mut keys = Vec::with_capacity(alloc, ROOM)?;
+    let mut keys = keys;
+    keys.try_reserve(ROOM)?;
     let mut offset = at;
     let mut level = 2;
     loop {
@@ -65,9 +72,15 @@ fn header_keys<'de>(alloc: Global, text: &'de str, at: usize) -> Result<HeaderKe
     }
 }
 
-/// The header whose first bracket stands at `at`.
-pub(crate) fn header_at<'de>(alloc: Global, text: &'de str, at: usize) -> Result<Header<'de>, Stop>
-    requires { IsCharBoundary text.now at }
+/// The header whose first bracket stands at `at`. Its keys go into a vector that holds none yet.
+pub(crate) fn header_at<'de>(
+    alloc: Global,
+    text: &'de str,
+    at: usize,
+    keys: Vec<Key<'de>>,
+) -> Result<Header<'de>, Stop>
+    requires boundary { IsCharBoundary text.now at }
+    requires none { keys.items ≡ [] }
     ensures read { ReadsHeader text.now at result }
     ensures inside { IfErr result (λ stop. StopsInside text.now stop) }
     ensures deep { IfDeep (DeepHeader nesting_limit (text_at text.now at)) result }
@@ -76,7 +89,12 @@ pub(crate) fn header_at<'de>(alloc: Global, text: &'de str, at: usize) -> Result
     let inner = closed(text, at, b'[', Why::Newline)?;
     match after_punctuation(text, inner, b'[') {
         None => {
-            let HeaderKeys { keys, end } = header_keys(alloc, text, after_blanks(text, inner))?;
+            let HeaderKeys { keys, end } = header_keys(
+                alloc,
+                text,
+                after_blanks(text, inner),
+                keys,
+            )?;
             let end = closed(text, end, b']', Why::Bracket)?;
             Ok(Header {
                 at,
@@ -86,7 +104,12 @@ pub(crate) fn header_at<'de>(alloc: Global, text: &'de str, at: usize) -> Result
             })
         }
         Some(first) => {
-            let HeaderKeys { keys, end } = header_keys(alloc, text, after_blanks(text, first))?;
+            let HeaderKeys { keys, end } = header_keys(
+                alloc,
+                text,
+                after_blanks(text, first),
+                keys,
+            )?;
             let last = closed(text, end, b']', Why::Bracket)?;
             let end = closed(text, last, b']', Why::Bracket)?;
             Ok(Header {

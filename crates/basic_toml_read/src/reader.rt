@@ -1,5 +1,5 @@
 //! Reads a text to its section list, line by line: headers, and the rows after each.
-ghost use Rattle.std.specs.Prelude.{IfErr, IfOk, ◌≡◌, ◌≤◌, []};
+ghost use Rattle.std.specs.Prelude.{IfErr, IfOk, Ok, true, List, ◌≡◌, ◌≤◌, ◌<◌, []};
 ghost use Rattle.std.specs.Str.{IsCharBoundary};
 ghost use Rattle.basic_toml_value.specs.Nesting.{nesting_limit};
 ghost use Rattle.basic_toml_tokens.specs.Text.{text_at, folded};
@@ -7,16 +7,19 @@ ghost use Rattle.basic_toml_explain.specs.Stop.{StopsInside};
 ghost use Rattle.basic_toml_read.specs.StopsReached.{IfDeep, IfDeepSection, InHole, InSectionHole, in_rows, in_text};
 ghost use Rattle.basic_toml_grammar.specs.DeepStops.{DeepRows, DeepStop};
 ghost use Rattle.basic_toml_read.specs.SectionsAnswer.{AnswersSections, HoldsMore};
-ghost use Rattle.basic_toml_read.specs.Lists.{EndsOrStops, EndsLineAt, ReadsRows, PassesGaps, TakesAllRows, TakesRoot, ReadsSection, ReadsList};
-ghost use Rattle.basic_toml_read.specs.Gathers.{lines_of, no_lines};
+ghost use Rattle.basic_toml_read.specs.SectionsRead.{Begins, IsReady, IsEmpty, SoFar, ReadsNext, ReadsList, left_to_read};
+ghost use Rattle.basic_toml_read.specs.Lists.{EndsOrStops, EndsLineAt, ReadsRows, PassesGaps, ReadsSection};
+ghost use Rattle.basic_toml_read.specs.Gathers.{lines_in, lines_of, no_lines};
+ghost use Rattle.basic_toml_grammar.specs.Sections as spec_sections;
 
 use crate::front::{after_blanks, after_comment, after_line, end_of_line};
-use crate::header::header_at;
-use crate::section::{Rows, Section};
-use crate::values::{Gathered, taken};
+use crate::header::{Header, header_at};
+use crate::section::{Key, Rows, Section};
+use crate::values::Gathered;
 use basic_toml_explain::{End, ReadError, Stop, Why, error_at};
 use basic_toml_tokens::{after_punctuation, start_of_text};
-use std::alloc::{AllocError, Global};
+use std::alloc::Global;
+use std::mem;
 
 // Where the next line begins, if this one ends at an offset.
 #[inline]
@@ -79,82 +82,117 @@ impl<'de> Gathered<'de> {
 }
 
 impl<'de> Gathered<'de> {
-    // The rows so far, of which none is left.
-    #[inline(always)]
-    fn all_rows(&mut self) -> Result<Rows<'de>, AllocError>
-        ensures { IfOk result (TakesAllRows self.old self.new) }
-    {
-        Ok(Rows {
-            parents: taken(&mut self.parents, 0)?,
-            rows: taken(&mut self.rows, 0)?,
-        })
-    }
-
-    // Adds the rows before the first header as a section, if there are any.
-    fn root(&mut self, sections: &mut Vec<Section<'de>>) -> Result<(), Stop>
-        requires { self.old.rows.items ≡ [] → self.old.parents.items ≡ [] }
-        ensures { TakesRoot self.old self.new sections.old sections.new result }
-    {
-        if self.rows.is_empty() {
-            return Ok(());
-        }
-        let rows = self.all_rows()?;
-        sections.push(Section {
-            at: 0,
-            is_array: false,
-            header: Vec::new(self.alloc),
-            rows,
-        })?;
-        Ok(())
-    }
-
-    // Adds the section whose header stands at `at`, and answers where the bracket of the next header stands.
+    // Reads the header whose bracket stands at `at`, and the rows after it. It answers the header, whose keys go into a
+    // vector that holds none yet, and where the bracket of the next header stands.
     fn section(
         &mut self,
         text: &'de str,
         at: usize,
-        sections: &mut Vec<Section<'de>>,
-    ) -> Result<Option<usize>, Stop>
+        keys: Vec<Key<'de>>,
+    ) -> Result<(Header<'de>, Option<usize>), Stop>
         requires boundary { IsCharBoundary text.now at }
         requires none { lines_of self.old ≡ no_lines }
-        ensures read { ReadsSection text.now at self.new sections.old sections.new result }
+        requires empty { keys.items ≡ [] }
+        ensures read { ReadsSection text.now at self.new result }
         ensures inside { IfErr result (λ stop. StopsInside text.now stop) }
         ensures deep { IfDeepSection text.now at result }
         ensures hole { InSectionHole text.now at result }
     {
-        let header = header_at(self.alloc, text, at)?;
+        let header = header_at(self.alloc, text, at, keys)?;
         let line = next_line(text, header.end)?;
         let next = self.rows(text, line, header.keys.len() + 1)?;
-        let rows = self.all_rows()?;
-        sections.push(Section {
-            at: header.at,
-            is_array: header.is_array,
-            header: header.keys,
-            rows,
-        })?;
-        Ok(next)
+        Ok((header, next))
+    }
+
+    // Exchanges the rows so far, and the keys before them, with those of a section.
+    #[inline(always)]
+    fn exchange(&mut self, rows: &mut Rows<'de>)
+        ensures taken { lines_in rows.new ≡ lines_of self.old }
+        ensures given { lines_of self.new ≡ lines_in rows.old }
+    {
+        mem::swap(&mut self.parents, &mut rows.parents);
+        mem::swap(&mut self.rows, &mut rows.rows);
+    }
+}
+
+/// Reads the sections of a text one after another: the rows before the first header, if there are any, and then each
+/// header with its rows (TOML v0.5.0, "Table").
+#[derive(Drop)]
+pub struct SectionReader<'de> {
+    text: &'de str,
+    // It holds the rows before the first header until they are handed out, and else none.
+    gathered: Gathered<'de>,
+    // Where the bracket of the next header stands.
+    bracket: Option<usize>,
+}
+
+impl<'de> SectionReader<'de> {
+    /// A reader at the start of a text.
+    ///
+    /// # Errors
+    ///
+    /// The stop within the rows before the first header. `error_at` of `basic_toml_explain` makes an error of it.
+    pub fn new(alloc: Global, text: &'de str) -> Result<SectionReader<'de>, Stop>
+        ensures { Begins text.now result }
+    {
+        let mut gathered = Gathered {
+            alloc,
+            elements: Vec::new(alloc),
+            parents: Vec::new(alloc),
+            rows: Vec::new(alloc),
+        };
+        let bracket = gathered.rows(text, start_of_text(text), 1)?;
+        Ok(SectionReader {
+            text,
+            gathered,
+            bracket,
+        })
+    }
+
+    /// Reads the next section into one that is empty, whose vectors are used again, and answers whether there was one.
+    ///
+    /// # Errors
+    ///
+    /// The stop, where the text does not go on as a section. `error_at` of `basic_toml_explain` makes an error of it.
+    pub fn next(&mut self, section: &mut Section<'de>) -> Result<bool, Stop>
+        requires ready { IsReady self.old }
+        requires empty { IsEmpty section.old }
+        ensures read { (list : List spec_sections.Section) → SoFar self.old list
+            → ReadsNext list self.new section.new result }
+        ensures ready { IfOk result (λ _. IsReady self.new) }
+        ensures text { self.new.text ≡ self.old.text }
+        ensures later { result ≡ Ok true → left_to_read self.new < left_to_read self.old }
+    {
+        if !self.gathered.rows.is_empty() {
+            section.at = 0;
+            section.is_array = false;
+            self.gathered.exchange(&mut section.rows);
+            return Ok(true);
+        }
+        let Some(at) = self.bracket else {
+            return Ok(false);
+        };
+        self.gathered.exchange(&mut section.rows);
+        let keys = mem::replace(&mut section.header, Vec::new(self.gathered.alloc));
+        let (header, bracket) = self.gathered.section(self.text, at, keys)?;
+        self.bracket = bracket;
+        section.at = header.at;
+        section.is_array = header.is_array;
+        let _ = mem::replace(&mut section.header, header.keys);
+        self.gathered.exchange(&mut section.rows);
+        Ok(true)
     }
 }
 
 /// The section list of a text, or where reading stops.
 pub(crate) fn list<'de>(alloc: Global, text: &'de str) -> Result<Vec<Section<'de>>, Stop>
-    ensures read { ReadsList text.now result }
-    ensures inside { IfErr result (λ stop. StopsInside text.now stop) }
-    ensures more { IfErr result (λ _. HoldsMore (folded text.now)) }
-    ensures deep { IfDeep (DeepStop nesting_limit (folded text.now)) result }
-    ensures hole { InHole (in_text (folded text.now)) text.now result }
+    ensures { ReadsList text.now result }
 {
-    let mut gathered = Gathered {
-        alloc,
-        elements: Vec::new(alloc),
-        parents: Vec::new(alloc),
-        rows: Vec::new(alloc),
-    };
+    let mut reader = SectionReader::new(alloc, text)?;
     let mut sections = Vec::new(alloc);
-    let mut bracket = gathered.rows(text, start_of_text(text), 1)?;
-    gathered.root(&mut sections)?;
-    while let Some(at) = bracket {
-        bracket = gathered.section(text, at, &mut sections)?;
+    let mut section = Section::empty(alloc);
+    while reader.next(&mut section)? {
+        sections.push(section.take()?)?;
     }
     Ok(sections)
 }

@@ -1,12 +1,15 @@
 //! What a section list is made of: sections, the keys of their headers, their rows, and values as they are written.
-ghost use Rattle.std.specs.Prelude.{◌≡◌, [], take};
+ghost use Rattle.std.specs.Prelude.{◌≡◌, [], take, IfOk};
 ghost use Rattle.basic_toml_read.specs.declared.section.Row.{out-Row};
 ghost use Rattle.basic_toml_read.specs.declared.section.Rows.{out-Rows};
 ghost use Rattle.basic_toml_read.specs.SectionView.{section_of};
+ghost use Rattle.basic_toml_read.specs.SectionsRead.{IsEmpty};
 
 use crate::key_text::KeyText;
+use crate::values::taken;
 use basic_toml_value::Float;
-use std::alloc::Global;
+use std::alloc::{AllocError, Global};
+use std::mem;
 
 /// A value as it is written (TOML v0.5.0, "Integer" to "Inline Table").
 #[cycle(raws)]
@@ -113,6 +116,42 @@ pub struct Section<'de> {
 }
 
 impl<'de> Section<'de> {
+    /// A section without keys and rows, which takes no memory.
+    pub fn empty(alloc: Global) -> Section<'de>
+        ensures { IsEmpty result }
+    {
+        Section {
+            at: 0,
+            is_array: false,
+            header: Vec::new(alloc),
+            rows: Rows::none(alloc),
+        }
+    }
+
+    /// Lets what is in it go, and keeps the memory of its vectors.
+    pub fn clear(&mut self)
+        ensures { IsEmpty self.new }
+    {
+        self.header.clear();
+        self.rows.parents.clear();
+        self.rows.rows.clear();
+    }
+
+    // Takes what is in it, in vectors that are as long as they have to be.
+    pub(crate) fn take(&mut self) -> Result<Section<'de>, AllocError>
+        ensures { IfOk result (λ section. (section_of section ≡ section_of self.old) × IsEmpty self.new) }
+    {
+        let alloc = *self.header.allocator();
+        let parents = taken(&mut self.rows.parents, 0)?;
+        let rows = taken(&mut self.rows.rows, 0)?;
+        Ok(Section {
+            at: self.at,
+            is_array: self.is_array,
+            header: mem::replace(&mut self.header, Vec::new(alloc)),
+            rows: Rows { parents, rows },
+        })
+    }
+
     /// The byte offset of the header's first bracket, and 0 where there is no header.
     pub fn at(&self) -> usize
         ensures { result ≡ (section_of self.now).at }

@@ -1,6 +1,8 @@
 pub mod ItemData
 pub mod OrderIsFree
 pub mod SectionsEntered
+pub mod SectionsGrown
+pub mod TreeOfText
 pub mod SectionsResolved
 pub mod SectionsFaultIsOne
 pub mod SectionsStopped
@@ -8,4 +10,5 @@ pub mod TrieData
 pub mod HeadersMake
 pub mod Origins
 pub mod Nodes
+pub mod HeadersKept
 pub mod Foretold

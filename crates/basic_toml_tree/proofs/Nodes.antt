@@ -3,7 +3,6 @@ pub mod NodesInOrder
 pub mod NodesStand
 pub mod NodesCome
 pub mod PlainNodes
-pub mod LastSection
 pub mod MadeNodes
 pub mod RowNodesTold
 pub mod NodesOfValues

@@ -1,7 +1,7 @@
--- The sections of the code entered one after another, each of which gives its rows away.
+-- The sections of the code entered one after another, each of which gives its rows and its header away.
 use Rattle.std.proofs.Common.{◌≡◌, inl, inr, ℕ, suc, ◌+◌, ◌<◌, ◌≤◌, ◌==◌, true, false, List, [], ◌∷◌, ◌++◌, refl}
 use Rattle.std.proofs.Common.{ap}
-use Rattle.std.proofs.Common.{sym, ◌∙◌, subst, arith, map, length, take, drop, get_or, set, zero, Option}
+use Rattle.std.proofs.Common.{sym, ◌∙◌, subst, arith, map, length, take, drop, get_or, zero, Option}
 use Rattle.std.proofs.Common.{Some, None, Result, Ok, Err}
 use Rattle.std.proofs.Common.{IsErrAnd, Vec, Global}
 use Rattle.std.specs.Vec.{vec_len}
@@ -44,43 +44,23 @@ use Rattle.basic_toml_tree.proofs.SectionsEntered.{no_clash}
 use Rattle.basic_toml_tree.proofs.SectionsEntered.{fits_all, split_at}
 
 -- What is known after so many sections: those before are entered, and those that are left are as they were.
-pub record Goes (old now : List code.Section) (n : ℕ) (t : Trie) : Type 0 where
+pub record Goes (old now : List code.Section) (n : ℕ) (t : Trie) (headers : List (ℕ × List Key)) : Type 0 where
   pub entered : Entered (map section_of (take n old)) t
   pub count : length now ≡ length old
   pub left : (k : ℕ) (d : code.Section) → n ≤ k → get_or now k d ≡ get_or old k d
-  pub heads : map head (map section_of now) ≡ map head (map section_of old)
+  pub heads : headers ≡ map head (map section_of (take n old))
 
-pub begins : (old : List code.Section) (t : Trie) → t ≡ fresh → Goes old old 0 t
-begins old t is = record {
+pub begins : (old : List code.Section) (t : Trie) (headers : List (ℕ × List Key)) → t ≡ fresh → headers ≡ []
+    → Goes old old 0 t headers
+begins old t headers is none = record {
   entered = record { stands = inr (refl, is); shallow = refl };
   count = refl;
   left = λ k d within. refl;
-  heads = refl;
+  heads = none;
 }
 
 pub brings_none : (t : Table) → table_trie t ≡ fresh → Brought [] (table_within t).below
 brings_none t is = none_brought (table_within t).below (ap (λ w. w.below) (fresh_within t is))
-
--- a section that only gives its rows away leaves the headers as they are
-abbrev head_of : code.Section → ℕ × List Key
-head_of s = head (section_of s)
-
-heads_mapped : (ss : List code.Section) → map head (map section_of ss) ≡ map head_of ss
-heads_mapped [] = refl
-heads_mapped (s ∷ ss) = ap (λ hs. head_of s ∷ hs) (heads_mapped ss)
-
-heads_set : (ss : List code.Section) (n : ℕ) (s d : code.Section) → head_of s ≡ head_of (get_or ss n d)
-    → map head_of (set ss n s) ≡ map head_of ss
-heads_set [] n s d same = refl
-heads_set (t ∷ ss) zero s d same = ap (λ h. h ∷ map head_of ss) same
-heads_set (t ∷ ss) (suc n) s d same = ap (λ hs. head_of t ∷ hs) (heads_set ss n s d same)
-
-pub heads_kept : (ss : List code.Section) (n : ℕ) (was s : code.Section) → was ≡ get_or ss n was → s.at ≡ was.at
-    → s.header ≡ was.header
-    → map head (map section_of (set ss n s)) ≡ map head (map section_of ss)
-heads_kept ss n was s is at header =
-    let same : head_of s ≡ head_of was = rw (at, header) refl in
-    heads_mapped (set ss n s) ∙ heads_set ss n s was (same ∙ ap head_of is) ∙ sym (heads_mapped ss)
 
 keyed_front : (xs ys : List Section) → all_keyed (xs ++ ys) ≡ true → all_keyed xs ≡ true
 keyed_front [] ys keyed = refl
@@ -94,8 +74,8 @@ taken_count [] (suc n) within = absurd (omega (arith, within))
 taken_count (s ∷ ss) (suc n) within = ap suc (taken_count ss n (omega (arith, within)))
 
 -- the list, split at the next section
-module _ (old now : List code.Section) (n : ℕ) (t : Trie) (goes : Goes old now n t) (s : code.Section)
-    (within : n < length now) (is : s ≡ get_or now n s) where
+module _ (old now : List code.Section) (n : ℕ) (t : Trie) (headers : List (ℕ × List Key))
+    (goes : Goes old now n t headers) (s : code.Section) (within : n < length now) (is : s ≡ get_or now n s) where
   was : s ≡ get_or old n s
   was = is ∙ goes.left n s (omega arith)
 
@@ -107,19 +87,21 @@ module _ (old now : List code.Section) (n : ℕ) (t : Trie) (goes : Goes old now
       ap (map section_of) (take_more old n s (omega (arith, goes.count)) ∙ ap (λ s. take n old ++ s ∷ []) (sym was))
       ∙ map-append section_of (take n old) (s ∷ [])
 
-  pub goes_on : (next : List code.Section) (u : Trie)
+  pub goes_on : (next : List code.Section) (u : Trie) (more_headers : List (ℕ × List Key))
       → IsIn (walk s.is_array (rows_view s.rows) (header_texts s.header.items) t) (rows_view s.rows)
       (1 + steps_to s.is_array (header_texts s.header.items) t) u
       → length next ≡ length now → ((k : ℕ) (d : code.Section) → n + 1 ≤ k → get_or next k d ≡ get_or now k d)
-      → map head (map section_of next) ≡ map head (map section_of now) → Goes old next (n + 1) u
-  goes_on next u is_in count same heads = record {
+      → more_headers ≡ headers ++ head (section_of s) ∷ [] → Goes old next (n + 1) u more_headers
+  goes_on next u more_headers is_in count same heads = record {
     entered =
         subst (λ ss. Entered ss u) (sym more)
         (one_more (map section_of (take n old)) (section_of s) (header_texts s.header.items) t refl
         goes.entered u is_in);
     count = count ∙ goes.count;
     left = λ k d past. same k d past ∙ goes.left k d (omega (arith, past));
-    heads = heads ∙ goes.heads;
+    heads = heads ∙ ap (λ hs. hs ++ head (section_of s) ∷ []) goes.heads
+        ∙ sym (map-append head (map section_of (take n old)) (section_of s ∷ []))
+        ∙ ap (map head) (sym more);
   }
 
   -- what the rows of the section bring
@@ -224,11 +206,11 @@ pub none_crossed : (o : Option ℕ) → ((at : ℕ) → o ≡ Some at → ⊥) �
 none_crossed None other = refl
 none_crossed (Some at) other = absurd (other at refl)
 
-pub resolved : (old : List code.Section) (n : ℕ) (tree : Tree)
-    → Goes old tree.sections.items n (table_trie tree.root)
+pub resolved : (old now : List code.Section) (n : ℕ) (tree : Tree)
+    → Goes old now n (table_trie tree.root) tree.headers
     → length old ≤ n → all_keyed (map section_of old) ≡ true
     → Brought (map section_of (take n old)) (table_within tree.root).below → IsResolved (map section_of old) tree
-resolved old n tree goes past keyed brought =
+resolved old now n tree goes past keyed brought =
     let all : take n old ≡ old = take_all n old past in
     let t = table_trie tree.root in
     let entered = subst (λ (ss : List code.Section). Entered (map section_of ss) (table_trie tree.root)) all
@@ -238,7 +220,7 @@ resolved old n tree goes past keyed brought =
       fits = fits_all (map section_of old) t keyed (sections_have_keys old) entered;
       grown = sym (table_trie_data tree.root) ∙ whole_tree (map section_of old) t entered;
       stands = entered.stands;
-      heads = goes.heads;
+      heads = goes.heads ∙ ap (λ ss. map head (map section_of ss)) all;
       within = sections_have_keys old;
       origins = made_apart (table_within tree.root).below (map section_of old)
           (subst (λ (ss : List code.Section). Brought (map section_of ss) (table_within tree.root).below) all

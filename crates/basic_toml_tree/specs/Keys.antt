@@ -1,5 +1,5 @@
 -- Which keys of headers and rows a node keeps, of those that lead to it.
-use Rattle.std.specs.Prelude.{◌≡◌, ◌+◌, ℕ, true, false, List, [], ◌∷◌, ◌++◌, length, slice_get, take, IfSome, get_or}
+use Rattle.std.specs.Prelude.{◌≡◌, ◌+◌, ℕ, true, false, List, [], ◌∷◌, ◌++◌, length, take, IfSome, get_or}
 use Rattle.std.specs.Borrow.{Bor}
 use Rattle.basic_toml_grammar.specs.Sections.{KeyTexts, Section}
 use Rattle.basic_toml_grammar.specs.Steps.{key, Path, begins, steps_of, keys_of}
@@ -10,13 +10,14 @@ use Rattle.basic_toml_tree.specs.declared.node.Node.{Node}
 use Rattle.basic_toml_tree.specs.declared.spot.Spot.{Spot}
 use Rattle.basic_toml_tree.specs.declared.trail.Trail.{Trail}
 use Rattle.basic_toml_tree.specs.declared.trail.Trail.TheVariants.{Header, Row}
+use Rattle.basic_toml_tree.specs.Headers.{keys_at}
 use Rattle.basic_toml_tree.specs.Origin.{header_of, spot_is_made}
 use Rattle.basic_toml_grow.specs.Origins.{table_within}
 use Rattle.basic_toml_tree.specs.Resolve.{IsResolved}
 
 -- the keys of the header of a section of a tree
 abbrev pub header_at : Tree → ℕ → KeyTexts
-header_at tree n = header_of (slice_get tree.sections.items n)
+header_at tree n = header_of (keys_at tree.headers n)
 
 -- this header begins with these keys
 abbrev pub Leads : Tree → KeyTexts → ℕ → Type 0

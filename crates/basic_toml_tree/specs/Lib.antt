@@ -1,10 +1,13 @@
 pub mod Data
 pub mod Nodes
 pub mod Paths
+pub mod Headers
 pub mod Origin
 pub mod Outer
 pub mod FirstStop
 pub mod Resolve
+pub mod OfText
+pub mod Rest
 pub mod Order
 pub mod Keys
 pub mod Stands

@@ -1,11 +1,9 @@
 -- Where a node comes from, as the tree keeps it: what made it, where it begins, and which keys lead to it.
 use Rattle.std.specs.Prelude.{ℕ, Bool, true, false, ◌||◌, ◌==◌, if◌then◌else◌, List, [], ◌∷◌, ◌++◌, codes, take}
-use Rattle.std.specs.Prelude.{map, slice_get, Option, Some, None}
+use Rattle.std.specs.Prelude.{Option, Some, None}
 use Rattle.std.specs.Option.{option_or}
-use Rattle.basic_toml_grammar.specs.Sections.{KeyTexts}
+use Rattle.basic_toml_grammar.specs.Sections.{Key, KeyTexts, texts}
 use Rattle.basic_toml_grammar.specs.Nodes as grammar
-use Rattle.basic_toml_read.specs.declared.section.Section as code
-use Rattle.basic_toml_read.specs.SectionView.{section_of, header_texts}
 use Rattle.basic_toml_read.specs.declared.section.Raw.{Raw, out-Raw}
 use Rattle.basic_toml_read.specs.declared.section.Raw.TheOpen.{Raw-F}
 use Rattle.basic_toml_read.specs.declared.section.Element.{Element}
@@ -16,6 +14,7 @@ use Rattle.basic_toml_grow.specs.declared.item.Item.{Item, out-Item}
 use Rattle.basic_toml_grow.specs.declared.item.Item.TheOpen.{Item-F}
 use Rattle.basic_toml_grow.specs.declared.item.Child.{Child}
 use Rattle.basic_toml_grow.specs.declared.item.Table.{Table, out-Table}
+use Rattle.basic_toml_tree.specs.Headers.{keys_at, last_of}
 use Rattle.basic_toml_tree.specs.declared.tree.Tree.{Tree}
 use Rattle.basic_toml_tree.specs.declared.node.Node.{Node}
 use Rattle.basic_toml_tree.specs.declared.spot.Spot.{Spot}
@@ -41,7 +40,7 @@ is_made node = spot_is_made node.count node.spot
 
 -- the offset of the last section
 abbrev pub last_at : Tree → Option ℕ
-last_at tree = grammar.last_at (map section_of tree.sections.items)
+last_at tree = last_of tree.headers
 
 abbrev pub item_name : Item-F Item Child Table → List ℕ
 item_name Item-F.Nothing = codes "dotted table"
@@ -108,14 +107,15 @@ is_array_literal (spots.Plain found) = raw_is_array (out-Raw found.now)
 unfoldable pub offset_of : Node → Option ℕ
 offset_of node = if is_array_literal node.spot then outer_of node else start_of node
 
-abbrev pub header_of : Option code.Section → KeyTexts
+-- the texts of the keys of a header, of which there are none past the last one
+abbrev pub header_of : Option (List Key) → KeyTexts
 header_of None = []
-header_of (Some section) = header_texts section.header.items
+header_of (Some keys) = texts keys
 
-abbrev pub trail_keys : List code.Section → ℕ → Trail → KeyTexts
-trail_keys sections count (trails.Header section) = take count (header_of (slice_get sections section))
-trail_keys sections count (trails.Row section first) = header_of (slice_get sections section) ++ first.now ∷ []
+abbrev pub trail_keys : List (ℕ × List Key) → ℕ → Trail → KeyTexts
+trail_keys headers count (trails.Header section) = take count (header_of (keys_at headers section))
+trail_keys headers count (trails.Row section first) = header_of (keys_at headers section) ++ first.now ∷ []
 
 -- the keys that lead to it
 unfoldable pub keys_of : Node → KeyTexts
-keys_of node = trail_keys node.tree.now.sections.items node.count node.trail
+keys_of node = trail_keys node.tree.now.headers node.count node.trail

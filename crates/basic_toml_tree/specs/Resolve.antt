@@ -30,7 +30,7 @@ pub record IsResolved (sections : List Section) (tree : Tree) : Type 0 where
   pub fits : depth (tree_of_sections sections) ≤ nesting_limit
   pub grown : table_data tree.root ≡ tree_of_sections sections
   pub stands : Stands sections (table_trie tree.root)
-  pub heads : map head (map section_of tree.sections.items) ≡ map head sections
+  pub heads : tree.headers ≡ map head sections
   pub within : all_keyed_within sections ≡ true
   pub origins : (p : Path) → is_made (located sections) p ≡ false
       → (table_within tree.root).below p ≡ sections_origins 0 (located sections) p

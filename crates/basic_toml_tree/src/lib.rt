@@ -6,13 +6,16 @@
 #![tactic(auto)]
 
 mod entries;
+mod headers;
 pub mod laws;
 mod node;
 mod spot;
+mod text;
 mod trail;
 mod tree;
 mod values;
 
 pub use entries::{Elements, Entries};
 pub use node::Node;
+pub use text::tree_of;
 pub use tree::{Tree, resolve};

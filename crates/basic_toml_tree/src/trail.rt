@@ -27,8 +27,8 @@ pub(crate) fn first_key<'t, 'de>(
     ensures { MatchOption result (slice_get (header_at tree.now section) count ≡ None)
         (λ key. slice_get (header_at tree.now section) count ≡ Some key.now) }
 {
-    match tree.sections.get(section) {
-        Some(section) => match section.header.get(count) {
+    match tree.headers.get(section) {
+        Some(keys) => match keys.get(count) {
             Some(key) => Some(key.text.as_str()),
             None => None,
         },
@@ -40,8 +40,8 @@ pub(crate) fn first_key<'t, 'de>(
 pub(crate) fn header_len(tree: &Tree<'_>, section: usize) -> usize
     ensures { result ≡ length (header_at tree.now section) }
 {
-    match tree.sections.get(section) {
-        Some(section) => section.header.len(),
+    match tree.headers.get(section) {
+        Some(keys) => keys.len(),
         None => 0,
     }
 }
@@ -65,8 +65,8 @@ fn goes_on(header: &[Key<'_>], before: &[Key<'_>], key: &str) -> bool
 fn leads(tree: &Tree<'_>, section: usize, before: &[Key<'_>], key: &str) -> bool
     ensures { result ≡ begins (steps_of (keys_in before.now ++ key.now ∷ [])) (steps_of (header_at tree.now section)) }
 {
-    match tree.sections.get(section) {
-        Some(section) => goes_on(section.header.as_slice(), before, key),
+    match tree.headers.get(section) {
+        Some(header) => goes_on(header, before, key),
         None => false,
     }
 }
@@ -79,7 +79,7 @@ fn section_with(tree: &Tree<'_>, before: &[Key<'_>], key: &str, likely: usize) -
     if leads(tree, likely, before, key) {
         return likely;
     }
-    for number in 0..tree.sections.len() {
+    for number in 0..tree.headers.len() {
         if leads(tree, number, before, key) {
             return number;
         }
@@ -100,10 +100,9 @@ pub(crate) fn section_below(
         (n : ℕ) → Leads tree.now keys n → Leads tree.now keys result }
     ensures within { length (take count (header_at tree.now section)) < usize.MAX }
 {
-    let Some(section) = tree.sections.get(section) else {
+    let Some(keys) = tree.headers.get(section) else {
         return section_with(tree, &[], key, likely);
     };
-    let keys = section.header.as_slice();
     let before = if count < keys.len() {
         &keys[..count]
     } else {
@@ -120,8 +119,8 @@ pub(crate) fn header_texts(
 ) -> Result<Vec<String>, AllocError>
     ensures { IfOk result (λ texts. map string_bytes texts.items ≡ header_at tree.now section) }
 {
-    match tree.sections.get(section) {
-        Some(section) => key_texts(alloc, section.header.as_slice()),
+    match tree.headers.get(section) {
+        Some(keys) => key_texts(alloc, keys),
         None => Ok(Vec::new(alloc)),
     }
 }

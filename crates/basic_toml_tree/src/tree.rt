@@ -9,11 +9,12 @@ ghost use Rattle.basic_toml_tree.specs.Order.{ResolvesInAnyOrder};
 ghost use Rattle.basic_toml_tree.specs.Resolve.{Resolves};
 ghost use Rattle.basic_toml_tree.specs.Stands.{StandsAt};
 
+use crate::headers::Headers;
 use crate::node::Node;
 use crate::spot::Spot;
 use crate::trail::Trail;
 use crate::values::into_table;
-use basic_toml_clash::crossed_value;
+use basic_toml_clash::first_crossed_value;
 use basic_toml_grow::{Table, enter_section};
 use basic_toml_read::{ReadError, ReadErrorKind, Section};
 use basic_toml_value as values;
@@ -22,8 +23,7 @@ use std::alloc::{AllocError, Global};
 /// The tree of a section list. `Tree::root` is its first node, and `Tree::into_table` makes a table of it.
 #[derive(Drop)]
 pub struct Tree<'de> {
-    /// The headers, whose rows have gone into the tree.
-    pub(crate) sections: Vec<Section<'de>>,
+    pub(crate) headers: Headers<'de>,
     pub(crate) root: Table<'de>,
 }
 
@@ -45,14 +45,10 @@ impl<'de> Tree<'de> {
     }
 
     /// The offset of the last section.
-    #[tactic(auto, using(crate::proofs::Nodes::LastSection::last_is_last, crate::proofs::Nodes::LastSection::none_is_last))]
     pub(crate) fn last_at(&self) -> Option<usize>
         ensures { result ≡ last_at self.now }
     {
-        match self.sections.last() {
-            Some(section) => Some(section.at),
-            None => None,
-        }
+        self.headers.last_at()
     }
 
     /// The table of the document. Strings and keys are moved into it, and the tree's memory is given back on the way.
@@ -64,7 +60,7 @@ impl<'de> Tree<'de> {
         ensures table { IfOk result (λ moved. table_of_members (entries moved) ≡ table_data self.entry.root) }
         ensures memory { IfErr result (λ _. HoldsAny (table_data self.entry.root)) }
     {
-        let Tree { sections: _, root } = self;
+        let Tree { headers: _, root } = self;
         into_table(alloc, root)
     }
 }
@@ -100,20 +96,22 @@ fn grow<'de>(alloc: Global, sections: Vec<Section<'de>>) -> Result<Tree<'de>, Re
     let mut sections = sections;
     if sections.is_empty() {
         return Ok(Tree {
-            sections,
+            headers: Headers::new(alloc),
             root: Table::empty(alloc),
         });
     }
-    if let Some(at) = crossed_value(alloc, sections.as_slice())? {
+    if let Some(at) = first_crossed_value(alloc, sections.as_slice())? {
         return Err(ReadError::at(at, ReadErrorKind::DottedKeyInvalidType));
     }
     let mut root = Table::empty(alloc);
+    let mut headers = Headers::new(alloc);
     for number in 0..sections.len() {
         let section = &mut sections[number];
         match enter_section(alloc, &mut root, section, number) {
             Ok(()) => {}
             Err(clash) => return Err(clash.error(alloc, section)),
         }
+        headers.push(section.at, &mut section.header)?;
     }
-    Ok(Tree { sections, root })
+    Ok(Tree { headers, root })
 }

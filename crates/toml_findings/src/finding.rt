@@ -1,6 +1,5 @@
 //! What is wrong with bytes, and where.
 ghost use Rattle.std.specs.Prelude.{◌≡◌, Some, IfOk, string_bytes, true, false};
-ghost use Rattle.basic_toml.specs.Reading.{GivesTree};
 ghost use Rattle.toml_findings.specs.Findings as spec;
 ghost use Rattle.basic_toml_explain.specs.Error.{kind_of};
 
@@ -9,8 +8,7 @@ use crate::excerpt::{excerpt_of, line_of};
 use crate::front::valid_front;
 use basic_toml_error::line_col;
 use basic_toml_explain::{ReadError, ReadErrorKind};
-use basic_toml_read::sections;
-use basic_toml_tree::{Tree, resolve};
+use basic_toml_tree::{Tree, tree_of};
 use std::alloc::{AllocError, Global};
 use std::fmt;
 
@@ -117,22 +115,13 @@ pub fn check(alloc: Global, input: &[u8]) -> Result<Option<Finding>, AllocError>
 fn read_text<'de>(alloc: Global, text: &'de str) -> Result<Tree<'de>, Unread>
     ensures { spec.Reads text.now result }
 {
-    match tree_in(alloc, text) {
+    match tree_of(alloc, text) {
         Ok(tree) => Ok(tree),
         Err(error) => {
             let finding = refusal(alloc, text, &error)?;
             Err(Unread::Refused(finding))
         }
     }
-}
-
-// The tree of a text's document, or why there is none.
-#[tactic(auto, using(basic_toml::proofs::ReadingEnds::tree_given))]
-fn tree_in<'de>(alloc: Global, text: &'de str) -> Result<Tree<'de>, ReadError>
-    ensures { GivesTree text.now result }
-{
-    let sections = sections(alloc, text)?;
-    resolve(alloc, sections)
 }
 
 // What is told of an error; want of memory alone has no place.

@@ -2,6 +2,8 @@
 use Rattle.std.proofs.Common.{◌≡◌, ◌⊎◌, inl, inr, ◌≤◌, ◌<◌, ℕ, zero, suc, Bool, true, false, List, [], ◌∷◌, ◌++◌, length, map, take, Some, None}
 use Rattle.std.proofs.Common.{refl, ap, sym, ◌∙◌, arith, nat_lt, subst, get_or}
 use Rattle.std.specs.Prelude.{slice_get}
+use Rattle.std.specs.Option.{option_map}
+use Rattle.std.proofs.lemmas.Option.{slice_get_past}
 use Rattle.std.proofs.lemmas.List.{take-map}
 use Rattle.std.specs.Prelude.{◌||◌, IfSome}
 use Rattle.std.specs.List.{list_any}
@@ -12,7 +14,6 @@ use Rattle.basic_toml_grammar.proofs.Clash.PathsAgree.{append_none, keys-append}
 use Rattle.basic_toml_grammar.specs.Sections.{KeyTexts}
 use Rattle.basic_toml_grammar.specs.Steps.{Step, key, number, Path, step_eq, begins, steps_of, keys_of}
 use Rattle.basic_toml_read.specs.declared.section.Key.{Key}
-use Rattle.basic_toml_read.specs.declared.section.Section as code
 use Rattle.basic_toml_read.specs.SectionView.{header_texts, key_of}
 use Rattle.basic_toml_tree.specs.declared.tree.Tree.{Tree}
 use Rattle.basic_toml_tree.specs.Origin.{header_of}
@@ -34,16 +35,8 @@ no_keys [] none = refl
 no_keys (k ∷ keys) none = absurd (omega (arith, none))
 
 -- past the last section there is no header
-pub no_header : (sections : List code.Section) (n : ℕ) → length sections ≤ n → header_of (slice_get sections n) ≡ []
-no_header [] n past = refl
-no_header (s ∷ sections) zero past = absurd (omega (arith, past))
-no_header (s ∷ sections) (suc n) past = no_header sections n (omega (arith, past))
-
-pub header_there : (sections : List code.Section) (n : ℕ) (s : code.Section) → n < length sections
-    → s ≡ get_or sections n s → header_of (slice_get sections n) ≡ header_texts s.header.items
-header_there [] n s within read = absurd (omega (arith, within))
-header_there (t ∷ sections) zero s within read = ap (λ s. header_texts s.header.items) (sym read)
-header_there (t ∷ sections) (suc n) s within read = header_there sections n s (omega (arith, within)) read
+no_header : (tree : Tree) (n : ℕ) → length tree.headers ≤ n → header_at tree n ≡ []
+no_header tree n past = ap (λ o. header_of (option_map (λ h. h.1) o)) (slice_get_past tree.headers n past)
 
 -- the text of the key at a number, and past the last
 pub key_there : (keys : List Key) (n : ℕ) (k : Key) → n < length keys → k ≡ get_or keys n k
@@ -80,7 +73,7 @@ past_all (l ∷ keys) (suc count) zero k none = absurd (cc)
 past_all (l ∷ keys) (suc count) (suc n) k none = past_all keys count n k none
 
 -- where none of the headers begins with the keys, none leads to them
-pub none_leads : (tree : Tree) (before : KeyTexts) (k : List ℕ) (count : ℕ) → length tree.sections.items ≤ count
+pub none_leads : (tree : Tree) (before : KeyTexts) (k : List ℕ) (count : ℕ) → length tree.headers ≤ count
     → ((n : ℕ) → n < count → begins (steps_of (before ++ k ∷ [])) (steps_of (header_at tree n)) ≡ false)
     → (n : ℕ) → Leads tree (before ++ k ∷ []) n → ⊥
 none_leads tree before k count all none n leads = go (nat_lt n count) refl
@@ -88,8 +81,8 @@ none_leads tree before k count all none n leads = go (nat_lt n count) refl
     go : (b : Bool) → nat_lt n count ≡ b → ⊥
     go true e = false≢true (sym (none n (grind (arith, e))) ∙ leads)
     go false e =
-        let past : length tree.sections.items ≤ n = grind (arith, e, all) in
-        false≢true (none_begins before k (header_at tree n) (no_header tree.sections.items n past) ∙ leads)
+        let past : length tree.headers ≤ n = grind (arith, e, all) in
+        false≢true (none_begins before k (header_at tree n) (no_header tree n past) ∙ leads)
 
 pub first_keys : (keys : List Key) (n : ℕ) → header_texts (take n keys) ≡ take n (header_texts keys)
 first_keys keys n =

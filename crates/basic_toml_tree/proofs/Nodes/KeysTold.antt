@@ -13,8 +13,6 @@ use Rattle.basic_toml_grammar.specs.IndexedPath.{Located, located_after, located
 use Rattle.basic_toml_grammar.specs.Trie.{Trie, standing}
 use Rattle.basic_toml_grammar.specs.Nodes as grammar
 use Rattle.basic_toml_grammar.proofs.Clash.PathsAgree.{append_none, count_in, keys-append, keys_cut, cuts_are, counts_are}
-use Rattle.basic_toml_read.specs.declared.section.Section as code
-use Rattle.basic_toml_read.specs.SectionView.{section_of}
 use Rattle.basic_toml_tree.specs.declared.tree.Tree.{Tree}
 use Rattle.basic_toml_tree.specs.declared.node.Node.{Node}
 use Rattle.basic_toml_grow.specs.declared.item.Child.{Child, out-Child}
@@ -32,6 +30,7 @@ use Rattle.basic_toml_tree.proofs.Nodes.RowsReach.{joined}
 use Rattle.basic_toml_tree.proofs.Nodes.OneSection.{some_same, stands_before, EntryBears, entry_bears}
 use Rattle.basic_toml_tree.proofs.Nodes.RowNodesTold.{located_any, located_keyed, some_then}
 use Rattle.basic_toml_tree.proofs.Origins.RowsAreNodes.{Same, of_node, of_origin, sections_same}
+use Rattle.basic_toml_tree.specs.Headers.{keys_at}
 use Rattle.basic_toml_tree.specs.Origin.{header_of, spot_is_made, table_is_made, keys_of as kept_keys, trail_keys}
 use Rattle.basic_toml_tree.specs.FirstStop.{Stands}
 use Rattle.basic_toml_tree.specs.Resolve.{IsResolved, head}
@@ -74,13 +73,11 @@ first_are (k ∷ keys) (l ∷ header) e =
     ∙ ap (λ keys. k ∷ keys) (first_are keys header both.1)
 
 -- a header of the list that leads to what headers made
-abbrev keys_at : List Section → ℕ → KeyTexts
-keys_at [] n = []
-keys_at (s ∷ ss) zero = texts s.header
-keys_at (s ∷ ss) (suc n) = keys_at ss n
+abbrev header_in : List Section → ℕ → KeyTexts
+header_in ss n = header_of (keys_at (map head ss) n)
 
 some_header : (before ss : List Section) (p : Path) → list_any (λ l. begins p l.path) (located_from before ss) ≡ true
-    → (n : ℕ) × (begins (steps_of (keys_of p)) (steps_of (keys_at ss n)) ≡ true)
+    → (n : ℕ) × (begins (steps_of (keys_of p)) (steps_of (header_in ss n)) ≡ true)
 some_header before [] p made = absurd (false≢true made)
 some_header before (s ∷ ss) p made =
     go (begins p (located_after before s).path) refl made (some_header (s ∷ before) ss p)
@@ -88,8 +85,8 @@ some_header before (s ∷ ss) p made =
     go : (b : Bool) → begins p (located_after before s).path ≡ b
         → (b || list_any (λ l. begins p l.path) (located_from (s ∷ before) ss)) ≡ true
         → (list_any (λ l. begins p l.path) (located_from (s ∷ before) ss) ≡ true
-        → (n : ℕ) × (begins (steps_of (keys_of p)) (steps_of (keys_at ss n)) ≡ true))
-        → (n : ℕ) × (begins (steps_of (keys_of p)) (steps_of (keys_at (s ∷ ss) n)) ≡ true)
+        → (n : ℕ) × (begins (steps_of (keys_of p)) (steps_of (header_in ss n)) ≡ true))
+        → (n : ℕ) × (begins (steps_of (keys_of p)) (steps_of (header_in (s ∷ ss) n)) ≡ true)
     go true e made later = (
       0,
       subst (λ keys. begins (steps_of (keys_of p)) (steps_of keys) ≡ true) (located_keys s before)
@@ -98,15 +95,9 @@ some_header before (s ∷ ss) p made =
     go false e made later = let r = later made in (suc r.0, r.1)
 
 -- the headers that the tree keeps are those of the list
-heads_at : (kept : List code.Section) (ss : List Section) (n : ℕ) → map head (map section_of kept) ≡ map head ss
-    → header_of (slice_get kept n) ≡ keys_at ss n
-heads_at [] [] n same = refl
-heads_at [] (s ∷ ss) n same = absurd (cc)
-heads_at (c ∷ kept) [] n same = absurd (cc)
-heads_at (c ∷ kept) (s ∷ ss) zero same =
-    let one : head (section_of c) ≡ head s = cc in ap (λ h. texts h.1) one
-heads_at (c ∷ kept) (s ∷ ss) (suc n) same =
-    let rest : map head (map section_of kept) ≡ map head ss = cc in heads_at kept ss n rest
+heads_at : (sections : List Section) (tree : Tree) → IsResolved sections tree → (n : ℕ)
+    → header_at tree n ≡ header_in sections n
+heads_at sections tree resolved n = ap (λ headers. header_of (keys_at headers n)) resolved.heads
 
 some_leads : (sections : List Section) (tree : Tree) → IsResolved sections tree → (p : Path)
     → list_any (λ l. begins p l.path) (located sections) ≡ true → (n : ℕ) × Leads tree (keys_of p) n
@@ -114,7 +105,7 @@ some_leads sections tree resolved p made =
     let r = some_header [] sections p made in (
       r.0,
       subst (λ keys. begins (steps_of (keys_of p)) (steps_of keys) ≡ true)
-          (sym (heads_at tree.sections.items sections r.0 resolved.heads)) r.1,
+          (sym (heads_at sections tree resolved r.0)) r.1,
     )
 
 -- below a table at a key, where headers made what is there
@@ -250,13 +241,13 @@ keys_told keys node same sections p = foretold sections p node (λ found. keys �
     let kept = is.stands.keys sections is.resolved made in
     let tree = node.tree.now in
     same
-    ∙ ap (trail_keys tree.sections.items node.count) kept.keeps.trail
+    ∙ ap (trail_keys tree.headers node.count) kept.keeps.trail
     ∙ ap (λ n. take n (header_at tree kept.keeps.section)) kept.count
     ∙ first_are (keys_of p) (header_at tree kept.keeps.section) kept.keeps.leads)
 
 -- the sections of the list where they stand
 located_at : (before ss : List Section) (n : ℕ) (l : Located) → slice_get (located_from before ss) n ≡ Some l
-    → (keys_at ss n ≡ texts l.section.header) × (keys_of l.path ≡ texts l.section.header)
+    → (header_in ss n ≡ texts l.section.header) × (keys_of l.path ≡ texts l.section.header)
 located_at before [] n l there = absurd (cc)
 located_at before (s ∷ ss) zero l there =
     let is : located_after before s ≡ l = cc in (
@@ -282,7 +273,7 @@ key_after q w y r others k l at same =
     ∙ get_past (keys_of w) (keys_of y) k ∙ first_after y r others k l same
 
 row_keys : (tree : Tree) (n count : ℕ) (keys : KeyTexts) (k : List ℕ) (trail : Trail) → KeepsRow tree n keys k trail
-    → trail_keys tree.sections.items count trail
+    → trail_keys tree.headers count trail
     ≡ header_at tree n ++ get_or keys (length (header_at tree n)) k ∷ []
 row_keys tree n count keys k (Header m) kept = absurd kept
 row_keys tree n count keys k (Row m first) kept =
@@ -319,7 +310,7 @@ module _ (sections : List Section) (node : Node) (p : Path) (is : IsNodeAt secti
     (not : grammar.is_made (located sections) p ≡ false)
   where
     abbrev SaysKeys : grammar.Node → Type 0
-    SaysKeys found = trail_keys node.tree.now.sections.items node.count node.trail ≡ found.key_path
+    SaysKeys found = trail_keys node.tree.now.headers node.count node.trail ≡ found.key_path
 
     row_apart : list_any (λ l. rows_clash l.section.rows) (located sections) ≡ false
     row_apart =
@@ -346,7 +337,7 @@ module _ (sections : List Section) (node : Node) (p : Path) (is : IsNodeAt secti
         let at = located_at [] sections found.number found.located found.there in
         let number : x.section ≡ found.number = omega (arith, found.section, entry.4) in
         let header : header_at tree x.section ≡ texts found.located.section.header =
-        ap (header_at tree) number ∙ heads_at tree.sections.items sections found.number is.resolved.heads ∙ at.0 in
+        ap (header_at tree) number ∙ heads_at sections tree is.resolved found.number ∙ at.0 in
         let here : tree_origins tree (q ++ key k ∷ []) ≡ Some x =
         ap (λ s. tree_origins tree (q ++ s ∷ [])) (sym step) ∙ is.resolved.origins (q ++ s ∷ []) apart ∙ entry.3 in
         let own : x.made ≡ false =
@@ -391,5 +382,5 @@ all_told keys node same sections p is = go (grammar.is_made (located sections) p
     go true e = keys_told keys node same sections p is e
     go false e =
         some_then (grammar.node_at sections p)
-        (λ found. trail_keys node.tree.now.sections.items node.count node.trail ≡ found.key_path)
+        (λ found. trail_keys node.tree.now.headers node.count node.trail ≡ found.key_path)
         (λ found. keys ≡ found.key_path) (λ found told. same ∙ told) (row_told sections node p is e)

@@ -12,7 +12,6 @@ use Rattle.basic_toml_grammar.specs.Trie.{Trie, nothing, standing, below}
 use Rattle.basic_toml_grammar.specs.Nodes as grammar
 use Rattle.basic_toml_grammar.proofs.Tries.MarksInATrie.{descend, standing_of}
 use Rattle.basic_toml_grammar.proofs.Tries.SectionsInATrie.{marks_put}
-use Rattle.basic_toml_read.specs.SectionView.{section_of}
 use Rattle.basic_toml_grow.specs.declared.item.Item.{Item, out-Item}
 use Rattle.basic_toml_grow.specs.declared.item.Item.TheOpen.{Item-F}
 use Rattle.basic_toml_grow.specs.declared.item.Child.{Child}
@@ -21,6 +20,7 @@ use Rattle.basic_toml_tree.specs.declared.node.Node.{Node}
 use Rattle.basic_toml_tree.specs.declared.spot.Spot.{Spot}
 use Rattle.basic_toml_tree.specs.declared.spot.Spot.TheVariants as spots
 use Rattle.basic_toml_grow.specs.Item.{item_trie, table_trie}
+use Rattle.basic_toml_tree.specs.Headers.{last_of}
 use Rattle.basic_toml_tree.specs.Origin.{spot_is_made, is_made, spot_name, name_of, holds_tables, item_name, last_at}
 use Rattle.basic_toml_tree.specs.Origin.{start_of, outer_of, offset_of, is_array_literal}
 use Rattle.basic_toml_tree.specs.FirstStop.{Stands, only_root}
@@ -175,15 +175,10 @@ module _ (sections : List Section) (node : Node) where
         arrays (s ∷ p) there.0,
       )
 
-last_heads : (xs ys : List Section) → map head xs ≡ map head ys → grammar.last_at xs ≡ grammar.last_at ys
-last_heads [] [] same = refl
-last_heads [] (y ∷ ys) same = absurd (cc)
-last_heads (x ∷ xs) [] same = absurd (cc)
-last_heads (x ∷ []) (y ∷ []) same = let one : head x ≡ head y = cc in ap (λ h. Some h.0) one
-last_heads (x ∷ []) (y ∷ z ∷ ys) same = absurd (cc)
-last_heads (x ∷ w ∷ xs) (y ∷ []) same = absurd (cc)
-last_heads (x ∷ w ∷ xs) (y ∷ z ∷ ys) same =
-    let rest : map head (w ∷ xs) ≡ map head (z ∷ ys) = cc in last_heads (w ∷ xs) (z ∷ ys) rest
+last_in : (sections : List Section) → last_of (map head sections) ≡ grammar.last_at sections
+last_in [] = refl
+last_in (s ∷ []) = refl
+last_in (s ∷ t ∷ sections) = last_in (t ∷ sections)
 
 -- what is said of a node, if the section list foretells one
 abbrev pub ForetoldWhere : List Section → Path → Node → (grammar.Node → Type 0) → Type 0
@@ -202,7 +197,7 @@ foretold sections p node P told is made = rw made (told is made)
 
 pub last_same : (sections : List Section) (p : Path) (node : Node) → IsNodeAt sections p node
     → last_at node.tree.now ≡ grammar.last_at sections
-last_same sections p node is = last_heads (map section_of node.tree.now.sections.items) sections is.resolved.heads
+last_same sections p node is = ap last_of is.resolved.heads ∙ last_in sections
 
 -- its name, where it begins, the offset around it and the one that names it are as they are foretold
 pub made_name_told : (name : List ℕ) (node : Node) → name ≡ name_of node → (sections : List Section) (p : Path)

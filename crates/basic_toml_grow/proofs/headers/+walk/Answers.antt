@@ -295,4 +295,5 @@ enter_item-returns-in_default t c =
           c.in_default.not-Nothing c.in_default.not-Table c.in_default.not-Tables);
       named = value_stopped c.args.is_array (rows_view c.args.rows.now) c.args.rest.now there seen.0 seen.1;
       origins = tt;
+      taken = tt;
     }

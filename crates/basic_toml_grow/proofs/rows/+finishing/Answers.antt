@@ -1,4 +1,4 @@
-use Rattle.std.proofs.Common.{refl, ◌≡◌, [], ◌∷◌, ◌++◌, ap, ◌∙◌, sym, subst, arith, Some, List, map, Bool, false, true, ◌+◌, ℕ, take, drop}
+use Rattle.std.proofs.Common.{refl, rules, ◌≡◌, [], ◌∷◌, ◌++◌, ap, ◌∙◌, sym, subst, arith, Some, List, map, Bool, false, true, ◌+◌, ℕ, take, drop}
 use Rattle.std.proofs.lemmas.Result.{err_from_is_err_and}
 use Rattle.basic_toml_grammar.specs.Trie.{Trie}
 use Rattle.basic_toml_read.specs.SectionView.{key_of, header_texts, rows_seen, rows_view, elements_view, raw_of}
@@ -40,15 +40,16 @@ use Rattle.basic_toml_clash.specs.Plain.{are_plain}
 use Rattle.basic_toml_grow.proofs.PlainArrays.{plain_finished, plain_come}
 use Rattle.basic_toml_value.specs.Keys.{are_distinct}
 use Rattle.basic_toml_clash.specs.Simple.{are_simple, key_of as last_key}
+use Rattle.basic_toml_clash.proofs.DataParts.{nothing_left}
 use Rattle.basic_toml_clash.proofs.SimpleRows.{keys_differ}
-use Rattle.basic_toml_grow.specs.declared.item.Table.{Table}
+use Rattle.basic_toml_grow.specs.declared.item.Table.{Table, out-Table}
 use Rattle.basic_toml_grow.specs.Simple.{entries_of, with_entries}
 use Rattle.basic_toml_grow.proofs.SimpleRows.{no_entries, rows_in, rows_come}
 use Rattle.basic_toml_grow.proofs.RowsAfter.{FirstIn, first_in, all_entered, all_stopped, all_come}
 use Rattle.basic_toml_grow.proofs.rows.+finishing.Goals as goal
 
-pub take_rows-returns-then-is_empty-clause-entered : goal.take_rows-returns-then-is_empty-clause-entered
-take_rows-returns-then-is_empty-clause-entered t c =
+pub take_rows-returns-then-is_empty-2-clause-entered : goal.take_rows-returns-then-is_empty-2-clause-entered
+take_rows-returns-then-is_empty-2-clause-entered t c =
     none_put (rows_view c.args.rows.now) c.args.level (table_trie c.args.table.now)
     (none_seen c.args.rows.now (grind (
       arith,
@@ -56,6 +57,18 @@ take_rows-returns-then-is_empty-clause-entered t c =
       c.if-is_empty.true,
       (tables.out-Rows c.args.rows.now).rows.ok.0,
     )))
+
+pub take_rows-returns-then-is_empty-2-clause-taken : goal.take_rows-returns-then-is_empty-2-clause-taken
+take_rows-returns-then-is_empty-2-clause-taken t c =
+    let own = tables.out-Rows c.args.rows.now in (
+      nothing_left own.parents.items (grind (
+        arith,
+        c.is_empty-then-is_empty.ensures,
+        c.if-is_empty-2.true,
+        own.parents.ok.0,
+      )),
+      nothing_left own.rows.items (grind (arith, c.is_empty.ensures, c.if-is_empty.true, own.rows.ok.0)),
+    )
 
 pub enter_rows-loop-row-init : goal.enter_rows-loop-row-init
 enter_rows-loop-row-init t c = record {
@@ -262,8 +275,8 @@ children_of-returns-in_err-child_of-clause-named t c =
     c.in_err-child_of.ensures.named))
 
 -- where what is put into the table comes from
-pub take_rows-returns-then-is_empty-clause-origins : goal.take_rows-returns-then-is_empty-clause-origins
-take_rows-returns-then-is_empty-clause-origins t c =
+pub take_rows-returns-then-is_empty-2-clause-origins : goal.take_rows-returns-then-is_empty-2-clause-origins
+take_rows-returns-then-is_empty-2-clause-origins t c =
     let w = table_within c.args.table.now in
     sym (ap (λ rows. with_more w (rows_origins c.args.section rows)) (none_seen c.args.rows.now
     (grind (arith, c.is_empty.ensures, c.if-is_empty.true, (tables.out-Rows c.args.rows.now).rows.ok.0)))
@@ -331,38 +344,51 @@ row_value-returns-then-are_plain-clause-origins t c =
 -- simple rows, taken all at once
 pub take_rows-with_rows-requires-clause-distinct : goal.take_rows-with_rows-requires-clause-distinct
 take_rows-with_rows-requires-clause-distinct t c =
-    keys_differ c.args.level (tables.out-Rows c.replace-parents.result).rows.items
+    keys_differ c.args.level (tables.out-Rows c.args.rows.now).rows.items
     (ap (are_simple c.args.level) (sym c.as_slice.ensures.value) ∙ sym {A = Bool} c.are_simple.ensures
     ∙ c.if-are_simple.true)
+
+-- no key stands before one of them, and the table was without entries
+without_parents : (t : ℕ) (c : goal.take_rows-In_ok-with_rows t) → (tables.out-Rows c.args.rows.now).parents.items ≡ []
+without_parents t c =
+    let parents = (tables.out-Rows c.args.rows.now).parents in
+    nothing_left parents.items
+    (grind (arith, c.is_empty-then-len-le-FEW.ensures, c.if-is_empty-3.true, parents.ok.0))
+
+without_entries : (t : ℕ) (c : goal.take_rows-In_ok-with_rows t) → (out-Table c.args.table.now).entries ≡ []
+without_entries t c =
+    no_entries c.args.table.now c.args.table.now c.is_empty-then-is_empty-3.result refl
+    c.is_empty-then-is_empty-3.ensures c.if-is_empty-4.true
+
+taken_at_once : (t : ℕ) (c : goal.take_rows-In_ok-with_rows t)
+    → are_simple c.args.level (tables.out-Rows c.args.rows.now).rows.items ≡ true
+taken_at_once t c =
+    ap (are_simple c.args.level) (sym c.as_slice.ensures.value) ∙ sym {A = Bool} c.are_simple.ensures
+    ∙ c.if-are_simple.true
 
 pub take_rows-returns-then-are_simple-clause-entered : goal.take_rows-returns-then-are_simple-clause-entered
 take_rows-returns-then-are_simple-clause-entered t c =
     let table = c.args.table.now in
-    let taken = c.replace-parents.result in
-    let none = no_entries table table c.is_empty-then-is_empty-2.result refl c.is_empty-then-is_empty-2.ensures
-    c.if-is_empty-3.true in
-    let simple = ap (are_simple c.args.level) (sym c.as_slice.ensures.value)
-    ∙ sym {A = Bool} c.are_simple.ensures ∙ c.if-are_simple.true in
-    let seen = no_parents_seen c.args.rows.now taken c.replace-parents.ensures.value
-    (grind (arith, c.is_empty-2.ensures, c.if-is_empty-2.true, (tables.out-Rows taken).parents.ok.0)) in
-    subst (λ (rows : Rows). AreIn rows c.args.level (table_trie table) (table_trie c.with_rows.new.table)) (sym seen)
-    (subst (λ (t : Table). AreIn (rows_seen [] (tables.out-Rows taken).rows.items) c.args.level (table_trie table)
-    (table_trie t)) (sym c.in_ok-with_rows.ensures)
-    (rows_in c.args.section c.args.level (omega arith) table none (tables.out-Rows taken).rows.items simple))
+    let items = (tables.out-Rows c.args.rows.now).rows.items in
+    subst (λ (rows : Rows). AreIn rows c.args.level (table_trie table) (table_trie c.with_rows.new.table))
+    (sym (no_parents_seen c.args.rows.now (without_parents t c)))
+    (subst (λ (t : Table). AreIn (rows_seen [] items) c.args.level (table_trie table) (table_trie t))
+    (sym c.in_ok-with_rows.ensures.after)
+    (rows_in c.args.section c.args.level (omega arith) table (without_entries t c) items (taken_at_once t c)))
 
 pub take_rows-returns-then-are_simple-clause-origins : goal.take_rows-returns-then-are_simple-clause-origins
 take_rows-returns-then-are_simple-clause-origins t c =
     let table = c.args.table.now in
-    let taken = c.replace-parents.result in
-    let none = no_entries table table c.is_empty-then-is_empty-2.result refl c.is_empty-then-is_empty-2.ensures
-    c.if-is_empty-3.true in
-    let simple = ap (are_simple c.args.level) (sym c.as_slice.ensures.value)
-    ∙ sym {A = Bool} c.are_simple.ensures ∙ c.if-are_simple.true in
-    let seen = no_parents_seen c.args.rows.now taken c.replace-parents.ensures.value
-    (grind (arith, c.is_empty-2.ensures, c.if-is_empty-2.true, (tables.out-Rows taken).parents.ok.0)) in
-    ap table_within c.in_ok-with_rows.ensures
-    ∙ rows_come c.args.section c.args.level (omega arith) table none (tables.out-Rows taken).rows.items simple
-    ∙ ap (λ rows. with_more (table_within table) (rows_origins c.args.section rows)) (sym seen)
+    let items = (tables.out-Rows c.args.rows.now).rows.items in
+    ap table_within c.in_ok-with_rows.ensures.after
+    ∙ rows_come c.args.section c.args.level (omega arith) table (without_entries t c) items (taken_at_once t c)
+    ∙ ap (λ rows. with_more (table_within table) (rows_origins c.args.section rows))
+    (sym (no_parents_seen c.args.rows.now (without_parents t c)))
+
+pub take_rows-returns-then-are_simple-clause-taken : goal.take_rows-returns-then-are_simple-clause-taken
+take_rows-returns-then-are_simple-clause-taken t c =
+    let parents = without_parents t c in
+    search (rules, parents, c.in_ok-with_rows.ensures.taken, raws.the_lemmas)
 
 -- many plain rows, the first of them taken at once
 many_first : (t : ℕ) (c : goal.take_many_rows-After-enter_rows t)

@@ -1,4 +1,4 @@
-use Rattle.std.proofs.Common.{List, map, arith, refl, sym, subst, Err}
+use Rattle.std.proofs.Common.{List, map, arith, refl, sym, subst, ◌∙◌, Err}
 use Rattle.basic_toml_value.specs.Nesting.{nesting_limit}
 use Rattle.basic_toml_explain.specs.declared.stop.Stop.{Stop}
 use Rattle.basic_toml_read.specs.Lists.{ReadsHeaderKeys}
@@ -19,7 +19,8 @@ pub loop-keys-init : goal.loop-keys-init
 loop-keys-init c =
     let text = c.args.text.now in
     subst (λ (keys : List code.Key). KeysTold text c.args.at 2 c.args.at 2 (map key_of keys))
-    (sym c.in_ok-keys.ensures.items) (told_start text c.args.at 2 (omega arith) c.requires)
+    (sym (c.in_ok-try_reserve.ensures.items ∙ c.requires.none)) (told_start text c.args.at 2 (omega arith)
+    c.requires.boundary)
 
 pub returns-in_err-keyed-clause-read : goal.returns-in_err-keyed-clause-read
 returns-in_err-keyed-clause-read c =

@@ -1,8 +1,11 @@
-use Rattle.basic_toml_read.proofs.ListsRead.{left_after, ListSoFar}
+use Rattle.std.proofs.Common.{◌≡◌, map}
+use Rattle.basic_toml_read.specs.SectionView.{section_of}
+use Rattle.basic_toml_read.specs.SectionsRead.{IsEmpty, IsReady, SoFar, left_to_read}
 use Rattle.basic_toml_read.proofs.reader.list.Given as goal
 
-abbrev pub invariant-loop-bracket : goal.invariant-loop-bracket
-invariant-loop-bracket l = ListSoFar l.text l.bracket l.gathered l.sections.items
+abbrev pub invariant-loop-section : goal.invariant-loop-section
+invariant-loop-section l =
+    (l.reader.text.now ≡ l.text) × IsReady l.reader × IsEmpty l.section × SoFar l.reader (map section_of l.sections.items)
 
-abbrev pub decreases-loop-bracket : goal.decreases-loop-bracket
-decreases-loop-bracket l = left_after l.text l.bracket
+abbrev pub decreases-loop-section : goal.decreases-loop-section
+decreases-loop-section l = left_to_read l.reader

@@ -6,15 +6,15 @@ use Rattle.basic_toml_grammar.specs.Levels.{rows_level}
 use Rattle.basic_toml_read.specs.StopsAt.{Misses}
 use Rattle.basic_toml_read.specs.Lists.{AreRowsRead, ReadsSection}
 use Rattle.basic_toml_read.proofs.KeysTold.{stopped}
-use Rattle.basic_toml_read.proofs.ListsRead.{rows_missing, section_there}
+use Rattle.basic_toml_read.proofs.SectionRead.{rows_missing, section_there}
 use Rattle.basic_toml_grammar.specs.DeepStops.{DeepRows, DeepHeader, DeepSections, this_section, header}
-use Rattle.basic_toml_read.proofs.ListsRead.{rows_are_deep, deep_in_rows, none_after_header}
+use Rattle.basic_toml_read.proofs.SectionRead.{rows_are_deep, deep_in_rows, none_after_header}
 use Rattle.basic_toml_read.proofs.NothingTooDeep.{its_header}
 use Rattle.basic_toml_read.proofs.DeepStops.{deep_on, shallow, is_missed}
 use Rattle.basic_toml_tokens.specs.Text.{Text, after_blanks}
 use Rattle.basic_toml_read.specs.StopsReached.{AtDeep, in_header, in_rows, in_sections}
 use Rattle.basic_toml_read.proofs.HolesLeadOn.{hole_on, moved_in, then_in, to_header}
-use Rattle.basic_toml_read.proofs.ListsRead.{line_hole, holes_of_rows}
+use Rattle.basic_toml_read.proofs.SectionRead.{line_hole, holes_of_rows}
 use Rattle.basic_toml_read.proofs.values.Gathered.section.Goals as goal
 
 pub returns-in_err-next-clause-read : goal.returns-in_err-next-clause-read
@@ -22,7 +22,7 @@ returns-in_err-next-clause-read c =
     let h = c.in_ok-header.header in
     let stop = c.in_err-next.field-0.0 in
     let counted : c.len.result ≡ length h.keys.items = omega (arith, c.len.ensures, h.keys.ok.0) in
-    stopped (ReadsSection c.args.text.now c.args.at c.rows.new.self c.args.sections.now c.args.sections.now)
+    stopped (ReadsSection c.args.text.now c.args.at c.rows.new.self)
     c.from_residual-in_err-next.result stop c.from_residual-in_err-next.ensures.1
     (rows_missing c.args.text.now c.args.at h c.in_ok-header.ensures.read c.in_ok-line.line c.in_ok-line.ensures.read
     stop.why
@@ -35,10 +35,9 @@ returns-clause-read c =
     let counted : c.len.result ≡ length h.keys.items = omega (arith, c.len.ensures, h.keys.ok.0) in
     let mid = c.rows.new.self in
     section_there c.args.text.now c.args.at h c.in_ok-header.ensures.read c.in_ok-line.line c.in_ok-line.ensures.read
-    c.args.self.now mid _ c.in_ok-next.next c.args.sections.now c.push.new.self c.in_ok-rows.rows c.requires.none
+    c.args.self.now mid c.in_ok-next.next c.requires.none
     (subst (λ (n : ℕ). AreRowsRead c.args.text.now c.in_ok-line.line (n + 1) c.args.self.now mid c.in_ok-next.next)
     counted c.in_ok-next.ensures.read)
-    c.in_ok-rows.ensures c.in_ok-push.ensures.items
 
 -- levels
 pub returns-in_err-header-clause-deep : goal.returns-in_err-header-clause-deep

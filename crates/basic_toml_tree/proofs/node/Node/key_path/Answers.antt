@@ -10,7 +10,7 @@ returns-in_ok-path-in-Header-clause-is c =
     ap (map string_bytes) c.truncate.ensures.items
     ∙ sym (take-map string_bytes c.args.self.count c.in_ok-path-in-Header.path.items)
     ∙ ap (take c.args.self.count) c.in_ok-path-in-Header.ensures
-    ∙ sym (ap (trail_keys c.args.self.tree.now.sections.items c.args.self.count) c.in-Header.is)
+    ∙ sym (ap (trail_keys c.args.self.tree.now.headers c.args.self.count) c.in-Header.is)
 
 pub returns-in_ok-path-in-Header-clause-foretold : goal.returns-in_ok-path-in-Header-clause-foretold
 unfolding keys_of
@@ -34,5 +34,5 @@ returns-in_ok-push-in-Row-clause-foretold c =
     ap (map string_bytes) items ∙ map-append string_bytes path (last ∷ [])
     ∙ ap (λ k. map string_bytes path ++ k ∷ []) text
     ∙ ap (λ keys. keys ++ first ∷ []) c.in_ok-path-in-Row.ensures
-    ∙ sym (ap (trail_keys c.args.self.tree.now.sections.items c.args.self.count) c.in-Row.is) in
+    ∙ sym (ap (trail_keys c.args.self.tree.now.headers c.args.self.count) c.in-Row.is) in
     λ sections p. keys_foretold (map string_bytes kept) c.args.self same sections p

@@ -5,7 +5,7 @@ use Rattle.basic_toml_grow.specs.declared.rows.Met.{Met}
 use Rattle.basic_toml_clash.specs.Clash.{IsStop}
 use Rattle.basic_toml_grow.specs.RowStops.{key_at, SaysMet}
 use Rattle.basic_toml_grow.proofs.ClashSaysMet.{if_stop, same_row, key_said, last_said, key_there, none_there}
-use Rattle.basic_toml_grow.proofs.rows.row_clash.Goals as goal
+use Rattle.basic_toml_grow.proofs.row_clash.row_clash.Goals as goal
 
 pub returns-in-Some-clause-named : goal.returns-in-Some-clause-named
 returns-in-Some-clause-named c =

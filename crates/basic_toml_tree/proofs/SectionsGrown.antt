@@ -1,0 +1,165 @@
+-- The sections of a list entered one after another: what is known of the tree then, and of a section that is not entered.
+use Rattle.std.proofs.Common.{◌≡◌, inl, inr, ℕ, suc, ◌+◌, true, false, List, [], ◌∷◌, ◌++◌, refl, ap, sym, ◌∙◌}
+use Rattle.std.proofs.Common.{subst, map, length, None}
+use Rattle.std.proofs.lemmas.List.{map-append}
+use Rattle.std.proofs.lemmas.Bool.{false≢true, and_parts, and_from}
+use Rattle.basic_toml_grammar.specs.IndexedPath.{located}
+use Rattle.basic_toml_grammar.specs.Entering.{all_keyed, all_keyed_within, is_keyed}
+use Rattle.basic_toml_grammar.specs.Nodes.{is_made}
+use Rattle.basic_toml_grammar.specs.Steps.{Path}
+use Rattle.basic_toml_grammar.specs.Faults.{Fault, nested_too_deeply}
+use Rattle.basic_toml_grammar.specs.GrammarFaults.{fault_at}
+use Rattle.basic_toml_grammar.specs.Trie.{walk, steps_to}
+use Rattle.basic_toml_grammar.specs.Stops.{Stop, at_header, is_named, is_passed, stops, stop_fault}
+use Rattle.basic_toml_grammar.specs.TrieStops.{try_by_keys}
+use Rattle.basic_toml_grammar.specs.Sections.{Key, Section}
+use Rattle.basic_toml_explain.specs.Error.{want_of_memory}
+use Rattle.basic_toml_read.specs.declared.section.Section as code
+use Rattle.basic_toml_read.specs.SectionView.{section_of, header_texts, rows_view}
+use Rattle.basic_toml_clash.specs.declared.clash.Clash.{Clash}
+use Rattle.basic_toml_clash.specs.declared.clash.Clash.TheVariants.{Memory, Deep, Header, Named, Redefined, Row}
+use Rattle.basic_toml_clash.specs.Clash.{IsFaultOf, NamesClash, NamesStop, row_stop}
+use Rattle.basic_toml_clash.specs.Crossed.{first_crossed}
+use Rattle.basic_toml_grow.specs.Headers.{IsIn, IsKeptOut}
+use Rattle.basic_toml_grow.specs.Item.{table_trie}
+use Rattle.basic_toml_grow.specs.declared.item.Table.{Table}
+use Rattle.basic_toml_grow.specs.Origins.{table_within, rows_origins}
+use Rattle.basic_toml_grow.specs.Ways.{way, GrowsAlong, sections_origins}
+use Rattle.basic_toml_grow.proofs.HeadersInATrie.{fresh}
+use Rattle.basic_toml_grow.proofs.Origins.OriginsSeen.{fresh_within}
+use Rattle.basic_toml_tree.specs.declared.tree.Tree.{Tree}
+use Rattle.basic_toml_tree.specs.FirstStop.{Entered, StopsSection, deep, clash, section}
+use Rattle.basic_toml_tree.specs.Resolve.{IsResolved, IsUnresolved, memory, refused, head}
+use Rattle.basic_toml_tree.proofs.Origins.SectionsPlaceOrigins.{Brought, none_brought, more_brought}
+use Rattle.basic_toml_tree.proofs.SectionsEntered.{one_more, too_deep, whole_tree, no_clash, fits_all}
+use Rattle.basic_toml_tree.proofs.SectionsStopped.{same_fault}
+use Rattle.basic_toml_tree.proofs.TrieData.{table_trie_data}
+
+-- These sections are entered in a table, their headers are kept, and what rows made comes from them.
+pub record HaveEntered (list : List Section) (headers : List (ℕ × List Key)) (root : Table) : Type 0 where
+  pub entered : Entered list (table_trie root)
+  pub heads : headers ≡ map head list
+  pub brought : all_keyed list ≡ true → Brought list (table_within root).below
+
+pub none_entered : (headers : List (ℕ × List Key)) (root : Table) → headers ≡ [] → table_trie root ≡ fresh
+    → HaveEntered [] headers root
+none_entered headers root none is = record {
+  entered = record { stands = inr (refl, is); shallow = refl };
+  heads = none;
+  brought = λ keyed. none_brought (table_within root).below (ap (λ w. w.below) (fresh_within root is));
+}
+
+pub keyed_front : (xs ys : List Section) → all_keyed (xs ++ ys) ≡ true → all_keyed xs ≡ true
+keyed_front [] ys keyed = refl
+keyed_front (x ∷ xs) ys keyed =
+    let both = and_parts (is_keyed x) (all_keyed (xs ++ ys)) keyed in
+    and_from (is_keyed x) (all_keyed xs) both.0 (keyed_front xs ys both.1)
+
+mapped_length : {A B : Type 0} (f : A → B) (xs : List A) → length (map f xs) ≡ length xs
+mapped_length f [] = refl
+mapped_length f (x ∷ xs) = ap suc (mapped_length f xs)
+
+pub entered_resolved : (list : List Section) (tree : Tree) → HaveEntered list tree.headers tree.root
+    → all_keyed list ≡ true → all_keyed_within list ≡ true → IsResolved list tree
+entered_resolved list tree have keyed within =
+    let t = table_trie tree.root in
+    record {
+      clash = no_clash list t keyed have.entered;
+      fits = fits_all list t keyed within have.entered;
+      grown = sym (table_trie_data tree.root) ∙ whole_tree list t have.entered;
+      stands = have.entered.stands;
+      heads = have.heads;
+      within = within;
+      origins = made_apart (have.brought keyed);
+    }
+  where
+    made_apart : Brought list (table_within tree.root).below → (p : Path) → is_made (located list) p ≡ false
+        → (table_within tree.root).below p ≡ sections_origins 0 (located list) p
+    made_apart brought [] not = absurd (false≢true (sym not))
+    made_apart brought (r ∷ p) not = brought (r ∷ p) not
+
+-- the next section of a list
+module _ (list : List Section) (headers : List (ℕ × List Key)) (root : Table) (have : HaveEntered list headers root)
+    (s : code.Section) where
+  pub more_entered : (after : Table) (more : List (ℕ × List Key)) (n : ℕ) → n ≡ length headers
+      → IsIn (walk s.is_array (rows_view s.rows) (header_texts s.header.items) (table_trie root)) (rows_view s.rows)
+      (1 + steps_to s.is_array (header_texts s.header.items) (table_trie root)) (table_trie after)
+      → GrowsAlong (way s.is_array (header_texts s.header.items) (table_trie root)) (rows_origins n (rows_view s.rows))
+      (table_within root).below (table_within after).below
+      → more ≡ headers ++ head (section_of s) ∷ [] → HaveEntered (list ++ section_of s ∷ []) more after
+  more_entered after more n counted is_in grows pushed = record {
+    entered = one_more list (section_of s) (header_texts s.header.items) (table_trie root) refl have.entered
+        (table_trie after) is_in;
+    heads = pushed ∙ ap (λ hs. hs ++ head (section_of s) ∷ []) have.heads
+        ∙ sym (map-append head list (section_of s ∷ []));
+    brought = λ keyed.
+        let before = keyed_front list (section_of s ∷ []) keyed in
+        more_brought list (section_of s) (header_texts s.header.items) (table_trie root) n (table_within root).below
+        (table_within after).below refl before have.entered.stands
+        (counted ∙ ap length have.heads ∙ mapped_length head list) (have.brought before) grows;
+  }
+
+  -- it is not entered, and these come after it
+  module _ (later : List Section) where
+    there : list ++ section_of s ∷ later ≡ [] → ⊥
+    there none = no_section list none
+      where
+        no_section : (before : List Section) → before ++ section_of s ∷ later ≡ [] → ⊥
+        no_section [] e = cc
+        no_section (r ∷ before) e = cc
+
+    pub memory_refused : IsUnresolved (list ++ section_of s ∷ later) want_of_memory
+    memory_refused = memory there
+
+    module _ (none : first_crossed (list ++ section_of s ∷ later) ≡ None) where
+      first : (fault : Fault) → StopsSection (table_trie root) (section_of s) fault
+          → IsUnresolved (list ++ section_of s ∷ later) fault
+      first fault stopped = refused (section none (record {
+        before = list;
+        here = section_of s;
+        later = later;
+        parts = refl;
+        so_far = table_trie root;
+        entered = have.entered;
+        stopped = stopped;
+      }))
+
+      barred : (fault : Fault) (now : code.Section) (x y : Stop) → now.at ≡ s.at → now.header ≡ s.header
+          → fault ≡ stop_fault (section_of now) x → y ≡ x
+          → try_by_keys s.is_array (rows_view s.rows) (header_texts s.header.items) (table_trie root) ≡ stops y
+          → IsUnresolved (list ++ section_of s ∷ later) fault
+      barred fault now x y at header is same tried =
+          let keys : (section_of now).header ≡ (section_of s).header = rw header refl in
+          first fault (subst (λ (f : Fault). StopsSection (table_trie root) (section_of s) f)
+          (sym (is ∙ same_fault (section_of now) (section_of s) keys at x)) (clash (tried ∙ ap stops same)))
+
+      named : (c : Clash) (fault : Fault)
+          → IsKeptOut (walk s.is_array (rows_view s.rows) (header_texts s.header.items) (table_trie root))
+          (rows_view s.rows) (1 + steps_to s.is_array (header_texts s.header.items) (table_trie root)) c
+          → NamesStop (try_by_keys s.is_array (rows_view s.rows) (header_texts s.header.items) (table_trie root)) c
+          → (now : code.Section) → now.at ≡ s.at → now.header ≡ s.header
+          → IsFaultOf now c fault → IsUnresolved (list ++ section_of s ∷ later) fault
+      named Memory fault out stop now same header is =
+          subst (λ f. IsUnresolved (list ++ section_of s ∷ later) f) (sym is) (memory there)
+      named Deep fault out stop now same header is =
+          let over = too_deep list (section_of s) (header_texts s.header.items) (table_trie root) refl have.entered out in
+          first fault (subst (λ (f : Fault). StopsSection (table_trie root) (section_of s) f)
+          (sym (is ∙ ap (fault_at nested_too_deeply) same)) (deep over))
+      named (Header k) fault out stop now same header is =
+          barred fault now (at_header k) stop.0 same header is stop.1.0 stop.1.1
+      named Named fault out stop now same header is =
+          barred fault now is_named stop.0 same header is stop.1.0 stop.1.1
+      named Redefined fault out stop now same header is =
+          barred fault now is_passed stop.0 same header is stop.1.0 stop.1.1
+      named (Row met) fault out stop now same header is =
+          barred fault now (row_stop met.value) stop.0 same header is stop.1.0 stop.1.1
+
+      pub kept_out : (c : Clash) (fault : Fault)
+          → IsKeptOut (walk s.is_array (rows_view s.rows) (header_texts s.header.items) (table_trie root))
+          (rows_view s.rows) (1 + steps_to s.is_array (header_texts s.header.items) (table_trie root)) c
+          → NamesStop (try_by_keys s.is_array (rows_view s.rows) (header_texts s.header.items) (table_trie root)) c
+          → (now : code.Section) → now.at ≡ s.at → now.header ≡ s.header
+          → NamesClash now c fault → IsUnresolved (list ++ section_of s ∷ later) fault
+      kept_out c fault out stop now same header (inl is) =
+          subst (λ f. IsUnresolved (list ++ section_of s ∷ later) f) (sym is) (memory there)
+      kept_out c fault out stop now same header (inr is) = named c fault out stop now same header is
