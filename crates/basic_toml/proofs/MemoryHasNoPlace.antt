@@ -1,5 +1,5 @@
 -- A want of memory names no place and no keys: no text's own error is one, and every error of writing is without a place.
-use Rattle.std.proofs.Common.{◌≡◌, ◌⊎◌, inl, inr, ℕ, List, Option, Some, None, Result, Err, sym, ap, ◌∙◌, refl, arith}
+use Rattle.std.proofs.Common.{◌≡◌, ◌⊎◌, inl, inr, ℕ, List, Option, sym, ap, ◌∙◌, refl, arith}
 use Rattle.basic_toml_tokens.specs.declared.error.Error.{Error}
 use Rattle.basic_toml_tokens.specs.Text.{Text}
 use Rattle.basic_toml_tokens.specs.TokenAt.{Lexeme}
@@ -17,7 +17,7 @@ use Rattle.basic_toml_write.specs.declared.error.WriteError.{WriteError}
 use Rattle.basic_toml_tree.specs.declared.node.Node.{Node}
 use Rattle.basic_toml_tree.specs.FirstStop as tree
 use Rattle.basic_toml_tree.specs.FirstStop.{SectionsFault, StopsSection}
-use Rattle.basic_toml_error.specs.Fault.{Fault, FaultKind, reading, want_of_memory, without_offset, out_of_memory}
+use Rattle.basic_toml_error.specs.Fault.{Fault, FaultKind, reading, want_of_memory, without_offset}
 use Rattle.basic_toml_error.specs.ReadFaults.{fault_in, lined}
 use Rattle.basic_toml.specs.Memory.{HasNoPlace, ReadsWithoutPlace, TreesWithoutPlace, WritesWithoutPlace}
 use Rattle.basic_toml.specs.Memory.{RoundTripsWithoutPlace}

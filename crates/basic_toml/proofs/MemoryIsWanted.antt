@@ -1,5 +1,5 @@
 -- Where want of memory comes: not of a text of blanks, comments and line feeds, but where the type asks for memory.
-use Rattle.std.proofs.Common.{◌≡◌, ℕ, List, [], ◌∷◌, ◌≤◌, map, refl, sym, ap, subst, Result, Ok, Err, IfErr, Option}
+use Rattle.std.proofs.Common.{inl, inr, ◌≡◌, ℕ, List, [], ◌∷◌, ◌≤◌, refl, sym, ap, subst, Result, Ok, Err, IfErr, Option}
 use Rattle.std.proofs.Common.{Some, None, ◌∙◌}
 use Rattle.std.specs.Option.{option_or}
 use Rattle.basic_toml_tokens.specs.Text.{folded}
@@ -11,7 +11,7 @@ use Rattle.basic_toml_grammar.specs.Sections.{Section}
 use Rattle.basic_toml_grammar.specs.Grammar.{IsSectionList}
 use Rattle.basic_toml_grammar.specs.Levels.{highest_level}
 use Rattle.basic_toml_grammar.specs.Faults as read
-use Rattle.basic_toml_grammar.proofs.LawsHold.{keyed, unambiguous}
+use Rattle.basic_toml_grammar.proofs.LawsHold.{unambiguous}
 use Rattle.basic_toml_read.specs.SectionsAnswer as answer
 use Rattle.basic_toml_read.specs.SectionsAnswer.{IsRefused, HoldsMore}
 use Rattle.basic_toml_tree.specs.declared.tree.Tree.{Tree}

@@ -1,5 +1,5 @@
 -- How reading ends, from what the section list, the tree and the type answered.
-use Rattle.std.proofs.Common.{◌≡◌, ◌⊎◌, inl, inr, ℕ, ◌≤◌, false, List, [], map, refl, sym, ap, subst, Result, Ok, Err}
+use Rattle.std.proofs.Common.{◌≡◌, ◌⊎◌, inl, inr, ℕ, ◌≤◌, false, List, [], refl, sym, ap, subst, Result, Ok, Err}
 use Rattle.std.proofs.Common.{Some, IfOk, IfErr, ◌∙◌}
 use Rattle.std.proofs.lemmas.Bool.{le-leb}
 use Rattle.basic_toml_tokens.specs.Text.{folded}

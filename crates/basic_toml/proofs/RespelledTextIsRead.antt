@@ -1,9 +1,9 @@
 -- What a type reads from a text it reads from the text's document, so from that of the same text with other line ends,
 -- with a U+FEFF in front, and from the one that the text had by the older rules.
-use Rattle.std.proofs.Common.{◌≡◌, ℕ, List, false, true, refl, sym, ap, subst, ◌∙◌, Result, Ok, Err}
+use Rattle.std.proofs.Common.{◌≡◌, ℕ, List, false, true, refl, ap, subst, ◌∙◌, Result, Ok}
 use Rattle.std.specs.Str.{IsUtf8}
 use Rattle.basic_toml_tokens.specs.Text.{folded}
-use Rattle.basic_toml_value.specs.Data.{Data, table, Members}
+use Rattle.basic_toml_value.specs.Data.{Data, table}
 use Rattle.basic_toml_grammar.specs.Document.{IsDocument}
 use Rattle.basic_toml_grammar.specs.OldRules.{has_no_delete, WasDocument}
 use Rattle.basic_toml_grammar.specs.Respelled.{with_returns, has_return, with_byte_order_mark, has_byte_order_mark}
@@ -11,7 +11,7 @@ use Rattle.basic_toml_grammar.proofs.LawsHold.{old}
 use Rattle.basic_toml_grammar.proofs.SameMeaning.RespelledMeanTheSame.{returns_mean_nothing}
 use Rattle.basic_toml_grammar.proofs.SameMeaning.RespelledMeanTheSame.{byte_order_mark_means_nothing}
 use Rattle.basic_toml_tree.specs.declared.node.Node.{Node}
-use Rattle.basic_toml_error.specs.Fault.{Fault, want_of_memory}
+use Rattle.basic_toml_error.specs.Fault.{Fault}
 use Rattle.basic_toml_error.specs.ReadFaults.{lined}
 use Rattle.basic_toml.specs.Reading.{OnlyMemory, ReadsText, value_read, no_memory, no_document, not_taken, ReadsData}
 use Rattle.basic_toml.proofs.TextHasOneDocument.{one_document}

@@ -1,5 +1,5 @@
 -- A table and the data that it stands for: what stands at a key, and when two are equal.
-use Rattle.std.proofs.Common.{◌≡◌, ℕ, List, [], ◌∷◌, Bool, true, false, refl, ap, ◌∙◌, sym, Some, option_map, option_and_then}
+use Rattle.std.proofs.Common.{◌≡◌, ℕ, List, [], ◌∷◌, Bool, true, false, refl, ap, ◌∙◌, Some, option_map, option_and_then}
 use Rattle.std.proofs.Common.{cond, Option, None, IsTrue, ◌↔◌, subst}
 use Rattle.std.specs.Str.{bytes_eq}
 use Rattle.basic_toml_value.specs.Data.{Data}

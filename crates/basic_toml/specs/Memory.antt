@@ -1,6 +1,5 @@
 -- A want of memory names no place and no keys, whoever answers it; and what comes without memory. (own)
-use Rattle.std.specs.Prelude.{◌≡◌, ℕ, List, [], Result, Ok, Err, IfErr, String}
-use Rattle.std.specs.declared.alloc.Global.{Global}
+use Rattle.std.specs.Prelude.{◌≡◌, ℕ, List, [], Result, Ok, Err, IfErr}
 use Rattle.basic_toml_tokens.specs.Text.{folded}
 use Rattle.basic_toml_value.specs.Data.{Data}
 use Rattle.basic_toml_value.specs.declared.value.Value.{Value}
@@ -8,7 +7,6 @@ use Rattle.basic_toml_emit.specs.Items.{Item}
 use Rattle.basic_toml_read.specs.Lists.{IsGap}
 use Rattle.basic_toml_tree.specs.Data.{HoldsAny}
 use Rattle.basic_toml_tree.specs.declared.node.Node.{Node}
-use Rattle.basic_toml_tree.specs.declared.tree.Tree.{Tree}
 use Rattle.basic_toml_write.specs.declared.error.WriteError.{WriteError}
 use Rattle.basic_toml_error.specs.Fault.{Fault, out_of_memory, want_of_memory}
 use Rattle.basic_toml_typed.specs.TypeFaults.{table_faults}
