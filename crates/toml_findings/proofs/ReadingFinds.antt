@@ -1,5 +1,5 @@
 -- What reading found, from what the tree answered.
-use Rattle.std.proofs.Common.{◌≡◌, ◌⊎◌, inl, inr, ℕ, IsUtf8, List, Option, Some, None, Result, Ok, Err, sym, ◌∙◌, ap}
+use Rattle.std.proofs.Common.{◌≡◌, inl, inr, ℕ, IsUtf8, List, None, Ok, Err, sym, ◌∙◌, ap}
 use Rattle.basic_toml.specs.Faults as read
 use Rattle.basic_toml.specs.Reading.{GivesTree}
 use Rattle.basic_toml.proofs.ReadingEnds.{given}
@@ -7,8 +7,7 @@ use Rattle.basic_toml.proofs.RefusedTextsHaveNoDocument.{refused_has_no_document
 use Rattle.basic_toml_tree.specs.OfText.{AnswersText}
 use Rattle.basic_toml_tree.specs.declared.tree.Tree.{Tree}
 use Rattle.toml_findings.specs.declared.finding.Finding as code
-use Rattle.toml_findings.specs.declared.finding.Unread.{Unread}
-use Rattle.toml_findings.specs.declared.finding.Unread.TheVariants.{Refused, OutOfMemory}
+use Rattle.toml_findings.specs.declared.finding.Unread.TheVariants.{Refused}
 use Rattle.toml_findings.specs.Findings.{Reads, finding_of, IsRefusal, refused}
 
 pub tree_read : (text : List ℕ) (tree : Tree) → IsUtf8 text → AnswersText text (Ok tree) → Reads text (Ok tree)
