@@ -1,4 +1,5 @@
-//! From the sections of a text ([`resolve`]) to the tree of its document, or to a clash of rows or sections.
+//! From a text ([`tree_of`]), or from a section list ([`resolve`]), to the tree of its document, or to a clash of rows
+//! or sections.
 //!
 //! It goes on from `basic_toml_read`, whose sections it puts one after another into the table that `basic_toml_grow`
 //! makes grow. A [`Tree`] becomes a table, or is read by its [`Node`]s, each a value with where it comes from; the

@@ -80,7 +80,7 @@ impl<'de> Tree<'de> {
 /// `NestedTooDeeply` where it makes the tree deeper than that. `OutOfMemory` comes where memory is refused, and not for a
 /// list without sections. All but the last have a byte offset.
 ///
-/// `basic_toml` calls it, and so do the cases of `toml_cases`.
+/// The cases of `toml_cases` call it; [`tree_of`](crate::tree_of) goes from a text to its tree without a list.
 #[tactic(auto, using(crate::proofs::OrderIsFree::in_any_order))]
 pub fn resolve<'de>(alloc: Global, sections: Vec<Section<'de>>) -> Result<Tree<'de>, ReadError>
     ensures resolves { Resolves sections.entry.items result }
