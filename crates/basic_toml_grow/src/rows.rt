@@ -449,7 +449,11 @@ fn children_of<'de>(
 {
     let mut children = Vec::with_capacity(alloc, elements.len())?;
     for element in drain(elements) {
-        let Element { offset, value } = element;
+        let Element {
+            offset,
+            end: _,
+            value,
+        } = element;
         children.push(child_of(alloc, value, offset, section, level)?)?;
     }
     Ok(children)

@@ -5,7 +5,6 @@ use Rattle.std.specs.Str.{IsCharBoundary}
 use Rattle.basic_toml_value.specs.Nesting.{nesting_limit}
 use Rattle.basic_toml_tokens.specs.Text.{Text, text_at}
 use Rattle.basic_toml_tokens.specs.Punctuation.{IsPunctuationEnd}
-use Rattle.basic_toml_read.specs.declared.section.Raw as code
 use Rattle.basic_toml_read.specs.declared.section.Element.{Element, roll-Element}
 use Rattle.basic_toml_explain.specs.declared.stop.Stop.{Stop}
 use Rattle.basic_toml_explain.specs.declared.stop.Why.{Why}
@@ -73,15 +72,18 @@ unfolding joined
 level_joined l no_elements es = omega arith
 level_joined l (element p v front) es = omega (arith, level_joined l front es)
 
--- an element more
-pub elements_view_more : (es : List Element) (p : ℕ) (value : code.Raw) (v : Raw) → raw_of value ≡ v
-    → elements_view (es ++ roll-Element (record { offset = p; value = value }) ∷ [])
-    ≡ joined (elements_view es) (element p v no_elements)
+-- an element more, as its value was read
+abbrev element_of : Valued → Element
+element_of v = roll-Element (record { offset = v.offset; end = v.end; value = v.value })
+
+elements_view_more : (es : List Element) (v : Valued) (raw : Raw) → raw_of v.value ≡ raw
+    → elements_view (es ++ element_of v ∷ []) ≡ joined (elements_view es) (element v.offset raw no_elements)
 unfolding joined
-elements_view_more [] p value v e =
-    ap (λ q. element q.offset q.value no_elements) (element_seen p value) ∙ ap (λ o. element p o no_elements) e
-elements_view_more (x ∷ es) p value v e =
-    ap (element (placed_of x).offset (placed_of x).value) (elements_view_more es p value v e)
+elements_view_more [] v raw e =
+    ap (λ q. element q.offset q.value no_elements) (element_seen v.offset v.end v.value)
+    ∙ ap (λ o. element v.offset o no_elements) e
+elements_view_more (x ∷ es) v raw e =
+    ap (element (placed_of x).offset (placed_of x).value) (elements_view_more es v raw e)
 
 -- the elements of an array up to an offset
 pub record ElementsSoFar (bytes : List ℕ) (start level at : ℕ) (old new : Gathered) : Type 0 where
@@ -199,18 +201,13 @@ module _ (bytes : List ℕ) (start level at : ℕ) (old new : Gathered) (s : Ele
     -- after a value
     module _ (mid new' : Gathered) (v : Valued) (r : IsValueRead bytes at level new mid v) (after : ℕ)
         (left : Leaves bytes v.end after (gap (text_at bytes v.end))) (unclosed : IsPunctuationEnd 93 bytes at None)
-        (pushed : new'.elements.items ≡ mid.elements.items
-        ++ (roll-Element (record { offset = v.offset; value = v.value }) ∷ []))
+        (pushed : new'.elements.items ≡ mid.elements.items ++ element_of v ∷ [])
         (lines : lines_of new' ≡ lines_of mid) where
-      got' : List Element
-      got' = s.got ++ (roll-Element (record { offset = v.offset; value = v.value }) ∷ [])
-
-      view' : elements_view (s.got ++ (roll-Element (record { offset = v.offset; value = v.value }) ∷ []))
+      view' : elements_view (s.got ++ element_of v ∷ [])
           ≡ joined (elements_view s.got) (element v.offset r.found.raw no_elements)
-      view' = elements_view_more s.got v.offset v.value r.found.raw r.found.seen
+      view' = elements_view_more s.got v r.found.raw r.found.seen
 
-      limit' : elements_level level
-          (elements_view (s.got ++ (roll-Element (record { offset = v.offset; value = v.value }) ∷ []))) ≤ nesting_limit
+      limit' : elements_level level (elements_view (s.got ++ element_of v ∷ [])) ≤ nesting_limit
       limit' = omega (
         arith,
         ap (elements_level level) view',
@@ -219,11 +216,9 @@ module _ (bytes : List ℕ) (start level at : ℕ) (old new : Gathered) (s : Ele
         r.limit,
       )
 
-      pushed' : new'.elements.items ≡ old.elements.items
-          ++ (s.got ++ (roll-Element (record { offset = v.offset; value = v.value }) ∷ []))
-      pushed' = pushed ∙ ap (λ (l : List Element). l
-          ++ (roll-Element (record { offset = v.offset; value = v.value }) ∷ [])) (r.keeps.elements ∙ s.pushed)
-          ∙ append_assoc old.elements.items s.got (roll-Element (record { offset = v.offset; value = v.value }) ∷ [])
+      pushed' : new'.elements.items ≡ old.elements.items ++ (s.got ++ element_of v ∷ [])
+      pushed' = pushed ∙ ap (λ (l : List Element). l ++ element_of v ∷ []) (r.keeps.elements ∙ s.pushed)
+          ∙ append_assoc old.elements.items s.got (element_of v ∷ [])
 
       told' : elements_of (text_at bytes start)
           ≡ after_elements (elements_view s.got)
@@ -236,7 +231,7 @@ module _ (bytes : List ℕ) (start level at : ℕ) (old new : Gathered) (s : Ele
           → Leaves bytes next at' (gap (text_at bytes next)) → ElementsSoFar bytes start level at' old new'
       unfolding elements_on
       elements_more next at' sign later = record {
-        got = s.got ++ (roll-Element (record { offset = v.offset; value = v.value }) ∷ []);
+        got = s.got ++ element_of v ∷ [];
         told = told' ∙ ap (λ o. after_elements (elements_view s.got)
             (if_found o (λ s. and_then (elements_of (gap s.1)) (λ q. Some (element v.offset r.found.raw q.0, q.1)))
             (and_then (char_at 93 (gap (text_at bytes v.end)))
@@ -245,7 +240,7 @@ module _ (bytes : List ℕ) (start level at : ℕ) (old new : Gathered) (s : Ele
             ∙ after_more (elements_view s.got) v.offset r.found.raw (elements_of (gap (text_at bytes next)))
             ∙ ap (λ (es : Elements). after_elements es (elements_of (gap (text_at bytes next)))) (sym view')
             ∙ ap (λ (t : Text). after_elements
-            (elements_view (s.got ++ (roll-Element (record { offset = v.offset; value = v.value }) ∷ [])))
+            (elements_view (s.got ++ element_of v ∷ []))
             (elements_of t)) (sym later.left);
         pushed = pushed';
         lines = lines ∙ r.keeps.lines ∙ s.lines;
@@ -289,7 +284,7 @@ module _ (bytes : List ℕ) (start level at : ℕ) (old new : Gathered) (s : Ele
           → ClosesAt 93 why.Bracket bytes after result → ReadsElements bytes start level old new' result
       unfolding after_elements
       elements_close (Ok end) sign closes = record {
-        added = s.got ++ (roll-Element (record { offset = v.offset; value = v.value }) ∷ []);
+        added = s.got ++ element_of v ∷ [];
         is = last_on sign ∙ ap (λ o. after_elements (elements_view s.got)
             (and_then o (λ s. Some (element v.offset r.found.raw no_elements, s.1)))) closes.0
             ∙ ap (λ (es : Elements). Some (es, text_at bytes end)) (sym view');

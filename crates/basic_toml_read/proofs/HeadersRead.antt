@@ -1,6 +1,6 @@
 -- Headers, by what stands in them.
 use Rattle.std.proofs.Common.{◌≡◌, ℕ, ◌+◌, ◌-◌, ◌<◌, ◌≤◌, Bool, true, false, List, [], ◌∷◌, ◌++◌, length, map, refl}
-use Rattle.std.proofs.Common.{ap, sym, ◌∙◌, subst, arith, length-append, Option, Some, None, Ok, Err, Vec, Global}
+use Rattle.std.proofs.Common.{ap, sym, ◌∙◌, subst, arith, length-append, Option, Some, None, Ok, Err}
 use Rattle.std.proofs.lemmas.List.{map-append}
 use Rattle.basic_toml_value.specs.Nesting.{nesting_limit}
 use Rattle.basic_toml_tokens.specs.Text.{Text, text_at, after_blanks}
@@ -9,7 +9,7 @@ use Rattle.basic_toml_explain.specs.declared.stop.Stop.{Stop}
 use Rattle.basic_toml_explain.specs.declared.stop.Why.{Why}
 use Rattle.basic_toml_explain.specs.declared.stop.Why.TheVariants as why
 use Rattle.basic_toml_read.specs.declared.scalar.Keyed.{Keyed}
-use Rattle.basic_toml_read.specs.declared.header.HeaderKeys.{HeaderKeys}
+use Rattle.basic_toml_read.specs.Lists.{HeaderKeys}
 use Rattle.basic_toml_read.specs.declared.section.Key as keys
 use Rattle.basic_toml_grammar.specs.Sections.{Key}
 use Rattle.basic_toml_grammar.specs.Entering.{and_then}
@@ -71,17 +71,15 @@ module _ (bytes : List ℕ) (at offset level : ℕ) (front : List keys.Key)
       subst (λ (l : List Key). KeysTold bytes at 2 offset' (level + 1) l) (sym seen)
       (told_more bytes at 2 offset level (map key_of front) s k key end blanks high next offset' sign after)
 
-  pub header_last : (read : Vec keys.Key Global) → read.items ≡ all → IsPunctuationEnd 46 bytes end None
-      → AreHeaderKeys bytes at (record { keys = read; end = end })
-  header_last read is sign = record {
+  pub header_last : IsPunctuationEnd 46 bytes end None → AreHeaderKeys bytes at (record { keys = all; end = end })
+  header_last sign = record {
     mid = text_at bytes k.end;
     is = told_last bytes at 2 offset level (map key_of front) s k key end blanks high sign
-        ∙ ap (λ (l : List Key). Some (l, text_at bytes k.end)) (sym (ap (map key_of) is ∙ seen));
+        ∙ ap (λ (l : List Key). Some (l, text_at bytes k.end)) (sym seen);
     after = blanks.left;
     over = sign_missing 46 (text_at bytes end) sign;
     limit = omega (
       arith,
-      ap length is,
       ap length pushed,
       length-append front (record { text = k.key; offset = offset } ∷ []),
       s.level_is,
@@ -96,8 +94,8 @@ module _ (bytes : List ℕ) (at offset level : ℕ) (front : List keys.Key)
 pub header_keys_within : (bytes : List ℕ) (start : ℕ) (found : HeaderKeys) → AreHeaderKeys bytes start found → (p : ℕ)
     → DeepKeys nesting_limit 2 (text_at bytes start) p → ⊥
 header_keys_within bytes start found k p d =
-    keys_within (keys_there (text_at bytes start) (map key_of found.keys.items, k.mid) k.is)
-    (omega (arith, k.limit, header_length found.keys.items)) (ap (char_at 46) (sym k.after) ∙ k.over) d
+    keys_within (keys_there (text_at bytes start) (map key_of found.keys, k.mid) k.is)
+    (omega (arith, k.limit, header_length found.keys)) (ap (char_at 46) (sym k.after) ∙ k.over) d
 
 -- a header, by its brackets
 headed : ℕ → List Key → Bool → Text → reader.Headed
@@ -157,13 +155,13 @@ module _ (bytes : List ℕ) (at inner : ℕ) (sign : char_at 91 (text_at bytes a
     module _ (found : HeaderKeys) (k : AreHeaderKeys bytes start found) where
       by_keys : header_of (text_at bytes at)
           ≡ and_then (char_at 93 (text_at bytes found.end))
-          (λ close. Some (headed at (map key_of found.keys.items) false close.1))
+          (λ close. Some (headed at (map key_of found.keys) false close.1))
       by_keys =
           by_one ∙ ap (λ o. and_then o
           (λ keys. and_then (char_at 93 (after_blanks keys.1)) (λ close. Some (headed at keys.0 false close.1))))
           k.is
           ∙ ap (λ t. and_then (char_at 93 t)
-          (λ close. Some (headed at (map key_of found.keys.items) false close.1))) (sym k.after)
+          (λ close. Some (headed at (map key_of found.keys) false close.1))) (sym k.after)
 
       pub one_closed : (end : ℕ) → ClosesAt 93 why.Bracket bytes found.end (Ok end)
           → IsHeaderRead bytes at (record {
@@ -175,18 +173,18 @@ module _ (bytes : List ℕ) (at inner : ℕ) (sign : char_at 91 (text_at bytes a
       unfolding headed
       one_closed end c = record {
         is = by_keys ∙ ap (λ o. and_then o
-            (λ close. Some (headed at (map key_of found.keys.items) false close.1))) c.0;
+            (λ close. Some (headed at (map key_of found.keys) false close.1))) c.0;
         limit = k.limit;
         boundary = c.1;
         later = omega (arith, after, left.forward, k.later, c.2);
       }
 
       pub one_unclosed : (stop : Stop) → ClosesAt 93 why.Bracket bytes found.end (Err stop)
-          → ReadsHeader bytes at (Err stop)
+          → ReadsHeader bytes at found.keys (Err stop)
       one_unclosed stop c =
-          subst (λ stop. ReadsHeader bytes at (Err stop)) (sym c.1)
+          subst (λ stop. ReadsHeader bytes at found.keys (Err stop)) (sym c.1)
           (by_keys ∙ ap (λ o. and_then o
-          (λ close. Some (headed at (map key_of found.keys.items) false close.1))) c.0)
+          (λ close. Some (headed at (map key_of found.keys) false close.1))) c.0)
 
   -- two brackets
   module _ (first : ℕ) (two : IsPunctuationEnd 91 bytes inner (Some first)) (start : ℕ)
@@ -226,37 +224,37 @@ module _ (bytes : List ℕ) (at inner : ℕ) (sign : char_at 91 (text_at bytes a
       by_both : header_of (text_at bytes at)
           ≡ and_then (char_at 93 (text_at bytes found.end))
           (λ close. and_then (char_at 93 close.1)
-          (λ last. Some (headed at (map key_of found.keys.items) true last.1)))
+          (λ last. Some (headed at (map key_of found.keys) true last.1)))
       by_both =
           by_two ∙ ap (λ o. and_then o
           (λ keys. and_then (char_at 93 (after_blanks keys.1))
           (λ close. and_then (char_at 93 close.1) (λ last. Some (headed at keys.0 true last.1))))) k.is
           ∙ ap (λ t. and_then (char_at 93 t)
           (λ close. and_then (char_at 93 close.1)
-          (λ last. Some (headed at (map key_of found.keys.items) true last.1)))) (sym k.after)
+          (λ last. Some (headed at (map key_of found.keys) true last.1)))) (sym k.after)
 
       pub two_unclosed : (stop : Stop) → ClosesAt 93 why.Bracket bytes found.end (Err stop)
-          → ReadsHeader bytes at (Err stop)
+          → ReadsHeader bytes at found.keys (Err stop)
       two_unclosed stop c =
-          subst (λ stop. ReadsHeader bytes at (Err stop)) (sym c.1)
+          subst (λ stop. ReadsHeader bytes at found.keys (Err stop)) (sym c.1)
           (by_both ∙ ap (λ o. and_then o
           (λ close. and_then (char_at 93 close.1)
-          (λ last. Some (headed at (map key_of found.keys.items) true last.1)))) c.0)
+          (λ last. Some (headed at (map key_of found.keys) true last.1)))) c.0)
 
       module _ (last : ℕ) (closes : ClosesAt 93 why.Bracket bytes found.end (Ok last)) where
         by_last : header_of (text_at bytes at)
             ≡ and_then (char_at 93 (text_at bytes last))
-            (λ last. Some (headed at (map key_of found.keys.items) true last.1))
+            (λ last. Some (headed at (map key_of found.keys) true last.1))
         by_last = by_both ∙ ap (λ o. and_then o
             (λ close. and_then (char_at 93 close.1)
-            (λ last. Some (headed at (map key_of found.keys.items) true last.1)))) closes.0
+            (λ last. Some (headed at (map key_of found.keys) true last.1)))) closes.0
 
         pub two_half_closed : (stop : Stop) → ClosesAt 93 why.Bracket bytes last (Err stop)
-            → ReadsHeader bytes at (Err stop)
+            → ReadsHeader bytes at found.keys (Err stop)
         two_half_closed stop c =
-            subst (λ stop. ReadsHeader bytes at (Err stop)) (sym c.1)
+            subst (λ stop. ReadsHeader bytes at found.keys (Err stop)) (sym c.1)
             (by_last ∙ ap (λ o. and_then o
-            (λ last. Some (headed at (map key_of found.keys.items) true last.1))) c.0)
+            (λ last. Some (headed at (map key_of found.keys) true last.1))) c.0)
 
         pub two_closed : (end : ℕ) → ClosesAt 93 why.Bracket bytes last (Ok end)
             → IsHeaderRead bytes at (record {
@@ -268,7 +266,7 @@ module _ (bytes : List ℕ) (at inner : ℕ) (sign : char_at 91 (text_at bytes a
         unfolding headed
         two_closed end c = record {
           is = by_last ∙ ap (λ o. and_then o
-              (λ last. Some (headed at (map key_of found.keys.items) true last.1))) c.0;
+              (λ last. Some (headed at (map key_of found.keys) true last.1))) c.0;
           limit = k.limit;
           boundary = c.1;
           later = omega (arith, after, two.2, left.forward, k.later, closes.2, c.2);

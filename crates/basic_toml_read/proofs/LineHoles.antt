@@ -10,7 +10,7 @@ use Rattle.basic_toml_grammar.specs.Reader.{char_at, end_of}
 use Rattle.basic_toml_grammar.proofs.Grammar.ReaderIsSound.{sign_read}
 use Rattle.basic_toml_explain.specs.declared.stop.Stop.{Stop}
 use Rattle.basic_toml_explain.specs.declared.stop.Why.TheVariants as why
-use Rattle.basic_toml_read.specs.declared.header.HeaderKeys.{HeaderKeys}
+use Rattle.basic_toml_read.specs.Lists.{HeaderKeys}
 use Rattle.basic_toml_read.specs.AtPlace.{Leaves}
 use Rattle.basic_toml_read.specs.SectionView.{key_of}
 use Rattle.basic_toml_read.specs.StopsReached.{InHole, in_header, in_sections}
@@ -59,8 +59,8 @@ module _ (bytes : List ℕ) (at inner : ℕ) (sign : char_at 91 (text_at bytes a
     table_unclosed found k stop c result e =
         bracket_missing bytes (text_at bytes at) start found k
         (HoleInHeader.table_end bracket
-        (subst (λ (t : Text). IsKeys t (map key_of found.keys.items) k.mid) left.left
-        (keys_there (text_at bytes start) (map key_of found.keys.items, k.mid) k.is))) stop c result e
+        (subst (λ (t : Text). IsKeys t (map key_of found.keys) k.mid) left.left
+        (keys_there (text_at bytes start) (map key_of found.keys, k.mid) k.is))) stop c result e
 
   -- two brackets
   module _ (first : ℕ) (two : IsPunctuationEnd 91 bytes inner (Some first)) (start : ℕ)
@@ -74,10 +74,10 @@ module _ (bytes : List ℕ) (at inner : ℕ) (sign : char_at 91 (text_at bytes a
         HoleInHeader.array_keys bracket second (subst (λ (t : Text). HoleInKeys t Hole.key there) left.left d)
 
     module _ (found : HeaderKeys) (k : AreHeaderKeys bytes start found) where
-      keys_are : IsKeys (after_blanks (text_at bytes first)) (map key_of found.keys.items) k.mid
+      keys_are : IsKeys (after_blanks (text_at bytes first)) (map key_of found.keys) k.mid
       keys_are =
-          subst (λ (t : Text). IsKeys t (map key_of found.keys.items) k.mid) left.left
-          (keys_there (text_at bytes start) (map key_of found.keys.items, k.mid) k.is)
+          subst (λ (t : Text). IsKeys t (map key_of found.keys) k.mid) left.left
+          (keys_there (text_at bytes start) (map key_of found.keys, k.mid) k.is)
 
       pub array_unclosed : {A : Type 0} (stop : Stop) → ClosesAt 93 why.Bracket bytes found.end (Err stop)
           → (result : Result A Stop) → IsErrAnd result (λ s. s ≡ stop)

@@ -4,7 +4,7 @@ use Rattle.std.proofs.Common.{sym, ◌∙◌, arith, Option, Some, None, Ok, Err
 use Rattle.std.proofs.Common.{subst, suc, Result}
 use Rattle.basic_toml_value.specs.Nesting.{nesting_limit}
 use Rattle.basic_toml_tokens.specs.Text.{Text, text_at, after_blanks}
-use Rattle.basic_toml_read.specs.declared.header.Header.{Header}
+use Rattle.basic_toml_read.specs.Lists.{Header}
 use Rattle.basic_toml_explain.specs.declared.stop.Stop.{Stop}
 use Rattle.basic_toml_explain.specs.declared.stop.Why.{Why}
 use Rattle.basic_toml_read.specs.declared.values.Gathered.{Gathered}
@@ -69,7 +69,7 @@ module _ (bytes : List ℕ) (at : ℕ) where
 
   module _ (h : Header) (read : IsHeaderRead bytes at h) where
     keys_here : List Key
-    keys_here = map key_of h.keys.items
+    keys_here = map key_of h.keys
 
     made : Rows → Section
     made rs = record { at = h.at; header = keys_here; is_array = h.is_array; rows = rs }
@@ -99,7 +99,7 @@ module _ (bytes : List ℕ) (at : ℕ) where
         → line_end_at (text_at bytes h.end) ≡ None → (p : ℕ) → DeepSections nesting_limit text p → ⊥
     unfolding keys_here
     none_after_header text same e p d =
-        after_header (header_is text same) (omega (arith, read.limit, header_length h.keys.items)) e d
+        after_header (header_is text same) (omega (arith, read.limit, header_length h.keys)) e d
 
     -- a line that goes on after it
     pub line_hole : {A : Type 0} (stop : Stop) → EndsLineAt bytes h.end (Err stop) → (result : Result A Stop)
@@ -115,9 +115,9 @@ module _ (bytes : List ℕ) (at : ℕ) where
           (λ next. and_then (rows_of next)
           (λ rows. and_then (sections_of rows.1) (λ sections. Some (made rows.0 ∷ sections))))) ended.0
 
-      level_here : length keys_here ≡ length h.keys.items
+      level_here : length keys_here ≡ length h.keys
       unfolding keys_here
-      level_here = header_length h.keys.items
+      level_here = header_length h.keys
 
       -- the holes of its rows
       pub holes_of_rows : (text : Text) → text_at bytes at ≡ after_blanks text
@@ -127,7 +127,7 @@ module _ (bytes : List ℕ) (at : ℕ) where
 
       -- rows that are too deep
       pub rows_are_deep : (text : Text) → text_at bytes at ≡ after_blanks text → (p : ℕ)
-          → DeepRows nesting_limit (length h.keys.items + 1) (text_at bytes line) p → DeepSections nesting_limit text p
+          → DeepRows nesting_limit (length h.keys + 1) (text_at bytes line) p → DeepSections nesting_limit text p
       rows_are_deep text same p d =
           deep.this_section (deep.rows (header_is text same) (omega (arith, read.limit, level_here))
           (line_end_read (text_at bytes h.end) (text_at bytes line) ended.0)
@@ -135,20 +135,20 @@ module _ (bytes : List ℕ) (at : ℕ) where
 
       pub deep_in_rows : (text : Text) → text_at bytes at ≡ after_blanks text
           → rows_of (text_at bytes line) ≡ None → (p : ℕ) → DeepSections nesting_limit text p
-          → DeepRows nesting_limit (length h.keys.items + 1) (text_at bytes line) p
+          → DeepRows nesting_limit (length h.keys + 1) (text_at bytes line) p
       deep_in_rows text same e p d =
           subst (λ (n : ℕ). DeepRows nesting_limit (n + 1) (text_at bytes line) p) level_here
           (its_rows (header_is text same) (omega (arith, read.limit, level_here))
           (line_end_read (text_at bytes h.end) (text_at bytes line) ended.0) e d)
 
       pub rows_missing : (w : Why)
-          → Misses w (rows_of (text_at bytes line)) (λ r. nesting_limit < rows_level (length h.keys.items + 1) r.0)
+          → Misses w (rows_of (text_at bytes line)) (λ r. nesting_limit < rows_level (length h.keys + 1) r.0)
           → Misses w (and_then (header_of (text_at bytes at)) sections_from)
           (λ sections. nesting_limit < highest_level sections)
       unfolding made
       rows_missing w m =
           misses_then w (rows_of (text_at bytes line)) (and_then (header_of (text_at bytes at)) sections_from)
-          (λ r. nesting_limit < rows_level (length h.keys.items + 1) r.0)
+          (λ r. nesting_limit < rows_level (length h.keys + 1) r.0)
           (λ sections. nesting_limit < highest_level sections) (λ e. by_rows ∙ ap (λ o. and_then o
           (λ rows. and_then (sections_of rows.1) (λ sections. Some (made rows.0 ∷ sections)))) e)
           (λ y e. let (rows, rows_is, g) =
@@ -164,7 +164,7 @@ module _ (bytes : List ℕ) (at : ℕ) where
           m
 
       pub section_there : (old mid : Gathered) (next : Option ℕ) → lines_of old ≡ no_lines
-          → AreRowsRead bytes line (length h.keys.items + 1) old mid next → IsSectionRead bytes at mid h next
+          → AreRowsRead bytes line (length h.keys + 1) old mid next → IsSectionRead bytes at mid h next
       unfolding made keys_here
       section_there old mid next empty r =
           let view : made (lines_view r.added) ≡ section_seen h (lines_of mid) =

@@ -33,10 +33,10 @@ pub row_seen : (key : KeyText) (offset n start : ℕ) (value : Raw)
     }
 row_seen key offset n start value = search (rules, the_lemmas)
 
-pub element_seen : (offset : ℕ) (value : Raw)
-    → placed_of (roll-Element (record { offset = offset; value = value }))
+pub element_seen : (offset end : ℕ) (value : Raw)
+    → placed_of (roll-Element (record { offset = offset; end = end; value = value }))
     ≡ record { offset = offset; value = raw_of value }
-element_seen offset value = search (rules, the_lemmas)
+element_seen offset end value = search (rules, the_lemmas)
 
 -- lines after others
 pub lines_assoc : (a b c : Lines) → and_lines (and_lines a b) c ≡ and_lines a (and_lines b c)

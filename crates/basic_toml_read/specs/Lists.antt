@@ -1,12 +1,12 @@
 -- What reading headers, rows and whole texts answers.
-use Rattle.std.specs.Prelude.{◌⊎◌, ◌≡◌, ◌≤◌, ◌<◌, ◌+◌, ℕ, List, [], ◌∷◌, length, map, Option, Some, None}
+use Rattle.std.specs.Prelude.{◌⊎◌, ◌≡◌, ◌≤◌, ◌<◌, ◌+◌, ℕ, Bool, List, [], ◌∷◌, length, map, Option, Some, None}
 use Rattle.std.specs.Prelude.{Result, Ok, Err}
 use Rattle.std.specs.Str.{IsCharBoundary}
 use Rattle.basic_toml_value.specs.Nesting.{nesting_limit}
 use Rattle.basic_toml_tokens.specs.Ascii as ascii
 use Rattle.basic_toml_tokens.specs.Text.{Text, text_at, is_comment, after_blanks}
-use Rattle.basic_toml_read.specs.declared.header.Header.{Header}
-use Rattle.basic_toml_read.specs.declared.header.HeaderKeys.{HeaderKeys}
+use Rattle.basic_toml_read.specs.declared.header.Header as code_headers
+use Rattle.basic_toml_read.specs.declared.section.Key as code_keys
 use Rattle.basic_toml_explain.specs.declared.stop.Stop.{Stop}
 use Rattle.basic_toml_explain.specs.declared.stop.Why.TheVariants.{Newline}
 use Rattle.basic_toml_read.specs.declared.values.Gathered.{Gathered}
@@ -24,35 +24,51 @@ use Rattle.basic_toml_read.specs.SectionView.{key_of}
 use Rattle.basic_toml_read.specs.StopsAt.{Misses}
 use Rattle.basic_toml_read.specs.StopsReached.{LeadsTo, in_sections}
 
+-- the keys of a header, and where the blanks after them end
+pub record HeaderKeys : Type 0 where
+  pub keys : List code_keys.Key
+  pub end : ℕ
+
 pub record AreHeaderKeys (bytes : List ℕ) (at : ℕ) (found : HeaderKeys) : Type 0 where
   pub mid : Text
-  pub is : keys_of (text_at bytes at) ≡ Some (map key_of found.keys.items, mid)
+  pub is : keys_of (text_at bytes at) ≡ Some (map key_of found.keys, mid)
   pub after : text_at bytes found.end ≡ after_blanks mid
   pub over : char_at ascii.period (text_at bytes found.end) ≡ None
-  pub limit : length found.keys.items + 1 ≤ nesting_limit
+  pub limit : length found.keys + 1 ≤ nesting_limit
   pub boundary : IsCharBoundary bytes found.end
   pub later : at < found.end
 
-abbrev pub ReadsHeaderKeys : List ℕ → ℕ → Result HeaderKeys Stop → Type 0
-ReadsHeaderKeys bytes at (Ok found) = AreHeaderKeys bytes at found
-ReadsHeaderKeys bytes at (Err stop) =
+abbrev pub ReadsHeaderKeys : List ℕ → ℕ → List code_keys.Key → Result ℕ Stop → Type 0
+ReadsHeaderKeys bytes at keys (Ok end) = AreHeaderKeys bytes at (record { keys = keys; end = end })
+ReadsHeaderKeys bytes at keys (Err stop) =
     Misses stop.why (keys_of (text_at bytes at)) (λ keys. nesting_limit < length keys.0 + 1)
+
+-- a header that begins and ends there, with its keys
+pub record Header : Type 0 where
+  pub at : ℕ
+  pub is_array : Bool
+  pub keys : List code_keys.Key
+  pub end : ℕ
+
+-- of a header that was read, and its keys
+abbrev pub with_keys : ℕ → List code_keys.Key → code_headers.Header → Header
+with_keys at keys h = record { at = at; is_array = h.is_array; keys = keys; end = h.end }
 
 pub record IsHeaderRead (bytes : List ℕ) (at : ℕ) (h : Header) : Type 0 where
   pub is : header_of (text_at bytes at)
       ≡ Some (record {
         offset = h.at;
-        keys = map key_of h.keys.items;
+        keys = map key_of h.keys;
         is_array = h.is_array;
         rest = text_at bytes h.end;
       })
-  pub limit : length h.keys.items + 1 ≤ nesting_limit
+  pub limit : length h.keys + 1 ≤ nesting_limit
   pub boundary : IsCharBoundary bytes h.end
   pub later : at < h.end
 
-abbrev pub ReadsHeader : List ℕ → ℕ → Result Header Stop → Type 0
-ReadsHeader bytes at (Ok h) = IsHeaderRead bytes at h
-ReadsHeader bytes at (Err stop) =
+abbrev pub ReadsHeader : List ℕ → ℕ → List code_keys.Key → Result code_headers.Header Stop → Type 0
+ReadsHeader bytes at keys (Ok h) = IsHeaderRead bytes at (with_keys at keys h)
+ReadsHeader bytes at keys (Err stop) =
     Misses stop.why (header_of (text_at bytes at)) (λ h. nesting_limit < length h.keys + 1)
 
 -- after the end of a line that ends there
@@ -112,7 +128,7 @@ sections_from h = and_then (line_end_at h.rest)
 -- a header with the rows after it, as they were gathered
 abbrev pub section_seen : Header → Lines → Section
 section_seen h lines =
-    record { at = h.at; header = map key_of h.keys.items; is_array = h.is_array; rows = lines_view lines }
+    record { at = h.at; header = map key_of h.keys; is_array = h.is_array; rows = lines_view lines }
 
 pub record IsSectionRead (bytes : List ℕ) (at : ℕ) (new : Gathered) (h : Header) (next : Option ℕ) : Type 0 where
   pub rest : Text
@@ -127,8 +143,9 @@ pub record IsSectionRead (bytes : List ℕ) (at : ℕ) (new : Gathered) (h : Hea
   pub holes : (text : Text) → text_at bytes at ≡ after_blanks text → LeadsTo (in_sections rest) (in_sections text)
   pub limit : section_level (section_seen h (lines_of new)) ≤ nesting_limit
 
-abbrev pub ReadsSection : List ℕ → ℕ → Gathered → Result (Header × Option ℕ) Stop → Type 0
-ReadsSection bytes at new (Ok read) = IsSectionRead bytes at new read.0 read.1
-ReadsSection bytes at new (Err stop) =
+abbrev pub ReadsSection : List ℕ → ℕ → Gathered → List code_keys.Key → Result (code_headers.Header × Option ℕ) Stop
+    → Type 0
+ReadsSection bytes at new keys (Ok read) = IsSectionRead bytes at new (with_keys at keys read.0) read.1
+ReadsSection bytes at new keys (Err stop) =
     Misses stop.why (and_then (header_of (text_at bytes at)) sections_from)
     (λ sections. nesting_limit < highest_level sections)

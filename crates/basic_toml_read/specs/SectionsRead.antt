@@ -1,13 +1,12 @@
 -- What reading the sections of a text one after another answers.
 use Rattle.std.specs.Prelude.{◌≡◌, ◌≤◌, ◌<◌, ◌+◌, ◌-◌, ℕ, Bool, true, false, List, [], ◌∷◌, ◌++◌, length, map}
-use Rattle.std.specs.Prelude.{Option, Some, None, Result, Ok, Err, Vec}
+use Rattle.std.specs.Prelude.{Option, Some, None, Result, Ok, Err, Vec, IfOk}
 use Rattle.std.specs.Option.{IfSome}
 use Rattle.std.specs.Str.{IsCharBoundary}
 use Rattle.std.specs.declared.alloc.Global.{Global}
 use Rattle.basic_toml_value.specs.Nesting.{nesting_limit}
 use Rattle.basic_toml_tokens.specs.Text.{Text, text_at, folded}
 use Rattle.basic_toml_grammar.specs.Sections.{Section}
-use Rattle.basic_toml_grammar.specs.Grammar.{with_root}
 use Rattle.basic_toml_grammar.specs.Entering.{and_then}
 use Rattle.basic_toml_grammar.specs.Levels.{highest_level}
 use Rattle.basic_toml_grammar.specs.Reader.{section_list_of}
@@ -15,10 +14,12 @@ use Rattle.basic_toml_grammar.specs.DeepStops.{DeepSections, DeepStop}
 use Rattle.basic_toml_explain.specs.Stop.{StopsInside}
 use Rattle.basic_toml_explain.specs.StopHoles.{StopsFor}
 use Rattle.basic_toml_explain.specs.declared.stop.Stop.{Stop}
+use Rattle.basic_toml_read.specs.declared.reader.Place.{Place}
+use Rattle.basic_toml_read.specs.declared.reader.Place.TheVariants.{Start, Behind}
 use Rattle.basic_toml_read.specs.declared.reader.SectionReader.{SectionReader}
 use Rattle.basic_toml_read.specs.declared.section.Section as code
 use Rattle.basic_toml_read.specs.FrontOf.{sections_of}
-use Rattle.basic_toml_read.specs.Gathers.{lines_of, lines_view}
+use Rattle.basic_toml_read.specs.Gathers.{lines_of, no_lines}
 use Rattle.basic_toml_read.specs.Lists.{NextAt, IsGap}
 use Rattle.basic_toml_read.specs.SectionView.{section_of, NoneLeft}
 use Rattle.basic_toml_read.specs.SectionsAnswer.{HoldsMore}
@@ -40,15 +41,23 @@ pub record ListSoFar (bytes : List ℕ) (next : Option ℕ) (list : List Section
   pub backs : (p : ℕ) → DeepStop nesting_limit (folded bytes) p → DeepSections nesting_limit rest p
   pub holes : LeadsTo (in_sections rest) (in_text (folded bytes))
 
--- A reader has handed these sections out. It may hold the rows before the first header, which come next.
-abbrev pub SoFar : SectionReader → List Section → Type 0
-SoFar reader list =
-    ListSoFar reader.text.now reader.bracket (list ++ with_root (lines_view (lines_of reader.gathered)) [])
+-- Where a reader is that has handed these sections out.
+abbrev pub IsBehind : List ℕ → Place → List Section → Type 0
+IsBehind bytes Start list = list ≡ []
+IsBehind bytes (Behind next) list = ListSoFar bytes next list
 
--- the bracket stands in the text, and where no row is, no key is before one
+abbrev pub SoFar : SectionReader → List Section → Type 0
+SoFar reader list = IsBehind reader.text.now reader.place list
+
+-- a place in the text
+abbrev pub IsPlaceIn : List ℕ → Place → Type 0
+IsPlaceIn bytes Start = Unit {0}
+IsPlaceIn bytes (Behind next) = IfSome next (λ at. IsCharBoundary bytes at)
+
+-- a reader that can read on
 pub record IsReady (reader : SectionReader) : Type 0 where
-  pub boundary : IfSome reader.bracket (λ at. IsCharBoundary reader.text.now at)
-  pub parents : reader.gathered.rows.items ≡ [] → reader.gathered.parents.items ≡ []
+  pub within : IsPlaceIn reader.text.now reader.place
+  pub none : lines_of reader.gathered ≡ no_lines
 
 -- Where the text stops to be one within the limit: what is missing there, that it is inside the text and holds more than
 -- a gap, and that no level above the limit comes before it.
@@ -64,10 +73,6 @@ pub record IsAtStart (bytes : List ℕ) (reader : SectionReader) : Type 0 where
   pub text : reader.text.now ≡ bytes
   pub ready : IsReady reader
   pub none : SoFar reader []
-
-abbrev pub Begins : List ℕ → Result SectionReader Stop → Type 0
-Begins bytes (Ok reader) = IsAtStart bytes reader
-Begins bytes (Err stop) = IsStop bytes stop
 
 -- a section without keys and rows, whose vectors can take the next ones
 pub record IsEmpty (s : code.Section) : Type 0 where
@@ -90,8 +95,19 @@ abbrev pub left_after : List ℕ → Option ℕ → ℕ
 left_after bytes None = 0
 left_after bytes (Some at) = length bytes - at + 1
 
+abbrev pub left_at : List ℕ → Place → ℕ
+left_at bytes Start = length bytes + 2
+left_at bytes (Behind next) = left_after bytes next
+
 unfoldable pub left_to_read : SectionReader → ℕ
-left_to_read reader = left_after reader.text.now reader.bracket + length reader.gathered.rows.items
+left_to_read reader = left_at reader.text.now reader.place
+
+-- A reader reads on, into a section: it can read on after that, in the same text, of which less is left.
+pub record ReadsOn (old new : SectionReader) (s : code.Section) (result : Result Bool Stop) : Type 0 where
+  pub read : (list : List Section) → SoFar old list → ReadsNext list new s result
+  pub ready : IfOk result (λ _. IsReady new)
+  pub text : new.text ≡ old.text
+  pub later : result ≡ Ok true → left_to_read new < left_to_read old
 
 -- the section list of the text, within the limit
 abbrev pub ReadsList : List ℕ → Result (Vec code.Section Global) Stop → Type 0

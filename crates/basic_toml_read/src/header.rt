@@ -19,38 +19,29 @@ use std::alloc::Global;
 // A header's keys have room for so many from the start, which few headers pass.
 const ROOM: usize = 3;
 
-/// A header and where it ends. `at` is the offset of its first bracket.
-#[derive(Drop)]
-pub(crate) struct Header<'de> {
-    pub at: usize,
+/// What a header is but for its keys, and where it ends.
+#[derive(Clone, Copy)]
+pub(crate) struct Header {
     pub is_array: bool,
-    pub keys: Vec<Key<'de>>,
     pub end: usize,
 }
 
-/// The keys of a header, and where the blanks after them end.
-#[derive(Drop)]
-struct HeaderKeys<'de> {
-    keys: Vec<Key<'de>>,
-    end: usize,
-}
-
-// The keys of a header, the first of which has level 2. They go into a vector that holds none yet.
+// Reads the keys of a header, the first of which has level 2, into a vector that holds none yet. It answers where the
+// blanks after them end.
 #[inline(always)]
 fn header_keys<'de>(
     alloc: Global,
     text: &'de str,
     at: usize,
-    keys: Vec<Key<'de>>,
-) -> Result<HeaderKeys<'de>, Stop>
+    keys: &mut Vec<Key<'de>>,
+) -> Result<usize, Stop>
     requires boundary { IsCharBoundary text.now at }
-    requires none { keys.items ≡ [] }
-    ensures read { ReadsHeaderKeys text.now at result }
+    requires none { keys.old.items ≡ [] }
+    ensures read { ReadsHeaderKeys text.now at keys.new.items result }
     ensures inside { IfErr result (λ stop. StopsInside text.now stop) }
     ensures deep { IfDeep (DeepKeys nesting_limit 2 (text_at text.now at)) result }
     ensures hole { InKeyHole (text_at text.now at) text.now result }
 {
-    let mut keys = keys;
     keys.try_reserve(ROOM)?;
     let mut offset = at;
     let mut level = 2;
@@ -67,21 +58,21 @@ fn header_keys<'de>(
                 offset = after_blanks(text, next);
                 level += 1;
             }
-            None => return Ok(HeaderKeys { keys, end }),
+            None => return Ok(end),
         }
     }
 }
 
-/// The header whose first bracket stands at `at`. Its keys go into a vector that holds none yet.
+/// Reads the header whose first bracket stands at `at`. Its keys go into a vector that holds none yet.
 pub(crate) fn header_at<'de>(
     alloc: Global,
     text: &'de str,
     at: usize,
-    keys: Vec<Key<'de>>,
-) -> Result<Header<'de>, Stop>
+    keys: &mut Vec<Key<'de>>,
+) -> Result<Header, Stop>
     requires boundary { IsCharBoundary text.now at }
-    requires none { keys.items ≡ [] }
-    ensures read { ReadsHeader text.now at result }
+    requires none { keys.old.items ≡ [] }
+    ensures read { ReadsHeader text.now at keys.new.items result }
     ensures inside { IfErr result (λ stop. StopsInside text.now stop) }
     ensures deep { IfDeep (DeepHeader nesting_limit (text_at text.now at)) result }
     ensures hole { InHeaderHole text.now at result }
@@ -89,33 +80,19 @@ pub(crate) fn header_at<'de>(
     let inner = closed(text, at, b'[', Why::Newline)?;
     match after_punctuation(text, inner, b'[') {
         None => {
-            let HeaderKeys { keys, end } = header_keys(
-                alloc,
-                text,
-                after_blanks(text, inner),
-                keys,
-            )?;
-            let end = closed(text, end, b']', Why::Bracket)?;
+            let after = header_keys(alloc, text, after_blanks(text, inner), keys)?;
+            let end = closed(text, after, b']', Why::Bracket)?;
             Ok(Header {
-                at,
                 is_array: false,
-                keys,
                 end,
             })
         }
         Some(first) => {
-            let HeaderKeys { keys, end } = header_keys(
-                alloc,
-                text,
-                after_blanks(text, first),
-                keys,
-            )?;
-            let last = closed(text, end, b']', Why::Bracket)?;
+            let after = header_keys(alloc, text, after_blanks(text, first), keys)?;
+            let last = closed(text, after, b']', Why::Bracket)?;
             let end = closed(text, last, b']', Why::Bracket)?;
             Ok(Header {
-                at,
                 is_array: true,
-                keys,
                 end,
             })
         }

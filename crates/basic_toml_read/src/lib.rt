@@ -15,5 +15,5 @@ mod word;
 
 pub use basic_toml_explain::{ReadError, ReadErrorKind};
 pub use key_text::KeyText;
-pub use reader::{SectionReader, sections};
+pub use reader::{Place, SectionReader, sections};
 pub use section::{Element, Key, Raw, Row, Rows, Section};

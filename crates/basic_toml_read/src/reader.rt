@@ -1,5 +1,5 @@
 //! Reads a text to its section list, line by line: headers, and the rows after each.
-ghost use Rattle.std.specs.Prelude.{IfErr, IfOk, Ok, true, List, ◌≡◌, ◌≤◌, ◌<◌, []};
+ghost use Rattle.std.specs.Prelude.{IfErr, ◌≡◌, ◌≤◌, []};
 ghost use Rattle.std.specs.Str.{IsCharBoundary};
 ghost use Rattle.basic_toml_value.specs.Nesting.{nesting_limit};
 ghost use Rattle.basic_toml_tokens.specs.Text.{text_at, folded};
@@ -7,10 +7,9 @@ ghost use Rattle.basic_toml_explain.specs.Stop.{StopsInside};
 ghost use Rattle.basic_toml_read.specs.StopsReached.{IfDeep, IfDeepSection, InHole, InSectionHole, in_rows, in_text};
 ghost use Rattle.basic_toml_grammar.specs.DeepStops.{DeepRows, DeepStop};
 ghost use Rattle.basic_toml_read.specs.SectionsAnswer.{AnswersSections, HoldsMore};
-ghost use Rattle.basic_toml_read.specs.SectionsRead.{Begins, IsReady, IsEmpty, SoFar, ReadsNext, ReadsList, left_to_read};
+ghost use Rattle.basic_toml_read.specs.SectionsRead.{IsAtStart, IsReady, IsEmpty, ReadsOn, ReadsList};
 ghost use Rattle.basic_toml_read.specs.Lists.{EndsOrStops, EndsLineAt, ReadsRows, PassesGaps, ReadsSection};
 ghost use Rattle.basic_toml_read.specs.Gathers.{lines_in, lines_of, no_lines};
-ghost use Rattle.basic_toml_grammar.specs.Sections as spec_sections;
 
 use crate::front::{after_blanks, after_comment, after_line, end_of_line};
 use crate::header::{Header, header_at};
@@ -82,37 +81,46 @@ impl<'de> Gathered<'de> {
 }
 
 impl<'de> Gathered<'de> {
-    // Reads the header whose bracket stands at `at`, and the rows after it. It answers the header, whose keys go into a
-    // vector that holds none yet, and where the bracket of the next header stands.
+    // Reads the header whose bracket stands at `at`, and the rows after it. Its keys go into a vector that holds none yet.
+    // It answers where the bracket of the next header stands, too.
     fn section(
         &mut self,
         text: &'de str,
         at: usize,
-        keys: Vec<Key<'de>>,
-    ) -> Result<(Header<'de>, Option<usize>), Stop>
+        keys: &mut Vec<Key<'de>>,
+    ) -> Result<(Header, Option<usize>), Stop>
         requires boundary { IsCharBoundary text.now at }
         requires none { lines_of self.old ≡ no_lines }
-        requires empty { keys.items ≡ [] }
-        ensures read { ReadsSection text.now at self.new result }
+        requires empty { keys.old.items ≡ [] }
+        ensures read { ReadsSection text.now at self.new keys.new.items result }
         ensures inside { IfErr result (λ stop. StopsInside text.now stop) }
         ensures deep { IfDeepSection text.now at result }
         ensures hole { InSectionHole text.now at result }
     {
         let header = header_at(self.alloc, text, at, keys)?;
         let line = next_line(text, header.end)?;
-        let next = self.rows(text, line, header.keys.len() + 1)?;
+        let next = self.rows(text, line, keys.len() + 1)?;
         Ok((header, next))
     }
 
-    // Exchanges the rows so far, and the keys before them, with those of a section.
+    // Hands the rows so far, and the keys before them, to a section that has none, and takes its vectors.
     #[inline(always)]
-    fn exchange(&mut self, rows: &mut Rows<'de>)
-        ensures taken { lines_in rows.new ≡ lines_of self.old }
-        ensures given { lines_of self.new ≡ lines_in rows.old }
+    fn hand_out(&mut self, rows: &mut Rows<'de>)
+        ensures handed { lines_in rows.new ≡ lines_of self.old }
+        ensures taken { lines_of self.new ≡ lines_in rows.old }
     {
         mem::swap(&mut self.parents, &mut rows.parents);
         mem::swap(&mut self.rows, &mut rows.rows);
     }
+}
+
+/// A place between the sections of a text.
+#[derive(Clone, Copy)]
+pub enum Place {
+    /// Before the rows that no header comes before.
+    Start,
+    /// Behind these rows, or behind a section: where the bracket of the next header stands, if there is one.
+    Behind(Option<usize>),
 }
 
 /// Reads the sections of a text one after another: the rows before the first header, if there are any, and then each
@@ -120,33 +128,43 @@ impl<'de> Gathered<'de> {
 #[derive(Drop)]
 pub struct SectionReader<'de> {
     text: &'de str,
-    // It holds the rows before the first header until they are handed out, and else none.
+    // Nothing is gathered between sections.
     gathered: Gathered<'de>,
-    // Where the bracket of the next header stands.
-    bracket: Option<usize>,
+    place: Place,
 }
 
 impl<'de> SectionReader<'de> {
     /// A reader at the start of a text.
-    ///
-    /// # Errors
-    ///
-    /// The stop within the rows before the first header. `error_at` of `basic_toml_explain` makes an error of it.
-    pub fn new(alloc: Global, text: &'de str) -> Result<SectionReader<'de>, Stop>
-        ensures { Begins text.now result }
+    pub fn new(alloc: Global, text: &'de str) -> SectionReader<'de>
+        ensures { IsAtStart text.now result }
     {
-        let mut gathered = Gathered {
+        SectionReader::at(alloc, text, Place::Start)
+    }
+
+    /// A reader at a place where a reader of the same text was: it reads what that one went on with.
+    pub fn at(alloc: Global, text: &'de str, place: Place) -> SectionReader<'de>
+        ensures text { result.text ≡ text.entry }
+        ensures place { result.place ≡ place }
+        ensures none { lines_of result.gathered ≡ no_lines }
+    {
+        let gathered = Gathered {
             alloc,
             elements: Vec::new(alloc),
             parents: Vec::new(alloc),
             rows: Vec::new(alloc),
         };
-        let bracket = gathered.rows(text, start_of_text(text), 1)?;
-        Ok(SectionReader {
+        SectionReader {
             text,
             gathered,
-            bracket,
-        })
+            place,
+        }
+    }
+
+    /// Where it is.
+    pub fn place(&self) -> Place
+        ensures { result ≡ self.now.place }
+    {
+        self.place
     }
 
     /// Reads the next section into one that is empty, whose vectors are used again, and answers whether there was one.
@@ -154,32 +172,53 @@ impl<'de> SectionReader<'de> {
     /// # Errors
     ///
     /// The stop, where the text does not go on as a section. `error_at` of `basic_toml_explain` makes an error of it.
+    #[inline(always)]
     pub fn next(&mut self, section: &mut Section<'de>) -> Result<bool, Stop>
         requires ready { IsReady self.old }
         requires empty { IsEmpty section.old }
-        ensures read { (list : List spec_sections.Section) → SoFar self.old list
-            → ReadsNext list self.new section.new result }
-        ensures ready { IfOk result (λ _. IsReady self.new) }
-        ensures text { self.new.text ≡ self.old.text }
-        ensures later { result ≡ Ok true → left_to_read self.new < left_to_read self.old }
+        ensures { ReadsOn self.old self.new section.new result }
     {
-        if !self.gathered.rows.is_empty() {
-            section.at = 0;
-            section.is_array = false;
-            self.gathered.exchange(&mut section.rows);
-            return Ok(true);
+        match self.place {
+            Place::Start => self.first(section),
+            Place::Behind(bracket) => self.headed(section, bracket),
         }
-        let Some(at) = self.bracket else {
+    }
+
+    // Reads the rows before the first header; where there are none, the first header with its rows.
+    #[inline(never)]
+    fn first(&mut self, section: &mut Section<'de>) -> Result<bool, Stop>
+        requires start { self.old.place ≡ Place.Start }
+        requires ready { IsReady self.old }
+        requires empty { IsEmpty section.old }
+        ensures { ReadsOn self.old self.new section.new result }
+    {
+        let bracket = self.gathered.rows(self.text, start_of_text(self.text), 1)?;
+        self.place = Place::Behind(bracket);
+        if self.gathered.rows.is_empty() {
+            return self.headed(section, bracket);
+        }
+        section.at = 0;
+        section.is_array = false;
+        self.gathered.hand_out(&mut section.rows);
+        Ok(true)
+    }
+
+    // Reads the header whose bracket stands here, with its rows, if there is one.
+    #[inline(never)]
+    fn headed(&mut self, section: &mut Section<'de>, bracket: Option<usize>) -> Result<bool, Stop>
+        requires behind { self.old.place ≡ Place.Behind bracket }
+        requires ready { IsReady self.old }
+        requires empty { IsEmpty section.old }
+        ensures { ReadsOn self.old self.new section.new result }
+    {
+        let Some(at) = bracket else {
             return Ok(false);
         };
-        self.gathered.exchange(&mut section.rows);
-        let keys = mem::replace(&mut section.header, Vec::new(self.gathered.alloc));
-        let (header, bracket) = self.gathered.section(self.text, at, keys)?;
-        self.bracket = bracket;
-        section.at = header.at;
+        let (header, next) = self.gathered.section(self.text, at, &mut section.header)?;
+        self.place = Place::Behind(next);
+        section.at = at;
         section.is_array = header.is_array;
-        let _ = mem::replace(&mut section.header, header.keys);
-        self.gathered.exchange(&mut section.rows);
+        self.gathered.hand_out(&mut section.rows);
         Ok(true)
     }
 }
@@ -188,7 +227,7 @@ impl<'de> SectionReader<'de> {
 pub(crate) fn list<'de>(alloc: Global, text: &'de str) -> Result<Vec<Section<'de>>, Stop>
     ensures { ReadsList text.now result }
 {
-    let mut reader = SectionReader::new(alloc, text)?;
+    let mut reader = SectionReader::new(alloc, text);
     let mut sections = Vec::new(alloc);
     let mut section = Section::empty(alloc);
     while reader.next(&mut section)? {

@@ -216,6 +216,7 @@ impl<'de> Gathered<'de> {
             let valued = self.value(text, at, level, End::Bracket)?;
             self.elements.push(Element {
                 offset: valued.offset,
+                end: valued.end,
                 value: valued.value,
             })?;
             let after = after_gap(text, valued.end);

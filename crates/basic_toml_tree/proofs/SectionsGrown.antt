@@ -1,6 +1,6 @@
 -- The sections of a list entered one after another: what is known of the tree then, and of a section that is not entered.
 use Rattle.std.proofs.Common.{◌≡◌, inl, inr, ℕ, suc, ◌+◌, true, false, List, [], ◌∷◌, ◌++◌, refl, ap, sym, ◌∙◌}
-use Rattle.std.proofs.Common.{subst, map, length, None}
+use Rattle.std.proofs.Common.{subst, map, length, Option, Some, None}
 use Rattle.std.proofs.lemmas.List.{map-append}
 use Rattle.std.proofs.lemmas.Bool.{false≢true, and_parts, and_from}
 use Rattle.basic_toml_grammar.specs.IndexedPath.{located}
@@ -9,6 +9,8 @@ use Rattle.basic_toml_grammar.specs.Nodes.{is_made}
 use Rattle.basic_toml_grammar.specs.Steps.{Path}
 use Rattle.basic_toml_grammar.specs.Faults.{Fault, nested_too_deeply}
 use Rattle.basic_toml_grammar.specs.GrammarFaults.{fault_at}
+use Rattle.basic_toml_grammar.specs.NamedClash.{dotted_fault}
+use Rattle.basic_toml_grammar.proofs.Naming.EveryClashIsNamed.{named_clashes}
 use Rattle.basic_toml_grammar.specs.Trie.{walk, steps_to}
 use Rattle.basic_toml_grammar.specs.Stops.{Stop, at_header, is_named, is_passed, stops, stop_fault}
 use Rattle.basic_toml_grammar.specs.TrieStops.{try_by_keys}
@@ -32,7 +34,7 @@ use Rattle.basic_toml_tree.specs.FirstStop.{Entered, StopsSection, deep, clash, 
 use Rattle.basic_toml_tree.specs.Resolve.{IsResolved, IsUnresolved, memory, refused, head}
 use Rattle.basic_toml_tree.proofs.Origins.SectionsPlaceOrigins.{Brought, none_brought, more_brought}
 use Rattle.basic_toml_tree.proofs.SectionsEntered.{one_more, too_deep, whole_tree, no_clash, fits_all}
-use Rattle.basic_toml_tree.proofs.SectionsStopped.{same_fault}
+use Rattle.basic_toml_tree.proofs.SectionsStopped.{same_fault, crossed_named}
 use Rattle.basic_toml_tree.proofs.TrieData.{table_trie_data}
 
 -- These sections are entered in a table, their headers are kept, and what rows made comes from them.
@@ -55,7 +57,7 @@ keyed_front (x ∷ xs) ys keyed =
     let both = and_parts (is_keyed x) (all_keyed (xs ++ ys)) keyed in
     and_from (is_keyed x) (all_keyed xs) both.0 (keyed_front xs ys both.1)
 
-mapped_length : {A B : Type 0} (f : A → B) (xs : List A) → length (map f xs) ≡ length xs
+pub mapped_length : {A B : Type 0} (f : A → B) (xs : List A) → length (map f xs) ≡ length xs
 mapped_length f [] = refl
 mapped_length f (x ∷ xs) = ap suc (mapped_length f xs)
 
@@ -77,6 +79,16 @@ entered_resolved list tree have keyed within =
         → (table_within tree.root).below p ≡ sections_origins 0 (located list) p
     made_apart brought [] not = absurd (false≢true (sym not))
     made_apart brought (r ∷ p) not = brought (r ∷ p) not
+
+-- no row of sections that are entered goes on from a value
+pub none_crossed : (list : List Section) (headers : List (ℕ × List Key)) (root : Table) → HaveEntered list headers root
+    → all_keyed list ≡ true → first_crossed list ≡ None
+none_crossed list headers root have keyed = go (first_crossed list) refl
+  where
+    go : (o : Option ℕ) → first_crossed list ≡ o → o ≡ None
+    go None is = refl
+    go (Some at) is = absurd (false≢true (sym (no_clash list (table_trie root) keyed have.entered)
+        ∙ named_clashes list (dotted_fault at) (crossed_named list at is)))
 
 -- the next section of a list
 module _ (list : List Section) (headers : List (ℕ × List Key)) (root : Table) (have : HaveEntered list headers root)

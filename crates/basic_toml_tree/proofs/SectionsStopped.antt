@@ -1,6 +1,6 @@
 -- The fault of a list that has no tree names a clash of it, or a section that is too deep.
 use Rattle.std.proofs.Common.{◌≡◌, ◌⊎◌, inl, inr, ℕ, true, false, Bool, List, [], ◌∷◌, ◌++◌, refl, ap, sym, ◌∙◌}
-use Rattle.std.proofs.Common.{subst, arith, ◌<◌, Option, None}
+use Rattle.std.proofs.Common.{subst, arith, ◌<◌, Option, Some, None}
 use Rattle.std.specs.Prelude.{◌&&◌, Contains}
 use Rattle.std.specs.List.{flat_map}
 use Rattle.basic_toml_grammar.specs.Sections.{Section, texts, KeyTexts}
@@ -81,16 +81,21 @@ pub none_dotted : (sections : List Section) → first_crossed sections ≡ None
 none_dotted sections none =
     subst (λ (o : Option ℕ). Tells o (flat_map (λ s. dotted_faults s.rows) sections)) none (tells_sections sections)
 
+-- where one is crossed, its fault is named
+pub crossed_named : (sections : List Section) (at : ℕ) → first_crossed sections ≡ Some at
+    → NamesClash sections (dotted_fault at)
+crossed_named sections at there =
+    first_contained (flat_map (λ s. dotted_faults s.rows) sections)
+    (flat_map repeated_faults_of sections ++ section_faults (located sections)) (dotted_fault at)
+    (subst (λ (o : Option ℕ). Tells o (flat_map (λ s. dotted_faults s.rows) sections)) there (tells_sections sections))
+
 -- the fault of a list of which rows and array headers have keys
 pub fault_is_named : (sections : List Section) (fault : Fault) → all_keyed sections ≡ true
     → SectionsFault sections fault
     → NamesClash sections fault
     ⊎ ((offset : ℕ) × (fault ≡ fault_at nested_too_deeply offset)
     × Contains (deep_sections nesting_limit (located sections)) offset)
-fault_is_named sections _ keyed (value {at = at} there) =
-    inl (first_contained (flat_map (λ s. dotted_faults s.rows) sections)
-    (flat_map repeated_faults_of sections ++ section_faults (located sections)) (dotted_fault at)
-    (subst (λ (o : Option ℕ). Tells o (flat_map (λ s. dotted_faults s.rows) sections)) there (tells_sections sections)))
+fault_is_named sections _ keyed (value {at = at} there) = inl (crossed_named sections at there)
 fault_is_named sections fault keyed (section none first) = go first.stopped
   where
     there : all_keyed (first.before ++ first.here ∷ first.later) ≡ true

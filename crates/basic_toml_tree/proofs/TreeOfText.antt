@@ -1,6 +1,6 @@
 -- The sections of a text go into a tree as they are read: what is known on the way, and how it ends.
 use Rattle.std.proofs.Common.{◌≡◌, ◌+◌, inl, inr, ℕ, List, [], ◌∷◌, ◌++◌, refl, ap, sym, ◌∙◌, subst, append_assoc, append-nil}
-use Rattle.std.proofs.Common.{Option, Some, None, Result, Ok, Err, Bool, true, false}
+use Rattle.std.proofs.Common.{Option, MatchOption, Some, None, Result, Ok, Err, Bool, true, false}
 use Rattle.std.specs.Option.{option_or}
 use Rattle.std.specs.Prelude.{IsUtf8}
 use Rattle.std.specs.Result.{IsErrAnd}
@@ -21,7 +21,11 @@ use Rattle.basic_toml_read.specs.declared.reader.SectionReader.{SectionReader}
 use Rattle.basic_toml_read.specs.declared.section.Section as code
 use Rattle.basic_toml_read.specs.SectionView.{section_of, header_texts, rows_view}
 use Rattle.basic_toml_read.specs.SectionsAnswer.{memory}
-use Rattle.basic_toml_read.specs.SectionsRead.{SoFar, IsReady, IsAtStart, IsStop, IsList, ReadsNext}
+use Rattle.basic_toml_read.specs.FrontOf.{sections_of}
+use Rattle.basic_toml_read.specs.SectionsRead.{onto, IsBehind, IsPlaceIn, SoFar, IsReady, IsAtStart}
+use Rattle.basic_toml_read.specs.SectionsRead.{IsStop, IsList, ReadsNext}
+use Rattle.basic_toml_read.specs.declared.reader.Place.{Place}
+use Rattle.basic_toml_read.specs.declared.reader.Place.TheVariants.{Start, Behind}
 use Rattle.basic_toml_read.proofs.ListIsAnswered.{stop_answered}
 use Rattle.basic_toml_read.proofs.SectionsHandedOut.{refused_after}
 use Rattle.basic_toml_clash.specs.declared.clash.Clash.{Clash}
@@ -35,8 +39,9 @@ use Rattle.basic_toml_tree.specs.declared.tree.Tree.{Tree}
 use Rattle.basic_toml_tree.specs.FirstStop.{value}
 use Rattle.basic_toml_tree.specs.OfText.{IsListOf, IsTreeOf, AnswersText, Takes}
 use Rattle.basic_toml_tree.specs.Resolve.{refused}
-use Rattle.basic_toml_tree.specs.Rest.{IsRestRead}
-use Rattle.basic_toml_tree.proofs.SectionsGrown.{HaveEntered, none_entered, entered_resolved, kept_out}
+use Rattle.basic_toml_tree.specs.Rest.{IsReached, IsRestRead, TellsClash}
+use Rattle.basic_toml_tree.proofs.SectionsGrown.{HaveEntered, none_entered, entered_resolved, kept_out, none_crossed}
+use Rattle.basic_toml_tree.proofs.SectionsGrown.{keyed_front}
 
 -- what is known before the next section is read
 pub record Grows (bytes : List ℕ) (reader : SectionReader) (headers : List (ℕ × List Key)) (root : Table) : Type 0 where
@@ -45,7 +50,6 @@ pub record Grows (bytes : List ℕ) (reader : SectionReader) (headers : List (�
   pub ready : IsReady reader
   pub so_far : SoFar reader list
   pub have : HaveEntered list headers root
-  pub none : first_crossed list ≡ None
 
 pub grows_at_start : (bytes : List ℕ) (reader : SectionReader) (headers : List (ℕ × List Key)) (root : Table)
     → IsAtStart bytes reader → headers ≡ [] → table_trie root ≡ fresh → Grows bytes reader headers root
@@ -55,10 +59,31 @@ grows_at_start bytes reader headers root start no_headers is = record {
   ready = start.ready;
   so_far = start.none;
   have = none_entered headers root no_headers is;
-  none = refl;
 }
 
--- and where it is read, before it goes into the tree
+-- the place of a reader that has read these sections
+module _ (bytes : List ℕ) (reader : SectionReader) (place : Place) (text : reader.text.now ≡ bytes)
+    (is : reader.place ≡ place) where
+  pub place_behind : (list : List Section) → SoFar reader list → IsBehind bytes place list
+  place_behind list so_far =
+      subst (λ (p : Place). IsBehind bytes p list) is
+      (subst (λ (b : List ℕ). IsBehind b reader.place list) text so_far)
+
+  pub place_reached : (list : List Section) → IsReady reader → SoFar reader list → IsReached bytes place
+  place_reached list ready so_far = record {
+    within = subst (λ (p : Place). IsPlaceIn bytes p) is
+        (subst (λ (b : List ℕ). IsPlaceIn b reader.place) text ready.within);
+    list = list;
+    behind = place_behind list so_far;
+  }
+
+  -- and of a reader that is put there
+  pub put_there : (list : List Section) → IsBehind bytes place list → SoFar reader list
+  put_there list so_far =
+      subst (λ (b : List ℕ). IsBehind b reader.place list) (sym text)
+      (subst (λ (p : Place). IsBehind bytes p list) (sym is) so_far)
+
+-- and where the next one is read, before it goes into the tree
 pub record NextIsRead (bytes : List ℕ) (reader : SectionReader) (headers : List (ℕ × List Key)) (root : Table)
     (s : code.Section) : Type 0 where
   pub list : List Section
@@ -66,9 +91,8 @@ pub record NextIsRead (bytes : List ℕ) (reader : SectionReader) (headers : Lis
   pub ready : IsReady reader
   pub so_far : SoFar reader (list ++ section_of s ∷ [])
   pub have : HaveEntered list headers root
-  pub none : first_crossed list ≡ None
 
-pub next_is_read : (bytes : List ℕ) (old reader : SectionReader) (headers : List (ℕ × List Key)) (root : Table)
+abbrev pub next_is_read : (bytes : List ℕ) (old reader : SectionReader) (headers : List (ℕ × List Key)) (root : Table)
     (s : code.Section) (grows : Grows bytes old headers root) (b : Bool) → reader.text.now ≡ old.text.now
     → IsReady reader → ReadsNext grows.list reader s (Ok b) → b ≡ true → NextIsRead bytes reader headers root s
 next_is_read bytes old reader headers root s grows b same ready read is = record {
@@ -77,7 +101,6 @@ next_is_read bytes old reader headers root s grows b same ready read is = record
   ready = ready;
   so_far = subst (λ (b : Bool). ReadsNext grows.list reader s (Ok b)) is read;
   have = grows.have;
-  none = grows.none;
 }
 
 crossed_joined : (front later : List Section)
@@ -97,11 +120,6 @@ one_crossed s = or_none (crossed_in s.rows)
     or_none : (o : Option ℕ) → option_or o None ≡ o
     or_none None = refl
     or_none (Some n) = refl
-
-crossed_next : (list : List Section) (s : Section) → first_crossed list ≡ None
-    → first_crossed (list ++ s ∷ []) ≡ crossed_in s.rows
-crossed_next list s none =
-    crossed_joined list (s ∷ []) ∙ ap (λ o. option_or o (first_crossed (s ∷ []))) none ∙ one_crossed s
 
 -- the sections after a list so far, and the first value in them that a row goes on from
 pub record IsRestSoFar (reader : SectionReader) (list : List Section) (found : Option ℕ) : Type 0 where
@@ -137,15 +155,14 @@ rest_read bytes reader list found rest same is = record {
 
 -- it went in
 pub grows_on : (bytes : List ℕ) (reader : SectionReader) (headers more : List (ℕ × List Key)) (root after : Table)
-    (s : code.Section) (read : NextIsRead bytes reader headers root s) → crossed_in (section_of s).rows ≡ None
+    (s : code.Section) (read : NextIsRead bytes reader headers root s)
     → HaveEntered (read.list ++ section_of s ∷ []) more after → Grows bytes reader more after
-grows_on bytes reader headers more root after s read crossed have = record {
+grows_on bytes reader headers more root after s read have = record {
   list = read.list ++ section_of s ∷ [];
   text = read.text;
   ready = read.ready;
   so_far = read.so_far;
   have = have;
-  none = crossed_next read.list (section_of s) read.none ∙ crossed;
 }
 
 -- how it ends
@@ -180,55 +197,86 @@ wants_memory bytes reader headers root s read tree (Err fault) is =
     (subst (λ (b : List ℕ). IsStop b no_memory) read.text
     (refused_after reader read.list (section_of s) no_memory read.so_far refl)).more))
 
+-- the error of a section that clashes, by what stands in the rest
+pub clash_told : (bytes : List ℕ) (reader : SectionReader) (list : List Section) (found : Option ℕ)
+    → reader.text.now ≡ bytes → IsRestRead reader.text.now list found → (s : code.Section) (c : Clash) (fault : Fault)
+    → MatchOption found (NamesClash s c fault) (λ at. fault ≡ dotted_fault at) → TellsClash bytes list s c fault
+clash_told bytes reader list found text rest s c fault told = inr (record {
+  later = rest.later;
+  is = subst (λ (b : List ℕ). IsList b (list ++ rest.later)) text rest.is;
+  told = subst (λ (o : Option ℕ). MatchOption o (NamesClash s c fault) (λ at. fault ≡ dotted_fault at)) rest.first told;
+})
+
+pub rest_stops : (bytes : List ℕ) (stop : Stop) (fault : Fault) → IsUtf8 bytes → IsStop bytes stop
+    → ExplainsWhy bytes stop.why stop.at fault
+    → (list : List Section) (s : code.Section) (c : Clash) → TellsClash bytes list s c fault
+rest_stops bytes stop fault utf8 is told list s c = inl (stop_answered bytes stop fault utf8 is told)
+
+-- a section that was handed out is the first of those that come after the sections before it
+next_is_first : (reader : SectionReader) (list : List Section) (s : Section) (later : List Section)
+    → SoFar reader (list ++ s ∷ []) → IsList reader.text.now (list ++ later)
+    → (more : List Section) × (later ≡ s ∷ more)
+unfolding onto
+next_is_first reader list s later so_far is = at_place reader.place so_far
+  where
+    after : (front : List Section) (more : List Section) → (front ++ s ∷ []) ++ more ≡ front ++ later → later ≡ s ∷ more
+    after [] more e = sym e
+    after (t ∷ front) more e = after front more (cc)
+
+    some_listed : (front : List Section) → front ++ s ∷ [] ≡ [] → ⊥
+    some_listed [] e = cc
+    some_listed (t ∷ front) e = cc
+
+    joined : (o : Option (List Section)) → onto (list ++ s ∷ []) o ≡ Some (list ++ later)
+        → (more : List Section) × (later ≡ s ∷ more)
+    joined None e = absurd (cc)
+    joined (Some more) e = let same : (list ++ s ∷ []) ++ more ≡ list ++ later = cc in (more, after list more same)
+
+    at_place : (p : Place) → IsBehind reader.text.now p (list ++ s ∷ []) → (more : List Section) × (later ≡ s ∷ more)
+    at_place Start so_far = absurd (some_listed list so_far)
+    at_place (Behind next) so_far = joined (sections_of so_far.rest) (sym so_far.told ∙ is.is)
+
+-- the section does not go into the tree
 module _ (bytes : List ℕ) (reader : SectionReader) (headers : List (ℕ × List Key)) (root : Table) (s : code.Section)
-    (read : NextIsRead bytes reader headers root s) (found : Option ℕ)
-    (rest : IsRestRead reader.text.now (read.list ++ section_of s ∷ []) found) where
-  all : List Section
-  all = (read.list ++ section_of s ∷ []) ++ rest.later
+    (read : NextIsRead bytes reader headers root s) (c : Clash) (fault : Fault)
+    (out : IsKeptOut (walk s.is_array (rows_view s.rows) (header_texts s.header.items) (table_trie root))
+    (rows_view s.rows) (1 + steps_to s.is_array (header_texts s.header.items) (table_trie root)) c)
+    (stop : NamesStop (try_by_keys s.is_array (rows_view s.rows) (header_texts s.header.items) (table_trie root)) c)
+    (now : code.Section) (same : now.at ≡ s.at) (header : now.header ≡ s.header) where
+  pub clashes : TellsClash bytes read.list now c fault → AnswersText bytes (Err fault)
+  clashes (inl refused_text) = inl refused_text
+  clashes (inr told) = go (first_crossed told.later) refl told.told
+    where
+      here : IsListOf bytes (read.list ++ told.later)
+      here = list_of bytes (read.list ++ told.later) told.is
 
-  listed : IsListOf bytes all
-  unfolding all
-  listed = list_of bytes all (subst (λ (b : List ℕ). IsList b all) read.text rest.is)
+      none : first_crossed read.list ≡ None
+      none = none_crossed read.list headers root read.have
+          (keyed_front read.list told.later (keyed (folded bytes) (read.list ++ told.later) here.grammar))
 
-  crossed_all : first_crossed all ≡ option_or (crossed_in (section_of s).rows) found
-  unfolding all
-  crossed_all =
-      crossed_joined (read.list ++ section_of s ∷ []) rest.later
-      ∙ ap (λ o. option_or o (first_crossed rest.later)) (crossed_next read.list (section_of s) read.none)
-      ∙ ap (option_or (crossed_in (section_of s).rows)) (sym rest.first)
+      all_crossed : first_crossed (read.list ++ told.later) ≡ first_crossed told.later
+      all_crossed = crossed_joined read.list told.later ∙ ap (λ o. option_or o (first_crossed told.later)) none
 
-  crossed_at : (at : ℕ) (fault : Fault) → first_crossed all ≡ Some at → fault ≡ dotted_fault at
-      → AnswersText bytes (Err fault)
-  crossed_at at fault there is =
-      subst (λ (f : Fault). AnswersText bytes (Err f)) (sym is)
-      (inr (record { sections = all; list = listed; unresolved = refused (value there) }))
+      first : (more : List Section) × (told.later ≡ section_of s ∷ more)
+      first = next_is_first reader read.list (section_of s) told.later read.so_far
+          (subst (λ (b : List ℕ). IsList b (read.list ++ told.later)) (sym read.text) told.is)
 
-  -- a row of the section goes on from a value, or a row after it does
-  pub crossed_here : (at : ℕ) (fault : Fault) → crossed_in (section_of s).rows ≡ Some at → fault ≡ dotted_fault at
-      → AnswersText bytes (Err fault)
-  crossed_here at fault here is =
-      crossed_at at fault (crossed_all ∙ ap (λ o. option_or o found) here) is
-
-  pub crossed_later : (at : ℕ) (fault : Fault) → crossed_in (section_of s).rows ≡ None → found ≡ Some at
-      → fault ≡ dotted_fault at → AnswersText bytes (Err fault)
-  crossed_later at fault none there is =
-      crossed_at at fault (crossed_all ∙ ap (λ o. option_or o found) none ∙ there) is
-
-  -- the section does not go into the tree
-  pub clashes : crossed_in (section_of s).rows ≡ None → found ≡ None → (c : Clash) (fault : Fault)
-      → IsKeptOut (walk s.is_array (rows_view s.rows) (header_texts s.header.items) (table_trie root))
-      (rows_view s.rows) (1 + steps_to s.is_array (header_texts s.header.items) (table_trie root)) c
-      → NamesStop (try_by_keys s.is_array (rows_view s.rows) (header_texts s.header.items) (table_trie root)) c
-      → (now : code.Section) → now.at ≡ s.at → now.header ≡ s.header
-      → NamesClash now c fault → AnswersText bytes (Err fault)
-  unfolding all
-  clashes none no_more c fault out stop now same header names =
-      let same_list : all ≡ read.list ++ section_of s ∷ rest.later = append_assoc read.list (section_of s ∷ []) rest.later in
-      let none_there : first_crossed (read.list ++ section_of s ∷ rest.later) ≡ None =
-      ap first_crossed (sym same_list) ∙ crossed_all ∙ ap (λ o. option_or o found) none ∙ no_more in
-      inr (record {
-        sections = read.list ++ section_of s ∷ rest.later;
-        list = subst (λ (ss : List Section). IsListOf bytes ss) same_list listed;
-        unresolved = kept_out read.list headers root read.have s rest.later none_there c fault out stop now same header
-            names;
-      })
+      go : (o : Option ℕ) → first_crossed told.later ≡ o
+          → MatchOption o (NamesClash now c fault) (λ at. fault ≡ dotted_fault at) → AnswersText bytes (Err fault)
+      go (Some at) crossed is =
+          subst (λ (f : Fault). AnswersText bytes (Err f)) (sym is)
+          (inr (record {
+            sections = read.list ++ told.later;
+            list = here;
+            unresolved = refused (value (all_crossed ∙ crossed));
+          }))
+      go None crossed names =
+          let (more, is) = first in
+          let none_there : first_crossed (read.list ++ section_of s ∷ more) ≡ None =
+          ap (λ (ss : List Section). first_crossed (read.list ++ ss)) (sym is) ∙ all_crossed ∙ crossed in
+          inr (record {
+            sections = read.list ++ section_of s ∷ more;
+            list = subst (λ (ss : List Section). IsListOf bytes (read.list ++ ss)) is here;
+            unresolved = kept_out read.list headers root read.have s more none_there c fault out stop now same header
+                names;
+          })

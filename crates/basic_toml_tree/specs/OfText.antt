@@ -33,5 +33,5 @@ AnswersText bytes (Err fault) = IsRefused bytes fault ⊎ HasNoTree bytes fault
 
 -- the same, where the tree grows in place
 abbrev pub Takes : List ℕ → Tree → Result (Unit {0}) Fault → Type 0
-Takes bytes tree (Ok _) = IsTreeOf bytes tree
-Takes bytes tree (Err fault) = IsRefused bytes fault ⊎ HasNoTree bytes fault
+Takes bytes tree (Ok _) = AnswersText bytes (Ok tree)
+Takes bytes tree (Err fault) = AnswersText bytes (Err fault)

@@ -1,18 +1,18 @@
 //! From a text to its tree: each section goes into the tree as soon as it is read.
 ghost use Rattle.std.specs.Prelude.{◌≡◌, List, []};
 ghost use Rattle.basic_toml_grammar.specs.Sections as spec_sections;
-ghost use Rattle.basic_toml_read.specs.SectionsRead.{IsAtStart, IsEmpty, IsReady, SoFar};
+ghost use Rattle.basic_toml_read.specs.SectionsRead.{IsAtStart, IsBehind, IsEmpty, IsReady, SoFar};
 ghost use Rattle.basic_toml_grow.specs.Item.{table_trie};
 ghost use Rattle.basic_toml_tree.specs.FirstStop.{only_root};
 ghost use Rattle.basic_toml_tree.specs.OfText.{AnswersText, Takes};
-ghost use Rattle.basic_toml_tree.specs.Rest.{ReadsRest};
+ghost use Rattle.basic_toml_tree.specs.Rest.{IsReached, ReadsRest, TellsClash};
 
 use crate::headers::Headers;
 use crate::tree::Tree;
-use basic_toml_clash::crossed_value;
+use basic_toml_clash::{Clash, crossed_value};
 use basic_toml_explain::{Stop, error_at};
 use basic_toml_grow::{Table, enter_section};
-use basic_toml_read::{ReadError, ReadErrorKind, Section, SectionReader};
+use basic_toml_read::{Place, ReadError, ReadErrorKind, Section, SectionReader};
 use std::alloc::Global;
 
 /// The tree of a text (TOML v0.5.0, without dates and times): that of its section list, as [`resolve`](crate::resolve)
@@ -27,10 +27,7 @@ use std::alloc::Global;
 pub fn tree_of<'de>(alloc: Global, text: &'de str) -> Result<Tree<'de>, ReadError>
     ensures { AnswersText text.now result }
 {
-    let mut reader = match SectionReader::new(alloc, text) {
-        Ok(reader) => reader,
-        Err(stop) => return Err(error_at(alloc, text, stop)),
-    };
+    let mut reader = SectionReader::new(alloc, text);
     let mut tree = Tree {
         headers: Headers::new(alloc),
         root: Table::empty(alloc),
@@ -57,33 +54,44 @@ fn take_sections<'de>(
     ensures { Takes text.now tree.new result }
 {
     loop {
+        let place = reader.place();
         match reader.next(section) {
             Ok(true) => {}
             Ok(false) => return Ok(()),
             Err(stop) => return Err(error_at(alloc, text, stop)),
         }
-        if let Some(at) = crossed_value(alloc, section)? {
-            return match crossed_in_rest(alloc, reader) {
-                Ok(_) => Err(ReadError::at(at, ReadErrorKind::DottedKeyInvalidType)),
-                Err(stop) => Err(error_at(alloc, text, stop)),
-            };
-        }
         let number = tree.headers.len();
         if let Err(clash) = enter_section(alloc, &mut tree.root, section, number) {
-            return match crossed_in_rest(alloc, reader) {
-                Ok(Some(at)) => Err(ReadError::at(at, ReadErrorKind::DottedKeyInvalidType)),
-                Ok(None) => Err(clash.error(alloc, section)),
-                Err(stop) => Err(error_at(alloc, text, stop)),
-            };
+            return Err(clash_error(alloc, text, place, section, clash));
         }
         tree.headers.push(section.at, &mut section.header)?;
     }
 }
 
-// Reads the sections that are left, for an error of the text comes before a clash. It answers the first value in them
-// that a row goes on from, since that clash comes before all others.
+// The error of a text in which the section at a place does not go into the tree. The text is read on from there, for an
+// error of it comes before a clash, and a row that goes on from a value before all other clashes.
 #[cold]
 #[inline(never)]
+fn clash_error<'de>(
+    alloc: Global,
+    text: &'de str,
+    place: Place,
+    section: &Section<'de>,
+    clash: Clash,
+) -> ReadError
+    requires { IsReached text.now place }
+    ensures { (list : List spec_sections.Section) → IsBehind text.now place list
+        → TellsClash text.now list section.now clash result }
+{
+    let mut reader = SectionReader::at(alloc, text, place);
+    match crossed_in_rest(alloc, &mut reader) {
+        Ok(Some(at)) => ReadError::at(at, ReadErrorKind::DottedKeyInvalidType),
+        Ok(None) => clash.error(alloc, section),
+        Err(stop) => error_at(alloc, text, stop),
+    }
+}
+
+// Reads the sections that are left, and answers the first value in them that a row goes on from.
 fn crossed_in_rest<'de>(
     alloc: Global,
     reader: &mut SectionReader<'de>,

@@ -50,11 +50,12 @@ fn elements_of(alloc: Global, children: &[Child<'_>]) -> Result<Vec<Value>, Allo
     Ok(elements)
 }
 
+// Copies of tables, in a vector with room for one more.
 #[cycle(copies)]
 fn tables_of(alloc: Global, tables: &[Table<'_>]) -> Result<Vec<Value>, AllocError>
     ensures { IfOk result (λ values. map view values.items ≡ map table_data tables.now) }
 {
-    let mut elements = Vec::with_capacity(alloc, tables.len())?;
+    let mut elements = Vec::with_capacity(alloc, tables.len().saturating_add(1))?;
     for table in tables {
         elements.push(Value::Table(table_of(alloc, table)?))?;
     }
@@ -162,12 +163,13 @@ fn into_elements(alloc: Global, children: Vec<Child<'_>>) -> Result<Vec<Value>, 
     Ok(elements)
 }
 
+// The values that tables become, in a vector with room for one more.
 #[cycle(moves)]
 #[inline(never)]
 fn into_tables(alloc: Global, tables: Vec<Table<'_>>) -> Result<Vec<Value>, AllocError>
     ensures { IfOk result (λ values. map view values.items ≡ map table_data tables.entry.items) }
 {
-    let mut elements = Vec::with_capacity(alloc, tables.len())?;
+    let mut elements = Vec::with_capacity(alloc, tables.len().saturating_add(1))?;
     for table in drain(tables) {
         elements.push(Value::Table(into_table(alloc, table)?))?;
     }

@@ -1,4 +1,4 @@
-use Rattle.std.proofs.Common.{List, map, arith, refl, sym, subst, ◌∙◌, Err}
+use Rattle.std.proofs.Common.{List, map, arith, sym, subst, ◌∙◌, Err}
 use Rattle.basic_toml_value.specs.Nesting.{nesting_limit}
 use Rattle.basic_toml_explain.specs.declared.stop.Stop.{Stop}
 use Rattle.basic_toml_read.specs.Lists.{ReadsHeaderKeys}
@@ -15,8 +15,8 @@ use Rattle.basic_toml_read.specs.StopsReached.{InKeyHole}
 use Rattle.basic_toml_read.proofs.KeyHoles.{no_key_there}
 use Rattle.basic_toml_read.proofs.header.header_keys.Goals as goal
 
-pub loop-keys-init : goal.loop-keys-init
-loop-keys-init c =
+pub loop-keyed-init : goal.loop-keyed-init
+loop-keyed-init c =
     let text = c.args.text.now in
     subst (λ (keys : List code.Key). KeysTold text c.args.at 2 c.args.at 2 (map key_of keys))
     (sym (c.in_ok-try_reserve.ensures.items ∙ c.requires.none)) (told_start text c.args.at 2 (omega arith)
@@ -25,22 +25,22 @@ loop-keys-init c =
 pub returns-in_err-keyed-clause-read : goal.returns-in_err-keyed-clause-read
 returns-in_err-keyed-clause-read c =
     let stop = c.in_err-keyed.field-0.0 in
-    stopped (ReadsHeaderKeys c.args.text.now c.args.at) c.from_residual-in_err-keyed.result stop c.from_residual-in_err-keyed.ensures.1
-    (header_missing c.args.text.now c.args.at c.loop-keys.offset c.loop-keys.level
-    (map key_of c.loop-keys.keys.items) c.loop-keys.invariant stop.why c.in_err-keyed.ensures.read.0)
+    stopped (ReadsHeaderKeys c.args.text.now c.args.at c.loop-keyed.keys.items) c.from_residual-in_err-keyed.result stop c.from_residual-in_err-keyed.ensures.1
+    (header_missing c.args.text.now c.args.at c.loop-keyed.offset c.loop-keyed.level
+    (map key_of c.loop-keyed.keys.items) c.loop-keyed.invariant stop.why c.in_err-keyed.ensures.read.0)
 
 pub returns-in_err-raise-clause-read : goal.returns-in_err-raise-clause-read
 returns-in_err-raise-clause-read c =
-    let reads = ReadsHeaderKeys c.args.text.now c.args.at in
+    let reads = ReadsHeaderKeys c.args.text.now c.args.at c.loop-keyed.keys.items in
     stopped reads c.from_residual-in_err-raise.result c.in_err-raise.field-0.0 c.from_residual-in_err-raise.ensures.1
     (subst (λ (stop : Stop). reads (Err stop)) (sym c.in_err-raise.ensures.1)
-    (header_deep c.args.text.now c.args.at c.loop-keys.offset c.loop-keys.level
-    (map key_of c.loop-keys.keys.items) c.loop-keys.invariant c.in_err-raise.ensures.0))
+    (header_deep c.args.text.now c.args.at c.loop-keyed.offset c.loop-keyed.level
+    (map key_of c.loop-keyed.keys.items) c.loop-keyed.invariant c.in_err-raise.ensures.0))
 
-pub loop-keys-preserved : goal.loop-keys-preserved
-loop-keys-preserved c =
-    header_next c.args.text.now c.args.at c.loop-keys.offset c.loop-keys.level
-    c.loop-keys.keys.items c.loop-keys.invariant
+pub loop-keyed-preserved : goal.loop-keyed-preserved
+loop-keyed-preserved c =
+    header_next c.args.text.now c.args.at c.loop-keyed.offset c.loop-keyed.level
+    c.loop-keyed.keys.items c.loop-keyed.invariant
     c.in_ok-keyed.keyed c.in_ok-keyed.ensures.read c.after_blanks-end.result c.after_blanks-end.ensures
     c.in_ok-raise.ensures
     c.push.new.self.items c.in_ok-push.ensures.items
@@ -48,12 +48,11 @@ loop-keys-preserved c =
 
 pub returns-in-None-clause-read : goal.returns-in-None-clause-read
 returns-in-None-clause-read c =
-    header_last c.args.text.now c.args.at c.loop-keys.offset c.loop-keys.level
-    c.loop-keys.keys.items c.loop-keys.invariant
+    header_last c.args.text.now c.args.at c.loop-keyed.offset c.loop-keyed.level
+    c.loop-keyed.keys.items c.loop-keyed.invariant
     c.in_ok-keyed.keyed c.in_ok-keyed.ensures.read c.after_blanks-end.result c.after_blanks-end.ensures
     c.in_ok-raise.ensures
-    c.push.new.self.items c.in_ok-push.ensures.items
-    c.push.new.self refl c.in-None.ensures
+    c.push.new.self.items c.in_ok-push.ensures.items c.in-None.ensures
 
 -- levels
 pub returns-in_err-keyed-clause-deep : goal.returns-in_err-keyed-clause-deep
@@ -61,26 +60,26 @@ returns-in_err-keyed-clause-deep c =
     let stop = c.in_err-keyed.field-0.0 in
     shallow (DeepKeys nesting_limit 2 (text_at c.args.text.now c.args.at)) stop c.from_residual-in_err-keyed.result
     c.from_residual-in_err-keyed.ensures.1
-    (no_key_deep stop.why (text_at c.args.text.now c.loop-keys.offset) c.in_err-keyed.ensures.read.0)
-    (λ other p d. no_key_too_deep stop.why (text_at c.args.text.now c.loop-keys.offset) c.in_err-keyed.ensures.read.0
-    other c.loop-keys.level p (c.loop-keys.invariant.backs p d))
+    (no_key_deep stop.why (text_at c.args.text.now c.loop-keyed.offset) c.in_err-keyed.ensures.read.0)
+    (λ other p d. no_key_too_deep stop.why (text_at c.args.text.now c.loop-keyed.offset) c.in_err-keyed.ensures.read.0
+    other c.loop-keyed.level p (c.loop-keyed.invariant.backs p d))
 
 pub returns-in_err-raise-clause-deep : goal.returns-in_err-raise-clause-deep
 returns-in_err-raise-clause-deep c =
-    raised (DeepKeys nesting_limit 2 (text_at c.args.text.now c.args.at)) c.loop-keys.level c.loop-keys.offset
+    raised (DeepKeys nesting_limit 2 (text_at c.args.text.now c.args.at)) c.loop-keyed.level c.loop-keyed.offset
     c.in_err-raise.field-0.0 c.from_residual-in_err-raise.result c.from_residual-in_err-raise.ensures.1
     c.in_err-raise.ensures
-    (key_is_deep c.args.text.now c.args.at 2 c.loop-keys.offset c.loop-keys.level
-    _ c.loop-keys.invariant c.in_ok-keyed.keyed c.in_ok-keyed.ensures.read)
+    (key_is_deep c.args.text.now c.args.at 2 c.loop-keyed.offset c.loop-keyed.level
+    _ c.loop-keyed.invariant c.in_ok-keyed.keyed c.in_ok-keyed.ensures.read)
 
 -- the hole
 pub returns-in_err-keyed-clause-hole : goal.returns-in_err-keyed-clause-hole
 returns-in_err-keyed-clause-hole c =
     let stop = c.in_err-keyed.field-0.0 in
     let text = c.args.text.now in
-    let here = text_at text c.loop-keys.offset in
+    let here = text_at text c.loop-keyed.offset in
     stopped (λ r. InKeyHole (text_at text c.args.at) text r) c.from_residual-in_err-keyed.result stop
     c.from_residual-in_err-keyed.ensures.1
-    (no_key_there text (text_at text c.args.at) c.loop-keys.offset stop.at stop.why
-    (c.loop-keys.invariant.holes here HoleInKeys.this_key) c.in_err-keyed.ensures.read.0
+    (no_key_there text (text_at text c.args.at) c.loop-keyed.offset stop.at stop.why
+    (c.loop-keyed.invariant.holes here HoleInKeys.this_key) c.in_err-keyed.ensures.read.0
     c.in_err-keyed.ensures.read.1)

@@ -3,11 +3,9 @@ use Rattle.std.proofs.lemmas.List.{length-set, get_or-set_other}
 use Rattle.basic_toml_read.specs.declared.section.Section as code
 use Rattle.basic_toml_read.specs.SectionView.{section_of, key_of}
 use Rattle.basic_toml_clash.specs.Crossed.{first_crossed}
-use Rattle.basic_toml_grow.specs.Item.{table_trie}
 use Rattle.basic_toml_tree.specs.Resolve.{head}
-use Rattle.basic_toml_tree.proofs.SectionsResolved.{want_of, goes_on_from_a_value, kept_out, none_crossed, goes_on}
-use Rattle.basic_toml_tree.proofs.SectionsResolved.{resolved, brings_on, brings_none, begins, none_left}
-use Rattle.basic_toml_grow.specs.Origins.{table_within}
+use Rattle.basic_toml_tree.proofs.SectionsResolved.{want_of, goes_on_from_a_value, stays_out, none_crossed, goes_on}
+use Rattle.basic_toml_tree.proofs.SectionsResolved.{resolved, begins, none_left}
 use Rattle.basic_toml_tree.proofs.tree.grow.Goals as goal
 
 pub returns-in_err-at : goal.returns-in_err-at
@@ -24,10 +22,9 @@ returns-in-Some c = λ keyed.
 pub returns-in-Err : goal.returns-in-Err
 returns-in-Err c = λ keyed.
     let within : c.loop-number.number < length c.loop-number.sections.items =
-    omega (arith, c.len-number-end.ensures, c.loop-number-test.true, c.loop-number.invariant.0.count) in
-    kept_out c.args.sections.items c.loop-number.sections.items c.loop-number.number
-    (table_trie c.loop-number.root) c.loop-number.headers c.loop-number.invariant.0 c.index_mut-section.result.now
-    within (search (rules, c.index_mut-section.ensures.value))
+    omega (arith, c.len-number-end.ensures, c.loop-number-test.true, c.loop-number.invariant.count) in
+    stays_out c.args.sections.items c.loop-number.sections.items c.loop-number.number c.loop-number.headers
+    c.loop-number.root c.loop-number.invariant c.index_mut-section.result.now within (search (rules, c.index_mut-section.ensures.value))
     (ap (λ ss. first_crossed (map section_of ss)) (sym c.as_slice.ensures.value) ∙ sym c.in_ok-at.ensures
     ∙ none_crossed c.in_ok-at.field-0 c.in_default.not-Some) c.in-Err.clash c.error.result
     c.in-Err.ensures.entered c.in-Err.ensures.named c.enter_section.new.section c.enter_section.ensures.at
@@ -51,37 +48,28 @@ loop-number-preserved c =
       rows = entered.rows;
     } in
     let within : c.loop-number.number < length c.loop-number.sections.items =
-    omega (arith, c.len-number-end.ensures, c.loop-number-test.true, c.loop-number.invariant.0.count) in
+    omega (arith, c.len-number-end.ensures, c.loop-number-test.true, c.loop-number.invariant.count) in
     let pushed : c.push.new.self ≡ c.loop-number.headers ++ head (section_of c.index_mut-section.result.now) ∷ [] =
     c.in_ok-push.ensures.ok
     ∙ ap (λ at. c.loop-number.headers ++ (at, map key_of entered.header.items) ∷ []) c.enter_section.ensures.at
-    ∙ ap (λ keys. c.loop-number.headers ++ (was.at, map key_of keys.items) ∷ []) c.enter_section.ensures.header in (
-      goes_on c.args.sections.items now n (table_trie c.loop-number.root) c.loop-number.headers
-          c.loop-number.invariant.0 was within (search (rules, c.index_mut-section.ensures.value)) (set now n next)
-          (table_trie c.enter_section.new.root) c.push.new.self c.in-Ok.ensures.entered (length-set now n next)
-          (λ k d past. get_or-set_other now n k next d (omega (arith, past))) pushed,
-      λ keyed. brings_on c.args.sections.items now n (table_trie c.loop-number.root) c.loop-number.headers
-          c.loop-number.invariant.0 was within (search (rules, c.index_mut-section.ensures.value))
-          (table_within c.loop-number.root).below (table_within c.enter_section.new.root).below keyed
-          (c.loop-number.invariant.1 keyed) c.in-Ok.ensures.origins,
-    )
+    ∙ ap (λ keys. c.loop-number.headers ++ (was.at, map key_of keys.items) ∷ []) c.enter_section.ensures.header in
+    goes_on c.args.sections.items now n c.loop-number.headers c.loop-number.root c.loop-number.invariant was within
+    (search (rules, c.index_mut-section.ensures.value)) (set now n next) c.push.new.self c.enter_section.new.root
+    c.in-Ok.ensures.entered c.in-Ok.ensures.origins (length-set now n next)
+    (λ k d past. get_or-set_other now n k next d (omega (arith, past))) pushed
 
 pub returns : goal.returns
 returns c = λ keyed.
     resolved c.args.sections.items c.loop-number.sections.items c.loop-number.number
-    (record { headers = c.loop-number.headers; root = c.loop-number.root }) c.loop-number.invariant.0
-    (omega (arith, c.len-number-end.ensures, c.loop-number-test.false)) keyed (c.loop-number.invariant.1 keyed)
+    (record { headers = c.loop-number.headers; root = c.loop-number.root }) c.loop-number.invariant
+    (omega (arith, c.len-number-end.ensures, c.loop-number-test.false)) keyed
 
 pub returns-then-is_empty : goal.returns-then-is_empty
 returns-then-is_empty c = λ keyed.
     resolved c.args.sections.items c.args.sections.items 0 (record { headers = c.new.result; root = c.empty.result })
-    (begins c.args.sections.items (table_trie c.empty.result) c.new.result c.empty.ensures c.new.ensures)
+    (begins c.args.sections.items c.new.result c.empty.result c.new.ensures c.empty.ensures)
     (none_left c.args.sections (sym c.is_empty.ensures ∙ c.if-is_empty.true)) keyed
-    (brings_none c.empty.result c.empty.ensures)
 
 pub loop-number-init : goal.loop-number-init
-loop-number-init c = (
-  begins c.args.sections.items (table_trie c.empty-root.result) c.new-headers.result c.empty-root.ensures
-      c.new-headers.ensures,
-  λ keyed. brings_none c.empty-root.result c.empty-root.ensures,
-)
+loop-number-init c =
+    begins c.args.sections.items c.new-headers.result c.empty-root.result c.new-headers.ensures c.empty-root.ensures

@@ -4,7 +4,7 @@ use Rattle.basic_toml_tokens.specs.Text.{text_at}
 use Rattle.basic_toml_read.specs.FrontOf.{rows_of, header_of}
 use Rattle.basic_toml_grammar.specs.Levels.{rows_level}
 use Rattle.basic_toml_read.specs.StopsAt.{Misses}
-use Rattle.basic_toml_read.specs.Lists.{AreRowsRead, ReadsSection}
+use Rattle.basic_toml_read.specs.Lists.{AreRowsRead, ReadsSection, with_keys}
 use Rattle.basic_toml_read.proofs.KeysTold.{stopped}
 use Rattle.basic_toml_read.proofs.SectionRead.{rows_missing, section_there}
 use Rattle.basic_toml_grammar.specs.DeepStops.{DeepRows, DeepHeader, DeepSections, this_section, header}
@@ -19,10 +19,11 @@ use Rattle.basic_toml_read.proofs.values.Gathered.section.Goals as goal
 
 pub returns-in_err-next-clause-read : goal.returns-in_err-next-clause-read
 returns-in_err-next-clause-read c =
-    let h = c.in_ok-header.header in
+    let keys = c.header_at.new.keys.items in
+    let h = with_keys c.args.at keys c.in_ok-header.header in
     let stop = c.in_err-next.field-0.0 in
-    let counted : c.len.result ≡ length h.keys.items = omega (arith, c.len.ensures, h.keys.ok.0) in
-    stopped (ReadsSection c.args.text.now c.args.at c.rows.new.self)
+    let counted : c.len.result ≡ length keys = omega (arith, c.len.ensures, c.header_at.new.keys.ok.0) in
+    stopped (ReadsSection c.args.text.now c.args.at c.rows.new.self keys)
     c.from_residual-in_err-next.result stop c.from_residual-in_err-next.ensures.1
     (rows_missing c.args.text.now c.args.at h c.in_ok-header.ensures.read c.in_ok-line.line c.in_ok-line.ensures.read
     stop.why
@@ -31,8 +32,9 @@ returns-in_err-next-clause-read c =
 
 pub returns-clause-read : goal.returns-clause-read
 returns-clause-read c =
-    let h = c.in_ok-header.header in
-    let counted : c.len.result ≡ length h.keys.items = omega (arith, c.len.ensures, h.keys.ok.0) in
+    let keys = c.header_at.new.keys.items in
+    let h = with_keys c.args.at keys c.in_ok-header.header in
+    let counted : c.len.result ≡ length keys = omega (arith, c.len.ensures, c.header_at.new.keys.ok.0) in
     let mid = c.rows.new.self in
     section_there c.args.text.now c.args.at h c.in_ok-header.ensures.read c.in_ok-line.line c.in_ok-line.ensures.read
     c.args.self.now mid c.in_ok-next.next c.requires.none
@@ -56,16 +58,18 @@ returns-in_err-line-clause-deep c =
     let w = c.in_err-line.ensures.read.1 in
     λ line same. shallow (DeepSections nesting_limit line) c.in_err-line.field-0.0
     c.from_residual-in_err-line.result c.from_residual-in_err-line.ensures.1 (λ e. cc)
-    (λ other. none_after_header c.args.text.now c.args.at c.in_ok-header.header c.in_ok-header.ensures.read line same
+    (λ other. none_after_header c.args.text.now c.args.at (with_keys c.args.at c.header_at.new.keys.items c.in_ok-header.header)
+    c.in_ok-header.ensures.read line same
     c.in_err-line.ensures.read.0)
 
 pub returns-in_err-next-clause-deep : goal.returns-in_err-next-clause-deep
 returns-in_err-next-clause-deep c =
-    let h = c.in_ok-header.header in
+    let keys = c.header_at.new.keys.items in
+    let h = with_keys c.args.at keys c.in_ok-header.header in
     let text = c.args.text.now in
-    let counted : c.len.result ≡ length h.keys.items = omega (arith, c.len.ensures, h.keys.ok.0) in
+    let counted : c.len.result ≡ length keys = omega (arith, c.len.ensures, c.header_at.new.keys.ok.0) in
     let stop = c.in_err-next.field-0.0 in
-    λ line same. deep_on (DeepRows nesting_limit (length h.keys.items + 1) (text_at text c.in_ok-line.line))
+    λ line same. deep_on (DeepRows nesting_limit (length keys + 1) (text_at text c.in_ok-line.line))
     (DeepSections nesting_limit line) stop c.from_residual-in_err-next.result c.from_residual-in_err-next.ensures.1
     (rows_are_deep text c.args.at h c.in_ok-header.ensures.read c.in_ok-line.line c.in_ok-line.ensures.read line same)
     (λ other. deep_in_rows text c.args.at h c.in_ok-header.ensures.read c.in_ok-line.line c.in_ok-line.ensures.read
@@ -86,7 +90,8 @@ returns-in_err-header-clause-hole c =
 
 pub returns-in_err-line-clause-hole : goal.returns-in_err-line-clause-hole
 returns-in_err-line-clause-hole c =
-    line_hole c.args.text.now c.args.at c.in_ok-header.header c.in_ok-header.ensures.read c.in_err-line.field-0.0
+    line_hole c.args.text.now c.args.at (with_keys c.args.at c.header_at.new.keys.items c.in_ok-header.header)
+    c.in_ok-header.ensures.read c.in_err-line.field-0.0
     c.in_err-line.ensures.read c.from_residual-in_err-line.result c.from_residual-in_err-line.ensures.1
 
 pub returns-in_err-next-clause-hole : goal.returns-in_err-next-clause-hole
@@ -94,5 +99,6 @@ returns-in_err-next-clause-hole c =
     let text = c.args.text.now in
     λ line same some. hole_on (in_rows (text_at text c.in_ok-line.line)) (in_sections line) text
     c.in_err-next.field-0.0 c.from_residual-in_err-next.result c.from_residual-in_err-next.ensures.1
-    (holes_of_rows text c.args.at c.in_ok-header.header c.in_ok-header.ensures.read c.in_ok-line.line
+    (holes_of_rows text c.args.at (with_keys c.args.at c.header_at.new.keys.items c.in_ok-header.header)
+    c.in_ok-header.ensures.read c.in_ok-line.line
     c.in_ok-line.ensures.read line same) c.in_err-next.ensures.hole
