@@ -449,12 +449,8 @@ fn children_of<'de>(
 {
     let mut children = Vec::with_capacity(alloc, elements.len())?;
     for element in drain(elements) {
-        let Element {
-            offset,
-            end: _,
-            value,
-        } = element;
-        children.push(child_of(alloc, value, offset, section, level)?)?;
+        let offset = element.offset;
+        children.push(child_of(alloc, element.value, offset, section, level)?)?;
     }
     Ok(children)
 }

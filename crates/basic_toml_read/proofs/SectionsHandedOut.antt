@@ -56,6 +56,20 @@ left_behind : (reader : SectionReader) (next : Option ℕ) → reader.place ≡ 
 unfolding left_to_read
 left_behind reader next is = ap (left_at reader.text.now) is
 
+-- a reader that went on behind sections
+module _ (old new : SectionReader) (next : Option ℕ) (text : new.text ≡ old.text) (place : new.place ≡ Behind next) where
+  put_behind : (list : List Section) → ListSoFar old.text.now next list → SoFar new list
+  put_behind list so_far =
+      subst (λ t. IsBehind t.now new.place list) (sym text)
+      (subst (λ (p : Place). IsBehind old.text.now p list) (sym place) so_far)
+
+  reads_on : IfSome next (λ at. IsCharBoundary old.text.now at) → lines_of new.gathered ≡ no_lines → IsReady new
+  reads_on within none = record {
+    within = subst (λ t. IsPlaceIn t.now new.place) (sym text)
+        (subst (λ (p : Place). IsPlaceIn old.text.now p) (sym place) within);
+    none = none;
+  }
+
 -- reading stops, and at the end of the text there is no section more
 pub stops_on : (old new : SectionReader) (s : code.Section) (stop : Stop) → new.text ≡ old.text
     → ((list : List Section) → SoFar old list → IsStop old.text.now stop) → ReadsOn old new s (Err stop)
@@ -116,13 +130,8 @@ module _ (old : SectionReader) (start : old.place ≡ Start) (mid : Gathered) (n
         subst (λ (l : List Section). ListSoFar old.text.now next (l ++ section_of s ∷ [])) (sym (none_before list so_far))
         (subst (λ (l : List Section). ListSoFar old.text.now next l)
         (rooted mid.parents.items mid.rows.items counted ∙ sym one) there) in
-        subst (λ t. IsBehind t.now new.place (list ++ section_of s ∷ [])) (sym text)
-        (subst (λ (p : Place). IsBehind old.text.now p (list ++ section_of s ∷ [])) (sym place) here);
-    ready = record {
-      within = subst (λ t. IsPlaceIn t.now new.place) (sym text)
-          (subst (λ (p : Place). IsPlaceIn old.text.now p) (sym place) within);
-      none = none;
-    };
+        put_behind old new next text place (list ++ section_of s ∷ []) here;
+    ready = reads_on old new next text place within none;
     text = text;
     later = λ e. less new text place within;
   }
@@ -143,10 +152,9 @@ module _ (old : SectionReader) (start : old.place ≡ Start) (mid : Gathered) (n
       → lines_of mid ≡ no_lines → behind_rows.text ≡ old.text → behind_rows.place ≡ Behind next
       → IfSome next (λ at. IsCharBoundary old.text.now at) → ReadsOn behind_rows new s result → ReadsOn old new s result
   headed_first behind_rows new s result none text place within on = record {
-    read = λ list so_far. on.read list (subst (λ t. IsBehind t.now behind_rows.place list) (sym text)
-        (subst (λ (p : Place). IsBehind old.text.now p list) (sym place)
+    read = λ list so_far. on.read list (put_behind old behind_rows next text place list
         (subst (λ (l : List Section). ListSoFar old.text.now next l)
-        (ap (λ (l : Lines). with_root (lines_view l) []) none ∙ sym (none_before list so_far)) there)));
+        (ap (λ (l : Lines). with_root (lines_view l) []) none ∙ sym (none_before list so_far)) there));
     ready = on.ready;
     text = on.text ∙ text;
     later = λ e. omega (arith, on.later e, less behind_rows text place within);
@@ -168,13 +176,8 @@ section_handed_out old new at mid h next s is ready read more text place within 
           let here : ListSoFar old.text.now next (list ++ section_of s ∷ []) =
           subst (λ (x : Section). ListSoFar old.text.now next (list ++ x ∷ [])) (sym one)
           (more list (behind old (Some at) is list so_far)) in
-          subst (λ t. IsBehind t.now new.place (list ++ section_of s ∷ [])) (sym text)
-          (subst (λ (p : Place). IsBehind old.text.now p (list ++ section_of s ∷ [])) (sym place) here);
-      ready = record {
-        within = subst (λ t. IsPlaceIn t.now new.place) (sym text)
-            (subst (λ (p : Place). IsPlaceIn old.text.now p) (sym place) within);
-        none = none;
-      };
+          put_behind old new next text place (list ++ section_of s ∷ []) here;
+      ready = reads_on old new next text place within none;
       text = text;
       later = λ e.
           omega (

@@ -33,15 +33,15 @@ pub enum Raw<'de> {
     Dotted(Box<Rows<'de>>),
 }
 
-/// An element of an array, and where its value stands. An element is as large as a value of a `Table`: so the `Table`
-/// takes the memory that the elements gave back.
+/// An element of an array, and the offset of its value.
 #[cycle(raws)]
 #[derive(Drop)]
 pub struct Element<'de> {
     /// The byte offset of the value.
     pub offset: usize,
-    /// The byte offset where the value ends.
-    pub end: usize,
+    // Where the value ends. It makes an element as large as a value of a `Table`, which then takes the memory that the
+    // elements gave back.
+    pub(crate) end: usize,
     /// The value.
     pub value: Raw<'de>,
 }

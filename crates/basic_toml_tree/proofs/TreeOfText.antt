@@ -198,13 +198,15 @@ wants_memory bytes reader headers root s read tree (Err fault) is =
     (refused_after reader read.list (section_of s) no_memory read.so_far refl)).more))
 
 -- the error of a section that clashes, by what stands in the rest
-pub clash_told : (bytes : List ℕ) (reader : SectionReader) (list : List Section) (found : Option ℕ)
-    → reader.text.now ≡ bytes → IsRestRead reader.text.now list found → (s : code.Section) (c : Clash) (fault : Fault)
-    → MatchOption found (NamesClash s c fault) (λ at. fault ≡ dotted_fault at) → TellsClash bytes list s c fault
-clash_told bytes reader list found text rest s c fault told = inr (record {
+pub clash_told : (bytes : List ℕ) (reader : SectionReader) (list : List Section) (found shown : Option ℕ)
+    → reader.text.now ≡ bytes → IsRestRead reader.text.now list found → found ≡ shown → (s : code.Section) (c : Clash)
+    (fault : Fault) → MatchOption shown (NamesClash s c fault) (λ at. fault ≡ dotted_fault at)
+    → TellsClash bytes list s c fault
+clash_told bytes reader list found shown text rest is s c fault told = inr (record {
   later = rest.later;
   is = subst (λ (b : List ℕ). IsList b (list ++ rest.later)) text rest.is;
-  told = subst (λ (o : Option ℕ). MatchOption o (NamesClash s c fault) (λ at. fault ≡ dotted_fault at)) rest.first told;
+  told = subst (λ (o : Option ℕ). MatchOption o (NamesClash s c fault) (λ at. fault ≡ dotted_fault at))
+      (sym is ∙ rest.first) told;
 })
 
 pub rest_stops : (bytes : List ℕ) (stop : Stop) (fault : Fault) → IsUtf8 bytes → IsStop bytes stop

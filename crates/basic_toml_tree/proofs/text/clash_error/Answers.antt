@@ -1,8 +1,6 @@
-use Rattle.std.proofs.Common.{◌≡◌, ap, sym, subst, ℕ, List, Option, MatchOption}
-use Rattle.basic_toml_grammar.specs.NamedClash.{dotted_fault}
+use Rattle.std.proofs.Common.{ap, sym, subst, ℕ, List, Some, None}
 use Rattle.basic_toml_read.specs.SectionsRead.{IsPlaceIn, IsStop}
 use Rattle.basic_toml_read.specs.declared.reader.Place.{Place}
-use Rattle.basic_toml_clash.specs.Clash.{NamesClash}
 use Rattle.basic_toml_tree.proofs.TreeOfText.{put_there, clash_told, rest_stops}
 use Rattle.basic_toml_tree.proofs.text.clash_error.Goals as goal
 
@@ -15,25 +13,19 @@ crossed_in_rest-requires c = record {
 
 pub returns-in-Ok-Some : goal.returns-in-Ok-Some
 returns-in-Ok-Some c = λ list behind.
-    let reader = c.at-reader.result in
     let text = ap (λ t. t.now) c.at-reader.ensures.text in
-    let fault = c.at.result in
-    clash_told c.args.text.now reader list c.in-Ok-Some.field-0 text
-    (c.in-Ok-Some.ensures list (put_there c.args.text.now reader c.args.place text c.at-reader.ensures.place list behind))
-    c.args.section.now c.args.clash fault
-    (subst (λ (o : Option ℕ). MatchOption o (NamesClash c.args.section.now c.args.clash fault)
-    (λ at. fault ≡ dotted_fault at)) (sym c.in-Ok-Some.field-0-is) c.at.ensures)
+    clash_told c.args.text.now c.at-reader.result list c.in-Ok-Some.field-0 (Some c.in-Ok-Some.at) text
+    (c.in-Ok-Some.ensures list
+    (put_there c.args.text.now c.at-reader.result c.args.place text c.at-reader.ensures.place list behind))
+    c.in-Ok-Some.field-0-is c.args.section.now c.args.clash c.at.result c.at.ensures
 
 pub returns-in-Ok-None : goal.returns-in-Ok-None
 returns-in-Ok-None c = λ list behind.
-    let reader = c.at-reader.result in
     let text = ap (λ t. t.now) c.at-reader.ensures.text in
-    let fault = c.error.result in
-    clash_told c.args.text.now reader list c.in-Ok-None.field-0 text
-    (c.in-Ok-None.ensures list (put_there c.args.text.now reader c.args.place text c.at-reader.ensures.place list behind))
-    c.args.section.now c.args.clash fault
-    (subst (λ (o : Option ℕ). MatchOption o (NamesClash c.args.section.now c.args.clash fault)
-    (λ at. fault ≡ dotted_fault at)) (sym c.in-Ok-None.field-0-is) c.error.ensures)
+    clash_told c.args.text.now c.at-reader.result list c.in-Ok-None.field-0 (None) text
+    (c.in-Ok-None.ensures list
+    (put_there c.args.text.now c.at-reader.result c.args.place text c.at-reader.ensures.place list behind))
+    c.in-Ok-None.field-0-is c.args.section.now c.args.clash c.error.result c.error.ensures
 
 -- the text stops to be one
 pub explain-requires : goal.explain-requires
