@@ -1,28 +1,33 @@
 -- The text of a table of data, by its parts in turn.
-use Rattle.std.proofs.Common.{◌≡◌, ℕ, zero, suc, ◌+◌, ◌<◌, Bool, true, false, List, [], ◌∷◌, ◌++◌, length, drop, take}
+use Rattle.std.proofs.Common.{◌≡◌, ℕ, zero, suc, ◌+◌, ◌<◌, ◌==◌, Bool, true, false, List, [], ◌∷◌, ◌++◌, length, drop, take}
 use Rattle.std.proofs.Common.{get_or, refl, sym, ◌∙◌, ap, subst, arith, append_assoc, Result, Ok, Err}
 use Rattle.std.proofs.Common.{length-append, append-nil}
-use Rattle.std.specs.Prelude.{IfOk, IsUtf8, ◌≤◌, cond}
+use Rattle.std.specs.Prelude.{IfOk, is_ok, if◌then◌else◌, IsUtf8, ◌≤◌, cond, not, Vec}
+use Rattle.std.specs.declared.alloc.Global.{Global}
 use Rattle.std.specs.Str.{IsCharBoundary}
-use Rattle.std.proofs.lemmas.List.{take_at}
-use Rattle.std.proofs.lemmas.Str.{IsCharBoundary-from_take}
-use Rattle.basic_toml_value.proofs.Sizes.{data_size, members_size}
 use Rattle.std.proofs.lemmas.Bool.{true≢false}
-use Rattle.basic_toml_tokens.specs.Ascii as ascii
-use Rattle.basic_toml_value.specs.Data.{Data, integer, float, boolean, string, array, table, Items, no_items, item}
+use Rattle.std.proofs.lemmas.List.{take_at}
+use Rattle.std.specs.Char.{encode_utf8}
+use Rattle.std.proofs.lemmas.Str.{IsCharBoundary-from_take, encode_ascii}
+use Rattle.basic_toml_value.proofs.Sizes.{data_size, members_size}
 use Rattle.basic_toml_value.specs.Text.{text_bytes}
 use Rattle.basic_toml_value.specs.Entries.{seen}
-use Rattle.basic_toml_value.specs.View.{view, entries}
+use Rattle.basic_toml_value.specs.Data.{Members, array, table}
+use Rattle.basic_toml_value.specs.View.{view, entries, items_view}
 use Rattle.basic_toml_value.specs.declared.pairs.Pair.{Pair}
 use Rattle.basic_toml_value.specs.declared.value.Value.{Value}
-use Rattle.basic_toml_value.specs.declared.value.Value.TheVariants.{Table}
-use Rattle.basic_toml_layout.specs.Written as w
-use Rattle.basic_toml_layout.specs.Layout.{written, row_start, element_header, entry_text, array_text, sections_text}
-use Rattle.basic_toml_layout.specs.Layout.{entries_text, table_header, is_header_due}
-use Rattle.basic_toml_layout.specs.Trees.{written_of, elements_of, entries_of}
-use Rattle.basic_toml_layout.specs.Sections.{begins_with_table, is_section}
-use Rattle.basic_toml_layout.specs.DataText.{section_text, element_text, elements_text, part_text, Extends}
-use Rattle.basic_toml_layout.proofs.ViewsOfValues.{view-Table}
+use Rattle.basic_toml_value.specs.declared.value.Value.TheVariants.{Array, Table}
+use Rattle.basic_toml_tokens.specs.Ascii as ascii
+use Rattle.basic_toml_layout.specs.Layout.{element_header}
+use Rattle.basic_toml_layout.specs.Document.{inline, inline_items, inline_members, are_tables, is_row, has_row}
+use Rattle.basic_toml_layout.specs.Document.{is_header_due, rows_text, sections_text, section_text, element_text}
+use Rattle.basic_toml_layout.specs.Parts.{Extends}
+use Rattle.basic_toml_layout.proofs.ViewsOfValues.{view-Array, view-Table}
+
+pub if_added : {A E : Type 0} {Q : Type 0} (r : Result A E) (text more less : List ℕ) → (text ≡ more → Q)
+    → text ≡ (if is_ok r then more else less) → IfOk r (λ _. Q)
+if_added (Ok x) text more less f p = f p
+if_added (Err e) text more less f p = tt
 
 pub if_ok : {A E : Type 0} {P Q : A → Type 0} (r : Result A E) → ((x : A) → P x → Q x) → IfOk r P → IfOk r Q
 if_ok (Ok x) f p = f x p
@@ -39,113 +44,24 @@ pub drop_at : {A : Type 0} (xs : List A) (i : ℕ) (x : A) → i < length xs →
 drop_at xs i x lt e = let more : suc i ≡ i + 1 = omega arith in
     drop_suc xs i x lt e ∙ ap (λ n. x ∷ drop n xs) more
 
-entries_next : (keys : List (List ℕ)) (later : Bool) (k : List ℕ) (d : Data) (es : w.Entries)
-    → entries_text keys later (w.entry k (written_of d) es)
-    ≡ entry_text keys k later (written_of d) ++ entries_text keys true es
-entries_next keys later k (integer z) es = refl
-entries_next keys later k (float t) es = refl
-entries_next keys later k (boolean b) es = refl
-entries_next keys later k (string t) es = refl
-entries_next keys later k (array xs) es = refl
-entries_next keys later k (table ms) es = refl
+-- an entry that is a section was written, or none was; and what is left
+entry_next : (r : Bool) (t part : List ℕ) (rest : Bool → List ℕ) (later : Bool)
+    → (t ++ cond r [] part) ++ rest (cond r later true) ≡ t ++ cond r (rest later) (part ++ rest true)
+entry_next true t part rest later = ap (λ z. z ++ rest later) (append-nil t)
+entry_next false t part rest later = append_assoc t part (rest true)
 
--- an entry was written, and the rest is left
 pub entries_step : (pairs : List (Pair Value)) (i : ℕ) (pair : Pair Value) → i < length pairs
-    → pair ≡ get_or pairs i pair → (keys : List (List ℕ)) (later : Bool) (t t' whole : List ℕ)
-    → t' ≡ t ++ entry_text keys (text_bytes pair.key) later (written_of (view pair.value))
-    → t ++ entries_text keys later (entries_of (entries (seen (drop i pairs)))) ≡ whole
-    → t' ++ entries_text keys true (entries_of (entries (seen (drop (i + 1) pairs)))) ≡ whole
-entries_step pairs i pair lt read keys later t t' whole is left =
-    let more : w.Entries = entries_of (entries (seen (drop (i + 1) pairs))) in
-    let own : List ℕ = entry_text keys (text_bytes pair.key) later (written_of (view pair.value)) in
-    ap (λ z. z ++ entries_text keys true more) is
-    ∙ (append_assoc t own (entries_text keys true more)
-    ∙ (ap (λ z. t ++ z) (sym (entries_next keys later (text_bytes pair.key) (view pair.value) more))
-    ∙ (ap (λ ps. t ++ entries_text keys later (entries_of (entries (seen ps)))) (sym (drop_at pairs i pair lt read))
-    ∙ left)))
-
--- an entry that is a row
-pub row_is : (keys : List (List ℕ)) (k : List ℕ) (later : Bool) (d : Data) → is_section d ≡ false
-    → row_start k ++ (written (written_of d) ++ (ascii.line_feed ∷ [])) ≡ entry_text keys k later (written_of d)
-row_is keys k later (integer z) e = refl
-row_is keys k later (float t) e = refl
-row_is keys k later (boolean b) e = refl
-row_is keys k later (string t) e = refl
-row_is keys k later (array no_items) e = refl
-row_is keys k later (array (item (integer z) xs)) e = simp append_assoc
-row_is keys k later (array (item (float t) xs)) e = simp append_assoc
-row_is keys k later (array (item (boolean b) xs)) e = simp append_assoc
-row_is keys k later (array (item (string t) xs)) e = simp append_assoc
-row_is keys k later (array (item (array ys) xs)) e = simp append_assoc
-row_is keys k later (array (item (table ms) xs)) e = absurd (true≢false e)
-row_is keys k later (table ms) e = absurd (true≢false e)
-
-sections_is : (keys : List (List ℕ)) (es : w.Elements) → elements_text keys true es ≡ sections_text keys es
-sections_is keys w.no_elements = refl
-sections_is keys (w.element (w.scalar l) es) = sections_is keys es
-sections_is keys (w.element w.absent es) = sections_is keys es
-sections_is keys (w.element (w.array xs) es) = sections_is keys es
-sections_is keys (w.element (w.table rs) es) =
-    append_assoc (element_header true keys) (entries_text keys false rs) (elements_text keys true es) ∙
-    ap (λ z. element_header true keys ++ (entries_text keys false rs ++ z)) (sections_is keys es)
-
-array_is : (keys : List (List ℕ)) (k : List ℕ) (later : Bool) (xs : Items) → begins_with_table xs ≡ true
-    → elements_text (k ∷ keys) later (elements_of xs) ≡ array_text keys k later (elements_of xs)
-array_is keys k later no_items e = absurd (true≢false (sym e))
-array_is keys k later (item (integer z) xs) e = absurd (true≢false (sym e))
-array_is keys k later (item (float t) xs) e = absurd (true≢false (sym e))
-array_is keys k later (item (boolean b) xs) e = absurd (true≢false (sym e))
-array_is keys k later (item (string t) xs) e = absurd (true≢false (sym e))
-array_is keys k later (item (array ys) xs) e = absurd (true≢false (sym e))
-array_is keys k later (item (table ms) xs) e =
-    append_assoc (element_header later (k ∷ keys)) (entries_text (k ∷ keys) false (entries_of ms))
-    (elements_text (k ∷ keys) true (elements_of xs)) ∙
-    ap (λ z. element_header later (k ∷ keys) ++ (entries_text (k ∷ keys) false (entries_of ms) ++ z))
-    (sections_is (k ∷ keys) (elements_of xs))
-
--- an entry that is none
-pub part_is : (keys : List (List ℕ)) (k : List ℕ) (later : Bool) (d : Data) → is_section d ≡ true
-    → part_text (k ∷ keys) later (written_of d) ≡ entry_text keys k later (written_of d)
-part_is keys k later (integer z) e = absurd (true≢false (sym e))
-part_is keys k later (float t) e = absurd (true≢false (sym e))
-part_is keys k later (boolean b) e = absurd (true≢false (sym e))
-part_is keys k later (string t) e = absurd (true≢false (sym e))
-part_is keys k later (array xs) e = array_is keys k later xs e
-part_is keys k later (table ms) e = refl
-
--- an element that is a table
-pub element_is : (v : Value) (ps : List (List ℕ × Value)) (qs : List (Pair Value)) → v ≡ Table ps → seen qs ≡ ps
-    → (keys : List (List ℕ)) (later : Bool) (t t' t'' : List ℕ) → t' ≡ t ++ element_header later keys
-    → t'' ≡ t' ++ entries_text keys false (entries_of (entries (seen qs)))
-    → t'' ≡ t ++ element_text keys later (written_of (view v))
-element_is v ps qs is same keys later t t' t'' head rest =
-    rest
-    ∙ (ap (λ z. z ++ entries_text keys false (entries_of (entries (seen qs)))) head
-    ∙ (append_assoc t (element_header later keys) (entries_text keys false (entries_of (entries (seen qs))))
-    ∙ (ap (λ z. t ++ (element_header later keys ++ entries_text keys false (entries_of (entries z)))) same
-    ∙ ap (λ z. t ++ element_text keys later (written_of z)) (sym (ap view is ∙ view-Table ps)))))
-
--- a section, with its header and without
-module _ (ps : List (List ℕ × Value)) (qs : List (Pair Value)) (same : seen qs ≡ ps) (keys : List (List ℕ))
-    (later : Bool) (t t' t'' : List ℕ)
-    (rest : t'' ≡ t' ++ entries_text keys false (entries_of (entries (seen qs)))) where
-  headed : (b : Bool) → b ≡ is_header_due (entries_of (entries (seen qs)))
-      → t' ≡ t ++ cond b (table_header later keys) [] → t'' ≡ t ++ section_text keys later (entries_of (entries ps))
-  headed b due head =
-      rest
-      ∙ (ap (λ z. z ++ entries_text keys false (entries_of (entries (seen qs)))) head
-      ∙ (append_assoc t (cond b (table_header later keys) []) (entries_text keys false (entries_of (entries (seen qs))))
-      ∙ (ap (λ z. t ++ (cond z (table_header later keys) []
-      ++ entries_text keys false (entries_of (entries (seen qs))))) due
-      ∙ ap (λ z. t ++ section_text keys later (entries_of (entries z))) same)))
-
-  pub with_header : (b : Bool) → b ≡ true → b ≡ is_header_due (entries_of (entries (seen qs)))
-      → t' ≡ t ++ table_header later keys → t'' ≡ t ++ section_text keys later (entries_of (entries ps))
-  with_header b is due head = headed true (sym is ∙ due) head
-
-  pub without_header : (b : Bool) → b ≡ false → b ≡ is_header_due (entries_of (entries (seen qs)))
-      → t' ≡ t → t'' ≡ t ++ section_text keys later (entries_of (entries ps))
-  without_header b is due head = headed false (sym is ∙ due) (head ∙ sym (append-nil t))
+    → pair ≡ get_or pairs i pair → (keys : List (List ℕ)) (later after : Bool) (t t' whole : List ℕ)
+    → t' ≡ t ++ cond (is_row (view pair.value)) [] (section_text (text_bytes pair.key ∷ keys) later (view pair.value))
+    → after ≡ cond (is_row (view pair.value)) later true
+    → t ++ sections_text keys later (entries (seen (drop i pairs))) ≡ whole
+    → t' ++ sections_text keys after (entries (seen (drop (i + 1) pairs))) ≡ whole
+entries_step pairs i pair lt read keys later after t t' whole is after_is left =
+    let rest : Bool → List ℕ = λ b. sections_text keys b (entries (seen (drop (i + 1) pairs))) in
+    let part : List ℕ = section_text (text_bytes pair.key ∷ keys) later (view pair.value) in
+    (λ j. is j ++ rest (after_is j))
+    ∙ (entry_next (is_row (view pair.value)) t part rest later
+    ∙ (ap (λ ps. t ++ sections_text keys later (entries (seen ps))) (sym (drop_at pairs i pair lt read)) ∙ left))
 
 -- a table is larger than its entries
 pub entries_smaller : (v : Value) (ps : List (List ℕ × Value)) (qs : List (Pair Value)) → v ≡ Table ps → seen qs ≡ ps
@@ -167,3 +83,61 @@ cut_back front text len is first whole more =
     let within : len ≤ length text = omega (arith, ap length more.1, length-append front more.0, is) in
     let front_is : take len text ≡ front = ap (λ z. take len z) more.1 ∙ take_at front more.0 len (sym is) in
     IsCharBoundary-from_take text len whole within (subst IsUtf8 (sym front_is) first)
+
+-- an array and an inline table within a row
+bracketed : (left right : ℕ) (part t t1 t2 t3 : List ℕ) → t1 ≡ t ++ (left ∷ []) → t2 ≡ t1 ++ part
+    → t3 ≡ t2 ++ (right ∷ []) → t3 ≡ t ++ (left ∷ (part ++ (right ∷ [])))
+bracketed left right part t t1 t2 t3 e f g =
+    g ∙ ap (λ z. z ++ (right ∷ [])) (f ∙ ap (λ z. z ++ part) e ∙ append_assoc t (left ∷ []) part)
+    ∙ append_assoc t (left ∷ part) (right ∷ [])
+
+pub array_inline : (v : Value) (xs : Vec Value Global) (ys : List Value) → v ≡ Array xs → ys ≡ xs.items
+    → (t t1 t2 t3 : List ℕ) → t1 ≡ t ++ encode_utf8 ascii.left_bracket → t2 ≡ t1 ++ inline_items (items_view ys)
+    → t3 ≡ t2 ++ encode_utf8 ascii.right_bracket → t3 ≡ t ++ inline (view v)
+array_inline v xs ys is same t t1 t2 t3 e f g =
+    bracketed ascii.left_bracket ascii.right_bracket (inline_items (items_view ys)) t t1 t2 t3
+    (e ∙ ap (λ z. t ++ z) (encode_ascii ascii.left_bracket (omega arith))) f
+    (g ∙ ap (λ z. t2 ++ z) (encode_ascii ascii.right_bracket (omega arith)))
+    ∙ ap (λ zs. t ++ inline (array (items_view zs))) same
+    ∙ ap (λ z. t ++ inline z) (sym (ap view is ∙ view-Array xs))
+
+pub table_inline : (v : Value) (ps : List (List ℕ × Value)) (qs : List (Pair Value)) → v ≡ Table ps → seen qs ≡ ps
+    → (t t1 t2 t3 : List ℕ) → t1 ≡ t ++ encode_utf8 ascii.left_brace → t2 ≡ t1 ++ inline_members (entries (seen qs))
+    → t3 ≡ t2 ++ encode_utf8 ascii.right_brace → t3 ≡ t ++ inline (view v)
+table_inline v ps qs is same t t1 t2 t3 e f g =
+    bracketed ascii.left_brace ascii.right_brace (inline_members (entries (seen qs))) t t1 t2 t3
+    (e ∙ ap (λ z. t ++ z) (encode_ascii ascii.left_brace (omega arith))) f
+    (g ∙ ap (λ z. t2 ++ z) (encode_ascii ascii.right_brace (omega arith)))
+    ∙ ap (λ zs. t ++ inline (table (entries zs))) same
+    ∙ ap (λ z. t ++ inline z) (sym (ap view is ∙ view-Table ps))
+
+-- an array that has an element is a row where not all are tables
+pub array_row : (v : Value) (xs : Vec Value Global) (ys : List Value) → v ≡ Array xs → ys ≡ xs.items
+    → (length ys == 0) ≡ false → not (are_tables (items_view ys)) ≡ is_row (view v)
+array_row v xs ys is same some =
+    some_row ys some ∙ ap (λ zs. is_row (array (items_view zs))) same ∙ ap is_row (sym (ap view is ∙ view-Array xs))
+  where
+    some_row : (ys : List Value) → (length ys == 0) ≡ false
+        → not (are_tables (items_view ys)) ≡ is_row (array (items_view ys))
+    some_row [] some = absurd (true≢false some)
+    some_row (y ∷ ys) some = refl
+
+-- a table with an entry has its header where it has a row
+pub some_due : (pairs : List (Pair Value)) → (length pairs == 0) ≡ false
+    → has_row (entries (seen pairs)) ≡ is_header_due (entries (seen pairs))
+some_due [] some = absurd (true≢false some)
+some_due (p ∷ ps) some = refl
+
+-- an element that is a table
+pub element_is : (v : Value) (ps : List (List ℕ × Value)) (qs : List (Pair Value)) → v ≡ Table ps → seen qs ≡ ps
+    → (keys : List (List ℕ)) (later rows : Bool) (t t1 t2 t3 : List ℕ) → rows ≡ has_row (entries (seen qs))
+    → t1 ≡ t ++ element_header later keys → t2 ≡ t1 ++ rows_text (entries (seen qs))
+    → t3 ≡ t2 ++ sections_text keys rows (entries (seen qs)) → t3 ≡ t ++ element_text keys later (view v)
+element_is v ps qs is same keys later rows t t1 t2 t3 b e f g =
+    let ms : Members = entries (seen qs) in
+    let whole : t3 ≡ t ++ (element_header later keys ++ (rows_text ms ++ sections_text keys rows ms)) =
+    g ∙ (ap (λ z. z ++ sections_text keys rows ms) (f ∙ ap (λ z. z ++ rows_text ms) e) ∙ simp append_assoc) in
+    whole
+    ∙ ap (λ b. t ++ (element_header later keys ++ (rows_text ms ++ sections_text keys b ms))) b
+    ∙ ap (λ z. t ++ element_text keys later (table (entries z))) same
+    ∙ ap (λ z. t ++ element_text keys later z) (sym (ap view is ∙ view-Table ps))

@@ -2,3 +2,5 @@ pub mod QuotedUpToEscape
 pub mod PlainBytes
 pub mod ViewsOfValues
 pub mod DataIsLaidOut
+pub mod OrderedText
+pub mod TextOrderIsKept

@@ -4,4 +4,7 @@ pub mod Layout
 pub mod Scalar
 pub mod Trees
 pub mod Sections
-pub mod DataText
+pub mod Document
+pub mod TextOrder
+pub mod Valid
+pub mod Parts

@@ -1,24 +1,35 @@
 //! Tables of data, which are laid out at once: their keys differ, so no key is looked for.
 ghost use Rattle.std.specs.Prelude.{◌≡◌, IfOk, string_bytes};
-ghost use Rattle.basic_toml_value.specs.Data as d;
-ghost use Rattle.basic_toml_value.specs.View.{entries};
-ghost use Rattle.basic_toml_layout.specs.Layout.{layout};
-ghost use Rattle.basic_toml_layout.specs.Trees.{written_of};
+ghost use Rattle.basic_toml_value.specs.View.{view, entries};
+ghost use Rattle.basic_toml_layout.specs.Document as d;
 
+mod inline;
 mod sections;
 mod text;
 
-use basic_toml_value::Table;
+use basic_toml_value::{Table, Value};
+use inline::write_inline;
 pub use sections::{begins_with_table, is_section};
 use std::alloc::{AllocError, Global};
-use text::write_entries;
+use text::{has_row, write_rows, write_sections};
 
-/// The text of a table that is the whole value.
-pub fn laid_out(alloc: Global, table: &Table) -> Result<String, AllocError>
-    ensures { IfOk result (λ text. string_bytes text ≡ layout (written_of (d.table (entries table.now)))) }
+/// The text of any table that is the whole value: its rows, and then its sections.
+pub fn document_text(alloc: Global, table: &Table) -> Result<String, AllocError>
+    ensures { IfOk result (λ text. string_bytes text ≡ d.document_text (entries table.now)) }
 {
     let mut text = String::new(alloc);
     let mut path = String::new(alloc);
-    write_entries(&mut text, &mut path, table.entries())?;
+    let pairs = table.entries();
+    write_rows(&mut text, pairs)?;
+    write_sections(&mut text, &mut path, has_row(pairs), pairs)?;
+    Ok(text)
+}
+
+/// The text of any value as it stands in a row.
+pub fn inline_text(alloc: Global, value: &Value) -> Result<String, AllocError>
+    ensures { IfOk result (λ text. string_bytes text ≡ d.inline (view value.now)) }
+{
+    let mut text = String::new(alloc);
+    write_inline(&mut text, value)?;
     Ok(text)
 }

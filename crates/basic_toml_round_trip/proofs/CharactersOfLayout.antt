@@ -1,13 +1,15 @@
--- The layout of a tree in characters: that of the tree with each text instead of its UTF-8.
-use Rattle.std.specs.Prelude.{ℕ, Bool, List, [], ◌∷◌, ◌++◌, map}
+-- The text of a laid-out table in characters: the same with the characters of each key and each string for its UTF-8.
+use Rattle.std.specs.Prelude.{ℕ, Bool, true, false, cond, List, [], ◌∷◌, ◌++◌, map}
 use Rattle.std.specs.Str.{chars}
 use Rattle.basic_toml_value.specs.Data as d
 use Rattle.basic_toml_value.specs.Data.{Data, Items, no_items, item, Members, no_members, member}
 use Rattle.basic_toml_layout.specs.Texts.{written_key, joined}
-use Rattle.basic_toml_layout.specs.Layout.{row_start, written, written_elements, more_elements, entries_text}
-use Rattle.basic_toml_layout.specs.Layout.{sections_text}
-use Rattle.basic_toml_layout.specs.Trees.{written_of, elements_of, entries_of}
+use Rattle.basic_toml_layout.specs.Layout.{row_start, table_header, element_header}
+use Rattle.basic_toml_layout.specs.Document.{inline, inline_items, more_items, inline_members, more_members}
 use Rattle.basic_toml_grammar.specs.Sections.{KeyTexts}
+use Rattle.basic_toml_round_trip.proofs.LaidOut.{Laid, a_row, then_parts, Parts, no_parts, a_table, an_array, Nodes}
+use Rattle.basic_toml_round_trip.proofs.LaidOut.{no_nodes, a_node}
+use Rattle.basic_toml_round_trip.proofs.SectionsOfTable.{has_header}
 
 abbrev mutual
   pub decoded : Data → Data
@@ -33,23 +35,45 @@ key_chars k = written_key (chars k)
 abbrev pub path_chars : KeyTexts → List ℕ
 path_chars path = joined (map chars path)
 
--- a value of a row, the elements of an array, and those after one of them
+-- a value of a row; the elements of an array, and those after one of them; and so those of an inline table
 abbrev pub value_chars : Data → List ℕ
-value_chars x = written (written_of (decoded x))
+value_chars x = inline (decoded x)
 
 abbrev pub items_chars : Items → List ℕ
-items_chars xs = written_elements (elements_of (decoded_items xs))
+items_chars xs = inline_items (decoded_items xs)
 
 abbrev pub more_chars : Items → List ℕ
-more_chars xs = more_elements (elements_of (decoded_items xs))
+more_chars xs = more_items (decoded_items xs)
+
+abbrev pub fields_chars : Members → List ℕ
+fields_chars ms = inline_members (decoded_members ms)
+
+abbrev pub more_fields_chars : Members → List ℕ
+more_fields_chars ms = more_members (decoded_members ms)
 
 -- a row
 abbrev pub row_chars : List ℕ → Data → List ℕ
 row_chars k x = row_start (chars k) ++ (value_chars x ++ 10 ∷ [])
 
--- what stands below the header of a table at a path, and the tables of an array after its first
-abbrev pub table_chars : KeyTexts → Bool → Members → List ℕ
-table_chars path later ms = entries_text (map chars path) later (entries_of (decoded_members ms))
+-- the header of a table, where it has one
+abbrev pub header_chars : Bool → Bool → KeyTexts → List ℕ
+header_chars has later path = cond has (table_header later (map chars path)) []
 
-abbrev pub nodes_chars : KeyTexts → Items → List ℕ
-nodes_chars path xs = sections_text (map chars path) (elements_of (decoded_items xs))
+-- what stands below the header of a table at a path
+abbrev mutual
+  pub table_chars : {seen : KeyTexts} {ms : Members} → KeyTexts → Bool → Laid seen ms → List ℕ
+  table_chars path later (a_row {k = k} {x = x} new text value laid) = row_chars k x ++ table_chars path true laid
+  table_chars path later (then_parts parts) = parts_chars path later parts
+
+  pub parts_chars : {seen : KeyTexts} {ms : Members} → KeyTexts → Bool → Parts seen ms → List ℕ
+  parts_chars path later no_parts = []
+  parts_chars path later (a_table {k = k} new text laid parts) =
+      (header_chars (has_header laid) later (k ∷ path) ++ table_chars (k ∷ path) false laid)
+      ++ parts_chars path true parts
+  parts_chars path later (an_array {k = k} new text nodes parts) =
+      nodes_chars (k ∷ path) later nodes ++ parts_chars path true parts
+
+  pub nodes_chars : {xs : Items} → KeyTexts → Bool → Nodes xs → List ℕ
+  nodes_chars path later no_nodes = []
+  nodes_chars path later (a_node laid nodes) =
+      (element_header later (map chars path) ++ table_chars path false laid) ++ nodes_chars path true nodes

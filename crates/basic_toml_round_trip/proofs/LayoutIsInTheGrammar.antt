@@ -1,11 +1,10 @@
--- The layout of a laid-out table, in characters at offset 0, is in the grammar, with the section list of the table.
+-- The text of a laid-out table, in characters at offset 0, is in the grammar, with the section list of the table.
 use Rattle.std.proofs.Common.{◌≡◌, ℕ, Bool, true, false, cond, List, [], ◌∷◌, ◌++◌, map, ap, sym, ◌∙◌, subst}
 use Rattle.std.proofs.Common.{append_assoc, append-nil, refl}
 use Rattle.std.specs.Str.{chars}
 use Rattle.basic_toml_tokens.specs.Text.{Text, is_comment, after_blanks}
 use Rattle.basic_toml_value.specs.Data.{Items, Members}
-use Rattle.basic_toml_layout.specs.Layout.{is_header_due, table_header, element_header}
-use Rattle.basic_toml_layout.specs.Trees.{written_of, entries_of}
+use Rattle.basic_toml_layout.specs.Layout.{table_header, element_header}
 use Rattle.basic_toml_grammar.specs.Sections.{Key, KeyTexts, Raw, Rows, no_rows, row, Section}
 use Rattle.basic_toml_grammar.specs.Grammar as g
 use Rattle.basic_toml_grammar.specs.Grammar.{IsRow, IsRows, IsHeader, IsSections, IsSectionList}
@@ -14,12 +13,11 @@ use Rattle.basic_toml_round_trip.proofs.LaidOut.{no_nodes, a_node}
 use Rattle.basic_toml_round_trip.proofs.SectionsOfTable.{has_header, rows, backwards, section_of, inner_sections}
 use Rattle.basic_toml_round_trip.proofs.SectionsOfTable.{part_sections, node_sections, sections}
 use Rattle.basic_toml_round_trip.proofs.CharactersInFront.{onto, onto-append, onto_three}
-use Rattle.basic_toml_round_trip.proofs.CharactersOfLayout.{decoded, decoded_members, path_chars, row_chars}
-use Rattle.basic_toml_round_trip.proofs.CharactersOfLayout.{table_chars, nodes_chars}
+use Rattle.basic_toml_round_trip.proofs.CharactersOfLayout.{path_chars, row_chars, header_chars, table_chars}
+use Rattle.basic_toml_round_trip.proofs.CharactersOfLayout.{parts_chars, nodes_chars}
 use Rattle.basic_toml_round_trip.proofs.KeysAreInTheGrammar.{AreTexts}
 use Rattle.basic_toml_round_trip.proofs.HeadersAreInTheGrammar.{table_header_stands, element_header_stands}
 use Rattle.basic_toml_round_trip.proofs.RowsAreInTheGrammar.{feed_ends, row_stands}
-use Rattle.basic_toml_round_trip.proofs.RowsMakeHeadersDue.{row_form, decoded_form, row_text, decoded_header_due}
 
 -- these rows and then these sections, up to the end
 record Stands (text : Text) (rs : Rows) (ss : List Section) : Type 0 where
@@ -86,9 +84,6 @@ stands_element later k path {text = text} {rs = rs} {ss = ss} u t = go later
     go false = here
 
 -- a table with its header, or without one where it needs none
-abbrev header_chars : Bool → Bool → KeyTexts → List ℕ
-header_chars has later path = cond has (table_header later (map chars path)) []
-
 stands_whole : (later : Bool) (k : List ℕ) (path : KeyTexts) {x : Members} (laid : Laid [] x) {text : Text}
     {ss : List Section} → AreTexts (k ∷ path) → Stands text (rows laid) ss
     → Stands (onto (header_chars (has_header laid) later (k ∷ path)) text) no_rows
@@ -98,66 +93,47 @@ stands_whole later k path (then_parts no_parts) u t = stands_table later k path 
 stands_whole later k path (then_parts (a_table new text laid parts)) u t = t
 stands_whole later k path (then_parts (an_array new text nodes parts)) u t = t
 
--- a table of an array, and the others after it
-abbrev array_chars : Bool → KeyTexts → Members → Items → List ℕ
-array_chars later path x xs = element_header later (map chars path) ++ (table_chars path false x ++ nodes_chars path xs)
-
-stands_array : (later : Bool) (k : List ℕ) (path : KeyTexts) (x : Members) (xs : Items) (after : Text) {rs : Rows}
-    {ss : List Section} → AreTexts (k ∷ path)
-    → Stands (onto (table_chars (k ∷ path) false x) (onto (nodes_chars (k ∷ path) xs) after)) rs ss
-    → Stands (onto (array_chars later (k ∷ path) x xs) after) no_rows (section_of (k ∷ path) true rs ∷ ss)
-stands_array later k path x xs after u t =
-    let header : List ℕ = element_header later (map chars (k ∷ path)) in
-    in_text
-    (onto-append header (table_chars (k ∷ path) false x ++ nodes_chars (k ∷ path) xs) after
-    ∙ ap (onto header) (onto-append (table_chars (k ∷ path) false x) (nodes_chars (k ∷ path) xs) after))
-    (stands_element later k path u t)
-
 mutual
   inner_stand : {seen : KeyTexts} {ms : Members} (laid : Laid seen ms) (later : Bool) (path : KeyTexts) {rest : Text}
       {ss : List Section} → AreTexts path → Stands rest no_rows ss
-      → Stands (onto (table_chars path later ms) rest) (rows laid) (inner_sections path laid ++ ss)
-  inner_stand (a_row {k = k} {x = x} {ms = ms} new text value laid) later path {rest = rest} u t =
-      in_text
-      (ap (λ cs. onto cs rest)
-      (row_text (map chars path) (chars k) later (written_of (decoded x)) (entries_of (decoded_members ms))
-      (decoded_form x ∙ row_form x value))
-      ∙ onto-append (row_chars k x) (table_chars path true ms) rest)
-      (stands_row (row_stands k x (onto (table_chars path true ms) rest) text value) (inner_stand laid true path u t))
+      → Stands (onto (table_chars path later laid) rest) (rows laid) (inner_sections path laid ++ ss)
+  inner_stand (a_row {k = k} {x = x} new text value laid) later path {rest = rest} u t =
+      in_text (onto-append (row_chars k x) (table_chars path true laid) rest)
+      (stands_row (row_stands k x (onto (table_chars path true laid) rest) text value.value)
+      (inner_stand laid true path u t))
   inner_stand (then_parts parts) later path u t = parts_stand parts later path u t
 
   parts_stand : {seen : KeyTexts} {ms : Members} (parts : Parts seen ms) (later : Bool) (path : KeyTexts) {rest : Text}
       {ss : List Section} → AreTexts path → Stands rest no_rows ss
-      → Stands (onto (table_chars path later ms) rest) no_rows (part_sections path parts ++ ss)
+      → Stands (onto (parts_chars path later parts) rest) no_rows (part_sections path parts ++ ss)
   parts_stand no_parts later path u t = t
-  parts_stand (a_table {k = k} {x = x} {ms = ms} new text laid parts) later path {rest = rest} u t =
-      let below : List ℕ = table_chars (k ∷ path) false x in
-      let after : List ℕ = table_chars path true ms in
-      let due : Bool = is_header_due (entries_of (decoded_members x)) in
+  parts_stand (a_table {k = k} new text laid parts) later path {rest = rest} u t =
       as_list (simp append_assoc)
       (in_text
-      (onto_three (header_chars due later (k ∷ path)) below after rest
-      ∙ ap (λ b. onto (header_chars b later (k ∷ path)) (onto below (onto after rest))) (decoded_header_due laid))
+      (onto_three (header_chars (has_header laid) later (k ∷ path)) (table_chars (k ∷ path) false laid)
+      (parts_chars path true parts) rest)
       (stands_whole later k path laid (text, u)
       (inner_stand laid false (k ∷ path) (text, u) (parts_stand parts true path u t))))
-  parts_stand (an_array {k = k} {x = x} {xs = xs} {ms = ms} new text (a_node laid ns) ps) later path {rest = rest} u t =
-      let after : Text = onto (table_chars path true ms) rest in
+  parts_stand (an_array {k = k} new text nodes parts) later path {rest = rest} u t =
       as_list (simp append_assoc)
-      (in_text (onto-append (array_chars later (k ∷ path) x xs) (table_chars path true ms) rest)
-      (stands_array later k path x xs after (text, u)
-      (inner_stand laid false (k ∷ path) (text, u) (nodes_stand ns k path (text, u) (parts_stand ps true path u t)))))
+      (in_text (onto-append (nodes_chars (k ∷ path) later nodes) (parts_chars path true parts) rest)
+      (nodes_stand nodes later k path (text, u) (parts_stand parts true path u t)))
 
-  nodes_stand : {xs : Items} (nodes : Nodes xs) (k : List ℕ) (path : KeyTexts) {rest : Text} {ss : List Section}
-      → AreTexts (k ∷ path) → Stands rest no_rows ss
-      → Stands (onto (nodes_chars (k ∷ path) xs) rest) no_rows (node_sections (k ∷ path) nodes ++ ss)
-  nodes_stand no_nodes k path u t = t
-  nodes_stand (a_node {x = x} {xs = xs} laid nodes) k path {rest = rest} u t =
+  nodes_stand : {xs : Items} (nodes : Nodes xs) (later : Bool) (k : List ℕ) (path : KeyTexts) {rest : Text}
+      {ss : List Section} → AreTexts (k ∷ path) → Stands rest no_rows ss
+      → Stands (onto (nodes_chars (k ∷ path) later nodes) rest) no_rows (node_sections (k ∷ path) nodes ++ ss)
+  nodes_stand no_nodes later k path u t = t
+  nodes_stand (a_node laid nodes) later k path {rest = rest} u t =
       as_list (simp append_assoc)
-      (stands_array true k path x xs rest u (inner_stand laid false (k ∷ path) u (nodes_stand nodes k path u t)))
+      (in_text
+      (onto_three (element_header later (map chars (k ∷ path))) (table_chars (k ∷ path) false laid)
+      (nodes_chars (k ∷ path) true nodes) rest)
+      (stands_element later k path u
+      (inner_stand laid false (k ∷ path) u (nodes_stand nodes true k path u t))))
 
--- the whole layout
+-- the whole text
 pub layout_grammar : {ms : Members} (laid : Laid [] ms)
-    → IsSectionList (onto (table_chars [] false ms) []) (sections laid)
+    → IsSectionList (onto (table_chars [] false laid) []) (sections laid)
 layout_grammar laid =
     let t : Stands _ (rows laid) (inner_sections [] laid) =
     as_list (append-nil (inner_sections [] laid))

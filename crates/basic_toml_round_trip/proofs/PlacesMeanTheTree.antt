@@ -2,7 +2,7 @@
 use Rattle.std.proofs.Common.{◌≡◌, ℕ, suc, ◌≤◌, List, [], ◌∷◌, ◌++◌, Some, None, refl, ap, sym, ◌∙◌, subst, arith}
 use Rattle.std.proofs.lemmas.Bool.{ne_eqb}
 use Rattle.basic_toml_value.specs.Data as d
-use Rattle.basic_toml_value.specs.Data.{Data, Items, no_items, item, Members, member}
+use Rattle.basic_toml_value.specs.Data.{Data, Items, no_items, item, Members, no_members, member}
 use Rattle.basic_toml_grammar.specs.Sections.{KeyTexts}
 use Rattle.basic_toml_grammar.specs.Steps.{key, number}
 use Rattle.basic_toml_grammar.specs.Tree.{Mention, value_here, IsTree, here, grouped, AreGroups, no_steps}
@@ -11,16 +11,28 @@ use Rattle.basic_toml_grammar.specs.Mentions.{finished, finished_elements, row_m
 use Rattle.basic_toml_grammar.specs.Placed.{Placed}
 use Rattle.basic_toml_grammar.proofs.Trees.TreeIsGrouped.{tree_is_grouped}
 use Rattle.basic_toml_grammar.proofs.Trees.EnteringGrows.{placed_mentions}
-use Rattle.basic_toml_round_trip.proofs.LaidOut.{IsInRow, AreInRow, IsNone, Laid, a_row, then_parts, Parts, no_parts}
-use Rattle.basic_toml_round_trip.proofs.LaidOut.{a_table, an_array, Nodes, no_nodes, a_node}
-use Rattle.basic_toml_round_trip.proofs.SectionsOfTable.{raw, raw_items, rows, placed_here, head_placed}
+use Rattle.basic_toml_round_trip.proofs.LaidOut.{IsInRow, AreInRow, AreFields, IsNone, Laid, a_row, then_parts, Parts}
+use Rattle.basic_toml_round_trip.proofs.LaidOut.{no_parts, a_table, an_array, Nodes, no_nodes, a_node}
+use Rattle.basic_toml_round_trip.proofs.SectionsOfTable.{raw, raw_items, raw_fields, rows, placed_here, head_placed}
 use Rattle.basic_toml_round_trip.proofs.SectionsOfTable.{inner_placed, part_placed, node_offsets}
 use Rattle.basic_toml_round_trip.proofs.StepsGroupMentions.{after, below_first, AllOff, off_after, value_after}
 use Rattle.basic_toml_round_trip.proofs.StepsGroupMentions.{Filled, filled, filled_after, one_group, table_here}
 use Rattle.basic_toml_round_trip.proofs.StepsGroupMentions.{groups_here, groups_of, table_made, groups_from}
 use Rattle.basic_toml_round_trip.proofs.StepsGroupMentions.{array_made}
 
--- a value in a row is finished as itself
+abbrev value_mention : Data → Mention
+value_mention x = record { path = []; value = Some (finished (raw x)) }
+
+-- a value in a row is finished as itself, an inline table by the groups of its rows
+no_value_of_fields : (ms : Members) → value_here (row_mentions [] (raw_fields ms)) ≡ None
+no_value_of_fields no_members = refl
+no_value_of_fields (member k x ms) = no_value_of_fields ms
+
+fields_off : (k : List ℕ) (seen : KeyTexts) (ms : Members) → IsNone k seen → AreFields seen ms
+    → AllOff (key k) (row_mentions [] (raw_fields ms))
+fields_off k seen no_members none h = tt
+fields_off k seen (member l x ms) none h = (none l h.0.0, fields_off k (l ∷ seen) ms (λ j n. none j n.1) h.1.1)
+
 mutual
   row_finished : (x : Data) → IsInRow x → finished (raw x) ≡ x
   row_finished (d.integer z) h = refl
@@ -28,11 +40,22 @@ mutual
   row_finished (d.boolean b) h = refl
   row_finished (d.string t) h = refl
   row_finished (d.array xs) h = ap d.array (items_finished xs h)
-  row_finished (d.table ms) h = absurd h
+  row_finished (d.table ms) h =
+      sym ((tree_is_grouped (row_mentions [] (raw_fields ms)) _).0
+      (subst (IsTree (row_mentions [] (raw_fields ms))) (table_made ms)
+      (grouped (no_value_of_fields ms) (fields_groups ms [] h))))
 
   items_finished : (xs : Items) → AreInRow xs → finished_elements (raw_items xs) ≡ xs
   items_finished no_items h = refl
   items_finished (item x xs) h = (λ i. item (row_finished x h.0 i) (items_finished xs h.1 i))
+
+  fields_groups : (ms : Members) (seen : KeyTexts) → AreFields seen ms
+      → AreGroups (row_mentions [] (raw_fields ms)) (groups_of ms)
+  fields_groups no_members seen h = no_steps refl
+  fields_groups (member k x ms) seen h =
+      one_group (key k) {ms = value_mention x ∷ []} (row_mentions [] (raw_fields ms)) filled
+      (here (ap Some (row_finished x h.1.0))) (fields_off k (k ∷ seen) ms (λ l n. n.0) h.1.1)
+      (fields_groups ms (k ∷ seen) h.1.1)
 
 -- what the rows and the parts of a table mention, and what they do with the mention of the table where it has a header
 abbrev pub inner_mentions : {seen : KeyTexts} {ms : Members} → Laid seen ms → List Mention
@@ -130,9 +153,6 @@ array_tree : {x : Data} {xs : Items} (nodes : Nodes (item x xs))
 array_tree {x = x} {xs = xs} nodes g =
     subst (IsTree (placed_mentions (node_offsets 0 nodes))) (array_made 0 x xs) (grouped (no_value_there 0 nodes) g)
 
-abbrev value_mention : Data → Mention
-value_mention x = record { path = []; value = Some (finished (raw x)) }
-
 later_keys : (k : List ℕ) (seen : KeyTexts) → IsNone k (k ∷ seen)
 later_keys k seen l n = n.0
 
@@ -144,7 +164,7 @@ nodes_filled i (a_node laid nodes) = filled
 mutual
   laid_groups : {seen : KeyTexts} {ms : Members} (laid : Laid seen ms) → AreGroups (inner_mentions laid) (groups_of ms)
   laid_groups (a_row {seen = seen} {k = k} {x = x} new text value laid) =
-      one_group (key k) {ms = value_mention x ∷ []} (inner_mentions laid) filled (here (ap Some (row_finished x value)))
+      one_group (key k) {ms = value_mention x ∷ []} (inner_mentions laid) filled (here (ap Some (row_finished x value.value)))
       (laid_off k laid (later_keys k seen)) (laid_groups laid)
   laid_groups (then_parts parts) = parts_groups parts
 

@@ -4,18 +4,31 @@ use Rattle.std.specs.Str.{bytes_eq}
 use Rattle.std.proofs.lemmas.Bool.{or_from}
 use Rattle.std.proofs.lemmas.List.Folds.{list_any-append}
 use Rattle.basic_toml_value.specs.Data as d
-use Rattle.basic_toml_value.specs.Data.{Data, Items, no_items, item, Members}
+use Rattle.basic_toml_value.specs.Data.{Data, Items, no_items, item, Members, no_members, member}
 use Rattle.basic_toml_grammar.specs.Sections.{KeyTexts, Rows, no_rows, row, Section}
 use Rattle.basic_toml_grammar.specs.Steps.{key, overlap}
 use Rattle.basic_toml_grammar.specs.RowClash.{any_overlaps, rows_clash, value_clashes, elements_clash, has_row_clash}
 use Rattle.basic_toml_grammar.specs.Grammar.{with_root}
 use Rattle.basic_toml_grammar.proofs.Clash.ClashesAgree.{turn_eq}
-use Rattle.basic_toml_round_trip.proofs.LaidOut.{IsInRow, AreInRow, IsNone, Laid, a_row, then_parts, Parts, no_parts}
-use Rattle.basic_toml_round_trip.proofs.LaidOut.{a_table, an_array, Nodes, no_nodes, a_node}
-use Rattle.basic_toml_round_trip.proofs.SectionsOfTable.{has_header, raw, raw_items, rows, section_of}
+use Rattle.basic_toml_round_trip.proofs.LaidOut.{IsInRow, AreInRow, AreFields, IsNone, Laid, a_row, then_parts, Parts}
+use Rattle.basic_toml_round_trip.proofs.LaidOut.{no_parts, a_table, an_array, Nodes, no_nodes, a_node}
+use Rattle.basic_toml_round_trip.proofs.SectionsOfTable.{has_header, raw, raw_items, raw_fields, rows, section_of}
 use Rattle.basic_toml_round_trip.proofs.SectionsOfTable.{inner_sections, part_sections, node_sections, sections}
 
--- no value of a row holds rows
+-- no rows of an inline table clash
+fields_apart : (k : List ℕ) (seen : KeyTexts) (ms : Members) → AreFields (k ∷ seen) ms
+    → any_overlaps (key k ∷ []) (raw_fields ms) ≡ false
+fields_apart k seen ms h = go ms (k ∷ seen) (λ l n. n.0) h
+  where
+    go : (ms : Members) (seen : KeyTexts) → IsNone k seen → AreFields seen ms
+        → any_overlaps (key k ∷ []) (raw_fields ms) ≡ false
+    go no_members seen none h = refl
+    go (member l x ms) seen none h =
+        let differs : bytes_eq k l ≡ false = none l h.0.0 in
+        let turned : bytes_eq l k ≡ false = turn_eq (key l) (key k) ∙ differs in
+        or_from (overlap (key k ∷ []) (key l ∷ [])) (any_overlaps (key k ∷ []) (raw_fields ms))
+        (rw (differs, turned) refl) (go ms (l ∷ seen) (λ j n. none j n.1) h.1.1)
+
 mutual
   value_quiet : (x : Data) → IsInRow x → value_clashes (raw x) ≡ false
   value_quiet (d.integer z) h = refl
@@ -23,11 +36,16 @@ mutual
   value_quiet (d.boolean b) h = refl
   value_quiet (d.string t) h = refl
   value_quiet (d.array xs) h = items_quiet xs h
-  value_quiet (d.table ms) h = absurd h
+  value_quiet (d.table ms) h = fields_quiet ms [] h
 
   items_quiet : (xs : Items) → AreInRow xs → elements_clash (raw_items xs) ≡ false
   items_quiet no_items h = refl
   items_quiet (item x xs) h = or_from _ _ (value_quiet x h.0) (items_quiet xs h.1)
+
+  fields_quiet : (ms : Members) (seen : KeyTexts) → AreFields seen ms → rows_clash (raw_fields ms) ≡ false
+  fields_quiet no_members seen h = refl
+  fields_quiet (member k x ms) seen h =
+      or_from _ _ (or_from _ _ (fields_apart k seen ms h.1.1) (value_quiet x h.1.0)) (fields_quiet ms (k ∷ seen) h.1.1)
 
 -- the rows of one table
 no_overlap : (k : List ℕ) {seen : KeyTexts} {ms : Members} (laid : Laid seen ms) → IsNone k seen
@@ -41,7 +59,7 @@ no_overlap k (then_parts parts) h = refl
 
 rows_quiet : {seen : KeyTexts} {ms : Members} (laid : Laid seen ms) → rows_clash (rows laid) ≡ false
 rows_quiet (a_row {k = k} {x = x} new text value laid) =
-    or_from _ _ (or_from _ _ (no_overlap k laid (λ l n. n.0)) (value_quiet x value)) (rows_quiet laid)
+    or_from _ _ (or_from _ _ (no_overlap k laid (λ l n. n.0)) (value_quiet x value.value)) (rows_quiet laid)
 rows_quiet (then_parts parts) = refl
 
 -- and those of all sections

@@ -1,32 +1,20 @@
 -- The section list of a laid-out table, with no offsets but those of floats, and where its sections stand below it.
 use Rattle.std.specs.Prelude.{ℕ, suc, ◌==◌, position, Bool, true, false, cond, List, [], ◌∷◌, ◌++◌, Option, Some, None}
 use Rattle.basic_toml_value.specs.Data as d
-use Rattle.basic_toml_value.specs.Data.{Data, Items, no_items, item, Members}
+use Rattle.basic_toml_value.specs.Data.{Data, Items, no_items, item, Members, no_members, member}
 use Rattle.basic_toml_grammar.specs.Sections as s
 use Rattle.basic_toml_grammar.specs.Sections.{Key, KeyTexts, Raw, Rows, no_rows, row, Section}
 use Rattle.basic_toml_grammar.specs.Steps.{Step, key, number}
 use Rattle.basic_toml_grammar.specs.Placed.{Placed}
 use Rattle.basic_toml_grammar.specs.Grammar.{to_period, with_root}
 use Rattle.basic_toml_round_trip.proofs.LaidOut.{Laid, a_row, then_parts, Parts, no_parts, a_table, an_array, Nodes}
-use Rattle.basic_toml_round_trip.proofs.LaidOut.{no_nodes, a_node}
+use Rattle.basic_toml_round_trip.proofs.LaidOut.{no_nodes, a_node, in_order}
+use Rattle.basic_toml_layout.proofs.OrderedText as o
 
 -- a value of a row as it is read; a float has the offset of the character after its period
 abbrev pub raw_offset : Raw → ℕ
 raw_offset (Raw.float t) = to_period (position (λ c. c == 46) t)
 raw_offset _ = 0
-
-abbrev mutual
-  pub raw : Data → Raw
-  raw (d.integer z) = Raw.integer z
-  raw (d.float t) = Raw.float t
-  raw (d.boolean b) = Raw.boolean b
-  raw (d.string t) = Raw.string t
-  raw (d.array xs) = Raw.array (raw_items xs)
-  raw (d.table ms) = Raw.inline no_rows
-
-  pub raw_items : Items → s.Elements
-  raw_items no_items = s.no_elements
-  raw_items (item x xs) = s.element (raw_offset (raw x)) (raw x) (raw_items xs)
 
 -- a key with no offset
 abbrev pub unplaced : List ℕ → Key
@@ -35,6 +23,23 @@ unplaced k = record { offset = 0; text = k }
 abbrev pub one_key : List ℕ → List Key
 one_key k = unplaced k ∷ []
 
+abbrev mutual
+  pub raw : Data → Raw
+  raw (d.integer z) = Raw.integer z
+  raw (d.float t) = Raw.float t
+  raw (d.boolean b) = Raw.boolean b
+  raw (d.string t) = Raw.string t
+  raw (d.array xs) = Raw.array (raw_items xs)
+  raw (d.table ms) = Raw.inline (raw_fields ms)
+
+  pub raw_items : Items → s.Elements
+  raw_items no_items = s.no_elements
+  raw_items (item x xs) = s.element (raw_offset (raw x)) (raw x) (raw_items xs)
+
+  pub raw_fields : Members → Rows
+  raw_fields no_members = no_rows
+  raw_fields (member k x ms) = row (one_key k) (raw_offset (raw x)) (raw x) (raw_fields ms)
+
 -- the rows of a table
 abbrev pub rows : {seen : KeyTexts} {ms : Members} → Laid seen ms → Rows
 rows (a_row {k = k} {x = x} new text value laid) = row (one_key k) (raw_offset (raw x)) (raw x) (rows laid)
@@ -42,10 +47,7 @@ rows (then_parts parts) = no_rows
 
 -- the header of a table is left out where it has parts and no row
 abbrev pub has_header : {seen : KeyTexts} {ms : Members} → Laid seen ms → Bool
-has_header (a_row new text value laid) = true
-has_header (then_parts no_parts) = true
-has_header (then_parts (a_table new text laid parts)) = false
-has_header (then_parts (an_array new text nodes parts)) = false
+has_header laid = o.has_header (in_order laid)
 
 -- a path has its last key first
 abbrev pub backwards : KeyTexts → List Key

@@ -9,8 +9,8 @@ use Rattle.basic_toml_write.specs.Shapes.{holds_other, holds_absent, holds_array
 use Rattle.basic_toml_write.specs.Shapes.{repeats_key, is_bad_table, has_bad, element_has_bad, entry_has_bad}
 use Rattle.basic_toml_layout.specs.Trees.{scalar_tree, tree_of, element_trees, entry_trees}
 use Rattle.basic_toml_grammar.specs.Sections.{KeyTexts}
-use Rattle.basic_toml_round_trip.proofs.LaidOut.{IsInRow, IsNew, Laid, a_row, then_parts, Parts, no_parts, a_table}
-use Rattle.basic_toml_round_trip.proofs.LaidOut.{an_array, Nodes, no_nodes, a_node}
+use Rattle.basic_toml_round_trip.proofs.LaidOut.{IsNew, IsPlainRow, LaidBy, a_row, then_parts, PartsLaid}
+use Rattle.basic_toml_round_trip.proofs.LaidOut.{no_parts, a_table, an_array, NodesLaid, no_nodes, a_node}
 use Rattle.basic_toml_round_trip.proofs.SpelledIsRecorded.{AreRecorded, AreEntriesRecorded}
 use Rattle.basic_toml_round_trip.proofs.SupportedStandsInRows.{scalar_in_row, array_in_row}
 
@@ -34,16 +34,16 @@ one_seen k seen (entry l v es) h n =
 
 -- parts where a row came too late, else rows and parts
 abbrev LaidAfter : Bool → KeyTexts → Members → Type 0
-LaidAfter true seen ms = Parts seen ms
-LaidAfter false seen ms = Laid seen ms
+LaidAfter true seen ms = PartsLaid IsPlainRow seen ms
+LaidAfter false seen ms = LaidBy IsPlainRow seen ms
 
-part : (late : Bool) {seen : KeyTexts} {ms : Members} → Parts seen ms → LaidAfter late seen ms
+part : (late : Bool) {seen : KeyTexts} {ms : Members} → PartsLaid IsPlainRow seen ms → LaidAfter late seen ms
 part true p = p
 part false p = then_parts p
 
 one_row : (late : Bool) (seen : KeyTexts) (k : List ℕ) (x : Data) (ms : Members) → late ≡ false → IsNew k seen
     → IsUtf8 k
-    → IsInRow x
+    → IsPlainRow x
     → LaidAfter late (k ∷ seen) ms → LaidAfter late seen (member k x ms)
 one_row true seen k x ms e new text value laid = absurd (true≢false e)
 one_row false seen k x ms e new text value laid = a_row new text value laid
@@ -109,7 +109,7 @@ mutual
       (entries_laid es late (k ∷ seen) (goes_on late k seen es e.1 g.keys g.new.1 b.1 g.recorded.2))
 
   tables_laid : (vs : Elements) → holds_other vs ≡ false → holds_absent vs ≡ false → element_has_bad vs ≡ false
-      → AreRecorded vs → Nodes (element_trees vs)
+      → AreRecorded vs → NodesLaid IsPlainRow (element_trees vs)
   tables_laid no_elements o a b r = no_nodes
   tables_laid (element (table x) vs) o a b r =
       let v : (has_bad (table x) ≡ false) × (element_has_bad vs ≡ false) = or_parts _ _ b in
@@ -118,5 +118,5 @@ mutual
   tables_laid (element (scalar l) vs) o a b r = absurd (true≢false o)
   tables_laid (element (array us) vs) o a b r = absurd (true≢false o)
 
-pub table_laid : (es : Entries) → has_bad (table es) ≡ false → AreEntriesRecorded es → Laid [] (entry_trees es)
+pub table_laid : (es : Entries) → has_bad (table es) ≡ false → AreEntriesRecorded es → LaidBy IsPlainRow [] (entry_trees es)
 table_laid es b r = entries_laid es false [] (table_goes es b r)

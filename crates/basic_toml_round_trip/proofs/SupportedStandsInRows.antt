@@ -12,9 +12,11 @@ use Rattle.basic_toml_layout.specs.Layout.{row, form}
 use Rattle.basic_toml_write.specs.Recordable.{IsRecordableScalar}
 use Rattle.basic_toml_write.specs.Shapes.{holds_table, holds_other, holds_absent, holds_array_with_table}
 use Rattle.basic_toml_write.specs.Shapes.{is_bad_array, has_bad, element_has_bad}
+use Rattle.basic_toml_value.specs.Data.{Items}
+use Rattle.basic_toml_layout.proofs.OrderedText.{AllHoldNone}
 use Rattle.basic_toml_layout.specs.Trees.{number_items, scalar_tree, tree_of, element_trees}
 use Rattle.basic_toml_round_trip.proofs.IntegersAreReadBack.{fits}
-use Rattle.basic_toml_round_trip.proofs.LaidOut.{IsInRow, AreInRow}
+use Rattle.basic_toml_round_trip.proofs.LaidOut.{AreInRow, IsPlainRow}
 use Rattle.basic_toml_round_trip.proofs.SpelledIsRecorded.{AreRecorded}
 
 -- an integer that a call can record, and that is not refused, lies in i64
@@ -23,19 +25,23 @@ integer_fits (pos n) b r = grind (arith, nat_tests)
 integer_fits (negsuc n) b (inl f) = lt-ltb n (2 ^ 63) (omega (arith, ints, f))
 integer_fits (negsuc n) b (inr f) = absurd (omega (arith, ints, f.0))
 
+bytes_hold_none : (ns : List ℕ) → AllHoldNone (number_items ns)
+bytes_hold_none [] = tt
+bytes_hold_none (n ∷ ns) = (tt, bytes_hold_none ns)
+
 bytes_in_row : (ns : List ℕ) → All (λ n. n < 256) ns → AreInRow (number_items ns)
 bytes_in_row [] h = tt
 bytes_in_row (n ∷ ns) h =
     let small : n < 256 = All-head (λ n. n < 256) n ns h in
     (lt-ltb n (2 ^ 63) (omega arith), bytes_in_row ns (All-tail (λ n. n < 256) n ns h))
 
-pub scalar_in_row : (l : Scalar) → is_refused l ≡ false → IsRecordableScalar l → IsInRow (scalar_tree l)
-scalar_in_row (w.integer z) b r = integer_fits z b r
-scalar_in_row (w.boolean x) b r = tt
-scalar_in_row (w.float t) b r = r
-scalar_in_row (w.text t) b r = r
-scalar_in_row (w.other_text t) b r = r
-scalar_in_row (w.bytes ns) b r = bytes_in_row ns r
+pub scalar_in_row : (l : Scalar) → is_refused l ≡ false → IsRecordableScalar l → IsPlainRow (scalar_tree l)
+scalar_in_row (w.integer z) b r = record { none = tt; value = integer_fits z b r }
+scalar_in_row (w.boolean x) b r = record { none = tt; value = tt }
+scalar_in_row (w.float t) b r = record { none = tt; value = r }
+scalar_in_row (w.text t) b r = record { none = tt; value = r }
+scalar_in_row (w.other_text t) b r = record { none = tt; value = r }
+scalar_in_row (w.bytes ns) b r = record { none = bytes_hold_none ns; value = bytes_in_row ns r }
 scalar_in_row w.refused b r = absurd (true≢false b)
 
 -- elements of an array that holds no table, nothing absent, and no array with a table
@@ -53,19 +59,27 @@ plain_array es t b =
     let r : (holds_array_with_table es ≡ false) × (holds_absent es ≡ false) = or_parts _ _ q.1 in
     record { tables = t; absents = r.1; arrays = r.0; bad = p.1 }
 
-elements_in_row : (es : Elements) → ArePlain es → AreRecorded es → AreInRow (element_trees es)
-elements_in_row no_elements h r = tt
+record ArePlainRows (xs : Items) : Type 0 where
+  none : AllHoldNone xs
+  value : AreInRow xs
+
+elements_in_row : (es : Elements) → ArePlain es → AreRecorded es → ArePlainRows (element_trees es)
+elements_in_row no_elements h r = record { none = tt; value = tt }
 elements_in_row (element (scalar l) es) h r =
     let b : (is_refused l ≡ false) × (element_has_bad es ≡ false) = or_parts _ _ h.bad in
     let others : ArePlain es = record { tables = h.tables; absents = h.absents; arrays = h.arrays; bad = b.1 } in
-    (scalar_in_row l b.0 r.0, elements_in_row es others r.1)
+    let first = scalar_in_row l b.0 r.0 in
+    let rest = elements_in_row es others r.1 in
+    record { none = (first.none, rest.none); value = (first.value, rest.value) }
 elements_in_row (element absent es) h r = absurd (true≢false h.absents)
 elements_in_row (element (table x) es) h r = absurd (true≢false h.tables)
 elements_in_row (element (array us) es) h r =
     let a : (holds_table us ≡ false) × (holds_array_with_table es ≡ false) = or_parts _ _ h.arrays in
     let b : (has_bad (array us) ≡ false) × (element_has_bad es ≡ false) = or_parts _ _ h.bad in
     let others : ArePlain es = record { tables = h.tables; absents = h.absents; arrays = a.1; bad = b.1 } in
-    (elements_in_row us (plain_array us a.0 b.0) r.0, elements_in_row es others r.1)
+    let first = elements_in_row us (plain_array us a.0 b.0) r.0 in
+    let rest = elements_in_row es others r.1 in
+    record { none = (first.none, rest.none); value = (first.value, rest.value) }
 
 -- an array that does not begin with a table holds none
 and_true : (b : Bool) → (b && true) ≡ false → b ≡ false
@@ -87,5 +101,7 @@ no_table (element (array us) es) f b =
     and_true (holds_table es) p.0
 
 pub array_in_row : (es : Elements) → form (array es) ≡ row → has_bad (array es) ≡ false → AreRecorded es
-    → IsInRow (tree_of (array es))
-array_in_row es f b r = elements_in_row es (plain_array es (no_table es f b) b) r
+    → IsPlainRow (tree_of (array es))
+array_in_row es f b r =
+    let rows = elements_in_row es (plain_array es (no_table es f b) b) r in
+    record { none = rows.none; value = rows.value }

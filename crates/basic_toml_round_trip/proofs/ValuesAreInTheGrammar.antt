@@ -1,21 +1,26 @@
 -- Values of rows, as the layout writes them, are in the grammar.
-use Rattle.std.proofs.Common.{◌≡◌, ℕ, ◌==◌, ◌&&◌, ◌||◌, Bool, true, false, [], ◌∷◌, ◌++◌, codes, refl, sym, subst}
-use Rattle.std.specs.Str.{chars}
+use Rattle.std.proofs.Common.{◌≡◌, ℕ, ◌==◌, ◌&&◌, ◌||◌, not, Bool, true, false, List, [], ◌∷◌, ◌++◌, codes, refl, ap, sym}
+use Rattle.std.proofs.Common.{◌∙◌, subst}
+use Rattle.std.specs.Str.{chars, IsUtf8}
 use Rattle.std.specs.Fmt.{signed_decimal}
 use Rattle.std.proofs.lemmas.Bool.{and_parts, not-true, or_parts}
 use Rattle.std.proofs.lemmas.Str.{encodes-chars}
-use Rattle.basic_toml_tokens.specs.Text.{Text, is_blank, is_comment}
+use Rattle.basic_toml_tokens.specs.Text.{Text, is_blank, is_comment, after_blanks}
 use Rattle.basic_toml_value.specs.Data as d
-use Rattle.basic_toml_value.specs.Data.{Data, Items, no_items, item}
+use Rattle.basic_toml_value.specs.Data.{Data, Items, no_items, item, Members, no_members, member}
+use Rattle.basic_toml_layout.specs.Layout.{row_start}
 use Rattle.basic_toml_layout.specs.Texts.{quoted}
 use Rattle.basic_toml_grammar.specs.Sections as s
-use Rattle.basic_toml_grammar.specs.Sections.{Raw}
+use Rattle.basic_toml_grammar.specs.Sections.{Key, KeyTexts, Raw, Rows, row}
 use Rattle.basic_toml_grammar.specs.Grammar as g
-use Rattle.basic_toml_grammar.specs.Grammar.{is_wordlike, after_gap, IsValue, IsElements}
-use Rattle.basic_toml_round_trip.proofs.LaidOut.{IsInRow, AreInRow}
-use Rattle.basic_toml_round_trip.proofs.SectionsOfTable.{raw_offset, raw, raw_items}
-use Rattle.basic_toml_round_trip.proofs.CharactersInFront.{onto, onto-append, stops}
-use Rattle.basic_toml_round_trip.proofs.CharactersOfLayout.{value_chars, items_chars, more_chars}
+use Rattle.basic_toml_grammar.specs.Grammar.{is_wordlike, after_gap, IsValue, IsElements, IsFields, IsFieldsOn}
+use Rattle.basic_toml_grammar.specs.Grammar.{IsRow, assigned, one}
+use Rattle.basic_toml_round_trip.proofs.LaidOut.{IsInRow, AreInRow, AreFields}
+use Rattle.basic_toml_round_trip.proofs.SectionsOfTable.{raw_offset, raw, raw_items, raw_fields, one_key}
+use Rattle.basic_toml_round_trip.proofs.CharactersInFront.{onto, onto-append, stops, no_blanks}
+use Rattle.basic_toml_round_trip.proofs.CharactersOfLayout.{key_chars, value_chars, items_chars, more_chars}
+use Rattle.basic_toml_round_trip.proofs.CharactersOfLayout.{fields_chars, more_fields_chars}
+use Rattle.basic_toml_round_trip.proofs.KeysAreInTheGrammar.{key_stands, key_front}
 use Rattle.basic_toml_round_trip.proofs.QuotedIsAString.{no_quote, quoted_is_string}
 use Rattle.basic_toml_round_trip.proofs.WordsAreValues.{IsWord, is_gap, word_front, word_stands, float_offset}
 use Rattle.basic_toml_round_trip.proofs.WordsAreValues.{integer_is_word}
@@ -39,7 +44,14 @@ value_front (d.boolean true) rest h = refl
 value_front (d.boolean false) rest h = refl
 value_front (d.string t) rest h = refl
 value_front (d.array xs) rest h = refl
-value_front (d.table ms) rest h = absurd h
+value_front (d.table ms) rest h = refl
+
+-- no blank stands where no gap does
+gapless : (text : Text) → stops is_gap text ≡ true → after_blanks text ≡ text
+gapless [] e = refl
+gapless (x ∷ text) e =
+    let p : ((is_blank x.1 || x.1 == 10) ≡ false) × ((x.1 == 35) ≡ false) = or_parts _ _ (not-true (is_gap x.1) e) in
+    no_blanks (x ∷ text) (ap not (or_parts _ _ p.0).0)
 
 no_gap : (text : Text) → stops is_gap text ≡ true → after_gap is_comment text ≡ text
 no_gap [] e = refl
@@ -70,6 +82,38 @@ past_gap x xs rest h elements =
     (sym (no_gap (onto (value_chars x) (others xs rest)) (value_front x (others xs rest) h)))
     elements)
 
+-- a row, of which the value is in the grammar
+pub row_with : (k : List ℕ) {p : ℕ} {v : Raw} (value mid : Text) → IsUtf8 k → stops is_gap value ≡ true
+    → IsValue is_comment value p v mid
+    → IsRow is_comment (onto (key_chars k) ((0, 32) ∷ (0, 61) ∷ (0, 32) ∷ value)) (one_key k) p v mid
+row_with k {p = p} {v = v} value mid u front stands =
+    assigned (one (key_stands k ((0, 32) ∷ (0, 61) ∷ (0, 32) ∷ value) u refl)) refl
+    (subst (λ t. IsValue is_comment t p v mid) (sym (gapless value front)) stands)
+
+-- the rows of an inline table after one, and its closing brace
+abbrev after_field : Members → Text → Text
+after_field ms rest = onto (more_fields_chars ms) ((0, 125) ∷ rest)
+
+field_end : (ms : Members) (rest : Text) → ends_value (after_field ms rest) ≡ true
+field_end no_members rest = refl
+field_end (member k x ms) rest = refl
+
+-- a row and those after it
+abbrev field_text : List ℕ → Data → Members → Text → Text
+field_text k x ms rest =
+    onto (key_chars k) ((0, 32) ∷ (0, 61) ∷ (0, 32) ∷ onto (value_chars x) (after_field ms rest))
+
+-- also after the opening brace, or after a comma
+past_blank : (k : List ℕ) (x : Data) (ms : Members) {rows : Rows} (rest : Text)
+    → IsFieldsOn is_comment (field_text k x ms rest) rows rest
+    → IsFieldsOn is_comment
+    (after_blanks (onto (row_start (chars k) ++ (value_chars x ++ more_fields_chars ms)) ((0, 125) ∷ rest))) rows rest
+past_blank k x ms {rows = rows} rest fields =
+    let text : onto (row_start (chars k) ++ (value_chars x ++ more_fields_chars ms)) ((0, 125) ∷ rest)
+    ≡ field_text k x ms rest = simp onto-append in
+    subst (λ t. IsFieldsOn is_comment t rows rest)
+    (sym (ap after_blanks text ∙ no_blanks (field_text k x ms rest) (key_front k _))) fields
+
 mutual
   pub value_stands : (x : Data) (rest : Text) → IsInRow x → ends_value rest ≡ true
       → IsValue is_comment (onto (value_chars x) rest) (raw_offset (raw x)) (raw x) rest
@@ -89,7 +133,9 @@ mutual
   value_stands (d.array xs) rest h e =
       subst (λ t. IsValue is_comment ((0, 91) ∷ t) 0 (Raw.array (raw_items xs)) rest)
       (sym (onto-append (items_chars xs) (93 ∷ []) rest)) (g.array refl (items_stand xs rest h))
-  value_stands (d.table ms) rest h e = absurd h
+  value_stands (d.table ms) rest h e =
+      subst (λ t. IsValue is_comment ((0, 123) ∷ t) 0 (Raw.inline (raw_fields ms)) rest)
+      (sym (onto-append (fields_chars ms) (125 ∷ []) rest)) (g.inline refl (fields_stand ms [] rest h))
 
   -- after the opening bracket
   items_stand : (xs : Items) (rest : Text) → AreInRow xs
@@ -105,3 +151,28 @@ mutual
   others_stand (item x xs) rest h v =
       g.and_more v refl
       (past_gap x xs rest h.0 (others_stand xs rest h.1 (value_stands x (others xs rest) h.0 (others_end xs rest))))
+
+  -- after the opening brace
+  fields_stand : (ms : Members) (seen : KeyTexts) (rest : Text) → AreFields seen ms
+      → IsFields is_comment (after_blanks (onto (fields_chars ms) ((0, 125) ∷ rest))) (raw_fields ms) rest
+  fields_stand no_members seen rest h = g.none refl
+  fields_stand (member k x ms) seen rest h =
+      g.some
+      (past_blank k x ms rest
+      (fields_go_on ms (k ∷ seen) rest h.1.1
+      (row_with k (onto (value_chars x) (after_field ms rest)) (after_field ms rest) h.0.1
+      (value_front x (after_field ms rest) h.1.0)
+      (value_stands x (after_field ms rest) h.1.0 (field_end ms rest)))))
+
+  -- from a row on
+  fields_go_on : (ms : Members) (seen : KeyTexts) {text : Text} {keys : List Key} {p : ℕ} {v : Raw} (rest : Text)
+      → AreFields seen ms → IsRow is_comment text keys p v (after_field ms rest)
+      → IsFieldsOn is_comment text (row keys p v (raw_fields ms)) rest
+  fields_go_on no_members seen rest h r = g.last_row r refl
+  fields_go_on (member k x ms) seen rest h r =
+      g.more_rows r refl
+      (past_blank k x ms rest
+      (fields_go_on ms (k ∷ seen) rest h.1.1
+      (row_with k (onto (value_chars x) (after_field ms rest)) (after_field ms rest) h.0.1
+      (value_front x (after_field ms rest) h.1.0)
+      (value_stands x (after_field ms rest) h.1.0 (field_end ms rest)))))

@@ -17,6 +17,7 @@ pub mod DataIsSentByParts
 pub mod TablesFit
 pub mod DataIsRecordable
 pub mod FittingDataIsTaken
+pub mod FittingDataIsOrdered
 pub mod TableIsLaidOut
 pub mod SpelledListIsInOrder
 pub mod TextIsLayout

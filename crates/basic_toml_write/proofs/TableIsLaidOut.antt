@@ -7,7 +7,7 @@ use Rattle.std.proofs.lemmas.List.Elements.{All-append}
 use Rattle.basic_toml_value.specs.Data.{Members, table}
 use Rattle.basic_toml_value.specs.Nesting.{nesting_limit}
 use Rattle.basic_toml_emit.specs.Items.{Item}
-use Rattle.basic_toml_layout.specs.Layout.{layout}
+use Rattle.basic_toml_layout.specs.Document.{document_text}
 use Rattle.basic_toml_emit.specs.Open.{state, fresh}
 use Rattle.basic_toml_emit.specs.Calls.{run, on_ok}
 use Rattle.basic_toml_emit.specs.Emitter.{state_of}
@@ -16,11 +16,11 @@ use Rattle.basic_toml_write.specs.declared.error.WriteError.TheVariants.{OutOfMe
 use Rattle.basic_toml_write.specs.Again.{IsSame, IsAgain}
 use Rattle.basic_toml_write.specs.Impls.{data_calls, members_calls}
 use Rattle.basic_toml_write.specs.Recordable.{IsRecordable, AreRecordable}
-use Rattle.basic_toml_layout.specs.Trees.{written_of}
 use Rattle.basic_toml_write.specs.DataFits.{table_fits}
 use Rattle.basic_toml_write.specs.Serializer.{ran, NoFault, Sends, Refused}
 use Rattle.basic_toml_write.specs.declared.serializer.Serializer.{Serializer}
 use Rattle.basic_toml_write.proofs.DataIsRecordable.{recordable_table}
+use Rattle.basic_toml_write.proofs.FittingDataIsOrdered.{fitting_text}
 use Rattle.basic_toml_write.proofs.FittingDataIsTaken.{whole_taken}
 use Rattle.basic_toml_write.proofs.KeptErrorIsAnswered.{refuses_again}
 use Rattle.basic_toml_write.proofs.ListsAreSentInTurn.{run-append, GoesAt}
@@ -38,7 +38,7 @@ module _ (ms : Members) (old new : Serializer) (none : old.error ≡ None) where
 
   -- the text stands
   pub sends_laid : new.error ≡ None → state_of old.emitter ≡ fresh
-      → state_of new.emitter ≡ state (layout (written_of (table ms))) [] true → table_fits 0 ms ≡ true
+      → state_of new.emitter ≡ state (document_text ms) [] true → table_fits 0 ms ≡ true
       → AreRecordable (members_calls ms) → Sends calls NoFault old new (Ok tt)
   sends_laid still at now fits can = record {
     goes = λ before h. subst (GoesAt before calls NoFault new (Ok tt)) (sym still) (record {
@@ -46,7 +46,8 @@ module _ (ms : Members) (old new : Serializer) (none : old.error ≡ None) where
       recordable = All-append IsRecordable before calls h.recordable (recordable_table (table ms) ms refl can);
       taken = run-append nesting_limit fresh before calls
           ∙ (ap (on_ok (λ t. run nesting_limit t calls)) h.taken
-          ∙ (ap (λ s. run nesting_limit s calls) at ∙ (whole_taken ms fits ∙ ap (λ s. Ok s) (sym now))));
+          ∙ (ap (λ s. run nesting_limit s calls) at ∙ (whole_taken ms fits
+          ∙ ap (λ s. Ok s) (ap (λ text. state text [] true) (sym (fitting_text ms fits)) ∙ sym now))));
     });
     stays = λ e k. absurd (not_both e old.error k none);
   }

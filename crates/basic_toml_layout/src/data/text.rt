@@ -1,80 +1,67 @@
-//! The text of a table of data: its rows and sections in order.
+//! The text of a table of data: its rows, and then its sections.
 //!
 //! The keys to a table stand in `path` as they are written, joined by periods; each section cuts it back to what it
 //! was.
-ghost use Rattle.std.specs.Prelude.{◌≡◌, ℕ, List, [], ◌∷◌, ◌++◌, true, false, cond, IfOk, string_bytes};
-ghost use Rattle.basic_toml_tokens.specs.Ascii as ascii;
+ghost use Rattle.std.specs.Prelude.{◌≡◌, ℕ, List, [], ◌∷◌, ◌++◌, true, cond, IfOk, string_bytes};
+ghost use Rattle.basic_toml_value.specs.Data.{table as table_data};
 ghost use Rattle.basic_toml_value.specs.Text.{text_bytes};
 ghost use Rattle.basic_toml_value.specs.Entries.{seen};
 ghost use Rattle.basic_toml_value.specs.View.{view, entries, items_view};
-ghost use Rattle.basic_toml_layout.specs.Layout.{written, written_elements, row_start, table_header, element_header, is_header_due, entry_text, array_text, entries_text};
+ghost use Rattle.basic_toml_layout.specs.Layout.{table_header, element_header};
 ghost use Rattle.basic_toml_layout.specs.Texts.{joined};
-ghost use Rattle.basic_toml_layout.specs.Trees.{written_of, elements_of, entries_of};
-ghost use Rattle.basic_toml_layout.specs.DataText.{section_text, element_text, elements_text, part_text, Extends, GoesOn};
+ghost use Rattle.basic_toml_layout.specs.Document as d;
+ghost use Rattle.basic_toml_layout.specs.Parts.{Extends, GoesOn};
 
-use super::sections::{begins_with_table, is_section};
-use crate::scalar::Scalar;
+use super::inline::write_inline;
+use super::sections::is_row;
 use crate::text::write_key;
 use basic_toml_value::{Pair, Table, Value};
 use std::alloc::AllocError;
 
-// A value within a row; of a table, nothing.
-#[cycle(rows)]
-#[inline(always)]
-fn write_value(text: &mut String, value: &Value) -> Result<(), AllocError>
+/// Appends the rows of a table.
+pub fn write_rows(text: &mut String, pairs: &[Pair<Value>]) -> Result<(), AllocError>
     ensures { IfOk result (λ _. string_bytes text.new ≡ string_bytes text.old
-        ++ written (written_of (view value.now))) }
+        ++ d.rows_text (entries (seen pairs.now))) }
 {
-    match value {
-        Value::Integer(n) => Scalar::Signed(*n).write(text),
-        Value::Float(float) => Scalar::Float(float.as_str()).write(text),
-        Value::Boolean(truth) => Scalar::Boolean(*truth).write(text),
-        Value::String(value) => Scalar::Text(value.as_str()).write(text),
-        Value::Array(values) => {
-            text.push('[')?;
-            write_elements(text, values.as_slice())?;
-            text.push(']')
-        }
-        Value::Table(_) => Ok(()),
-    }
-}
-
-#[cycle(rows)]
-fn write_elements(text: &mut String, values: &[Value]) -> Result<(), AllocError>
-    ensures { IfOk result (λ _. string_bytes text.new ≡ string_bytes text.old
-        ++ written_elements (elements_of (items_view values.now))) }
-{
-    for i in 0..values.len() {
-        if i > 0 {
-            text.push_str(", ")?;
-        }
-        write_value(text, &values[i])?;
+    for i in 0..pairs.len() {
+        write_row(text, &pairs[i])?;
     }
     Ok(())
 }
 
-fn write_row(text: &mut String, key: &str, value: &Value) -> Result<(), AllocError>
-    ensures { IfOk result (λ _. string_bytes text.new ≡ string_bytes text.old
-        ++ (row_start key.now ++ (written (written_of (view value.now)) ++ (ascii.line_feed ∷ [])))) }
+// An entry, if it is a row.
+#[inline(always)]
+fn write_row(text: &mut String, pair: &Pair<Value>) -> Result<(), AllocError>
+    ensures { let value = view pair.now.value in
+        IfOk result (λ _. string_bytes text.new ≡ string_bytes text.old
+        ++ cond (d.is_row value) (d.row_text (text_bytes pair.now.key) value) []) }
 {
-    write_key(text, key)?;
+    if !is_row(&pair.value) {
+        return Ok(());
+    }
+    write_key(text, pair.key.as_str())?;
     text.push_str(" = ")?;
-    write_value(text, value)?;
+    write_inline(text, &pair.value)?;
     text.push('\n')
 }
 
-// Whether the header of a table is written: it has no entry, or a row comes first.
-fn is_header_due(pairs: &[Pair<Value>]) -> bool
-    ensures { result ≡ is_header_due (entries_of (entries (seen pairs.now))) }
+/// Whether an entry of a table is a row.
+pub fn has_row(pairs: &[Pair<Value>]) -> bool
+    ensures { result ≡ d.has_row (entries (seen pairs.now)) }
 {
-    match pairs.first() {
-        None => true,
-        Some(pair) => match &pair.value {
-            Value::Table(_) => false,
-            Value::Array(values) => !begins_with_table(values.as_slice()),
-            _ => true,
-        },
+    for i in 0..pairs.len() {
+        if is_row(&pairs[i].value) {
+            return true;
+        }
     }
+    false
+}
+
+// Whether the header of a table is written: it has no entry, or a row.
+fn is_header_due(pairs: &[Pair<Value>]) -> bool
+    ensures { result ≡ d.is_header_due (entries (seen pairs.now)) }
+{
+    pairs.is_empty() || has_row(pairs)
 }
 
 // A header between brackets.
@@ -112,93 +99,97 @@ fn add_key(path: &mut String, key: &str) -> Result<(), AllocError>
     write_key(path, key)
 }
 
-// The rows and sections of a table that these keys lead to.
-#[cycle(tables)]
-pub fn write_entries(
+/// Appends the sections of a table that the keys of `path` lead to.
+#[cycle(sections)]
+pub fn write_sections(
     text: &mut String,
     path: &mut String,
+    is_later: bool,
     pairs: &[Pair<Value>],
 ) -> Result<(), AllocError>
     ensures text { GoesOn (string_bytes path.old) (string_bytes text.old) (string_bytes text.new)
-        (λ keys. entries_text keys false (entries_of (entries (seen pairs.now)))) result }
+        (λ keys. d.sections_text keys is_later (entries (seen pairs.now))) result }
     ensures path { IfOk result (λ _. string_bytes path.new ≡ string_bytes path.old) }
 {
-    let mut is_later = false;
+    let mut is_after = is_later;
     for i in 0..pairs.len() {
-        write_entry(text, path, is_later, &pairs[i])?;
-        is_later = true;
+        is_after = write_entry(text, path, is_after, &pairs[i])?;
     }
     Ok(())
 }
 
-#[cycle(tables)]
+// An entry, if it is a section; whether the next entry is a later one then.
+#[cycle(sections)]
 fn write_entry(
     text: &mut String,
     path: &mut String,
     is_later: bool,
     pair: &Pair<Value>,
-) -> Result<(), AllocError>
-    ensures text { GoesOn (string_bytes path.old) (string_bytes text.old) (string_bytes text.new)
-        (λ keys. entry_text keys (text_bytes pair.now.key) is_later (written_of (view pair.now.value))) result }
+) -> Result<bool, AllocError>
+    ensures text { let value = view pair.now.value in
+        GoesOn (string_bytes path.old) (string_bytes text.old) (string_bytes text.new)
+        (λ keys. cond (d.is_row value) [] (d.section_text (text_bytes pair.now.key ∷ keys) is_later value)) result }
+    ensures later { IfOk result (λ later. later ≡ cond (d.is_row (view pair.now.value)) is_later true) }
     ensures path { IfOk result (λ _. string_bytes path.new ≡ string_bytes path.old) }
 {
-    if !is_section(&pair.value) {
-        return write_row(text, pair.key.as_str(), &pair.value);
+    if is_row(&pair.value) {
+        return Ok(is_later);
     }
     let len = path.len();
     add_key(path, pair.key.as_str())?;
-    write_part(text, path, is_later, &pair.value)?;
+    write_section(text, path, is_later, &pair.value)?;
     path.truncate(len);
-    Ok(())
+    Ok(true)
 }
 
-// An entry that is no row, at the keys that lead to it.
-#[cycle(tables)]
-fn write_part(
+// A section, at the keys that lead to it.
+#[cycle(sections)]
+fn write_section(
     text: &mut String,
     path: &mut String,
     is_later: bool,
     value: &Value,
 ) -> Result<(), AllocError>
     ensures text { GoesOn (string_bytes path.old) (string_bytes text.old) (string_bytes text.new)
-        (λ keys. part_text keys is_later (written_of (view value.now))) result }
+        (λ keys. d.section_text keys is_later (view value.now)) result }
     ensures path { IfOk result (λ _. string_bytes path.new ≡ string_bytes path.old) }
 {
     match value {
-        Value::Table(table) => write_section(text, path, is_later, table),
-        Value::Array(values) => write_sections(text, path, is_later, values.as_slice()),
+        Value::Table(table) => write_table(text, path, is_later, table),
+        Value::Array(values) => write_elements(text, path, is_later, values.as_slice()),
         _ => Ok(()),
     }
 }
 
-#[cycle(tables)]
-fn write_section(
+#[cycle(sections)]
+fn write_table(
     text: &mut String,
     path: &mut String,
     is_later: bool,
     table: &Table,
 ) -> Result<(), AllocError>
     ensures text { GoesOn (string_bytes path.old) (string_bytes text.old) (string_bytes text.new)
-        (λ keys. section_text keys is_later (entries_of (entries table.now))) result }
+        (λ keys. d.section_text keys is_later (table_data (entries table.now))) result }
     ensures path { IfOk result (λ _. string_bytes path.new ≡ string_bytes path.old) }
 {
     let pairs = table.entries();
     if is_header_due(pairs) {
         write_header(text, path.as_str(), is_later)?;
     }
-    write_entries(text, path, pairs)
+    write_rows(text, pairs)?;
+    write_sections(text, path, has_row(pairs), pairs)
 }
 
 // The elements of an array of tables.
-#[cycle(tables)]
-fn write_sections(
+#[cycle(sections)]
+fn write_elements(
     text: &mut String,
     path: &mut String,
     is_later: bool,
     values: &[Value],
 ) -> Result<(), AllocError>
     ensures text { GoesOn (string_bytes path.old) (string_bytes text.old) (string_bytes text.new)
-        (λ keys. elements_text keys is_later (elements_of (items_view values.now))) result }
+        (λ keys. d.elements_text keys is_later (items_view values.now)) result }
     ensures path { IfOk result (λ _. string_bytes path.new ≡ string_bytes path.old) }
 {
     let mut is_after = is_later;
@@ -209,7 +200,7 @@ fn write_sections(
     Ok(())
 }
 
-#[cycle(tables)]
+#[cycle(sections)]
 fn write_element(
     text: &mut String,
     path: &mut String,
@@ -217,13 +208,15 @@ fn write_element(
     value: &Value,
 ) -> Result<(), AllocError>
     ensures text { GoesOn (string_bytes path.old) (string_bytes text.old) (string_bytes text.new)
-        (λ keys. element_text keys is_later (written_of (view value.now))) result }
+        (λ keys. d.element_text keys is_later (view value.now)) result }
     ensures path { IfOk result (λ _. string_bytes path.new ≡ string_bytes path.old) }
 {
     match value {
         Value::Table(table) => {
+            let pairs = table.entries();
             write_element_header(text, path.as_str(), is_later)?;
-            write_entries(text, path, table.entries())
+            write_rows(text, pairs)?;
+            write_sections(text, path, has_row(pairs), pairs)
         }
         _ => Ok(()),
     }

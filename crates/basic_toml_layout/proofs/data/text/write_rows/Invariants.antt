@@ -1,0 +1,11 @@
+use Rattle.std.proofs.Common.{◌≡◌, ◌++◌, drop, string_bytes}
+use Rattle.basic_toml_value.specs.Entries.{seen}
+use Rattle.basic_toml_value.specs.View.{entries}
+use Rattle.basic_toml_layout.specs.Document.{rows_text}
+use Rattle.basic_toml_layout.proofs.data.text.write_rows.Given as goal
+
+-- with what is left, the text is whole
+abbrev pub invariant-loop-i : goal.invariant-loop-i
+invariant-loop-i l =
+    string_bytes l.text ++ rows_text (entries (seen (drop l.i l.pairs)))
+    ≡ string_bytes l.initial.text ++ rows_text (entries (seen l.pairs))
