@@ -4,6 +4,7 @@ use Rattle.std.proofs.Common.{subst, arith}
 use Rattle.std.specs.Prelude.{nat_le, nat_lt, if◌then◌else◌}
 use Rattle.std.proofs.lemmas.Bool.{or_parts, or_from, true≢false, leb-true}
 use Rattle.basic_toml_tokens.specs.Text.{Text, folded, is_comment}
+use Rattle.basic_toml_value.specs.Data as d
 use Rattle.basic_toml_value.specs.Data.{Data}
 use Rattle.basic_toml_layout.specs.Written.{Written, scalar, absent, array, table}
 use Rattle.basic_toml_layout.specs.Layout.{layout}
@@ -26,11 +27,15 @@ use Rattle.basic_toml_grammar.proofs.SameMeaning.RespelledMeanTheSame.{byte_orde
 use Rattle.basic_toml_round_trip.specs.Statements.{WrittenIsReadBack, WrittenLevelsFit, WrittenIsReadWithReturns}
 use Rattle.basic_toml_round_trip.specs.Statements.{WrittenIsReadWithByteOrderMark, KeptHasTheLayout}
 use Rattle.basic_toml_round_trip.specs.Statements.{ReadIsWrittenAgain, TreeIsReadBack}
+use Rattle.basic_toml_round_trip.specs.Statements.{DocumentIsReadBack, OrderHasSameMaps, OrderHasSameText}
 use Rattle.basic_toml_round_trip.proofs.SpelledIsRecorded.{IsRecorded, spelled_recorded}
 use Rattle.basic_toml_round_trip.proofs.SupportedIsLaidOut.{table_laid}
 use Rattle.basic_toml_round_trip.proofs.LaidOutIsSupported.{laid_supported}
 use Rattle.basic_toml_round_trip.proofs.KeptHasTheTree.{tree-kept}
-use Rattle.basic_toml_round_trip.proofs.WrittenIsReadBack.{kept_layout, written_text}
+use Rattle.basic_toml_round_trip.proofs.WrittenIsReadBack.{kept_layout, written_text, laid_text}
+use Rattle.basic_toml_round_trip.proofs.ValidIsLaidOut.{valid_laid, order_deep}
+use Rattle.basic_toml_layout.specs.TextOrder.{text_order}
+use Rattle.basic_toml_layout.proofs.TextOrderIsKept.{same_maps, same_document}
 
 pub read_back : WrittenIsReadBack
 read_back items w s r u = (written_text w (spelled_recorded s r) u).document
@@ -101,3 +106,15 @@ pub tree_read_back : TreeIsReadBack
 tree_read_back tree r u =
     subst (λ x. IsDocument (folded (layout (written_of tree))) x) (tree-kept (written_of tree) ∙ tree-written tree)
     (read_back (data_calls tree) (written_of tree) (spells_tree tree) r u)
+
+pub document_read_back : DocumentIsReadBack
+document_read_back ms valid deep =
+    let fits : depth (d.table (text_order ms)) ≤ nesting_limit = omega (arith, order_deep ms, deep) in
+    subst (λ bytes. IsDocument (folded bytes) (d.table (text_order ms))) (same_document ms)
+    (laid_text (valid_laid ms valid) fits).document
+
+pub same_order_maps : OrderHasSameMaps
+same_order_maps ms = same_maps ms
+
+pub same_order_text : OrderHasSameText
+same_order_text ms = same_document ms

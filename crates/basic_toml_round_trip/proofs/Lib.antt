@@ -35,5 +35,6 @@ pub mod SectionsStandAtTheirPlaces
 pub mod SectionsMeanTheTree
 -- So it is read back
 pub mod WrittenIsReadBack
+pub mod ValidIsLaidOut
 pub mod LawsHold
 pub mod WorkedRoundTrip

@@ -1,7 +1,8 @@
 -- Laws that join writing and reading. Each is proved as the contract of a function in `laws`.
 use Rattle.std.specs.Prelude.{◌≡◌, ◌≤◌, false, List, Ok}
 use Rattle.basic_toml_tokens.specs.Text.{folded}
-use Rattle.basic_toml_value.specs.Data.{Data}
+use Rattle.basic_toml_value.specs.Data.{Data, Members, table}
+use Rattle.basic_toml_value.specs.SameMaps.{SameMaps}
 use Rattle.basic_toml_grammar.specs.Sections.{Section}
 use Rattle.basic_toml_grammar.specs.Grammar.{IsSectionList}
 use Rattle.basic_toml_grammar.specs.Levels.{highest_level}
@@ -11,6 +12,10 @@ use Rattle.basic_toml_grammar.specs.Respelled.{with_returns, with_byte_order_mar
 use Rattle.basic_toml_layout.specs.Written.{Written}
 use Rattle.basic_toml_emit.specs.Items.{Item}
 use Rattle.basic_toml_layout.specs.Layout.{layout}
+use Rattle.basic_toml_layout.specs.Document.{document_text}
+use Rattle.basic_toml_layout.specs.TextOrder.{text_order}
+use Rattle.basic_toml_layout.specs.Valid.{IsValid}
+use Rattle.basic_toml_grammar.specs.Depth.{depth}
 use Rattle.basic_toml_emit.specs.Calls.{outcome}
 use Rattle.basic_toml_write.specs.Spelling.{Spells}
 use Rattle.basic_toml_write.specs.Recordable.{AreRecordable}
@@ -59,3 +64,16 @@ abbrev pub TreeIsReadBack : Type 0
 TreeIsReadBack =
     (tree : Data) → AreRecordable (data_calls tree) → is_unsupported nesting_limit (written_of tree) ≡ false
     → IsDocument (folded (layout (written_of tree))) tree
+
+-- The text of any table that a value can hold, within the limit, means it, the rows of each table before its sections.
+-- Its keys lead to the same values; and what is read has the same text.
+abbrev pub DocumentIsReadBack : Type 0
+DocumentIsReadBack =
+    (ms : Members) → IsValid (table ms) → depth (table ms) ≤ nesting_limit
+    → IsDocument (folded (document_text ms)) (table (text_order ms))
+
+abbrev pub OrderHasSameMaps : Type 0
+OrderHasSameMaps = (ms : Members) → SameMaps (table ms) (table (text_order ms))
+
+abbrev pub OrderHasSameText : Type 0
+OrderHasSameText = (ms : Members) → document_text (text_order ms) ≡ document_text ms

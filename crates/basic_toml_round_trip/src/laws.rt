@@ -1,6 +1,7 @@
 //! Laws that join writing and reading, each as the contract of a function that does nothing.
 
 ghost use Rattle.basic_toml_round_trip.specs.Statements.{WrittenIsReadBack, WrittenLevelsFit, WrittenIsReadWithReturns, WrittenIsReadWithByteOrderMark, KeptHasTheLayout, ReadIsWrittenAgain, TreeIsReadBack};
+ghost use Rattle.basic_toml_round_trip.specs.Statements.{DocumentIsReadBack, OrderHasSameMaps, OrderHasSameText};
 
 /// The text of a value means what is kept of it: absent options are left out, and keys stand in order.
 #[tactic(auto, using(crate::proofs::LawsHold::read_back))]
@@ -42,4 +43,22 @@ pub fn read_is_written_again()
 #[tactic(auto, using(crate::proofs::LawsHold::tree_read_back))]
 pub fn tree_is_read_back()
     ensures { TreeIsReadBack }
+{}
+
+/// The text of any table means the table, the rows of each table in it before its sections.
+#[tactic(auto, using(crate::proofs::LawsHold::document_read_back))]
+pub fn document_is_read_back()
+    ensures { DocumentIsReadBack }
+{}
+
+/// That order keeps every key with its value.
+#[tactic(auto, using(crate::proofs::LawsHold::same_order_maps))]
+pub fn order_has_same_maps()
+    ensures { OrderHasSameMaps }
+{}
+
+/// And it keeps the text: what is read back is written as it was.
+#[tactic(auto, using(crate::proofs::LawsHold::same_order_text))]
+pub fn order_has_same_text()
+    ensures { OrderHasSameText }
 {}
