@@ -1,5 +1,6 @@
 pub mod Reading
 pub mod Ser
+pub mod Document
 pub mod ReadBack
 pub mod OneAnswer
 pub mod Memory
@@ -21,6 +22,8 @@ pub use Rattle.basic_toml_emit.specs.Calls
 pub use Rattle.basic_toml_emit.specs.Depth
 pub use Rattle.basic_toml_emit.specs.Items
 pub use Rattle.basic_toml_layout.specs.Layout
+pub use Rattle.basic_toml_layout.specs.Document as DocumentText
+pub use Rattle.basic_toml_layout.specs.TextOrder
 pub use Rattle.basic_toml_emit.specs.Rules
 pub use Rattle.basic_toml_layout.specs.Written
 pub use Rattle.basic_toml_write.specs.Kept

@@ -68,9 +68,13 @@ mutual
       → AreFields seen ms
   valid_fields no_members seen e h n = tt
   valid_fields (member k x ms) seen e h n =
-      let p = first_apart k ms e in
-      ((n.0, h.0), (valid_in_row x h.1.0,
-      valid_fields ms (k ∷ seen) p.others h.1.1 (one_more k seen ms p.apart n.1)))
+      let p = first_apart k ms e in (
+        (n.0, h.0),
+        (
+          valid_in_row x h.1.0,
+          valid_fields ms (k ∷ seen) p.others h.1.1 (one_more k seen ms p.apart n.1),
+        ),
+      )
 
 -- the keys that stand before the sections
 abbrev rows_seen : KeyTexts → Members → KeyTexts

@@ -1,0 +1,33 @@
+-- The text of any table means it.
+use Rattle.std.proofs.Common.{◌≡◌, ◌⊎◌, ℕ, ◌≤◌, ◌<◌, true, false, List, inr, sym, ◌∙◌, subst}
+use Rattle.std.specs.Prelude.{nat_le}
+use Rattle.std.proofs.lemmas.Bool.{leb-true, leb-false}
+use Rattle.basic_toml_tokens.specs.Text.{folded}
+use Rattle.basic_toml_value.specs.Data.{Data, Members, table}
+use Rattle.basic_toml_value.specs.Nesting.{nesting_limit}
+use Rattle.basic_toml_grammar.specs.Depth.{depth}
+use Rattle.basic_toml_grammar.specs.Document.{IsDocument}
+use Rattle.basic_toml_layout.specs.Document.{document_text}
+use Rattle.basic_toml_layout.specs.TextOrder.{text_order}
+use Rattle.basic_toml_layout.specs.Valid.{IsValid}
+use Rattle.basic_toml_round_trip.proofs.LawsHold.{document_read_back, same_order_maps, same_order_text}
+use Rattle.basic_toml_error.specs.Fault.{Fault, without_offset, nested_too_deeply, want_of_memory}
+use Rattle.basic_toml.specs.Document.{IsDocumentOf, IsTooDeep}
+
+pub written : (ms : Members) (text : List ℕ) → IsValid (table ms) → nat_le (depth (table ms)) nesting_limit ≡ true
+    → text ≡ document_text ms → (depth (table ms) ≤ nesting_limit) × IsDocumentOf ms text
+written ms text valid within is =
+    let deep : depth (table ms) ≤ nesting_limit = leb-true (depth (table ms)) nesting_limit within in (
+      deep,
+      record {
+        laid_out = is;
+        means = subst (λ bytes. IsDocument (folded bytes) (table (text_order ms))) (sym is)
+            (document_read_back ms valid deep);
+        same_maps = same_order_maps ms;
+        same_text = same_order_text ms ∙ sym is;
+      },
+    )
+
+pub too_deep : (x : Data) (fault : Fault) → nat_le (depth x) nesting_limit ≡ false
+    → fault ≡ without_offset nested_too_deeply → (fault ≡ want_of_memory) ⊎ IsTooDeep x fault
+too_deep x fault above is = inr (record { deep = leb-false (depth x) nesting_limit above; is = is })

@@ -1,0 +1,36 @@
+-- How writing any table, or any value, ends. (own)
+use Rattle.std.specs.Prelude.{◌≡◌, ◌⊎◌, ◌≤◌, ◌<◌, ℕ, List, Result, Ok, Err, string_bytes, String}
+use Rattle.std.specs.declared.alloc.Global.{Global}
+use Rattle.basic_toml_tokens.specs.Text.{folded}
+use Rattle.basic_toml_value.specs.Data.{Data, table, Members}
+use Rattle.basic_toml_value.specs.Nesting.{nesting_limit}
+use Rattle.basic_toml_value.specs.SameMaps.{SameMaps}
+use Rattle.basic_toml_grammar.specs.Depth.{depth}
+use Rattle.basic_toml_grammar.specs.Document.{IsDocument}
+use Rattle.basic_toml_layout.specs.Document.{document_text, inline}
+use Rattle.basic_toml_layout.specs.TextOrder.{text_order}
+use Rattle.basic_toml_error.specs.Fault.{Fault, without_offset, want_of_memory, nested_too_deeply}
+
+-- The text of the table. It means the table with the rows of each table before its sections, which has the same text;
+-- keys and values are the same.
+pub record IsDocumentOf (members : Members) (text : List ℕ) : Type 0 where
+  pub laid_out : text ≡ document_text members
+  pub means : IsDocument (folded text) (table (text_order members))
+  pub same_maps : SameMaps (table members) (table (text_order members))
+  pub same_text : document_text (text_order members) ≡ text
+
+-- it is nested above the limit
+pub record IsTooDeep (x : Data) (fault : Fault) : Type 0 where
+  pub deep : nesting_limit < depth x
+  pub is : fault ≡ without_offset nested_too_deeply
+
+-- the text of a table within the limit; else, and only then, that it is nested too deeply; or want of memory
+abbrev pub WritesTable : Members → Result (String Global) Fault → Type 0
+WritesTable members (Ok text) =
+    (depth (table members) ≤ nesting_limit) × IsDocumentOf members (string_bytes text)
+WritesTable members (Err fault) = (fault ≡ want_of_memory) ⊎ IsTooDeep (table members) fault
+
+-- the same of a value, as it stands in a row
+abbrev pub WritesValue : Data → Result (String Global) Fault → Type 0
+WritesValue x (Ok text) = (depth x ≤ nesting_limit) × (string_bytes text ≡ inline x)
+WritesValue x (Err fault) = (fault ≡ want_of_memory) ⊎ IsTooDeep x fault

@@ -1,0 +1,61 @@
+//! Writing any table, and any value.
+ghost use Rattle.basic_toml_value.specs.View.{view, entries};
+ghost use Rattle.basic_toml.specs.Document.{WritesTable, WritesValue};
+
+use crate::Error;
+use crate::nesting::{table_nests_within, value_nests_within};
+use basic_toml_layout::{document_text, inline_text};
+use basic_toml_value::{NESTING_LIMIT, Table, Value};
+use basic_toml_write::WriteError;
+use std::alloc::Global;
+
+/// The TOML text of any table, which reads back as the same data.
+///
+/// In each table the rows `key = value` come first, and then the sections, each in their order: a table has its header,
+/// and an array of tables alone one for each element. What no header can say stands within a row, tables in it as inline
+/// tables: `steps = ["build", { run = "test" }]`. So every table that was read can be written, whatever its order; one
+/// that [`to_string`](crate::to_string) writes with its rows first has the same text here. (TOML v0.5.0, "Table",
+/// "Inline Table" and "Array of Tables")
+///
+/// ```text
+/// let table: Table = from_str(alloc, "size = { width = 2 }\nname = \"box\"\nsteps = [1, { b = 2 }]\n")?;
+/// let text = table_to_string(alloc, &table)?; // name = "box", steps = [1, { b = 2 }], and [size] with width = 2
+/// ```
+///
+/// This is from `toml_vectors`.
+///
+/// # Errors
+///
+/// `nested too deeply` where the table is nested more than [`NESTING_LIMIT`] deep, as none is that was read; and `out of
+/// memory` where a growth was refused.
+#[tactic(auto, using(crate::proofs::DocumentOf::written, crate::proofs::DocumentOf::too_deep))]
+pub fn table_to_string(alloc: Global, table: &Table) -> Result<String, Error>
+    ensures { WritesTable (entries table.now) result }
+{
+    if !table_nests_within(table, NESTING_LIMIT) {
+        return Err(Error::from(WriteError::NestedTooDeeply));
+    }
+    Ok(document_text(alloc, table)?)
+}
+
+/// The text of any value as it stands in a row, on one line: `[1, { a = 2 }]`. A message shows a value so, and a program
+/// that prints a part of a document. (TOML v0.5.0, "Key/Value Pair")
+///
+/// ```text
+/// let text = value_to_string(alloc, steps)?; // ["build", { run = "test" }]
+/// ```
+///
+/// This is from `toml_vectors`.
+///
+/// # Errors
+///
+/// `nested too deeply` where the value is nested more than [`NESTING_LIMIT`] deep, and `out of memory`.
+#[tactic(auto, using(crate::proofs::DocumentOf::too_deep, std::proofs::lemmas::Bool::leb_true))]
+pub fn value_to_string(alloc: Global, value: &Value) -> Result<String, Error>
+    ensures { WritesValue (view value.now) result }
+{
+    if !value_nests_within(value, NESTING_LIMIT) {
+        return Err(Error::from(WriteError::NestedTooDeeply));
+    }
+    Ok(inline_text(alloc, value)?)
+}
