@@ -11,6 +11,7 @@ use Rattle.basic_toml_layout.specs.Document.{document_text}
 use Rattle.basic_toml_layout.specs.TextOrder.{text_order}
 use Rattle.basic_toml_layout.specs.Valid.{IsValid}
 use Rattle.basic_toml_round_trip.proofs.LawsHold.{document_read_back, same_order_maps, same_order_text}
+use Rattle.basic_toml_order.proofs.LawsHold.{writable_has_the_layout}
 use Rattle.basic_toml_error.specs.Fault.{Fault, without_offset, nested_too_deeply, want_of_memory}
 use Rattle.basic_toml.specs.TableText.{IsDocumentOf, IsTooDeep}
 
@@ -25,6 +26,7 @@ written ms text valid within is =
             (document_read_back ms valid deep);
         same_maps = same_order_maps ms;
         same_text = same_order_text ms ∙ sym is;
+        same_layout = λ fine. is ∙ writable_has_the_layout ms fine;
       },
     )
 

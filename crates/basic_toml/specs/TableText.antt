@@ -1,5 +1,5 @@
 -- How writing any table, or any value, ends. (own)
-use Rattle.std.specs.Prelude.{◌≡◌, ◌⊎◌, ◌≤◌, ◌<◌, ℕ, List, Result, Ok, Err, string_bytes, String}
+use Rattle.std.specs.Prelude.{◌≡◌, ◌⊎◌, ◌≤◌, ◌<◌, false, ℕ, List, Result, Ok, Err, string_bytes, String}
 use Rattle.std.specs.declared.alloc.Global.{Global}
 use Rattle.basic_toml_tokens.specs.Text.{folded}
 use Rattle.basic_toml_value.specs.Data.{Data, table, Members}
@@ -8,16 +8,21 @@ use Rattle.basic_toml_value.specs.SameMaps.{SameMaps}
 use Rattle.basic_toml_grammar.specs.Depth.{depth}
 use Rattle.basic_toml_grammar.specs.Document.{IsDocument}
 use Rattle.basic_toml_layout.specs.Document.{document_text, inline}
+use Rattle.basic_toml_layout.specs.Layout.{layout}
 use Rattle.basic_toml_layout.specs.TextOrder.{text_order}
+use Rattle.basic_toml_layout.specs.Trees.{written_of}
+use Rattle.basic_toml_order.specs.RowsFirst.{rows_first}
+use Rattle.basic_toml_order.specs.Writable.{has_bad_array}
 use Rattle.basic_toml_error.specs.Fault.{Fault, without_offset, want_of_memory, nested_too_deeply}
 
 -- The text of the table. It means the table with the rows of each table before its sections, which has the same text;
--- keys and values are the same.
+-- keys and values are the same. Where each array in it can be written, it is the layout of the table with its rows first.
 pub record IsDocumentOf (members : Members) (text : List ℕ) : Type 0 where
   pub laid_out : text ≡ document_text members
   pub means : IsDocument (folded text) (table (text_order members))
   pub same_maps : SameMaps (table members) (table (text_order members))
   pub same_text : document_text (text_order members) ≡ text
+  pub same_layout : has_bad_array (table members) ≡ false → text ≡ layout (written_of (rows_first (table members)))
 
 -- it is nested above the limit
 pub record IsTooDeep (x : Data) (fault : Fault) : Type 0 where

@@ -1,11 +1,12 @@
 -- The laws of order, as they are stated.
 use Rattle.basic_toml_order.specs.RowsFirst.{rows_first}
 use Rattle.basic_toml_order.specs.Statements.{RowsComeFirst, HasSameMaps, OrderedStays, OnceIsEnough}
-use Rattle.basic_toml_order.specs.Statements.{OnlyUnwritableIsRefused, StaysRecordable}
+use Rattle.basic_toml_order.specs.Statements.{OnlyUnwritableIsRefused, StaysRecordable, WritableHasTheLayout}
 use Rattle.basic_toml_order.proofs.MapsStayTheSame.{same}
 use Rattle.basic_toml_order.proofs.NoValueAfterTable.{unsupported_same}
 use Rattle.basic_toml_order.proofs.RowsComeFirst.{ordered, stays}
 use Rattle.basic_toml_order.proofs.StaysRecordable.{recordable}
+use Rattle.basic_toml_order.proofs.WritableHasTheLayout.{writable_text}
 
 pub rows_come_first : RowsComeFirst
 rows_come_first = ordered
@@ -24,3 +25,6 @@ only_unwritable_is_refused = unsupported_same
 
 pub stays_recordable : StaysRecordable
 stays_recordable = recordable
+
+pub writable_has_the_layout : WritableHasTheLayout
+writable_has_the_layout = writable_text

@@ -5,4 +5,5 @@ pub mod MapsStayTheSame
 pub mod NoValueAfterTable
 pub mod StaysRecordable
 pub mod OrderIsSeen
+pub mod WritableHasTheLayout
 pub mod LawsHold

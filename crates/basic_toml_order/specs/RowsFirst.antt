@@ -3,11 +3,7 @@
 use Rattle.std.specs.Prelude.{Bool, true, ◌&&◌, cond}
 use Rattle.basic_toml_value.specs.Data.{Data, array, table, Items, no_items, item, Members, no_members, member}
 use Rattle.basic_toml_layout.specs.Sections.{is_section}
-
--- members, and others after them
-abbrev pub followed_by : Members → Members → Members
-followed_by no_members ns = ns
-followed_by (member k d ms) ns = member k d (followed_by ms ns)
+pub use Rattle.basic_toml_layout.specs.TextOrder.{followed_by}
 
 abbrev mutual
   pub rows_first : Data → Data

@@ -3,13 +3,15 @@ use Rattle.std.specs.Prelude.{◌≡◌, false, IsTrue}
 use Rattle.basic_toml_value.specs.Data.{Data, Members, table}
 use Rattle.basic_toml_value.specs.Nesting.{nesting_limit}
 use Rattle.basic_toml_value.specs.SameMaps.{SameMaps}
+use Rattle.basic_toml_layout.specs.Document.{document_text}
+use Rattle.basic_toml_layout.specs.Layout.{layout}
 use Rattle.basic_toml_layout.specs.Trees.{written_of}
 use Rattle.basic_toml_write.specs.Impls.{data_calls}
 use Rattle.basic_toml_write.specs.Recordable.{AreRecordable}
 use Rattle.basic_toml_write.specs.Shapes.{is_unsupported}
 use Rattle.basic_toml_order.specs.RowsFirst.{rows_first, is_in_order}
 use Rattle.basic_toml_order.specs.Sound.{is_sound}
-use Rattle.basic_toml_order.specs.Writable.{is_unwritable}
+use Rattle.basic_toml_order.specs.Writable.{has_bad_array, is_unwritable}
 
 -- no row stands after a section, at any depth
 abbrev pub RowsComeFirst : Type 0
@@ -35,3 +37,8 @@ OnlyUnwritableIsRefused = (ms : Members) → IsTrue (is_sound (table ms))
 -- where the calls of the data can be recorded, so can those of the data with its rows first
 abbrev pub StaysRecordable : Type 0
 StaysRecordable = (d : Data) → AreRecordable (data_calls d) → AreRecordable (data_calls (rows_first d))
+
+-- where each array in it can be written, its text is the layout of the data with its rows first
+abbrev pub WritableHasTheLayout : Type 0
+WritableHasTheLayout = (ms : Members) → has_bad_array (table ms) ≡ false
+    → document_text ms ≡ layout (written_of (rows_first (table ms)))

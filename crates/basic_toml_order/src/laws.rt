@@ -1,5 +1,5 @@
 //! Laws of tables with their rows first, each the contract of a function that does nothing.
-ghost use Rattle.basic_toml_order.specs.Statements.{RowsComeFirst, HasSameMaps, OrderedStays, OnceIsEnough, OnlyUnwritableIsRefused, StaysRecordable};
+ghost use Rattle.basic_toml_order.specs.Statements.{RowsComeFirst, HasSameMaps, OrderedStays, OnceIsEnough, OnlyUnwritableIsRefused, StaysRecordable, WritableHasTheLayout};
 
 /// No row stands after a section, at any depth.
 #[tactic(auto, using(crate::proofs::LawsHold::rows_come_first))]
@@ -35,4 +35,10 @@ pub fn only_unwritable_is_refused()
 #[tactic(auto, using(crate::proofs::LawsHold::stays_recordable))]
 pub fn stays_recordable()
     ensures { StaysRecordable }
+{}
+
+/// The text of any table is the same, where each array of the table can be written.
+#[tactic(auto, using(crate::proofs::LawsHold::writable_has_the_layout))]
+pub fn writable_has_the_layout()
+    ensures { WritableHasTheLayout }
 {}
