@@ -1,6 +1,8 @@
 //! What holds of every text: it is checked of each text of the case files, and of random ones.
 use crate::report::{Place, Report};
-use basic_toml::{Error, Table, from_slice, from_str, line_col, to_string};
+use basic_toml::{
+    Error, Table, from_slice, from_str, line_col, rows_first, table_to_string, to_string,
+};
 use basic_toml_read::{ReadError, sections};
 use basic_toml_tree::resolve;
 use std::alloc::{AllocError, Global};
@@ -88,10 +90,29 @@ fn write_again(alloc: Global, table: &Table) -> Result<Verdict, AllocError> {
     }
 }
 
+// Whether the text that any table has is read, and then written as the same text; where the table can be written with
+// its rows first, it is that text.
+fn has_document(alloc: Global, table: &Table) -> Result<bool, Error> {
+    let text = table_to_string(alloc, table)?;
+    let Ok(again) = from_str::<Table>(alloc, text.as_str()) else {
+        return Ok(false);
+    };
+    let ordered = rows_first(alloc, table)?;
+    let is_same = match to_string(alloc, &ordered) {
+        Ok(written) => written == text,
+        Err(_) => true,
+    };
+    Ok(is_same && table_to_string(alloc, &again)? == text)
+}
+
 /// What a text comes to: it is refused within it, or read, and read back where it is written.
 pub(crate) fn kind_of(alloc: Global, text: &str) -> Result<Verdict, AllocError> {
     match from_str::<Table>(alloc, text) {
-        Ok(table) => write_again(alloc, &table),
+        Ok(table) => match has_document(alloc, &table) {
+            Ok(true) => write_again(alloc, &table),
+            Ok(false) => Ok(Err("the text of any table is not read back")),
+            Err(_) => Err(AllocError),
+        },
         Err(error) => {
             if is_placed(alloc, text, &error)? {
                 Ok(Ok(Kind::Refused))
