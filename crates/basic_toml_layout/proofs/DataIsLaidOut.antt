@@ -5,14 +5,14 @@ use Rattle.std.proofs.Common.{length-append, append-nil}
 use Rattle.std.specs.Prelude.{IfOk, is_ok, if◌then◌else◌, IsUtf8, ◌≤◌, cond, not, Vec}
 use Rattle.std.specs.declared.alloc.Global.{Global}
 use Rattle.std.specs.Str.{IsCharBoundary}
-use Rattle.std.proofs.lemmas.Bool.{true≢false}
+use Rattle.std.proofs.lemmas.Bool.{true≢false, or_parts, not-false}
 use Rattle.std.proofs.lemmas.List.{take_at}
 use Rattle.std.specs.Char.{encode_utf8}
 use Rattle.std.proofs.lemmas.Str.{IsCharBoundary-from_take, encode_ascii}
 use Rattle.basic_toml_value.proofs.Sizes.{data_size, members_size}
 use Rattle.basic_toml_value.specs.Text.{text_bytes}
 use Rattle.basic_toml_value.specs.Entries.{seen}
-use Rattle.basic_toml_value.specs.Data.{Members, array, table}
+use Rattle.basic_toml_value.specs.Data.{Members, no_members, member, array, table}
 use Rattle.basic_toml_value.specs.View.{view, entries, items_view}
 use Rattle.basic_toml_value.specs.declared.pairs.Pair.{Pair}
 use Rattle.basic_toml_value.specs.declared.value.Value.{Value}
@@ -20,8 +20,8 @@ use Rattle.basic_toml_value.specs.declared.value.Value.TheVariants.{Array, Table
 use Rattle.basic_toml_tokens.specs.Ascii as ascii
 use Rattle.basic_toml_layout.specs.Layout.{element_header}
 use Rattle.basic_toml_layout.specs.Document.{inline, inline_items, inline_members, are_tables, is_row, has_row}
-use Rattle.basic_toml_layout.specs.Document.{is_header_due, rows_text, sections_text, section_text, element_text}
-use Rattle.basic_toml_layout.specs.Parts.{Extends}
+use Rattle.basic_toml_layout.specs.Document.{is_header_due, rows_text, sections_text, section_text, element_text, table_text}
+use Rattle.basic_toml_layout.specs.Parts.{Extends, has_section}
 use Rattle.basic_toml_layout.proofs.ViewsOfValues.{view-Array, view-Table}
 
 pub if_added : {A E : Type 0} {Q : Type 0} (r : Result A E) (text more less : List ℕ) → (text ≡ more → Q)
@@ -130,14 +130,24 @@ some_due (p ∷ ps) some = refl
 
 -- an element that is a table
 pub element_is : (v : Value) (ps : List (List ℕ × Value)) (qs : List (Pair Value)) → v ≡ Table ps → seen qs ≡ ps
-    → (keys : List (List ℕ)) (later rows : Bool) (t t1 t2 t3 : List ℕ) → rows ≡ has_row (entries (seen qs))
-    → t1 ≡ t ++ element_header later keys → t2 ≡ t1 ++ rows_text (entries (seen qs))
-    → t3 ≡ t2 ++ sections_text keys rows (entries (seen qs)) → t3 ≡ t ++ element_text keys later (view v)
-element_is v ps qs is same keys later rows t t1 t2 t3 b e f g =
-    let ms : Members = entries (seen qs) in
-    let whole : t3 ≡ t ++ (element_header later keys ++ (rows_text ms ++ sections_text keys rows ms)) =
-    g ∙ (ap (λ z. z ++ sections_text keys rows ms) (f ∙ ap (λ z. z ++ rows_text ms) e) ∙ simp append_assoc) in
-    whole
-    ∙ ap (λ b. t ++ (element_header later keys ++ (rows_text ms ++ sections_text keys b ms))) b
+    → (keys : List (List ℕ)) (later : Bool) (t t1 t2 : List ℕ) → t1 ≡ t ++ element_header later keys
+    → t2 ≡ t1 ++ table_text keys (entries (seen qs)) → t2 ≡ t ++ element_text keys later (view v)
+element_is v ps qs is same keys later t t1 t2 e f =
+    f ∙ ap (λ z. z ++ table_text keys (entries (seen qs))) e
+    ∙ append_assoc t (element_header later keys) (table_text keys (entries (seen qs)))
     ∙ ap (λ z. t ++ element_text keys later (table (entries z))) same
     ∙ ap (λ z. t ++ element_text keys later z) (sym (ap view is ∙ view-Table ps))
+
+-- a table without sections
+no_section_text : (ms : Members) (keys : List (List ℕ)) (later : Bool) → has_section ms ≡ false
+    → sections_text keys later ms ≡ []
+no_section_text no_members keys later e = refl
+no_section_text (member k x ms) keys later e =
+    let p = or_parts (not (is_row x)) (has_section ms) e in
+    rw (not-false (is_row x) p.0) (no_section_text ms keys later p.1)
+
+pub rows_alone : (ms : Members) (keys : List (List ℕ)) (has : Bool) (t t1 : List ℕ) → has ≡ has_section ms
+    → has ≡ false → t1 ≡ t ++ rows_text ms → t1 ≡ t ++ table_text keys ms
+rows_alone ms keys has t t1 is none e =
+    e ∙ ap (λ z. t ++ z) (sym (append-nil (rows_text ms))
+    ∙ ap (λ z. rows_text ms ++ z) (sym (no_section_text ms keys (has_row ms) (sym is ∙ none))))

@@ -1,7 +1,6 @@
 -- The text of a table whose rows come first; where they hold no tables, it is the layout.
 use Rattle.std.proofs.Common.{◌≡◌, ℕ, Bool, true, false, ◌||◌, cond, List, [], ◌∷◌, ◌++◌, refl, ap, sym, ◌∙◌}
 use Rattle.std.proofs.Common.{append_assoc}
-use Rattle.std.proofs.lemmas.Bool.{true≢false}
 use Rattle.basic_toml_tokens.specs.Ascii as ascii
 use Rattle.basic_toml_value.specs.Data.{Data, integer, float, boolean, string, array, table, Items, no_items, item}
 use Rattle.basic_toml_value.specs.Data.{Members, no_members, member}

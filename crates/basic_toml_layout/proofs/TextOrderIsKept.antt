@@ -8,7 +8,7 @@ use Rattle.basic_toml_value.specs.SameMaps.{same_string, same_array, same_table,
 use Rattle.basic_toml_value.specs.SameMaps.{SameMembers, none_left, taken, same_maps-refl}
 use Rattle.basic_toml_layout.specs.Layout.{table_header, element_header}
 use Rattle.basic_toml_layout.specs.Document.{are_tables, is_row, has_row, is_header_due, row_text, rows_text}
-use Rattle.basic_toml_layout.specs.Document.{sections_text, section_text, elements_text, element_text, table_text}
+use Rattle.basic_toml_layout.specs.Document.{sections_text, section_text, elements_text, element_text}
 use Rattle.basic_toml_layout.specs.Document.{document_text}
 use Rattle.basic_toml_layout.specs.TextOrder.{followed_by, rows_of, sections_of, in_order, all_in_order, text_order}
 

@@ -1,7 +1,8 @@
 -- The parts of a text that are written one after another.
-use Rattle.std.specs.Prelude.{◌≡◌, ℕ, zero, suc, List, ◌++◌, Result, IfOk}
-use Rattle.basic_toml_value.specs.Data.{Items, Members}
+use Rattle.std.specs.Prelude.{◌≡◌, ℕ, zero, suc, Bool, false, not, ◌||◌, List, ◌++◌, Result, IfOk}
+use Rattle.basic_toml_value.specs.Data.{Items, Members, no_members, member}
 use Rattle.basic_toml_layout.specs.Document.{inline_items, more_items, inline_members, more_members}
+use Rattle.basic_toml_layout.specs.Document.{is_row}
 use Rattle.basic_toml_layout.specs.Texts.{joined}
 
 -- what is written at the keys that a path spells is added to a text
@@ -21,3 +22,8 @@ items_left (suc n) xs = more_items xs
 abbrev pub members_left : ℕ → Members → List ℕ
 members_left zero ms = inline_members ms
 members_left (suc n) ms = more_members ms
+
+-- an entry of the members is a section
+abbrev pub has_section : Members → Bool
+has_section no_members = false
+has_section (member k x ms) = not (is_row x) || has_section ms

@@ -11,7 +11,7 @@ use basic_toml_value::{Table, Value};
 use inline::write_inline;
 pub use sections::{begins_with_table, is_section};
 use std::alloc::{AllocError, Global};
-use text::{has_row, write_rows, write_sections};
+use text::write_entries;
 
 /// The text of any table that is the whole value: its rows, and then its sections.
 pub fn document_text(alloc: Global, table: &Table) -> Result<String, AllocError>
@@ -19,9 +19,7 @@ pub fn document_text(alloc: Global, table: &Table) -> Result<String, AllocError>
 {
     let mut text = String::new(alloc);
     let mut path = String::new(alloc);
-    let pairs = table.entries();
-    write_rows(&mut text, pairs)?;
-    write_sections(&mut text, &mut path, has_row(pairs), pairs)?;
+    write_entries(&mut text, &mut path, table.entries())?;
     Ok(text)
 }
 

@@ -41,6 +41,7 @@ fn are_tables(values: &[Value]) -> bool
 
 /// Whether an entry is a row, where the text of any table has it: a value that is neither a table nor an array of
 /// tables alone.
+#[inline(always)]
 pub fn is_row(value: &Value) -> bool
     ensures { result ≡ d.is_row (view value.now) }
 {

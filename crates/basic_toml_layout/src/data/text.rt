@@ -10,7 +10,7 @@ ghost use Rattle.basic_toml_value.specs.View.{view, entries, items_view};
 ghost use Rattle.basic_toml_layout.specs.Layout.{table_header, element_header};
 ghost use Rattle.basic_toml_layout.specs.Texts.{joined};
 ghost use Rattle.basic_toml_layout.specs.Document as d;
-ghost use Rattle.basic_toml_layout.specs.Parts.{Extends, GoesOn};
+ghost use Rattle.basic_toml_layout.specs.Parts.{Extends, GoesOn, has_section};
 
 use super::inline::write_inline;
 use super::sections::is_row;
@@ -18,35 +18,40 @@ use crate::text::write_key;
 use basic_toml_value::{Pair, Table, Value};
 use std::alloc::AllocError;
 
-/// Appends the rows of a table.
-pub fn write_rows(text: &mut String, pairs: &[Pair<Value>]) -> Result<(), AllocError>
-    ensures { IfOk result (λ _. string_bytes text.new ≡ string_bytes text.old
+// Appends the rows of a table; whether there is a section.
+fn write_rows(text: &mut String, pairs: &[Pair<Value>]) -> Result<bool, AllocError>
+    ensures text { IfOk result (λ _. string_bytes text.new ≡ string_bytes text.old
         ++ d.rows_text (entries (seen pairs.now))) }
+    ensures section { IfOk result (λ has. has ≡ has_section (entries (seen pairs.now))) }
 {
+    let mut has_section = false;
     for i in 0..pairs.len() {
-        write_row(text, &pairs[i])?;
+        let is_row = write_row(text, &pairs[i])?;
+        has_section = has_section || !is_row;
     }
-    Ok(())
+    Ok(has_section)
 }
 
-// An entry, if it is a row.
+// An entry, if it is a row; whether it is.
 #[inline(always)]
-fn write_row(text: &mut String, pair: &Pair<Value>) -> Result<(), AllocError>
-    ensures { let value = view pair.now.value in
+fn write_row(text: &mut String, pair: &Pair<Value>) -> Result<bool, AllocError>
+    ensures text { let value = view pair.now.value in
         IfOk result (λ _. string_bytes text.new ≡ string_bytes text.old
         ++ cond (d.is_row value) (d.row_text (text_bytes pair.now.key) value) []) }
+    ensures row { IfOk result (λ is. is ≡ d.is_row (view pair.now.value)) }
 {
     if !is_row(&pair.value) {
-        return Ok(());
+        return Ok(false);
     }
     write_key(text, pair.key.as_str())?;
     text.push_str(" = ")?;
     write_inline(text, &pair.value)?;
-    text.push('\n')
+    text.push('\n')?;
+    Ok(true)
 }
 
-/// Whether an entry of a table is a row.
-pub fn has_row(pairs: &[Pair<Value>]) -> bool
+// Whether an entry of a table is a row.
+fn has_row(pairs: &[Pair<Value>]) -> bool
     ensures { result ≡ d.has_row (entries (seen pairs.now)) }
 {
     for i in 0..pairs.len() {
@@ -99,9 +104,26 @@ fn add_key(path: &mut String, key: &str) -> Result<(), AllocError>
     write_key(path, key)
 }
 
-/// Appends the sections of a table that the keys of `path` lead to.
+/// Appends what stands below the header of a table that the keys of `path` lead to.
 #[cycle(sections)]
-pub fn write_sections(
+pub fn write_entries(
+    text: &mut String,
+    path: &mut String,
+    pairs: &[Pair<Value>],
+) -> Result<(), AllocError>
+    ensures text { GoesOn (string_bytes path.old) (string_bytes text.old) (string_bytes text.new)
+        (λ keys. d.table_text keys (entries (seen pairs.now))) result }
+    ensures path { IfOk result (λ _. string_bytes path.new ≡ string_bytes path.old) }
+{
+    if !write_rows(text, pairs)? {
+        return Ok(());
+    }
+    write_sections(text, path, has_row(pairs), pairs)
+}
+
+// The sections of a table.
+#[cycle(sections)]
+fn write_sections(
     text: &mut String,
     path: &mut String,
     is_later: bool,
@@ -176,8 +198,7 @@ fn write_table(
     if is_header_due(pairs) {
         write_header(text, path.as_str(), is_later)?;
     }
-    write_rows(text, pairs)?;
-    write_sections(text, path, has_row(pairs), pairs)
+    write_entries(text, path, pairs)
 }
 
 // The elements of an array of tables.
@@ -213,10 +234,8 @@ fn write_element(
 {
     match value {
         Value::Table(table) => {
-            let pairs = table.entries();
             write_element_header(text, path.as_str(), is_later)?;
-            write_rows(text, pairs)?;
-            write_sections(text, path, has_row(pairs), pairs)
+            write_entries(text, path, table.entries())
         }
         _ => Ok(()),
     }

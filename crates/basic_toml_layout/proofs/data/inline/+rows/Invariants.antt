@@ -1,4 +1,4 @@
-use Rattle.std.proofs.Common.{◌≡◌, ◌++◌, suc, drop, string_bytes}
+use Rattle.std.proofs.Common.{◌≡◌, ◌++◌, drop, string_bytes}
 use Rattle.basic_toml_value.specs.Entries.{seen}
 use Rattle.basic_toml_value.specs.View.{view, entries, items_view}
 use Rattle.basic_toml_value.proofs.Sizes.{data_size, items_size, members_size}

@@ -1,7 +1,10 @@
-use Rattle.std.proofs.Common.{arith, sym, ◌∙◌, string_bytes}
+use Rattle.std.proofs.Common.{◌≡◌, false, arith, sym, ◌∙◌, string_bytes}
+use Rattle.std.proofs.lemmas.Grind.{common_steps}
 use Rattle.std.proofs.lemmas.Str.{IsUtf8-string_bytes}
 use Rattle.basic_toml_value.proofs.Sizes.{data_size-at, data_size-pair}
-use Rattle.basic_toml_layout.proofs.DataIsLaidOut.{if_ok, entries_smaller, entries_step, element_is, cut_back}
+use Rattle.basic_toml_layout.proofs.DataIsLaidOut.{if_ok, entries_smaller, element_is, rows_alone, cut_back}
+use Rattle.basic_toml_value.specs.Entries.{seen}
+use Rattle.basic_toml_value.specs.View.{entries}
 use Rattle.basic_toml_layout.proofs.data.text.+sections.Goals as goal
 
 pub write_sections-write_entry-requires : goal.write_sections-write_entry-requires
@@ -15,21 +18,11 @@ write_elements-write_element-requires t c =
     let smaller = data_size-at c.args.values.now c.loop-i.i c.index-values-i.result c.loop-i-test.true c.index-values-i.is in
     (omega arith, tt)
 
-pub write_element-write_sections-requires : goal.write_element-write_sections-requires
-write_element-write_sections-requires t c =
-    let smaller = entries_smaller c.args.value.now c.in-Table.table c.entries-pairs.result.now c.in-Table.is
-    c.entries-pairs.ensures.pairs in
+pub write_element-write_entries-requires : goal.write_element-write_entries-requires
+write_element-write_entries-requires t c =
+    let smaller = entries_smaller c.args.value.now c.in-Table.table c.entries.result.now c.in-Table.is
+    c.entries.ensures.pairs in
     (omega arith, tt)
-
-pub write_element-returns-in_ok-write_rows-in-Table-clause-text :
-    goal.write_element-returns-in_ok-write_rows-in-Table-clause-text
-write_element-returns-in_ok-write_rows-in-Table-clause-text t c = λ keys leads.
-    if_ok c.write_sections.result (λ u last. element_is c.args.value.now c.in-Table.table c.entries-pairs.result.now
-    c.in-Table.is c.entries-pairs.ensures.pairs keys c.args.is_later c.has_row.result (string_bytes c.args.text.now)
-    (string_bytes c.write_element_header.new.text) (string_bytes c.write_rows.new.text)
-    (string_bytes c.write_sections.new.text) c.has_row.ensures
-    (c.in_ok-write_element_header-in-Table.ensures keys (leads ∙ sym c.as_str.ensures.value))
-    c.in_ok-write_rows-in-Table.ensures last) (c.write_sections.ensures.text keys leads)
 
 pub write_entry-truncate-requires : goal.write_entry-truncate-requires
 write_entry-truncate-requires t c = λ within.
@@ -38,3 +31,18 @@ write_entry-truncate-requires t c = λ within.
     (omega arith) (IsUtf8-string_bytes c.args.path.now) (IsUtf8-string_bytes c.write_section.new.path)
     (more.0, c.in_ok-write_section.ensures.path ∙ more.1) in
     (cut.0, λ some lt ge. cut.1 lt ge)
+
+pub write_element-returns-in_ok-write_element_header-in-Table-clause-text :
+    goal.write_element-returns-in_ok-write_element_header-in-Table-clause-text
+write_element-returns-in_ok-write_element_header-in-Table-clause-text t c = λ keys leads.
+    if_ok c.write_entries.result (λ u last. element_is c.args.value.now c.in-Table.table c.entries.result.now
+    c.in-Table.is c.entries.ensures.pairs keys c.args.is_later (string_bytes c.args.text.now)
+    (string_bytes c.write_element_header.new.text) (string_bytes c.write_entries.new.text)
+    (c.in_ok-write_element_header-in-Table.ensures keys (leads ∙ sym c.as_str.ensures.value)) last)
+    (c.write_entries.ensures.text keys leads)
+
+pub write_entries-returns-then-not-branch-clause-text : goal.write_entries-returns-then-not-branch-clause-text
+write_entries-returns-then-not-branch-clause-text t c = λ keys leads.
+    let none : c.in_ok-write_rows.field-0 ≡ false = grind (arith, common_steps) in
+    rows_alone (entries (seen c.args.pairs.now)) keys c.in_ok-write_rows.field-0 (string_bytes c.args.text.now)
+    (string_bytes c.write_rows.new.text) c.in_ok-write_rows.ensures.section none c.in_ok-write_rows.ensures.text
