@@ -1,22 +1,14 @@
 -- What is due, from what reading and writing answered.
-use Rattle.std.proofs.Common.{◌≡◌, ◌≢◌, ◌⊎◌, inl, inr, ℕ, Bool, true, false, List, [], ◌∷◌, ◌++◌, map, flat_map}
-use Rattle.std.proofs.Common.{IsUtf8, refl, ap, sym, ◌∙◌, subst, Result, Ok, Err, Some, None, IfOk, string_bytes}
+use Rattle.std.proofs.Common.{◌≡◌, ◌≢◌, ◌⊎◌, ◌≤◌, inl, inr, ℕ, List, codes, ap, IsUtf8, Result, Ok, Err, Some, None, IfOk}
+use Rattle.std.proofs.Common.{string_bytes}
 use Rattle.json.specs.Json.{Json, document}
-use Rattle.basic_toml.specs.Data.{Data, Members, members_of, table}
+use Rattle.basic_toml.specs.Data.{Members, table}
 use Rattle.basic_toml.specs.Nesting.{nesting_limit}
 use Rattle.basic_toml.specs.Fault.{Fault, out_of_memory, want_of_memory}
-use Rattle.basic_toml.specs.Items.{Item, field}
-use Rattle.basic_toml.specs.Impls.{data_calls, members_calls}
 use Rattle.basic_toml.specs.LineColumn.{line_at, column_at}
-use Rattle.basic_toml.specs.Layout.{layout}
-use Rattle.basic_toml.specs.RowsFirst.{rows_first}
-use Rattle.basic_toml.specs.Ser.{IsDataText}
-use Rattle.basic_toml.specs.Shapes.{is_unsupported}
-use Rattle.basic_toml.specs.Spelling.{Spells}
-use Rattle.basic_toml.specs.Trees.{written_of}
-use Rattle.basic_toml.specs.Writable.{is_unwritable}
-use Rattle.basic_toml.specs.Written.{Written}
-use Rattle.basic_toml_write.proofs.LawsHold.{data_is_spelled}
+use Rattle.basic_toml.specs.DataDepth.{depth}
+use Rattle.basic_toml.specs.DocumentText.{document_text}
+use Rattle.basic_toml.specs.TableText.{IsTooDeep}
 use Rattle.toml_json_text.specs.declared.form.Form.{Form}
 use Rattle.toml_from_json.specs.Meaning.{members_in}
 use Rattle.toml_from_json.specs.declared.refusal.Fault as code
@@ -24,15 +16,8 @@ use Rattle.toml_from_json.specs.RefusalText.{refusal_text}
 use Rattle.toml_streams.specs.Streams.{failure_line}
 use Rattle.json_toml.specs.Levels.{nests_deeper}
 use Rattle.json_toml.specs.declared.answer.Answer.{Answer}
-use Rattle.json_toml.specs.Run.{told, not_written_text, IsTableDue, written, unwritable, IsJsonDue, meant, without_toml, IsDue, json, no_json, no_json_text}
-
--- the calls of pairs are those of their data
-pub pairs_calls : {V : Type 0} (view : V → Data) (pairs : List (List ℕ × V))
-    → flat_map (λ p. field p.0 ∷ data_calls (view p.1)) pairs
-    ≡ members_calls (members_of (map (λ p. (p.0, view p.1)) pairs))
-pairs_calls view [] = refl
-pairs_calls view (p ∷ pairs) =
-    ap (λ (is : List Item). field p.0 ∷ (data_calls (view p.1) ++ is)) (pairs_calls view pairs)
+use Rattle.json_toml.specs.Run.{IsTableDue, table_written, too_deep, IsJsonDue, meant, without_toml, IsDue, json, no_json}
+use Rattle.json_toml.specs.Run.{no_json_text}
 
 pub json_due : {E : Type 0} (form : Form) (name input : List ℕ) (j : Json) (result : Result Answer E) → IsUtf8 input
     → document input ≡ Some j → IfOk result (λ a. IsJsonDue form name j a.status (string_bytes a.text))
@@ -49,7 +34,7 @@ no_json_due form name input offset text utf8 none says = no_json offset utf8 non
 pub ruleset due_text = (json_due, no_json_due)
 
 pub table_due : {E : Type 0} (form : Form) (name : List ℕ) (j : Json) (members : Members) (result : Result Answer E)
-    → members_in form j ≡ Ok members → IfOk result (λ a. IsTableDue (table members) a.status (string_bytes a.text))
+    → members_in form j ≡ Ok members → IfOk result (λ a. IsTableDue name members a.status (string_bytes a.text))
     → IfOk result (λ a. IsJsonDue form name j a.status (string_bytes a.text))
 table_due form name j members (Ok a) is due = meant is due
 table_due form name j members (Err e) is due = tt
@@ -61,31 +46,15 @@ refused_due form name j fault path text is says = without_toml is says
 
 pub ruleset due_json = (table_due, refused_due)
 
--- the table `moved` is that of the data with its rows first
-module _ (d moved : Data) (order : moved ≡ rows_first d)
-    (writable : is_unsupported nesting_limit (written_of moved) ≡ is_unwritable d) where
-  pub written_due : (text : List ℕ) → IsDataText moved text → IsTableDue d 0 text
-  written_due text is = written (sym writable ∙ is.supported) (is.laid_out ∙ ap (λ x. layout (written_of x)) order)
+-- the text of a table is due, or that it is nested too deeply
+pub text_due : (name : List ℕ) (members : Members) (text : List ℕ) → depth (table members) ≤ nesting_limit
+    → text ≡ document_text members → IsTableDue name members 0 text
+text_due name members text within is = table_written within is
 
-  -- what is supported is written, memory aside
-  unsupported : (fault : Fault) (own : Type 0) → (own → ⊥) → fault.kind ≢ out_of_memory
-      → (is_unsupported nesting_limit (written_of moved) ≡ false → own ⊎ (fault ≡ want_of_memory))
-      → is_unwritable d ≡ true
-  unsupported fault own never kind only = go (is_unsupported nesting_limit (written_of moved)) refl
-    where
-      go : (b : Bool) → is_unsupported nesting_limit (written_of moved) ≡ b → is_unwritable d ≡ true
-      go true e = sym writable ∙ e
-      go false e = elim (only e) [
-        | inl up ↦ absurd (never up)
-        | inr memory ↦ absurd (kind (ap (λ (f : Fault). f.kind) memory))
-      ]
+pub too_deep_due : (name : List ℕ) (members : Members) (fault : Fault) (text : List ℕ)
+    → (fault ≡ want_of_memory) ⊎ IsTooDeep (table members) fault → fault.kind ≢ out_of_memory
+    → text ≡ failure_line name (codes "nested too deeply") → IsTableDue name members 2 text
+too_deep_due name members fault text (inl memory) kind says = absurd (kind (ap (λ (f : Fault). f.kind) memory))
+too_deep_due name members fault text (inr deep) kind says = too_deep deep.deep says
 
-  pub unwritable_due : (fault : Fault) (calls : List Item) (own : Type 0) (text : List ℕ) → calls ≡ data_calls moved
-      → (own → ⊥) → fault.kind ≢ out_of_memory
-      → ((w : Written) → Spells calls w → is_unsupported nesting_limit w ≡ false → own ⊎ (fault ≡ want_of_memory))
-      → text ≡ told not_written_text → IsTableDue d 2 text
-  unwritable_due fault calls own text made never kind only says =
-      unwritable
-      (unsupported fault own never kind
-      (only (written_of moved) (subst (λ (is : List Item). Spells is (written_of moved)) (sym made) (data_is_spelled moved))))
-      says
+pub ruleset due_table = (text_due, too_deep_due)

@@ -1,24 +1,19 @@
 -- What the program writes for the bytes that it reads, and how a run ends. (own)
-use Rattle.std.specs.Prelude.{◌≡◌, ℕ, suc, ◌+◌, IsUtf8, Bool, true, false, List, ◌++◌, codes, decimal, Option, Some, None}
+use Rattle.std.specs.Prelude.{◌≡◌, ◌≤◌, ◌<◌, ℕ, suc, ◌+◌, IsUtf8, Bool, true, false, List, ◌++◌, codes, decimal, Option, Some, None}
 use Rattle.std.specs.Prelude.{Ok, Err}
 use Rattle.std.specs.Io.KnownBytes.{Appends, Keeps}
 use Rattle.json.specs.Json.{Json, document}
-use Rattle.basic_toml.specs.Data.{Data, Members, table}
-use Rattle.basic_toml.specs.Layout.{layout}
+use Rattle.basic_toml.specs.Data.{Members, table}
+use Rattle.basic_toml.specs.DataDepth.{depth}
+use Rattle.basic_toml.specs.DocumentText.{document_text}
 use Rattle.basic_toml.specs.LineColumn.{line_at, column_at}
-use Rattle.basic_toml.specs.RowsFirst.{rows_first}
-use Rattle.basic_toml.specs.Trees.{written_of}
-use Rattle.basic_toml.specs.Writable.{is_unwritable}
+use Rattle.basic_toml.specs.Nesting.{nesting_limit}
 use Rattle.toml_json_text.specs.declared.form.Form.{Form}
 use Rattle.toml_from_json.specs.declared.refusal.Fault.{Fault}
 use Rattle.toml_from_json.specs.Meaning.{members_in}
 use Rattle.toml_from_json.specs.RefusalText.{refusal_text}
 use Rattle.json_toml.specs.Levels.{nests_deeper}
 use Rattle.toml_streams.specs.Streams.{AppendsFront, TellsFailure, failure_line}
-
--- what is wrong with standard input
-abbrev pub told : List ℕ → List ℕ
-told text = codes "stdin: " ++ (text ++ codes "\n")
 
 -- why there is no JSON that is read
 abbrev pub no_json_reason : Bool → List ℕ
@@ -31,22 +26,17 @@ no_json_text name line column deeper =
     name ++ (codes ":" ++ (decimal (line + 1) ++ (codes ":" ++ (decimal (column + 1)
     ++ (codes ": " ++ (no_json_reason deeper ++ codes "\n"))))))
 
--- what is said of a table that no order of its rows and sections makes writable
-abbrev pub not_written_text : List ℕ
-not_written_text =
-    codes "an array holds a table beside another value, or an array that holds a table; or nested too deeply"
-
--- The status and the text for a table: the text of the table with its rows first, where some order of its rows and
--- sections can be written.
-pub data IsTableDue (d : Data) : ℕ → List ℕ → Type 0 where
-  written : {text : List ℕ} → is_unwritable d ≡ false → text ≡ layout (written_of (rows_first d))
-      → IsTableDue d 0 text
-  unwritable : {text : List ℕ} → is_unwritable d ≡ true → text ≡ told not_written_text → IsTableDue d 2 text
+-- The status and the text for a table: its text; or, where it is nested above the limit, that it is.
+pub data IsTableDue (name : List ℕ) (members : Members) : ℕ → List ℕ → Type 0 where
+  table_written : {text : List ℕ} → depth (table members) ≤ nesting_limit → text ≡ document_text members
+      → IsTableDue name members 0 text
+  too_deep : {text : List ℕ} → nesting_limit < depth (table members)
+      → text ≡ failure_line name (codes "nested too deeply") → IsTableDue name members 2 text
 
 -- for JSON: what is due for the table that it means; or what of it has no TOML
 pub data IsJsonDue (form : Form) (name : List ℕ) (j : Json) : ℕ → List ℕ → Type 0 where
   meant : {members : Members} {status : ℕ} {text : List ℕ} → members_in form j ≡ Ok members
-      → IsTableDue (table members) status text → IsJsonDue form name j status text
+      → IsTableDue name members status text → IsJsonDue form name j status text
   without_toml : {fault : Fault} {path text : List ℕ} → members_in form j ≡ Err (fault, path)
       → text ≡ failure_line name (refusal_text fault path) → IsJsonDue form name j 1 text
 

@@ -1,6 +1,5 @@
 //! What is due for the bytes of JSON.
 ghost use Rattle.std.specs.Prelude.{◌≡◌, Some, IfOk, IfErr, IsUtf8, codes, string_bytes};
-ghost use Rattle.basic_toml.specs.Data.{table as table_of_members};
 ghost use Rattle.basic_toml.specs.LineColumn.{line_at, column_at};
 ghost use Rattle.basic_toml.specs.View.{entries};
 ghost use Rattle.json.specs.Json.{document};
@@ -11,7 +10,7 @@ ghost use Rattle.json_toml.specs.Run as spec;
 ghost use Rattle.toml_streams.specs.Streams.{failure_line};
 
 use crate::levels::is_deeper;
-use basic_toml::{Table, into_rows_first, line_col, to_string};
+use basic_toml::{Table, line_col, table_to_string};
 use json::{MAX_DEPTH, Reader, Scratch, Value as Json};
 use simdutf8::basic::from_utf8;
 use std::alloc::{AllocError, Global};
@@ -24,7 +23,7 @@ pub const WRITTEN: u8 = 0;
 /// The status where the text is refused.
 pub const REFUSED: u8 = 1;
 
-/// The status where the table cannot be written.
+/// The status where the table is nested too deeply to be written.
 pub const NOT_WRITTEN: u8 = 2;
 
 /// What is due for the bytes of a text.
@@ -142,7 +141,7 @@ fn answer_to_json(
     ensures { IfOk result (λ a. spec.IsJsonDue form name.now (value_view json.now) a.status (string_bytes a.text)) }
 {
     match table_of(alloc, form, json) {
-        Ok(table) => answer_to_table(alloc, table),
+        Ok(table) => answer_to_table(alloc, name, &table),
         Err(NoTable::Refused(refusal)) => Ok(Answer {
             status: REFUSED,
             text: format!(in alloc; "{name}: {refusal}\n")?,
@@ -151,11 +150,12 @@ fn answer_to_json(
     }
 }
 
-fn answer_to_table(alloc: Global, table: Table) -> Result<Answer, AllocError>
-    ensures { IfOk result (λ a. spec.IsTableDue (table_of_members (entries table)) a.status (string_bytes a.text)) }
+// The text of any table: what the JSON has for arrays and objects has a form in it.
+#[tactic(auto, using(crate::proofs::AnswerIsDue::due_table))]
+fn answer_to_table(alloc: Global, name: &str, table: &Table) -> Result<Answer, AllocError>
+    ensures { IfOk result (λ a. spec.IsTableDue name.now (entries table.now) a.status (string_bytes a.text)) }
 {
-    let table = into_rows_first(alloc, table)?;
-    match to_string(alloc, &table) {
+    match table_to_string(alloc, table) {
         Ok(text) => Ok(Answer {
             status: WRITTEN,
             text,
@@ -166,17 +166,8 @@ fn answer_to_table(alloc: Global, table: Table) -> Result<Answer, AllocError>
             }
             Ok(Answer {
                 status: NOT_WRITTEN,
-                text: not_written(alloc)?,
+                text: format!(in alloc; "{name}: nested too deeply\n")?,
             })
         }
     }
-}
-
-fn not_written(alloc: Global) -> Result<String, AllocError>
-    ensures { IfOk result (λ told. string_bytes told ≡ spec.told spec.not_written_text) }
-{
-    String::from_str(
-        alloc,
-        "stdin: an array holds a table beside another value, or an array that holds a table; or nested too deeply\n",
-    )
 }
