@@ -42,7 +42,7 @@ pub fn table_to_string(alloc: Global, table: &Table) -> Result<String, Error>
 /// that prints a part of a document. (TOML v0.5.0, "Key/Value Pair")
 ///
 /// ```text
-/// let text = value_to_string(alloc, steps)?; // ["build", { run = "test" }]
+/// let text = value_to_string(alloc, steps)?; // [1, { b = 2 }]
 /// ```
 ///
 /// This is from `toml_vectors`.

@@ -56,5 +56,3 @@ pub too_deep_due : (name : List ℕ) (members : Members) (fault : Fault) (text :
     → text ≡ failure_line name (codes "nested too deeply") → IsTableDue name members 2 text
 too_deep_due name members fault text (inl memory) kind says = absurd (kind (ap (λ (f : Fault). f.kind) memory))
 too_deep_due name members fault text (inr deep) kind says = too_deep deep.deep says
-
-pub ruleset due_table = (text_due, too_deep_due)

@@ -151,7 +151,7 @@ fn answer_to_json(
 }
 
 // The text of any table: what the JSON has for arrays and objects has a form in it.
-#[tactic(auto, using(crate::proofs::AnswerIsDue::due_table))]
+#[tactic(auto, using(crate::proofs::AnswerIsDue::text_due))]
 fn answer_to_table(alloc: Global, name: &str, table: &Table) -> Result<Answer, AllocError>
     ensures { IfOk result (λ a. spec.IsTableDue name.now (entries table.now) a.status (string_bytes a.text)) }
 {

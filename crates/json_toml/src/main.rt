@@ -30,8 +30,8 @@ key, a top level that is no object. Without FILE, or where it is -, it reads sta
       --version  print the version
       --         what follows is a file
 
-Status: 0, or 1 where the text is refused, 2 where the table cannot be written (an array that mixes tables with other
-values), 3 where reading, writing or memory failed.
+Status: 0, or 1 where the text is refused, 2 where the table is nested too deeply to be written, 3 where reading,
+writing or memory failed.
 ",
     is_for_one_file: true,
 };

@@ -1,6 +1,6 @@
 //! `toml_tidy [FILE]` reads a TOML text and writes it anew to standard output.
 //!
-//! With `--rows-first` the rows of each table come before its sections, so that more tables can be written.
+//! With `--rows-first` the rows of each table come before its sections, so that every table can be written.
 //!
 //! It ends with status 0 where the text was read and written; with 1 where the text was refused, and 2 where its table
 //! cannot be written, and then what it writes is the error and a line feed; and with 3 where reading, writing or memory
@@ -29,8 +29,8 @@ Reads TOML (v0.5.0, without dates and times) and writes the same data anew to st
 sections with their headers, keys in their order. Comments and layout are not kept. Without FILE, or where it is -, it
 reads standard input.
 
-      --rows-first  in each table, write the rows before the sections; so every
-                    table can be written whose arrays hold tables alone or none
+      --rows-first  in each table, write the rows before the sections, and what
+                    no header can say as inline tables; so every table is written
   -h, --help        print this
       --version     print the version
       --            what follows is a file
