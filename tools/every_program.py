@@ -1,5 +1,6 @@
 """python3 every_program.py OUT -- builds the programs of crates.txt as one file OUT, without proofs and without run-time
-checks, which is the program by whose name it is called: a link to OUT of the name toml_check is toml_check.
+checks, which is the program by whose name it is called: a link to OUT of the name toml_check is toml_check, called by
+its path or found through PATH. By a name of none it says so on standard error, and ends with status 1.
 
 A build of its own for each program takes in the libraries each time, and that is nearly all of what it takes. Here each
 program is a library with a public `main`, and a program above them all chooses.
@@ -13,7 +14,7 @@ import tempfile
 
 TOP = os.path.dirname(os.path.dirname(os.path.abspath(__file__)))
 NAME = "every_program"
-MAIN = """//! Each program, by the name that this one is called by.
+MAIN = """//! Each program, by the last part of the name that this one is called by.
 #![tactic(auto)]
 
 use std::io;
@@ -22,11 +23,16 @@ use std::process::ExitCode;
 fn main(rt: HostRuntime) -> io::Result<ExitCode> {
     let mut words = std::env::args(&rt)?;
     let path = words.next();
-    let name = match &path {
+    let path = match &path {
         Some(path) => path.as_str(),
         None => "",
     };
-%s    Ok(ExitCode::FAILURE)
+    let name = match path.rsplit_once('/') {
+        Some((_, name)) => name,
+        None => path,
+    };
+%s    eprintln!(rt; "every_program: {name:?} is none of its programs; call it by a link that has a program's name")?;
+    Ok(ExitCode::FAILURE)
 }
 """
 # How to end with what a program's `main` answers.
@@ -66,7 +72,7 @@ def lay_out(room):
         f.write("%s%s: %s\n" % (text, NAME, " ".join(found)))
     os.makedirs("%s/crates/%s/src" % (room, NAME))
     with open("%s/crates/%s/src/main.rt" % (room, NAME), "w", encoding="utf-8") as f:
-        f.write(MAIN % "".join('    if name.ends_with("/%s") {\n        %s\n    }\n' % (name, ENDS[answer] % name)
+        f.write(MAIN % "".join('    if name == "%s" {\n        %s\n    }\n' % (name, ENDS[answer] % name)
                                for name, answer in found.items()))
     return "%s/crates/%s" % (room, NAME)
 

@@ -1,1 +1,2 @@
 pub mod PartsInTurn
+mod WorkedLayouts

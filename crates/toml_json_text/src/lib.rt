@@ -1,16 +1,19 @@
-//! A table as JSON (RFC 8259), on one line, its keys in order.
+//! A table as JSON (RFC 8259), its keys in order, on one line or on several.
 //!
 //! `toml_json` writes it, and `toml_cases` compares it with what a text must mean.
 //!
 //! ```text
 //! json_of(alloc, Form::Plain, &table)?; // {"port":80,"names":["a","b"]}
 //! json_of(alloc, Form::Tagged, &table)?; // {"port":{"type":"integer","value":"80"},..}
+//! laid_out(alloc, Form::Plain, Layout::Lines, &table)?; // each element and each member on a line of its own
 //! ```
 #![tactic(auto)]
 
 mod form;
+mod layout;
 mod scalar;
 mod tree;
 
 pub use form::Form;
-pub use tree::{json_of, json_of_value};
+pub use layout::Layout;
+pub use tree::{json_of, json_of_value, laid_out};

@@ -7,6 +7,7 @@ ghost use Rattle.basic_toml_layout.specs.Texts.{quoted};
 ghost use Rattle.toml_json_text.specs.Json as json;
 
 use crate::form::Form;
+use crate::layout::{Layout, level_below, push_break, push_colon, push_separator};
 use basic_toml_layout::Scalar;
 use std::alloc::AllocError;
 
@@ -16,33 +17,42 @@ fn push_quoted(text: &mut String, value: &str) -> Result<(), AllocError>
     Scalar::Text(value).write(text)
 }
 
-/// Appends a key with its colon, after a comma where another stands before it.
-pub fn push_name(text: &mut String, is_later: bool, key: &str) -> Result<(), AllocError>
-    ensures { IfOk result (λ _. string_bytes text.new ≡ string_bytes text.old ++ json.name_text is_later key.now) }
+/// Appends a key of a level with its colon, after a comma where another stands before it.
+#[tactic(auto, unfolding(crate::specs::Json::name_text))]
+pub fn push_name(
+    text: &mut String,
+    layout: Layout,
+    level: usize,
+    is_later: bool,
+    key: &str,
+) -> Result<(), AllocError>
+    ensures { IfOk result (λ _. string_bytes text.new
+        ≡ string_bytes text.old ++ json.name_text layout level is_later key.now) }
 {
-    push_comma(text, is_later)?;
+    push_separator(text, layout, level, is_later)?;
     push_quoted(text, key)?;
-    text.push(':')
+    push_colon(text, layout)
 }
 
-/// Appends a comma where another stands before.
-pub fn push_comma(text: &mut String, is_later: bool) -> Result<(), AllocError>
-    ensures { IfOk result (λ _. string_bytes text.new ≡ string_bytes text.old ++ json.comma is_later) }
-{
-    if is_later {
-        text.push(',')?;
-    }
-    Ok(())
-}
-
-// The beginning of a tagged scalar.
+// The beginning of a tagged scalar of a level.
 #[tactic(auto, unfolding(crate::specs::Json::type_text))]
-fn push_type(text: &mut String, kind: &str) -> Result<(), AllocError>
-    ensures { IfOk result (λ _. string_bytes text.new ≡ string_bytes text.old ++ json.type_text kind.now) }
+fn push_type(text: &mut String, layout: Layout, level: usize, kind: &str) -> Result<(), AllocError>
+    ensures { IfOk result (λ _. string_bytes text.new ≡ string_bytes text.old ++ json.type_text layout level kind.now) }
 {
-    text.push_str("{\"type\":\"")?;
-    text.push_str(kind)?;
-    text.push_str("\",\"value\":")
+    let below = level_below(level)?;
+    text.push('{')?;
+    push_name(text, layout, below, false, "type")?;
+    push_between_quotes(text, kind)?;
+    push_name(text, layout, below, true, "value")
+}
+
+// The end of a tagged scalar of a level.
+fn push_end(text: &mut String, layout: Layout, level: usize) -> Result<(), AllocError>
+    ensures { IfOk result (λ _. string_bytes text.new
+        ≡ string_bytes text.old ++ (json.break layout level ++ codes "}")) }
+{
+    push_break(text, layout, level)?;
+    text.push('}')
 }
 
 // A text without characters that JSON escapes.
@@ -56,23 +66,34 @@ fn push_between_quotes(text: &mut String, value: &str) -> Result<(), AllocError>
 
 // A scalar with its type; its text has no characters that JSON escapes.
 #[tactic(auto, unfolding(crate::specs::Json::tagged))]
-fn push_tagged(text: &mut String, kind: &str, value: &str) -> Result<(), AllocError>
+fn push_tagged(
+    text: &mut String,
+    layout: Layout,
+    level: usize,
+    kind: &str,
+    value: &str,
+) -> Result<(), AllocError>
     ensures { IfOk result (λ _. string_bytes text.new ≡ string_bytes text.old
-        ++ json.tagged kind.now (json.between_quotes value.now)) }
+        ++ json.tagged layout level kind.now (json.between_quotes value.now)) }
 {
-    push_type(text, kind)?;
+    push_type(text, layout, level, kind)?;
     push_between_quotes(text, value)?;
-    text.push('}')
+    push_end(text, layout, level)
 }
 
 #[tactic(auto, unfolding(crate::specs::Json::tagged))]
-fn push_tagged_string(text: &mut String, value: &str) -> Result<(), AllocError>
+fn push_tagged_string(
+    text: &mut String,
+    layout: Layout,
+    level: usize,
+    value: &str,
+) -> Result<(), AllocError>
     ensures { IfOk result (λ _. string_bytes text.new ≡ string_bytes text.old
-        ++ json.tagged (codes "string") (quoted value.now)) }
+        ++ json.tagged layout level (codes "string") (quoted value.now)) }
 {
-    push_type(text, "string")?;
+    push_type(text, layout, level, "string")?;
     push_quoted(text, value)?;
-    text.push('}')
+    push_end(text, layout, level)
 }
 
 fn push_quoted_integer(text: &mut String, number: i64) -> Result<(), AllocError>
@@ -85,22 +106,34 @@ fn push_quoted_integer(text: &mut String, number: i64) -> Result<(), AllocError>
 }
 
 #[tactic(auto, unfolding(crate::specs::Json::tagged))]
-fn push_tagged_integer(text: &mut String, number: i64) -> Result<(), AllocError>
+fn push_tagged_integer(
+    text: &mut String,
+    layout: Layout,
+    level: usize,
+    number: i64,
+) -> Result<(), AllocError>
     ensures { IfOk result (λ _. string_bytes text.new ≡ string_bytes text.old
-        ++ json.tagged (codes "integer") (json.between_quotes (signed_decimal number))) }
+        ++ json.tagged layout level (codes "integer") (json.between_quotes (signed_decimal number))) }
 {
-    push_type(text, "integer")?;
+    push_type(text, layout, level, "integer")?;
     push_quoted_integer(text, number)?;
-    text.push('}')
+    push_end(text, layout, level)
 }
 
-/// Appends an integer.
-pub fn push_integer(text: &mut String, form: Form, number: i64) -> Result<(), AllocError>
-    ensures { IfOk result (λ _. string_bytes text.new ≡ string_bytes text.old ++ json.integer_text form number) }
+/// Appends an integer of a level.
+pub fn push_integer(
+    text: &mut String,
+    form: Form,
+    layout: Layout,
+    level: usize,
+    number: i64,
+) -> Result<(), AllocError>
+    ensures { IfOk result (λ _. string_bytes text.new
+        ≡ string_bytes text.old ++ json.integer_text form layout level number) }
 {
     match form {
         Form::Plain => Scalar::Signed(number).write(text),
-        Form::Tagged => push_tagged_integer(text, number),
+        Form::Tagged => push_tagged_integer(text, layout, level, number),
     }
 }
 
@@ -111,14 +144,21 @@ fn is_special(float: &str) -> bool
     float == "inf" || float == "-inf" || float == "nan" || float == "-nan"
 }
 
-/// Appends a float, by its text.
-pub fn push_float(text: &mut String, form: Form, float: &str) -> Result<(), AllocError>
-    ensures { IfOk result (λ _. string_bytes text.new ≡ string_bytes text.old ++ json.float_text form float.now) }
+/// Appends a float of a level, by its text.
+pub fn push_float(
+    text: &mut String,
+    form: Form,
+    layout: Layout,
+    level: usize,
+    float: &str,
+) -> Result<(), AllocError>
+    ensures { IfOk result (λ _. string_bytes text.new
+        ≡ string_bytes text.old ++ json.float_text form layout level float.now) }
 {
     match form {
         Form::Plain if is_special(float) => push_between_quotes(text, float),
         Form::Plain => text.push_str(float),
-        Form::Tagged => push_tagged(text, "float", float),
+        Form::Tagged => push_tagged(text, layout, level, "float", float),
     }
 }
 
@@ -128,22 +168,36 @@ fn truth_word(truth: bool) -> &'static str
     if truth { "true" } else { "false" }
 }
 
-/// Appends a boolean.
-pub fn push_boolean(text: &mut String, form: Form, truth: bool) -> Result<(), AllocError>
-    ensures { IfOk result (λ _. string_bytes text.new ≡ string_bytes text.old ++ json.boolean_text form truth) }
+/// Appends a boolean of a level.
+pub fn push_boolean(
+    text: &mut String,
+    form: Form,
+    layout: Layout,
+    level: usize,
+    truth: bool,
+) -> Result<(), AllocError>
+    ensures { IfOk result (λ _. string_bytes text.new
+        ≡ string_bytes text.old ++ json.boolean_text form layout level truth) }
 {
     match form {
         Form::Plain => text.push_str(truth_word(truth)),
-        Form::Tagged => push_tagged(text, "bool", truth_word(truth)),
+        Form::Tagged => push_tagged(text, layout, level, "bool", truth_word(truth)),
     }
 }
 
-/// Appends a string.
-pub fn push_string(text: &mut String, form: Form, value: &str) -> Result<(), AllocError>
-    ensures { IfOk result (λ _. string_bytes text.new ≡ string_bytes text.old ++ json.string_text form value.now) }
+/// Appends a string of a level.
+pub fn push_string(
+    text: &mut String,
+    form: Form,
+    layout: Layout,
+    level: usize,
+    value: &str,
+) -> Result<(), AllocError>
+    ensures { IfOk result (λ _. string_bytes text.new
+        ≡ string_bytes text.old ++ json.string_text form layout level value.now) }
 {
     match form {
         Form::Plain => push_quoted(text, value),
-        Form::Tagged => push_tagged_string(text, value),
+        Form::Tagged => push_tagged_string(text, layout, level, value),
     }
 }

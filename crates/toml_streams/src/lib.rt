@@ -1,11 +1,20 @@
-//! Reading and writing to the end, where no failure is tried again: what `toml_tidy`, `toml_check` and `toml_json` read
-//! their input and write their answers by.
+//! What the programs share: reading and writing to the end, where no failure is tried again; the file that a name on the
+//! command line leads to; what is said of a stream that fails; and the words of the command line.
 #![tactic(auto)]
+
+mod arguments;
+mod call;
+mod failure;
+mod source;
 
 ghost use Rattle.std.specs.Prelude.{◌≡◌, IfOk, IfSome, OnOk};
 ghost use Rattle.std.specs.Io.KnownBytes.{Appends};
 ghost use Rattle.toml_streams.specs.Streams.{AppendsFront};
 
+pub use arguments::Options;
+pub use call::{Call, Program, call_of};
+pub use failure::{FAILED, failed, failure_line};
+pub use source::{Disk, STANDARD_INPUT, Source, shown};
 use std::alloc::Global;
 use std::io::{self, Read, Write};
 

@@ -23,10 +23,10 @@ decreases-push_member l = suc (data_size (view l.pair.now.value))
 -- with what is left, the text is whole
 abbrev pub invariant-push_elements-loop-i : goal.invariant-push_elements-loop-i
 invariant-push_elements-loop-i l =
-    string_bytes l.text ++ elements_text l.form l.is_later (items_view (drop l.i l.values))
-    ≡ string_bytes l.initial.text ++ elements_text l.form false (items_view l.values)
+    string_bytes l.text ++ elements_text l.form l.layout l.level l.is_later (items_view (drop l.i l.values))
+    ≡ string_bytes l.initial.text ++ elements_text l.form l.layout l.level false (items_view l.values)
 
 abbrev pub invariant-push_members-loop-i : goal.invariant-push_members-loop-i
 invariant-push_members-loop-i l =
-    string_bytes l.text ++ members_text l.form l.is_later (entries (seen (drop l.i l.pairs)))
-    ≡ string_bytes l.initial.text ++ members_text l.form false (entries (seen l.pairs))
+    string_bytes l.text ++ members_text l.form l.layout l.level l.is_later (entries (seen (drop l.i l.pairs)))
+    ≡ string_bytes l.initial.text ++ members_text l.form l.layout l.level false (entries (seen l.pairs))
