@@ -61,7 +61,8 @@ fn entries_nest_within(pairs: &[Pair<Value>], room: usize) -> bool
     ensures valid { result ≡ true → HoldsValid (entries (seen pairs.now)) }
 {
     for i in 0..pairs.len() {
-        if !value_nests_within(&pairs[i].value, room) {
+        let pair = &pairs[i];
+        if !value_nests_within(&pair.value, room) {
             return false;
         }
     }
