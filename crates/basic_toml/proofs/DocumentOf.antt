@@ -12,7 +12,7 @@ use Rattle.basic_toml_layout.specs.TextOrder.{text_order}
 use Rattle.basic_toml_layout.specs.Valid.{IsValid}
 use Rattle.basic_toml_round_trip.proofs.LawsHold.{document_read_back, same_order_maps, same_order_text}
 use Rattle.basic_toml_error.specs.Fault.{Fault, without_offset, nested_too_deeply, want_of_memory}
-use Rattle.basic_toml.specs.Document.{IsDocumentOf, IsTooDeep}
+use Rattle.basic_toml.specs.TableText.{IsDocumentOf, IsTooDeep}
 
 pub written : (ms : Members) (text : List ℕ) → IsValid (table ms) → nat_le (depth (table ms)) nesting_limit ≡ true
     → text ≡ document_text ms → (depth (table ms) ≤ nesting_limit) × IsDocumentOf ms text
@@ -31,3 +31,6 @@ written ms text valid within is =
 pub too_deep : (x : Data) (fault : Fault) → nat_le (depth x) nesting_limit ≡ false
     → fault ≡ without_offset nested_too_deeply → (fault ≡ want_of_memory) ⊎ IsTooDeep x fault
 too_deep x fault above is = inr (record { deep = leb-false (depth x) nesting_limit above; is = is })
+
+pub within_limit : (x : Data) → nat_le (depth x) nesting_limit ≡ true → depth x ≤ nesting_limit
+within_limit x within = leb-true (depth x) nesting_limit within

@@ -1,6 +1,6 @@
 pub mod Reading
 pub mod Ser
-pub mod Document
+pub mod TableText
 pub mod ReadBack
 pub mod OneAnswer
 pub mod Memory
@@ -15,6 +15,7 @@ pub use Rattle.basic_toml_numbers.specs.Numbers
 pub use Rattle.basic_toml_value.specs.Pairs
 pub use Rattle.basic_toml_value.specs.View
 pub use Rattle.basic_toml_grammar.specs.Document
+pub use Rattle.basic_toml_grammar.specs.Depth as DataDepth
 pub use Rattle.basic_toml_grammar.specs.Faults
 pub use Rattle.basic_toml_tree.specs.Nodes
 pub use Rattle.basic_toml_origin.specs.Origin

@@ -1,6 +1,6 @@
 //! Writing any table, and any value.
 ghost use Rattle.basic_toml_value.specs.View.{view, entries};
-ghost use Rattle.basic_toml.specs.Document.{WritesTable, WritesValue};
+ghost use Rattle.basic_toml.specs.TableText.{WritesTable, WritesValue};
 
 use crate::Error;
 use crate::nesting::{table_nests_within, value_nests_within};
@@ -50,7 +50,7 @@ pub fn table_to_string(alloc: Global, table: &Table) -> Result<String, Error>
 /// # Errors
 ///
 /// `nested too deeply` where the value is nested more than [`NESTING_LIMIT`] deep, and `out of memory`.
-#[tactic(auto, using(crate::proofs::DocumentOf::too_deep, std::proofs::lemmas::Bool::leb_true))]
+#[tactic(auto, using(crate::proofs::DocumentOf::too_deep, crate::proofs::DocumentOf::within_limit))]
 pub fn value_to_string(alloc: Global, value: &Value) -> Result<String, Error>
     ensures { WritesValue (view value.now) result }
 {

@@ -1,5 +1,5 @@
 -- What is due, from what reading and writing answered.
-use Rattle.std.proofs.Common.{◌≡◌, ◌≢◌, ◌⊎◌, inl, inr, ℕ, Bool, true, false, List, [], ◌∷◌, ◌++◌, map, flat_map}
+use Rattle.std.proofs.Common.{◌≡◌, ◌≢◌, ◌⊎◌, ◌≤◌, inl, inr, ℕ, Bool, true, false, List, [], ◌∷◌, ◌++◌, map, flat_map}
 use Rattle.std.proofs.Common.{IsUtf8, refl, ap, sym, ◌∙◌, subst, Result, Ok, Err, Option, None, IfOk, string_bytes}
 use Rattle.std.specs.Str.{is_utf8}
 use Rattle.std.proofs.lemmas.Str.{IsUtf8-from_is_utf8, is_utf8-from_IsUtf8}
@@ -18,7 +18,11 @@ use Rattle.basic_toml.specs.Impls.{data_calls, members_calls}
 use Rattle.basic_toml.specs.Ser.{IsDataText, IsFirstFault}
 use Rattle.toml_answer.specs.declared.Answer.{Answer}
 use Rattle.toml_answer.specs.declared.Order.{Order}
-use Rattle.toml_answer.specs.Due.{IsDue, of_document, refused, not_utf8, IsWriting, writable, unwritable, in_order}
+use Rattle.toml_answer.specs.Due.{IsDue, of_document, refused, not_utf8, IsWriting, writable, unwritable}
+use Rattle.toml_answer.specs.Due.{IsRowsFirst, within, too_deep, IsWritten}
+use Rattle.basic_toml.specs.DataDepth.{depth}
+use Rattle.basic_toml.specs.DocumentText.{document_text}
+use Rattle.basic_toml.specs.TableText.{IsTooDeep}
 
 -- bytes are UTF-8, or are not
 utf8_or_not : (bytes : List ℕ) → IsUtf8 bytes ⊎ (IsUtf8 bytes → ⊥)
@@ -64,6 +68,17 @@ unwritable_due d fault calls own made never (inr (inr r)) kind =
     subst (λ (f : Fault). IsWriting d 2 (fault_text f) f.line_column) (sym r.named)
     (unwritable (subst (λ (is : List Item). outcome nesting_limit is ≡ Err r.error) made r.met))
 
+-- the text of a table with its rows first is due, or that it is nested too deeply
+pub rows_first_due : (ms : Members) (text : List ℕ) → depth (table ms) ≤ nesting_limit → text ≡ document_text ms
+    → IsRowsFirst ms 0 text None
+rows_first_due ms text deep is = subst (λ (s : List ℕ). IsRowsFirst ms 0 s None) (sym is) (within deep)
+
+pub too_deep_due : (ms : Members) (fault : Fault) → (fault ≡ want_of_memory) ⊎ IsTooDeep (table ms) fault
+    → fault.kind ≢ out_of_memory → IsRowsFirst ms 2 (fault_text fault) fault.line_column
+too_deep_due ms fault (inl memory) kind = absurd (kind (ap (λ (f : Fault). f.kind) memory))
+too_deep_due ms fault (inr deep) kind =
+    subst (λ (f : Fault). IsRowsFirst ms 2 (fault_text f) f.line_column) (sym deep.is) (too_deep deep.deep)
+
 -- a type T that is read from tables, all of which it takes, and shows its members
 module _ {T : Type 0} (takes : Data → Type 0) (entries : T → Members) where
   abbrev reads_table : Data → T → Type 0
@@ -81,16 +96,14 @@ module _ {T : Type 0} (takes : Data → Type 0) (entries : T → Members) where
   ]
 
   -- what came of writing what was read is due
-  pub writing_due : {E : Type 0} (order : Order) (input : List ℕ) (t : T) (d : Data) (result : Result Answer E)
+  pub writing_due : {E : Type 0} (order : Order) (input : List ℕ) (t : T) (result : Result Answer E)
       → (IsUtf8 input → ReadsText takes reads_table table_faults input (Ok t)) → ((IsUtf8 input → ⊥) → Ok t ≡ Err not_text)
-      → d ≡ in_order order (table (entries t))
-      → IfOk result (λ a. IsWriting d a.status (string_bytes a.text) a.line_col)
+      → IfOk result (λ a. IsWritten order (entries t) a.status (string_bytes a.text) a.line_col)
       → IfOk result (λ a. IsDue order input a.status (string_bytes a.text) a.line_col)
-  writing_due order input t d (Ok a) answers other same writing =
+  writing_due order input t (Ok a) answers other writing =
       let (utf8, document) = read_as input t answers other in
-      of_document utf8 document
-      (subst (λ (x : Data). IsWriting x a.status (string_bytes a.text) a.line_col) same writing)
-  writing_due order input t d (Err e) answers other same writing = tt
+      of_document utf8 document writing
+  writing_due order input t (Err e) answers other writing = tt
 
   -- an error that is no want of memory is one of a text without a document, since every table is taken
   text_refused : (order : Order) (input : List ℕ) (fault : Fault) → ((members : Members) → takes (table members))

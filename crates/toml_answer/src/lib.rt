@@ -11,7 +11,7 @@ ghost use Rattle.basic_toml.specs.View.{entries};
 ghost use Rattle.toml_answer.specs.Due as spec;
 ghost use Rattle.toml_answer.specs.Due.{IsDue};
 
-use basic_toml::{Error, Table, from_slice, into_rows_first, to_string};
+use basic_toml::{Error, Table, from_slice, table_to_string, to_string};
 use std::alloc::{AllocError, Global};
 
 /// The status of a text that was read and written.
@@ -39,7 +39,7 @@ pub struct Answer {
 pub enum Order {
     /// As they were read.
     AsRead,
-    /// Rows before sections, at every depth, as [`into_rows_first`] has them.
+    /// Rows before sections, as [`table_to_string`] has them.
     RowsFirst,
 }
 
@@ -52,24 +52,37 @@ pub fn answer_to(alloc: Global, order: Order, input: &[u8]) -> Result<Answer, Al
     ensures { IfOk result (λ a. IsDue order input.now a.status (string_bytes a.text) a.line_col) }
 {
     match from_slice::<Table>(alloc, input) {
-        Ok(table) => {
-            let table = in_order(alloc, order, table)?;
-            text_answer(alloc, &table)
-        }
+        Ok(table) => table_answer(alloc, order, &table),
         Err(fault) => error_answer(alloc, REFUSED, fault),
     }
 }
 
-fn in_order(alloc: Global, order: Order, table: Table) -> Result<Table, AllocError>
-    ensures { IfOk result (λ t. d.table (entries t) ≡ spec.in_order order (d.table (entries table))) }
+fn table_answer(alloc: Global, order: Order, table: &Table) -> Result<Answer, AllocError>
+    ensures { IfOk result
+        (λ a. spec.IsWritten order (entries table.now) a.status (string_bytes a.text) a.line_col) }
 {
     match order {
-        Order::AsRead => Ok(table),
-        Order::RowsFirst => into_rows_first(alloc, table),
+        Order::AsRead => text_answer(alloc, table),
+        Order::RowsFirst => rows_first_answer(alloc, table),
     }
 }
 
-// The text of a table, or the error that its calls meet.
+// The text of a table with its rows first.
+fn rows_first_answer(alloc: Global, table: &Table) -> Result<Answer, AllocError>
+    ensures { IfOk result
+        (λ a. spec.IsRowsFirst (entries table.now) a.status (string_bytes a.text) a.line_col) }
+{
+    match table_to_string(alloc, table) {
+        Ok(text) => Ok(Answer {
+            status: TIDIED,
+            text,
+            line_col: None,
+        }),
+        Err(fault) => error_answer(alloc, NOT_WRITTEN, fault),
+    }
+}
+
+// The text of a table as it was read, or the error that its calls meet.
 fn text_answer(alloc: Global, table: &Table) -> Result<Answer, AllocError>
     ensures { IfOk result
         (λ a. spec.IsWriting (d.table (entries table.now)) a.status (string_bytes a.text) a.line_col) }

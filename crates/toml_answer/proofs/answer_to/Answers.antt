@@ -1,4 +1,3 @@
-use Rattle.basic_toml.specs.Data.{table}
 use Rattle.basic_toml.specs.View.{entries}
 use Rattle.basic_toml.specs.TypeReads.{table_takes}
 use Rattle.std.proofs.Common.{refl}
@@ -6,11 +5,10 @@ use Rattle.toml_answer.specs.Due.{IsDue}
 use Rattle.toml_answer.proofs.AnswerIsDue.{error_due, writing_due, refused_due}
 use Rattle.toml_answer.proofs.answer_to.Goals as goal
 
-pub returns-in_ok-table-in-Ok : goal.returns-in_ok-table-in-Ok
-returns-in_ok-table-in-Ok c =
-    writing_due table_takes entries c.args.order c.args.input.now c.in-Ok.table
-    (table (entries c.in_ok-table-in-Ok.table)) c.text_answer.result c.in-Ok.ensures.text c.in-Ok.ensures.other c.in_ok-table-in-Ok.ensures
-    c.text_answer.ensures
+pub returns-in-Ok : goal.returns-in-Ok
+returns-in-Ok c =
+    writing_due table_takes entries c.args.order c.args.input.now c.in-Ok.table c.table_answer.result
+    c.in-Ok.ensures.text c.in-Ok.ensures.other c.table_answer.ensures
 
 pub returns-in-Err : goal.returns-in-Err
 returns-in-Err c =
