@@ -1,8 +1,9 @@
 -- A run over files, one after another.
 use Rattle.std.proofs.Common.{◌≡◌, ◌⊎◌, inl, inr, ℕ, zero, suc, ◌+◌, ◌<◌, max, Bool, List, [], ◌∷◌, length, drop, get_or, map}
-use Rattle.std.proofs.Common.{Option, Some, None, IfSome, refl, sym, ◌∙◌, ap, subst, arith, string_bytes, String, Global}
+use Rattle.std.proofs.Common.{Result, Ok, Err, IfOk, Option, Some, None, IfSome, refl, sym, ◌∙◌, ap, subst, arith, string_bytes, String, Global}
 use Rattle.std.specs.Io.KnownBytes.{Appends, Keeps}
 use Rattle.toml_streams.specs.Streams.{AppendsFront}
+use Rattle.toml_check.specs.declared.run.Verdict.{Verdict}
 use Rattle.toml_check.specs.Run.{IsUnread, IsVerdict, IsSaid, ChecksAll, none, next, not_written, no_memory}
 
 -- a file whose bytes are known
@@ -13,6 +14,13 @@ said_of_known quiet name bytes text known status same (inl unread) = inl unread
 said_of_known quiet name bytes text None status same (inr verdict) = inr tt
 said_of_known quiet name bytes text (Some b) status same (inr verdict) =
     inr (subst (λ (x : List ℕ). IsVerdict quiet name x status text) same verdict)
+
+-- a file that could not be read
+pub said_unread : {E : Type 0} (quiet : Bool) (name : List ℕ) (known : Option (List ℕ)) (result : Result Verdict E)
+    → IfOk result (λ v. IsUnread name v.status (string_bytes v.text))
+    → IfOk result (λ v. IsSaid quiet name known v.status (string_bytes v.text))
+said_unread quiet name known (Ok v) is = inl is
+said_unread quiet name known (Err e) is = tt
 
 max_assoc : (a b c : ℕ) → max (max a b) c ≡ max a (max b c)
 max_assoc a b c = omega arith
@@ -96,4 +104,4 @@ module _ (quiet : Bool) (bytes : List ℕ → Option (List ℕ)) (names : List (
 
 pub ruleset in_turn = (one_more, stopped_writing, stopped_for_memory, begins, ends)
 
-pub ruleset said = (said_of_known)
+pub ruleset said = (said_of_known, said_unread)

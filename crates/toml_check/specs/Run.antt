@@ -1,22 +1,14 @@
 -- What is said of files, and how a run over them ends. (own)
 use Rattle.std.specs.Prelude.{◌≡◌, ◌⊎◌, ℕ, max, Bool, if◌then◌else◌, IsUtf8, List, [], ◌∷◌, ◌++◌, codes, Option, IfSome}
 use Rattle.std.specs.Io.KnownBytes.{Appends, Keeps}
-use Rattle.std.specs.Str.{bytes_eq}
 use Rattle.basic_toml.specs.tokens.Text.{folded}
 use Rattle.basic_toml.specs.Data.{Data}
 use Rattle.basic_toml.specs.Document.{IsDocument}
 use Rattle.toml_findings.specs.Findings.{Finding, IsFinding, finding_text}
-use Rattle.toml_streams.specs.Streams.{AppendsFront}
-
--- standard input has a name of its own
-abbrev pub shown : List ℕ → List ℕ
-shown name = if bytes_eq name (codes "-") then codes "stdin" else name
+use Rattle.toml_streams.specs.Streams.{AppendsFront, display_name, failure_line}
 
 abbrev pub refusal_text : Bool → List ℕ → Finding → List ℕ
-refusal_text quiet name finding = if quiet then [] else shown name ++ (codes ":" ++ finding_text finding)
-
-abbrev pub unread_text : List ℕ → List ℕ → List ℕ
-unread_text name reason = shown name ++ (codes ": " ++ (reason ++ codes "\n"))
+refusal_text quiet name finding = if quiet then [] else display_name name ++ (codes ":" ++ finding_text finding)
 
 -- What is said of the bytes of a file, and the status: nothing of a document, and else what is wrong with it.
 pub data IsVerdict (quiet : Bool) (name bytes : List ℕ) : ℕ → List ℕ → Type 0 where
@@ -26,7 +18,7 @@ pub data IsVerdict (quiet : Bool) (name bytes : List ℕ) : ℕ → List ℕ →
 
 -- the file could not be read, for some reason
 abbrev pub IsUnread : List ℕ → ℕ → List ℕ → Type 0
-IsUnread name status text = (status ≡ 3) × ((reason : List ℕ) × (text ≡ unread_text name reason))
+IsUnread name status text = (status ≡ 3) × ((reason : List ℕ) × (text ≡ failure_line (display_name name) reason))
 
 -- either, by the bytes that are known of the file
 abbrev pub IsSaid : Bool → List ℕ → Option (List ℕ) → ℕ → List ℕ → Type 0

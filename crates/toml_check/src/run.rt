@@ -1,31 +1,19 @@
 //! Each file in turn: what is wrong with it, and the status.
-ghost use Rattle.std.specs.Prelude.{◌≡◌, ◌⊎◌, ℕ, max, List, map, Option, IfOk, IfSome, string_bytes};
+ghost use Rattle.std.specs.Prelude.{◌≡◌, ◌⊎◌, max, map, IfOk, string_bytes};
 ghost use Rattle.toml_findings.specs.Findings.{finding_of};
 ghost use Rattle.toml_check.specs.Run as spec;
 
 use std::alloc::{AllocError, Global};
-use std::io::{self, Write};
+use std::fmt::Display;
+use std::io::Write;
 use toml_findings::{Finding, check};
-use toml_streams::write_all;
+use toml_streams::{FAILED, Source, display_name, failure_line, write_all};
 
 /// The status where each text is TOML.
 pub const ALL_TOML: u8 = 0;
 
 /// The status where a text is refused.
 pub const REFUSED: u8 = 1;
-
-/// The status where a file could not be read, or nothing could be said of it.
-pub const FAILED: u8 = 3;
-
-/// What has the bytes of files.
-pub trait Source {
-    // the bytes of the file of a name, where they are known
-    ghost bytes: { Self → List ℕ → Option (List ℕ) };
-
-    /// The bytes of the file of a name.
-    fn read(&self, name: &str) -> io::Result<Vec<u8>>
-        ensures { IfOk result (λ all. IfSome (bytes self.now name.now) (λ known. all.items ≡ known)) };
-}
 
 // What is said of a file, and its status: nothing where it is TOML.
 #[derive(Drop)]
@@ -80,10 +68,7 @@ fn verdict_on<S: Source>(
 {
     match source.read(name) {
         Ok(bytes) => verdict_on_bytes(alloc, name, bytes.as_slice(), is_quiet),
-        Err(error) => {
-            let reason = format!(in alloc; "{error}")?;
-            unread(alloc, name, reason.as_str())
-        }
+        Err(error) => unread(alloc, name, error),
     }
 }
 
@@ -120,8 +105,8 @@ fn refused(
     let text = if is_quiet {
         String::new(alloc)
     } else {
-        let shown = shown(name);
-        format!(in alloc; "{shown}:{finding}")?
+        let name = display_name(name);
+        format!(in alloc; "{name}:{finding}")?
     };
     Ok(Verdict {
         status: REFUSED,
@@ -130,20 +115,12 @@ fn refused(
 }
 
 // A file that could not be read.
-fn unread(alloc: Global, name: &str, reason: &str) -> Result<Verdict, AllocError>
-    ensures status { IfOk result (λ v. v.status ≡ 3) }
-    ensures text { IfOk result (λ v. string_bytes v.text ≡ spec.unread_text name.now reason.now) }
+#[tactic(auto, using(crate::proofs::VerdictsAreSaid::unread_line))]
+fn unread<D: Display + Drop>(alloc: Global, name: &str, reason: D) -> Result<Verdict, AllocError>
+    ensures { IfOk result (λ v. spec.IsUnread name.now v.status (string_bytes v.text)) }
 {
-    let shown = shown(name);
     Ok(Verdict {
         status: FAILED,
-        text: format!(in alloc; "{shown}: {reason}\n")?,
+        text: failure_line(alloc, display_name(name), reason)?,
     })
-}
-
-// A name as it is shown: standard input has one of its own.
-fn shown(name: &str) -> &str
-    ensures { result.now ≡ spec.shown name.now }
-{
-    if name == "-" { "stdin" } else { name }
 }

@@ -6,31 +6,31 @@ use Rattle.basic_toml_tree.specs.Data.{table_data}
 use Rattle.toml_findings.specs.declared.finding.Unread.{Unread}
 use Rattle.toml_findings.specs.declared.finding.Unread.TheVariants as unread
 use Rattle.toml_findings.specs.Findings.{Reads}
-use Rattle.toml_json_text.specs.declared.form.Form.{Form}
+use Rattle.toml_json.specs.declared.run.Style.{Style}
 use Rattle.toml_json.specs.declared.run.Answer.{Answer}
 use Rattle.toml_json.specs.declared.run.Answer.TheVariants.{Json, Refused}
-use Rattle.toml_json.specs.Run.{json_line, IsAnswer, IsJson, IsRefusal, written, refused}
+use Rattle.toml_json.specs.Run.{json_lines, IsAnswer, IsJson, IsRefusal, written, refused}
 
-json_due : (form : Form) (input : List ℕ) (tree : Tree) (ms : Members) (answer : Answer)
-    → Reads input (Ok tree) → table ms ≡ table_data tree.root → IsJson (json_line form (table ms)) answer
-    → IsAnswer form input answer
-json_due form input tree ms (Json text) (utf8, document) same says =
-    written utf8 document (says ∙ ap (json_line form) same)
-json_due form input tree ms (Refused text) is same says = absurd says
+json_due : (style : Style) (name input : List ℕ) (tree : Tree) (ms : Members) (answer : Answer)
+    → Reads input (Ok tree) → table ms ≡ table_data tree.root → IsJson (json_lines style (table ms)) answer
+    → IsAnswer style name input answer
+json_due style name input tree ms (Json text) (utf8, document) same says =
+    written utf8 document (says ∙ ap (json_lines style) same)
+json_due style name input tree ms (Refused text) is same says = absurd says
 
-pub json_answered : {E : Type 0} (form : Form) (input : List ℕ) (tree : Tree) (ms : Members)
+pub json_answered : {E : Type 0} (style : Style) (name input : List ℕ) (tree : Tree) (ms : Members)
     (result : Result Answer E) → Reads input (Ok tree) → table ms ≡ table_data tree.root
-    → IfOk result (IsJson (json_line form (table ms))) → IfOk result (IsAnswer form input)
-json_answered form input tree ms (Ok answer) is same says = json_due form input tree ms answer is same says
-json_answered form input tree ms (Err e) is same says = tt
+    → IfOk result (IsJson (json_lines style (table ms))) → IfOk result (IsAnswer style name input)
+json_answered style name input tree ms (Ok answer) is same says = json_due style name input tree ms answer is same says
+json_answered style name input tree ms (Err e) is same says = tt
 
-refusal_due : (form : Form) (input : List ℕ) (u : Unread) (answer : Answer) → Reads input (Err u)
-    → IsRefusal u answer → IsAnswer form input answer
-refusal_due form input unread.OutOfMemory answer wrong says = absurd says
-refusal_due form input (unread.Refused finding) (Json text) wrong says = absurd says
-refusal_due form input (unread.Refused finding) (Refused text) wrong says = refused wrong says
+refusal_due : (style : Style) (name input : List ℕ) (u : Unread) (answer : Answer) → Reads input (Err u)
+    → IsRefusal name u answer → IsAnswer style name input answer
+refusal_due style name input unread.OutOfMemory answer wrong says = absurd says
+refusal_due style name input (unread.Refused finding) (Json text) wrong says = absurd says
+refusal_due style name input (unread.Refused finding) (Refused text) wrong says = refused wrong says
 
-pub refusal_answered : {E : Type 0} (form : Form) (input : List ℕ) (u : Unread) (result : Result Answer E)
-    → Reads input (Err u) → IfOk result (IsRefusal u) → IfOk result (IsAnswer form input)
-refusal_answered form input u (Ok answer) wrong says = refusal_due form input u answer wrong says
-refusal_answered form input u (Err e) wrong says = tt
+pub refusal_answered : {E : Type 0} (style : Style) (name input : List ℕ) (u : Unread) (result : Result Answer E)
+    → Reads input (Err u) → IfOk result (IsRefusal name u) → IfOk result (IsAnswer style name input)
+refusal_answered style name input u (Ok answer) wrong says = refusal_due style name input u answer wrong says
+refusal_answered style name input u (Err e) wrong says = tt

@@ -24,9 +24,9 @@ break Line level = []
 break Lines level = codes "\n" ++ blanks level
 
 -- the break before a closing bracket, where something stands in the brackets
-abbrev pub closing : Layout → ℕ → Bool → List ℕ
-closing layout level true = break layout level
-closing layout level false = []
+abbrev pub last_break : Layout → ℕ → Bool → List ℕ
+last_break layout level true = break layout level
+last_break layout level false = []
 
 abbrev pub comma : Bool → List ℕ
 comma true = codes ","
@@ -97,14 +97,14 @@ abbrev mutual
 
   -- the elements of an array of a level
   pub elements_text : Form → Layout → ℕ → Bool → Items → List ℕ
-  elements_text form layout level later no_items = closing layout level later
+  elements_text form layout level later no_items = last_break layout level later
   elements_text form layout level later (item d items) =
       separator layout (level + 1) later
       ++ (json_at form layout (level + 1) d ++ elements_text form layout level true items)
 
   -- the members of an object of a level
   pub members_text : Form → Layout → ℕ → Bool → Members → List ℕ
-  members_text form layout level later no_members = closing layout level later
+  members_text form layout level later no_members = last_break layout level later
   members_text form layout level later (member key d members) =
       name_text layout (level + 1) later key
       ++ (json_at form layout (level + 1) d ++ members_text form layout level true members)
@@ -117,9 +117,9 @@ object_text form layout level members =
     codes "{" ++ (members_text form layout level false members ++ codes "}")
 
 -- the JSON of data, by itself
-abbrev pub laid_out : Form → Layout → Data → List ℕ
-laid_out form layout d = json_at form layout 0 d
+abbrev pub json_in : Form → Layout → Data → List ℕ
+json_in form layout d = json_at form layout 0 d
 
 -- on one line
 abbrev pub json : Form → Data → List ℕ
-json form d = laid_out form Line d
+json form d = json_in form Line d

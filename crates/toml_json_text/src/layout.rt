@@ -47,13 +47,13 @@ pub fn push_break(text: &mut String, layout: Layout, level: usize) -> Result<(),
 }
 
 /// Begins the line of a closing bracket of a level, where something stands before it in the brackets.
-pub fn push_closing(
+pub fn push_last_break(
     text: &mut String,
     layout: Layout,
     level: usize,
     is_later: bool,
 ) -> Result<(), AllocError>
-    ensures { IfOk result (λ _. string_bytes text.new ≡ string_bytes text.old ++ json.closing layout level is_later) }
+    ensures { IfOk result (λ _. string_bytes text.new ≡ string_bytes text.old ++ json.last_break layout level is_later) }
 {
     if is_later {
         push_break(text, layout, level)?;

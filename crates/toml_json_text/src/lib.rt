@@ -5,7 +5,7 @@
 //! ```text
 //! json_of(alloc, Form::Plain, &table)?; // {"port":80,"names":["a","b"]}
 //! json_of(alloc, Form::Tagged, &table)?; // {"port":{"type":"integer","value":"80"},..}
-//! laid_out(alloc, Form::Plain, Layout::Lines, &table)?; // each element and each member on a line of its own
+//! json_in(alloc, Form::Plain, Layout::Lines, &table)?; // each element and each member on a line of its own
 //! ```
 #![tactic(auto)]
 
@@ -16,4 +16,4 @@ mod tree;
 
 pub use form::Form;
 pub use layout::Layout;
-pub use tree::{json_of, json_of_value, laid_out};
+pub use tree::{json_in, json_of, json_of_value};

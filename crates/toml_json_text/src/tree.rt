@@ -7,7 +7,7 @@ ghost use Rattle.basic_toml_value.specs.View.{view, entries, items_view};
 ghost use Rattle.toml_json_text.specs.Json as json;
 
 use crate::form::Form;
-use crate::layout::{Layout, level_below, push_closing, push_separator};
+use crate::layout::{Layout, level_below, push_last_break, push_separator};
 use crate::scalar::{push_boolean, push_float, push_integer, push_name, push_string};
 use basic_toml_value::{Pair, Table, Value};
 use std::alloc::{AllocError, Global};
@@ -20,7 +20,7 @@ use std::alloc::{AllocError, Global};
 pub fn json_of(alloc: Global, form: Form, table: &Table) -> Result<String, AllocError>
     ensures { IfOk result (λ text. string_bytes text ≡ json.json form (d.table (entries table.now))) }
 {
-    laid_out(alloc, form, Layout::Line, table)
+    json_in(alloc, form, Layout::Line, table)
 }
 
 /// The JSON of a table, in a layout.
@@ -28,13 +28,13 @@ pub fn json_of(alloc: Global, form: Form, table: &Table) -> Result<String, Alloc
 /// # Errors
 ///
 /// Want of memory alone.
-pub fn laid_out(
+pub fn json_in(
     alloc: Global,
     form: Form,
     layout: Layout,
     table: &Table,
 ) -> Result<String, AllocError>
-    ensures { IfOk result (λ text. string_bytes text ≡ json.laid_out form layout (d.table (entries table.now))) }
+    ensures { IfOk result (λ text. string_bytes text ≡ json.json_in form layout (d.table (entries table.now))) }
 {
     let mut text = String::new(alloc);
     push_table(&mut text, form, layout, 0, table)?;
@@ -97,7 +97,7 @@ fn push_elements(
         push_value(text, form, layout, below, &values[i])?;
         is_later = true;
     }
-    push_closing(text, layout, level, is_later)
+    push_last_break(text, layout, level, is_later)
 }
 
 #[cycle(values)]
@@ -133,7 +133,7 @@ fn push_members(
         push_member(text, form, layout, below, is_later, &pairs[i])?;
         is_later = true;
     }
-    push_closing(text, layout, level, is_later)
+    push_last_break(text, layout, level, is_later)
 }
 
 #[cycle(values)]

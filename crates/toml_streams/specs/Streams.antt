@@ -8,8 +8,8 @@ abbrev pub AppendsFront : Option (List ℕ) → Option (List ℕ) → List ℕ �
 AppendsFront old new text = (n : ℕ) × Appends old new (take n text)
 
 -- standard input has a name of its own
-abbrev pub shown : List ℕ → List ℕ
-shown name = if bytes_eq name (codes "-") then codes "stdin" else name
+abbrev pub display_name : List ℕ → List ℕ
+display_name name = if bytes_eq name (codes "-") then codes "stdin" else name
 
 -- the line that says which stream failed, and why
 abbrev pub failure_line : List ℕ → List ℕ → List ℕ

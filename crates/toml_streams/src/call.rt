@@ -10,8 +10,8 @@ pub struct Program {
     pub name: &'static str,
     pub version: &'static str,
     pub help: &'static str,
-    /// How many files it takes at most.
-    pub most_files: usize,
+    /// Whether it takes one file at most.
+    pub is_for_one_file: bool,
 }
 
 /// What a program is called for.
@@ -38,7 +38,7 @@ pub fn call_of<R: Env + AllocGlobal + Print + Eprint, O: Options + Drop>(
         name,
         version,
         help,
-        most_files,
+        is_for_one_file,
     } = program;
     match request_of(rt.alloc(), words, options)? {
         Request::Help => {
@@ -54,7 +54,7 @@ pub fn call_of<R: Env + AllocGlobal + Print + Eprint, O: Options + Drop>(
             Ok(Call::Answered(FAILED))
         }
         Request::Run { options, names } => {
-            if names.len() > *most_files {
+            if *is_for_one_file && names.len() > 1 {
                 eprintln!(rt; "{name}: one FILE at most; {name} --help says more")?;
                 return Ok(Call::Answered(FAILED));
             }

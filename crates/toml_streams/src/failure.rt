@@ -10,7 +10,7 @@ use std::io::Write;
 /// The status of a program where reading, writing or memory failed, or a word of its command line is none of its own.
 pub const FAILED: u8 = 3;
 
-/// The line that says which stream failed, by the name that is shown, and why.
+/// The line that says which stream failed, by its name in messages, and why.
 pub fn failure_line<D: Display + Drop>(
     alloc: Global,
     name: &str,
@@ -23,7 +23,7 @@ pub fn failure_line<D: Display + Drop>(
 }
 
 /// Says on `errors` which stream failed, and why, as far as that can be written; answers [`FAILED`].
-pub fn failed<E: Write, D: Display + Drop>(
+pub fn tell_failure<E: Write, D: Display + Drop>(
     alloc: Global,
     errors: &mut E,
     name: &str,

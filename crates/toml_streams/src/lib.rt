@@ -1,5 +1,5 @@
-//! What the programs share: reading and writing to the end, where no failure is tried again; the file that a name on the
-//! command line leads to; what is said of a stream that fails; and the words of the command line.
+//! What the programs share: reading and writing to the end, where no failure is tried again; the file that a name on
+//! the command line leads to; what is said of a stream that fails; and the words of the command line.
 #![tactic(auto)]
 
 mod arguments;
@@ -13,8 +13,8 @@ ghost use Rattle.toml_streams.specs.Streams.{AppendsFront};
 
 pub use arguments::Options;
 pub use call::{Call, Program, call_of};
-pub use failure::{FAILED, failed, failure_line};
-pub use source::{Disk, STANDARD_INPUT, Source, shown};
+pub use failure::{FAILED, failure_line, tell_failure};
+pub use source::{Disk, STANDARD_INPUT, Source, display_name};
 use std::alloc::Global;
 use std::io::{self, Read, Write};
 

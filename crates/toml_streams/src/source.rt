@@ -39,8 +39,8 @@ impl<'r, R: Files + Input + AllocGlobal> Source for Disk<'r, R> {
 }
 
 /// A name as messages have it: that of standard input is `stdin`.
-pub fn shown(name: &str) -> &str
-    ensures { result.now ≡ spec.shown name.now }
+pub fn display_name(name: &str) -> &str
+    ensures { result.now ≡ spec.display_name name.now }
 {
     if name == STANDARD_INPUT {
         "stdin"
