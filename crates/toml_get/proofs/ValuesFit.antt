@@ -1,5 +1,6 @@
 -- What stands in a document is no deeper than the nesting limit.
-use Rattle.std.proofs.Common.{◌≡◌, ℕ, zero, suc, ◌≤◌, Bool, true, false, List, [], ◌∷◌, Option, Some, None, refl, arith, subst}
+use Rattle.std.proofs.Common.{◌≡◌, ℕ, zero, suc, ◌≤◌, Bool, true, false, List, [], ◌∷◌, Option, Some, None, refl}
+use Rattle.std.proofs.Common.{arith, subst}
 use Rattle.std.proofs.Common.{cond, max}
 use Rattle.std.proofs.lemmas.Bool.{leb-true}
 use Rattle.std.specs.Option.{option_and_then}
@@ -26,7 +27,8 @@ sections_fit sections tree e =
     go false false g e = cc
     go false true g e =
         let same : tree_of_sections sections ≡ tree = cc in
-        subst (λ (d : Data). depth d ≤ nesting_limit) same (leb-true (depth (tree_of_sections sections)) nesting_limit g)
+        subst (λ (d : Data). depth d ≤ nesting_limit) same
+        (leb-true (depth (tree_of_sections sections)) nesting_limit g)
 
 pub document_fits : (text : Text) (tree : Data) → IsDocument text tree → depth tree ≤ nesting_limit
 document_fits text tree document = sections_fit document.sections tree document.means

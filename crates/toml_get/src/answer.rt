@@ -45,8 +45,8 @@ pub fn answer_from<S: Source>(
     name: &str,
     path: &str,
 ) -> Result<Answer, AllocError>
-    ensures { IfOk result (λ a. spec.IsSaid format (streams.display_name name.now) path.now (S.bytes source.now name.now)
-        a.status (string_bytes a.text)) }
+    ensures { IfOk result (λ a. spec.IsSaid format (streams.display_name name.now) path.now
+        (S.bytes source.now name.now) a.status (string_bytes a.text)) }
 {
     match steps_of(alloc, path) {
         Ok(steps) => answer_along(alloc, format, source, name, steps.as_slice()),

@@ -2,8 +2,8 @@
 //! `dependencies.serde.version`.
 //!
 //! It ends with status 0; with 1 where nothing stands there, where `--toml` meets no table, or where the text is
-//! refused; and with 3 where the path is malformed, where reading, writing or memory failed, or an option is none of its
-//! own. Standard error then says why, and how far the path leads. `docs/GET.md` has the rest.
+//! refused; and with 3 where the path is malformed, where reading, writing or memory failed, or an option is none of
+//! its own. Standard error then says why, and how far the path leads. `docs/GET.md` has the rest.
 #![tactic(auto)]
 
 mod answer;

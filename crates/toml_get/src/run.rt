@@ -11,8 +11,8 @@ use toml_streams::{FAILED, Source, display_name, tell_failure, write_all};
 /// Reads all bytes of the file of a name, and writes what stands at the path in them to `output`, or why nothing is
 /// printed to `errors`; answers the status.
 ///
-/// A malformed path is told before anything is read. A write that is interrupted counts as failed, and so does one that
-/// takes no byte.
+/// A malformed path is told before anything is read. A write that is interrupted counts as failed, and so does one
+/// that takes no byte.
 #[tactic(auto, using(crate::proofs::RunEnds::run_ends))]
 pub fn run<S: Source, W: Write, E: Write>(
     alloc: Global,
@@ -23,8 +23,8 @@ pub fn run<S: Source, W: Write, E: Write>(
     output: &mut W,
     errors: &mut E,
 ) -> u8
-    ensures { spec.Ends format (streams.display_name name.now) path.now (S.bytes source.now name.now) (W.contents output.old)
-        (W.contents output.new) (E.contents errors.old) (E.contents errors.new) result }
+    ensures { spec.Ends format (streams.display_name name.now) path.now (S.bytes source.now name.now)
+        (W.contents output.old) (W.contents output.new) (E.contents errors.old) (E.contents errors.new) result }
 {
     let Ok(answer) = answer_from(alloc, format, source, name, path) else {
         return tell_failure(alloc, errors, display_name(name), "out of memory");

@@ -10,14 +10,14 @@ returns-then-answer-ne-PRINTED g c =
       | in-Ok-write_all w ↦
           reason_written c.args.format (display_name c.args.name.now) c.args.path.now
           (g.S.Source.bytes c.args.source.now c.args.name.now) (g.W.Write.contents c.args.output.now)
-          (g.W.Write.contents c.args.output.now) (g.E.Write.contents c.args.errors.now) _ (string_bytes c.in-Ok.answer.text) c.in-Ok.answer.status
-          c.in-Ok.ensures _ _ c.if-answer-ne-PRINTED.true c.as_bytes.ensures.value w.in-Ok-write_all.ensures.ok
+          (g.W.Write.contents c.args.output.now) (g.E.Write.contents c.args.errors.now) _ (string_bytes c.in-Ok.answer.text)
+          c.in-Ok.answer.status c.in-Ok.ensures _ _ c.if-answer-ne-PRINTED.true c.as_bytes.ensures.value w.in-Ok-write_all.ensures.ok
           w.result-is
       | in-Err w ↦
           reason_cut c.args.format (display_name c.args.name.now) c.args.path.now
           (g.S.Source.bytes c.args.source.now c.args.name.now) (g.W.Write.contents c.args.output.now)
-          (g.W.Write.contents c.args.output.now) (g.E.Write.contents c.args.errors.now) _ (string_bytes c.in-Ok.answer.text) c.in-Ok.answer.status
-          c.in-Ok.ensures _ _ c.if-answer-ne-PRINTED.true c.as_bytes.ensures.value c.write_all.ensures.front
+          (g.W.Write.contents c.args.output.now) (g.E.Write.contents c.args.errors.now) _ (string_bytes c.in-Ok.answer.text)
+          c.in-Ok.answer.status c.in-Ok.ensures _ _ c.if-answer-ne-PRINTED.true c.as_bytes.ensures.value c.write_all.ensures.front
           w.result-is
     ]
 
