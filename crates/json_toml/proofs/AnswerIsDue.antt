@@ -21,8 +21,10 @@ use Rattle.toml_json_text.specs.declared.form.Form.{Form}
 use Rattle.toml_from_json.specs.Meaning.{members_in}
 use Rattle.toml_from_json.specs.declared.refusal.Fault as code
 use Rattle.toml_from_json.specs.RefusalText.{refusal_text}
+use Rattle.toml_streams.specs.Streams.{failure_line}
+use Rattle.json_toml.specs.Levels.{nests_deeper}
 use Rattle.json_toml.specs.declared.answer.Answer.{Answer}
-use Rattle.json_toml.specs.Run.{told, not_written_text, IsTableDue, written, unwritable, IsJsonDue, meant, refused, IsDue, json, no_json, no_json_text}
+use Rattle.json_toml.specs.Run.{told, not_written_text, IsTableDue, written, unwritable, IsJsonDue, meant, without_toml, IsDue, json, no_json, no_json_text}
 
 -- the calls of pairs are those of their data
 pub pairs_calls : {V : Type 0} (view : V → Data) (pairs : List (List ℕ × V))
@@ -32,27 +34,30 @@ pairs_calls view [] = refl
 pairs_calls view (p ∷ pairs) =
     ap (λ (is : List Item). field p.0 ∷ (data_calls (view p.1) ++ is)) (pairs_calls view pairs)
 
-pub json_due : {E : Type 0} (form : Form) (input : List ℕ) (j : Json) (result : Result Answer E) → IsUtf8 input
-    → document input ≡ Some j → IfOk result (λ a. IsJsonDue form j a.status (string_bytes a.text))
-    → IfOk result (λ a. IsDue form input a.status (string_bytes a.text))
-json_due form input j (Ok a) utf8 is due = json utf8 is due
-json_due form input j (Err e) utf8 is due = tt
+pub json_due : {E : Type 0} (form : Form) (name input : List ℕ) (j : Json) (result : Result Answer E) → IsUtf8 input
+    → document input ≡ Some j → IfOk result (λ a. IsJsonDue form name j a.status (string_bytes a.text))
+    → IfOk result (λ a. IsDue form name input a.status (string_bytes a.text))
+json_due form name input j (Ok a) utf8 is due = json utf8 is due
+json_due form name input j (Err e) utf8 is due = tt
 
-pub no_json_due : (form : Form) (input : List ℕ) (offset : ℕ) (text : List ℕ) → IsUtf8 input → document input ≡ None
-    → text ≡ no_json_text (line_at input offset) (column_at input offset) → IsDue form input 1 text
-no_json_due form input offset text utf8 none says = no_json offset utf8 none says
+pub no_json_due : (form : Form) (name input : List ℕ) (offset : ℕ) (text : List ℕ) → IsUtf8 input
+    → document input ≡ None
+    → text ≡ no_json_text name (line_at input offset) (column_at input offset) (nests_deeper input)
+    → IsDue form name input 1 text
+no_json_due form name input offset text utf8 none says = no_json offset utf8 none says
 
 pub ruleset due_text = (json_due, no_json_due)
 
-pub table_due : {E : Type 0} (form : Form) (j : Json) (members : Members) (result : Result Answer E)
+pub table_due : {E : Type 0} (form : Form) (name : List ℕ) (j : Json) (members : Members) (result : Result Answer E)
     → members_in form j ≡ Ok members → IfOk result (λ a. IsTableDue (table members) a.status (string_bytes a.text))
-    → IfOk result (λ a. IsJsonDue form j a.status (string_bytes a.text))
-table_due form j members (Ok a) is due = meant is due
-table_due form j members (Err e) is due = tt
+    → IfOk result (λ a. IsJsonDue form name j a.status (string_bytes a.text))
+table_due form name j members (Ok a) is due = meant is due
+table_due form name j members (Err e) is due = tt
 
-pub refused_due : (form : Form) (j : Json) (fault : code.Fault) (path text : List ℕ)
-    → members_in form j ≡ Err (fault, path) → text ≡ told (refusal_text fault path) → IsJsonDue form j 1 text
-refused_due form j fault path text is says = refused is says
+pub refused_due : (form : Form) (name : List ℕ) (j : Json) (fault : code.Fault) (path text : List ℕ)
+    → members_in form j ≡ Err (fault, path) → text ≡ failure_line name (refusal_text fault path)
+    → IsJsonDue form name j 1 text
+refused_due form name j fault path text is says = without_toml is says
 
 pub ruleset due_json = (table_due, refused_due)
 

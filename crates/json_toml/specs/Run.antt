@@ -1,5 +1,5 @@
 -- What the program writes for the bytes that it reads, and how a run ends. (own)
-use Rattle.std.specs.Prelude.{◌≡◌, ◌⊎◌, ℕ, zero, suc, ◌+◌, IsUtf8, true, false, List, [], ◌++◌, codes, decimal, Option, Some, None}
+use Rattle.std.specs.Prelude.{◌≡◌, ℕ, suc, ◌+◌, IsUtf8, Bool, true, false, List, ◌++◌, codes, decimal, Option, Some, None}
 use Rattle.std.specs.Prelude.{Ok, Err}
 use Rattle.std.specs.Io.KnownBytes.{Appends, Keeps}
 use Rattle.json.specs.Json.{Json, document}
@@ -13,17 +13,23 @@ use Rattle.toml_json_text.specs.declared.form.Form.{Form}
 use Rattle.toml_from_json.specs.declared.refusal.Fault.{Fault}
 use Rattle.toml_from_json.specs.Meaning.{members_in}
 use Rattle.toml_from_json.specs.RefusalText.{refusal_text}
-use Rattle.toml_streams.specs.Streams.{AppendsFront}
+use Rattle.json_toml.specs.Levels.{nests_deeper}
+use Rattle.toml_streams.specs.Streams.{AppendsFront, TellsFailure, failure_line}
 
 -- what is wrong with standard input
 abbrev pub told : List ℕ → List ℕ
 told text = codes "stdin: " ++ (text ++ codes "\n")
 
--- no JSON, as far as the reader came, with the line and the column from 1
-abbrev pub no_json_text : ℕ → ℕ → List ℕ
-no_json_text line column =
-    codes "stdin:" ++ (decimal (line + 1) ++ (codes ":" ++ (decimal (column + 1)
-    ++ codes ": no JSON, or nested deeper than 128\n")))
+-- why there is no JSON that is read
+abbrev pub no_json_reason : Bool → List ℕ
+no_json_reason true = codes "nested deeper than 128"
+no_json_reason false = codes "no JSON"
+
+-- the reason, with the file's name, and the line and the column from 1 of the place that the reader came to
+abbrev pub no_json_text : List ℕ → ℕ → ℕ → Bool → List ℕ
+no_json_text name line column deeper =
+    name ++ (codes ":" ++ (decimal (line + 1) ++ (codes ":" ++ (decimal (column + 1)
+    ++ (codes ": " ++ (no_json_reason deeper ++ codes "\n"))))))
 
 -- what is said of a table that no order of its rows and sections makes writable
 abbrev pub not_written_text : List ℕ
@@ -38,43 +44,37 @@ pub data IsTableDue (d : Data) : ℕ → List ℕ → Type 0 where
   unwritable : {text : List ℕ} → is_unwritable d ≡ true → text ≡ told not_written_text → IsTableDue d 2 text
 
 -- for JSON: what is due for the table that it means; or what of it has no TOML
-pub data IsJsonDue (form : Form) (j : Json) : ℕ → List ℕ → Type 0 where
+pub data IsJsonDue (form : Form) (name : List ℕ) (j : Json) : ℕ → List ℕ → Type 0 where
   meant : {members : Members} {status : ℕ} {text : List ℕ} → members_in form j ≡ Ok members
-      → IsTableDue (table members) status text → IsJsonDue form j status text
-  refused : {fault : Fault} {path text : List ℕ} → members_in form j ≡ Err (fault, path)
-      → text ≡ told (refusal_text fault path) → IsJsonDue form j 1 text
+      → IsTableDue (table members) status text → IsJsonDue form name j status text
+  without_toml : {fault : Fault} {path text : List ℕ} → members_in form j ≡ Err (fault, path)
+      → text ≡ failure_line name (refusal_text fault path) → IsJsonDue form name j 1 text
 
--- For bytes: what is due for the JSON that they are (RFC 8259, at most 128 arrays and objects deep); or that they are
--- none, where the place that is named is not said; or that they are no text.
-pub data IsDue (form : Form) (input : List ℕ) : ℕ → List ℕ → Type 0 where
+-- For the bytes of the file of a name in messages: what is due for the JSON that they are (RFC 8259, at most 128
+-- arrays and objects deep); or that they are none, or that their tokens nest deeper, where the place that is named is
+-- not said; or that they are no text.
+pub data IsDue (form : Form) (name input : List ℕ) : ℕ → List ℕ → Type 0 where
   json : {j : Json} {status : ℕ} {text : List ℕ} → IsUtf8 input → document input ≡ Some j
-      → IsJsonDue form j status text → IsDue form input status text
+      → IsJsonDue form name j status text → IsDue form name input status text
   no_json : (offset : ℕ) {text : List ℕ} → IsUtf8 input → document input ≡ None
-      → text ≡ no_json_text (line_at input offset) (column_at input offset) → IsDue form input 1 text
-  not_utf8 : {text : List ℕ} → (IsUtf8 input → ⊥) → text ≡ told (codes "input is not valid UTF-8")
-      → IsDue form input 1 text
+      → text ≡ no_json_text name (line_at input offset) (column_at input offset) (nests_deeper input)
+      → IsDue form name input 1 text
+  not_utf8 : {text : List ℕ} → (IsUtf8 input → ⊥) → text ≡ failure_line name (codes "input is not valid UTF-8")
+      → IsDue form name input 1 text
 
--- the text was written, or writing failed and a front of it was
-abbrev pub Puts : Option (List ℕ) → Option (List ℕ) → ℕ → List ℕ → ℕ → Type 0
-Puts old new status text result =
-    ((result ≡ status) × Appends old new text) ⊎ ((result ≡ 3) × AppendsFront old new text)
-
--- TOML goes to standard output, and all else to standard error
-abbrev pub to_output : ℕ → List ℕ → List ℕ
-to_output zero text = text
-to_output (suc n) text = []
-
-abbrev pub to_errors : ℕ → List ℕ → List ℕ
-to_errors zero text = []
-to_errors (suc n) text = text
-
--- how a run ends that reads these bytes, by what standard output and standard error hold before and after it, with its
--- status
-pub data Ends (form : Form) (input : List ℕ) (output output' errors errors' : Option (List ℕ)) : ℕ → Type 0 where
-  done : {status : ℕ} {text : List ℕ} → IsDue form input status text → Appends output output' (to_output status text)
-      → Appends errors errors' (to_errors status text) → Ends form input output output' errors errors' status
+-- How a run ends that reads these bytes of the file of a name in messages, by what standard output and standard error
+-- hold before and after it, with its status. TOML goes to standard output, and all else to standard error.
+pub data Ends (form : Form) (name input : List ℕ) (output output' errors errors' : Option (List ℕ)) : ℕ → Type 0 where
+  written : {text : List ℕ} → IsDue form name input 0 text → Appends output output' text → Keeps errors errors'
+      → Ends form name input output output' errors errors' 0
+  refused : {status : ℕ} {text : List ℕ} → IsDue form name input (suc status) text → Keeps output output'
+      → Appends errors errors' text → Ends form name input output output' errors errors' (suc status)
   -- reading or memory failed
-  not_answered : Keeps output output' → Keeps errors errors' → Ends form input output output' errors errors' 3
-  not_written_all : {status : ℕ} {text : List ℕ} → IsDue form input status text
-      → AppendsFront output output' (to_output status text) → AppendsFront errors errors' (to_errors status text)
-      → Ends form input output output' errors errors' 3
+  not_answered : Keeps output output' → TellsFailure name errors errors'
+      → Ends form name input output output' errors errors' 3
+  -- standard output failed
+  not_written_all : {text : List ℕ} → IsDue form name input 0 text → AppendsFront output output' text
+      → TellsFailure (codes "stdout") errors errors' → Ends form name input output output' errors errors' 3
+  -- standard error failed
+  not_told_all : {status : ℕ} {text : List ℕ} → IsDue form name input (suc status) text → Keeps output output'
+      → AppendsFront errors errors' text → Ends form name input output output' errors errors' 3

@@ -5,9 +5,12 @@ ghost use Rattle.basic_toml.specs.LineColumn.{line_at, column_at};
 ghost use Rattle.basic_toml.specs.View.{entries};
 ghost use Rattle.json.specs.Json.{document};
 ghost use Rattle.json.specs.Value.{value_view};
+ghost use Rattle.json_toml.specs.Levels.{nests_deeper};
 ghost use Rattle.json_toml.specs.Reading.{IsNone};
 ghost use Rattle.json_toml.specs.Run as spec;
+ghost use Rattle.toml_streams.specs.Streams.{failure_line};
 
+use crate::levels::is_deeper;
 use basic_toml::{Table, into_rows_first, line_col, to_string};
 use json::{MAX_DEPTH, Reader, Scratch, Value as Json};
 use simdutf8::basic::from_utf8;
@@ -33,34 +36,40 @@ pub struct Answer {
     pub text: String,
 }
 
-/// Reads JSON and writes what it means as TOML.
+/// Reads JSON, of the file of a name in messages, and writes what it means as TOML.
 ///
 /// # Errors
 ///
 /// Want of memory alone.
-pub fn answer_to(alloc: Global, form: Form, input: &[u8]) -> Result<Answer, AllocError>
-    ensures { IfOk result (λ a. spec.IsDue form input.now a.status (string_bytes a.text)) }
+pub fn answer_to(alloc: Global, form: Form, name: &str, input: &[u8]) -> Result<Answer, AllocError>
+    ensures { IfOk result (λ a. spec.IsDue form name.now input.now a.status (string_bytes a.text)) }
 {
     match from_utf8(input) {
-        Ok(text) => answer_to_text(alloc, form, text),
+        Ok(text) => answer_to_text(alloc, form, name, text),
         Err(_) => Ok(Answer {
             status: REFUSED,
-            text: String::from_str(alloc, "stdin: input is not valid UTF-8\n")?,
+            text: no_text(alloc, name)?,
         }),
     }
 }
 
+fn no_text(alloc: Global, name: &str) -> Result<String, AllocError>
+    ensures { IfOk result (λ told. string_bytes told ≡ failure_line name.now (codes "input is not valid UTF-8")) }
+{
+    format!(in alloc; "{name}: input is not valid UTF-8\n")
+}
+
 #[tactic(auto, using(crate::proofs::AnswerIsDue::due_text))]
-fn answer_to_text(alloc: Global, form: Form, text: &str) -> Result<Answer, AllocError>
+fn answer_to_text(alloc: Global, form: Form, name: &str, text: &str) -> Result<Answer, AllocError>
     requires { IsUtf8 text.now }
-    ensures { IfOk result (λ a. spec.IsDue form text.now a.status (string_bytes a.text)) }
+    ensures { IfOk result (λ a. spec.IsDue form name.now text.now a.status (string_bytes a.text)) }
 {
     let mut scratch = Scratch::new(alloc);
     match json_in(alloc, text, &mut scratch) {
-        Ok(json) => answer_to_json(alloc, form, &json),
+        Ok(json) => answer_to_json(alloc, form, name, &json),
         Err(NoJson::At(offset)) => Ok(Answer {
             status: REFUSED,
-            text: no_json(alloc, text, offset)?,
+            text: no_json(alloc, name, text, offset)?,
         }),
         Err(NoJson::OutOfMemory) => Err(AllocError),
     }
@@ -103,24 +112,40 @@ fn json_in<'t>(alloc: Global, text: &'t str, scratch: &'t mut Scratch) -> Result
     }
 }
 
-fn no_json(alloc: Global, text: &str, offset: usize) -> Result<String, AllocError>
-    ensures { IfOk result (λ told. string_bytes told
-        ≡ spec.no_json_text (line_at text.now offset) (column_at text.now offset)) }
+fn no_json(alloc: Global, name: &str, text: &str, offset: usize) -> Result<String, AllocError>
+    ensures { IfOk result (λ told. string_bytes told ≡ spec.no_json_text name.now (line_at text.now offset)
+        (column_at text.now offset) (nests_deeper text.now)) }
 {
     let (line, column) = line_col(text, offset);
     let (line, column) = (line + 1, column + 1);
-    format!(in alloc; "stdin:{line}:{column}: no JSON, or nested deeper than 128\n")
+    let reason = no_json_reason(is_deeper(alloc, text)?);
+    format!(in alloc; "{name}:{line}:{column}: {reason}\n")
+}
+
+fn no_json_reason(is_deeper: bool) -> &'static str
+    ensures { result.now ≡ spec.no_json_reason is_deeper }
+{
+    if is_deeper {
+        "nested deeper than 128"
+    } else {
+        "no JSON"
+    }
 }
 
 #[tactic(auto, using(crate::proofs::AnswerIsDue::due_json))]
-fn answer_to_json(alloc: Global, form: Form, json: &Json<'_>) -> Result<Answer, AllocError>
-    ensures { IfOk result (λ a. spec.IsJsonDue form (value_view json.now) a.status (string_bytes a.text)) }
+fn answer_to_json(
+    alloc: Global,
+    form: Form,
+    name: &str,
+    json: &Json<'_>,
+) -> Result<Answer, AllocError>
+    ensures { IfOk result (λ a. spec.IsJsonDue form name.now (value_view json.now) a.status (string_bytes a.text)) }
 {
     match table_of(alloc, form, json) {
         Ok(table) => answer_to_table(alloc, table),
         Err(NoTable::Refused(refusal)) => Ok(Answer {
             status: REFUSED,
-            text: format!(in alloc; "stdin: {refusal}\n")?,
+            text: format!(in alloc; "{name}: {refusal}\n")?,
         }),
         Err(NoTable::OutOfMemory) => Err(AllocError),
     }

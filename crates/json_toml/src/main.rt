@@ -1,89 +1,81 @@
-//! `json_toml` reads JSON from standard input and writes it as TOML to standard output, the rows of each table before
-//! its sections.
+//! `json_toml [FILE]` reads JSON and writes it as TOML to standard output, the rows of each table before its sections.
 //!
 //! It is the way back of `toml_json`. It ends with status 0; with 1 where the text is no JSON, or JSON that has no TOML;
 //! with 2 where the table cannot be written; and with 3 where reading, writing or memory failed, or an argument is none
-//! of its own. What is wrong goes to standard error, and then nothing to standard output.
+//! of its own. What is wrong goes to standard error, and then nothing to standard output. `docs/JSON.md` has the rest.
 #![tactic(auto)]
 
 mod answer;
+mod levels;
 mod run;
 
-use run::{FAILED, run};
+use run::run;
+use std::io;
 use std::process::ExitCode;
-use std::{env, io};
 use toml_json_text::Form;
+use toml_streams::{Call, Disk, FAILED, Options, Program, STANDARD_INPUT, call_of};
 
-const HELP: &str = "\
-json_toml [--tagged] < FILE
+const PROGRAM: Program = Program {
+    name: "json_toml",
+    version: "0.1.0",
+    help: "\
+json_toml [--tagged] [FILE]
 
 Reads JSON (RFC 8259) and writes it as TOML (v0.5.0), the rows of each table before its sections. A whole number is an
 integer, any other number a float, by its text. What has no TOML is refused: null, an integer outside i64, a repeated
-key, a top level that is no object.
+key, a top level that is no object. Without FILE, or where it is -, it reads standard input.
 
-  --tagged   read scalars with their types, as the toml-test suite has them
-  --help     print this
-  --version  print the version
+      --tagged   read scalars with their types, as the toml-test suite has them
+  -h, --help     print this
+      --version  print the version
+      --         what follows is a file
 
 Status: 0, or 1 where the text is refused, 2 where the table cannot be written (an array that mixes tables with other
 values), 3 where reading, writing or memory failed.
-";
+",
+    is_for_one_file: true,
+};
 
-/// What the program is asked to do.
-enum Request {
-    Write(Form),
-    Help,
-    Version,
-    Refused,
+/// How JSON is read.
+#[derive(Drop)]
+struct Reading {
+    form: Form,
+}
+
+impl Options for Reading {
+    fn take(&mut self, word: &str) -> bool {
+        match word {
+            "--tagged" => self.form = Form::Tagged,
+            _ => return false,
+        }
+        true
+    }
 }
 
 fn main(rt: HostRuntime) -> ExitCode {
     match status_of(&rt) {
         Ok(status) => ExitCode::from(status),
-        Err(_) => ExitCode::from(FAILED),
-    }
-}
-
-// What the words behind the program's name ask for: at most one is taken.
-fn request_of(words: &[String]) -> Request {
-    let mut words = words.iter();
-    let word = match words.next() {
-        None => return Request::Write(Form::Plain),
-        Some(word) => word.as_str(),
-    };
-    match (word, words.next()) {
-        ("--tagged", None) => Request::Write(Form::Tagged),
-        ("--help", None) => Request::Help,
-        ("--version", None) => Request::Version,
-        _ => Request::Refused,
+        Err(error) => {
+            let _ = eprintln!(rt; "json_toml: {error}");
+            ExitCode::from(FAILED)
+        }
     }
 }
 
 fn status_of(rt: &HostRuntime) -> io::Result<u8> {
-    let words: Vec<String> = env::args(rt)?.skip(1).collect(rt.alloc())?;
-    match request_of(words.as_slice()) {
-        Request::Write(form) => {
+    match call_of(rt, &PROGRAM, Reading { form: Form::Plain })? {
+        Call::Run { options, names } => {
+            let name = names.first().map_or(STANDARD_INPUT, String::as_str);
             let stderr = rt.stderr();
-            let mut reader = rt.reader();
             Ok(run(
                 rt.alloc(),
-                form,
-                &mut reader,
+                options.form,
+                &Disk(rt),
+                name,
                 &mut io::writer(rt),
                 &mut io::writer(&stderr),
             ))
         }
-        Request::Help => {
-            print!(rt; "{HELP}")?;
-            Ok(0)
-        }
-        Request::Version => {
-            println!(rt; "json_toml 0.1.0")?;
-            Ok(0)
-        }
-        Request::Refused => {
-            eprintln!(rt; "usage: json_toml [--tagged] < FILE; json_toml --help says more")?;
-            Ok(FAILED)
-        }
+        Call::Answered(status) => Ok(status),
     }
 }

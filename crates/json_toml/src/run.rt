@@ -1,50 +1,46 @@
 //! Bytes of JSON to TOML, or to what is wrong with them.
-ghost use Rattle.std.specs.Prelude.{◌≡◌, IfSome, string_bytes};
+ghost use Rattle.std.specs.Prelude.{IfSome};
 ghost use Rattle.json_toml.specs.Run as spec;
+ghost use Rattle.toml_streams.specs.Streams as streams;
 
-use crate::answer::{Answer, WRITTEN, answer_to};
+use crate::answer::{WRITTEN, answer_to};
 use std::alloc::Global;
-use std::io::{Read, Write};
+use std::io::Write;
 use toml_json_text::Form;
-use toml_streams::{read_all, write_all};
+use toml_streams::{FAILED, Source, display_name, tell_failure, write_all};
 
-/// The status where reading, writing or memory failed.
-pub const FAILED: u8 = 3;
-
-/// Reads all bytes, and writes the TOML that they mean to `output`, or what is wrong with them to `errors`; answers the
-/// status.
+/// Reads all bytes of the file of a name, and writes the TOML that they mean to `output`, or what is wrong with them to
+/// `errors`; answers the status. What fails is said on `errors`.
 ///
-/// An interrupted read or write counts as failed, and so does a write that takes no byte.
+/// A write that is interrupted counts as failed, and so does one that takes no byte.
 #[tactic(auto, using(crate::proofs::RunEnds::run_ends))]
-pub fn run<R: Read, W: Write, E: Write>(
+pub fn run<S: Source, W: Write, E: Write>(
     alloc: Global,
     form: Form,
-    reader: &mut R,
+    source: &S,
+    name: &str,
     output: &mut W,
     errors: &mut E,
 ) -> u8
-    ensures { IfSome (R.remaining reader.old) (λ input. spec.Ends form input (W.contents output.old)
-        (W.contents output.new) (E.contents errors.old) (E.contents errors.new) result) }
+    ensures { IfSome (S.bytes source.now name.now) (λ input. spec.Ends form (streams.display_name name.now) input
+        (W.contents output.old) (W.contents output.new) (E.contents errors.old) (E.contents errors.new) result) }
 {
-    let Ok(input) = read_all(alloc, reader) else {
-        return FAILED;
+    let label = display_name(name);
+    let input = match source.read(name) {
+        Ok(input) => input,
+        Err(error) => return tell_failure(alloc, errors, label, error),
     };
-    let Ok(answer) = answer_to(alloc, form, input.as_slice()) else {
-        return FAILED;
+    let Ok(answer) = answer_to(alloc, form, label, input.as_slice()) else {
+        return tell_failure(alloc, errors, label, "out of memory");
     };
-    if answer.status == WRITTEN {
-        return put(output, &answer);
+    if answer.status != WRITTEN {
+        let Ok(()) = write_all(errors, answer.text.as_bytes()) else {
+            return FAILED;
+        };
+        return answer.status;
     }
-    put(errors, &answer)
-}
-
-// Writes the text of an answer; answers its status, or that writing failed.
-fn put<W: Write>(writer: &mut W, answer: &Answer) -> u8
-    ensures { spec.Puts (W.contents writer.old) (W.contents writer.new) answer.now.status
-        (string_bytes answer.now.text) result }
-{
-    match write_all(writer, answer.text.as_bytes()) {
-        Ok(()) => answer.status,
-        Err(_) => FAILED,
+    match write_all(output, answer.text.as_bytes()) {
+        Ok(()) => WRITTEN,
+        Err(error) => tell_failure(alloc, errors, "stdout", error),
     }
 }

@@ -1,6 +1,6 @@
 -- What is due, from what reading answered.
-use Rattle.std.proofs.Common.{◌≡◌, ℕ, List, Result, Ok, Err, IfOk, sym, subst, ap, ◌∙◌, string_bytes}
-use Rattle.basic_toml.specs.Data.{Data, Members, table}
+use Rattle.std.proofs.Common.{◌≡◌, ℕ, List, Result, Ok, Err, IfOk, ap, ◌∙◌}
+use Rattle.basic_toml.specs.Data.{Members, table}
 use Rattle.basic_toml_tree.specs.declared.tree.Tree.{Tree}
 use Rattle.basic_toml_tree.specs.Data.{table_data}
 use Rattle.toml_findings.specs.declared.finding.Unread.{Unread}

@@ -2,7 +2,7 @@
 use Rattle.std.specs.Prelude.{◌≡◌, ℕ, IsUtf8, List, [], ◌++◌, codes, string_bytes, Option}
 use Rattle.std.specs.Io.KnownBytes.{Appends, Keeps}
 use Rattle.basic_toml.specs.tokens.Text.{folded}
-use Rattle.basic_toml.specs.Data.{Data, Members, table}
+use Rattle.basic_toml.specs.Data.{Data}
 use Rattle.basic_toml.specs.Document.{IsDocument}
 use Rattle.toml_findings.specs.declared.finding.Unread.{Unread}
 use Rattle.toml_findings.specs.declared.finding.Unread.TheVariants as unread

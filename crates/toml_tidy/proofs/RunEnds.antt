@@ -4,7 +4,7 @@ use Rattle.std.specs.Io.KnownBytes.{Appends}
 use Rattle.std.proofs.KnownBytes.{Keeps-refl}
 use Rattle.toml_answer.specs.Due as answer
 use Rattle.toml_answer.specs.declared.Order.{Order}
-use Rattle.toml_streams.specs.Streams.{AppendsFront}
+use Rattle.toml_streams.specs.Streams.{AppendsFront, TellsFailure}
 use Rattle.toml_tidy.specs.Run.{IsDue, tidied, error, Ends, done, not_answered, not_written_all}
 
 pub tidied_text : (order : Order) (input text : List ℕ) (place : Option (ℕ × ℕ)) (status : ℕ) → answer.IsDue order input status text place
@@ -18,31 +18,39 @@ pub error_text : (order : Order) (input text : List ℕ) (place : Option (ℕ ×
 error_text order input text place zero due not = absurd (not refl)
 error_text order input text place (suc status) due not = error due
 
--- a reader that does not tell its bytes promises nothing
-module _ (order : Order) (remaining old new : Option (List ℕ)) where
-  pub unanswered : IfSome remaining (λ input. Ends order input old old 3)
-  unanswered = go remaining
+-- a source that does not tell its bytes promises nothing
+module _ (order : Order) (name : List ℕ) (known output output' errors errors' : Option (List ℕ)) where
+  for_known : (items bytes : List ℕ) → IfSome known (λ left. items ≡ left) → bytes ≡ items
+      → (P : List ℕ → Type 0) → P bytes → IfSome known P
+  for_known items bytes read same P holds = go known read
     where
-      go : (o : Option (List ℕ)) → IfSome o (λ input. Ends order input old old 3)
+      go : (o : Option (List ℕ)) → IfSome o (λ left. items ≡ left) → IfSome o P
+      go None all = tt
+      go (Some input) all = subst P (same ∙ all) holds
+
+  pub unanswered : (label : List ℕ) (status : ℕ) → label ≡ name → status ≡ 3 → TellsFailure label errors errors'
+      → IfSome known (λ input. Ends order name input output output errors errors' status)
+  unanswered label status named is told = go known
+    where
+      go : (o : Option (List ℕ)) → IfSome o (λ input. Ends order name input output output errors errors' status)
       go None = tt
-      go (Some input) = not_answered (Keeps-refl old)
+      go (Some input) = subst (λ (n : ℕ). Ends order name input output output errors errors' n) (sym is)
+          (not_answered (Keeps-refl output) (subst (λ (l : List ℕ). TellsFailure l errors errors') named told))
 
-  pub all_written : (items bytes text piece : List ℕ) (status : ℕ) → IfSome remaining (λ left. items ≡ left)
-      → bytes ≡ items → IsDue order bytes status text → piece ≡ text → Appends old new piece
-      → IfSome remaining (λ input. Ends order input old new status)
-  all_written items bytes text piece status read same due whole appends = go remaining read
-    where
-      go : (o : Option (List ℕ)) → IfSome o (λ left. items ≡ left) → IfSome o (λ input. Ends order input old new status)
-      go None all = tt
-      go (Some input) all = subst (λ (b : List ℕ). Ends order b old new status) (same ∙ all)
-          (done due (subst (Appends old new) whole appends))
+  pub all_written : (items bytes text piece : List ℕ) (status : ℕ) → IfSome known (λ left. items ≡ left)
+      → bytes ≡ items → IsDue order bytes status text → piece ≡ text → Appends output output' piece
+      → IfSome known (λ input. Ends order name input output output' errors errors status)
+  all_written items bytes text piece status read same due whole appends =
+      for_known items bytes read same (λ input. Ends order name input output output' errors errors status)
+      (done due (subst (Appends output output') whole appends) (Keeps-refl errors))
 
-  pub front_written : (items bytes text piece : List ℕ) (status : ℕ) → IfSome remaining (λ left. items ≡ left)
-      → bytes ≡ items → IsDue order bytes status text → piece ≡ text → AppendsFront old new piece
-      → IfSome remaining (λ input. Ends order input old new 3)
-  front_written items bytes text piece status read same due whole front = go remaining read
-    where
-      go : (o : Option (List ℕ)) → IfSome o (λ left. items ≡ left) → IfSome o (λ input. Ends order input old new 3)
-      go None all = tt
-      go (Some input) all = subst (λ (b : List ℕ). Ends order b old new 3) (same ∙ all)
-          (not_written_all due (subst (AppendsFront old new) whole front))
+  pub front_written : (items bytes text piece : List ℕ) (due_status status : ℕ)
+      → IfSome known (λ left. items ≡ left) → bytes ≡ items → IsDue order bytes due_status text → piece ≡ text
+      → AppendsFront output output' piece → status ≡ 3 → TellsFailure (codes "stdout") errors errors'
+      → IfSome known (λ input. Ends order name input output output' errors errors' status)
+  front_written items bytes text piece due_status status read same due whole front is told =
+      for_known items bytes read same (λ input. Ends order name input output output' errors errors' status)
+      (subst (λ (n : ℕ). Ends order name bytes output output' errors errors' n) (sym is)
+      (not_written_all due (subst (AppendsFront output output') whole front) told))
+
+pub ruleset run_ends = (unanswered, all_written, front_written)

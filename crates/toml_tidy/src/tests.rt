@@ -1,17 +1,52 @@
-use super::run;
+use super::run::run;
+use std::alloc::Global;
 use std::io::{self, Read, Write};
 use std::test::Fail;
 use toml_answer::Order;
+use toml_streams::{Source, read_all};
 
-/// Gives at most so many bytes at a call, and fails once, after some calls.
+/// One file of each name, which gives at most so many bytes at a call, and fails once, after some calls.
+#[derive(Clone, Copy)]
+struct Text {
+    alloc: Global,
+    bytes: &'static [u8],
+    most: usize,
+    calls_before_fault: usize,
+}
+
+impl Source for Text {
+    ghost use Rattle.std.specs.Prelude.{None};
+
+    ghost bytes = { λ _ _. None };
+
+    fn read(&self, _name: &str) -> io::Result<Vec<u8>> {
+        let mut reader = Reader {
+            left: self.bytes,
+            most: self.most,
+            calls_before_fault: self.calls_before_fault,
+        };
+        read_all(self.alloc, &mut reader)
+    }
+}
+
+/// The text as a file that never fails.
+fn whole(alloc: Global, bytes: &'static [u8]) -> Text {
+    Text {
+        alloc,
+        bytes,
+        most: usize::MAX,
+        calls_before_fault: usize::MAX,
+    }
+}
+
 #[derive(Drop)]
-struct Source {
+struct Reader {
     left: &'static [u8],
     most: usize,
     calls_before_fault: usize,
 }
 
-impl Read for Source {
+impl Read for Reader {
     fn read(&mut self, buf: &mut [u8]) -> io::Result<usize> {
         if self.calls_before_fault == 0 {
             self.calls_before_fault = usize::MAX;
@@ -82,11 +117,20 @@ fn runs(rt: HostRuntime) -> Result<(), Fail> {
         ),
         (b"a\xff".as_slice(), 1, "input is not valid UTF-8\n"),
     ] {
-        let mut reader = input;
-        let mut writer = Vec::new(rt.alloc());
-        let ended = run(rt.alloc(), Order::AsRead, &mut reader, &mut writer);
+        let mut output = Vec::new(rt.alloc());
+        let mut errors = Vec::new(rt.alloc());
+        let source = whole(rt.alloc(), input);
+        let ended = run(
+            rt.alloc(),
+            Order::AsRead,
+            &source,
+            "-",
+            &mut output,
+            &mut errors,
+        );
         assert_eq!(rt; ended, status, "at {text}");
-        assert_eq!(rt; writer.as_slice(), text.as_bytes());
+        assert_eq!(rt; output.as_slice(), text.as_bytes());
+        assert!(rt; errors.is_empty());
     }
     Ok(())
 }
@@ -110,11 +154,20 @@ fn runs_with_rows_first(rt: HostRuntime) -> Result<(), Fail> {
             "duplicate key: `a` at line 2 column 1\n",
         ),
     ] {
-        let mut reader = input;
-        let mut writer = Vec::new(rt.alloc());
-        let ended = run(rt.alloc(), Order::RowsFirst, &mut reader, &mut writer);
+        let mut output = Vec::new(rt.alloc());
+        let mut errors = Vec::new(rt.alloc());
+        let source = whole(rt.alloc(), input);
+        let ended = run(
+            rt.alloc(),
+            Order::RowsFirst,
+            &source,
+            "-",
+            &mut output,
+            &mut errors,
+        );
         assert_eq!(rt; ended, status, "at {text}");
-        assert_eq!(rt; writer.as_slice(), text.as_bytes());
+        assert_eq!(rt; output.as_slice(), text.as_bytes());
+        assert!(rt; errors.is_empty());
     }
     Ok(())
 }
@@ -138,18 +191,27 @@ fn fails_at_each_call(rt: HostRuntime) -> Result<(), Fail> {
         for (most, is_interrupted) in [(1, true), (1, false), (5, true), (5, false), (64, true)] {
             for reads in 0..40usize {
                 for writes in 0..40usize {
-                    let mut reader = Source {
-                        left: input,
+                    let source = Text {
+                        alloc: rt.alloc(),
+                        bytes: input,
                         most,
                         calls_before_fault: reads,
                     };
-                    let mut writer = Sink {
+                    let mut errors = Vec::new(rt.alloc());
+                    let mut output = Sink {
                         bytes: Vec::new(rt.alloc()),
                         most,
                         calls_before_fault: writes,
                         is_interrupted,
                     };
-                    let ended = run(rt.alloc(), Order::AsRead, &mut reader, &mut writer);
+                    let ended = run(
+                        rt.alloc(),
+                        Order::AsRead,
+                        &source,
+                        "a.toml",
+                        &mut output,
+                        &mut errors,
+                    );
                     let is_read = reads > input.len().div_ceil(most);
                     let taken = if is_read {
                         writes.saturating_mul(most)
@@ -158,8 +220,18 @@ fn fails_at_each_call(rt: HostRuntime) -> Result<(), Fail> {
                     };
                     let status = if taken < text.len() { 3 } else { due };
                     assert_eq!(rt; ended, status, "{text} at {reads} and {writes} of {most}");
-                    assert_eq!(rt; writer.bytes.len(), taken.min(text.len()));
-                    assert!(rt; text.as_bytes().starts_with(writer.bytes.as_slice()));
+                    assert_eq!(rt; output.bytes.len(), taken.min(text.len()));
+                    assert!(rt; text.as_bytes().starts_with(output.bytes.as_slice()));
+                    let told = if status != 3 {
+                        ""
+                    } else if !is_read {
+                        "a.toml: operation interrupted\n"
+                    } else if is_interrupted {
+                        "stdout: operation interrupted\n"
+                    } else {
+                        "stdout: write zero\n"
+                    };
+                    assert_eq!(rt; errors.as_slice(), told.as_bytes());
                 }
             }
         }
@@ -184,10 +256,15 @@ impl Write for Full {
 #[test]
 fn fails_where_no_byte_is_taken(rt: HostRuntime) {
     for (input, status) in [(b"a = 7".as_slice(), 3), (b"a = [1", 3), (b"", 0)] {
-        let mut reader = input;
-        assert_eq!(rt;
-            run(rt.alloc(), Order::AsRead, &mut reader, &mut Full),
-            status
+        let source = whole(rt.alloc(), input);
+        let ended = run(
+            rt.alloc(),
+            Order::AsRead,
+            &source,
+            "-",
+            &mut Full,
+            &mut Full,
         );
+        assert_eq!(rt; ended, status);
     }
 }

@@ -4,5 +4,5 @@ use Rattle.json_toml.proofs.answer.answer_to_text.Goals as goal
 
 pub returns-in-Ok : goal.returns-in-Ok
 returns-in-Ok c =
-    json_due c.args.form c.args.text.now (value_view c.in-Ok.json) c.answer_to_json.result c.requires c.in-Ok.ensures.ok
+    json_due c.args.form c.args.name.now c.args.text.now (value_view c.in-Ok.json) c.answer_to_json.result c.requires c.in-Ok.ensures.ok
     c.answer_to_json.ensures
