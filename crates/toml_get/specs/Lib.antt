@@ -1,0 +1,3 @@
+pub mod Printed
+pub mod Fronts
+pub mod Run
