@@ -42,6 +42,11 @@ struct toml_answer {
    TOML_NOT_WRITTEN, the error's message with its keys and its place. */
 struct toml_answer toml_c_tidy(const uint8_t *input, size_t input_length, uint8_t *output, size_t output_length);
 
+/* The same, with the rows of each table before its sections: so every text that is read is written, and
+   TOML_NOT_WRITTEN is left for what is nested too deeply, which no text is that was read. */
+struct toml_answer toml_c_tidy_rows_first(const uint8_t *input, size_t input_length, uint8_t *output,
+                                          size_t output_length);
+
 /* Reads a TOML text and writes its data as JSON, on one line, the keys in the order of the text: `inf` and `nan` as
    strings, and with `is_tagged` each scalar with its type, as {"type":"integer","value":"80"}. To `output` goes the
    JSON, or, with TOML_REFUSED, the error's message with its keys and its place. */

@@ -85,6 +85,7 @@ class Library:
         it = ctypes.CDLL(os.path.abspath(file))
         part = [ctypes.c_char_p, ctypes.c_size_t]
         self.call_tidy = self.named(it.toml_c_tidy, Answer, 2 * part)
+        self.call_tidy_rows_first = self.named(it.toml_c_tidy_rows_first, Answer, 2 * part)
         self.call_json = self.named(it.toml_c_json, Answer, [*part, ctypes.c_bool, *part])
         self.call_check = self.named(it.toml_c_check, Finding, 3 * part)
         self.call_get = self.named(it.toml_c_get, Value, 3 * part)
@@ -94,10 +95,12 @@ class Library:
         call.restype, call.argtypes = answer, arguments
         return call
 
-    def answer(self, text, room):
-        """The answer of `toml_c_tidy` to some bytes, and all the memory that was there to write to."""
+    def answer(self, text, room, rows_first=False):
+        """The answer of `toml_c_tidy`, or of `toml_c_tidy_rows_first`, to some bytes, and all the memory that was there
+        to write to."""
         output = memory(room)
-        return self.call_tidy(text, len(text), output, room), output.raw[:room]
+        call = self.call_tidy_rows_first if rows_first else self.call_tidy
+        return call(text, len(text), output, room), output.raw[:room]
 
     def json_answer(self, text, is_tagged, room):
         output = memory(room)
@@ -128,10 +131,11 @@ class Library:
             raise Error(answer.status, text.decode(), place(answer))
         return text
 
-    def tidy(self, text):
-        """The bytes of a text written anew; an Error, or a MemoryError."""
+    def tidy(self, text, rows_first=False):
+        """The bytes of a text written anew, with the rows of each table first or in the order of the text; an Error, or
+        a MemoryError."""
         text = in_bytes(text)
-        return self.written(lambda room: self.answer(text, room))
+        return self.written(lambda room: self.answer(text, room, rows_first))
 
     def json(self, text, is_tagged=False):
         """The JSON of a text, in bytes; an Error, or a MemoryError."""
