@@ -1,5 +1,5 @@
 -- The text of a table of data, by its parts in turn.
-use Rattle.std.proofs.Common.{◌≡◌, ℕ, zero, suc, ◌+◌, ◌<◌, ◌==◌, Bool, true, false, List, [], ◌∷◌, ◌++◌, length, drop, take}
+use Rattle.std.proofs.Common.{◌≡◌, ℕ, zero, suc, ◌+◌, ◌<◌, ◌==◌, Bool, true, false, ◌||◌, List, [], ◌∷◌, ◌++◌, length, drop, take}
 use Rattle.std.proofs.Common.{get_or, refl, sym, ◌∙◌, ap, subst, arith, append_assoc, Result, Ok, Err}
 use Rattle.std.proofs.Common.{length-append, append-nil}
 use Rattle.std.specs.Prelude.{IfOk, is_ok, if◌then◌else◌, IsUtf8, ◌≤◌, cond, not, Vec}
@@ -20,7 +20,8 @@ use Rattle.basic_toml_value.specs.declared.value.Value.TheVariants.{Array, Table
 use Rattle.basic_toml_tokens.specs.Ascii as ascii
 use Rattle.basic_toml_layout.specs.Layout.{element_header}
 use Rattle.basic_toml_layout.specs.Document.{inline, inline_items, inline_members, are_tables, is_row, has_row}
-use Rattle.basic_toml_layout.specs.Document.{is_header_due, rows_text, sections_text, section_text, element_text, table_text}
+use Rattle.basic_toml_layout.specs.Document.{is_header_due, Style, rows_text, sections_text, section_text}
+use Rattle.basic_toml_layout.specs.Document.{element_text, table_text}
 use Rattle.basic_toml_layout.specs.Parts.{Extends, has_section}
 use Rattle.basic_toml_layout.proofs.ViewsOfValues.{view-Array, view-Table}
 
@@ -50,18 +51,18 @@ entry_next : (r : Bool) (t part : List ℕ) (rest : Bool → List ℕ) (later : 
 entry_next true t part rest later = ap (λ z. z ++ rest later) (append-nil t)
 entry_next false t part rest later = append_assoc t part (rest true)
 
-pub entries_step : (pairs : List (Pair Value)) (i : ℕ) (pair : Pair Value) → i < length pairs
+pub entries_step : (style : Style) (pairs : List (Pair Value)) (i : ℕ) (pair : Pair Value) → i < length pairs
     → pair ≡ get_or pairs i pair → (keys : List (List ℕ)) (later after : Bool) (t t' whole : List ℕ)
-    → t' ≡ t ++ cond (is_row (view pair.value)) [] (section_text (text_bytes pair.key ∷ keys) later (view pair.value))
+    → t' ≡ t ++ cond (is_row (view pair.value)) [] (section_text style (text_bytes pair.key ∷ keys) later (view pair.value))
     → after ≡ cond (is_row (view pair.value)) later true
-    → t ++ sections_text keys later (entries (seen (drop i pairs))) ≡ whole
-    → t' ++ sections_text keys after (entries (seen (drop (i + 1) pairs))) ≡ whole
-entries_step pairs i pair lt read keys later after t t' whole is after_is left =
-    let rest : Bool → List ℕ = λ b. sections_text keys b (entries (seen (drop (i + 1) pairs))) in
-    let part : List ℕ = section_text (text_bytes pair.key ∷ keys) later (view pair.value) in
+    → t ++ sections_text style keys later (entries (seen (drop i pairs))) ≡ whole
+    → t' ++ sections_text style keys after (entries (seen (drop (i + 1) pairs))) ≡ whole
+entries_step style pairs i pair lt read keys later after t t' whole is after_is left =
+    let rest : Bool → List ℕ = λ b. sections_text style keys b (entries (seen (drop (i + 1) pairs))) in
+    let part : List ℕ = section_text style (text_bytes pair.key ∷ keys) later (view pair.value) in
     (λ j. is j ++ rest (after_is j))
     ∙ (entry_next (is_row (view pair.value)) t part rest later
-    ∙ (ap (λ ps. t ++ sections_text keys later (entries (seen ps))) (sym (drop_at pairs i pair lt read)) ∙ left))
+    ∙ (ap (λ ps. t ++ sections_text style keys later (entries (seen ps))) (sym (drop_at pairs i pair lt read)) ∙ left))
 
 -- a table is larger than its entries
 pub entries_smaller : (v : Value) (ps : List (List ℕ × Value)) (qs : List (Pair Value)) → v ≡ Table ps → seen qs ≡ ps
@@ -129,25 +130,26 @@ some_due [] some = absurd (true≢false some)
 some_due (p ∷ ps) some = refl
 
 -- an element that is a table
-pub element_is : (v : Value) (ps : List (List ℕ × Value)) (qs : List (Pair Value)) → v ≡ Table ps → seen qs ≡ ps
-    → (keys : List (List ℕ)) (later : Bool) (t t1 t2 : List ℕ) → t1 ≡ t ++ element_header later keys
-    → t2 ≡ t1 ++ table_text keys (entries (seen qs)) → t2 ≡ t ++ element_text keys later (view v)
-element_is v ps qs is same keys later t t1 t2 e f =
-    f ∙ ap (λ z. z ++ table_text keys (entries (seen qs))) e
-    ∙ append_assoc t (element_header later keys) (table_text keys (entries (seen qs)))
-    ∙ ap (λ z. t ++ element_text keys later (table (entries z))) same
-    ∙ ap (λ z. t ++ element_text keys later z) (sym (ap view is ∙ view-Table ps))
+pub element_is : (style : Style) (v : Value) (ps : List (List ℕ × Value)) (qs : List (Pair Value)) → v ≡ Table ps
+    → seen qs ≡ ps → (keys : List (List ℕ)) (later spaced : Bool) (t t1 t2 : List ℕ) → spaced ≡ style.spaced
+    → t1 ≡ t ++ element_header later keys → t2 ≡ t1 ++ table_text style keys spaced (entries (seen qs))
+    → t2 ≡ t ++ element_text style keys later (view v)
+element_is style v ps qs is same keys later spaced t t1 t2 s e f =
+    f ∙ (λ i. e i ++ table_text style keys (s i) (entries (seen qs)))
+    ∙ append_assoc t (element_header later keys) (table_text style keys style.spaced (entries (seen qs)))
+    ∙ ap (λ z. t ++ element_text style keys later (table (entries z))) same
+    ∙ ap (λ z. t ++ element_text style keys later z) (sym (ap view is ∙ view-Table ps))
 
 -- a table without sections
-no_section_text : (ms : Members) (keys : List (List ℕ)) (later : Bool) → has_section ms ≡ false
-    → sections_text keys later ms ≡ []
-no_section_text no_members keys later e = refl
-no_section_text (member k x ms) keys later e =
+no_section_text : (style : Style) (ms : Members) (keys : List (List ℕ)) (later : Bool) → has_section ms ≡ false
+    → sections_text style keys later ms ≡ []
+no_section_text style no_members keys later e = refl
+no_section_text style (member k x ms) keys later e =
     let p = or_parts (not (is_row x)) (has_section ms) e in
-    rw (not-false (is_row x) p.0) (no_section_text ms keys later p.1)
+    rw (not-false (is_row x) p.0) (no_section_text style ms keys later p.1)
 
-pub rows_alone : (ms : Members) (keys : List (List ℕ)) (has : Bool) (t t1 : List ℕ) → has ≡ has_section ms
-    → has ≡ false → t1 ≡ t ++ rows_text ms → t1 ≡ t ++ table_text keys ms
-rows_alone ms keys has t t1 is none e =
-    e ∙ ap (λ z. t ++ z) (sym (append-nil (rows_text ms))
-    ∙ ap (λ z. rows_text ms ++ z) (sym (no_section_text ms keys (has_row ms) (sym is ∙ none))))
+pub rows_alone : (style : Style) (ms : Members) (keys : List (List ℕ)) (later has : Bool) (t t1 : List ℕ)
+    → has ≡ has_section ms → has ≡ false → t1 ≡ t ++ rows_text style ms → t1 ≡ t ++ table_text style keys later ms
+rows_alone style ms keys later has t t1 is none e =
+    e ∙ ap (λ z. t ++ z) (sym (append-nil (rows_text style ms))
+    ∙ ap (λ z. rows_text style ms ++ z) (sym (no_section_text style ms keys (later || has_row ms) (sym is ∙ none))))

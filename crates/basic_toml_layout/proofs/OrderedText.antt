@@ -1,5 +1,5 @@
 -- The text of a table whose rows come first; where they hold no tables, it is the layout.
-use Rattle.std.proofs.Common.{◌≡◌, ℕ, Bool, true, false, ◌||◌, cond, List, [], ◌∷◌, ◌++◌, refl, ap, sym, ◌∙◌}
+use Rattle.std.proofs.Common.{◌≡◌, ℕ, Bool, true, false, ◌&&◌, ◌||◌, cond, List, [], ◌∷◌, ◌++◌, refl, ap, sym, ◌∙◌}
 use Rattle.std.proofs.Common.{append_assoc}
 use Rattle.basic_toml_tokens.specs.Ascii as ascii
 use Rattle.basic_toml_value.specs.Data.{Data, integer, float, boolean, string, array, table, Items, no_items, item}
@@ -10,8 +10,8 @@ use Rattle.basic_toml_layout.specs.Layout.{written, written_elements, more_eleme
 use Rattle.basic_toml_layout.specs.Layout.{table_header, element_header}
 use Rattle.basic_toml_layout.specs.Trees.{written_of, elements_of, entries_of}
 use Rattle.basic_toml_layout.specs.Document.{inline, inline_items, more_items, are_tables, is_row, has_row}
-use Rattle.basic_toml_layout.specs.Document.{is_header_due, row_text, rows_text, sections_text, elements_text}
-use Rattle.basic_toml_layout.specs.Document.{document_text}
+use Rattle.basic_toml_layout.specs.Document.{is_header_due, Style, plain, row_text, rows_text, sections_text}
+use Rattle.basic_toml_layout.specs.Document.{elements_text, table_text, document_text}
 
 -- no table stands in a value
 abbrev mutual
@@ -98,23 +98,24 @@ has_header (then_parts no_parts) = true
 has_header (then_parts (a_table o ps)) = false
 has_header (then_parts (an_array ns ps)) = false
 
-abbrev mutual
-  pub in_order : {IsSo : Data → Type 0} {ms : Members} → List (List ℕ) → Bool → OrderedBy IsSo ms → List ℕ
-  in_order path later (a_row {k = k} {x = x} h o) = row_text k x ++ in_order path true o
-  in_order path later (then_parts ps) = parts_in_order path later ps
+module _ (style : Style) where
+  abbrev mutual
+    pub in_order : {IsSo : Data → Type 0} {ms : Members} → List (List ℕ) → Bool → OrderedBy IsSo ms → List ℕ
+    in_order path later (a_row {k = k} {x = x} h o) = row_text style k x ++ in_order path true o
+    in_order path later (then_parts ps) = parts_in_order path later ps
 
-  pub parts_in_order : {IsSo : Data → Type 0} {ms : Members} → List (List ℕ) → Bool → PartsBy IsSo ms → List ℕ
-  parts_in_order path later no_parts = []
-  parts_in_order path later (a_table {k = k} o ps) =
-      (cond (has_header o) (table_header later (k ∷ path)) [] ++ in_order (k ∷ path) false o)
-      ++ parts_in_order path true ps
-  parts_in_order path later (an_array {k = k} ns ps) =
-      nodes_in_order (k ∷ path) later ns ++ parts_in_order path true ps
+    pub parts_in_order : {IsSo : Data → Type 0} {ms : Members} → List (List ℕ) → Bool → PartsBy IsSo ms → List ℕ
+    parts_in_order path later no_parts = []
+    parts_in_order path later (a_table {k = k} o ps) =
+        (cond (has_header o) (table_header later (k ∷ path)) [] ++ in_order (k ∷ path) (style.spaced && later) o)
+        ++ parts_in_order path true ps
+    parts_in_order path later (an_array {k = k} ns ps) =
+        nodes_in_order (k ∷ path) later ns ++ parts_in_order path true ps
 
-  pub nodes_in_order : {IsSo : Data → Type 0} {xs : Items} → List (List ℕ) → Bool → NodesBy IsSo xs → List ℕ
-  nodes_in_order path later no_nodes = []
-  nodes_in_order path later (a_node o ns) =
-      (element_header later path ++ in_order path false o) ++ nodes_in_order path true ns
+    pub nodes_in_order : {IsSo : Data → Type 0} {xs : Items} → List (List ℕ) → Bool → NodesBy IsSo xs → List ℕ
+    nodes_in_order path later no_nodes = []
+    nodes_in_order path later (a_node o ns) =
+        (element_header later path ++ in_order path style.spaced o) ++ nodes_in_order path true ns
 
 -- It is the text of the table, where what is so is a row.
 or_true : (b : Bool) → (b || true) ≡ true
@@ -125,24 +126,22 @@ or_false : (b : Bool) → (b || false) ≡ b
 or_false true = refl
 or_false false = refl
 
-abbrev whole : List (List ℕ) → Bool → Members → List ℕ
-whole path later ms = rows_text ms ++ sections_text path (later || has_row ms) ms
+row_whole : (style : Style) (path : List (List ℕ)) (later : Bool) (k : List ℕ) (x : Data) (ms : Members)
+    → is_row x ≡ true
+    → table_text style path later (member k x ms) ≡ row_text style k x ++ table_text style path true ms
+row_whole style path later k x ms r =
+    rw (r, or_true later) (append_assoc (row_text style k x) (rows_text style ms) (sections_text style path true ms))
 
-row_whole : (path : List (List ℕ)) (later : Bool) (k : List ℕ) (x : Data) (ms : Members) → is_row x ≡ true
-    → whole path later (member k x ms) ≡ row_text k x ++ whole path true ms
-row_whole path later k x ms r =
-    rw (r, or_true later) (append_assoc (row_text k x) (rows_text ms) (sections_text path true ms))
-
-record HasNoRow (ms : Members) : Type 0 where
-  text : rows_text ms ≡ []
+record HasNoRow (style : Style) (ms : Members) : Type 0 where
+  text : rows_text style ms ≡ []
   none : has_row ms ≡ false
 
-module _ {IsSo : Data → Type 0} (rows : (x : Data) → IsSo x → is_row x ≡ true) where
+module _ {IsSo : Data → Type 0} (rows : (x : Data) → IsSo x → is_row x ≡ true) (style : Style) where
   tables_alone : {xs : Items} → NodesBy IsSo xs → are_tables xs ≡ true
   tables_alone no_nodes = refl
   tables_alone (a_node o ns) = tables_alone ns
 
-  rowless : {ms : Members} → PartsBy IsSo ms → HasNoRow ms
+  rowless : {ms : Members} → PartsBy IsSo ms → HasNoRow style ms
   rowless no_parts = record { text = refl; none = refl }
   rowless (a_table o ps) = let r = rowless ps in record { text = r.text; none = r.none }
   rowless (an_array ns ps) =
@@ -156,32 +155,33 @@ module _ {IsSo : Data → Type 0} (rows : (x : Data) → IsSo x → is_row x ≡
   header_due (then_parts (an_array ns ps)) = rw (tables_alone ns) (rowless ps).none
 
   parts_whole : {ms : Members} (ps : PartsBy IsSo ms) (path : List (List ℕ)) (later : Bool)
-      → whole path later ms ≡ sections_text path later ms
+      → table_text style path later ms ≡ sections_text style path later ms
   parts_whole ps path later = let r = rowless ps in rw (r.text, r.none, or_false later) refl
 
   mutual
     ordered_whole : {ms : Members} (o : OrderedBy IsSo ms) (path : List (List ℕ)) (later : Bool)
-        → whole path later ms ≡ in_order path later o
+        → table_text style path later ms ≡ in_order style path later o
     ordered_whole (a_row {k = k} {x = x} {ms = ms} h o) path later =
-        row_whole path later k x ms (rows x h) ∙ ap (λ z. row_text k x ++ z) (ordered_whole o path true)
+        row_whole style path later k x ms (rows x h) ∙ ap (λ z. row_text style k x ++ z) (ordered_whole o path true)
     ordered_whole (then_parts ps) path later = parts_whole ps path later ∙ parts_ordered ps path later
 
     parts_ordered : {ms : Members} (ps : PartsBy IsSo ms) (path : List (List ℕ)) (later : Bool)
-        → sections_text path later ms ≡ parts_in_order path later ps
+        → sections_text style path later ms ≡ parts_in_order style path later ps
     parts_ordered no_parts path later = refl
     parts_ordered (a_table {k = k} o ps) path later =
-        (λ i. (cond (header_due o i) (table_header later (k ∷ path)) [] ++ ordered_whole o (k ∷ path) false i)
+        (λ i. (cond (header_due o i) (table_header later (k ∷ path)) []
+        ++ ordered_whole o (k ∷ path) (style.spaced && later) i)
         ++ parts_ordered ps path true i)
     parts_ordered (an_array {k = k} ns ps) path later =
         rw (tables_alone ns) (λ i. nodes_ordered ns (k ∷ path) later i ++ parts_ordered ps path true i)
 
     nodes_ordered : {xs : Items} (ns : NodesBy IsSo xs) (path : List (List ℕ)) (later : Bool)
-        → elements_text path later xs ≡ nodes_in_order path later ns
+        → elements_text style path later xs ≡ nodes_in_order style path later ns
     nodes_ordered no_nodes path later = refl
     nodes_ordered (a_node o ns) path later =
-        (λ i. (element_header later path ++ ordered_whole o path false i) ++ nodes_ordered ns path true i)
+        (λ i. (element_header later path ++ ordered_whole o path style.spaced i) ++ nodes_ordered ns path true i)
 
-  pub ordered_text : {ms : Members} (o : OrderedBy IsSo ms) → document_text ms ≡ in_order [] false o
+  pub ordered_text : {ms : Members} (o : OrderedBy IsSo ms) → document_text style ms ≡ in_order style [] false o
   ordered_text o = ordered_whole o [] false
 
 -- And it is the layout, where rows hold no tables.
@@ -196,14 +196,14 @@ layout_due (then_parts (an_array ns ps)) = refl
 
 mutual
   laid_out : {ms : Members} (o : Ordered ms) (path : List (List ℕ)) (later : Bool)
-      → in_order path later o ≡ entries_text path later (entries_of ms)
+      → in_order plain path later o ≡ entries_text path later (entries_of ms)
   laid_out (a_row {k = k} {x = x} {ms = ms} h o) path later =
       (λ i. (row_start k ++ (sym (same_value x h) i ++ (ascii.line_feed ∷ []))) ++ laid_out o path true i)
       ∙ sym (row_next path k later x (entries_of ms) h)
   laid_out (then_parts ps) path later = parts_laid_out ps path later
 
   parts_laid_out : {ms : Members} (ps : PartsBy HoldsNone ms) (path : List (List ℕ)) (later : Bool)
-      → parts_in_order path later ps ≡ entries_text path later (entries_of ms)
+      → parts_in_order plain path later ps ≡ entries_text path later (entries_of ms)
   parts_laid_out no_parts path later = refl
   parts_laid_out (a_table {k = k} o ps) path later =
       (λ i. (cond (sym (layout_due o) i) (table_header later (k ∷ path)) [] ++ laid_out o (k ∷ path) false i)
@@ -216,12 +216,12 @@ mutual
       (l.sections_text (k ∷ path) (elements_of xs)))
 
   nodes_laid_out : {xs : Items} (ns : NodesBy HoldsNone xs) (path : List (List ℕ))
-      → nodes_in_order path true ns ≡ l.sections_text path (elements_of xs)
+      → nodes_in_order plain path true ns ≡ l.sections_text path (elements_of xs)
   nodes_laid_out no_nodes path = refl
   nodes_laid_out (a_node {x = x} {xs = xs} o ns) path =
       (λ i. (element_header true path ++ laid_out o path false i) ++ nodes_laid_out ns path i)
       ∙ append_assoc (element_header true path) (entries_text path false (entries_of x))
       (l.sections_text path (elements_of xs))
 
-pub same_text : {ms : Members} → Ordered ms → document_text ms ≡ l.layout (w.table (entries_of ms))
-same_text o = ordered_text plain_row o ∙ laid_out o [] false
+pub same_text : {ms : Members} → Ordered ms → document_text plain ms ≡ l.layout (w.table (entries_of ms))
+same_text o = ordered_text plain_row plain o ∙ laid_out o [] false

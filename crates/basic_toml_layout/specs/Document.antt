@@ -2,10 +2,10 @@
 -- In each table the rows come first, `key = value`, and then the sections, each in their order. A table is a section; an
 -- array with an element whose elements are all tables is one section for each; any other entry is a row, and a table in
 -- its value is an inline table.
--- The header `[path]` of a table is written where the table has a row or no entry, after a blank line where an entry of
--- the table around it stands before. An element's `[[path]]` is always written, after a blank line where an entry or an
--- element stands before. The whole table has no header.
-use Rattle.std.specs.Prelude.{ℕ, Bool, true, false, cond, not, ◌||◌, List, [], ◌∷◌, ◌++◌, codes}
+-- The header `[path]` of a table is written where the table has a row or no entry, an element's `[[path]]` always. The
+-- whole table has no header. Before a header stands a blank line where an entry of the table around it, or an element,
+-- stands before; where sections are spaced, before each but one that begins the text.
+use Rattle.std.specs.Prelude.{ℕ, Bool, true, false, cond, not, ◌&&◌, ◌||◌, List, [], ◌∷◌, ◌++◌, codes}
 use Rattle.basic_toml_tokens.specs.Ascii as ascii
 use Rattle.basic_toml_value.specs.Data.{Data, integer, float, boolean, string, array, table, Items, no_items, item}
 use Rattle.basic_toml_value.specs.Data.{Members, no_members, member}
@@ -60,40 +60,50 @@ abbrev pub is_header_due : Members → Bool
 is_header_due no_members = true
 is_header_due (member k x ms) = has_row (member k x ms)
 
--- the rows of a table
-abbrev pub row_text : List ℕ → Data → List ℕ
-row_text k x = row_start k ++ (inline x ++ (ascii.line_feed ∷ []))
+-- how rows and headers look: the value of a row, after what its line begins with, and whether sections are spaced
+pub record Style : Type 0 where
+  pub value : List ℕ → Data → List ℕ
+  pub spaced : Bool
 
-abbrev pub rows_text : Members → List ℕ
-rows_text no_members = []
-rows_text (member k x ms) = cond (is_row x) (row_text k x) [] ++ rows_text ms
+-- each value on one line
+abbrev pub plain : Style
+plain = record { value = λ front x. inline x; spaced = false }
 
--- The sections of a table. The path has its last key first, and is_later says that an entry of the table stands before.
-abbrev mutual
-  pub sections_text : List (List ℕ) → Bool → Members → List ℕ
-  sections_text path is_later no_members = []
-  sections_text path is_later (member k x ms) = cond (is_row x) (sections_text path is_later ms)
-      (section_text (k ∷ path) is_later x ++ sections_text path true ms)
+module _ (style : Style) where
+  -- the rows of a table
+  abbrev pub row_text : List ℕ → Data → List ℕ
+  row_text k x = row_start k ++ (style.value (row_start k) x ++ (ascii.line_feed ∷ []))
 
-  pub section_text : List (List ℕ) → Bool → Data → List ℕ
-  section_text path is_later (table ms) = cond (is_header_due ms) (table_header is_later path) []
-      ++ (rows_text ms ++ sections_text path (has_row ms) ms)
-  section_text path is_later (array xs) = elements_text path is_later xs
-  section_text path is_later x = []
+  abbrev pub rows_text : Members → List ℕ
+  rows_text no_members = []
+  rows_text (member k x ms) = cond (is_row x) (row_text k x) [] ++ rows_text ms
 
-  -- the elements of an array of tables
-  pub elements_text : List (List ℕ) → Bool → Items → List ℕ
-  elements_text path is_later no_items = []
-  elements_text path is_later (item x xs) = element_text path is_later x ++ elements_text path true xs
+  -- The sections of a table. The path has its last key first, and is_later says that a blank line is due.
+  abbrev mutual
+    pub sections_text : List (List ℕ) → Bool → Members → List ℕ
+    sections_text path is_later no_members = []
+    sections_text path is_later (member k x ms) = cond (is_row x) (sections_text path is_later ms)
+        (section_text (k ∷ path) is_later x ++ sections_text path true ms)
 
-  pub element_text : List (List ℕ) → Bool → Data → List ℕ
-  element_text path is_later (table ms) = element_header is_later path
-      ++ (rows_text ms ++ sections_text path (has_row ms) ms)
-  element_text path is_later x = []
+    pub section_text : List (List ℕ) → Bool → Data → List ℕ
+    section_text path is_later (table ms) = cond (is_header_due ms) (table_header is_later path) []
+        ++ (rows_text ms ++ sections_text path ((style.spaced && is_later) || has_row ms) ms)
+    section_text path is_later (array xs) = elements_text path is_later xs
+    section_text path is_later x = []
 
--- what stands below the header of a table
-abbrev pub table_text : List (List ℕ) → Members → List ℕ
-table_text path ms = rows_text ms ++ sections_text path (has_row ms) ms
+    -- the elements of an array of tables
+    pub elements_text : List (List ℕ) → Bool → Items → List ℕ
+    elements_text path is_later no_items = []
+    elements_text path is_later (item x xs) = element_text path is_later x ++ elements_text path true xs
 
-abbrev pub document_text : Members → List ℕ
-document_text ms = table_text [] ms
+    pub element_text : List (List ℕ) → Bool → Data → List ℕ
+    element_text path is_later (table ms) = element_header is_later path
+        ++ (rows_text ms ++ sections_text path (style.spaced || has_row ms) ms)
+    element_text path is_later x = []
+
+  -- what stands below the header of a table
+  abbrev pub table_text : List (List ℕ) → Bool → Members → List ℕ
+  table_text path is_later ms = rows_text ms ++ sections_text path (is_later || has_row ms) ms
+
+  abbrev pub document_text : Members → List ℕ
+  document_text ms = table_text [] false ms

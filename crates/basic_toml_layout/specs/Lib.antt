@@ -5,6 +5,8 @@ pub mod Scalar
 pub mod Trees
 pub mod Sections
 pub mod Document
+pub mod Pretty
+pub mod Style
 pub mod TextOrder
 pub mod Valid
 pub mod Parts

@@ -1,9 +1,10 @@
 -- The parts of a text that are written one after another.
-use Rattle.std.specs.Prelude.{◌≡◌, ℕ, zero, suc, Bool, false, not, ◌||◌, List, ◌++◌, Result, IfOk}
+use Rattle.std.specs.Prelude.{◌≡◌, ℕ, zero, suc, Bool, false, not, ◌&&◌, ◌||◌, List, [], ◌∷◌, ◌++◌, Result, IfOk}
 use Rattle.basic_toml_value.specs.Data.{Items, Members, no_members, member}
 use Rattle.basic_toml_layout.specs.Document.{inline_items, more_items, inline_members, more_members}
 use Rattle.basic_toml_layout.specs.Document.{is_row}
-use Rattle.basic_toml_layout.specs.Texts.{joined}
+use Rattle.basic_toml_layout.specs.Pretty.{stands_in_lines}
+use Rattle.basic_toml_layout.specs.Texts.{joined, needs_escape}
 
 -- what is written at the keys that a path spells is added to a text
 abbrev pub GoesOn : {A E : Type 0} → List ℕ → List ℕ → List ℕ → (List (List ℕ) → List ℕ) → Result A E → Type 0
@@ -27,3 +28,8 @@ members_left (suc n) ms = more_members ms
 abbrev pub has_section : Members → Bool
 has_section no_members = false
 has_section (member k x ms) = not (is_row x) || has_section ms
+
+-- the first of these bytes, in a string of several lines, stands for something else than itself
+abbrev pub needs_line_escape : List ℕ → Bool
+needs_line_escape [] = false
+needs_line_escape (b ∷ bs) = needs_escape b && not (stands_in_lines b bs)

@@ -5,10 +5,11 @@
 #![tactic(auto)]
 
 mod data;
+mod lines;
 mod plain;
 mod scalar;
 mod text;
 
-pub use data::{begins_with_table, document_text, inline_text, is_section};
+pub use data::{Style, begins_with_table, document_text, inline_text, is_section};
 pub use scalar::Scalar;
 pub use text::{is_bare_key, write_key};

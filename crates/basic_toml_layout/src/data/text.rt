@@ -10,23 +10,26 @@ ghost use Rattle.basic_toml_value.specs.View.{view, entries, items_view};
 ghost use Rattle.basic_toml_layout.specs.Layout.{table_header, element_header};
 ghost use Rattle.basic_toml_layout.specs.Texts.{joined};
 ghost use Rattle.basic_toml_layout.specs.Document as d;
+ghost use Rattle.basic_toml_layout.specs.Style.{style_of};
 ghost use Rattle.basic_toml_layout.specs.Parts.{Extends, GoesOn, has_section};
 
 use super::inline::write_inline;
+use super::pretty::write_pretty;
 use super::sections::is_row;
+use super::style::Style;
 use crate::text::write_key;
 use basic_toml_value::{Pair, Table, Value};
 use std::alloc::AllocError;
 
 // Appends the rows of a table; whether there is a section.
-fn write_rows(text: &mut String, pairs: &[Pair<Value>]) -> Result<bool, AllocError>
+fn write_rows(text: &mut String, style: Style, pairs: &[Pair<Value>]) -> Result<bool, AllocError>
     ensures text { IfOk result (λ _. string_bytes text.new ≡ string_bytes text.old
-        ++ d.rows_text (entries (seen pairs.now))) }
+        ++ d.rows_text (style_of style) (entries (seen pairs.now))) }
     ensures section { IfOk result (λ has. has ≡ has_section (entries (seen pairs.now))) }
 {
     let mut has_section = false;
     for i in 0..pairs.len() {
-        let is_row = write_row(text, &pairs[i])?;
+        let is_row = write_row(text, style, &pairs[i])?;
         has_section = has_section || !is_row;
     }
     Ok(has_section)
@@ -34,18 +37,22 @@ fn write_rows(text: &mut String, pairs: &[Pair<Value>]) -> Result<bool, AllocErr
 
 // An entry, if it is a row; whether it is.
 #[inline(always)]
-fn write_row(text: &mut String, pair: &Pair<Value>) -> Result<bool, AllocError>
+fn write_row(text: &mut String, style: Style, pair: &Pair<Value>) -> Result<bool, AllocError>
     ensures text { let value = view pair.now.value in
         IfOk result (λ _. string_bytes text.new ≡ string_bytes text.old
-        ++ cond (d.is_row value) (d.row_text (text_bytes pair.now.key) value) []) }
+        ++ cond (d.is_row value) (d.row_text (style_of style) (text_bytes pair.now.key) value) []) }
     ensures row { IfOk result (λ is. is ≡ d.is_row (view pair.now.value)) }
 {
     if !is_row(&pair.value) {
         return Ok(false);
     }
+    let line = text.len();
     write_key(text, pair.key.as_str())?;
     text.push_str(" = ")?;
-    write_inline(text, &pair.value)?;
+    match style {
+        Style::Plain => write_inline(text, &pair.value)?,
+        Style::Pretty => write_pretty(text, line, &pair.value)?,
+    }
     text.push('\n')?;
     Ok(true)
 }
@@ -109,16 +116,18 @@ fn add_key(path: &mut String, key: &str) -> Result<(), AllocError>
 pub fn write_entries(
     text: &mut String,
     path: &mut String,
+    style: Style,
+    is_later: bool,
     pairs: &[Pair<Value>],
 ) -> Result<(), AllocError>
     ensures text { GoesOn (string_bytes path.old) (string_bytes text.old) (string_bytes text.new)
-        (λ keys. d.table_text keys (entries (seen pairs.now))) result }
+        (λ keys. d.table_text (style_of style) keys is_later (entries (seen pairs.now))) result }
     ensures path { IfOk result (λ _. string_bytes path.new ≡ string_bytes path.old) }
 {
-    if !write_rows(text, pairs)? {
+    if !write_rows(text, style, pairs)? {
         return Ok(());
     }
-    write_sections(text, path, has_row(pairs), pairs)
+    write_sections(text, path, style, is_later || has_row(pairs), pairs)
 }
 
 // The sections of a table.
@@ -126,16 +135,17 @@ pub fn write_entries(
 fn write_sections(
     text: &mut String,
     path: &mut String,
+    style: Style,
     is_later: bool,
     pairs: &[Pair<Value>],
 ) -> Result<(), AllocError>
     ensures text { GoesOn (string_bytes path.old) (string_bytes text.old) (string_bytes text.new)
-        (λ keys. d.sections_text keys is_later (entries (seen pairs.now))) result }
+        (λ keys. d.sections_text (style_of style) keys is_later (entries (seen pairs.now))) result }
     ensures path { IfOk result (λ _. string_bytes path.new ≡ string_bytes path.old) }
 {
     let mut is_after = is_later;
     for i in 0..pairs.len() {
-        is_after = write_entry(text, path, is_after, &pairs[i])?;
+        is_after = write_entry(text, path, style, is_after, &pairs[i])?;
     }
     Ok(())
 }
@@ -145,12 +155,13 @@ fn write_sections(
 fn write_entry(
     text: &mut String,
     path: &mut String,
+    style: Style,
     is_later: bool,
     pair: &Pair<Value>,
 ) -> Result<bool, AllocError>
     ensures text { let value = view pair.now.value in
         GoesOn (string_bytes path.old) (string_bytes text.old) (string_bytes text.new)
-        (λ keys. cond (d.is_row value) [] (d.section_text (text_bytes pair.now.key ∷ keys) is_later value)) result }
+        (λ keys. cond (d.is_row value) [] (d.section_text (style_of style) (text_bytes pair.now.key ∷ keys) is_later value)) result }
     ensures later { IfOk result (λ later. later ≡ cond (d.is_row (view pair.now.value)) is_later true) }
     ensures path { IfOk result (λ _. string_bytes path.new ≡ string_bytes path.old) }
 {
@@ -159,7 +170,7 @@ fn write_entry(
     }
     let len = path.len();
     add_key(path, pair.key.as_str())?;
-    write_section(text, path, is_later, &pair.value)?;
+    write_section(text, path, style, is_later, &pair.value)?;
     path.truncate(len);
     Ok(true)
 }
@@ -169,16 +180,17 @@ fn write_entry(
 fn write_section(
     text: &mut String,
     path: &mut String,
+    style: Style,
     is_later: bool,
     value: &Value,
 ) -> Result<(), AllocError>
     ensures text { GoesOn (string_bytes path.old) (string_bytes text.old) (string_bytes text.new)
-        (λ keys. d.section_text keys is_later (view value.now)) result }
+        (λ keys. d.section_text (style_of style) keys is_later (view value.now)) result }
     ensures path { IfOk result (λ _. string_bytes path.new ≡ string_bytes path.old) }
 {
     match value {
-        Value::Table(table) => write_table(text, path, is_later, table),
-        Value::Array(values) => write_elements(text, path, is_later, values.as_slice()),
+        Value::Table(table) => write_table(text, path, style, is_later, table),
+        Value::Array(values) => write_elements(text, path, style, is_later, values.as_slice()),
         _ => Ok(()),
     }
 }
@@ -187,18 +199,19 @@ fn write_section(
 fn write_table(
     text: &mut String,
     path: &mut String,
+    style: Style,
     is_later: bool,
     table: &Table,
 ) -> Result<(), AllocError>
     ensures text { GoesOn (string_bytes path.old) (string_bytes text.old) (string_bytes text.new)
-        (λ keys. d.section_text keys is_later (table_data (entries table.now))) result }
+        (λ keys. d.section_text (style_of style) keys is_later (table_data (entries table.now))) result }
     ensures path { IfOk result (λ _. string_bytes path.new ≡ string_bytes path.old) }
 {
     let pairs = table.entries();
     if is_header_due(pairs) {
         write_header(text, path.as_str(), is_later)?;
     }
-    write_entries(text, path, pairs)
+    write_entries(text, path, style, style.is_spaced() && is_later, pairs)
 }
 
 // The elements of an array of tables.
@@ -206,16 +219,17 @@ fn write_table(
 fn write_elements(
     text: &mut String,
     path: &mut String,
+    style: Style,
     is_later: bool,
     values: &[Value],
 ) -> Result<(), AllocError>
     ensures text { GoesOn (string_bytes path.old) (string_bytes text.old) (string_bytes text.new)
-        (λ keys. d.elements_text keys is_later (items_view values.now)) result }
+        (λ keys. d.elements_text (style_of style) keys is_later (items_view values.now)) result }
     ensures path { IfOk result (λ _. string_bytes path.new ≡ string_bytes path.old) }
 {
     let mut is_after = is_later;
     for i in 0..values.len() {
-        write_element(text, path, is_after, &values[i])?;
+        write_element(text, path, style, is_after, &values[i])?;
         is_after = true;
     }
     Ok(())
@@ -225,17 +239,18 @@ fn write_elements(
 fn write_element(
     text: &mut String,
     path: &mut String,
+    style: Style,
     is_later: bool,
     value: &Value,
 ) -> Result<(), AllocError>
     ensures text { GoesOn (string_bytes path.old) (string_bytes text.old) (string_bytes text.new)
-        (λ keys. d.element_text keys is_later (view value.now)) result }
+        (λ keys. d.element_text (style_of style) keys is_later (view value.now)) result }
     ensures path { IfOk result (λ _. string_bytes path.new ≡ string_bytes path.old) }
 {
     match value {
         Value::Table(table) => {
             write_element_header(text, path.as_str(), is_later)?;
-            write_entries(text, path, table.entries())
+            write_entries(text, path, style, style.is_spaced(), table.entries())
         }
         _ => Ok(()),
     }

@@ -3,6 +3,7 @@ use Rattle.basic_toml_value.specs.Entries.{seen}
 use Rattle.basic_toml_value.specs.View.{view, entries, items_view}
 use Rattle.basic_toml_value.proofs.Sizes.{data_size, items_size, members_size}
 use Rattle.basic_toml_layout.specs.Document.{sections_text, elements_text}
+use Rattle.basic_toml_layout.specs.Style.{style_of}
 use Rattle.basic_toml_layout.specs.Texts.{joined}
 use Rattle.basic_toml_layout.proofs.data.text.+sections.Given as goal
 
@@ -33,14 +34,14 @@ abbrev pub invariant-write_sections-loop-i : goal.invariant-write_sections-loop-
 invariant-write_sections-loop-i l = record {
   path_is : string_bytes l.path ≡ string_bytes l.initial.path;
   text_is : (keys : List (List ℕ)) → joined keys ≡ string_bytes l.initial.path
-      → string_bytes l.text ++ sections_text keys l.is_after (entries (seen (drop l.i l.pairs)))
-      ≡ string_bytes l.initial.text ++ sections_text keys l.is_later (entries (seen l.pairs));
+      → string_bytes l.text ++ sections_text (style_of l.style) keys l.is_after (entries (seen (drop l.i l.pairs)))
+      ≡ string_bytes l.initial.text ++ sections_text (style_of l.style) keys l.is_later (entries (seen l.pairs));
 }
 
 abbrev pub invariant-write_elements-loop-i : goal.invariant-write_elements-loop-i
 invariant-write_elements-loop-i l = record {
   path_is : string_bytes l.path ≡ string_bytes l.initial.path;
   text_is : (keys : List (List ℕ)) → joined keys ≡ string_bytes l.initial.path
-      → string_bytes l.text ++ elements_text keys l.is_after (items_view (drop l.i l.values))
-      ≡ string_bytes l.initial.text ++ elements_text keys l.is_later (items_view l.values);
+      → string_bytes l.text ++ elements_text (style_of l.style) keys l.is_after (items_view (drop l.i l.values))
+      ≡ string_bytes l.initial.text ++ elements_text (style_of l.style) keys l.is_later (items_view l.values);
 }
