@@ -22,6 +22,7 @@ pub mod RowsMakeHeadersDue
 pub mod LayoutIsInTheGrammar
 pub mod GrammarHasNoByteOrderMark
 pub mod QuotedIsUtf8
+pub mod ValuesAreUtf8
 pub mod LayoutIsUtf8
 -- Its sections do not clash, and mean its tree
 pub mod RowsDoNotClash
