@@ -24,6 +24,8 @@ pub mod GrammarHasNoByteOrderMark
 pub mod QuotedIsUtf8
 pub mod ValuesAreUtf8
 pub mod LayoutIsUtf8
+-- A value for people, on several lines, is in the grammar
+pub mod LinesAreAString
 -- Its sections do not clash, and mean its tree
 pub mod RowsDoNotClash
 pub mod StepsKeepSectionsApart
