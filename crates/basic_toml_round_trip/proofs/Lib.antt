@@ -27,6 +27,7 @@ pub mod LayoutIsUtf8
 -- A value for people, on several lines, is in the grammar
 pub mod LinesAreAString
 pub mod LinesAreUtf8
+pub mod ElementLines
 -- Its sections do not clash, and mean its tree
 pub mod RowsDoNotClash
 pub mod StepsKeepSectionsApart
