@@ -28,6 +28,7 @@ pub mod LayoutIsUtf8
 pub mod LinesAreAString
 pub mod LinesAreUtf8
 pub mod ElementLines
+pub mod SpelledValues
 -- Its sections do not clash, and mean its tree
 pub mod RowsDoNotClash
 pub mod StepsKeepSectionsApart
