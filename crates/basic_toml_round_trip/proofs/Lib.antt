@@ -29,6 +29,7 @@ pub mod LinesAreAString
 pub mod LinesAreUtf8
 pub mod ElementLines
 pub mod SpelledValues
+pub mod PrettyValues
 -- Its sections do not clash, and mean its tree
 pub mod RowsDoNotClash
 pub mod StepsKeepSectionsApart
