@@ -22,7 +22,14 @@ pub mod RowsMakeHeadersDue
 pub mod LayoutIsInTheGrammar
 pub mod GrammarHasNoByteOrderMark
 pub mod QuotedIsUtf8
+pub mod ValuesAreUtf8
 pub mod LayoutIsUtf8
+-- A value for people, on several lines, is in the grammar
+pub mod LinesAreAString
+pub mod LinesAreUtf8
+pub mod ElementLines
+pub mod SpelledValues
+pub mod PrettyValues
 -- Its sections do not clash, and mean its tree
 pub mod RowsDoNotClash
 pub mod StepsKeepSectionsApart

@@ -49,10 +49,10 @@ spelt_plain (b ∷ bs) e =
     }
 
 -- a quoted character
-quoted_low : (c : ℕ) → c < 128 → list_all is_plain (quoted_byte c) ≡ true
+pub quoted_low : (c : ℕ) → c < 128 → list_all is_plain (quoted_byte c) ≡ true
 quoted_low c l = agree_below_at (λ c. list_all is_plain (quoted_byte c)) (λ c. true) 128 c refl l
 
-quoted_high : (b : ℕ) → 128 ≤ b → quoted_byte b ≡ b ∷ []
+pub quoted_high : (b : ℕ) → 128 ≤ b → quoted_byte b ≡ b ∷ []
 quoted_high b h = grind (arith, nat_tests)
 
 quoted-append : (xs ys : List ℕ) → quoted_bytes (xs ++ ys) ≡ quoted_bytes xs ++ quoted_bytes ys
@@ -62,10 +62,10 @@ quoted-append (x ∷ xs) ys =
     ∙ sym (append_assoc (quoted_byte x) (quoted_bytes xs) (quoted_bytes ys))
 
 -- bytes of a longer character stand for themselves
-abbrev AreHigh : List ℕ → Type 0
+abbrev pub AreHigh : List ℕ → Type 0
 AreHigh xs = (k : ℕ) → k < length xs → 128 ≤ get_or xs k 0
 
-encoded_high : (c : ℕ) → 128 ≤ c → AreHigh (encode c)
+pub encoded_high : (c : ℕ) → 128 ≤ c → AreHigh (encode c)
 encoded_high c big k below = elim (cases_lt (get_or (encode c) k 0) 128) [
   | inl low ↦ absurd (omega (arith, inside_one c [] (encode c) k (sym (append-nil _)) below low))
   | inr high ↦ high
@@ -83,20 +83,21 @@ high_returnless (x ∷ xs) h =
     let high : 128 ≤ x = h 0 (omega arith) in
     or_from _ _ (ne_eqb x 13 (λ e. omega arith)) (high_returnless xs (λ k below. h (suc k) (omega arith)))
 
+pub high_char : (c : ℕ) → code_point c ≡ true → 128 ≤ c → Spelt (encode c) (c ∷ [])
+high_char c ok big = record {
+  encoded = append-nil (encode c);
+  fine = and_from _ _ (and_from _ _ ok (ap not (ne_eqb c 13 (λ e. omega arith)))) refl;
+  returnless = high_returnless (encode c) (encoded_high c big);
+}
+
 one_char : (c : ℕ) → code_point c ≡ true → Spelt (quoted_bytes (encode c)) (quoted_byte c)
 one_char c ok = elim (cases_lt c 128) [
   | inl small ↦ subst (λ l. Spelt l (quoted_byte c))
       (sym (ap quoted_bytes (encode_ascii c small) ∙ append-nil (quoted_byte c)))
       (spelt_plain (quoted_byte c) (quoted_low c small))
   | inr big ↦
-      let high : AreHigh (encode c) = encoded_high c big in
-      let bytes : quoted_bytes (encode c) ≡ encode c = high_quoted (encode c) high in
       subst (λ l. Spelt (quoted_bytes (encode c)) l) (sym (quoted_high c big))
-      (record {
-        encoded = append-nil (encode c) ∙ sym bytes;
-        fine = and_from _ _ (and_from _ _ ok (ap not (ne_eqb c 13 (λ e. omega arith)))) refl;
-        returnless = ap has_return bytes ∙ high_returnless (encode c) high;
-      })
+      (subst (λ l. Spelt l (c ∷ [])) (sym (high_quoted (encode c) (encoded_high c big))) (high_char c ok big))
 ]
 
 quoted_chars : (cs : List ℕ) → scalars cs ≡ true → Spelt (quoted_bytes (encodes cs)) (quoted_bytes cs)

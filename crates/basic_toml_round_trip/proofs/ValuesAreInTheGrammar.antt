@@ -53,7 +53,7 @@ gapless (x ∷ text) e =
     let p : ((is_blank x.1 || x.1 == 10) ≡ false) × ((x.1 == 35) ≡ false) = or_parts _ _ (not-true (is_gap x.1) e) in
     no_blanks (x ∷ text) (ap not (or_parts _ _ p.0).0)
 
-no_gap : (text : Text) → stops is_gap text ≡ true → after_gap is_comment text ≡ text
+pub no_gap : (text : Text) → stops is_gap text ≡ true → after_gap is_comment text ≡ text
 no_gap [] e = refl
 no_gap (x ∷ text) e =
     let p : ((is_blank x.1 || x.1 == 10) ≡ false) × ((x.1 == 35) ≡ false) = or_parts _ _ (not-true (is_gap x.1) e) in

@@ -1,1 +1,2 @@
 pub mod Statements
+pub mod Pretty
