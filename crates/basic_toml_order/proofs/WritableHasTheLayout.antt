@@ -3,7 +3,7 @@
 use Rattle.std.proofs.Common.{◌≡◌, ℕ, Bool, true, false, ◌&&◌, ◌||◌, not, cond, List, ◌∷◌, refl, ap, sym, ◌∙◌}
 use Rattle.std.proofs.lemmas.Bool.{or_parts, true≢false}
 use Rattle.basic_toml_value.specs.Data.{Data, array, table, Items, no_items, item, Members, no_members, member}
-use Rattle.basic_toml_layout.specs.Document.{are_tables, is_row, document_text}
+use Rattle.basic_toml_layout.specs.Document.{are_tables, is_row, plain, document_text}
 use Rattle.basic_toml_layout.specs.Layout.{layout}
 use Rattle.basic_toml_layout.specs.Sections.{is_section}
 use Rattle.basic_toml_layout.specs.TextOrder as text
@@ -160,7 +160,7 @@ mutual
   nodes_ordered (item x xs) t e = absurd (true≢false (sym t))
 
 pub writable_text : (ms : Members) → has_bad_array (table ms) ≡ false
-    → document_text ms ≡ layout (written_of (rows_first (table ms)))
+    → document_text plain ms ≡ layout (written_of (rows_first (table ms)))
 writable_text ms e =
-    sym (same_document ms) ∙ same_text (rows_ordered ms e (parts_ordered ms e))
+    sym (same_document plain ms) ∙ same_text (rows_ordered ms e (parts_ordered ms e))
     ∙ ap (λ ns. layout (written_of (table ns))) (sym (order_same ms (members_same ms e)))

@@ -3,7 +3,7 @@ use Rattle.std.specs.Prelude.{◌≡◌, false, IsTrue}
 use Rattle.basic_toml_value.specs.Data.{Data, Members, table}
 use Rattle.basic_toml_value.specs.Nesting.{nesting_limit}
 use Rattle.basic_toml_value.specs.SameMaps.{SameMaps}
-use Rattle.basic_toml_layout.specs.Document.{document_text}
+use Rattle.basic_toml_layout.specs.Document.{plain, document_text}
 use Rattle.basic_toml_layout.specs.Layout.{layout}
 use Rattle.basic_toml_layout.specs.Trees.{written_of}
 use Rattle.basic_toml_write.specs.Impls.{data_calls}
@@ -41,4 +41,4 @@ StaysRecordable = (d : Data) → AreRecordable (data_calls d) → AreRecordable 
 -- where each array in it can be written, its text is the layout of the data with its rows first
 abbrev pub WritableHasTheLayout : Type 0
 WritableHasTheLayout = (ms : Members) → has_bad_array (table ms) ≡ false
-    → document_text ms ≡ layout (written_of (rows_first (table ms)))
+    → document_text plain ms ≡ layout (written_of (rows_first (table ms)))

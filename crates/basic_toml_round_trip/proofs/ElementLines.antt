@@ -5,7 +5,7 @@ use Rattle.basic_toml_value.specs.Data.{Data, Items, no_items, item}
 use Rattle.basic_toml_grammar.specs.Sections.{Raw}
 use Rattle.basic_toml_grammar.specs.Grammar as g
 use Rattle.basic_toml_grammar.specs.Grammar.{after_gap, IsValue, IsElements}
-use Rattle.basic_toml_round_trip.specs.Pretty.{element_lines, array_lines}
+use Rattle.basic_toml_layout.specs.Pretty.{element_lines, array_lines}
 use Rattle.basic_toml_round_trip.proofs.LaidOut.{IsInRow, AreInRow}
 use Rattle.basic_toml_round_trip.proofs.SectionsOfTable.{raw_items}
 use Rattle.basic_toml_round_trip.proofs.CharactersInFront.{onto, onto-append}

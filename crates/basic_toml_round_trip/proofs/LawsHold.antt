@@ -34,6 +34,8 @@ use Rattle.basic_toml_round_trip.proofs.LaidOutIsSupported.{laid_supported}
 use Rattle.basic_toml_round_trip.proofs.KeptHasTheTree.{tree-kept}
 use Rattle.basic_toml_round_trip.proofs.WrittenIsReadBack.{kept_layout, written_text, laid_text}
 use Rattle.basic_toml_round_trip.proofs.ValidIsLaidOut.{valid_laid, order_deep}
+use Rattle.basic_toml_round_trip.proofs.PrettyValues.{style_spells}
+use Rattle.basic_toml_layout.specs.Style.{style_of}
 use Rattle.basic_toml_layout.specs.TextOrder.{text_order}
 use Rattle.basic_toml_layout.proofs.TextOrderIsKept.{same_maps, same_document}
 
@@ -108,13 +110,13 @@ tree_read_back tree r u =
     (read_back (data_calls tree) (written_of tree) (spells_tree tree) r u)
 
 pub document_read_back : DocumentIsReadBack
-document_read_back ms valid deep =
+document_read_back style ms valid deep =
     let fits : depth (d.table (text_order ms)) ≤ nesting_limit = omega (arith, order_deep ms, deep) in
-    subst (λ bytes. IsDocument (folded bytes) (d.table (text_order ms))) (same_document ms)
-    (laid_text (valid_laid ms valid) fits).document
+    subst (λ bytes. IsDocument (folded bytes) (d.table (text_order ms))) (same_document (style_of style) ms)
+    (laid_text (style_of style) (style_spells style) (valid_laid ms valid) fits).document
 
 pub same_order_maps : OrderHasSameMaps
 same_order_maps ms = same_maps ms
 
 pub same_order_text : OrderHasSameText
-same_order_text ms = same_document ms
+same_order_text style ms = same_document (style_of style) ms

@@ -1,10 +1,11 @@
 -- The text of a laid-out table, in characters at offset 0, is in the grammar, with the section list of the table.
-use Rattle.std.proofs.Common.{◌≡◌, ℕ, Bool, true, false, cond, List, [], ◌∷◌, ◌++◌, map, ap, sym, ◌∙◌, subst}
+use Rattle.std.proofs.Common.{◌≡◌, ℕ, Bool, true, false, cond, ◌&&◌, List, [], ◌∷◌, ◌++◌, map, ap, sym, ◌∙◌, subst}
 use Rattle.std.proofs.Common.{append_assoc, append-nil, refl}
 use Rattle.std.specs.Str.{chars}
 use Rattle.basic_toml_tokens.specs.Text.{Text, is_comment, after_blanks}
 use Rattle.basic_toml_value.specs.Data.{Items, Members}
-use Rattle.basic_toml_layout.specs.Layout.{table_header, element_header}
+use Rattle.basic_toml_layout.specs.Layout.{table_header, element_header, row_start}
+use Rattle.basic_toml_layout.specs.Document.{Style}
 use Rattle.basic_toml_grammar.specs.Sections.{Key, KeyTexts, Raw, Rows, no_rows, row, Section}
 use Rattle.basic_toml_grammar.specs.Grammar as g
 use Rattle.basic_toml_grammar.specs.Grammar.{IsRow, IsRows, IsHeader, IsSections, IsSectionList}
@@ -13,8 +14,10 @@ use Rattle.basic_toml_round_trip.proofs.LaidOut.{no_nodes, a_node}
 use Rattle.basic_toml_round_trip.proofs.SectionsOfTable.{has_header, rows, backwards, section_of, inner_sections}
 use Rattle.basic_toml_round_trip.proofs.SectionsOfTable.{part_sections, node_sections, sections}
 use Rattle.basic_toml_round_trip.proofs.CharactersInFront.{onto, onto-append, onto_three}
-use Rattle.basic_toml_round_trip.proofs.CharactersOfLayout.{path_chars, row_chars, header_chars, table_chars}
-use Rattle.basic_toml_round_trip.proofs.CharactersOfLayout.{parts_chars, nodes_chars}
+use Rattle.basic_toml_round_trip.proofs.CharactersOfLayout.{path_chars}
+use Rattle.basic_toml_round_trip.proofs.SpelledValues.{SpellsValues}
+use Rattle.basic_toml_round_trip.proofs.CharactersOfTables.{row_chars, header_chars, table_chars, parts_chars}
+use Rattle.basic_toml_round_trip.proofs.CharactersOfTables.{nodes_chars}
 use Rattle.basic_toml_round_trip.proofs.KeysAreInTheGrammar.{AreTexts}
 use Rattle.basic_toml_round_trip.proofs.HeadersAreInTheGrammar.{table_header_stands, element_header_stands}
 use Rattle.basic_toml_round_trip.proofs.RowsAreInTheGrammar.{feed_ends, row_stands}
@@ -93,56 +96,58 @@ stands_whole later k path (then_parts no_parts) u t = stands_table later k path 
 stands_whole later k path (then_parts (a_table new text laid parts)) u t = t
 stands_whole later k path (then_parts (an_array new text nodes parts)) u t = t
 
-mutual
-  inner_stand : {seen : KeyTexts} {ms : Members} (laid : Laid seen ms) (later : Bool) (path : KeyTexts) {rest : Text}
-      {ss : List Section} → AreTexts path → Stands rest no_rows ss
-      → Stands (onto (table_chars path later laid) rest) (rows laid) (inner_sections path laid ++ ss)
-  inner_stand (a_row {k = k} {x = x} new text value laid) later path {rest = rest} u t =
-      in_text (onto-append (row_chars k x) (table_chars path true laid) rest)
-      (stands_row (row_stands k x (onto (table_chars path true laid) rest) text value.value)
-      (inner_stand laid true path u t))
-  inner_stand (then_parts parts) later path u t = parts_stand parts later path u t
+module _ (style : Style) (spells : SpellsValues style) where
+  mutual
+    inner_stand : {seen : KeyTexts} {ms : Members} (laid : Laid seen ms) (later : Bool) (path : KeyTexts) {rest : Text}
+        {ss : List Section} → AreTexts path → Stands rest no_rows ss
+        → Stands (onto (table_chars style spells path later laid) rest) (rows laid) (inner_sections path laid ++ ss)
+    inner_stand (a_row {k = k} {x = x} new text value laid) later path {rest = rest} u t =
+        let spelled = spells (row_start k) x value.value in
+        in_text (onto-append (row_chars k spelled) (table_chars style spells path true laid) rest)
+        (stands_row (row_stands k spelled (onto (table_chars style spells path true laid) rest) text)
+        (inner_stand laid true path u t))
+    inner_stand (then_parts parts) later path u t = parts_stand parts later path u t
 
-  parts_stand : {seen : KeyTexts} {ms : Members} (parts : Parts seen ms) (later : Bool) (path : KeyTexts) {rest : Text}
-      {ss : List Section} → AreTexts path → Stands rest no_rows ss
-      → Stands (onto (parts_chars path later parts) rest) no_rows (part_sections path parts ++ ss)
-  parts_stand no_parts later path u t = t
-  parts_stand (a_table {k = k} new text laid parts) later path {rest = rest} u t =
-      as_list (simp append_assoc)
-      (in_text
-      (onto_three (header_chars (has_header laid) later (k ∷ path)) (table_chars (k ∷ path) false laid)
-      (parts_chars path true parts) rest)
-      (stands_whole later k path laid (text, u)
-      (inner_stand laid false (k ∷ path) (text, u) (parts_stand parts true path u t))))
-  parts_stand (an_array {k = k} new text nodes parts) later path {rest = rest} u t =
-      as_list (simp append_assoc)
-      (in_text (onto-append (nodes_chars (k ∷ path) later nodes) (parts_chars path true parts) rest)
-      (nodes_stand nodes later k path (text, u) (parts_stand parts true path u t)))
+    parts_stand : {seen : KeyTexts} {ms : Members} (parts : Parts seen ms) (later : Bool) (path : KeyTexts) {rest : Text}
+        {ss : List Section} → AreTexts path → Stands rest no_rows ss
+        → Stands (onto (parts_chars style spells path later parts) rest) no_rows (part_sections path parts ++ ss)
+    parts_stand no_parts later path u t = t
+    parts_stand (a_table {k = k} new text laid parts) later path {rest = rest} u t =
+        as_list (simp append_assoc)
+        (in_text
+        (onto_three (header_chars (has_header laid) later (k ∷ path)) (table_chars style spells (k ∷ path) (style.spaced && later) laid)
+        (parts_chars style spells path true parts) rest)
+        (stands_whole later k path laid (text, u)
+        (inner_stand laid (style.spaced && later) (k ∷ path) (text, u) (parts_stand parts true path u t))))
+    parts_stand (an_array {k = k} new text nodes parts) later path {rest = rest} u t =
+        as_list (simp append_assoc)
+        (in_text (onto-append (nodes_chars style spells (k ∷ path) later nodes) (parts_chars style spells path true parts) rest)
+        (nodes_stand nodes later k path (text, u) (parts_stand parts true path u t)))
 
-  nodes_stand : {xs : Items} (nodes : Nodes xs) (later : Bool) (k : List ℕ) (path : KeyTexts) {rest : Text}
-      {ss : List Section} → AreTexts (k ∷ path) → Stands rest no_rows ss
-      → Stands (onto (nodes_chars (k ∷ path) later nodes) rest) no_rows (node_sections (k ∷ path) nodes ++ ss)
-  nodes_stand no_nodes later k path u t = t
-  nodes_stand (a_node laid nodes) later k path {rest = rest} u t =
-      as_list (simp append_assoc)
-      (in_text
-      (onto_three (element_header later (map chars (k ∷ path))) (table_chars (k ∷ path) false laid)
-      (nodes_chars (k ∷ path) true nodes) rest)
-      (stands_element later k path u
-      (inner_stand laid false (k ∷ path) u (nodes_stand nodes true k path u t))))
+    nodes_stand : {xs : Items} (nodes : Nodes xs) (later : Bool) (k : List ℕ) (path : KeyTexts) {rest : Text}
+        {ss : List Section} → AreTexts (k ∷ path) → Stands rest no_rows ss
+        → Stands (onto (nodes_chars style spells (k ∷ path) later nodes) rest) no_rows (node_sections (k ∷ path) nodes ++ ss)
+    nodes_stand no_nodes later k path u t = t
+    nodes_stand (a_node laid nodes) later k path {rest = rest} u t =
+        as_list (simp append_assoc)
+        (in_text
+        (onto_three (element_header later (map chars (k ∷ path))) (table_chars style spells (k ∷ path) style.spaced laid)
+        (nodes_chars style spells (k ∷ path) true nodes) rest)
+        (stands_element later k path u
+        (inner_stand laid style.spaced (k ∷ path) u (nodes_stand nodes true k path u t))))
 
--- the whole text
-pub layout_grammar : {ms : Members} (laid : Laid [] ms)
-    → IsSectionList (onto (table_chars [] false laid) []) (sections laid)
-layout_grammar laid =
-    let t : Stands _ (rows laid) (inner_sections [] laid) =
-    as_list (append-nil (inner_sections [] laid))
-    (inner_stand laid false [] tt (record { mid = []; lines = g.over; others = g.no_more })) in
-    record {
-      rows = rows laid;
-      headed = inner_sections [] laid;
-      rest = t.mid;
-      root = t.lines;
-      others = t.others;
-      all = refl;
-    }
+  -- the whole text
+  pub layout_grammar : {ms : Members} (laid : Laid [] ms)
+      → IsSectionList (onto (table_chars style spells [] false laid) []) (sections laid)
+  layout_grammar laid =
+      let t : Stands _ (rows laid) (inner_sections [] laid) =
+      as_list (append-nil (inner_sections [] laid))
+      (inner_stand laid false [] tt (record { mid = []; lines = g.over; others = g.no_more })) in
+      record {
+        rows = rows laid;
+        headed = inner_sections [] laid;
+        rest = t.mid;
+        root = t.lines;
+        others = t.others;
+        all = refl;
+      }

@@ -17,19 +17,21 @@ pub mod WordsAreValues
 pub mod FloatsAreNoIntegers
 pub mod FloatsAreWords
 pub mod ValuesAreInTheGrammar
+pub mod QuotedIsUtf8
+pub mod ValuesAreUtf8
+pub mod SpelledValues
+-- And so is a value for people, on several lines
+pub mod LinesAreAString
+pub mod LinesAreUtf8
+pub mod ElementLines
+pub mod PrettyValues
+-- And the text of a table
+pub mod CharactersOfTables
 pub mod RowsAreInTheGrammar
 pub mod RowsMakeHeadersDue
 pub mod LayoutIsInTheGrammar
 pub mod GrammarHasNoByteOrderMark
-pub mod QuotedIsUtf8
-pub mod ValuesAreUtf8
 pub mod LayoutIsUtf8
--- A value for people, on several lines, is in the grammar
-pub mod LinesAreAString
-pub mod LinesAreUtf8
-pub mod ElementLines
-pub mod SpelledValues
-pub mod PrettyValues
 -- Its sections do not clash, and mean its tree
 pub mod RowsDoNotClash
 pub mod StepsKeepSectionsApart

@@ -6,8 +6,8 @@ use Rattle.basic_toml_tokens.specs.Text.{Text}
 use Rattle.basic_toml_tokens.specs.Strings.{Pieces, none, piece, IsPiece, content, delimiters, count_of, several}
 use Rattle.basic_toml_tokens.specs.Strings.{multiline, IsString}
 use Rattle.basic_toml_layout.specs.Texts.{quoted_byte}
-use Rattle.basic_toml_round_trip.specs.Pretty.{is_apart, stands_in_lines, line_byte, line_bytes, three_quotes}
-use Rattle.basic_toml_round_trip.specs.Pretty.{quoted_lines}
+use Rattle.basic_toml_layout.specs.Pretty.{is_apart, stands_in_lines, line_byte, line_bytes, three_quotes}
+use Rattle.basic_toml_layout.specs.Pretty.{quoted_lines}
 use Rattle.basic_toml_round_trip.proofs.CharactersInFront.{onto, onto-append}
 use Rattle.basic_toml_round_trip.proofs.QuotedIsAString.{double_quotes, quoted_piece, no_quote, quoted_front}
 use Rattle.basic_toml_round_trip.proofs.QuotedIsAString.{count_none}

@@ -8,8 +8,8 @@ use Rattle.std.proofs.lemmas.Bool.{cases_lt, ne_eqb}
 use Rattle.std.proofs.lemmas.Str.{encode_ascii, length-encode, len_utf8_bounds, encodes-chars, scalars-chars}
 use lib.Utf8.{scalar as code_point, scalars, encode, encodes}
 use Rattle.basic_toml_layout.specs.Texts.{quoted_byte}
-use Rattle.basic_toml_round_trip.specs.Pretty.{is_apart, stands_in_lines, line_byte, line_bytes, three_quotes}
-use Rattle.basic_toml_round_trip.specs.Pretty.{quoted_lines}
+use Rattle.basic_toml_layout.specs.Pretty.{is_apart, stands_in_lines, line_byte, line_bytes, three_quotes}
+use Rattle.basic_toml_layout.specs.Pretty.{quoted_lines}
 use Rattle.basic_toml_round_trip.proofs.QuotedIsUtf8.{is_plain, Spelt, spelt-append, spelt_plain, quoted_low}
 use Rattle.basic_toml_round_trip.proofs.QuotedIsUtf8.{quoted_high, AreHigh, encoded_high, high_char}
 

@@ -8,16 +8,19 @@ use Rattle.basic_toml_value.specs.Data as d
 use Rattle.basic_toml_value.specs.Data.{Data, Items, no_items, item}
 use Rattle.basic_toml_layout.specs.Texts.{quoted}
 use Rattle.basic_toml_layout.specs.Document.{inline}
+use Rattle.basic_toml_layout.specs.Style.{style_of}
+use Rattle.basic_toml_layout.specs.declared.data.style.Style.{Style}
+use Rattle.basic_toml_layout.specs.declared.data.style.Style.TheVariants.{Plain, Pretty}
 use Rattle.basic_toml_grammar.specs.Sections.{Raw}
 use Rattle.basic_toml_grammar.specs.Grammar as g
 use Rattle.basic_toml_grammar.specs.Grammar.{IsValue}
-use Rattle.basic_toml_round_trip.specs.Pretty.{has_line_feed, quoted_lines, fits_line, array_lines, pretty_value}
+use Rattle.basic_toml_layout.specs.Pretty.{has_line_feed, quoted_lines, fits_line, array_lines, pretty_value, pretty}
 use Rattle.basic_toml_round_trip.proofs.LaidOut.{IsInRow, AreInRow}
 use Rattle.basic_toml_round_trip.proofs.CharactersInFront.{onto}
 use Rattle.basic_toml_round_trip.proofs.LinesAreAString.{lines_are_string}
 use Rattle.basic_toml_round_trip.proofs.LinesAreUtf8.{lines_spelt}
 use Rattle.basic_toml_round_trip.proofs.ElementLines.{array_lines_chars, array_lines_stand, array_lines_spelt}
-use Rattle.basic_toml_round_trip.proofs.SpelledValues.{Spelled, plain_spelled}
+use Rattle.basic_toml_round_trip.proofs.SpelledValues.{Spelled, plain_spelled, SpellsValues, plain_spells}
 
 lines_spelled : (t : List ℕ) → IsUtf8 t → Spelled (quoted_lines t) (d.string t)
 lines_spelled t u = record {
@@ -37,7 +40,7 @@ array_spelled xs h = record {
   stands = λ rest e. array_lines_stand xs rest h;
 }
 
-pub pretty_spelled : (front : List ℕ) (x : Data) → IsInRow x → Spelled (pretty_value front x) x
+pretty_spelled : (front : List ℕ) (x : Data) → IsInRow x → Spelled (pretty_value front x) x
 pretty_spelled front (d.string t) h =
     cond_both (has_line_feed t) (quoted_lines t) (quoted t) (λ bytes. Spelled bytes (d.string t))
     (λ _. lines_spelled t h) (λ _. plain_spelled (d.string t) h)
@@ -50,3 +53,8 @@ pretty_spelled front (d.integer z) h = plain_spelled (d.integer z) h
 pretty_spelled front (d.float t) h = plain_spelled (d.float t) h
 pretty_spelled front (d.boolean b) h = plain_spelled (d.boolean b) h
 pretty_spelled front (d.table ms) h = plain_spelled (d.table ms) h
+
+-- so each style does
+pub style_spells : (style : Style) → SpellsValues (style_of style)
+style_spells Plain = plain_spells
+style_spells Pretty = pretty_spelled

@@ -2,7 +2,7 @@
 use Rattle.std.proofs.Common.{◌≡◌, ℕ, true, List}
 use Rattle.basic_toml_tokens.specs.Text.{Text, is_comment}
 use Rattle.basic_toml_value.specs.Data.{Data}
-use Rattle.basic_toml_layout.specs.Document.{inline}
+use Rattle.basic_toml_layout.specs.Document.{inline, Style, plain}
 use Rattle.basic_toml_grammar.specs.Grammar.{IsValue}
 use Rattle.basic_toml_round_trip.proofs.LaidOut.{IsInRow}
 use Rattle.basic_toml_round_trip.proofs.SectionsOfTable.{raw_offset, raw}
@@ -28,3 +28,10 @@ plain_spelled x h = record {
   front = λ rest. value_front x rest h;
   stands = λ rest e. value_stands x rest h e;
 }
+
+-- each value of a row, as this style has it, is spelled
+abbrev pub SpellsValues : Style → Type 0
+SpellsValues style = (front : List ℕ) (x : Data) → IsInRow x → Spelled (style.value front x) x
+
+pub plain_spells : SpellsValues plain
+plain_spells front x h = plain_spelled x h

@@ -20,12 +20,13 @@ use Rattle.basic_toml_grammar.specs.Document.{IsDocument}
 use Rattle.basic_toml_grammar.specs.Respelled.{characters, has_return, has_byte_order_mark}
 use Rattle.basic_toml_grammar.proofs.SameMeaning.OldDocumentsStand.{list_keyed}
 use Rattle.basic_toml_grammar.proofs.SameMeaning.RespelledMeanTheSame.{offsets_mean_nothing}
-use Rattle.basic_toml_layout.specs.Document.{document_text}
+use Rattle.basic_toml_layout.specs.Document.{Style, plain, document_text}
 use Rattle.basic_toml_layout.proofs.OrderedText.{ordered_text, same_text}
 use Rattle.basic_toml_round_trip.proofs.LaidOut.{Laid, in_order, any_row, plain_order}
 use Rattle.basic_toml_round_trip.proofs.SectionsOfTable.{sections}
 use Rattle.basic_toml_round_trip.proofs.CharactersInFront.{onto, characters-onto}
-use Rattle.basic_toml_round_trip.proofs.CharactersOfLayout.{table_chars}
+use Rattle.basic_toml_round_trip.proofs.SpelledValues.{SpellsValues, plain_spells}
+use Rattle.basic_toml_round_trip.proofs.CharactersOfTables.{table_chars}
 use Rattle.basic_toml_round_trip.proofs.QuotedIsUtf8.{Spelt, spelt_utf8, spelt_chars, folded_characters}
 use Rattle.basic_toml_round_trip.proofs.LayoutIsUtf8.{layout_spelt}
 use Rattle.basic_toml_round_trip.proofs.LayoutIsInTheGrammar.{layout_grammar}
@@ -48,20 +49,20 @@ unmarked {bytes = bytes} {cs = cs} s e =
     ap (λ b. characters (text_at bytes (if b then 3 else 0))) (ap (λ cs. first_of cs == 0xFEFF) (spelt_chars s) ∙ e)
     ∙ ap (λ cs. characters (folded_from false 0 cs)) (spelt_chars s) ∙ folded_characters cs 0 s.fine
 
-pub laid_text : {ms : Members} (laid : Laid [] ms) → depth (d.table ms) ≤ nesting_limit
-    → IsText (document_text ms) (d.table ms)
-laid_text {ms = ms} laid deep =
-    let cs : List ℕ = table_chars [] false laid in
-    let s : Spelt (document_text ms) cs =
-    subst (λ bytes. Spelt bytes cs) (sym (ordered_text (λ x h. h.row) (in_order laid))) (layout_spelt laid [] false tt)
-    in
-    let g = layout_grammar laid in
+pub laid_text : (style : Style) (spells : SpellsValues style) {ms : Members} (laid : Laid [] ms)
+    → depth (d.table ms) ≤ nesting_limit → IsText (document_text style ms) (d.table ms)
+laid_text style spells {ms = ms} laid deep =
+    let cs : List ℕ = table_chars style spells [] false laid in
+    let s : Spelt (document_text style ms) cs =
+    subst (λ bytes. Spelt bytes cs) (sym (ordered_text (λ x h. h.row) style (in_order laid)))
+    (layout_spelt style spells laid [] false tt) in
+    let g = layout_grammar style spells laid in
     let first : (first_of cs == 0xFEFF) ≡ false = no_mark cs (sections laid) g in
     let found : IsDocument (onto cs []) (d.table ms) =
     record { sections = sections laid; grammar = g; means = sections_mean laid (list_keyed g) deep } in
     record {
       document =
-          (offsets_mean_nothing (onto cs []) (folded (document_text ms)) (d.table ms)
+          (offsets_mean_nothing (onto cs []) (folded (document_text style ms)) (d.table ms)
           (characters-onto cs ∙ sym (unmarked s first))).0 found;
       utf8 = spelt_utf8 s;
       returnless = s.returnless;
@@ -87,4 +88,4 @@ written_text (table es) r u =
     subst (λ x. IsText (layout (table es)) x) (sym (tree-kept (table es)))
     (subst (λ b. IsText b (tree_of (table es)))
     (same_text (plain_order (table_laid es p.0 r)) ∙ kept_layout (table es) u)
-    (laid_text (any_row (table_laid es p.0 r)) deep))
+    (laid_text plain plain_spells (any_row (table_laid es p.0 r)) deep))

@@ -13,6 +13,8 @@ use Rattle.basic_toml_layout.specs.Written.{Written}
 use Rattle.basic_toml_emit.specs.Items.{Item}
 use Rattle.basic_toml_layout.specs.Layout.{layout}
 use Rattle.basic_toml_layout.specs.Document.{document_text}
+use Rattle.basic_toml_layout.specs.Style.{style_of}
+use Rattle.basic_toml_layout.specs.declared.data.style.Style.{Style}
 use Rattle.basic_toml_layout.specs.TextOrder.{text_order}
 use Rattle.basic_toml_layout.specs.Valid.{IsValid}
 use Rattle.basic_toml_grammar.specs.Depth.{depth}
@@ -65,15 +67,16 @@ TreeIsReadBack =
     (tree : Data) → AreRecordable (data_calls tree) → is_unsupported nesting_limit (written_of tree) ≡ false
     → IsDocument (folded (layout (written_of tree))) tree
 
--- The text of any table that a value can hold, within the limit, means it, the rows of each table before its sections.
--- Its keys lead to the same values; and what is read has the same text.
+-- The text of any table that a value can hold, within the limit, means it, the rows of each table before its sections,
+-- in each style. Its keys lead to the same values; and what is read has the same text.
 abbrev pub DocumentIsReadBack : Type 0
 DocumentIsReadBack =
-    (ms : Members) → IsValid (table ms) → depth (table ms) ≤ nesting_limit
-    → IsDocument (folded (document_text ms)) (table (text_order ms))
+    (style : Style) (ms : Members) → IsValid (table ms) → depth (table ms) ≤ nesting_limit
+    → IsDocument (folded (document_text (style_of style) ms)) (table (text_order ms))
 
 abbrev pub OrderHasSameMaps : Type 0
 OrderHasSameMaps = (ms : Members) → SameMaps (table ms) (table (text_order ms))
 
 abbrev pub OrderHasSameText : Type 0
-OrderHasSameText = (ms : Members) → document_text (text_order ms) ≡ document_text ms
+OrderHasSameText =
+    (style : Style) (ms : Members) → document_text (style_of style) (text_order ms) ≡ document_text (style_of style) ms

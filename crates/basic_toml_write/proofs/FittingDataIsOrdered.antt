@@ -3,7 +3,7 @@ use Rattle.std.proofs.Common.{◌≡◌, ℕ, ◌+◌, true, false, ◌||◌, []
 use Rattle.std.proofs.lemmas.Bool.{and_parts, true≢false}
 use Rattle.basic_toml_value.specs.Data.{Data, integer, float, boolean, string, array, table, Items, no_items, item}
 use Rattle.basic_toml_value.specs.Data.{Members, no_members, member}
-use Rattle.basic_toml_layout.specs.Document.{document_text}
+use Rattle.basic_toml_layout.specs.Document.{plain, document_text}
 use Rattle.basic_toml_layout.specs.Layout.{layout}
 use Rattle.basic_toml_layout.specs.Trees.{written_of}
 use Rattle.basic_toml_layout.proofs.OrderedText.{HoldsNone, AllHoldNone, Ordered, a_row, then_parts, PartsBy}
@@ -61,5 +61,5 @@ mutual
       a_node (ordered ns (n + 1) (and_parts _ _ (and_parts _ _ p.0).1).1) (nodes xs n p.1)
   nodes (item x xs) n e = absurd (true≢false (sym e))
 
-pub fitting_text : (ms : Members) → table_fits 0 ms ≡ true → document_text ms ≡ layout (written_of (table ms))
+pub fitting_text : (ms : Members) → table_fits 0 ms ≡ true → document_text plain ms ≡ layout (written_of (table ms))
 fitting_text ms e = same_text (ordered ms 1 (and_parts _ _ e).1)

@@ -7,7 +7,7 @@ use Rattle.std.proofs.lemmas.List.Elements.{All-append}
 use Rattle.basic_toml_value.specs.Data.{Members, table}
 use Rattle.basic_toml_value.specs.Nesting.{nesting_limit}
 use Rattle.basic_toml_emit.specs.Items.{Item}
-use Rattle.basic_toml_layout.specs.Document.{document_text}
+use Rattle.basic_toml_layout.specs.Document.{plain, document_text}
 use Rattle.basic_toml_emit.specs.Open.{state, fresh}
 use Rattle.basic_toml_emit.specs.Calls.{run, on_ok}
 use Rattle.basic_toml_emit.specs.Emitter.{state_of}
@@ -38,7 +38,7 @@ module _ (ms : Members) (old new : Serializer) (none : old.error ≡ None) where
 
   -- the text stands
   pub sends_laid : new.error ≡ None → state_of old.emitter ≡ fresh
-      → state_of new.emitter ≡ state (document_text ms) [] true → table_fits 0 ms ≡ true
+      → state_of new.emitter ≡ state (document_text plain ms) [] true → table_fits 0 ms ≡ true
       → AreRecordable (members_calls ms) → Sends calls NoFault old new (Ok tt)
   sends_laid still at now fits can = record {
     goes = λ before h. subst (GoesAt before calls NoFault new (Ok tt)) (sym still) (record {

@@ -10,7 +10,7 @@ mod taking;
 use crate::fits::table_fits;
 use crate::{Serialize, WriteError};
 use basic_toml_emit::{Call, Emitter, Scalar};
-use basic_toml_layout::document_text;
+use basic_toml_layout::{Style, document_text};
 use basic_toml_value::{Float, Table};
 use std::alloc::Global;
 
@@ -302,7 +302,7 @@ impl Serializer {
         if self.has_refused() || !self.emitter.is_fresh() || !table_fits(table, 0) {
             return None;
         }
-        match document_text(self.alloc, table) {
+        match document_text(self.alloc, Style::Plain, table) {
             Ok(text) => {
                 self.emitter = Emitter::with_whole(self.alloc, text);
                 Some(Ok(()))
