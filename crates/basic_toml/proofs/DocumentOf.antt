@@ -7,28 +7,33 @@ use Rattle.basic_toml_value.specs.Data.{Data, Members, table}
 use Rattle.basic_toml_value.specs.Nesting.{nesting_limit}
 use Rattle.basic_toml_grammar.specs.Depth.{depth}
 use Rattle.basic_toml_grammar.specs.Document.{IsDocument}
-use Rattle.basic_toml_layout.specs.Document.{document_text}
+use Rattle.basic_toml_layout.specs.Document.{plain, document_text}
+use Rattle.basic_toml_layout.specs.Style.{style_of}
+use Rattle.basic_toml_layout.specs.declared.data.style.Style.{Style}
 use Rattle.basic_toml_layout.specs.TextOrder.{text_order}
 use Rattle.basic_toml_layout.specs.Valid.{IsValid}
 use Rattle.basic_toml_round_trip.proofs.LawsHold.{document_read_back, same_order_maps, same_order_text}
 use Rattle.basic_toml_order.proofs.LawsHold.{writable_has_the_layout}
 use Rattle.basic_toml_error.specs.Fault.{Fault, without_offset, nested_too_deeply, want_of_memory}
-use Rattle.basic_toml.specs.TableText.{IsDocumentOf, IsTooDeep}
+use Rattle.basic_toml.specs.TableText.{IsDocumentOf, HasTheLayout, IsTooDeep}
 
-pub written : (ms : Members) (text : List ℕ) → IsValid (table ms) → nat_le (depth (table ms)) nesting_limit ≡ true
-    → text ≡ document_text ms → (depth (table ms) ≤ nesting_limit) × IsDocumentOf ms text
-written ms text valid within is =
+pub written : (style : Style) (ms : Members) (text : List ℕ) → IsValid (table ms)
+    → nat_le (depth (table ms)) nesting_limit ≡ true → text ≡ document_text (style_of style) ms
+    → (depth (table ms) ≤ nesting_limit) × IsDocumentOf (style_of style) ms text
+written style ms text valid within is =
     let deep : depth (table ms) ≤ nesting_limit = leb-true (depth (table ms)) nesting_limit within in (
       deep,
       record {
         laid_out = is;
         means = subst (λ bytes. IsDocument (folded bytes) (table (text_order ms))) (sym is)
-            (document_read_back ms valid deep);
+            (document_read_back style ms valid deep);
         same_maps = same_order_maps ms;
-        same_text = same_order_text ms ∙ sym is;
-        same_layout = λ fine. is ∙ writable_has_the_layout ms fine;
+        same_text = same_order_text style ms ∙ sym is;
       },
     )
+
+pub has_the_layout : (ms : Members) (text : List ℕ) → IsDocumentOf plain ms text → HasTheLayout ms text
+has_the_layout ms text is fine = is.laid_out ∙ writable_has_the_layout ms fine
 
 pub too_deep : (x : Data) (fault : Fault) → nat_le (depth x) nesting_limit ≡ false
     → fault ≡ without_offset nested_too_deeply → (fault ≡ want_of_memory) ⊎ IsTooDeep x fault

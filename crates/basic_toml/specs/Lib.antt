@@ -24,6 +24,7 @@ pub use Rattle.basic_toml_emit.specs.Depth
 pub use Rattle.basic_toml_emit.specs.Items
 pub use Rattle.basic_toml_layout.specs.Layout
 pub use Rattle.basic_toml_layout.specs.Document as DocumentText
+pub use Rattle.basic_toml_layout.specs.Pretty as PrettyText
 pub use Rattle.basic_toml_layout.specs.TextOrder
 pub use Rattle.basic_toml_emit.specs.Rules
 pub use Rattle.basic_toml_layout.specs.Written

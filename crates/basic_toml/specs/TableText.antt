@@ -7,7 +7,7 @@ use Rattle.basic_toml_value.specs.Nesting.{nesting_limit}
 use Rattle.basic_toml_value.specs.SameMaps.{SameMaps}
 use Rattle.basic_toml_grammar.specs.Depth.{depth}
 use Rattle.basic_toml_grammar.specs.Document.{IsDocument}
-use Rattle.basic_toml_layout.specs.Document.{document_text, inline}
+use Rattle.basic_toml_layout.specs.Document.{Style, document_text, inline}
 use Rattle.basic_toml_layout.specs.Layout.{layout}
 use Rattle.basic_toml_layout.specs.TextOrder.{text_order}
 use Rattle.basic_toml_layout.specs.Trees.{written_of}
@@ -15,14 +15,17 @@ use Rattle.basic_toml_order.specs.RowsFirst.{rows_first}
 use Rattle.basic_toml_order.specs.Writable.{has_bad_array}
 use Rattle.basic_toml_error.specs.Fault.{Fault, without_offset, want_of_memory, nested_too_deeply}
 
--- The text of the table. It means the table with the rows of each table before its sections, which has the same text;
--- keys and values are the same. Where each array in it can be written, it is the layout of the table with its rows first.
-pub record IsDocumentOf (members : Members) (text : List ℕ) : Type 0 where
-  pub laid_out : text ≡ document_text members
+-- The text of the table in a style. It means the table with the rows of each table before its sections, which has the
+-- same text; keys and values are the same.
+pub record IsDocumentOf (style : Style) (members : Members) (text : List ℕ) : Type 0 where
+  pub laid_out : text ≡ document_text style members
   pub means : IsDocument (folded text) (table (text_order members))
   pub same_maps : SameMaps (table members) (table (text_order members))
-  pub same_text : document_text (text_order members) ≡ text
-  pub same_layout : has_bad_array (table members) ≡ false → text ≡ layout (written_of (rows_first (table members)))
+  pub same_text : document_text style (text_order members) ≡ text
+
+-- where each array in it can be written, the text is the layout of the table with its rows first
+abbrev pub HasTheLayout : Members → List ℕ → Type 0
+HasTheLayout members text = has_bad_array (table members) ≡ false → text ≡ layout (written_of (rows_first (table members)))
 
 -- it is nested above the limit
 pub record IsTooDeep (x : Data) (fault : Fault) : Type 0 where
@@ -30,10 +33,10 @@ pub record IsTooDeep (x : Data) (fault : Fault) : Type 0 where
   pub is : fault ≡ without_offset nested_too_deeply
 
 -- the text of a table within the limit; else, and only then, that it is nested too deeply; or want of memory
-abbrev pub WritesTable : Members → Result (String Global) Fault → Type 0
-WritesTable members (Ok text) =
-    (depth (table members) ≤ nesting_limit) × IsDocumentOf members (string_bytes text)
-WritesTable members (Err fault) = (fault ≡ want_of_memory) ⊎ IsTooDeep (table members) fault
+abbrev pub WritesTable : Style → Members → Result (String Global) Fault → Type 0
+WritesTable style members (Ok text) =
+    (depth (table members) ≤ nesting_limit) × IsDocumentOf style members (string_bytes text)
+WritesTable style members (Err fault) = (fault ≡ want_of_memory) ⊎ IsTooDeep (table members) fault
 
 -- the same of a value, as it stands in a row
 abbrev pub WritesValue : Data → Result (String Global) Fault → Type 0

@@ -1,10 +1,14 @@
 //! Writing any table, and any value.
+ghost use Rattle.std.specs.Prelude.{IfOk, string_bytes};
 ghost use Rattle.basic_toml_value.specs.View.{view, entries};
-ghost use Rattle.basic_toml.specs.TableText.{WritesTable, WritesValue};
+ghost use Rattle.basic_toml_layout.specs.Document.{plain};
+ghost use Rattle.basic_toml_layout.specs.Pretty.{pretty};
+ghost use Rattle.basic_toml_layout.specs.Style.{style_of};
+ghost use Rattle.basic_toml.specs.TableText.{HasTheLayout, WritesTable, WritesValue};
 
 use crate::Error;
 use crate::nesting::{table_nests_within, value_nests_within};
-use basic_toml_layout::{document_text, inline_text};
+use basic_toml_layout::{Style, document_text, inline_text};
 use basic_toml_value::{NESTING_LIMIT, Table, Value};
 use basic_toml_write::WriteError;
 use std::alloc::Global;
@@ -28,14 +32,46 @@ use std::alloc::Global;
 ///
 /// `nested too deeply` where the table is nested more than [`NESTING_LIMIT`] deep, as none is that was read; and `out of
 /// memory` where a growth was refused.
-#[tactic(auto, using(crate::proofs::DocumentOf::written, crate::proofs::DocumentOf::too_deep))]
+#[tactic(auto, using(crate::proofs::DocumentOf::has_the_layout))]
 pub fn table_to_string(alloc: Global, table: &Table) -> Result<String, Error>
-    ensures { WritesTable (entries table.now) result }
+    ensures text { WritesTable plain (entries table.now) result }
+    ensures layout { IfOk result (λ text. HasTheLayout (entries table.now) (string_bytes text)) }
+{
+    text_in(alloc, Style::Plain, table)
+}
+
+/// The same for people: what [`table_to_string`] writes, with room between the sections and no long lines that can be
+/// broken.
+///
+/// A blank line stands before each header but one that begins the text. An array of a row that does not fit into 80
+/// columns with its key has a line for each element, with a comma behind the last. A string of several lines stands on
+/// several, between `"""`. What stands within an array or an inline table is on one line, whatever it is. (TOML v0.5.0,
+/// "Array" and "String")
+///
+/// ```text
+/// let table: Table = from_str(alloc, "hosts = [\"alpha\", \"beta\"]\nnote = \"one\\ntwo\"\n")?;
+/// let text = table_to_string_pretty(alloc, &table)?; // note = """, and one and two on lines of their own
+/// ```
+///
+/// This is from `toml_vectors`.
+///
+/// # Errors
+///
+/// Those of [`table_to_string`].
+pub fn table_to_string_pretty(alloc: Global, table: &Table) -> Result<String, Error>
+    ensures { WritesTable pretty (entries table.now) result }
+{
+    text_in(alloc, Style::Pretty, table)
+}
+
+#[tactic(auto, using(crate::proofs::DocumentOf::written, crate::proofs::DocumentOf::too_deep))]
+fn text_in(alloc: Global, style: Style, table: &Table) -> Result<String, Error>
+    ensures { WritesTable (style_of style) (entries table.now) result }
 {
     if !table_nests_within(table, NESTING_LIMIT) {
         return Err(Error::from(WriteError::NestedTooDeeply));
     }
-    Ok(document_text(alloc, table)?)
+    Ok(document_text(alloc, style, table)?)
 }
 
 /// The text of any value as it stands in a row, on one line: `[1, { a = 2 }]`. A message shows a value so, and a program

@@ -40,7 +40,7 @@ pub use basic_toml_typed::{
 pub use basic_toml_value::{PushRefusal, Table, Text, Value};
 pub use basic_toml_write::{Serialize, Serializer, WriteError};
 pub use de::{from_slice, from_str, read_tree};
-pub use document::{table_to_string, value_to_string};
+pub use document::{table_to_string, table_to_string_pretty, value_to_string};
 pub use origin::origin_of;
 pub use read_back::round_trip;
 pub use ser::to_string;
