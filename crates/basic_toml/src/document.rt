@@ -86,7 +86,7 @@ fn text_in(alloc: Global, style: Style, table: &Table) -> Result<String, Error>
 /// # Errors
 ///
 /// `nested too deeply` where the value is nested more than [`NESTING_LIMIT`] deep, and `out of memory`.
-#[tactic(auto, using(crate::proofs::DocumentOf::too_deep, crate::proofs::DocumentOf::within_limit))]
+#[tactic(auto, using(crate::proofs::DocumentOf::too_deep, crate::proofs::DocumentOf::value_written))]
 pub fn value_to_string(alloc: Global, value: &Value) -> Result<String, Error>
     ensures { WritesValue (view value.now) result }
 {

@@ -23,7 +23,7 @@ module _ (style : Style) (spells : SpellsValues style) where
   abbrev mutual
     pub table_chars : {seen : KeyTexts} {ms : Members} → KeyTexts → Bool → Laid seen ms → List ℕ
     table_chars path later (a_row {k = k} {x = x} new text value laid) =
-        row_chars k (spells (row_start k) x value.value) ++ table_chars path true laid
+        row_chars k (spells (row_start k) x value) ++ table_chars path true laid
     table_chars path later (then_parts parts) = parts_chars path later parts
 
     pub parts_chars : {seen : KeyTexts} {ms : Members} → KeyTexts → Bool → Parts seen ms → List ℕ

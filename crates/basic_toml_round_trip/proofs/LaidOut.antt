@@ -1,11 +1,13 @@
 -- A table as it is laid out: rows, and after them parts, which are tables and arrays of tables. Each key is UTF-8, and
 -- new in its table.
-use Rattle.std.specs.Prelude.{◌≡◌, ℕ, true, false, List, [], ◌∷◌, Some, IsUtf8}
+use Rattle.std.proofs.Common.{◌≡◌, ℕ, Bool, true, false, cond, ◌&&◌, List, [], ◌∷◌, ◌++◌, Some, refl, ap}
+use Rattle.std.specs.Prelude.{IsUtf8}
 use Rattle.std.specs.Str.{bytes_eq}
 use Rattle.basic_toml_numbers.specs.Numbers.{float_of}
 use Rattle.basic_toml_value.specs.Data as d
 use Rattle.basic_toml_value.specs.Data.{Data, Items, no_items, item, Members, no_members, member}
-use Rattle.basic_toml_layout.specs.Document.{is_row}
+use Rattle.basic_toml_layout.specs.Layout.{table_header, element_header}
+use Rattle.basic_toml_layout.specs.Document.{is_row, Style, row_text}
 use Rattle.basic_toml_layout.proofs.OrderedText as o
 use Rattle.basic_toml_layout.proofs.OrderedText.{HoldsNone, AllHoldNone, OrderedBy, PartsBy, NodesBy, Ordered}
 use Rattle.basic_toml_grammar.specs.Sections.{KeyTexts}
@@ -68,14 +70,15 @@ mutual
     no_nodes : NodesLaid IsSo no_items
     a_node : {x : Members} {xs : Items} → LaidBy IsSo [] x → NodesLaid IsSo xs → NodesLaid IsSo (item (d.table x) xs)
 
+-- any value may stand in a row, also one that a document has as a section
 abbrev pub Laid : KeyTexts → Members → Type 0
-Laid = LaidBy IsRow
+Laid = LaidBy IsInRow
 
 abbrev pub Parts : KeyTexts → Members → Type 0
-Parts = PartsLaid IsRow
+Parts = PartsLaid IsInRow
 
 abbrev pub Nodes : Items → Type 0
-Nodes = NodesLaid IsRow
+Nodes = NodesLaid IsInRow
 
 -- one that is laid out has its rows first
 abbrev mutual
@@ -110,8 +113,41 @@ abbrev mutual
   nodes_so f no_nodes = no_nodes
   nodes_so f (a_node laid nodes) = a_node (laid_so f laid) (nodes_so f nodes)
 
+-- which leaves the text as it is
+header_stays : {P Q : Data → Type 0} (f : (x : Data) → P x → Q x) {seen : KeyTexts} {ms : Members}
+    (laid : LaidBy P seen ms) → o.has_header (in_order (laid_so f laid)) ≡ o.has_header (in_order laid)
+header_stays f (a_row new text value laid) = refl
+header_stays f (then_parts no_parts) = refl
+header_stays f (then_parts (a_table new text laid parts)) = refl
+header_stays f (then_parts (an_array new text nodes parts)) = refl
+
+module _ (style : Style) {P Q : Data → Type 0} (f : (x : Data) → P x → Q x) where
+  mutual
+    pub text_stays : {seen : KeyTexts} {ms : Members} (laid : LaidBy P seen ms) (path : KeyTexts) (later : Bool)
+        → o.in_order style path later (in_order (laid_so f laid)) ≡ o.in_order style path later (in_order laid)
+    text_stays (a_row {k = k} {x = x} new text value laid) path later =
+        ap (λ t. row_text style k x ++ t) (text_stays laid path true)
+    text_stays (then_parts parts) path later = parts_stay parts path later
+
+    parts_stay : {seen : KeyTexts} {ms : Members} (parts : PartsLaid P seen ms) (path : KeyTexts) (later : Bool)
+        → o.parts_in_order style path later (parts_in_order (parts_so f parts))
+        ≡ o.parts_in_order style path later (parts_in_order parts)
+    parts_stay no_parts path later = refl
+    parts_stay (a_table {k = k} new text laid parts) path later =
+        (λ i. (cond (header_stays f laid i) (table_header later (k ∷ path)) []
+        ++ text_stays laid (k ∷ path) (style.spaced && later) i) ++ parts_stay parts path true i)
+    parts_stay (an_array {k = k} new text nodes parts) path later =
+        (λ i. nodes_stay nodes (k ∷ path) later i ++ parts_stay parts path true i)
+
+    nodes_stay : {xs : Items} (nodes : NodesLaid P xs) (path : KeyTexts) (later : Bool)
+        → o.nodes_in_order style path later (nodes_in_order (nodes_so f nodes))
+        ≡ o.nodes_in_order style path later (nodes_in_order nodes)
+    nodes_stay no_nodes path later = refl
+    nodes_stay (a_node laid nodes) path later =
+        (λ i. (element_header later path ++ text_stays laid path style.spaced i) ++ nodes_stay nodes path true i)
+
 -- a plain row is one of any table
-pub any_row : {seen : KeyTexts} {ms : Members} → LaidBy IsPlainRow seen ms → Laid seen ms
+pub any_row : {seen : KeyTexts} {ms : Members} → LaidBy IsPlainRow seen ms → LaidBy IsRow seen ms
 any_row laid = laid_so (λ x h. record { row = o.plain_row x h.none; value = h.value }) laid
 
 pub plain_order : {seen : KeyTexts} {ms : Members} → LaidBy IsPlainRow seen ms → Ordered ms

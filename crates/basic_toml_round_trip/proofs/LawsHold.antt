@@ -1,11 +1,11 @@
 -- The laws, as their statements have them.
 use Rattle.std.proofs.Common.{◌≡◌, ◌≤◌, Bool, true, false, ◌||◌, not, List, Some, None, Ok, refl, ap, sym, ◌∙◌}
-use Rattle.std.proofs.Common.{subst, arith}
+use Rattle.std.proofs.Common.{subst, arith, append-nil}
 use Rattle.std.specs.Prelude.{nat_le, nat_lt, if◌then◌else◌}
 use Rattle.std.proofs.lemmas.Bool.{or_parts, or_from, true≢false, leb-true}
 use Rattle.basic_toml_tokens.specs.Text.{Text, folded, is_comment}
 use Rattle.basic_toml_value.specs.Data as d
-use Rattle.basic_toml_value.specs.Data.{Data}
+use Rattle.basic_toml_value.specs.Data.{Data, no_members, member}
 use Rattle.basic_toml_layout.specs.Written.{Written, scalar, absent, array, table}
 use Rattle.basic_toml_layout.specs.Layout.{layout}
 use Rattle.basic_toml_emit.specs.Depth as written
@@ -28,12 +28,16 @@ use Rattle.basic_toml_round_trip.specs.Statements.{WrittenIsReadBack, WrittenLev
 use Rattle.basic_toml_round_trip.specs.Statements.{WrittenIsReadWithByteOrderMark, KeptHasTheLayout}
 use Rattle.basic_toml_round_trip.specs.Statements.{ReadIsWrittenAgain, TreeIsReadBack}
 use Rattle.basic_toml_round_trip.specs.Statements.{DocumentIsReadBack, OrderHasSameMaps, OrderHasSameText}
+use Rattle.basic_toml_round_trip.specs.Statements.{ValueIsReadBack}
 use Rattle.basic_toml_round_trip.proofs.SpelledIsRecorded.{IsRecorded, spelled_recorded}
 use Rattle.basic_toml_round_trip.proofs.SupportedIsLaidOut.{table_laid}
 use Rattle.basic_toml_round_trip.proofs.LaidOutIsSupported.{laid_supported}
 use Rattle.basic_toml_round_trip.proofs.KeptHasTheTree.{tree-kept}
-use Rattle.basic_toml_round_trip.proofs.WrittenIsReadBack.{kept_layout, written_text, laid_text}
-use Rattle.basic_toml_round_trip.proofs.ValidIsLaidOut.{valid_laid, order_deep}
+use Rattle.basic_toml_round_trip.proofs.WrittenIsReadBack.{kept_layout, written_text, laid_text, document_is_text}
+use Rattle.basic_toml_round_trip.proofs.ValidIsLaidOut.{valid_in_row, valid_laid, order_deep}
+use Rattle.basic_toml_round_trip.proofs.LaidOut.{a_row, then_parts, no_parts}
+use Rattle.basic_toml_round_trip.proofs.SpelledValues.{plain_spells}
+use Rattle.basic_toml_layout.specs.Document.{plain, row_text}
 use Rattle.basic_toml_round_trip.proofs.PrettyValues.{style_spells}
 use Rattle.basic_toml_layout.specs.Style.{style_of}
 use Rattle.basic_toml_layout.specs.TextOrder.{text_order}
@@ -113,10 +117,15 @@ pub document_read_back : DocumentIsReadBack
 document_read_back style ms valid deep =
     let fits : depth (d.table (text_order ms)) ≤ nesting_limit = omega (arith, order_deep ms, deep) in
     subst (λ bytes. IsDocument (folded bytes) (d.table (text_order ms))) (same_document (style_of style) ms)
-    (laid_text (style_of style) (style_spells style) (valid_laid ms valid) fits).document
+    (document_is_text (style_of style) (style_spells style) (valid_laid ms valid) fits).document
 
 pub same_order_maps : OrderHasSameMaps
 same_order_maps ms = same_maps ms
 
 pub same_order_text : OrderHasSameText
 same_order_text style ms = same_document (style_of style) ms
+
+pub value_read_back : ValueIsReadBack
+value_read_back k x text valid deep =
+    subst (λ bytes. IsDocument (folded bytes) (d.table (member k x no_members))) (append-nil (row_text plain k x))
+    (laid_text plain plain_spells (a_row tt text (valid_in_row x valid) (then_parts no_parts)) deep).document

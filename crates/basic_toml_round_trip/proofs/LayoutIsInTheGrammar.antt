@@ -102,7 +102,7 @@ module _ (style : Style) (spells : SpellsValues style) where
         {ss : List Section} → AreTexts path → Stands rest no_rows ss
         → Stands (onto (table_chars style spells path later laid) rest) (rows laid) (inner_sections path laid ++ ss)
     inner_stand (a_row {k = k} {x = x} new text value laid) later path {rest = rest} u t =
-        let spelled = spells (row_start k) x value.value in
+        let spelled = spells (row_start k) x value in
         in_text (onto-append (row_chars k spelled) (table_chars style spells path true laid) rest)
         (stands_row (row_stands k spelled (onto (table_chars style spells path true laid) rest) text)
         (inner_stand laid true path u t))

@@ -59,7 +59,7 @@ module _ (style : Style) (spells : SpellsValues style) where
     pub layout_spelt : {seen : KeyTexts} {ms : Members} (laid : Laid seen ms) (path : KeyTexts) (later : Bool)
         → AreTexts path → Spelt (o.in_order style path later (in_order laid)) (table_chars style spells path later laid)
     layout_spelt (a_row {k = k} {x = x} new text value laid) path later u =
-        spelt-append (row_spelt k (spells (row_start k) x value.value) text) (layout_spelt laid path true u)
+        spelt-append (row_spelt k (spells (row_start k) x value) text) (layout_spelt laid path true u)
     layout_spelt (then_parts parts) path later u = parts_spelt parts path later u
 
     parts_spelt : {seen : KeyTexts} {ms : Members} (parts : Parts seen ms) (path : KeyTexts) (later : Bool)

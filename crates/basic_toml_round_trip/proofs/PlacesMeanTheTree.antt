@@ -164,7 +164,7 @@ nodes_filled i (a_node laid nodes) = filled
 mutual
   laid_groups : {seen : KeyTexts} {ms : Members} (laid : Laid seen ms) → AreGroups (inner_mentions laid) (groups_of ms)
   laid_groups (a_row {seen = seen} {k = k} {x = x} new text value laid) =
-      one_group (key k) {ms = value_mention x ∷ []} (inner_mentions laid) filled (here (ap Some (row_finished x value.value)))
+      one_group (key k) {ms = value_mention x ∷ []} (inner_mentions laid) filled (here (ap Some (row_finished x value)))
       (laid_off k laid (later_keys k seen)) (laid_groups laid)
   laid_groups (then_parts parts) = parts_groups parts
 

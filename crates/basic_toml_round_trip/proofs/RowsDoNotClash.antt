@@ -59,7 +59,7 @@ no_overlap k (then_parts parts) h = refl
 
 rows_quiet : {seen : KeyTexts} {ms : Members} (laid : Laid seen ms) → rows_clash (rows laid) ≡ false
 rows_quiet (a_row {k = k} {x = x} new text value laid) =
-    or_from _ _ (or_from _ _ (no_overlap k laid (λ l n. n.0)) (value_quiet x value.value)) (rows_quiet laid)
+    or_from _ _ (or_from _ _ (no_overlap k laid (λ l n. n.0)) (value_quiet x value)) (rows_quiet laid)
 rows_quiet (then_parts parts) = refl
 
 -- and those of all sections

@@ -17,8 +17,8 @@ use Rattle.basic_toml_grammar.specs.Sections.{KeyTexts}
 use Rattle.basic_toml_grammar.specs.Steps.{key}
 use Rattle.basic_toml_grammar.proofs.Clash.ClashesAgree.{turn_eq}
 use Rattle.basic_toml_round_trip.proofs.IntegersAreReadBack.{fits}
-use Rattle.basic_toml_round_trip.proofs.LaidOut.{IsNew, IsInRow, AreInRow, AreFields, Laid, a_row, then_parts, Parts}
-use Rattle.basic_toml_round_trip.proofs.LaidOut.{no_parts, a_table, an_array, Nodes, no_nodes, a_node}
+use Rattle.basic_toml_round_trip.proofs.LaidOut.{IsNew, IsInRow, AreInRow, AreFields, IsRow, LaidBy, a_row, then_parts}
+use Rattle.basic_toml_round_trip.proofs.LaidOut.{PartsLaid, no_parts, a_table, an_array, NodesLaid, no_nodes, a_node}
 
 -- the keys of members are new
 abbrev AllNew : KeyTexts → Members → Type 0
@@ -52,7 +52,7 @@ integer_fits (pos n) f = lt-ltb n (2 ^ 63) (omega (arith, ints, f))
 integer_fits (negsuc n) f = lt-ltb n (2 ^ 63) (omega (arith, ints, f))
 
 mutual
-  valid_in_row : (x : Data) → IsValid x → IsInRow x
+  pub valid_in_row : (x : Data) → IsValid x → IsInRow x
   valid_in_row (d.integer z) h = integer_fits z h
   valid_in_row (d.float t) h = h
   valid_in_row (d.boolean b) h = tt
@@ -83,17 +83,17 @@ rows_seen seen (member k x ms) = cond (is_row x) (rows_seen (k ∷ seen) ms) (ro
 
 -- rows, and parts after them
 rows_laid : (ms : Members) (seen : KeyTexts) {parts : Members} → are_distinct (keys_of ms) ≡ true → HoldsValid ms
-    → AllNew seen ms → Parts (rows_seen seen ms) parts → Laid seen (followed_by (rows_of ms) parts)
+    → AllNew seen ms → PartsLaid IsRow (rows_seen seen ms) parts → LaidBy IsRow seen (followed_by (rows_of ms) parts)
 rows_laid no_members seen e h n ps = then_parts ps
 rows_laid (member k x ms) seen {parts = parts} e h n ps =
     let p = first_apart k ms e in
     go (is_row x) refl ps (λ ps. rows_laid ms (k ∷ seen) p.others h.1.1 (one_more k seen ms p.apart n.1) ps)
     (λ ps. rows_laid ms seen p.others h.1.1 n.1 ps)
   where
-    go : (b : Bool) → is_row x ≡ b → Parts (cond b (rows_seen (k ∷ seen) ms) (rows_seen seen ms)) parts
-        → (Parts (rows_seen (k ∷ seen) ms) parts → Laid (k ∷ seen) (followed_by (rows_of ms) parts))
-        → (Parts (rows_seen seen ms) parts → Laid seen (followed_by (rows_of ms) parts))
-        → Laid seen (followed_by (cond b (member k x (rows_of ms)) (rows_of ms)) parts)
+    go : (b : Bool) → is_row x ≡ b → PartsLaid IsRow (cond b (rows_seen (k ∷ seen) ms) (rows_seen seen ms)) parts
+        → (PartsLaid IsRow (rows_seen (k ∷ seen) ms) parts → LaidBy IsRow (k ∷ seen) (followed_by (rows_of ms) parts))
+        → (PartsLaid IsRow (rows_seen seen ms) parts → LaidBy IsRow seen (followed_by (rows_of ms) parts))
+        → LaidBy IsRow seen (followed_by (cond b (member k x (rows_of ms)) (rows_of ms)) parts)
     go true r ps own others = a_row n.0 h.0 (record { row = r; value = valid_in_row x h.1.0 }) (own ps)
     go false r ps own others = others ps
 
@@ -138,9 +138,9 @@ sections_more k seen (member l x ms) e n =
 
 -- an array that begins with a table
 an_array_or_row : (k : List ℕ) (ns : Members) (xs : Items) {seen : KeyTexts} {parts : Members} (b : Bool)
-    → are_tables xs ≡ b → (not (are_tables xs) ≡ false → IsNew k seen) → IsUtf8 k → Laid [] (text_order ns)
-    → (are_tables xs ≡ true → Nodes (all_in_order xs)) → Parts seen parts → Parts (k ∷ seen) parts
-    → Parts seen (cond (not (are_tables xs)) parts
+    → are_tables xs ≡ b → (not (are_tables xs) ≡ false → IsNew k seen) → IsUtf8 k → LaidBy IsRow [] (text_order ns)
+    → (are_tables xs ≡ true → NodesLaid IsRow (all_in_order xs)) → PartsLaid IsRow seen parts → PartsLaid IsRow (k ∷ seen) parts
+    → PartsLaid IsRow seen (cond (not (are_tables xs)) parts
     (member k (d.array (item (d.table (text_order ns)) (all_in_order xs))) parts))
 an_array_or_row k ns xs true t new text first others skipped rest =
     rw t (an_array (new (rw t refl)) text (a_node first (others t)) rest)
@@ -149,7 +149,7 @@ an_array_or_row k ns xs false t new text first others skipped rest = rw t skippe
 -- the sections
 mutual
   parts_laid : (ms : Members) (seen : KeyTexts) → are_distinct (keys_of ms) ≡ true → HoldsValid ms
-      → SectionsNew seen ms → Parts seen (sections_of ms)
+      → SectionsNew seen ms → PartsLaid IsRow seen (sections_of ms)
   parts_laid no_members seen e h n = no_parts
   parts_laid (member k (d.table ns) ms) seen e h n =
       let p = first_apart k ms e in
@@ -170,7 +170,7 @@ mutual
       parts_laid ms seen (first_apart k ms e).others h.1.1 n.1
   parts_laid (member k x ms) seen e h n = parts_laid ms seen (first_apart k ms e).others h.1.1 n.1
 
-  nodes_laid : (xs : Items) → AreValid xs → are_tables xs ≡ true → Nodes (all_in_order xs)
+  nodes_laid : (xs : Items) → AreValid xs → are_tables xs ≡ true → NodesLaid IsRow (all_in_order xs)
   nodes_laid no_items h t = no_nodes
   nodes_laid (item (d.table ns) xs) h t =
       a_node
@@ -179,7 +179,7 @@ mutual
       (nodes_laid xs h.1 t)
   nodes_laid (item x xs) h t = absurd (true≢false (sym t))
 
-pub valid_laid : (ms : Members) → IsValid (d.table ms) → Laid [] (text_order ms)
+pub valid_laid : (ms : Members) → IsValid (d.table ms) → LaidBy IsRow [] (text_order ms)
 valid_laid ms h =
     rows_laid ms [] h.0 h.1 (none_seen ms)
     (parts_laid ms (rows_seen [] ms) h.0 h.1 (sections_new ms [] h.0 (none_seen ms)))

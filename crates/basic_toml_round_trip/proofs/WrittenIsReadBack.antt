@@ -21,8 +21,10 @@ use Rattle.basic_toml_grammar.specs.Respelled.{characters, has_return, has_byte_
 use Rattle.basic_toml_grammar.proofs.SameMeaning.OldDocumentsStand.{list_keyed}
 use Rattle.basic_toml_grammar.proofs.SameMeaning.RespelledMeanTheSame.{offsets_mean_nothing}
 use Rattle.basic_toml_layout.specs.Document.{Style, plain, document_text}
+use Rattle.basic_toml_layout.proofs.OrderedText as o
 use Rattle.basic_toml_layout.proofs.OrderedText.{ordered_text, same_text}
-use Rattle.basic_toml_round_trip.proofs.LaidOut.{Laid, in_order, any_row, plain_order}
+use Rattle.basic_toml_round_trip.proofs.LaidOut.{IsRow, LaidBy, Laid, laid_so, text_stays, in_order}
+use Rattle.basic_toml_round_trip.proofs.LaidOut.{any_row, plain_order}
 use Rattle.basic_toml_round_trip.proofs.SectionsOfTable.{sections}
 use Rattle.basic_toml_round_trip.proofs.CharactersInFront.{onto, characters-onto}
 use Rattle.basic_toml_round_trip.proofs.SpelledValues.{SpellsValues, plain_spells}
@@ -50,24 +52,31 @@ unmarked {bytes = bytes} {cs = cs} s e =
     ∙ ap (λ cs. characters (folded_from false 0 cs)) (spelt_chars s) ∙ folded_characters cs 0 s.fine
 
 pub laid_text : (style : Style) (spells : SpellsValues style) {ms : Members} (laid : Laid [] ms)
-    → depth (d.table ms) ≤ nesting_limit → IsText (document_text style ms) (d.table ms)
+    → depth (d.table ms) ≤ nesting_limit → IsText (o.in_order style [] false (in_order laid)) (d.table ms)
 laid_text style spells {ms = ms} laid deep =
+    let bytes : List ℕ = o.in_order style [] false (in_order laid) in
     let cs : List ℕ = table_chars style spells [] false laid in
-    let s : Spelt (document_text style ms) cs =
-    subst (λ bytes. Spelt bytes cs) (sym (ordered_text (λ x h. h.row) style (in_order laid)))
-    (layout_spelt style spells laid [] false tt) in
+    let s : Spelt bytes cs = layout_spelt style spells laid [] false tt in
     let g = layout_grammar style spells laid in
     let first : (first_of cs == 0xFEFF) ≡ false = no_mark cs (sections laid) g in
     let found : IsDocument (onto cs []) (d.table ms) =
     record { sections = sections laid; grammar = g; means = sections_mean laid (list_keyed g) deep } in
     record {
       document =
-          (offsets_mean_nothing (onto cs []) (folded (document_text style ms)) (d.table ms)
-          (characters-onto cs ∙ sym (unmarked s first))).0 found;
+          (offsets_mean_nothing (onto cs []) (folded bytes) (d.table ms) (characters-onto cs ∙ sym (unmarked s first))).0
+          found;
       utf8 = spelt_utf8 s;
       returnless = s.returnless;
       markless = ap (λ cs. first_of cs == 0xFEFF) (spelt_chars s) ∙ first;
     }
+
+-- and of one whose rows are those of a document
+pub document_is_text : (style : Style) (spells : SpellsValues style) {ms : Members} (laid : LaidBy IsRow [] ms)
+    → depth (d.table ms) ≤ nesting_limit → IsText (document_text style ms) (d.table ms)
+document_is_text style spells {ms = ms} laid deep =
+    subst (λ bytes. IsText bytes (d.table ms))
+    (text_stays style (λ x h. h.value) laid [] false ∙ sym (ordered_text (λ x h. h.row) style (in_order laid)))
+    (laid_text style spells (laid_so (λ x h. h.value) laid) deep)
 
 -- the layout of what is kept is the layout
 pub kept_layout : (w : Written) → is_unsupported nesting_limit w ≡ false → layout (written_of (tree_of w)) ≡ layout w
@@ -88,4 +97,4 @@ written_text (table es) r u =
     subst (λ x. IsText (layout (table es)) x) (sym (tree-kept (table es)))
     (subst (λ b. IsText b (tree_of (table es)))
     (same_text (plain_order (table_laid es p.0 r)) ∙ kept_layout (table es) u)
-    (laid_text plain plain_spells (any_row (table_laid es p.0 r)) deep))
+    (document_is_text plain plain_spells (any_row (table_laid es p.0 r)) deep))

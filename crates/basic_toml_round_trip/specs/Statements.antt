@@ -1,7 +1,7 @@
 -- Laws that join writing and reading. Each is proved as the contract of a function in `laws`.
-use Rattle.std.specs.Prelude.{◌≡◌, ◌≤◌, false, List, Ok}
+use Rattle.std.specs.Prelude.{◌≡◌, ◌≤◌, ℕ, false, List, Ok, IsUtf8}
 use Rattle.basic_toml_tokens.specs.Text.{folded}
-use Rattle.basic_toml_value.specs.Data.{Data, Members, table}
+use Rattle.basic_toml_value.specs.Data.{Data, Members, no_members, member, table}
 use Rattle.basic_toml_value.specs.SameMaps.{SameMaps}
 use Rattle.basic_toml_grammar.specs.Sections.{Section}
 use Rattle.basic_toml_grammar.specs.Grammar.{IsSectionList}
@@ -12,7 +12,7 @@ use Rattle.basic_toml_grammar.specs.Respelled.{with_returns, with_byte_order_mar
 use Rattle.basic_toml_layout.specs.Written.{Written}
 use Rattle.basic_toml_emit.specs.Items.{Item}
 use Rattle.basic_toml_layout.specs.Layout.{layout}
-use Rattle.basic_toml_layout.specs.Document.{document_text}
+use Rattle.basic_toml_layout.specs.Document.{plain, row_text, document_text}
 use Rattle.basic_toml_layout.specs.Style.{style_of}
 use Rattle.basic_toml_layout.specs.declared.data.style.Style.{Style}
 use Rattle.basic_toml_layout.specs.TextOrder.{text_order}
@@ -80,3 +80,9 @@ OrderHasSameMaps = (ms : Members) → SameMaps (table ms) (table (text_order ms)
 abbrev pub OrderHasSameText : Type 0
 OrderHasSameText =
     (style : Style) (ms : Members) → document_text (style_of style) (text_order ms) ≡ document_text (style_of style) ms
+
+-- the text of any value that stands in a row means it, at each key, where the row is not nested too deeply
+abbrev pub ValueIsReadBack : Type 0
+ValueIsReadBack =
+    (k : List ℕ) (x : Data) → IsUtf8 k → IsValid x → depth (table (member k x no_members)) ≤ nesting_limit
+    → IsDocument (folded (row_text plain k x)) (table (member k x no_members))

@@ -1,7 +1,7 @@
 //! Laws that join writing and reading, each as the contract of a function that does nothing.
 
 ghost use Rattle.basic_toml_round_trip.specs.Statements.{WrittenIsReadBack, WrittenLevelsFit, WrittenIsReadWithReturns, WrittenIsReadWithByteOrderMark, KeptHasTheLayout, ReadIsWrittenAgain, TreeIsReadBack};
-ghost use Rattle.basic_toml_round_trip.specs.Statements.{DocumentIsReadBack, OrderHasSameMaps, OrderHasSameText};
+ghost use Rattle.basic_toml_round_trip.specs.Statements.{DocumentIsReadBack, OrderHasSameMaps, OrderHasSameText, ValueIsReadBack};
 
 /// The text of a value means what is kept of it: absent options are left out, and keys stand in order.
 #[tactic(auto, using(crate::proofs::LawsHold::read_back))]
@@ -61,4 +61,10 @@ pub fn order_has_same_maps()
 #[tactic(auto, using(crate::proofs::LawsHold::same_order_text))]
 pub fn order_has_same_text()
     ensures { OrderHasSameText }
+{}
+
+/// The text of any value means it, in a row of its own.
+#[tactic(auto, using(crate::proofs::LawsHold::value_read_back))]
+pub fn value_is_read_back()
+    ensures { ValueIsReadBack }
 {}
