@@ -2,6 +2,7 @@ pub mod ReadingEnds
 pub mod TextOf
 pub mod NestsWithin
 pub mod DocumentOf
+pub mod DocumentsFit
 pub mod TextIsReadBack
 pub mod TextHasOneDocument
 pub mod RefusedTextsHaveNoDocument

@@ -17,12 +17,11 @@ use Rattle.basic_toml.specs.tokens.Text.{folded}
 use Rattle.basic_toml.specs.Impls.{data_calls, members_calls}
 use Rattle.basic_toml.specs.Ser.{IsDataText, IsFirstFault}
 use Rattle.toml_answer.specs.declared.Answer.{Answer}
-use Rattle.toml_answer.specs.declared.Order.{Order}
+use Rattle.toml_answer.specs.declared.Form.{Form}
 use Rattle.toml_answer.specs.Due.{IsDue, of_document, refused, not_utf8, IsWriting, writable, unwritable}
-use Rattle.toml_answer.specs.Due.{IsRowsFirst, within, too_deep, IsWritten}
+use Rattle.toml_answer.specs.Due.{IsTidied, IsWritten}
 use Rattle.basic_toml.specs.DataDepth.{depth}
-use Rattle.basic_toml.specs.DocumentText.{document_text}
-use Rattle.basic_toml.specs.TableText.{IsTooDeep}
+use Rattle.basic_toml.proofs.DocumentsFit.{document_fits}
 
 -- bytes are UTF-8, or are not
 utf8_or_not : (bytes : List ℕ) → IsUtf8 bytes ⊎ (IsUtf8 bytes → ⊥)
@@ -53,6 +52,15 @@ error_due Due status fault (Ok a) is says stands kind due =
     (subst (Due status (fault_text fault)) (sym stands) (due kind)))
 error_due Due status fault (Err e) is says stands kind due = tt
 
+-- what is due of a text is due of the answer that it was written
+pub tidied_due : (Due : ℕ → List ℕ → Option (ℕ × ℕ) → Type 0) (text : List ℕ) (a : Answer)
+    → IsTidied text a.status (string_bytes a.text) a.line_col → Due 0 text None
+    → Due a.status (string_bytes a.text) a.line_col
+tidied_due Due text a is due =
+    let (status, says, place) = is in
+    subst (λ (n : ℕ). Due n (string_bytes a.text) a.line_col) (sym status)
+    (subst (λ (t : List ℕ). Due 0 t a.line_col) (sym says) (subst (Due 0 text) (sym place) due))
+
 -- a text that is that of the data is due
 pub text_due : (d : Data) (text : List ℕ) → IsDataText d text → IsWriting d 0 text None
 text_due d text is = subst (λ (s : List ℕ). IsWriting d 0 s None) (sym is.laid_out) (writable is.supported)
@@ -67,17 +75,6 @@ unwritable_due d fault calls own made never (inr (inl up)) kind = absurd (never 
 unwritable_due d fault calls own made never (inr (inr r)) kind =
     subst (λ (f : Fault). IsWriting d 2 (fault_text f) f.line_column) (sym r.named)
     (unwritable (subst (λ (is : List Item). outcome nesting_limit is ≡ Err r.error) made r.met))
-
--- the text of a table with its rows first is due, or that it is nested too deeply
-pub rows_first_due : (ms : Members) (text : List ℕ) → depth (table ms) ≤ nesting_limit → text ≡ document_text ms
-    → IsRowsFirst ms 0 text None
-rows_first_due ms text deep is = subst (λ (s : List ℕ). IsRowsFirst ms 0 s None) (sym is) (within deep)
-
-pub too_deep_due : (ms : Members) (fault : Fault) → (fault ≡ want_of_memory) ⊎ IsTooDeep (table ms) fault
-    → fault.kind ≢ out_of_memory → IsRowsFirst ms 2 (fault_text fault) fault.line_column
-too_deep_due ms fault (inl memory) kind = absurd (kind (ap (λ (f : Fault). f.kind) memory))
-too_deep_due ms fault (inr deep) kind =
-    subst (λ (f : Fault). IsRowsFirst ms 2 (fault_text f) f.line_column) (sym deep.is) (too_deep deep.deep)
 
 -- a type T that is read from tables, all of which it takes, and shows its members
 module _ {T : Type 0} (takes : Data → Type 0) (entries : T → Members) where
@@ -95,31 +92,39 @@ module _ {T : Type 0} (takes : Data → Type 0) (entries : T → Members) where
     | inr not ↦ absurd (let wrong : Ok t ≡ Err not_text = other not in cc)
   ]
 
+  -- what was read is nested within the limit
+  pub table_fits : (input : List ℕ) (t : T)
+      → (IsUtf8 input → ReadsText takes reads_table table_faults input (Ok t))
+      → ((IsUtf8 input → ⊥) → Ok t ≡ Err not_text) → depth (table (entries t)) ≤ nesting_limit
+  table_fits input t answers other =
+      let (utf8, document) = read_as input t answers other in
+      document_fits (folded input) (table (entries t)) document
+
   -- what came of writing what was read is due
-  pub writing_due : {E : Type 0} (order : Order) (input : List ℕ) (t : T) (result : Result Answer E)
+  pub writing_due : {E : Type 0} (form : Form) (input : List ℕ) (t : T) (result : Result Answer E)
       → (IsUtf8 input → ReadsText takes reads_table table_faults input (Ok t)) → ((IsUtf8 input → ⊥) → Ok t ≡ Err not_text)
-      → IfOk result (λ a. IsWritten order (entries t) a.status (string_bytes a.text) a.line_col)
-      → IfOk result (λ a. IsDue order input a.status (string_bytes a.text) a.line_col)
-  writing_due order input t (Ok a) answers other writing =
+      → IfOk result (λ a. IsWritten form (entries t) a.status (string_bytes a.text) a.line_col)
+      → IfOk result (λ a. IsDue form input a.status (string_bytes a.text) a.line_col)
+  writing_due form input t (Ok a) answers other writing =
       let (utf8, document) = read_as input t answers other in
       of_document utf8 document writing
-  writing_due order input t (Err e) answers other writing = tt
+  writing_due form input t (Err e) answers other writing = tt
 
   -- an error that is no want of memory is one of a text without a document, since every table is taken
-  text_refused : (order : Order) (input : List ℕ) (fault : Fault) → ((members : Members) → takes (table members))
+  text_refused : (form : Form) (input : List ℕ) (fault : Fault) → ((members : Members) → takes (table members))
       → IsUtf8 input → fault.kind ≢ out_of_memory → ReadsText takes reads_table table_faults input (Err fault)
-      → IsDue order input 1 (fault_text fault) fault.line_column
-  text_refused order input _ taken utf8 kind no_memory = absurd (kind refl)
-  text_refused order input _ taken utf8 kind (no_document none why) = refused utf8 why
-  text_refused order input fault taken utf8 kind (not_taken {members = members} document (own, only, one, same)) =
+      → IsDue form input 1 (fault_text fault) fault.line_column
+  text_refused form input _ taken utf8 kind no_memory = absurd (kind refl)
+  text_refused form input _ taken utf8 kind (no_document none why) = refused utf8 why
+  text_refused form input fault taken utf8 kind (not_taken {members = members} document (own, only, one, same)) =
       absurd (kind (ap (λ (f : Fault). f.kind) (same ∙ ap (lined input) (only.taken (taken members)))))
 
-  pub refused_due : (order : Order) (input : List ℕ) (fault : Fault) → ((members : Members) → takes (table members))
+  pub refused_due : (form : Form) (input : List ℕ) (fault : Fault) → ((members : Members) → takes (table members))
       → (IsUtf8 input → ReadsText takes reads_table table_faults input (Err fault))
       → ((IsUtf8 input → ⊥) → ◌≡◌ {A = Result T Fault} (Err fault) (Err not_text))
-      → fault.kind ≢ out_of_memory → IsDue order input 1 (fault_text fault) fault.line_column
-  refused_due order input fault taken answers other kind = elim (utf8_or_not input) [
-    | inl utf8 ↦ text_refused order input fault taken utf8 kind (answers utf8)
+      → fault.kind ≢ out_of_memory → IsDue form input 1 (fault_text fault) fault.line_column
+  refused_due form input fault taken answers other kind = elim (utf8_or_not input) [
+    | inl utf8 ↦ text_refused form input fault taken utf8 kind (answers utf8)
     | inr not ↦ (let is : fault ≡ not_text = cc (other not) in
-        subst (λ (f : Fault). IsDue order input 1 (fault_text f) f.line_column) (sym is) (not_utf8 not))
+        subst (λ (f : Fault). IsDue form input 1 (fault_text f) f.line_column) (sym is) (not_utf8 not))
   ]

@@ -3,15 +3,19 @@
 //! `toml_tidy` writes it to standard output, and `toml_c` gives it to a program in C.
 #![tactic(auto)]
 
-ghost use Rattle.std.specs.Prelude.{◌≡◌, ◌≢◌, IfOk, string_bytes};
+ghost use Rattle.std.specs.Prelude.{◌≡◌, ◌≢◌, ◌≤◌, IfOk, string_bytes};
 ghost use Rattle.basic_toml.specs.Data as d;
+ghost use Rattle.basic_toml.specs.DataDepth.{depth};
+ghost use Rattle.basic_toml.specs.DocumentText.{plain, document_text};
 ghost use Rattle.basic_toml.specs.Fault.{out_of_memory};
 ghost use Rattle.basic_toml.specs.FaultText.{fault_text};
+ghost use Rattle.basic_toml.specs.Nesting.{nesting_limit};
+ghost use Rattle.basic_toml.specs.PrettyText.{pretty};
 ghost use Rattle.basic_toml.specs.View.{entries};
 ghost use Rattle.toml_answer.specs.Due as spec;
 ghost use Rattle.toml_answer.specs.Due.{IsDue};
 
-use basic_toml::{Error, Table, from_slice, table_to_string, to_string};
+use basic_toml::{Error, Table, from_slice, table_to_string, table_to_string_pretty, to_string};
 use std::alloc::{AllocError, Global};
 
 /// The status of a text that was read and written.
@@ -20,7 +24,7 @@ pub const TIDIED: u8 = 0;
 /// The status of a text that was refused.
 pub const REFUSED: u8 = 1;
 
-/// The status of a text that was read, and whose table cannot be written in its order.
+/// The status of a text that was read, and whose table cannot be written as it was read.
 pub const NOT_WRITTEN: u8 = 2;
 
 /// What is due for the bytes of a text.
@@ -34,51 +38,81 @@ pub struct Answer {
     pub line_col: Option<(usize, usize)>,
 }
 
-/// In which order the entries of each table are written.
+/// In which form a text is written.
 #[derive(Clone, Copy, Debug)]
-pub enum Order {
-    /// As they were read.
+pub enum Form {
+    /// The entries of each table as they were read.
     AsRead,
     /// Rows before sections, as [`table_to_string`] has them.
     RowsFirst,
+    /// Rows before sections, for people, as [`table_to_string_pretty`] has them.
+    Pretty,
 }
 
-/// Reads a text and writes its data anew, in this order.
+/// Reads a text and writes its data anew, in this form.
 ///
 /// # Errors
 ///
 /// Want of memory alone; every error of reading and of writing is an answer.
-pub fn answer_to(alloc: Global, order: Order, input: &[u8]) -> Result<Answer, AllocError>
-    ensures { IfOk result (λ a. IsDue order input.now a.status (string_bytes a.text) a.line_col) }
+pub fn answer_to(alloc: Global, form: Form, input: &[u8]) -> Result<Answer, AllocError>
+    ensures { IfOk result (λ a. IsDue form input.now a.status (string_bytes a.text) a.line_col) }
 {
     match from_slice::<Table>(alloc, input) {
-        Ok(table) => table_answer(alloc, order, &table),
+        Ok(table) => table_answer(alloc, form, &table),
         Err(fault) => error_answer(alloc, REFUSED, fault),
     }
 }
 
-fn table_answer(alloc: Global, order: Order, table: &Table) -> Result<Answer, AllocError>
+// Of a table that was read, which is nested within the limit.
+fn table_answer(alloc: Global, form: Form, table: &Table) -> Result<Answer, AllocError>
+    requires { depth (d.table (entries table.now)) ≤ nesting_limit }
     ensures { IfOk result
-        (λ a. spec.IsWritten order (entries table.now) a.status (string_bytes a.text) a.line_col) }
+        (λ a. spec.IsWritten form (entries table.now) a.status (string_bytes a.text) a.line_col) }
 {
-    match order {
-        Order::AsRead => text_answer(alloc, table),
-        Order::RowsFirst => rows_first_answer(alloc, table),
+    match form {
+        Form::AsRead => text_answer(alloc, table),
+        Form::RowsFirst => Ok(tidied(rows_first_text(alloc, table)?)),
+        Form::Pretty => Ok(tidied(pretty_text(alloc, table)?)),
+    }
+}
+
+fn tidied(text: String) -> Answer
+    ensures { spec.IsTidied (string_bytes text) result.status (string_bytes result.text) result.line_col }
+{
+    Answer {
+        status: TIDIED,
+        text,
+        line_col: None,
     }
 }
 
 // The text of a table with its rows first.
-fn rows_first_answer(alloc: Global, table: &Table) -> Result<Answer, AllocError>
-    ensures { IfOk result
-        (λ a. spec.IsRowsFirst (entries table.now) a.status (string_bytes a.text) a.line_col) }
+fn rows_first_text(alloc: Global, table: &Table) -> Result<String, AllocError>
+    requires { depth (d.table (entries table.now)) ≤ nesting_limit }
+    ensures { IfOk result (λ text. string_bytes text ≡ document_text plain (entries table.now)) }
 {
     match table_to_string(alloc, table) {
-        Ok(text) => Ok(Answer {
-            status: TIDIED,
-            text,
-            line_col: None,
-        }),
-        Err(fault) => error_answer(alloc, NOT_WRITTEN, fault),
+        Ok(text) => Ok(text),
+        Err(error) => {
+            let is_out_of_memory = error.is_out_of_memory();
+            prove!(is_out_of_memory);
+            Err(AllocError)
+        }
+    }
+}
+
+// The same for people.
+fn pretty_text(alloc: Global, table: &Table) -> Result<String, AllocError>
+    requires { depth (d.table (entries table.now)) ≤ nesting_limit }
+    ensures { IfOk result (λ text. string_bytes text ≡ document_text pretty (entries table.now)) }
+{
+    match table_to_string_pretty(alloc, table) {
+        Ok(text) => Ok(text),
+        Err(error) => {
+            let is_out_of_memory = error.is_out_of_memory();
+            prove!(is_out_of_memory);
+            Err(AllocError)
+        }
     }
 }
 
@@ -88,11 +122,7 @@ fn text_answer(alloc: Global, table: &Table) -> Result<Answer, AllocError>
         (λ a. spec.IsWriting (d.table (entries table.now)) a.status (string_bytes a.text) a.line_col) }
 {
     match to_string(alloc, table) {
-        Ok(text) => Ok(Answer {
-            status: TIDIED,
-            text,
-            line_col: None,
-        }),
+        Ok(text) => Ok(tidied(text)),
         Err(fault) => error_answer(alloc, NOT_WRITTEN, fault),
     }
 }

@@ -5,12 +5,6 @@ use Rattle.toml_answer.proofs.table_answer.Goals as goal
 
 pub returns-in-AsRead : goal.returns-in-AsRead
 returns-in-AsRead c =
-    subst (λ order. IfOk c.text_answer.result
-    (λ a. IsWritten order (entries c.args.table.now) a.status (string_bytes a.text) a.line_col)) (sym c.in-AsRead.is)
+    subst (λ form. IfOk c.text_answer.result
+    (λ a. IsWritten form (entries c.args.table.now) a.status (string_bytes a.text) a.line_col)) (sym c.in-AsRead.is)
     c.text_answer.ensures
-
-pub returns-in-RowsFirst : goal.returns-in-RowsFirst
-returns-in-RowsFirst c =
-    subst (λ order. IfOk c.rows_first_answer.result
-    (λ a. IsWritten order (entries c.args.table.now) a.status (string_bytes a.text) a.line_col))
-    (sym c.in-RowsFirst.is) c.rows_first_answer.ensures
