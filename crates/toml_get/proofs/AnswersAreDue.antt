@@ -9,10 +9,11 @@ use Rattle.basic_toml_value.specs.declared.value.Value.{Value}
 use Rattle.basic_toml_grammar.specs.Depth.{depth}
 use Rattle.basic_toml_tree.specs.Data.{table_data}
 use Rattle.basic_toml_tree.specs.declared.tree.Tree.{Tree}
+use Rattle.basic_toml.proofs.DocumentsFit.{document_fits}
 use Rattle.toml_findings.specs.Findings.{Reads, finding_of}
 use Rattle.toml_findings.specs.declared.finding.Finding as code
 use Rattle.toml_findings.specs.declared.finding.Unread.TheVariants.{Refused}
-use Rattle.toml_get.proofs.ValuesFit.{document_fits, along_below}
+use Rattle.toml_get.proofs.ValuesFit.{along_below}
 use Rattle.toml_get.specs.Fronts.{steps_seen, malformed_text}
 use Rattle.toml_get.specs.Run.{IsDueOf, IsDueIn, stands, IsDue, read, refused, refusal_text, IsSaidAlong, due}
 use Rattle.toml_get.specs.Run.{unread, IsSaid, along, malformed}

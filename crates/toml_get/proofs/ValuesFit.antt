@@ -1,37 +1,13 @@
--- What stands in a document is no deeper than the nesting limit.
+-- What stands at the end of a path is no deeper than what it stands in.
 use Rattle.std.proofs.Common.{◌≡◌, ℕ, zero, suc, ◌≤◌, Bool, true, false, List, [], ◌∷◌, Option, Some, None, refl}
-use Rattle.std.proofs.Common.{arith, subst}
-use Rattle.std.proofs.Common.{cond, max}
-use Rattle.std.proofs.lemmas.Bool.{leb-true}
+use Rattle.std.proofs.Common.{arith, subst, cond, max}
 use Rattle.std.specs.Option.{option_and_then}
-use Rattle.std.specs.Prelude.{nat_le, not, ◌||◌, if◌then◌else◌}
 use Rattle.std.specs.Str.{bytes_eq}
-use Rattle.basic_toml_tokens.specs.Text.{Text}
 use Rattle.basic_toml_value.specs.Data.{Data, integer, float, boolean, string, array, table, Items, no_items, item}
 use Rattle.basic_toml_value.specs.Data.{Members, no_members, member}
-use Rattle.basic_toml_value.specs.Nesting.{nesting_limit}
 use Rattle.basic_toml_grammar.specs.Depth.{depth, depth_of_items, depth_of_members}
-use Rattle.basic_toml_grammar.specs.Document.{has_clash, tree_of_sections, document_of, IsDocument}
-use Rattle.basic_toml_grammar.specs.Sections.{Section}
 use Rattle.toml_path.specs.Find.{at_key, at_number, after, data_at}
 use Rattle.toml_path.specs.Path.{Step, key, element}
-
-sections_fit : (sections : List Section) (tree : Data) → document_of sections ≡ Some tree → depth tree ≤ nesting_limit
-sections_fit sections tree e =
-    go (has_clash sections) (nat_le (depth (tree_of_sections sections)) nesting_limit) refl e
-  where
-    go : (b c : Bool) → nat_le (depth (tree_of_sections sections)) nesting_limit ≡ c
-        → ◌≡◌ {A = Option Data} (if b || not c then None else Some (tree_of_sections sections)) (Some tree)
-        → depth tree ≤ nesting_limit
-    go true c g e = cc
-    go false false g e = cc
-    go false true g e =
-        let same : tree_of_sections sections ≡ tree = cc in
-        subst (λ (d : Data). depth d ≤ nesting_limit) same
-        (leb-true (depth (tree_of_sections sections)) nesting_limit g)
-
-pub document_fits : (text : Text) (tree : Data) → IsDocument text tree → depth tree ≤ nesting_limit
-document_fits text tree document = sections_fit document.sections tree document.means
 
 key_below : (name : List ℕ) (ms : Members) (x : Data) → at_key name ms ≡ Some x → depth x ≤ depth_of_members ms
 key_below name no_members x e = cc

@@ -12,8 +12,6 @@ mod nothing;
 mod path_text;
 mod printed;
 mod run;
-#[cfg(test)]
-mod tests;
 
 use format::Format;
 use run::run;

@@ -2,6 +2,7 @@
 ghost use Rattle.std.specs.Prelude.{◌≡◌, ◌≤◌, ◌++◌, codes, IfOk, option_map, string_bytes};
 ghost use Rattle.basic_toml.specs.Data.{table as table_of_members};
 ghost use Rattle.basic_toml.specs.DataDepth.{depth};
+ghost use Rattle.basic_toml.specs.DocumentText as texts;
 ghost use Rattle.basic_toml.specs.DocumentText.{document_text, inline};
 ghost use Rattle.basic_toml.specs.Nesting.{nesting_limit};
 ghost use Rattle.basic_toml.specs.View.{view, entries};
@@ -68,7 +69,7 @@ fn row_value(alloc: Global, value: &Value) -> Result<String, AllocError>
 
 fn document_of(alloc: Global, table: &Table) -> Result<String, AllocError>
     requires { depth (table_of_members (entries table.now)) ≤ nesting_limit }
-    ensures { IfOk result (λ text. string_bytes text ≡ document_text (entries table.now)) }
+    ensures { IfOk result (λ text. string_bytes text ≡ document_text texts.plain (entries table.now)) }
 {
     match table_to_string(alloc, table) {
         Ok(text) => Ok(text),
