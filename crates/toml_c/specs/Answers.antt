@@ -8,7 +8,7 @@ use Rattle.basic_toml.specs.ReadFaults.{fault_in}
 use Rattle.basic_toml.specs.Reading.{IsTextFault}
 use Rattle.basic_toml.specs.tokens.Text.{folded}
 use Rattle.toml_answer.specs.Due.{IsDue}
-use Rattle.toml_answer.specs.declared.Order.{Order}
+use Rattle.toml_answer.specs.declared.Form.{Form}
 use Rattle.toml_c.specs.declared.answer.TomlAnswer.{TomlAnswer}
 
 -- memory with as much of a text at its front as it has room for, and behind it what was there
@@ -20,12 +20,12 @@ abbrev pub answered : ℕ → ℕ → Option (ℕ × ℕ) → TomlAnswer
 answered status n None = record { status = status; has_place = false; line = 0; column = 0; length = n }
 answered status n (Some p) = record { status = status; has_place = true; line = p.0; column = p.1; length = n }
 
--- What is due for the bytes in an order, and as much of its text as there is room for; or, where memory was refused, the memory as
--- it was.
-pub data Tidies (order : Order) (input old new : List ℕ) : TomlAnswer → Type 0 where
-  due : {status : ℕ} {text : List ℕ} {place : Option (ℕ × ℕ)} → IsDue order input status text place
-      → new ≡ with_front old text → Tidies order input old new (answered status (length text) place)
-  no_memory : new ≡ old → Tidies order input old new (answered 3 0 None)
+-- What is due for the bytes in a form, and as much of its text as there is room for; or, where memory was refused, the
+-- memory as it was.
+pub data Tidies (form : Form) (input old new : List ℕ) : TomlAnswer → Type 0 where
+  due : {status : ℕ} {text : List ℕ} {place : Option (ℕ × ℕ)} → IsDue form input status text place
+      → new ≡ with_front old text → Tidies form input old new (answered status (length text) place)
+  no_memory : new ≡ old → Tidies form input old new (answered 3 0 None)
 
 -- bytes that are a text with this document
 abbrev pub Holds : List ℕ → Data → Type 0
