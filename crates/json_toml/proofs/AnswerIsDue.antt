@@ -7,7 +7,7 @@ use Rattle.basic_toml.specs.Nesting.{nesting_limit}
 use Rattle.basic_toml.specs.Fault.{Fault, out_of_memory, want_of_memory}
 use Rattle.basic_toml.specs.LineColumn.{line_at, column_at}
 use Rattle.basic_toml.specs.DataDepth.{depth}
-use Rattle.basic_toml.specs.DocumentText.{document_text}
+use Rattle.basic_toml.specs.DocumentText.{plain, document_text}
 use Rattle.basic_toml.specs.TableText.{IsTooDeep}
 use Rattle.toml_json_text.specs.declared.form.Form.{Form}
 use Rattle.toml_from_json.specs.Meaning.{members_in}
@@ -48,7 +48,7 @@ pub ruleset due_json = (table_due, refused_due)
 
 -- the text of a table is due, or that it is nested too deeply
 pub text_due : (name : List ℕ) (members : Members) (text : List ℕ) → depth (table members) ≤ nesting_limit
-    → text ≡ document_text members → IsTableDue name members 0 text
+    → text ≡ document_text plain members → IsTableDue name members 0 text
 text_due name members text within is = table_written within is
 
 pub too_deep_due : (name : List ℕ) (members : Members) (fault : Fault) (text : List ℕ)

@@ -5,7 +5,7 @@ use Rattle.std.specs.Io.KnownBytes.{Appends, Keeps}
 use Rattle.json.specs.Json.{Json, document}
 use Rattle.basic_toml.specs.Data.{Members, table}
 use Rattle.basic_toml.specs.DataDepth.{depth}
-use Rattle.basic_toml.specs.DocumentText.{document_text}
+use Rattle.basic_toml.specs.DocumentText.{plain, document_text}
 use Rattle.basic_toml.specs.LineColumn.{line_at, column_at}
 use Rattle.basic_toml.specs.Nesting.{nesting_limit}
 use Rattle.toml_json_text.specs.declared.form.Form.{Form}
@@ -28,7 +28,7 @@ no_json_text name line column deeper =
 
 -- The status and the text for a table: its text; or, where it is nested above the limit, that it is.
 pub data IsTableDue (name : List ℕ) (members : Members) : ℕ → List ℕ → Type 0 where
-  table_written : {text : List ℕ} → depth (table members) ≤ nesting_limit → text ≡ document_text members
+  table_written : {text : List ℕ} → depth (table members) ≤ nesting_limit → text ≡ document_text plain members
       → IsTableDue name members 0 text
   too_deep : {text : List ℕ} → nesting_limit < depth (table members)
       → text ≡ failure_line name (codes "nested too deeply") → IsTableDue name members 2 text

@@ -7,7 +7,7 @@ use crate::own_types::read_as_own;
 use crate::sections_shown::sections_of;
 use crate::targets::read_as;
 use crate::tokens_shown::tokens_of;
-use basic_toml::{Table, from_slice, table_to_string, to_string};
+use basic_toml::{Error, Table, from_slice, table_to_string, table_to_string_pretty, to_string};
 use std::alloc::{AllocError, Global};
 use std::str;
 use toml_json_text::{Form, json_of};
@@ -76,10 +76,22 @@ fn written_of(alloc: Global, bytes: &[u8]) -> Result<String, AllocError> {
 // The text of the table that is written whatever the table holds.
 fn document_of(alloc: Global, bytes: &[u8]) -> Result<String, AllocError> {
     match from_slice::<Table>(alloc, bytes) {
-        Ok(table) => match table_to_string(alloc, &table) {
-            Ok(text) => escape(alloc, text.as_str()),
-            Err(error) => format!(in alloc; "error {error}"),
-        },
+        Ok(table) => text_or_error(alloc, table_to_string(alloc, &table)),
+        Err(error) => format!(in alloc; "error {error}"),
+    }
+}
+
+// The same for people.
+fn pretty_of(alloc: Global, bytes: &[u8]) -> Result<String, AllocError> {
+    match from_slice::<Table>(alloc, bytes) {
+        Ok(table) => text_or_error(alloc, table_to_string_pretty(alloc, &table)),
+        Err(error) => format!(in alloc; "error {error}"),
+    }
+}
+
+fn text_or_error(alloc: Global, written: Result<String, Error>) -> Result<String, AllocError> {
+    match written {
+        Ok(text) => escape(alloc, text.as_str()),
         Err(error) => format!(in alloc; "error {error}"),
     }
 }
@@ -151,6 +163,7 @@ pub(crate) fn answer_of(
         "written" => Ok((even_out(alloc, rest)?, written_of(alloc, bytes)?)),
         "unwritten" => plain(alloc, rest, unwritten_of(alloc, bytes)?),
         "document" => Ok((even_out(alloc, rest)?, document_of(alloc, bytes)?)),
+        "pretty" => Ok((even_out(alloc, rest)?, pretty_of(alloc, bytes)?)),
         _ => match str::from_utf8(bytes) {
             Ok(text) => answer_of_text(alloc, text, word, rest),
             Err(_) => plain(alloc, rest, String::from_str(alloc, "no text")?),

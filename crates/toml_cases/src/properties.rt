@@ -1,7 +1,8 @@
 //! What holds of every text: it is checked of each text of the case files, and of random ones.
 use crate::report::{Place, Report};
 use basic_toml::{
-    Error, Table, from_slice, from_str, line_col, rows_first, table_to_string, to_string,
+    Error, Table, from_slice, from_str, line_col, rows_first, table_to_string,
+    table_to_string_pretty, to_string,
 };
 use basic_toml_read::{ReadError, sections};
 use basic_toml_tree::resolve;
@@ -91,7 +92,7 @@ fn write_again(alloc: Global, table: &Table) -> Result<Verdict, AllocError> {
 }
 
 // Whether the text that any table has is read, and then written as the same text; where the table can be written with
-// its rows first, it is that text.
+// its rows first, it is that text. And so its text for people, which is read as the same table.
 fn has_document(alloc: Global, table: &Table) -> Result<bool, Error> {
     let text = table_to_string(alloc, table)?;
     let Ok(again) = from_str::<Table>(alloc, text.as_str()) else {
@@ -102,7 +103,20 @@ fn has_document(alloc: Global, table: &Table) -> Result<bool, Error> {
         Ok(written) => written == text,
         Err(_) => true,
     };
-    Ok(is_same && table_to_string(alloc, &again)? == text)
+    Ok(
+        is_same
+            && table_to_string(alloc, &again)? == text
+            && has_text_for_people(alloc, table, &again)?,
+    )
+}
+
+// Whether the text for people is read as the table with its rows first, and then written as the same text.
+fn has_text_for_people(alloc: Global, table: &Table, ordered: &Table) -> Result<bool, Error> {
+    let text = table_to_string_pretty(alloc, table)?;
+    let Ok(again) = from_str::<Table>(alloc, text.as_str()) else {
+        return Ok(false);
+    };
+    Ok(again == *ordered && table_to_string_pretty(alloc, &again)? == text)
 }
 
 /// What a text comes to: it is refused within it, or read, and read back where it is written.

@@ -3,7 +3,7 @@ use basic_toml::tokens::{Span, Tokenizer};
 use basic_toml::{
     Error, ErrorKind, Float, Origin, PushRefusal, ReadErrorKind, Serializer, Step, Table, Value,
     WriteError, from_slice, from_str, integer_of, into_rows_first, line_col, origin_of, read_tree,
-    rows_first, table_to_string, to_string, value_to_string,
+    rows_first, table_to_string, table_to_string_pretty, to_string, value_to_string,
 };
 use std::alloc::{AllocError, Global};
 use std::test::Fail;
@@ -100,6 +100,19 @@ fn puts_rows_first(rt: HostRuntime) -> Result<(), Fail> {
     assert!(rt; copy == moved);
     let text = to_string(alloc, &moved)?;
     assert_eq!(rt; text.as_str(), "name = \"box\"\n\n[size]\nwidth = 2\n");
+    Ok(())
+}
+
+#[test]
+fn writes_any_table_for_people(rt: HostRuntime) -> Result<(), Fail> {
+    let alloc = rt.alloc();
+    let text = "hosts = [\"alpha\", \"beta\"]\nnote = \"one\\ntwo\"\n";
+    let table: Table = from_str(alloc, text)?;
+    let text = table_to_string_pretty(alloc, &table)?;
+    assert_eq!(rt;
+        text.as_str(),
+        "hosts = [\"alpha\", \"beta\"]\nnote = \"\"\"\none\ntwo\"\"\"\n"
+    );
     Ok(())
 }
 

@@ -1,7 +1,10 @@
 //! Tests of what no text shows: calls of the library, what a caller's own types read and write or the errors that they
-//! answer, and the calls that the documentation shows. What texts give stands in the data of `toml_cases`.
+//! answer, the calls that the documentation shows, and what the programs make of a reader or a writer that fails. What
+//! texts give stands in the data of `toml_cases`.
 #![tactic(auto)]
 
+#[cfg(test)]
+mod ends;
 #[cfg(test)]
 mod examples;
 #[cfg(test)]
