@@ -42,8 +42,8 @@ struct toml_answer {
    TOML_NOT_WRITTEN, the error's message with its keys and its place. */
 struct toml_answer toml_c_tidy(const uint8_t *input, size_t input_length, uint8_t *output, size_t output_length);
 
-/* The same, with the rows of each table before its sections: so every text that is read is written, and
-   TOML_NOT_WRITTEN is left for what is nested too deeply, which no text is that was read. */
+/* The same, with the rows of each table before its sections: so every text that is read is written, and the status is
+   never TOML_NOT_WRITTEN. */
 struct toml_answer toml_c_tidy_rows_first(const uint8_t *input, size_t input_length, uint8_t *output,
                                           size_t output_length);
 
