@@ -40,13 +40,12 @@ pub fn table_to_string(alloc: Global, table: &Table) -> Result<String, Error>
     text_in(alloc, Style::Plain, table)
 }
 
-/// The same for people: what [`table_to_string`] writes, with room between the sections and no long lines that can be
-/// broken.
+/// The TOML text of any table, for people: what [`table_to_string`] writes, laid out over more lines.
 ///
-/// A blank line stands before each header but one that begins the text. An array of a row that does not fit into 80
-/// columns with its key has a line for each element, with a comma behind the last. A string of several lines stands on
-/// several, between `"""`. What stands within an array or an inline table is on one line, whatever it is. (TOML v0.5.0,
-/// "Array" and "String")
+/// A blank line stands before each header but one that begins the text. An array that does not fit into 80 columns with
+/// its key has a line for each element, with a comma behind the last; an empty one stays as it is. A string with a line
+/// feed stands on several lines, between `"""`. Nothing else is broken: an element of an array and an inline table
+/// stand on one line, however long. A column is a character. (TOML v0.5.0, "Array" and "String")
 ///
 /// ```text
 /// let table: Table = from_str(alloc, "hosts = [\"alpha\", \"beta\"]\nnote = \"one\\ntwo\"\n")?;

@@ -1,6 +1,6 @@
 -- The value of a row for people, by its parts in turn.
 use Rattle.std.proofs.Common.{◌≡◌, ℕ, zero, suc, ◌+◌, ◌-◌, ◌<◌, ◌≤◌, ◌==◌, Bool, true, false, List, [], ◌∷◌, ◌++◌, length}
-use Rattle.std.proofs.Common.{◌&&◌, ◌||◌, take, drop, get_or, refl, sym, ◌∙◌, ap, subst, arith, append_assoc, append-nil}
+use Rattle.std.proofs.Common.{◌&&◌, take, drop, get_or, refl, sym, ◌∙◌, ap, arith, append_assoc, append-nil}
 use Rattle.std.specs.Prelude.{cond, not, Vec, codes}
 use Rattle.std.specs.Str.{IsUtf8, IsCharBoundary}
 use Rattle.std.specs.declared.alloc.Global.{Global}
@@ -8,7 +8,7 @@ use Rattle.std.proofs.Math.ListN.{drop_of_length-le}
 use Rattle.std.proofs.lemmas.Bool.{le-leb, lt-leb, true≢false, and_parts, not-true, cond-true, cond-false}
 use Rattle.std.proofs.lemmas.List.{drop-drop, drop-append-le, take_at, get_or-drop, length-drop, take_all}
 use Rattle.basic_toml_tokens.specs.Ascii as ascii
-use Rattle.basic_toml_value.specs.Data.{Data, array, Items, no_items, item}
+use Rattle.basic_toml_value.specs.Data.{array, Items, no_items, item}
 use Rattle.basic_toml_value.specs.View.{view, items_view}
 use Rattle.basic_toml_value.specs.declared.value.Value.{Value}
 use Rattle.basic_toml_value.specs.declared.value.Value.TheVariants.{Array}

@@ -11,6 +11,7 @@ use Rattle.basic_toml_layout.specs.Document.{are_tables, is_row, has_row, is_hea
 use Rattle.basic_toml_layout.specs.Document.{sections_text, section_text, elements_text, element_text, table_text}
 use Rattle.basic_toml_layout.specs.Document.{document_text}
 use Rattle.basic_toml_layout.specs.TextOrder.{followed_by, rows_of, sections_of, in_order, all_in_order, text_order}
+use Rattle.basic_toml_layout.proofs.OrderedText.{or_false}
 
 -- the same maps
 takes_after : (ms ns : Members) (k : List ℕ) (d : Data) → Takes (followed_by ms (member k d ns)) k d (followed_by ms ns)
@@ -78,10 +79,6 @@ no_row_there (member k x ms) = go (is_row x) refl (no_row_there ms)
         → has_row (cond b (sections_of ms) (member k (in_order x) (sections_of ms))) ≡ false
     go true e rest = rest
     go false e rest = rw (row_stays x ∙ e) rest
-
-or_false : (b : Bool) → (b || false) ≡ b
-or_false true = refl
-or_false false = refl
 
 has_same : (ms : Members) → has_row (text_order ms) ≡ has_row ms
 has_same ms = has_after ms (sections_of ms) ∙ ap (λ b. has_row ms || b) (no_row_there ms) ∙ or_false (has_row ms)

@@ -1,14 +1,14 @@
 -- The value of a row in a text for people, own (TOML v0.5.0, "String" and "Array").
 -- A string with a line feed stands between `"""`, after a line feed that is not part of it. Its line feeds stand for
 -- themselves, and so does a `"` before another byte than `"`; the rest is as on one line.
--- An array that does not fit into 80 columns with its key has a line for each element, after four spaces and with a
--- comma behind it. A column is a character.
+-- An array that is not empty and does not fit into 80 columns with its key has a line for each element, after four
+-- spaces and with a comma behind it. A column is a character.
 use Rattle.std.specs.Prelude.{ℕ, zero, suc, Bool, true, false, cond, not, ◌&&◌, ◌||◌, ◌==◌, nat_le, nat_lt, List, []}
 use Rattle.std.specs.Prelude.{◌∷◌, ◌++◌, codes}
 use Rattle.std.specs.List.{list_any}
 use Rattle.basic_toml_tokens.specs.Ascii as ascii
 use Rattle.basic_toml_value.specs.Data.{Data, string, array, Items, no_items, item}
-use Rattle.basic_toml_layout.specs.Texts.{needs_escape, quoted_byte, quoted}
+use Rattle.basic_toml_layout.specs.Texts.{quoted_byte, quoted}
 use Rattle.basic_toml_layout.specs.Document.{inline, Style}
 
 abbrev pub has_line_feed : List ℕ → Bool
@@ -36,7 +36,7 @@ three_quotes = ascii.double_quote ∷ ascii.double_quote ∷ ascii.double_quote 
 abbrev pub quoted_lines : List ℕ → List ℕ
 quoted_lines bs = three_quotes ++ (ascii.line_feed ∷ (line_bytes bs ++ three_quotes))
 
--- a character has one byte that continues no other
+-- the first byte of a character
 abbrev pub is_first_byte : ℕ → Bool
 is_first_byte b = nat_lt b 128 || nat_le 192 b
 

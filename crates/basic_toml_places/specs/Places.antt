@@ -1,4 +1,5 @@
--- The offsets at which the values of a section list begin, in the order of the text, each before those within it.
+-- The offsets of the values of a section list, in the order of the text, each before those within it. It is where a
+-- value begins; a float with a fraction has the offset of the character after its period.
 use Rattle.std.specs.Prelude.{ℕ, List, [], ◌∷◌, ◌++◌}
 use Rattle.basic_toml_grammar.specs.Sections.{Raw, Elements, no_elements, element, Rows, no_rows, row, Section}
 

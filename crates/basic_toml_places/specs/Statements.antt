@@ -6,7 +6,7 @@ use Rattle.basic_toml_grammar.specs.Sections.{Section}
 use Rattle.basic_toml_grammar.specs.Grammar.{IsSectionList}
 use Rattle.basic_toml_places.specs.Places.{value_offsets}
 
--- The values of a text begin one behind another, each before those within it; so no two begin at one offset.
+-- The offsets of the values of a text rise, each before those within it; so no two values have one offset.
 abbrev pub ValuesBeginApart : Type 0
 ValuesBeginApart =
     (text : List ℕ) (sections : List Section) → IsSectionList (folded text) sections

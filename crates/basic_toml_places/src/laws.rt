@@ -2,7 +2,7 @@
 
 ghost use Rattle.basic_toml_places.specs.Statements.{ValuesBeginApart};
 
-/// The values of a text begin one behind another, each before those within it.
+/// The offsets of the values of a text rise, each before those within it; so no two have one offset.
 pub fn values_begin_apart()
     ensures { ValuesBeginApart }
 {}

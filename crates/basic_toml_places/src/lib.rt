@@ -1,5 +1,5 @@
-//! The values of a text begin apart: laws about the offsets of a section list (`basic_toml_grammar`), on which finding
-//! a value by its offset rests. There is no code here.
+//! A law: the values of a text have offsets that rise, so no two have the same. The offsets are those of the section
+//! list (`basic_toml_grammar`). There is no code here.
 #![tactic(auto)]
 
 pub mod laws;

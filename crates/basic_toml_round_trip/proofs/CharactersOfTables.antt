@@ -1,5 +1,5 @@
 -- The text of a laid-out table in characters, in a style that spells values.
-use Rattle.std.specs.Prelude.{ℕ, Bool, true, false, cond, ◌&&◌, List, [], ◌∷◌, ◌++◌, map}
+use Rattle.std.specs.Prelude.{ℕ, Bool, true, cond, ◌&&◌, List, [], ◌∷◌, ◌++◌, map}
 use Rattle.std.specs.Str.{chars}
 use Rattle.basic_toml_value.specs.Data.{Data, Items, Members}
 use Rattle.basic_toml_layout.specs.Layout.{row_start, table_header, element_header}

@@ -9,7 +9,7 @@ use Rattle.basic_toml_value.specs.Data.{Data, Items, no_items, item, Members, no
 use Rattle.basic_toml_layout.specs.Layout.{table_header, element_header}
 use Rattle.basic_toml_layout.specs.Document.{is_row, Style, row_text}
 use Rattle.basic_toml_layout.proofs.OrderedText as o
-use Rattle.basic_toml_layout.proofs.OrderedText.{HoldsNone, AllHoldNone, OrderedBy, PartsBy, NodesBy, Ordered}
+use Rattle.basic_toml_layout.proofs.OrderedText.{HoldsNone, OrderedBy, PartsBy, NodesBy, Ordered}
 use Rattle.basic_toml_grammar.specs.Sections.{KeyTexts}
 use Rattle.basic_toml_round_trip.proofs.IntegersAreReadBack.{fits}
 

@@ -1,5 +1,5 @@
 -- The text of a laid-out table, in characters at offset 0, is in the grammar, with the section list of the table.
-use Rattle.std.proofs.Common.{◌≡◌, ℕ, Bool, true, false, cond, ◌&&◌, List, [], ◌∷◌, ◌++◌, map, ap, sym, ◌∙◌, subst}
+use Rattle.std.proofs.Common.{◌≡◌, ℕ, Bool, true, false, cond, ◌&&◌, List, [], ◌∷◌, ◌++◌, map, ap, sym, subst}
 use Rattle.std.proofs.Common.{append_assoc, append-nil, refl}
 use Rattle.std.specs.Str.{chars}
 use Rattle.basic_toml_tokens.specs.Text.{Text, is_comment, after_blanks}

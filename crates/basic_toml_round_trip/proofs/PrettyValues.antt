@@ -14,7 +14,7 @@ use Rattle.basic_toml_layout.specs.declared.data.style.Style.TheVariants.{Plain,
 use Rattle.basic_toml_grammar.specs.Sections.{Raw}
 use Rattle.basic_toml_grammar.specs.Grammar as g
 use Rattle.basic_toml_grammar.specs.Grammar.{IsValue}
-use Rattle.basic_toml_layout.specs.Pretty.{has_line_feed, quoted_lines, fits_line, array_lines, pretty_value, pretty}
+use Rattle.basic_toml_layout.specs.Pretty.{has_line_feed, quoted_lines, fits_line, array_lines, pretty_value}
 use Rattle.basic_toml_round_trip.proofs.LaidOut.{IsInRow, AreInRow}
 use Rattle.basic_toml_round_trip.proofs.CharactersInFront.{onto}
 use Rattle.basic_toml_round_trip.proofs.LinesAreAString.{lines_are_string}

@@ -81,7 +81,8 @@ abbrev pub OrderHasSameText : Type 0
 OrderHasSameText =
     (style : Style) (ms : Members) → document_text (style_of style) (text_order ms) ≡ document_text (style_of style) ms
 
--- the text of any value that stands in a row means it, at each key, where the row is not nested too deeply
+-- the row of any key and any value that a value can hold, on one line, means that value at that key, where it is not
+-- nested too deeply
 abbrev pub ValueIsReadBack : Type 0
 ValueIsReadBack =
     (k : List ℕ) (x : Data) → IsUtf8 k → IsValid x → depth (table (member k x no_members)) ≤ nesting_limit

@@ -3,14 +3,12 @@
 //! `toml_tidy` writes it to standard output, and `toml_c` gives it to a program in C.
 #![tactic(auto)]
 
-ghost use Rattle.std.specs.Prelude.{◌≡◌, ◌≢◌, ◌≤◌, IfOk, string_bytes};
+ghost use Rattle.std.specs.Prelude.{◌≡◌, ◌≢◌, ◌≤◌, IfOk, IfErr, Ok, string_bytes};
 ghost use Rattle.basic_toml.specs.Data as d;
 ghost use Rattle.basic_toml.specs.DataDepth.{depth};
-ghost use Rattle.basic_toml.specs.DocumentText.{plain, document_text};
 ghost use Rattle.basic_toml.specs.Fault.{out_of_memory};
 ghost use Rattle.basic_toml.specs.FaultText.{fault_text};
 ghost use Rattle.basic_toml.specs.Nesting.{nesting_limit};
-ghost use Rattle.basic_toml.specs.PrettyText.{pretty};
 ghost use Rattle.basic_toml.specs.View.{entries};
 ghost use Rattle.toml_answer.specs.Due as spec;
 ghost use Rattle.toml_answer.specs.Due.{IsDue};
@@ -71,8 +69,8 @@ fn table_answer(alloc: Global, form: Form, table: &Table) -> Result<Answer, Allo
 {
     match form {
         Form::AsRead => text_answer(alloc, table),
-        Form::RowsFirst => Ok(tidied(rows_first_text(alloc, table)?)),
-        Form::Pretty => Ok(tidied(pretty_text(alloc, table)?)),
+        Form::RowsFirst => Ok(tidied(text_of(table_to_string(alloc, table))?)),
+        Form::Pretty => Ok(tidied(text_of(table_to_string_pretty(alloc, table))?)),
     }
 }
 
@@ -86,27 +84,12 @@ fn tidied(text: String) -> Answer
     }
 }
 
-// The text of a table with its rows first.
-fn rows_first_text(alloc: Global, table: &Table) -> Result<String, AllocError>
-    requires { depth (d.table (entries table.now)) ≤ nesting_limit }
-    ensures { IfOk result (λ text. string_bytes text ≡ document_text plain (entries table.now)) }
+// The text that was written, where only want of memory keeps it back.
+fn text_of(written: Result<String, Error>) -> Result<String, AllocError>
+    requires { IfErr written (λ fault. fault.kind ≡ out_of_memory) }
+    ensures { IfOk result (λ text. written ≡ Ok text) }
 {
-    match table_to_string(alloc, table) {
-        Ok(text) => Ok(text),
-        Err(error) => {
-            let is_out_of_memory = error.is_out_of_memory();
-            prove!(is_out_of_memory);
-            Err(AllocError)
-        }
-    }
-}
-
-// The same for people.
-fn pretty_text(alloc: Global, table: &Table) -> Result<String, AllocError>
-    requires { depth (d.table (entries table.now)) ≤ nesting_limit }
-    ensures { IfOk result (λ text. string_bytes text ≡ document_text pretty (entries table.now)) }
-{
-    match table_to_string_pretty(alloc, table) {
+    match written {
         Ok(text) => Ok(text),
         Err(error) => {
             let is_out_of_memory = error.is_out_of_memory();

@@ -110,13 +110,13 @@ fn has_document(alloc: Global, table: &Table) -> Result<bool, Error> {
     )
 }
 
-// Whether the text for people is read as the table with its rows first, and then written as the same text.
-fn has_text_for_people(alloc: Global, table: &Table, ordered: &Table) -> Result<bool, Error> {
+// Whether the text for people is read as the same table as the other text, and then written as the same text.
+fn has_text_for_people(alloc: Global, table: &Table, as_read: &Table) -> Result<bool, Error> {
     let text = table_to_string_pretty(alloc, table)?;
     let Ok(again) = from_str::<Table>(alloc, text.as_str()) else {
         return Ok(false);
     };
-    Ok(again == *ordered && table_to_string_pretty(alloc, &again)? == text)
+    Ok(again == *as_read && table_to_string_pretty(alloc, &again)? == text)
 }
 
 /// What a text comes to: it is refused within it, or read, and read back where it is written.

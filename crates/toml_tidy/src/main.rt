@@ -3,9 +3,9 @@
 //! With `--rows-first` the rows of each table come before its sections, so that every table can be written, and with
 //! `--pretty` they do so too, laid out for people.
 //!
-//! It ends with status 0 where the text was read and written; with 1 where the text was refused, and, with neither
-//! option, 2 where its table cannot be written as it was read, and then what it writes is the error and a line feed;
-//! and with 3 where reading, writing or memory failed, which standard error says, or an argument is none of its own.
+//! It ends with status 0 where the text was read and written, and with 1 where it was refused. With neither option it
+//! ends with 2 where the table cannot be written as it was read. With 1 and 2 it writes the error and a line feed. It
+//! ends with 3 where reading, writing or memory failed, or an argument is none of its own, which standard error says.
 //! Where reading or memory failed, it writes nothing to standard output. `docs/TIDY.md` has the rest.
 #![tactic(auto)]
 
@@ -30,9 +30,9 @@ reads standard input.
 
       --rows-first  in each table, write the rows before the sections, and what
                     no header can say as inline tables; so every table is written
-      --pretty      the same for people: a blank line before each header, long
-                    arrays with a line for each element, and strings of several
-                    lines on several
+      --pretty      the same for people: a blank line before each header but
+                    one that begins the text, long arrays with a line for each
+                    element, and strings of several lines on several
   -h, --help        print this
       --version     print the version
       --            what follows is a file

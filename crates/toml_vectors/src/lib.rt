@@ -1,5 +1,5 @@
 //! Tests of what no text shows: calls of the library, what a caller's own types read and write or the errors that they
-//! answer, the calls that the documentation shows, and what the programs make of a reader or a writer that fails. What
+//! answer, the calls that the documentation shows, and what `toml_streams` makes of a reader or a writer that fails. What
 //! texts give stands in the data of `toml_cases`.
 #![tactic(auto)]
 

@@ -58,7 +58,7 @@ fn fits_line(line: &[u8]) -> bool
     true
 }
 
-// Whether a byte continues no character.
+// Whether a character begins with a byte.
 fn is_first_byte(byte: u8) -> bool
     ensures { result ≡ p.is_first_byte byte }
 {

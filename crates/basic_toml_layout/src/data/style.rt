@@ -6,9 +6,11 @@ ghost use Rattle.basic_toml_layout.specs.Document as d;
 /// How rows and headers look.
 #[derive(Clone, Copy)]
 pub enum Style {
-    /// Each value on one line, and a blank line before a section that its table has something before.
+    /// Each value on one line, and a blank line before a header where an entry of the table around it, or an element,
+    /// stands before.
     Plain,
-    /// For people: long arrays and strings of several lines on several, and a blank line before each section.
+    /// For people: long arrays and strings of several lines on several lines, and a blank line before each header but
+    /// one that begins the text.
     Pretty,
 }
 

@@ -1,4 +1,4 @@
-use Rattle.std.proofs.Common.{[], ◌++◌, sym, ◌∙◌, ap}
+use Rattle.std.proofs.Common.{[], ◌++◌, sym, ◌∙◌}
 use Rattle.basic_toml_value.specs.View.{entries}
 use Rattle.basic_toml_layout.specs.Style.{style_of}
 use Rattle.basic_toml_layout.specs.Document.{document_text}

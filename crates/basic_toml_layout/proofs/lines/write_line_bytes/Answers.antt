@@ -1,4 +1,4 @@
-use Rattle.std.proofs.Common.{◌≡◌, ◌++◌, ℕ, false, sym, ◌∙◌, ap, subst, arith, string_bytes, refl}
+use Rattle.std.proofs.Common.{◌++◌, false, sym, ◌∙◌, ap, subst, arith, string_bytes, refl}
 use Rattle.std.proofs.Common.{drop, get_or, inl, inr}
 use Rattle.std.proofs.lemmas.Str.{IsCharBoundary-start}
 use Rattle.std.proofs.lemmas.Bool.{cases_eq}

@@ -1,4 +1,4 @@
-use Rattle.std.proofs.Common.{◌≡◌, ◌≤◌, arith, sym, ap, ◌∙◌, length, drop}
+use Rattle.std.proofs.Common.{arith, sym, ◌∙◌}
 use Rattle.std.proofs.lemmas.Bool.Decides.{nat_tests}
 use Rattle.basic_toml_layout.specs.Pretty.{columns}
 use Rattle.basic_toml_layout.proofs.PrettyInTurn.{column_next, no_column, no_room, in_room}
