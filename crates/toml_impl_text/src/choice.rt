@@ -1,13 +1,13 @@
 //! An enum of variants without data as a choice of TOML: each is a string.
 
-use crate::declared::Member;
-use crate::edits::between;
-use crate::items::Item;
-use crate::keys::key_of;
-use crate::lexer::{Kind, Token};
-use crate::refusal::{NoImpls, Reason};
-use crate::rules::{DefaultRule, TypeRules, field_rules, unquoted};
 use std::alloc::{AllocError, Global};
+use toml_rust_items::declared::Member;
+use toml_rust_items::edits::between;
+use toml_rust_items::items::Item;
+use toml_rust_items::keys::key_of;
+use toml_rust_items::lexer::{Kind, Token};
+use toml_rust_items::refusal::{NoImpls, Reason};
+use toml_rust_items::rules::{DefaultRule, TypeRules, field_rules, unquoted};
 
 /// An enum as a choice.
 #[derive(Drop)]

@@ -1,11 +1,11 @@
 //! What serde has in a file, which the impls stand for: it is cut from the types.
 
-use crate::cursor::Cursor;
-use crate::edits::{Edit, between, with_line};
-use crate::items::Attribute;
-use crate::refusal::NoImpls;
-use crate::rules::is_rule;
 use std::alloc::Global;
+use toml_rust_items::cursor::Cursor;
+use toml_rust_items::edits::{Edit, between, with_line};
+use toml_rust_items::items::Attribute;
+use toml_rust_items::refusal::NoImpls;
+use toml_rust_items::rules::is_rule;
 
 /// Whether an attribute asks for impls: it is one of serde's, or derives what they stand for.
 pub fn asks<'t>(attribute: &Attribute<'_, 't>) -> Result<bool, NoImpls<'t>> {

@@ -2,25 +2,25 @@
 
 use crate::choice::{Choice, refuse_data, variant_list, variants_of, variants_path};
 use crate::choice_templates::choice_impls;
-use crate::cursor::Cursor;
 use crate::cuts::cut;
-use crate::declared::{members, type_name};
-use crate::edits::{Edit, edited};
 use crate::form_templates::form_impls;
 use crate::forms::{Forms, forms_of, has_forms};
 use crate::impls::Impl;
 use crate::imports::{Needs, imports_of};
-use crate::items::{Attribute, Item, ItemKind, items_of};
-use crate::lexer::{Token, tokens_of};
 use crate::merge::add_use_edits;
 use crate::record::{Record, record_of};
-use crate::refusal::NoImpls;
-use crate::rules::{refuse_rules, type_rules};
 use crate::templates::impls_of;
 use crate::uses::{refuse_taken, uses_of};
 use crate::wanted::is_wanted;
 use crate::written::{impl_of, list_of};
 use std::alloc::{AllocError, Global};
+use toml_rust_items::cursor::Cursor;
+use toml_rust_items::declared::{members, type_name};
+use toml_rust_items::edits::{Edit, edited};
+use toml_rust_items::items::{Attribute, Item, ItemKind, items_of};
+use toml_rust_items::lexer::{Token, tokens_of};
+use toml_rust_items::refusal::NoImpls;
+use toml_rust_items::rules::{refuse_rules, type_rules};
 
 /// The text of a file with the impls of its types behind them, in place of those that it had, and with the `use` lines
 /// that they need. All else is as it was. An enum needs the path of its `module`, unless it has impls already.

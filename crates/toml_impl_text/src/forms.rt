@@ -1,15 +1,15 @@
 //! An enum of two variants, of which one holds a table and the other none, as a choice of two forms of TOML.
 
-use crate::cursor::Cursor;
-use crate::declared::{Member, attributes, members};
-use crate::items::{Item, ItemKind};
-use crate::lexer::Token;
-use crate::literal::Literal;
-use crate::refusal::{NoImpls, Reason};
-use crate::rules::{is_untagged, refuse_rules};
-use crate::types::{FieldType, field_type};
 use crate::written::impl_of;
 use std::alloc::Global;
+use toml_rust_items::cursor::Cursor;
+use toml_rust_items::declared::{Member, attributes, members};
+use toml_rust_items::items::{Item, ItemKind};
+use toml_rust_items::lexer::Token;
+use toml_rust_items::literal::Literal;
+use toml_rust_items::refusal::{NoImpls, Reason};
+use toml_rust_items::rules::{is_untagged, refuse_rules};
+use toml_rust_items::types::{FieldType, field_type};
 
 /// An enum as a choice of two forms.
 #[derive(Drop)]

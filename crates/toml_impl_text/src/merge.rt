@@ -2,11 +2,11 @@
 
 ghost use Rattle.std.specs.Prelude.{◌≡◌};
 
-use crate::edits::{Edit, with_line};
 use crate::imports::Import;
 use crate::layout::in_lines;
 use crate::uses::Use;
 use std::alloc::{AllocError, Global};
+use toml_rust_items::edits::{Edit, with_line};
 
 // The width that a `use` line may have, and what a line of its names has behind its blanks where there are many.
 const LINE: usize = 98;

@@ -1,13 +1,13 @@
 //! A struct as a record of TOML: its fields, their keys and their defaults.
 
-use crate::declared::Member;
-use crate::keys::key_of;
-use crate::literal::Literal;
-use crate::refusal::{NoImpls, Reason};
-use crate::rules::{DefaultRule, FieldRules, TypeRules, field_rules};
-use crate::types::{FieldType, field_type};
 use crate::written::{Entry, FieldList};
 use std::alloc::Global;
+use toml_rust_items::declared::Member;
+use toml_rust_items::keys::key_of;
+use toml_rust_items::literal::Literal;
+use toml_rust_items::refusal::{NoImpls, Reason};
+use toml_rust_items::rules::{DefaultRule, FieldRules, TypeRules, field_rules};
+use toml_rust_items::types::{FieldType, field_type};
 
 /// A struct as a record.
 #[derive(Drop)]

@@ -1,10 +1,10 @@
 //! The `use` lines of a file.
 
-use crate::edits::between;
 use crate::imports::Import;
-use crate::items::{Item, ItemKind};
-use crate::refusal::{NoImpls, Reason};
 use std::alloc::Global;
+use toml_rust_items::edits::between;
+use toml_rust_items::items::{Item, ItemKind};
+use toml_rust_items::refusal::{NoImpls, Reason};
 
 /// A `use` line.
 #[derive(Drop)]

@@ -1,11 +1,11 @@
 //! Which types of a file get impls.
 
-use crate::cursor::Cursor;
 use crate::cuts::asks;
 use crate::forms::is_by_table;
-use crate::items::Item;
-use crate::refusal::NoImpls;
 use crate::written::impl_of;
+use toml_rust_items::cursor::Cursor;
+use toml_rust_items::items::Item;
+use toml_rust_items::refusal::NoImpls;
 
 // The traits whose impls are written.
 const TRAITS: [&str; 8] = [

@@ -1,12 +1,12 @@
 //! The list of fields that an impl of the file has: what it says beyond the struct is kept.
 
-use crate::cursor::Cursor;
-use crate::items::{Item, ItemKind};
-use crate::lexer::Kind;
-use crate::literal::Literal;
-use crate::refusal::{NoImpls, Reason};
-use crate::rules::unquoted;
 use std::alloc::Global;
+use toml_rust_items::cursor::Cursor;
+use toml_rust_items::items::{Item, ItemKind};
+use toml_rust_items::lexer::Kind;
+use toml_rust_items::literal::Literal;
+use toml_rust_items::refusal::{NoImpls, Reason};
+use toml_rust_items::rules::unquoted;
 
 /// What a list says.
 #[derive(Drop)]

@@ -3,7 +3,9 @@
 use basic_toml::{Error, KeyPath, Table, from_str};
 use std::alloc::{AllocError, Global};
 use std::str;
-use toml_impl_text::{NoImpls, line_column, with_impls};
+use toml_impl_text::with_impls;
+use toml_rust_items::place::line_column;
+use toml_rust_items::refusal::NoImpls;
 use toml_struct_text::{NoStructs, structs_of};
 
 /// The status where something was written.

@@ -13,7 +13,7 @@ pub enum NoImpls<'t> {
 
 impl<'t> From<AllocError> for NoImpls<'t> {
     ghost use Rattle.std.specs.Prelude.{◌≡◌};
-    ghost use Rattle.toml_impl_text.specs.declared.refusal.NoImpls.TheVariants.{OutOfMemory};
+    ghost use Rattle.toml_rust_items.specs.declared.refusal.NoImpls.TheVariants.{OutOfMemory};
 
     ghost from_gives = { λ _ e. e ≡ OutOfMemory };
 
@@ -24,7 +24,7 @@ impl<'t> From<AllocError> for NoImpls<'t> {
 
 impl<'t, T: Drop> From<AllocFailed<T>> for NoImpls<'t> {
     ghost use Rattle.std.specs.Prelude.{◌≡◌};
-    ghost use Rattle.toml_impl_text.specs.declared.refusal.NoImpls.TheVariants.{OutOfMemory};
+    ghost use Rattle.toml_rust_items.specs.declared.refusal.NoImpls.TheVariants.{OutOfMemory};
 
     ghost from_gives = { λ _ e. e ≡ OutOfMemory };
 
