@@ -1,10 +1,9 @@
 -- Where what a path leads to is written in a text. (own)
 use Rattle.std.specs.Prelude.{◌≡◌, ◌⊎◌, ℕ, List, Option, Result, Ok, Err}
-use Rattle.basic_toml_tokens.specs.Text.{folded}
 use Rattle.basic_toml_grammar.specs.Faults as read
 use Rattle.basic_toml_grammar.specs.Sections.{Section}
-use Rattle.basic_toml_grammar.specs.Grammar.{IsSectionList}
 use Rattle.basic_toml_read.specs.SectionsAnswer.{IsRefused}
+use Rattle.basic_toml_tree.specs.OfText.{IsListOf}
 use Rattle.basic_toml_error.specs.Fault.{Fault, want_of_memory}
 use Rattle.basic_toml_error.specs.ReadFaults.{fault_in}
 use Rattle.basic_toml_origin.specs.declared.origin.Origin.{Origin}
@@ -15,7 +14,7 @@ use Rattle.basic_toml_origin.specs.Path.{path_of}
 -- the origin that the section list of the text gives
 pub record IsOriginIn (text : List ℕ) (path : List Step) (origin : Option Origin) : Type 0 where
   pub sections : List Section
-  pub grammar : IsSectionList (folded text) sections
+  pub list : IsListOf text sections
   pub is : origin ≡ origin_at sections (path_of path)
 
 -- It; or want of memory; or the error of a text without a section list within the limit, with its line and its column.
