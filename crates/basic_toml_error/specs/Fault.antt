@@ -6,6 +6,8 @@ pub data FaultKind : Type 0 where
   -- why a text is not read
   reading : read.FaultKind → FaultKind
   not_utf8 : FaultKind
+  -- a key of a table is none of its type's fields: the key, and the message
+  unknown_field : (key message : List ℕ) → FaultKind
   -- why a value is not written
   unsupported_type : FaultKind
   key_not_string : FaultKind

@@ -11,6 +11,7 @@ use Rattle.basic_toml_error.specs.Fault as fault
 abbrev pub message : fault.FaultKind → List ℕ
 message (fault.reading kind) = read.message kind
 message fault.not_utf8 = codes "input is not valid UTF-8"
+message (fault.unknown_field key text) = text
 message fault.unsupported_type = error_text write.UnsupportedType
 message fault.key_not_string = error_text write.KeyNotString
 message fault.value_after_table = error_text write.ValueAfterTable

@@ -7,7 +7,7 @@ use crate::key_path::copy_keys;
 use crate::kind::{ErrorKind, Message};
 use crate::line_column::line_column_of;
 use crate::message::{
-    length_message, missing_message, type_message, unknown_field_message, unknown_variant_message,
+    length_message, missing_message, type_message, unknown_field_kind, unknown_variant_message,
     value_message, wanted_kind,
 };
 use basic_toml_explain::{KeyPath, ReadError, ReadErrorKind};
@@ -75,7 +75,7 @@ impl fmt::Display for Error {
 impl Error {
     ghost use Rattle.basic_toml_tree.specs.Nodes.{node_data};
     ghost use Rattle.basic_toml_tree.specs.Origin.{name_of};
-    ghost use Rattle.basic_toml_error.specs.Fault.{custom, wanted, not_text, out_of_memory, without_offset, want_of_memory};
+    ghost use Rattle.basic_toml_error.specs.Fault.{custom, wanted, unknown_field, not_text, out_of_memory, without_offset, want_of_memory};
     ghost use Rattle.basic_toml_error.specs.ReadFaults.{fault_in, lined};
     ghost use Rattle.basic_toml_error.specs.NodeFaults.{IsFault, fault_within, fault_at, fault_around, fault_at_start};
     ghost use Rattle.basic_toml_error.specs.NodeFaults.{type_message, value_message, length_message, missing_message};
@@ -207,43 +207,43 @@ impl Error {
     pub fn invalid_type(alloc: Global, node: Node<'_, '_>, expected: &str) -> Error
         ensures { IsFault result (fault_at node.entry (custom (type_message (node_data node.entry) expected.now))) }
     {
-        Error::at_place(alloc, node, type_message(alloc, node, expected))
+        Error::custom_at(alloc, node, type_message(alloc, node, expected))
     }
 
     /// `invalid value: .., expected ..`: what a node holds is of the type, and not a value of it.
     pub fn invalid_value(alloc: Global, node: Node<'_, '_>, expected: &str) -> Error
         ensures { IsFault result (fault_at node.entry (custom (value_message (node_data node.entry) expected.now))) }
     {
-        Error::at_place(alloc, node, value_message(alloc, node, expected))
+        Error::custom_at(alloc, node, value_message(alloc, node, expected))
     }
 
     /// `invalid length .., expected ..`: what a node holds has another length than was expected.
     pub fn invalid_length(alloc: Global, node: Node<'_, '_>, length: usize, expected: &str) -> Error
         ensures { IsFault result (fault_at node.entry (custom (length_message length expected.now))) }
     {
-        Error::at_place(alloc, node, length_message(alloc, length, expected))
+        Error::custom_at(alloc, node, length_message(alloc, length, expected))
     }
 
     /// ``missing field `..` ``: a table lacks a key.
     pub fn missing_field(alloc: Global, node: Node<'_, '_>, field: &str) -> Error
         ensures { IsFault result (fault_at node.entry (custom (missing_message field.now))) }
     {
-        Error::at_place(alloc, node, missing_message(alloc, field))
+        Error::custom_at(alloc, node, missing_message(alloc, field))
     }
 
     /// ``unknown field `..`, expected ..``: a table has a key that is not among the fields.
     pub fn unknown_field(alloc: Global, node: Node<'_, '_>, field: &str, fields: &[&str]) -> Error
-        ensures { IsFault result
-            (fault_at node.entry (custom (unknown_field_message field.now (map (λ f. f.now) fields.now)))) }
+        ensures { let message = unknown_field_message field.now (map (λ f. f.now) fields.now) in
+            IsFault result (fault_at node.entry (unknown_field field.now message)) }
     {
-        Error::at_place(alloc, node, unknown_field_message(alloc, field, fields))
+        Error::at_place(alloc, node, unknown_field_kind(alloc, field, fields))
     }
 
     /// An error with a message of one's own, which is its text up to the keys.
     pub fn custom(alloc: Global, node: Node<'_, '_>, message: &str) -> Error
         ensures { IsFault result (fault_at node.entry (custom message.now)) }
     {
-        Error::at_place(alloc, node, String::from_str(alloc, message))
+        Error::custom_at(alloc, node, String::from_str(alloc, message))
     }
 
     /// ``unknown variant `..`, expected ..``: a string is none of the variants. It stands at the table around the node.
@@ -280,18 +280,25 @@ impl Error {
     }
 
     // A message at a node; want of memory where there is none.
-    #[tactic(auto, unfolding(crate::specs::NodeFaults::fault_at))]
-    fn at_place(alloc: Global, node: Node<'_, '_>, message: Result<String, AllocError>) -> Error
+    fn custom_at(alloc: Global, node: Node<'_, '_>, message: Result<String, AllocError>) -> Error
         ensures { IfOk message (λ text. IsFault result (fault_at node.entry (custom (string_bytes text))))
             × IfErr message (λ _. result ≡ want_of_memory) }
     {
-        match message {
-            Ok(message) => Error::within_keys(
-                alloc,
-                node,
-                node.place(),
-                ErrorKind::Reading(ReadErrorKind::Custom(message)),
-            ),
+        let kind = match message {
+            Ok(message) => Ok(ErrorKind::Reading(ReadErrorKind::Custom(message))),
+            Err(e) => Err(e),
+        };
+        Error::at_place(alloc, node, kind)
+    }
+
+    // An error at a node; want of memory where its words have none.
+    #[tactic(auto, unfolding(crate::specs::NodeFaults::fault_at))]
+    fn at_place(alloc: Global, node: Node<'_, '_>, kind: Result<ErrorKind, AllocError>) -> Error
+        ensures { IfOk kind (λ kind. IsFault result (fault_at node.entry (kind_of kind)))
+            × IfErr kind (λ _. result ≡ want_of_memory) }
+    {
+        match kind {
+            Ok(kind) => Error::within_keys(alloc, node, node.place(), kind),
             Err(e) => Error::from(e),
         }
     }

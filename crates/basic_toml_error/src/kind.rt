@@ -19,6 +19,7 @@ use std::marker::Model;
 /// match error.kind() {
 ///     ErrorKind::Reading(ReadErrorKind::DuplicateKey(key)) => format!(in alloc; "{key} stands twice"),
 ///     ErrorKind::Writing(WriteError::ValueAfterTable) => format!(in alloc; "rows go first"),
+///     ErrorKind::UnknownField { key, .. } => format!(in alloc; "{key} is no setting"),
 ///     _ => format!(in alloc; "{}", error.message()),
 /// }
 /// ```
@@ -29,6 +30,13 @@ use std::marker::Model;
 pub enum ErrorKind {
     /// A text that is not read: an error of the grammar, a clash, or a type's own error. It owns its words.
     Reading(ReadErrorKind<String>),
+    /// A table has a key that is none of the fields of its type.
+    UnknownField {
+        /// The key.
+        key: String,
+        /// It, and the fields: what is printed.
+        message: String,
+    },
     /// A value that is not written.
     Writing(WriteError),
     /// Bytes that are not UTF-8.
@@ -83,6 +91,7 @@ impl fmt::Display for ErrorKind {
             ErrorKind::Reading(kind) => write!(f, "{kind}"),
             ErrorKind::Writing(error) => write!(f, "{error}"),
             ErrorKind::NotUtf8 => write!(f, "input is not valid UTF-8"),
+            ErrorKind::UnknownField { message, .. } => write!(f, "{message}"),
         }
     }
 }

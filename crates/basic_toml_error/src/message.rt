@@ -163,21 +163,24 @@ pub(crate) fn missing_message(alloc: Global, field: &str) -> Result<String, Allo
 }
 
 #[tactic(auto, unfolding(crate::specs::NodeFaults::unknown_field_message))]
-pub(crate) fn unknown_field_message(
+pub(crate) fn unknown_field_kind(
     alloc: Global,
     field: &str,
     fields: &[&str],
-) -> Result<String, AllocError>
-    ensures { IfOk result (λ text.
-        string_bytes text ≡ unknown_field_message field.now (map (λ name. name.now) fields.now)) }
+) -> Result<ErrorKind, AllocError>
+    ensures { let message = unknown_field_message field.now (map (λ name. name.now) fields.now) in
+        IfOk result (λ kind. kind_of kind ≡ fault.unknown_field field.now message) }
 {
     let offered = Offered {
         kinds: "fields",
         names: fields,
     };
-    let mut text = String::new(alloc);
-    write!(text, "unknown field `{field}`{offered}")?;
-    Ok(text)
+    let mut message = String::new(alloc);
+    write!(message, "unknown field `{field}`{offered}")?;
+    Ok(ErrorKind::UnknownField {
+        key: String::from_str(alloc, field)?,
+        message,
+    })
 }
 
 #[tactic(auto, unfolding(crate::specs::NodeFaults::unknown_variant_message))]

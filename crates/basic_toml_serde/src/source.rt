@@ -2,7 +2,7 @@
 ghost use Rattle.std.specs.Prelude.{◌≡◌, ℕ, List, map, Option, Some, None, IfSome, IfOk, MatchOption, slice_range};
 ghost use Rattle.basic_toml_value.specs.Data.{Data, integer_in, boolean_in, float_in, string_in};
 ghost use Rattle.basic_toml_tree.specs.Nodes.{is_table, is_array};
-ghost use Rattle.basic_toml_error.specs.Fault.{Fault};
+ghost use Rattle.basic_toml_error.specs.Fault.{Fault, FaultKind, custom, unknown_field};
 ghost use Rattle.basic_toml_error.specs.NodeFaults.{type_message, value_message, length_message, missing_message, unknown_field_message, unknown_variant_message};
 ghost use Rattle.basic_toml_serde.specs.Added.{AddsElements, AddsEntries};
 
@@ -16,10 +16,10 @@ pub(crate) trait Source: Copy + Drop {
 
     ghost data_of: { Self → Data };
 
-    /// What an error is that has a message and stands at a value, or around it: it may be want of memory.
-    ghost fails_at: { Self → List ℕ → Fault → Type 0 };
+    /// What an error of a kind is that stands at a value, or around it: it may be want of memory.
+    ghost fails_at: { Self → FaultKind → Fault → Type 0 };
 
-    ghost fails_around: { Self → List ℕ → Fault → Type 0 };
+    ghost fails_around: { Self → FaultKind → Fault → Type 0 };
 
     fn key(&self) -> Option<&str>
         ensures { MatchOption result (key_of self.now ≡ None) (λ key. key_of self.now ≡ Some key.now) };
@@ -62,24 +62,25 @@ pub(crate) trait Source: Copy + Drop {
     fn len(&self) -> usize;
 
     fn custom(&self, alloc: Global, message: &str) -> Error
-        ensures { fails_at self.now message.now result };
+        ensures { fails_at self.now (custom message.now) result };
 
     fn wrong_type(&self, alloc: Global, expected: &str) -> Error
-        ensures { fails_at self.now (type_message (data_of self.now) expected.now) result };
+        ensures { fails_at self.now (custom (type_message (data_of self.now) expected.now)) result };
 
     fn wrong_value(&self, alloc: Global, expected: &str) -> Error
-        ensures { fails_at self.now (value_message (data_of self.now) expected.now) result };
+        ensures { fails_at self.now (custom (value_message (data_of self.now) expected.now)) result };
 
     fn wrong_len(&self, alloc: Global, length: usize, expected: &str) -> Error
-        ensures { fails_at self.now (length_message length expected.now) result };
+        ensures { fails_at self.now (custom (length_message length expected.now)) result };
 
     fn missing(&self, alloc: Global, key: &str) -> Error
-        ensures { fails_at self.now (missing_message key.now) result };
+        ensures { fails_at self.now (custom (missing_message key.now)) result };
 
     fn unknown_field(&self, alloc: Global, key: &str, keys: &[&str]) -> Error
-        ensures { fails_at self.now (unknown_field_message key.now (map (λ k. k.now) keys.now)) result };
+        ensures { let message = unknown_field_message key.now (map (λ k. k.now) keys.now) in
+            fails_at self.now (unknown_field key.now message) result };
 
     /// It stands around the value.
     fn unknown_variant(&self, alloc: Global, name: &str, names: &[&str]) -> Error
-        ensures { fails_around self.now (unknown_variant_message name.now (map (λ n. n.now) names.now)) result };
+        ensures { fails_around self.now (custom (unknown_variant_message name.now (map (λ n. n.now) names.now))) result };
 }

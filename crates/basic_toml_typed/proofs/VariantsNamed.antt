@@ -9,7 +9,7 @@ use Rattle.basic_toml_value.specs.Data.{Data, string_in}
 use Rattle.basic_toml_tree.specs.declared.node.Node.{Node}
 use Rattle.basic_toml_tree.specs.Nodes.{node_data, is_table, entries_in}
 use Rattle.basic_toml_tree.specs.Origin.{is_made, name_of}
-use Rattle.basic_toml_error.specs.Fault.{Fault, custom, wanted}
+use Rattle.basic_toml_error.specs.Fault.{Fault, custom, wanted, unknown_field}
 use Rattle.basic_toml_typed.specs.FieldKeys.{position_among}
 use Rattle.basic_toml_typed.specs.FieldFaults.{first_other, only_fails, variant_fails}
 use Rattle.basic_toml_typed.specs.TypeAnswers.{OrMemory}
@@ -97,7 +97,7 @@ module _ (names : List (Bor (List ℕ))) (node : Node) (fault : Fault) where
   only_no_table none made = made_so (only_fails (texts_of names) node) fault _ made (inl (none, refl))
 
   pub only_unknown : (key : List ℕ) → first_other (texts_of names) (entries_in (node_data node)) ≡ Some key
-      → IsFault fault (fault_at node (custom (unknown_field_message key (texts_of names))))
+      → IsFault fault (fault_at node (unknown_field key (unknown_field_message key (texts_of names))))
       → OrMemory (only_fails (texts_of names) node) fault
   unfolding only_fails
   only_unknown key some made = made_so (only_fails (texts_of names) node) fault _ made (inr (key, some, refl))

@@ -11,7 +11,7 @@ use Rattle.basic_toml_tree.specs.Stands.{AtKey}
 use Rattle.basic_toml_typed.specs.FieldKeys.{text_number, child_at}
 use Rattle.basic_toml_typed.specs.TypeFaults.{table_faults, wrong_type}
 use Rattle.basic_toml_typed.specs.TypeReads.{field_reads, optional_reads, HasOnly}
-use Rattle.basic_toml_error.specs.Fault.{Fault, custom, wanted}
+use Rattle.basic_toml_error.specs.Fault.{Fault, custom, wanted, unknown_field}
 use Rattle.basic_toml_error.specs.NodeFaults.{IsFault, fault_at, fault_around, fault_at_start, missing_message}
 use Rattle.basic_toml_error.specs.NodeFaults.{unknown_field_message, unknown_variant_message}
 
@@ -43,7 +43,7 @@ unfoldable pub only_fails : List (List ℕ) → Node → Fault → Type 0
 only_fails names node fault =
     table_faults node fault
     ⊎ ((key : List ℕ) × (first_other names (entries_in (node_data node)) ≡ Some key)
-    × (fault ≡ fault_at node (custom (unknown_field_message key names))))
+    × (fault ≡ fault_at node (unknown_field key (unknown_field_message key names))))
 
 -- no string, by a literal or by headers; or a string that is none of the names
 unfoldable pub variant_fails : List (List ℕ) → Node → Fault → Type 0

@@ -7,7 +7,7 @@ use basic_toml::{
 };
 use std::alloc::{AllocError, Global};
 use std::test::Fail;
-use toml_callers::types::{Child, Parent};
+use toml_callers::types::{Child, Parent, Strict};
 
 #[test]
 fn reads_and_writes_a_table(rt: HostRuntime) -> Result<(), Fail> {
@@ -141,6 +141,7 @@ fn describe(alloc: Global, error: &Error) -> Result<String, AllocError> {
             format!(in alloc; "{key} stands twice")
         }
         ErrorKind::Writing(WriteError::ValueAfterTable) => format!(in alloc; "rows go first"),
+        ErrorKind::UnknownField { key, .. } => format!(in alloc; "{key} is no setting"),
         _ => format!(in alloc; "{}", error.message()),
     }
 }
@@ -177,6 +178,20 @@ fn asks_an_error_of_a_type(rt: HostRuntime) -> Result<(), Fail> {
     assert_eq!(rt;
         (error.offset(), error.line_col()),
         (Some(16), Some((1, 6)))
+    );
+    Ok(())
+}
+
+#[test]
+fn asks_an_error_of_an_unknown_field(rt: HostRuntime) -> Result<(), Fail> {
+    let alloc = rt.alloc();
+    let read = from_str::<Strict>(alloc, "c_a = 'a'\nc_c = 'c'\n");
+    let error = read.err().ok_or("read")?;
+    assert_eq!(rt; describe(alloc, &error)?.as_str(), "c_c is no setting");
+    let message = format!(in alloc; "{}", error.message())?;
+    assert_eq!(rt;
+        message.as_str(),
+        "unknown field `c_c`, expected `c_a` or `c_b`"
     );
     Ok(())
 }
