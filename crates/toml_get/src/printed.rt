@@ -1,15 +1,13 @@
 //! What is printed of a value.
-ghost use Rattle.std.specs.Prelude.{◌≡◌, ◌≤◌, ◌++◌, codes, IfOk, option_map, string_bytes};
-ghost use Rattle.basic_toml.specs.Data.{table as table_of_members};
+ghost use Rattle.std.specs.Prelude.{◌≡◌, ◌≤◌, IfErr, IfOk, Ok, option_map, string_bytes};
 ghost use Rattle.basic_toml.specs.DataDepth.{depth};
-ghost use Rattle.basic_toml.specs.DocumentText as texts;
-ghost use Rattle.basic_toml.specs.DocumentText.{document_text, inline};
+ghost use Rattle.basic_toml.specs.Fault.{out_of_memory};
 ghost use Rattle.basic_toml.specs.Nesting.{nesting_limit};
-ghost use Rattle.basic_toml.specs.View.{view, entries};
+ghost use Rattle.basic_toml.specs.View.{view};
 ghost use Rattle.toml_get.specs.Printed as spec;
 
 use crate::format::Format;
-use basic_toml::{Table, Value, table_to_string, value_to_string};
+use basic_toml::{Error, Value, table_to_string, value_to_string};
 use std::alloc::{AllocError, Global};
 use toml_json_text::{Form, json_of_value};
 
@@ -37,7 +35,7 @@ fn document(alloc: Global, value: &Value) -> Result<Option<String>, AllocError>
     ensures { IfOk result (λ text. option_map string_bytes text ≡ spec.document (view value.now)) }
 {
     match value {
-        Value::Table(table) => Ok(Some(document_of(alloc, table)?)),
+        Value::Table(table) => Ok(Some(text_of(table_to_string(alloc, table))?)),
         _ => Ok(None),
     }
 }
@@ -49,29 +47,16 @@ fn plain(alloc: Global, value: &Value) -> Result<String, AllocError>
 {
     match value {
         Value::String(text) => String::from_str(alloc, text.as_str()),
-        _ => row_value(alloc, value),
+        _ => text_of(value_to_string(alloc, value)),
     }
 }
 
-fn row_value(alloc: Global, value: &Value) -> Result<String, AllocError>
-    requires { depth (view value.now) ≤ nesting_limit }
-    ensures { IfOk result (λ text. string_bytes text ≡ inline (view value.now)) }
+// The text that was written, where only want of memory keeps it back.
+fn text_of(written: Result<String, Error>) -> Result<String, AllocError>
+    requires { IfErr written (λ fault. fault.kind ≡ out_of_memory) }
+    ensures { IfOk result (λ text. written ≡ Ok text) }
 {
-    match value_to_string(alloc, value) {
-        Ok(text) => Ok(text),
-        Err(error) => {
-            let is_out_of_memory = error.is_out_of_memory();
-            prove!(is_out_of_memory);
-            Err(AllocError)
-        }
-    }
-}
-
-fn document_of(alloc: Global, table: &Table) -> Result<String, AllocError>
-    requires { depth (table_of_members (entries table.now)) ≤ nesting_limit }
-    ensures { IfOk result (λ text. string_bytes text ≡ document_text texts.plain (entries table.now)) }
-{
-    match table_to_string(alloc, table) {
+    match written {
         Ok(text) => Ok(text),
         Err(error) => {
             let is_out_of_memory = error.is_out_of_memory();
