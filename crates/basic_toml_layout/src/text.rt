@@ -42,6 +42,7 @@ fn upper_digit(n: u8) -> char
 }
 
 /// Appends a byte that does not stand for itself.
+#[inline(always)]
 pub fn write_escape(text: &mut String, byte: u8) -> Result<(), AllocError>
     requires { texts.needs_escape byte ≡ true }
     ensures { IfOk result (λ _. string_bytes text.new ≡ string_bytes text.old ++ quoted_byte byte) }

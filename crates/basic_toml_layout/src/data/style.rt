@@ -1,7 +1,6 @@
 //! How rows and headers look.
 ghost use Rattle.std.specs.Prelude.{◌≡◌};
 ghost use Rattle.basic_toml_layout.specs.Style.{style_of};
-ghost use Rattle.basic_toml_layout.specs.Document as d;
 
 /// How rows and headers look.
 #[derive(Clone, Copy)]
