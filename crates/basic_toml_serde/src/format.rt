@@ -1,7 +1,7 @@
 //! The steps of a reading.
 ghost use Rattle.std.specs.Prelude.{◌≡◌, ⊤, IfOk, IfSome, MatchOption, encode_utf8, slice_get};
 ghost use Rattle.basic_toml_serde.specs.Ahead.{item_at, container_at, IsAt, ComesBack};
-ghost use Rattle.basic_toml_serde.specs.Reports.{ReportsAt, AfterStep};
+ghost use Rattle.basic_toml_serde.specs.Reports.{ReportsAt, ReportsUnknown, AfterStep};
 ghost use Rattle.basic_toml_serde.specs.declared.notes.Step.TheVariants as step;
 ghost use Rattle.basic_toml_serde.specs.Taken.{Stays, TakesInteger, PassesKey, Reads, Picks, Looks};
 
@@ -377,7 +377,7 @@ impl<N: Source> Format for Reader<N> {
     }
 
     fn unknown_key(&self) -> Fault
-        ensures { ReportsAt N.fails_at (container_at self.now.walk) result }
+        ensures { ReportsUnknown N.fails_at (container_at self.now.walk) result }
     {
         match &self.notes {
             Some(notes) => self.unknown_field(notes),

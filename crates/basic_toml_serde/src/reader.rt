@@ -1,7 +1,7 @@
 //! The state of a reading, and its errors.
 ghost use Rattle.std.specs.Prelude.{◌≡◌, None, Some, IfOk, IsNone, slice_get};
 ghost use Rattle.basic_toml_serde.specs.Ahead.{BeginsAt, item_at, container_at};
-ghost use Rattle.basic_toml_serde.specs.Reports.{Reports, StandsAt, ReportsAt, AfterStep};
+ghost use Rattle.basic_toml_serde.specs.Reports.{Reports, StandsAt, ReportsAt, ReportsUnknown, AfterStep};
 ghost use Rattle.basic_toml_serde.specs.declared.notes.Step.TheVariants as step;
 ghost use Rattle.basic_toml_serde.specs.Taken.{integer_at, Stays, TakesInteger, BeginsArray, BeginsTable};
 
@@ -320,7 +320,7 @@ impl<N: Source> Reader<N> {
     /// A key is none of the fields.
     #[cold]
     pub(crate) fn unknown_field(&self, notes: &Notes) -> Fault
-        ensures { ReportsAt N.fails_at (container_at self.now.walk) result }
+        ensures { ReportsUnknown N.fails_at (container_at self.now.walk) result }
     {
         let (Some(table), Some(item)) = (self.walk.container(), self.walk.item(notes.field_at))
         else {
