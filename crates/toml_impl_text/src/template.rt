@@ -11,29 +11,20 @@ pub fn push_filled(
     made: &[(&str, String)],
 ) -> Result<(), AllocError> {
     for piece in template.split('$') {
-        push_piece(text, piece, own, made)?;
+        text.push_str(part_of(piece, own, made))?;
     }
     Ok(())
 }
 
-// Puts the part that a piece of a template stands for, or the piece itself.
-fn push_piece(
-    text: &mut String,
-    piece: &str,
-    own: &[(&str, &str)],
-    made: &[(&str, String)],
-) -> Result<(), AllocError> {
-    for (word, part) in own {
-        if *word == piece {
-            return text.push_str(part);
-        }
+// The part that a piece of a template stands for, or the piece itself.
+fn part_of<'p>(piece: &'p str, own: &[(&str, &'p str)], made: &'p [(&str, String)]) -> &'p str {
+    if let Some((_, part)) = own.iter().find(|(word, _)| *word == piece) {
+        return part;
     }
-    for (word, part) in made {
-        if *word == piece {
-            return text.push_str(part.as_str());
-        }
+    match made.iter().find(|(word, _)| *word == piece) {
+        Some((_, part)) => part.as_str(),
+        None => piece,
     }
-    text.push_str(piece)
 }
 
 /// A template with the parts in place of their words.

@@ -6,5 +6,3 @@ pub mod made_0;
 pub mod made_1;
 pub mod made_2;
 pub mod made_3;
-pub mod made_4;
-pub mod made_5;

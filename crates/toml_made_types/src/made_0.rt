@@ -1,6 +1,6 @@
 //! Types that were made at random.
 
-ghost use Rattle.std.specs.Prelude.{◌∷◌, [], codes, pos, refl};
+ghost use Rattle.std.specs.Prelude.{◌∷◌, [], codes, refl};
 ghost use Rattle.basic_toml.specs.Records.{record_faults, record_reads};
 ghost use Rattle.basic_toml_returns.proofs.RecordsReturn.{record_back};
 ghost use Rattle.basic_toml_returns.specs.RoundTrips.{as_read, done, maybe, needed, or, or_text, record_calls, record_holds, strict};
@@ -198,6 +198,9 @@ pub struct LevelGroup1 {
     pub index_name_tab: String,
     pub level_name_name: u16,
     pub mode_size_mode_max: RetryCacheOf0,
+    pub name_group_tab_8: Option<String>,
+    pub key_log_8: BTreeMap<String, i32>,
+    pub host_8: u64,
 }
 
 impl RoundTrip for LevelGroup1 {
@@ -206,7 +209,10 @@ impl RoundTrip for LevelGroup1 {
         (or_text ⟦<String as Returns<'static>>⟧ "INDEX-NAME-TAB" "" (λ s. s.index_name_tab)
         (needed ⟦<u16 as Returns<'static>>⟧ "LEVEL-NAME-NAME" (λ s. s.level_name_name)
         (needed ⟦<RetryCacheOf0 as Returns<'static>>⟧ "MODE-SIZE-MODE-MAX" (λ s. s.mode_size_mode_max)
-        done)))) };
+        (maybe ⟦<String as Returns<'static>>⟧ "NAME-GROUP-TAB-8" (λ s. s.name_group_tab_8)
+        (needed ⟦<BTreeMap<String, i32> as Returns<'static>>⟧ "KEY-LOG-8" (λ s. s.key_log_8)
+        (or ⟦<u64 as Returns<'static>>⟧ "HOST-8" 0 (λ s. s.host_8)
+        done))))))) };
 }
 
 impl Record for LevelGroup1 {
@@ -225,6 +231,9 @@ impl<'de> Deserialize<'de> for LevelGroup1 {
             index_name_tab = or_text("INDEX-NAME-TAB", ""),
             level_name_name = needed("LEVEL-NAME-NAME"),
             mode_size_mode_max = needed("MODE-SIZE-MODE-MAX"),
+            name_group_tab_8 = maybe("NAME-GROUP-TAB-8"),
+            key_log_8 = needed("KEY-LOG-8"),
+            host_8 = or("HOST-8", 0),
         })
     }
 
@@ -245,6 +254,9 @@ impl Serialize for LevelGroup1 {
             index_name_tab = "INDEX-NAME-TAB",
             level_name_name = "LEVEL-NAME-NAME",
             mode_size_mode_max = "MODE-SIZE-MODE-MAX",
+            name_group_tab_8 = "NAME-GROUP-TAB-8",
+            key_log_8 = "KEY-LOG-8",
+            host_8 = "HOST-8",
         })
     }
 }
@@ -257,105 +269,6 @@ impl<'de> Returns<'de> for LevelGroup1 {
 
 impl<'de> Root<'de> for LevelGroup1 {
     fn from_text(alloc: Global, text: &str) -> Result<LevelGroup1, Error> {
-        from_str(alloc, text)
-    }
-}
-
-/// A record.
-#[derive(Debug, Drop)]
-pub struct KeyName2 {
-    pub width_group_path_max_12: BTreeMap<String, bool>,
-    pub limit: Vec<u8>,
-    pub host_12: u64,
-    pub limit_level_12: Option<i32>,
-    pub name_max_name: Option<String>,
-    pub path_size_key_level: Option<u32>,
-    pub log_group: i8,
-    pub size_rate_color_host_12: Option<i64>,
-    pub key_tab_user_key: u16,
-    pub tab_12: BTreeMap<String, String>,
-    pub port_retry_width_cache: BTreeMap<String, i32>,
-    pub color_tab_host_port_12: Option<bool>,
-}
-
-impl RoundTrip for KeyName2 {
-    ghost fields = { needed ⟦<BTreeMap<String, bool> as Returns<'static>>⟧ "WIDTH_GROUP_PATH_MAX_12" (λ s. s.width_group_path_max_12)
-        (needed ⟦<Vec<u8> as Returns<'static>>⟧ "LIMIT" (λ s. s.limit)
-        (or ⟦<u64 as Returns<'static>>⟧ "HOST_12" 0 (λ s. s.host_12)
-        (maybe ⟦<i32 as Returns<'static>>⟧ "LIMIT_LEVEL_12" (λ s. s.limit_level_12)
-        (maybe ⟦<String as Returns<'static>>⟧ "NAME_MAX_NAME" (λ s. s.name_max_name)
-        (maybe ⟦<u32 as Returns<'static>>⟧ "PATH_SIZE_KEY_LEVEL" (λ s. s.path_size_key_level)
-        (or ⟦<i8 as Returns<'static>>⟧ "LOG_GROUP" (pos 127) (λ s. s.log_group)
-        (maybe ⟦<i64 as Returns<'static>>⟧ "SIZE_RATE_COLOR_HOST_12" (λ s. s.size_rate_color_host_12)
-        (needed ⟦<u16 as Returns<'static>>⟧ "KEY_TAB_USER_KEY" (λ s. s.key_tab_user_key)
-        (needed ⟦<BTreeMap<String, String> as Returns<'static>>⟧ "TAB_12" (λ s. s.tab_12)
-        (needed ⟦<BTreeMap<String, i32> as Returns<'static>>⟧ "PORT_RETRY_WIDTH_CACHE" (λ s. s.port_retry_width_cache)
-        (maybe ⟦<bool as Returns<'static>>⟧ "COLOR_TAB_HOST_PORT_12" (λ s. s.color_tab_host_port_12)
-        done))))))))))) };
-}
-
-impl Record for KeyName2 {
-    ghost fields = { as_read ⟦<KeyName2 as RoundTrip>⟧.fields };
-}
-
-impl<'de> Deserialize<'de> for KeyName2 {
-    ghost reads = { record_reads ⟦<KeyName2 as Record>⟧.fields };
-
-    ghost faults = { record_faults ⟦<KeyName2 as Record>⟧.fields };
-
-    fn deserialize(alloc: Global, node: Node<'_, 'de>) -> Result<KeyName2, Error> {
-        read_record!(alloc, node, KeyName2 {
-            width_group_path_max_12 = needed("WIDTH_GROUP_PATH_MAX_12"),
-            limit = needed("LIMIT"),
-            host_12 = or("HOST_12", 0),
-            limit_level_12 = maybe("LIMIT_LEVEL_12"),
-            name_max_name = maybe("NAME_MAX_NAME"),
-            path_size_key_level = maybe("PATH_SIZE_KEY_LEVEL"),
-            log_group = or("LOG_GROUP", 127),
-            size_rate_color_host_12 = maybe("SIZE_RATE_COLOR_HOST_12"),
-            key_tab_user_key = needed("KEY_TAB_USER_KEY"),
-            tab_12 = needed("TAB_12"),
-            port_retry_width_cache = needed("PORT_RETRY_WIDTH_CACHE"),
-            color_tab_host_port_12 = maybe("COLOR_TAB_HOST_PORT_12"),
-        })
-    }
-
-    fn from_tree(alloc: Global, tree: Tree<'de>) -> Result<KeyName2, Error> {
-        KeyName2::deserialize(alloc, tree.root())
-    }
-}
-
-impl Serialize for KeyName2 {
-    ghost calls = { record_calls ⟦<KeyName2 as RoundTrip>⟧.fields };
-
-    ghost holds = { record_holds ⟦<KeyName2 as RoundTrip>⟧.fields };
-
-    fn serialize(&self, _alloc: Global, ser: &mut Serializer) -> Result<(), WriteError> {
-        write_record!(ser, self, KeyName2 {
-            width_group_path_max_12 = "WIDTH_GROUP_PATH_MAX_12",
-            limit = "LIMIT",
-            host_12 = "HOST_12",
-            limit_level_12 = "LIMIT_LEVEL_12",
-            name_max_name = "NAME_MAX_NAME",
-            path_size_key_level = "PATH_SIZE_KEY_LEVEL",
-            log_group = "LOG_GROUP",
-            size_rate_color_host_12 = "SIZE_RATE_COLOR_HOST_12",
-            key_tab_user_key = "KEY_TAB_USER_KEY",
-            tab_12 = "TAB_12",
-            port_retry_width_cache = "PORT_RETRY_WIDTH_CACHE",
-            color_tab_host_port_12 = "COLOR_TAB_HOST_PORT_12",
-        })
-    }
-}
-
-impl<'de> Returns<'de> for KeyName2 {
-    ghost read_back = { record_back ⟦<KeyName2 as RoundTrip>⟧.fields (λ s. refl) };
-
-    ghost returns = { ⟦<KeyName2 as Returns<'static>>⟧.read_back.returns };
-}
-
-impl<'de> Root<'de> for KeyName2 {
-    fn from_text(alloc: Global, text: &str) -> Result<KeyName2, Error> {
         from_str(alloc, text)
     }
 }

@@ -1,9 +1,9 @@
 //! Types that were made at random.
 
-ghost use Rattle.std.specs.Prelude.{◌∷◌, [], codes, negsuc, refl};
+ghost use Rattle.std.specs.Prelude.{◌∷◌, [], codes, negsuc, pos, refl, true};
 ghost use Rattle.basic_toml.specs.Records.{record_faults, record_reads};
 ghost use Rattle.basic_toml_returns.proofs.RecordsReturn.{record_back};
-ghost use Rattle.basic_toml_returns.specs.RoundTrips.{as_read, done, maybe, needed, or, or_empty, record_calls, record_holds, strict};
+ghost use Rattle.basic_toml_returns.specs.RoundTrips.{as_read, done, maybe, needed, or, record_calls, record_holds, strict};
 ghost use Rattle.basic_toml_returns.specs.Variants.{variant_back, variant_calls, variant_faults, variant_reads};
 
 use basic_toml::{
@@ -173,15 +173,51 @@ impl<'de> Returns<'de> for HostIndexOf4 {
 /// A record.
 #[derive(Debug, Drop)]
 pub struct RetryCache3 {
-    pub name_index_mode_2: i64,
+    pub name_index_mode_20: i64,
     pub mode_max: BTreeMap<String, Float>,
+    pub index_size_color: Vec<String>,
+    pub mode_color_20: i16,
+    pub level_key_cache_key_20: bool,
+    pub color_width_20: i32,
+    pub max_size_limit: Option<i64>,
+    pub size_user_20: Option<u32>,
+    pub size_limit_20: Option<String>,
+    pub max_20: Vec<i64>,
+    pub color_max_mode_index_20: Vec<String>,
+    pub port_user_rate_path: Option<Vec<u16>>,
+    pub cache_width_20: i16,
+    pub retry_20: i32,
+    pub group: Option<u64>,
+    pub group_cache_20: Vec<String>,
+    pub color_max_name_port_20: BTreeMap<String, i64>,
+    pub key_group_group_20: i8,
+    pub width_color: Option<Vec<u32>>,
+    pub group_limit: Option<Float>,
 }
 
 impl RoundTrip for RetryCache3 {
     ghost fields = { strict
-        (or ⟦<i64 as Returns<'static>>⟧ "NameIndexMode2" (negsuc 9223372036854775807) (λ s. s.name_index_mode_2)
+        (or ⟦<i64 as Returns<'static>>⟧ "NameIndexMode20" (negsuc 9223372036854775807) (λ s. s.name_index_mode_20)
         (needed ⟦<BTreeMap<String, Float> as Returns<'static>>⟧ "ModeMax" (λ s. s.mode_max)
-        done)) };
+        (needed ⟦<Vec<String> as Returns<'static>>⟧ "IndexSizeColor" (λ s. s.index_size_color)
+        (needed ⟦<i16 as Returns<'static>>⟧ "ModeColor20" (λ s. s.mode_color_20)
+        (or ⟦<bool as Returns<'static>>⟧ "LevelKeyCacheKey20" true (λ s. s.level_key_cache_key_20)
+        (or ⟦<i32 as Returns<'static>>⟧ "ColorWidth20" (pos 0) (λ s. s.color_width_20)
+        (maybe ⟦<i64 as Returns<'static>>⟧ "MaxSizeLimit" (λ s. s.max_size_limit)
+        (maybe ⟦<u32 as Returns<'static>>⟧ "SizeUser20" (λ s. s.size_user_20)
+        (maybe ⟦<String as Returns<'static>>⟧ "SizeLimit20" (λ s. s.size_limit_20)
+        (needed ⟦<Vec<i64> as Returns<'static>>⟧ "Max20" (λ s. s.max_20)
+        (needed ⟦<Vec<String> as Returns<'static>>⟧ "ColorMaxModeIndex20" (λ s. s.color_max_mode_index_20)
+        (maybe ⟦<Vec<u16> as Returns<'static>>⟧ "PortUserRatePath" (λ s. s.port_user_rate_path)
+        (or ⟦<i16 as Returns<'static>>⟧ "CacheWidth20" (negsuc 32767) (λ s. s.cache_width_20)
+        (or ⟦<i32 as Returns<'static>>⟧ "Retry20" (pos 2147483647) (λ s. s.retry_20)
+        (maybe ⟦<u64 as Returns<'static>>⟧ "Group" (λ s. s.group)
+        (needed ⟦<Vec<String> as Returns<'static>>⟧ "GroupCache20" (λ s. s.group_cache_20)
+        (needed ⟦<BTreeMap<String, i64> as Returns<'static>>⟧ "ColorMaxNamePort20" (λ s. s.color_max_name_port_20)
+        (needed ⟦<i8 as Returns<'static>>⟧ "KeyGroupGroup20" (λ s. s.key_group_group_20)
+        (maybe ⟦<Vec<u32> as Returns<'static>>⟧ "WidthColor" (λ s. s.width_color)
+        (maybe ⟦<Float as Returns<'static>>⟧ "GroupLimit" (λ s. s.group_limit)
+        done)))))))))))))))))))) };
 }
 
 impl Record for RetryCache3 {
@@ -195,8 +231,26 @@ impl<'de> Deserialize<'de> for RetryCache3 {
 
     fn deserialize(alloc: Global, node: Node<'_, 'de>) -> Result<RetryCache3, Error> {
         read_record!(alloc, node, only RetryCache3 {
-            name_index_mode_2 = or("NameIndexMode2", -9223372036854775808),
+            name_index_mode_20 = or("NameIndexMode20", -9223372036854775808),
             mode_max = needed("ModeMax"),
+            index_size_color = needed("IndexSizeColor"),
+            mode_color_20 = needed("ModeColor20"),
+            level_key_cache_key_20 = or("LevelKeyCacheKey20", true),
+            color_width_20 = or("ColorWidth20", 0),
+            max_size_limit = maybe("MaxSizeLimit"),
+            size_user_20 = maybe("SizeUser20"),
+            size_limit_20 = maybe("SizeLimit20"),
+            max_20 = needed("Max20"),
+            color_max_mode_index_20 = needed("ColorMaxModeIndex20"),
+            port_user_rate_path = maybe("PortUserRatePath"),
+            cache_width_20 = or("CacheWidth20", -32768),
+            retry_20 = or("Retry20", 2147483647),
+            group = maybe("Group"),
+            group_cache_20 = needed("GroupCache20"),
+            color_max_name_port_20 = needed("ColorMaxNamePort20"),
+            key_group_group_20 = needed("KeyGroupGroup20"),
+            width_color = maybe("WidthColor"),
+            group_limit = maybe("GroupLimit"),
         })
     }
 
@@ -212,8 +266,26 @@ impl Serialize for RetryCache3 {
 
     fn serialize(&self, _alloc: Global, ser: &mut Serializer) -> Result<(), WriteError> {
         write_record!(ser, self, RetryCache3 {
-            name_index_mode_2 = "NameIndexMode2",
+            name_index_mode_20 = "NameIndexMode20",
             mode_max = "ModeMax",
+            index_size_color = "IndexSizeColor",
+            mode_color_20 = "ModeColor20",
+            level_key_cache_key_20 = "LevelKeyCacheKey20",
+            color_width_20 = "ColorWidth20",
+            max_size_limit = "MaxSizeLimit",
+            size_user_20 = "SizeUser20",
+            size_limit_20 = "SizeLimit20",
+            max_20 = "Max20",
+            color_max_mode_index_20 = "ColorMaxModeIndex20",
+            port_user_rate_path = "PortUserRatePath",
+            cache_width_20 = "CacheWidth20",
+            retry_20 = "Retry20",
+            group = "Group",
+            group_cache_20 = "GroupCache20",
+            color_max_name_port_20 = "ColorMaxNamePort20",
+            key_group_group_20 = "KeyGroupGroup20",
+            width_color = "WidthColor",
+            group_limit = "GroupLimit",
         })
     }
 }
@@ -226,89 +298,6 @@ impl<'de> Returns<'de> for RetryCache3 {
 
 impl<'de> Root<'de> for RetryCache3 {
     fn from_text(alloc: Global, text: &str) -> Result<RetryCache3, Error> {
-        from_str(alloc, text)
-    }
-}
-
-/// A record.
-#[derive(Debug, Drop)]
-pub struct KeyIndex4 {
-    pub retry: u16,
-    pub cache_key_host: Option<String>,
-    pub name_color: Vec<bool>,
-    pub max_size_limit: Option<u32>,
-    pub size_user_8: Option<String>,
-    pub size_limit_8: u64,
-    pub color_max_mode_index_8: i16,
-    pub user_8: u64,
-}
-
-impl RoundTrip for KeyIndex4 {
-    ghost fields = { or ⟦<u16 as Returns<'static>>⟧ "RETRY" 0 (λ s. s.retry)
-        (maybe ⟦<String as Returns<'static>>⟧ "CACHE_KEY_HOST" (λ s. s.cache_key_host)
-        (or_empty ⟦<Vec<bool> as Returns<'static>>⟧ "the name color" (λ s. s.name_color)
-        (maybe ⟦<u32 as Returns<'static>>⟧ "MAX_SIZE_LIMIT" (λ s. s.max_size_limit)
-        (maybe ⟦<String as Returns<'static>>⟧ "SIZE_USER_8" (λ s. s.size_user_8)
-        (or ⟦<u64 as Returns<'static>>⟧ "SIZE_LIMIT_8" 0 (λ s. s.size_limit_8)
-        (needed ⟦<i16 as Returns<'static>>⟧ "COLOR_MAX_MODE_INDEX_8" (λ s. s.color_max_mode_index_8)
-        (or ⟦<u64 as Returns<'static>>⟧ "USER_8" 0 (λ s. s.user_8)
-        done))))))) };
-}
-
-impl Record for KeyIndex4 {
-    ghost fields = { as_read ⟦<KeyIndex4 as RoundTrip>⟧.fields };
-}
-
-impl<'de> Deserialize<'de> for KeyIndex4 {
-    ghost reads = { record_reads ⟦<KeyIndex4 as Record>⟧.fields };
-
-    ghost faults = { record_faults ⟦<KeyIndex4 as Record>⟧.fields };
-
-    fn deserialize(alloc: Global, node: Node<'_, 'de>) -> Result<KeyIndex4, Error> {
-        read_record!(alloc, node, KeyIndex4 {
-            retry = or("RETRY", 0),
-            cache_key_host = maybe("CACHE_KEY_HOST"),
-            name_color = or_empty("the name color"),
-            max_size_limit = maybe("MAX_SIZE_LIMIT"),
-            size_user_8 = maybe("SIZE_USER_8"),
-            size_limit_8 = or("SIZE_LIMIT_8", 0),
-            color_max_mode_index_8 = needed("COLOR_MAX_MODE_INDEX_8"),
-            user_8 = or("USER_8", 0),
-        })
-    }
-
-    fn from_tree(alloc: Global, tree: Tree<'de>) -> Result<KeyIndex4, Error> {
-        KeyIndex4::deserialize(alloc, tree.root())
-    }
-}
-
-impl Serialize for KeyIndex4 {
-    ghost calls = { record_calls ⟦<KeyIndex4 as RoundTrip>⟧.fields };
-
-    ghost holds = { record_holds ⟦<KeyIndex4 as RoundTrip>⟧.fields };
-
-    fn serialize(&self, _alloc: Global, ser: &mut Serializer) -> Result<(), WriteError> {
-        write_record!(ser, self, KeyIndex4 {
-            retry = "RETRY",
-            cache_key_host = "CACHE_KEY_HOST",
-            name_color = "the name color",
-            max_size_limit = "MAX_SIZE_LIMIT",
-            size_user_8 = "SIZE_USER_8",
-            size_limit_8 = "SIZE_LIMIT_8",
-            color_max_mode_index_8 = "COLOR_MAX_MODE_INDEX_8",
-            user_8 = "USER_8",
-        })
-    }
-}
-
-impl<'de> Returns<'de> for KeyIndex4 {
-    ghost read_back = { record_back ⟦<KeyIndex4 as RoundTrip>⟧.fields (λ s. refl) };
-
-    ghost returns = { ⟦<KeyIndex4 as Returns<'static>>⟧.read_back.returns };
-}
-
-impl<'de> Root<'de> for KeyIndex4 {
-    fn from_text(alloc: Global, text: &str) -> Result<KeyIndex4, Error> {
         from_str(alloc, text)
     }
 }

@@ -1,9 +1,9 @@
 //! Types that were made at random.
 
-ghost use Rattle.std.specs.Prelude.{◌∷◌, [], codes, false, pos, refl};
+ghost use Rattle.std.specs.Prelude.{◌∷◌, [], codes, false, negsuc, pos, refl};
 ghost use Rattle.basic_toml.specs.Records.{record_faults, record_reads};
 ghost use Rattle.basic_toml_returns.proofs.RecordsReturn.{record_back};
-ghost use Rattle.basic_toml_returns.specs.RoundTrips.{as_read, done, maybe, needed, or, record_calls, record_holds};
+ghost use Rattle.basic_toml_returns.specs.RoundTrips.{as_read, done, maybe, needed, or, or_empty, or_text, record_calls, record_holds};
 ghost use Rattle.basic_toml_returns.specs.Variants.{variant_back, variant_calls, variant_faults, variant_reads};
 
 use basic_toml::{
@@ -145,16 +145,90 @@ impl<'de> Returns<'de> for ModeKeyOf7 {
 /// A record.
 #[derive(Debug, Drop)]
 pub struct ModeColor6 {
-    pub cache_mode_key_width_3: Option<PortNameOf6>,
+    pub cache_mode_key_width_40: Option<PortNameOf6>,
     pub mode_max_level_size: bool,
     pub level_max_group_log: bool,
+    pub user_path_level_mode_40: Option<String>,
+    pub limit_port: Option<i16>,
+    pub size_max: Vec<ModeKeyOf7>,
+    pub log_max_host_40: Vec<i32>,
+    pub log_mode: u64,
+    pub key: Option<String>,
+    pub color_tab_port_size: Option<PortNameOf6>,
+    pub limit_host_index: i64,
+    pub host_color_rate_port_40: BTreeMap<String, i64>,
+    pub max_40: Option<Vec<u8>>,
+    pub size_cache_size: BTreeMap<String, Vec<i16>>,
+    pub host_40: BTreeMap<String, i8>,
+    pub path_path_cache_cache: bool,
+    pub level_40: Option<bool>,
+    pub user_host_cache_40: BTreeMap<String, u16>,
+    pub retry_limit_size_40: i32,
+    pub level_user_retry_max_40: bool,
+    pub name_40: BTreeMap<String, Vec<bool>>,
+    pub rate: u64,
+    pub limit_group_mode_max: BTreeMap<String, u16>,
+    pub width_rate_index_40: i16,
+    pub retry_size_cache: u8,
+    pub max: i8,
+    pub group_40: String,
+    pub path_width_tab_retry: ModeKeyOf7,
+    pub width_width_path_40: BTreeMap<String, Vec<bool>>,
+    pub name_key_40: u8,
+    pub index_size_mode_40: i32,
+    pub size_rate_port_log_40: Option<u8>,
+    pub key_40: PortNameOf6,
+    pub level_color: Vec<u16>,
+    pub retry_mode_name: i8,
+    pub user_40: u8,
+    pub key_path_group_key_40: u8,
+    pub size_group_40: Option<ModeKeyOf7>,
+    pub rate_rate_max_40: bool,
+    pub color_tab_name_40: u64,
 }
 
 impl RoundTrip for ModeColor6 {
-    ghost fields = { maybe ⟦<PortNameOf6 as Returns<'static>>⟧ "CacheModeKeyWidth3" (λ s. s.cache_mode_key_width_3)
+    ghost fields = { maybe ⟦<PortNameOf6 as Returns<'static>>⟧ "CacheModeKeyWidth40" (λ s. s.cache_mode_key_width_40)
         (or ⟦<bool as Returns<'static>>⟧ "ModeMaxLevelSize" false (λ s. s.mode_max_level_size)
         (needed ⟦<bool as Returns<'static>>⟧ "LevelMaxGroupLog" (λ s. s.level_max_group_log)
-        done)) };
+        (maybe ⟦<String as Returns<'static>>⟧ "UserPathLevelMode40" (λ s. s.user_path_level_mode_40)
+        (maybe ⟦<i16 as Returns<'static>>⟧ "LimitPort" (λ s. s.limit_port)
+        (or_empty ⟦<Vec<ModeKeyOf7> as Returns<'static>>⟧ "SizeMax" (λ s. s.size_max)
+        (needed ⟦<Vec<i32> as Returns<'static>>⟧ "log-max-host-40" (λ s. s.log_max_host_40)
+        (needed ⟦<u64 as Returns<'static>>⟧ "LogMode" (λ s. s.log_mode)
+        (maybe ⟦<String as Returns<'static>>⟧ "Key" (λ s. s.key)
+        (maybe ⟦<PortNameOf6 as Returns<'static>>⟧ "ColorTabPortSize" (λ s. s.color_tab_port_size)
+        (or ⟦<i64 as Returns<'static>>⟧ "LimitHostIndex" (pos 9223372036854775807) (λ s. s.limit_host_index)
+        (needed ⟦<BTreeMap<String, i64> as Returns<'static>>⟧ "HostColorRatePort40" (λ s. s.host_color_rate_port_40)
+        (maybe ⟦<Vec<u8> as Returns<'static>>⟧ "Max40" (λ s. s.max_40)
+        (needed ⟦<BTreeMap<String, Vec<i16>> as Returns<'static>>⟧ "x-size-cache-size" (λ s. s.size_cache_size)
+        (needed ⟦<BTreeMap<String, i8> as Returns<'static>>⟧ "Host40" (λ s. s.host_40)
+        (needed ⟦<bool as Returns<'static>>⟧ "PathPathCacheCache" (λ s. s.path_path_cache_cache)
+        (maybe ⟦<bool as Returns<'static>>⟧ "Level40" (λ s. s.level_40)
+        (needed ⟦<BTreeMap<String, u16> as Returns<'static>>⟧ "x-user host cache 40" (λ s. s.user_host_cache_40)
+        (or ⟦<i32 as Returns<'static>>⟧ "RetryLimitSize40" (negsuc 1694789483) (λ s. s.retry_limit_size_40)
+        (needed ⟦<bool as Returns<'static>>⟧ "LevelUserRetryMax40" (λ s. s.level_user_retry_max_40)
+        (needed ⟦<BTreeMap<String, Vec<bool>> as Returns<'static>>⟧ "Name40" (λ s. s.name_40)
+        (or ⟦<u64 as Returns<'static>>⟧ "Rate" 0 (λ s. s.rate)
+        (needed ⟦<BTreeMap<String, u16> as Returns<'static>>⟧ "LimitGroupModeMax" (λ s. s.limit_group_mode_max)
+        (or ⟦<i16 as Returns<'static>>⟧ "WidthRateIndex40" (negsuc 25746) (λ s. s.width_rate_index_40)
+        (needed ⟦<u8 as Returns<'static>>⟧ "RetrySizeCache" (λ s. s.retry_size_cache)
+        (needed ⟦<i8 as Returns<'static>>⟧ "Max" (λ s. s.max)
+        (or_text ⟦<String as Returns<'static>>⟧ "Group40" "" (λ s. s.group_40)
+        (needed ⟦<ModeKeyOf7 as Returns<'static>>⟧ "PathWidthTabRetry" (λ s. s.path_width_tab_retry)
+        (needed ⟦<BTreeMap<String, Vec<bool>> as Returns<'static>>⟧ "WidthWidthPath40" (λ s. s.width_width_path_40)
+        (needed ⟦<u8 as Returns<'static>>⟧ "x-name key 40" (λ s. s.name_key_40)
+        (needed ⟦<i32 as Returns<'static>>⟧ "IndexSizeMode40" (λ s. s.index_size_mode_40)
+        (maybe ⟦<u8 as Returns<'static>>⟧ "SizeRatePortLog40" (λ s. s.size_rate_port_log_40)
+        (needed ⟦<PortNameOf6 as Returns<'static>>⟧ "Key40" (λ s. s.key_40)
+        (needed ⟦<Vec<u16> as Returns<'static>>⟧ "LevelColor" (λ s. s.level_color)
+        (needed ⟦<i8 as Returns<'static>>⟧ "RetryModeName" (λ s. s.retry_mode_name)
+        (needed ⟦<u8 as Returns<'static>>⟧ "the user-40" (λ s. s.user_40)
+        (or ⟦<u8 as Returns<'static>>⟧ "KeyPathGroupKey40" 68 (λ s. s.key_path_group_key_40)
+        (maybe ⟦<ModeKeyOf7 as Returns<'static>>⟧ "SizeGroup40" (λ s. s.size_group_40)
+        (or ⟦<bool as Returns<'static>>⟧ "RateRateMax40" false (λ s. s.rate_rate_max_40)
+        (or ⟦<u64 as Returns<'static>>⟧ "ColorTabName40" 0 (λ s. s.color_tab_name_40)
+        done))))))))))))))))))))))))))))))))))))))) };
 }
 
 impl Record for ModeColor6 {
@@ -168,9 +242,46 @@ impl<'de> Deserialize<'de> for ModeColor6 {
 
     fn deserialize(alloc: Global, node: Node<'_, 'de>) -> Result<ModeColor6, Error> {
         read_record!(alloc, node, ModeColor6 {
-            cache_mode_key_width_3 = maybe("CacheModeKeyWidth3"),
+            cache_mode_key_width_40 = maybe("CacheModeKeyWidth40"),
             mode_max_level_size = or("ModeMaxLevelSize", false),
             level_max_group_log = needed("LevelMaxGroupLog"),
+            user_path_level_mode_40 = maybe("UserPathLevelMode40"),
+            limit_port = maybe("LimitPort"),
+            size_max = or_empty("SizeMax"),
+            log_max_host_40 = needed("log-max-host-40"),
+            log_mode = needed("LogMode"),
+            key = maybe("Key"),
+            color_tab_port_size = maybe("ColorTabPortSize"),
+            limit_host_index = or("LimitHostIndex", 9223372036854775807),
+            host_color_rate_port_40 = needed("HostColorRatePort40"),
+            max_40 = maybe("Max40"),
+            size_cache_size = needed("x-size-cache-size"),
+            host_40 = needed("Host40"),
+            path_path_cache_cache = needed("PathPathCacheCache"),
+            level_40 = maybe("Level40"),
+            user_host_cache_40 = needed("x-user host cache 40"),
+            retry_limit_size_40 = or("RetryLimitSize40", -1694789484),
+            level_user_retry_max_40 = needed("LevelUserRetryMax40"),
+            name_40 = needed("Name40"),
+            rate = or("Rate", 0),
+            limit_group_mode_max = needed("LimitGroupModeMax"),
+            width_rate_index_40 = or("WidthRateIndex40", -25747),
+            retry_size_cache = needed("RetrySizeCache"),
+            max = needed("Max"),
+            group_40 = or_text("Group40", ""),
+            path_width_tab_retry = needed("PathWidthTabRetry"),
+            width_width_path_40 = needed("WidthWidthPath40"),
+            name_key_40 = needed("x-name key 40"),
+            index_size_mode_40 = needed("IndexSizeMode40"),
+            size_rate_port_log_40 = maybe("SizeRatePortLog40"),
+            key_40 = needed("Key40"),
+            level_color = needed("LevelColor"),
+            retry_mode_name = needed("RetryModeName"),
+            user_40 = needed("the user-40"),
+            key_path_group_key_40 = or("KeyPathGroupKey40", 68),
+            size_group_40 = maybe("SizeGroup40"),
+            rate_rate_max_40 = or("RateRateMax40", false),
+            color_tab_name_40 = or("ColorTabName40", 0),
         })
     }
 
@@ -186,9 +297,46 @@ impl Serialize for ModeColor6 {
 
     fn serialize(&self, _alloc: Global, ser: &mut Serializer) -> Result<(), WriteError> {
         write_record!(ser, self, ModeColor6 {
-            cache_mode_key_width_3 = "CacheModeKeyWidth3",
+            cache_mode_key_width_40 = "CacheModeKeyWidth40",
             mode_max_level_size = "ModeMaxLevelSize",
             level_max_group_log = "LevelMaxGroupLog",
+            user_path_level_mode_40 = "UserPathLevelMode40",
+            limit_port = "LimitPort",
+            size_max = "SizeMax",
+            log_max_host_40 = "log-max-host-40",
+            log_mode = "LogMode",
+            key = "Key",
+            color_tab_port_size = "ColorTabPortSize",
+            limit_host_index = "LimitHostIndex",
+            host_color_rate_port_40 = "HostColorRatePort40",
+            max_40 = "Max40",
+            size_cache_size = "x-size-cache-size",
+            host_40 = "Host40",
+            path_path_cache_cache = "PathPathCacheCache",
+            level_40 = "Level40",
+            user_host_cache_40 = "x-user host cache 40",
+            retry_limit_size_40 = "RetryLimitSize40",
+            level_user_retry_max_40 = "LevelUserRetryMax40",
+            name_40 = "Name40",
+            rate = "Rate",
+            limit_group_mode_max = "LimitGroupModeMax",
+            width_rate_index_40 = "WidthRateIndex40",
+            retry_size_cache = "RetrySizeCache",
+            max = "Max",
+            group_40 = "Group40",
+            path_width_tab_retry = "PathWidthTabRetry",
+            width_width_path_40 = "WidthWidthPath40",
+            name_key_40 = "x-name key 40",
+            index_size_mode_40 = "IndexSizeMode40",
+            size_rate_port_log_40 = "SizeRatePortLog40",
+            key_40 = "Key40",
+            level_color = "LevelColor",
+            retry_mode_name = "RetryModeName",
+            user_40 = "the user-40",
+            key_path_group_key_40 = "KeyPathGroupKey40",
+            size_group_40 = "SizeGroup40",
+            rate_rate_max_40 = "RateRateMax40",
+            color_tab_name_40 = "ColorTabName40",
         })
     }
 }
@@ -201,121 +349,6 @@ impl<'de> Returns<'de> for ModeColor6 {
 
 impl<'de> Root<'de> for ModeColor6 {
     fn from_text(alloc: Global, text: &str) -> Result<ModeColor6, Error> {
-        from_str(alloc, text)
-    }
-}
-
-/// A record.
-#[derive(Debug, Drop)]
-pub struct ModeColor7 {
-    pub user_path_level_mode_16: i64,
-    pub mode_16: Option<bool>,
-    pub port_16: Option<u32>,
-    pub key_16: u32,
-    pub rate_port_16: i8,
-    pub size: Option<u16>,
-    pub host_16: u16,
-    pub host_color_rate_port_16: BTreeMap<String, u16>,
-    pub max_16: Option<Vec<ModeKeyOf7>>,
-    pub size_cache_size: BTreeMap<String, Vec<i16>>,
-    pub path_path_cache_cache: i32,
-    pub key_host_mode_limit: bool,
-    pub limit_limit_user_path: Option<i16>,
-    pub width_16: BTreeMap<String, Vec<ModeKeyOf7>>,
-    pub retry_path_limit_16: ModeColor6,
-    pub rate_key_size_level: ModeColor6,
-}
-
-impl RoundTrip for ModeColor7 {
-    ghost fields = { or ⟦<i64 as Returns<'static>>⟧ "the user.path.level.mode.16" (pos 9223372036854775807) (λ s. s.user_path_level_mode_16)
-        (maybe ⟦<bool as Returns<'static>>⟧ "mode_16" (λ s. s.mode_16)
-        (maybe ⟦<u32 as Returns<'static>>⟧ "the port-16" (λ s. s.port_16)
-        (needed ⟦<u32 as Returns<'static>>⟧ "x-key-16" (λ s. s.key_16)
-        (needed ⟦<i8 as Returns<'static>>⟧ "rate_port_16" (λ s. s.rate_port_16)
-        (maybe ⟦<u16 as Returns<'static>>⟧ "size" (λ s. s.size)
-        (or ⟦<u16 as Returns<'static>>⟧ "host_16" 65535 (λ s. s.host_16)
-        (needed ⟦<BTreeMap<String, u16> as Returns<'static>>⟧ "host_color_rate_port_16" (λ s. s.host_color_rate_port_16)
-        (maybe ⟦<Vec<ModeKeyOf7> as Returns<'static>>⟧ "max_16" (λ s. s.max_16)
-        (needed ⟦<BTreeMap<String, Vec<i16>> as Returns<'static>>⟧ "x-size-cache-size" (λ s. s.size_cache_size)
-        (needed ⟦<i32 as Returns<'static>>⟧ "path_path_cache_cache" (λ s. s.path_path_cache_cache)
-        (needed ⟦<bool as Returns<'static>>⟧ "key_host_mode_limit" (λ s. s.key_host_mode_limit)
-        (maybe ⟦<i16 as Returns<'static>>⟧ "limit_limit_user_path" (λ s. s.limit_limit_user_path)
-        (needed ⟦<BTreeMap<String, Vec<ModeKeyOf7>> as Returns<'static>>⟧ "the width-16" (λ s. s.width_16)
-        (needed ⟦<ModeColor6 as Returns<'static>>⟧ "retry_path_limit_16" (λ s. s.retry_path_limit_16)
-        (needed ⟦<ModeColor6 as Returns<'static>>⟧ "rate_key_size_level" (λ s. s.rate_key_size_level)
-        done))))))))))))))) };
-}
-
-impl Record for ModeColor7 {
-    ghost fields = { as_read ⟦<ModeColor7 as RoundTrip>⟧.fields };
-}
-
-impl<'de> Deserialize<'de> for ModeColor7 {
-    ghost reads = { record_reads ⟦<ModeColor7 as Record>⟧.fields };
-
-    ghost faults = { record_faults ⟦<ModeColor7 as Record>⟧.fields };
-
-    fn deserialize(alloc: Global, node: Node<'_, 'de>) -> Result<ModeColor7, Error> {
-        read_record!(alloc, node, ModeColor7 {
-            user_path_level_mode_16 = or("the user.path.level.mode.16", 9223372036854775807),
-            mode_16 = maybe("mode_16"),
-            port_16 = maybe("the port-16"),
-            key_16 = needed("x-key-16"),
-            rate_port_16 = needed("rate_port_16"),
-            size = maybe("size"),
-            host_16 = or("host_16", 65535),
-            host_color_rate_port_16 = needed("host_color_rate_port_16"),
-            max_16 = maybe("max_16"),
-            size_cache_size = needed("x-size-cache-size"),
-            path_path_cache_cache = needed("path_path_cache_cache"),
-            key_host_mode_limit = needed("key_host_mode_limit"),
-            limit_limit_user_path = maybe("limit_limit_user_path"),
-            width_16 = needed("the width-16"),
-            retry_path_limit_16 = needed("retry_path_limit_16"),
-            rate_key_size_level = needed("rate_key_size_level"),
-        })
-    }
-
-    fn from_tree(alloc: Global, tree: Tree<'de>) -> Result<ModeColor7, Error> {
-        ModeColor7::deserialize(alloc, tree.root())
-    }
-}
-
-impl Serialize for ModeColor7 {
-    ghost calls = { record_calls ⟦<ModeColor7 as RoundTrip>⟧.fields };
-
-    ghost holds = { record_holds ⟦<ModeColor7 as RoundTrip>⟧.fields };
-
-    fn serialize(&self, _alloc: Global, ser: &mut Serializer) -> Result<(), WriteError> {
-        write_record!(ser, self, ModeColor7 {
-            user_path_level_mode_16 = "the user.path.level.mode.16",
-            mode_16 = "mode_16",
-            port_16 = "the port-16",
-            key_16 = "x-key-16",
-            rate_port_16 = "rate_port_16",
-            size = "size",
-            host_16 = "host_16",
-            host_color_rate_port_16 = "host_color_rate_port_16",
-            max_16 = "max_16",
-            size_cache_size = "x-size-cache-size",
-            path_path_cache_cache = "path_path_cache_cache",
-            key_host_mode_limit = "key_host_mode_limit",
-            limit_limit_user_path = "limit_limit_user_path",
-            width_16 = "the width-16",
-            retry_path_limit_16 = "retry_path_limit_16",
-            rate_key_size_level = "rate_key_size_level",
-        })
-    }
-}
-
-impl<'de> Returns<'de> for ModeColor7 {
-    ghost read_back = { record_back ⟦<ModeColor7 as RoundTrip>⟧.fields (λ s. refl) };
-
-    ghost returns = { ⟦<ModeColor7 as Returns<'static>>⟧.read_back.returns };
-}
-
-impl<'de> Root<'de> for ModeColor7 {
-    fn from_text(alloc: Global, text: &str) -> Result<ModeColor7, Error> {
         from_str(alloc, text)
     }
 }

@@ -1,16 +1,18 @@
 //! Types that were made at random.
 
-ghost use Rattle.std.specs.Prelude.{◌∷◌, [], codes, false, negsuc, pos, refl};
+ghost use Rattle.std.specs.Prelude.{◌∷◌, [], codes, refl};
+ghost use Rattle.basic_toml.specs.Nodes.{is_table};
 ghost use Rattle.basic_toml.specs.Records.{record_faults, record_reads};
 ghost use Rattle.basic_toml_returns.proofs.RecordsReturn.{record_back};
-ghost use Rattle.basic_toml_returns.specs.RoundTrips.{as_read, done, maybe, needed, or, or_empty, record_calls, record_holds};
+ghost use Rattle.basic_toml_returns.specs.Forms.{by_test, form_back, form_calls, form_faults, form_holds, form_reads, one, other};
+ghost use Rattle.basic_toml_returns.specs.RoundTrips.{as_read, done, maybe, needed, or_empty, record_calls, record_holds, strict};
 ghost use Rattle.basic_toml_returns.specs.Variants.{variant_back, variant_calls, variant_faults, variant_reads};
 
 use basic_toml::{
-    Deserialize, Error, Float, Node, Record, Serialize, Serializer, Tree, WriteError, from_str,
+    Deserialize, Error, Node, Record, Serialize, Serializer, Tree, WriteError, from_str,
 };
 use basic_toml_returns::{
-    Choice, Returns, Root, RoundTrip, read_variant, write_record, write_variant,
+    Choice, Forms, Returns, Root, RoundTrip, read_variant, write_record, write_variant,
 };
 use basic_toml_typed::read_record;
 use std::alloc::Global;
@@ -125,16 +127,12 @@ impl<'de> Returns<'de> for LevelSizeOf10 {
 pub struct RateMode9 {
     pub log: Vec<bool>,
     pub cache_retry_width_index: Option<i64>,
-    pub user_cache_mode_retry: bool,
-    pub size: String,
 }
 
 impl RoundTrip for RateMode9 {
     ghost fields = { or_empty ⟦<Vec<bool> as Returns<'static>>⟧ "log" (λ s. s.log)
         (maybe ⟦<i64 as Returns<'static>>⟧ "the cache retry width index" (λ s. s.cache_retry_width_index)
-        (needed ⟦<bool as Returns<'static>>⟧ "userCacheModeRetry" (λ s. s.user_cache_mode_retry)
-        (needed ⟦<String as Returns<'static>>⟧ "size" (λ s. s.size)
-        done))) };
+        done) };
 }
 
 impl Record for RateMode9 {
@@ -150,8 +148,6 @@ impl<'de> Deserialize<'de> for RateMode9 {
         read_record!(alloc, node, RateMode9 {
             log = or_empty("log"),
             cache_retry_width_index = maybe("the cache retry width index"),
-            user_cache_mode_retry = needed("userCacheModeRetry"),
-            size = needed("size"),
         })
     }
 
@@ -169,8 +165,6 @@ impl Serialize for RateMode9 {
         write_record!(ser, self, RateMode9 {
             log = "log",
             cache_retry_width_index = "the cache retry width index",
-            user_cache_mode_retry = "userCacheModeRetry",
-            size = "size",
         })
     }
 }
@@ -187,133 +181,172 @@ impl<'de> Root<'de> for RateMode9 {
     }
 }
 
+/// One of two forms.
+#[derive(Debug, Drop)]
+pub enum UserOr9 {
+    Width(LevelSizeOf10),
+    RetryTable(BTreeMap<String, u8>),
+}
+
+impl Forms for UserOr9 {
+    ghost use Rattle.toml_made_types.specs.declared.made_3.UserOr9.TheVariants.{Width, RetryTable};
+
+    ghost forms = { by_test is_table ⟦<BTreeMap<String, u8> as Returns<'static>>⟧ ⟦<LevelSizeOf10 as Returns<'static>>⟧
+        (elim [ Width x ↦ other x | RetryTable x ↦ one x ]) (λ x. refl) (λ x. refl) };
+}
+
+impl<'de> Deserialize<'de> for UserOr9 {
+    ghost reads = { form_reads ⟦<UserOr9 as Forms>⟧.forms };
+
+    ghost faults = { form_faults ⟦<UserOr9 as Forms>⟧.forms };
+
+    fn deserialize(alloc: Global, node: Node<'_, 'de>) -> Result<UserOr9, Error> {
+        if node.is_table() {
+            let value = BTreeMap::deserialize(alloc, node)?;
+            Ok(UserOr9::RetryTable(value))
+        } else {
+            let value = LevelSizeOf10::deserialize(alloc, node)?;
+            Ok(UserOr9::Width(value))
+        }
+    }
+
+    fn from_tree(alloc: Global, tree: Tree<'de>) -> Result<UserOr9, Error> {
+        UserOr9::deserialize(alloc, tree.root())
+    }
+}
+
+impl Serialize for UserOr9 {
+    ghost calls = { form_calls ⟦<UserOr9 as Forms>⟧.forms };
+
+    ghost holds = { form_holds ⟦<UserOr9 as Forms>⟧.forms };
+
+    fn serialize(&self, alloc: Global, ser: &mut Serializer) -> Result<(), WriteError> {
+        match self {
+            UserOr9::Width(value) => value.serialize(alloc, ser),
+            UserOr9::RetryTable(value) => value.serialize(alloc, ser),
+        }
+    }
+}
+
+impl<'de> Returns<'de> for UserOr9 {
+    ghost read_back = { form_back ⟦<UserOr9 as Forms>⟧.forms };
+
+    ghost returns = { ⟦<UserOr9 as Returns<'static>>⟧.read_back.returns };
+}
+
 /// A record.
 #[derive(Debug, Drop)]
-pub struct WidthWidth10 {
-    pub width_size_20: i64,
-    pub limit_port_tab_tab: Float,
-    pub port_user_20: Option<i8>,
-    pub rate_port_group_20: u16,
-    pub tab: bool,
-    pub host_cache_width_20: Float,
-    pub tab_size_level_20: Option<i32>,
-    pub width_tab_group_20: u32,
-    pub user_mode_20: Option<bool>,
-    pub tab_20: Option<String>,
-    pub group: u64,
-    pub size_group: i64,
-    pub index_key_cache_20: Vec<MaxWidthOf9>,
-    pub color_max_port_index: bool,
-    pub limit_max_port_20: u64,
-    pub mode: i32,
-    pub color: BTreeMap<String, Vec<i8>>,
-    pub level: Vec<Float>,
-    pub port_level_group_host: Option<Vec<u16>>,
-    pub size_path_group_20: u16,
+pub struct WidthCache10 {
+    pub host_size_tab: u32,
+    pub path: Option<bool>,
+    pub key: Option<MaxWidthOf9>,
 }
 
-impl RoundTrip for WidthWidth10 {
-    ghost fields = { or ⟦<i64 as Returns<'static>>⟧ "width_size_20" (negsuc 8852124752587223216) (λ s. s.width_size_20)
-        (needed ⟦<Float as Returns<'static>>⟧ "limit_port_tab_tab" (λ s. s.limit_port_tab_tab)
-        (maybe ⟦<i8 as Returns<'static>>⟧ "port_user_20" (λ s. s.port_user_20)
-        (needed ⟦<u16 as Returns<'static>>⟧ "rate_port_group_20" (λ s. s.rate_port_group_20)
-        (or ⟦<bool as Returns<'static>>⟧ "tab" false (λ s. s.tab)
-        (needed ⟦<Float as Returns<'static>>⟧ "x-host cache width 20" (λ s. s.host_cache_width_20)
-        (maybe ⟦<i32 as Returns<'static>>⟧ "tab_size_level_20" (λ s. s.tab_size_level_20)
-        (or ⟦<u32 as Returns<'static>>⟧ "width_tab_group_20" 0 (λ s. s.width_tab_group_20)
-        (maybe ⟦<bool as Returns<'static>>⟧ "user_mode_20" (λ s. s.user_mode_20)
-        (maybe ⟦<String as Returns<'static>>⟧ "tab_20" (λ s. s.tab_20)
-        (or ⟦<u64 as Returns<'static>>⟧ "group" 18446744073709551615 (λ s. s.group)
-        (needed ⟦<i64 as Returns<'static>>⟧ "size.group" (λ s. s.size_group)
-        (or_empty ⟦<Vec<MaxWidthOf9> as Returns<'static>>⟧ "index_key_cache_20" (λ s. s.index_key_cache_20)
-        (needed ⟦<bool as Returns<'static>>⟧ "color_max_port_index" (λ s. s.color_max_port_index)
-        (or ⟦<u64 as Returns<'static>>⟧ "limit_max_port_20" 18446744073709551615 (λ s. s.limit_max_port_20)
-        (or ⟦<i32 as Returns<'static>>⟧ "mode" (pos 2147483647) (λ s. s.mode)
-        (needed ⟦<BTreeMap<String, Vec<i8>> as Returns<'static>>⟧ "color" (λ s. s.color)
-        (needed ⟦<Vec<Float> as Returns<'static>>⟧ "level" (λ s. s.level)
-        (maybe ⟦<Vec<u16> as Returns<'static>>⟧ "port_level_group_host" (λ s. s.port_level_group_host)
-        (or ⟦<u16 as Returns<'static>>⟧ "size_path_group_20" 0 (λ s. s.size_path_group_20)
-        done))))))))))))))))))) };
+impl RoundTrip for WidthCache10 {
+    ghost fields = { strict
+        (needed ⟦<u32 as Returns<'static>>⟧ "host_size_tab" (λ s. s.host_size_tab)
+        (maybe ⟦<bool as Returns<'static>>⟧ "path" (λ s. s.path)
+        (maybe ⟦<MaxWidthOf9 as Returns<'static>>⟧ "key" (λ s. s.key)
+        done))) };
 }
 
-impl Record for WidthWidth10 {
-    ghost fields = { as_read ⟦<WidthWidth10 as RoundTrip>⟧.fields };
+impl Record for WidthCache10 {
+    ghost fields = { as_read ⟦<WidthCache10 as RoundTrip>⟧.fields };
 }
 
-impl<'de> Deserialize<'de> for WidthWidth10 {
-    ghost reads = { record_reads ⟦<WidthWidth10 as Record>⟧.fields };
+impl<'de> Deserialize<'de> for WidthCache10 {
+    ghost reads = { record_reads ⟦<WidthCache10 as Record>⟧.fields };
 
-    ghost faults = { record_faults ⟦<WidthWidth10 as Record>⟧.fields };
+    ghost faults = { record_faults ⟦<WidthCache10 as Record>⟧.fields };
 
-    fn deserialize(alloc: Global, node: Node<'_, 'de>) -> Result<WidthWidth10, Error> {
-        read_record!(alloc, node, WidthWidth10 {
-            width_size_20 = or("width_size_20", -8852124752587223217),
-            limit_port_tab_tab = needed("limit_port_tab_tab"),
-            port_user_20 = maybe("port_user_20"),
-            rate_port_group_20 = needed("rate_port_group_20"),
-            tab = or("tab", false),
-            host_cache_width_20 = needed("x-host cache width 20"),
-            tab_size_level_20 = maybe("tab_size_level_20"),
-            width_tab_group_20 = or("width_tab_group_20", 0),
-            user_mode_20 = maybe("user_mode_20"),
-            tab_20 = maybe("tab_20"),
-            group = or("group", 18446744073709551615),
-            size_group = needed("size.group"),
-            index_key_cache_20 = or_empty("index_key_cache_20"),
-            color_max_port_index = needed("color_max_port_index"),
-            limit_max_port_20 = or("limit_max_port_20", 18446744073709551615),
-            mode = or("mode", 2147483647),
-            color = needed("color"),
-            level = needed("level"),
-            port_level_group_host = maybe("port_level_group_host"),
-            size_path_group_20 = or("size_path_group_20", 0),
+    fn deserialize(alloc: Global, node: Node<'_, 'de>) -> Result<WidthCache10, Error> {
+        read_record!(alloc, node, only WidthCache10 {
+            host_size_tab = needed("host_size_tab"),
+            path = maybe("path"),
+            key = maybe("key"),
         })
     }
 
-    fn from_tree(alloc: Global, tree: Tree<'de>) -> Result<WidthWidth10, Error> {
-        WidthWidth10::deserialize(alloc, tree.root())
+    fn from_tree(alloc: Global, tree: Tree<'de>) -> Result<WidthCache10, Error> {
+        WidthCache10::deserialize(alloc, tree.root())
     }
 }
 
-impl Serialize for WidthWidth10 {
-    ghost calls = { record_calls ⟦<WidthWidth10 as RoundTrip>⟧.fields };
+impl Serialize for WidthCache10 {
+    ghost calls = { record_calls ⟦<WidthCache10 as RoundTrip>⟧.fields };
 
-    ghost holds = { record_holds ⟦<WidthWidth10 as RoundTrip>⟧.fields };
+    ghost holds = { record_holds ⟦<WidthCache10 as RoundTrip>⟧.fields };
 
     fn serialize(&self, _alloc: Global, ser: &mut Serializer) -> Result<(), WriteError> {
-        write_record!(ser, self, WidthWidth10 {
-            width_size_20 = "width_size_20",
-            limit_port_tab_tab = "limit_port_tab_tab",
-            port_user_20 = "port_user_20",
-            rate_port_group_20 = "rate_port_group_20",
-            tab = "tab",
-            host_cache_width_20 = "x-host cache width 20",
-            tab_size_level_20 = "tab_size_level_20",
-            width_tab_group_20 = "width_tab_group_20",
-            user_mode_20 = "user_mode_20",
-            tab_20 = "tab_20",
-            group = "group",
-            size_group = "size.group",
-            index_key_cache_20 = "index_key_cache_20",
-            color_max_port_index = "color_max_port_index",
-            limit_max_port_20 = "limit_max_port_20",
-            mode = "mode",
-            color = "color",
-            level = "level",
-            port_level_group_host = "port_level_group_host",
-            size_path_group_20 = "size_path_group_20",
+        write_record!(ser, self, WidthCache10 {
+            host_size_tab = "host_size_tab",
+            path = "path",
+            key = "key",
         })
     }
 }
 
-impl<'de> Returns<'de> for WidthWidth10 {
-    ghost read_back = { record_back ⟦<WidthWidth10 as RoundTrip>⟧.fields (λ s. refl) };
+impl<'de> Returns<'de> for WidthCache10 {
+    ghost read_back = { record_back ⟦<WidthCache10 as RoundTrip>⟧.fields (λ s. refl) };
 
-    ghost returns = { ⟦<WidthWidth10 as Returns<'static>>⟧.read_back.returns };
+    ghost returns = { ⟦<WidthCache10 as Returns<'static>>⟧.read_back.returns };
 }
 
-impl<'de> Root<'de> for WidthWidth10 {
-    fn from_text(alloc: Global, text: &str) -> Result<WidthWidth10, Error> {
+impl<'de> Root<'de> for WidthCache10 {
+    fn from_text(alloc: Global, text: &str) -> Result<WidthCache10, Error> {
         from_str(alloc, text)
     }
+}
+
+/// One of two forms.
+#[derive(Debug, Drop)]
+pub enum PortOr10 {
+    WidthTable(RateMode9),
+    Group(Vec<WidthCache10>),
+}
+
+impl Forms for PortOr10 {
+    ghost use Rattle.toml_made_types.specs.declared.made_3.PortOr10.TheVariants.{WidthTable, Group};
+
+    ghost forms = { by_test is_table ⟦<RateMode9 as Returns<'static>>⟧ ⟦<Vec<WidthCache10> as Returns<'static>>⟧
+        (elim [ WidthTable x ↦ one x | Group x ↦ other x ]) (λ x. refl) (λ x. refl) };
+}
+
+impl<'de> Deserialize<'de> for PortOr10 {
+    ghost reads = { form_reads ⟦<PortOr10 as Forms>⟧.forms };
+
+    ghost faults = { form_faults ⟦<PortOr10 as Forms>⟧.forms };
+
+    fn deserialize(alloc: Global, node: Node<'_, 'de>) -> Result<PortOr10, Error> {
+        if node.is_table() {
+            let value = RateMode9::deserialize(alloc, node)?;
+            Ok(PortOr10::WidthTable(value))
+        } else {
+            let value = Vec::deserialize(alloc, node)?;
+            Ok(PortOr10::Group(value))
+        }
+    }
+
+    fn from_tree(alloc: Global, tree: Tree<'de>) -> Result<PortOr10, Error> {
+        PortOr10::deserialize(alloc, tree.root())
+    }
+}
+
+impl Serialize for PortOr10 {
+    ghost calls = { form_calls ⟦<PortOr10 as Forms>⟧.forms };
+
+    ghost holds = { form_holds ⟦<PortOr10 as Forms>⟧.forms };
+
+    fn serialize(&self, alloc: Global, ser: &mut Serializer) -> Result<(), WriteError> {
+        match self {
+            PortOr10::WidthTable(value) => value.serialize(alloc, ser),
+            PortOr10::Group(value) => value.serialize(alloc, ser),
+        }
+    }
+}
+
+impl<'de> Returns<'de> for PortOr10 {
+    ghost read_back = { form_back ⟦<PortOr10 as Forms>⟧.forms };
+
+    ghost returns = { ⟦<PortOr10 as Returns<'static>>⟧.read_back.returns };
 }
