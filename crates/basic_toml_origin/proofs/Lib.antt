@@ -3,4 +3,7 @@ pub mod StepsLeft
 pub mod WaysMeet
 pub mod SectionsMeet
 pub mod SectionsTell
+pub mod LatestFirst
+pub mod ElementsCounted
+pub mod KeysFollow
 pub mod WorkedOrigins

@@ -40,7 +40,7 @@ one_more_within counts Passes i j small = omega (arith, small j)
 one_more_within counts (Reaches left) i j small =
     set_within counts left j (suc (get_or counts left 0)) (i + 1) (omega (arith, small j)) (omega (arith, small left))
 
-within_behind : (counts : List ℕ) (a : Bool) (keys : KeyTexts) (p : Path) (i j : ℕ) → ((n : ℕ) → get_or counts n 0 ≤ i)
+pub within_behind : (counts : List ℕ) (a : Bool) (keys : KeyTexts) (p : Path) (i j : ℕ) → ((n : ℕ) → get_or counts n 0 ≤ i)
     → get_or (counts_behind counts a keys p) j 0 ≤ i + 1
 within_behind counts false keys p i j small = omega (arith, small j)
 within_behind counts true [] p i j small = omega (arith, small j)
@@ -49,16 +49,16 @@ within_behind counts true (k ∷ keys) p i j small = one_more_within counts (mee
 abbrev zeros : ℕ → List ℕ
 zeros n = replicate n 0
 
-zeros_within : (n j : ℕ) → get_or (zeros n) j 0 ≡ 0
+pub zeros_within : (n j : ℕ) → get_or (zeros n) j 0 ≡ 0
 zeros_within zero j = refl
 zeros_within (suc n) zero = refl
 zeros_within (suc n) (suc j) = zeros_within n j
 
-zeros_length : (n : ℕ) → length (zeros n) ≡ n
+pub zeros_length : (n : ℕ) → length (zeros n) ≡ n
 zeros_length zero = refl
 zeros_length (suc n) = ap suc (zeros_length n)
 
-same_count : (counts new : List ℕ) (a : Bool) (keys : KeyTexts) (p : Path) → new ≡ counts_behind counts a keys p
+pub same_count : (counts new : List ℕ) (a : Bool) (keys : KeyTexts) (p : Path) → new ≡ counts_behind counts a keys p
     → length new ≡ length counts
 same_count counts new false keys p e = ap length e
 same_count counts new true [] p e = ap length e

@@ -41,7 +41,8 @@ pub fn origin_at(
     Ok(row.or(way))
 }
 
-fn zeros(alloc: Global, len: usize) -> Result<Vec<usize>, AllocError>
+/// This many zeros.
+pub(crate) fn zeros(alloc: Global, len: usize) -> Result<Vec<usize>, AllocError>
     ensures { IfOk result (λ zeros. zeros.items ≡ replicate len 0) }
 {
     let mut zeros = Vec::new(alloc);
@@ -49,9 +50,9 @@ fn zeros(alloc: Global, len: usize) -> Result<Vec<usize>, AllocError>
     Ok(zeros)
 }
 
-// How far the way of a section and a path go together. `counts` are those of the sections before it, and then its own
-// too.
-fn enter(section: &Section<'_>, path: &[Step<'_>], counts: &mut Vec<usize>) -> Meeting
+/// How far the way of a section and a path go together. `counts` are those of the sections before it, and then its own
+/// too.
+pub(crate) fn enter(section: &Section<'_>, path: &[Step<'_>], counts: &mut Vec<usize>) -> Meeting
     requires room { length path.now ≤ length counts.old.items }
     requires small { (left : ℕ) → get_or counts.old.items left 0 < usize.MAX }
     ensures met { result ≡ met counts.old.items section.now.is_array (header_texts section.now.header.items)

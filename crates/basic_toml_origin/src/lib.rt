@@ -1,13 +1,16 @@
-//! Where what a path of a document leads to is written, found in its section list: [`origin_at`]. A [`Step`] of the path
-//! is a key or the number of an element, and an [`Origin`] has the offset of the thing and that of its key.
+//! Where what a path of a document leads to is written, found in its section list: [`origin_at`]. A [`Step`] of the
+//! path is a key or the number of an element, and an [`Origin`] has the offset of the thing and that of its key. The
+//! path of a section itself is [`section_path`].
 #![tactic(auto)]
 
 mod find;
+mod indexed_path;
 mod origin;
 mod step;
 mod values;
 mod ways;
 
 pub use find::origin_at;
+pub use indexed_path::section_path;
 pub use origin::Origin;
 pub use step::Step;
