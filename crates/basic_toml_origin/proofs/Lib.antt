@@ -1,3 +1,4 @@
+pub mod RowsGoOn
 pub mod RowsLeft
 pub mod StepsLeft
 pub mod WaysMeet
@@ -6,4 +7,6 @@ pub mod SectionsTell
 pub mod LatestFirst
 pub mod ElementsCounted
 pub mod KeysFollow
+pub mod KeysGoOn
+pub mod WorkedCrossings
 pub mod WorkedOrigins

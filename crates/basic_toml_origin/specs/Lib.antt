@@ -1,3 +1,4 @@
+pub mod Crossing
 pub mod Origin
 pub mod Path
 pub mod Parts
