@@ -1,9 +1,9 @@
 //! Types that were made at random.
 
-ghost use Rattle.std.specs.Prelude.{◌∷◌, [], codes, refl};
+ghost use Rattle.std.specs.Prelude.{◌∷◌, [], codes, false, refl};
 ghost use Rattle.basic_toml.specs.Records.{record_faults, record_reads};
 ghost use Rattle.basic_toml_returns.proofs.RecordsReturn.{record_back};
-ghost use Rattle.basic_toml_returns.specs.RoundTrips.{as_read, done, maybe, needed, or, or_text, record_calls, record_holds, strict};
+ghost use Rattle.basic_toml_returns.specs.RoundTrips.{as_read, done, maybe, needed, or, or_empty, record_calls, record_holds, strict};
 ghost use Rattle.basic_toml_returns.specs.Variants.{variant_back, variant_calls, variant_faults, variant_reads};
 
 use basic_toml::{
@@ -14,7 +14,6 @@ use basic_toml_returns::{
 };
 use basic_toml_typed::read_record;
 use std::alloc::Global;
-use std::collections::BTreeMap;
 
 /// A choice.
 #[derive(Debug, Clone, Copy)]
@@ -137,13 +136,27 @@ impl<'de> Returns<'de> for SizeColorOf1 {
 /// A record.
 #[derive(Debug, Drop)]
 pub struct PathColor0 {
-    pub port_color_host_1: RetryCacheOf0,
+    pub port_color_host_8: RetryCacheOf0,
+    pub group_max_group_name_8: bool,
+    pub limit_user_color_user: bool,
+    pub index_name_tab: u32,
+    pub rate_port: SizeColorOf1,
+    pub mode_max_path: bool,
+    pub level: Option<u32>,
+    pub key_log_8: Vec<RetryCacheOf0>,
 }
 
 impl RoundTrip for PathColor0 {
     ghost fields = { strict
-        (needed ⟦<RetryCacheOf0 as Returns<'static>>⟧ "port-color-host-1" (λ s. s.port_color_host_1)
-        done) };
+        (needed ⟦<RetryCacheOf0 as Returns<'static>>⟧ "port-color-host-8" (λ s. s.port_color_host_8)
+        (or ⟦<bool as Returns<'static>>⟧ "x-group max group name 8" false (λ s. s.group_max_group_name_8)
+        (needed ⟦<bool as Returns<'static>>⟧ "limit-user-color-user" (λ s. s.limit_user_color_user)
+        (or ⟦<u32 as Returns<'static>>⟧ "index-name-tab" 2820330615 (λ s. s.index_name_tab)
+        (needed ⟦<SizeColorOf1 as Returns<'static>>⟧ "rate-port" (λ s. s.rate_port)
+        (or ⟦<bool as Returns<'static>>⟧ "mode-max-path" false (λ s. s.mode_max_path)
+        (maybe ⟦<u32 as Returns<'static>>⟧ "level" (λ s. s.level)
+        (or_empty ⟦<Vec<RetryCacheOf0> as Returns<'static>>⟧ "key-log-8" (λ s. s.key_log_8)
+        done)))))))) };
 }
 
 impl Record for PathColor0 {
@@ -157,7 +170,14 @@ impl<'de> Deserialize<'de> for PathColor0 {
 
     fn deserialize(alloc: Global, node: Node<'_, 'de>) -> Result<PathColor0, Error> {
         read_record!(alloc, node, only PathColor0 {
-            port_color_host_1 = needed("port-color-host-1"),
+            port_color_host_8 = needed("port-color-host-8"),
+            group_max_group_name_8 = or("x-group max group name 8", false),
+            limit_user_color_user = needed("limit-user-color-user"),
+            index_name_tab = or("index-name-tab", 2820330615),
+            rate_port = needed("rate-port"),
+            mode_max_path = or("mode-max-path", false),
+            level = maybe("level"),
+            key_log_8 = or_empty("key-log-8"),
         })
     }
 
@@ -173,7 +193,14 @@ impl Serialize for PathColor0 {
 
     fn serialize(&self, _alloc: Global, ser: &mut Serializer) -> Result<(), WriteError> {
         write_record!(ser, self, PathColor0 {
-            port_color_host_1 = "port-color-host-1",
+            port_color_host_8 = "port-color-host-8",
+            group_max_group_name_8 = "x-group max group name 8",
+            limit_user_color_user = "limit-user-color-user",
+            index_name_tab = "index-name-tab",
+            rate_port = "rate-port",
+            mode_max_path = "mode-max-path",
+            level = "level",
+            key_log_8 = "key-log-8",
         })
     }
 }
@@ -186,89 +213,6 @@ impl<'de> Returns<'de> for PathColor0 {
 
 impl<'de> Root<'de> for PathColor0 {
     fn from_text(alloc: Global, text: &str) -> Result<PathColor0, Error> {
-        from_str(alloc, text)
-    }
-}
-
-/// A record.
-#[derive(Debug, Drop)]
-pub struct LevelGroup1 {
-    pub path: u8,
-    pub limit_user_color_user: String,
-    pub index_name_tab: String,
-    pub level_name_name: u16,
-    pub mode_size_mode_max: RetryCacheOf0,
-    pub name_group_tab_8: Option<String>,
-    pub key_log_8: BTreeMap<String, i32>,
-    pub host_8: u64,
-}
-
-impl RoundTrip for LevelGroup1 {
-    ghost fields = { or ⟦<u8 as Returns<'static>>⟧ "PATH" 255 (λ s. s.path)
-        (needed ⟦<String as Returns<'static>>⟧ "LIMIT-USER-COLOR-USER" (λ s. s.limit_user_color_user)
-        (or_text ⟦<String as Returns<'static>>⟧ "INDEX-NAME-TAB" "" (λ s. s.index_name_tab)
-        (needed ⟦<u16 as Returns<'static>>⟧ "LEVEL-NAME-NAME" (λ s. s.level_name_name)
-        (needed ⟦<RetryCacheOf0 as Returns<'static>>⟧ "MODE-SIZE-MODE-MAX" (λ s. s.mode_size_mode_max)
-        (maybe ⟦<String as Returns<'static>>⟧ "NAME-GROUP-TAB-8" (λ s. s.name_group_tab_8)
-        (needed ⟦<BTreeMap<String, i32> as Returns<'static>>⟧ "KEY-LOG-8" (λ s. s.key_log_8)
-        (or ⟦<u64 as Returns<'static>>⟧ "HOST-8" 0 (λ s. s.host_8)
-        done))))))) };
-}
-
-impl Record for LevelGroup1 {
-    ghost fields = { as_read ⟦<LevelGroup1 as RoundTrip>⟧.fields };
-}
-
-impl<'de> Deserialize<'de> for LevelGroup1 {
-    ghost reads = { record_reads ⟦<LevelGroup1 as Record>⟧.fields };
-
-    ghost faults = { record_faults ⟦<LevelGroup1 as Record>⟧.fields };
-
-    fn deserialize(alloc: Global, node: Node<'_, 'de>) -> Result<LevelGroup1, Error> {
-        read_record!(alloc, node, LevelGroup1 {
-            path = or("PATH", 255),
-            limit_user_color_user = needed("LIMIT-USER-COLOR-USER"),
-            index_name_tab = or_text("INDEX-NAME-TAB", ""),
-            level_name_name = needed("LEVEL-NAME-NAME"),
-            mode_size_mode_max = needed("MODE-SIZE-MODE-MAX"),
-            name_group_tab_8 = maybe("NAME-GROUP-TAB-8"),
-            key_log_8 = needed("KEY-LOG-8"),
-            host_8 = or("HOST-8", 0),
-        })
-    }
-
-    fn from_tree(alloc: Global, tree: Tree<'de>) -> Result<LevelGroup1, Error> {
-        LevelGroup1::deserialize(alloc, tree.root())
-    }
-}
-
-impl Serialize for LevelGroup1 {
-    ghost calls = { record_calls ⟦<LevelGroup1 as RoundTrip>⟧.fields };
-
-    ghost holds = { record_holds ⟦<LevelGroup1 as RoundTrip>⟧.fields };
-
-    fn serialize(&self, _alloc: Global, ser: &mut Serializer) -> Result<(), WriteError> {
-        write_record!(ser, self, LevelGroup1 {
-            path = "PATH",
-            limit_user_color_user = "LIMIT-USER-COLOR-USER",
-            index_name_tab = "INDEX-NAME-TAB",
-            level_name_name = "LEVEL-NAME-NAME",
-            mode_size_mode_max = "MODE-SIZE-MODE-MAX",
-            name_group_tab_8 = "NAME-GROUP-TAB-8",
-            key_log_8 = "KEY-LOG-8",
-            host_8 = "HOST-8",
-        })
-    }
-}
-
-impl<'de> Returns<'de> for LevelGroup1 {
-    ghost read_back = { record_back ⟦<LevelGroup1 as RoundTrip>⟧.fields (λ s. refl) };
-
-    ghost returns = { ⟦<LevelGroup1 as Returns<'static>>⟧.read_back.returns };
-}
-
-impl<'de> Root<'de> for LevelGroup1 {
-    fn from_text(alloc: Global, text: &str) -> Result<LevelGroup1, Error> {
         from_str(alloc, text)
     }
 }

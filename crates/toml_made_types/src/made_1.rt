@@ -1,6 +1,6 @@
 //! Types that were made at random.
 
-ghost use Rattle.std.specs.Prelude.{◌∷◌, [], codes, negsuc, pos, refl, true};
+ghost use Rattle.std.specs.Prelude.{◌∷◌, [], codes, false, negsuc, pos, refl, true};
 ghost use Rattle.basic_toml.specs.Records.{record_faults, record_reads};
 ghost use Rattle.basic_toml_returns.proofs.RecordsReturn.{record_back};
 ghost use Rattle.basic_toml_returns.specs.RoundTrips.{as_read, done, maybe, needed, or, record_calls, record_holds, strict};
@@ -173,51 +173,91 @@ impl<'de> Returns<'de> for HostIndexOf4 {
 /// A record.
 #[derive(Debug, Drop)]
 pub struct RetryCache3 {
-    pub name_index_mode_20: i64,
+    pub name_index_mode_40: i64,
     pub mode_max: BTreeMap<String, Float>,
     pub index_size_color: Vec<String>,
-    pub mode_color_20: i16,
-    pub level_key_cache_key_20: bool,
-    pub color_width_20: i32,
+    pub mode_color_40: i16,
+    pub level_key_cache_key_40: bool,
+    pub color_width_40: i32,
     pub max_size_limit: Option<i64>,
-    pub size_user_20: Option<u32>,
-    pub size_limit_20: Option<String>,
-    pub max_20: Vec<i64>,
-    pub color_max_mode_index_20: Vec<String>,
+    pub size_user_40: Option<u32>,
+    pub size_limit_40: Option<String>,
+    pub max_40: Vec<i64>,
+    pub color_max_mode_index_40: Vec<String>,
     pub port_user_rate_path: Option<Vec<u16>>,
-    pub cache_width_20: i16,
-    pub retry_20: i32,
+    pub cache_width_40: i16,
+    pub retry_40: i32,
     pub group: Option<u64>,
-    pub group_cache_20: Vec<String>,
-    pub color_max_name_port_20: BTreeMap<String, i64>,
-    pub key_group_group_20: i8,
+    pub group_cache_40: Vec<String>,
+    pub color_max_name_port_40: BTreeMap<String, i64>,
+    pub key_group_group_40: i8,
     pub width_color: Option<Vec<u32>>,
     pub group_limit: Option<Float>,
+    pub key_user_width: i32,
+    pub tab: i32,
+    pub index_40: BTreeMap<String, i8>,
+    pub color_size_level_40: Option<i8>,
+    pub retry_group_retry_name_40: u32,
+    pub key_size_log_color_40: Option<i8>,
+    pub name_width_group_max_40: Option<Vec<u16>>,
+    pub max_group_limit: Option<bool>,
+    pub name_size_color_name: i16,
+    pub mode: BTreeMap<String, i64>,
+    pub log_user_40: Vec<i64>,
+    pub cache_color_size_color_40: bool,
+    pub width_host_port_key: BTreeMap<String, Vec<bool>>,
+    pub tab_name_40: BTreeMap<String, Vec<i16>>,
+    pub max_group_40: u8,
+    pub max_port_name: Option<String>,
+    pub user_user_color_40: String,
+    pub log_rate_size_cache_40: bool,
+    pub color_port: i32,
+    pub log_group_index_rate: Option<u8>,
 }
 
 impl RoundTrip for RetryCache3 {
     ghost fields = { strict
-        (or ⟦<i64 as Returns<'static>>⟧ "NameIndexMode20" (negsuc 9223372036854775807) (λ s. s.name_index_mode_20)
+        (or ⟦<i64 as Returns<'static>>⟧ "NameIndexMode40" (negsuc 9223372036854775807) (λ s. s.name_index_mode_40)
         (needed ⟦<BTreeMap<String, Float> as Returns<'static>>⟧ "ModeMax" (λ s. s.mode_max)
         (needed ⟦<Vec<String> as Returns<'static>>⟧ "IndexSizeColor" (λ s. s.index_size_color)
-        (needed ⟦<i16 as Returns<'static>>⟧ "ModeColor20" (λ s. s.mode_color_20)
-        (or ⟦<bool as Returns<'static>>⟧ "LevelKeyCacheKey20" true (λ s. s.level_key_cache_key_20)
-        (or ⟦<i32 as Returns<'static>>⟧ "ColorWidth20" (pos 0) (λ s. s.color_width_20)
+        (needed ⟦<i16 as Returns<'static>>⟧ "ModeColor40" (λ s. s.mode_color_40)
+        (or ⟦<bool as Returns<'static>>⟧ "LevelKeyCacheKey40" true (λ s. s.level_key_cache_key_40)
+        (or ⟦<i32 as Returns<'static>>⟧ "ColorWidth40" (pos 0) (λ s. s.color_width_40)
         (maybe ⟦<i64 as Returns<'static>>⟧ "MaxSizeLimit" (λ s. s.max_size_limit)
-        (maybe ⟦<u32 as Returns<'static>>⟧ "SizeUser20" (λ s. s.size_user_20)
-        (maybe ⟦<String as Returns<'static>>⟧ "SizeLimit20" (λ s. s.size_limit_20)
-        (needed ⟦<Vec<i64> as Returns<'static>>⟧ "Max20" (λ s. s.max_20)
-        (needed ⟦<Vec<String> as Returns<'static>>⟧ "ColorMaxModeIndex20" (λ s. s.color_max_mode_index_20)
+        (maybe ⟦<u32 as Returns<'static>>⟧ "SizeUser40" (λ s. s.size_user_40)
+        (maybe ⟦<String as Returns<'static>>⟧ "SizeLimit40" (λ s. s.size_limit_40)
+        (needed ⟦<Vec<i64> as Returns<'static>>⟧ "Max40" (λ s. s.max_40)
+        (needed ⟦<Vec<String> as Returns<'static>>⟧ "ColorMaxModeIndex40" (λ s. s.color_max_mode_index_40)
         (maybe ⟦<Vec<u16> as Returns<'static>>⟧ "PortUserRatePath" (λ s. s.port_user_rate_path)
-        (or ⟦<i16 as Returns<'static>>⟧ "CacheWidth20" (negsuc 32767) (λ s. s.cache_width_20)
-        (or ⟦<i32 as Returns<'static>>⟧ "Retry20" (pos 2147483647) (λ s. s.retry_20)
+        (or ⟦<i16 as Returns<'static>>⟧ "CacheWidth40" (negsuc 32767) (λ s. s.cache_width_40)
+        (or ⟦<i32 as Returns<'static>>⟧ "Retry40" (pos 2147483647) (λ s. s.retry_40)
         (maybe ⟦<u64 as Returns<'static>>⟧ "Group" (λ s. s.group)
-        (needed ⟦<Vec<String> as Returns<'static>>⟧ "GroupCache20" (λ s. s.group_cache_20)
-        (needed ⟦<BTreeMap<String, i64> as Returns<'static>>⟧ "ColorMaxNamePort20" (λ s. s.color_max_name_port_20)
-        (needed ⟦<i8 as Returns<'static>>⟧ "KeyGroupGroup20" (λ s. s.key_group_group_20)
+        (needed ⟦<Vec<String> as Returns<'static>>⟧ "GroupCache40" (λ s. s.group_cache_40)
+        (needed ⟦<BTreeMap<String, i64> as Returns<'static>>⟧ "ColorMaxNamePort40" (λ s. s.color_max_name_port_40)
+        (needed ⟦<i8 as Returns<'static>>⟧ "KeyGroupGroup40" (λ s. s.key_group_group_40)
         (maybe ⟦<Vec<u32> as Returns<'static>>⟧ "WidthColor" (λ s. s.width_color)
         (maybe ⟦<Float as Returns<'static>>⟧ "GroupLimit" (λ s. s.group_limit)
-        done)))))))))))))))))))) };
+        (needed ⟦<i32 as Returns<'static>>⟧ "KeyUserWidth" (λ s. s.key_user_width)
+        (or ⟦<i32 as Returns<'static>>⟧ "Tab" (negsuc 2147483647) (λ s. s.tab)
+        (needed ⟦<BTreeMap<String, i8> as Returns<'static>>⟧ "Index40" (λ s. s.index_40)
+        (maybe ⟦<i8 as Returns<'static>>⟧ "color.size.level.40" (λ s. s.color_size_level_40)
+        (needed ⟦<u32 as Returns<'static>>⟧ "the retry.group.retry.name.40" (λ s. s.retry_group_retry_name_40)
+        (maybe ⟦<i8 as Returns<'static>>⟧ "KeySizeLogColor40" (λ s. s.key_size_log_color_40)
+        (maybe ⟦<Vec<u16> as Returns<'static>>⟧ "NameWidthGroupMax40" (λ s. s.name_width_group_max_40)
+        (maybe ⟦<bool as Returns<'static>>⟧ "MaxGroupLimit" (λ s. s.max_group_limit)
+        (or ⟦<i16 as Returns<'static>>⟧ "NameSizeColorName" (pos 0) (λ s. s.name_size_color_name)
+        (needed ⟦<BTreeMap<String, i64> as Returns<'static>>⟧ "Mode" (λ s. s.mode)
+        (needed ⟦<Vec<i64> as Returns<'static>>⟧ "LogUser40" (λ s. s.log_user_40)
+        (or ⟦<bool as Returns<'static>>⟧ "CacheColorSizeColor40" true (λ s. s.cache_color_size_color_40)
+        (needed ⟦<BTreeMap<String, Vec<bool>> as Returns<'static>>⟧ "WidthHostPortKey" (λ s. s.width_host_port_key)
+        (needed ⟦<BTreeMap<String, Vec<i16>> as Returns<'static>>⟧ "TabName40" (λ s. s.tab_name_40)
+        (needed ⟦<u8 as Returns<'static>>⟧ "MaxGroup40" (λ s. s.max_group_40)
+        (maybe ⟦<String as Returns<'static>>⟧ "MaxPortName" (λ s. s.max_port_name)
+        (needed ⟦<String as Returns<'static>>⟧ "the user.user.color.40" (λ s. s.user_user_color_40)
+        (or ⟦<bool as Returns<'static>>⟧ "LogRateSizeCache40" false (λ s. s.log_rate_size_cache_40)
+        (needed ⟦<i32 as Returns<'static>>⟧ "ColorPort" (λ s. s.color_port)
+        (maybe ⟦<u8 as Returns<'static>>⟧ "LogGroupIndexRate" (λ s. s.log_group_index_rate)
+        done)))))))))))))))))))))))))))))))))))))))) };
 }
 
 impl Record for RetryCache3 {
@@ -231,26 +271,46 @@ impl<'de> Deserialize<'de> for RetryCache3 {
 
     fn deserialize(alloc: Global, node: Node<'_, 'de>) -> Result<RetryCache3, Error> {
         read_record!(alloc, node, only RetryCache3 {
-            name_index_mode_20 = or("NameIndexMode20", -9223372036854775808),
+            name_index_mode_40 = or("NameIndexMode40", -9223372036854775808),
             mode_max = needed("ModeMax"),
             index_size_color = needed("IndexSizeColor"),
-            mode_color_20 = needed("ModeColor20"),
-            level_key_cache_key_20 = or("LevelKeyCacheKey20", true),
-            color_width_20 = or("ColorWidth20", 0),
+            mode_color_40 = needed("ModeColor40"),
+            level_key_cache_key_40 = or("LevelKeyCacheKey40", true),
+            color_width_40 = or("ColorWidth40", 0),
             max_size_limit = maybe("MaxSizeLimit"),
-            size_user_20 = maybe("SizeUser20"),
-            size_limit_20 = maybe("SizeLimit20"),
-            max_20 = needed("Max20"),
-            color_max_mode_index_20 = needed("ColorMaxModeIndex20"),
+            size_user_40 = maybe("SizeUser40"),
+            size_limit_40 = maybe("SizeLimit40"),
+            max_40 = needed("Max40"),
+            color_max_mode_index_40 = needed("ColorMaxModeIndex40"),
             port_user_rate_path = maybe("PortUserRatePath"),
-            cache_width_20 = or("CacheWidth20", -32768),
-            retry_20 = or("Retry20", 2147483647),
+            cache_width_40 = or("CacheWidth40", -32768),
+            retry_40 = or("Retry40", 2147483647),
             group = maybe("Group"),
-            group_cache_20 = needed("GroupCache20"),
-            color_max_name_port_20 = needed("ColorMaxNamePort20"),
-            key_group_group_20 = needed("KeyGroupGroup20"),
+            group_cache_40 = needed("GroupCache40"),
+            color_max_name_port_40 = needed("ColorMaxNamePort40"),
+            key_group_group_40 = needed("KeyGroupGroup40"),
             width_color = maybe("WidthColor"),
             group_limit = maybe("GroupLimit"),
+            key_user_width = needed("KeyUserWidth"),
+            tab = or("Tab", -2147483648),
+            index_40 = needed("Index40"),
+            color_size_level_40 = maybe("color.size.level.40"),
+            retry_group_retry_name_40 = needed("the retry.group.retry.name.40"),
+            key_size_log_color_40 = maybe("KeySizeLogColor40"),
+            name_width_group_max_40 = maybe("NameWidthGroupMax40"),
+            max_group_limit = maybe("MaxGroupLimit"),
+            name_size_color_name = or("NameSizeColorName", 0),
+            mode = needed("Mode"),
+            log_user_40 = needed("LogUser40"),
+            cache_color_size_color_40 = or("CacheColorSizeColor40", true),
+            width_host_port_key = needed("WidthHostPortKey"),
+            tab_name_40 = needed("TabName40"),
+            max_group_40 = needed("MaxGroup40"),
+            max_port_name = maybe("MaxPortName"),
+            user_user_color_40 = needed("the user.user.color.40"),
+            log_rate_size_cache_40 = or("LogRateSizeCache40", false),
+            color_port = needed("ColorPort"),
+            log_group_index_rate = maybe("LogGroupIndexRate"),
         })
     }
 
@@ -266,26 +326,46 @@ impl Serialize for RetryCache3 {
 
     fn serialize(&self, _alloc: Global, ser: &mut Serializer) -> Result<(), WriteError> {
         write_record!(ser, self, RetryCache3 {
-            name_index_mode_20 = "NameIndexMode20",
+            name_index_mode_40 = "NameIndexMode40",
             mode_max = "ModeMax",
             index_size_color = "IndexSizeColor",
-            mode_color_20 = "ModeColor20",
-            level_key_cache_key_20 = "LevelKeyCacheKey20",
-            color_width_20 = "ColorWidth20",
+            mode_color_40 = "ModeColor40",
+            level_key_cache_key_40 = "LevelKeyCacheKey40",
+            color_width_40 = "ColorWidth40",
             max_size_limit = "MaxSizeLimit",
-            size_user_20 = "SizeUser20",
-            size_limit_20 = "SizeLimit20",
-            max_20 = "Max20",
-            color_max_mode_index_20 = "ColorMaxModeIndex20",
+            size_user_40 = "SizeUser40",
+            size_limit_40 = "SizeLimit40",
+            max_40 = "Max40",
+            color_max_mode_index_40 = "ColorMaxModeIndex40",
             port_user_rate_path = "PortUserRatePath",
-            cache_width_20 = "CacheWidth20",
-            retry_20 = "Retry20",
+            cache_width_40 = "CacheWidth40",
+            retry_40 = "Retry40",
             group = "Group",
-            group_cache_20 = "GroupCache20",
-            color_max_name_port_20 = "ColorMaxNamePort20",
-            key_group_group_20 = "KeyGroupGroup20",
+            group_cache_40 = "GroupCache40",
+            color_max_name_port_40 = "ColorMaxNamePort40",
+            key_group_group_40 = "KeyGroupGroup40",
             width_color = "WidthColor",
             group_limit = "GroupLimit",
+            key_user_width = "KeyUserWidth",
+            tab = "Tab",
+            index_40 = "Index40",
+            color_size_level_40 = "color.size.level.40",
+            retry_group_retry_name_40 = "the retry.group.retry.name.40",
+            key_size_log_color_40 = "KeySizeLogColor40",
+            name_width_group_max_40 = "NameWidthGroupMax40",
+            max_group_limit = "MaxGroupLimit",
+            name_size_color_name = "NameSizeColorName",
+            mode = "Mode",
+            log_user_40 = "LogUser40",
+            cache_color_size_color_40 = "CacheColorSizeColor40",
+            width_host_port_key = "WidthHostPortKey",
+            tab_name_40 = "TabName40",
+            max_group_40 = "MaxGroup40",
+            max_port_name = "MaxPortName",
+            user_user_color_40 = "the user.user.color.40",
+            log_rate_size_cache_40 = "LogRateSizeCache40",
+            color_port = "ColorPort",
+            log_group_index_rate = "LogGroupIndexRate",
         })
     }
 }
