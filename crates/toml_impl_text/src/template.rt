@@ -11,20 +11,22 @@ pub fn push_filled(
     made: &[(&str, String)],
 ) -> Result<(), AllocError> {
     for piece in template.split('$') {
-        text.push_str(part_of(piece, own, made))?;
+        text.push_str(part_of(piece, &*own, &*made).unwrap_or(piece))?;
     }
     Ok(())
 }
 
-// The part that a piece of a template stands for, or the piece itself.
-fn part_of<'p>(piece: &'p str, own: &[(&str, &'p str)], made: &'p [(&str, String)]) -> &'p str {
+// The part that a word of a template stands for; `None` where it is no such word.
+fn part_of<'p>(
+    piece: &str,
+    own: &'p [(&str, &str)],
+    made: &'p [(&str, String)],
+) -> Option<&'p str> {
     if let Some((_, part)) = own.iter().find(|(word, _)| *word == piece) {
-        return part;
+        return Some(part);
     }
-    match made.iter().find(|(word, _)| *word == piece) {
-        Some((_, part)) => part.as_str(),
-        None => piece,
-    }
+    let (_, part) = made.iter().find(|(word, _)| *word == piece)?;
+    Some(part.as_str())
 }
 
 /// A template with the parts in place of their words.
