@@ -1,6 +1,7 @@
 pub mod RowsGoOn
 pub mod RowsLeft
 pub mod StepsLeft
+pub mod StandsBefore
 pub mod WaysMeet
 pub mod SectionsMeet
 pub mod SectionsTell

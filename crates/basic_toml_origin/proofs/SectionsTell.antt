@@ -1,7 +1,7 @@
 -- What sections say of a path, one after another.
 use Rattle.std.proofs.Common.{◌≡◌, ℕ, zero, suc, ◌+◌, ◌≤◌, ◌<◌, Bool, true, false, List, [], ◌∷◌, Option, Some, None, refl}
 use Rattle.std.proofs.Common.{ap, sym, ◌∙◌, subst, arith, length, drop, get_or, map, replicate, set}
-use Rattle.std.proofs.lemmas.List.{drop_all, drop_more}
+use Rattle.std.proofs.lemmas.List.{drop_more}
 use Rattle.std.specs.Prelude.{if◌then◌else◌}
 use Rattle.std.specs.Option.{option_or, option_and_then}
 use Rattle.basic_toml_grammar.specs.Sections.{KeyTexts, Section}
@@ -9,18 +9,16 @@ use Rattle.basic_toml_grammar.specs.Steps.{Path}
 use Rattle.basic_toml_grammar.specs.IndexedPath.{Located, located, located_after, located_from}
 use Rattle.basic_toml_grammar.proofs.Clash.PathsAgree.{count_in}
 use Rattle.basic_toml_read.specs.declared.section.Section as code
-use Rattle.basic_toml_read.specs.SectionView.{header_texts, section_of}
+use Rattle.basic_toml_read.specs.SectionView.{header_texts, key_of, section_of}
+use Rattle.basic_toml_origin.specs.Before.{ends_up_to, rows_up_to, up_to}
 use Rattle.basic_toml_origin.specs.declared.origin.Origin.{Origin}
 use Rattle.basic_toml_origin.specs.declared.ways.Meeting.{Meeting}
 use Rattle.basic_toml_origin.specs.declared.ways.Meeting.TheVariants.{Apart, Passes, Reaches}
 use Rattle.basic_toml_origin.specs.Origin.{by_header, by_name, by_rows, by_way, first, in_rows, origin_at}
 use Rattle.basic_toml_origin.specs.Ways.{compared, counts_behind, is_on_way, is_whole, left_in, meets, met, one_more, FitsIn}
+use Rattle.basic_toml_origin.proofs.StandsBefore.{one_before}
 use Rattle.basic_toml_origin.proofs.WaysMeet.{Counted, begins_is, behind_is, left_within, same_is}
 use Rattle.basic_toml_origin.proofs.SectionsMeet.{section_counted, section_met}
-
-or_none : (o : Option Origin) → option_or o None ≡ o
-or_none None = refl
-or_none (Some x) = refl
 
 or_more : (a b c : Option Origin) → option_or a (option_or b c) ≡ option_or (option_or a b) c
 or_more None b c = refl
@@ -74,12 +72,12 @@ same_count counts new true (k ∷ keys) p e = ap length e ∙ go (meets counts t
     go Passes = refl
     go (Reaches left) = sets counts left (suc (get_or counts left 0))
 
-module _ (sections : List code.Section) (p : Path) where
+module _ (end : Option ℕ) (sections : List code.Section) (p : Path) where
   abbrev all : List Located
-  all = located (map section_of sections)
+  all = located (up_to end (map section_of sections))
 
   abbrev from : List Section → ℕ → List Located
-  from earlier i = located_from earlier (map section_of (drop i sections))
+  from earlier i = located_from earlier (up_to end (map section_of (drop i sections)))
 
   -- before the section of a number: what those before it say, and what is left to the others
   pub record Going (i : ℕ) (row way : Option Origin) (counts : List ℕ) : Type 0 where
@@ -102,32 +100,25 @@ module _ (sections : List code.Section) (p : Path) where
     small = λ j. let none : get_or counts j 0 ≡ 0 = ap (λ c. get_or c j 0) e ∙ zeros_within n j in omega (arith, none);
   }
 
-  pub ended : (i : ℕ) (row way : Option Origin) (counts : List ℕ) → length sections ≤ i → Going i row way counts
-      → option_or row way ≡ origin_at (map section_of sections) p
-  ended i row way counts passed g =
-      let none : from g.earlier i ≡ [] =
-      ap (λ (ss : List code.Section). located_from g.earlier (map section_of ss)) (drop_all i sections passed) in
-      let names : first (by_name p) all ≡ None = g.names ∙ ap (first (by_name p)) none in
-      let rows : first (by_rows p) all ≡ row =
-      g.rows ∙ ap (λ ls. option_or row (first (by_rows p) ls)) none ∙ or_none row in
-      let ways : first (by_way p) all ≡ way =
-      g.ways ∙ ap (λ ls. option_or way (first (by_way p) ls)) none ∙ or_none way in
-      sym (ap (λ o. option_or o (option_or (first (by_rows p) all) (first (by_way p) all))) names
-      ∙ ap (λ o. option_or o (first (by_way p) all)) rows ∙ ap (option_or row) ways)
-
   module _ (i : ℕ) (row way : Option Origin) (counts : List ℕ) (s : code.Section) (m : Meeting)
       (g : Going i row way counts) (within : i < length sections) (is : s ≡ get_or sections i s)
+      (before : ends_up_to end (map key_of s.header.items) ≡ true)
       (m-is : m ≡ met counts s.is_array (header_texts s.header.items) p) where
-    abbrev here : Located
-    here = located_after g.earlier (section_of s)
+    -- what stands of the section
+    abbrev seen : Section
+    seen = record (section_of s) { rows = rows_up_to end (section_of s).rows }
 
-    next : from g.earlier i ≡ here ∷ from (section_of s ∷ g.earlier) (i + 1)
+    abbrev here : Located
+    here = located_after g.earlier seen
+
+    next : from g.earlier i ≡ here ∷ from (seen ∷ g.earlier) (i + 1)
     next =
-        ap (λ (ss : List code.Section). located_from g.earlier (map section_of ss)) (drop_more sections i s within)
-        ∙ ap (λ (x : code.Section). located_from g.earlier (map section_of (x ∷ drop (i + 1) sections))) (sym is)
+        ap (λ (ss : List code.Section). located_from g.earlier (up_to end (map section_of ss)))
+        (drop_more sections i s within ∙ ap (λ (x : code.Section). x ∷ drop (i + 1) sections) (sym is))
+        ∙ ap (located_from g.earlier) (one_before end (section_of s) (map section_of (drop (i + 1) sections)) before)
 
     meeting : m ≡ compared here.path p
-    meeting = m-is ∙ section_met g.earlier (section_of s) counts p g.counted
+    meeting = m-is ∙ section_met g.earlier seen counts p g.counted
 
     pub fits : FitsIn p m
     fits left e = left_within here.path p left (sym meeting ∙ e)
@@ -137,33 +128,33 @@ module _ (sections : List code.Section) (p : Path) where
         ap (λ b. if b then Some (by_header (section_of s) p) else None)
         (same_is here.path p ∙ ap is_whole (sym meeting))
 
-    led : by_rows p here ≡ option_and_then (in_rows (section_of s).rows) (left_in p m)
-    led =
-        ap (option_and_then (in_rows (section_of s).rows)) (behind_is here.path p ∙ ap (left_in p) (sym meeting))
+    led : by_rows p here ≡ option_and_then (in_rows seen.rows) (left_in p m)
+    led = ap (option_and_then (in_rows seen.rows)) (behind_is here.path p ∙ ap (left_in p) (sym meeting))
 
     passed : by_way p here ≡ (if is_on_way m then Some (by_header (section_of s) p) else None)
     passed =
         ap (λ b. if b then Some (by_header (section_of s) p) else None)
         (begins_is here.path p ∙ ap is_on_way (sym meeting))
 
-    pub found : is_whole m ≡ true → Some (by_header (section_of s) p) ≡ origin_at (map section_of sections) p
+    pub found : is_whole m ≡ true
+        → Some (by_header (section_of s) p) ≡ origin_at (up_to end (map section_of sections)) p
     found e =
         let names : first (by_name p) all ≡ Some (by_header (section_of s) p) =
         g.names ∙ ap (first (by_name p)) next
-        ∙ ap (λ o. option_or o (first (by_name p) (from (section_of s ∷ g.earlier) (i + 1))))
+        ∙ ap (λ o. option_or o (first (by_name p) (from (seen ∷ g.earlier) (i + 1))))
         (named ∙ ap (λ b. if b then Some (by_header (section_of s) p) else None) e) in
         sym (ap (λ o. option_or o (option_or (first (by_rows p) all) (first (by_way p) all))) names)
 
     pub on : (row-here way-here row-next way-next : Option Origin) (counts-behind : List ℕ) → is_whole m ≡ false
-        → row-here ≡ option_and_then (in_rows (section_of s).rows) (left_in p m)
+        → row-here ≡ option_and_then (in_rows seen.rows) (left_in p m)
         → way-here ≡ (if is_on_way m then Some (by_header (section_of s) p) else None)
         → counts-behind ≡ counts_behind counts s.is_array (header_texts s.header.items) p
         → row-next ≡ option_or row row-here → way-next ≡ option_or way way-here
         → Going (i + 1) row-next way-next counts-behind
     on row-here way-here row-next way-next counts-behind none row-is way-is counts-are row-more way-more =
-        let later : List Located = from (section_of s ∷ g.earlier) (i + 1) in
+        let later : List Located = from (seen ∷ g.earlier) (i + 1) in
         record {
-          earlier = section_of s ∷ g.earlier;
+          earlier = seen ∷ g.earlier;
           names =
               g.names ∙ ap (first (by_name p)) next
               ∙ ap (λ o. option_or o (first (by_name p) later))
@@ -180,7 +171,7 @@ module _ (sections : List code.Section) (p : Path) where
               ∙ ap (λ o. option_or o (first (by_way p) later)) (sym way-more);
           counted = λ t q r e.
               ap (λ c. get_or c (length r) 0) counts-are
-              ∙ section_counted g.earlier (section_of s) counts p g.counted g.room t q r e;
+              ∙ section_counted g.earlier seen counts p g.counted g.room t q r e;
           room =
               omega (arith, g.room, same_count counts counts-behind s.is_array (header_texts s.header.items) p counts-are);
           small = λ n.

@@ -5,10 +5,14 @@ use Rattle.basic_toml_grammar.specs.Steps.{key, number, Path}
 use Rattle.basic_toml_grammar.specs.Entering.{and_then}
 use Rattle.basic_toml_grammar.specs.Reader.{sections_of_bytes}
 use Rattle.basic_toml_origin.specs.declared.origin.Origin.{Origin}
+use Rattle.basic_toml_origin.specs.Before.{sections_before}
 use Rattle.basic_toml_origin.specs.Origin.{origin_at}
 
 abbrev origin : List ℕ → Path → Option Origin
 origin bytes p = and_then (sections_of_bytes bytes) (λ sections. origin_at sections p)
+
+abbrev before : ℕ → List ℕ → Path → Option Origin
+before offset bytes p = and_then (sections_of_bytes bytes) (λ sections. origin_at (sections_before offset sections) p)
 
 abbrev at : ℕ → Option ℕ → Option Origin
 at offset k = Some (record { at = offset; key = k })
@@ -89,3 +93,26 @@ in_its_array : origin (codes "x = {y.z = [1, 2]}") (key (codes "x") ∷ key (cod
     ≡ at 15 None
 unfolding chars lib.Utf8.encode
 in_its_array = refl
+
+-- before the key of the header that names it
+before_a_header : before 7 (codes "[a.b]\n[a]\n") (key (codes "a") ∷ []) ≡ at 0 (Some 1)
+unfolding chars lib.Utf8.encode
+before_a_header = refl
+
+behind_a_header : before 8 (codes "[a.b]\n[a]\n") (key (codes "a") ∷ []) ≡ at 6 (Some 7)
+unfolding chars lib.Utf8.encode
+behind_a_header = refl
+
+-- before the value of a row
+before_a_row : before 10 (codes "a = 1\nb = 2\n") (key (codes "b") ∷ []) ≡ None
+unfolding chars lib.Utf8.encode
+before_a_row = refl
+
+behind_a_row : before 11 (codes "a = 1\nb = 2\n") (key (codes "b") ∷ []) ≡ at 10 (Some 6)
+unfolding chars lib.Utf8.encode
+behind_a_row = refl
+
+-- each element counts those before it alone
+before_an_element : before 8 (codes "[[a]]\n[[a]]\n") (key (codes "a") ∷ number 1 ∷ []) ≡ None
+unfolding chars lib.Utf8.encode
+before_an_element = refl

@@ -1,4 +1,5 @@
 pub mod Crossing
+pub mod Before
 pub mod Origin
 pub mod Path
 pub mod Parts

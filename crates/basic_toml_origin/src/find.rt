@@ -2,10 +2,12 @@
 ghost use Rattle.std.specs.Prelude.{◌≡◌, ◌≤◌, ◌<◌, ℕ, IfOk, Some, None, length, get_or, map, replicate, if◌then◌else◌};
 ghost use Rattle.std.specs.Option.{option_and_then};
 ghost use Rattle.basic_toml_read.specs.SectionView.{header_texts, key_of, section_of};
+ghost use Rattle.basic_toml_origin.specs.Before.{rows_up_to, sections_before, up_to};
 ghost use Rattle.basic_toml_origin.specs.Origin.{by_header, in_rows, last_key, origin_at};
 ghost use Rattle.basic_toml_origin.specs.Path.{path_of};
 ghost use Rattle.basic_toml_origin.specs.Ways.{met, counts_behind, is_whole, is_on_way, left_in, FitsIn};
 
+use crate::before::{ends_up_to, rows_up_to};
 use crate::origin::Origin;
 use crate::step::Step;
 use crate::values::in_rows;
@@ -27,15 +29,49 @@ pub fn origin_at(
 ) -> Result<Option<Origin>, AllocError>
     ensures { IfOk result (λ origin. origin ≡ origin_at (map section_of sections.now) (path_of path.now)) }
 {
+    find_origin(alloc, sections, None, path)
+}
+
+/// Where what a path of a document leads to is written, as [`origin_at`] finds it, but among what stands before an
+/// offset alone: the sections whose header ends before it, and of those the rows whose value begins before it.
+/// `None` where it leads nowhere there.
+///
+/// # Errors
+///
+/// `AllocError` where memory was refused.
+pub fn origin_before(
+    alloc: Global,
+    sections: &[Section<'_>],
+    offset: usize,
+    path: &[Step<'_>],
+) -> Result<Option<Origin>, AllocError>
+    ensures { IfOk result (λ origin. origin ≡ origin_at (sections_before offset (map section_of sections.now))
+        (path_of path.now)) }
+{
+    find_origin(alloc, sections, Some(offset), path)
+}
+
+// The same among what stands before an offset, or all of it where none is given.
+fn find_origin(
+    alloc: Global,
+    sections: &[Section<'_>],
+    end: Option<usize>,
+    path: &[Step<'_>],
+) -> Result<Option<Origin>, AllocError>
+    ensures { IfOk result (λ origin. origin ≡ origin_at (up_to end (map section_of sections.now)) (path_of path.now)) }
+{
     let mut counts = zeros(alloc, path.len())?;
     let mut row = None;
     let mut way = None;
     for section in sections {
+        if !ends_up_to(end, section) {
+            break;
+        }
         let met = enter(section, path, &mut counts);
         if is_whole(met) {
             return Ok(Some(by_header(section, path)));
         }
-        row = row.or(by_rows(section, path, met));
+        row = row.or(by_rows(section, end, path, met));
         way = way.or(by_way(section, path, met));
     }
     Ok(row.or(way))
@@ -79,18 +115,23 @@ fn is_whole(met: Meeting) -> bool
     matches!(met, Meeting::Reaches(0))
 }
 
-// By the rows of a section.
-fn by_rows(section: &Section<'_>, path: &[Step<'_>], met: Meeting) -> Option<Origin>
+// By the rows of a section before an offset, or by all of them where none is given.
+fn by_rows(
+    section: &Section<'_>,
+    end: Option<usize>,
+    path: &[Step<'_>],
+    met: Meeting,
+) -> Option<Origin>
     requires { FitsIn (path_of path.now) met }
-    ensures { result ≡ option_and_then (in_rows (section_of section.now).rows) (left_in (path_of path.now) met) }
+    ensures { result ≡ option_and_then (in_rows (rows_up_to end (section_of section.now).rows))
+        (left_in (path_of path.now) met) }
 {
     let Meeting::Reaches(left) = met else {
         return None;
     };
-    let rows = &section.rows;
     in_rows(
-        rows.parents.as_slice(),
-        rows.rows.as_slice(),
+        section.rows.parents.as_slice(),
+        rows_up_to(end, &section.rows),
         &path[path.len() - left..],
     )
 }
