@@ -10,4 +10,5 @@ pub mod ElementsCounted
 pub mod KeysFollow
 pub mod KeysGoOn
 pub mod WorkedCrossings
+pub mod PathsPushed
 pub mod WorkedOrigins

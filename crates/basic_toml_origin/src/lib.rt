@@ -10,6 +10,7 @@ mod find;
 mod indexed_path;
 mod origin;
 mod step;
+mod value_path;
 mod values;
 mod ways;
 
