@@ -1,10 +1,12 @@
 -- The offsets of the values of a section list, in the order of the text, each before those within it. It is where a
 -- value begins; a float with a fraction has the offset of the character after its period. And the path to the value
--- that begins at an offset, own: the first such, of which there is one.
-use Rattle.std.specs.Prelude.{ℕ, zero, suc, ◌==◌, if◌then◌else◌, List, [], ◌∷◌, ◌++◌, length, Option, Some, None}
-use Rattle.std.specs.Prelude.{option_map}
+-- that begins at an offset, own: the first such, of which there is one. It is found by a test of the rows, in place of
+-- which another finds what a key leads to.
+use Rattle.std.specs.Prelude.{ℕ, zero, suc, ◌==◌, if◌then◌else◌, List, [], ◌∷◌, ◌++◌, length, take, Option, Some}
+use Rattle.std.specs.Prelude.{None, option_map}
 use Rattle.std.specs.Option.{option_or}
-use Rattle.basic_toml_grammar.specs.Sections.{texts, Raw, Elements, no_elements, element, Rows, no_rows, row, Section}
+use Rattle.basic_toml_grammar.specs.Sections.{Key, texts, Raw, Elements, no_elements, element, Rows, no_rows, row}
+use Rattle.basic_toml_grammar.specs.Sections.{Section}
 use Rattle.basic_toml_grammar.specs.Steps.{key, number, Path, steps_of, keys_of}
 use Rattle.basic_toml_grammar.specs.IndexedPath.{Located, located}
 
@@ -27,36 +29,59 @@ abbrev pub value_offsets : List Section → List ℕ
 value_offsets [] = []
 value_offsets (s ∷ sections) = row_offsets s.rows ++ value_offsets sections
 
--- no step for a value that begins at `at`, else the path within it
-abbrev pub here_or : ℕ → ℕ → Option Path → Option Path
-here_or o at within = if o == at then Some [] else within
+-- A test of a row, by its keys and the offset of its value: how many of the keys lead to what is looked for, if this is
+-- the value or what a key leads to. An element of an array has no keys.
+abbrev pub Test : Type 0
+Test = List Key → ℕ → Option ℕ
 
--- The path to the value that begins at an offset: within a value, in elements of which the first has this number, and
--- in rows.
+-- the value that begins at an offset
+abbrev pub keys_to_value : ℕ → Test
+keys_to_value o keys at = if o == at then Some (length keys) else None
+
+-- the number of the key that begins at an offset, counted from 1
+abbrev pub key_number : ℕ → List Key → Option ℕ
+key_number o [] = None
+key_number o (k ∷ keys) = if o == k.offset then Some 1 else option_map suc (key_number o keys)
+
+-- what that key leads to
+abbrev pub keys_to_key : ℕ → Test
+keys_to_key o keys at = key_number o keys
+
+-- the path to it by a row: along so many of its keys, else along all of them to what is within the value
+abbrev pub here_or : Test → List Key → ℕ → Option Path → Option Path
+here_or test keys at within =
+    let steps = steps_of (texts keys) in
+    option_or (option_map (λ n. take n steps) (test keys at)) (option_map (λ p. steps ++ p) within)
+
+-- The path to the first such: within a value, in elements of which the first has this number, and in rows.
 abbrev mutual
-  pub path_within : ℕ → Raw → Option Path
-  path_within o (Raw.array elements) = path_among o 0 elements
-  path_within o (Raw.inline rows) = path_by o rows
-  path_within o _ = None
+  pub path_within : Test → Raw → Option Path
+  path_within test (Raw.array elements) = path_among test 0 elements
+  path_within test (Raw.inline rows) = path_by test rows
+  path_within test _ = None
 
-  pub path_among : ℕ → ℕ → Elements → Option Path
-  path_among o n no_elements = None
-  path_among o n (element at v elements) =
-      option_or (option_map (λ p. number n ∷ p) (here_or o at (path_within o v))) (path_among o (suc n) elements)
+  pub path_among : Test → ℕ → Elements → Option Path
+  path_among test n no_elements = None
+  path_among test n (element at v elements) =
+      option_or (option_map (λ p. number n ∷ p) (here_or test [] at (path_within test v)))
+      (path_among test (suc n) elements)
 
-  pub path_by : ℕ → Rows → Option Path
-  path_by o no_rows = None
-  path_by o (row keys at v rows) =
-      option_or (option_map (λ p. steps_of (texts keys) ++ p) (here_or o at (path_within o v))) (path_by o rows)
+  pub path_by : Test → Rows → Option Path
+  path_by test no_rows = None
+  path_by test (row keys at v rows) = option_or (here_or test keys at (path_within test v)) (path_by test rows)
 
--- in the rows of these sections
-abbrev pub path_from : ℕ → List Located → Option Path
-path_from o [] = None
-path_from o (l ∷ ls) = option_or (option_map (λ p. l.path ++ p) (path_by o l.section.rows)) (path_from o ls)
+-- in the rows of a section
+abbrev pub path_in : Test → Located → Option Path
+path_in test l = option_map (λ p. l.path ++ p) (path_by test l.section.rows)
+
+-- by the first of these sections that leads there
+abbrev pub first_path : (Located → Option Path) → List Located → Option Path
+first_path f [] = None
+first_path f (l ∷ ls) = option_or (f l) (first_path f ls)
 
 -- the path to the value of the document that begins at an offset
 abbrev pub path_at : List Section → ℕ → Option Path
-path_at sections o = path_from o (located sections)
+path_at sections o = first_path (path_in (keys_to_value o)) (located sections)
 
 -- A path as far as so many of its keys: all of it where it has no more, else up to and with the last of so many.
 abbrev pub as_far_as : ℕ → Path → Path

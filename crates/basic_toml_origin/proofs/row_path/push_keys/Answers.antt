@@ -8,7 +8,7 @@ use Rattle.basic_toml_read.proofs.NextRow.{lined_is}
 use Rattle.basic_toml_origin.specs.declared.step.Step.{Step}
 use Rattle.basic_toml_origin.specs.Path.{path_of}
 use Rattle.basic_toml_origin.proofs.PathsPushed.{key_pushed, next_key_pushed, still_there}
-use Rattle.basic_toml_origin.proofs.value_path.push_keys.Goals as goal
+use Rattle.basic_toml_origin.proofs.row_path.push_keys.Goals as goal
 
 pub loop-key-preserved : goal.loop-key-preserved
 loop-key-preserved c =

@@ -3,7 +3,7 @@ use Rattle.basic_toml_grammar.specs.Sections.{texts}
 use Rattle.basic_toml_grammar.specs.Steps.{steps_of}
 use Rattle.basic_toml_read.specs.SectionView.{key_of}
 use Rattle.basic_toml_origin.specs.Path.{path_of}
-use Rattle.basic_toml_origin.proofs.value_path.push_keys.Given as goal
+use Rattle.basic_toml_origin.proofs.row_path.push_keys.Given as goal
 
 -- the steps of the keys so far stand behind the path
 abbrev pub invariant-loop-key : goal.invariant-loop-key

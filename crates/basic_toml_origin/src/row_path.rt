@@ -1,84 +1,101 @@
-//! The path to the value that begins at an offset.
+//! The path within rows to what is looked for.
 ghost use Rattle.std.specs.Prelude.{◌≡◌, [], ◌∷◌, ◌++◌, IfOk, map, take, vec_len};
 ghost use Rattle.basic_toml_grammar.specs.Sections.{texts};
 ghost use Rattle.basic_toml_grammar.specs.Steps.{steps_of};
-ghost use Rattle.basic_toml_places.specs.Places.{here_or, path_among, path_by, path_within};
+ghost use Rattle.basic_toml_places.specs.Places.{path_among, path_by, path_within};
 ghost use Rattle.basic_toml_read.specs.SectionView.{elements_view, key_of, lined_of, raw_of, rows_seen};
 ghost use Rattle.basic_toml_origin.specs.Path.{path_of};
-ghost use Rattle.basic_toml_origin.specs.ValuePath.{PushesIfFound};
+ghost use Rattle.basic_toml_origin.specs.Sought.{PushesIfFound, path_at_row, test_of};
 
+use crate::sought::Sought;
 use crate::step::Step;
 use basic_toml_read::{Element, Key, Raw, Row};
 use std::alloc::AllocError;
 
-/// Puts the steps to the value that begins at an offset behind a path, if it stands in these rows, and says whether it
-/// does.
+/// Puts the steps to what is looked for behind a path, if it stands in these rows, and says whether it does.
 ///
 /// # Errors
 ///
 /// `AllocError` where memory was refused. Nothing is said of the path then.
 #[cycle(paths)]
 pub(crate) fn push_path_by<'s, 'de>(
-    offset: usize,
+    sought: Sought,
     parents: &'s [Key<'de>],
     rows: &'s [Row<'de>],
     path: &mut Vec<Step<'s>>,
 ) -> Result<bool, AllocError>
-    ensures { IfOk result (λ found. PushesIfFound found (path_by offset (rows_seen parents.now rows.now))
+    ensures { IfOk result (λ found. PushesIfFound found (path_by (test_of sought) (rows_seen parents.now rows.now))
         path.old.items path.new.items) }
 {
-    let len = path.len();
     let mut left = parents;
     for row in rows {
         let own = row.own_parents(left);
-        push_keys(own, row, path)?;
-        if push_path_to(offset, row.start, &row.value, path)? {
+        if push_path_at_row(sought, own, row, path)? {
             return Ok(true);
         }
-        path.truncate(len);
         left = &left[own.len()..];
     }
     Ok(false)
 }
 
-// To a value that begins here, or to one within it.
+// At a row, which has these keys before its last one, or within its value.
 #[cycle(paths)]
-fn push_path_to<'s>(
-    offset: usize,
-    here: usize,
+fn push_path_at_row<'s, 'de>(
+    sought: Sought,
+    parents: &'s [Key<'de>],
+    row: &'s Row<'de>,
+    path: &mut Vec<Step<'s>>,
+) -> Result<bool, AllocError>
+    ensures { IfOk result (λ found. PushesIfFound found
+        (path_at_row (test_of sought) (map key_of parents.now) (lined_of row.now)) path.old.items path.new.items) }
+{
+    let len = path.len();
+    push_keys(parents, row, path)?;
+    if let Some(keys) = sought.keys_in_row(parents, row) {
+        path.truncate(len + keys);
+        return Ok(true);
+    }
+    if push_path_within(sought, &row.value, path)? {
+        return Ok(true);
+    }
+    path.truncate(len);
+    Ok(false)
+}
+
+// Within a value.
+#[cycle(paths)]
+fn push_path_within<'s>(
+    sought: Sought,
     value: &'s Raw<'_>,
     path: &mut Vec<Step<'s>>,
 ) -> Result<bool, AllocError>
-    ensures { IfOk result (λ found. PushesIfFound found (here_or offset here (path_within offset (raw_of value.now)))
+    ensures { IfOk result (λ found. PushesIfFound found (path_within (test_of sought) (raw_of value.now))
         path.old.items path.new.items) }
 {
-    if offset == here {
-        return Ok(true);
-    }
     match value {
-        Raw::Array(elements) => push_path_among(offset, elements.as_slice(), path),
-        Raw::Inline(rows) => push_path_by(offset, no_parents(), rows.as_slice(), path),
+        Raw::Array(elements) => push_path_among(sought, elements.as_slice(), path),
+        Raw::Inline(rows) => push_path_by(sought, no_parents(), rows.as_slice(), path),
         Raw::Dotted(rows) => {
-            push_path_by(offset, rows.parents.as_slice(), rows.rows.as_slice(), path)
+            push_path_by(sought, rows.parents.as_slice(), rows.rows.as_slice(), path)
         }
         _ => Ok(false),
     }
 }
 
-// To an element of an array, or within one.
+// At an element of an array, or within one.
 #[cycle(paths)]
 fn push_path_among<'s>(
-    offset: usize,
+    sought: Sought,
     elements: &'s [Element<'_>],
     path: &mut Vec<Step<'s>>,
 ) -> Result<bool, AllocError>
-    ensures { IfOk result (λ found. PushesIfFound found (path_among offset 0 (elements_view elements.now))
+    ensures { IfOk result (λ found. PushesIfFound found (path_among (test_of sought) 0 (elements_view elements.now))
         path.old.items path.new.items) }
 {
     let len = path.len();
     for (number, element) in elements.iter().enumerate() {
         path.push(Step::Element(number))?;
-        if push_path_to(offset, element.offset, &element.value, path)? {
+        if sought.is_element(element.offset) || push_path_within(sought, &element.value, path)? {
             return Ok(true);
         }
         path.truncate(len);
