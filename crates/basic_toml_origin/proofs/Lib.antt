@@ -16,3 +16,4 @@ pub mod PathsPushed
 pub mod SectionsSearched
 pub mod WorkedOrigins
 pub mod WorkedPaths
+pub mod KeyEnds

@@ -6,3 +6,4 @@ pub mod Path
 pub mod Parts
 pub mod Sought
 pub mod Ways
+pub mod Clash

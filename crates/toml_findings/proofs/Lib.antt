@@ -1,2 +1,3 @@
 pub mod FoundParts
 pub mod ReadingFinds
+pub mod OtherKeysTold

@@ -17,9 +17,9 @@ tree_read text tree utf8 found =
 -- want of memory has no offset
 refused_as_given : (text : List ℕ) (error : read.Fault) (finding : code.Finding) → IsUtf8 text
     → GivesTree text (Err error) → IsRefusal text error (finding_of finding) → Reads text (Err (Refused finding))
-refused_as_given text error finding utf8 (inl memory) (offset, stands, told) =
+refused_as_given text error finding utf8 (inl memory) told =
     let none : error.offset ≡ None = ap (λ (e : read.Fault). e.offset) memory in
-    absurd (cc (sym stands ∙ none))
+    absurd (cc (sym told.stands ∙ none))
 refused_as_given text error finding utf8 (inr why) told =
     refused utf8 (λ tree document. refused_has_no_document text error tree why document) why told
 

@@ -1,3 +1,5 @@
 pub mod Dates
 pub mod Excerpt
+pub mod Places
+pub mod OtherKeys
 pub mod Findings

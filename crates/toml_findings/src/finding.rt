@@ -4,9 +4,9 @@ ghost use Rattle.toml_findings.specs.Findings as spec;
 ghost use Rattle.basic_toml_explain.specs.Error.{kind_of};
 
 use crate::dates::is_date_or_time;
-use crate::excerpt::{excerpt_of, line_of};
 use crate::front::valid_front;
-use basic_toml_error::line_col;
+use crate::other_key::{OtherKey, other_key};
+use crate::place::{Place, place_at};
 use basic_toml_explain::{ReadError, ReadErrorKind};
 use basic_toml_tree::{Tree, tree_of};
 use std::alloc::{AllocError, Global};
@@ -14,23 +14,18 @@ use std::fmt;
 
 /// Why bytes are no TOML, and where.
 ///
-/// It prints as `LINE:COLUMN: message`, the line of the text, and a line with a caret below the place; and where what is
-/// refused begins as a date or a time does, a line more that says that those are not read. Each ends with a line feed.
+/// It prints as `LINE:COLUMN: message`, the line of the text, and a line with a caret below the place; where what is
+/// refused begins as a date or a time does, a line more that says that those are not read; and where two keys clash, a
+/// note with the place of the other one. Each line ends with a line feed.
 #[derive(Debug, Drop)]
 pub struct Finding {
     /// What is wrong, and the keys that lead there.
     pub message: String,
-    /// The line where it stands, from 1.
-    pub line: usize,
-    /// The column where it stands, from 1, in bytes.
-    pub column: usize,
-    /// That line, cut around the place where it is long: up to 60 characters before the place, and 40 from it on. A
-    /// control character other than a tab stands as U+FFFD.
-    pub source: String,
-    /// What stands below that line: a space for each character, a tab for a tab, and a caret below the place.
-    pub caret: String,
+    pub place: Place,
     /// Whether it begins as a date or a time does, which are not read.
     pub is_date_or_time: bool,
+    /// Of a clash the other key.
+    pub other: Option<OtherKey>,
 }
 
 impl fmt::Display for Finding {
@@ -39,13 +34,16 @@ impl fmt::Display for Finding {
     ghost output = { λ f. Some (finding_text (finding_of f)) };
 
     fn fmt<W: fmt::Write>(&self, f: &mut fmt::Formatter<W>) -> fmt::Result {
-        let line = self.line;
-        let column = self.column;
+        let Place { line, column, .. } = self.place;
         let message = self.message.as_str();
-        let source = self.source.as_str();
-        let caret = self.caret.as_str();
+        let source = self.place.source.as_str();
+        let caret = self.place.caret.as_str();
         let note = note(self.is_date_or_time);
-        write!(f, "{line}:{column}: {message}\n{source}\n{caret}\n{note}")
+        write!(f, "{line}:{column}: {message}\n{source}\n{caret}\n{note}")?;
+        match &self.other {
+            Some(other) => write!(f, "{other}"),
+            None => Ok(()),
+        }
     }
 }
 
@@ -131,9 +129,12 @@ fn refusal(alloc: Global, text: &str, error: &ReadError) -> Result<Finding, Allo
     let Some(offset) = error.place() else {
         return Err(AllocError);
     };
-    let message = format!(in alloc; "{error}")?;
-    let is_date_or_time = refuses_value(error.kind()) && is_date_or_time(text, offset);
-    found(alloc, text, offset, message, is_date_or_time)
+    Ok(Finding {
+        message: format!(in alloc; "{error}")?,
+        place: place_at(alloc, text, offset)?,
+        is_date_or_time: refuses_value(error.kind()) && is_date_or_time(text, offset),
+        other: other_key(alloc, text, error.kind(), offset)?,
+    })
 }
 
 // A number, or a colon where another thing is wanted: so a date or a time is refused.
@@ -152,29 +153,10 @@ fn not_utf8(alloc: Global, input: &[u8]) -> Result<Finding, AllocError>
     ensures { IfOk result (λ finding. spec.finding_of finding ≡ spec.not_utf8 input.now) }
 {
     let front = valid_front(input);
-    let message = String::from_str(alloc, "input is not valid UTF-8")?;
-    found(alloc, front, front.len(), message, false)
-}
-
-// A message at an offset of a text.
-fn found(
-    alloc: Global,
-    text: &str,
-    offset: usize,
-    message: String,
-    is_date_or_time: bool,
-) -> Result<Finding, AllocError>
-    ensures { IfOk result (λ finding. spec.finding_of finding
-        ≡ spec.found text.now offset (string_bytes message) is_date_or_time) }
-{
-    let (line, column) = line_col(text, offset);
-    let shown = excerpt_of(alloc, line_of(text, line), column)?;
     Ok(Finding {
-        message,
-        line: line + 1,
-        column: column + 1,
-        source: shown.source,
-        caret: shown.caret,
-        is_date_or_time,
+        message: String::from_str(alloc, "input is not valid UTF-8")?,
+        place: place_at(alloc, front, front.len())?,
+        is_date_or_time: false,
+        other: None,
     })
 }

@@ -21,5 +21,9 @@ mod dates;
 mod excerpt;
 mod finding;
 mod front;
+mod other_key;
+mod place;
 
 pub use finding::{Finding, Unread, check, read};
+pub use other_key::OtherKey;
+pub use place::Place;

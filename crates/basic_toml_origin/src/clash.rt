@@ -1,0 +1,129 @@
+//! The two places of a clash.
+ghost use Rattle.std.specs.Prelude.{◌≡◌, IfOk, map, take};
+ghost use Rattle.basic_toml_explain.specs.Error.{kind_of};
+ghost use Rattle.basic_toml_read.specs.SectionView.{section_of};
+ghost use Rattle.basic_toml_origin.specs.Clash as spec;
+ghost use Rattle.basic_toml_origin.specs.Path.{path_of};
+
+use crate::crossing::crossing_key;
+use crate::find::origin_before;
+use crate::offset_path::path_to_key;
+use crate::origin::Origin;
+use crate::step::Step;
+use basic_toml_explain::ReadErrorKind;
+use basic_toml_read::Section;
+use std::alloc::{AllocError, Global};
+
+/// The two places of a clash, as byte offsets.
+#[derive(Clone, Copy, Debug, PartialEq, Eq)]
+pub struct ClashPlaces {
+    /// Where what stands first is written: that of its header's first bracket, or of its key; of a value that a row
+    /// goes on from, that of the value.
+    pub first: usize,
+    /// Where the later one is: that of its header's first bracket, or of its key.
+    pub later: usize,
+}
+
+/// The two places of a clash, by the kind and the offset of its error: of the sections of a text, which are the list
+/// that the error is of. What the later key leads to is looked for in what stands before it. `None` for errors of other
+/// kinds.
+///
+/// # Errors
+///
+/// `AllocError` where memory was refused.
+pub fn clash_places(
+    alloc: Global,
+    sections: &[Section<'_>],
+    kind: &ReadErrorKind,
+    offset: usize,
+) -> Result<Option<ClashPlaces>, AllocError>
+    ensures { IfOk result (λ places. places
+        ≡ spec.clash_places (map section_of sections.now) (kind_of kind.now) offset) }
+{
+    match kind {
+        ReadErrorKind::DuplicateKey(_) => before_key(alloc, sections, offset, offset),
+        ReadErrorKind::DuplicateTable(_) | ReadErrorKind::RedefineAsArray => {
+            match header_key(sections, offset) {
+                Some(key) => before_key(alloc, sections, key, offset),
+                None => Ok(None),
+            }
+        }
+        ReadErrorKind::DottedKeyInvalidType => match crossing_key(sections, offset) {
+            Some(later) => Ok(Some(ClashPlaces {
+                first: offset,
+                later,
+            })),
+            None => Ok(None),
+        },
+        _ => Ok(None),
+    }
+}
+
+// Those of a key, where the later of the two begins.
+fn before_key(
+    alloc: Global,
+    sections: &[Section<'_>],
+    key: usize,
+    later: usize,
+) -> Result<Option<ClashPlaces>, AllocError>
+    ensures { IfOk result (λ places. places ≡ spec.before_key (map section_of sections.now) key later) }
+{
+    let Some(mut path) = path_to_key(alloc, sections, key)? else {
+        return Ok(None);
+    };
+    let len = len_up_to_key(path.as_slice());
+    path.truncate(len);
+    match origin_before(alloc, sections, key, path.as_slice())? {
+        Some(origin) => Ok(Some(ClashPlaces {
+            first: beginning(origin),
+            later,
+        })),
+        None => Ok(None),
+    }
+}
+
+// How many steps of a path there are up to its last key.
+fn len_up_to_key(path: &[Step<'_>]) -> usize
+    ensures { path_of (take result path.now) ≡ spec.up_to_key (path_of path.now) }
+{
+    match path.last() {
+        Some(last) => {
+            if last.is_number() {
+                path.len() - 1
+            } else {
+                path.len()
+            }
+        }
+        None => 0,
+    }
+}
+
+// Where what is written begins.
+fn beginning(origin: Origin) -> usize
+    ensures { result ≡ spec.beginning origin }
+{
+    origin.at.min(origin.key.unwrap_or(origin.at))
+}
+
+// The last key of the header that begins at an offset.
+fn header_key(sections: &[Section<'_>], offset: usize) -> Option<usize>
+    ensures { result ≡ spec.header_key (map section_of sections.now) offset }
+{
+    for section in sections {
+        if let Some(key) = last_key_at(section, offset) {
+            return Some(key);
+        }
+    }
+    None
+}
+
+// That of a section, if its header begins there.
+fn last_key_at(section: &Section<'_>, offset: usize) -> Option<usize>
+    ensures { result ≡ spec.last_key_at (section_of section.now) offset }
+{
+    if section.at == offset {
+        section.header.last().map(|key| key.offset)
+    } else {
+        None
+    }
+}
