@@ -11,9 +11,7 @@ pub mod KeysFollow
 pub mod KeysGoOn
 pub mod WorkedCrossings
 pub mod KeysNumbered
-pub mod PathsCut
 pub mod PathsPushed
 pub mod SectionsSearched
 pub mod WorkedOrigins
 pub mod WorkedPaths
-pub mod KeyEnds

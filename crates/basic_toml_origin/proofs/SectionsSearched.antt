@@ -7,7 +7,8 @@ use Rattle.std.proofs.lemmas.List.{drop_more}
 use Rattle.basic_toml_grammar.specs.Sections.{Rows, Section}
 use Rattle.basic_toml_grammar.specs.Steps.{Path}
 use Rattle.basic_toml_grammar.specs.IndexedPath.{Located, located, located_after, located_from}
-use Rattle.basic_toml_places.specs.Places.{as_far_as, first_path, path_by, path_in}
+use Rattle.basic_toml_places.specs.Places.{first_path, path_by, path_in}
+use Rattle.basic_toml_origin.specs.KeyPath.{up_to_key}
 use Rattle.basic_toml_read.specs.declared.section.Key as code_keys
 use Rattle.basic_toml_read.specs.declared.section.Row.{Row}
 use Rattle.basic_toml_read.specs.declared.section.Rows.{out-Rows}
@@ -61,7 +62,7 @@ rows_there s parents rows parents-are rows-are =
 
 -- by the section of a number
 by_header : (sought : Sought) (l : Located) (n : ℕ) → keys_in_header sought l.section.header ≡ Some n
-    → path_by_section sought l ≡ Some (as_far_as n l.path)
+    → path_by_section sought l ≡ Some (up_to_key n l.path)
 by_header (Value o) l n e = cc
 by_header (Key o) l n e = rw e refl
 
@@ -98,10 +99,10 @@ next_searched sought sections i s within is =
 
 pub found_by_header : (sought : Sought) (sections : List code.Section) (i n : ℕ) (s : code.Section)
     → i < length sections → s ≡ get_or sections i s → keys_in_header sought (section_of s).header ≡ Some n
-    → option_map (λ l. as_far_as n l.path) (slice_get (located (map section_of sections)) i)
+    → option_map (λ l. up_to_key n l.path) (slice_get (located (map section_of sections)) i)
     ≡ searched sought sections i
 found_by_header sought sections i n s within is keys =
-    ap (option_map (λ (l : Located). as_far_as n l.path)) (located_there sections i s within is)
+    ap (option_map (λ (l : Located). up_to_key n l.path)) (located_there sections i s within is)
     ∙ ap (λ o. option_or o (searched sought sections (i + 1))) (sym (by_header sought (here sections i s) n keys))
     ∙ sym (next_searched sought sections i s within is)
 

@@ -26,8 +26,8 @@ its_value : at_key (codes "a.b.c = 1") 8 ≡ None
 unfolding chars
 its_value = refl
 
--- a key of a double header leads to the element that the header adds, and one before the last to the array
-element_added : at_key (codes "[[a]]\n[[a]]\n[[a.b]]\nc = [{d = 1}]") 8 ≡ Some (key (codes "a") ∷ number 1 ∷ [])
+-- a key of a double header leads to the array, the last one too
+element_added : at_key (codes "[[a]]\n[[a]]\n[[a.b]]\nc = [{d = 1}]") 8 ≡ Some (key (codes "a") ∷ [])
 unfolding chars
 element_added = refl
 
@@ -36,7 +36,7 @@ unfolding chars
 array_passed = refl
 
 element_below : at_key (codes "[[a]]\n[[a]]\n[[a.b]]\nc = [{d = 1}]") 16
-    ≡ Some (key (codes "a") ∷ number 1 ∷ key (codes "b") ∷ number 0 ∷ [])
+    ≡ Some (key (codes "a") ∷ number 1 ∷ key (codes "b") ∷ [])
 unfolding chars
 element_below = refl
 

@@ -1,10 +1,9 @@
 -- The two places of a clash, own: where what stands first is written, and where the later one begins. The error of a
 -- clash stands at the later one; where a row goes on from a value, at the value.
-use Rattle.std.specs.Prelude.{ℕ, ◌-◌, Bool, true, false, ◌==◌, min, if◌then◌else◌, List, [], ◌∷◌, length, slice_get}
+use Rattle.std.specs.Prelude.{ℕ, ◌-◌, ◌==◌, min, if◌then◌else◌, List, [], ◌∷◌, length, slice_get}
 use Rattle.std.specs.Prelude.{Option, None, option_map, unwrap_or}
 use Rattle.std.specs.Option.{option_or, option_and_then}
 use Rattle.basic_toml_grammar.specs.Sections.{Section}
-use Rattle.basic_toml_grammar.specs.Steps.{Step, key, number, Path}
 use Rattle.basic_toml_grammar.specs.Faults.{FaultKind, duplicate_key, duplicate_table, redefine_as_array}
 use Rattle.basic_toml_grammar.specs.Faults.{dotted_key_invalid_type}
 use Rattle.basic_toml_origin.specs.Before.{sections_before}
@@ -18,21 +17,10 @@ use Rattle.basic_toml_origin.specs.declared.origin.Origin.{Origin}
 abbrev pub beginning : Origin → ℕ
 beginning o = min o.at (unwrap_or o.key o.at)
 
-abbrev pub is_number : Step → Bool
-is_number (key k) = false
-is_number (number n) = true
-
--- A path up to its last key: of the key of a double header it is that of the array, not of the element that it adds.
-abbrev pub up_to_key : Path → Path
-up_to_key [] = []
-up_to_key (s ∷ []) = if is_number s then [] else s ∷ []
-up_to_key (s ∷ t ∷ p) = s ∷ up_to_key (t ∷ p)
-
 -- where what a key leads to is written before the key
 abbrev pub first_place : List Section → ℕ → Option ℕ
 first_place sections o =
-    option_and_then (λ p. option_map beginning (origin_at (sections_before o sections) (up_to_key p)))
-    (key_path_at sections o)
+    option_and_then (λ p. option_map beginning (origin_at (sections_before o sections) p)) (key_path_at sections o)
 
 -- the last key of the header that begins at an offset
 abbrev pub last_key_at : Section → ℕ → Option ℕ

@@ -1,15 +1,13 @@
 //! The two places of a clash.
-ghost use Rattle.std.specs.Prelude.{◌≡◌, IfOk, map, take};
+ghost use Rattle.std.specs.Prelude.{◌≡◌, IfOk, map};
 ghost use Rattle.basic_toml_explain.specs.Error.{kind_of};
 ghost use Rattle.basic_toml_read.specs.SectionView.{section_of};
 ghost use Rattle.basic_toml_origin.specs.Clash as spec;
-ghost use Rattle.basic_toml_origin.specs.Path.{path_of};
 
 use crate::crossing::crossing_key;
 use crate::find::origin_before;
 use crate::offset_path::path_to_key;
 use crate::origin::Origin;
-use crate::step::Step;
 use basic_toml_explain::ReadErrorKind;
 use basic_toml_read::Section;
 use std::alloc::{AllocError, Global};
@@ -68,33 +66,15 @@ fn before_key(
 ) -> Result<Option<ClashPlaces>, AllocError>
     ensures { IfOk result (λ places. places ≡ spec.before_key (map section_of sections.now) key later) }
 {
-    let Some(mut path) = path_to_key(alloc, sections, key)? else {
+    let Some(path) = path_to_key(alloc, sections, key)? else {
         return Ok(None);
     };
-    let len = len_up_to_key(path.as_slice());
-    path.truncate(len);
     match origin_before(alloc, sections, key, path.as_slice())? {
         Some(origin) => Ok(Some(ClashPlaces {
             first: beginning(origin),
             later,
         })),
         None => Ok(None),
-    }
-}
-
-// How many steps of a path there are up to its last key.
-fn len_up_to_key(path: &[Step<'_>]) -> usize
-    ensures { path_of (take result path.now) ≡ spec.up_to_key (path_of path.now) }
-{
-    match path.last() {
-        Some(last) => {
-            if last.is_number() {
-                path.len() - 1
-            } else {
-                path.len()
-            }
-        }
-        None => 0,
     }
 }
 

@@ -1,9 +1,9 @@
 //! The path to what begins at an offset.
-ghost use Rattle.std.specs.Prelude.{◌≡◌, ◌++◌, IfOk, map, option_map, slice_get, take};
+ghost use Rattle.std.specs.Prelude.{◌≡◌, ◌≤◌, ◌++◌, IfOk, length, map, option_map, slice_get, take};
 ghost use Rattle.basic_toml_grammar.specs.IndexedPath.{located};
-ghost use Rattle.basic_toml_places.specs.Places.{as_far_as, first_path, path_at};
+ghost use Rattle.basic_toml_places.specs.Places.{first_path, path_at};
 ghost use Rattle.basic_toml_read.specs.SectionView.{section_of};
-ghost use Rattle.basic_toml_origin.specs.KeyPath.{key_path_at};
+ghost use Rattle.basic_toml_origin.specs.KeyPath.{key_path_at, up_to_key};
 ghost use Rattle.basic_toml_origin.specs.Path.{path_of};
 ghost use Rattle.basic_toml_origin.specs.Sought.{path_by_section};
 
@@ -33,9 +33,8 @@ pub fn path_to_value<'s, 'de>(
 }
 
 /// The path that a key leads to, by the offset where it begins, counted in bytes from 0: a key of a header, or one of a
-/// row. The keys of `a.b.c = 1` lead to `a`, `a.b` and `a.b.c`. The last key of a header leads to its table, where the
-/// brackets are double to the element that it adds, and a key before the last to a table or an array of tables. `None`
-/// where no key begins there. It takes time as [`path_to_value`] does.
+/// row. The path ends with the key: those of `a.b.c = 1` lead to `a`, `a.b` and `a.b.c`, and the key of the header
+/// `[[a]]` to the array `a`. `None` where no key begins there. It takes time as [`path_to_value`] does.
 ///
 /// # Errors
 ///
@@ -63,7 +62,7 @@ fn path_to<'s, 'de>(
     let mut within = Vec::new(alloc);
     for (number, section) in sections.iter().enumerate() {
         if let Some(keys) = sought.keys_in_header(section.header.as_slice()) {
-            return path_as_far_as(alloc, sections, number, keys);
+            return path_up_to_key(alloc, sections, number, keys);
         }
         let parents = section.rows.parents.as_slice();
         let rows = section.rows.rows.as_slice();
@@ -74,20 +73,20 @@ fn path_to<'s, 'de>(
     Ok(None)
 }
 
-// The path of the section of a number, as far as so many of its keys.
-fn path_as_far_as<'s, 'de>(
+// The path of the section of a number, up to its key of a number, counted from 1.
+fn path_up_to_key<'s, 'de>(
     alloc: Global,
     sections: &'s [Section<'de>],
     number: usize,
     keys: usize,
 ) -> Result<Option<Vec<Step<'s>>>, AllocError>
     ensures { IfOk result (λ path. option_map (λ p. path_of p.items) path
-        ≡ option_map (λ l. as_far_as keys l.path) (slice_get (located (map section_of sections.now)) number)) }
+        ≡ option_map (λ l. up_to_key keys l.path) (slice_get (located (map section_of sections.now)) number)) }
 {
     let Some(mut path) = section_path(alloc, sections, number)? else {
         return Ok(None);
     };
-    let len = len_as_far_as(path.as_slice(), keys);
+    let len = len_up_to_key(path.as_slice(), keys);
     path.truncate(len);
     Ok(Some(path))
 }
@@ -110,20 +109,20 @@ fn path_and_steps<'s, 'de>(
     Ok(Some(path))
 }
 
-// How many steps of a path go as far as so many of its keys.
-fn len_as_far_as(path: &[Step<'_>], keys: usize) -> usize
-    ensures { take result (path_of path.now) ≡ as_far_as keys (path_of path.now) }
+// How many steps of a path there are up to its key of a number, counted from 1.
+fn len_up_to_key(path: &[Step<'_>], keys: usize) -> usize
+    ensures steps { take result (path_of path.now) ≡ up_to_key keys (path_of path.now) }
+    ensures within { result ≤ length path.now }
 {
-    let mut left = keys;
-    let mut len = 0;
-    for (at, step) in path.iter().enumerate() {
-        if let Step::Key(_) = step {
-            if left == 0 {
-                return len;
-            }
-            left -= 1;
-            len = at + 1;
-        }
+    if keys == 0 {
+        return 0;
     }
-    path.len()
+    let Some((step, rest)) = path.split_first() else {
+        return 0;
+    };
+    let left = match step {
+        Step::Key(_) => keys - 1,
+        Step::Element(_) => keys,
+    };
+    len_up_to_key(rest, left) + 1
 }

@@ -1,7 +1,6 @@
 //! The steps of a path.
 ghost use Rattle.std.specs.Prelude.{◌≡◌};
 ghost use Rattle.basic_toml_grammar.specs.Steps.{key as key_step, number as number_step, step_eq};
-ghost use Rattle.basic_toml_origin.specs.Clash.{is_number};
 ghost use Rattle.basic_toml_origin.specs.Path.{step_of};
 
 /// A step of a path in a document.
@@ -21,16 +20,6 @@ impl<'p> Step<'p> {
         match self {
             Step::Key(name) => key == name,
             Step::Element(_) => false,
-        }
-    }
-
-    /// Whether it leads to an element.
-    pub(crate) fn is_number(self) -> bool
-        ensures { result ≡ is_number (step_of self.entry) }
-    {
-        match self {
-            Step::Key(_) => false,
-            Step::Element(_) => true,
         }
     }
 

@@ -12,10 +12,10 @@ returns-in-Some c =
     let s = c.index-sections-number.result in
     let keys = header_there c.args.sought s c.as_slice.result.now (Some c.in-Some.keys) c.as_slice.ensures.value
     c.in-Some.ensures in
-    subst (λ (p : Option Path). IfOk c.path_as_far_as.result (λ path. option_map (λ v. path_of v.items) path ≡ p))
+    subst (λ (p : Option Path). IfOk c.path_up_to_key.result (λ path. option_map (λ v. path_of v.items) path ≡ p))
     (found_by_header c.args.sought c.args.sections.now c.loop-number.number c.in-Some.keys s c.loop-number-test.true
     c.index-sections-number.is keys ∙ c.loop-number.invariant.1)
-    c.path_as_far_as.ensures
+    c.path_up_to_key.ensures
 
 pub returns-then-branch : goal.returns-then-branch
 returns-then-branch c =
