@@ -1,5 +1,5 @@
 -- The count that the code keeps where nothing of the path is left is that of the elements at the path.
-use Rattle.std.proofs.Common.{◌≡◌, ℕ, ◌+◌, ◌≤◌, ◌<◌, List, [], ◌∷◌, refl}
+use Rattle.std.proofs.Common.{◌≡◌, ℕ, ◌+◌, ◌≤◌, ◌<◌, false, List, [], ◌∷◌, refl}
 use Rattle.std.proofs.Common.{ap, sym, ◌∙◌, subst, arith, length, get_or, map, replicate, take}
 use Rattle.std.proofs.lemmas.List.{take_all}
 use Rattle.basic_toml_grammar.specs.Sections.{Section}
@@ -44,6 +44,14 @@ on sections p i counts behind s g within is counts-are =
           subst (λ (c : List ℕ). get_or c n 0 ≤ i + 1) (sym counts-are)
           (within_behind counts s.is_array (header_texts s.header.items) p i n g.small);
     }
+
+-- a section that is none of an array changes no count
+pub past : (sections : List code.Section) (p : Path) (i : ℕ) (counts behind : List ℕ) (s : code.Section)
+    → Counting sections p i counts → i < length sections → s ≡ get_or sections i s → s.is_array ≡ false
+    → behind ≡ counts → Counting sections p (i + 1) behind
+past sections p i counts behind s g within is none same =
+    on sections p i counts behind s g within is
+    (same ∙ ap (λ a. counts_behind counts a (header_texts s.header.items) p) (sym none))
 
 pub ended : (sections : List code.Section) (p : Path) (i : ℕ) (counts : List ℕ) → Counting sections p i counts
     → length sections ≤ i → get_or counts 0 0 ≡ elements_at p (placed (map section_of sections))

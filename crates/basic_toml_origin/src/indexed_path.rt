@@ -40,7 +40,7 @@ pub fn section_path<'s>(
     Ok(Some(path))
 }
 
-// How many elements these sections add to the array at a path.
+// How many elements these sections add to the array at a path. Sections that add none are passed over.
 fn elements_at(
     alloc: Global,
     sections: &[Section<'_>],
@@ -50,7 +50,9 @@ fn elements_at(
 {
     let mut counts = zeros(alloc, path.len())?;
     for section in sections {
-        enter(section, path, &mut counts);
+        if section.is_array {
+            enter(section, path, &mut counts);
+        }
     }
     Ok(counts.first().copied().unwrap_or(0))
 }
