@@ -17,11 +17,11 @@ use Rattle.basic_toml_read.specs.declared.section.Row.{Row, out-Row}
 use Rattle.basic_toml_read.specs.SectionView.{Lined, Placed, key_of, raw_of, placed_of, lined_of}
 use Rattle.basic_toml_read.specs.SectionView.{elements_from, rows_from}
 use Rattle.basic_toml_read.proofs.NextRow.{lined_is, next_row}
-use Rattle.basic_toml_origin.specs.declared.sought.Sought.{Sought}
-use Rattle.basic_toml_origin.specs.declared.sought.Sought.TheVariants as variants
+use Rattle.basic_toml_origin.specs.declared.query.Query.{Query}
+use Rattle.basic_toml_origin.specs.declared.query.Query.TheVariants as variants
 use Rattle.basic_toml_origin.specs.declared.step.Step.{Step}
 use Rattle.basic_toml_origin.specs.Path.{path_of, step_of}
-use Rattle.basic_toml_origin.specs.Sought.{PushesIfFound, path_at_row, test_of}
+use Rattle.basic_toml_origin.specs.Query.{PushesIfFound, path_at_row, test_of}
 
 -- one more key
 steps_more : (ks : List Key) (k : Key) → steps_of (texts (ks ++ k ∷ [])) ≡ steps_of (texts ks) ++ key k.text ∷ []
@@ -73,19 +73,19 @@ others_left false first others before after f not_found = (f.1, ap (λ o. option
 others_left true first others before after f not_found = cc
 
 -- what is found behind some steps is found with these in front
-found_behind : (found : Bool) (sought : Option Path) (q : Path) (before between after : List Step)
-    → path_of between ≡ path_of before ++ q → PushesIfFound found sought between after → found ≡ true
-    → PushesIfFound true (option_map (λ p. q ++ p) sought) before after
-found_behind false sought q before between after e f is_found = cc
+found_behind : (found : Bool) (query : Option Path) (q : Path) (before between after : List Step)
+    → path_of between ≡ path_of before ++ q → PushesIfFound found query between after → found ≡ true
+    → PushesIfFound true (option_map (λ p. q ++ p) query) before after
+found_behind false query q before between after e f is_found = cc
 found_behind true None q before between after e f is_found = absurd f
 found_behind true (Some p) q before between after e f is_found =
     f ∙ ap (λ r. r ++ p) e ∙ append_assoc (path_of before) q p
 
-not_behind : (found : Bool) (sought : Option Path) (q : Path) (between after : List Step)
-    → PushesIfFound found sought between after → found ≡ false
-    → (after ≡ between) × (option_map (λ p. q ++ p) sought ≡ None)
-not_behind false sought q between after f not_found = (f.1, ap (option_map (λ p. q ++ p)) f.0)
-not_behind true sought q between after f not_found = cc
+not_behind : (found : Bool) (query : Option Path) (q : Path) (between after : List Step)
+    → PushesIfFound found query between after → found ≡ false
+    → (after ≡ between) × (option_map (λ p. q ++ p) query ≡ None)
+not_behind false query q between after f not_found = (f.1, ap (option_map (λ p. q ++ p)) f.0)
+not_behind true query q between after f not_found = cc
 
 -- so many of the keys lead there at most
 key_number_within : (o n : ℕ) (keys : List Key) → key_number o keys ≡ Some n → n ≤ length keys
@@ -98,7 +98,7 @@ key_number_within o n (k ∷ keys) e = go (o == k.offset) (key_number o keys) (�
     go false None h e = cc
     go false (Some m) h e = let one : suc m ≡ n = cc in omega (arith, h m refl)
 
-pub keys_within : (sought : Sought) (keys : List Key) (at n : ℕ) → test_of sought keys at ≡ Some n → n ≤ length keys
+pub keys_within : (query : Query) (keys : List Key) (at n : ℕ) → test_of query keys at ≡ Some n → n ≤ length keys
 keys_within (variants.Key o) keys at n e = key_number_within o n keys e
 keys_within (variants.Value o) keys at n e = go (o == at) e
   where
@@ -167,9 +167,9 @@ pub found_by_row : (test : Test) (all : Rows) (left own : List code.Key) (rows :
     → path_by test all ≡ path_by test (rows_from (map key_of left) (map lined_of (drop i rows)))
     → PushesIfFound found (path_at_row test (map key_of own) (lined_of r)) before after → found ≡ true
     → PushesIfFound true (path_by test all) start after
-found_by_row test all left own rows i r start before after found within is owned same sought pushed e =
+found_by_row test all left own rows i r start before after found within is owned same query pushed e =
     subst (λ (s : Option Path). PushesIfFound true s start after)
-    (sym (sought ∙ by_first test left own rows i r within is owned))
+    (sym (query ∙ by_first test left own rows i r within is owned))
     (subst (λ (ss : List Step). PushesIfFound true (option_or here others) ss after) same
     (found_first found here others before after pushed e))
   where
@@ -188,11 +188,11 @@ pub not_by_row : (test : Test) (all : Rows) (left own : List code.Key) (rows : L
     → (after ≡ before)
     × (path_by test all
     ≡ path_by test (rows_from (map key_of (drop (out-Row r).parents left)) (map lined_of (drop (i + 1) rows))))
-not_by_row test all left own rows i r before after found within is owned sought pushed e =
+not_by_row test all left own rows i r before after found within is owned query pushed e =
     let none = others_left found (path_at_row test (map key_of own) (lined_of r))
     (path_by test (rows_from (map key_of (drop (out-Row r).parents left)) (map lined_of (drop (i + 1) rows))))
     before after pushed e in
-    (none.0, sought ∙ by_first test left own rows i r within is owned ∙ none.1)
+    (none.0, query ∙ by_first test left own rows i r within is owned ∙ none.1)
 
 -- the same of elements
 placed_is : (e : Element)
@@ -237,9 +237,9 @@ pub found_among : (test : Test) (n : ℕ) (all : Elements) (elements : List Elem
     → path_among test 0 all ≡ path_among test n (elements_from (map placed_of (drop n elements)))
     → before ≡ start → between ≡ before ++ s ∷ [] → step_of s ≡ number n
     → PushesIfFound true (element_path test e) between after → PushesIfFound true (path_among test 0 all) start after
-found_among test n all elements e start before between after s within is sought same pushed step_is found =
+found_among test n all elements e start before between after s within is query same pushed step_is found =
     subst (λ (o : Option Path). PushesIfFound true o start after)
-    (sym (sought ∙ among_first test n elements e within is))
+    (sym (query ∙ among_first test n elements e within is))
     (found_first true (option_map (λ p. number n ∷ p) (element_path test e))
     (path_among test (n + 1) (elements_from (map placed_of (drop (n + 1) elements)))) start after
     (found_behind true (element_path test e) (number n ∷ []) start between after
@@ -254,11 +254,11 @@ pub not_among : (test : Test) (n : ℕ) (all : Elements) (elements : List Elemen
     → PushesIfFound found (path_within test (raw_of (out-Element e).value)) between after → found ≡ false
     → (after ≡ between)
     × (path_among test 0 all ≡ path_among test (n + 1) (elements_from (map placed_of (drop (n + 1) elements))))
-not_among test n all elements e between after found within is sought elsewhere pushed not_found =
+not_among test n all elements e between after found within is query elsewhere pushed not_found =
     let none = not_behind found (path_within test (raw_of (out-Element e).value)) [] between after pushed not_found in
     let absent : element_path test e ≡ None = rw elsewhere none.1 in (
       none.0,
-      sought ∙ among_first test n elements e within is
+      query ∙ among_first test n elements e within is
           ∙ ap (λ o. option_or (option_map (λ p. number n ∷ p) o)
           (path_among test (n + 1) (elements_from (map placed_of (drop (n + 1) elements))))) absent,
     )

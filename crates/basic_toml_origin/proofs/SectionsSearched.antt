@@ -14,11 +14,11 @@ use Rattle.basic_toml_read.specs.declared.section.Row.{Row}
 use Rattle.basic_toml_read.specs.declared.section.Rows.{out-Rows}
 use Rattle.basic_toml_read.specs.declared.section.Section as code
 use Rattle.basic_toml_read.specs.SectionView.{key_of, rows_seen, section_of}
-use Rattle.basic_toml_origin.specs.declared.sought.Sought.{Sought}
-use Rattle.basic_toml_origin.specs.declared.sought.Sought.TheVariants.{Key, Value}
+use Rattle.basic_toml_origin.specs.declared.query.Query.{Query}
+use Rattle.basic_toml_origin.specs.declared.query.Query.TheVariants.{Key, Value}
 use Rattle.basic_toml_origin.specs.declared.step.Step.{Step}
 use Rattle.basic_toml_origin.specs.Path.{path_of}
-use Rattle.basic_toml_origin.specs.Sought.{PushesIfFound, keys_in_header, path_by_section, test_of}
+use Rattle.basic_toml_origin.specs.Query.{PushesIfFound, keys_in_header, path_by_section, test_of}
 use Rattle.basic_toml_origin.proofs.LatestFirst.{latest_first, located_there, one_more_first}
 
 -- what is made of the path of a section
@@ -47,11 +47,11 @@ next_left sections i s within is =
     (sym (one_more_first sections i s within is))
 
 -- the header and the rows that the code goes by are the section's
-pub header_there : (sought : Sought) (s : code.Section) (keys : List code_keys.Key) (n : Option ℕ)
-    → keys ≡ s.header.items → n ≡ keys_in_header sought (map key_of keys)
-    → keys_in_header sought (section_of s).header ≡ n
-header_there sought s keys n keys-are is =
-    ap (λ (ks : List code_keys.Key). keys_in_header sought (map key_of ks)) (sym keys-are) ∙ sym is
+pub header_there : (query : Query) (s : code.Section) (keys : List code_keys.Key) (n : Option ℕ)
+    → keys ≡ s.header.items → n ≡ keys_in_header query (map key_of keys)
+    → keys_in_header query (section_of s).header ≡ n
+header_there query s keys n keys-are is =
+    ap (λ (ks : List code_keys.Key). keys_in_header query (map key_of ks)) (sym keys-are) ∙ sym is
 
 pub rows_there : (s : code.Section) (parents : List code_keys.Key) (rows : List Row)
     → parents ≡ (out-Rows s.rows).parents.items → rows ≡ (out-Rows s.rows).rows.items
@@ -61,13 +61,13 @@ rows_there s parents rows parents-are rows-are =
     ∙ ap (λ (rs : List Row). rows_seen (out-Rows s.rows).parents.items rs) rows-are
 
 -- by the section of a number
-by_header : (sought : Sought) (l : Located) (n : ℕ) → keys_in_header sought l.section.header ≡ Some n
-    → path_by_section sought l ≡ Some (up_to_key n l.path)
+by_header : (query : Query) (l : Located) (n : ℕ) → keys_in_header query l.section.header ≡ Some n
+    → path_by_section query l ≡ Some (up_to_key n l.path)
 by_header (Value o) l n e = cc
 by_header (Key o) l n e = rw e refl
 
-by_rows : (sought : Sought) (l : Located) → keys_in_header sought l.section.header ≡ None
-    → path_by_section sought l ≡ path_in (test_of sought) l
+by_rows : (query : Query) (l : Located) → keys_in_header query l.section.header ≡ None
+    → path_by_section query l ≡ path_in (test_of query) l
 by_rows (Value o) l e = refl
 by_rows (Key o) l e = rw e refl
 
@@ -87,54 +87,54 @@ none_pushed false found q before after f not_pushed = (f.1, ap (option_map (λ p
 none_pushed true found q before after f not_pushed = cc
 
 -- all that is looked for is by these sections
-abbrev pub searched : Sought → List code.Section → ℕ → Option Path
-searched sought sections i = first_path (path_by_section sought) (left_from sections i)
+abbrev pub searched : Query → List code.Section → ℕ → Option Path
+searched query sections i = first_path (path_by_section query) (left_from sections i)
 
-next_searched : (sought : Sought) (sections : List code.Section) (i : ℕ) (s : code.Section) → i < length sections
+next_searched : (query : Query) (sections : List code.Section) (i : ℕ) (s : code.Section) → i < length sections
     → s ≡ get_or sections i s
-    → searched sought sections i
-    ≡ option_or (path_by_section sought (here sections i s)) (searched sought sections (i + 1))
-next_searched sought sections i s within is =
-    ap (first_path (path_by_section sought)) (next_left sections i s within is)
+    → searched query sections i
+    ≡ option_or (path_by_section query (here sections i s)) (searched query sections (i + 1))
+next_searched query sections i s within is =
+    ap (first_path (path_by_section query)) (next_left sections i s within is)
 
-pub found_by_header : (sought : Sought) (sections : List code.Section) (i n : ℕ) (s : code.Section)
-    → i < length sections → s ≡ get_or sections i s → keys_in_header sought (section_of s).header ≡ Some n
+pub found_by_header : (query : Query) (sections : List code.Section) (i n : ℕ) (s : code.Section)
+    → i < length sections → s ≡ get_or sections i s → keys_in_header query (section_of s).header ≡ Some n
     → option_map (λ l. up_to_key n l.path) (slice_get (located (map section_of sections)) i)
-    ≡ searched sought sections i
-found_by_header sought sections i n s within is keys =
+    ≡ searched query sections i
+found_by_header query sections i n s within is keys =
     ap (option_map (λ (l : Located). up_to_key n l.path)) (located_there sections i s within is)
-    ∙ ap (λ o. option_or o (searched sought sections (i + 1))) (sym (by_header sought (here sections i s) n keys))
-    ∙ sym (next_searched sought sections i s within is)
+    ∙ ap (λ o. option_or o (searched query sections (i + 1))) (sym (by_header query (here sections i s) n keys))
+    ∙ sym (next_searched query sections i s within is)
 
-pub found_by_rows : (sought : Sought) (sections : List code.Section) (i : ℕ) (s : code.Section) (rows : Rows)
+pub found_by_rows : (query : Query) (sections : List code.Section) (i : ℕ) (s : code.Section) (rows : Rows)
     (before after : List Step) (pushed : Bool) → i < length sections → s ≡ get_or sections i s
-    → keys_in_header sought (section_of s).header ≡ None → rows ≡ (section_of s).rows → before ≡ []
-    → PushesIfFound pushed (path_by (test_of sought) rows) before after → pushed ≡ true
+    → keys_in_header query (section_of s).header ≡ None → rows ≡ (section_of s).rows → before ≡ []
+    → PushesIfFound pushed (path_by (test_of query) rows) before after → pushed ≡ true
     → option_map (λ l. l.path ++ path_of after) (slice_get (located (map section_of sections)) i)
-    ≡ searched sought sections i
-found_by_rows sought sections i s rows before after pushed within is keys rows-are none found is_pushed =
+    ≡ searched query sections i
+found_by_rows query sections i s rows before after pushed within is keys rows-are none found is_pushed =
     ap (option_map (λ (l : Located). l.path ++ path_of after)) (located_there sections i s within is)
-    ∙ ap (λ o. option_or o (searched sought sections (i + 1)))
-    (pushed_alone pushed (path_by (test_of sought) rows) l.path before after none found is_pushed
-    ∙ ap (λ rs. option_map (λ p. l.path ++ p) (path_by (test_of sought) rs)) rows-are
-    ∙ sym (by_rows sought l keys))
-    ∙ sym (next_searched sought sections i s within is)
+    ∙ ap (λ o. option_or o (searched query sections (i + 1)))
+    (pushed_alone pushed (path_by (test_of query) rows) l.path before after none found is_pushed
+    ∙ ap (λ rs. option_map (λ p. l.path ++ p) (path_by (test_of query) rs)) rows-are
+    ∙ sym (by_rows query l keys))
+    ∙ sym (next_searched query sections i s within is)
   where
     l : Located
     l = here sections i s
 
-pub not_by_section : (sought : Sought) (sections : List code.Section) (i : ℕ) (s : code.Section) (rows : Rows)
+pub not_by_section : (query : Query) (sections : List code.Section) (i : ℕ) (s : code.Section) (rows : Rows)
     (before after : List Step) (pushed : Bool) → i < length sections → s ≡ get_or sections i s
-    → keys_in_header sought (section_of s).header ≡ None → rows ≡ (section_of s).rows
-    → PushesIfFound pushed (path_by (test_of sought) rows) before after → pushed ≡ false
-    → (after ≡ before) × (searched sought sections i ≡ searched sought sections (i + 1))
-not_by_section sought sections i s rows before after pushed within is keys rows-are found not_pushed =
-    let none = none_pushed pushed (path_by (test_of sought) rows) l.path before after found not_pushed in (
+    → keys_in_header query (section_of s).header ≡ None → rows ≡ (section_of s).rows
+    → PushesIfFound pushed (path_by (test_of query) rows) before after → pushed ≡ false
+    → (after ≡ before) × (searched query sections i ≡ searched query sections (i + 1))
+not_by_section query sections i s rows before after pushed within is keys rows-are found not_pushed =
+    let none = none_pushed pushed (path_by (test_of query) rows) l.path before after found not_pushed in (
       none.0,
-      next_searched sought sections i s within is
-          ∙ ap (λ o. option_or o (searched sought sections (i + 1)))
-          (by_rows sought l keys
-          ∙ ap (λ rs. option_map (λ p. l.path ++ p) (path_by (test_of sought) rs)) (sym rows-are) ∙ none.1),
+      next_searched query sections i s within is
+          ∙ ap (λ o. option_or o (searched query sections (i + 1)))
+          (by_rows query l keys
+          ∙ ap (λ rs. option_map (λ p. l.path ++ p) (path_by (test_of query) rs)) (sym rows-are) ∙ none.1),
     )
   where
     l : Located

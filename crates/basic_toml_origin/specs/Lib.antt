@@ -4,6 +4,6 @@ pub mod KeyPath
 pub mod Origin
 pub mod Path
 pub mod Parts
-pub mod Sought
+pub mod Query
 pub mod Ways
 pub mod Clash

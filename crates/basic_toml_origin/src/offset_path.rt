@@ -5,11 +5,11 @@ ghost use Rattle.basic_toml_places.specs.Places.{first_path, path_at};
 ghost use Rattle.basic_toml_read.specs.SectionView.{section_of};
 ghost use Rattle.basic_toml_origin.specs.KeyPath.{key_path_at, up_to_key};
 ghost use Rattle.basic_toml_origin.specs.Path.{path_of};
-ghost use Rattle.basic_toml_origin.specs.Sought.{path_by_section};
+ghost use Rattle.basic_toml_origin.specs.Query.{path_by_section};
 
 use crate::indexed_path::section_path;
+use crate::query::Query;
 use crate::row_path::push_path_by;
-use crate::sought::Sought;
 use crate::step::Step;
 use basic_toml_read::Section;
 use std::alloc::{AllocError, Global};
@@ -29,7 +29,7 @@ pub fn path_to_value<'s, 'de>(
     ensures { IfOk result (λ path. option_map (λ p. path_of p.items) path
         ≡ path_at (map section_of sections.now) offset) }
 {
-    path_to(alloc, sections, Sought::Value(offset))
+    path_to(alloc, sections, Query::Value(offset))
 }
 
 /// The path that a key leads to, by the offset where it begins, counted in bytes from 0: a key of a header, or one of a
@@ -47,26 +47,26 @@ pub fn path_to_key<'s, 'de>(
     ensures { IfOk result (λ path. option_map (λ p. path_of p.items) path
         ≡ key_path_at (map section_of sections.now) offset) }
 {
-    path_to(alloc, sections, Sought::Key(offset))
+    path_to(alloc, sections, Query::Key(offset))
 }
 
 // The path to what is looked for, by the first section that leads there.
 fn path_to<'s, 'de>(
     alloc: Global,
     sections: &'s [Section<'de>],
-    sought: Sought,
+    query: Query,
 ) -> Result<Option<Vec<Step<'s>>>, AllocError>
     ensures { IfOk result (λ path. option_map (λ p. path_of p.items) path
-        ≡ first_path (path_by_section sought) (located (map section_of sections.now))) }
+        ≡ first_path (path_by_section query) (located (map section_of sections.now))) }
 {
     let mut within = Vec::new(alloc);
     for (number, section) in sections.iter().enumerate() {
-        if let Some(keys) = sought.keys_in_header(section.header.as_slice()) {
+        if let Some(keys) = query.keys_in_header(section.header.as_slice()) {
             return path_up_to_key(alloc, sections, number, keys);
         }
         let parents = section.rows.parents.as_slice();
         let rows = section.rows.rows.as_slice();
-        if push_path_by(sought, parents, rows, &mut within)? {
+        if push_path_by(query, parents, rows, &mut within)? {
             return path_and_steps(alloc, sections, number, &mut within);
         }
     }

@@ -6,7 +6,7 @@ use Rattle.basic_toml_read.specs.SectionView.{elements_view, key_of, lined_of, r
 use Rattle.basic_toml_read.proofs.NextRow.{parents_left}
 use Rattle.basic_toml_places.specs.Places.{path_by}
 use Rattle.basic_toml_origin.specs.declared.step.Step.{Step}
-use Rattle.basic_toml_origin.specs.Sought.{PushesIfFound, test_of}
+use Rattle.basic_toml_origin.specs.Query.{PushesIfFound, test_of}
 use Rattle.basic_toml_origin.proofs.PathsPushed.{element_here, element_path, element_within, found_among, found_at_keys}
 use Rattle.basic_toml_origin.proofs.PathsPushed.{found_by_row, found_in_value, keys_within, not_among, not_by_row}
 use Rattle.basic_toml_origin.proofs.PathsPushed.{pushed_length}
@@ -16,7 +16,7 @@ use Rattle.basic_toml_origin.proofs.row_path.+paths.Goals.{push_path_among-then-
 
 pub push_path_by-returns-then-branch : goal.push_path_by-returns-then-branch
 push_path_by-returns-then-branch t c =
-    found_by_row (test_of c.args.sought) (rows_seen c.args.parents.now c.args.rows.now) c.loop-row.left.now
+    found_by_row (test_of c.args.query) (rows_seen c.args.parents.now c.args.rows.now) c.loop-row.left.now
     c.own_parents-own.result.now c.args.rows.now c.loop-row.row-index c.row-item.result c.args.path.now.items
     c.loop-row.path.items c.push_path_at_row.new.path.items c.in_ok-push_path_at_row.field-0 c.loop-row-test.true
     c.row-item.is c.own_parents-own.ensures c.loop-row.invariant.1 c.loop-row.invariant.2
@@ -28,14 +28,14 @@ push_path_by-loop-row-preserved t c =
     let r = c.row-item.result in
     let rest = drop (c.loop-row.row-index + 1) c.args.rows.now in
     let own = parents_left (out-Row r).parents left c.own_parents-own.result.now c.own_parents-own.ensures in
-    let none = not_by_row (test_of c.args.sought) (rows_seen c.args.parents.now c.args.rows.now) left
+    let none = not_by_row (test_of c.args.query) (rows_seen c.args.parents.now c.args.rows.now) left
     c.own_parents-own.result.now c.args.rows.now c.loop-row.row-index r c.loop-row.path.items
     c.push_path_at_row.new.path.items c.in_ok-push_path_at_row.field-0 c.loop-row-test.true c.row-item.is
     c.own_parents-own.ensures c.loop-row.invariant.2 c.in_ok-push_path_at_row.ensures c.if-branch.false in (
       omega (arith, own.0, c.loop-row.invariant.0),
       none.0 ∙ c.loop-row.invariant.1,
       none.1
-          ∙ ap (λ (ks : List code.Key). path_by (test_of c.args.sought) (rows_from (map key_of ks) (map lined_of rest)))
+          ∙ ap (λ (ks : List code.Key). path_by (test_of c.args.query) (rows_from (map key_of ks) (map lined_of rest)))
           own.1,
     )
 
@@ -46,27 +46,27 @@ push_path_at_row-overflow_add-len t c =
     omega (
       arith,
       c.len-len.ensures,
-      keys_within c.args.sought keys row.start c.in-Some.keys (sym c.in-Some.ensures),
+      keys_within c.args.query keys row.start c.in-Some.keys (sym c.in-Some.ensures),
       pushed_length c.args.path.now.items c.push_keys.new.path.items keys c.in_ok-push_keys.ensures.steps,
     )
 
 pub push_path_at_row-returns-in-Some : goal.push_path_at_row-returns-in-Some
 push_path_at_row-returns-in-Some t c =
-    found_at_keys (test_of c.args.sought) c.args.parents.now c.args.row.now c.in-Some.keys c.args.path.now.items
+    found_at_keys (test_of c.args.query) c.args.parents.now c.args.row.now c.in-Some.keys c.args.path.now.items
     c.push_keys.new.path.items c.truncate.new.self.items (sym c.in-Some.ensures) c.in_ok-push_keys.ensures.steps
     (c.truncate.ensures.items
     ∙ ap (λ n. take (n + c.in-Some.keys) c.push_keys.new.path.items) (omega (arith, c.len-len.ensures)))
 
 pub push_path_at_row-returns-then-branch : goal.push_path_at_row-returns-then-branch
 push_path_at_row-returns-then-branch t c =
-    found_in_value (test_of c.args.sought) c.args.parents.now c.args.row.now c.in_ok-push_path_within.field-0
+    found_in_value (test_of c.args.query) c.args.parents.now c.args.row.now c.in_ok-push_path_within.field-0
     c.args.path.now.items c.push_keys.new.path.items c.push_path_within.new.path.items
     (sym c.keys_in_row.ensures ∙ c.in_default.is)
     c.in_ok-push_keys.ensures.steps c.in_ok-push_path_within.ensures c.if-branch.true
 
 pub push_path_among-returns-then-is_element : goal.push_path_among-returns-then-is_element
 push_path_among-returns-then-is_element t c =
-    let test = test_of c.args.sought in
+    let test = test_of c.args.query in
     let e = c.index-elements-number.result in
     let steps = c.push.new.self.items in
     let after = c.then-is_element.path.items in
@@ -86,7 +86,7 @@ push_path_among-returns-then-is_element t c =
 
 pub push_path_among-loop-number-preserved : goal.push_path_among-loop-number-preserved
 push_path_among-loop-number-preserved t c =
-    let none = not_among (test_of c.args.sought) c.loop-number.number (elements_view c.args.elements.now)
+    let none = not_among (test_of c.args.query) c.loop-number.number (elements_view c.args.elements.now)
     c.args.elements.now c.index-elements-number.result c.push.new.self.items c.push_path_within.new.path.items
     c.in_ok-push_path_within.field-0 c.loop-number-test.true c.index-elements-number.is c.loop-number.invariant.1
     c.if-is_element.ensures c.in_ok-push_path_within.ensures c.if-branch.false in (

@@ -4,7 +4,7 @@ use Rattle.std.specs.List.{position}
 use Rattle.std.proofs.lemmas.Iterator.{YieldsList-from_slice}
 use Rattle.std.proofs.lemmas.Iterator.Search.{position_from_yields_List}
 use Rattle.basic_toml_origin.proofs.KeysNumbered.{number_behind, numbered}
-use Rattle.basic_toml_origin.proofs.sought.key_number.Goals as goal
+use Rattle.basic_toml_origin.proofs.query.key_number.Goals as goal
 
 pub returns : goal.returns
 returns c =

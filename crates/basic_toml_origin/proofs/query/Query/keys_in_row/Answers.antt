@@ -1,5 +1,5 @@
 use Rattle.basic_toml_origin.proofs.KeysNumbered.{number_in_row}
-use Rattle.basic_toml_origin.proofs.sought.Sought.keys_in_row.Goals as goal
+use Rattle.basic_toml_origin.proofs.query.Query.keys_in_row.Goals as goal
 
 pub returns-in-Key : goal.returns-in-Key
 returns-in-Key c =

@@ -2,27 +2,27 @@
 ghost use Rattle.std.specs.Prelude.{◌≡◌, [], ◌∷◌, ◌++◌, None, Some, if◌then◌else◌, map};
 ghost use Rattle.basic_toml_places.specs.Places.{key_number};
 ghost use Rattle.basic_toml_read.specs.SectionView.{key_of, lined_of};
-ghost use Rattle.basic_toml_origin.specs.Sought.{keys_in_header, test_of};
+ghost use Rattle.basic_toml_origin.specs.Query.{keys_in_header, test_of};
 
 use basic_toml_read::{Key, Row};
 
 /// What is looked for, by an offset.
 #[derive(Clone, Copy)]
-pub(crate) enum Sought {
+pub(crate) enum Query {
     /// The value that begins there.
     Value(usize),
     /// What the key leads to that begins there.
     Key(usize),
 }
 
-impl Sought {
+impl Query {
     /// How many keys of a header lead to it, if one of these does.
     pub(crate) fn keys_in_header(self, header: &[Key<'_>]) -> Option<usize>
         ensures { result ≡ keys_in_header self (map key_of header.now) }
     {
         match self {
-            Sought::Value(_) => None,
-            Sought::Key(offset) => key_number(header, offset),
+            Query::Value(_) => None,
+            Query::Key(offset) => key_number(header, offset),
         }
     }
 
@@ -34,8 +34,8 @@ impl Sought {
     {
         let keys = parents.len() + 1;
         match self {
-            Sought::Value(offset) => (offset == row.start).then_some(keys),
-            Sought::Key(offset) => {
+            Query::Value(offset) => (offset == row.start).then_some(keys),
+            Query::Key(offset) => {
                 key_number(parents, offset).or((offset == row.offset).then_some(keys))
             }
         }
@@ -45,7 +45,7 @@ impl Sought {
     pub(crate) fn is_element(self, at: usize) -> bool
         ensures { test_of self [] at ≡ (if result then Some 0 else None) }
     {
-        matches!(self, Sought::Value(offset) if offset == at)
+        matches!(self, Query::Value(offset) if offset == at)
     }
 }
 
