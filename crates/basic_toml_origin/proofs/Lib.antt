@@ -15,3 +15,7 @@ pub mod PathsPushed
 pub mod SectionsSearched
 pub mod WorkedOrigins
 pub mod WorkedPaths
+pub mod NumbersFollowKeys
+pub mod AnchorsLead
+pub mod StepsKept
+pub mod WorkedAnchors

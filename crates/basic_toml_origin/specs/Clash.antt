@@ -1,7 +1,7 @@
 -- The two places of a clash, own: where what stands first is written, and where the later one begins. The error of a
 -- clash stands at the later one; where a row goes on from a value, at the value.
 use Rattle.std.specs.Prelude.{ℕ, ◌-◌, ◌==◌, min, if◌then◌else◌, List, [], ◌∷◌, length, slice_get}
-use Rattle.std.specs.Prelude.{Option, None, option_map, unwrap_or}
+use Rattle.std.specs.Prelude.{Option, Some, None, option_map, unwrap_or}
 use Rattle.std.specs.Option.{option_or, option_and_then}
 use Rattle.basic_toml_grammar.specs.Sections.{Section}
 use Rattle.basic_toml_grammar.specs.Faults.{FaultKind, duplicate_key, duplicate_table, redefine_as_array}
@@ -10,6 +10,8 @@ use Rattle.basic_toml_origin.specs.Before.{sections_before}
 use Rattle.basic_toml_origin.specs.Crossing.{crossing_key}
 use Rattle.basic_toml_origin.specs.KeyPath.{key_path_at}
 use Rattle.basic_toml_origin.specs.Origin.{origin_at}
+use Rattle.basic_toml_origin.specs.declared.clash.ClashKind.{ClashKind}
+use Rattle.basic_toml_origin.specs.declared.clash.ClashKind.TheVariants as kinds
 use Rattle.basic_toml_origin.specs.declared.clash.ClashPlaces.{ClashPlaces}
 use Rattle.basic_toml_origin.specs.declared.origin.Origin.{Origin}
 
@@ -34,12 +36,17 @@ header_key (s ∷ sections) o = option_or (last_key_at s o) (header_key sections
 abbrev pub before_key : List Section → ℕ → ℕ → Option ClashPlaces
 before_key sections o later = option_map (λ first. record { first = first; later = later }) (first_place sections o)
 
--- by the kind and the place of the error
-abbrev pub clash_places : List Section → FaultKind → ℕ → Option ClashPlaces
-clash_places sections (duplicate_key k) o = before_key sections o o
-clash_places sections (duplicate_table name) o =
-    option_and_then (λ k. before_key sections k o) (header_key sections o)
-clash_places sections redefine_as_array o = option_and_then (λ k. before_key sections k o) (header_key sections o)
-clash_places sections dotted_key_invalid_type o =
+-- what an error is of, if it is one of a clash
+abbrev pub clash_kind : FaultKind → Option ClashKind
+clash_kind (duplicate_key k) = Some kinds.Key
+clash_kind (duplicate_table name) = Some kinds.Header
+clash_kind redefine_as_array = Some kinds.Header
+clash_kind dotted_key_invalid_type = Some kinds.Value
+clash_kind kind = None
+
+-- by what clashes, and the place of the error
+abbrev pub clash_places : List Section → ClashKind → ℕ → Option ClashPlaces
+clash_places sections kinds.Key o = before_key sections o o
+clash_places sections kinds.Header o = option_and_then (λ k. before_key sections k o) (header_key sections o)
+clash_places sections kinds.Value o =
     option_map (λ later. record { first = o; later = later }) (crossing_key o sections)
-clash_places sections kind o = None

@@ -7,3 +7,5 @@ pub mod Parts
 pub mod Query
 pub mod Ways
 pub mod Clash
+pub mod Anchor
+pub mod Statements

@@ -1,6 +1,6 @@
 //! The two places of a clash.
 ghost use Rattle.std.specs.Prelude.{◌≡◌, IfOk, map};
-ghost use Rattle.basic_toml_explain.specs.Error.{kind_of};
+ghost use Rattle.basic_toml_explain.specs.Error.{kind_by};
 ghost use Rattle.basic_toml_read.specs.SectionView.{section_of};
 ghost use Rattle.basic_toml_origin.specs.Clash as spec;
 
@@ -11,6 +11,7 @@ use crate::origin::Origin;
 use basic_toml_explain::ReadErrorKind;
 use basic_toml_read::Section;
 use std::alloc::{AllocError, Global};
+use std::convert::AsStr;
 
 /// The two places of a clash, as byte offsets.
 #[derive(Clone, Copy, Debug, PartialEq, Eq)]
@@ -22,9 +23,35 @@ pub struct ClashPlaces {
     pub later: usize,
 }
 
-/// The two places of a clash, by the kind and the offset of its error: of the sections of a text, which are the list
-/// that the error is of. What the later key leads to is looked for in what stands before it. `None` for errors of other
-/// kinds.
+/// What clashes with what stands before it.
+#[derive(Clone, Copy, Debug, PartialEq, Eq)]
+pub enum ClashKind {
+    /// The key of a row, whose error stands at it.
+    Key,
+    /// A header, whose error stands at its first bracket.
+    Header,
+    /// A row that goes on from the value of an earlier one: the error stands at the value.
+    Value,
+}
+
+impl ClashKind {
+    /// That of an error, if it is one of a clash.
+    pub fn of<Word: AsStr>(kind: &ReadErrorKind<Word>) -> Option<ClashKind>
+        ensures { result ≡ spec.clash_kind (kind_by Word.AsStr.text kind.now) }
+    {
+        match kind {
+            ReadErrorKind::DuplicateKey(_) => Some(ClashKind::Key),
+            ReadErrorKind::DuplicateTable(_) | ReadErrorKind::RedefineAsArray => {
+                Some(ClashKind::Header)
+            }
+            ReadErrorKind::DottedKeyInvalidType => Some(ClashKind::Value),
+            _ => None,
+        }
+    }
+}
+
+/// The two places of a clash, by the offset of its error: of the sections of a text, which are the list that the error
+/// is of. What the later key leads to is looked for in what stands before it.
 ///
 /// # Errors
 ///
@@ -32,28 +59,24 @@ pub struct ClashPlaces {
 pub fn clash_places(
     alloc: Global,
     sections: &[Section<'_>],
-    kind: &ReadErrorKind,
+    clash: ClashKind,
     offset: usize,
 ) -> Result<Option<ClashPlaces>, AllocError>
-    ensures { IfOk result (λ places. places
-        ≡ spec.clash_places (map section_of sections.now) (kind_of kind.now) offset) }
+    ensures { IfOk result (λ places. places ≡ spec.clash_places (map section_of sections.now) clash offset) }
 {
-    match kind {
-        ReadErrorKind::DuplicateKey(_) => before_key(alloc, sections, offset, offset),
-        ReadErrorKind::DuplicateTable(_) | ReadErrorKind::RedefineAsArray => {
-            match header_key(sections, offset) {
-                Some(key) => before_key(alloc, sections, key, offset),
-                None => Ok(None),
-            }
-        }
-        ReadErrorKind::DottedKeyInvalidType => match crossing_key(sections, offset) {
+    match clash {
+        ClashKind::Key => before_key(alloc, sections, offset, offset),
+        ClashKind::Header => match header_key(sections, offset) {
+            Some(key) => before_key(alloc, sections, key, offset),
+            None => Ok(None),
+        },
+        ClashKind::Value => match crossing_key(sections, offset) {
             Some(later) => Ok(Some(ClashPlaces {
                 first: offset,
                 later,
             })),
             None => Ok(None),
         },
-        _ => Ok(None),
     }
 }
 

@@ -3,15 +3,17 @@
 //! has the offset of the thing and that of its key.
 //!
 //! The other way, [`path_to_value`] and [`path_to_key`] give the path to what begins at an offset, and [`section_path`]
-//! that of a section. The two places of a clash are [`clash_places`]; with which key a row goes on from a value says
-//! [`crossing_key`].
+//! that of a section. An [`Anchor`] is kept in place of a path, and [`path_to_anchor`] finds the path again. The two
+//! places of a clash are [`clash_places`]; with which key a row goes on from a value says [`crossing_key`].
 #![tactic(auto)]
 
+mod anchor;
 mod before;
 mod clash;
 mod crossing;
 mod find;
 mod indexed_path;
+pub mod laws;
 mod offset_path;
 mod origin;
 mod query;
@@ -20,7 +22,8 @@ mod step;
 mod values;
 mod ways;
 
-pub use clash::{ClashPlaces, clash_places};
+pub use anchor::{Anchor, path_to_anchor};
+pub use clash::{ClashKind, ClashPlaces, clash_places};
 pub use crossing::crossing_key;
 pub use find::{origin_at, origin_before};
 pub use indexed_path::section_path;

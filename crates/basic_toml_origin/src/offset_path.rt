@@ -73,8 +73,8 @@ fn path_to<'s, 'de>(
     Ok(None)
 }
 
-// The path of the section of a number, up to its key of a number, counted from 1.
-fn path_up_to_key<'s, 'de>(
+/// The path of the section of a number, up to its key of a number, counted from 1.
+pub(crate) fn path_up_to_key<'s, 'de>(
     alloc: Global,
     sections: &'s [Section<'de>],
     number: usize,
@@ -109,8 +109,8 @@ fn path_and_steps<'s, 'de>(
     Ok(Some(path))
 }
 
-// How many steps of a path there are up to its key of a number, counted from 1.
-fn len_up_to_key(path: &[Step<'_>], keys: usize) -> usize
+/// How many steps of a path there are up to its key of a number, counted from 1.
+pub(crate) fn len_up_to_key(path: &[Step<'_>], keys: usize) -> usize
     ensures steps { take result (path_of path.now) ≡ up_to_key keys (path_of path.now) }
     ensures within { result ≤ length path.now }
 {

@@ -5,7 +5,8 @@ use Rattle.basic_toml.specs.tokens.Text.{folded}
 use Rattle.basic_toml.specs.Faults as read
 use Rattle.basic_toml_grammar.specs.Grammar.{IsSectionList}
 use Rattle.basic_toml_grammar.specs.Sections.{Section}
-use Rattle.basic_toml_origin.specs.Clash.{clash_places}
+use Rattle.basic_toml_origin.specs.Clash.{clash_kind, clash_places}
+use Rattle.basic_toml_origin.specs.declared.clash.ClashKind.{ClashKind}
 use Rattle.basic_toml_origin.specs.declared.clash.ClashPlaces.{ClashPlaces}
 use Rattle.toml_findings.specs.Places.{Place, place_at, place_of}
 use Rattle.toml_findings.specs.declared.other_key.OtherKey as code
@@ -21,13 +22,6 @@ other_of o = record { is_first = o.is_first; place = place_of o.place }
 abbrev pub maybe_other : Option code.OtherKey → Option OtherKey
 maybe_other o = option_map other_of o
 
-abbrev pub is_clash : read.FaultKind → Bool
-is_clash (read.duplicate_key k) = true
-is_clash (read.duplicate_table name) = true
-is_clash read.redefine_as_array = true
-is_clash read.dotted_key_invalid_type = true
-is_clash _ = false
-
 -- the place of the two that is not this one, and whether it stands first
 abbrev pub other_at : ClashPlaces → ℕ → Bool × ℕ
 other_at places offset = if places.later == offset then (true, places.first) else (false, places.later)
@@ -37,10 +31,11 @@ told text other = record { is_first = other.0; place = place_at text other.1 }
 
 -- Of an error that stands at an offset: by the section list of the text, where it is one of a clash.
 pub data IsOther (text : List ℕ) (kind : read.FaultKind) (offset : ℕ) : Option OtherKey → Type 0 where
-  clash : {sections : List Section} {other : Option OtherKey} → IsSectionList (folded text) sections
-      → other ≡ option_map (λ places. told text (other_at places offset)) (clash_places sections kind offset)
+  clash : {sections : List Section} {clash : ClashKind} {other : Option OtherKey}
+      → IsSectionList (folded text) sections → clash_kind kind ≡ Some clash
+      → other ≡ option_map (λ places. told text (other_at places offset)) (clash_places sections clash offset)
       → IsOther text kind offset other
-  none : is_clash kind ≡ false → IsOther text kind offset None
+  none : clash_kind kind ≡ None → IsOther text kind offset None
 
 abbrev pub word : Bool → List ℕ
 word true = codes "first defined"

@@ -5,7 +5,7 @@ ghost use Rattle.toml_findings.specs.OtherKeys as spec;
 
 use crate::place::{Place, place_at};
 use basic_toml_explain::ReadErrorKind;
-use basic_toml_origin::{ClashPlaces, clash_places};
+use basic_toml_origin::{ClashKind, ClashPlaces, clash_places};
 use basic_toml_read::sections;
 use std::alloc::{AllocError, Global};
 use std::fmt;
@@ -56,13 +56,13 @@ pub fn other_key(
 ) -> Result<Option<OtherKey>, AllocError>
     ensures { IfOk result (λ other. spec.IsOther text.now (kind_of kind.now) offset (spec.maybe_other other)) }
 {
-    if !is_clash(kind) {
+    let Some(clash) = ClashKind::of(kind) else {
         return Ok(None);
-    }
+    };
     let Ok(sections) = sections(alloc, text) else {
         return Err(AllocError);
     };
-    match clash_places(alloc, sections.as_slice(), kind, offset)? {
+    match clash_places(alloc, sections.as_slice(), clash, offset)? {
         Some(places) => {
             let (is_first, at) = other_at(places, offset);
             let place = place_at(alloc, text, at)?;
@@ -81,16 +81,4 @@ fn other_at(places: ClashPlaces, offset: usize) -> (bool, usize)
     } else {
         (false, places.later)
     }
-}
-
-fn is_clash(kind: &ReadErrorKind) -> bool
-    ensures { result ≡ spec.is_clash (kind_of kind.now) }
-{
-    matches!(
-        kind,
-        ReadErrorKind::DuplicateKey(_)
-            | ReadErrorKind::DuplicateTable(_)
-            | ReadErrorKind::RedefineAsArray
-            | ReadErrorKind::DottedKeyInvalidType
-    )
 }
