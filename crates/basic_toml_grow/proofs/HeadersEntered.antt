@@ -284,6 +284,11 @@ passes k t new n position child now entered stands =
           ∙ ap (λ es. with_value es position (holding child now)) (passed_entries t new n);
     }
 
+pub passed_number : (t : Table) (new : List (List ℕ × Child)) (n position : ℕ) (child : Child) (now : items.Item)
+    → (out-Table (with_entries (passed_table t new n) (with_value (out-Table (passed_table t new n)).entries position
+    (holding child now)))).section ≡ n
+passed_number t new n position child now = search (rules, the_lemmas)
+
 pub passed_trie : (k : List ℕ) (t u : Table) (position : ℕ) (there now : items.Item)
     (pass : Passes k t position there now u) → child_trie pass.child ≡ item_trie there
 passed_trie k t u position there now pass = child_item_trie pass.child ∙ ap item_trie pass.item

@@ -3,4 +3,5 @@ pub mod OriginsSeen
 pub mod RowsPlaceOrigins
 pub mod OriginsLeft
 pub mod HeadersPlaceOrigins
+pub mod HeadersMark
 pub mod ElementsPlaceOrigins

@@ -17,7 +17,8 @@ use Rattle.basic_toml_grow.specs.declared.item.Child.{fold-Child}
 use Rattle.basic_toml_grow.specs.declared.item.Table as tables
 use Rattle.basic_toml_grow.specs.declared.item.Table.{fold-Table}
 
--- whether headers made it, what it is called, where it begins, and the number of the section that first mentioned it
+-- Whether headers made it, what it is called, where it begins, and the number of a section: the one that first mentioned
+-- it, or of what headers made the latest one whose header leads there.
 pub record Origin : Type 0 where
   pub made : Bool
   pub name : List ℕ
@@ -65,20 +66,28 @@ abbrev pub at_numbers : List Origins → Origins
 at_numbers os (number n ∷ p) = under (slice_get os n) p
 at_numbers os _ = None
 
--- what is seen of a table: whether headers made it, and the origins below it
+-- what is seen of a table: whether headers made it, the latest section whose header leads there, and the origins below it
 pub record Within : Type 0 where
   pub made : Bool
+  pub section : ℕ
   pub below : Origins
 
+-- that section, or else the one that first mentioned it
+abbrev pub section_in : Within → ℕ → ℕ
+section_in t s = if t.made then t.section else s
+
+abbrev pub of_table : ℕ → ℕ → Within → Origins
+of_table at s t = entry (table_origin t.made at (section_in t s)) t.below
+
 abbrev pub elements_within : ℕ → ℕ → List Within → List Origins
-elements_within at s ts = map (λ t. entry (table_origin t.made at s) t.below) ts
+elements_within at s ts = map (of_table at s) ts
 
 -- those before, and the others where there are none
 abbrev pub or_else : Origins → Origins → Origins
 or_else before new p = option_or (before p) (new p)
 
 abbrev pub with_more : Within → Origins → Within
-with_more w new = record { made = w.made; below = or_else w.below new }
+with_more w new = record { made = w.made; section = w.section; below = or_else w.below new }
 
 -- one step further, and on by a path
 abbrev pub beyond : Step → Origins → Origins
@@ -125,15 +134,16 @@ item_from (Item-F.Escaped _) at s = entry (value_origin (codes "string") at s) n
 item_from (Item-F.Array children) at s = entry (value_origin (codes "array") at s) (at_numbers children.items)
 item_from (Item-F.Plain elements) at s = value_origins s at (plain_array elements.items)
 item_from (Item-F.Inline table) at s = entry (value_origin (codes "inline table") at s) table.value.below
-item_from (Item-F.Table table) at s = entry (table_origin table.value.made at s) table.value.below
+item_from (Item-F.Table table) at s = of_table at s table.value
 item_from (Item-F.Tables before latest) at s =
-    entry (array_origin at s) (at_numbers (elements_within at s (before.value.items ++ latest.value ∷ [])))
+    entry (array_origin at latest.value.section)
+    (at_numbers (elements_within at s (before.value.items ++ latest.value ∷ [])))
 
 abbrev pub child_from : Child-F (ℕ → ℕ → Origins) Origins Within → Origins
 child_from c = c.item c.start c.section
 
 abbrev pub table_from : Table-F (ℕ → ℕ → Origins) Origins Within → Within
-table_from t = record { made = t.passed || t.named; below = at_keys t.entries }
+table_from t = record { made = t.passed || t.named; section = t.section; below = at_keys t.entries }
 
 abbrev pub item_origins : items.Item → ℕ → ℕ → Origins
 item_origins = fold-Item (ℕ → ℕ → Origins) Origins Within item_from child_from table_from

@@ -12,7 +12,7 @@ ghost use Rattle.basic_toml_grow.specs.Item.{table_trie, item_trie};
 ghost use Rattle.basic_toml_grammar.specs.Steps.{number as number_step};
 ghost use Rattle.basic_toml_grammar.specs.Trie.{count};
 ghost use Rattle.basic_toml_grow.specs.Origins.{item_origins, table_within, or_else, rows_origins};
-ghost use Rattle.basic_toml_grow.specs.Ways.{way, way_by, way_at, GrowsAlong};
+ghost use Rattle.basic_toml_grow.specs.Ways.{way, way_by, way_at, GrowsAlong, MarksWay, MarksTable};
 ghost use Rattle.basic_toml_grow.specs.Headers.{EntersHeader, EntersItem, IsIn, IsKeptOut};
 ghost use Rattle.basic_toml_grow.specs.Headers.{entered_by, steps_by, entered_at, steps_at, tried_by, tried_at};
 
@@ -50,6 +50,9 @@ pub fn enter_section<'de>(
         let rows = rows_origins number (rows_view section.old.rows) in
         IfOk result (λ _. GrowsAlong (way section.old.is_array keys (table_trie root.old)) rows
         (table_within root.old).below (table_within root.new).below) }
+    ensures marks { let keys = header_texts section.old.header.items in
+        IfOk result (λ _. MarksTable number (way section.old.is_array keys (table_trie root.old))
+        (table_within root.new)) }
     ensures taken { IfOk result (λ _. NoneLeft section.new.rows) }
     ensures at { section.new.at ≡ section.old.at }
     ensures is_array { section.new.is_array ≡ section.old.is_array }
@@ -76,6 +79,7 @@ fn open<'de>(
         IfErr result (λ clash. NamesStop tried clash) }
     ensures origins { IfOk result (λ _. (table_within table.new).below
         ≡ or_else (table_within table.old).below (rows_origins number (rows_view rows.old))) }
+    ensures marks { IfOk result (λ _. MarksTable number [] (table_within table.new)) }
     ensures taken { IfOk result (λ _. NoneLeft rows.new) }
 {
     if level > NESTING_LIMIT {
@@ -114,6 +118,8 @@ fn enter_header<'de>(
     ensures origins { let new = rows_origins number (rows_view rows.old) in
         IfOk result (λ _. GrowsAlong (way is_array (header_texts keys.now) (table_trie table.old)) new
         (table_within table.old).below (table_within table.new).below) }
+    ensures marks { IfOk result (λ _. MarksTable number (way is_array (header_texts keys.now) (table_trie table.old))
+        (table_within table.new)) }
     ensures taken { IfOk result (λ _. NoneLeft rows.new) }
 {
     match keys.split_first() {
@@ -145,6 +151,8 @@ fn enter_below<'de>(
         let keys = header_texts (key.now ∷ rest.now) in
         IfOk result (λ _. GrowsAlong (way is_array keys (table_trie table.old)) new
         (table_within table.old).below (table_within table.new).below) }
+    ensures marks { let keys = header_texts (key.now ∷ rest.now) in
+        IfOk result (λ _. MarksTable number (way is_array keys (table_trie table.old)) (table_within table.new)) }
     ensures taken { IfOk result (λ _. NoneLeft rows.new) }
 {
     if level > NESTING_LIMIT {
@@ -182,6 +190,9 @@ fn enter_at<'de>(
         IfOk result (λ _. (start section : ℕ) →
         GrowsAlong (way_at is_array (header_texts rest.now) (item_trie there.old)) new
         (item_origins there.old start section) (item_origins there.new start section)) }
+    ensures marks { IfOk result (λ _. (start section : ℕ) →
+        MarksWay number (way_at is_array (header_texts rest.now) (item_trie there.old))
+        (item_origins there.new start section)) }
     ensures taken { IfOk result (λ _. NoneLeft rows.new) }
 {
     if is_array && rest.is_empty() {
@@ -226,6 +237,8 @@ fn add_element<'de>(
         IfOk result (λ after. (start section : ℕ) →
         GrowsAlong (number_step (count (item_trie there.entry)) ∷ []) new
         (item_origins there.entry start section) (item_origins after start section)) }
+    ensures marks { IfOk result (λ after. (start section : ℕ) →
+        MarksWay number (number_step (count (item_trie there.entry)) ∷ []) (item_origins after start section)) }
     ensures taken { IfOk result (λ _. NoneLeft rows.new) }
 {
     let (before, table) = match there {
@@ -271,6 +284,9 @@ fn enter_item<'de>(
         IfOk result (λ _. (start section : ℕ) →
         GrowsAlong (way_by is_array (header_texts rest.now) (item_trie there.old)) new
         (item_origins there.old start section) (item_origins there.new start section)) }
+    ensures marks { IfOk result (λ _. (start section : ℕ) →
+        MarksWay number (way_by is_array (header_texts rest.now) (item_trie there.old))
+        (item_origins there.new start section)) }
     ensures taken { IfOk result (λ _. NoneLeft rows.new) }
 {
     match there {

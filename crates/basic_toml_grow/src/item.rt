@@ -60,7 +60,7 @@ pub struct Table<'de> {
     pub named: bool,
     /// Whether the dots of a row extend it.
     pub dotted: bool,
-    /// The number of a section whose header names it or passes through it, if there is one.
+    /// The number of the latest section whose header names it or passes through it, if there is one.
     pub section: usize,
     pub entries: Pairs<Child<'de>>,
 }

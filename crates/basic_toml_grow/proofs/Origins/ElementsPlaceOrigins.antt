@@ -14,7 +14,7 @@ use Rattle.basic_toml_grow.specs.declared.item.Item as items
 use Rattle.basic_toml_grow.specs.declared.item.Table.{Table}
 use Rattle.basic_toml_grow.specs.Item.{item_trie, table_trie}
 use Rattle.basic_toml_grow.specs.Origins.{Origin, Origins, no_origins, entry, under, at_numbers, Within}
-use Rattle.basic_toml_grow.specs.Origins.{table_origin, item_origins, table_within, or_else, along}
+use Rattle.basic_toml_grow.specs.Origins.{table_origin, of_table, section_in, item_origins, table_within, or_else, along}
 use Rattle.basic_toml_grow.specs.Ways.{way, way_by, GrowsAlong}
 use Rattle.basic_toml_grow.proofs.HeadersInATrie.{fresh}
 use Rattle.basic_toml_grow.proofs.TablesOpened.{tables_trie, nothing_trie}
@@ -24,7 +24,7 @@ use Rattle.basic_toml_grow.proofs.Origins.HeadersPlaceOrigins.{way_into_latest}
 
 -- the last of a list, and the others
 module _ {A : Type 0} where
-  last_is : (xs : List A) (x : A) (n : ℕ) → n ≡ length xs → slice_get (xs ++ x ∷ []) n ≡ Some x
+  pub last_is : (xs : List A) (x : A) (n : ℕ) → n ≡ length xs → slice_get (xs ++ x ∷ []) n ≡ Some x
   last_is [] x zero same = refl
   last_is [] x (suc n) same = absurd (omega (arith, same))
   last_is (y ∷ xs) x zero same = absurd (omega (arith, same))
@@ -43,7 +43,7 @@ module _ {A : Type 0} where
   other_is (y ∷ xs) x zero (suc m) same other = absurd (omega (arith, same))
   other_is (y ∷ xs) x (suc n) (suc m) same other = other_is xs x n m (omega (arith, same)) (grind (arith, other))
 
-same_numbers : (n m : ℕ) → nat_eq m n ≡ true → m ≡ n
+pub same_numbers : (n m : ℕ) → nat_eq m n ≡ true → m ≡ n
 same_numbers n m same = grind (arith, same)
 
 -- the elements before the last one are as they were; the last has grown, or is new
@@ -85,10 +85,7 @@ module _ (xs : List Origins) (n : ℕ) (counted : n ≡ length xs) (was now rows
           ∙ ap (λ b. option_or (there (number m ∷ q)) (if b then along w rows q else None)) (sym e)
 
 -- an array of tables, by the origins in its elements
-abbrev of_table : ℕ → ℕ → Within → Origins
-of_table at s t = entry (table_origin t.made at s) t.below
-
-array_below : (i : items.Item) (b : Box (Vec Table Global) Global) (latest : Box Table Global) (at s : ℕ) → i ≡ Tables b latest
+pub array_below : (i : items.Item) (b : Box (Vec Table Global) Global) (latest : Box Table Global) (at s : ℕ) → i ≡ Tables b latest
     → (r : Step) (p : Path) → item_origins i at s (r ∷ p)
     ≡ at_numbers (map (of_table at s) (map table_within b.value.items) ++ of_table at s (table_within latest.value) ∷ [])
     (r ∷ p)
@@ -97,9 +94,13 @@ array_below i b latest at s is r p =
     ∙ ap (λ os. at_numbers os (r ∷ p))
     (map-append (of_table at s) (map table_within b.value.items) (table_within latest.value ∷ []))
 
-mapped_count : {A B : Type 0} (f : A → B) (xs : List A) → length (map f xs) ≡ length xs
+pub mapped_count : {A B : Type 0} (f : A → B) (xs : List A) → length (map f xs) ≡ length xs
 mapped_count f [] = refl
 mapped_count f (x ∷ xs) = ap suc (mapped_count f xs)
+
+pub one_longer : {A : Type 0} (xs : List A) (x : A) → length (xs ++ x ∷ []) ≡ suc (length xs)
+one_longer [] x = refl
+one_longer (y ∷ xs) x = ap suc (one_longer xs x)
 
 -- elements other than the last
 others_are : (xs : List Origins) (x : Origins) (n m : ℕ) (q : Path) → n ≡ length xs → nat_eq m n ≡ false
@@ -120,7 +121,8 @@ latest_grows a keys rows there item b old after is item_is grows at s =
     (λ r q. was (number n) (r ∷ q) ∙ ap (λ o. under o (r ∷ q)) (last_is xs (of_table at s (table_within old.value)) n
     counted))
     (λ m q other. was (number m) q ∙ others_are xs (of_table at s (table_within old.value)) n m q counted other)
-    (λ k q. was (key k) q) (table_origin (table_within after.value).made at s) now)
+    (λ k q. was (key k) q)
+    (table_origin (table_within after.value).made at (section_in (table_within after.value) s)) now)
   where
     xs : List Origins
     xs = map (of_table at s) (map table_within b.value.items)
@@ -164,7 +166,8 @@ module _ (there : items.Item) (at s : ℕ) (before : Box (Vec Table Global) Glob
       (item_origins (Tables before after) at s)
       (λ r q. was (number n) (r ∷ q) ∙ ap (λ o. under o (r ∷ q)) (none_past xs n counted))
       (λ m q other. was (number m) q)
-      (λ k q. was (key k) q) (table_origin (table_within after.value).made at s) now
+      (λ k q. was (key k) q)
+      (table_origin (table_within after.value).made at (section_in (table_within after.value) s)) now
 
   pub first_added : there ≡ Nothing → before.value.items ≡ []
       → GrowsAlong (number (count (item_trie there)) ∷ []) rows (item_origins there at s) (item_origins (Tables before after) at s)
@@ -195,7 +198,3 @@ module _ (there : items.Item) (at s : ℕ) (before : Box (Vec Table Global) Glob
       same = ap (λ ts. map (of_table at s) (map table_within ts)) more
           ∙ ap (map (of_table at s)) (map-append table_within b.value.items (latest.value ∷ []))
           ∙ map-append (of_table at s) (map table_within b.value.items) (table_within latest.value ∷ [])
-
-      one_longer : {A : Type 0} (xs : List A) (x : A) → length (xs ++ x ∷ []) ≡ suc (length xs)
-      one_longer [] x = refl
-      one_longer (y ∷ xs) x = ap suc (one_longer xs x)

@@ -100,30 +100,39 @@ not_last_way a [] t some = absurd (omega arith)
 not_last_way true (k ∷ keys) t some = refl
 not_last_way false (k ∷ keys) t some = refl
 
--- a table that a header passes
+-- a table that a header passes: its way, and what stands at the key
+module _ (k : List ℕ) (t u : Table) (position : ℕ) (there now : items.Item) (pass : Passes k t position there now u) where
+  pub passed_way : (a : Bool) (keys whole : KeyTexts) → whole ≡ k ∷ keys
+      → way a whole (table_trie t) ≡ key k ∷ way_at a keys (item_trie there)
+  passed_way a keys whole is_whole =
+      ap (λ ks. way a ks (table_trie t)) is_whole
+      ∙ ap (way a (k ∷ keys)) (table_entries_trie t)
+      ∙ way_through a k keys (out-Table t).passed (out-Table t).named (out-Table t).dotted
+      (by_keys (tries_of child_trie (out-Table t).entries))
+      ∙ ap (λ t. key k ∷ way_at a keys t)
+      (stood_there child_trie k no_child (out-Table t).entries pass.entries position no_child_trie pass.entered pass.child
+      pass.stands ∙ passed_trie k t u position there now pass)
+
+  pub passed_put : (out-Table u).entries
+      ≡ with_value (with_value pass.entries position (holding pass.child now)) position (holding pass.child now)
+  passed_put = pass.left ∙ sym (with_twice pass.entries position (holding pass.child now) (holding pass.child now))
+
+  pub passed_now : child_origins (holding pass.child now)
+      ≡ item_origins now (out-Child pass.child).start (out-Child pass.child).section
+  passed_now =
+      child_seen (holding pass.child now)
+      ∙ ap (λ o. item_origins o.item o.start o.section) (out_holding pass.child now)
+
 pub passed_grows : (a : Bool) (rows : Origins) (k : List ℕ) (keys whole : KeyTexts) (t u : Table) (position : ℕ)
     (there now : items.Item) → whole ≡ k ∷ keys → Passes k t position there now u
     → ((at s : ℕ) → GrowsAlong (way_at a keys (item_trie there)) rows (item_origins there at s) (item_origins now at s))
     → GrowsAlong (way a whole (table_trie t)) rows (table_origins t) (table_origins u)
 passed_grows a rows k keys whole t u position there now is_whole pass grows =
-    subst (λ w. GrowsAlong w rows (table_origins t) (table_origins u)) (sym is_way) go
+    subst (λ w. GrowsAlong w rows (table_origins t) (table_origins u))
+    (sym (passed_way k t u position there now pass a keys whole is_whole)) go
   where
     w : Path
     w = way_at a keys (item_trie there)
-
-    is_way : way a whole (table_trie t) ≡ key k ∷ w
-    is_way =
-        ap (λ ks. way a ks (table_trie t)) is_whole
-        ∙ ap (way a (k ∷ keys)) (table_entries_trie t)
-        ∙ way_through a k keys (out-Table t).passed (out-Table t).named (out-Table t).dotted
-        (by_keys (tries_of child_trie (out-Table t).entries))
-        ∙ ap (λ t. key k ∷ way_at a keys t)
-        (stood_there child_trie k no_child (out-Table t).entries pass.entries position no_child_trie pass.entered pass.child
-        pass.stands ∙ passed_trie k t u position there now pass)
-
-    put : (out-Table u).entries
-        ≡ with_value (with_value pass.entries position (holding pass.child now)) position (holding pass.child now)
-    put = pass.left ∙ sym (with_twice pass.entries position (holding pass.child now) (holding pass.child now))
 
     at : ℕ
     at = (out-Child pass.child).start
@@ -134,19 +143,15 @@ passed_grows a rows k keys whole t u position there now is_whole pass grows =
     was : child_origins pass.child ≡ item_origins there at s
     was = child_seen pass.child ∙ ap (λ i. item_origins i at s) pass.item
 
-    is : child_origins (holding pass.child now) ≡ item_origins now at s
-    is =
-        child_seen (holding pass.child now)
-        ∙ ap (λ o. item_origins o.item o.start o.section) (out_holding pass.child now)
-
     below : GrowsAlong w rows (child_origins pass.child) (child_origins (holding pass.child now))
     below y not =
-        ap (λ f. f y) is ∙ grows at s y not ∙ ap (λ f. or_else f (along w rows) y) (sym was)
+        ap (λ f. f y) (passed_now k t u position there now pass) ∙ grows at s y not ∙ ap (λ f. or_else f (along w rows) y) (sym was)
 
     go : GrowsAlong (key k ∷ w) rows (table_origins t) (table_origins u)
     go x not =
         grows_at t u no_child pass.child (holding pass.child now) (holding pass.child now) k pass.entries
-        position (nothing_comes no_child no_child_trie) pass.entered pass.stands put (along w rows) x
+        position (nothing_comes no_child no_child_trie) pass.entered pass.stands
+        (passed_put k t u position there now pass) (along w rows) x
         (λ y is. below y (further y (sym (ap (λ x. begins x (key k ∷ w)) is) ∙ not)))
       where
         further : (y : Path) → begins (key k ∷ y) (key k ∷ w) ≡ false → begins y w ≡ false

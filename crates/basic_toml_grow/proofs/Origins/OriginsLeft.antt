@@ -25,10 +25,10 @@ option_assoc None b c = refl
 option_assoc (Some o) b c = refl
 
 pub more_none : (w : Within) → with_more w no_origins ≡ w
-more_none w = within_is (with_more w no_origins) w refl (λ p. or_none (w.below p))
+more_none w = within_is (with_more w no_origins) w refl refl (λ p. or_none (w.below p))
 
 more_more : (w : Within) (f g : Origins) → with_more (with_more w f) g ≡ with_more w (or_else f g)
-more_more w f g = within_is (with_more (with_more w f) g) (with_more w (or_else f g)) refl
+more_more w f g = within_is (with_more (with_more w f) g) (with_more w (or_else f g)) refl refl
     (λ p. option_assoc (w.below p) (f p) (g p))
 
 -- what the rows that are left add to the table as it is, all add to it as it was

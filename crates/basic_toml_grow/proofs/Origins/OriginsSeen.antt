@@ -20,8 +20,8 @@ use Rattle.basic_toml_grow.specs.declared.item.Table.{Table, out-Table}
 use Rattle.basic_toml_grow.specs.Item.{item_trie, child_trie, table_trie, by_keys}
 use Rattle.basic_toml_value.specs.Growth.{with_value, values_of, EntersKey}
 use Rattle.basic_toml_grow.specs.Origins.{Origin, Origins, no_origins, entry, under, at_keys, at_numbers}
-use Rattle.basic_toml_grow.specs.Origins.{elements_within, array_origin, value_origin, table_origin}
-use Rattle.basic_toml_grow.specs.Origins.{item_origins, child_origins, table_within, or_else, beyond}
+use Rattle.basic_toml_grow.specs.Origins.{elements_within, array_origin, value_origin, of_table}
+use Rattle.basic_toml_grow.specs.Origins.{Within, item_origins, child_origins, table_within, or_else, beyond}
 use Rattle.basic_toml_grow.proofs.ItemTries.{child_item_trie, table_entries_trie}
 use Rattle.basic_toml_value.proofs.KeysChanged.{value_at-map, stood_or_fresh, put_at, kept_elsewhere}
 use Rattle.basic_toml_grow.proofs.KeysInATrie.{tries_of}
@@ -35,6 +35,7 @@ child_seen c = search (rules, the_lemmas)
 pub table_seen : (t : Table)
     → table_within t ≡ record {
       made = (out-Table t).passed || (out-Table t).named;
+      section = (out-Table t).section;
       below = at_keys (map (λ p. (p.0, child_origins p.1)) (out-Table t).entries);
     }
 table_seen t = search (rules, the_lemmas)
@@ -45,6 +46,9 @@ table_origins t = (table_within t).below
 pub made_seen : (t : Table) → (table_within t).made ≡ ((out-Table t).passed || (out-Table t).named)
 made_seen t = ap (λ w. w.made) (table_seen t)
 
+pub section_seen : (t : Table) → (table_within t).section ≡ (out-Table t).section
+section_seen t = ap (λ w. w.section) (table_seen t)
+
 pub below_seen : (t : Table) → table_origins t ≡ at_keys (map (λ p. (p.0, child_origins p.1)) (out-Table t).entries)
 below_seen t = ap (λ w. w.below) (table_seen t)
 
@@ -53,7 +57,7 @@ pub nothing_seen : (at s : ℕ) → item_origins Nothing at s ≡ no_origins
 nothing_seen at s = search (rules, the_lemmas)
 
 pub table_item_seen : (t : Box Table Global) (at s : ℕ)
-    → item_origins (items.Table t) at s ≡ entry (table_origin (table_within t.value).made at s) (table_origins t.value)
+    → item_origins (items.Table t) at s ≡ of_table at s (table_within t.value)
 table_item_seen t at s = search (rules, the_lemmas)
 
 pub inline_seen : (t : Box Table Global) (at s : ℕ)
@@ -67,7 +71,7 @@ array_seen cs at s = search (rules, the_lemmas)
 
 pub tables_seen : (before : Box (Vec Table Global) Global) (latest : Box Table Global) (at s : ℕ)
     → item_origins (Tables before latest) at s
-    ≡ entry (array_origin at s)
+    ≡ entry (array_origin at (table_within latest.value).section)
     (at_numbers (elements_within at s (map table_within before.value.items ++ table_within latest.value ∷ [])))
 tables_seen before latest at s = search (rules, the_lemmas)
 
@@ -104,7 +108,7 @@ module _ (t u : Table) (fresh there gone held : Child) (k : List ℕ) (new : Lis
           ap (λ o. under (option_map child_origins o) p) new.0
           ∙ sym (ap (λ c. child_origins c p) new.1 ∙ ap (λ f. f p) is_fresh)
 
-  stands_now : (p : Path) → table_origins u (key k ∷ p) ≡ child_origins gone p
+  pub stands_now : (p : Path) → table_origins u (key k ∷ p) ≡ child_origins gone p
   stands_now p =
       seen_at_key u k p
       ∙ ap (λ ps. under (option_map child_origins (value_at ps k)) p) put
@@ -172,17 +176,20 @@ no_entries [] e = refl
 no_entries (p ∷ ps) e = absurd (cc)
 
 pub fresh_within : (t : Table) → table_trie t ≡ trie (Some (standings.table false false false)) None no_tries
-    → table_within t ≡ record { made = false; below = no_origins }
+    → table_within t ≡ record { made = false; section = (out-Table t).section; below = no_origins }
 unfolding tries_of
 fresh_within t is =
     let parts = sym (table_entries_trie t) ∙ is in
     let entries : (out-Table t).entries ≡ [] = no_entries (out-Table t).entries (ap tries_in parts) in
     let made : ((out-Table t).passed || (out-Table t).named) ≡ false = ap (λ t. is_made_in (standing t)) parts in
     table_seen t
-    ∙ ap (λ b. record { made = b; below = at_keys (map (λ p. (p.0, child_origins p.1)) (out-Table t).entries) }) made
-    ∙ ap (λ ps. record { made = false; below = at_keys (map (λ p. (p.0, child_origins p.1)) ps) }) entries
-    ∙ ap (λ f. record { made = false; below = f }) (fun_ext none_in)
+    ∙ ap (λ b. from_here b (at_keys (map (λ p. (p.0, child_origins p.1)) (out-Table t).entries))) made
+    ∙ ap (λ ps. from_here false (at_keys (map (λ p. (p.0, child_origins p.1)) ps))) entries
+    ∙ ap (from_here false) (fun_ext none_in)
   where
+    from_here : Bool → Origins → Within
+    from_here made below = record { made = made; section = (out-Table t).section; below = below }
+
     tries_in : Trie → Tries
     tries_in (trie s v ts) = ts
 

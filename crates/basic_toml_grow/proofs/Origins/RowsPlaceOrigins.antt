@@ -15,29 +15,34 @@ use Rattle.basic_toml_grow.specs.Simple.{with_entries}
 use Rattle.basic_toml_grow.specs.Item.{child_trie}
 use Rattle.basic_toml_value.specs.Growth.{with_value, values_of, EntersKey}
 use Rattle.basic_toml_grow.specs.Origins.{Origin, Origins, no_origins, entry, at_keys, Within, table_origin}
-use Rattle.basic_toml_grow.specs.Origins.{child_origins}
+use Rattle.basic_toml_grow.specs.Origins.{child_origins, of_table, section_in}
 use Rattle.basic_toml_grow.specs.Origins.{item_origins, table_within, with_more, or_else, beyond, row_origins}
 use Rattle.basic_toml_grow.proofs.ItemTries.{entries_with}
 use Rattle.basic_toml_grow.proofs.KeysInATrie.{with_twice}
-use Rattle.basic_toml_grow.proofs.Origins.OriginsSeen.{child_seen, table_seen, made_seen, nothing_seen}
+use Rattle.basic_toml_grow.proofs.Origins.OriginsSeen.{child_seen, table_seen, made_seen, section_seen, nothing_seen}
 use Rattle.basic_toml_grow.proofs.Origins.OriginsSeen.{nothing_comes, table_item_seen}
 use Rattle.basic_toml_grow.proofs.MetTellsStop.{dotted_fields}
-use Rattle.basic_toml_grow.proofs.Origins.OriginsSeen.{grows_at, table_origins}
+use Rattle.basic_toml_grow.proofs.Origins.OriginsSeen.{grows_at}
 
 pub origins_on : (k : List ℕ) (ks : KeyTexts) (last : List ℕ) (o : Origin) (below : Origins)
     → row_origins (k ∷ (ks ++ last ∷ [])) o below ≡ beyond (key k) (entry o (row_origins (ks ++ last ∷ []) o below))
 origins_on k [] last o below = refl
 origins_on k (l ∷ ks) last o below = refl
 
-abbrev within : Bool → Origins → Within
-within made below = record { made = made; below = below }
+abbrev pub within : Bool → ℕ → Origins → Within
+within made section below = record { made = made; section = section; below = below }
 
-pub within_is : (w v : Within) → w.made ≡ v.made → ((p : Path) → w.below p ≡ v.below p) → w ≡ v
-within_is w v made below = ap₂ within made (fun_ext below)
+pub within_is : (w v : Within) → w.made ≡ v.made → w.section ≡ v.section → ((p : Path) → w.below p ≡ v.below p) → w ≡ v
+within_is w v made section below =
+    ap₂ (λ b n. within b n w.below) made section ∙ ap (within v.made v.section) (fun_ext below)
 
 entries_made : (t : Table) (ps : List (List ℕ × Child))
     → (table_within (with_entries t ps)).made ≡ (table_within t).made
 entries_made t ps = made_seen (with_entries t ps) ∙ search (rules, the_lemmas) ∙ sym (made_seen t)
+
+entries_section : (t : Table) (ps : List (List ℕ × Child))
+    → (table_within (with_entries t ps)).section ≡ (table_within t).section
+entries_section t ps = section_seen (with_entries t ps) ∙ search (rules, the_lemmas) ∙ sym (section_seen t)
 
 -- a table in which a key is entered, and another child is put in the place of what stands there
 module _ (before : Table) (k : List ℕ) (fresh there child : Child) (new : List (List ℕ × Child)) (position : ℕ)
@@ -45,9 +50,11 @@ module _ (before : Table) (k : List ℕ) (fresh there child : Child) (new : List
     (stands : slice_get (values_of new) position ≡ Some there) (below : Origins)
     (comes : child_origins child ≡ or_else (child_origins there) below) where
   held_put : (held : Child) (u : Table) → (table_within u).made ≡ (table_within before).made
+      → (table_within u).section ≡ (table_within before).section
       → (out-Table u).entries ≡ with_value (with_value new position held) position child
       → table_within u ≡ with_more (table_within before) (beyond (key k) below)
-  held_put held u made put = within_is (table_within u) (with_more (table_within before) (beyond (key k) below)) made
+  held_put held u made section put =
+      within_is (table_within u) (with_more (table_within before) (beyond (key k) below)) made section
       (λ p. grows_at before u fresh there child held k new position (nothing_comes fresh is_nothing) entered stands put
       below p (λ q is. ap (λ f. f q) comes))
 
@@ -57,6 +64,7 @@ module _ (before : Table) (k : List ℕ) (fresh there child : Child) (new : List
   origins_put mid ps is_mid is_ps =
       held_put child (with_entries mid ps)
       (entries_made mid ps ∙ ap (λ t. (table_within t).made) is_mid ∙ entries_made before new)
+      (entries_section mid ps ∙ ap (λ t. (table_within t).section) is_mid ∙ entries_section before new)
       (entries_with mid ps ∙ is_ps
       ∙ ap (λ t. with_value (out-Table t).entries position child) is_mid
       ∙ ap (λ qs. with_value qs position child) (entries_with before new)
@@ -68,13 +76,12 @@ pub comes_first : (there : Child) (below : Origins) → child_trie there ≡ not
 comes_first there below none =
     sym (ap (λ f. or_else f below) (nothing_comes there none))
 
-pub new_table : (there : Child) (new : Box Table Global) (u : Table) (row : Origins) (at s : ℕ)
-    → (out-Child there).item ≡ Nothing → table_within u ≡ record { made = false; below = no_origins }
+pub new_table : (there : Child) (new : Box Table Global) (u : Table) (row : Origins) (n at s : ℕ)
+    → (out-Child there).item ≡ Nothing → table_within u ≡ within false n no_origins
     → table_within new.value ≡ with_more (table_within u) row
-    → entry (table_origin (table_within new.value).made at s) (table_origins new.value)
-    ≡ or_else (child_origins there) (entry (table_origin false at s) row)
-new_table there new u row at s is fresh more =
-    ap (λ w. entry (table_origin w.made at s) w.below) (more ∙ ap (λ w. with_more w row) fresh)
+    → of_table at s (table_within new.value) ≡ or_else (child_origins there) (entry (table_origin false at s) row)
+new_table there new u row n at s is fresh more =
+    ap (of_table at s) (more ∙ ap (λ w. with_more w row) fresh)
     ∙ sym (ap (λ f. or_else f (entry (table_origin false at s) row))
     (child_seen there ∙ ap (λ i. item_origins i (out-Child there).start (out-Child there).section) is
     ∙ nothing_seen (out-Child there).start (out-Child there).section))
@@ -83,13 +90,12 @@ new_table there new u row at s is fresh more =
 pub dotted_within : (d : Table) → table_within (roll-Table (dotted_fields d)) ≡ table_within d
 dotted_within d =
     table_seen (roll-Table (dotted_fields d))
-    ∙ ap (λ o. within (o.passed || o.named) (at_keys (map (λ p. (p.0, child_origins p.1)) o.entries)))
+    ∙ ap (λ o. within (o.passed || o.named) o.section (at_keys (map (λ p. (p.0, child_origins p.1)) o.entries)))
     (out-roll-Table (dotted_fields d))
     ∙ sym (table_seen d)
 
 pub child_of_table : (t : Box Table Global) (at s : ℕ)
-    → child_origins (roll-Child (record { start = at; section = s; item = items.Table t }))
-    ≡ entry (table_origin (table_within t.value).made at s) (table_origins t.value)
+    → child_origins (roll-Child (record { start = at; section = s; item = items.Table t })) ≡ of_table at s (table_within t.value)
 child_of_table t at s = search (rules, the_lemmas)
 
 -- dots that extend a table: what the row brings comes beside what was there
@@ -103,12 +109,13 @@ or_entry o u f g = fun_ext go
 pub table_extended : (there : Child) (old : Box Table Global) (u now : Table) (row : Origins) (o : Origin)
     → (out-Child there).item ≡ items.Table old → table_within u ≡ table_within old.value
     → table_within now ≡ with_more (table_within u) row
-    → entry (table_origin (table_within now).made (out-Child there).start (out-Child there).section) (table_origins now)
+    → of_table (out-Child there).start (out-Child there).section (table_within now)
     ≡ or_else (child_origins there) (entry o row)
 table_extended there old u now row o is same more =
     let at = (out-Child there).start in
     let s = (out-Child there).section in
-    ap (λ w. entry (table_origin w.made at s) w.below) (more ∙ ap (λ w. with_more w row) same)
-    ∙ or_entry (table_origin (table_within old.value).made at s) o (table_origins old.value) row
+    let w = table_within old.value in
+    ap (of_table at s) (more ∙ ap (λ w. with_more w row) same)
+    ∙ or_entry (table_origin w.made at (section_in w s)) o w.below row
     ∙ sym (ap (λ f. or_else f (entry o row))
     (child_seen there ∙ ap (λ i. item_origins i at s) is ∙ table_item_seen old at s))

@@ -12,14 +12,14 @@ use Rattle.basic_toml_grow.specs.declared.item.Child.{out-Child}
 use Rattle.basic_toml_grow.specs.Item.{item_trie, table_trie}
 use Rattle.basic_toml_grow.specs.Headers.{EntersItem, entered_by, steps_by, tried_by, tried_at}
 use Rattle.basic_toml_grow.specs.Origins.{rows_origins, item_origins}
-use Rattle.basic_toml_grow.specs.Ways.{way_at, way_by, GrowsAlong, way}
+use Rattle.basic_toml_grow.specs.Ways.{way_at, way_by, GrowsAlong, MarksWay, MarksTable, way}
 use Rattle.basic_toml_grow.proofs.RowsEntered.{err_on, ok_on}
 use Rattle.basic_toml_grow.specs.declared.item.Table.{Table}
 use Rattle.basic_toml_grow.specs.Origins.{table_within}
 use Rattle.basic_toml_grow.proofs.HeadersInATrie.{array_of}
 use Rattle.basic_toml_grow.proofs.TablesOpened.{table_item_trie}
 use Rattle.basic_toml_grow.proofs.HeadersEntered.{failed, no_array, not_last, item_by, item_out, same_mapped, holds_table}
-use Rattle.basic_toml_grow.proofs.HeadersEntered.{other_bars, passes, passed_by, into_fresh}
+use Rattle.basic_toml_grow.proofs.HeadersEntered.{other_bars, passes, passed_by, passed_number, into_fresh}
 use Rattle.basic_toml_grow.proofs.HeadersEntered.{into_table, into_latest, steps_into_fresh, steps_into_table}
 use Rattle.basic_toml_grow.proofs.HeadersEntered.{steps_into_latest, other_is_leaf}
 use Rattle.basic_toml_grow.proofs.HeadersStopped.{stopped, same_stops, tried_into_fresh, stopped_in_latest}
@@ -27,6 +27,7 @@ use Rattle.basic_toml_grow.proofs.HeadersStopped.{value_stopped, passed_stops, n
 use Rattle.basic_toml_grow.proofs.Origins.HeadersPlaceOrigins.{passed_grows, new_table_grows, table_grows}
 use Rattle.basic_toml_grow.proofs.Origins.HeadersPlaceOrigins.{no_array_way, not_last_way}
 use Rattle.basic_toml_grow.proofs.Origins.ElementsPlaceOrigins.{latest_grows}
+use Rattle.basic_toml_grow.proofs.Origins.HeadersMark.{passed_marks, new_table_marks, table_marks, latest_marks}
 use Rattle.basic_toml_grow.proofs.headers.+walk.Goals as goal
 use Rattle.basic_toml_grow.proofs.headers.+walk.Goals.{enter_at-else-is_array-via-then-is_array+else-is_empty}
 use Rattle.basic_toml_grow.proofs.headers.+walk.Goals.{enter_at-else-is_array-via-else-is_array}
@@ -81,6 +82,23 @@ enter_at-returns-clause-origins t c =
     (item_origins c.enter_item.new.there at s)))
     (sym same) c.enter_item.ensures.origins
 
+pub enter_at-returns-clause-marks : goal.enter_at-returns-clause-marks
+enter_at-returns-clause-marks t c =
+    let there = item_trie c.args.there.now in
+    let same : way_at c.args.is_array (header_texts c.args.rest.now) there
+    ≡ way_by c.args.is_array (header_texts c.args.rest.now) there =
+    elim c.else-is_array.branch [
+      | enter_at-else-is_array-via-then-is_array+else-is_empty w ↦
+          let some : 1 ≤ length c.args.rest.now = grind (arith, w.is_empty.ensures, w.if-is_empty.false) in
+          not_last_way c.args.is_array c.args.rest.now there some
+      | enter_at-else-is_array-via-else-is_array w ↦
+          no_array_way c.args.is_array (header_texts c.args.rest.now) there w.if-is_array.false
+    ] in
+    subst
+    (λ way. IfOk c.enter_item.result
+    (λ x. (at s : ℕ) → MarksWay c.args.number way (item_origins c.enter_item.new.there at s)))
+    (sym same) c.enter_item.ensures.marks
+
 pub enter_below-returns-clause-entered : goal.enter_below-returns-clause-entered
 enter_below-returns-clause-entered t c =
     let k = c.as_str.result.now in
@@ -122,6 +140,21 @@ enter_below-returns-clause-origins t c =
     (λ x grows. passed_grows c.args.is_array (rows_origins c.args.number (rows_view c.args.rows.now)) k keys
     (header_texts (c.args.key.now ∷ c.args.rest.now)) c.args.table.now _ at (out-Child child).item
     c.enter_at.new.there (ap (λ k. k ∷ keys) (sym c.as_str.ensures.value)) pass grows) c.enter_at.ensures.origins
+
+pub enter_below-returns-clause-marks : goal.enter_below-returns-clause-marks
+enter_below-returns-clause-marks t c =
+    let k = c.as_str.result.now in
+    let keys = header_texts c.args.rest.now in
+    let child = c.value_mut-there.result.now in
+    let at = c.in_ok-position.position in
+    let new = c.enter.new.self in
+    let pass = passes k c.args.table.now new c.args.number at child c.enter_at.new.there
+    c.in_ok-position.ensures.entered c.value_mut-there.ensures.value in
+    ok_on _ _ c.enter_at.result
+    (λ x marks. passed_marks c.args.number c.args.is_array k keys
+    (header_texts (c.args.key.now ∷ c.args.rest.now)) c.args.table.now _ at (out-Child child).item
+    c.enter_at.new.there (ap (λ k. k ∷ keys) (sym c.as_str.ensures.value)) pass
+    (passed_number c.args.table.now new c.args.number at child c.enter_at.new.there) marks) c.enter_at.ensures.marks
 
 -- where nothing stands, a new table
 pub enter_item-returns-in_err-enter_header-in-Nothing-clause-entered :
@@ -193,6 +226,19 @@ enter_item-returns-in_ok-enter_header-in-Nothing-clause-origins t c =
     (subst (λ (t : Table). GrowsAlong (way a keys (table_trie t)) rows (table_within t).below (table_within now).below)
     c.deref_mut.ensures.value c.in_ok-enter_header-in-Nothing.ensures.origins)
 
+pub enter_item-returns-in_ok-enter_header-in-Nothing-clause-marks :
+    goal.enter_item-returns-in_ok-enter_header-in-Nothing-clause-marks
+enter_item-returns-in_ok-enter_header-in-Nothing-clause-marks t c =
+    let a = c.args.is_array in
+    let keys = header_texts c.args.rest.now in
+    let new = c.in_ok-table-in-Nothing.table in
+    let now = c.enter_header.new.table in
+    let after = boxes.with_value new now in
+    new_table_marks c.args.number a keys c.args.there.now (items.Table after) new after c.in-Nothing.is
+    c.in_ok-table-in-Nothing.ensures refl
+    (subst (λ (t : Table). MarksTable c.args.number (way a keys (table_trie t)) (table_within now))
+    c.deref_mut.ensures.value c.in_ok-enter_header-in-Nothing.ensures.marks)
+
 -- on from a table
 pub enter_item-returns-in-Table-clause-entered : goal.enter_item-returns-in-Table-clause-entered
 unfolding out-Item out
@@ -229,6 +275,21 @@ enter_item-returns-in-Table-clause-origins t c =
     (rw c.in-Table.is refl)
     (subst (λ (t : Table). GrowsAlong (way a keys (table_trie t)) rows (table_within t).below (table_within now).below)
     same grows)) c.enter_header-in-Table.ensures.origins
+
+pub enter_item-returns-in-Table-clause-marks : goal.enter_item-returns-in-Table-clause-marks
+unfolding out-Item out
+enter_item-returns-in-Table-clause-marks t c =
+    let a = c.args.is_array in
+    let keys = header_texts c.args.rest.now in
+    let table = c.in-Table.table in
+    let now = c.enter_header-in-Table.new.table in
+    let same : c.deref_mut-in-Table.result.now ≡ table.value =
+    c.deref_mut-in-Table.ensures.value ∙ rw c.in-Table.is refl in
+    ok_on _ _ c.enter_header-in-Table.result
+    (λ x marks. table_marks c.args.number a keys c.args.there.now _ table (boxes.with_value table now) c.in-Table.is
+    (rw c.in-Table.is refl)
+    (subst (λ (t : Table). MarksTable c.args.number (way a keys (table_trie t)) (table_within now))
+    same marks)) c.enter_header-in-Table.ensures.marks
 
 -- on from the latest table of an array
 pub enter_item-returns-in-Tables-clause-entered : goal.enter_item-returns-in-Tables-clause-entered
@@ -287,6 +348,21 @@ enter_item-returns-in-Tables-clause-origins t c =
     (subst (λ (t : Table). GrowsAlong (way a keys (table_trie t)) rows (table_within t).below (table_within now).below)
     same grows)) c.enter_header-in-Tables.ensures.origins
 
+pub enter_item-returns-in-Tables-clause-marks : goal.enter_item-returns-in-Tables-clause-marks
+unfolding out-Item out
+enter_item-returns-in-Tables-clause-marks t c =
+    let a = c.args.is_array in
+    let keys = header_texts c.args.rest.now in
+    let latest = c.in-Tables.latest in
+    let now = c.enter_header-in-Tables.new.table in
+    let same : c.deref_mut-in-Tables.result.now ≡ latest.value =
+    c.deref_mut-in-Tables.ensures.value ∙ rw c.in-Tables.is refl in
+    ok_on _ _ c.enter_header-in-Tables.result
+    (λ x marks. latest_marks c.args.number a keys c.args.there.now _ c.in-Tables.field-0 latest
+    (boxes.with_value latest now) c.in-Tables.is (rw c.in-Tables.is (search (rules, items.the_lemmas)))
+    (subst (λ (t : Table). MarksTable c.args.number (way a keys (table_trie t)) (table_within now))
+    same marks)) c.enter_header-in-Tables.ensures.marks
+
 pub enter_item-returns-in_default : goal.enter_item-returns-in_default
 enter_item-returns-in_default t c =
     let there = c.args.there.now in
@@ -295,5 +371,6 @@ enter_item-returns-in_default t c =
           c.in_default.not-Nothing c.in_default.not-Table c.in_default.not-Tables);
       named = value_stopped c.args.is_array (rows_view c.args.rows.now) c.args.rest.now there seen.0 seen.1;
       origins = tt;
+      marks = tt;
       taken = tt;
     }

@@ -16,6 +16,7 @@ use Rattle.basic_toml_grow.proofs.TablesOpened.{first_element, next_element, ele
 use Rattle.basic_toml_grow.proofs.HeadersStopped.{stopped, first_stops, next_stops}
 use Rattle.basic_toml_grow.specs.Origins.{rows_origins, table_within, or_else}
 use Rattle.basic_toml_grow.proofs.Origins.ElementsPlaceOrigins.{first_added, next_added}
+use Rattle.basic_toml_grow.proofs.Origins.HeadersMark.{first_marks, next_marks}
 use Rattle.basic_toml_grow.proofs.headers.add_element.Goals as goal
 use Rattle.basic_toml_grow.proofs.headers.add_element.Goals.{After-open}
 use Rattle.basic_toml_grow.proofs.headers.add_element.Goals.{in-Nothing+in_ok-new-in-Nothing+in_ok-new-in-Nothing-2, in-Tables+in_ok-before-in-Tables}
@@ -100,4 +101,18 @@ returns-clause-origins c =
       | in-Tables+in_ok-before-in-Tables w ↦ λ at s. next_added c.args.there at s c.match-there.before.0
           c.match-there.before.1 latest rows (blank here) grown w.in-Tables.before w.in-Tables.latest w.in-Tables.is
           (ap (λ p. p.0.value.items) w.before-is ∙ w.in_ok-before-in-Tables.ensures.before)
+    ]
+
+pub returns-clause-marks : goal.returns-clause-marks
+returns-clause-marks c =
+    let latest = boxes.with_value c.match-there.before.1 c.«open».new.table in
+    let marks = c.in_ok-open.ensures.marks in
+    elim c.match-there.branch [
+      | in-Nothing+in_ok-new-in-Nothing+in_ok-new-in-Nothing-2 w ↦ λ at s. first_marks c.args.number c.args.there
+          c.match-there.before.0 latest w.in-Nothing.is
+          (ap (λ p. p.0.value.items) w.before-is ∙ ap (λ v. v.items) w.in_ok-new-in-Nothing.ensures.ok
+          ∙ w.new.ensures.items) marks at s
+      | in-Tables+in_ok-before-in-Tables w ↦ λ at s. next_marks c.args.number c.args.there c.match-there.before.0
+          latest w.in-Tables.before w.in-Tables.latest w.in-Tables.is
+          (ap (λ p. p.0.value.items) w.before-is ∙ w.in_ok-before-in-Tables.ensures.before) marks at s
     ]

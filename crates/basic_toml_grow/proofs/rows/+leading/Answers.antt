@@ -241,7 +241,7 @@ extend-returns-in_ok-enter_row-in-Nothing-clause-origins t c =
     child_of_table after at s
     ∙ new_table c.args.there.now after c.deref_mut-in-Nothing-2.result.now
     (row_origins (header_texts c.args.keys.now ++ c.args.last.now ∷ []) (dotted_of c.args.child)
-    (child_origins c.args.child)) at s c.in-Nothing.is fresh c.in_ok-enter_row-in-Nothing.ensures.origins
+    (child_origins c.args.child)) _ at s c.in-Nothing.is fresh c.in_ok-enter_row-in-Nothing.ensures.origins
 
 pub extend-returns-else-deref-clause-origins : goal.extend-returns-else-deref-clause-origins
 unfolding out-Item out
