@@ -12,8 +12,10 @@ pub mod LinesOfRows
 pub mod OuterNodes
 pub mod OuterStands
 pub mod OuterTold
+pub mod FewKeys
 pub mod KeysLead
 pub mod KeysTold
 pub mod RowKeys
 pub mod RowsReach
 pub mod OneSection
+pub mod NodesAnchored

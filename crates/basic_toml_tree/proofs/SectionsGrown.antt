@@ -26,22 +26,24 @@ use Rattle.basic_toml_grow.specs.Headers.{IsIn, IsKeptOut}
 use Rattle.basic_toml_grow.specs.Item.{table_trie}
 use Rattle.basic_toml_grow.specs.declared.item.Table.{Table}
 use Rattle.basic_toml_grow.specs.Origins.{table_within, rows_origins}
-use Rattle.basic_toml_grow.specs.Ways.{way, GrowsAlong, sections_origins}
+use Rattle.basic_toml_grow.specs.Ways.{way, GrowsAlong, MarksTable, sections_origins}
 use Rattle.basic_toml_grow.proofs.HeadersInATrie.{fresh}
 use Rattle.basic_toml_grow.proofs.Origins.OriginsSeen.{fresh_within}
 use Rattle.basic_toml_tree.specs.declared.tree.Tree.{Tree}
 use Rattle.basic_toml_tree.specs.FirstStop.{Entered, StopsSection, deep, clash, section}
-use Rattle.basic_toml_tree.specs.Resolve.{IsResolved, IsUnresolved, memory, refused, head}
+use Rattle.basic_toml_tree.specs.Resolve.{IsResolved, IsUnresolved, ComesFromHeaders, memory, refused, head}
 use Rattle.basic_toml_tree.proofs.Origins.SectionsPlaceOrigins.{Brought, none_brought, more_brought}
+use Rattle.basic_toml_tree.proofs.Origins.HeadersComeFrom.{none_come, more_come}
 use Rattle.basic_toml_tree.proofs.SectionsEntered.{one_more, too_deep, whole_tree, no_clash, fits_all}
 use Rattle.basic_toml_tree.proofs.SectionsStopped.{same_fault, crossed_named}
 use Rattle.basic_toml_tree.proofs.TrieData.{table_trie_data}
 
--- These sections are entered in a table, their headers are kept, and what rows made comes from them.
+-- These sections are entered in a table, their headers are kept, and what rows and headers made comes from them.
 pub record HaveEntered (list : List Section) (headers : List (ℕ × List Key)) (root : Table) : Type 0 where
   pub entered : Entered list (table_trie root)
   pub heads : headers ≡ map head list
   pub brought : all_keyed list ≡ true → Brought list (table_within root).below
+  pub marks : all_keyed list ≡ true → ComesFromHeaders (located list) (table_within root).below
 
 pub none_entered : (headers : List (ℕ × List Key)) (root : Table) → headers ≡ [] → table_trie root ≡ fresh
     → HaveEntered [] headers root
@@ -49,6 +51,7 @@ none_entered headers root none is = record {
   entered = record { stands = inr (refl, is); shallow = refl };
   heads = none;
   brought = λ keyed. none_brought (table_within root).below (ap (λ w. w.below) (fresh_within root is));
+  marks = λ keyed. none_come (table_within root).below;
 }
 
 pub keyed_front : (xs ys : List Section) → all_keyed (xs ++ ys) ≡ true → all_keyed xs ≡ true
@@ -73,6 +76,7 @@ entered_resolved list tree have keyed within =
       heads = have.heads;
       within = within;
       origins = made_apart (have.brought keyed);
+      marks = have.marks keyed;
     }
   where
     made_apart : Brought list (table_within tree.root).below → (p : Path) → is_made (located list) p ≡ false
@@ -98,8 +102,9 @@ module _ (list : List Section) (headers : List (ℕ × List Key)) (root : Table)
       (1 + steps_to s.is_array (header_texts s.header.items) (table_trie root)) (table_trie after)
       → GrowsAlong (way s.is_array (header_texts s.header.items) (table_trie root)) (rows_origins n (rows_view s.rows))
       (table_within root).below (table_within after).below
+      → MarksTable n (way s.is_array (header_texts s.header.items) (table_trie root)) (table_within after)
       → more ≡ headers ++ head (section_of s) ∷ [] → HaveEntered (list ++ section_of s ∷ []) more after
-  more_entered after more n counted is_in grows pushed = record {
+  more_entered after more n counted is_in grows marks pushed = record {
     entered = one_more list (section_of s) (header_texts s.header.items) (table_trie root) refl have.entered
         (table_trie after) is_in;
     heads = pushed ∙ ap (λ hs. hs ++ head (section_of s) ∷ []) have.heads
@@ -109,6 +114,11 @@ module _ (list : List Section) (headers : List (ℕ × List Key)) (root : Table)
         more_brought list (section_of s) (header_texts s.header.items) (table_trie root) n (table_within root).below
         (table_within after).below refl before have.entered.stands
         (counted ∙ ap length have.heads ∙ mapped_length head list) (have.brought before) grows;
+    marks = λ keyed.
+        let before = keyed_front list (section_of s ∷ []) keyed in
+        more_come list (section_of s) (header_texts s.header.items) (table_trie root) n (table_within root).below
+        (table_within after) refl before have.entered.stands
+        (counted ∙ ap length have.heads ∙ mapped_length head list) (have.marks before) grows marks;
   }
 
   -- it is not entered, and these come after it

@@ -22,7 +22,7 @@ use Rattle.basic_toml_grow.specs.Headers.{IsIn, IsKeptOut}
 use Rattle.basic_toml_grow.specs.Item.{table_trie}
 use Rattle.basic_toml_grow.specs.declared.item.Table.{Table}
 use Rattle.basic_toml_grow.specs.Origins.{table_within, rows_origins}
-use Rattle.basic_toml_grow.specs.Ways.{way, GrowsAlong}
+use Rattle.basic_toml_grow.specs.Ways.{way, GrowsAlong, MarksTable}
 use Rattle.basic_toml_grow.proofs.HeadersInATrie.{fresh}
 use Rattle.basic_toml_grow.proofs.RowsHaveKeys.{sections_have_keys}
 use Rattle.basic_toml_tree.specs.declared.tree.Tree.{Tree}
@@ -75,12 +75,13 @@ module _ (old now : List code.Section) (n : ℕ) (headers : List (ℕ × List Ke
       (1 + steps_to s.is_array (header_texts s.header.items) (table_trie root)) (table_trie after)
       → GrowsAlong (way s.is_array (header_texts s.header.items) (table_trie root)) (rows_origins n (rows_view s.rows))
       (table_within root).below (table_within after).below
+      → MarksTable n (way s.is_array (header_texts s.header.items) (table_trie root)) (table_within after)
       → length next ≡ length now → ((k : ℕ) (d : code.Section) → n + 1 ≤ k → get_or next k d ≡ get_or now k d)
       → more_headers ≡ headers ++ head (section_of s) ∷ [] → Goes old next (n + 1) more_headers after
-  goes_on next more_headers after is_in grows count same heads = record {
+  goes_on next more_headers after is_in grows marks count same heads = record {
     have = subst (λ ss. HaveEntered ss more_headers after) (sym more)
         (more_entered (map section_of (take n old)) headers root goes.have s after more_headers n counted_headers is_in
-        grows heads);
+        grows marks heads);
     count = count ∙ goes.count;
     left = λ k d past. same k d past ∙ goes.left k d (omega (arith, past));
   }

@@ -1,5 +1,5 @@
 -- Which keys of headers and rows a node keeps, of those that lead to it.
-use Rattle.std.specs.Prelude.{◌≡◌, ◌+◌, ℕ, true, false, List, [], ◌∷◌, ◌++◌, length, take, IfSome, get_or}
+use Rattle.std.specs.Prelude.{◌≡◌, ◌<◌, ◌^◌, ◌+◌, ℕ, true, false, List, [], ◌∷◌, ◌++◌, length, take, IfSome, get_or}
 use Rattle.std.specs.Borrow.{Bor}
 use Rattle.basic_toml_grammar.specs.Sections.{KeyTexts, Section}
 use Rattle.basic_toml_grammar.specs.Steps.{key, Path, begins, steps_of, keys_of}
@@ -11,7 +11,7 @@ use Rattle.basic_toml_tree.specs.declared.spot.Spot.{Spot}
 use Rattle.basic_toml_tree.specs.declared.trail.Trail.{Trail}
 use Rattle.basic_toml_tree.specs.declared.trail.Trail.TheVariants.{Header, Row}
 use Rattle.basic_toml_tree.specs.Headers.{keys_at}
-use Rattle.basic_toml_tree.specs.Origin.{header_of, spot_is_made}
+use Rattle.basic_toml_tree.specs.Origin.{header_of, spot_is_made, spot_section}
 use Rattle.basic_toml_grow.specs.Origins.{table_within}
 use Rattle.basic_toml_tree.specs.Resolve.{IsResolved}
 
@@ -29,28 +29,23 @@ pub record KeepsHeader (tree : Tree) (keys : KeyTexts) (kept : Trail) : Type 0 w
   pub trail : kept ≡ Header section
   pub leads : Leads tree keys section
 
--- Where headers made what is at a path, the keys that lead to it are the first so many of the header that is kept.
-pub record KeepsKeys (tree : Tree) (p : Path) (node : Node) : Type 0 where
-  pub count : node.count ≡ length (keys_of p)
-  pub keeps : KeepsHeader tree (keys_of p) node.trail
+-- so many keys lead to a node
+abbrev pub CountsKeys : Tree → Path → Node → Type 0
+CountsKeys tree p node = (sections : List Section) → IsResolved sections tree → node.count ≡ length (keys_of p)
 
+-- Where headers made what is at a path, the keys that lead to it are the first so many of the header that is kept.
 abbrev pub KeysLead : Tree → Path → Node → Type 0
 KeysLead tree p node =
-    (sections : List Section) → IsResolved sections tree → is_made (located sections) p ≡ true → KeepsKeys tree p node
+    (sections : List Section) → IsResolved sections tree → is_made (located sections) p ≡ true
+    → KeepsHeader tree (keys_of p) node.trail
 
--- On from a node that keeps a header, to what headers made at a key: where some header begins with the keys, one is
--- kept that does.
-abbrev pub GoesOn : Node → List ℕ → Spot → Trail → Type 0
-GoesOn from k spot trail =
-    (s : ℕ) → from.trail ≡ Header s → spot_is_made 1 spot ≡ true
-    → let keys = take from.count (header_at from.tree.now s) ++ k ∷ [] in
-    (n : ℕ) → Leads from.tree.now keys n → KeepsHeader from.tree.now keys trail
+-- on from a node that keeps a header, to what headers made at a key: the latest one that leads there is kept
+abbrev pub GoesOn : Node → Spot → Trail → Type 0
+GoesOn from spot trail = (s : ℕ) → from.trail ≡ Header s → IfSome (spot_section spot) (λ n. trail ≡ Header n)
 
--- and one key more leads there
-abbrev pub CountsOn : Node → Spot → ℕ → Type 0
-CountsOn from spot count =
-    (s : ℕ) → from.trail ≡ Header s → spot_is_made 1 spot ≡ true
-    → length (take from.count (header_at from.tree.now s)) ≡ from.count → count ≡ from.count + 1
+-- one key more leads there
+abbrev pub CountsOn : Node → ℕ → Type 0
+CountsOn from count = from.count + 1 < 2 ^ 64 → count ≡ from.count + 1
 
 -- The trail keeps the section of this number, and then the key of the row that stands after those of its header: of
 -- these keys, or else this one.

@@ -15,6 +15,8 @@ use Rattle.basic_toml_grow.specs.declared.item.Item.TheOpen.{Item-F}
 use Rattle.basic_toml_grow.specs.declared.item.Child.{Child}
 use Rattle.basic_toml_grow.specs.declared.item.Table.{Table, out-Table}
 use Rattle.basic_toml_tree.specs.Headers.{keys_at, last_of}
+use Rattle.basic_toml_origin.specs.declared.anchor.Anchor.{Anchor}
+use Rattle.basic_toml_origin.specs.declared.anchor.Anchor.TheVariants as anchors
 use Rattle.basic_toml_tree.specs.declared.tree.Tree.{Tree}
 use Rattle.basic_toml_tree.specs.declared.node.Node.{Node}
 use Rattle.basic_toml_tree.specs.declared.spot.Spot.{Spot}
@@ -37,6 +39,30 @@ spot_is_made count (spots.Plain found) = false
 
 abbrev pub is_made : Node → Bool
 is_made node = spot_is_made node.count node.spot
+
+-- the section whose header is the latest that leads to what headers made here
+abbrev pub item_section : Item-F Item Child Table → Option ℕ
+item_section (Item-F.Tables before latest) = Some (out-Table latest.value).section
+item_section _ = None
+
+abbrev pub spot_section : Spot → Option ℕ
+spot_section (spots.Table table) = if table_is_made table.now then Some (out-Table table.now).section else None
+spot_section (spots.Item found) = item_section (out-Item found.now)
+spot_section (spots.Plain found) = None
+
+-- what a node is found by again in the section list of its text
+abbrev pub item_anchor : Item-F Item Child Table → ℕ → ℕ → Anchor
+item_anchor (Item-F.Tables before latest) start keys = anchors.Array (out-Table latest.value).section keys
+item_anchor _ start keys = anchors.Value start keys
+
+abbrev pub spot_anchor : Spot → ℕ → ℕ → Anchor
+spot_anchor (spots.Table table) start keys =
+    if table_is_made table.now then anchors.Table (out-Table table.now).section keys else anchors.Value start keys
+spot_anchor (spots.Item found) start keys = item_anchor (out-Item found.now) start keys
+spot_anchor (spots.Plain found) start keys = anchors.Value start keys
+
+unfoldable pub anchor_of : Node → Anchor
+anchor_of node = if node.count == 0 then anchors.Root else spot_anchor node.spot node.start node.count
 
 -- the offset of the last section
 abbrev pub last_at : Tree → Option ℕ

@@ -22,14 +22,14 @@ use Rattle.basic_toml_tree.specs.declared.entries.Entries.{Entries}
 use Rattle.basic_toml_tree.specs.declared.spot.Spot.{Spot}
 use Rattle.basic_toml_tree.specs.declared.spot.Spot.TheVariants as spots
 use Rattle.basic_toml_grow.specs.Item.{item_trie, leaf, table_trie}
-use Rattle.basic_toml_tree.specs.Origin.{spot_is_made, spot_name}
+use Rattle.basic_toml_tree.specs.Origin.{spot_is_made, spot_name, spot_section}
 use Rattle.basic_toml_grow.specs.Origins.{Origin, Origins, item_origins, table_within, value_origins}
 use Rattle.basic_toml_tree.specs.Data.{table_data}
 use Rattle.basic_toml_tree.specs.Nodes.{node_data, elements_left, key_and_data, entries_left}
 use Rattle.basic_toml_tree.specs.Paths.{data_along}
 use Rattle.basic_toml_tree.specs.Outer.{around, KeepsStart}
 use Rattle.basic_toml_tree.specs.Resolve.{IsResolved}
-use Rattle.basic_toml_tree.specs.Keys.{KeysLead, RowsLead}
+use Rattle.basic_toml_tree.specs.Keys.{CountsKeys, KeysLead, RowsLead}
 
 -- what is at a path of a trie
 abbrev pub trie_at : Path → Trie → Trie
@@ -108,10 +108,11 @@ spot_origin count spot at s = record {
   section = s;
 }
 
--- A node is what these origins tell, and those below them, but of what headers made only those below.
+-- A node is what these origins tell, and those below them; but of what headers made only those below, and its section.
 pub record SpotComes (here : Origins) (count : ℕ) (spot : Spot) (at : ℕ) : Type 0 where
   pub section : ℕ
   pub own : IfSome (here []) (λ o. o.made ≡ false → o ≡ spot_origin count spot at section)
+  pub marked : IfSome (here []) (λ o. IfSome (spot_section spot) (λ n. o.section ≡ n))
   pub parts : (s : Step) (q : Path) → here (s ∷ q) ≡ spot_origins spot at section (s ∷ q)
 
 abbrev pub ComesFrom : Origins → Node → Type 0
@@ -133,6 +134,7 @@ pub record StandsAt (tree : Tree) (p : Path) (node : Node) : Type 0 where
       ⊎ ((spot_trie node.spot ≡ trie_at p (tree_trie tree)) × (wraps_table node.spot ≡ false))
   pub comes : ComesFrom (λ q. tree_origins tree (p ++ q)) node
   pub outer : StartIsKept tree (around p) node.outer
+  pub count : CountsKeys tree p node
   pub keys : KeysLead tree p node
   pub rows : RowsLead tree p node
 

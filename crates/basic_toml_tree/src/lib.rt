@@ -6,6 +6,7 @@
 //! types of `basic_toml` are read from them.
 #![tactic(auto)]
 
+mod anchor;
 mod entries;
 mod headers;
 pub mod laws;

@@ -16,19 +16,18 @@ ghost use Rattle.basic_toml_grow.specs.Item.{child_trie};
 ghost use Rattle.basic_toml_tree.specs.Data.{table_data, child_data, HoldsAny};
 ghost use Rattle.basic_toml_tree.specs.Nodes.{node_data, is_table, is_array, maybe_table, data_at};
 ghost use Rattle.basic_toml_tree.specs.Nodes.{elements_in, entries_in, elements_left, entries_left};
-ghost use Rattle.basic_toml_tree.specs.Origin.{is_borrowed, is_made, spot_is_made, name_of, start_of, outer_of, offset_of, keys_of as key_path_of};
+ghost use Rattle.basic_toml_tree.specs.Origin.{is_borrowed, is_made, name_of, start_of, outer_of, offset_of, keys_of as key_path_of};
 ghost use Rattle.basic_toml_tree.specs.Stands.{IsNodeAt, Foretold};
 ghost use Rattle.basic_toml_tree.specs.Stands.{HoldsTable, IsBelow, IsBeside, IsTableBeside, AtKey, AtNumber, BeginsIn};
 ghost use Rattle.basic_toml_tree.specs.Stands.{ComesFrom, IsPlainElement};
 ghost use Rattle.basic_toml_grow.specs.Origins.{child_origins};
 ghost use Rattle.basic_toml_tree.specs.Outer.{kept_below};
-ghost use Rattle.basic_toml_tree.specs.Keys.{header_at, GoesOn, CountsOn, BeginsRow, HandsOn};
+ghost use Rattle.basic_toml_tree.specs.Keys.{GoesOn, CountsOn, BeginsRow, HandsOn};
 ghost use Rattle.basic_toml_grow.specs.declared.item.Child.{out-Child};
-ghost use Rattle.basic_toml_tree.specs.declared.trail.Trail.TheVariants as trails;
 
 use crate::entries::{Elements, Entries};
 use crate::spot::Spot;
-use crate::trail::{Trail, first_key, header_len, header_texts, section_below};
+use crate::trail::{Trail, first_key, header_len, header_texts};
 use crate::tree::Tree;
 use crate::values::{table_of, value_of};
 use basic_toml_clash::plain_value;
@@ -148,10 +147,10 @@ impl<'t, 'de> Node<'t, 'de> {
         ensures below { IsBelow self.entry (child_trie child.now) result }
         ensures comes { ComesFrom (child_origins child.now) result }
         ensures outer { result.outer ≡ kept_below self.entry }
-        ensures keys { GoesOn self.entry key.now result.spot result.trail }
+        ensures keys { GoesOn self.entry result.spot result.trail }
         ensures row { BeginsRow self.entry key.now (out-Child child.now).section result.spot result.trail }
         ensures handed { HandsOn self.entry result.trail }
-        ensures count { CountsOn self.entry result.spot result.count }
+        ensures count { CountsOn self.entry result.count }
     {
         let count = self.count.saturating_add(1);
         let outer = if self.is_made() {
@@ -176,17 +175,15 @@ impl<'t, 'de> Node<'t, 'de> {
     // The keys that lead to what stands at a key below this table, which this section first mentioned.
     #[inline(always)]
     fn trail_below(self, key: &'t str, section: usize, spot: Spot<'t, 'de>) -> Trail<'t>
-        ensures keys { GoesOn self.entry key.now spot.entry result }
+        ensures keys { GoesOn self.entry spot.entry result }
         ensures row { BeginsRow self.entry key.now section spot.entry result }
         ensures handed { HandsOn self.entry result }
-        ensures within { (s : ℕ) → self.entry.trail ≡ trails.Header s → spot_is_made 1 spot.entry ≡ true
-            → length (take self.entry.count (header_at self.entry.tree.now s)) < usize.MAX }
     {
         let Trail::Header(header) = self.trail else {
             return self.trail;
         };
-        if let Some(likely) = spot.section() {
-            return Trail::Header(section_below(self.tree, header, self.count, key, likely));
+        if let Some(latest) = spot.section() {
+            return Trail::Header(latest);
         }
         let len = header_len(self.tree, section);
         if len < self.count {

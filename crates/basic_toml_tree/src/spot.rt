@@ -1,7 +1,7 @@
 //! What stands at a node, and the name of its kind.
 
-ghost use Rattle.std.specs.Prelude.{◌≡◌, is_some};
-ghost use Rattle.basic_toml_tree.specs.Origin.{spot_is_made, spot_name};
+ghost use Rattle.std.specs.Prelude.{◌≡◌};
+ghost use Rattle.basic_toml_tree.specs.Origin.{spot_is_made, spot_name, spot_section};
 
 use basic_toml_grow::{Item, Table};
 use basic_toml_read::Raw;
@@ -28,9 +28,9 @@ impl<'t, 'de> Spot<'t, 'de> {
         }
     }
 
-    /// A section whose header likely leads here, if headers made it and it is not the root.
+    /// The section whose header is the latest that leads here, if headers made it and it is not the root.
     pub fn section(self) -> Option<usize>
-        ensures { is_some result ≡ spot_is_made 1 self.entry }
+        ensures { result ≡ spot_section self.entry }
     {
         match self {
             Spot::Table(table) if table.is_made() => Some(table.section),

@@ -29,7 +29,7 @@ pub struct Tree<'de> {
 
 impl<'de> Tree<'de> {
     /// The table of the whole document.
-    #[tactic(auto, using(crate::proofs::Nodes::OuterStands::root_keeps, crate::proofs::Nodes::KeysLead::root_keys, crate::proofs::Nodes::KeysLead::root_rows))]
+    #[tactic(auto, using(crate::proofs::Nodes::OuterStands::root_keeps, crate::proofs::Nodes::KeysLead::root_count, crate::proofs::Nodes::KeysLead::root_keys, crate::proofs::Nodes::KeysLead::root_rows))]
     pub fn root(&self) -> Node<'_, 'de>
         ensures data { node_data result ≡ table_data self.now.root }
         ensures stands { StandsAt self.now [] result }

@@ -7,7 +7,7 @@ use Rattle.basic_toml_tree.specs.declared.spot.Spot.TheVariants as spots
 use Rattle.basic_toml_tree.specs.declared.trail.Trail.TheVariants as trails
 use Rattle.basic_toml_tree.specs.declared.tree.Tree.{Tree}
 use Rattle.basic_toml_tree.specs.Stands.{StandsAt}
-use Rattle.basic_toml_tree.proofs.Nodes.KeysLead.{root_keys, root_rows}
+use Rattle.basic_toml_tree.proofs.Nodes.KeysLead.{root_count, root_keys, root_rows}
 use Rattle.basic_toml_tree.proofs.Nodes.NodesCome.{root_comes}
 use Rattle.basic_toml_tree.proofs.Nodes.OuterStands.{root_keeps}
 use Rattle.basic_toml_error.specs.Fault.{Fault, want_of_memory}
@@ -31,7 +31,8 @@ root_stands tree = record {
   there = inr (refl, refl);
   comes = root_comes tree (record { ref_ptr = (0, 0); now = tree.root }) 0 refl;
   outer = root_keeps tree None refl;
-  keys = root_keys tree (root_of tree) refl refl;
+  count = root_count tree (root_of tree) refl;
+  keys = root_keys tree (root_of tree) refl;
   rows = root_rows tree (root_of tree);
 }
 

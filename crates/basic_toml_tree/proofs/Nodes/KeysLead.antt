@@ -18,25 +18,11 @@ use Rattle.basic_toml_read.specs.SectionView.{header_texts, key_of}
 use Rattle.basic_toml_tree.specs.declared.tree.Tree.{Tree}
 use Rattle.basic_toml_tree.specs.Origin.{header_of}
 use Rattle.basic_toml_grow.specs.Origins.{table_within}
-use Rattle.basic_toml_tree.specs.Keys.{header_at, Leads, KeepsHeader, KeysLead, KeepsRow, RowsLead}
+use Rattle.basic_toml_tree.specs.Keys.{KeepsHeader, CountsKeys, KeysLead, KeepsRow, RowsLead}
 use Rattle.basic_toml_tree.specs.Stands.{StandsAt, IsBeside}
 use Rattle.basic_toml_tree.specs.declared.node.Node.{Node}
 use Rattle.basic_toml_tree.specs.declared.spot.Spot.{Spot}
 use Rattle.basic_toml_tree.specs.declared.trail.Trail.TheVariants.{Header}
-
--- no keys begin with a key
-pub none_begins : (before : KeyTexts) (k : List ℕ) (header : KeyTexts) → header ≡ []
-    → false ≡ begins (steps_of (before ++ k ∷ [])) (steps_of header)
-none_begins [] k header none = sym (ap (λ h. begins (steps_of (k ∷ [])) (steps_of h)) none)
-none_begins (b ∷ before) k header none = sym (ap (λ h. begins (steps_of (b ∷ before ++ k ∷ [])) (steps_of h)) none)
-
-pub no_keys : (keys : List Key) → length keys ≡ 0 → header_texts keys ≡ []
-no_keys [] none = refl
-no_keys (k ∷ keys) none = absurd (omega (arith, none))
-
--- past the last section there is no header
-no_header : (tree : Tree) (n : ℕ) → length tree.headers ≤ n → header_at tree n ≡ []
-no_header tree n past = ap (λ o. header_of (option_map (λ h. h.1) o)) (slice_get_past tree.headers n past)
 
 -- the text of the key at a number, and past the last
 pub key_there : (keys : List Key) (n : ℕ) (k : Key) → n < length keys → k ≡ get_or keys n k
@@ -72,22 +58,6 @@ past_all [] (suc count) n k none = refl
 past_all (l ∷ keys) (suc count) zero k none = absurd (cc)
 past_all (l ∷ keys) (suc count) (suc n) k none = past_all keys count n k none
 
--- where none of the headers begins with the keys, none leads to them
-pub none_leads : (tree : Tree) (before : KeyTexts) (k : List ℕ) (count : ℕ) → length tree.headers ≤ count
-    → ((n : ℕ) → n < count → begins (steps_of (before ++ k ∷ [])) (steps_of (header_at tree n)) ≡ false)
-    → (n : ℕ) → Leads tree (before ++ k ∷ []) n → ⊥
-none_leads tree before k count all none n leads = go (nat_lt n count) refl
-  where
-    go : (b : Bool) → nat_lt n count ≡ b → ⊥
-    go true e = false≢true (sym (none n (grind (arith, e))) ∙ leads)
-    go false e =
-        let past : length tree.headers ≤ n = grind (arith, e, all) in
-        false≢true (none_begins before k (header_at tree n) (no_header tree n past) ∙ leads)
-
-pub first_keys : (keys : List Key) (n : ℕ) → header_texts (take n keys) ≡ take n (header_texts keys)
-first_keys keys n =
-    ap (map (λ k. k.text)) (sym (take-map key_of n keys)) ∙ sym (take-map (λ k. k.text) n (map key_of keys))
-
 -- what headers made below a path, and at it
 pub made_before : (ls : List Located) (p : Path) (s : Step) → is_made ls (p ++ s ∷ []) ≡ true → is_made ls p ≡ true
 made_before ls [] s made = refl
@@ -121,12 +91,13 @@ pub keys_beside : (from node : Node) (here : Spot) (n : ℕ) → IsBeside from h
     → StandsAt tree p from → KeysLead tree (p ++ number n ∷ []) node
 keys_beside from node here n beside tree p stands sections resolved made =
     let before = stands.keys sections resolved (made_before (located sections) p (number n) made) in
-    let same = sym (keys_more p n) in
-    record {
-      count = beside.count ∙ before.count ∙ ap length same;
-      keeps = subst (λ keys. KeepsHeader tree keys node.trail) same
-          (subst (λ kept. KeepsHeader tree (keys_of p) kept) (sym beside.trail) before.keeps);
-    }
+    subst (λ keys. KeepsHeader tree keys node.trail) (sym (keys_more p n))
+    (subst (λ kept. KeepsHeader tree (keys_of p) kept) (sym beside.trail) before)
+
+pub count_beside : (from node : Node) (here : Spot) (n : ℕ) → IsBeside from here node → (tree : Tree) (p : Path)
+    → StandsAt tree p from → CountsKeys tree (p ++ number n ∷ []) node
+count_beside from node here n beside tree p stands sections resolved =
+    beside.count ∙ stands.count sections resolved ∙ ap length (sym (keys_more p n))
 
 -- The last step of a path is this one, or stands further on.
 abbrev pub EndsAt : Path → Step → Path → Step → Path → Type 0
@@ -173,8 +144,8 @@ root_rows tree node sections resolved q k r same made = absurd (other q same)
     other [] e = cc
     other (s ∷ q) e = cc
 
-pub root_keys : (tree : Tree) (node : Node) → node.count ≡ 0 → node.trail ≡ Header 0 → KeysLead tree [] node
-root_keys tree node none kept sections resolved made = record {
-  count = none;
-  keeps = record { section = 0; trail = kept; leads = refl };
-}
+pub root_keys : (tree : Tree) (node : Node) → node.trail ≡ Header 0 → KeysLead tree [] node
+root_keys tree node kept sections resolved made = record { section = 0; trail = kept; leads = refl }
+
+pub root_count : (tree : Tree) (node : Node) → node.count ≡ 0 → CountsKeys tree [] node
+root_count tree node none sections resolved = none

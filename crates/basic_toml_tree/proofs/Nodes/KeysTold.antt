@@ -1,7 +1,7 @@
 -- The keys that lead to a node, as the tree has them and as the section list foretells them.
 use Rattle.std.proofs.Common.{◌≡◌, inl, inr, ◌+◌, ℕ, zero, suc, Bool, true, false, List, [], ◌∷◌, ◌++◌, length}
 use Rattle.std.proofs.Common.{map, take, get_or, Option, Some, None, refl, ap, sym, ◌∙◌, subst, arith, length-append}
-use Rattle.std.specs.Prelude.{◌||◌, ◌==◌, slice_get, IfSome}
+use Rattle.std.specs.Prelude.{◌||◌, ◌==◌, ◌<◌, ◌^◌, if◌then◌else◌, slice_get, IfSome, IsSomeAnd}
 use Rattle.std.specs.List.{list_any}
 use Rattle.std.proofs.lemmas.Bool.{false≢true, and_parts, and_from}
 use Rattle.std.proofs.lemmas.List.{take_all}
@@ -15,12 +15,15 @@ use Rattle.basic_toml_grammar.specs.Nodes as grammar
 use Rattle.basic_toml_grammar.proofs.Clash.PathsAgree.{append_none, count_in, keys-append, keys_cut, cuts_are, counts_are}
 use Rattle.basic_toml_tree.specs.declared.tree.Tree.{Tree}
 use Rattle.basic_toml_tree.specs.declared.node.Node.{Node}
+use Rattle.basic_toml_grow.specs.declared.item.Item.{Item, out-Item}
+use Rattle.basic_toml_grow.specs.declared.item.Item.TheOpen.{Item-F}
 use Rattle.basic_toml_grow.specs.declared.item.Child.{Child, out-Child}
+use Rattle.basic_toml_grow.specs.declared.item.Table.{Table, out-Table}
 use Rattle.basic_toml_tree.specs.declared.spot.Spot.{Spot}
 use Rattle.basic_toml_tree.specs.declared.spot.Spot.TheVariants as spots
 use Rattle.basic_toml_tree.specs.declared.trail.Trail.{Trail}
 use Rattle.basic_toml_tree.specs.declared.trail.Trail.TheVariants.{Header, Row}
-use Rattle.basic_toml_grow.specs.Origins.{Origin, child_origins}
+use Rattle.basic_toml_grow.specs.Origins.{Origin, Origins, child_origins}
 use Rattle.basic_toml_grow.specs.Ways.{sections_origins}
 use Rattle.basic_toml_grammar.specs.RowClash.{rows_clash, has_row_clash}
 use Rattle.basic_toml_grammar.specs.SectionClash.{sections_clash}
@@ -31,15 +34,19 @@ use Rattle.basic_toml_tree.proofs.Nodes.OneSection.{some_same, stands_before, En
 use Rattle.basic_toml_tree.proofs.Nodes.RowNodesTold.{located_any, located_keyed, some_then}
 use Rattle.basic_toml_tree.proofs.Origins.RowsAreNodes.{Same, of_node, of_origin, sections_same}
 use Rattle.basic_toml_tree.specs.Headers.{keys_at}
-use Rattle.basic_toml_tree.specs.Origin.{header_of, spot_is_made, table_is_made, keys_of as kept_keys, trail_keys}
+use Rattle.basic_toml_tree.specs.Origin.{header_of, spot_is_made, spot_section, item_section, holds_tables, table_is_made}
+use Rattle.basic_toml_tree.specs.Origin.{keys_of as kept_keys, trail_keys}
 use Rattle.basic_toml_tree.specs.FirstStop.{Stands}
-use Rattle.basic_toml_tree.specs.Resolve.{IsResolved, head}
+use Rattle.basic_toml_origin.specs.Anchor.{LeadsTo}
+use Rattle.basic_toml_tree.specs.Resolve.{IsResolved, ComesFromHeaders, head}
 use Rattle.basic_toml_tree.specs.Stands.{trie_at, tree_trie, StandsAt, IsNodeAt}
 use Rattle.basic_toml_tree.specs.Stands.{ComesFrom, tree_origins, spot_origin}
-use Rattle.basic_toml_tree.specs.Keys.{header_at, Leads, KeepsHeader, KeepsKeys, KeysLead, GoesOn, CountsOn}
+use Rattle.basic_toml_tree.specs.Keys.{header_at, Leads, KeepsHeader, CountsKeys, KeysLead, GoesOn, CountsOn}
 use Rattle.basic_toml_tree.specs.Keys.{KeepsRow, BeginsRow, HandsOn, RowsLead}
 use Rattle.basic_toml_tree.specs.Outer.{stands_made}
 use Rattle.basic_toml_tree.proofs.Nodes.KeysLead.{made_before, EndsAt, last_step}
+use Rattle.basic_toml_tree.specs.Nodes.{node_data}
+use Rattle.basic_toml_tree.proofs.Nodes.FewKeys.{few_keys}
 use Rattle.basic_toml_tree.proofs.Nodes.MadeNodes.{ForetoldMade, ForetoldWhere, made_in_trie, spot_made, foretold}
 use Rattle.basic_toml_tree.proofs.Nodes.NodesStand.{KeysOn, Further}
 
@@ -76,37 +83,34 @@ first_are (k ∷ keys) (l ∷ header) e =
 abbrev header_in : List Section → ℕ → KeyTexts
 header_in ss n = header_of (keys_at (map head ss) n)
 
-some_header : (before ss : List Section) (p : Path) → list_any (λ l. begins p l.path) (located_from before ss) ≡ true
-    → (n : ℕ) × (begins (steps_of (keys_of p)) (steps_of (header_in ss n)) ≡ true)
-some_header before [] p made = absurd (false≢true made)
-some_header before (s ∷ ss) p made =
-    go (begins p (located_after before s).path) refl made (some_header (s ∷ before) ss p)
-  where
-    go : (b : Bool) → begins p (located_after before s).path ≡ b
-        → (b || list_any (λ l. begins p l.path) (located_from (s ∷ before) ss)) ≡ true
-        → (list_any (λ l. begins p l.path) (located_from (s ∷ before) ss) ≡ true
-        → (n : ℕ) × (begins (steps_of (keys_of p)) (steps_of (header_in ss n)) ≡ true))
-        → (n : ℕ) × (begins (steps_of (keys_of p)) (steps_of (header_in (s ∷ ss) n)) ≡ true)
-    go true e made later = (
-      0,
-      subst (λ keys. begins (steps_of (keys_of p)) (steps_of keys) ≡ true) (located_keys s before)
-          (begins_keys p (located_after before s).path e),
-    )
-    go false e made later = let r = later made in (suc r.0, r.1)
-
 -- the headers that the tree keeps are those of the list
 heads_at : (sections : List Section) (tree : Tree) → IsResolved sections tree → (n : ℕ)
     → header_at tree n ≡ header_in sections n
 heads_at sections tree resolved n = ap (λ headers. header_of (keys_at headers n)) resolved.heads
 
-some_leads : (sections : List Section) (tree : Tree) → IsResolved sections tree → (p : Path)
-    → list_any (λ l. begins p l.path) (located sections) ≡ true → (n : ℕ) × Leads tree (keys_of p) n
-some_leads sections tree resolved p made =
-    let r = some_header [] sections p made in (
-      r.0,
-      subst (λ keys. begins (steps_of (keys_of p)) (steps_of keys) ≡ true)
-          (sym (heads_at sections tree resolved r.0)) r.1,
+-- the sections of the list where they stand
+located_at : (before ss : List Section) (n : ℕ) (l : Located) → slice_get (located_from before ss) n ≡ Some l
+    → (header_in ss n ≡ texts l.section.header) × (keys_of l.path ≡ texts l.section.header)
+located_at before [] n l there = absurd (cc)
+located_at before (s ∷ ss) zero l there =
+    let is : located_after before s ≡ l = cc in (
+      ap (λ l. texts l.section.header) is,
+      subst (λ l. keys_of l.path ≡ texts l.section.header) is (located_keys s before),
     )
+located_at before (s ∷ ss) (suc n) l there = located_at (s ∷ before) ss n l there
+
+-- a section whose header leads to a path begins with its keys
+header_leads : (sections : List Section) (tree : Tree) → IsResolved sections tree → (n : ℕ) (p : Path)
+    → LeadsTo (located sections) n p → Leads tree (keys_of p) n
+header_leads sections tree resolved n p leads = go (slice_get (located sections) n) refl leads
+  where
+    go : (o : Option Located) → slice_get (located sections) n ≡ o → IsSomeAnd o (λ l. begins p l.path ≡ true)
+        → Leads tree (keys_of p) n
+    go None is leads = absurd leads
+    go (Some l) is leads =
+        let at = located_at [] sections n l is in
+        let header : header_at tree n ≡ keys_of l.path = heads_at sections tree resolved n ∙ at.0 ∙ sym at.1 in
+        subst (λ keys. begins (steps_of (keys_of p)) (steps_of keys) ≡ true) (sym header) (begins_keys p l.path leads)
 
 -- below a table at a key, where headers made what is there
 steps_made : (sections : List Section) (p : Path) (k : List ℕ)
@@ -129,36 +133,74 @@ made_spot node tree q made (inr there) =
     (spot_made 1 node.spot there.1 (ap (λ t. stands_made (standing t)) there.0 ∙ made)).made
 
 -- the keys that a node keeps
-kept_first : (from : Node) (tree : Tree) (p : Path) → from.tree.now ≡ tree → (kept : KeepsKeys tree p from)
-    → take from.count (header_at from.tree.now kept.keeps.section) ≡ keys_of p
-kept_first from tree p within kept =
-    ap (λ tree. take from.count (header_at tree kept.keeps.section)) within
-    ∙ ap (λ n. take n (header_at tree kept.keeps.section)) kept.count
-    ∙ first_are (keys_of p) (header_at tree kept.keeps.section) kept.keeps.leads
+kept_first : (from : Node) (tree : Tree) (p : Path) → from.tree.now ≡ tree → from.count ≡ length (keys_of p)
+    → (kept : KeepsHeader tree (keys_of p) from.trail)
+    → take from.count (header_at from.tree.now kept.section) ≡ keys_of p
+kept_first from tree p within count kept =
+    ap (λ tree. take from.count (header_at tree kept.section)) within
+    ∙ ap (λ n. take n (header_at tree kept.section)) count
+    ∙ first_are (keys_of p) (header_at tree kept.section) kept.leads
 
-header_keeps : (from node : Node) (k : List ℕ) → GoesOn from k node.spot node.trail
-    → CountsOn from node.spot node.count → (tree : Tree) (p : Path) → StandsAt tree p from
-    → Further tree (p ++ key k ∷ []) node → KeysLead tree (p ++ key k ∷ []) node
-header_keeps from node k goes counts tree p stands there sections resolved made =
+pub has_section : (spot : Spot) → spot_is_made 1 spot ≡ true → (n : ℕ) × (spot_section spot ≡ Some n)
+has_section (spots.Table b) made =
+    ((out-Table b.now).section, ap (λ m. if m then Some (out-Table b.now).section else None) made)
+has_section (spots.Item b) made = go (out-Item b.now) made
+  where
+    go : (x : Item-F Item Child Table) → holds_tables x ≡ true → (n : ℕ) × (item_section x ≡ Some n)
+    go (Item-F.Tables before latest) made = ((out-Table latest.value).section, refl)
+    go Item-F.Nothing made = absurd (false≢true made)
+    go (Item-F.Integer z) made = absurd (false≢true made)
+    go (Item-F.Float z) made = absurd (false≢true made)
+    go (Item-F.Boolean z) made = absurd (false≢true made)
+    go (Item-F.String z) made = absurd (false≢true made)
+    go (Item-F.Escaped z) made = absurd (false≢true made)
+    go (Item-F.Array z) made = absurd (false≢true made)
+    go (Item-F.Plain z) made = absurd (false≢true made)
+    go (Item-F.Inline z) made = absurd (false≢true made)
+    go (Item-F.Table z) made = absurd (false≢true made)
+has_section (spots.Plain b) made = absurd (false≢true made)
+
+abbrev pub HasHeader : List Located → Path → Origin → Type 0
+HasHeader ls p o = (o.made ≡ true) × LeadsTo ls o.section p
+
+marked_at : (ls : List Located) (origins : Origins) → ComesFromHeaders ls origins → (p : Path) (k : List ℕ)
+    → grammar.is_made ls (p ++ key k ∷ []) ≡ true → IsSomeAnd (origins (p ++ key k ∷ [])) (HasHeader ls (p ++ key k ∷ []))
+marked_at ls origins marks [] k made = marks (key k) [] made
+marked_at ls origins marks (r ∷ p) k made = marks r (p ++ key k ∷ []) made
+
+pub section_leads : (ls : List Located) (p : Path) (spot : Spot) (n : ℕ) → spot_section spot ≡ Some n → (o : Option Origin)
+    → IsSomeAnd o (HasHeader ls p) → IfSome o (λ o. IfSome (spot_section spot) (λ n. o.section ≡ n)) → LeadsTo ls n p
+section_leads ls p spot n is None has marked = absurd has
+section_leads ls p spot n is (Some o) has marked =
+    let same : o.section ≡ n = subst (λ s. IfSome s (λ n. o.section ≡ n)) is marked in
+    subst (λ n. LeadsTo ls n p) same has.1
+
+header_keeps : (from node : Node) (k : List ℕ) (c : Child) → GoesOn from node.spot node.trail
+    → ComesFrom (child_origins c) node → (tree : Tree) (p : Path) → StandsAt tree p from
+    → Further tree (p ++ key k ∷ []) node → tree_origins tree (p ++ key k ∷ []) ≡ child_origins c []
+    → KeysLead tree (p ++ key k ∷ []) node
+header_keeps from node k c goes comes tree p stands there here sections resolved made =
+    let path = p ++ key k ∷ [] in
     let before = stands.keys sections resolved (made_before (located sections) p (key k) made) in
-    let s = before.keeps.section in
-    let spot = made_spot node tree (p ++ key k ∷ [])
-    (sym (made_there sections (tree_trie tree) resolved.stands p k) ∙ made) there in
-    let within : from.tree.now ≡ tree = stands.within in
-    let first = kept_first from tree p within before in
-    let keys : take from.count (header_at from.tree.now s) ++ k ∷ [] ≡ keys_of (p ++ key k ∷ []) =
-    ap (λ keys. keys ++ k ∷ []) first ∙ sym (keys-append p (key k ∷ [])) in
-    let some = some_leads sections tree resolved (p ++ key k ∷ []) (sym (steps_made sections p k) ∙ made) in
-    let kept = goes s before.keeps.trail spot some.0
-    (subst (λ keys. Leads from.tree.now keys some.0) (sym keys)
-    (subst (λ tree. Leads tree (keys_of (p ++ key k ∷ [])) some.0) (sym within) some.1)) in
+    let spot = made_spot node tree path (sym (made_there sections (tree_trie tree) resolved.stands p k) ∙ made) there in
+    let section = has_section node.spot spot in
+    let has = subst (λ o. IsSomeAnd o (HasHeader (located sections) path)) here
+    (marked_at (located sections) (tree_origins tree) resolved.marks p k made) in
     record {
-      count = counts s before.keeps.trail spot (ap length first ∙ sym before.count)
-          ∙ ap (λ n. n + 1) before.count ∙ sym (length-append (keys_of p) (k ∷ []))
-          ∙ sym (ap length (keys-append p (key k ∷ [])));
-      keeps = subst (λ tree. KeepsHeader tree (keys_of (p ++ key k ∷ [])) node.trail) within
-          (subst (λ keys. KeepsHeader from.tree.now keys node.trail) keys kept);
+      section = section.0;
+      trail = subst (λ s. IfSome s (λ n. node.trail ≡ Header n)) section.1 (goes before.section before.trail);
+      leads = header_leads sections tree resolved section.0 path
+          (section_leads (located sections) path node.spot section.0 section.1 (child_origins c []) has comes.marked);
     }
+
+count_keeps : (from node : Node) (k : List ℕ) → CountsOn from node.count → (tree : Tree) (p : Path)
+    → StandsAt tree p from → CountsKeys tree (p ++ key k ∷ []) node
+count_keeps from node k counts tree p stands sections resolved =
+    let before = stands.count sections resolved in
+    let few = few_keys sections tree resolved p (node_data from) stands.holds in
+    let low : from.count + 1 < 2 ^ 64 = omega (arith, before, few) in
+    counts low ∙ ap (λ n. n + 1) before ∙ sym (length-append (keys_of p) (k ∷ []))
+    ∙ sym (ap length (keys-append p (key k ∷ [])))
 
 -- and where a row put what is there
 some_both : {A : Type 0} (o : Option A) (P Q R : A → Type 0) → ((x : A) → P x → Q x → R x) → IfSome o P → IfSome o Q
@@ -195,23 +237,23 @@ row_keeps from node k c row hands comes some tree p stands here sections resolve
         let before = stands.keys sections resolved
         (subst (λ q. grammar.is_made (located sections) q ≡ true) (sym is_path) made) in
         let within : from.tree.now ≡ tree = stands.within in
-        let keys = kept_first from tree p within before ∙ ap keys_of is_path in
+        let keys = kept_first from tree p within (stands.count sections resolved) before ∙ ap keys_of is_path in
         let path : q ++ key l ∷ [] ≡ p ++ key k ∷ [] =
         sym (ap (λ p. p ++ key k ∷ []) is_path ∙ ap (λ k. q ++ key k ∷ []) is_key) in
         subst (λ o. IfSome o (λ o. o.made ≡ false → KeepsRow tree o.section (keys_of q) l node.trail))
         (sym (ap (tree_origins tree) path ∙ here))
-        (some_both (child_origins c []) (λ o. o.section ≡ (out-Child c).section)
+        (some_both (child_origins c []) (λ o. o.made ≡ false → o.section ≡ (out-Child c).section)
         (λ o. o.made ≡ false → o ≡ spot_origin node.count node.spot node.start comes.section)
         (λ o. o.made ≡ false → KeepsRow tree o.section (keys_of q) l node.trail)
         (λ o bears own apart.
         let spot : spot_is_made 1 node.spot ≡ false =
         no_root node.spot node.count some ∙ sym (ap (λ o. o.made) (own apart)) ∙ apart in
-        subst (λ n. KeepsRow tree n (keys_of q) l node.trail) (sym bears)
+        subst (λ n. KeepsRow tree n (keys_of q) l node.trail) (sym (bears apart))
         (subst (λ k. KeepsRow tree (out-Child c).section (keys_of q) k node.trail) is_key
         (subst (λ keys. KeepsRow tree (out-Child c).section keys k node.trail) keys
         (subst (λ (t : Tree). KeepsRow t (out-Child c).section (take from.count (header_at from.tree.now
-        before.keeps.section)) k node.trail) within
-        (row before.keeps.section before.keeps.trail spot)))))
+        before.section)) k node.trail) within
+        (row before.section before.trail spot)))))
         (child_bears c) comes.own)
 
     go : EndsAt p (key k) q (key l) r → IfSome (tree_origins tree (q ++ key l ∷ []))
@@ -224,11 +266,12 @@ row_keeps from node k c row hands comes some tree p stands here sections resolve
         (λ o kept apart. row_on from node hands tree o.section (keys_of q) l (kept apart))
         (stands.rows sections resolved q l further.0 further.1 made)
 
-pub key_keeps : (from node : Node) (k : List ℕ) (c : Child) → GoesOn from k node.spot node.trail
-    → CountsOn from node.spot node.count → BeginsRow from k (out-Child c).section node.spot node.trail
+pub key_keeps : (from node : Node) (k : List ℕ) (c : Child) → GoesOn from node.spot node.trail
+    → CountsOn from node.count → BeginsRow from k (out-Child c).section node.spot node.trail
     → HandsOn from node.trail → ComesFrom (child_origins c) node → (node.count == 0) ≡ false → KeysOn from k c node
 key_keeps from node k c goes counts row hands comes some tree p stands there here = (
-  header_keeps from node k goes counts tree p stands there,
+  count_keeps from node k counts tree p stands,
+  header_keeps from node k c goes comes tree p stands there here,
   row_keeps from node k c row hands comes some tree p stands here,
 )
 
@@ -241,20 +284,9 @@ keys_told keys node same sections p = foretold sections p node (λ found. keys �
     let kept = is.stands.keys sections is.resolved made in
     let tree = node.tree.now in
     same
-    ∙ ap (trail_keys tree.headers node.count) kept.keeps.trail
-    ∙ ap (λ n. take n (header_at tree kept.keeps.section)) kept.count
-    ∙ first_are (keys_of p) (header_at tree kept.keeps.section) kept.keeps.leads)
-
--- the sections of the list where they stand
-located_at : (before ss : List Section) (n : ℕ) (l : Located) → slice_get (located_from before ss) n ≡ Some l
-    → (header_in ss n ≡ texts l.section.header) × (keys_of l.path ≡ texts l.section.header)
-located_at before [] n l there = absurd (cc)
-located_at before (s ∷ ss) zero l there =
-    let is : located_after before s ≡ l = cc in (
-      ap (λ l. texts l.section.header) is,
-      subst (λ l. keys_of l.path ≡ texts l.section.header) is (located_keys s before),
-    )
-located_at before (s ∷ ss) (suc n) l there = located_at (s ∷ before) ss n l there
+    ∙ ap (trail_keys tree.headers node.count) kept.trail
+    ∙ ap (λ n. take n (header_at tree kept.section)) (is.stands.count sections is.resolved)
+    ∙ first_are (keys_of p) (header_at tree kept.section) kept.leads)
 
 -- the key after those of a path that begins another
 get_past : (before keys : KeyTexts) (k : List ℕ) → get_or (before ++ keys) (length before) k ≡ get_or keys 0 k

@@ -143,11 +143,11 @@ root_made count (spots.Plain b) t own none same = absurd (no_value (ap standing 
 
 -- a node that headers made
 module _ (sections : List Section) (node : Node) where
-  abbrev told : Path → Type 0
+  abbrev pub told : Path → Type 0
   told p = IsMade node.count node.spot
       × (stands_array (standing (spot_trie node.spot)) ≡ grammar.is_array (located sections) p)
 
-  is_told : (p : Path) → IsNodeAt sections p node → grammar.is_made (located sections) p ≡ true → told p
+  pub is_told : (p : Path) → IsNodeAt sections p node → grammar.is_made (located sections) p ≡ true → told p
   is_told p is made = go p is.stands.there made is.stands.root
     where
       t : Trie

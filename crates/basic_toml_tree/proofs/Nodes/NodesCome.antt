@@ -1,8 +1,8 @@
 -- A node comes from what the origins in the tree tell at its path.
-use Rattle.std.proofs.Common.{◌≡◌, ◌==◌, ℕ, zero, suc, Bool, true, false, List, [], ◌∷◌, ◌++◌, Some}
+use Rattle.std.proofs.Common.{◌≡◌, ◌==◌, ℕ, zero, suc, Bool, true, false, List, [], ◌∷◌, ◌++◌, Option, Some, None}
 use Rattle.std.proofs.Common.{refl, ap, sym, ◌∙◌}
 use Rattle.std.proofs.Common.{subst, map, rules, slice_get, option_map, append_assoc, codes, Vec, Box, Global}
-use Rattle.std.specs.Prelude.{IfSome, ◌||◌, if◌then◌else◌}
+use Rattle.std.specs.Prelude.{IfSome, ⊤, ◌||◌, if◌then◌else◌}
 use Rattle.std.specs.Borrow.{Bor}
 use Rattle.std.proofs.Math.Path.{fun_ext}
 use Rattle.std.proofs.lemmas.Bool.{false≢true}
@@ -20,14 +20,14 @@ use Rattle.basic_toml_tree.specs.declared.tree.Tree.{Tree}
 use Rattle.basic_toml_tree.specs.declared.node.Node.{Node}
 use Rattle.basic_toml_tree.specs.declared.spot.Spot.{Spot}
 use Rattle.basic_toml_tree.specs.declared.spot.Spot.TheVariants as spots
-use Rattle.basic_toml_tree.specs.Origin.{spot_is_made, holds_tables, item_name, table_is_made}
+use Rattle.basic_toml_tree.specs.Origin.{spot_is_made, spot_section, holds_tables, item_name, item_section, table_is_made}
 use Rattle.basic_toml_grow.specs.Origins.{Origin, Origins, no_origins, entry, under, at_numbers, value_origin}
 use Rattle.basic_toml_grow.specs.Origins.{table_origin, array_origin, elements_within, item_origins, child_origins}
-use Rattle.basic_toml_grow.specs.Origins.{table_within}
+use Rattle.basic_toml_grow.specs.Origins.{of_table, section_in, table_within}
 use Rattle.basic_toml_tree.specs.Stands.{ItemHolds, HoldsTable, spot_origins, node_origins, spot_origin, SpotComes}
 use Rattle.basic_toml_tree.specs.Stands.{ComesFrom, tree_origins}
 use Rattle.basic_toml_grow.proofs.ItemsStand.{shape}
-use Rattle.basic_toml_grow.proofs.Origins.OriginsSeen.{child_seen, made_seen, table_origins, table_item_seen}
+use Rattle.basic_toml_grow.proofs.Origins.OriginsSeen.{child_seen, made_seen, section_seen, table_origins, table_item_seen}
 use Rattle.basic_toml_grow.proofs.Origins.OriginsSeen.{array_seen, tables_seen, seen_at_key, seen_at_none}
 
 -- one step on from a node
@@ -48,7 +48,7 @@ item_key (Item-F.Table b) i t k q at s is holds =
     ∙ ap (λ t. table_origins t (key k ∷ q)) (sym holds)
   where
     made_table : (b : Box Table Global) (at s : ℕ) → item_origins (roll-Item (Item-F.Table b)) at s
-        ≡ entry (table_origin (table_within b.value).made at s) (table_origins b.value)
+        ≡ of_table at s (table_within b.value)
     made_table b at s = search (rules, the_lemmas)
 item_key (Item-F.Inline b) i t k q at s is holds =
     ap (λ i. item_origins i at s (key k ∷ q)) (shape i (Item-F.Inline b) is)
@@ -81,47 +81,79 @@ key_origins from t k c holds found s q =
     spot_key from.spot t k q from.start s holds ∙ seen_at_key t k q
     ∙ ap (λ o. under (option_map child_origins o) q) found
 
--- the section that first mentioned it
-bears_entry : (x : Item-F Item Child Table) (at s : ℕ) (o : Origin) (f : Origins)
-    → item_origins (roll-Item x) at s ≡ entry o f → o.section ≡ s
-    → IfSome (item_origins (roll-Item x) at s []) (λ o. o.section ≡ s)
-bears_entry x at s o f is same = subst (λ f. IfSome (f []) (λ o. o.section ≡ s)) (sym is) same
+-- of what rows made, the section that first mentioned it
+abbrev Bears : ℕ → Origins → Type 0
+Bears s f = IfSome (f []) (λ o. o.made ≡ false → o.section ≡ s)
 
-item_bears : (x : Item-F Item Child Table) (at s : ℕ) → IfSome (item_origins (roll-Item x) at s []) (λ o. o.section ≡ s)
+bears_entry : (x : Item-F Item Child Table) (at s : ℕ) (o : Origin) (f : Origins)
+    → item_origins (roll-Item x) at s ≡ entry o f → (o.made ≡ false → o.section ≡ s)
+    → Bears s (item_origins (roll-Item x) at s)
+bears_entry x at s o f is same = subst (Bears s) (sym is) same
+
+item_bears : (x : Item-F Item Child Table) (at s : ℕ) → Bears s (item_origins (roll-Item x) at s)
 item_bears Item-F.Nothing at s = bears (search (rules, the_lemmas))
   where
-    bears : item_origins (roll-Item Item-F.Nothing) at s ≡ no_origins
-        → IfSome (item_origins (roll-Item Item-F.Nothing) at s []) (λ o. o.section ≡ s)
-    bears e = subst (λ f. IfSome (f []) (λ o. o.section ≡ s)) (sym e) tt
+    bears : item_origins (roll-Item Item-F.Nothing) at s ≡ no_origins → Bears s (item_origins (roll-Item Item-F.Nothing) at s)
+    bears e = subst (Bears s) (sym e) tt
 item_bears (Item-F.Integer z) at s = bears_entry (Item-F.Integer z) at s (value_origin (codes "integer") at s) no_origins
-    (search (rules, the_lemmas)) refl
+    (search (rules, the_lemmas)) (λ apart. refl)
 item_bears (Item-F.Float z) at s = bears_entry (Item-F.Float z) at s (value_origin (codes "float") at s) no_origins
-    (search (rules, the_lemmas)) refl
+    (search (rules, the_lemmas)) (λ apart. refl)
 item_bears (Item-F.Boolean z) at s = bears_entry (Item-F.Boolean z) at s (value_origin (codes "boolean") at s) no_origins
-    (search (rules, the_lemmas)) refl
+    (search (rules, the_lemmas)) (λ apart. refl)
 item_bears (Item-F.String z) at s = bears_entry (Item-F.String z) at s (value_origin (codes "string") at s) no_origins
-    (search (rules, the_lemmas)) refl
+    (search (rules, the_lemmas)) (λ apart. refl)
 item_bears (Item-F.Escaped z) at s = bears_entry (Item-F.Escaped z) at s (value_origin (codes "string") at s) no_origins
-    (search (rules, the_lemmas)) refl
+    (search (rules, the_lemmas)) (λ apart. refl)
 item_bears (Item-F.Array z) at s = bears_entry (Item-F.Array z) at s (value_origin (codes "array") at s)
-    (at_numbers (map child_origins z.items)) (search (rules, the_lemmas)) refl
+    (at_numbers (map child_origins z.items)) (search (rules, the_lemmas)) (λ apart. refl)
 item_bears (Item-F.Plain z) at s = bears_entry (Item-F.Plain z) at s (value_origin (codes "array") at s)
-    (at_numbers (elements_origins s (listed (map listed_of z.items)))) (search (rules, the_lemmas)) refl
+    (at_numbers (elements_origins s (listed (map listed_of z.items)))) (search (rules, the_lemmas)) (λ apart. refl)
 item_bears (Item-F.Inline z) at s = bears_entry (Item-F.Inline z) at s (value_origin (codes "inline table") at s)
-    (table_origins z.value) (search (rules, the_lemmas)) refl
-item_bears (Item-F.Table z) at s = bears_entry (Item-F.Table z) at s (table_origin (table_within z.value).made at s)
-    (table_origins z.value) (search (rules, the_lemmas)) refl
-item_bears (Item-F.Tables y z) at s = bears_entry (Item-F.Tables y z) at s (array_origin at s)
+    (table_origins z.value) (search (rules, the_lemmas)) (λ apart. refl)
+item_bears (Item-F.Table z) at s =
+    let w = table_within z.value in
+    bears_entry (Item-F.Table z) at s (table_origin w.made at (section_in w s)) w.below (search (rules, the_lemmas))
+    (λ apart. ap (λ b. if b then w.section else s) apart)
+item_bears (Item-F.Tables y z) at s = bears_entry (Item-F.Tables y z) at s (array_origin at (table_within z.value).section)
     (at_numbers (elements_within at s (map table_within y.value.items ++ table_within z.value ∷ [])))
-    (search (rules, the_lemmas)) refl
+    (search (rules, the_lemmas)) (λ apart. absurd (false≢true (sym apart)))
 
-pub child_bears : (c : Child) → IfSome (child_origins c []) (λ o. o.section ≡ (out-Child c).section)
+pub child_bears : (c : Child) → Bears (out-Child c).section (child_origins c)
 child_bears c =
     let from = (out-Child c).start in
     let s = (out-Child c).section in
     let i = (out-Child c).item in
-    subst (λ f. IfSome (f []) (λ o. o.section ≡ s)) (sym (child_seen c
-    ∙ ap (λ i. item_origins i from s) (shape i (out-Item i) refl))) (item_bears (out-Item i) from s)
+    subst (Bears s) (sym (child_seen c ∙ ap (λ i. item_origins i from s) (shape i (out-Item i) refl)))
+    (item_bears (out-Item i) from s)
+
+-- of what headers made, the section whose header is the latest that leads there
+abbrev Marked : Option ℕ → Origins → Type 0
+Marked section f = IfSome (f []) (λ o. IfSome section (λ n. o.section ≡ n))
+
+pub not_marked : (section : Option ℕ) → section ≡ None → (f : Origins) → Marked section f
+not_marked section none f = subst (λ section. Marked section f) (sym none) (go (f []))
+  where
+    go : (o : Option Origin) → IfSome o (λ o. ⊤)
+    go None = tt
+    go (Some o) = tt
+
+item_marked : (x : Item-F Item Child Table) (at s : ℕ) → Marked (item_section x) (item_origins (roll-Item x) at s)
+item_marked (Item-F.Tables y z) at s = subst (Marked (Some (out-Table z.value).section)) (sym is) (section_seen z.value)
+  where
+    is : item_origins (roll-Item (Item-F.Tables y z)) at s ≡ entry (array_origin at (table_within z.value).section)
+        (at_numbers (elements_within at s (map table_within y.value.items ++ table_within z.value ∷ [])))
+    is = search (rules, the_lemmas)
+item_marked Item-F.Nothing at s = not_marked None refl (item_origins (roll-Item Item-F.Nothing) at s)
+item_marked (Item-F.Integer z) at s = not_marked None refl (item_origins (roll-Item (Item-F.Integer z)) at s)
+item_marked (Item-F.Float z) at s = not_marked None refl (item_origins (roll-Item (Item-F.Float z)) at s)
+item_marked (Item-F.Boolean z) at s = not_marked None refl (item_origins (roll-Item (Item-F.Boolean z)) at s)
+item_marked (Item-F.String z) at s = not_marked None refl (item_origins (roll-Item (Item-F.String z)) at s)
+item_marked (Item-F.Escaped z) at s = not_marked None refl (item_origins (roll-Item (Item-F.Escaped z)) at s)
+item_marked (Item-F.Array z) at s = not_marked None refl (item_origins (roll-Item (Item-F.Array z)) at s)
+item_marked (Item-F.Plain z) at s = not_marked None refl (item_origins (roll-Item (Item-F.Plain z)) at s)
+item_marked (Item-F.Inline z) at s = not_marked None refl (item_origins (roll-Item (Item-F.Inline z)) at s)
+item_marked (Item-F.Table z) at s = not_marked None refl (item_origins (roll-Item (Item-F.Table z)) at s)
 
 pub key_comes : (from node : Node) (t : Table) (k : List ℕ) (c : Child) → HoldsTable from.spot t
     → value_at (out-Table t).entries k ≡ Some c → ComesFrom (child_origins c) node
@@ -150,14 +182,13 @@ module _ {A B : Type 0} (f : A → B) where
 pub tables_come : (from node : Node) (n : ℕ) (b : Bor Item) → from.spot ≡ spots.Item b
     → (before : Box (Vec Table Global) Global) (latest : Box Table Global) (t : Bor Table) → b.now ≡ Tables before latest
     → slice_get (map table_within before.value.items ++ table_within latest.value ∷ []) n ≡ Some (table_within t.now)
-    → ((s : ℕ)
-    → ComesFrom (entry (table_origin (table_within t.now).made from.start s) (table_within t.now).below) node)
+    → ((s : ℕ) → ComesFrom (of_table from.start s (table_within t.now)) node)
     → (s : ℕ) → ComesFrom (λ q. node_origins s from (number n ∷ q)) node
 tables_come from node n b at before latest t is read comes s =
     subst (λ f. ComesFrom f node) (fun_ext (λ q. sym (ap (λ spot. spot_origins spot from.start s (number n ∷ q)) at
     ∙ ap (λ i. item_origins i from.start s (number n ∷ q)) is
     ∙ ap (λ f. f (number n ∷ q)) (tables_seen before latest from.start s)
-    ∙ ap (λ o. under o q) (read_mapped (λ w. entry (table_origin w.made from.start s) w.below)
+    ∙ ap (λ o. under o q) (read_mapped (of_table from.start s)
     (map table_within before.value.items ++ table_within latest.value ∷ []) n (table_within t.now) read)))) (comes s)
 
 -- the root, of which nothing is told
@@ -167,35 +198,46 @@ root_comes tree b at is = record {
   section = 0;
   own = subst (λ o. IfSome o (λ o. o.made ≡ false → o ≡ spot_origin 0 (spots.Table b) at 0))
       (sym (seen_at_none tree.root)) tt;
+  marked = subst (λ o. IfSome o (λ o. IfSome (spot_section (spots.Table b)) (λ n. o.section ≡ n)))
+      (sym (seen_at_none tree.root)) tt;
   parts = λ s q. ap (λ t. table_origins t (s ∷ q)) (sym is);
 }
 
 -- a table of headers or of dotted keys
-told_name : (b made : Bool) → b ≡ made → made ≡ false → (at s : ℕ)
-    → table_origin made at s ≡ record {
+told_name : (b made : Bool) → b ≡ made → made ≡ false → (at n s : ℕ)
+    → table_origin made at (if made then n else s) ≡ record {
       made = b;
       name = (if b then codes "table" else codes "dotted table");
       start = at;
       section = s;
     }
-told_name b true same apart at s = absurd (false≢true (sym apart))
-told_name true false same apart at s = absurd (false≢true (sym same))
-told_name false false same apart at s = refl
+told_name b true same apart at n s = absurd (false≢true (sym apart))
+told_name true false same apart at n s = absurd (false≢true (sym same))
+told_name false false same apart at n s = refl
+
+told_section : (b made : Bool) (m n s : ℕ) → b ≡ made → m ≡ n
+    → IfSome (if b then Some m else None) (λ k. (if made then n else s) ≡ k)
+told_section true true m n s same is = sym is
+told_section true false m n s same is = absurd (false≢true (sym same))
+told_section false made m n s same is = tt
 
 pub table_comes : (t : Table) (b : Bor Table) (count at s : ℕ) → b.now ≡ t → (count == 0) ≡ false
-    → SpotComes (entry (table_origin (table_within t).made at s) (table_origins t)) count (spots.Table b) at
+    → SpotComes (of_table at s (table_within t)) count (spots.Table b) at
 table_comes t b count at s is some = record {
   section = s;
   own = λ apart. told_name (spot_is_made count (spots.Table b)) (table_within t).made
-      (ap (λ c. c || table_is_made b.now) some ∙ ap table_is_made is ∙ sym (made_seen t)) apart at s;
+      (ap (λ c. c || table_is_made b.now) some ∙ ap table_is_made is ∙ sym (made_seen t)) apart at
+      (table_within t).section s;
+  marked = told_section (table_is_made b.now) (table_within t).made (out-Table b.now).section (table_within t).section s
+      (ap table_is_made is ∙ sym (made_seen t)) (ap (λ t. (out-Table t).section) is ∙ sym (section_seen t));
   parts = λ r q. ap (λ t. table_origins t (r ∷ q)) (sym is);
 }
 
 pub table_node_comes : (b : Bor Table) (node : Node) (at s : ℕ) → node.spot ≡ spots.Table b → node.start ≡ at
     → (node.count == 0) ≡ false
-    → ComesFrom (entry (table_origin (table_within b.now).made at s) (table_within b.now).below) node
+    → ComesFrom (of_table at s (table_within b.now)) node
 table_node_comes b node at s is_spot is_at some =
-    let here = entry (table_origin (table_within b.now).made at s) (table_within b.now).below in
+    let here = of_table at s (table_within b.now) in
     subst (λ at. SpotComes here node.count node.spot at) (sym is_at)
     (subst (λ spot. SpotComes here node.count spot at) (sym is_spot)
     (table_comes b.now b node.count at s refl some))
@@ -206,7 +248,7 @@ pub child_table_comes : (c : Child) (t : Box Table Global) (b : Bor Table) (coun
 child_table_comes c t b count spot at is same some is_spot is_at =
     let from = (out-Child c).start in
     let s = (out-Child c).section in
-    let seen : child_origins c ≡ entry (table_origin (table_within t.value).made from s) (table_origins t.value) =
+    let seen : child_origins c ≡ of_table from s (table_within t.value) =
     child_seen c ∙ ap (λ i. item_origins i from s) is ∙ table_item_seen t from s in
     subst (λ at. SpotComes (child_origins c) count spot at) (sym is_at)
     (subst (λ spot. SpotComes (child_origins c) count spot from) (sym is_spot)
@@ -254,11 +296,12 @@ item_own (Item-F.Inline z) at s =
     own_of (item_origins (roll-Item (Item-F.Inline z)) at s) (value_origin (codes "inline table") at s)
     (item_told (Item-F.Inline z) at s) (table_origins z.value) (search (rules, the_lemmas)) (λ apart. refl)
 item_own (Item-F.Table z) at s =
-    own_of (item_origins (roll-Item (Item-F.Table z)) at s) (table_origin (table_within z.value).made at s)
-    (item_told (Item-F.Table z) at s) (table_origins z.value) (search (rules, the_lemmas))
-    (λ apart. ap (λ made. table_origin made at s) apart)
+    let w = table_within z.value in
+    own_of (item_origins (roll-Item (Item-F.Table z)) at s) (table_origin w.made at (section_in w s))
+    (item_told (Item-F.Table z) at s) w.below (search (rules, the_lemmas))
+    (λ apart. ap (λ made. table_origin made at (if made then w.section else s)) apart)
 item_own (Item-F.Tables y z) at s =
-    own_of (item_origins (roll-Item (Item-F.Tables y z)) at s) (array_origin at s)
+    own_of (item_origins (roll-Item (Item-F.Tables y z)) at s) (array_origin at (table_within z.value).section)
     (item_told (Item-F.Tables y z) at s)
     (at_numbers (elements_within at s (map table_within y.value.items ++ table_within z.value ∷ [])))
     (search (rules, the_lemmas)) (λ apart. absurd (false≢true (sym apart)))
@@ -273,7 +316,10 @@ item_comes c b count spot at is is_spot is_at =
     let own : OwnIs (item_origins i from s) (item_told (out-Item i) from s) =
     subst (λ j. OwnIs (item_origins j from s) (item_told (out-Item i) from s)) (sym (shape i (out-Item i) refl))
     (item_own (out-Item i) from s) in
+    let marked : Marked (item_section (out-Item i)) (item_origins i from s) =
+    subst (λ j. Marked (item_section (out-Item i)) (item_origins j from s)) (sym (shape i (out-Item i) refl))
+    (item_marked (out-Item i) from s) in
     subst (λ at. SpotComes (child_origins c) count spot at) (sym is_at)
     (subst (λ spot. SpotComes (child_origins c) count spot from) (sym is_spot)
     (subst (λ f. SpotComes f count (spots.Item b) from) (sym seen)
-    (record { section = s; own = own; parts = λ r q. refl })))
+    (record { section = s; own = own; marked = marked; parts = λ r q. refl })))

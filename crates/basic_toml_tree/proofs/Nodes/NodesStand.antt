@@ -30,8 +30,8 @@ use Rattle.basic_toml_tree.specs.declared.spot.Spot.TheVariants as spots
 use Rattle.basic_toml_value.specs.Growth.{values_of}
 use Rattle.basic_toml_grow.specs.Item.{item_trie, child_trie, table_trie, by_keys, by_numbers, leaf, tree_data}
 use Rattle.basic_toml_tree.specs.Stands.{trie_at, tree_trie, spot_trie, wraps_table, HoldsTable, IsBelow, is_root}
-use Rattle.basic_toml_tree.specs.Keys.{KeysLead, RowsLead}
-use Rattle.basic_toml_tree.proofs.Nodes.KeysLead.{keys_beside, rows_beside}
+use Rattle.basic_toml_tree.specs.Keys.{CountsKeys, KeysLead, RowsLead}
+use Rattle.basic_toml_tree.proofs.Nodes.KeysLead.{count_beside, keys_beside, rows_beside}
 use Rattle.basic_toml_tree.specs.Stands.{StandsAt, StandsOn, IsBeside, is_wrapper, ItemHolds, ComesFrom, node_origins}
 use Rattle.basic_toml_tree.specs.Stands.{StartIsKept, tree_origins, IsPlainElement, spot_origins}
 use Rattle.basic_toml_tree.specs.Data.{child_data, table_data}
@@ -173,14 +173,15 @@ module _ (from node : Node) (s : Step) (same : node.tree ≡ from.tree)
       go (inr there) = step (more there.1) there.0
 
   stands_on : (node.count == 0) ≡ false → StartIsKept tree (around (p ++ s ∷ [])) node.outer
-      → KeysLead tree (p ++ s ∷ []) node → RowsLead tree (p ++ s ∷ []) node → StandsAt tree (p ++ s ∷ []) node
-  stands_on counted kept keys rows = record {
+      → CountsKeys tree (p ++ s ∷ []) node → KeysLead tree (p ++ s ∷ []) node → RowsLead tree (p ++ s ∷ []) node → StandsAt tree (p ++ s ∷ []) node
+  stands_on counted kept count keys rows = record {
     within = ap (λ t. t.now) same ∙ stands.within;
     holds = data_more p s (table_data tree.root) ∙ ap (option_and_then (data_by s)) stands.holds ∙ read;
     root = counted ∙ sym (no_root p s);
     there = further;
     comes = comes_on from node s tree p stands.comes comes;
     outer = kept;
+    count = count;
     keys = keys;
     rows = rows;
   }
@@ -203,17 +204,19 @@ Further tree p node = (trie_at p (tree_trie tree) ≡ nothing)
 abbrev pub KeysOn : Node → List ℕ → Child → Node → Type 0
 KeysOn from k c node = (tree : Tree) (p : Path) → StandsAt tree p from → Further tree (p ++ key k ∷ []) node
     → tree_origins tree (p ++ key k ∷ []) ≡ child_origins c []
-    → KeysLead tree (p ++ key k ∷ []) node × RowsLead tree (p ++ key k ∷ []) node
+    → CountsKeys tree (p ++ key k ∷ []) node × KeysLead tree (p ++ key k ∷ []) node
+    × RowsLead tree (p ++ key k ∷ []) node
 
 pub key_stands : (from node : Node) (t : Table) (k : List ℕ) (c : Child) → HoldsTable from.spot t
     → value_at (out-Table t).entries k ≡ Some c → data_at (node_data from) k ≡ Some (node_data node)
     → IsBelow from (child_trie c) node → ComesFrom (child_origins c) node → KeepsBelow from node → KeysOn from k c node
     → StandsOn from (key k) node
 key_stands from node t k c holds found read is comes keeps keys tree p stands =
-    let both = keys tree p stands (further from node (key k) is.tree read more from_there tree p stands)
+    let kept = keys tree p stands (further from node (key k) is.tree read more from_there tree p stands)
     (stands.comes.parts (key k) [] ∙ key_origins from t k c holds found stands.comes.section []) in
     stands_on from node (key k) is.tree read more from_there tree p stands is.count
-    (subst (λ q. StartIsKept tree q node.outer) (sym (around_key p k)) (keeps tree p stands)) both.0 both.1
+    (subst (λ q. StartIsKept tree q node.outer) (sym (around_key p k)) (keeps tree p stands)) kept.0 kept.1
+    kept.2
   where
     go : NothingOr (key k) (spot_trie from.spot) (child_trie c) → (below (key k) (spot_trie from.spot) ≡ nothing)
         ⊎ ((spot_trie node.spot ≡ below (key k) (spot_trie from.spot)) × (wraps_table node.spot ≡ false))
@@ -272,7 +275,7 @@ element_stands from node n es listed here origins read tree p stands =
     stands_on from node (number n) beside.tree read (λ own. inl (ap (below (number n)) here))
     (element_comes from node es n listed origins) tree p stands
     (ap (λ c. c == 0) beside.count ∙ stands.root ∙ no_array_root from tree p stands (ap tells_table here))
-    (kept_beside from node n tree p beside.outer stands)
+    (kept_beside from node n tree p beside.outer stands) (count_beside from node node.spot n beside tree p stands)
     (keys_beside from node node.spot n beside tree p stands) (rows_beside from node node.spot n beside tree p stands)
 
 -- and of one among such elements
@@ -295,7 +298,7 @@ module _ (from node : Node) (n : ℕ) (b : Bor Item) (at : from.spot ≡ spots.I
       stands_on from node (number n) beside.tree found (λ own. inl (ap (below (number n)) here))
       (λ s. literal_comes from node n b at children child is read comes s) tree p stands
       (ap (λ c. c == 0) beside.count ∙ stands.root ∙ no_array_root from tree p stands (ap tells_table here))
-      (kept_beside from node n tree p beside.outer stands)
+      (kept_beside from node n tree p beside.outer stands) (count_beside from node spot n beside tree p stands)
       (keys_beside from node spot n beside tree p stands) (rows_beside from node spot n beside tree p stands)
 
   pub plain_stand : (es : Vec Element Global) → b.now ≡ Plain es → IsPlainElement from es.items n node
@@ -325,5 +328,6 @@ module _ (from node : Node) (n : ℕ) (b : Bor Item) (at : from.spot ≡ spots.I
       (λ s. tables_come from node n b at before latest t is read
       (λ s. table_node_comes t node from.start s beside.spot start counted) s) tree p stands counted
       (kept_beside from node n tree p beside.outer stands)
+      (count_beside from node (spots.Table t) n beside tree p stands)
       (keys_beside from node (spots.Table t) n beside tree p stands)
       (rows_beside from node (spots.Table t) n beside tree p stands)

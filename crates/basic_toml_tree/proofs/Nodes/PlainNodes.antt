@@ -18,7 +18,7 @@ use Rattle.basic_toml_tree.specs.Nodes as seen
 use Rattle.basic_toml_grow.specs.Origins.{under, at_numbers, value_origins, elements_origins}
 use Rattle.basic_toml_tree.specs.Stands.{SpotComes, ComesFrom, IsPlainElement, spot_origins, node_origins}
 use Rattle.basic_toml_tree.proofs.Nodes.NodesInOrder.{mapped_length}
-use Rattle.basic_toml_tree.proofs.Nodes.NodesCome.{read_mapped}
+use Rattle.basic_toml_tree.proofs.Nodes.NodesCome.{not_marked, read_mapped}
 
 -- what is listed, one after another
 datas_listed : (ls : List Listed) → seen.listed (finished_elements (listed ls)) ≡ map (λ e. finished e.value) ls
@@ -67,7 +67,12 @@ own_is (Raw.inline z) at s = λ apart. refl
 
 pub value_comes : (v : Bor raws.Raw) (count at s : ℕ)
     → SpotComes (value_origins s at (plain_of v.now)) count (spots.Plain v) at
-value_comes v count at s = record { section = s; own = own_is (plain_of v.now) at s; parts = λ r q. refl }
+value_comes v count at s = record {
+  section = s;
+  own = own_is (plain_of v.now) at s;
+  marked = not_marked None refl (value_origins s at (plain_of v.now));
+  parts = λ r q. refl;
+}
 
 -- an element, from an array of plain elements
 module _ (from node : Node) (es : List Element) (n : ℕ) (is : IsPlainElement from es n node)

@@ -61,7 +61,7 @@ last_section n (k ∷ ls) l p =
     (along l.path (rows_origins (suc n + length ls) l.section.rows) p))
     ∙ ap (λ m. option_or (sections_origins n (k ∷ ls) p) (along l.path (rows_origins m l.section.rows) p)) same
 
-located_count : (before ss : List Section) → length (located_from before ss) ≡ length ss
+pub located_count : (before ss : List Section) → length (located_from before ss) ≡ length ss
 located_count before [] = refl
 located_count before (s ∷ ss) = ap suc (located_count (s ∷ before) ss)
 

@@ -68,7 +68,7 @@ loop-stop-preserved c =
           c.enter_section.new.root s read
           (more_entered read.list c.loop-stop.tree.headers c.loop-stop.tree.root read.have s c.enter_section.new.root
           c.push.new.self c.len-number.result c.len-number.ensures c.in_default.ensures.entered
-          c.in_default.ensures.origins
+          c.in_default.ensures.origins c.in_default.ensures.marks
           (c.in_ok-push.ensures.ok ∙ ap (λ h. c.loop-stop.tree.headers ++ h ∷ []) pushed)),
       record { header = c.in_ok-push.ensures.taken; rows = c.in_default.ensures.taken },
     )

@@ -55,7 +55,7 @@ loop-number-preserved c =
     ∙ ap (λ keys. c.loop-number.headers ++ (was.at, map key_of keys.items) ∷ []) c.enter_section.ensures.header in
     goes_on c.args.sections.items now n c.loop-number.headers c.loop-number.root c.loop-number.invariant was within
     (search (rules, c.index_mut-section.ensures.value)) (set now n next) c.push.new.self c.enter_section.new.root
-    c.in-Ok.ensures.entered c.in-Ok.ensures.origins (length-set now n next)
+    c.in-Ok.ensures.entered c.in-Ok.ensures.origins c.in-Ok.ensures.marks (length-set now n next)
     (λ k d past. get_or-set_other now n k next d (omega (arith, past))) pushed
 
 pub returns : goal.returns

@@ -13,3 +13,6 @@ returns-clause-comes c =
           (search (rules)) w.deref.ensures some w.spot-is refl
       | in_default w ↦ item_comes child _ count c.match-child.spot child.start (search (rules)) w.spot-is refl
     ]
+
+pub returns-clause-count : goal.returns-clause-count
+returns-clause-count c = λ few. grind (arith, c.saturating_add-count.ensures, few)

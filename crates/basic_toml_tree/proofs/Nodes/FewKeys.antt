@@ -1,0 +1,74 @@
+-- No more keys lead to a node than the tree is deep.
+use Rattle.std.proofs.Common.{◌≡◌, ◌≤◌, ℕ, zero, suc, Bool, true, false, cond, List, [], ◌∷◌, length, Option, Some, None}
+use Rattle.std.proofs.Common.{arith, refl, sym, subst}
+use Rattle.std.specs.Prelude.{slice_get, max}
+use Rattle.std.specs.Option.{option_and_then}
+use Rattle.std.specs.Str.{bytes_eq}
+use Rattle.basic_toml_value.specs.Data.{Data, Items, no_items, item, Members, no_members, member}
+use Rattle.basic_toml_value.specs.Nesting.{nesting_limit}
+use Rattle.basic_toml_grammar.specs.Depth.{depth, depth_of_items, depth_of_members}
+use Rattle.basic_toml_grammar.specs.Sections.{Section}
+use Rattle.basic_toml_grammar.specs.Steps.{Step, key, number, Path, keys_of}
+use Rattle.basic_toml_tree.specs.declared.tree.Tree.{Tree}
+use Rattle.basic_toml_tree.specs.Data.{table_data}
+use Rattle.basic_toml_tree.specs.Nodes.{data_among, listed}
+use Rattle.basic_toml_tree.specs.Paths.{data_by, data_along}
+use Rattle.basic_toml_tree.specs.Resolve.{IsResolved}
+
+keys_within : (p : Path) → length (keys_of p) ≤ length p
+keys_within [] = omega arith
+keys_within (key k ∷ p) = let rest = keys_within p in omega (arith, rest)
+keys_within (number n ∷ p) = let rest = keys_within p in omega (arith, rest)
+
+-- what is below data is less deep
+item_depth : (ds : Items) (n : ℕ) (d : Data) → slice_get (listed ds) n ≡ Some d → depth d ≤ depth_of_items ds
+item_depth no_items n d there = absurd (cc)
+item_depth (item e ds) zero d there =
+    let same : e ≡ d = cc in
+    subst (λ (d : Data). depth d ≤ max (depth e) (depth_of_items ds)) same (omega arith)
+item_depth (item e ds) (suc n) d there = let rest = item_depth ds n d there in omega (arith, rest)
+
+member_depth : (ms : Members) (k : List ℕ) (d : Data) → data_among ms k ≡ Some d → depth d ≤ depth_of_members ms
+member_depth no_members k d there = absurd (cc)
+member_depth (member l e ms) k d there = go (bytes_eq k l) there (member_depth ms k d)
+  where
+    go : (b : Bool) → cond b (Some e) (data_among ms k) ≡ Some d
+        → (data_among ms k ≡ Some d → depth d ≤ depth_of_members ms) → depth d ≤ max (depth e) (depth_of_members ms)
+    go true there rest =
+        let same : e ≡ d = cc in
+        subst (λ (d : Data). depth d ≤ max (depth e) (depth_of_members ms)) same (omega arith)
+    go false there rest = let less = rest there in omega (arith, less)
+
+less_deep : (s : Step) (d e : Data) → data_by s d ≡ Some e → suc (depth e) ≤ depth d
+less_deep (key k) (Data.table ms) e there = let less = member_depth ms k e there in omega (arith, less)
+less_deep (key k) (Data.array ds) e there = absurd (cc)
+less_deep (key k) (Data.integer z) e there = absurd (cc)
+less_deep (key k) (Data.float z) e there = absurd (cc)
+less_deep (key k) (Data.boolean z) e there = absurd (cc)
+less_deep (key k) (Data.string z) e there = absurd (cc)
+less_deep (number n) (Data.array ds) e there = let less = item_depth ds n e there in omega (arith, less)
+less_deep (number n) (Data.table ms) e there = absurd (cc)
+less_deep (number n) (Data.integer z) e there = absurd (cc)
+less_deep (number n) (Data.float z) e there = absurd (cc)
+less_deep (number n) (Data.boolean z) e there = absurd (cc)
+less_deep (number n) (Data.string z) e there = absurd (cc)
+
+as_deep : (p : Path) (d e : Data) → data_along p d ≡ Some e → length p ≤ depth d
+as_deep [] d e there = omega arith
+as_deep (s ∷ p) d e there = go (data_by s d) refl there (λ x. as_deep p x e)
+  where
+    go : (o : Option Data) → data_by s d ≡ o → option_and_then (data_along p) o ≡ Some e
+        → ((x : Data) → data_along p x ≡ Some e → length p ≤ depth x) → suc (length p) ≤ depth d
+    go None is there deep = absurd (cc)
+    go (Some x) is there deep =
+        let here = less_deep s d x is in
+        let rest = deep x there in
+        omega (arith, here, rest)
+
+pub few_keys : (sections : List Section) (tree : Tree) → IsResolved sections tree → (p : Path) (d : Data)
+    → data_along p (table_data tree.root) ≡ Some d → length (keys_of p) ≤ nesting_limit
+few_keys sections tree resolved p d there =
+    let deep = as_deep p (table_data tree.root) d there in
+    let keys = keys_within p in
+    let fits = subst (λ (d : Data). depth d ≤ nesting_limit) (sym resolved.grown) resolved.fits in
+    omega (arith, deep, keys, fits)
