@@ -1,6 +1,7 @@
 pub mod ReadingEnds
 pub mod TextOf
 pub mod NestsWithin
+pub mod NodesOrigins
 pub mod DocumentOf
 pub mod DocumentsFit
 pub mod TextIsReadBack

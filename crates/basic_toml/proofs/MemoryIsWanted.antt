@@ -19,7 +19,7 @@ use Rattle.basic_toml_tree.specs.Data.{table_data}
 use Rattle.basic_toml_tree.specs.Resolve as resolve
 use Rattle.basic_toml_tree.specs.OfText.{AnswersText}
 use Rattle.basic_toml_tree.specs.Resolve.{IsUnresolved}
-use Rattle.basic_toml_error.specs.Fault.{Fault, FaultKind, out_of_memory, want_of_memory}
+use Rattle.basic_toml_error.specs.Fault.{Fault, out_of_memory, want_of_memory}
 use Rattle.basic_toml_error.specs.ReadFaults.{lined}
 use Rattle.basic_toml_typed.specs.TypeAnswers.{IfGrows}
 use Rattle.basic_toml.specs.Memory.{BlanksAreRead}
@@ -52,12 +52,9 @@ more_held text error (inr why) =
     unresolved_holds text why.sections error why.list.grammar why.list.limit why.unresolved
 
 -- want of memory has no line and no column, so a type's own has none before them
-abbrev fault_of : FaultKind → List (List ℕ) → Option ℕ → Option (ℕ × ℕ) → Fault
-fault_of kind keys offset line = record { kind = kind; key_path = keys; offset = offset; line_column = line }
-
-same_fault : (k : FaultKind) (p : List (List ℕ)) (o : Option ℕ) (l : Option (ℕ × ℕ)) → k ≡ out_of_memory → p ≡ []
-    → o ≡ None → l ≡ None → fault_of k p o l ≡ want_of_memory
-same_fault k p o l kind keys offset line = rw (kind, keys, offset, line) refl
+same_fault : (f : Fault) → f.kind ≡ out_of_memory → f.key_path ≡ [] → f.offset ≡ None → f.line_column ≡ None
+    → f.anchor ≡ None → f ≡ want_of_memory
+same_fault f kind keys offset line anchor = rw (kind, keys, offset, line, anchor) refl
 
 no_line : (l m : Option (ℕ × ℕ)) → option_or l m ≡ None → l ≡ None
 no_line None m e = refl
@@ -65,9 +62,8 @@ no_line (Some x) m e = cc
 
 unlined : (text : List ℕ) (own : Fault) → lined text own ≡ want_of_memory → own ≡ want_of_memory
 unlined text own e =
-    same_fault own.kind own.key_path own.offset own.line_column (ap (λ (f : Fault). f.kind) e)
-    (ap (λ (f : Fault). f.key_path) e) (ap (λ (f : Fault). f.offset) e)
-    (no_line own.line_column _ (ap (λ (f : Fault). f.line_column) e))
+    same_fault own (ap (λ (f : Fault). f.kind) e) (ap (λ (f : Fault). f.key_path) e) (ap (λ (f : Fault). f.offset) e)
+    (no_line own.line_column _ (ap (λ (f : Fault). f.line_column) e)) (ap (λ (f : Fault). f.anchor) e)
 
 pub lined_grows : (Grows : Type 0) (text : List ℕ) (own fault : Fault) → fault ≡ lined text own → IfGrows Grows own
     → IfGrows Grows fault

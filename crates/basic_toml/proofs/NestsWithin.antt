@@ -3,11 +3,10 @@ use Rattle.std.proofs.Common.{◌≡◌, ℕ, suc, ◌+◌, ◌-◌, ◌<◌, ma
 use Rattle.std.proofs.Common.{refl, sym, ◌∙◌, ap, subst, arith, rules, ℤ}
 use Rattle.std.specs.Prelude.{nat_le, IsTrue}
 use Rattle.std.proofs.lemmas.Bool.Decides.{nat_tests}
-use Rattle.basic_toml_value.specs.Data.{Data, integer, string, array, table, Items, item, Members, member}
+use Rattle.basic_toml_value.specs.Data.{integer, table}
 use Rattle.basic_toml_value.specs.Entries.{seen}
 use Rattle.basic_toml_value.specs.Keys.{are_distinct}
 use Rattle.basic_toml_value.specs.Pairs as pairs
-use Rattle.basic_toml_value.specs.Text.{text_bytes}
 use Rattle.basic_toml_value.specs.View.{view, entries, items_view}
 use Rattle.basic_toml_value.specs.declared.pairs.Pair.{Pair}
 use Rattle.basic_toml_value.specs.declared.text.Text.{Text}

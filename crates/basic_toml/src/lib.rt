@@ -27,7 +27,7 @@ pub mod tokens {
     pub use basic_toml_tokens::{Error, Span, Token, Tokenizer};
 }
 
-pub use basic_toml_error::{Error, ErrorKind, Message, line_col};
+pub use basic_toml_error::{Error, ErrorKind, Message, Origins, line_col};
 pub use basic_toml_explain::{KeyPath, ReadErrorKind};
 pub use basic_toml_numbers::{Float, float_of, integer_of};
 pub use basic_toml_order::{into_rows_first, rows_first};
@@ -41,6 +41,6 @@ pub use basic_toml_value::{PushRefusal, Table, Text, Value};
 pub use basic_toml_write::{Serialize, Serializer, WriteError};
 pub use de::{from_slice, from_str, read_tree};
 pub use document::{table_to_string, table_to_string_pretty, value_to_string};
-pub use origin::origin_of;
+pub use origin::{origin_of, origin_of_node};
 pub use read_back::round_trip;
 pub use ser::to_string;

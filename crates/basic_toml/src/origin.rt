@@ -1,8 +1,8 @@
 //! Where something in a text is written.
-ghost use Rattle.basic_toml.specs.Origins.{AnswersOrigin};
+ghost use Rattle.basic_toml.specs.Origins.{AnswersOrigin, AnswersNodeOrigin};
 
-use crate::Error;
-use basic_toml_origin::{Origin, Step, origin_at};
+use crate::{Error, Node};
+use basic_toml_origin::{Origin, Step, origin_at, path_to_anchor};
 use basic_toml_read::sections;
 use std::alloc::Global;
 
@@ -29,6 +29,36 @@ pub fn origin_of(alloc: Global, text: &str, path: &[Step<'_>]) -> Result<Option<
 {
     match sections(alloc, text) {
         Ok(sections) => Ok(origin_at(alloc, sections.as_slice(), path)?),
+        Err(error) => Err(Error::in_text(alloc, text, &error)),
+    }
+}
+
+/// Where what a node stands for is written in the text that its tree was read from: the [`Origin`] that [`origin_of`]
+/// tells of the node's path. A type of one's own that reads nodes asks it where it wants to point at one.
+///
+/// ```text
+/// let tree = read_tree(alloc, text)?;
+/// let origin = origin_of_node(alloc, text, tree.root())?; // where the text's first row or header stands
+/// ```
+///
+/// This is from `toml_vectors`. An error that is made at a node has it by [`origins`](Error::origins). (TOML v0.5.0,
+/// "Table" and "Array of Tables")
+///
+/// # Errors
+///
+/// `out of memory`; of another text those of [`origin_of`].
+pub fn origin_of_node(
+    alloc: Global,
+    text: &str,
+    node: Node<'_, '_>,
+) -> Result<Option<Origin>, Error>
+    ensures { AnswersNodeOrigin text.now node.entry result }
+{
+    match sections(alloc, text) {
+        Ok(sections) => match path_to_anchor(alloc, sections.as_slice(), node.anchor())? {
+            Some(path) => Ok(origin_at(alloc, sections.as_slice(), path.as_slice())?),
+            None => Ok(None),
+        },
         Err(error) => Err(Error::in_text(alloc, text, &error)),
     }
 }

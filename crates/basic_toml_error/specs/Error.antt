@@ -1,5 +1,5 @@
 -- What contracts see of an `Error`.
-use Rattle.std.specs.Prelude.{ℕ, List, [], map, Option, Some, None, Vec, String, string_bytes, ◌<◌, ◌^◌, ◌+◌}
+use Rattle.std.specs.Prelude.{ℕ, List, [], map, Option, Some, None, option_map, Vec, String, string_bytes, ◌<◌, ◌^◌, ◌+◌}
 use Rattle.std.specs.Option.{ForSome}
 use Rattle.std.specs.declared.alloc.Global.{Global}
 use Rattle.basic_toml_error.specs.Fault.{Fault}
@@ -16,6 +16,7 @@ fault_of e = record {
   key_path = keys_of e.key_path;
   offset = e.offset;
   line_column = e.line_column;
+  anchor = option_map (λ anchor. anchor.value) e.anchor;
 }
 
 -- line and column leave room for counting from 1

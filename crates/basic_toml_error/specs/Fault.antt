@@ -1,6 +1,8 @@
--- What a fault says: what is wrong, the key path where it stands, and its line and column, if it has an offset. (own)
+-- What a fault says: what is wrong, the key path where it stands, and its line and column, if it has an offset; and of a
+-- type's own fault what its node is found by again. (own)
 use Rattle.std.specs.Prelude.{ℕ, List, [], Option, None}
 use Rattle.basic_toml_grammar.specs.Faults as read
+use Rattle.basic_toml_origin.specs.declared.anchor.Anchor.{Anchor}
 
 pub data FaultKind : Type 0 where
   -- why a text is not read
@@ -38,10 +40,11 @@ pub record Fault : Type 0 where
   pub key_path : List (List ℕ)
   pub offset : Option ℕ
   pub line_column : Option (ℕ × ℕ)
+  pub anchor : Option Anchor
 
--- a fault with no key path and no offset
+-- a fault with no key path, no offset and no node
 abbrev pub without_offset : FaultKind → Fault
-without_offset kind = record { kind = kind; key_path = []; offset = None; line_column = None }
+without_offset kind = record { kind = kind; key_path = []; offset = None; line_column = None; anchor = None }
 
 -- a growth was refused
 abbrev pub want_of_memory : Fault

@@ -6,4 +6,5 @@ pub mod KindView
 pub mod WriteFaults
 pub mod ReadFaults
 pub mod NodeFaults
+pub mod Origins
 pub mod Statements

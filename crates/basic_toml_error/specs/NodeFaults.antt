@@ -1,15 +1,14 @@
 -- The faults that a type makes at a node: the message, with the node's offset and key path. (own)
-use Rattle.std.specs.Prelude.{ℕ, ℤ, Bool, true, false, List, [], ◌∷◌, ◌++◌, codes, decimal, map, None, Option}
+use Rattle.std.specs.Prelude.{ℕ, Bool, true, false, List, [], ◌∷◌, ◌++◌, codes, decimal, None, Some, Option}
 use Rattle.std.specs.Fmt.{signed_decimal}
 use Rattle.std.specs.List.{flat_map}
 use Rattle.std.specs.Prelude.{◌==◌, ◌||◌, if◌then◌else◌, ◌≡◌, ◌⊎◌}
 use Rattle.basic_toml_tokens.specs.Ascii as ascii
 use Rattle.basic_toml_value.specs.Data.{Data}
 use Rattle.basic_toml_tree.specs.declared.node.Node.{Node}
-use Rattle.basic_toml_tree.specs.Nodes.{node_data}
 use Rattle.basic_toml_tree.specs.Origin as origin
 use Rattle.basic_toml_explain.specs.ReadErrorText.{quoted}
-use Rattle.basic_toml_error.specs.Fault.{Fault, FaultKind, custom, wanted, want_of_memory}
+use Rattle.basic_toml_error.specs.Fault.{Fault, FaultKind, want_of_memory}
 
 -- at a node, and at the table around it
 abbrev pub fault_within : Node → Option ℕ → FaultKind → Fault
@@ -18,6 +17,7 @@ fault_within node offset kind = record {
   key_path = origin.keys_of node;
   offset = offset;
   line_column = None;
+  anchor = Some (origin.anchor_of node);
 }
 
 unfoldable pub fault_at : Node → FaultKind → Fault

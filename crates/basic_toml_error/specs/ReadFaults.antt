@@ -1,5 +1,5 @@
 -- The fault that an error of reading is.
-use Rattle.std.specs.Prelude.{ℕ, List, option_map}
+use Rattle.std.specs.Prelude.{ℕ, List, None, option_map}
 use Rattle.std.specs.Option.{option_or}
 use Rattle.basic_toml_grammar.specs.Faults as read
 use Rattle.basic_toml_error.specs.Fault as fault
@@ -12,6 +12,7 @@ fault_in text error = record {
   key_path = error.key_path;
   offset = error.offset;
   line_column = option_map (λ offset. (line_at text offset, column_at text offset)) error.offset;
+  anchor = None;
 }
 
 -- a fault with the line and the column of its offset in the text; one that has its line keeps it
@@ -22,4 +23,5 @@ lined text f = record {
   offset = f.offset;
   line_column =
       option_or f.line_column (option_map (λ offset. (line_at text offset, column_at text offset)) f.offset);
+  anchor = f.anchor;
 }

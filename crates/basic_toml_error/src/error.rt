@@ -11,6 +11,7 @@ use crate::message::{
     value_message, wanted_kind,
 };
 use basic_toml_explain::{KeyPath, ReadError, ReadErrorKind};
+use basic_toml_origin::Anchor;
 use basic_toml_tree::Node;
 use basic_toml_write::WriteError;
 use std::alloc::{AllocError, Global};
@@ -42,6 +43,8 @@ pub struct Error {
     // the byte offset where it stands, in the text from which line and column come
     offset: Option<usize>,
     line_column: Option<(usize, usize)>,
+    // what its node is found by again, of an error that a type makes at one; in a box, as an error is small
+    anchor: Option<Box<Anchor>>,
 }
 
 impl Model for Error {
@@ -140,6 +143,16 @@ impl Error {
         self.line_column
     }
 
+    // What its node is found by again, of an error that a type makes at one.
+    pub(crate) fn anchor(&self) -> Option<Anchor>
+        ensures { result ≡ self.now.anchor }
+    {
+        match &self.anchor {
+            Some(anchor) => Some(**anchor),
+            None => None,
+        }
+    }
+
     /// Whether a growth was refused memory.
     pub fn is_out_of_memory(&self) -> bool
         ensures { IsTrue result ↔ (self.now.kind ≡ out_of_memory) }
@@ -172,6 +185,7 @@ impl Error {
             key_path: Some(key_path),
             offset: error.place(),
             line_column: line_column_of(text, error.place()),
+            anchor: None,
         })
     }
 
@@ -312,15 +326,29 @@ impl Error {
     ) -> Error
         ensures { IsFault result (fault_within node.entry offset (kind_of kind)) }
     {
-        match node.key_path(alloc) {
-            Ok(keys) => Error {
-                kind,
-                key_path: Some(keys),
-                offset,
-                line_column: None,
-            },
+        match Error::about(alloc, node, offset, kind) {
+            Ok(error) => error,
             Err(e) => Error::from(e),
         }
+    }
+
+    fn about(
+        alloc: Global,
+        node: Node<'_, '_>,
+        offset: Option<usize>,
+        kind: ErrorKind,
+    ) -> Result<Error, AllocError>
+        ensures { IfOk result (λ error. error ≡ fault_within node.entry offset (kind_of kind)) }
+    {
+        let keys = node.key_path(alloc)?;
+        let anchor = Box::new(alloc, node.anchor())?;
+        Ok(Error {
+            kind,
+            key_path: Some(keys),
+            offset,
+            line_column: None,
+            anchor: Some(anchor),
+        })
     }
 
     /// `input is not valid UTF-8`, without an offset.
@@ -338,6 +366,7 @@ impl Error {
             key_path: None,
             offset: None,
             line_column: None,
+            anchor: None,
         }
     }
 }

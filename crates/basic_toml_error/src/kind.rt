@@ -3,9 +3,11 @@ ghost use Rattle.std.specs.Prelude.{◌≡◌, Some, IfOk};
 ghost use Rattle.basic_toml_error.specs.Fault.{reading};
 ghost use Rattle.basic_toml_error.specs.FaultText.{message};
 ghost use Rattle.basic_toml_error.specs.KindView.{kind_of};
+ghost use Rattle.basic_toml_error.specs.Origins.{clash_of};
 ghost use Rattle.basic_toml_explain.specs.Error as read;
 
 use basic_toml_explain::ReadErrorKind;
+use basic_toml_origin::ClashKind;
 use basic_toml_write::WriteError;
 use std::alloc::{AllocError, Global};
 use std::fmt;
@@ -44,6 +46,17 @@ pub enum ErrorKind {
 }
 
 impl ErrorKind {
+    /// What clashes, if something does.
+    pub(crate) fn clash(&self) -> Option<ClashKind>
+        ensures { result ≡ clash_of (kind_of self.now) }
+    {
+        match self {
+            ErrorKind::Reading(kind) => ClashKind::of(kind),
+            ErrorKind::Writing(WriteError::DuplicateKey(_)) => Some(ClashKind::Key),
+            _ => None,
+        }
+    }
+
     /// The kind of an error of reading, its words copied.
     pub(crate) fn of_reading(alloc: Global, kind: &ReadErrorKind) -> Result<ErrorKind, AllocError>
         ensures { IfOk result (λ copy. kind_of copy ≡ reading (read.kind_of kind.now)) }

@@ -18,7 +18,9 @@ mod kind;
 pub mod laws;
 mod line_column;
 mod message;
+mod origins;
 
 pub use error::Error;
 pub use kind::{ErrorKind, Message};
 pub use line_column::line_col;
+pub use origins::Origins;

@@ -1,0 +1,54 @@
+-- Where what a fault is about is written, by the section list of its text, own. A type's own fault is about its node: of
+-- an unknown field it is the field's key, else the thing itself. Of a clash it is the later of the two keys, and the
+-- earlier is the other one. Any other fault is about what stands at its offset.
+use Rattle.std.specs.Prelude.{◌≡◌, ℕ, List, [], ◌∷◌, ◌++◌, Option, Some, None, option_map, unwrap_or, Result, Ok, Err}
+use Rattle.std.specs.Option.{option_and_then}
+use Rattle.basic_toml_grammar.specs.Sections.{Section}
+use Rattle.basic_toml_grammar.specs.Steps.{key, Path}
+use Rattle.basic_toml_origin.specs.declared.anchor.Anchor.{Anchor}
+use Rattle.basic_toml_origin.specs.declared.clash.ClashPlaces.{ClashPlaces}
+use Rattle.basic_toml_origin.specs.Anchor.{path_of_anchor}
+use Rattle.basic_toml_origin.specs.declared.clash.ClashKind.{ClashKind}
+use Rattle.basic_toml_origin.specs.Clash.{clash_kind, clash_places}
+use Rattle.basic_toml_origin.specs.Origin.{origin_at}
+use Rattle.basic_toml_tree.specs.OfText.{IsListOf}
+use Rattle.basic_toml_error.specs.Fault.{Fault, FaultKind, reading, unknown_field, want_of_memory}
+use Rattle.basic_toml_error.specs.declared.origins.Origins.{Origins}
+
+-- of a type's own fault at the node of a path
+abbrev pub about_node : List Section → Path → FaultKind → Option ℕ
+about_node sections p (unknown_field name message) =
+    option_and_then (λ o. o.key) (origin_at sections (p ++ key name ∷ []))
+about_node sections p kind = option_map (λ o. o.at) (origin_at sections p)
+
+abbrev pub alone : ℕ → Origins
+alone at = record { origin = at; other = None }
+
+abbrev pub of_clash : ClashPlaces → Origins
+of_clash places = record { origin = places.later; other = Some places.first }
+
+abbrev pub clash_of : FaultKind → Option ClashKind
+clash_of (reading kind) = clash_kind kind
+clash_of kind = None
+
+-- of a fault of the text at an offset, if it is one of a clash
+abbrev pub about_text : List Section → ℕ → Option ClashKind → Origins
+about_text sections at None = alone at
+about_text sections at (Some clash) = unwrap_or (option_map of_clash (clash_places sections clash at)) (alone at)
+
+abbrev pub about : List Section → FaultKind → Option ℕ → Option Anchor → Option Origins
+about sections kind offset (Some anchor) =
+    option_map alone (option_and_then (λ p. about_node sections p kind) (path_of_anchor sections anchor))
+about sections kind offset None = option_map (λ at. about_text sections at (clash_of kind)) offset
+
+abbrev pub origins_in : List Section → Fault → Option Origins
+origins_in sections f = about sections f.kind f.offset f.anchor
+
+-- By the section list of the text; where it has none within the limit, the fault's own offset.
+pub record AreOriginsIn (text : List ℕ) (f : Fault) (origins : Option Origins) : Type 0 where
+  pub listed : (sections : List Section) → IsListOf text sections → origins ≡ origins_in sections f
+  pub unlisted : ((sections : List Section) → IsListOf text sections → ⊥) → origins ≡ option_map alone f.offset
+
+abbrev pub AnswersOrigins : List ℕ → Fault → Result (Option Origins) Fault → Type 0
+AnswersOrigins text f (Ok origins) = AreOriginsIn text f origins
+AnswersOrigins text f (Err fault) = fault ≡ want_of_memory
