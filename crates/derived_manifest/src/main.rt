@@ -29,7 +29,7 @@ fn main(rt: HostRuntime) -> io::Result<ExitCode> {
         };
         match rewrite_by_name(rt.alloc(), name.as_str(), text.as_str()) {
             Ok(text) => print!(rt; "{text}")?,
-            Err(e) => return report(&rt, name.as_str(), e),
+            Err(e) => return report(&rt, name.as_str(), text.as_str(), &e),
         }
     }
     Ok(ExitCode::SUCCESS)

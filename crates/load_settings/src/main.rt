@@ -22,7 +22,7 @@ fn main(rt: HostRuntime) -> io::Result<ExitCode> {
     };
     match loaded_again(rt.alloc(), text.as_str()) {
         Ok(s) => println!(rt; "{}:{} verbose={}", s.host, s.port, s.verbose)?,
-        Err(e) => return report(&rt, e),
+        Err(e) => return report(&rt, text.as_str(), &e),
     }
     Ok(ExitCode::SUCCESS)
 }

@@ -20,7 +20,7 @@ fn main(rt: HostRuntime) -> io::Result<ExitCode> {
     };
     match manifest_of(rt.alloc(), text.as_str()) {
         Ok(manifest) => print(&rt, &manifest)?,
-        Err(e) => return report(&rt, e),
+        Err(e) => return report(&rt, text.as_str(), &e),
     }
     Ok(ExitCode::SUCCESS)
 }

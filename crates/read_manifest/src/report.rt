@@ -1,20 +1,30 @@
 //! How a program says what is wrong with its standard input.
 
-use basic_toml::{Error, KeyPath};
+use basic_toml::{Error, KeyPath, line_col};
+use std::alloc::Global;
 use std::io;
 use std::process::ExitCode;
 
-/// Prints an error on standard error, and answers the status 1.
+/// Prints an error of its text on standard error, and answers the status 1.
 ///
-/// Its place, where it has one, stands in front, where editors look for it: `stdin:LINE:COLUMN: `, both from 1.
-pub fn report(rt: &HostRuntime, error: Error) -> io::Result<ExitCode> {
+/// Where what it is about is written stands in front, where editors look for it: `stdin:LINE:COLUMN: `, both from 1.
+pub fn report(rt: &HostRuntime, text: &str, error: &Error) -> io::Result<ExitCode> {
     let message = error.message();
     let keys = KeyPath(error.key_path());
-    match error.line_col() {
-        Some((line, column)) => {
+    match place(rt.alloc(), text, error) {
+        Some(place) => {
+            let (line, column) = line_col(text, place);
             eprintln!(rt; "stdin:{}:{}: {message}{keys}", line + 1, column + 1)?;
         }
         None => eprintln!(rt; "stdin: {message}{keys}")?,
     }
     Ok(ExitCode::FAILURE)
+}
+
+// The offset of the origin, or, where no memory is left to look for it, the error's own.
+fn place(alloc: Global, text: &str, error: &Error) -> Option<usize> {
+    match error.origins(alloc, text) {
+        Ok(Some(origins)) => Some(origins.origin),
+        _ => error.offset(),
+    }
 }

@@ -2,8 +2,9 @@
 use basic_toml::tokens::{Span, Tokenizer};
 use basic_toml::{
     Error, ErrorKind, Float, Origin, PushRefusal, ReadErrorKind, Serializer, Step, Table, Value,
-    WriteError, from_slice, from_str, integer_of, into_rows_first, line_col, origin_of, read_tree,
-    rows_first, table_to_string, table_to_string_pretty, to_string, value_to_string,
+    WriteError, from_slice, from_str, integer_of, into_rows_first, line_col, origin_of,
+    origin_of_node, read_tree, rows_first, table_to_string, table_to_string_pretty, to_string,
+    value_to_string,
 };
 use std::alloc::{AllocError, Global};
 use std::test::Fail;
@@ -75,6 +76,52 @@ fn tells_where_things_are_written(rt: HostRuntime) -> Result<(), Fail> {
     }
     let nowhere = origin_of(rt.alloc(), text, &[Step::Key("needs"), Step::Key("y")])?;
     assert_eq!(rt; nowhere, None);
+    Ok(())
+}
+
+#[test]
+fn tells_where_nodes_are_written(rt: HostRuntime) -> Result<(), Fail> {
+    let alloc = rt.alloc();
+    let text = "\n[a.b]\nc = [1, { d = 2 }]\n[[e]]\n[[e]]\n";
+    let tree = read_tree(alloc, text)?;
+    let root = origin_of_node(alloc, text, tree.root())?;
+    assert_eq!(rt; root, Some(Origin { at: 1, key: None }));
+    let table = tree.root().get("a").ok_or("no a")?.get("b").ok_or("no b")?;
+    let found = origin_of_node(alloc, text, table)?;
+    assert_eq!(rt;
+        found,
+        Some(Origin {
+            at: 1,
+            key: Some(4)
+        })
+    );
+    let array = table.get("c").ok_or("no c")?;
+    let mut elements = array.elements().ok_or("no array")?;
+    elements.next();
+    let inline = elements.next().ok_or("no second")?;
+    let found = origin_of_node(alloc, text, inline.get("d").ok_or("no d")?)?;
+    assert_eq!(rt;
+        found,
+        Some(Origin {
+            at: 21,
+            key: Some(17)
+        })
+    );
+    let tables = tree.root().get("e").ok_or("no e")?;
+    let mut elements = tables.elements().ok_or("no array")?;
+    elements.next();
+    let second = elements.next().ok_or("no second")?;
+    assert_eq!(rt;
+        origin_of_node(alloc, text, tables)?,
+        Some(Origin {
+            at: 26,
+            key: Some(28)
+        })
+    );
+    assert_eq!(rt;
+        origin_of_node(alloc, text, second)?,
+        Some(Origin { at: 32, key: None })
+    );
     Ok(())
 }
 

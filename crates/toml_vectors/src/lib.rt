@@ -16,6 +16,8 @@ mod kinds;
 #[cfg(test)]
 mod messages;
 #[cfg(test)]
+mod origins;
+#[cfg(test)]
 mod parts;
 #[cfg(test)]
 mod rows;
