@@ -27,11 +27,12 @@ alone at = record { origin = at; other = None }
 abbrev pub of_clash : ClashPlaces → Origins
 of_clash places = record { origin = places.later; other = Some places.first }
 
+-- what clashes, if something does
 abbrev pub clash_of : FaultKind → Option ClashKind
 clash_of (reading kind) = clash_kind kind
 clash_of kind = None
 
--- of a fault of the text at an offset, if it is one of a clash
+-- of a fault of the text at an offset, and of what clashes, if it is one of a clash
 abbrev pub about_text : List Section → ℕ → Option ClashKind → Origins
 about_text sections at None = alone at
 about_text sections at (Some clash) = unwrap_or (option_map of_clash (clash_places sections clash at)) (alone at)
@@ -43,6 +44,10 @@ about sections kind offset None = option_map (λ at. about_text sections at (cla
 
 abbrev pub origins_in : List Section → Fault → Option Origins
 origins_in sections f = about sections f.kind f.offset f.anchor
+
+-- the list is asked: for a type's own fault at a node, and for a clash
+abbrev pub AsksTheList : Fault → Type 0
+AsksTheList f = f.anchor ≡ None → clash_of f.kind ≡ None → ⊥
 
 -- By the section list of the text; where it has none within the limit, the fault's own offset.
 pub record AreOriginsIn (text : List ℕ) (f : Fault) (origins : Option Origins) : Type 0 where

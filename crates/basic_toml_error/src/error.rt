@@ -33,8 +33,8 @@ use std::marker::Model;
 /// ```
 ///
 /// This is from `toml_callers`. Such an error has the keys that lead to the node, and stands at its `place` where
-/// the function names no other; line and column come with the text, from `from_str`. Where its words or its keys find
-/// no memory, it is want of memory instead.
+/// the function names no other; line and column come with the text, from `from_str`. Its origin is that of the node
+/// ([`origins`](Error::origins)). Where its words or its keys find no memory, it is want of memory instead.
 #[derive(Debug, Drop)]
 pub struct Error {
     kind: ErrorKind,

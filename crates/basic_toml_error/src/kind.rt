@@ -46,7 +46,7 @@ pub enum ErrorKind {
 }
 
 impl ErrorKind {
-    /// What clashes, if something does.
+    /// What clashes, if something does. A repeated key is one kind, read or written.
     pub(crate) fn clash(&self) -> Option<ClashKind>
         ensures { result ≡ clash_of (kind_of self.now) }
     {

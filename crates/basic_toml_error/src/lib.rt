@@ -1,11 +1,11 @@
-//! What can go wrong: the error of reading and writing, its kind, its text, the keys that lead there, and the offset,
-//! the line and the column where it stands.
+//! What can go wrong: the error of reading and writing, its kind, its text, the keys that lead there, the offset, the
+//! line and the column where it stands, and where what it is about is written.
 //! `basic_toml` passes on its names.
 //!
 //! ```text
-//! match load(rt.alloc(), text.as_str()) {
+//! match loaded_again(rt.alloc(), text.as_str()) {
 //!     Ok(s) => println!(rt; "{}:{} verbose={}", s.host, s.port, s.verbose)?,
-//!     Err(e) => return report(&rt, e), // stdin:1:1: missing field `host`
+//!     Err(e) => return report(&rt, text.as_str(), &e), // stdin:1:1: missing field `host`
 //! }
 //! ```
 //!

@@ -1,11 +1,9 @@
 //! Where what an error is about is written.
-ghost use Rattle.std.specs.Prelude.{◌≡◌, ℕ, List, IfOk, Some, false, map, option_map};
-ghost use Rattle.basic_toml_grammar.specs.Sections as grammar;
-ghost use Rattle.basic_toml_grammar.specs.Steps.{Path};
+ghost use Rattle.std.specs.Prelude.{◌≡◌, IfOk, IfErr, map, option_map};
 ghost use Rattle.basic_toml_read.specs.SectionView.{section_of};
 ghost use Rattle.basic_toml_origin.specs.Path.{path_of};
 ghost use Rattle.basic_toml_error.specs.KindView.{kind_of};
-ghost use Rattle.basic_toml_error.specs.Origins.{AnswersOrigins, about_node, about_text, alone, origins_in};
+ghost use Rattle.basic_toml_error.specs.Origins.{AnswersOrigins, AsksTheList, about_node, about_text, alone, origins_in};
 
 use crate::error::Error;
 use crate::kind::ErrorKind;
@@ -31,8 +29,8 @@ impl Error {
     ///
     /// The origin of an unknown field is the field's key; of a missing one that of the table that lacks it, which is
     /// its header, its brace, or the first key whose period makes it. A value of the wrong type has its own, an array
-    /// its bracket. A clash has two: the later key or header, and with it where the earlier one is written. Any other
-    /// error has its own place, and want of memory none. (TOML v0.5.0, "Table" and "Array of Tables")
+    /// its bracket. A clash has the later key or header, and with it where the earlier one is written. Any other error
+    /// has its own place, and want of memory none. (TOML v0.5.0, "Table" and "Array of Tables")
     ///
     /// ```text
     /// let origins = error.origins(alloc, text)?; // of an unknown field `verison` it is where that key begins
@@ -42,9 +40,10 @@ impl Error {
     ///
     /// # Errors
     ///
-    /// `out of memory`.
+    /// `out of memory`, where a type or a clash refused the text. Of any other error no memory is asked for.
     pub fn origins(&self, alloc: Global, text: &str) -> Result<Option<Origins>, Error>
-        ensures { AnswersOrigins text.now self.now result }
+        ensures origins { AnswersOrigins text.now self.now result }
+        ensures memory { IfErr result (λ _. AsksTheList self.now) }
     {
         if self.anchor().is_none() && self.kind().clash().is_none() {
             return Ok(self.own_place());

@@ -26,9 +26,9 @@ pub struct ClashPlaces {
 /// What clashes with what stands before it.
 #[derive(Clone, Copy, Debug, PartialEq, Eq)]
 pub enum ClashKind {
-    /// The key of a row, whose error stands at it.
+    /// A key, of a row or of a header: the error stands at it.
     Key,
-    /// A header, whose error stands at its first bracket.
+    /// A header as a whole: the error stands at its first bracket.
     Header,
     /// A row that goes on from the value of an earlier one: the error stands at the value.
     Value,

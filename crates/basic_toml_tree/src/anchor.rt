@@ -13,7 +13,7 @@ use basic_toml_origin::Anchor;
 
 impl<'t, 'de> Node<'t, 'de> {
     /// What it is found by again in the section list of its text: `path_to_anchor` of `basic_toml_origin` gives its
-    /// path. It takes no memory and no time.
+    /// path. It takes no memory.
     #[tactic(auto, unfolding(crate::specs::Origin::anchor_of), using(crate::proofs::Nodes::NodesAnchored::anchored))]
     pub fn anchor(self) -> Anchor
         ensures is { result ≡ anchor_of self.entry }
