@@ -11,15 +11,29 @@ use Rattle.basic_toml_origin.specs.Anchor.{path_of_anchor}
 use Rattle.basic_toml_origin.specs.declared.clash.ClashKind.{ClashKind}
 use Rattle.basic_toml_origin.specs.Clash.{clash_kind, clash_places}
 use Rattle.basic_toml_origin.specs.Origin.{origin_at}
+use Rattle.basic_toml_origin.specs.declared.origin.Origin.{Origin}
 use Rattle.basic_toml_tree.specs.OfText.{IsListOf}
 use Rattle.basic_toml_error.specs.Fault.{Fault, FaultKind, reading, unknown_field, want_of_memory}
 use Rattle.basic_toml_error.specs.declared.origins.Origins.{Origins}
 
+-- how a path goes on from a type's node to what its fault there is about: to an unknown field by the field's key
+abbrev pub steps_on : FaultKind → Path
+steps_on (unknown_field name message) = key name ∷ []
+steps_on kind = []
+
+-- an unknown field is told at its key
+abbrev pub spot_of : FaultKind → Origin → Option ℕ
+spot_of (unknown_field name message) o = o.key
+spot_of kind o = Some o.at
+
 -- of a type's own fault at the node of a path
 abbrev pub about_node : List Section → Path → FaultKind → Option ℕ
-about_node sections p (unknown_field name message) =
-    option_and_then (λ o. o.key) (origin_at sections (p ++ key name ∷ []))
-about_node sections p kind = option_map (λ o. o.at) (origin_at sections p)
+about_node sections p kind = option_and_then (λ o. spot_of kind o) (origin_at sections (p ++ steps_on kind))
+
+-- the path to what a type's own fault is about
+abbrev pub path_in : List Section → Fault → Option Path
+path_in sections f =
+    option_map (λ p. p ++ steps_on f.kind) (option_and_then (λ anchor. path_of_anchor sections anchor) f.anchor)
 
 abbrev pub alone : ℕ → Origins
 alone at = record { origin = at; other = None }

@@ -1,5 +1,5 @@
--- Laws about the texts and the origins of faults. Each is proved as the contract of a function in `laws`.
-use Rattle.std.specs.Prelude.{◌≡◌, ℕ, List, ◌++◌, Option, option_map}
+-- Laws about the texts, the origins and the paths of faults. Each is proved as the contract of a function in `laws`.
+use Rattle.std.specs.Prelude.{◌≡◌, ℕ, List, ◌++◌, Option, Some, option_map}
 use Rattle.basic_toml_tokens.specs.Text.{folded}
 use Rattle.basic_toml_grammar.specs.Faults as read
 use Rattle.basic_toml_grammar.specs.Grammar.{IsSectionList}
@@ -11,7 +11,7 @@ use Rattle.basic_toml_tree.specs.Stands.{IsNodeAt}
 use Rattle.basic_toml_error.specs.Fault.{FaultKind}
 use Rattle.basic_toml_error.specs.FaultText.{fault_text, offset_text}
 use Rattle.basic_toml_error.specs.NodeFaults.{fault_within}
-use Rattle.basic_toml_error.specs.Origins.{about_node, alone, origins_in}
+use Rattle.basic_toml_error.specs.Origins.{about_node, alone, origins_in, path_in, steps_on}
 use Rattle.basic_toml_error.specs.ReadFaults.{fault_in}
 
 -- the text of an error of reading goes on with its line and its column
@@ -25,3 +25,10 @@ OriginsAreOfTheNode =
     (text : List ℕ) (sections : List Section) → IsSectionList (folded text) sections → (p : Path) (node : Node)
     → IsNodeAt sections p node → (offset : Option ℕ) (kind : FaultKind)
     → origins_in sections (fault_within node offset kind) ≡ option_map alone (about_node sections p kind)
+
+-- and the node's path, which goes on to an unknown field
+abbrev pub PathsAreOfTheNode : Type 0
+PathsAreOfTheNode =
+    (text : List ℕ) (sections : List Section) → IsSectionList (folded text) sections → (p : Path) (node : Node)
+    → IsNodeAt sections p node → (offset : Option ℕ) (kind : FaultKind)
+    → path_in sections (fault_within node offset kind) ≡ Some (p ++ steps_on kind)

@@ -1,5 +1,5 @@
 //! What can go wrong.
-ghost use Rattle.std.specs.Prelude.{◌≡◌, ◌≤◌, Some, IsTrue, ◌↔◌, ◌⊎◌, IfOk, IfErr, [], codes, map, length, string_bytes};
+ghost use Rattle.std.specs.Prelude.{◌≡◌, Some, IsTrue, ◌↔◌, ◌⊎◌, IfOk, IfErr, codes, map, string_bytes};
 ghost use Rattle.basic_toml_error.specs.FaultText as text;
 ghost use Rattle.basic_toml_error.specs.KindView.{kind_of};
 
@@ -33,8 +33,9 @@ use std::marker::Model;
 /// ```
 ///
 /// This is from `toml_callers`. Such an error has the keys that lead to the node, and stands at its `place` where
-/// the function names no other; line and column come with the text, from `from_str`. Its origin is that of the node
-/// ([`origins`](Error::origins)). Where its words or its keys find no memory, it is want of memory instead.
+/// the function names no other; line and column come with the text, from `from_str`. Its origin is that of the node,
+/// or of an unknown field that of the field's key ([`origins`](Error::origins)). Where its words or its keys find no
+/// memory, it is want of memory instead.
 #[derive(Debug, Drop)]
 pub struct Error {
     kind: ErrorKind,

@@ -1,5 +1,5 @@
 //! What can go wrong: the error of reading and writing, its kind, its text, the keys that lead there, the offset, the
-//! line and the column where it stands, and where what it is about is written.
+//! line and the column where it stands, where what it is about is written, and the path to it.
 //! `basic_toml` passes on its names.
 //!
 //! ```text

@@ -16,10 +16,10 @@ use std::convert::AsStr;
 /// The two places of a clash, as byte offsets.
 #[derive(Clone, Copy, Debug, PartialEq, Eq)]
 pub struct ClashPlaces {
-    /// Where what stands first is written: that of its header's first bracket, or of its key; of a value that a row
-    /// goes on from, that of the value.
+    /// Where what stands first is written: at its header's first bracket, or at its key; of a value that a row goes on
+    /// from, at the value.
     pub first: usize,
-    /// Where the later one is: that of its header's first bracket, or of its key.
+    /// Where the later one is: at its header's first bracket, or at its key.
     pub later: usize,
 }
 
@@ -50,8 +50,8 @@ impl ClashKind {
     }
 }
 
-/// The two places of a clash, by the offset of its error: of the sections of a text, which are the list that the error
-/// is of. What the later key leads to is looked for in what stands before it.
+/// The two places of a clash, by the offset of its error, in the section list of the text that the error is of. What the
+/// later key leads to is looked for in what stands before it. `None` where nothing of that kind clashes there.
 ///
 /// # Errors
 ///

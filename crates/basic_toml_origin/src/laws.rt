@@ -7,7 +7,7 @@ pub fn anchors_lead_to_paths()
     ensures { AnchorsLeadToPaths }
 {}
 
-/// An anchor of what headers made does so by every section list, whether a text has it or not.
+/// An anchor of what headers made leads to its path by every section list, whether a text has it or not.
 pub fn made_anchors_lead_to_paths()
     ensures { MadeAnchorsLeadToPaths }
 {}

@@ -23,7 +23,7 @@ use std::alloc::Global;
 /// Those of [`sections`](basic_toml_read::sections), where the text has no section list within the limit; else those of
 /// [`resolve`](crate::resolve). Of a text of blanks, comments and line feeds there is none.
 ///
-/// `basic_toml` calls it, and so does `toml_findings`.
+/// `basic_toml` calls it.
 pub fn tree_of<'de>(alloc: Global, text: &'de str) -> Result<Tree<'de>, ReadError>
     ensures { AnswersText text.now result }
 {

@@ -19,11 +19,10 @@ use std::alloc::Global;
 /// Reads the field of a table at a key (TOML v0.5.0, "Table").
 ///
 /// ```text
-/// let host = read_field(alloc, node, "host")?;
-/// let port = read_optional(alloc, node, "port")?.unwrap_or(8080);
+/// c_a: read_field(alloc, node, "c_a")?,
 /// ```
 ///
-/// This is from the program `load_settings`.
+/// This is from `toml_callers`.
 ///
 /// # Errors
 ///
@@ -48,7 +47,8 @@ pub fn read_field<'de, T: Deserialize<'de>>(
     }
 }
 
-/// Reads the field of a table at a key, and `None` where the table lacks the key. [`read_field`] has an example.
+/// Reads the field of a table at a key, and `None` where the table lacks the key, as
+/// `read_optional(alloc, node, "rate")?` in `toml_callers`.
 ///
 /// # Errors
 ///
@@ -88,8 +88,7 @@ fn field_at<'t, 'de>(
     Ok(node.get(key))
 }
 
-/// Checks that a table has no key but these, as `only_fields(alloc, node, &["host", "port", "verbose"])?` in the
-/// program `load_settings`.
+/// Checks that a table has no key but these, as `only_fields(alloc, node, &["c_a", "c_b"])?` in `toml_callers`.
 ///
 /// # Errors
 ///

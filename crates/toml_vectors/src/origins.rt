@@ -1,7 +1,8 @@
 // Where what an error is about is written, beside the place that its text tells.
 use basic_toml::{
-    Error, Node, Table, from_str, line_col, only_fields, read_field, read_tree, variant,
+    Error, Node, Step, Table, from_str, line_col, only_fields, read_field, read_tree, variant,
 };
+use basic_toml_read::sections;
 use std::alloc::Global;
 use std::test::Fail;
 
@@ -105,6 +106,35 @@ fn of_fields_of_the_root(rt: HostRuntime) -> Result<(), Fail> {
         assert_eq!(rt; found.0.as_str(), place);
         assert_eq!(rt; found.1.as_str(), origin);
     }
+    Ok(())
+}
+
+// Of the second of three servers: an unknown field, and a table that lacks one.
+#[test]
+fn paths(rt: HostRuntime) -> Result<(), Fail> {
+    let alloc = rt.alloc();
+    let text = "[[server]]\nport = 1\n[[server]]\nprot = 2\n[[server]]\n";
+    let tree = read_tree(alloc, text)?;
+    let server = at(tree.root(), "server")?;
+    let sections = sections(alloc, text)?;
+    let Err(error) = only_fields(alloc, server, &["port"]) else {
+        return Err(Fail::from("it is known"));
+    };
+    let path = error.path(alloc, sections.as_slice())?;
+    let path = path.ok_or("no path")?;
+    let field = [Step::Key("server"), Step::Element(1), Step::Key("prot")];
+    assert_eq!(rt; path.as_slice(), field.as_slice());
+
+    let read: Result<u16, Error> = read_field(alloc, server, "port");
+    let Err(error) = read else {
+        return Err(Fail::from("it is read"));
+    };
+    let path = error.path(alloc, sections.as_slice())?;
+    let path = path.ok_or("no path")?;
+    assert_eq!(rt;
+        path.as_slice(),
+        [Step::Key("server"), Step::Element(1)].as_slice()
+    );
     Ok(())
 }
 
