@@ -6,8 +6,11 @@ use Rattle.std.specs.Str.Lossy.{utf8_valid_len}
 use Rattle.basic_toml.specs.tokens.Text.{folded}
 use Rattle.basic_toml.specs.Data.{Data}
 use Rattle.basic_toml.specs.Document.{IsDocument}
+use Rattle.basic_toml.specs.Fault.{Fault, FaultKind, reading}
 use Rattle.basic_toml.specs.Faults as read
-use Rattle.basic_toml.specs.ReadErrorText.{read_text}
+use Rattle.basic_toml.specs.FaultText.{message}
+use Rattle.basic_toml.specs.ReadErrorText.{key_text}
+use Rattle.basic_toml.specs.ReadFaults.{fault_in}
 use Rattle.basic_toml.specs.Reading.{IsTextFault}
 use Rattle.basic_toml_tree.specs.declared.tree.Tree.{Tree}
 use Rattle.basic_toml_tree.specs.Data.{table_data}
@@ -34,25 +37,25 @@ finding_of f = record {
 }
 
 -- a number, or a colon where another thing is wanted: so a date or a time is refused
-abbrev pub refuses_value : read.FaultKind → Bool
-refuses_value read.number_invalid = true
-refuses_value (read.wanted expected found) = bytes_eq found (codes "a colon")
+abbrev pub refuses_value : FaultKind → Bool
+refuses_value (reading read.number_invalid) = true
+refuses_value (reading (read.wanted expected found)) = bytes_eq found (codes "a colon")
 refuses_value _ = false
 
--- what is told of an error of reading that stands at an offset, and of the other key, where it is one of a clash
-abbrev pub refusal : List ℕ → read.Fault → ℕ → Option OtherKey → Finding
-refusal text error offset other = record {
-  message = read_text error;
+-- what is told of a fault that stands at an offset, and of the other key, where it is one of a clash
+abbrev pub refusal : List ℕ → Fault → ℕ → Option OtherKey → Finding
+refusal text fault offset other = record {
+  message = message fault.kind ++ key_text fault.key_path;
   place = place_at text offset;
-  is_date_or_time = refuses_value error.kind && is_date_or_time text offset;
+  is_date_or_time = refuses_value fault.kind && is_date_or_time text offset;
   other = other;
 }
 
-pub record IsRefusal (text : List ℕ) (error : read.Fault) (finding : Finding) : Type 0 where
+pub record IsRefusal (text : List ℕ) (fault : Fault) (finding : Finding) : Type 0 where
   pub offset : ℕ
-  pub stands : error.offset ≡ Some offset
-  pub other : IsOther text error.kind offset finding.other
-  pub told : finding ≡ refusal text error offset finding.other
+  pub stands : fault.offset ≡ Some offset
+  pub other : IsOther text fault offset finding.other
+  pub told : finding ≡ refusal text fault offset finding.other
 
 -- the longest text that bytes begin with
 abbrev pub valid_front : List ℕ → List ℕ
@@ -72,7 +75,7 @@ not_utf8 bytes = record {
 pub data IsFinding (input : List ℕ) : Finding → Type 0 where
   refused : {error : read.Fault} {finding : Finding} → IsUtf8 input
       → ((tree : Data) → IsDocument (folded input) tree → ⊥) → IsTextFault input error
-      → IsRefusal input error finding → IsFinding input finding
+      → IsRefusal input (fault_in input error) finding → IsFinding input finding
   no_text : {finding : Finding} → (IsUtf8 input → ⊥) → finding ≡ not_utf8 input → IsFinding input finding
 
 -- the tree of the document; or what is wrong, memory aside

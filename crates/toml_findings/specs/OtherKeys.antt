@@ -1,13 +1,10 @@
 -- The other of the two keys of a clash, as it is told. (own)
 use Rattle.std.specs.Prelude.{◌≡◌, ℕ, Bool, true, false, ◌==◌, if◌then◌else◌, List, [], ◌++◌, codes, decimal}
 use Rattle.std.specs.Prelude.{Option, Some, None, option_map}
-use Rattle.basic_toml.specs.tokens.Text.{folded}
-use Rattle.basic_toml.specs.Faults as read
-use Rattle.basic_toml_grammar.specs.Grammar.{IsSectionList}
-use Rattle.basic_toml_grammar.specs.Sections.{Section}
-use Rattle.basic_toml_origin.specs.Clash.{clash_kind, clash_places}
-use Rattle.basic_toml_origin.specs.declared.clash.ClashKind.{ClashKind}
-use Rattle.basic_toml_origin.specs.declared.clash.ClashPlaces.{ClashPlaces}
+use Rattle.std.specs.Option.{option_and_then}
+use Rattle.basic_toml.specs.Fault.{Fault}
+use Rattle.basic_toml_error.specs.Origins.{AreOriginsIn}
+use Rattle.basic_toml_error.specs.declared.origins.Origins.{Origins}
 use Rattle.toml_findings.specs.Places.{Place, place_at, place_of}
 use Rattle.toml_findings.specs.declared.other_key.OtherKey as code
 
@@ -22,20 +19,19 @@ other_of o = record { is_first = o.is_first; place = place_of o.place }
 abbrev pub maybe_other : Option code.OtherKey → Option OtherKey
 maybe_other o = option_map other_of o
 
--- the place of the two that is not this one, and whether it stands first
-abbrev pub other_at : ClashPlaces → ℕ → Bool × ℕ
-other_at places offset = if places.later == offset then (true, places.first) else (false, places.later)
+-- of two origins the one that is not at an offset, and whether it stands first
+abbrev pub other_at : ℕ → Origins → Option (Bool × ℕ)
+other_at offset origins =
+    option_map (λ first. if origins.origin == offset then (true, first) else (false, origins.origin)) origins.other
 
 abbrev pub told : List ℕ → Bool × ℕ → OtherKey
 told text other = record { is_first = other.0; place = place_at text other.1 }
 
--- Of an error that stands at an offset: by the section list of the text, where it is one of a clash.
-pub data IsOther (text : List ℕ) (kind : read.FaultKind) (offset : ℕ) : Option OtherKey → Type 0 where
-  clash : {sections : List Section} {clash : ClashKind} {other : Option OtherKey}
-      → IsSectionList (folded text) sections → clash_kind kind ≡ Some clash
-      → other ≡ option_map (λ places. told text (other_at places offset)) (clash_places sections clash offset)
-      → IsOther text kind offset other
-  none : clash_kind kind ≡ None → IsOther text kind offset None
+-- Of a fault that stands at an offset of a text: by its origins there, of which a clash has two.
+pub record IsOther (text : List ℕ) (fault : Fault) (offset : ℕ) (other : Option OtherKey) : Type 0 where
+  pub origins : Option Origins
+  pub are : AreOriginsIn text fault origins
+  pub is : other ≡ option_map (λ other. told text other) (option_and_then (other_at offset) origins)
 
 abbrev pub word : Bool → List ℕ
 word true = codes "first defined"

@@ -1,14 +1,13 @@
 //! What is wrong with bytes, and where.
-ghost use Rattle.std.specs.Prelude.{◌≡◌, Some, IfOk, string_bytes, true, false};
+ghost use Rattle.std.specs.Prelude.{◌≡◌, Some, IfOk};
 ghost use Rattle.toml_findings.specs.Findings as spec;
-ghost use Rattle.basic_toml_explain.specs.Error.{kind_of};
+ghost use Rattle.basic_toml_error.specs.KindView.{kind_of};
 
 use crate::dates::is_date_or_time;
 use crate::front::valid_front;
 use crate::other_key::{OtherKey, other_key};
 use crate::place::{Place, place_at};
-use basic_toml_explain::{ReadError, ReadErrorKind};
-use basic_toml_tree::{Tree, tree_of};
+use basic_toml::{Error, ErrorKind, KeyPath, ReadErrorKind, Tree, read_tree};
 use std::alloc::{AllocError, Global};
 use std::fmt;
 
@@ -76,7 +75,7 @@ impl From<AllocError> for Unread {
     }
 }
 
-/// The tree of the document of some bytes (TOML v0.5.0, without dates and times). `toml_json` calls it.
+/// The tree of the document of some bytes (TOML v0.5.0, without dates and times). `toml_json` and `toml_get` call it.
 ///
 /// # Errors
 ///
@@ -113,7 +112,7 @@ pub fn check(alloc: Global, input: &[u8]) -> Result<Option<Finding>, AllocError>
 fn read_text<'de>(alloc: Global, text: &'de str) -> Result<Tree<'de>, Unread>
     ensures { spec.Reads text.now result }
 {
-    match tree_of(alloc, text) {
+    match read_tree(alloc, text) {
         Ok(tree) => Ok(tree),
         Err(error) => {
             let finding = refusal(alloc, text, &error)?;
@@ -123,27 +122,28 @@ fn read_text<'de>(alloc: Global, text: &'de str) -> Result<Tree<'de>, Unread>
 }
 
 // What is told of an error; want of memory alone has no place.
-fn refusal(alloc: Global, text: &str, error: &ReadError) -> Result<Finding, AllocError>
+fn refusal(alloc: Global, text: &str, error: &Error) -> Result<Finding, AllocError>
     ensures { IfOk result (λ finding. spec.IsRefusal text.now error.now (spec.finding_of finding)) }
 {
-    let Some(offset) = error.place() else {
+    let Some(offset) = error.offset() else {
         return Err(AllocError);
     };
+    let (message, keys) = (error.message(), KeyPath(error.key_path()));
     Ok(Finding {
-        message: format!(in alloc; "{error}")?,
+        message: format!(in alloc; "{message}{keys}")?,
         place: place_at(alloc, text, offset)?,
         is_date_or_time: refuses_value(error.kind()) && is_date_or_time(text, offset),
-        other: other_key(alloc, text, error.kind(), offset)?,
+        other: other_key(alloc, text, error, offset)?,
     })
 }
 
 // A number, or a colon where another thing is wanted: so a date or a time is refused.
-fn refuses_value(kind: &ReadErrorKind) -> bool
+fn refuses_value(kind: &ErrorKind) -> bool
     ensures { result ≡ spec.refuses_value (kind_of kind.now) }
 {
     match kind {
-        ReadErrorKind::NumberInvalid => true,
-        ReadErrorKind::Wanted { found, .. } => *found == "a colon",
+        ErrorKind::Reading(ReadErrorKind::NumberInvalid) => true,
+        ErrorKind::Reading(ReadErrorKind::Wanted { found, .. }) => found.as_str() == "a colon",
         _ => false,
     }
 }

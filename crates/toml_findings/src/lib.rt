@@ -1,6 +1,6 @@
 //! What is wrong with the bytes of a text, and where, as programs tell it to people and to their editors.
 //!
-//! `toml_check` prints it for each file, and `toml_json` for its standard input.
+//! `toml_check` prints it for each file, and `toml_json` and `toml_get` for the one that they read.
 //!
 //! ```text
 //! if let Some(finding) = check(alloc, b"port = 80a\n")? {

@@ -1,12 +1,10 @@
 //! The other of the two keys of a clash.
 ghost use Rattle.std.specs.Prelude.{◌≡◌, IfOk, Some};
-ghost use Rattle.basic_toml_explain.specs.Error.{kind_of};
+ghost use Rattle.std.specs.Option.{option_and_then};
 ghost use Rattle.toml_findings.specs.OtherKeys as spec;
 
 use crate::place::{Place, place_at};
-use basic_toml_explain::ReadErrorKind;
-use basic_toml_origin::{ClashKind, ClashPlaces, clash_places};
-use basic_toml_read::sections;
+use basic_toml::{Error, Origins};
 use std::alloc::{AllocError, Global};
 use std::fmt;
 
@@ -46,25 +44,25 @@ fn word(is_first: bool) -> &'static str
     }
 }
 
-/// The other key of a clash, by the kind and the offset of the error that the text has; `None` where nothing clashes.
-/// The text is read once more.
+/// The other key of a clash, by the error that a text has and the offset where it stands; `None` where nothing clashes.
+/// Where something does, the text is read once more.
+///
+/// # Errors
+///
+/// `AllocError` where memory was refused.
 pub fn other_key(
     alloc: Global,
     text: &str,
-    kind: &ReadErrorKind,
+    error: &Error,
     offset: usize,
 ) -> Result<Option<OtherKey>, AllocError>
-    ensures { IfOk result (λ other. spec.IsOther text.now (kind_of kind.now) offset (spec.maybe_other other)) }
+    ensures { IfOk result (λ other. spec.IsOther text.now error.now offset (spec.maybe_other other)) }
 {
-    let Some(clash) = ClashKind::of(kind) else {
-        return Ok(None);
-    };
-    let Ok(sections) = sections(alloc, text) else {
+    let Ok(origins) = error.origins(alloc, text) else {
         return Err(AllocError);
     };
-    match clash_places(alloc, sections.as_slice(), clash, offset)? {
-        Some(places) => {
-            let (is_first, at) = other_at(places, offset);
+    match other_of(origins, offset) {
+        Some((is_first, at)) => {
             let place = place_at(alloc, text, at)?;
             Ok(Some(OtherKey { is_first, place }))
         }
@@ -72,13 +70,15 @@ pub fn other_key(
     }
 }
 
-// The place of the two that is not this one, and whether it stands first.
-fn other_at(places: ClashPlaces, offset: usize) -> (bool, usize)
-    ensures { result ≡ spec.other_at places offset }
+// Of two origins the one that is not at an offset, and whether it stands first.
+fn other_of(origins: Option<Origins>, offset: usize) -> Option<(bool, usize)>
+    ensures { result ≡ option_and_then (spec.other_at offset) origins }
 {
-    if places.later == offset {
-        (true, places.first)
+    let origins = origins?;
+    let first = origins.other?;
+    if origins.origin == offset {
+        Some((true, first))
     } else {
-        (false, places.later)
+        Some((false, origins.origin))
     }
 }
