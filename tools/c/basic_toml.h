@@ -59,6 +59,11 @@ struct toml_finding {
     bool has_place;         /* whether it stands at a line and a column: all do but bytes that are no text */
     size_t line;            /* from 0; else 0 */
     size_t column;          /* from 0 and in bytes; else 0 */
+    size_t origin_line;     /* where what it is about is written: of a clash the later key or header, else its place */
+    size_t origin_column;   /* likewise, from 0 and in bytes; else 0 */
+    bool has_other;         /* whether it is a clash: a key, a header or a value that stands first has a place too */
+    size_t other_line;      /* that of what stands first, from 0; else 0 */
+    size_t other_column;    /* likewise, from 0 and in bytes; else 0 */
     size_t message_length;  /* how many bytes the message has */
     size_t key_path_length; /* how many bytes the keys that lead there have; 0 where there are none */
 };

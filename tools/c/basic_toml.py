@@ -40,6 +40,11 @@ class Finding(ctypes.Structure):
         ("has_place", ctypes.c_bool),
         ("line", ctypes.c_size_t),
         ("column", ctypes.c_size_t),
+        ("origin_line", ctypes.c_size_t),
+        ("origin_column", ctypes.c_size_t),
+        ("has_other", ctypes.c_bool),
+        ("other_line", ctypes.c_size_t),
+        ("other_column", ctypes.c_size_t),
         ("message_length", ctypes.c_size_t),
         ("key_path_length", ctypes.c_size_t),
     ]
@@ -59,11 +64,13 @@ class Value(ctypes.Structure):
 
 class Error(ValueError):
     """A text that was refused or cannot be written: the status, the message, and where the error has a place its line
-    and column, from 0. An error of `check` has its keys apart, with periods between them."""
+    and column, from 0. An error of `check` has its keys apart, with periods between them; the line and the column where
+    what it is about is written; and of a clash those of the key, header or value that stands first."""
 
-    def __init__(self, status, message, line_col, key_path=""):
+    def __init__(self, status, message, line_col, key_path="", origin=None, other=None):
         super().__init__(message)
         self.status, self.line_col, self.key_path = status, line_col, key_path
+        self.origin, self.other = origin, other
 
 
 def place(answer):
@@ -158,7 +165,9 @@ class Library:
         if found.status == DONE:
             return None
         message, keys = message[: found.message_length], keys[: found.key_path_length]
-        return Error(found.status, message.decode(), place(found), keys.decode())
+        origin = (found.origin_line, found.origin_column) if found.has_place else None
+        other = (found.other_line, found.other_column) if found.has_other else None
+        return Error(found.status, message.decode(), place(found), keys.decode(), origin, other)
 
     def get(self, text, path):
         """The value at a path: a str, an int, a float or a bool; of an array or a table how many elements or keys it

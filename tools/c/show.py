@@ -33,7 +33,7 @@ def main():
             print(repr(path), "is none:", repr(error))
     print("wrong:", toml.check(MANIFEST))
     error = toml.check(WRONG)
-    print("wrong:", error, "within", error.key_path, "at", error.line_col)
+    print("wrong:", error, "within", error.key_path, "at", error.origin, "and before it at", error.other)
 
 
 if __name__ == "__main__":

@@ -58,12 +58,14 @@ static int check(const uint8_t *input, size_t length, struct room *message, stru
     if (found.status == TOML_OUT_OF_MEMORY)
         return out_of_memory();
     if (found.status == TOML_REFUSED) {
-        place_out(found.has_place, found.line, found.column);
+        place_out(found.has_place, found.origin_line, found.origin_column);
         line_out(stderr, message, found.message_length, 0);
         if (found.key_path_length > 0) {
             fputs("within ", stderr);
             line_out(stderr, keys, found.key_path_length, 0);
         }
+        if (found.has_other)
+            fprintf(stderr, "first defined at line %zu, column %zu\n", found.other_line + 1, found.other_column + 1);
     }
     return (int)found.status;
 }

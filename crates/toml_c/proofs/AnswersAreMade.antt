@@ -7,10 +7,11 @@ use Rattle.basic_toml.specs.ReadErrorText.{joined}
 use Rattle.toml_json_text.specs.Json.{json}
 use Rattle.toml_json_text.specs.declared.form.Form.{Form}
 use Rattle.toml_c.specs.Answers.{with_front, answered, Holds, IsRefusal}
-use Rattle.toml_c.specs.Checks.{Checks, found, is_toml, is_not, no_memory}
+use Rattle.toml_c.specs.Checks.{ArePlaces, Checks, found, nowhere, is_toml, is_not, no_memory}
 use Rattle.toml_c.specs.Jsons as j
 use Rattle.toml_c.specs.Jsons.{IsJsonDue, Jsons}
 use Rattle.toml_c.specs.declared.answer.TomlAnswer.{TomlAnswer}
+use Rattle.toml_c.specs.declared.check.Places.{Places}
 use Rattle.toml_c.specs.declared.check.TomlFinding.{TomlFinding}
 
 pub json_written : (form : Form) (input : List ℕ) (tree : Data) (text : List ℕ) → Holds input tree
@@ -37,23 +38,21 @@ pub json_none : (form : Form) (input old : List ℕ) (answer : TomlAnswer) → a
 json_none form input old answer is = subst (Jsons form input old old) (sym is) (j.no_memory refl)
 
 pub check_toml : (input old old_keys : List ℕ) (tree : Data) (value : TomlFinding) → Holds input tree
-    → value ≡ found 0 None 0 0 → Checks input old old old_keys old_keys value
+    → value ≡ found 0 nowhere 0 0 → Checks input old old old_keys old_keys value
 check_toml input old old_keys tree value held is =
     subst (Checks input old old old_keys old_keys) (sym is) (is_toml held refl refl)
 
-pub check_none : (input old old_keys : List ℕ) (value : TomlFinding) → value ≡ found 3 None 0 0
+pub check_none : (input old old_keys : List ℕ) (value : TomlFinding) → value ≡ found 3 nowhere 0 0
     → Checks input old old old_keys old_keys value
 check_none input old old_keys value is =
     subst (Checks input old old old_keys old_keys) (sym is) (no_memory refl refl)
 
-pub check_refused : (input old new old_keys new_keys words keys : List ℕ) (fault : Fault) (place : Option (ℕ × ℕ))
-    (value : TomlFinding) → IsRefusal input fault → words ≡ message fault.kind → keys ≡ joined fault.key_path
-    → new ≡ with_front old words → new_keys ≡ with_front old_keys keys → place ≡ fault.line_column
-    → value ≡ found 1 place (length words) (length keys) → Checks input old new old_keys new_keys value
-check_refused input old new old_keys new_keys words keys fault place value why words-are keys-are put put-keys
-    place-is is =
+pub check_refused : (input old new old_keys new_keys words keys : List ℕ) (fault : Fault) (places : Places)
+    (value : TomlFinding) → IsRefusal input fault → ArePlaces input fault places → words ≡ message fault.kind
+    → keys ≡ joined fault.key_path → new ≡ with_front old words → new_keys ≡ with_front old_keys keys
+    → value ≡ found 1 places (length words) (length keys) → Checks input old new old_keys new_keys value
+check_refused input old new old_keys new_keys words keys fault places value why are words-are keys-are put put-keys is =
     subst (Checks input old new old_keys new_keys)
-    (sym (is ∙ ap (λ (p : Option (ℕ × ℕ)). found 1 p (length words) (length keys)) place-is
-    ∙ ap (λ (w : List ℕ). found 1 fault.line_column (length w) (length keys)) words-are
-    ∙ ap (λ (k : List ℕ). found 1 fault.line_column (length (message fault.kind)) (length k)) keys-are))
-    (is_not why (put ∙ ap (with_front old) words-are) (put-keys ∙ ap (with_front old_keys) keys-are))
+    (sym (is ∙ ap (λ (w : List ℕ). found 1 places (length w) (length keys)) words-are
+    ∙ ap (λ (k : List ℕ). found 1 places (length (message fault.kind)) (length k)) keys-are))
+    (is_not why are (put ∙ ap (with_front old) words-are) (put-keys ∙ ap (with_front old_keys) keys-are))

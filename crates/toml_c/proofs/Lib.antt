@@ -1,4 +1,5 @@
 pub mod AnswersAreMade
 pub mod DocumentIsRead
 pub mod KeysJoined
+pub mod PlacesAreFound
 pub mod ValueIsTold

@@ -12,7 +12,7 @@ use std::alloc::Global;
 ///
 /// # Errors
 ///
-/// That of a text without one, and want of memory.
+/// That of bytes without one, and want of memory.
 pub fn table_of(alloc: Global, input: &[u8]) -> Result<Table, Error>
     ensures ok { IfOk result (λ table. Holds input.now (table_of_members (entries table))) }
     ensures err { IfErr result (λ e. e.kind ≢ out_of_memory → IsRefusal input.now e) }

@@ -1,5 +1,5 @@
 //! The value at a path.
-ghost use Rattle.std.specs.Prelude.{◌≡◌, IfOk, map, string_bytes};
+ghost use Rattle.std.specs.Prelude.{◌≡◌, IfOk, string_bytes};
 ghost use Rattle.basic_toml.specs.View.{view};
 ghost use Rattle.toml_c.specs.Gets as spec;
 
