@@ -76,11 +76,18 @@ fn written_path<'t>(text: &'t str, item: &Item<'_, '_>) -> &'t str {
     path.strip_suffix('.').unwrap_or(path)
 }
 
-/// The strings of an impl, and its variants.
+/// The strings of an impl, and its variants; `None` where there is no impl.
 pub fn variant_list<'t>(
     alloc: Global,
-    item: &Item<'_, 't>,
-) -> Result<VariantList<'t>, NoImpls<'t>> {
+    item: Option<&Item<'_, 't>>,
+) -> Result<Option<VariantList<'t>>, NoImpls<'t>> {
+    match item {
+        Some(item) => Ok(Some(variants_listed(alloc, item)?)),
+        None => Ok(None),
+    }
+}
+
+fn variants_listed<'t>(alloc: Global, item: &Item<'_, 't>) -> Result<VariantList<'t>, NoImpls<'t>> {
     let mut names = Vec::new(alloc);
     let mut keys = Vec::new(alloc);
     let mut tokens = item.tokens;

@@ -15,7 +15,7 @@ use crate::wanted::is_wanted;
 use crate::written::{impl_of, list_of};
 use std::alloc::{AllocError, Global};
 use toml_rust_items::cursor::Cursor;
-use toml_rust_items::declared::{members, type_name};
+use toml_rust_items::declared::{Member, members, type_name};
 use toml_rust_items::edits::{Edit, edited};
 use toml_rust_items::items::{Attribute, Item, ItemKind, items_of};
 use toml_rust_items::lexer::{Token, tokens_of};
@@ -87,18 +87,41 @@ fn add_type<'t>(
         return Ok(());
     }
     cut_from(alloc, file.text, item.attributes.as_slice(), edits)?;
-    let impls = if item.kind == ItemKind::Struct {
-        let record = record_in(alloc, file, item, name, edits)?;
-        needs.add_record(&record)?;
-        impls_of(alloc, &record)?
-    } else if has_forms(alloc, file.items, item, name.text)? {
-        needs.has_forms = true;
-        form_impls(alloc, &forms_in(alloc, file, item, name)?)?
-    } else {
-        needs.has_choices = true;
-        choice_impls(alloc, &choice_in(alloc, file, item, name, edits)?)?
-    };
+    let impls = impls_in(alloc, file, item, name, needs, edits)?;
     Ok(add_impls(alloc, file, item, name.text, impls, edits)?)
+}
+
+// The impls that a type gets.
+fn impls_in<'t>(
+    alloc: Global,
+    file: File<'_, '_, '_, 't>,
+    item: &Item<'_, 't>,
+    name: Token<'t>,
+    needs: &mut Needs,
+    edits: &mut Vec<Edit>,
+) -> Result<Vec<Impl>, NoImpls<'t>> {
+    if item.kind == ItemKind::Struct {
+        return record_impls(alloc, file, item, name, needs, edits);
+    }
+    if has_forms(alloc, file.items, item, name.text)? {
+        needs.has_forms = true;
+        return Ok(form_impls(alloc, &forms_in(alloc, file, item, name)?)?);
+    }
+    needs.has_choices = true;
+    Ok(choice_impls(alloc, &choice_in(alloc, file, item, name, edits)?)?)
+}
+
+fn record_impls<'t>(
+    alloc: Global,
+    file: File<'_, '_, '_, 't>,
+    item: &Item<'_, 't>,
+    name: Token<'t>,
+    needs: &mut Needs,
+    edits: &mut Vec<Edit>,
+) -> Result<Vec<Impl>, NoImpls<'t>> {
+    let record = record_in(alloc, file, item, name, edits)?;
+    needs.add_record(&record)?;
+    Ok(impls_of(alloc, &record)?)
 }
 
 // The record that a struct is. What serde has at its fields is cut.
@@ -111,9 +134,7 @@ fn record_in<'t>(
 ) -> Result<Record<'t>, NoImpls<'t>> {
     let rules = type_rules(item.attributes.as_slice())?;
     let fields = members(alloc, item)?;
-    for field in &fields {
-        cut_from(alloc, file.text, field.attributes.as_slice(), edits)?;
-    }
+    cut_from_members(alloc, file.text, fields.as_slice(), edits)?;
     let list = list_of(alloc, file.items, name.text)?;
     record_of(alloc, name.text, rules, fields.as_slice(), &list)
 }
@@ -129,14 +150,9 @@ fn choice_in<'t>(
     let rules = type_rules(item.attributes.as_slice())?;
     let variants = members(alloc, item)?;
     refuse_data(variants.as_slice())?;
-    for variant in &variants {
-        cut_from(alloc, file.text, variant.attributes.as_slice(), edits)?;
-    }
+    cut_from_members(alloc, file.text, variants.as_slice(), edits)?;
     let listing = impl_of(file.items, "Choice", name.text);
-    let list = match listing {
-        Some(listing) => Some(variant_list(alloc, listing)?),
-        None => None,
-    };
+    let list = variant_list(alloc, listing)?;
     Ok(Choice {
         name: name.text,
         path: variants_path(alloc, file.text, name, file.module, listing)?,
@@ -161,6 +177,19 @@ fn forms_in<'t>(
         first,
         second,
     })
+}
+
+// Cuts what serde has at fields or variants.
+fn cut_from_members<'t>(
+    alloc: Global,
+    text: &str,
+    members: &[Member<'_, 't>],
+    edits: &mut Vec<Edit>,
+) -> Result<(), NoImpls<'t>> {
+    for member in members {
+        cut_from(alloc, text, member.attributes.as_slice(), edits)?;
+    }
+    Ok(())
 }
 
 // Cuts what serde has in some attributes.

@@ -52,24 +52,40 @@ fn add_names(
         .any(|line| line.is_ghost == is_ghost && !line.is_serdes());
     let mut block = String::new(alloc);
     for import in imports {
-        let missing = missing(alloc, uses, import)?;
-        if missing.is_empty() || import.is_ghost != is_ghost {
-            continue;
-        }
-        if let Some(line) = uses.iter().find(|line| line.is_plain && line.is_of(import)) {
-            edits.push(longer(alloc, line, missing.as_slice())?)?;
-            continue;
-        }
-        let new = use_line(alloc, is_ghost, import.path, missing.as_slice())?;
-        if has_kind {
-            edits.push(among(alloc, uses, import, new.as_str())?)?;
-        } else {
-            block.push_str(if block.is_empty() { "" } else { "\n" })?;
-            block.push_str(new.as_str())?;
+        if import.is_ghost == is_ghost {
+            add_import(alloc, uses, import, has_kind, &mut block, edits)?;
         }
     }
     if !block.is_empty() {
         edits.push(new_block(alloc, text, uses, block, is_ghost)?)?;
+    }
+    Ok(())
+}
+
+// Adds the names of an import that no line of the file has: to its line where it has one, else as a new line, among
+// those of its kind where the file has any, or to the block of the first ones.
+fn add_import(
+    alloc: Global,
+    uses: &[Use<'_>],
+    import: &Import,
+    has_kind: bool,
+    block: &mut String,
+    edits: &mut Vec<Edit>,
+) -> Result<(), AllocError> {
+    let missing = missing(alloc, uses, import)?;
+    if missing.is_empty() {
+        return Ok(());
+    }
+    if let Some(line) = uses.iter().find(|line| line.is_plain && line.is_of(import)) {
+        edits.push(longer(alloc, line, missing.as_slice())?)?;
+        return Ok(());
+    }
+    let new = use_line(alloc, import.is_ghost, import.path, missing.as_slice())?;
+    if has_kind {
+        edits.push(among(alloc, uses, import, new.as_str())?)?;
+    } else {
+        block.push_str(if block.is_empty() { "" } else { "\n" })?;
+        block.push_str(new.as_str())?;
     }
     Ok(())
 }

@@ -1,10 +1,9 @@
 //! What is due for the bytes of a file.
 
-use basic_toml::{Error, KeyPath, Table, from_str};
+use basic_toml::{Error, KeyPath, Table, from_str, line_col};
 use std::alloc::{AllocError, Global};
 use std::str;
 use toml_impl_text::with_impls;
-use toml_rust_items::place::line_column;
 use toml_rust_items::refusal::NoImpls;
 use toml_struct_text::{NoStructs, structs_of};
 
@@ -49,8 +48,8 @@ fn impls_in(alloc: Global, text: &str, module: Option<&str>) -> Result<Answer, A
     match with_impls(alloc, text, module) {
         Ok(text) => written(text),
         Err(NoImpls::At(at, reason)) => {
-            let (line, column) = line_column(text, at);
-            refused(format!(in alloc; "stdin:{line}:{column}: {reason}\n")?)
+            let (line, column) = line_col(text, at);
+            refused(format!(in alloc; "stdin:{}:{}: {reason}\n", line + 1, column + 1)?)
         }
         Err(NoImpls::OutOfMemory) => Err(AllocError),
     }

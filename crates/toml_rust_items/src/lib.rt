@@ -10,7 +10,6 @@ pub mod items;
 pub mod keys;
 pub mod lexer;
 pub mod literal;
-pub mod place;
 pub mod refusal;
 pub mod rules;
 pub mod types;

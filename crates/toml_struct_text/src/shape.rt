@@ -1,11 +1,8 @@
 //! What some values have in common.
 
 use crate::names::is_plain;
-use basic_toml_value::{Table, Value};
+use basic_toml_value::{NESTING_LIMIT, Table, Value};
 use std::alloc::{AllocError, Global};
-
-// How deep a value goes that is read.
-const MAX_DEPTH: usize = 128;
 
 /// What some values have in common: the type that they are all read as.
 #[derive(Drop)]
@@ -27,7 +24,7 @@ pub enum Inner<'v> {
 /// The shape of some values.
 pub fn shape_of<'v>(alloc: Global, mut values: Vec<&'v Value>) -> Result<Shape<'v>, AllocError> {
     let mut outer = String::new(alloc);
-    for _ in 0..MAX_DEPTH {
+    for _ in 0..NESTING_LIMIT {
         if values.is_empty() {
             break;
         }
