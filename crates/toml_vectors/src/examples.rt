@@ -39,8 +39,13 @@ fn fills_a_table(rt: HostRuntime) -> Result<(), Fail> {
     assert!(rt; matches!(&second, Err((PushRefusal::KeyPresent, _, _))));
     let port = table.get("port");
     assert!(rt; port.is_some_and(|value| *value == Value::Integer(80)));
+    Ok(())
+}
+
+#[test]
+fn reads_numbers(rt: HostRuntime) -> Result<(), Fail> {
     assert_eq!(rt; integer_of("0x50"), Some(80));
-    let float = Float::parse(alloc, "+1.50e3")?;
+    let float = Float::parse(rt.alloc(), "+1.50e3")?;
     assert!(rt; matches!(&float, Some(float) if float.as_str() == "1.50E3"));
     Ok(())
 }
@@ -80,9 +85,9 @@ fn tells_where_things_are_written(rt: HostRuntime) -> Result<(), Fail> {
 }
 
 #[test]
-fn tells_where_nodes_are_written(rt: HostRuntime) -> Result<(), Fail> {
+fn tells_where_tables_are_written(rt: HostRuntime) -> Result<(), Fail> {
     let alloc = rt.alloc();
-    let text = "\n[a.b]\nc = [1, { d = 2 }]\n[[e]]\n[[e]]\n";
+    let text = "\n[a.b]\nc = 1\n";
     let tree = read_tree(alloc, text)?;
     let root = origin_of_node(alloc, text, tree.root())?;
     assert_eq!(rt; root, Some(Origin { at: 1, key: None }));
@@ -95,7 +100,15 @@ fn tells_where_nodes_are_written(rt: HostRuntime) -> Result<(), Fail> {
             key: Some(4)
         })
     );
-    let array = table.get("c").ok_or("no c")?;
+    Ok(())
+}
+
+#[test]
+fn tells_where_a_value_is_written(rt: HostRuntime) -> Result<(), Fail> {
+    let alloc = rt.alloc();
+    let text = "\n[a]\nc = [1, { d = 2 }]\n";
+    let tree = read_tree(alloc, text)?;
+    let array = tree.root().get("a").ok_or("no a")?.get("c").ok_or("no c")?;
     let mut elements = array.elements().ok_or("no array")?;
     elements.next();
     let inline = elements.next().ok_or("no second")?;
@@ -103,25 +116,32 @@ fn tells_where_nodes_are_written(rt: HostRuntime) -> Result<(), Fail> {
     assert_eq!(rt;
         found,
         Some(Origin {
-            at: 21,
-            key: Some(17)
+            at: 19,
+            key: Some(15)
         })
     );
+    Ok(())
+}
+
+#[test]
+fn tells_where_arrays_of_tables_are_written(rt: HostRuntime) -> Result<(), Fail> {
+    let alloc = rt.alloc();
+    let text = "\n[[e]]\n[[e]]\n";
+    let tree = read_tree(alloc, text)?;
     let tables = tree.root().get("e").ok_or("no e")?;
     let mut elements = tables.elements().ok_or("no array")?;
     elements.next();
     let second = elements.next().ok_or("no second")?;
+    let found = origin_of_node(alloc, text, tables)?;
     assert_eq!(rt;
-        origin_of_node(alloc, text, tables)?,
+        found,
         Some(Origin {
-            at: 26,
-            key: Some(28)
+            at: 1,
+            key: Some(3)
         })
     );
-    assert_eq!(rt;
-        origin_of_node(alloc, text, second)?,
-        Some(Origin { at: 32, key: None })
-    );
+    let found = origin_of_node(alloc, text, second)?;
+    assert_eq!(rt; found, Some(Origin { at: 7, key: None }));
     Ok(())
 }
 

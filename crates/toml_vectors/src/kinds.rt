@@ -4,23 +4,32 @@ use basic_toml_write::{Serializer, WriteError};
 use std::alloc::{AllocError, Global};
 use std::collections::BTreeMap;
 
-// Values of other types behind a key each.
 #[test]
-fn writes_collections(rt: HostRuntime) -> Result<(), WriteError> {
+fn writes_lists(rt: HostRuntime) -> Result<(), WriteError> {
     let alloc = rt.alloc();
     let numbers: &[u8] = &[1, 2];
     let more = vec![in alloc; 3u8, 4].map_err(AllocError::from)?;
     let mut ser = Serializer::new(alloc);
-    ser.serialize_struct("Collections", 0)?;
+    ser.serialize_struct("Lists", 0)?;
     ser.serialize_field("o", &numbers)?;
     ser.serialize_key(&"p")?;
     ser.serialize_value(&more)?;
+    ser.end()?;
+    assert_eq!(rt; ser.finish()?.as_str(), "o = [1, 2]\np = [3, 4]\n");
+    Ok(())
+}
+
+#[test]
+fn writes_maps(rt: HostRuntime) -> Result<(), WriteError> {
+    let alloc = rt.alloc();
+    let mut ser = Serializer::new(alloc);
+    ser.serialize_struct("Maps", 0)?;
     ser.serialize_field("t", &map(alloc)?)?;
     ser.serialize_field("u", &table(alloc)?)?;
     ser.end()?;
     assert_eq!(rt;
         ser.finish()?.as_str(),
-        "o = [1, 2]\np = [3, 4]\n\n[t]\ny = 1\nz = 2\n\n[u]\nz = 2\ny = [false]\n"
+        "[t]\ny = 1\nz = 2\n\n[u]\nz = 2\ny = [false]\n"
     );
     Ok(())
 }

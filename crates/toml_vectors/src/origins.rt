@@ -109,32 +109,35 @@ fn of_fields_of_the_root(rt: HostRuntime) -> Result<(), Fail> {
     Ok(())
 }
 
-// Of the second of three servers: an unknown field, and a table that lacks one.
+// Three servers, of which the second has no port.
+const SERVERS: &str = "[[server]]\nport = 1\n[[server]]\nprot = 2\n[[server]]\n";
+
 #[test]
-fn paths(rt: HostRuntime) -> Result<(), Fail> {
+fn path_to_an_unknown_field(rt: HostRuntime) -> Result<(), Fail> {
     let alloc = rt.alloc();
-    let text = "[[server]]\nport = 1\n[[server]]\nprot = 2\n[[server]]\n";
-    let tree = read_tree(alloc, text)?;
-    let server = at(tree.root(), "server")?;
-    let sections = sections(alloc, text)?;
-    let Err(error) = only_fields(alloc, server, &["port"]) else {
+    let tree = read_tree(alloc, SERVERS)?;
+    let Err(error) = only_fields(alloc, at(tree.root(), "server")?, &["port"]) else {
         return Err(Fail::from("it is known"));
     };
+    let sections = sections(alloc, SERVERS)?;
     let path = error.path(alloc, sections.as_slice())?;
-    let path = path.ok_or("no path")?;
     let field = [Step::Key("server"), Step::Element(1), Step::Key("prot")];
-    assert_eq!(rt; path.as_slice(), field.as_slice());
+    assert!(rt; path.is_some_and(|path| path.as_slice() == field.as_slice()));
+    Ok(())
+}
 
-    let read: Result<u16, Error> = read_field(alloc, server, "port");
+#[test]
+fn path_to_a_table_that_lacks_a_field(rt: HostRuntime) -> Result<(), Fail> {
+    let alloc = rt.alloc();
+    let tree = read_tree(alloc, SERVERS)?;
+    let read: Result<u16, Error> = read_field(alloc, at(tree.root(), "server")?, "port");
     let Err(error) = read else {
         return Err(Fail::from("it is read"));
     };
+    let sections = sections(alloc, SERVERS)?;
     let path = error.path(alloc, sections.as_slice())?;
-    let path = path.ok_or("no path")?;
-    assert_eq!(rt;
-        path.as_slice(),
-        [Step::Key("server"), Step::Element(1)].as_slice()
-    );
+    let server = [Step::Key("server"), Step::Element(1)];
+    assert!(rt; path.is_some_and(|path| path.as_slice() == server.as_slice()));
     Ok(())
 }
 
@@ -151,7 +154,12 @@ fn of_names(rt: HostRuntime) -> Result<(), Fail> {
     let found = places(alloc, text, error)?;
     assert_eq!(rt; found.0.as_str(), "4:1");
     assert_eq!(rt; found.1.as_str(), "2:1");
+    Ok(())
+}
 
+#[test]
+fn of_variants(rt: HostRuntime) -> Result<(), Fail> {
+    let alloc = rt.alloc();
     let text = "colour = \"x\"\n[z]\n";
     let tree = read_tree(alloc, text)?;
     let Err(error) = variant(alloc, at(tree.root(), "colour")?, &["red", "blue"]) else {

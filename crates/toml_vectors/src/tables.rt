@@ -56,18 +56,39 @@ fn makes_tables_of_parts(rt: HostRuntime) -> Result<(), Fail> {
     Ok(())
 }
 
+// A text that stands in place, and one that does not.
+const WORDS: [&str; 2] = ["localhost", "a text of more than 23 bytes"];
+
 #[test]
-fn holds_short_and_long_texts(rt: HostRuntime) -> Result<(), Fail> {
+fn shows_short_and_long_texts(rt: HostRuntime) -> Result<(), Fail> {
     let alloc = rt.alloc();
-    for words in ["localhost", "a text of more than 23 bytes"] {
+    for words in WORDS {
         let text = Text::from_str(alloc, words)?;
-        let same = Text::from(String::from_str(alloc, words)?);
-        assert!(rt; text == same && text == same.clone()?);
         assert_eq!(rt; format!(in alloc; "{text}")?.as_str(), words);
         let quoted = format!(in alloc; "\"{words}\"")?;
         assert_eq!(rt; format!(in alloc; "{text:?}")?.as_str(), quoted.as_str());
-        assert_eq!(rt; text.clone()?.into_string(alloc)?.as_str(), words);
-        assert_eq!(rt; Value::String(same).as_str(), Some(words));
+    }
+    Ok(())
+}
+
+#[test]
+fn copies_short_and_long_texts(rt: HostRuntime) -> Result<(), Fail> {
+    let alloc = rt.alloc();
+    for words in WORDS {
+        let text = Text::from_str(alloc, words)?;
+        assert!(rt; text == text.clone()?);
+        assert_eq!(rt; text.into_string(alloc)?.as_str(), words);
+    }
+    Ok(())
+}
+
+#[test]
+fn takes_short_and_long_strings(rt: HostRuntime) -> Result<(), Fail> {
+    let alloc = rt.alloc();
+    for words in WORDS {
+        let text = Text::from(String::from_str(alloc, words)?);
+        assert!(rt; text == Text::from_str(alloc, words)?);
+        assert_eq!(rt; Value::String(text).as_str(), Some(words));
     }
     Ok(())
 }

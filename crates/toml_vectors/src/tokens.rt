@@ -13,11 +13,11 @@ fn rest_of_a_text(rt: HostRuntime) {
     assert_eq!(rt; rest(text, &mut tokenizer), "a");
 }
 
-// Each call that can take memory finds it.
+// Each call that can take memory finds it, in these two.
 #[test]
 fn calls_with_ample_memory(rt: HostRuntime) -> Result<(), Fail> {
     let alloc = rt.alloc();
-    let mut tokenizer = Tokenizer::new("\"\\u0061\" = 1 # x\n\n.");
+    let mut tokenizer = Tokenizer::new("\"\\u0061\" = 1");
     assert!(rt; tokenizer.peek(alloc).is_ok());
     assert!(rt; tokenizer.clone().unwrap().table_key(alloc).is_ok());
     let key = Token::String {
@@ -36,14 +36,21 @@ fn calls_with_ample_memory(rt: HostRuntime) -> Result<(), Fail> {
         tokenizer.expect_spanned(alloc, Token::Keylike("1")),
         Ok(Span { start: 11, end: 12 })
     );
-    assert_eq!(rt; tokenizer.one(), Some((12, ' ')));
+    Ok(())
+}
+
+#[test]
+fn calls_at_the_end_of_a_line(rt: HostRuntime) -> Result<(), Fail> {
+    let alloc = rt.alloc();
+    let mut tokenizer = Tokenizer::new(" # x\n\n.");
+    assert_eq!(rt; tokenizer.one(), Some((0, ' ')));
     assert_eq!(rt; tokenizer.eat_comment(), Ok(true));
     assert_eq!(rt; tokenizer.eat_newline_or_eof(alloc), Ok(()));
-    assert_eq!(rt; tokenizer.current(), 18);
+    assert_eq!(rt; tokenizer.current(), 6);
     assert_eq!(rt;
         tokenizer.expect(alloc, Token::Comma),
         Err(Error::Wanted {
-            at: 18,
+            at: 6,
             expected: "a comma",
             found: "a period",
         })

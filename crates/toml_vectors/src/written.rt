@@ -58,22 +58,31 @@ fn job(alloc: Global, choice: Choice) -> Result<Job, AllocError> {
     })
 }
 
+// The text of a job before its choice, and behind it.
+const START: &str =
+    "name = \"nightly\"\npriority = -7\nretries = 3\nseed = 9223372036854775807\nenabled = false\nmark = \"\u{e9}\"\ntimeout = 60\nratio = 0.5\ntags = [\"a b\"]\ngrid = [[1, -2], []]\n";
+
+const REST: &str =
+    "\n[limits]\nlow = 1\n\n[server]\nverbose = true\nport = 80\nhost_name = \"localhost\"\n\n[[server.rules]]\npattern = \"*.md\"\nlimit = 80\n\n[[server.rules]]\npattern = \"*.rs\"\nlimit = 120\n\n[fallback]\nverbose = true\nport = 80\nhost_name = \"localhost\"\n\n[[fallback.rules]]\npattern = \"*.md\"\nlimit = 80\n\n[[fallback.rules]]\npattern = \"*.rs\"\nlimit = 120\n[[rules.all]]\npattern = \"*.md\"\nlimit = 80\n\n[[rules.all]]\npattern = \"*.rs\"\nlimit = 120\n";
+
 #[test]
-fn writes_a_record_of_many_fields(rt: HostRuntime) -> Result<(), Fail> {
+fn writes_a_record_with_a_name(rt: HostRuntime) -> Result<(), Fail> {
     let alloc = rt.alloc();
-    let start =
-        "name = \"nightly\"\npriority = -7\nretries = 3\nseed = 9223372036854775807\nenabled = false\nmark = \"\u{e9}\"\ntimeout = 60\nratio = 0.5\ntags = [\"a b\"]\ngrid = [[1, -2], []]\n";
-    let rest =
-        "\n[limits]\nlow = 1\n\n[server]\nverbose = true\nport = 80\nhost_name = \"localhost\"\n\n[[server.rules]]\npattern = \"*.md\"\nlimit = 80\n\n[[server.rules]]\npattern = \"*.rs\"\nlimit = 120\n\n[fallback]\nverbose = true\nport = 80\nhost_name = \"localhost\"\n\n[[fallback.rules]]\npattern = \"*.md\"\nlimit = 80\n\n[[fallback.rules]]\npattern = \"*.rs\"\nlimit = 120\n[[rules.all]]\npattern = \"*.md\"\nlimit = 80\n\n[[rules.all]]\npattern = \"*.rs\"\nlimit = 120\n";
-    let named = job(alloc, Choice::Named(String::from_str(alloc, "short")?))?;
+    let job = job(alloc, Choice::Named(String::from_str(alloc, "short")?))?;
     assert_eq!(rt;
-        to_string(alloc, &named)?.as_str(),
-        format!(in alloc; "{start}choice = \"short\"\n{rest}")?.as_str()
+        to_string(alloc, &job)?.as_str(),
+        format!(in alloc; "{START}choice = \"short\"\n{REST}")?.as_str()
     );
-    let whole = job(alloc, Choice::Whole(rule(alloc, "*.c", 72)?))?;
+    Ok(())
+}
+
+#[test]
+fn writes_a_record_with_a_table(rt: HostRuntime) -> Result<(), Fail> {
+    let alloc = rt.alloc();
+    let job = job(alloc, Choice::Whole(rule(alloc, "*.c", 72)?))?;
     assert_eq!(rt;
-        to_string(alloc, &whole)?.as_str(),
-        format!(in alloc; "{start}\n[choice]\npattern = \"*.c\"\nlimit = 72\n{rest}")?.as_str()
+        to_string(alloc, &job)?.as_str(),
+        format!(in alloc; "{START}\n[choice]\npattern = \"*.c\"\nlimit = 72\n{REST}")?.as_str()
     );
     Ok(())
 }
