@@ -7,7 +7,7 @@ use Rattle.basic_toml.specs.ReadErrorText.{joined}
 use Rattle.toml_json_text.specs.Json.{json}
 use Rattle.toml_json_text.specs.declared.form.Form.{Form}
 use Rattle.toml_c.specs.Answers.{with_front, answered, Holds, IsRefusal}
-use Rattle.toml_c.specs.Checks.{ArePlaces, Checks, found, nowhere, is_toml, is_not, no_memory}
+use Rattle.toml_c.specs.Checks.{ArePlaces, Checks, found, no_places, is_toml, is_not, no_memory}
 use Rattle.toml_c.specs.Jsons as j
 use Rattle.toml_c.specs.Jsons.{IsJsonDue, Jsons}
 use Rattle.toml_c.specs.declared.answer.TomlAnswer.{TomlAnswer}
@@ -38,11 +38,11 @@ pub json_none : (form : Form) (input old : List ℕ) (answer : TomlAnswer) → a
 json_none form input old answer is = subst (Jsons form input old old) (sym is) (j.no_memory refl)
 
 pub check_toml : (input old old_keys : List ℕ) (tree : Data) (value : TomlFinding) → Holds input tree
-    → value ≡ found 0 nowhere 0 0 → Checks input old old old_keys old_keys value
+    → value ≡ found 0 no_places 0 0 → Checks input old old old_keys old_keys value
 check_toml input old old_keys tree value held is =
     subst (Checks input old old old_keys old_keys) (sym is) (is_toml held refl refl)
 
-pub check_none : (input old old_keys : List ℕ) (value : TomlFinding) → value ≡ found 3 nowhere 0 0
+pub check_none : (input old old_keys : List ℕ) (value : TomlFinding) → value ≡ found 3 no_places 0 0
     → Checks input old old old_keys old_keys value
 check_none input old old_keys value is =
     subst (Checks input old old old_keys old_keys) (sym is) (no_memory refl refl)

@@ -12,25 +12,25 @@ use Rattle.toml_c.specs.Answers.{with_front, Holds, IsRefusal}
 use Rattle.toml_c.specs.declared.check.Places.{Places}
 use Rattle.toml_c.specs.declared.check.TomlFinding.{TomlFinding}
 
-abbrev pub nowhere : Places
-nowhere = record { error = None; origin = None; other = None }
+abbrev pub no_places : Places
+no_places = record { error = None; origin = None; other = None }
 
 -- a line and a column, or 0 and 0
-abbrev pub counted : Option (ℕ × ℕ) → ℕ × ℕ
-counted place = unwrap_or place (0, 0)
+abbrev pub or_zeros : Option (ℕ × ℕ) → ℕ × ℕ
+or_zeros place = unwrap_or place (0, 0)
 
 -- a status, the places, and how long the message and the key path are
 abbrev pub found : ℕ → Places → ℕ → ℕ → TomlFinding
 found status places m k = record {
   status = status;
   has_place = is_some places.error;
-  line = (counted places.error).0;
-  column = (counted places.error).1;
-  origin_line = (counted places.origin).0;
-  origin_column = (counted places.origin).1;
+  line = (or_zeros places.error).0;
+  column = (or_zeros places.error).1;
+  origin_line = (or_zeros places.origin).0;
+  origin_column = (or_zeros places.origin).1;
   has_other = is_some places.other;
-  other_line = (counted places.other).0;
-  other_column = (counted places.other).1;
+  other_line = (or_zeros places.other).0;
+  other_column = (or_zeros places.other).1;
   message_length = m;
   key_path_length = k;
 }
@@ -56,9 +56,9 @@ pub record ArePlaces (input : List ℕ) (fault : Fault) (places : Places) : Type
 -- Where memory was refused, the memory is as it was.
 pub data Checks (input old new old_keys new_keys : List ℕ) : TomlFinding → Type 0 where
   is_toml : {tree : Data} → Holds input tree → new ≡ old → new_keys ≡ old_keys
-      → Checks input old new old_keys new_keys (found 0 nowhere 0 0)
+      → Checks input old new old_keys new_keys (found 0 no_places 0 0)
   is_not : {fault : Fault} {places : Places} → IsRefusal input fault → ArePlaces input fault places
       → new ≡ with_front old (message fault.kind) → new_keys ≡ with_front old_keys (joined fault.key_path)
       → Checks input old new old_keys new_keys
       (found 1 places (length (message fault.kind)) (length (joined fault.key_path)))
-  no_memory : new ≡ old → new_keys ≡ old_keys → Checks input old new old_keys new_keys (found 3 nowhere 0 0)
+  no_memory : new ≡ old → new_keys ≡ old_keys → Checks input old new old_keys new_keys (found 3 no_places 0 0)

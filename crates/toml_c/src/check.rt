@@ -57,16 +57,16 @@ pub extern "C" fn toml_c_check(
     ensures { spec.Checks input.now message.old message.new key_path.old key_path.new result }
 {
     match table_of(alloc, input) {
-        Ok(_) => found(DONE, NOWHERE, 0, 0),
-        Err(error) => match told_of(alloc, input, &error) {
-            Ok(told) => {
-                let words = told.message.as_bytes();
-                let keys = told.key_path.as_bytes();
+        Ok(_) => found(DONE, NO_PLACES, 0, 0),
+        Err(error) => match report_of(alloc, input, &error) {
+            Ok(report) => {
+                let words = report.message.as_bytes();
+                let keys = report.key_path.as_bytes();
                 put(message, words);
                 put(key_path, keys);
-                found(REFUSED, told.places, words.len(), keys.len())
+                found(REFUSED, report.places, words.len(), keys.len())
             }
-            Err(_) => found(OUT_OF_MEMORY, NOWHERE, 0, 0),
+            Err(_) => found(OUT_OF_MEMORY, NO_PLACES, 0, 0),
         },
     }
 }
@@ -81,7 +81,7 @@ struct Places {
     other: Option<(usize, usize)>,
 }
 
-const NOWHERE: Places = Places {
+const NO_PLACES: Places = Places {
     error: None,
     origin: None,
     other: None,
@@ -110,14 +110,14 @@ fn found(status: u32, places: Places, message_length: usize, key_path_length: us
 
 // What is told of an error.
 #[derive(Drop)]
-struct Told {
+struct Report {
     message: String,
     key_path: String,
     places: Places,
 }
 
 // Nothing is told of want of memory.
-fn told_of(alloc: Global, input: &[u8], error: &Error) -> Result<Told, AllocError>
+fn report_of(alloc: Global, input: &[u8], error: &Error) -> Result<Report, AllocError>
     ensures message { IfOk result (λ t. string_bytes t.message ≡ message error.now.kind) }
     ensures keys { IfOk result (λ t. string_bytes t.key_path ≡ joined error.now.key_path) }
     ensures places { IfOk result (λ t. ArePlaces input.now error.now t.places) }
@@ -127,7 +127,7 @@ fn told_of(alloc: Global, input: &[u8], error: &Error) -> Result<Told, AllocErro
         return Err(AllocError);
     }
     let message = error.message();
-    Ok(Told {
+    Ok(Report {
         message: format!(in alloc; "{message}")?,
         key_path: with_periods(alloc, error.key_path())?,
         places: places_of(alloc, input, error)?,
@@ -156,20 +156,20 @@ fn places_of(alloc: Global, input: &[u8], error: &Error) -> Result<Places, Alloc
     match error.origins(alloc, text) {
         Ok(origins) => Ok(Places {
             error: error.line_col(),
-            origin: place_of(text, origin_of(origins)),
-            other: place_of(text, other_of(origins)),
+            origin: place_of(text, origin_offset(origins)),
+            other: place_of(text, other_offset(origins)),
         }),
         Err(_) => Err(AllocError),
     }
 }
 
-fn origin_of(origins: Option<Origins>) -> Option<usize>
+fn origin_offset(origins: Option<Origins>) -> Option<usize>
     ensures { result ≡ option_map (λ o. o.origin) origins }
 {
     Some(origins?.origin)
 }
 
-fn other_of(origins: Option<Origins>) -> Option<usize>
+fn other_offset(origins: Option<Origins>) -> Option<usize>
     ensures { result ≡ option_and_then (λ o. o.other) origins }
 {
     origins?.other

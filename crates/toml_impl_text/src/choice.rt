@@ -82,12 +82,12 @@ pub fn variant_list<'t>(
     item: Option<&Item<'_, 't>>,
 ) -> Result<Option<VariantList<'t>>, NoImpls<'t>> {
     match item {
-        Some(item) => Ok(Some(variants_listed(alloc, item)?)),
+        Some(item) => Ok(Some(variant_list_in(alloc, item)?)),
         None => Ok(None),
     }
 }
 
-fn variants_listed<'t>(alloc: Global, item: &Item<'_, 't>) -> Result<VariantList<'t>, NoImpls<'t>> {
+fn variant_list_in<'t>(alloc: Global, item: &Item<'_, 't>) -> Result<VariantList<'t>, NoImpls<'t>> {
     let mut names = Vec::new(alloc);
     let mut keys = Vec::new(alloc);
     let mut tokens = item.tokens;

@@ -115,11 +115,12 @@ const SERVERS: &str = "[[server]]\nport = 1\n[[server]]\nprot = 2\n[[server]]\n"
 #[test]
 fn path_to_an_unknown_field(rt: HostRuntime) -> Result<(), Fail> {
     let alloc = rt.alloc();
-    let tree = read_tree(alloc, SERVERS)?;
+    let text = SERVERS;
+    let tree = read_tree(alloc, text)?;
     let Err(error) = only_fields(alloc, at(tree.root(), "server")?, &["port"]) else {
         return Err(Fail::from("it is known"));
     };
-    let sections = sections(alloc, SERVERS)?;
+    let sections = sections(alloc, text)?;
     let path = error.path(alloc, sections.as_slice())?;
     let field = [Step::Key("server"), Step::Element(1), Step::Key("prot")];
     assert!(rt; path.is_some_and(|path| path.as_slice() == field.as_slice()));
