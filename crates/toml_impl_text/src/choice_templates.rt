@@ -1,10 +1,10 @@
 //! The impls of a choice, as they are written.
 
-use crate::choice::Choice;
 use crate::impls::{Impl, impls_by, signatures};
 use crate::layout::{array, call};
 use crate::template::push_filled;
 use std::alloc::{AllocError, Global};
+use toml_rust_types::choice::Choice;
 
 const IMPLS: &[(&str, &str)] = &[
     (

@@ -1,18 +1,12 @@
 //! A file with the impls of its types.
 
-use crate::choice::{Choice, refuse_data, variant_list, variants_of, variants_path};
 use crate::choice_templates::choice_impls;
-use crate::cuts::cut;
 use crate::form_templates::form_impls;
-use crate::forms::{Forms, forms_of, has_forms};
 use crate::impls::Impl;
 use crate::imports::{Needs, imports_of};
 use crate::merge::add_use_edits;
-use crate::record::{Record, record_of};
 use crate::templates::impls_of;
 use crate::uses::{refuse_taken, uses_of};
-use crate::wanted::is_wanted;
-use crate::written::{impl_of, list_of};
 use std::alloc::{AllocError, Global};
 use toml_rust_items::cursor::Cursor;
 use toml_rust_items::declared::{Member, members, type_name};
@@ -21,6 +15,12 @@ use toml_rust_items::items::{Attribute, Item, ItemKind, items_of};
 use toml_rust_items::lexer::{Token, tokens_of};
 use toml_rust_items::refusal::NoImpls;
 use toml_rust_items::rules::{refuse_rules, type_rules};
+use toml_rust_types::choice::{Choice, refuse_data, variant_list, variants_of, variants_path};
+use toml_rust_types::cuts::cut;
+use toml_rust_types::forms::{Forms, forms_of, has_forms};
+use toml_rust_types::record::{Record, record_of};
+use toml_rust_types::wanted::is_wanted;
+use toml_rust_types::written::{impl_of, list_of};
 
 /// The text of a file with the impls of its types behind them, in place of those that it had, and with the `use` lines
 /// that they need. All else is as it was. An enum needs the path of its `module`, unless it has impls already.

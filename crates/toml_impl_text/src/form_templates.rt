@@ -1,9 +1,9 @@
 //! The impls of a choice of two forms, as they are written.
 
-use crate::forms::{Form, Forms};
 use crate::impls::{Impl, impls_by, signatures};
 use crate::layout::laid_out;
 use std::alloc::{AllocError, Global};
+use toml_rust_types::forms::{Form, Forms};
 
 const IMPLS: &[(&str, &str)] = &[
     (

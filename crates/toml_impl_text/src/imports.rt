@@ -1,7 +1,7 @@
 //! The names that impls need, and the paths that have them.
 
-use crate::record::{Presence, Record};
 use std::alloc::{AllocError, Global};
+use toml_rust_types::record::{Presence, Record};
 
 /// Names that impls need from one path.
 #[derive(Drop)]

@@ -2,9 +2,9 @@
 
 use crate::impls::{Impl, impls_by, signatures};
 use crate::layout::laid_out;
-use crate::record::{Field, Presence, Record};
 use crate::template::push_filled;
 use std::alloc::{AllocError, Global};
+use toml_rust_types::record::{Field, Presence, Record};
 
 const IMPLS: &[(&str, &str)] = &[
     (
