@@ -1,14 +1,14 @@
 //! A case file, line by line: what a case is about, and then what it must give.
-use crate::answers::{answer_of, calls_answer};
-use crate::calls::Outcome;
-use crate::escapes::bytes_of;
-use crate::nodes::nodes_of;
 use crate::properties::check;
 use crate::random::{Counts, bytes, texts};
 use crate::report::{Place, Report};
 use std::alloc::{AllocError, Global};
 use std::collections::BTreeMap;
 use std::str;
+use toml_case_answers::answers::{answer_of, calls_answer};
+use toml_case_answers::calls::{Outcome, come_to};
+use toml_case_answers::escapes::bytes_of;
+use toml_case_answers::nodes::nodes_of;
 
 /// The texts so far, each with the place where it stands.
 pub(crate) type Seen = BTreeMap<Vec<u8>, String>;
@@ -153,7 +153,7 @@ fn subject_of(
             check(alloc, report, place, text.as_slice())?;
             Ok(Some(Subject::Text(text)))
         }
-        "calls" => Ok(Some(Subject::Calls(crate::calls::come_to(alloc, rest)?))),
+        "calls" => Ok(Some(Subject::Calls(come_to(alloc, rest)?))),
         "random" => Ok(Some(Subject::Random(random(alloc, report, place, rest)?))),
         _ => Ok(None),
     }

@@ -2,22 +2,12 @@
 //! many passed and failed.
 #![tactic(auto)]
 
-mod answers;
-mod calls;
 mod cases;
 mod dice;
-mod escapes;
-mod lists;
-mod nodes;
-mod numbers;
-mod own_types;
 mod properties;
 mod random;
 mod report;
-mod sections_shown;
 mod sentences;
-mod targets;
-mod tokens_shown;
 
 use cases::Seen;
 use report::Report;

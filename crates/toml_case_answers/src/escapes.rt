@@ -140,7 +140,7 @@ pub(crate) fn unescape(alloc: Global, text: &str) -> Result<Vec<u8>, AllocError>
 }
 
 /// The bytes of a text of a case file.
-pub(crate) fn bytes_of(alloc: Global, text: &str) -> Result<Vec<u8>, AllocError> {
+pub fn bytes_of(alloc: Global, text: &str) -> Result<Vec<u8>, AllocError> {
     let long = spread(alloc, text)?;
     unescape(alloc, long.as_str())
 }

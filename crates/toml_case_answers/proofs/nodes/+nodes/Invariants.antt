@@ -1,5 +1,5 @@
 use Rattle.std.proofs.Common.{◌+◌, ◌*◌}
-use Rattle.toml_cases.proofs.nodes.+nodes.Given as goal
+use Rattle.toml_case_answers.proofs.nodes.+nodes.Given as goal
 
 abbrev pub decreases-push_node : goal.decreases-push_node
 decreases-push_node l = 100 * l.levels

@@ -151,12 +151,7 @@ fn answer_of_text(alloc: Global, text: &str, word: &str, rest: &str) -> Result<P
 }
 
 /// What a line wants of a text, and what the text gives.
-pub(crate) fn answer_of(
-    alloc: Global,
-    bytes: &[u8],
-    word: &str,
-    rest: &str,
-) -> Result<Pair, AllocError> {
+pub fn answer_of(alloc: Global, bytes: &[u8], word: &str, rest: &str) -> Result<Pair, AllocError> {
     match word {
         "value" => Ok((spread(alloc, rest)?, value_of(alloc, bytes)?)),
         "error" => plain(alloc, rest, error_of(alloc, bytes)?),
@@ -172,7 +167,7 @@ pub(crate) fn answer_of(
 }
 
 /// What a line wants of a list of calls, and what the calls came to.
-pub(crate) fn calls_answer(
+pub fn calls_answer(
     alloc: Global,
     outcome: &Outcome,
     word: &str,

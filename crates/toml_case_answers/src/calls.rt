@@ -22,7 +22,7 @@ impl Serialize for Silent {
 
 /// What a list of calls came to: how many were taken, and the text or the error.
 #[derive(Drop)]
-pub(crate) struct Outcome {
+pub struct Outcome {
     pub(crate) taken: usize,
     pub(crate) answer: Result<String, WriteError>,
     // Whether each call after the first that was refused met the same error.
@@ -101,7 +101,7 @@ fn make_integer(
 }
 
 /// Makes the calls of a line.
-pub(crate) fn come_to(alloc: Global, line: &str) -> Result<Outcome, AllocError> {
+pub fn come_to(alloc: Global, line: &str) -> Result<Outcome, AllocError> {
     let line = spread(alloc, line)?;
     let mut ser = Serializer::new(alloc);
     let mut taken = 0usize;

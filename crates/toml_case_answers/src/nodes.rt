@@ -123,7 +123,7 @@ fn push_elements(
 }
 
 /// The nodes of a text, a line each.
-pub(crate) fn nodes_of(alloc: Global, text: &str) -> Result<String, AllocError> {
+pub fn nodes_of(alloc: Global, text: &str) -> Result<String, AllocError> {
     let mut out = String::new(alloc);
     match sections(alloc, text) {
         Ok(list) => match resolve(alloc, list) {
