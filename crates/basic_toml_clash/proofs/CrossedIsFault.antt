@@ -54,7 +54,7 @@ mutual
   tells_of (Raw.integer z) = refl
   tells_of (Raw.float t) = refl
   tells_of (Raw.boolean b) = refl
-  tells_of (Raw.string t) = refl
+  tells_of (Raw.string t _) = refl
   tells_of (Raw.array es) = tells_among es
   tells_of (Raw.inline rows) =
       tells_rows (crossed_between rows) (crossed_within rows) rows (tells_between rows) (tells_within rows)

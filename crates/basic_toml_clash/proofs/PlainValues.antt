@@ -113,10 +113,10 @@ raw_is (Raw-F.Boolean b) parts l plain =
     scalar (roll-Raw (Raw-F.Boolean b)) (sections.Raw.boolean b) (search (rules, the_lemmas))
     (search (rules, the_lemmas)) refl refl (λ l. refl) l plain
 raw_is (Raw-F.String text) parts l plain =
-    scalar (roll-Raw (Raw-F.String text)) (sections.Raw.string text.now) (search (rules, the_lemmas))
+    scalar (roll-Raw (Raw-F.String text)) (sections.Raw.string text.now false) (search (rules, the_lemmas))
     (search (rules, the_lemmas)) refl refl (λ l. refl) l plain
 raw_is (Raw-F.Escaped text) parts l plain =
-    scalar (roll-Raw (Raw-F.Escaped text)) (sections.Raw.string (string_bytes text)) (search (rules, the_lemmas))
+    scalar (roll-Raw (Raw-F.Escaped text)) (sections.Raw.string (string_bytes text) true) (search (rules, the_lemmas))
     (search (rules, the_lemmas)) refl refl (λ l. refl) l plain
 raw_is (Raw-F.Array es) parts l plain =
     let made : roll-Raw (Raw-F.Array es) ≡ Array es = search (rules, the_lemmas) in

@@ -51,8 +51,8 @@ abbrev pub raw_seen : Raw-F Raw Listed ⊤ ⊤ → Raw
 raw_seen (Raw-F.Integer z) = Raw.integer z
 raw_seen (Raw-F.Float text) = Raw.float text
 raw_seen (Raw-F.Boolean b) = Raw.boolean b
-raw_seen (Raw-F.String text) = Raw.string text.now
-raw_seen (Raw-F.Escaped text) = Raw.string (string_bytes text)
+raw_seen (Raw-F.String text) = Raw.string text.now false
+raw_seen (Raw-F.Escaped text) = Raw.string (string_bytes text) true
 raw_seen (Raw-F.Array es) = Raw.array (listed es.items)
 raw_seen (Raw-F.Inline rs) = Raw.inline no_rows
 raw_seen (Raw-F.Dotted rs) = Raw.inline no_rows

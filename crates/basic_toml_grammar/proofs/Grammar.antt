@@ -1,4 +1,5 @@
 -- From a text to its section list: the grammar is unambiguous, and is what the reader computes.
+pub mod CopiesAgree
 pub mod EndChangesNothing
 pub mod FrontsOfTexts
 pub mod GrammarCarried

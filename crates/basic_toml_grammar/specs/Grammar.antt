@@ -19,6 +19,7 @@ use Rattle.basic_toml_tokens.specs.Text.{after_blanks}
 use Rattle.basic_toml_tokens.specs.Strings.{IsString}
 use Rattle.basic_toml_numbers.specs.Numbers.{integer_of, float_of}
 use Rattle.basic_toml_grammar.specs.Sections.{Key, Raw, Elements, no_elements, element, Rows, no_rows, row, Section}
+use Rattle.basic_toml_grammar.specs.Copies.{up_to, needs_copy}
 
 pub data IsKey : Text → Key → Text → Type 0 where
   bare : {p c : ℕ} {text next : Text} → StartsWith c text p next → is_keylike c ≡ true
@@ -84,7 +85,7 @@ module _ (comment : ℕ → Bool) where
           → word_value (run is_wordlike text) ≡ Some v
           → IsValue text (word_offset v p text) v (after_run is_wordlike text)
       string : {p : ℕ} {m : Bool} {value : List ℕ} {text rest : Text} → IsString text p m value rest
-          → IsValue text p (Raw.string (encode_utf8_all value)) rest
+          → IsValue text p (Raw.string (encode_utf8_all value) (needs_copy m (up_to rest text))) rest
       array : {p : ℕ} {elements : Elements} {text next rest : Text} → StartsWith ascii.left_bracket text p next
           → IsElements (after_gap next) elements rest
           → IsValue text p (Raw.array elements) rest

@@ -1,5 +1,6 @@
 -- From a text to its sections
 pub mod Sections
+pub mod Copies
 pub mod Grammar
 pub mod Levels
 -- From sections to a tree

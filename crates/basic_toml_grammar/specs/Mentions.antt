@@ -13,7 +13,7 @@ abbrev mutual
   finished (Raw.integer z) = Data.integer z
   finished (Raw.float t) = Data.float t
   finished (Raw.boolean b) = Data.boolean b
-  finished (Raw.string t) = Data.string t
+  finished (Raw.string t c) = Data.string t
   finished (Raw.array elements) = Data.array (finished_elements elements)
   finished (Raw.inline rows) = tree_of (row_mentions [] rows)
 

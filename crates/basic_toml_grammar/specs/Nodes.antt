@@ -4,7 +4,7 @@
 -- value, or a table that the dots of a row make. Such a dotted table begins where the first value begins that made it.
 -- The outer offset is the beginning of the nearest inline or dotted table around a node, else the last section. The
 -- offset is where the value begins, of an array literal the outer offset.
-use Rattle.std.specs.Prelude.{ℕ, zero, suc, Bool, true, false, ◌&&◌, if◌then◌else◌, List, [], ◌∷◌, ◌++◌, length}
+use Rattle.std.specs.Prelude.{ℕ, zero, suc, Bool, true, false, not, ◌&&◌, if◌then◌else◌, List, [], ◌∷◌, ◌++◌, length}
 use Rattle.std.specs.Prelude.{drop, codes, Option, Some, None}
 use Rattle.std.specs.List.{list_any}
 use Rattle.std.specs.Option.{option_or}
@@ -14,13 +14,14 @@ use Rattle.basic_toml_grammar.specs.Steps.{key, number, Path, begins, steps_of, 
 use Rattle.basic_toml_grammar.specs.IndexedPath.{Located, located}
 use Rattle.basic_toml_grammar.specs.NamedClash.{first_key}
 
--- `start` is where a value begins
+-- `start` is where a value begins, and `is_slice` says that it is a string that asks for no copy
 pub record Node : Type 0 where
   pub type_name : List ℕ
   pub start : Option ℕ
   pub offset : Option ℕ
   pub outer_offset : Option ℕ
   pub key_path : KeyTexts
+  pub is_slice : Bool
 
 -- a path without its last step
 abbrev pub front : Path → Path
@@ -32,9 +33,13 @@ abbrev pub raw_name : Raw → List ℕ
 raw_name (Raw.integer _) = codes "integer"
 raw_name (Raw.float _) = codes "float"
 raw_name (Raw.boolean _) = codes "boolean"
-raw_name (Raw.string _) = codes "string"
+raw_name (Raw.string _ _) = codes "string"
 raw_name (Raw.array _) = codes "array"
 raw_name (Raw.inline _) = codes "inline table"
+
+abbrev pub raw_is_slice : Raw → Bool
+raw_is_slice (Raw.string _ copied) = not copied
+raw_is_slice _ = false
 
 abbrev pub offset_of : Raw → ℕ → Option ℕ → Option ℕ
 offset_of (Raw.array _) at outer = outer
@@ -42,15 +47,14 @@ offset_of _ at outer = Some at
 
 -- a value that begins at an offset, and a table that dots made
 abbrev pub value_node : KeyTexts → Option ℕ → ℕ → Raw → Node
-value_node keys outer at v =
-    record {
-      type_name = raw_name v;
-      start = Some at;
-      offset = offset_of v at outer;
-      outer_offset = outer;
-      key_path =
-          keys;
-    }
+value_node keys outer at v = record {
+  type_name = raw_name v;
+  start = Some at;
+  offset = offset_of v at outer;
+  outer_offset = outer;
+  key_path = keys;
+  is_slice = raw_is_slice v;
+}
 
 abbrev pub dotted_node : KeyTexts → Option ℕ → ℕ → Node
 dotted_node keys outer at = record {
@@ -59,6 +63,7 @@ dotted_node keys outer at = record {
   offset = Some at;
   outer_offset = outer;
   key_path = keys;
+  is_slice = false;
 }
 
 -- where the dotted table at this path begins: at the value of the first row whose path goes on from it
@@ -117,6 +122,7 @@ made_node ls last p = record {
   offset = last;
   outer_offset = last;
   key_path = keys_of p;
+  is_slice = false;
 }
 
 -- where the dotted table at this path begins, by the first row of all sections whose path goes on from it

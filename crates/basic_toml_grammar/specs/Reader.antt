@@ -8,6 +8,7 @@ use Rattle.basic_toml_tokens.specs.Text.{Text, folded, run, after_run, is_keylik
 use Rattle.basic_toml_tokens.specs.Strings.{Quotes, is_quote, count_of, after_feed}
 use Rattle.basic_toml_tokens.specs.BodyFront.{Front, front_of}
 use Rattle.basic_toml_grammar.specs.Sections.{Key, Raw, Elements, no_elements, element, Rows, no_rows, row, Section}
+use Rattle.basic_toml_grammar.specs.Copies.{up_to, needs_copy}
 use Rattle.basic_toml_grammar.specs.Entering.{and_then}
 use Rattle.basic_toml_grammar.specs.Grammar.{is_wordlike, word_value, word_offset, after_comment_by, after_gap}
 use Rattle.basic_toml_grammar.specs.Grammar.{with_root}
@@ -81,8 +82,11 @@ word_at (x ∷ text) = and_then (word_value (run is_wordlike (x ∷ text)))
     (λ v. Some (record { offset = word_offset v x.0 (x ∷ text); value = v; rest = after_run is_wordlike (x ∷ text) }))
 
 abbrev pub string_value_at : Text → Option Valued
-string_value_at text = and_then (string_at text)
-    (λ s. Some (record { offset = s.offset; value = Raw.string (encode_utf8_all s.value); rest = s.rest }))
+string_value_at text = and_then (string_at text) (λ s. Some (record {
+  offset = s.offset;
+  value = Raw.string (encode_utf8_all s.value) (needs_copy s.multiline (up_to s.rest text));
+  rest = s.rest;
+}))
 
 abbrev mutual
   pub value_at : ℕ → Text → Option Valued

@@ -16,12 +16,12 @@ abbrev pub texts : List Key → KeyTexts
 texts keys = map (λ k. k.text) keys
 
 mutual
-  -- a value as it is written
+  -- a value as it is written; of a string also whether it asks for a copy
   pub data Raw : Type 0 where
     integer : ℤ → Raw
     float : List ℕ → Raw
     boolean : Bool → Raw
-    string : List ℕ → Raw
+    string : List ℕ → Bool → Raw
     array : Elements → Raw
     inline : Rows → Raw
 

@@ -2,6 +2,7 @@
 
 ghost use Rattle.basic_toml_grammar.specs.Statements.{GrammarIsUnambiguous, GrammarIsRead, GrammarGivesKeys, LevelsAreWithinDepth, DeepOffsetsAreOpened, DeepStopsAreTooDeep, DeepStopsAreOne, DeepStopsPassTheLimit, DeepStopsComeFirst, ShallowTextIsFree, GrammarFaultsAreOne, GrammarTextsHaveNone, PassedTextIsViable, TreeIsGrouped, KeysAreDistinct, ClashesAgree, PathsAgree, MarksFit, EveryClashIsNamed, OldDocumentsStand, OffsetsMeanNothing, ReturnsMeanNothing, ByteOrderMarkMeansNothing, RespacedMeansNothing, OrderIsFree, PlainOrderIsFree, ReorderedMeansTheSame, PlainReorderedMeansTheSame, SameMapsAreAsDeep, EnteringAccepts, EnteringGrows, TrieIsEntering, TrieGivesLevels, StopsAreNamed, TrieStopsAreNamed};
 ghost use Rattle.basic_toml_grammar.specs.RowOrder.{RowOrderMeansNothing};
+ghost use Rattle.basic_toml_grammar.specs.Copies.{CopiesAgree};
 
 /// The grammar gives a text at most one section list.
 pub fn grammar_is_unambiguous()
@@ -16,6 +17,11 @@ pub fn grammar_is_read()
 /// Each row of a section list has a key, and so has the header of an array section.
 pub fn grammar_gives_keys()
     ensures { GrammarGivesKeys }
+{}
+
+/// A string asks for a copy by its characters and their offsets exactly where it does by its bytes, as its token says.
+pub fn copies_agree()
+    ensures { CopiesAgree }
 {}
 
 /// The tree of mentions is the one that the grouping by first steps gives.

@@ -1,5 +1,5 @@
 -- Rows that the code reads have keys at every depth.
-use Rattle.std.proofs.Common.{◌≡◌, true, List, [], ◌∷◌, ◌++◌, map, take, drop, refl, ap, ◌∙◌, subst, rules}
+use Rattle.std.proofs.Common.{◌≡◌, true, false, List, [], ◌∷◌, ◌++◌, map, take, drop, refl, ap, ◌∙◌, subst, rules}
 use Rattle.std.specs.Prelude.{⊤}
 use Rattle.std.specs.String.{string_bytes}
 use Rattle.basic_toml_grammar.specs.Sections.{Key, Elements, Rows, no_rows, row}
@@ -87,10 +87,10 @@ raw_kept (Raw-F.Boolean b) parts =
     let a : raw_of (roll-Raw (Raw-F.Boolean b)) ≡ sections.Raw.boolean b = search (rules, the_lemmas) in
     ap value_keyed a
 raw_kept (Raw-F.String text) parts =
-    let a : raw_of (roll-Raw (Raw-F.String text)) ≡ sections.Raw.string text.now = search (rules, the_lemmas) in
+    let a : raw_of (roll-Raw (Raw-F.String text)) ≡ sections.Raw.string text.now false = search (rules, the_lemmas) in
     ap value_keyed a
 raw_kept (Raw-F.Escaped text) parts =
-    let a : raw_of (roll-Raw (Raw-F.Escaped text)) ≡ sections.Raw.string (string_bytes text) =
+    let a : raw_of (roll-Raw (Raw-F.Escaped text)) ≡ sections.Raw.string (string_bytes text) true =
     search (rules, the_lemmas) in ap value_keyed a
 raw_kept (Raw-F.Array es) parts =
     let a : raw_of (roll-Raw (Raw-F.Array es)) ≡ sections.Raw.array (elements_from (map placed_of es.items)) =

@@ -1,6 +1,6 @@
 -- Where what stands in a tree comes from, by its path: what made it, where it begins, and the section that first
 -- mentioned it. Rows put theirs into a table beside what stood there, and what stood there first stays.
-use Rattle.std.specs.Prelude.{ℕ, Bool, true, false, ◌||◌, if◌then◌else◌, List, [], ◌∷◌, ◌++◌, codes}
+use Rattle.std.specs.Prelude.{ℕ, Bool, true, false, not, ◌||◌, if◌then◌else◌, List, [], ◌∷◌, ◌++◌, codes}
 use Rattle.std.specs.Prelude.{map}
 use Rattle.std.specs.Prelude.{slice_get, Option, Some, None}
 use Rattle.std.specs.Option.{option_or}
@@ -18,12 +18,13 @@ use Rattle.basic_toml_grow.specs.declared.item.Table as tables
 use Rattle.basic_toml_grow.specs.declared.item.Table.{fold-Table}
 
 -- Whether headers made it, what it is called, where it begins, and the number of a section: the one that first mentioned
--- it, or of what headers made the latest one whose header leads there.
+-- it, or of what headers made the latest one whose header leads there; and whether it is a string that asks for no copy.
 pub record Origin : Type 0 where
   pub made : Bool
   pub name : List ℕ
   pub start : ℕ
   pub section : ℕ
+  pub is_slice : Bool
 
 abbrev pub Origins : Type 0
 Origins = Path → Option Origin
@@ -33,17 +34,33 @@ no_origins p = None
 
 -- of a value, of a table, and of an array of tables
 abbrev pub value_origin : List ℕ → ℕ → ℕ → Origin
-value_origin name at s = record { made = false; name = name; start = at; section = s }
+value_origin name at s = record { made = false; name = name; start = at; section = s; is_slice = false }
+
+-- of a string, which asks for a copy or does not
+abbrev pub string_origin : Bool → ℕ → ℕ → Origin
+string_origin copied at s = record {
+  made = false;
+  name = codes "string";
+  start = at;
+  section = s;
+  is_slice = not copied;
+}
 
 abbrev pub table_name : Bool → List ℕ
 table_name true = codes "table"
 table_name false = codes "dotted table"
 
 abbrev pub table_origin : Bool → ℕ → ℕ → Origin
-table_origin made at s = record { made = made; name = table_name made; start = at; section = s }
+table_origin made at s = record {
+  made = made;
+  name = table_name made;
+  start = at;
+  section = s;
+  is_slice = false;
+}
 
 abbrev pub array_origin : ℕ → ℕ → Origin
-array_origin at s = record { made = true; name = codes "array"; start = at; section = s }
+array_origin at s = record { made = true; name = codes "array"; start = at; section = s; is_slice = false }
 
 -- of the tables that the dots of a row make, whose value this is
 abbrev pub dotted_of : children.Child → Origin
@@ -110,7 +127,7 @@ abbrev mutual
   value_origins s at (Raw.integer z) = entry (value_origin (codes "integer") at s) no_origins
   value_origins s at (Raw.float z) = entry (value_origin (codes "float") at s) no_origins
   value_origins s at (Raw.boolean z) = entry (value_origin (codes "boolean") at s) no_origins
-  value_origins s at (Raw.string z) = entry (value_origin (codes "string") at s) no_origins
+  value_origins s at (Raw.string z copied) = entry (string_origin copied at s) no_origins
   value_origins s at (Raw.array es) = entry (value_origin (codes "array") at s) (at_numbers (elements_origins s es))
   value_origins s at (Raw.inline rows) = entry (value_origin (codes "inline table") at s) (rows_origins s rows)
 
@@ -129,8 +146,8 @@ item_from Item-F.Nothing at s = no_origins
 item_from (Item-F.Integer _) at s = entry (value_origin (codes "integer") at s) no_origins
 item_from (Item-F.Float _) at s = entry (value_origin (codes "float") at s) no_origins
 item_from (Item-F.Boolean _) at s = entry (value_origin (codes "boolean") at s) no_origins
-item_from (Item-F.String _) at s = entry (value_origin (codes "string") at s) no_origins
-item_from (Item-F.Escaped _) at s = entry (value_origin (codes "string") at s) no_origins
+item_from (Item-F.String _) at s = entry (string_origin false at s) no_origins
+item_from (Item-F.Escaped _) at s = entry (string_origin true at s) no_origins
 item_from (Item-F.Array children) at s = entry (value_origin (codes "array") at s) (at_numbers children.items)
 item_from (Item-F.Plain elements) at s = value_origins s at (plain_array elements.items)
 item_from (Item-F.Inline table) at s = entry (value_origin (codes "inline table") at s) table.value.below

@@ -56,7 +56,7 @@ mutual
   in_value names outer n at m keys (Raw.integer _) (s ∷ p) node h b e = cc
   in_value names outer n at m keys (Raw.float _) (s ∷ p) node h b e = cc
   in_value names outer n at m keys (Raw.boolean _) (s ∷ p) node h b e = cc
-  in_value names outer n at m keys (Raw.string _) (s ∷ p) node h b e = cc
+  in_value names outer n at m keys (Raw.string _ _) (s ∷ p) node h b e = cc
 
   -- the elements from number i on, and number x, which is j elements on
   among : (names : KeyTexts) (outer : Option ℕ) (n m i j x : ℕ) (es : Elements) (p : Path) (node : Node) → i + j ≡ x

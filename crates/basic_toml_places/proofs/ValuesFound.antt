@@ -68,7 +68,7 @@ mutual
   absent_within o n m (Raw.integer _) b h = refl
   absent_within o n m (Raw.float _) b h = refl
   absent_within o n m (Raw.boolean _) b h = refl
-  absent_within o n m (Raw.string _) b h = refl
+  absent_within o n m (Raw.string _ _) b h = refl
 
   absent_among : (o i n m : ℕ) (es : Elements) → Between n (element_offsets es) m → m ≤ o
       → elements_path i es o ≡ None

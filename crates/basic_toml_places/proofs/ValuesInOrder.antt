@@ -52,7 +52,7 @@ word_within : (v : Raw) (p : ℕ) (text : Text)
 word_within (Raw.float t) p text = (omega arith, omega (arith, period_within (λ c. c == 46) (run is_wordlike text)))
 word_within (Raw.integer z) p text = (omega arith, omega arith)
 word_within (Raw.boolean b) p text = (omega arith, omega arith)
-word_within (Raw.string t) p text = (omega arith, omega arith)
+word_within (Raw.string t _) p text = (omega arith, omega arith)
 word_within (Raw.array es) p text = (omega arith, omega arith)
 word_within (Raw.inline rows) p text = (omega arith, omega arith)
 

@@ -11,8 +11,10 @@ use Rattle.basic_toml_tokens.specs.declared.error.Error.TheVariants.{OutOfMemory
 use Rattle.basic_toml_tokens.specs.declared.string.Quoted.{Quoted}
 use Rattle.basic_toml_tokens.specs.declared.string.TokenStop.{TokenStop}
 use Rattle.basic_toml_tokens.specs.Text.{Text, text_at, run, after_run, is_keylike}
+use Rattle.basic_toml_tokens.specs.Strings.{IsString}
 use Rattle.basic_toml_tokens.specs.Reading.{between, IsRun}
-use Rattle.basic_toml_tokens.specs.String.{IsSimple, IsQuoted, IsRefused}
+use Rattle.basic_toml_tokens.specs.Copies.{is_copied}
+use Rattle.basic_toml_tokens.specs.String.{is_owned, IsSimple, IsQuoted, IsRefused}
 use Rattle.basic_toml_tokens.proofs.TextBetweenOffsets.{length-between}
 use Rattle.basic_toml_tokens.proofs.StepIsTheFold.{offset_is}
 use Rattle.basic_toml_tokens.proofs.TokenIsUnique.{no_break}
@@ -22,6 +24,7 @@ use Rattle.basic_toml_explain.specs.declared.stop.Why.TheVariants.{Memory, Key, 
 use Rattle.basic_toml_read.specs.declared.scalar.Keyed.{Keyed}
 use Rattle.basic_toml_read.specs.declared.key_text.KeyText.{KeyText}
 use Rattle.basic_toml_grammar.specs.Sections as sections
+use Rattle.basic_toml_grammar.specs.Copies.{up_to, needs_copy}
 use Rattle.basic_toml_grammar.specs.Entering.{and_then}
 use Rattle.basic_toml_grammar.specs.Grammar.{is_wordlike, word_value}
 use Rattle.basic_toml_grammar.specs.Reader as reader
@@ -29,6 +32,7 @@ use Rattle.basic_toml_grammar.specs.Reader.{string_at, bare_key_at, quoted_key, 
 use Rattle.basic_toml_read.specs.KeyText.{key_text_bytes}
 use Rattle.basic_toml_read.specs.StopsAt.{why_of, MissesKey, MissesString, ReadsKeyAt, IsKeyOf}
 use Rattle.basic_toml_grammar.proofs.Grammar.StringsAreRead.{string_found, string_read}
+use Rattle.basic_toml_grammar.proofs.Grammar.CopiesAgree.{copies_agree}
 use Rattle.basic_toml_read.specs.AtPlace.{Leaves}
 use Rattle.basic_toml_read.specs.Word.{value_offset}
 use Rattle.basic_toml_explain.proofs.TakenTokenStands.{keylike_small, run_over}
@@ -167,25 +171,33 @@ pub string_refused : (bytes : List ℕ) (at : ℕ) (r : TokenStop) → IsRefused
 string_refused bytes at r is =
     why_by (λ why. MissesString why (text_at bytes at)) Value r.error tt (λ other. refused_none bytes at r is other)
 
-pub string_value : (bytes : List ℕ) (at : ℕ) (q : Quoted) → IsQuoted bytes at q
-    → string_value_at (text_at bytes at)
-    ≡ Some (record { offset = at; value = sections.Raw.string (cow_str_bytes q.val); rest = text_at bytes q.end })
-string_value bytes at q s =
-    ap (λ o. and_then o (λ s. Some
-    (record { offset = s.offset; value = sections.Raw.string (encode_utf8_all s.value); rest = s.rest })))
-    (string_is bytes at q s)
-    ∙ ap (λ (t : List ℕ). Some (record { offset = at; value = sections.Raw.string t; rest = text_at bytes q.end }))
-    (sym s.spelled)
+module _ (bytes : List ℕ) (at : ℕ) (whole : IsUtf8 bytes) (here : IsCharBoundary bytes at) where
+  abbrev value_to : ℕ → List ℕ → Bool → reader.Valued
+  value_to end value copied =
+      record { offset = at; value = sections.Raw.string value copied; rest = text_at bytes end }
 
-pub simple_value : (bytes : List ℕ) (at : ℕ) (body : List ℕ) (end : ℕ) → IsSimple bytes at body end
-    → string_value_at (text_at bytes at)
-    ≡ Some (record { offset = at; value = sections.Raw.string body; rest = text_at bytes end })
-simple_value bytes at body end s =
-    ap (λ o. and_then o (λ s. Some
-    (record { offset = s.offset; value = sections.Raw.string (encode_utf8_all s.value); rest = s.rest })))
-    (string_found s.string)
-    ∙ ap (λ (t : List ℕ). Some (record { offset = at; value = sections.Raw.string t; rest = text_at bytes end }))
-    (sym s.spelled)
+  string_to : (end : ℕ) {m : Bool} {value body : List ℕ} {copied : Bool} → IsCharBoundary bytes end
+      → IsString (text_at bytes at) at m value (text_at bytes end) → body ≡ encode_utf8_all value
+      → copied ≡ is_copied m (between bytes at end)
+      → string_value_at (text_at bytes at) ≡ Some (value_to end body copied)
+  string_to end {m = m} {value = value} {body = body} there s spelled is =
+      let asks = needs_copy m (up_to (text_at bytes end) (text_at bytes at)) in
+      ap (λ o. and_then o (λ (s : reader.Quoted). Some (record {
+        offset = s.offset;
+        value =
+            sections.Raw.string (encode_utf8_all s.value) (needs_copy s.multiline (up_to s.rest (text_at bytes at)));
+        rest = s.rest;
+      }))) (string_found s)
+      ∙ ap (λ (t : List ℕ). Some (value_to end t asks)) (sym spelled)
+      ∙ ap (λ b. Some (value_to end body b)) (sym (is ∙ copies_agree bytes at end _ m value whole here there s))
+
+  pub string_value : (q : Quoted) → IsQuoted bytes at q
+      → string_value_at (text_at bytes at) ≡ Some (value_to q.end (cow_str_bytes q.val) (is_owned q.val))
+  string_value q s = string_to q.end s.boundary s.string s.spelled s.copied
+
+  pub simple_value : (body : List ℕ) (end : ℕ) → IsSimple bytes at body end
+      → string_value_at (text_at bytes at) ≡ Some (value_to end body false)
+  simple_value body end s = string_to end s.boundary s.string s.spelled (sym s.not_copied)
 
 -- words
 pub no_word_run : (bytes : List ℕ) (at : ℕ) → text_at bytes at ≡ after_run is_wordlike (text_at bytes at)

@@ -20,6 +20,7 @@ use Rattle.basic_toml_read.specs.declared.scalar.Valued.{Valued}
 use Rattle.basic_toml_read.specs.declared.values.Gathered.{Gathered}
 use Rattle.basic_toml_read.specs.declared.values.LastKey.{LastKey}
 use Rattle.basic_toml_grammar.specs.Sections.{Key, Raw, Elements, Rows, row}
+use Rattle.basic_toml_grammar.specs.Copies.{up_to, needs_copy}
 use Rattle.basic_toml_grammar.specs.Entering.{and_then}
 use Rattle.basic_toml_grammar.specs.Levels.{value_level, elements_level, rows_level}
 use Rattle.basic_toml_grammar.specs.Reader as reader
@@ -274,11 +275,18 @@ inline_value bytes at next level old new (Err stop) none sign m =
 keeps_all : (g : Gathered) → Keeps g g
 keeps_all g = record { elements = refl; lines = refl }
 
+abbrev string_valued : Text → reader.Quoted → reader.Valued
+string_valued text s = record {
+  offset = s.offset;
+  value = Raw.string (encode_utf8_all s.value) (needs_copy s.multiline (up_to s.rest text));
+  rest = s.rest;
+}
+
 string_level : (l : ℕ) (text : Text) (v : reader.Valued) → string_value_at text ≡ Some v → value_level l v.value ≡ 0
 string_level l text v e =
     let (s, s_is, f) = then_some (string_at text)
-    (λ s. Some (record { offset = s.offset; value = Raw.string (encode_utf8_all s.value); rest = s.rest })) v e in
-    let there : Raw.string (encode_utf8_all s.value) ≡ v.value = cc in
+    (λ s. Some (string_valued text s)) v e in
+    let there : (string_valued text s).value ≡ v.value = cc in
     sym (ap (value_level l) there)
 
 number_level : (l : ℕ) (o : Option ℤ) (t : Option (List ℕ)) (v : Raw) → number_value o t ≡ Some v → value_level l v ≡ 0
@@ -335,8 +343,7 @@ string_value bytes at level old (Err stop) none none' no_word m = go stop.why m.
     go why.Memory m = tt
     go why.Value m =
         scalar_by bytes at none none' ∙ ap (λ o. option_or o (string_value_at (text_at bytes at))) no_word
-        ∙ ap (λ o. and_then o (λ s. Some
-        (record { offset = s.offset; value = Raw.string (encode_utf8_all s.value); rest = s.rest }))) m
+        ∙ ap (λ o. and_then o (λ s. Some (string_valued (text_at bytes at) s))) m
     go _ m = absurd m
 
 pub word_value_here : (bytes : List ℕ) (at level : ℕ) (old : Gathered) (result : Result Valued Stop)
@@ -358,8 +365,7 @@ word_value_here bytes at level old (Err stop) none none' no_string m = go stop.w
     missed : word_at (text_at bytes at) ≡ None → value_of (text_at bytes at) ≡ None
     missed e =
         scalar_by bytes at none none' ∙ ap (λ o. option_or o (string_value_at (text_at bytes at))) e
-        ∙ ap (λ o. and_then o (λ s. Some
-        (record { offset = s.offset; value = Raw.string (encode_utf8_all s.value); rest = s.rest }))) no_string
+        ∙ ap (λ o. and_then o (λ s. Some (string_valued (text_at bytes at) s))) no_string
 
     go : (w : Why) → MissesWord w (text_at bytes at)
         → Misses w (value_of (text_at bytes at)) (λ v. nesting_limit < value_level level v.value)

@@ -1,5 +1,5 @@
 -- What each form of the code's values stands for.
-use Rattle.std.proofs.Common.{◌≡◌, ℕ, ℤ, List, [], ◌∷◌, ◌++◌, ap, sym, ◌∙◌, drop, take, length, map, Vec, Global}
+use Rattle.std.proofs.Common.{◌≡◌, ℕ, ℤ, false, List, [], ◌∷◌, ◌++◌, ap, sym, ◌∙◌, drop, take, length, map, Vec, Global}
 use Rattle.std.proofs.Common.{rules, append_assoc, append-nil}
 use Rattle.std.specs.Borrow.{Bor}
 use Rattle.std.proofs.Math.Seq.{drop-append_seam, take-append_seam}
@@ -20,7 +20,7 @@ array_of v = search (rules, the_lemmas)
 pub integer_of : (z : ℤ) → raw_of (Integer z) ≡ spec.Raw.integer z
 integer_of z = search (rules, the_lemmas)
 
-pub string_of : (text : Bor (List ℕ)) → raw_of (String text) ≡ spec.Raw.string text.now
+pub string_of : (text : Bor (List ℕ)) → raw_of (String text) ≡ spec.Raw.string text.now false
 string_of text = search (rules, the_lemmas)
 
 pub row_seen : (key : KeyText) (offset n start : ℕ) (value : Raw)

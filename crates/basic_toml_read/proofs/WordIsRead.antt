@@ -78,7 +78,7 @@ word_stands bytes start rest v some rest_is e = go (text_at bytes start) refl
         by (Some i) = omega arith
     offset_same t p (Raw.integer z) h = h
     offset_same t p (Raw.boolean z) h = h
-    offset_same t p (Raw.string z) h = h
+    offset_same t p (Raw.string z _) h = h
     offset_same t p (Raw.array z) h = h
     offset_same t p (Raw.inline z) h = h
 

@@ -1,5 +1,5 @@
 -- What the code's values, rows and sections stand for.
-use Rattle.std.specs.Prelude.{◌≡◌, ℕ, List, [], ◌∷◌, ◌++◌, map, take, drop}
+use Rattle.std.specs.Prelude.{◌≡◌, ℕ, true, false, List, [], ◌∷◌, ◌++◌, map, take, drop}
 use Rattle.std.specs.String.{string_bytes}
 use Rattle.basic_toml_read.specs.declared.section.Raw.{fold-Raw}
 use Rattle.basic_toml_read.specs.declared.section.Raw as raws
@@ -45,8 +45,8 @@ abbrev pub raw_step : Raw-F Raw Placed Lined Rows → Raw
 raw_step (Raw-F.Integer z) = Raw.integer z
 raw_step (Raw-F.Float text) = Raw.float text
 raw_step (Raw-F.Boolean b) = Raw.boolean b
-raw_step (Raw-F.String text) = Raw.string text.now
-raw_step (Raw-F.Escaped text) = Raw.string (string_bytes text)
+raw_step (Raw-F.String text) = Raw.string text.now false
+raw_step (Raw-F.Escaped text) = Raw.string (string_bytes text) true
 raw_step (Raw-F.Array es) = Raw.array (elements_from es.items)
 raw_step (Raw-F.Inline rs) = Raw.inline (rows_from [] rs.items)
 raw_step (Raw-F.Dotted rs) = Raw.inline rs.value

@@ -96,7 +96,7 @@ fn key_of<'de>(alloc: Global, quoted: Quoted<'de>, at: usize) -> Result<Keyed<'d
 
 // The value of a string.
 fn string_of<'de>(text: CowStr<'de>) -> Raw<'de>
-    ensures value { raw_of result ≡ sections.Raw.string (cow_str_bytes text.entry) }
+    ensures value { raw_of result ≡ sections.Raw.string (cow_str_bytes text.entry) (is_owned text.entry) }
     ensures copied { is_copy result ≡ is_owned text.entry }
 {
     match text {

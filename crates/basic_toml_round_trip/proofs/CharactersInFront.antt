@@ -1,9 +1,13 @@
 -- Characters in front of a text, each at offset 0. What a text means does not depend on offsets, so this is enough for a
--- layout.
-use Rattle.std.proofs.Common.{◌≡◌, ℕ, Bool, true, not, List, [], ◌∷◌, ◌++◌, refl, ap, ◌∙◌}
+-- layout. Where no offsets are, no string asks for a copy.
+use Rattle.std.proofs.Common.{◌≡◌, ℕ, zero, suc, ◌+◌, ◌-◌, ◌==◌, Bool, true, false, cond, not, List, [], ◌∷◌, ◌++◌}
+use Rattle.std.proofs.Common.{length, drop, take, refl, ap, ◌∙◌, arith}
+use Rattle.std.specs.Prelude.{nat_lt}
 use Rattle.std.specs.List.{list_all}
-use Rattle.std.proofs.lemmas.Bool.{and_parts, and_from, not-true, cond-true, cond-false}
-use Rattle.basic_toml_tokens.specs.Text.{Text, run, after_run, is_blank, after_blanks}
+use Rattle.std.proofs.lemmas.Bool.{and_parts, and_from, or_from, le-ltb, not-true, cond-true, cond-false}
+use Rattle.basic_toml_tokens.specs.Text.{Text, offset_in, run, after_run, is_blank, after_blanks}
+use Rattle.basic_toml_tokens.specs.Strings.{after_feed}
+use Rattle.basic_toml_grammar.specs.Copies.{up_to, width, any_shrinks, delimiter_of, needs_copy}
 use Rattle.basic_toml_grammar.specs.Respelled.{characters}
 
 abbrev pub onto : List ℕ → Text → Text
@@ -20,6 +24,53 @@ onto_three xs ys zs rest = onto-append (xs ++ ys) zs rest ∙ onto-append xs ys 
 pub characters-onto : (cs : List ℕ) → characters (onto cs []) ≡ cs
 characters-onto [] = refl
 characters-onto (c ∷ cs) = ap (λ l. c ∷ l) (characters-onto cs)
+
+-- no string of them asks for a copy
+onto_length : (cs : List ℕ) (rest : Text) → length (onto cs rest) ≡ length cs + length rest
+onto_length [] rest = omega arith
+onto_length (c ∷ cs) rest = omega (arith, onto_length cs rest)
+
+onto_first : (cs : List ℕ) (rest : Text) → up_to rest (onto cs rest) ≡ onto cs []
+onto_first [] rest = let none : length rest - length rest ≡ 0 = omega arith in ap (λ (n : ℕ). take n rest) none
+onto_first (c ∷ cs) rest =
+    let more : length (onto (c ∷ cs) rest) - length rest ≡ suc (length (onto cs rest) - length rest) =
+    omega (arith, onto_length cs rest) in
+    ap (λ (n : ℕ). take n (onto (c ∷ cs) rest)) more ∙ ap (λ (t : Text). (0, c) ∷ t) (onto_first cs rest)
+
+never_shrinks : (d : ℕ) (cs : List ℕ) → any_shrinks d (onto cs []) ≡ false
+never_shrinks d [] = refl
+never_shrinks d (c ∷ cs) =
+    or_from (nat_lt (0 + width d c) (offset_in 0 (onto cs []))) (any_shrinks d (onto cs []))
+    (ap (nat_lt (0 + width d c)) (first cs) ∙ le-ltb (0 + width d c) 0 (omega arith)) (never_shrinks d cs)
+  where
+    first : (cs : List ℕ) → offset_in 0 (onto cs []) ≡ 0
+    first [] = refl
+    first (c ∷ cs) = refl
+
+onto_drop : (n : ℕ) (cs : List ℕ) → drop n (onto cs []) ≡ onto (drop n cs) []
+onto_drop zero cs = refl
+onto_drop (suc n) [] = refl
+onto_drop (suc n) (c ∷ cs) = onto_drop n cs
+
+onto_feed : (cs : List ℕ) → (ds : List ℕ) × (after_feed (onto cs []) ≡ onto ds [])
+onto_feed [] = ([], refl)
+onto_feed (c ∷ cs) = go (c == 10)
+  where
+    go : (b : Bool) → (ds : List ℕ) × (cond b (onto cs []) (onto (c ∷ cs) []) ≡ onto ds [])
+    go true = (cs, refl)
+    go false = (c ∷ cs, refl)
+
+pub no_copy : (multiline : Bool) (cs : List ℕ) (rest : Text) → needs_copy multiline (up_to rest (onto cs rest)) ≡ false
+no_copy multiline cs rest = ap (needs_copy multiline) (onto_first cs rest) ∙ go multiline
+  where
+    d : ℕ
+    d = delimiter_of (onto cs [])
+
+    go : (b : Bool) → needs_copy b (onto cs []) ≡ false
+    go false = never_shrinks d cs
+    go true =
+        let (ds, e) = onto_feed (drop 3 cs) in
+        ap (λ (t : Text). any_shrinks d (after_feed t)) (onto_drop 3 cs) ∙ ap (any_shrinks d) e ∙ never_shrinks d ds
 
 -- characters that pass one test pass another
 pub all_pass : (f g : ℕ → Bool) → ((c : ℕ) → f c ≡ true → g c ≡ true) → (cs : List ℕ) → list_all f cs ≡ true

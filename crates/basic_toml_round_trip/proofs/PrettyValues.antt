@@ -1,5 +1,5 @@
 -- A value as it is written for people spells it.
-use Rattle.std.proofs.Common.{ℕ, List, ◌++◌, refl, subst}
+use Rattle.std.proofs.Common.{ℕ, false, List, ◌++◌, refl, subst}
 use Rattle.std.specs.Str.{chars, IsUtf8}
 use Rattle.std.proofs.lemmas.Bool.{and_parts, cond_both}
 use Rattle.std.proofs.lemmas.Str.{encodes-chars}
@@ -12,11 +12,11 @@ use Rattle.basic_toml_layout.specs.Style.{style_of}
 use Rattle.basic_toml_layout.specs.declared.data.style.Style.{Style}
 use Rattle.basic_toml_layout.specs.declared.data.style.Style.TheVariants.{Plain, Pretty}
 use Rattle.basic_toml_grammar.specs.Sections.{Raw}
-use Rattle.basic_toml_grammar.specs.Grammar as g
 use Rattle.basic_toml_grammar.specs.Grammar.{IsValue}
 use Rattle.basic_toml_layout.specs.Pretty.{has_line_feed, quoted_lines, fits_line, array_lines, pretty_value}
 use Rattle.basic_toml_round_trip.proofs.LaidOut.{IsInRow, AreInRow}
 use Rattle.basic_toml_round_trip.proofs.CharactersInFront.{onto}
+use Rattle.basic_toml_round_trip.proofs.ValuesAreInTheGrammar.{string_stands}
 use Rattle.basic_toml_round_trip.proofs.LinesAreAString.{lines_are_string}
 use Rattle.basic_toml_round_trip.proofs.LinesAreUtf8.{lines_spelt}
 use Rattle.basic_toml_round_trip.proofs.ElementLines.{array_lines_chars, array_lines_stand, array_lines_spelt}
@@ -28,8 +28,9 @@ lines_spelled t u = record {
   spelt = lines_spelt t u;
   front = λ rest. refl;
   stands = λ rest e.
-      subst (λ v. IsValue is_comment (onto (quoted_lines (chars t)) rest) 0 (Raw.string v) rest) (encodes-chars t u)
-      (g.string (lines_are_string (chars t) rest (and_parts _ _ e).1));
+      subst (λ v. IsValue is_comment (onto (quoted_lines (chars t)) rest) 0 (Raw.string v false) rest)
+      (encodes-chars t u)
+      (string_stands (quoted_lines (chars t)) rest (lines_are_string (chars t) rest (and_parts _ _ e).1));
 }
 
 array_spelled : (xs : Items) → AreInRow xs → Spelled (array_lines xs) (d.array xs)

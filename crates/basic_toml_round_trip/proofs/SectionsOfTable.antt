@@ -11,7 +11,8 @@ use Rattle.basic_toml_round_trip.proofs.LaidOut.{Laid, a_row, then_parts, Parts,
 use Rattle.basic_toml_round_trip.proofs.LaidOut.{no_nodes, a_node, in_order}
 use Rattle.basic_toml_layout.proofs.OrderedText as o
 
--- a value of a row as it is read; a float has the offset of the character after its period
+-- a value of a row as it is read, where no string asks for a copy; a float has the offset of the character after its
+-- period
 abbrev pub raw_offset : Raw → ℕ
 raw_offset (Raw.float t) = to_period (position (λ c. c == 46) t)
 raw_offset _ = 0
@@ -28,7 +29,7 @@ abbrev mutual
   raw (d.integer z) = Raw.integer z
   raw (d.float t) = Raw.float t
   raw (d.boolean b) = Raw.boolean b
-  raw (d.string t) = Raw.string t
+  raw (d.string t) = Raw.string t false
   raw (d.array xs) = Raw.array (raw_items xs)
   raw (d.table ms) = Raw.inline (raw_fields ms)
 

@@ -1,11 +1,12 @@
 -- Values of rows, as the layout writes them, are in the grammar.
 use Rattle.std.proofs.Common.{◌≡◌, ℕ, ◌==◌, ◌&&◌, ◌||◌, not, Bool, true, false, List, [], ◌∷◌, ◌++◌, codes, refl, ap, sym}
-use Rattle.std.proofs.Common.{◌∙◌, subst}
+use Rattle.std.proofs.Common.{◌∙◌, subst, encode_utf8_all}
 use Rattle.std.specs.Str.{chars, IsUtf8}
 use Rattle.std.specs.Fmt.{signed_decimal}
 use Rattle.std.proofs.lemmas.Bool.{and_parts, not-true, or_parts}
 use Rattle.std.proofs.lemmas.Str.{encodes-chars}
 use Rattle.basic_toml_tokens.specs.Text.{Text, is_blank, is_comment, after_blanks}
+use Rattle.basic_toml_tokens.specs.Strings.{IsString}
 use Rattle.basic_toml_value.specs.Data as d
 use Rattle.basic_toml_value.specs.Data.{Data, Items, no_items, item, Members, no_members, member}
 use Rattle.basic_toml_layout.specs.Layout.{row_start}
@@ -17,7 +18,7 @@ use Rattle.basic_toml_grammar.specs.Grammar.{is_wordlike, after_gap, IsValue, Is
 use Rattle.basic_toml_grammar.specs.Grammar.{IsRow, assigned, one}
 use Rattle.basic_toml_round_trip.proofs.LaidOut.{IsInRow, AreInRow, AreFields}
 use Rattle.basic_toml_round_trip.proofs.SectionsOfTable.{raw_offset, raw, raw_items, raw_fields, one_key}
-use Rattle.basic_toml_round_trip.proofs.CharactersInFront.{onto, onto-append, stops, no_blanks}
+use Rattle.basic_toml_round_trip.proofs.CharactersInFront.{onto, onto-append, no_copy, stops, no_blanks}
 use Rattle.basic_toml_round_trip.proofs.CharactersOfLayout.{key_chars, value_chars, items_chars, more_chars}
 use Rattle.basic_toml_round_trip.proofs.CharactersOfLayout.{fields_chars, more_fields_chars}
 use Rattle.basic_toml_round_trip.proofs.KeysAreInTheGrammar.{key_stands, key_front}
@@ -114,6 +115,12 @@ past_blank k x ms {rows = rows} rest fields =
     subst (λ t. IsFieldsOn is_comment t rows rest)
     (sym (ap after_blanks text ∙ no_blanks (field_text k x ms rest) (key_front k _))) fields
 
+pub string_stands : (cs : List ℕ) (rest : Text) {m : Bool} {value : List ℕ} → IsString (onto cs rest) 0 m value rest
+    → IsValue is_comment (onto cs rest) 0 (Raw.string (encode_utf8_all value) false) rest
+string_stands cs rest {m = m} {value = value} s =
+    subst (λ copied. IsValue is_comment (onto cs rest) 0 (Raw.string (encode_utf8_all value) copied) rest)
+    (no_copy m cs rest) (g.string s)
+
 mutual
   pub value_stands : (x : Data) (rest : Text) → IsInRow x → ends_value rest ≡ true
       → IsValue is_comment (onto (value_chars x) rest) (raw_offset (raw x)) (raw x) rest
@@ -128,8 +135,8 @@ mutual
   value_stands (d.boolean false) rest h e =
       word_stands (codes "false") (Raw.boolean false) rest false_is_word (and_parts _ _ e).0 refl
   value_stands (d.string t) rest h e =
-      subst (λ v. IsValue is_comment (onto (quoted (chars t)) rest) 0 (Raw.string v) rest) (encodes-chars t h)
-      (g.string (quoted_is_string (chars t) rest (and_parts _ _ e).1))
+      subst (λ v. IsValue is_comment (onto (quoted (chars t)) rest) 0 (Raw.string v false) rest) (encodes-chars t h)
+      (string_stands (quoted (chars t)) rest (quoted_is_string (chars t) rest (and_parts _ _ e).1))
   value_stands (d.array xs) rest h e =
       subst (λ t. IsValue is_comment ((0, 91) ∷ t) 0 (Raw.array (raw_items xs)) rest)
       (sym (onto-append (items_chars xs) (93 ∷ []) rest)) (g.array refl (items_stand xs rest h))

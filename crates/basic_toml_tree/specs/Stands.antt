@@ -22,7 +22,7 @@ use Rattle.basic_toml_tree.specs.declared.entries.Entries.{Entries}
 use Rattle.basic_toml_tree.specs.declared.spot.Spot.{Spot}
 use Rattle.basic_toml_tree.specs.declared.spot.Spot.TheVariants as spots
 use Rattle.basic_toml_grow.specs.Item.{item_trie, leaf, table_trie}
-use Rattle.basic_toml_tree.specs.Origin.{spot_is_made, spot_name, spot_section}
+use Rattle.basic_toml_tree.specs.Origin.{spot_is_made, spot_name, spot_section, spot_is_borrowed, is_borrowed}
 use Rattle.basic_toml_grow.specs.Origins.{Origin, Origins, item_origins, table_within, value_origins}
 use Rattle.basic_toml_tree.specs.Data.{table_data}
 use Rattle.basic_toml_tree.specs.Nodes.{node_data, elements_left, key_and_data, entries_left}
@@ -106,6 +106,7 @@ spot_origin count spot at s = record {
   name = spot_name count spot;
   start = at;
   section = s;
+  is_slice = spot_is_borrowed spot;
 }
 
 -- A node is what these origins tell, and those below them; but of what headers made only those below, and its section.
@@ -179,3 +180,11 @@ pub record IsNodeAt (sections : List Section) (p : Path) (node : Node) : Type 0 
 -- The section list alone foretells the node, and says this of it.
 abbrev pub Foretold : List Section → Path → Node → (grammar.Node → Type 0) → Type 0
 Foretold sections p node says = IsNodeAt sections p node → IsSomeAnd (grammar.node_at sections p) says
+
+-- and this of whether it is a string that asks for no copy, wherever it stands
+abbrev pub ForetoldSlice : Node → (Bool → Type 0) → Type 0
+ForetoldSlice node says = (sections : List Section) (p : Path) → Foretold sections p node (λ found. says found.is_slice)
+
+-- it is a slice of the text exactly there
+abbrev pub SlicesAreForetold : Type 0
+SlicesAreForetold = (node : Node) → ForetoldSlice node (λ slice. is_borrowed node ≡ slice)

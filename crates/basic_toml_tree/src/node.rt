@@ -17,7 +17,7 @@ ghost use Rattle.basic_toml_tree.specs.Data.{table_data, child_data, HoldsAny};
 ghost use Rattle.basic_toml_tree.specs.Nodes.{node_data, is_table, is_array, maybe_table, data_at};
 ghost use Rattle.basic_toml_tree.specs.Nodes.{elements_in, entries_in, elements_left, entries_left};
 ghost use Rattle.basic_toml_tree.specs.Origin.{is_borrowed, is_made, name_of, start_of, outer_of, offset_of, keys_of as key_path_of};
-ghost use Rattle.basic_toml_tree.specs.Stands.{IsNodeAt, Foretold};
+ghost use Rattle.basic_toml_tree.specs.Stands.{IsNodeAt, Foretold, ForetoldSlice};
 ghost use Rattle.basic_toml_tree.specs.Stands.{HoldsTable, IsBelow, IsBeside, IsTableBeside, AtKey, AtNumber, BeginsIn};
 ghost use Rattle.basic_toml_tree.specs.Stands.{ComesFrom, IsPlainElement};
 ghost use Rattle.basic_toml_grow.specs.Origins.{child_origins};
@@ -105,6 +105,7 @@ impl<'t, 'de> Node<'t, 'de> {
     pub fn borrowed_text(self) -> Option<&'de str>
         ensures text { IfSome result (λ text. string_in (node_data self.entry) ≡ Some text.now) }
         ensures borrowed { is_some result ≡ is_borrowed self.entry }
+        ensures foretold { ForetoldSlice self.entry (λ slice. is_some result ≡ slice) }
     {
         match self.spot {
             Spot::Item(Item::String(text)) => Some(text),

@@ -1,9 +1,10 @@
 -- What is read before an offset is read the same however the text goes on there, unless what was read would go on, too.
-use Rattle.std.proofs.Common.{◌≡◌, ℕ, zero, suc, ◌≤◌, ◌==◌, ◌||◌, Bool, true, false, cond, List}
+use Rattle.std.proofs.Common.{◌≡◌, ℕ, zero, suc, ◌+◌, ◌-◌, ◌≤◌, ◌==◌, ◌||◌, Bool, true, false, cond, List}
 use Rattle.std.proofs.Common.{[], ◌∷◌, length, drop, take, refl, ap, sym, ◌∙◌, subst, arith}
 use Rattle.std.specs.Prelude.{not}
 use Rattle.basic_toml_tokens.specs.Text.{Text, StartsWith, run, after_run, is_blank, is_keylike}
 use Rattle.basic_toml_tokens.specs.Strings.{is_quote}
+use Rattle.basic_toml_grammar.specs.Copies.{up_to}
 use Rattle.basic_toml_grammar.specs.Grammar.{after_comment_by, after_gap_from, is_wordlike}
 use Rattle.std.proofs.lemmas.Bool.{or_left, or_right, or_parts, or_from, eqb-true, false≢true}
 
@@ -17,6 +18,33 @@ pub beyond : {a b here there text other : Text} → Parts a b text other → Par
 beyond {a = a} {here = here} {there = there} {other = other} (at_end t o) k =
     subst (λ (t : Text). Parts here there t other) (sym t) (subst (λ (o : Text). Parts here there a o) (sym o) k)
 beyond (past p) k = past (beyond p k)
+
+-- so many characters of them are the same
+parts_first : {here there text other : Text} → Parts here there text other
+    → (n : ℕ) × (length text ≡ n + length here) × (length other ≡ n + length there)
+    × ((m : ℕ) → m ≤ n → take m other ≡ take m text)
+parts_first {text = text} {other = other} (at_end t o) =
+    (0, omega (arith, ap length t), omega (arith, ap length o), none)
+  where
+    none : (m : ℕ) → m ≤ 0 → take m other ≡ take m text
+    none zero h = refl
+    none (suc m) h = absurd (omega arith)
+parts_first (past {x = x} {text = text} {other = other} k) =
+    let (n, t, o, f) = parts_first k in (suc n, omega (arith, t), omega (arith, o), on n f)
+  where
+    on : (n : ℕ) → ((m : ℕ) → m ≤ n → take m other ≡ take m text) → (m : ℕ) → m ≤ suc n
+        → take m (x ∷ other) ≡ take m (x ∷ text)
+    on n f zero h = refl
+    on n f (suc m) h = ap (λ (t : Text). x ∷ t) (f m (omega arith))
+
+-- and so are those up to a rest
+pub up_to_same : {here there text other rest rest' : Text} → Parts here there text other → Parts here there rest rest'
+    → up_to rest' other ≡ up_to rest text
+up_to_same {text = text} {other = other} {rest = rest} {rest' = rest'} k l =
+    let (n, t, o, f) = parts_first k in
+    let (m, t', o', g) = parts_first l in
+    let many : length other - length rest' ≡ length text - length rest = omega (arith, t, o, t', o') in
+    f (length other - length rest') (omega (arith, o, o')) ∙ ap (λ (i : ℕ). take i text) many
 
 -- no character of a kind stands at the front
 abbrev pub stops : (ℕ → Bool) → Text → Bool

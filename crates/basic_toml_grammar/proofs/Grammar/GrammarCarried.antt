@@ -1,11 +1,12 @@
 -- Keys, values, rows, line ends and headers before a character are the same, whatever stands after that character.
 use Rattle.std.proofs.Common.{◌≡◌, ℕ, ◌<◌, ◌==◌, ◌||◌, Bool, true, false, List, [], ◌∷◌, refl, ap, sym, ◌∙◌, subst, arith}
-use Rattle.std.proofs.Common.{◌+◌}
+use Rattle.std.proofs.Common.{◌+◌, encode_utf8_all}
 use Rattle.std.specs.Prelude.{position, not, nat_le}
 use Rattle.std.proofs.lemmas.Bool.{false≢true, or_left, or_right, or_from, or_cases, and_from, ne_eqb, le-leb}
 use Rattle.std.proofs.lemmas.Bool.Decides.{nat_tests}
 use Rattle.basic_toml_tokens.specs.Text.{Text, StartsWith, run, is_blank, is_keylike, is_comment, after_blanks}
 use Rattle.basic_toml_grammar.specs.Sections.{Key, Raw, Elements, Rows}
+use Rattle.basic_toml_grammar.specs.Copies.{needs_copy}
 use Rattle.basic_toml_grammar.specs.Grammar.{IsKey, bare, quoted, IsKeys, more, is_wordlike, word_value, word_offset}
 use Rattle.basic_toml_grammar.specs.Grammar.{after_comment_by, after_gap, IsValue, word, string, array, inline}
 use Rattle.basic_toml_grammar.specs.Grammar.{IsElements, close, last, and_more, IsFields, some, IsFieldsOn}
@@ -14,6 +15,7 @@ use Rattle.basic_toml_grammar.specs.Grammar.{over, header_next, empty_line, row_
 use Rattle.basic_toml_grammar.specs.Grammar.{array_of_tables, to_period}
 use Rattle.basic_toml_grammar.proofs.Grammar.EndChangesNothing.{Parts, at_end, stops, Ends}
 use Rattle.basic_toml_grammar.proofs.Grammar.EndChangesNothing.{same_ends, Cut, Kept, kept, Carried, carried}
+use Rattle.basic_toml_grammar.proofs.Grammar.EndChangesNothing.{up_to_same}
 use Rattle.basic_toml_grammar.proofs.Grammar.EndChangesNothing.{run_to, comment_to, gap_to, begins_gap, in_gap, Clear}
 use Rattle.basic_toml_grammar.proofs.Grammar.EndChangesNothing.{same_clear, keys_join, words_join, sign_carried}
 use Rattle.basic_toml_grammar.proofs.Grammar.EndChangesNothing.{begun_carried, blanks_carried, gap_carried, Spaced}
@@ -30,7 +32,7 @@ offset_same (Raw.float t) p text other e =
     (position (λ c. c == 46) cs)) e
 offset_same (Raw.integer z) p text other e = refl
 offset_same (Raw.boolean b) p text other e = refl
-offset_same (Raw.string t) p text other e = refl
+offset_same (Raw.string t _) p text other e = refl
 offset_same (Raw.array es) p text other e = refl
 offset_same (Raw.inline rs) p text other e = refl
 
@@ -196,8 +198,15 @@ module _ {here there : Text} where
               (subst (λ (t : Text). IsValue is_comment r.other (word_offset v q r.other) v t) r.holds.0
               (word s' w (ap word_value r.holds.1 ∙ e)));
         }
-    value_carried (string s) c =
-        let r = string_carried s c in record { other = r.other; cut = r.cut; holds = string r.holds }
+    value_carried {rest' = rest'} (string {p = p} {m = m} {value = value} s) c =
+        let r = string_carried s c in
+        record {
+          other = r.other;
+          cut = r.cut;
+          holds = subst (λ (source : Text). IsValue is_comment r.other p
+              (Raw.string (encode_utf8_all value) (needs_copy m source)) rest')
+              (up_to_same r.cut.parts c.parts) (string r.holds);
+        }
     value_carried {rest' = rest'} (array {elements = es} {next = next} s xs) c =
         let x = elements_carried xs c in
         let g = gap_carried is_comment next x.cut (heads_clear (elements_heads xs) (elements_heads x.holds)) in

@@ -7,6 +7,7 @@ use Rattle.basic_toml_tokens.specs.Text.{Text, StartsWith, run, after_run, is_ke
 use Rattle.basic_toml_tokens.specs.Strings.{IsString, Opens, one_line, multiline, is_quote}
 use Rattle.basic_toml_tokens.proofs.TokenIsUnique.{string_same}
 use Rattle.basic_toml_grammar.specs.Sections.{Key, Raw, Elements, no_elements, element, Rows, no_rows, row, Section}
+use Rattle.basic_toml_grammar.specs.Copies.{up_to, needs_copy}
 use Rattle.basic_toml_grammar.specs.Grammar.{IsKey, bare, quoted, IsKeys, one, more, is_wordlike, word_offset}
 use Rattle.basic_toml_grammar.specs.Grammar.{after_comment_by, after_gap, IsValue, word, string, array, inline}
 use Rattle.basic_toml_grammar.specs.Grammar.{IsElements, close, last, and_more, IsFields, none, some, IsFieldsOn}
@@ -164,8 +165,14 @@ module _ (comment : ℕ → Bool) where
     value_same (word e w x) (inline f rs) = absurd (word_sign is_wordlike e w f refl)
     value_same (string s) (word {p = p} {c = c} {next = n} e w x) =
         absurd (heads_apart word_quote (record { offset = p; char = c; next = n; sign = e; kind = w }) (string_heads s))
-    value_same (string s) (string t) =
-        let h = string_same s t in (string_offset s t, ap (λ v. Raw.string (encode_utf8_all v)) h.0, h.2)
+    value_same {text = text} (string {m = m} {value = x} {rest = r₁} s) (string {m = n} {value = y} t) =
+        let h = string_same s t in (
+          string_offset s t,
+          ap (λ v. Raw.string (encode_utf8_all v) (needs_copy m (up_to r₁ text))) h.0
+              ∙ ap (λ m. Raw.string (encode_utf8_all y) (needs_copy m (up_to r₁ text))) h.1
+              ∙ ap (λ r. Raw.string (encode_utf8_all y) (needs_copy n (up_to r text))) h.2,
+          h.2,
+        )
     value_same (string s) (array f es) = absurd (heads_not (string_heads s) f refl)
     value_same (string s) (inline f rs) = absurd (heads_not (string_heads s) f refl)
     value_same (array f es) (word e w x) = absurd (word_sign is_wordlike e w f refl)

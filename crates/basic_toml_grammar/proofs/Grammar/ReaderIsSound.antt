@@ -7,6 +7,7 @@ use Rattle.std.proofs.lemmas.Bool.{eqb-true}
 use Rattle.basic_toml_tokens.specs.Text.{Text, StartsWith, run, after_run, is_keylike, is_comment, after_blanks}
 use Rattle.basic_toml_tokens.specs.Strings.{IsString}
 use Rattle.basic_toml_grammar.specs.Sections.{Key, Raw, Elements, no_elements, element, Rows, no_rows, row, Section}
+use Rattle.basic_toml_grammar.specs.Copies.{up_to, needs_copy}
 use Rattle.basic_toml_grammar.specs.Entering.{and_then}
 use Rattle.basic_toml_grammar.specs.Grammar.{IsKey, bare, quoted, IsKeys, one, more, is_wordlike, word_value}
 use Rattle.basic_toml_grammar.specs.Grammar.{word_offset, after_comment_by, after_gap, IsValue, word, string, array}
@@ -116,9 +117,16 @@ word_read (x ∷ text) v e =
 
 string_value_read : (text : Text) (v : Valued) → string_value_at text ≡ Some v → Is text v
 string_value_read text v e =
-    let (s, s_is, f) = then_some (string_at text)
-    (λ s. Some (record { offset = s.offset; value = Raw.string (encode_utf8_all s.value); rest = s.rest })) v e in
-    let there : record { offset = s.offset; value = Raw.string (encode_utf8_all s.value); rest = s.rest } ≡ v = cc in
+    let (s, s_is, f) = then_some (string_at text) (λ s. Some (record {
+      offset = s.offset;
+      value = Raw.string (encode_utf8_all s.value) (needs_copy s.multiline (up_to s.rest text));
+      rest = s.rest;
+    })) v e in
+    let there : record {
+      offset = s.offset;
+      value = Raw.string (encode_utf8_all s.value) (needs_copy s.multiline (up_to s.rest text));
+      rest = s.rest;
+    } ≡ v = cc in
     subst (λ (v : Valued). Is text v) there (string (string_read text s s_is))
 
 mutual

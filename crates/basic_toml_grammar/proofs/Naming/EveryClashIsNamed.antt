@@ -118,7 +118,7 @@ mutual
   value_named ks (Raw.integer z) = refl
   value_named ks (Raw.float t) = refl
   value_named ks (Raw.boolean b) = refl
-  value_named ks (Raw.string t) = refl
+  value_named ks (Raw.string t _) = refl
   value_named ks (Raw.array es) = elements_named ks es
   value_named ks (Raw.inline rs) = rows_named (λ _. ks) (λ _. ks) rs
 

@@ -267,7 +267,7 @@ mutual
   value_stop (Raw.integer z) x d e = cc
   value_stop (Raw.float t) x d e = cc
   value_stop (Raw.boolean b) x d e = cc
-  value_stop (Raw.string t) x d e = cc
+  value_stop (Raw.string t _) x d e = cc
   value_stop (Raw.array es) x d e = of_array (elements_stop es x d e)
   value_stop (Raw.inline rows) x d e = of_inline (rows_stop [] rows [] x tells_none d e)
 

@@ -149,7 +149,7 @@ mutual
   value_is (Raw.integer z) = refl
   value_is (Raw.float t) = refl
   value_is (Raw.boolean b) = refl
-  value_is (Raw.string t) = refl
+  value_is (Raw.string t _) = refl
   value_is (Raw.array es) = elements_are es
   value_is (Raw.inline rs) = inline_is rs (rows_are [] rs)
 

@@ -88,7 +88,7 @@ mutual
   value_goes (Raw.integer z) k c = (nothing, refl)
   value_goes (Raw.float t) k c = (nothing, refl)
   value_goes (Raw.boolean b) k c = (nothing, refl)
-  value_goes (Raw.string t) k c = (nothing, refl)
+  value_goes (Raw.string t _) k c = (nothing, refl)
   value_goes (Raw.array es) k c = elements_go es k c
   value_goes (Raw.inline rs) k c =
       let p = rows_put rs None (keyed_rows rs k) c in

@@ -98,7 +98,7 @@ mutual
   value_depth l (Raw.integer z) e k = refl
   value_depth l (Raw.float t) e k = refl
   value_depth l (Raw.boolean b) e k = refl
-  value_depth l (Raw.string t) e k = refl
+  value_depth l (Raw.string t _) e k = refl
   value_depth l (Raw.array es) e k =
       let deep : elements_level (l + 1) es ≡ lifted (l + 1) (depth_of_items (finished_elements es)) =
       elements_depth (l + 1) es e k in

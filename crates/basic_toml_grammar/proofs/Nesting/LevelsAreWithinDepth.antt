@@ -74,7 +74,7 @@ mutual
   value_within (Raw.integer z) l e k = omega arith
   value_within (Raw.float t) l e k = omega arith
   value_within (Raw.boolean b) l e k = omega arith
-  value_within (Raw.string t) l e k = omega arith
+  value_within (Raw.string t _) l e k = omega arith
   value_within (Raw.array es) l e k = omega (arith, elements_within es (l + 1) e k)
   value_within (Raw.inline rs) l e k =
       let deep : 1 ≤ depth (tree_of (row_mentions [] rs)) = inline_depth rs k (rows_reach rs e) in

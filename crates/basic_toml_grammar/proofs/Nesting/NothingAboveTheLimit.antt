@@ -25,7 +25,7 @@ mutual
   no_deep_value limit l at (Raw.integer z) h = refl
   no_deep_value limit l at (Raw.float t) h = refl
   no_deep_value limit l at (Raw.boolean b) h = refl
-  no_deep_value limit l at (Raw.string t) h = refl
+  no_deep_value limit l at (Raw.string t _) h = refl
 
   no_deep_elements : (limit l : ℕ) (es : Elements) → elements_level l es ≤ limit → deep_among limit l es ≡ []
   no_deep_elements limit l no_elements h = refl

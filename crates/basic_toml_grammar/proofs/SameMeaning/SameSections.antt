@@ -21,13 +21,13 @@ use Rattle.basic_toml_grammar.proofs.SameMeaning.SameChars.{both_then, both_or_e
 use Rattle.basic_toml_grammar.proofs.SameMeaning.SameChars.{sign_same, SameFront, both_go_on, both_close, both_break}
 use Rattle.basic_toml_grammar.proofs.SameMeaning.SameChars.{front_same}
 
--- the same but for offsets
+-- the same but for offsets, and for what asks for a copy
 mutual
   pub data SameRaw : Raw → Raw → Type 0 where
     same_integer : {z : ℤ} → SameRaw (Raw.integer z) (Raw.integer z)
     same_float : {t : List ℕ} → SameRaw (Raw.float t) (Raw.float t)
     same_boolean : {b : Bool} → SameRaw (Raw.boolean b) (Raw.boolean b)
-    same_string : {t : List ℕ} → SameRaw (Raw.string t) (Raw.string t)
+    same_string : {t : List ℕ} {c d : Bool} → SameRaw (Raw.string t c) (Raw.string t d)
     same_array : {es fs : Elements} → SameElements es fs → SameRaw (Raw.array es) (Raw.array fs)
     same_inline : {rs qs : Rows} → SameRows rs qs → SameRaw (Raw.inline rs) (Raw.inline qs)
 
@@ -56,7 +56,7 @@ mutual
   itself (Raw.integer z) = same_integer
   itself (Raw.float t) = same_float
   itself (Raw.boolean b) = same_boolean
-  itself (Raw.string t) = same_string
+  itself (Raw.string t _) = same_string
   itself (Raw.array es) = same_array (elements_itself es)
   itself (Raw.inline rs) = same_inline (rows_itself rs)
 
@@ -178,8 +178,8 @@ string_value_same : {text other : Text} → SameChars text other
 string_value_same h = both_then SameQuoted SameValued (string_same h)
     (λ s t r. both (record { value = string_of s t r.value; rest = r.rest }))
   where
-    string_of : (s t : Quoted) → s.value ≡ t.value
-        → SameRaw (Raw.string (encode_utf8_all s.value)) (Raw.string (encode_utf8_all t.value))
+    string_of : {c d : Bool} (s t : Quoted) → s.value ≡ t.value
+        → SameRaw (Raw.string (encode_utf8_all s.value) c) (Raw.string (encode_utf8_all t.value) d)
     string_of s t e = rw (← e) same_string
 
 mutual

@@ -5,6 +5,7 @@ use Rattle.std.specs.Prelude.{encode_utf8_all}
 use Rattle.std.proofs.lemmas.Bool.{or_left}
 use Rattle.basic_toml_tokens.specs.Text.{Text, StartsWith, run, after_run, is_keylike, is_comment, after_blanks}
 use Rattle.basic_toml_grammar.specs.Sections.{Key, texts, Raw, Elements, no_elements, element, Rows, no_rows, row}
+use Rattle.basic_toml_grammar.specs.Copies.{up_to, needs_copy}
 use Rattle.basic_toml_grammar.specs.Grammar.{IsKey, bare, quoted, IsKeys, one, more, is_wordlike, word_value}
 use Rattle.basic_toml_grammar.specs.Grammar.{word_offset}
 use Rattle.basic_toml_grammar.specs.Grammar.{IsValue, word, string, array, inline, IsElements, close, last, and_more}
@@ -147,11 +148,11 @@ mutual
         bracketed = b;
         after = r.0.after;
       }
-  value_there {b = b} (string {value = t} s) a =
+  value_there {b = b} {other = other} (string {m = m} {value = t} s) a =
       let x = string_there a s in
       record {
         offset = x.offset;
-        value = Raw.string (encode_utf8_all t);
+        value = Raw.string (encode_utf8_all t) (needs_copy m (up_to x.left other));
         left = x.left;
         holds = string x.string;
         same = same_string;

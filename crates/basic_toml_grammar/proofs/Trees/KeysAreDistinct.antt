@@ -121,7 +121,7 @@ mutual
   distinct_finished (Raw.integer z) = refl
   distinct_finished (Raw.float t) = refl
   distinct_finished (Raw.boolean b) = refl
-  distinct_finished (Raw.string t) = refl
+  distinct_finished (Raw.string t _) = refl
   distinct_finished (Raw.array es) = distinct_elements es
   distinct_finished (Raw.inline rs) = distinct_tree (fine_rows [] rs)
 

@@ -70,7 +70,7 @@ blank_in_a_string r =
     let e : Some (table ((codes "a", Data.string (codes "xy")) ∷ []))
     ≡ Some (table ((codes "a", Data.string (codes "x y")) ∷ [])) =
     respaced_meaning (text (codes "a = 'x y'")) (text (codes "a = 'xy'"))
-    (root (row (k 0 (codes "a") ∷ []) 4 (Raw.string (codes "x y")) no_rows))
+    (root (row (k 0 (codes "a") ∷ []) 4 (Raw.string (codes "x y") false) no_rows))
     (table ((codes "a", Data.string (codes "x y")) ∷ [])) refl refl r in
     cc
 

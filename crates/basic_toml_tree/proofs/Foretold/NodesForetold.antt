@@ -7,15 +7,15 @@ use Rattle.basic_toml_grammar.specs.Steps.{Path}
 use Rattle.basic_toml_grammar.specs.IndexedPath.{located}
 use Rattle.basic_toml_grammar.specs.Nodes as grammar
 use Rattle.basic_toml_tree.specs.declared.node.Node.{Node}
-use Rattle.basic_toml_tree.specs.Origin.{is_made, name_of, start_of, outer_of, offset_of, keys_of}
+use Rattle.basic_toml_tree.specs.Origin.{is_made, is_borrowed, name_of, start_of, outer_of, offset_of, keys_of}
 use Rattle.basic_toml_tree.specs.Paths.{data_along}
-use Rattle.basic_toml_tree.specs.Stands.{IsNodeAt, Foretold}
+use Rattle.basic_toml_tree.specs.Stands.{IsNodeAt, Foretold, ForetoldSlice}
 use Rattle.basic_toml_tree.proofs.Foretold.EveryNode.{foretold_there}
 use Rattle.basic_toml_tree.proofs.Nodes.MadeNodes.{ForetoldWhere}
 use Rattle.basic_toml_tree.proofs.Nodes.KeysTold.{all_told}
 use Rattle.basic_toml_tree.proofs.Nodes.OuterTold.{outer_told}
 use Rattle.basic_toml_tree.proofs.Nodes.PlacesTold.{place_told}
-use Rattle.basic_toml_tree.proofs.Nodes.RowNodesTold.{name_told, start_told, made_answers}
+use Rattle.basic_toml_tree.proofs.Nodes.RowNodesTold.{name_told, slice_told, start_told, made_answers}
 
 there : (sections : List Section) (p : Path) (node : Node) → IsNodeAt sections p node
     → is_some (grammar.node_at sections p) ≡ true
@@ -40,6 +40,11 @@ pub name_foretold : (name : List ℕ) (node : Node) → name ≡ name_of node �
     → Foretold sections p node (λ found. name ≡ found.type_name)
 name_foretold name node same sections p =
     foretold sections p node (λ found. name ≡ found.type_name) (name_told name node same sections p)
+
+pub slice_foretold : (slice : Bool) (node : Node) → slice ≡ is_borrowed node
+    → ForetoldSlice node (λ found. slice ≡ found)
+slice_foretold slice node same sections p =
+    foretold sections p node (λ found. slice ≡ found.is_slice) (slice_told slice node same sections p)
 
 pub start_foretold : (start : Option ℕ) (node : Node) → start ≡ start_of node → (sections : List Section) (p : Path)
     → Foretold sections p node (λ found. start ≡ found.start)

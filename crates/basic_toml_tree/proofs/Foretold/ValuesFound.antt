@@ -57,18 +57,18 @@ mutual
   value_found s at (Raw.integer z) [] e = refl
   value_found s at (Raw.float z) [] e = refl
   value_found s at (Raw.boolean z) [] e = refl
-  value_found s at (Raw.string z) [] e = refl
+  value_found s at (Raw.string z c) [] e = refl
   value_found s at (Raw.array es) [] e = refl
   value_found s at (Raw.inline rows) [] e = refl
   value_found s at (Raw.integer z) (key k ∷ p) e = e
   value_found s at (Raw.float z) (key k ∷ p) e = e
   value_found s at (Raw.boolean z) (key k ∷ p) e = e
-  value_found s at (Raw.string z) (key k ∷ p) e = e
+  value_found s at (Raw.string z c) (key k ∷ p) e = e
   value_found s at (Raw.array es) (key k ∷ p) e = e
   value_found s at (Raw.integer z) (number n ∷ p) e = e
   value_found s at (Raw.float z) (number n ∷ p) e = e
   value_found s at (Raw.boolean z) (number n ∷ p) e = e
-  value_found s at (Raw.string z) (number n ∷ p) e = e
+  value_found s at (Raw.string z c) (number n ∷ p) e = e
   value_found s at (Raw.array es) (number n ∷ p) e = element_found s es n p e
   value_found s at (Raw.inline rows) (t ∷ p) e =
       rows_found s rows t p (tree_leads (row_mentions [] rows) t p (rows_in_turn rows) e)

@@ -126,7 +126,7 @@ mutual
   bare_in (Raw.integer z) names outer at (number i ∷ x) n is none = absurd (cc)
   bare_in (Raw.float z) names outer at (number i ∷ x) n is none = absurd (cc)
   bare_in (Raw.boolean z) names outer at (number i ∷ x) n is none = absurd (cc)
-  bare_in (Raw.string z) names outer at (number i ∷ x) n is none = absurd (cc)
+  bare_in (Raw.string z c) names outer at (number i ∷ x) n is none = absurd (cc)
 
   bare_among : (es : Elements) (names : KeyTexts) (outer : Option ℕ) (i : ℕ) (x : Path) (n : Node)
       → node_among names outer es i x ≡ Some n → no_keys x ≡ true → n.outer_offset ≡ outer
@@ -172,11 +172,11 @@ mutual
           → node_in names outer at (Raw.boolean z) (s ∷ x) ≡ None
       plain names outer at (key k) x = refl
       plain names outer at (number i) x = refl
-  deep_in (Raw.string z) free keyed names outer at x n is some =
-      plain_deep (Raw.string z) plain names outer at x n is some
+  deep_in (Raw.string z c) free keyed names outer at x n is some =
+      plain_deep (Raw.string z c) plain names outer at x n is some
     where
       plain : (names : KeyTexts) (outer : Option ℕ) (at : ℕ) (s : Step) (x : Path)
-          → node_in names outer at (Raw.string z) (s ∷ x) ≡ None
+          → node_in names outer at (Raw.string z c) (s ∷ x) ≡ None
       plain names outer at (key k) x = refl
       plain names outer at (number i) x = refl
   deep_in (Raw.array es) free keyed names outer at [] n is some = absurd (false≢true (sym some))

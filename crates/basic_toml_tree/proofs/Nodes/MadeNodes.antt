@@ -22,7 +22,8 @@ use Rattle.basic_toml_tree.specs.declared.spot.Spot.TheVariants as spots
 use Rattle.basic_toml_grow.specs.Item.{item_trie, table_trie}
 use Rattle.basic_toml_tree.specs.Headers.{last_of}
 use Rattle.basic_toml_tree.specs.Origin.{spot_is_made, is_made, spot_name, name_of, holds_tables, item_name, last_at}
-use Rattle.basic_toml_tree.specs.Origin.{start_of, outer_of, offset_of, is_array_literal}
+use Rattle.basic_toml_tree.specs.Origin.{start_of, outer_of, offset_of, is_array_literal, spot_is_borrowed, is_borrowed}
+use Rattle.basic_toml_tree.specs.Origin.{holds_string}
 use Rattle.basic_toml_tree.specs.FirstStop.{Stands, only_root}
 use Rattle.basic_toml_tree.specs.Resolve.{head}
 use Rattle.basic_toml_tree.specs.Stands.{trie_at, tree_trie, spot_trie, wraps_table, is_wrapper, is_root, IsNodeAt}
@@ -73,10 +74,11 @@ array_in_trie sections t (inr none) p =
 abbrev pub made_name : Bool → List ℕ
 made_name b = if b then codes "array" else codes "table"
 
--- that headers made what is here, its name, and that it is no array literal
+-- that headers made what is here, its name, and that it is no string
 pub record IsMade (count : ℕ) (spot : Spot) : Type 0 where
   pub made : spot_is_made count spot ≡ true
   pub name : spot_name count spot ≡ made_name (stands_array (standing (spot_trie spot)))
+  pub slice : spot_is_borrowed spot ≡ false
 
 item_made : (count : ℕ) (b : Bor Item) (x : Item-F Item Child Table) (o : Option Standing) → out-Item b.now ≡ x
     → item_standing x o → standing (item_trie b.now) ≡ o → is_wrapper x ≡ false → stands_made o ≡ true
@@ -84,6 +86,7 @@ item_made : (count : ℕ) (b : Bor Item) (x : Item-F Item Child Table) (o : Opti
 item_made count b (Item-F.Tables before latest) o is stands same own made = record {
   made = ap holds_tables is;
   name = ap item_name is ∙ sym (ap (λ o. made_name (stands_array o)) same ∙ ap made_name stands);
+  slice = ap holds_string is;
 }
 item_made count b Item-F.Nothing o is stands same own made = absurd (false≢true (sym (ap stands_made stands) ∙ made))
 item_made count b (Item-F.Table t) o is stands same own made = cc
@@ -105,6 +108,7 @@ table_made count b made =
     record {
       made = here;
       name = rw here (sym (ap (λ o. made_name (stands_array o)) stands));
+      slice = refl;
     }
 
 -- what stands as made, and the root
@@ -205,6 +209,11 @@ pub made_name_told : (name : List ℕ) (node : Node) → name ≡ name_of node �
 unfolding name_of
 made_name_told name node same sections p = foretold sections p node (λ found. name ≡ found.type_name)
     (λ is made. let told = is_told sections node p is made in same ∙ told.0.name ∙ ap made_name told.1)
+
+pub made_slice_told : (slice : Bool) (node : Node) → slice ≡ is_borrowed node → (sections : List Section) (p : Path)
+    → ForetoldMade sections p node (λ found. slice ≡ found.is_slice)
+made_slice_told slice node same sections p = foretold sections p node (λ found. slice ≡ found.is_slice)
+    (λ is made. same ∙ (is_told sections node p is made).0.slice)
 
 pub made_start_told : (start : Option ℕ) (node : Node) → start ≡ start_of node → (sections : List Section) (p : Path)
     → ForetoldMade sections p node (λ found. start ≡ found.start)

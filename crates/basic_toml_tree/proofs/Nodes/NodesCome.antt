@@ -21,7 +21,9 @@ use Rattle.basic_toml_tree.specs.declared.node.Node.{Node}
 use Rattle.basic_toml_tree.specs.declared.spot.Spot.{Spot}
 use Rattle.basic_toml_tree.specs.declared.spot.Spot.TheVariants as spots
 use Rattle.basic_toml_tree.specs.Origin.{spot_is_made, spot_section, holds_tables, item_name, item_section, table_is_made}
+use Rattle.basic_toml_tree.specs.Origin.{holds_string}
 use Rattle.basic_toml_grow.specs.Origins.{Origin, Origins, no_origins, entry, under, at_numbers, value_origin}
+use Rattle.basic_toml_grow.specs.Origins.{string_origin}
 use Rattle.basic_toml_grow.specs.Origins.{table_origin, array_origin, elements_within, item_origins, child_origins}
 use Rattle.basic_toml_grow.specs.Origins.{of_table, section_in, table_within}
 use Rattle.basic_toml_tree.specs.Stands.{ItemHolds, HoldsTable, spot_origins, node_origins, spot_origin, SpotComes}
@@ -101,9 +103,9 @@ item_bears (Item-F.Float z) at s = bears_entry (Item-F.Float z) at s (value_orig
     (search (rules, the_lemmas)) (λ apart. refl)
 item_bears (Item-F.Boolean z) at s = bears_entry (Item-F.Boolean z) at s (value_origin (codes "boolean") at s) no_origins
     (search (rules, the_lemmas)) (λ apart. refl)
-item_bears (Item-F.String z) at s = bears_entry (Item-F.String z) at s (value_origin (codes "string") at s) no_origins
+item_bears (Item-F.String z) at s = bears_entry (Item-F.String z) at s (string_origin false at s) no_origins
     (search (rules, the_lemmas)) (λ apart. refl)
-item_bears (Item-F.Escaped z) at s = bears_entry (Item-F.Escaped z) at s (value_origin (codes "string") at s) no_origins
+item_bears (Item-F.Escaped z) at s = bears_entry (Item-F.Escaped z) at s (string_origin true at s) no_origins
     (search (rules, the_lemmas)) (λ apart. refl)
 item_bears (Item-F.Array z) at s = bears_entry (Item-F.Array z) at s (value_origin (codes "array") at s)
     (at_numbers (map child_origins z.items)) (search (rules, the_lemmas)) (λ apart. refl)
@@ -210,6 +212,7 @@ told_name : (b made : Bool) → b ≡ made → made ≡ false → (at n s : ℕ)
       name = (if b then codes "table" else codes "dotted table");
       start = at;
       section = s;
+      is_slice = false;
     }
 told_name b true same apart at n s = absurd (false≢true (sym apart))
 told_name true false same apart at n s = absurd (false≢true (sym same))
@@ -257,7 +260,13 @@ child_table_comes c t b count spot at is same some is_spot is_at =
 
 -- an item
 abbrev item_told : Item-F Item Child Table → ℕ → ℕ → Origin
-item_told x at s = record { made = holds_tables x; name = item_name x; start = at; section = s }
+item_told x at s = record {
+  made = holds_tables x;
+  name = item_name x;
+  start = at;
+  section = s;
+  is_slice = holds_string x;
+}
 
 abbrev OwnIs : Origins → Origin → Type 0
 OwnIs f want = IfSome (f []) (λ o. o.made ≡ false → o ≡ want)
@@ -279,10 +288,10 @@ item_own (Item-F.Boolean z) at s =
     own_of (item_origins (roll-Item (Item-F.Boolean z)) at s) (value_origin (codes "boolean") at s)
     (item_told (Item-F.Boolean z) at s) no_origins (search (rules, the_lemmas)) (λ apart. refl)
 item_own (Item-F.String z) at s =
-    own_of (item_origins (roll-Item (Item-F.String z)) at s) (value_origin (codes "string") at s)
+    own_of (item_origins (roll-Item (Item-F.String z)) at s) (string_origin false at s)
     (item_told (Item-F.String z) at s) no_origins (search (rules, the_lemmas)) (λ apart. refl)
 item_own (Item-F.Escaped z) at s =
-    own_of (item_origins (roll-Item (Item-F.Escaped z)) at s) (value_origin (codes "string") at s)
+    own_of (item_origins (roll-Item (Item-F.Escaped z)) at s) (string_origin true at s)
     (item_told (Item-F.Escaped z) at s) no_origins (search (rules, the_lemmas)) (λ apart. refl)
 item_own (Item-F.Array z) at s =
     own_of (item_origins (roll-Item (Item-F.Array z)) at s) (value_origin (codes "array") at s)

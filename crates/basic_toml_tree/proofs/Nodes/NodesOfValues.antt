@@ -28,8 +28,8 @@ module _ (keys : KeyTexts) (P : Node → Type 0)
     in_value outer at (Raw.float z) (number n ∷ p) = tt
     in_value outer at (Raw.boolean z) (key k ∷ p) = tt
     in_value outer at (Raw.boolean z) (number n ∷ p) = tt
-    in_value outer at (Raw.string z) (key k ∷ p) = tt
-    in_value outer at (Raw.string z) (number n ∷ p) = tt
+    in_value outer at (Raw.string z c) (key k ∷ p) = tt
+    in_value outer at (Raw.string z c) (number n ∷ p) = tt
 
     among_elements : (outer : Option ℕ) (es : Elements) (n : ℕ) (p : Path) → IfSome (node_among keys outer es n p) P
     among_elements outer no_elements n p = tt

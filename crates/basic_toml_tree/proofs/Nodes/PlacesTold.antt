@@ -49,7 +49,7 @@ value_plain : (keys : KeyTexts) (outer : Option ℕ) (at : ℕ) (v : Raw) → Pl
 value_plain keys outer at (Raw.integer z) = inr (refl, refl)
 value_plain keys outer at (Raw.float z) = inr (refl, refl)
 value_plain keys outer at (Raw.boolean z) = inr (refl, refl)
-value_plain keys outer at (Raw.string z) = inr (refl, refl)
+value_plain keys outer at (Raw.string z c) = inr (refl, refl)
 value_plain keys outer at (Raw.array z) = inl (refl, refl)
 value_plain keys outer at (Raw.inline z) = inr (refl, refl)
 
@@ -93,6 +93,7 @@ plain_at sections p = go (is_made (located sections) p)
           offset = last_at sections;
           outer_offset = last_at sections;
           key_path = keys_of p;
+          is_slice = false;
         })
         made true = inl (refl, refl)
         made false = inr (refl, refl)

@@ -5,16 +5,20 @@ use Rattle.std.specs.Borrow.{Bor}
 use Rattle.std.proofs.Math.Path.{fun_ext}
 use Rattle.basic_toml_value.specs.Data.{Data}
 use Rattle.basic_toml_grammar.specs.Mentions.{finished, finished_elements}
-use Rattle.basic_toml_grammar.specs.Nodes.{raw_name}
+use Rattle.basic_toml_grammar.specs.Nodes.{raw_name, raw_is_slice}
 use Rattle.basic_toml_grammar.specs.Sections.{Raw}
 use Rattle.basic_toml_grammar.specs.Steps.{number}
 use Rattle.basic_toml_read.specs.declared.section.Raw as raws
+use Rattle.basic_toml_read.specs.declared.section.Raw.TheOpen.{Raw-F}
+use Rattle.basic_toml_read.specs.declared.section.Row.{Row}
+use Rattle.basic_toml_read.specs.declared.section.Rows as code_rows
 use Rattle.basic_toml_read.specs.declared.section.Element.{Element, out-Element}
 use Rattle.basic_toml_clash.specs.Plain.{Listed, listed, listed_of, plain_of, plain_array}
 use Rattle.basic_toml_tree.specs.declared.node.Node.{Node}
 use Rattle.basic_toml_tree.specs.declared.spot.Spot.{Spot}
 use Rattle.basic_toml_tree.specs.declared.spot.Spot.TheVariants as spots
 use Rattle.basic_toml_tree.specs.Nodes as seen
+use Rattle.basic_toml_tree.specs.Origin.{is_string}
 use Rattle.basic_toml_grow.specs.Origins.{under, at_numbers, value_origins, elements_origins}
 use Rattle.basic_toml_tree.specs.Stands.{SpotComes, ComesFrom, IsPlainElement, spot_origins, node_origins}
 use Rattle.basic_toml_tree.proofs.Nodes.NodesInOrder.{mapped_length}
@@ -57,19 +61,40 @@ own_is : (v : Raw) (at s : ℕ)
       name = raw_name v;
       start = at;
       section = s;
+      is_slice = raw_is_slice v;
     })
 own_is (Raw.integer z) at s = λ apart. refl
 own_is (Raw.float z) at s = λ apart. refl
 own_is (Raw.boolean z) at s = λ apart. refl
-own_is (Raw.string z) at s = λ apart. refl
+own_is (Raw.string z c) at s = λ apart. refl
 own_is (Raw.array z) at s = λ apart. refl
 own_is (Raw.inline z) at s = λ apart. refl
+
+-- it is a slice where the code has one
+plain_slice : (v : raws.Raw) → raw_is_slice (plain_of v) ≡ is_string (raws.out-Raw v)
+plain_slice v = ap (λ v. raw_is_slice (plain_of v)) (sym (raws.roll-out-Raw v)) ∙ go (raws.out-Raw v)
+  where
+    go : (x : Raw-F raws.Raw Element Row code_rows.Rows) → raw_is_slice (plain_of (raws.roll-Raw x)) ≡ is_string x
+    go (Raw-F.Integer z) = search (rules, raws.the_lemmas)
+    go (Raw-F.Float z) = search (rules, raws.the_lemmas)
+    go (Raw-F.Boolean z) = search (rules, raws.the_lemmas)
+    go (Raw-F.String z) = search (rules, raws.the_lemmas)
+    go (Raw-F.Escaped z) = search (rules, raws.the_lemmas)
+    go (Raw-F.Array z) = search (rules, raws.the_lemmas)
+    go (Raw-F.Inline z) = search (rules, raws.the_lemmas)
+    go (Raw-F.Dotted z) = search (rules, raws.the_lemmas)
 
 pub value_comes : (v : Bor raws.Raw) (count at s : ℕ)
     → SpotComes (value_origins s at (plain_of v.now)) count (spots.Plain v) at
 value_comes v count at s = record {
   section = s;
-  own = own_is (plain_of v.now) at s;
+  own = subst (λ b. IfSome (value_origins s at (plain_of v.now) []) (λ o. o.made ≡ false → o ≡ record {
+    made = false;
+    name = raw_name (plain_of v.now);
+    start = at;
+    section = s;
+    is_slice = b;
+  })) (plain_slice v.now) (own_is (plain_of v.now) at s);
   marked = not_marked None refl (value_origins s at (plain_of v.now));
   parts = λ r q. refl;
 }

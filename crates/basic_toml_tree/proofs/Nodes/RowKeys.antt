@@ -91,13 +91,13 @@ mutual
   value_bears s at (Raw.integer z) [] = refl
   value_bears s at (Raw.float z) [] = refl
   value_bears s at (Raw.boolean z) [] = refl
-  value_bears s at (Raw.string z) [] = refl
+  value_bears s at (Raw.string z c) [] = refl
   value_bears s at (Raw.array es) [] = refl
   value_bears s at (Raw.inline rows) [] = refl
   value_bears s at (Raw.integer z) (r ∷ p) = tt
   value_bears s at (Raw.float z) (r ∷ p) = tt
   value_bears s at (Raw.boolean z) (r ∷ p) = tt
-  value_bears s at (Raw.string z) (r ∷ p) = tt
+  value_bears s at (Raw.string z c) (r ∷ p) = tt
   value_bears s at (Raw.array es) (key k ∷ p) = tt
   value_bears s at (Raw.array es) (number n ∷ p) = elements_bear s es n p
   value_bears s at (Raw.inline rows) (r ∷ p) = rows_bear s rows (r ∷ p)

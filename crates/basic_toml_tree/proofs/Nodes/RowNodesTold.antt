@@ -13,11 +13,12 @@ use Rattle.basic_toml_grammar.specs.Entering.{keyed_within, all_keyed_within}
 use Rattle.basic_toml_grammar.specs.Nodes as grammar
 use Rattle.basic_toml_grammar.proofs.Clash.PathsAgree.{append_none}
 use Rattle.basic_toml_tree.specs.declared.node.Node.{Node}
-use Rattle.basic_toml_tree.specs.Origin.{is_made, spot_name, name_of, start_of, last_at}
+use Rattle.basic_toml_tree.specs.Origin.{is_made, spot_name, name_of, start_of, last_at, spot_is_borrowed, is_borrowed}
 use Rattle.basic_toml_grow.specs.Origins.{Origin}
 use Rattle.basic_toml_grow.specs.Ways.{sections_origins}
 use Rattle.basic_toml_tree.specs.Stands.{spot_origin, tree_origins, IsNodeAt}
 use Rattle.basic_toml_tree.proofs.Nodes.MadeNodes.{ForetoldWhere, made_name_told, made_start_told, made_told}
+use Rattle.basic_toml_tree.proofs.Nodes.MadeNodes.{made_slice_told}
 use Rattle.basic_toml_tree.proofs.Origins.RowsAreNodes.{Same, of_node, of_origin, sections_same}
 
 -- the list's sections, where they stand
@@ -40,6 +41,7 @@ pub record RowTold (node : Node) (found : grammar.Node) : Type 0 where
   pub made : is_made node ≡ false
   pub name : spot_name node.count node.spot ≡ found.type_name
   pub start : Some node.start ≡ found.start
+  pub slice : spot_is_borrowed node.spot ≡ found.is_slice
 
 told_by : (node : Node) (s : ℕ) (m : Option grammar.Node) (o : Option Origin) → Same m o
     → IfSome o (λ o. o.made ≡ false → o ≡ spot_origin node.count node.spot node.start s)
@@ -54,6 +56,7 @@ told_by node s (Some m) (Some o) same own =
       made = sym (ap (λ o. o.made) is) ∙ made;
       name = sym (ap (λ o. o.name) is) ∙ sym (ap (λ t. t.name) both);
       start = sym (ap (λ o. Some o.start) is) ∙ sym (ap (λ t. t.start) both);
+      slice = sym (ap (λ o. o.is_slice) is) ∙ sym (ap (λ t. t.slice) both);
     }
 
 pub row_told : (sections : List Section) (p : Path) (node : Node) → IsNodeAt sections p node
@@ -94,6 +97,12 @@ unfolding name_of
 name_told name node same sections p is =
     either_way sections p node (λ found. name ≡ found.type_name) (grammar.is_made (located sections) p) refl
     (made_name_told name node same sections p is) (λ found told. same ∙ told.name) is
+
+pub slice_told : (slice : Bool) (node : Node) → slice ≡ is_borrowed node → (sections : List Section) (p : Path)
+    → ForetoldWhere sections p node (λ found. slice ≡ found.is_slice)
+slice_told slice node same sections p is =
+    either_way sections p node (λ found. slice ≡ found.is_slice) (grammar.is_made (located sections) p) refl
+    (made_slice_told slice node same sections p is) (λ found told. same ∙ told.slice) is
 
 pub start_told : (start : Option ℕ) (node : Node) → start ≡ start_of node → (sections : List Section) (p : Path)
     → ForetoldWhere sections p node (λ found. start ≡ found.start)

@@ -54,13 +54,13 @@ mutual
   value_front n at (Raw.integer z) [] r = some_told (value_origins n at (Raw.integer z) r) _
   value_front n at (Raw.float z) [] r = some_told (value_origins n at (Raw.float z) r) _
   value_front n at (Raw.boolean z) [] r = some_told (value_origins n at (Raw.boolean z) r) _
-  value_front n at (Raw.string z) [] r = some_told (value_origins n at (Raw.string z) r) _
+  value_front n at (Raw.string z c) [] r = some_told (value_origins n at (Raw.string z c) r) _
   value_front n at (Raw.array es) [] r = some_told (value_origins n at (Raw.array es) r) _
   value_front n at (Raw.inline rows) [] r = some_told (value_origins n at (Raw.inline rows) r) _
   value_front n at (Raw.integer z) (s ∷ p) r = tt
   value_front n at (Raw.float z) (s ∷ p) r = tt
   value_front n at (Raw.boolean z) (s ∷ p) r = tt
-  value_front n at (Raw.string z) (s ∷ p) r = tt
+  value_front n at (Raw.string z c) (s ∷ p) r = tt
   value_front n at (Raw.array es) (key k ∷ p) r = tt
   value_front n at (Raw.array es) (number m ∷ p) r = elements_front n es m p r
   value_front n at (Raw.inline rows) (s ∷ p) r = rows_front n rows s p r

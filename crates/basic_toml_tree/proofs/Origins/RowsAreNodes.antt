@@ -27,12 +27,13 @@ pub record Told : Type 0 where
   pub made : Bool
   pub name : List ℕ
   pub start : Option ℕ
+  pub slice : Bool
 
 abbrev pub of_node : Node → Told
-of_node n = record { made = false; name = n.type_name; start = n.start }
+of_node n = record { made = false; name = n.type_name; start = n.start; slice = n.is_slice }
 
 abbrev pub of_origin : Origin → Told
-of_origin o = record { made = o.made; name = o.name; start = Some o.start }
+of_origin o = record { made = o.made; name = o.name; start = Some o.start; slice = o.is_slice }
 
 abbrev pub Same : Option Node → Option Origin → Type 0
 Same n o = option_map of_node n ≡ option_map of_origin o
@@ -154,7 +155,7 @@ mutual
   value_same keys outer s at (Raw.integer z) [] apart keyed = refl
   value_same keys outer s at (Raw.float z) [] apart keyed = refl
   value_same keys outer s at (Raw.boolean z) [] apart keyed = refl
-  value_same keys outer s at (Raw.string z) [] apart keyed = refl
+  value_same keys outer s at (Raw.string z c) [] apart keyed = refl
   value_same keys outer s at (Raw.array es) [] apart keyed = refl
   value_same keys outer s at (Raw.inline rows) [] apart keyed = refl
   value_same keys outer s at (Raw.integer z) (r ∷ p) apart keyed = other r
@@ -172,9 +173,9 @@ mutual
       other : (r : Step) → Same (node_in keys outer at (Raw.boolean z) (r ∷ p)) None
       other (key k) = refl
       other (number n) = refl
-  value_same keys outer s at (Raw.string z) (r ∷ p) apart keyed = other r
+  value_same keys outer s at (Raw.string z c) (r ∷ p) apart keyed = other r
     where
-      other : (r : Step) → Same (node_in keys outer at (Raw.string z) (r ∷ p)) None
+      other : (r : Step) → Same (node_in keys outer at (Raw.string z c) (r ∷ p)) None
       other (key k) = refl
       other (number n) = refl
   value_same keys outer s at (Raw.array es) (key k ∷ p) apart keyed = refl

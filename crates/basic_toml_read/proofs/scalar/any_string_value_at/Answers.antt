@@ -1,6 +1,7 @@
 use Rattle.std.proofs.Common.{◌≡◌, ◌∙◌, refl, sym, subst}
 use Rattle.std.specs.Cow.{cow_str_bytes}
 use Rattle.basic_toml_tokens.specs.Text.{text_at}
+use Rattle.basic_toml_tokens.specs.String.{is_owned}
 use Rattle.basic_toml_explain.specs.declared.stop.Stop.{Stop}
 use Rattle.basic_toml_explain.specs.declared.stop.Why.TheVariants.{Value}
 use Rattle.basic_toml_grammar.specs.Sections as sections
@@ -10,9 +11,9 @@ use Rattle.basic_toml_read.proofs.scalar.any_string_value_at.Goals as goal
 
 pub returns-in-Ok-clause-read : goal.returns-in-Ok-clause-read
 returns-in-Ok-clause-read c = record {
-  raw = sections.Raw.string (cow_str_bytes c.in-Ok.quoted.val);
+  raw = sections.Raw.string (cow_str_bytes c.in-Ok.quoted.val) (is_owned c.in-Ok.quoted.val);
   seen = c.string_of.ensures.value;
-  is = string_value c.args.text.now c.args.at c.in-Ok.quoted c.in-Ok.ensures;
+  is = string_value c.args.text.now c.args.at c.utf8.text c.requires.boundary c.in-Ok.quoted c.in-Ok.ensures;
   boundary = c.in-Ok.ensures.boundary;
   later = c.in-Ok.ensures.forward;
 }

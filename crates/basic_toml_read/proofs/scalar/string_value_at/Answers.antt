@@ -6,9 +6,10 @@ use Rattle.basic_toml_read.proofs.scalar.string_value_at.Goals as goal
 
 pub returns-in-Some-clause-read : goal.returns-in-Some-clause-read
 returns-in-Some-clause-read c = record {
-  raw = sections.Raw.string c.in-Some.value.now;
+  raw = sections.Raw.string c.in-Some.value.now false;
   seen = string_of c.in-Some.value;
-  is = simple_value c.args.text.now c.args.at c.in-Some.value.now c.in-Some.end c.in-Some.ensures.found;
+  is = simple_value c.args.text.now c.args.at c.utf8.text c.requires.boundary c.in-Some.value.now c.in-Some.end
+      c.in-Some.ensures.found;
   boundary = c.in-Some.ensures.found.boundary;
   later = c.in-Some.ensures.found.forward;
 }
