@@ -8,15 +8,14 @@ use Rattle.basic_toml_grammar.specs.Faults as read
 use Rattle.basic_toml_grammar.specs.GrammarFaults.{IsTokenFault, char, escape, hex_escape, escape_value, feed, other_char}
 use Rattle.basic_toml_grammar.specs.GrammarFaults.{open_string}
 use Rattle.basic_toml_grammar.specs.Sections.{Section}
-use Rattle.basic_toml_grammar.specs.Stops.{Stop, stop_fault, at_header, is_named, is_passed, at_row}
-use Rattle.basic_toml_grammar.specs.Trie.{Trie}
 use Rattle.basic_toml_grammar.specs.Viable.{FirstRefusal, this, later, Want, mismatch_kind, IsDueAt, no_token, number}
 use Rattle.basic_toml_grammar.specs.Viable.{token_of_number, mismatch}
 use Rattle.basic_toml_emit.specs.Items.{Item}
 use Rattle.basic_toml_write.specs.declared.error.WriteError.{WriteError}
 use Rattle.basic_toml_tree.specs.declared.node.Node.{Node}
 use Rattle.basic_toml_tree.specs.FirstStop as tree
-use Rattle.basic_toml_tree.specs.FirstStop.{SectionsFault, StopsSection}
+use Rattle.basic_toml_tree.specs.FirstStop.{SectionsFault}
+use Rattle.basic_toml_tree.proofs.SectionsStopped.{stops_without_memory}
 use Rattle.basic_toml_error.specs.Fault.{Fault, FaultKind, reading, want_of_memory, without_offset}
 use Rattle.basic_toml_error.specs.ReadFaults.{fault_in, lined}
 use Rattle.basic_toml.specs.Memory.{HasNoPlace, ReadsWithoutPlace, TreesWithoutPlace, WritesWithoutPlace}
@@ -53,19 +52,10 @@ of_due start end at _ (mismatch {found = found} {word = word} {want = want} none
     of_mismatch want found word is
 
 -- nor is one of sections that have no tree
-of_stop : (s : Section) (stop : Stop) → IsMemory (stop_fault s stop) → ⊥
-of_stop s (at_header left) is = cc
-of_stop s is_named is = cc
-of_stop s is_passed is = cc
-of_stop s (at_row keys k) is = cc
-
-of_section : (t : Trie) (s : Section) (fault : read.Fault) → StopsSection t s fault → IsMemory fault → ⊥
-of_section t s _ (tree.deep level) is = cc
-of_section t s _ (tree.clash {stop = stop} why) is = of_stop s stop is
-
 of_sections : (sections : List Section) (fault : read.Fault) → SectionsFault sections fault → IsMemory fault → ⊥
 of_sections sections _ (tree.value crossed) is = cc
-of_sections sections fault (tree.section none first) is = of_section first.so_far first.here fault first.stopped is
+of_sections sections fault (tree.section none first) is =
+    stops_without_memory first.so_far first.here fault first.stopped is
 
 of_text : (text : List ℕ) (error : read.Fault) → IsTextFault text error → IsMemory error → ⊥
 of_text text error (outside due within) is = of_due _ _ due.at error due.due is

@@ -1,27 +1,25 @@
 -- Each of writing, the round trip and reading into a table has one answer.
 use Rattle.std.proofs.Common.{◌≡◌, ◌⊎◌, ℕ, List, length, sym, ap, ◌∙◌, refl, subst, Result, Ok, Err}
-use Rattle.std.proofs.Common.{inl, inr, ◌≤◌, arith}
+use Rattle.std.proofs.Common.{inl, inr, arith}
 use Rattle.basic_toml_emit.specs.Items.{Item}
 use Rattle.basic_toml_emit.specs.Rules as rules
 use Rattle.basic_toml_write.specs.declared.error.WriteError.{WriteError}
-use Rattle.basic_toml_error.specs.Fault.{Fault, reading, want_of_memory, without_offset}
+use Rattle.basic_toml_error.specs.Fault.{Fault, want_of_memory, without_offset}
 use Rattle.basic_toml_error.specs.ReadFaults.{fault_in, lined}
 use Rattle.basic_toml_tokens.specs.Text.{folded}
 use Rattle.basic_toml_grammar.specs.Faults as read
 use Rattle.basic_toml_value.specs.Nesting.{nesting_limit}
 use Rattle.basic_toml_grammar.specs.Sections.{Section}
-use Rattle.basic_toml_grammar.specs.Grammar.{IsSectionList}
 use Rattle.basic_toml_grammar.specs.GrammarFaults.{fault_at}
-use Rattle.basic_toml_grammar.specs.Levels.{highest_level}
 use Rattle.basic_toml_grammar.proofs.Nesting.DeepStopsAreOne.{deep_stops_are_one}
 use Rattle.basic_toml_grammar.proofs.LawsHold.{unambiguous, keyed}
 use Rattle.basic_toml_grammar.proofs.Viable.FaultsAreOne.{grammar_faults_are_one}
-use Rattle.basic_toml_tree.specs.FirstStop.{SectionsFault, IsTooDeep}
+use Rattle.basic_toml_tree.specs.FirstStop.{SectionsFault}
 use Rattle.basic_toml_tree.proofs.SectionsFaultIsOne.{sections_fault_is_one}
 use Rattle.basic_toml.specs.Reading.{value_read, no_memory, no_document, not_taken, IsTextFault, outside, deep, no_tree}
 use Rattle.basic_toml.specs.Ser.{IsFirstFault, IsOwnFault, fault_kind}
 use Rattle.basic_toml.specs.OneAnswer.{IsOpen, WritesOneAnswer, RoundTripsToOneAnswer, ReadingHasOneTable}
-use Rattle.basic_toml.specs.OneAnswer.{IsOfMemoryOrTree, ReadingHasOneError}
+use Rattle.basic_toml.specs.OneAnswer.{ReadingHasOneError}
 use Rattle.basic_toml.proofs.TextHasOneDocument.{one_document}
 
 module _ (calls : List Item) (gives_up : List Item → WriteError → Type 0) where
@@ -62,27 +60,15 @@ module _ (calls : List Item) (gives_up : List Item → WriteError → Type 0) wh
 
 -- the errors of a text are one
 module _ (text : List ℕ) where
-  of_sections : (sections : List Section) (e f : read.Fault) → IsSectionList (folded text) sections
-      → highest_level sections ≤ nesting_limit → (e ≡ f) ⊎ (IsTooDeep e ⊎ IsTooDeep f)
-      → IsOfMemoryOrTree text (fault_in text e)
-      ⊎ (IsOfMemoryOrTree text (fault_in text f) ⊎ (fault_in text e ≡ fault_in text f))
-  of_sections sections e f grammar low (inl same) = inr (inr (ap (fault_in text) same))
-  of_sections sections e f grammar low (inr (inl nested)) =
-      inl (inr (record { kind = ap reading nested; sections = sections; grammar = grammar; within = low }))
-  of_sections sections e f grammar low (inr (inr nested)) =
-      inr (inl (inr (record { kind = ap reading nested; sections = sections; grammar = grammar; within = low })))
-
-  one_error : (e f : read.Fault) → IsTextFault text e → IsTextFault text f
-      → IsOfMemoryOrTree text (fault_in text e)
-      ⊎ (IsOfMemoryOrTree text (fault_in text f) ⊎ (fault_in text e ≡ fault_in text f))
+  one_error : (e f : read.Fault) → IsTextFault text e → IsTextFault text f → e ≡ f
   one_error e f (outside p w) (outside q v) =
-      inr (inr (ap (fault_in text) (grammar_faults_are_one (folded text) (length text) e f p q)))
+      grammar_faults_are_one (folded text) (length text) e f p q
   one_error e _ (outside p w) (deep {offset = o} q) = absurd (w o q.met)
   one_error e f (outside p w) (no_tree {sections = sections} grammar low why) = absurd (p.outside sections grammar)
   one_error _ f (deep {offset = o} p) (outside q v) = absurd (v o p.met)
   one_error _ _ (deep {offset = o} p) (deep {offset = q} d) =
-      inr (inr (ap (λ (o : ℕ). fault_in text (fault_at read.nested_too_deeply o))
-      (deep_stops_are_one nesting_limit (folded text) o q p.met d.met)))
+      ap (λ (o : ℕ). fault_at read.nested_too_deeply o)
+      (deep_stops_are_one nesting_limit (folded text) o q p.met d.met)
   one_error _ f (deep p) (no_tree {sections = sections} grammar low why) =
       absurd (omega (arith, low, p.passes sections grammar))
   one_error e f (no_tree {sections = sections} grammar low why) (outside q v) =
@@ -91,8 +77,8 @@ module _ (text : List ℕ) where
       absurd (omega (arith, low, q.passes sections grammar))
   one_error e f (no_tree {sections = ss} g low p) (no_tree {sections = ts} h under q) =
       let same : ts ≡ ss = unambiguous _ (folded text) ts ss h g in
-      of_sections ss e f g low (sections_fault_is_one ss e f (keyed (folded text) ss g) p
-      (subst (λ (us : List Section). SectionsFault us f) same q))
+      sections_fault_is_one ss e f (keyed (folded text) ss g) p
+      (subst (λ (us : List Section). SectionsFault us f) same q)
 
 pub reading_has_one_table : ReadingHasOneTable
 reading_has_one_table text t (Ok u) (value_read d r) (value_read e s) = sym r ∙ one_document text _ _ d e ∙ s
@@ -102,11 +88,11 @@ reading_has_one_table text t (Err f) (value_read d r) (not_taken e (own, only, o
     same ∙ ap (lined text) (only.taken refl)
 
 pub reading_has_one_error : ReadingHasOneError
-reading_has_one_error text f g no_memory q = inl (inl refl)
+reading_has_one_error text f g no_memory q = inl refl
 reading_has_one_error text f g (not_taken e (own, only, one, same)) q =
-    inl (inl (same ∙ ap (lined text) (only.taken refl)))
-reading_has_one_error text f g (no_document none p) no_memory = inr (inl (inl refl))
+    inl (same ∙ ap (lined text) (only.taken refl))
+reading_has_one_error text f g (no_document none p) no_memory = inr (inl refl)
 reading_has_one_error text f g (no_document none p) (not_taken e (own, only, one, same)) =
-    inr (inl (inl (same ∙ ap (lined text) (only.taken refl))))
+    inr (inl (same ∙ ap (lined text) (only.taken refl)))
 reading_has_one_error text f g (no_document {error = d} none p) (no_document {error = e} other q) =
-    one_error text d e p q
+    inr (inr (ap (fault_in text) (one_error text d e p q)))

@@ -1,20 +1,14 @@
 -- What it means that a call has one answer: of two results that meet its contract, the values are the same, a value and
--- an error do not come of the same arguments, and the errors are the same. Left aside are want of memory, errors of a
--- type's own, and of reading that of a tree that is too deep. (own)
-use Rattle.std.specs.Prelude.{◌≡◌, ◌⊎◌, ◌≤◌, ℕ, List, Result, Ok, Err, String, string_bytes}
+-- an error do not come of the same arguments, and the errors are the same. Left aside are want of memory and errors of
+-- a type's own. (own)
+use Rattle.std.specs.Prelude.{◌≡◌, ◌⊎◌, ℕ, List, Result, Ok, Err, String, string_bytes}
 use Rattle.std.specs.declared.alloc.Global.{Global}
-use Rattle.basic_toml_tokens.specs.Text.{folded}
 use Rattle.basic_toml_value.specs.Data.{Data}
-use Rattle.basic_toml_value.specs.Nesting.{nesting_limit}
 use Rattle.basic_toml_value.specs.View.{entries}
 use Rattle.basic_toml_value.specs.declared.value.Value.{Value}
 use Rattle.basic_toml_emit.specs.Items.{Item}
 use Rattle.basic_toml_write.specs.declared.error.WriteError.{WriteError}
-use Rattle.basic_toml_grammar.specs.Faults.{nested_too_deeply}
-use Rattle.basic_toml_grammar.specs.Sections.{Section}
-use Rattle.basic_toml_grammar.specs.Grammar.{IsSectionList}
-use Rattle.basic_toml_grammar.specs.Levels.{highest_level}
-use Rattle.basic_toml_error.specs.Fault.{Fault, reading, want_of_memory}
+use Rattle.basic_toml_error.specs.Fault.{Fault, want_of_memory}
 use Rattle.basic_toml_typed.specs.TypeFaults.{table_faults}
 use Rattle.basic_toml_typed.specs.TypeReads.{table_reads, table_takes}
 use Rattle.basic_toml.specs.Reading.{ReadsText}
@@ -56,20 +50,8 @@ ReadingHasOneTable = (text : List ℕ) (table : List (List ℕ × Value)) (b : R
     → ReadsText table_takes table_reads table_faults text (Ok table) → ReadsText table_takes table_reads table_faults text b
     → Agree SameData (λ f. f ≡ want_of_memory) (Ok table) b
 
--- the error that the tree is too deep, where the section list of the text is not
-pub record IsOfDeepTree (text : List ℕ) (f : Fault) : Type 0 where
-  pub kind : f.kind ≡ reading nested_too_deeply
-  pub sections : List Section
-  pub grammar : IsSectionList (folded text) sections
-  pub within : highest_level sections ≤ nesting_limit
-
--- want of memory, or that
-abbrev pub IsOfMemoryOrTree : List ℕ → Fault → Type 0
-IsOfMemoryOrTree text f = (f ≡ want_of_memory) ⊎ IsOfDeepTree text f
-
--- and where it gives none one error, but where the first section that does not go into the tree both clashes and makes it
--- too deep
+-- and where it gives none one error, want of memory aside
 abbrev pub ReadingHasOneError : Type 0
 ReadingHasOneError = (text : List ℕ) (f g : Fault) → ReadsText table_takes table_reads table_faults text (Err f)
     → ReadsText table_takes table_reads table_faults text (Err g)
-    → IsOfMemoryOrTree text f ⊎ (IsOfMemoryOrTree text g ⊎ (f ≡ g))
+    → (f ≡ want_of_memory) ⊎ ((g ≡ want_of_memory) ⊎ (f ≡ g))

@@ -41,8 +41,7 @@ pub fn reading_has_one_table()
     ensures { ReadingHasOneTable }
 {}
 
-/// Two errors that the contract of `from_str` into a `Table` allows for one text are the same, but for want of memory,
-/// and `NestedTooDeeply` where a section list that is within the limit makes a tree that is not.
+/// Two errors that the contract of `from_str` into a `Table` allows for one text are the same, but for want of memory.
 #[tactic(auto, using(crate::proofs::OneAnswer::reading_has_one_error))]
 pub fn reading_has_one_error()
     ensures { ReadingHasOneError }

@@ -1,8 +1,9 @@
 -- The error that names the clash of a section.
-use Rattle.std.specs.Prelude.{◌≡◌, ◌⊎◌, ⊤, map, string_bytes}
+use Rattle.std.specs.Prelude.{◌≡◌, ◌⊎◌, ⊤, Option, Some, map, string_bytes}
 use Rattle.basic_toml_grammar.specs.Faults.{Fault, nested_too_deeply}
 use Rattle.basic_toml_grammar.specs.GrammarFaults.{fault_at}
-use Rattle.basic_toml_grammar.specs.Stops.{Stop, at_header, is_named, is_passed, at_row, Outcome, stops, stop_fault}
+use Rattle.basic_toml_grammar.specs.Sections as sections
+use Rattle.basic_toml_grammar.specs.Stops.{Stop, at_header, is_named, is_passed, at_row, stop_fault}
 use Rattle.basic_toml_explain.specs.Error.{want_of_memory}
 use Rattle.basic_toml_read.specs.SectionView.{section_of}
 use Rattle.basic_toml_read.specs.declared.section.Section.{Section}
@@ -34,8 +35,17 @@ IsStop Named stop = stop ≡ is_named
 IsStop Redefined stop = stop ≡ is_passed
 IsStop (Row met) stop = stop ≡ row_stop met.value
 
--- memory and depth apart, the clash is what stops
-abbrev pub NamesStop : {A : Type 0} → Outcome A → Clash → Type 0
-NamesStop o Memory = ⊤
-NamesStop o Deep = ⊤
-NamesStop o clash = (stop : Stop) × (IsStop clash stop × (o ≡ stops stop))
+-- what keeps a section out of a trie: a level above the limit, or what stands in its way
+pub data Obstacle : Type 0 where
+  too_deep : Obstacle
+  in_the_way : Stop → Obstacle
+
+abbrev pub obstacle_fault : sections.Section → Obstacle → Fault
+obstacle_fault s too_deep = fault_at nested_too_deeply s.at
+obstacle_fault s (in_the_way stop) = stop_fault s stop
+
+-- memory apart, the clash is what is met first
+abbrev pub NamesObstacle : Option Obstacle → Clash → Type 0
+NamesObstacle o Memory = ⊤
+NamesObstacle o Deep = o ≡ Some too_deep
+NamesObstacle o clash = (stop : Stop) × (IsStop clash stop × (o ≡ Some (in_the_way stop)))

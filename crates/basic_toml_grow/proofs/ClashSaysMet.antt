@@ -13,7 +13,8 @@ use Rattle.basic_toml_read.specs.SectionView.{key_of, header_texts, lined_of}
 use Rattle.basic_toml_clash.specs.declared.clash.Clash.{Clash}
 use Rattle.basic_toml_clash.specs.declared.clash.Clash.TheVariants as clashes
 use Rattle.basic_toml_grow.specs.declared.rows.Met.TheVariants as mets
-use Rattle.basic_toml_clash.specs.Clash.{IsStop, NamesStop}
+use Rattle.basic_toml_clash.specs.Clash.{IsStop, NamesObstacle}
+use Rattle.basic_toml_grow.specs.Obstacles.{and_behind}
 use Rattle.basic_toml_grow.specs.RowStops.{key_at, StopsAtKey, SaysMet}
 
 pub same_row : {p q : KeyTexts} {n m : ℕ} {t u : List ℕ} → p ≡ q → n ≡ m → t ≡ u
@@ -21,13 +22,14 @@ pub same_row : {p q : KeyTexts} {n m : ℕ} {t u : List ℕ} → p ≡ q → n �
 same_row a b c = cc
 
 -- a clash that is a stop
-names : (clash : Clash) (x : Stop) (o : Outcome Trie) → IsStop clash x → o ≡ stops x → NamesStop o clash
+names : (clash : Clash) (x : Stop) (o : Outcome Trie) → IsStop clash x → o ≡ stops x
+    → NamesObstacle (and_behind o (λ _. None)) clash
 names clashes.Memory x o is told = absurd is
 names clashes.Deep x o is told = absurd is
-names (clashes.Header left) x o is told = (x, (is, told))
-names clashes.Named x o is told = (x, (is, told))
-names clashes.Redefined x o is told = (x, (is, told))
-names (clashes.Row met) x o is told = (x, (is, told))
+names (clashes.Header left) x o is told = (x, (is, ap (λ (o : Outcome Trie). and_behind o (λ _. None)) told))
+names clashes.Named x o is told = (x, (is, ap (λ (o : Outcome Trie). and_behind o (λ _. None)) told))
+names clashes.Redefined x o is told = (x, (is, ap (λ (o : Outcome Trie). and_behind o (λ _. None)) told))
+names (clashes.Row met) x o is told = (x, (is, ap (λ (o : Outcome Trie). and_behind o (λ _. None)) told))
 
 -- what holds of each clash that is a stop
 pub if_stop : {E : Type 0} (result : Result Clash E) (x : Stop) (P : Clash → Type 0)
@@ -97,7 +99,8 @@ module _ (parents : List keys.Key) (offset : ℕ) (last : List ℕ) (left number
 
   -- the stop at a key, whose place is known
   told_at : (o : Outcome Trie) (m : MetKey o) (k : Key) → m.there ≡ k
-      → texts m.front ≡ header_texts (take (length m.front) parents) → IsStop clash (at_row path k) → NamesStop o clash
+      → texts m.front ≡ header_texts (take (length m.front) parents) → IsStop clash (at_row path k)
+      → NamesObstacle (and_behind o (λ _. None)) clash
   told_at o m k there before said =
       let n = at_front o m in
       names clash (at_row path k) o said

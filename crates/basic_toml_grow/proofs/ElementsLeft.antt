@@ -1,6 +1,7 @@
 -- Elements that are left, and what all elements of an array come to.
 use Rattle.std.proofs.Common.{◌≡◌, ◌≤◌, ◌<◌, ℕ, ◌||◌, List, []}
-use Rattle.std.proofs.Common.{◌∷◌, ◌++◌, map, refl, sym, ap, ◌∙◌, arith, rules, subst}
+use Rattle.std.proofs.Common.{◌∷◌, ◌++◌, map, refl, sym, ap, ◌∙◌, arith, rules, subst, Option}
+use Rattle.std.specs.Option.{option_or}
 use Rattle.std.proofs.lemmas.List.{map-append}
 use Rattle.basic_toml_value.specs.Data.{Data, Items, no_items, item, items_of}
 use Rattle.basic_toml_value.specs.Nesting.{nesting_limit}
@@ -15,14 +16,13 @@ use Rattle.basic_toml_read.specs.declared.section.Element as elements
 use Rattle.basic_toml_grow.specs.declared.item.Child.{Child}
 use Rattle.basic_toml_grow.specs.Item.{tree_data, child_trie}
 use Rattle.basic_toml_grow.specs.Rows.{IsFinished, AreFinished}
-use Rattle.basic_toml_grammar.specs.Stops.{and_on}
-use Rattle.basic_toml_grammar.specs.TrieStops.{try_put_value, try_put_elements}
-use Rattle.basic_toml_grammar.proofs.Naming.WhatIsPutGoesOn.{value_goes}
 use Rattle.basic_toml_clash.specs.declared.clash.Clash.{Clash}
-use Rattle.basic_toml_clash.specs.Clash.{NamesStop}
+use Rattle.basic_toml_clash.specs.Clash.{Obstacle, NamesObstacle}
+use Rattle.basic_toml_grow.specs.Obstacles.{value_obstacle, elements_obstacle}
+use Rattle.basic_toml_grow.proofs.NoObstacles.{value_free}
 use Rattle.basic_toml_grow.proofs.RowsHaveKeys.{every_element}
 use Rattle.basic_toml_grammar.specs.Entering.{value_keyed}
-use Rattle.basic_toml_grow.proofs.RowsLeft.{stopped_then}
+use Rattle.basic_toml_grow.proofs.ObstaclesPassOn.{passed_on}
 
 -- data before that of elements
 abbrev pub before_items : List Data → Items → Items
@@ -33,7 +33,7 @@ before_items (d ∷ front) ds = item d (before_items front ds)
 pub record ElementsAreLeft (whole : Elements) (level : ℕ) (ts : List Trie) (rest : Elements) : Type 0 where
   pub values : before_items (map tree_data ts) (finished_elements rest) ≡ finished_elements whole
   pub clash : elements_clash whole ≡ elements_clash rest
-  pub tried : try_put_elements whole ≡ try_put_elements rest
+  pub met : elements_obstacle level whole ≡ elements_obstacle level rest
   pub fits : elements_level level rest ≤ nesting_limit → elements_level level whole ≤ nesting_limit
   pub deep : nesting_limit < elements_level level rest → nesting_limit < elements_level level whole
 
@@ -72,8 +72,8 @@ element_entered whole level children child e rest left done =
           ∙ one_more (map tree_data (map child_trie children)) (finished v) (finished_elements others)
           ∙ was.values;
       clash = was.clash ∙ ap (λ b. b || elements_clash others) done.apart;
-      tried = was.tried ∙ ap (λ o. and_on o (λ _. try_put_elements others))
-          (value_goes v (sym (ap value_keyed (element_value e)) ∙ every_element e) done.apart).1;
+      met = was.met ∙ ap (λ (o : Option Obstacle). option_or o (elements_obstacle level others))
+          (value_free level v (sym (ap value_keyed (element_value e)) ∙ every_element e) done.apart low);
       fits = λ f. was.fits (omega arith);
       deep = λ d. was.deep (omega arith);
     }
@@ -91,11 +91,12 @@ elements_done whole level ts left = record {
     all_before [] = refl
     all_before (d ∷ ds) = ap (λ is. item d is) (all_before ds)
 
--- what stops the next element stops all
+-- what the next element meets first all meet first
 pub element_stopped : (whole : Elements) (level : ℕ) (ts : List Trie) (e : elements.Element)
     (rest : List elements.Element) (clash : Clash) → ElementsAreLeft whole level ts (elements_view (e ∷ rest))
-    → NamesStop (try_put_value (raw_of (elements.out-Element e).value)) clash → NamesStop (try_put_elements whole) clash
+    → NamesObstacle (value_obstacle level (raw_of (elements.out-Element e).value)) clash
+    → NamesObstacle (elements_obstacle level whole) clash
 element_stopped whole level ts e rest clash left named =
-    stopped_then (try_put_value (raw_of (elements.out-Element e).value)) (try_put_elements whole)
-    (λ _. try_put_elements (elements_view rest)) clash
-    (left.tried ∙ ap (λ es. try_put_elements es) (element_seen e rest)) named
+    passed_on clash (value_obstacle level (raw_of (elements.out-Element e).value)) (elements_obstacle level whole)
+    (λ x is. left.met ∙ ap (λ (es : Elements). elements_obstacle level es) (element_seen e rest)
+    ∙ ap (λ (o : Option Obstacle). option_or o (elements_obstacle level (elements_view rest))) is) named

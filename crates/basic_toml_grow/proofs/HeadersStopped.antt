@@ -1,139 +1,156 @@
--- What stops a header on its way through tables is what its steps name.
-use Rattle.std.proofs.Common.{◌≡◌, ℕ, suc, ◌+◌, ◌<◌, ◌≤◌, Bool, true, false, cond, List, [], ◌∷◌, ◌++◌, length, map}
-use Rattle.std.proofs.Common.{Some, None, refl, ap, sym, ◌∙◌, arith, nat_eq, Vec, Box, Global}
+-- What a header meets first on its way through tables is what its steps name.
+use Rattle.std.proofs.Common.{◌≡◌, ℕ, suc, ◌+◌, ◌<◌, ◌≤◌, Bool, true, false, cond, nat_lt, List, [], ◌∷◌, ◌++◌}
+use Rattle.std.proofs.Common.{length, map}
+use Rattle.std.proofs.Common.{Option, Some, None, refl, ap, sym, ◌∙◌, arith, nat_eq, Vec, Box, Global}
+use Rattle.std.specs.Option.{option_or}
+use Rattle.std.proofs.lemmas.Bool.{ltb-true}
 use Rattle.basic_toml_read.specs.declared.section.Key as code
 use Rattle.basic_toml_read.specs.SectionView.{header_texts}
 use Rattle.basic_toml_value.specs.Data.{Data}
+use Rattle.basic_toml_value.specs.Nesting.{nesting_limit}
 use Rattle.basic_toml_grammar.specs.Sections.{KeyTexts, Rows}
-use Rattle.basic_toml_grammar.specs.Steps.{Step, key, number, step_eq}
+use Rattle.basic_toml_grammar.specs.Steps.{key, number}
 use Rattle.basic_toml_grammar.specs.Standing as standing
-use Rattle.basic_toml_grammar.specs.Trie.{Trie, trie, Tries, no_tries, by, nothing, find}
-use Rattle.basic_toml_grammar.specs.Stops.{Stop, at_header, Outcome, stops}
-use Rattle.basic_toml_grammar.specs.TrieStops.{outcome_map, try_among, try_by_keys, try_put_table}
-use Rattle.basic_toml_grammar.specs.TrieStops.{try_put_element}
-use Rattle.basic_toml_clash.specs.declared.clash.Clash.{Clash}
-use Rattle.basic_toml_clash.specs.declared.clash.Clash.TheVariants.{Memory, Deep, Header, Named, Redefined, Row}
+use Rattle.basic_toml_grammar.specs.Trie.{Trie, Tries, nothing, find, count, steps_to, steps_on}
+use Rattle.basic_toml_grammar.specs.Stops.{Stop, at_header, is_named, is_passed, header_stop}
+use Rattle.basic_toml_grammar.specs.Marks.{added}
+use Rattle.basic_toml_clash.specs.Clash.{Obstacle, too_deep, in_the_way, NamesObstacle}
+use Rattle.basic_toml_clash.specs.declared.clash.Clash.TheVariants.{Header, Named, Redefined}
 use Rattle.basic_toml_grow.specs.declared.item.Item.{Nothing, Tables}
 use Rattle.basic_toml_grow.specs.declared.item.Item as items
 use Rattle.basic_toml_grow.specs.declared.item.Table.{Table, out-Table}
 use Rattle.basic_toml_grow.specs.Item.{item_trie, child_trie, table_trie, by_keys, by_numbers, leaf, no_child}
-use Rattle.basic_toml_clash.specs.Clash.{NamesStop}
-use Rattle.basic_toml_grow.specs.Headers.{tried_by, tried_at}
+use Rattle.basic_toml_grow.specs.Obstacles.{above, table_obstacle, element_obstacle, keys_obstacle}
+use Rattle.basic_toml_grow.specs.Headers.{highest, steps_by, obstacle_by, obstacle_at}
 use Rattle.basic_toml_grow.proofs.HeadersEntered.{Passes, passed_trie}
 use Rattle.basic_toml_grow.proofs.KeysInATrie.{tries_of, stood_there}
 use Rattle.basic_toml_grow.proofs.ItemTries.{table_entries_trie, no_child_trie}
 use Rattle.basic_toml_clash.proofs.HeadersNamed.{texts_count}
 use Rattle.basic_toml_grow.proofs.LatestInATrie.{find_latest}
 use Rattle.basic_toml_grow.proofs.HeadersInATrie.{made, fresh, array_of}
-use Rattle.basic_toml_grow.proofs.TablesOpened.{tables_trie, nothing_trie}
-
--- what stops a step stops the whole
-pub stopped : {A B : Type 0} (clash : Clash) (o : Outcome A) (p : Outcome B)
-    → ((x : Stop) → o ≡ stops x → p ≡ stops x) → NamesStop o clash → NamesStop p clash
-stopped Memory o p on is = tt
-stopped Deep o p on is = tt
-stopped (Header n) o p on is = (is.0, (is.1.0, on is.0 is.1.1))
-stopped Named o p on is = (is.0, (is.1.0, on is.0 is.1.1))
-stopped Redefined o p on is = (is.0, (is.1.0, on is.0 is.1.1))
-stopped (Row met) o p on is = (is.0, (is.1.0, on is.0 is.1.1))
-
-pub same_stops : {A : Type 0} (o p : Outcome A) → p ≡ o → (x : Stop) → o ≡ stops x → p ≡ stops x
-same_stops o p same x is = same ∙ is
-
--- a stop at a step
-among_stops : (s : Step) (f : Trie → Outcome Trie) (ts : Tries) (x : Stop) → f (find s ts) ≡ stops x
-    → try_among s f ts ≡ stops x
-among_stops s f no_tries x e = ap (λ o. outcome_map (λ t. by s t no_tries) o) e
-among_stops s f (by r t ts) x e = go (step_eq r s) (among_stops s f ts x) e
-  where
-    go : (b : Bool) → (f (find s ts) ≡ stops x → try_among s f ts ≡ stops x)
-        → f (cond b t (find s ts)) ≡ stops x
-        → cond b (outcome_map (λ t. by r t ts) (f t)) (outcome_map (λ ts. by r t ts) (try_among s f ts)) ≡ stops x
-    go true ih e = ap (λ o. outcome_map (λ t. by r t ts) o) e
-    go false ih e = ap (λ o. outcome_map (λ ts. by r t ts) o) (ih e)
+use Rattle.basic_toml_grow.proofs.TablesOpened.{tables_trie, nothing_trie, table_item_trie}
+use Rattle.basic_toml_grow.proofs.ObstaclesPassOn.{behind_low, behind_high}
 
 -- a header's step at a key of a table
-tried_through : (a : Bool) (rows : Rows) (k : List ℕ) (keys : KeyTexts) (p n d : Bool) (ts : Tries)
-    → try_by_keys a rows (k ∷ keys) (made p n d ts)
-    ≡ outcome_map (λ ts. made true n d ts) (try_among (key k) (λ t. tried_at a rows keys t) ts)
-tried_through true rows k [] p n d ts = refl
-tried_through false rows k [] p n d ts = refl
-tried_through true rows k (l ∷ keys) p n d ts = refl
-tried_through false rows k (l ∷ keys) p n d ts = refl
+met_through : (a : Bool) (rows : Rows) (k : List ℕ) (keys : KeyTexts) (l : ℕ) (p n d : Bool) (ts : Tries)
+    → keys_obstacle a rows (k ∷ keys) l (made p n d ts)
+    ≡ option_or (above l) (obstacle_at a rows keys (l + 1) (find (key k) ts))
+met_through true rows k [] l p n d ts = refl
+met_through false rows k [] l p n d ts = refl
+met_through true rows k (m ∷ keys) l p n d ts = refl
+met_through false rows k (m ∷ keys) l p n d ts = refl
 
-through_stops : (a : Bool) (rows : Rows) (k : List ℕ) (keys : KeyTexts) (p n d : Bool) (ts : Tries) (x : Stop)
-    → tried_at a rows keys (find (key k) ts) ≡ stops x → try_by_keys a rows (k ∷ keys) (made p n d ts) ≡ stops x
-through_stops a rows k keys p n d ts x e =
-    tried_through a rows k keys p n d ts
-    ∙ ap (λ o. outcome_map (λ ts. made true n d ts) o) (among_stops (key k) (λ t. tried_at a rows keys t) ts x e)
-
-pub passed_stops : (a : Bool) (rows : Rows) (k : List ℕ) (keys whole : KeyTexts) (t u : Table) (position : ℕ)
-    (there now : items.Item) → whole ≡ k ∷ keys → Passes k t position there now u → (x : Stop)
-    → tried_at a rows keys (item_trie there) ≡ stops x → try_by_keys a rows whole (table_trie t) ≡ stops x
-passed_stops a rows k keys whole t u position there now is_whole pass x e =
+pub passed_met : (a : Bool) (rows : Rows) (k : List ℕ) (keys whole : KeyTexts) (l : ℕ) (t u : Table) (position : ℕ)
+    (there now : items.Item) → l ≤ nesting_limit → whole ≡ k ∷ keys → Passes k t position there now u
+    → keys_obstacle a rows whole l (table_trie t) ≡ obstacle_at a rows keys (l + 1) (item_trie there)
+passed_met a rows k keys whole l t u position there now within is_whole pass =
     let f = out-Table t in
-    ap (λ ks. try_by_keys a rows ks (table_trie t)) is_whole
-    ∙ ap (try_by_keys a rows (k ∷ keys)) (table_entries_trie t)
-    ∙ through_stops a rows k keys f.passed f.named f.dotted (by_keys (tries_of child_trie f.entries)) x
-    (ap (tried_at a rows keys)
+    let ts = by_keys (tries_of child_trie f.entries) in
+    ap (λ (ks : KeyTexts). keys_obstacle a rows ks l (table_trie t)) is_whole
+    ∙ ap (keys_obstacle a rows (k ∷ keys) l) (table_entries_trie t)
+    ∙ met_through a rows k keys l f.passed f.named f.dotted ts
+    ∙ behind_low l (obstacle_at a rows keys (l + 1) (find (key k) ts)) within
+    ∙ ap (obstacle_at a rows keys (l + 1))
     (stood_there child_trie k no_child f.entries pass.entries position no_child_trie pass.entered pass.child pass.stands
-    ∙ passed_trie k t u position there now pass) ∙ e)
+    ∙ passed_trie k t u position there now pass)
+
+-- a table above the limit
+pub deep_met : (a : Bool) (rows : Rows) (keys : KeyTexts) (l : ℕ) (t : Trie) → nesting_limit < l
+    → keys_obstacle a rows keys l t ≡ Some too_deep
+deep_met a rows [] l t over = behind_high l _ over
+deep_met a rows (k ∷ []) l t over = behind_high l _ over
+deep_met a rows (k ∷ m ∷ keys) l t over = behind_high l _ over
 
 -- a fresh table stops a header as nothing does
-pub tried_fresh : (a : Bool) (rows : Rows) (keys : KeyTexts)
-    → try_by_keys a rows keys fresh ≡ try_by_keys a rows keys nothing
-tried_fresh a rows [] = refl
-tried_fresh a rows (k ∷ []) = refl
-tried_fresh a rows (k ∷ l ∷ keys) = refl
+pub met_fresh : (a : Bool) (rows : Rows) (keys : KeyTexts) (l : ℕ)
+    → keys_obstacle a rows keys l fresh ≡ keys_obstacle a rows keys l nothing
+met_fresh a rows [] l = refl
+met_fresh a rows (k ∷ []) l = refl
+met_fresh a rows (k ∷ m ∷ keys) l = refl
 
--- what stops a header at a key, where nothing stands there, a table, or an array of tables
-pub tried_into_fresh : (a : Bool) (rows : Rows) (keys : KeyTexts) (i : items.Item) (new : Trie)
-    → i ≡ Nothing → new ≡ fresh → tried_by a rows keys (item_trie i) ≡ try_by_keys a rows keys new
-tried_into_fresh a rows keys i new is is_fresh =
-    ap (tried_by a rows keys) (ap item_trie is ∙ nothing_trie)
-    ∙ sym (tried_fresh a rows keys) ∙ ap (try_by_keys a rows keys) (sym is_fresh)
+-- what a header meets at a key, where nothing stands there, a table, or an array of tables
+pub met_in_fresh : (a : Bool) (rows : Rows) (keys : KeyTexts) (l : ℕ) (i : items.Item) (new : Trie)
+    → i ≡ Nothing → new ≡ fresh → obstacle_by a rows keys l (item_trie i) ≡ keys_obstacle a rows keys l new
+met_in_fresh a rows keys l i new is is_fresh =
+    ap (obstacle_by a rows keys l) (ap item_trie is ∙ nothing_trie)
+    ∙ sym (met_fresh a rows keys l) ∙ ap (keys_obstacle a rows keys l) (sym is_fresh)
 
-latest_stops : (a : Bool) (rows : Rows) (keys : KeyTexts) (before : List Trie) (t : Trie) (x : Stop)
-    → try_by_keys a rows keys t ≡ stops x → tried_by a rows keys (array_of before t) ≡ stops x
-latest_stops a rows keys before t x e =
-    ap (λ o. outcome_map (λ ts. trie (Some (standing.array (suc (length before)))) None ts) o)
-    (among_stops (number (length before)) (λ t. try_by_keys a rows keys t) (by_numbers 0 (before ++ t ∷ [])) x
-    (ap (try_by_keys a rows keys) (find_latest 0 (length before) before t (omega arith)) ∙ e))
+pub met_in_table : (a : Bool) (rows : Rows) (keys : KeyTexts) (l : ℕ) (i : items.Item) (t : Box Table Global)
+    → i ≡ items.Table t → obstacle_by a rows keys l (item_trie i) ≡ keys_obstacle a rows keys l (table_trie t.value)
+met_in_table a rows keys l i t is =
+    ap (obstacle_by a rows keys l) (ap item_trie is ∙ table_item_trie t ∙ table_entries_trie t.value)
+    ∙ ap (keys_obstacle a rows keys l) (sym (table_entries_trie t.value))
 
-pub stopped_in_latest : (a : Bool) (rows : Rows) (keys : KeyTexts) (i : items.Item) (b : Box (Vec Table Global) Global)
-    (latest : Box Table Global) → i ≡ Tables b latest → (x : Stop)
-    → try_by_keys a rows keys (table_trie latest.value) ≡ stops x → tried_by a rows keys (item_trie i) ≡ stops x
-stopped_in_latest a rows keys i b latest is x e =
-    ap (tried_by a rows keys) (ap item_trie is ∙ tables_trie b latest)
-    ∙ latest_stops a rows keys (map table_trie b.value.items) (table_trie latest.value) x e
+latest_met : (a : Bool) (rows : Rows) (keys : KeyTexts) (l : ℕ) (before : List Trie) (t : Trie)
+    → obstacle_by a rows keys l (array_of before t) ≡ option_or (above l) (keys_obstacle a rows keys (l + 1) t)
+latest_met a rows keys l before t =
+    ap (λ (u : Trie). option_or (above l) (keys_obstacle a rows keys (l + 1) u))
+    (find_latest 0 (length before) before t (omega arith))
+
+-- the level of an array is no other obstacle than that of its latest table
+array_aside : (a : Bool) (rows : Rows) (keys : KeyTexts) (l : ℕ) (t : Trie)
+    → option_or (above l) (keys_obstacle a rows keys (l + 1) t) ≡ keys_obstacle a rows keys (l + 1) t
+array_aside a rows keys l t = go (nat_lt nesting_limit l) refl
+  where
+    on : Option Obstacle
+    on = keys_obstacle a rows keys (l + 1) t
+
+    go : (b : Bool) → nat_lt nesting_limit l ≡ b → option_or (above l) on ≡ on
+    go false is = ap (λ (b : Bool). option_or (cond b (Some too_deep) None) on) is
+    go true is =
+        let over : nesting_limit < l = ltb-true nesting_limit l is in
+        behind_high l on over ∙ sym (deep_met a rows keys (l + 1) t (omega (arith, over)))
+
+pub met_in_latest : (a : Bool) (rows : Rows) (keys : KeyTexts) (l m : ℕ) (i : items.Item)
+    (b : Box (Vec Table Global) Global) (latest : Box Table Global) → m ≡ l + 1 → i ≡ Tables b latest
+    → obstacle_by a rows keys l (item_trie i) ≡ keys_obstacle a rows keys m (table_trie latest.value)
+met_in_latest a rows keys l m i b latest same is =
+    let t = table_trie latest.value in
+    ap (obstacle_by a rows keys l) (ap item_trie is ∙ tables_trie b latest)
+    ∙ latest_met a rows keys l (map table_trie b.value.items) t
+    ∙ array_aside a rows keys l t
+    ∙ ap (λ (n : ℕ). keys_obstacle a rows keys n t) (sym same)
 
 -- a value stops a header
-pub value_stops : (a : Bool) (rows : Rows) (keys : KeyTexts) (d : Data)
-    → tried_by a rows keys (leaf d) ≡ stops (at_header (suc (length keys)))
-value_stops a rows [] d = refl
-value_stops a rows (k ∷ []) d = refl
-value_stops a rows (k ∷ l ∷ keys) d = refl
+value_met : (a : Bool) (rows : Rows) (keys : KeyTexts) (l : ℕ) (d : Data) → l ≤ nesting_limit
+    → obstacle_by a rows keys l (leaf d) ≡ Some (in_the_way (at_header (suc (length keys))))
+value_met a rows [] l d within = behind_low l _ within
+value_met a rows (k ∷ []) l d within = behind_low l _ within
+value_met a rows (k ∷ m ∷ keys) l d within = behind_low l _ within
 
 -- what does not add an element goes on by the keys that are left
-pub no_array_tried : (a : Bool) (rows : Rows) (keys : KeyTexts) (t : Trie) → a ≡ false
-    → tried_at a rows keys t ≡ tried_by a rows keys t
-no_array_tried true rows keys t not = cc
-no_array_tried false rows keys t not = refl
+pub no_array_met : (a : Bool) (rows : Rows) (keys : KeyTexts) (l : ℕ) (t : Trie) → a ≡ false
+    → obstacle_at a rows keys l t ≡ obstacle_by a rows keys l t
+no_array_met true rows keys l t not = cc
+no_array_met false rows keys l t not = refl
 
-pub not_last_tried : (a : Bool) (rows : Rows) (keys : List code.Key) (t : Trie) → 1 ≤ length keys
-    → tried_at a rows (header_texts keys) t ≡ tried_by a rows (header_texts keys) t
-not_last_tried a rows [] t some = absurd (omega arith)
-not_last_tried true rows (k ∷ keys) t some = refl
-not_last_tried false rows (k ∷ keys) t some = refl
+pub not_last_met : (a : Bool) (rows : Rows) (keys : List code.Key) (l : ℕ) (t : Trie) → 1 ≤ length keys
+    → obstacle_at a rows (header_texts keys) l t ≡ obstacle_by a rows (header_texts keys) l t
+not_last_met a rows [] l t some = absurd (omega arith)
+not_last_met true rows (k ∷ keys) l t some = refl
+not_last_met false rows (k ∷ keys) l t some = refl
 
-pub value_stopped : (a : Bool) (rows : Rows) (keys : List code.Key) (i : items.Item) (d : Data)
-    → item_trie i ≡ leaf d
-    → NamesStop (tried_by a rows (header_texts keys) (item_trie i)) (Header (length keys + 1))
-value_stopped a rows keys i d is =
+pub value_stopped : (a : Bool) (rows : Rows) (keys : List code.Key) (l : ℕ) (i : items.Item) (d : Data)
+    → l ≤ nesting_limit → item_trie i ≡ leaf d
+    → NamesObstacle (obstacle_by a rows (header_texts keys) l (item_trie i)) (Header (length keys + 1))
+value_stopped a rows keys l i d within is =
     let n : suc (length (header_texts keys)) ≡ length keys + 1 = omega (arith, texts_count keys) in
-    let tried = ap (tried_by a rows (header_texts keys)) is
-    ∙ value_stops a rows (header_texts keys) d ∙ ap (λ n. stops (at_header n)) n in
-    (at_header (length keys + 1), (refl, tried))
+    let met = ap (obstacle_by a rows (header_texts keys) l) is
+    ∙ value_met a rows (header_texts keys) l d within ∙ ap (λ (n : ℕ). Some (in_the_way (at_header n))) n in
+    (at_header (length keys + 1), (refl, met))
+
+-- and so it is above the limit
+pub deep_stopped : (a : Bool) (rows : Rows) (keys : KeyTexts) (l : ℕ) (i : items.Item) (d : Data)
+    → nesting_limit < l → item_trie i ≡ leaf d → obstacle_by a rows keys l (item_trie i) ≡ Some too_deep
+deep_stopped a rows keys l i d over is =
+    ap (obstacle_by a rows keys l) is ∙ deep_met a rows keys l (leaf d) over
+
+pub deep_out : (a : Bool) (keys : KeyTexts) (rows : Rows) (level : ℕ) (t : Trie) → nesting_limit ≤ level
+    → nesting_limit < highest (level + steps_by a keys t) rows
+deep_out a keys rows level t over = one_more (steps_on (λ t. steps_to a keys t) (count t) t)
+  where
+    one_more : (n : ℕ) → nesting_limit < highest (level + suc n) rows
+    one_more n = omega (arith, over)
 
 -- the first element of an array, and one more
 nat_eq-other : (n m : ℕ) → n < m → nat_eq n m ≡ false
@@ -143,30 +160,91 @@ find_next : (k n : ℕ) (before : List Trie) → n ≡ k + length before → fin
 find_next k n [] e = refl
 find_next k n (b ∷ before) e = rw (nat_eq-other k n (omega arith)) (find_next (suc k) n before (omega arith))
 
-pub first_stops : (rows : Rows) (i : items.Item) (new : Trie) → i ≡ Nothing → new ≡ fresh → (x : Stop)
-    → try_put_table rows new ≡ stops x → try_put_element rows (item_trie i) ≡ stops x
-first_stops rows i new is is_fresh x e =
-    let there : try_put_table rows nothing ≡ stops x = ap (try_put_table rows) (sym is_fresh) ∙ e in
-    ap (try_put_element rows) (ap item_trie is ∙ nothing_trie)
-    ∙ ap (λ o. outcome_map (λ ts. trie (Some (standing.array 1)) None ts) o)
-    (among_stops (number 0) (λ t. try_put_table rows t) no_tries x there)
+module _ (rows : Rows) (l m : ℕ) (same : m ≡ l + 1) (i : items.Item) (new : Trie) (is_fresh : new ≡ fresh) where
+  opened : option_or (above l) (table_obstacle (l + 1) rows nothing) ≡ table_obstacle m rows new
+  opened = array_aside false rows [] l nothing ∙ sym (met_fresh false rows [] (l + 1))
+      ∙ ap (λ (n : ℕ). table_obstacle n rows fresh) (sym same) ∙ ap (table_obstacle m rows) (sym is_fresh)
 
-next_element_stops : (rows : Rows) (before : List Trie) (t : Trie) (x : Stop) → try_put_table rows nothing ≡ stops x
-    → try_put_element rows (array_of before t) ≡ stops x
-next_element_stops rows before t x e =
-    let there = find_next 0 (suc (length before)) (before ++ t ∷ []) (omega (arith, length_more before t)) in
-    ap (λ o. outcome_map (λ ts. trie (Some (standing.array (suc (suc (length before))))) None ts) o)
-    (among_stops (number (suc (length before))) (λ t. try_put_table rows t) (by_numbers 0 (before ++ t ∷ [])) x
-    (ap (try_put_table rows) there ∙ e))
-  where
-    length_more : (before : List Trie) (t : Trie) → length (before ++ t ∷ []) ≡ suc (length before)
-    length_more [] t = refl
-    length_more (b ∷ before) t = ap suc (length_more before t)
+  pub first_met : i ≡ Nothing → element_obstacle l rows (item_trie i) ≡ table_obstacle m rows new
+  first_met is = ap (element_obstacle l rows) (ap item_trie is ∙ nothing_trie) ∙ opened
 
-pub next_stops : (rows : Rows) (i : items.Item) (b : Box (Vec Table Global) Global) (latest : Box Table Global) (new : Trie)
-    → i ≡ Tables b latest → new ≡ fresh → (x : Stop) → try_put_table rows new ≡ stops x
-    → try_put_element rows (item_trie i) ≡ stops x
-next_stops rows i b latest new is is_fresh x e =
-    let there : try_put_table rows nothing ≡ stops x = ap (try_put_table rows) (sym is_fresh) ∙ e in
-    ap (try_put_element rows) (ap item_trie is ∙ tables_trie b latest)
-    ∙ next_element_stops rows (map table_trie b.value.items) (table_trie latest.value) x there
+  pub next_met : (b : Box (Vec Table Global) Global) (latest : Box Table Global) → i ≡ Tables b latest
+      → element_obstacle l rows (item_trie i) ≡ table_obstacle m rows new
+  next_met b latest is =
+      let before = map table_trie b.value.items in
+      let t = table_trie latest.value in
+      let there = find_next 0 (suc (length before)) (before ++ t ∷ []) (omega (arith, length_more before t)) in
+      ap (element_obstacle l rows) (ap item_trie is ∙ tables_trie b latest)
+      ∙ ap (λ (u : Trie). option_or (above l) (table_obstacle (l + 1) rows u)) there ∙ opened
+    where
+      length_more : (before : List Trie) (t : Trie) → length (before ++ t ∷ []) ≡ suc (length before)
+      length_more [] t = refl
+      length_more (b ∷ before) t = ap suc (length_more before t)
+
+-- above the limit no element is added
+pub deep_bars : (rows : Rows) (l : ℕ) (t : Trie) → nesting_limit < l → element_obstacle l rows t ≡ Some too_deep
+deep_bars rows l t over = behind_high l _ over
+
+-- where no array stands no element is added
+module _ (rows : Rows) (l : ℕ) (within : l ≤ nesting_limit) (i : items.Item) where
+  table_bars : (t : Box Table Global) → i ≡ items.Table t
+      → element_obstacle l rows (item_trie i)
+      ≡ Some (in_the_way (header_stop added 0
+      (Some (standing.table (out-Table t.value).passed (out-Table t.value).named (out-Table t.value).dotted))))
+  table_bars t is =
+      ap (element_obstacle l rows) (ap item_trie is ∙ table_item_trie t ∙ table_entries_trie t.value)
+      ∙ behind_low l _ within
+
+  pub dotted_bars : (t : Box Table Global) → i ≡ items.Table t → (out-Table t.value).dotted ≡ true
+      → NamesObstacle (element_obstacle l rows (item_trie i)) (Header 1)
+  dotted_bars t is dots = (
+    at_header 1,
+    (
+      refl,
+      table_bars t is ∙ ap (λ (x : Stop). Some (in_the_way x))
+          (at_dots (out-Table t.value).passed (out-Table t.value).named (out-Table t.value).dotted dots),
+    ),
+  )
+    where
+      at_dots : (p n d : Bool) → d ≡ true → header_stop added 0 (Some (standing.table p n d)) ≡ at_header 1
+      at_dots p true true dots = refl
+      at_dots p false true dots = refl
+      at_dots p n false dots = absurd (cc)
+
+  pub named_bars : (t : Box Table Global) → i ≡ items.Table t → (out-Table t.value).dotted ≡ false
+      → (out-Table t.value).named ≡ true → NamesObstacle (element_obstacle l rows (item_trie i)) Named
+  named_bars t is dots names = (
+    is_named,
+    (
+      refl,
+      table_bars t is ∙ ap (λ (x : Stop). Some (in_the_way x))
+          (at_name (out-Table t.value).passed (out-Table t.value).named (out-Table t.value).dotted names dots),
+    ),
+  )
+    where
+      at_name : (p n d : Bool) → n ≡ true → d ≡ false
+          → header_stop added 0 (Some (standing.table p n d)) ≡ is_named
+      at_name p true false names dots = refl
+      at_name p false d names dots = absurd (cc)
+      at_name p n true names dots = absurd (cc)
+
+  pub passed_bars : (t : Box Table Global) → i ≡ items.Table t → (out-Table t.value).dotted ≡ false
+      → (out-Table t.value).named ≡ false → NamesObstacle (element_obstacle l rows (item_trie i)) Redefined
+  passed_bars t is dots names = (
+    is_passed,
+    (
+      refl,
+      table_bars t is ∙ ap (λ (x : Stop). Some (in_the_way x))
+          (at_table (out-Table t.value).passed (out-Table t.value).named (out-Table t.value).dotted names dots),
+    ),
+  )
+    where
+      at_table : (p n d : Bool) → n ≡ false → d ≡ false
+          → header_stop added 0 (Some (standing.table p n d)) ≡ is_passed
+      at_table p false false names dots = refl
+      at_table p true d names dots = absurd (cc)
+      at_table p n true names dots = absurd (cc)
+
+  pub value_bars : (d : Data) → item_trie i ≡ leaf d
+      → NamesObstacle (element_obstacle l rows (item_trie i)) (Header 1)
+  value_bars d is = (at_header 1, (refl, ap (element_obstacle l rows) is ∙ behind_low l _ within))

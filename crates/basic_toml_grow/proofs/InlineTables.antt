@@ -16,11 +16,10 @@ use Rattle.basic_toml_grow.specs.Rows.{AreIn, AreKeptOut, Reason, memory, deep, 
 use Rattle.basic_toml_grow.specs.Rows.{IsFinished, IsUnfinished}
 use Rattle.basic_toml_grow.proofs.Reasons.{KeptFor, for_kept, UnfinishedFor, unfinished_for}
 use Rattle.basic_toml_grammar.specs.Trie.{nothing}
-use Rattle.basic_toml_grammar.specs.Stops.{Stop, stops}
-use Rattle.basic_toml_grammar.specs.TrieStops.{try_put_rows, try_put_value}
-use Rattle.basic_toml_grammar.proofs.Naming.WhatIsPutGoesOn.{rows_aside}
-use Rattle.basic_toml_clash.specs.declared.clash.Clash.TheVariants as clashes
-use Rattle.basic_toml_clash.specs.Clash.{NamesStop}
+use Rattle.basic_toml_clash.specs.Clash.{Obstacle, NamesObstacle}
+use Rattle.basic_toml_grow.specs.Obstacles.{rows_obstacle, value_obstacle}
+use Rattle.basic_toml_grow.proofs.NoObstacles.{rows_aside}
+use Rattle.basic_toml_grow.proofs.ObstaclesPassOn.{behind_low}
 
 pub inline_finished : (rows : Rows) (table : Box Table Global) (s : Option standings.Standing)
     (before : Trie) (level : ℕ) → rows_keyed rows ≡ true → level < nesting_limit
@@ -59,21 +58,14 @@ inline_kept_out rows s before level clash keyed empty kept =
     go crossed (inr none) =
         refused_clash rows s keyed (ap (λ t. put_rows rows t) (sym empty) ∙ none) (rows_clash rows) refl
 
--- what stops the rows of an empty table stops those of an inline table
-pub inline_stopped : (rows : Rows) (s : Option standings.Standing) (before : Trie) (clash : Clash)
-    → rows_keyed rows ≡ true → before ≡ trie s None no_tries → NamesStop (try_put_rows rows before) clash
-    → NamesStop (try_put_value (Raw.inline rows)) clash
-inline_stopped rows s before clash keyed empty named =
-    go clash (subst (λ (t : Trie). NamesStop (try_put_rows rows t) clash) empty named)
-  where
-    aside : (x : Stop) → try_put_rows rows (trie s None no_tries) ≡ stops x → try_put_rows rows nothing ≡ stops x
-    aside x stop = rows_aside rows s None None None no_tries x keyed stop
-
-    go : (clash : Clash) → NamesStop (try_put_rows rows (trie s None no_tries)) clash
-        → NamesStop (try_put_rows rows nothing) clash
-    go clashes.Memory named = tt
-    go clashes.Deep named = tt
-    go (clashes.Header left) named = (named.0, (named.1.0, aside named.0 named.1.1))
-    go clashes.Named named = (named.0, (named.1.0, aside named.0 named.1.1))
-    go clashes.Redefined named = (named.0, (named.1.0, aside named.0 named.1.1))
-    go (clashes.Row met) named = (named.0, (named.1.0, aside named.0 named.1.1))
+-- what the rows of an empty table meet first those of an inline table do
+pub inline_stopped : (rows : Rows) (s : Option standings.Standing) (before : Trie) (level : ℕ) (clash : Clash)
+    → rows_keyed rows ≡ true → level < nesting_limit → before ≡ trie s None no_tries
+    → NamesObstacle (rows_obstacle (level + 1) rows before) clash
+    → NamesObstacle (value_obstacle level (Raw.inline rows)) clash
+inline_stopped rows s before level clash keyed low empty named =
+    let same : rows_obstacle (level + 1) rows before ≡ value_obstacle level (Raw.inline rows) =
+    ap (λ (t : Trie). rows_obstacle (level + 1) rows t) empty
+    ∙ rows_aside (level + 1) rows s None None None no_tries keyed
+    ∙ sym (behind_low (level + 1) (rows_obstacle (level + 1) rows nothing) (omega arith)) in
+    subst (λ (o : Option Obstacle). NamesObstacle o clash) same named

@@ -1,6 +1,10 @@
 pub mod HeadersEntered
 pub mod HeadersInATrie
 pub mod HeadersStopped
+pub mod ObstaclesPassOn
+pub mod NoObstacles
+pub mod ObstaclesAreStops
+pub mod ObstaclesAreLevels
 pub mod ItemTries
 pub mod ItemsStand
 pub mod KeysInATrie

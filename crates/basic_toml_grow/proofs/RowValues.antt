@@ -1,6 +1,8 @@
 -- One row with its value, put into a table of a level.
 use Rattle.std.proofs.Common.{◌≡◌, ◌≤◌, ◌<◌, ℕ, ◌+◌, ◌-◌, inl, List, []}
-use Rattle.std.proofs.Common.{◌∷◌, ◌++◌, length, map, Some, Err, refl, sym, ap, ◌∙◌, arith, rules, subst}
+use Rattle.std.proofs.Common.{◌∷◌, ◌++◌, length, map, Option, Some, None, Err, refl, sym, ap, ◌∙◌, arith, rules}
+use Rattle.std.proofs.Common.{subst, option_map}
+use Rattle.std.specs.Option.{option_or}
 use Rattle.basic_toml_value.specs.Data.{Data}
 use Rattle.basic_toml_value.specs.Nesting.{nesting_limit}
 use Rattle.basic_toml_grammar.specs.Sections.{Key, texts, Raw, no_rows, row, KeyTexts}
@@ -18,13 +20,14 @@ use Rattle.basic_toml_grow.specs.Item.{leaf}
 use Rattle.basic_toml_grow.specs.Rows.{AreIn, AreKeptOut, one_row, Reason, memory, deep, crossed, reason}
 use Rattle.basic_toml_grow.specs.Rows.{met_reason, Enters, IsFinished, IsUnfinished}
 use Rattle.basic_toml_grow.proofs.Reasons.{KeptFor, kept_for, UnfinishedFor, for_unfinished, kept_for_met}
-use Rattle.basic_toml_grammar.specs.Stops.{goes_on, and_on, held}
-use Rattle.basic_toml_grammar.specs.TrieStops.{try_put_row, try_put_rows, try_put_value}
-use Rattle.basic_toml_grammar.proofs.Naming.WhatIsPutGoesOn.{value_goes}
-use Rattle.basic_toml_clash.specs.Clash.{NamesStop}
+use Rattle.basic_toml_grammar.specs.TrieStops.{try_put_row}
+use Rattle.basic_toml_clash.specs.Clash.{Obstacle, too_deep, NamesObstacle}
+use Rattle.basic_toml_grow.specs.Obstacles.{and_behind, held_obstacle, value_obstacle, rows_obstacle}
+use Rattle.basic_toml_grow.proofs.NoObstacles.{value_free}
+use Rattle.basic_toml_grow.proofs.ObstaclesPassOn.{passed_on, behind_low, behind_high}
 use Rattle.basic_toml_grow.specs.RowStops.{key_at, TellsRow, SaysMet, SaysHeld}
 use Rattle.basic_toml_grow.proofs.RowsHaveKeys.{every_row}
-use Rattle.basic_toml_grow.proofs.RowsLeft.{clash_alone, then_same, stopped_then}
+use Rattle.basic_toml_grow.proofs.RowsLeft.{clash_alone, then_same}
 
 kept_by_value : (ks : List Key) (at : ℕ) (v : Raw) (level last : ℕ) (before : Trie) (why : Reason)
     → last ≡ level + length ks - 1 → UnfinishedFor v last why → KeptFor (row ks at v no_rows) level before why
@@ -71,14 +74,32 @@ module _ (parents : List keys.Key) (r : lines.Row) (level : ℕ) (before : Trie)
       (for_unfinished v (level + length parents) clash
       (subst (λ (w : Raw). IsUnfinished w (level + length parents) clash) (sym (row_value r)) unfinished))))
 
-  -- what stops its value stops it
-  pub value_stopped : (clash outer : Clash) → SaysHeld ks clash outer
-      → NamesStop (try_put_value (raw_of (lines.out-Row r).value)) clash
-      → NamesStop (try_put_rows (one_row parents r) before) outer
-  value_stopped clash outer says named =
-      stopped_then (held ks (try_put_value v)) (try_put_rows (one_row parents r) before)
-      (λ _. and_on (try_put_row [] ks (finished v) before) (λ t. goes_on t)) outer
-      refl (says (try_put_value v) (subst (λ (w : Raw). NamesStop (try_put_value w) clash) (sym (row_value r)) named))
+  -- a row above the limit, and one that is not
+  pub deep_stopped : nesting_limit < level + length parents
+      → rows_obstacle level (one_row parents r) before ≡ Some too_deep
+  deep_stopped high = behind_high (level + length ks - 1) _ (omega (arith, high, last_level))
+
+  behind_level : level + length parents ≤ nesting_limit
+      → rows_obstacle level (one_row parents r) before
+      ≡ option_or (option_map (held_obstacle ks) (value_obstacle (level + length parents) v))
+      (and_behind (try_put_row [] ks (finished v) before) (λ _. None))
+  behind_level low =
+      behind_low (level + length ks - 1) _ (omega (arith, low, last_level))
+      ∙ ap (λ (l : ℕ). option_or (option_map (held_obstacle ks) (value_obstacle l v))
+      (and_behind (try_put_row [] ks (finished v) before) (λ _. None))) (sym last_level)
+
+  -- what its value meets first it meets first
+  pub value_stopped : (clash outer : Clash) → level + length parents ≤ nesting_limit → SaysHeld ks clash outer
+      → NamesObstacle (value_obstacle (level + length parents) (raw_of (lines.out-Row r).value)) clash
+      → NamesObstacle (rows_obstacle level (one_row parents r) before) outer
+  value_stopped clash outer low says named =
+      let l = level + length parents in
+      passed_on outer (option_map (held_obstacle ks) (value_obstacle l v))
+      (rows_obstacle level (one_row parents r) before)
+      (λ x is. behind_level low
+      ∙ ap (λ (o : Option Obstacle). option_or o (and_behind (try_put_row [] ks (finished v) before) (λ _. None))) is)
+      (says (value_obstacle l v)
+      (subst (λ (w : Raw). NamesObstacle (value_obstacle l w) clash) (sym (row_value r)) named))
 
   -- what its value comes to
   its_value : (child : Trie) → IsFinished (raw_of (lines.out-Row r).value) (level + length parents) child
@@ -89,21 +110,23 @@ module _ (parents : List keys.Key) (r : lines.Row) (level : ℕ) (before : Trie)
   -- and what is met
   pub met_stopped : (child : Trie) (met : Met) (clash : Clash) (a b : List ℕ) (offset : ℕ)
       → a ≡ (lined_of r).key.text → b ≡ (lined_of r).key.text → offset ≡ (lined_of r).key.offset
+      → level + length parents ≤ nesting_limit
       → SaysMet (map key_of parents) (key_at offset b) met clash
       → IsFinished (raw_of (lines.out-Row r).value) (level + length parents) child
       → ((d : Data) → child ≡ leaf d → TellsRow (map key_of parents) a d before met)
-      → NamesStop (try_put_rows (one_row parents r) before) clash
-  met_stopped child met clash a b offset is_a is_b is_offset says done tells =
+      → NamesObstacle (rows_obstacle level (one_row parents r) before) clash
+  met_stopped child met clash a b offset is_a is_b is_offset low says done tells =
       let f = its_value child done in
-      let g = value_goes v (every_row r) f.apart in
+      let free = value_free (level + length parents) v (every_row r) f.apart f.fits in
       let k : key_at offset b ≡ (lined_of r).key = same_key is_offset is_b in
       let told = subst (λ (l : List ℕ). TellsRow (map key_of parents) l (finished v) before met) is_a
       (tells (finished v) f.value) in
-      stopped_then (try_put_row [] ks (finished v) before) (try_put_rows (one_row parents r) before)
-      (λ t. goes_on t) clash
-      (ap (λ o. and_on (held ks o) (λ _. and_on (try_put_row [] ks (finished v) before) (λ t. goes_on t))) g.1)
-      (subst (λ (k : Key). SaysMet (map key_of parents) k met clash) k says
-      (try_put_row [] ks (finished v) before) (told [] (lined_of r).key.offset))
+      let o = try_put_row [] ks (finished v) before in
+      passed_on clash (and_behind o (λ _. None)) (rows_obstacle level (one_row parents r) before)
+      (λ x is. behind_level low
+      ∙ ap (λ (a : Option Obstacle). option_or (option_map (held_obstacle ks) a) (and_behind o (λ _. None))) free
+      ∙ is)
+      (subst (λ (k : Key). SaysMet (map key_of parents) k met clash) k says o (told [] (lined_of r).key.offset))
 
   module _ (texts_are : KeyTexts) (is_texts : texts_are ≡ header_texts parents ++ (lined_of r).key.text ∷ []) where
     same_texts : texts ks ≡ texts_are

@@ -1,6 +1,6 @@
 -- The first rows of all are in the table: what the rows after them come to, all come to.
 use Rattle.std.proofs.Common.{◌≡◌, ℕ, Bool, true, false, ◌||◌, inl, inr, List, [], Some, refl, sym, ap, ◌∙◌, subst}
-use Rattle.std.proofs.Common.{Result, Ok, Err, IfErr, ◌≤◌, ◌++◌, map, take, drop}
+use Rattle.std.proofs.Common.{Result, Ok, Err, IfErr, Option, ◌≤◌, ◌++◌, map, take, drop}
 use Rattle.std.proofs.lemmas.List.{take-append-drop}
 use Rattle.basic_toml_value.specs.Keys.{are_distinct}
 use Rattle.basic_toml_value.specs.Nesting.{nesting_limit}
@@ -8,10 +8,9 @@ use Rattle.basic_toml_grammar.specs.Sections.{texts, Rows, no_rows, row}
 use Rattle.basic_toml_grammar.specs.Steps.{steps_of}
 use Rattle.basic_toml_grammar.specs.RowClash.{rows_clash, value_clashes, any_overlaps}
 use Rattle.basic_toml_grammar.specs.Trie.{Trie, put_rows}
-use Rattle.basic_toml_grammar.specs.Stops.{Outcome}
-use Rattle.basic_toml_grammar.specs.TrieStops.{try_put_rows}
 use Rattle.basic_toml_grammar.proofs.Tries.RowsThatOverlapAreRefused.{values_clash, put_apart}
-use Rattle.basic_toml_clash.specs.Clash.{NamesStop}
+use Rattle.basic_toml_clash.specs.Clash.{Obstacle, NamesObstacle}
+use Rattle.basic_toml_grow.specs.Obstacles.{rows_obstacle}
 use Rattle.basic_toml_clash.specs.Simple.{are_simple, are_all_plain, key_of}
 use Rattle.basic_toml_clash.specs.declared.clash.Clash.{Clash}
 use Rattle.basic_toml_read.specs.SectionView.{rows_seen}
@@ -93,12 +92,12 @@ module _ {s level : ℕ} {rows more : List Row} {t now : Table} (first : FirstIn
   all_entered after (Ok x) entered = others_in after entered
   all_entered after (Err clash) kept = others_kept_out clash kept
 
-  -- what stops these stops all
+  -- what these meet first all meet first
   pub all_stopped : (result : Result (Unit {0}) Clash)
-      → IfErr result (λ clash. NamesStop (try_put_rows (rows_seen [] more) (table_trie now)) clash)
-      → IfErr result (λ clash. NamesStop (try_put_rows (rows_seen [] rows) (table_trie t)) clash)
+      → IfErr result (λ clash. NamesObstacle (rows_obstacle level (rows_seen [] more) (table_trie now)) clash)
+      → IfErr result (λ clash. NamesObstacle (rows_obstacle level (rows_seen [] rows) (table_trie t)) clash)
   all_stopped (Ok after) named = tt
-  all_stopped (Err clash) named = subst (λ (o : Outcome Trie). NamesStop o clash) (sym first.left.tried) named
+  all_stopped (Err clash) named = subst (λ (o : Option Obstacle). NamesObstacle o clash) (sym first.left.met) named
 
   -- and where these come from, all come from
   pub all_come : (u : Table) → table_within u ≡ with_more (table_within now) (rows_origins s (rows_seen [] more))

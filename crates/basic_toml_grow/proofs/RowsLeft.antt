@@ -1,6 +1,7 @@
 -- Rows that are left, and what all rows come to.
 use Rattle.std.proofs.Common.{◌≡◌, ◌≤◌, ◌<◌, ℕ, Bool, true, false, ◌||◌, ◌&&◌, inl, inr, List, [], Option, Some, None}
-use Rattle.std.proofs.Common.{refl, sym, ap, ◌∙◌, arith, length, subst}
+use Rattle.std.proofs.Common.{refl, sym, ap, ◌∙◌, arith, length, subst, option_map, ◌+◌, ◌-◌}
+use Rattle.std.specs.Option.{option_or}
 use Rattle.basic_toml_clash.proofs.DataParts.{nothing_left}
 use Rattle.basic_toml_read.specs.declared.section.Key as keys
 use Rattle.basic_toml_read.specs.declared.section.Row as lines
@@ -11,23 +12,24 @@ use Rattle.basic_toml_grammar.specs.Sections.{Key, texts, Raw, Rows, no_rows, ro
 use Rattle.basic_toml_grammar.specs.Steps.{steps_of}
 use Rattle.basic_toml_grammar.specs.RowClash.{rows_clash, value_clashes, any_overlaps}
 use Rattle.basic_toml_grammar.specs.Levels.{rows_level}
-use Rattle.basic_toml_grammar.specs.Entering.{and_then, rows_keyed, keyed_within}
+use Rattle.basic_toml_grammar.specs.Entering.{and_then, rows_keyed, keyed_within, has_key, value_keyed}
 use Rattle.basic_toml_grammar.specs.Mentions.{finished}
 use Rattle.basic_toml_grammar.specs.Trie.{Trie, put_row, put_rows}
 use Rattle.basic_toml_grammar.proofs.Tries.RowsThatOverlapAreRefused.{values_clash, put_apart}
 use Rattle.basic_toml_grow.specs.Rows.{AreIn, AreKeptOut, Reason, memory, deep, crossed, reason}
-use Rattle.basic_toml_grammar.specs.Stops.{Outcome, goes_on, stops, and_on, held}
-use Rattle.basic_toml_grammar.specs.TrieStops.{try_put_row, try_put_rows, try_put_value}
-use Rattle.basic_toml_grammar.proofs.Naming.WhatIsPutGoesOn.{rows_go}
-use Rattle.basic_toml_clash.specs.Clash.{NamesStop}
-use Rattle.basic_toml_clash.specs.declared.clash.Clash.TheVariants.{Memory, Deep, Header, Named, Redefined, Row}
+use Rattle.basic_toml_grammar.specs.Stops.{Outcome, goes_on, stops}
+use Rattle.basic_toml_grammar.specs.TrieStops.{try_put_row}
+use Rattle.basic_toml_clash.specs.Clash.{Obstacle, NamesObstacle}
 use Rattle.basic_toml_clash.specs.declared.clash.Clash.{Clash}
 use Rattle.basic_toml_grow.proofs.Reasons.{KeptFor, kept_for, for_kept}
+use Rattle.basic_toml_grow.specs.Obstacles.{above, and_behind, held_obstacle, value_obstacle, rows_obstacle}
+use Rattle.basic_toml_grow.proofs.NoObstacles.{row_behind, value_free}
+use Rattle.basic_toml_grow.proofs.ObstaclesPassOn.{passed_on}
 
 -- Putting the rows that are left into the table as it is, is putting all rows into the table as it was.
 pub record AreLeft (whole : Rows) (level : ℕ) (before : Trie) (left : Rows) (now : Trie) : Type 0 where
   pub put : put_rows whole before ≡ put_rows left now
-  pub tried : try_put_rows whole before ≡ try_put_rows left now
+  pub met : rows_obstacle level whole before ≡ rows_obstacle level left now
   pub clash : rows_clash left ≡ true → rows_clash whole ≡ true
   pub values : values_clash whole ≡ values_clash left
   pub fits : rows_level level left ≤ nesting_limit → rows_level level whole ≤ nesting_limit
@@ -41,7 +43,7 @@ both false b e = absurd (cc)
 pub all_left : (rows : Rows) (level : ℕ) (before : Trie) → AreLeft rows level before rows before
 all_left rows level before = record {
   put = refl;
-  tried = refl;
+  met = refl;
   clash = λ c. c;
   values = refl;
   fits = λ f. f;
@@ -118,37 +120,26 @@ pub then_same : {A : Type 0} (o : Option A) → and_then o (λ x. Some x) ≡ o
 then_same None = refl
 then_same (Some x) = refl
 
--- a row that is tried, and those after it
-one_then : (ks : List Key) (at : ℕ) (v : Raw) (rows : Rows) (t : Trie)
-    → try_put_rows (row ks at v rows) t
-    ≡ and_on (try_put_rows (row ks at v no_rows) t) (λ t. try_put_rows rows t)
-one_then ks at v rows t = go (held ks (try_put_value v))
+-- what a row alone meets first, it meets first before others
+one_first : (level : ℕ) (ks : List Key) (at : ℕ) (v : Raw) (rows : Rows) (t : Trie) (x : Obstacle)
+    → rows_obstacle level (row ks at v no_rows) t ≡ Some x → rows_obstacle level (row ks at v rows) t ≡ Some x
+one_first level ks at v rows t x is =
+    let last = level + length ks - 1 in
+    go (above last) (option_map (held_obstacle ks) (value_obstacle last v)) (try_put_row [] ks (finished v) t) is
   where
-    again : (o : Outcome Trie) → and_on o (λ t. try_put_rows rows t)
-        ≡ and_on (and_on o (λ t. goes_on t)) (λ t. try_put_rows rows t)
-    again (stops x) = refl
-    again (goes_on u) = refl
-
-    go : (o : Outcome Trie)
-        → and_on o (λ _. and_on (try_put_row [] ks (finished v) t) (λ t. try_put_rows rows t))
-        ≡ and_on (and_on o (λ _. and_on (try_put_row [] ks (finished v) t) (λ t. goes_on t)))
-        (λ t. try_put_rows rows t)
-    go (stops x) = refl
-    go (goes_on u) = again (try_put_row [] ks (finished v) t)
-
--- what stops a step stops what goes on from it
-pub stopped_then : {A : Type 0} (o : Outcome A) (p : Outcome Trie) (f : A → Outcome Trie) (clash : Clash)
-    → p ≡ and_on o f
-    → NamesStop o clash → NamesStop p clash
-stopped_then o p f Memory is named = tt
-stopped_then o p f Deep is named = tt
-stopped_then o p f (Header left) is named = (named.0, (named.1.0, is ∙ ap (λ o. and_on o f) named.1.1))
-stopped_then o p f Named is named = (named.0, (named.1.0, is ∙ ap (λ o. and_on o f) named.1.1))
-stopped_then o p f Redefined is named = (named.0, (named.1.0, is ∙ ap (λ o. and_on o f) named.1.1))
-stopped_then o p f (Row met) is named = (named.0, (named.1.0, is ∙ ap (λ o. and_on o f) named.1.1))
+    go : (a b : Option Obstacle) (o : Outcome Trie)
+        → option_or a (option_or b (and_behind o (λ t. None))) ≡ Some x
+        → option_or a (option_or b (and_behind o (λ t. rows_obstacle level rows t))) ≡ Some x
+    go (Some y) b o is = is
+    go None (Some y) o is = is
+    go None None (stops y) is = is
+    go None None (goes_on u) is = absurd (cc)
 
 module _ (whole : Rows) (level : ℕ) (before : Trie) (ks : List Key) (at : ℕ) (v : Raw) (rest : Rows) (now : Trie)
     (left : AreLeft whole level before (row ks at v rest) now) where
+  value_has_keys : keyed_within (row ks at v no_rows) ≡ true → value_keyed v ≡ true
+  value_has_keys keyed = (both (has_key ks) (value_keyed v) (both (has_key ks && value_keyed v) true keyed).0).1
+
   -- after a row that is in the table the rows after it are left
   pub row_entered : (after : Trie) → keyed_within (row ks at v no_rows) ≡ true
       → AreIn (row ks at v no_rows) level now after → AreLeft whole level before rest after
@@ -156,10 +147,11 @@ module _ (whole : Rows) (level : ℕ) (before : Trie) (ks : List Key) (at : ℕ)
       let is_put : put_row (texts ks) (finished v) now ≡ Some after =
       sym (then_same (put_row (texts ks) (finished v) now)) ∙ entered.put in
       let free : value_clashes v ≡ false = sym (clash_alone ks at v) ∙ entered.apart in
-      let gone : try_put_rows (row ks at v no_rows) now ≡ goes_on after =
-      rows_go (row ks at v no_rows) now after keyed entered.apart entered.put in
+      let fits = entered.fits in
+      let value : value_obstacle (level + length ks - 1) v ≡ None =
+      value_free (level + length ks - 1) v (value_has_keys keyed) free (omega (arith, fits)) in
       record {
-        tried = left.tried ∙ one_then ks at v rest now ∙ ap (λ o. and_on o (λ t. try_put_rows rest t)) gone;
+        met = left.met ∙ row_behind level ks at v rest now after (omega (arith, fits)) value is_put;
         put = left.put ∙ ap (λ o. and_then o (λ t. put_rows rest t)) is_put;
         clash = λ c. left.clash (clash_after ks at v rest c);
         values = left.values ∙ ap (λ b. b || values_clash rest) free;
@@ -183,9 +175,9 @@ module _ (whole : Rows) (level : ℕ) (before : Trie) (ks : List Key) (at : ℕ)
       go crossed (inl c) = inl (left.clash (clash_more ks at v rest (sym (clash_alone ks at v) ∙ c)))
       go crossed (inr none) = inr (left.put ∙ refused none)
 
-  -- and what stops it stops all rows
-  pub row_stopped : (clash : Clash) → NamesStop (try_put_rows (row ks at v no_rows) now) clash
-      → NamesStop (try_put_rows whole before) clash
+  -- and what it meets first all rows meet first
+  pub row_stopped : (clash : Clash) → NamesObstacle (rows_obstacle level (row ks at v no_rows) now) clash
+      → NamesObstacle (rows_obstacle level whole before) clash
   row_stopped clash named =
-      stopped_then (try_put_rows (row ks at v no_rows) now) (try_put_rows whole before)
-      (λ t. try_put_rows rest t) clash (left.tried ∙ one_then ks at v rest now) named
+      passed_on clash (rows_obstacle level (row ks at v no_rows) now) (rows_obstacle level whole before)
+      (λ x is. left.met ∙ one_first level ks at v rest now x is) named

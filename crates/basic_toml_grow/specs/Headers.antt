@@ -7,10 +7,10 @@ use Rattle.basic_toml_grammar.specs.Sections.{KeyTexts, Rows}
 use Rattle.basic_toml_grammar.specs.RowClash.{rows_clash}
 use Rattle.basic_toml_grammar.specs.Levels.{rows_level}
 use Rattle.basic_toml_grammar.specs.Trie.{Trie, walk, steps_to, steps_on, go_on, count, put_element}
-use Rattle.basic_toml_grammar.specs.Stops.{Outcome}
-use Rattle.basic_toml_grammar.specs.TrieStops.{try_go_on, try_by_keys, try_put_element}
 use Rattle.basic_toml_clash.specs.declared.clash.Clash.{Clash}
 use Rattle.basic_toml_clash.specs.declared.clash.Clash.TheVariants.{Memory, Deep}
+use Rattle.basic_toml_clash.specs.Clash.{Obstacle}
+use Rattle.basic_toml_grow.specs.Obstacles.{element_obstacle, obstacle_on, keys_obstacle}
 
 -- the highest level of a section whose table is on a level
 abbrev pub highest : ℕ → Rows → ℕ
@@ -54,10 +54,11 @@ abbrev pub steps_at : Bool → KeyTexts → Trie → ℕ
 steps_at true [] t = 2
 steps_at is_array keys t = steps_by is_array keys t
 
--- the same steps, each of which names what stops it
-abbrev pub tried_by : Bool → Rows → KeyTexts → Trie → Outcome Trie
-tried_by is_array rows keys t = try_go_on (λ t. try_by_keys is_array rows keys t) (length keys) (count t) t
+-- what is met first on these steps, where what stands there is on a level
+abbrev pub obstacle_by : Bool → Rows → KeyTexts → ℕ → Trie → Option Obstacle
+obstacle_by is_array rows keys l t =
+    obstacle_on (λ l t. keys_obstacle is_array rows keys l t) (length keys) l (count t) t
 
-abbrev pub tried_at : Bool → Rows → KeyTexts → Trie → Outcome Trie
-tried_at true rows [] t = try_put_element rows t
-tried_at is_array rows keys t = tried_by is_array rows keys t
+abbrev pub obstacle_at : Bool → Rows → KeyTexts → ℕ → Trie → Option Obstacle
+obstacle_at true rows [] l t = element_obstacle l rows t
+obstacle_at is_array rows keys l t = obstacle_by is_array rows keys l t

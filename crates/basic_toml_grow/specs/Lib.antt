@@ -5,3 +5,4 @@ pub mod Rows
 pub mod RowStops
 pub mod Headers
 pub mod Ways
+pub mod Obstacles

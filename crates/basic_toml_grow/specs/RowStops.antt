@@ -1,15 +1,16 @@
 -- Which stop the clash of a row is, and what the last key or another one meets.
-use Rattle.std.specs.Prelude.{◌≡◌, ⊤, ℕ, suc, List, [], ◌∷◌, ◌++◌, length, take}
+use Rattle.std.specs.Prelude.{◌≡◌, ⊤, ℕ, suc, List, [], ◌∷◌, ◌++◌, Option, None, option_map, length, take}
 use Rattle.basic_toml_value.specs.Data.{Data}
 use Rattle.basic_toml_grammar.specs.Sections.{Key, KeyTexts, texts}
 use Rattle.basic_toml_grammar.specs.Marks.{dotted, valued}
 use Rattle.basic_toml_grammar.specs.Trie.{Trie}
-use Rattle.basic_toml_grammar.specs.Stops.{at_row, last_stop, Outcome, stops, and_on, held}
+use Rattle.basic_toml_grammar.specs.Stops.{at_row, last_stop, Outcome, stops, and_on}
 use Rattle.basic_toml_grammar.specs.TrieStops.{try_here, try_put_row}
 use Rattle.basic_toml_clash.specs.declared.clash.Clash.{Clash}
 use Rattle.basic_toml_grow.specs.declared.rows.Met.{Met}
 use Rattle.basic_toml_grow.specs.declared.rows.Met.TheVariants as mets
-use Rattle.basic_toml_clash.specs.Clash.{NamesStop}
+use Rattle.basic_toml_clash.specs.Clash.{Obstacle, NamesObstacle}
+use Rattle.basic_toml_grow.specs.Obstacles.{and_behind, held_obstacle}
 
 abbrev pub key_at : ℕ → List ℕ → Key
 key_at offset text = record { offset = offset; text = text }
@@ -47,8 +48,10 @@ TellsExtended keys last d t met = (before : KeyTexts) (first : Key) (offset : �
 
 -- the clash says what was met
 abbrev pub SaysMet : List Key → Key → Met → Clash → Type 0
-SaysMet keys k met clash = (o : Outcome Trie) → TellsStop [] keys k o met → NamesStop o clash
+SaysMet keys k met clash =
+    (o : Outcome Trie) → TellsStop [] keys k o met → NamesObstacle (and_behind o (λ _. None)) clash
 
 -- the clash of a value, as one of the row that holds it
 abbrev pub SaysHeld : List Key → Clash → Clash → Type 0
-SaysHeld keys clash outer = (o : Outcome Trie) → NamesStop o clash → NamesStop (held keys o) outer
+SaysHeld keys clash outer =
+    (o : Option Obstacle) → NamesObstacle o clash → NamesObstacle (option_map (held_obstacle keys) o) outer

@@ -5,16 +5,16 @@ ghost use Rattle.std.specs.Result.{MatchResult};
 ghost use Rattle.basic_toml_value.specs.Nesting.{nesting_limit};
 ghost use Rattle.basic_toml_grammar.specs.Standing.{table as table_standing};
 ghost use Rattle.basic_toml_grammar.specs.Trie.{trie, no_tries, put_element};
-ghost use Rattle.basic_toml_grammar.specs.TrieStops.{try_by_keys, try_put_table, try_put_element};
 ghost use Rattle.basic_toml_read.specs.SectionView.{NoneLeft, header_texts, rows_view};
-ghost use Rattle.basic_toml_clash.specs.Clash.{NamesStop};
+ghost use Rattle.basic_toml_clash.specs.Clash.{NamesObstacle};
 ghost use Rattle.basic_toml_grow.specs.Item.{table_trie, item_trie};
 ghost use Rattle.basic_toml_grammar.specs.Steps.{number as number_step};
 ghost use Rattle.basic_toml_grammar.specs.Trie.{count};
 ghost use Rattle.basic_toml_grow.specs.Origins.{item_origins, table_within, or_else, rows_origins};
 ghost use Rattle.basic_toml_grow.specs.Ways.{way, way_by, way_at, GrowsAlong, MarksWay, MarksTable};
 ghost use Rattle.basic_toml_grow.specs.Headers.{EntersHeader, EntersItem, IsIn, IsKeptOut};
-ghost use Rattle.basic_toml_grow.specs.Headers.{entered_by, steps_by, entered_at, steps_at, tried_by, tried_at};
+ghost use Rattle.basic_toml_grow.specs.Headers.{entered_by, steps_by, entered_at, steps_at, obstacle_by, obstacle_at};
+ghost use Rattle.basic_toml_grow.specs.Obstacles.{keys_obstacle, table_obstacle, element_obstacle};
 
 use crate::item::{Item, Table};
 use crate::rows::take_rows;
@@ -30,9 +30,10 @@ use std::mem;
 ///
 /// # Errors
 ///
-/// The [`Clash`] that stops the section: what stands in the table is in its way, or two of its rows clash. It is
-/// `Deep` where a key or a bracket of the section is above [`NESTING_LIMIT`], and `Memory` where memory is refused. What
-/// stands in the table then is not said.
+/// The [`Clash`] that the section meets first: what stands in the table is in its way, or two of its rows clash. It is
+/// `Deep` where a level above [`NESTING_LIMIT`] is met first, and `Memory` where memory is refused. At each table and
+/// array on the header's way, each bracket and each row, the level comes before what stands there. What stands in the
+/// table then is not said.
 ///
 /// `basic_toml_tree` calls it for each section of a list.
 pub fn enter_section<'de>(
@@ -44,8 +45,8 @@ pub fn enter_section<'de>(
     ensures entered { EntersHeader section.old.is_array (rows_view section.old.rows)
         (header_texts section.old.header.items) 1 (table_trie root.old) (table_trie root.new) result }
     ensures named { let keys = header_texts section.old.header.items in
-        let tried = try_by_keys section.old.is_array (rows_view section.old.rows) keys (table_trie root.old) in
-        IfErr result (λ clash. NamesStop tried clash) }
+        let met = keys_obstacle section.old.is_array (rows_view section.old.rows) keys 1 (table_trie root.old) in
+        IfErr result (λ clash. NamesObstacle met clash) }
     ensures origins { let keys = header_texts section.old.header.items in
         let rows = rows_origins number (rows_view section.old.rows) in
         IfOk result (λ _. GrowsAlong (way section.old.is_array keys (table_trie root.old)) rows
@@ -75,8 +76,8 @@ fn open<'de>(
     requires { level ≤ nesting_limit + 2 }
     ensures entered { EntersHeader false (rows_view rows.old) [] level (table_trie table.old)
         (table_trie table.new) result }
-    ensures named { let tried = try_put_table (rows_view rows.old) (table_trie table.old) in
-        IfErr result (λ clash. NamesStop tried clash) }
+    ensures named { let met = table_obstacle level (rows_view rows.old) (table_trie table.old) in
+        IfErr result (λ clash. NamesObstacle met clash) }
     ensures origins { IfOk result (λ _. (table_within table.new).below
         ≡ or_else (table_within table.old).below (rows_origins number (rows_view rows.old))) }
     ensures marks { IfOk result (λ _. MarksTable number [] (table_within table.new)) }
@@ -113,8 +114,8 @@ fn enter_header<'de>(
     ensures entered { EntersHeader is_array (rows_view rows.old) (header_texts keys.now) level
         (table_trie table.old) (table_trie table.new) result }
     ensures named { let keys = header_texts keys.now in
-        let tried = try_by_keys is_array (rows_view rows.old) keys (table_trie table.old) in
-        IfErr result (λ clash. NamesStop tried clash) }
+        let met = keys_obstacle is_array (rows_view rows.old) keys level (table_trie table.old) in
+        IfErr result (λ clash. NamesObstacle met clash) }
     ensures origins { let new = rows_origins number (rows_view rows.old) in
         IfOk result (λ _. GrowsAlong (way is_array (header_texts keys.now) (table_trie table.old)) new
         (table_within table.old).below (table_within table.new).below) }
@@ -145,8 +146,8 @@ fn enter_below<'de>(
     ensures entered { EntersHeader is_array (rows_view rows.old) (header_texts (key.now ∷ rest.now)) level
         (table_trie table.old) (table_trie table.new) result }
     ensures named { let keys = header_texts (key.now ∷ rest.now) in
-        let tried = try_by_keys is_array (rows_view rows.old) keys (table_trie table.old) in
-        IfErr result (λ clash. NamesStop tried clash) }
+        let met = keys_obstacle is_array (rows_view rows.old) keys level (table_trie table.old) in
+        IfErr result (λ clash. NamesObstacle met clash) }
     ensures origins { let new = rows_origins number (rows_view rows.old) in
         let keys = header_texts (key.now ∷ rest.now) in
         IfOk result (λ _. GrowsAlong (way is_array keys (table_trie table.old)) new
@@ -183,9 +184,9 @@ fn enter_at<'de>(
         let keys = header_texts rest.now in
         EntersItem (entered_at is_array rows keys (item_trie there.old)) rows
         (level + steps_at is_array keys (item_trie there.old)) (item_trie there.new) result }
-    ensures named { let tried = tried_at is_array (rows_view rows.old) (header_texts rest.now)
+    ensures named { let met = obstacle_at is_array (rows_view rows.old) (header_texts rest.now) (level + 1)
         (item_trie there.old) in
-        IfErr result (λ clash. NamesStop tried clash) }
+        IfErr result (λ clash. NamesObstacle met clash) }
     ensures origins { let new = rows_origins number (rows_view rows.old) in
         IfOk result (λ _. (start section : ℕ) →
         GrowsAlong (way_at is_array (header_texts rest.now) (item_trie there.old)) new
@@ -231,8 +232,8 @@ fn add_element<'de>(
     ensures entered { let rows = rows_view rows.old in
         MatchResult result (λ item. IsIn (put_element rows (item_trie there.entry)) rows (level + 2) (item_trie item))
         (λ clash. IsKeptOut (put_element rows (item_trie there.entry)) rows (level + 2) clash) }
-    ensures named { let tried = try_put_element (rows_view rows.old) (item_trie there.entry) in
-        IfErr result (λ clash. NamesStop tried clash) }
+    ensures named { let met = element_obstacle (level + 1) (rows_view rows.old) (item_trie there.entry) in
+        IfErr result (λ clash. NamesObstacle met clash) }
     ensures origins { let new = rows_origins number (rows_view rows.old) in
         IfOk result (λ after. (start section : ℕ) →
         GrowsAlong (number_step (count (item_trie there.entry)) ∷ []) new
@@ -245,15 +246,23 @@ fn add_element<'de>(
         Item::Nothing => (Box::new(alloc, Vec::new(alloc))?, Table::new(alloc)?),
         Item::Tables(before, latest) => with_blank(alloc, before, latest)?,
         Item::Table(table) => {
-            return Err(if table.dotted {
-                Clash::Header(1)
-            } else if table.named {
-                Clash::Named
-            } else {
-                Clash::Redefined
-            });
+            if level >= NESTING_LIMIT {
+                return Err(Clash::Deep);
+            }
+            if table.dotted {
+                return Err(Clash::Header(1));
+            }
+            if table.named {
+                return Err(Clash::Named);
+            }
+            return Err(Clash::Redefined);
         }
-        _other => return Err(Clash::Header(1)),
+        _other => {
+            if level >= NESTING_LIMIT {
+                return Err(Clash::Deep);
+            }
+            return Err(Clash::Header(1));
+        }
     };
     let mut latest = table;
     open(alloc, &mut *latest, rows, number, level + 2)?;
@@ -277,9 +286,9 @@ fn enter_item<'de>(
         let keys = header_texts rest.now in
         EntersItem (entered_by is_array rows keys (item_trie there.old)) rows
         (level + steps_by is_array keys (item_trie there.old)) (item_trie there.new) result }
-    ensures named { let tried = tried_by is_array (rows_view rows.old) (header_texts rest.now)
+    ensures named { let met = obstacle_by is_array (rows_view rows.old) (header_texts rest.now) (level + 1)
         (item_trie there.old) in
-        IfErr result (λ clash. NamesStop tried clash) }
+        IfErr result (λ clash. NamesObstacle met clash) }
     ensures origins { let new = rows_origins number (rows_view rows.old) in
         IfOk result (λ _. (start section : ℕ) →
         GrowsAlong (way_by is_array (header_texts rest.now) (item_trie there.old)) new
@@ -300,6 +309,11 @@ fn enter_item<'de>(
         Item::Tables(_, latest) => {
             enter_header(alloc, latest, rest, is_array, rows, number, level + 2)
         }
-        _other => Err(Clash::Header(rest.len() + 1)),
+        _other => {
+            if level >= NESTING_LIMIT {
+                return Err(Clash::Deep);
+            }
+            Err(Clash::Header(rest.len() + 1))
+        }
     }
 }

@@ -7,7 +7,6 @@ ghost use Rattle.basic_toml_value.specs.Data.{Data};
 ghost use Rattle.basic_toml_grammar.specs.Sections.{Raw as spec_raw};
 ghost use Rattle.basic_toml_grammar.specs.Marks.{valued};
 ghost use Rattle.basic_toml_grammar.specs.Trie.{nothing, mark_here};
-ghost use Rattle.basic_toml_grammar.specs.TrieStops.{try_put_rows, try_put_value, try_put_elements};
 ghost use Rattle.basic_toml_read.specs.SectionView.{raw_of, key_of, header_texts, rows_seen, rows_view, elements_view, NoneLeft};
 ghost use Rattle.basic_toml_grow.specs.declared.item.Table.{out-Table};
 ghost use Rattle.basic_toml_grow.specs.Item.{leaf, child_trie, table_trie};
@@ -15,8 +14,9 @@ ghost use Rattle.basic_toml_grow.specs.Origins.{child_origins, table_within, wit
 ghost use Rattle.basic_toml_grow.specs.Origins.{row_origins, rows_origins, value_origins, elements_origins};
 ghost use Rattle.basic_toml_grow.specs.Origins.{dotted_of, table_origin};
 ghost use Rattle.basic_toml_grow.specs.Rows.{EntersRow, EntersRows, Extends, Finishes, FinishesAll, one_row};
-ghost use Rattle.basic_toml_clash.specs.Clash.{NamesStop};
+ghost use Rattle.basic_toml_clash.specs.Clash.{NamesObstacle};
 ghost use Rattle.basic_toml_clash.specs.Simple.{are_all_plain as all_plain};
+ghost use Rattle.basic_toml_grow.specs.Obstacles.{rows_obstacle, value_obstacle, elements_obstacle};
 ghost use Rattle.basic_toml_grow.specs.RowStops.{TellsLast, TellsRow, TellsExtended};
 
 use crate::item::{Child, Item, Table};
@@ -212,7 +212,7 @@ pub(crate) fn take_rows<'de>(
     requires { level ≤ nesting_limit }
     ensures entered { EntersRows (rows_view rows.old) level (table_trie table.old) (table_trie table.new) result }
     ensures named { IfErr result (λ clash.
-        NamesStop (try_put_rows (rows_view rows.old) (table_trie table.old)) clash) }
+        NamesObstacle (rows_obstacle level (rows_view rows.old) (table_trie table.old)) clash) }
     ensures origins { IfOk result (λ _. table_within table.new
         ≡ with_more (table_within table.old) (rows_origins section (rows_view rows.old))) }
     ensures taken { IfOk result (λ _. NoneLeft rows.new) }
@@ -264,7 +264,7 @@ fn take_many_rows<'de>(
     ensures entered { EntersRows (rows_seen [] rows.entry.items) level (table_trie table.old) (table_trie table.new)
         result }
     ensures named { IfErr result (λ clash.
-        NamesStop (try_put_rows (rows_seen [] rows.entry.items) (table_trie table.old)) clash) }
+        NamesObstacle (rows_obstacle level (rows_seen [] rows.entry.items) (table_trie table.old)) clash) }
     ensures origins { IfOk result (λ _. table_within table.new
         ≡ with_more (table_within table.old) (rows_origins section (rows_seen [] rows.entry.items))) }
 {
@@ -289,7 +289,7 @@ fn enter_rows<'de>(
     ensures entered { EntersRows (rows_seen parents.entry.now rows.entry) level (table_trie table.old)
         (table_trie table.new) result }
     ensures named { IfErr result (λ clash.
-        NamesStop (try_put_rows (rows_seen parents.entry.now rows.entry) (table_trie table.old)) clash) }
+        NamesObstacle (rows_obstacle level (rows_seen parents.entry.now rows.entry) (table_trie table.old)) clash) }
     ensures origins { IfOk result (λ _. table_within table.new
         ≡ with_more (table_within table.old) (rows_origins section (rows_seen parents.entry.now rows.entry))) }
 {
@@ -317,7 +317,7 @@ fn enter_value<'de>(
     ensures entered { EntersRows (one_row keys.entry.now row.entry) level (table_trie table.old)
         (table_trie table.new) result }
     ensures named { IfErr result (λ clash.
-        NamesStop (try_put_rows (one_row keys.entry.now row.entry) (table_trie table.old)) clash) }
+        NamesObstacle (rows_obstacle level (one_row keys.entry.now row.entry) (table_trie table.old)) clash) }
     ensures origins { let row = rows_origins section (one_row keys.entry.now row.entry) in
         IfOk result (λ _. table_within table.new ≡ with_more (table_within table.old) row) }
 {
@@ -353,7 +353,7 @@ fn row_value<'de>(
 ) -> Result<Child<'de>, Clash>
     requires { level ≤ nesting_limit }
     ensures finished { Finishes (raw_of value.entry) level result }
-    ensures named { IfErr result (λ clash. NamesStop (try_put_value (raw_of value.entry)) clash) }
+    ensures named { IfErr result (λ clash. NamesObstacle (value_obstacle level (raw_of value.entry)) clash) }
     ensures origins { IfOk result (λ child. child_origins child ≡ value_origins section start (raw_of value.entry)) }
     ensures dotted { IfOk result (λ child. dotted_of child ≡ table_origin false start section) }
 {
@@ -381,7 +381,7 @@ fn child_of<'de>(
 ) -> Result<Child<'de>, Clash>
     requires { level ≤ nesting_limit }
     ensures finished { Finishes (raw_of value.entry) level result }
-    ensures named { IfErr result (λ clash. NamesStop (try_put_value (raw_of value.entry)) clash) }
+    ensures named { IfErr result (λ clash. NamesObstacle (value_obstacle level (raw_of value.entry)) clash) }
     ensures origins { IfOk result (λ child. child_origins child ≡ value_origins section start (raw_of value.entry)) }
     ensures dotted { IfOk result (λ child. dotted_of child ≡ table_origin false start section) }
 {
@@ -418,7 +418,8 @@ fn inline_child<'de>(
 ) -> Result<Child<'de>, Clash>
     requires { level ≤ nesting_limit }
     ensures finished { Finishes (spec_raw.inline (rows_view rows.entry)) level result }
-    ensures named { IfErr result (λ clash. NamesStop (try_put_value (spec_raw.inline (rows_view rows.entry))) clash) }
+    ensures named { IfErr result (λ clash.
+        NamesObstacle (value_obstacle level (spec_raw.inline (rows_view rows.entry))) clash) }
     ensures origins { IfOk result (λ child.
         child_origins child ≡ value_origins section start (spec_raw.inline (rows_view rows.entry))) }
     ensures dotted { IfOk result (λ child. dotted_of child ≡ table_origin false start section) }
@@ -443,7 +444,8 @@ fn children_of<'de>(
 ) -> Result<Vec<Child<'de>>, Clash>
     requires { level ≤ nesting_limit }
     ensures finished { FinishesAll (elements_view elements.entry.items) level result }
-    ensures named { IfErr result (λ clash. NamesStop (try_put_elements (elements_view elements.entry.items)) clash) }
+    ensures named { IfErr result (λ clash.
+        NamesObstacle (elements_obstacle level (elements_view elements.entry.items)) clash) }
     ensures origins { IfOk result (λ children. map child_origins children.items
         ≡ elements_origins section (elements_view elements.entry.items)) }
 {

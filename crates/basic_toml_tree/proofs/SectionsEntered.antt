@@ -17,8 +17,7 @@ use Rattle.basic_toml_grammar.specs.Growth.{closed}
 use Rattle.basic_toml_grammar.specs.NestingFaults.{tree_level, deep_sections}
 use Rattle.basic_toml_grammar.specs.Trie.{Trie, nothing, bare, walk, steps_to, put_section, put_sections}
 use Rattle.basic_toml_grammar.specs.Trie.{section_level_in}
-use Rattle.basic_toml_clash.specs.declared.clash.Clash.TheVariants.{Deep}
-use Rattle.basic_toml_grow.specs.Headers.{IsIn, IsKeptOut}
+use Rattle.basic_toml_grow.specs.Headers.{IsIn}
 use Rattle.basic_toml_tree.specs.FirstStop.{Stands, Entered}
 use Rattle.basic_toml_grow.proofs.HeadersInATrie.{fresh, walk_fresh, steps_fresh}
 use Rattle.basic_toml_grammar.proofs.Tries.SectionsInATrie.{sections_put, sections_data}
@@ -91,7 +90,7 @@ none_deep limit (k ∷ ls) l none shallow =
     []))
     (λ e. none_deep limit ls l e shallow) none
 
--- one more section, which is entered, is too deep, or clashes
+-- one more section, which is entered
 module _ (earlier : List Section) (s : Section) (keys : KeyTexts) (t : Trie) (same : texts s.header ≡ keys)
     (entered : Entered earlier t) where
   level_is : 1 + steps_to s.is_array keys t ≡ suc (steps_to s.is_array (texts s.header) t)
@@ -111,11 +110,7 @@ module _ (earlier : List Section) (s : Section) (keys : KeyTexts) (t : Trie) (sa
             (subst (λ n. n ≤ nesting_limit) (level_there earlier s t entered.stands) fits);
       }
 
-  pub too_deep : IsKeptOut (walk s.is_array s.rows keys t) s.rows (1 + steps_to s.is_array keys t) Deep
-      → nesting_limit < section_level_in t s
-  too_deep out = subst (λ n. nesting_limit < max n (rows_level n s.rows)) level_is out
-
--- it is then one of those that are too deep by their paths
+-- a section above the limit is one of those that are too deep by their paths
 pub deep_by_path : (earlier : List Section) (s : Section) (t : Trie) (later : List Section) → Entered earlier t
     → nesting_limit < section_level_in t s
     → Contains (deep_sections nesting_limit (located (earlier ++ s ∷ later))) s.at

@@ -1,5 +1,5 @@
--- A list that has no tree has one fault, but where a section both clashes and is too deep.
-use Rattle.std.proofs.Common.{◌≡◌, ◌⊎◌, inl, inr, ℕ, ◌<◌, true, List, [], ◌∷◌, ◌++◌, Option, Some, None, refl, ap, sym}
+-- A list that has no tree has one fault.
+use Rattle.std.proofs.Common.{◌≡◌, inl, inr, ℕ, ◌<◌, true, List, [], ◌∷◌, ◌++◌, Option, Some, None, refl, ap, sym}
 use Rattle.std.proofs.Common.{◌∙◌, subst, arith}
 use Rattle.std.specs.List.{Contains}
 use Rattle.std.specs.Option.{option_or}
@@ -12,15 +12,17 @@ use Rattle.basic_toml_grammar.specs.Entering.{all_keyed}
 use Rattle.basic_toml_grammar.specs.Faults.{Fault}
 use Rattle.basic_toml_grammar.specs.NestingFaults.{deep_sections}
 use Rattle.basic_toml_grammar.specs.NamedClash.{dotted_fault}
-use Rattle.basic_toml_grammar.specs.Stops.{Stop, Outcome, stops, stop_fault}
+use Rattle.basic_toml_grammar.specs.Stops.{stop_fault}
 use Rattle.basic_toml_grammar.specs.Trie.{Trie, nothing, put_sections}
-use Rattle.basic_toml_grammar.specs.TrieStops.{try_put_section}
 use Rattle.basic_toml_grammar.proofs.Naming.EveryClashIsNamed.{named_clashes}
-use Rattle.basic_toml_grow.proofs.HeadersStopped.{tried_fresh}
+use Rattle.basic_toml_grow.specs.Obstacles.{first_obstacle}
+use Rattle.basic_toml_grow.proofs.HeadersStopped.{met_fresh}
+use Rattle.basic_toml_grow.proofs.ObstaclesAreLevels.{met_deep}
+use Rattle.basic_toml_clash.specs.Clash.{Obstacle, too_deep, in_the_way, obstacle_fault}
 use Rattle.basic_toml_clash.specs.Crossed.{crossed_in, first_crossed}
 use Rattle.basic_toml_clash.proofs.ValuesOnTheWay.{none_left, none_right}
-use Rattle.basic_toml_tree.specs.FirstStop.{only_root, Stands, Entered, StopsSection, deep, clash, FirstStop, value}
-use Rattle.basic_toml_tree.specs.FirstStop.{section, IsTooDeep, SectionsFaultIsOne}
+use Rattle.basic_toml_tree.specs.FirstStop.{only_root, Stands, Entered, StopsSection, FirstStop, value}
+use Rattle.basic_toml_tree.specs.FirstStop.{section, SectionsFaultIsOne}
 use Rattle.basic_toml_tree.proofs.SectionsEntered.{deep_by_path, no_clash}
 use Rattle.basic_toml_tree.proofs.SectionsStopped.{keyed_before, section_stops, none_dotted}
 
@@ -61,43 +63,40 @@ keyed_prefix xs (y ∷ ys) e = keyed_before xs y ys e
 not_entered : (before : List Section) (s : Section) (more : List Section) (t u : Trie) (fault : Fault)
     → all_keyed (before ++ s ∷ more) ≡ true → first_crossed (before ++ s ∷ more) ≡ None → Entered before t
     → StopsSection t s fault → Entered (before ++ s ∷ more) u → ⊥
-not_entered before s more t u _ keyed none entered (deep over) all =
+not_entered before s more t u fault keyed none entered (too_deep, (met, is)) all =
     let there : Contains (deep_sections nesting_limit (located (before ++ s ∷ more))) s.at =
-    deep_by_path before s t more entered over in
+    deep_by_path before s t more entered (met_deep s t met) in
     let nowhere : Contains [] s.at = subst (λ (ns : List ℕ). Contains ns s.at) all.shallow there in
     let h : nowhere.0 < 0 = nowhere.1 in absurd (omega arith)
-not_entered before s more t u _ keyed none entered (clash {stop = stop} tried) all =
+not_entered before s more t u fault keyed none entered (in_the_way stop, (met, is)) all =
     let names = section_stops before s (texts s.header) t refl entered.stands more keyed
-    (none_dotted (before ++ s ∷ more) none) stop tried in
+    (none_dotted (before ++ s ∷ more) none) stop met in
     absurd (false≢true (sym (no_clash (before ++ s ∷ more) u keyed all)
     ∙ named_clashes (before ++ s ∷ more) (stop_fault s stop) names))
 
 -- the tries of the same sections take the next one alike: a root as nothing does
 from_nothing : (before : List Section) (s : Section) (t u : Trie) → put_sections before nothing ≡ Some t
-    → (before ≡ []) × (u ≡ only_root) → try_put_section s t ≡ try_put_section s u
+    → (before ≡ []) × (u ≡ only_root) → first_obstacle s t ≡ first_obstacle s u
 from_nothing before s t u e f =
     let put : put_sections [] nothing ≡ Some t =
     subst (λ (ss : List Section). put_sections ss nothing ≡ Some t) f.0 e in
     let same : nothing ≡ t = cc in
-    ap (try_put_section s) (sym same) ∙ sym (tried_fresh s.is_array s.rows (texts s.header))
-    ∙ ap (try_put_section s) (sym f.1)
+    ap (first_obstacle s) (sym same) ∙ sym (met_fresh s.is_array s.rows (texts s.header) 1)
+    ∙ ap (first_obstacle s) (sym f.1)
 
 alike : (before : List Section) (s : Section) (t u : Trie) → Stands before t → Stands before u
-    → try_put_section s t ≡ try_put_section s u
-alike before s t u (inl e) (inl f) = let same : t ≡ u = cc in ap (try_put_section s) same
-alike before s t u (inr e) (inr f) = ap (try_put_section s) (e.1 ∙ sym f.1)
+    → first_obstacle s t ≡ first_obstacle s u
+alike before s t u (inl e) (inl f) = let same : t ≡ u = cc in ap (first_obstacle s) same
+alike before s t u (inr e) (inr f) = ap (first_obstacle s) (e.1 ∙ sym f.1)
 alike before s t u (inl e) (inr f) = from_nothing before s t u e f
 alike before s t u (inr e) (inl f) = sym (from_nothing before s u t f e)
 
 same_fault : (before : List Section) (s : Section) (t u : Trie) (fault other : Fault) → Stands before t
-    → Stands before u → StopsSection t s fault → StopsSection u s other
-    → (fault ≡ other) ⊎ (IsTooDeep fault ⊎ IsTooDeep other)
-same_fault before s t u _ _ e f (deep over) stopped = inr (inl refl)
-same_fault before s t u _ _ e f (clash tried) (deep over) = inr (inr refl)
-same_fault before s t u _ _ e f (clash {stop = x} tried) (clash {stop = y} tried') =
-    let same : x ≡ y = one (sym tried ∙ alike before s t u e f ∙ tried') in inl (ap (stop_fault s) same)
+    → Stands before u → StopsSection t s fault → StopsSection u s other → fault ≡ other
+same_fault before s t u fault other e f (x, (met, is)) (y, (met', is')) =
+    let same : x ≡ y = one (sym met ∙ alike before s t u e f ∙ met') in is ∙ ap (obstacle_fault s) same ∙ sym is'
   where
-    one : {x y : Stop} → ◌≡◌ {A = Outcome Trie} (stops x) (stops y) → x ≡ y
+    one : {x y : Obstacle} → ◌≡◌ {A = Option Obstacle} (Some x) (Some y) → x ≡ y
     one e = cc
 
 module _ (sections : List Section) (keyed : all_keyed sections ≡ true) (none : first_crossed sections ≡ None) where
@@ -115,7 +114,7 @@ module _ (sections : List Section) (keyed : all_keyed sections ≡ true) (none :
       a.entered a.stopped (subst (λ (ss : List Section). Entered ss b.so_far) e b.entered)
 
   one_stop : {fault other : Fault} (a : FirstStop sections fault) (b : FirstStop sections other)
-      → Splits a.before b.before a.here b.here → (fault ≡ other) ⊎ (IsTooDeep fault ⊎ IsTooDeep other)
+      → Splits a.before b.before a.here b.here → fault ≡ other
   one_stop {fault = fault} {other = other} a b (same e f) =
       same_fault a.before a.here a.so_far b.so_far fault other a.entered.stands
       (subst (λ (ss : List Section). Stands ss b.so_far) (sym e) b.entered.stands) a.stopped
@@ -125,7 +124,7 @@ module _ (sections : List Section) (keyed : all_keyed sections ≡ true) (none :
 
 pub sections_fault_is_one : SectionsFaultIsOne
 sections_fault_is_one sections _ _ keyed (value {at = m} e) (value {at = n} f) =
-    let same : m ≡ n = some_same (sym e ∙ f) in inl (ap dotted_fault same)
+    let same : m ≡ n = some_same (sym e ∙ f) in ap dotted_fault same
   where
     some_same : {m n : ℕ} → ◌≡◌ {A = Option ℕ} (Some m) (Some n) → m ≡ n
     some_same e = cc

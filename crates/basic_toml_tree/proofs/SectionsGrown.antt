@@ -7,22 +7,22 @@ use Rattle.basic_toml_grammar.specs.IndexedPath.{located}
 use Rattle.basic_toml_grammar.specs.Entering.{all_keyed, all_keyed_within, is_keyed}
 use Rattle.basic_toml_grammar.specs.Nodes.{is_made}
 use Rattle.basic_toml_grammar.specs.Steps.{Path}
-use Rattle.basic_toml_grammar.specs.Faults.{Fault, nested_too_deeply}
-use Rattle.basic_toml_grammar.specs.GrammarFaults.{fault_at}
+use Rattle.basic_toml_grammar.specs.Faults.{Fault}
 use Rattle.basic_toml_grammar.specs.NamedClash.{dotted_fault}
 use Rattle.basic_toml_grammar.proofs.Naming.EveryClashIsNamed.{named_clashes}
 use Rattle.basic_toml_grammar.specs.Trie.{walk, steps_to}
-use Rattle.basic_toml_grammar.specs.Stops.{Stop, at_header, is_named, is_passed, stops, stop_fault}
-use Rattle.basic_toml_grammar.specs.TrieStops.{try_by_keys}
+use Rattle.basic_toml_grammar.specs.Stops.{Stop, at_header, is_named, is_passed}
 use Rattle.basic_toml_grammar.specs.Sections.{Key, Section}
 use Rattle.basic_toml_explain.specs.Error.{want_of_memory}
 use Rattle.basic_toml_read.specs.declared.section.Section as code
 use Rattle.basic_toml_read.specs.SectionView.{section_of, header_texts, rows_view}
 use Rattle.basic_toml_clash.specs.declared.clash.Clash.{Clash}
 use Rattle.basic_toml_clash.specs.declared.clash.Clash.TheVariants.{Memory, Deep, Header, Named, Redefined, Row}
-use Rattle.basic_toml_clash.specs.Clash.{IsFaultOf, NamesClash, NamesStop, row_stop}
+use Rattle.basic_toml_clash.specs.Clash.{Obstacle, too_deep, in_the_way, obstacle_fault, NamesObstacle}
+use Rattle.basic_toml_clash.specs.Clash.{IsFaultOf, NamesClash, row_stop}
 use Rattle.basic_toml_clash.specs.Crossed.{first_crossed}
-use Rattle.basic_toml_grow.specs.Headers.{IsIn, IsKeptOut}
+use Rattle.basic_toml_grow.specs.Headers.{IsIn}
+use Rattle.basic_toml_grow.specs.Obstacles.{keys_obstacle}
 use Rattle.basic_toml_grow.specs.Item.{table_trie}
 use Rattle.basic_toml_grow.specs.declared.item.Table.{Table}
 use Rattle.basic_toml_grow.specs.Origins.{table_within, rows_origins}
@@ -30,12 +30,12 @@ use Rattle.basic_toml_grow.specs.Ways.{way, GrowsAlong, MarksTable, sections_ori
 use Rattle.basic_toml_grow.proofs.HeadersInATrie.{fresh}
 use Rattle.basic_toml_grow.proofs.Origins.OriginsSeen.{fresh_within}
 use Rattle.basic_toml_tree.specs.declared.tree.Tree.{Tree}
-use Rattle.basic_toml_tree.specs.FirstStop.{Entered, StopsSection, deep, clash, section}
+use Rattle.basic_toml_tree.specs.FirstStop.{Entered, StopsSection, section}
 use Rattle.basic_toml_tree.specs.Resolve.{IsResolved, IsUnresolved, ComesFromHeaders, memory, refused, head}
 use Rattle.basic_toml_tree.proofs.Origins.SectionsPlaceOrigins.{Brought, none_brought, more_brought}
 use Rattle.basic_toml_tree.proofs.Origins.HeadersComeFrom.{none_come, more_come}
-use Rattle.basic_toml_tree.proofs.SectionsEntered.{one_more, too_deep, whole_tree, no_clash, fits_all}
-use Rattle.basic_toml_tree.proofs.SectionsStopped.{same_fault, crossed_named}
+use Rattle.basic_toml_tree.proofs.SectionsEntered.{one_more, whole_tree, no_clash, fits_all}
+use Rattle.basic_toml_tree.proofs.SectionsStopped.{same_obstacle_fault, crossed_named}
 use Rattle.basic_toml_tree.proofs.TrieData.{table_trie_data}
 
 -- These sections are entered in a table, their headers are kept, and what rows and headers made comes from them.
@@ -146,42 +146,43 @@ module _ (list : List Section) (headers : List (ℕ × List Key)) (root : Table)
         stopped = stopped;
       }))
 
-      barred : (fault : Fault) (now : code.Section) (x y : Stop) → now.at ≡ s.at → now.header ≡ s.header
-          → fault ≡ stop_fault (section_of now) x → y ≡ x
-          → try_by_keys s.is_array (rows_view s.rows) (header_texts s.header.items) (table_trie root) ≡ stops y
+      barred : (fault : Fault) (now : code.Section) (x : Obstacle) → now.at ≡ s.at → now.header ≡ s.header
+          → fault ≡ obstacle_fault (section_of now) x
+          → keys_obstacle s.is_array (rows_view s.rows) (header_texts s.header.items) 1 (table_trie root) ≡ Some x
           → IsUnresolved (list ++ section_of s ∷ later) fault
-      barred fault now x y at header is same tried =
+      barred fault now x at header is met =
           let keys : (section_of now).header ≡ (section_of s).header = rw header refl in
-          first fault (subst (λ (f : Fault). StopsSection (table_trie root) (section_of s) f)
-          (sym (is ∙ same_fault (section_of now) (section_of s) keys at x)) (clash (tried ∙ ap stops same)))
+          first fault (x, (met, is ∙ same_obstacle_fault (section_of now) (section_of s) keys at x))
+
+      named_stop : (fault : Fault) (now : code.Section) (x y : Stop) → now.at ≡ s.at → now.header ≡ s.header
+          → fault ≡ obstacle_fault (section_of now) (in_the_way x) → y ≡ x
+          → keys_obstacle s.is_array (rows_view s.rows) (header_texts s.header.items) 1 (table_trie root)
+          ≡ Some (in_the_way y) → IsUnresolved (list ++ section_of s ∷ later) fault
+      named_stop fault now x y at header is same met =
+          barred fault now (in_the_way x) at header is (met ∙ ap (λ (x : Stop). Some (in_the_way x)) same)
 
       named : (c : Clash) (fault : Fault)
-          → IsKeptOut (walk s.is_array (rows_view s.rows) (header_texts s.header.items) (table_trie root))
-          (rows_view s.rows) (1 + steps_to s.is_array (header_texts s.header.items) (table_trie root)) c
-          → NamesStop (try_by_keys s.is_array (rows_view s.rows) (header_texts s.header.items) (table_trie root)) c
+          → NamesObstacle (keys_obstacle s.is_array (rows_view s.rows) (header_texts s.header.items) 1
+          (table_trie root)) c
           → (now : code.Section) → now.at ≡ s.at → now.header ≡ s.header
           → IsFaultOf now c fault → IsUnresolved (list ++ section_of s ∷ later) fault
-      named Memory fault out stop now same header is =
+      named Memory fault met now same header is =
           subst (λ f. IsUnresolved (list ++ section_of s ∷ later) f) (sym is) (memory there)
-      named Deep fault out stop now same header is =
-          let over = too_deep list (section_of s) (header_texts s.header.items) (table_trie root) refl have.entered out in
-          first fault (subst (λ (f : Fault). StopsSection (table_trie root) (section_of s) f)
-          (sym (is ∙ ap (fault_at nested_too_deeply) same)) (deep over))
-      named (Header k) fault out stop now same header is =
-          barred fault now (at_header k) stop.0 same header is stop.1.0 stop.1.1
-      named Named fault out stop now same header is =
-          barred fault now is_named stop.0 same header is stop.1.0 stop.1.1
-      named Redefined fault out stop now same header is =
-          barred fault now is_passed stop.0 same header is stop.1.0 stop.1.1
-      named (Row met) fault out stop now same header is =
-          barred fault now (row_stop met.value) stop.0 same header is stop.1.0 stop.1.1
+      named Deep fault met now same header is = barred fault now too_deep same header is met
+      named (Header k) fault met now same header is =
+          named_stop fault now (at_header k) met.0 same header is met.1.0 met.1.1
+      named Named fault met now same header is =
+          named_stop fault now is_named met.0 same header is met.1.0 met.1.1
+      named Redefined fault met now same header is =
+          named_stop fault now is_passed met.0 same header is met.1.0 met.1.1
+      named (Row row) fault met now same header is =
+          named_stop fault now (row_stop row.value) met.0 same header is met.1.0 met.1.1
 
       pub kept_out : (c : Clash) (fault : Fault)
-          → IsKeptOut (walk s.is_array (rows_view s.rows) (header_texts s.header.items) (table_trie root))
-          (rows_view s.rows) (1 + steps_to s.is_array (header_texts s.header.items) (table_trie root)) c
-          → NamesStop (try_by_keys s.is_array (rows_view s.rows) (header_texts s.header.items) (table_trie root)) c
+          → NamesObstacle (keys_obstacle s.is_array (rows_view s.rows) (header_texts s.header.items) 1
+          (table_trie root)) c
           → (now : code.Section) → now.at ≡ s.at → now.header ≡ s.header
           → NamesClash now c fault → IsUnresolved (list ++ section_of s ∷ later) fault
-      kept_out c fault out stop now same header (inl is) =
+      kept_out c fault met now same header (inl is) =
           subst (λ f. IsUnresolved (list ++ section_of s ∷ later) f) (sym is) (memory there)
-      kept_out c fault out stop now same header (inr is) = named c fault out stop now same header is
+      kept_out c fault met now same header (inr is) = named c fault met now same header is

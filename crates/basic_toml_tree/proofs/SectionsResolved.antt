@@ -11,14 +11,14 @@ use Rattle.basic_toml_grammar.specs.Faults.{Fault}
 use Rattle.basic_toml_grammar.specs.NamedClash.{dotted_fault}
 use Rattle.basic_toml_grammar.specs.Sections.{Key, Section}
 use Rattle.basic_toml_grammar.specs.Trie.{walk, steps_to}
-use Rattle.basic_toml_grammar.specs.TrieStops.{try_by_keys}
 use Rattle.basic_toml_explain.specs.Error.{want_of_memory}
 use Rattle.basic_toml_read.specs.declared.section.Section as code
 use Rattle.basic_toml_read.specs.SectionView.{section_of, header_texts, rows_view}
 use Rattle.basic_toml_clash.specs.declared.clash.Clash.{Clash}
-use Rattle.basic_toml_clash.specs.Clash.{NamesClash, NamesStop}
+use Rattle.basic_toml_clash.specs.Clash.{NamesClash, NamesObstacle}
 use Rattle.basic_toml_clash.specs.Crossed.{first_crossed}
-use Rattle.basic_toml_grow.specs.Headers.{IsIn, IsKeptOut}
+use Rattle.basic_toml_grow.specs.Headers.{IsIn}
+use Rattle.basic_toml_grow.specs.Obstacles.{keys_obstacle}
 use Rattle.basic_toml_grow.specs.Item.{table_trie}
 use Rattle.basic_toml_grow.specs.declared.item.Table.{Table}
 use Rattle.basic_toml_grow.specs.Origins.{table_within, rows_origins}
@@ -88,15 +88,13 @@ module _ (old now : List code.Section) (n : ℕ) (headers : List (ℕ × List Ke
 
   -- a section that is not entered, and its fault
   pub stays_out : first_crossed (map section_of old) ≡ None → (c : Clash) (fault : Fault)
-      → IsKeptOut (walk s.is_array (rows_view s.rows) (header_texts s.header.items) (table_trie root))
-      (rows_view s.rows) (1 + steps_to s.is_array (header_texts s.header.items) (table_trie root)) c
-      → NamesStop (try_by_keys s.is_array (rows_view s.rows) (header_texts s.header.items) (table_trie root)) c
+      → NamesObstacle (keys_obstacle s.is_array (rows_view s.rows) (header_texts s.header.items) 1 (table_trie root)) c
       → (after : code.Section) → after.at ≡ s.at → after.header ≡ s.header
       → NamesClash after c fault → IsUnresolved (map section_of old) fault
-  stays_out none c fault out stop after same header names =
+  stays_out none c fault met after same header names =
       subst (λ (ss : List Section). IsUnresolved ss fault) (sym split)
       (kept_out (map section_of (take n old)) headers root goes.have s (map section_of (drop (suc n) old))
-      (ap first_crossed (sym split) ∙ none) c fault out stop after same header names)
+      (ap first_crossed (sym split) ∙ none) c fault met after same header names)
 
 counted : (ss : Vec code.Section Global) → (vec_len ss == 0) ≡ false → (length ss.items == 0) ≡ false
 counted ss is =

@@ -1,5 +1,5 @@
 -- The sections of a text go into a tree as they are read: what is known on the way, and how it ends.
-use Rattle.std.proofs.Common.{◌≡◌, ◌+◌, inl, inr, ℕ, List, [], ◌∷◌, ◌++◌, refl, ap, sym, ◌∙◌, subst, append_assoc, append-nil}
+use Rattle.std.proofs.Common.{◌≡◌, inl, inr, ℕ, List, [], ◌∷◌, ◌++◌, refl, ap, sym, ◌∙◌, subst, append_assoc, append-nil}
 use Rattle.std.proofs.Common.{Option, MatchOption, Some, None, Result, Ok, Err, Bool, true, false}
 use Rattle.std.specs.Option.{option_or}
 use Rattle.std.specs.Prelude.{IsUtf8}
@@ -8,8 +8,6 @@ use Rattle.basic_toml_tokens.specs.Text.{folded}
 use Rattle.basic_toml_grammar.specs.Faults.{Fault}
 use Rattle.basic_toml_grammar.specs.NamedClash.{dotted_fault}
 use Rattle.basic_toml_grammar.specs.Sections.{Key, Section}
-use Rattle.basic_toml_grammar.specs.Trie.{walk, steps_to}
-use Rattle.basic_toml_grammar.specs.TrieStops.{try_by_keys}
 use Rattle.basic_toml_grammar.proofs.LawsHold.{keyed}
 use Rattle.basic_toml_grammar.proofs.Grammar.ReaderIsSound.{list_read}
 use Rattle.basic_toml_grammar.proofs.Nesting.LevelsAreWithinDepth.{list_keys}
@@ -29,9 +27,9 @@ use Rattle.basic_toml_read.specs.declared.reader.Place.TheVariants.{Start, Behin
 use Rattle.basic_toml_read.proofs.ListIsAnswered.{stop_answered}
 use Rattle.basic_toml_read.proofs.SectionsHandedOut.{refused_after}
 use Rattle.basic_toml_clash.specs.declared.clash.Clash.{Clash}
-use Rattle.basic_toml_clash.specs.Clash.{NamesClash, NamesStop}
+use Rattle.basic_toml_clash.specs.Clash.{NamesClash, NamesObstacle}
 use Rattle.basic_toml_clash.specs.Crossed.{crossed_in, first_crossed}
-use Rattle.basic_toml_grow.specs.Headers.{IsKeptOut}
+use Rattle.basic_toml_grow.specs.Obstacles.{keys_obstacle}
 use Rattle.basic_toml_grow.specs.Item.{table_trie}
 use Rattle.basic_toml_grow.specs.declared.item.Table.{Table}
 use Rattle.basic_toml_grow.proofs.HeadersInATrie.{fresh}
@@ -241,9 +239,8 @@ next_is_first reader list s later so_far is = at_place reader.place so_far
 -- the section does not go into the tree
 module _ (bytes : List ℕ) (reader : SectionReader) (headers : List (ℕ × List Key)) (root : Table) (s : code.Section)
     (read : NextIsRead bytes reader headers root s) (c : Clash) (fault : Fault)
-    (out : IsKeptOut (walk s.is_array (rows_view s.rows) (header_texts s.header.items) (table_trie root))
-    (rows_view s.rows) (1 + steps_to s.is_array (header_texts s.header.items) (table_trie root)) c)
-    (stop : NamesStop (try_by_keys s.is_array (rows_view s.rows) (header_texts s.header.items) (table_trie root)) c)
+    (met : NamesObstacle (keys_obstacle s.is_array (rows_view s.rows) (header_texts s.header.items) 1 (table_trie root))
+    c)
     (now : code.Section) (same : now.at ≡ s.at) (header : now.header ≡ s.header) where
   pub clashes : TellsClash bytes read.list now c fault → AnswersText bytes (Err fault)
   clashes (inl refused_text) = inl refused_text
@@ -279,6 +276,5 @@ module _ (bytes : List ℕ) (reader : SectionReader) (headers : List (ℕ × Lis
           inr (record {
             sections = read.list ++ section_of s ∷ more;
             list = subst (λ (ss : List Section). IsListOf bytes (read.list ++ ss)) is here;
-            unresolved = kept_out read.list headers root read.have s more none_there c fault out stop now same header
-                names;
+            unresolved = kept_out read.list headers root read.have s more none_there c fault met now same header names;
           })

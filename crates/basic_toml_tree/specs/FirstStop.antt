@@ -1,20 +1,19 @@
 -- Why a section list has no tree, own. Where a row goes on from the value of an earlier row of its table, that comes
--- first over the whole list. Else it is the first section that the tree of those before it does not take: it goes above
--- the limit, or something is in its way.
-use Rattle.std.specs.Prelude.{◌≡◌, ◌⊎◌, ◌<◌, ℕ, true, false, List, [], ◌∷◌, ◌++◌, Some, None}
+-- first over the whole list. Else it is the first section that the tree of those before it does not take, and what it
+-- meets first there: a level above the limit, or what stands in its way.
+use Rattle.std.specs.Prelude.{◌≡◌, ◌⊎◌, ℕ, true, false, List, [], ◌∷◌, ◌++◌, Some, None}
 use Rattle.basic_toml_value.specs.Nesting.{nesting_limit}
 use Rattle.basic_toml_grammar.specs.Sections.{Section}
 use Rattle.basic_toml_grammar.specs.IndexedPath.{located}
 use Rattle.basic_toml_grammar.specs.Entering.{all_keyed}
 use Rattle.basic_toml_grammar.specs.Standing as standing
-use Rattle.basic_toml_grammar.specs.Stops.{Stop, stops, stop_fault}
-use Rattle.basic_toml_grammar.specs.Trie.{Trie, trie, nothing, no_tries, put_sections, section_level_in}
-use Rattle.basic_toml_grammar.specs.TrieStops.{try_put_section}
-use Rattle.basic_toml_grammar.specs.Faults.{Fault, nested_too_deeply}
-use Rattle.basic_toml_grammar.specs.GrammarFaults.{fault_at}
+use Rattle.basic_toml_grammar.specs.Trie.{Trie, trie, nothing, no_tries, put_sections}
+use Rattle.basic_toml_grammar.specs.Faults.{Fault}
 use Rattle.basic_toml_grammar.specs.NamedClash.{dotted_fault}
 use Rattle.basic_toml_grammar.specs.NestingFaults.{deep_sections}
+use Rattle.basic_toml_clash.specs.Clash.{Obstacle, obstacle_fault}
 use Rattle.basic_toml_clash.specs.Crossed.{first_crossed}
+use Rattle.basic_toml_grow.specs.Obstacles.{first_obstacle}
 
 -- a trie in which nothing stands but the root
 abbrev pub only_root : Trie
@@ -30,9 +29,9 @@ pub record Entered (sections : List Section) (t : Trie) : Type 0 where
   pub shallow : deep_sections nesting_limit (located sections) ≡ []
 
 -- a section that does not go into a trie, and its fault
-pub data StopsSection (t : Trie) (s : Section) : Fault → Type 0 where
-  deep : nesting_limit < section_level_in t s → StopsSection t s (fault_at nested_too_deeply s.at)
-  clash : {stop : Stop} → try_put_section s t ≡ stops stop → StopsSection t s (stop_fault s stop)
+abbrev pub StopsSection : Trie → Section → Fault → Type 0
+StopsSection t s fault =
+    (met : Obstacle) × ((first_obstacle s t ≡ Some met) × (fault ≡ obstacle_fault s met))
 
 -- the first of a list
 pub record FirstStop (sections : List Section) (fault : Fault) : Type 0 where
@@ -49,11 +48,7 @@ pub data SectionsFault (sections : List Section) : Fault → Type 0 where
   value : {at : ℕ} → first_crossed sections ≡ Some at → SectionsFault sections (dotted_fault at)
   section : {fault : Fault} → first_crossed sections ≡ None → FirstStop sections fault → SectionsFault sections fault
 
-abbrev pub IsTooDeep : Fault → Type 0
-IsTooDeep fault = fault.kind ≡ nested_too_deeply
-
--- A list has one such fault, but where its first section that goes no further both goes above the limit and clashes.
+-- a list has one such fault
 abbrev pub SectionsFaultIsOne : Type 0
 SectionsFaultIsOne = (sections : List Section) (fault other : Fault) → all_keyed sections ≡ true
-    → SectionsFault sections fault → SectionsFault sections other
-    → (fault ≡ other) ⊎ (IsTooDeep fault ⊎ IsTooDeep other)
+    → SectionsFault sections fault → SectionsFault sections other → fault ≡ other

@@ -3,8 +3,7 @@ ghost use Rattle.basic_toml_tree.specs.Stands.{SlicesAreForetold};
 ghost use Rattle.basic_toml_tree.specs.FirstStop.{SectionsFaultIsOne};
 ghost use Rattle.basic_toml_tree.specs.Statements.{EveryNodeIsForetold, EveryNodeOfAListIsForetold};
 
-/// A section list that has no tree has one error, but where the first section that does not go into the tree both
-/// clashes and goes above the limit.
+/// A section list that has no tree has one error.
 #[tactic(auto, using(crate::proofs::SectionsFaultIsOne::sections_fault_is_one))]
 pub fn sections_fault_is_one()
     ensures { SectionsFaultIsOne }

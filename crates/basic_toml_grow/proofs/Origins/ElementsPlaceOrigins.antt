@@ -13,7 +13,7 @@ use Rattle.basic_toml_grow.specs.declared.item.Item.{Nothing, Tables}
 use Rattle.basic_toml_grow.specs.declared.item.Item as items
 use Rattle.basic_toml_grow.specs.declared.item.Table.{Table}
 use Rattle.basic_toml_grow.specs.Item.{item_trie, table_trie}
-use Rattle.basic_toml_grow.specs.Origins.{Origin, Origins, no_origins, entry, under, at_numbers, Within}
+use Rattle.basic_toml_grow.specs.Origins.{Origin, Origins, no_origins, entry, under, at_numbers}
 use Rattle.basic_toml_grow.specs.Origins.{table_origin, of_table, section_in, item_origins, table_within, or_else, along}
 use Rattle.basic_toml_grow.specs.Ways.{way, way_by, GrowsAlong}
 use Rattle.basic_toml_grow.proofs.HeadersInATrie.{fresh}

@@ -6,7 +6,7 @@ use Rattle.std.specs.List.{list_any}
 use Rattle.std.specs.Option.{option_or}
 use Rattle.std.proofs.lemmas.Bool.{false≢true}
 use Rattle.basic_toml_grammar.specs.Sections.{KeyTexts, texts, Section}
-use Rattle.basic_toml_grammar.specs.Steps.{Step, Path, begins}
+use Rattle.basic_toml_grammar.specs.Steps.{Path, begins}
 use Rattle.basic_toml_grammar.specs.IndexedPath.{Located, located_after, located}
 use Rattle.basic_toml_grammar.specs.Entering.{all_keyed}
 use Rattle.basic_toml_grammar.specs.Trie.{Trie}

@@ -1,19 +1,20 @@
-use Rattle.std.proofs.Common.{◌≡◌, ℕ, ◌≤◌, ◌∷◌, ◌+◌, length, suc, ap, sym, ◌∙◌, arith, map, option_map, subst, inr, refl, Ok, rules}
+use Rattle.std.proofs.Common.{◌≡◌, ℕ, ◌≤◌, ◌∷◌, ◌+◌, length, suc, ap, sym, ◌∙◌, arith, map, Option, option_map, subst}
+use Rattle.std.proofs.Common.{inr, refl, Ok, rules}
 use Rattle.std.specs.Prelude.{IfErr, IfOk}
 use Rattle.std.specs.Box as boxes
 use denote.Hole.Carrier.{out}
 use Rattle.basic_toml_grammar.specs.Trie.{walk, steps_to}
-use Rattle.basic_toml_grammar.specs.TrieStops.{try_by_keys}
 use Rattle.basic_toml_read.specs.SectionView.{header_texts, rows_view}
-use Rattle.basic_toml_clash.specs.Clash.{NamesStop}
+use Rattle.basic_toml_clash.specs.Clash.{Obstacle, NamesObstacle}
 use Rattle.basic_toml_grow.specs.declared.item.Item.TheViews.{out-Item}
 use Rattle.basic_toml_grow.specs.declared.item.Item as items
 use Rattle.basic_toml_grow.specs.declared.item.Child.{out-Child}
 use Rattle.basic_toml_grow.specs.Item.{item_trie, table_trie}
-use Rattle.basic_toml_grow.specs.Headers.{EntersItem, entered_by, steps_by, tried_by, tried_at}
+use Rattle.basic_toml_grow.specs.Headers.{EntersItem, entered_by, steps_by, obstacle_by, obstacle_at}
+use Rattle.basic_toml_grow.specs.Obstacles.{keys_obstacle}
 use Rattle.basic_toml_grow.specs.Origins.{rows_origins, item_origins}
 use Rattle.basic_toml_grow.specs.Ways.{way_at, way_by, GrowsAlong, MarksWay, MarksTable, way}
-use Rattle.basic_toml_grow.proofs.RowsEntered.{err_on, ok_on}
+use Rattle.basic_toml_grow.proofs.RowsEntered.{ok_on}
 use Rattle.basic_toml_grow.specs.declared.item.Table.{Table}
 use Rattle.basic_toml_grow.specs.Origins.{table_within}
 use Rattle.basic_toml_grow.proofs.HeadersInATrie.{array_of}
@@ -22,8 +23,8 @@ use Rattle.basic_toml_grow.proofs.HeadersEntered.{failed, no_array, not_last, it
 use Rattle.basic_toml_grow.proofs.HeadersEntered.{other_bars, passes, passed_by, passed_number, into_fresh}
 use Rattle.basic_toml_grow.proofs.HeadersEntered.{into_table, into_latest, steps_into_fresh, steps_into_table}
 use Rattle.basic_toml_grow.proofs.HeadersEntered.{steps_into_latest, other_is_leaf}
-use Rattle.basic_toml_grow.proofs.HeadersStopped.{stopped, same_stops, tried_into_fresh, stopped_in_latest}
-use Rattle.basic_toml_grow.proofs.HeadersStopped.{value_stopped, passed_stops, no_array_tried, not_last_tried}
+use Rattle.basic_toml_grow.proofs.HeadersStopped.{passed_met, met_in_fresh, met_in_table, met_in_latest}
+use Rattle.basic_toml_grow.proofs.HeadersStopped.{value_stopped, deep_stopped, deep_out, no_array_met, not_last_met}
 use Rattle.basic_toml_grow.proofs.Origins.HeadersPlaceOrigins.{passed_grows, new_table_grows, table_grows}
 use Rattle.basic_toml_grow.proofs.Origins.HeadersPlaceOrigins.{no_array_way, not_last_way}
 use Rattle.basic_toml_grow.proofs.Origins.ElementsPlaceOrigins.{latest_grows}
@@ -52,16 +53,18 @@ pub enter_at-returns-clause-named : goal.enter_at-returns-clause-named
 enter_at-returns-clause-named t c =
     let rows = rows_view c.args.rows.now in
     let there = item_trie c.args.there.now in
-    let same : tried_at c.args.is_array rows (header_texts c.args.rest.now) there
-    ≡ tried_by c.args.is_array rows (header_texts c.args.rest.now) there =
+    let l = c.args.level + 1 in
+    let same : obstacle_at c.args.is_array rows (header_texts c.args.rest.now) l there
+    ≡ obstacle_by c.args.is_array rows (header_texts c.args.rest.now) l there =
     elim c.else-is_array.branch [
       | enter_at-else-is_array-via-then-is_array+else-is_empty w ↦
           let some : 1 ≤ length c.args.rest.now = grind (arith, w.is_empty.ensures, w.if-is_empty.false) in
-          not_last_tried c.args.is_array rows c.args.rest.now there some
+          not_last_met c.args.is_array rows c.args.rest.now l there some
       | enter_at-else-is_array-via-else-is_array w ↦
-          no_array_tried c.args.is_array rows (header_texts c.args.rest.now) there w.if-is_array.false
+          no_array_met c.args.is_array rows (header_texts c.args.rest.now) l there w.if-is_array.false
     ] in
-    subst (λ o. IfErr c.enter_item.result (λ clash. NamesStop o clash)) (sym same) c.enter_item.ensures.named
+    subst (λ (o : Option Obstacle). IfErr c.enter_item.result (λ clash. NamesObstacle o clash)) (sym same)
+    c.enter_item.ensures.named
 
 pub enter_at-returns-clause-origins : goal.enter_at-returns-clause-origins
 enter_at-returns-clause-origins t c =
@@ -122,11 +125,9 @@ enter_below-returns-clause-named t c =
     let at = c.in_ok-position.position in
     let pass = passes k c.args.table.now c.enter.new.self c.args.number at child c.enter_at.new.there
     c.in_ok-position.ensures.entered c.value_mut-there.ensures.value in
-    err_on _ _ c.enter_at.result
-    (λ clash named. stopped clash (tried_at a rows keys (item_trie (out-Child child).item))
-    (try_by_keys a rows whole (table_trie c.args.table.now))
-    (passed_stops a rows k keys whole c.args.table.now _ at (out-Child child).item c.enter_at.new.there
-    (ap (λ k. k ∷ keys) (sym c.as_str.ensures.value)) pass) named) c.enter_at.ensures.named
+    subst (λ (o : Option Obstacle). IfErr c.enter_at.result (λ clash. NamesObstacle o clash))
+    (sym (passed_met a rows k keys whole c.args.level c.args.table.now _ at (out-Child child).item c.enter_at.new.there
+    (omega arith) (ap (λ k. k ∷ keys) (sym c.as_str.ensures.value)) pass)) c.enter_at.ensures.named
 
 pub enter_below-returns-clause-origins : goal.enter_below-returns-clause-origins
 enter_below-returns-clause-origins t c =
@@ -187,12 +188,12 @@ enter_item-returns-in_err-enter_header-in-Nothing-clause-named t c =
     let new = table_trie c.deref_mut.result.now in
     let fresh = ap table_trie c.deref_mut.ensures.value ∙ c.in_ok-table-in-Nothing.ensures in
     let clash = c.in_err-enter_header-in-Nothing.field-0.0 in
-    failed (λ r. IfErr r (λ clash. NamesStop (tried_by a rows keys (item_trie there)) clash))
+    failed (λ r. IfErr r (λ clash. NamesObstacle (obstacle_by a rows keys (c.args.level + 1) (item_trie there)) clash))
     c.from_residual-in_err-enter_header-in-Nothing.result clash
     c.from_residual-in_err-enter_header-in-Nothing.ensures.1
-    (stopped clash (try_by_keys a rows keys new) (tried_by a rows keys (item_trie there))
-    (same_stops (try_by_keys a rows keys new) (tried_by a rows keys (item_trie there))
-    (tried_into_fresh a rows keys there new c.in-Nothing.is fresh)) c.in_err-enter_header-in-Nothing.ensures.named)
+    (subst (λ (o : Option Obstacle). NamesObstacle o clash)
+    (sym (met_in_fresh a rows keys (c.args.level + 1) there new c.in-Nothing.is fresh))
+    c.in_err-enter_header-in-Nothing.ensures.named)
 
 pub enter_item-returns-in_ok-enter_header-in-Nothing-clause-entered :
     goal.enter_item-returns-in_ok-enter_header-in-Nothing-clause-entered
@@ -291,6 +292,20 @@ enter_item-returns-in-Table-clause-marks t c =
     (subst (λ (t : Table). MarksTable c.args.number (way a keys (table_trie t)) (table_within now))
     same marks)) c.enter_header-in-Table.ensures.marks
 
+pub enter_item-returns-in-Table-clause-named : goal.enter_item-returns-in-Table-clause-named
+unfolding out-Item out
+enter_item-returns-in-Table-clause-named t c =
+    let a = c.args.is_array in
+    let rows = rows_view c.args.rows.now in
+    let keys = header_texts c.args.rest.now in
+    let there = c.args.there.now in
+    let table = c.in-Table.table in
+    let same : c.deref_mut-in-Table.result.now ≡ table.value =
+    c.deref_mut-in-Table.ensures.value ∙ rw c.in-Table.is refl in
+    subst (λ (o : Option Obstacle). IfErr c.enter_header-in-Table.result (λ clash. NamesObstacle o clash))
+    (ap (λ (t : Table). keys_obstacle a rows keys (c.args.level + 1) (table_trie t)) same
+    ∙ sym (met_in_table a rows keys (c.args.level + 1) there table c.in-Table.is)) c.enter_header-in-Table.ensures.named
+
 -- on from the latest table of an array
 pub enter_item-returns-in-Tables-clause-entered : goal.enter_item-returns-in-Tables-clause-entered
 unfolding out-Item out
@@ -325,12 +340,10 @@ enter_item-returns-in-Tables-clause-named t c =
     let latest = c.in-Tables.latest in
     let same : c.deref_mut-in-Tables.result.now ≡ latest.value =
     c.deref_mut-in-Tables.ensures.value ∙ rw c.in-Tables.is refl in
-    err_on _ _ c.enter_header-in-Tables.result
-    (λ clash named. stopped clash (try_by_keys a rows keys (table_trie latest.value))
-    (tried_by a rows keys (item_trie there))
-    (stopped_in_latest a rows keys there c.in-Tables.field-0 latest c.in-Tables.is)
-    (subst (λ (t : Table). NamesStop (try_by_keys a rows keys (table_trie t)) clash) same named))
-    c.enter_header-in-Tables.ensures.named
+    subst (λ (o : Option Obstacle). IfErr c.enter_header-in-Tables.result (λ clash. NamesObstacle o clash))
+    (ap (λ (t : Table). keys_obstacle a rows keys (c.args.level + 2) (table_trie t)) same
+    ∙ sym (met_in_latest a rows keys (c.args.level + 1) (c.args.level + 2) there c.in-Tables.field-0 latest
+    (omega arith) c.in-Tables.is)) c.enter_header-in-Tables.ensures.named
 
 pub enter_item-returns-in-Tables-clause-origins : goal.enter_item-returns-in-Tables-clause-origins
 unfolding out-Item out
@@ -363,13 +376,29 @@ enter_item-returns-in-Tables-clause-marks t c =
     (subst (λ (t : Table). MarksTable c.args.number (way a keys (table_trie t)) (table_within now))
     same marks)) c.enter_header-in-Tables.ensures.marks
 
-pub enter_item-returns-in_default : goal.enter_item-returns-in_default
-enter_item-returns-in_default t c =
+-- a value stands there
+pub enter_item-returns-then-level-ge-NESTING_LIMIT : goal.enter_item-returns-then-level-ge-NESTING_LIMIT
+enter_item-returns-then-level-ge-NESTING_LIMIT t c =
+    let a = c.args.is_array in
+    let rows = rows_view c.args.rows.now in
+    let keys = header_texts c.args.rest.now in
+    let there = c.args.there.now in
+    let seen = other_is_leaf there c.in_default.not-Nothing c.in_default.not-Table c.in_default.not-Tables in record {
+      entered = deep_out a keys rows c.args.level (item_trie there) (omega arith);
+      named = deep_stopped a rows keys (c.args.level + 1) there seen.0 (omega arith) seen.1;
+      origins = tt;
+      marks = tt;
+      taken = tt;
+    }
+
+pub enter_item-returns-else-level-ge-NESTING_LIMIT : goal.enter_item-returns-else-level-ge-NESTING_LIMIT
+enter_item-returns-else-level-ge-NESTING_LIMIT t c =
     let there = c.args.there.now in
     let seen = other_is_leaf there c.in_default.not-Nothing c.in_default.not-Table c.in_default.not-Tables in record {
       entered = inr (other_bars c.args.is_array (rows_view c.args.rows.now) (header_texts c.args.rest.now) there
           c.in_default.not-Nothing c.in_default.not-Table c.in_default.not-Tables);
-      named = value_stopped c.args.is_array (rows_view c.args.rows.now) c.args.rest.now there seen.0 seen.1;
+      named = value_stopped c.args.is_array (rows_view c.args.rows.now) c.args.rest.now (c.args.level + 1) there seen.0
+          (omega arith) seen.1;
       origins = tt;
       marks = tt;
       taken = tt;

@@ -1,19 +1,20 @@
-use Rattle.std.proofs.Common.{◌≡◌, ◌+◌, ap, ◌∙◌, map, option_map, refl}
+use Rattle.std.proofs.Common.{◌≡◌, ◌+◌, ap, ◌∙◌, map, option_map, refl, sym, subst, arith, inr, Option}
 use Rattle.std.specs.Prelude.{IfErr}
 use Rattle.std.specs.Result.{MatchResult}
 use Rattle.std.specs.Box as boxes
 use Rattle.basic_toml_grammar.specs.Trie.{put_element, put_table}
-use Rattle.basic_toml_grammar.specs.Stops.{Stop, stops}
-use Rattle.basic_toml_grammar.specs.TrieStops.{try_put_table, try_put_element}
 use Rattle.basic_toml_read.specs.SectionView.{rows_view}
 use Rattle.basic_toml_grow.specs.declared.item.Item.{Tables}
 use Rattle.basic_toml_grow.specs.Item.{item_trie, table_trie}
-use Rattle.basic_toml_clash.specs.Clash.{NamesStop}
+use Rattle.basic_toml_clash.specs.Clash.{Obstacle, NamesObstacle}
+use Rattle.basic_toml_grow.specs.Obstacles.{table_obstacle, element_obstacle}
 use Rattle.basic_toml_grow.specs.Headers.{IsIn, IsKeptOut}
 use Rattle.basic_toml_grow.proofs.HeadersInATrie.{array_of, fresh}
-use Rattle.basic_toml_grow.proofs.HeadersEntered.{failed}
+use Rattle.basic_toml_grow.proofs.HeadersEntered.{failed, other_is_leaf}
 use Rattle.basic_toml_grow.proofs.TablesOpened.{first_element, next_element, element_in, element_out}
-use Rattle.basic_toml_grow.proofs.HeadersStopped.{stopped, first_stops, next_stops}
+use Rattle.basic_toml_grow.proofs.HeadersStopped.{first_met, next_met, deep_bars, dotted_bars, named_bars, passed_bars}
+use Rattle.basic_toml_grow.proofs.HeadersStopped.{value_bars}
+use Rattle.basic_toml_grow.specs.declared.item.Table.{Table, out-Table}
 use Rattle.basic_toml_grow.specs.Origins.{rows_origins, table_within, or_else}
 use Rattle.basic_toml_grow.proofs.Origins.ElementsPlaceOrigins.{first_added, next_added}
 use Rattle.basic_toml_grow.proofs.Origins.HeadersMark.{first_marks, next_marks}
@@ -74,17 +75,18 @@ returns-in_err-open-clause-named c =
     let new = table_trie c.deref_mut.result.now in
     let is_fresh = ap table_trie c.deref_mut.ensures.value ∙ blank here in
     let clash = c.in_err-open.field-0.0 in
-    let on : (x : Stop) → try_put_table rows new ≡ stops x → try_put_element rows (item_trie c.args.there) ≡ stops x =
+    let l = c.args.level + 1 in
+    let m = c.args.level + 2 in
+    let same : element_obstacle l rows (item_trie c.args.there) ≡ table_obstacle m rows new =
     elim c.match-there.branch [
-      | in-Nothing+in_ok-new-in-Nothing+in_ok-new-in-Nothing-2 w ↦ first_stops rows c.args.there new
-          w.in-Nothing.is is_fresh
-      | in-Tables+in_ok-before-in-Tables w ↦ next_stops rows c.args.there w.in-Tables.before w.in-Tables.latest new
-          w.in-Tables.is is_fresh
+      | in-Nothing+in_ok-new-in-Nothing+in_ok-new-in-Nothing-2 w ↦ first_met rows l m (omega arith)
+          c.args.there new is_fresh w.in-Nothing.is
+      | in-Tables+in_ok-before-in-Tables w ↦ next_met rows l m (omega arith) c.args.there new is_fresh
+          w.in-Tables.before w.in-Tables.latest w.in-Tables.is
     ] in
-    failed (λ r. IfErr r (λ clash. NamesStop (try_put_element rows (item_trie c.args.there)) clash))
+    failed (λ r. IfErr r (λ clash. NamesObstacle (element_obstacle l rows (item_trie c.args.there)) clash))
     c.from_residual-in_err-open.result clash c.from_residual-in_err-open.ensures.1
-    (stopped clash (try_put_table rows new) (try_put_element rows (item_trie c.args.there)) on
-    c.in_err-open.ensures.named)
+    (subst (λ (o : Option Obstacle). NamesObstacle o clash) (sym same) c.in_err-open.ensures.named)
 
 pub returns-clause-origins : goal.returns-clause-origins
 returns-clause-origins c =
@@ -116,3 +118,46 @@ returns-clause-marks c =
           latest w.in-Tables.before w.in-Tables.latest w.in-Tables.is
           (ap (λ p. p.0.value.items) w.before-is ∙ w.in_ok-before-in-Tables.ensures.before) marks at s
     ]
+
+-- what stands there is no array of tables, or above the limit
+pub returns-then-level-ge-NESTING_LIMIT-clause-named : goal.returns-then-level-ge-NESTING_LIMIT-clause-named
+returns-then-level-ge-NESTING_LIMIT-clause-named c =
+    deep_bars (rows_view c.args.rows.now) (c.args.level + 1) (item_trie c.args.there) (omega arith)
+
+pub returns-then-deref-clause-named : goal.returns-then-deref-clause-named
+returns-then-deref-clause-named c =
+    dotted_bars (rows_view c.args.rows.now) (c.args.level + 1) (omega arith) c.args.there c.in-Table.table c.in-Table.is
+    (ap (λ (t : Table). (out-Table t).dotted) (sym c.deref.ensures) ∙ c.if-deref.true)
+
+pub returns-then-deref-2-clause-named : goal.returns-then-deref-2-clause-named
+returns-then-deref-2-clause-named c =
+    named_bars (rows_view c.args.rows.now) (c.args.level + 1) (omega arith) c.args.there c.in-Table.table c.in-Table.is
+    (ap (λ (t : Table). (out-Table t).dotted) (sym c.deref.ensures) ∙ c.if-deref.false)
+    (ap (λ (t : Table). (out-Table t).named) (sym c.deref-in-Table.ensures) ∙ c.if-deref-2.true)
+
+pub returns-in-Table-clause-named : goal.returns-in-Table-clause-named
+returns-in-Table-clause-named c =
+    passed_bars (rows_view c.args.rows.now) (c.args.level + 1) (omega arith) c.args.there c.in-Table.table c.in-Table.is
+    (ap (λ (t : Table). (out-Table t).dotted) (sym c.deref.ensures) ∙ c.if-deref.false)
+    (ap (λ (t : Table). (out-Table t).named) (sym c.deref-in-Table.ensures) ∙ c.if-deref-2.false)
+
+pub returns-then-level-ge-NESTING_LIMIT-2 : goal.returns-then-level-ge-NESTING_LIMIT-2
+returns-then-level-ge-NESTING_LIMIT-2 c = record {
+  entered = omega arith;
+  named = deep_bars (rows_view c.args.rows.now) (c.args.level + 1) (item_trie c.args.there) (omega arith);
+  origins = tt;
+  marks = tt;
+  taken = tt;
+}
+
+pub returns-in_default : goal.returns-in_default
+returns-in_default c =
+    let there = c.args.there in
+    let rows = rows_view c.args.rows.now in
+    let seen = other_is_leaf there c.in_default.not-Nothing c.in_default.not-Table c.in_default.not-Tables in record {
+      entered = inr (ap (put_element rows) seen.1);
+      named = value_bars rows (c.args.level + 1) (omega arith) there seen.0 seen.1;
+      origins = tt;
+      marks = tt;
+      taken = tt;
+    }

@@ -1,3 +1,4 @@
+use Rattle.std.specs.Prelude.{IfErr}
 use Rattle.std.proofs.Common.{refl, rules, ◌≡◌, [], ◌∷◌, ◌++◌, ap, ◌∙◌, sym, subst, arith, Some, List, map, Bool, false, true, ◌+◌, ℕ, take, drop}
 use Rattle.std.proofs.lemmas.Result.{err_from_is_err_and}
 use Rattle.basic_toml_grammar.specs.Trie.{Trie}
@@ -17,15 +18,15 @@ use Rattle.basic_toml_read.proofs.NextRow.{first_row, parents_left}
 use Rattle.basic_toml_read.specs.declared.section.Key as keys
 use Rattle.basic_toml_read.specs.declared.section.Raw as raws
 use Rattle.basic_toml_read.specs.declared.section.Rows as tables
-use Rattle.basic_toml_grow.proofs.RowValues.{value_stopped, met_stopped}
+use Rattle.basic_toml_grow.proofs.RowValues.{deep_stopped, value_stopped, met_stopped}
 use Rattle.basic_toml_grow.proofs.InlineTables.{inline_stopped}
 use Rattle.basic_toml_grow.proofs.ElementsLeft.{element_stopped}
 use Rattle.basic_toml_grammar.specs.Sections.{Rows}
 use Rattle.basic_toml_grow.proofs.ClashSaysMet.{row_offset}
-use Rattle.basic_toml_clash.specs.Clash.{NamesStop}
+use Rattle.basic_toml_clash.specs.Clash.{NamesObstacle}
 use Rattle.basic_toml_grow.specs.RowStops.{key_at, SaysHeld}
 use Rattle.basic_toml_read.specs.SectionView.{lined_of}
-use Rattle.basic_toml_grammar.specs.TrieStops.{try_put_rows, try_put_elements}
+use Rattle.basic_toml_grow.specs.Obstacles.{rows_obstacle, elements_obstacle}
 use Rattle.basic_toml_grow.proofs.RowValues.{last_deep, value_kept_out, value_put, value_met}
 use Rattle.basic_toml_grow.proofs.InlineTables.{inline_finished, inline_kept_out}
 use Rattle.basic_toml_grow.proofs.ElementsLeft.{ElementsAreLeft, element_entered, elements_done}
@@ -225,16 +226,21 @@ enter_rows-returns-in_err-enter_value-clause-named t c =
     let clash = c.in_err-enter_value.field-0.0 in
     let seen = ap (rows_seen left) c.in-Some.ensures.steps ∙ first_row left row c.next.new.self in
     let are_left = subst (λ (rows : Rows). AreLeft whole c.args.level before rows now) seen c.loop-row.invariant.left in
-    let named = subst (λ (ks : List keys.Key). NamesStop (try_put_rows (one_row ks row) now) clash)
+    let named = subst (λ (ks : List keys.Key). NamesObstacle (rows_obstacle c.args.level (one_row ks row) now) clash)
     c.own_parents-own.ensures c.in_err-enter_value.ensures.named in
     rw (p.1, p.2)
-    (subst (λ (rows : List Row). NamesStop (try_put_rows (rows_seen c.args.parents.now rows) before) clash) start
+    (subst (λ (rows : List Row). NamesObstacle (rows_obstacle c.args.level (rows_seen c.args.parents.now rows) before)
+    clash) start
     (row_stopped whole c.args.level before _ _ _ _ now are_left clash named))
+
+pub enter_value-returns-then-keys-level-clause-named : goal.enter_value-returns-then-keys-level-clause-named
+enter_value-returns-then-keys-level-clause-named t c =
+    deep_stopped c.args.keys.now c.args.row c.args.level (table_trie c.args.table.now) (omega arith)
 
 pub enter_value-returns-in-Err-clause-named : goal.enter_value-returns-in-Err-clause-named
 enter_value-returns-in-Err-clause-named t c =
     value_stopped c.args.keys.now c.args.row c.args.level (table_trie c.args.table.now)
-    c.in-Err.clash c.in_ok-value_clash-in-Err.field-0
+    c.in-Err.clash c.in_ok-value_clash-in-Err.field-0 (omega arith)
     (subst (λ (l : List ℕ). SaysHeld (map key_of c.args.keys.now ++ key_at (lined_of c.args.row).key.offset l ∷ [])
     c.in-Err.clash c.in_ok-value_clash-in-Err.field-0)
     (c.as_str.ensures.value ∙ sym (row_key c.args.row))
@@ -248,7 +254,7 @@ enter_value-returns-clause-named t c =
     c.as_str-in-Ok.result.now c.as_str-in-Err-enter_row.result.now c.args.row.offset
     (c.as_str-in-Ok.ensures.value ∙ sym (row_key c.args.row))
     (c.as_str-in-Err-enter_row.ensures.value ∙ sym (row_key c.args.row))
-    (row_offset c.args.row)
+    (row_offset c.args.row) (omega arith)
     c.in_ok-row_clash-in-Err-enter_row.ensures.named c.in-Ok.ensures.finished
     c.in-Err-enter_row.ensures.named
 
@@ -256,7 +262,7 @@ pub inline_child-returns-in_err-take_rows-clause-named : goal.inline_child-retur
 inline_child-returns-in_err-take_rows-clause-named t c =
     let p = err_from_is_err_and c.from_residual-in_err-take_rows.result c.from_residual-in_err-take_rows.ensures.1 in
     rw (p.1, p.2) (inline_stopped (rows_view c.args.rows) (Some (standings.table false false false))
-    (table_trie c.deref_mut.result.now) c.in_err-take_rows.field-0.0 (are_keyed c.args.rows)
+    (table_trie c.deref_mut.result.now) c.args.level c.in_err-take_rows.field-0.0 (are_keyed c.args.rows) (omega arith)
     (ap table_trie c.deref_mut.ensures.value ∙ c.in_ok-table.ensures) c.in_err-take_rows.ensures.named)
 
 pub children_of-returns-in_err-child_of-clause-named :
@@ -270,7 +276,7 @@ children_of-returns-in_err-child_of-clause-named t c =
     let ts = map child_trie c.loop-element.children.items in
     let left = subst (λ (es : List Element). ElementsAreLeft whole c.args.level ts (elements_view es))
     c.in-Some.ensures.steps c.loop-element.invariant.0 in
-    rw (p.1, p.2) (subst (λ (es : List Element). NamesStop (try_put_elements (elements_view es)) clash) start
+    rw (p.1, p.2) (subst (λ (es : List Element). NamesObstacle (elements_obstacle c.args.level (elements_view es)) clash) start
     (element_stopped whole c.args.level ts c.in-Some.element c.next.new.self clash left
     c.in_err-child_of.ensures.named))
 
@@ -389,6 +395,17 @@ pub take_rows-returns-then-are_simple-clause-taken : goal.take_rows-returns-then
 take_rows-returns-then-are_simple-clause-taken t c =
     let parents = without_parents t c in
     search (rules, parents, c.in_ok-with_rows.ensures.taken, raws.the_lemmas)
+
+pub take_rows-returns-then-are_all_plain-clause-named : goal.take_rows-returns-then-are_all_plain-clause-named
+take_rows-returns-then-are_all_plain-clause-named t c =
+    let now = c.replace-parents.result in
+    let own = tables.out-Rows now in
+    let none : own.parents.items ≡ [] =
+    nothing_left own.parents.items
+    (grind (arith, c.is_empty-then-len-ge-MANY.ensures, c.if-is_empty-5.true, own.parents.ok.0)) in
+    subst (λ (rows : Rows). IfErr c.take_many_rows.result
+    (λ clash. NamesObstacle (rows_obstacle c.args.level rows (table_trie c.args.table.now)) clash))
+    (sym (no_parents_seen now none) ∙ ap rows_view c.replace-parents.ensures.value) c.take_many_rows.ensures.named
 
 -- many plain rows, the first of them taken at once
 many_first : (t : ℕ) (c : goal.take_many_rows-After-enter_rows t)

@@ -45,7 +45,7 @@ returns-in-Err-enter_section c =
     c.in-Ok-true.field-0 same c.in-Ok-true.ensures.ready (c.in-Ok-true.ensures.read grows.list grows.so_far)
     c.in-Ok-true.field-0-test in
     clashes text c.next.new.self c.loop-stop.tree.headers c.loop-stop.tree.root s read c.in-Err-enter_section.clash
-    c.clash_error.result c.in-Err-enter_section.ensures.entered c.in-Err-enter_section.ensures.named
+    c.clash_error.result c.in-Err-enter_section.ensures.named
     c.enter_section.new.section c.in-Err-enter_section.ensures.at c.in-Err-enter_section.ensures.header
     (c.clash_error.ensures grows.list
     (place_behind text c.loop-stop.reader c.place-place.result grows.text (sym c.place-place.ensures) grows.list

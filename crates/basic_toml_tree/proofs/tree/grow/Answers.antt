@@ -27,7 +27,7 @@ returns-in-Err c = λ keyed.
     c.loop-number.root c.loop-number.invariant c.index_mut-section.result.now within (search (rules, c.index_mut-section.ensures.value))
     (ap (λ ss. first_crossed (map section_of ss)) (sym c.as_slice.ensures.value) ∙ sym c.in_ok-at.ensures
     ∙ none_crossed c.in_ok-at.field-0 c.in_default.not-Some) c.in-Err.clash c.error.result
-    c.in-Err.ensures.entered c.in-Err.ensures.named c.enter_section.new.section c.enter_section.ensures.at
+    c.in-Err.ensures.named c.enter_section.new.section c.enter_section.ensures.at
     c.enter_section.ensures.header c.error.ensures
 
 pub returns-in_err-push : goal.returns-in_err-push
