@@ -13,4 +13,5 @@ pub mod OrderReadBack
 pub mod MemoryHasNoPlace
 pub mod GapsHoldNothing
 pub mod MemoryIsWanted
+pub mod MemoryIsGrown
 pub mod TablesHold

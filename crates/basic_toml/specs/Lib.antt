@@ -21,6 +21,7 @@ pub use Rattle.basic_toml_tree.specs.Nodes
 pub use Rattle.basic_toml_origin.specs.Origin
 pub use Rattle.basic_toml_emit.specs.Calls
 pub use Rattle.basic_toml_emit.specs.Depth
+pub use Rattle.basic_toml_emit.specs.Growth
 pub use Rattle.basic_toml_emit.specs.Items
 pub use Rattle.basic_toml_layout.specs.Layout
 pub use Rattle.basic_toml_layout.specs.Document as DocumentText

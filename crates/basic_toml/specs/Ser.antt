@@ -1,5 +1,5 @@
 -- How writing a value ends, and what its text means. (own)
-use Rattle.std.specs.Prelude.{◌≡◌, ◌⊎◌, ℕ, List, Result, Ok, Err, IfOk, IfErr, MatchResult, false, string_bytes}
+use Rattle.std.specs.Prelude.{◌≡◌, ◌⊎◌, ℕ, List, Result, Ok, Err, IfOk, IfErr, MatchResult, true, false, string_bytes}
 use Rattle.std.specs.Prelude.{String}
 use Rattle.std.specs.declared.alloc.Global.{Global}
 use Rattle.basic_toml_tokens.specs.Text.{folded}
@@ -17,7 +17,9 @@ use Rattle.basic_toml_layout.specs.Layout.{layout}
 use Rattle.basic_toml_value.specs.Nesting.{nesting_limit}
 use Rattle.basic_toml_write.specs.Shapes.{is_unsupported}
 use Rattle.basic_toml_emit.specs.Rules as rules
+use Rattle.basic_toml_emit.specs.Open.{fresh}
 use Rattle.basic_toml_emit.specs.Calls.{outcome}
+use Rattle.basic_toml_emit.specs.Growth.{items_grow}
 use Rattle.basic_toml_write.specs.declared.error.WriteError.{WriteError}
 use Rattle.basic_toml_error.specs.Fault as fault
 use Rattle.basic_toml_error.specs.Fault.{Fault, FaultKind, without_offset, want_of_memory}
@@ -68,6 +70,10 @@ pub record Writes (calls : List Item) (gives_up : List Item → WriteError → T
   pub succeeds : (w : Written) → Spells calls w → is_unsupported nesting_limit w ≡ false
       → MatchResult result (λ s. string_bytes s ≡ layout w) (λ f. IsOwnFault gives_up f ⊎ (f ≡ want_of_memory))
   pub refused : IfErr result (λ f. (f ≡ want_of_memory) ⊎ (IsOwnFault gives_up f ⊎ IsFirstFault calls f))
+
+-- want of memory comes only where one of the calls grows something
+abbrev pub CallsGrow : List Item → Fault → Type 0
+CallsGrow calls f = f ≡ want_of_memory → items_grow fresh calls ≡ true
 
 -- where the calls are those of data, the text is the layout of that data
 abbrev pub HoldsData : List Item → List ℕ → Type 0

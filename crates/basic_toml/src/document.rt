@@ -1,9 +1,10 @@
 //! Writing any table, and any value.
-ghost use Rattle.std.specs.Prelude.{IfOk, string_bytes};
+ghost use Rattle.std.specs.Prelude.{◌≡◌, ◌<◌, length, IfOk, IfErr, string_bytes};
 ghost use Rattle.basic_toml_value.specs.View.{view, entries};
 ghost use Rattle.basic_toml_layout.specs.Document.{plain};
 ghost use Rattle.basic_toml_layout.specs.Pretty.{pretty};
 ghost use Rattle.basic_toml_layout.specs.Style.{style_of};
+ghost use Rattle.basic_toml_error.specs.Fault.{want_of_memory};
 ghost use Rattle.basic_toml.specs.TableText.{HasTheLayout, WritesTable, WritesValue};
 
 use crate::Error;
@@ -31,11 +32,12 @@ use std::alloc::Global;
 /// # Errors
 ///
 /// `nested too deeply` where the table is nested more than [`NESTING_LIMIT`] deep, as none is that was read; and `out of
-/// memory` where a growth was refused.
+/// memory` where a growth was refused, which never is where the table has no entry.
 #[tactic(auto, using(crate::proofs::DocumentOf::has_the_layout))]
 pub fn table_to_string(alloc: Global, table: &Table) -> Result<String, Error>
     ensures text { WritesTable plain (entries table.now) result }
     ensures layout { IfOk result (λ text. HasTheLayout (entries table.now) (string_bytes text)) }
+    ensures memory { IfErr result (λ fault. fault ≡ want_of_memory → 0 < length table.now) }
 {
     text_in(alloc, Style::Plain, table)
 }
@@ -58,14 +60,16 @@ pub fn table_to_string(alloc: Global, table: &Table) -> Result<String, Error>
 ///
 /// Those of [`table_to_string`].
 pub fn table_to_string_pretty(alloc: Global, table: &Table) -> Result<String, Error>
-    ensures { WritesTable pretty (entries table.now) result }
+    ensures text { WritesTable pretty (entries table.now) result }
+    ensures memory { IfErr result (λ fault. fault ≡ want_of_memory → 0 < length table.now) }
 {
     text_in(alloc, Style::Pretty, table)
 }
 
-#[tactic(auto, using(crate::proofs::DocumentOf::written, crate::proofs::DocumentOf::too_deep))]
+#[tactic(auto, using(crate::proofs::DocumentOf::written, crate::proofs::DocumentOf::too_deep, crate::proofs::MemoryIsGrown::deep_wants_none))]
 fn text_in(alloc: Global, style: Style, table: &Table) -> Result<String, Error>
-    ensures { WritesTable (style_of style) (entries table.now) result }
+    ensures text { WritesTable (style_of style) (entries table.now) result }
+    ensures memory { IfErr result (λ fault. fault ≡ want_of_memory → 0 < length table.now) }
 {
     if !table_nests_within(table, NESTING_LIMIT) {
         return Err(Error::from(WriteError::NestedTooDeeply));

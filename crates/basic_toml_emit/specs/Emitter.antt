@@ -1,6 +1,6 @@
 -- What an emitter is at, and what it does with one item.
-use Rattle.std.specs.Prelude.{◌≡◌, Bool, false, ◌∷◌, ◌++◌, Result, Ok, Err, MatchResult, String, length, nat_le}
-use Rattle.std.specs.Prelude.{string_bytes}
+use Rattle.std.specs.Prelude.{◌≡◌, Bool, true, false, ◌∷◌, ◌++◌, Result, Ok, Err, IfErr, MatchResult, String, length}
+use Rattle.std.specs.Prelude.{nat_le, string_bytes}
 use Rattle.std.specs.declared.alloc.Global.{Global}
 use Rattle.basic_toml_emit.specs.Items.{Item}
 use Rattle.basic_toml_value.specs.Nesting.{nesting_limit}
@@ -9,8 +9,10 @@ use Rattle.basic_toml_emit.specs.Rules.{call_order, holds_section, is_in_array, 
 use Rattle.basic_toml_emit.specs.Calls.{after, finished, path, array_start, array_end, with_row, with_sections}
 use Rattle.basic_toml_emit.specs.Changes.{outer, with_entry, holds_key, has_entry, value_start}
 use Rattle.basic_toml_emit.specs.Error.{Meets}
+use Rattle.basic_toml_emit.specs.Growth.{grows}
 use Rattle.basic_toml_emit.specs.Frames.{frames_of}
 use Rattle.basic_toml_emit.specs.declared.error.EmitError.{EmitError}
+use Rattle.basic_toml_emit.specs.declared.error.EmitError.TheVariants.{OutOfMemory}
 use Rattle.basic_toml_emit.specs.declared.emitter.Emitter.{Emitter}
 
 abbrev pub state_of : Emitter → State
@@ -20,6 +22,10 @@ state_of e = state (string_bytes e.text) (frames_of e.frames.items) e.is_done
 abbrev pub Steps : Item → Emitter → Emitter → Result (Unit {0}) EmitError → Type 0
 Steps i old new r = MatchResult r (λ _. after nesting_limit (state_of old) i ≡ Ok (state_of new))
     (λ e. Meets e (key_of (frames_of new.frames.items)) (after nesting_limit (state_of old) i))
+
+-- want of memory comes only of an item that grows something where it stands
+abbrev pub MemoryHasCause : {A : Type 0} → Item → Emitter → Result A EmitError → Type 0
+MemoryHasCause i old r = IfErr r (λ e. e ≡ OutOfMemory → grows (frames_of old.frames.items) old.is_done i ≡ true)
 
 -- the key that is set is counted among those of present entries
 pub record Enters (old new : Emitter) : Type 0 where

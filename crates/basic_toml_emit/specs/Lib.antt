@@ -11,5 +11,6 @@ pub mod Keys
 pub mod PresentKeys
 pub mod OpenKeys
 pub mod Recorded
+pub mod Growth
 pub mod Frames
 pub mod Emitter

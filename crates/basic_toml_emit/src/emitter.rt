@@ -34,7 +34,7 @@ pub struct Emitter {
 }
 
 impl Emitter {
-    ghost use Rattle.basic_toml_emit.specs.Emitter.{state_of, Steps, HandsOut};
+    ghost use Rattle.basic_toml_emit.specs.Emitter.{state_of, Steps, MemoryHasCause, HandsOut};
 
     /// An emitter that has taken nothing. Takes no memory.
     pub fn new(alloc: Global) -> Emitter
@@ -71,10 +71,12 @@ impl Emitter {
         !self.is_done && self.frames.is_empty() && self.text.is_empty()
     }
 
-    /// Takes what a call records, or answers the error that is due.
+    /// Takes what a call records, or answers the error that is due. `OutOfMemory` comes only of what opens an array or a
+    /// table, sets a key, or lengthens the text.
     #[inline(always)]
     pub fn step(&mut self, call: Call<'_>) -> Result<(), EmitError>
-        ensures { Steps (item_of call.entry) self.old self.new result }
+        ensures steps { Steps (item_of call.entry) self.old self.new result }
+        ensures memory { MemoryHasCause (item_of call.entry) self.old result }
     {
         match call {
             Call::Scalar(scalar) => self.scalar(scalar),
@@ -130,7 +132,8 @@ impl Emitter {
     // A value without parts of its own; at a key, the text of the key.
     #[inline(always)]
     fn scalar(&mut self, scalar: Scalar<'_>) -> Result<(), EmitError>
-        ensures { Steps (a_scalar (scalar_of scalar.entry)) self.old self.new result }
+        ensures steps { Steps (a_scalar (scalar_of scalar.entry)) self.old self.new result }
+        ensures memory { MemoryHasCause (a_scalar (scalar_of scalar.entry)) self.old result }
     {
         match innermost(&self.frames) {
             None => Err(self.outside(EmitError::UnsupportedType)),
@@ -143,7 +146,8 @@ impl Emitter {
     }
 
     fn open_table(&mut self) -> Result<(), EmitError>
-        ensures { Steps open_table self.old self.new result }
+        ensures steps { Steps open_table self.old self.new result }
+        ensures memory { MemoryHasCause open_table self.old result }
     {
         match innermost(&self.frames) {
             None => {
@@ -163,7 +167,8 @@ impl Emitter {
     }
 
     fn open_array(&mut self) -> Result<(), EmitError>
-        ensures { Steps open_array self.old self.new result }
+        ensures steps { Steps open_array self.old self.new result }
+        ensures memory { MemoryHasCause open_array self.old result }
     {
         match innermost(&self.frames) {
             None => Err(self.outside(EmitError::UnsupportedType)),
@@ -177,7 +182,8 @@ impl Emitter {
 
     // Closes the innermost array or table.
     fn close(&mut self) -> Result<(), EmitError>
-        ensures { Steps close self.old self.new result }
+        ensures steps { Steps close self.old self.new result }
+        ensures memory { MemoryHasCause close self.old result }
     {
         match innermost(&self.frames) {
             None => Err(EmitError::CallOrder),

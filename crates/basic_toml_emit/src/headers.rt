@@ -1,6 +1,7 @@
 //! Headers, and what stands before a row's value.
-ghost use Rattle.std.specs.Prelude.{◌≡◌, ◌++◌, IfOk, string_bytes, unwrap_or, []};
+ghost use Rattle.std.specs.Prelude.{◌≡◌, ◌++◌, IfOk, OnErr, true, string_bytes, unwrap_or, []};
 ghost use Rattle.basic_toml_emit.specs.Calls as c;
+ghost use Rattle.basic_toml_emit.specs.Growth.{is_due};
 ghost use Rattle.basic_toml_emit.specs.OpenKeys.{last_of};
 ghost use Rattle.basic_toml_layout.specs.Texts.{joined, written_key};
 ghost use Rattle.basic_toml_layout.specs.Layout.{table_header, element_header, row_start};
@@ -57,8 +58,9 @@ fn write_path(text: &mut String, frames: &[Frame]) -> Result<(), AllocError>
 // The header of a table in these frames, where it is due.
 #[inline(always)]
 pub fn write_header(text: &mut String, frames: &[Frame], header: Header) -> Result<(), AllocError>
-    ensures { IfOk result (λ _. string_bytes text.new ≡ string_bytes text.old
+    ensures text { IfOk result (λ _. string_bytes text.new ≡ string_bytes text.old
         ++ c.header_text (header_of header) (frames_of frames.now)) }
+    ensures due { OnErr result (is_due (header_of header) ≡ true) }
 {
     match header {
         Header::Settled => Ok(()),

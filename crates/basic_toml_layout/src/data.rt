@@ -1,5 +1,5 @@
 //! Tables of data, which are laid out at once: their keys differ, so no key is looked for.
-ghost use Rattle.std.specs.Prelude.{◌≡◌, IfOk, string_bytes};
+ghost use Rattle.std.specs.Prelude.{◌≡◌, ◌<◌, length, IfOk, OnErr, string_bytes};
 ghost use Rattle.basic_toml_value.specs.View.{view, entries};
 ghost use Rattle.basic_toml_layout.specs.Document as d;
 ghost use Rattle.basic_toml_layout.specs.Style.{style_of};
@@ -17,9 +17,11 @@ use std::alloc::{AllocError, Global};
 pub use style::Style;
 use text::write_entries;
 
-/// The text of any table that is the whole value: its rows, and then its sections.
+/// The text of any table that is the whole value: its rows, and then its sections. Where it has no entry, asks for no
+/// memory.
 pub fn document_text(alloc: Global, style: Style, table: &Table) -> Result<String, AllocError>
-    ensures { IfOk result (λ text. string_bytes text ≡ d.document_text (style_of style) (entries table.now)) }
+    ensures text { IfOk result (λ text. string_bytes text ≡ d.document_text (style_of style) (entries table.now)) }
+    ensures memory { OnErr result (0 < length table.now) }
 {
     let mut text = String::new(alloc);
     let mut path = String::new(alloc);

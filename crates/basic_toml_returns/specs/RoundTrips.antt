@@ -33,6 +33,7 @@ Own A = record {
   calls : A → List Item;
   gives_up : A → List Item → WriteError → Type 0;
   holds : A → Type 0;
+  asks_no_memory : A → Type 0;
   read_back : ReadBack A;
 }
 

@@ -1,15 +1,18 @@
 -- A serializer that was sent the items of a value, from the start.
 use Rattle.std.proofs.Common.{◌≡◌, List, [], sym, ap, subst, refl, Option, Some, None, MatchOption, Result, Ok, Err}
-use Rattle.std.proofs.Common.{MatchResult, ◌⊎◌, inl, inr, String}
+use Rattle.std.proofs.Common.{MatchResult, ◌⊎◌, inl, inr, String, IfErr, ◌∙◌, true}
 use Rattle.std.specs.declared.alloc.Global.{Global}
 use Rattle.basic_toml_emit.specs.Items.{Item}
 use Rattle.basic_toml_value.specs.Nesting.{nesting_limit}
+use Rattle.basic_toml_emit.specs.Open.{fresh}
 use Rattle.basic_toml_emit.specs.Calls.{on_ok, finished, outcome}
+use Rattle.basic_toml_emit.specs.Growth.{items_grow}
 use Rattle.basic_toml_write.specs.Error.{Names}
 use Rattle.basic_toml_write.specs.Recordable.{AreRecordable}
 use Rattle.basic_toml_write.specs.Serializer.{ran, HasRecorded, error_of, NoFault, GaveUp, Sends, Settles, Finishes}
-use Rattle.basic_toml_write.specs.Write.{WritesOut}
-use Rattle.basic_toml_emit.specs.Emitter.{HandsOut}
+use Rattle.basic_toml_write.specs.Serializer.{IsShort, MemoryHasCause}
+use Rattle.basic_toml_write.specs.Write.{WritesOut, HasCause}
+use Rattle.basic_toml_emit.specs.Emitter.{state_of, HandsOut}
 use Rattle.basic_toml_write.proofs.ListsAreSentInTurn.{GoesAt}
 use Rattle.basic_toml_write.proofs.FinishHandsOut.{Ends, ends}
 use Rattle.basic_toml_write.specs.declared.error.WriteError.{WriteError}
@@ -72,3 +75,26 @@ pub recorded_out : (is : List Item) (s : Serializer) (r : Result (String Global)
     → Finishes s r → WritesOut is NoFault r
 recorded_out is s r h f =
     finished_out is NoFault s r h.recordable (ends s is r h (subst (FinishesAt s r) h.unrefused f))
+
+-- want of memory of what was settled is that of a call
+pub settled_memory : (is : List Item) (start s : Serializer) (a : Result (Unit {0}) WriteError)
+    (r : Result (String Global) WriteError) → HasRecorded start [] → Settles s a r → MemoryHasCause is start s a
+    → IfErr r (HasCause is)
+settled_memory is start s a r h settles memory = go a r (error_of s) refl from_start settles
+  where
+    from_start : IsShort s a → items_grow fresh is ≡ true
+    from_start short =
+        let at : state_of start.emitter ≡ fresh = cc h.taken in
+        subst (λ z. items_grow z is ≡ true) at (memory.cause [] h short)
+
+    handed : (r : Result (String Global) WriteError) → HandsOut CallOrder s.emitter r → IfErr r (HasCause is)
+    handed (Ok t) f = tt
+    handed (Err e) f = λ wanted. let never : CallOrder ≡ OutOfMemory = sym f.0 ∙ wanted in absurd (cc)
+
+    go : (a : Result (Unit {0}) WriteError) (r : Result (String Global) WriteError) (o : Option WriteError)
+        → error_of s ≡ o → (IsShort s a → items_grow fresh is ≡ true) → SettlesAt s a r o → IfErr r (HasCause is)
+    go a r (Some e) at from same = subst (λ (z : Result (String Global) WriteError). IfErr z (HasCause is)) (sym same)
+        (λ wanted. from (inr (at ∙ ap (λ x. Some x) wanted)))
+    go (Ok x) r None at from f = handed r (subst (FinishesAt s r) at f)
+    go (Err e) r None at from same = subst (λ (z : Result (String Global) WriteError). IfErr z (HasCause is)) (sym same)
+        (λ wanted. from (inl (ap (λ x. Err x) wanted)))

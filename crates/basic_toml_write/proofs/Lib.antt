@@ -8,8 +8,11 @@ pub mod SpellingIsUnique
 pub mod KeptHasSameLayout
 pub mod OutcomeIsLayout
 pub mod KeptErrorIsAnswered
+pub mod ItemsGrow
+pub mod ShortOfMemory
 pub mod ListsAreSentInTurn
 pub mod StoppedCalls
+pub mod MemoryHasCause
 pub mod OneCallIsSent
 pub mod FinishHandsOut
 pub mod PartsAreSent
@@ -20,6 +23,7 @@ pub mod FittingDataIsTaken
 pub mod FittingDataIsOrdered
 pub mod TableIsLaidOut
 pub mod SpelledListIsInOrder
+pub mod SpelledListGrows
 pub mod TextIsLayout
 pub mod CallsAreWrittenOut
 mod WorkedRows

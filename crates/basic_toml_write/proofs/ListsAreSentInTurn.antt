@@ -1,6 +1,6 @@
 -- Items that are sent one after another.
 use Rattle.std.proofs.Common.{◌≡◌, ℕ, List, [], ◌∷◌, ◌++◌, Option, Some, None, IsSome, Result, Ok, Err, sym, ◌∙◌, ap}
-use Rattle.std.proofs.Common.{subst, refl, inl, inr, MatchOption, MatchResult, ◌⊎◌, OnErr, append_assoc}
+use Rattle.std.proofs.Common.{subst, refl, inl, inr, true, MatchOption, MatchResult, ◌⊎◌, OnErr, append_assoc}
 use Rattle.std.specs.Prelude.{⊤}
 use Rattle.std.proofs.lemmas.List.Elements.{All-nil, All-cons, All-append}
 use Rattle.basic_toml_emit.specs.Items.{Item}
@@ -15,6 +15,8 @@ use Rattle.basic_toml_emit.specs.Emitter.{state_of}
 use Rattle.basic_toml_write.specs.Serializer.{ran, HasRecorded, error_of, NoFault, PartGivesUp, GaveUp}
 use Rattle.basic_toml_write.specs.Serializer.{Goes, Sends, AnswersError, Refused, Takes, Passes}
 use Rattle.basic_toml_write.proofs.KeptErrorIsAnswered.{refuses_later, refuses_again}
+use Rattle.basic_toml_write.proofs.ItemsGrow.{grows_at}
+use Rattle.basic_toml_write.proofs.ShortOfMemory.{memory_met, memory_taken, memory_stands}
 use Rattle.basic_toml_write.specs.declared.error.WriteError.{WriteError}
 use Rattle.basic_toml_write.specs.declared.error.WriteError.TheVariants.{OutOfMemory}
 use Rattle.basic_toml_write.specs.declared.serializer.Serializer.{Serializer}
@@ -86,6 +88,7 @@ takes_refused is s e x p again = record {
   sends = record { goes = λ before h. absurd (some_none e s.error p h.unrefused); stays = λ e k. k };
   answers = subst (λ o. AnswersAt (Err x) o o) (sym p) again;
   refuses = subst IsSome (sym p) refl;
+  memory = memory_stands is s s (Err x) e p;
 }
 
 -- an item that was taken
@@ -107,6 +110,7 @@ takes_ok i before mid new can p q same h =
       };
       answers = subst (AnswersAt (Ok tt) before.error) (sym none) tt;
       refuses = tt;
+      memory = memory_taken (i ∷ []) before new none;
     }
 
 -- a call that was taken left no error
@@ -138,8 +142,9 @@ some_refused error r (Some kept) h = refl
 
 -- an item that was refused
 pub takes_err : (i : Item) (before new : Serializer) (e : WriteError) (r : Answer) → before.error ≡ None
-    → Refused e new r → Names e (after nesting_limit (state_of before.emitter) i) → Takes (i ∷ []) before new r
-takes_err i before new e r p kept h = record {
+    → Refused e new r → Names e (after nesting_limit (state_of before.emitter) i)
+    → (e ≡ OutOfMemory → grows_at (state_of before.emitter) i ≡ true) → Takes (i ∷ []) before new r
+takes_err i before new e r p kept h because = record {
   sends = record {
     goes = λ is recorded. goes_refused NoFault is (i ∷ []) e new r new.error kept
         (refuses_later e _ _ (λ y z. ran_more is i (state_of before.emitter) recorded.taken ∙ z) h);
@@ -147,6 +152,7 @@ takes_err i before new e r p kept h = record {
   };
   answers = answers_now e before new r p kept;
   refuses = on_err r (some_refused e r new.error kept);
+  memory = memory_met i before new e r kept h because;
 }
   where
     on_err : (r : Answer) → IsSome new.error → OnErr r (IsSome new.error)

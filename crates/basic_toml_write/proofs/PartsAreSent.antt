@@ -8,8 +8,10 @@ use Rattle.std.proofs.lemmas.List.{map-append}
 use Rattle.std.proofs.lemmas.List.Concat.{flat_map-append}
 use Rattle.std.proofs.lemmas.Map.Iter.{rest_more, rest_all}
 use Rattle.basic_toml_emit.specs.Items.{Item, close}
-use Rattle.basic_toml_write.specs.Serializer.{NoFault, PartGivesUp, Sends, Takes, Passes}
+use Rattle.basic_toml_write.specs.Serializer.{NoFault, PartGivesUp, Sends, Takes, Passes, MemoryHasCause}
 use Rattle.basic_toml_write.specs.Impls.{AnyGivesUp}
+use Rattle.basic_toml_write.proofs.ItemsGrow.{GrowsWhereTaken}
+use Rattle.basic_toml_write.proofs.MemoryHasCause.{memory_cut, memory_opened}
 use Rattle.basic_toml_write.proofs.ListsAreSentInTurn.{part_after, sends_then, sends_cut, sends_never}
 use Rattle.basic_toml_write.specs.declared.error.WriteError.{WriteError}
 use Rattle.basic_toml_write.specs.declared.serializer.Serializer.{Serializer}
@@ -137,3 +139,15 @@ module _ {A : Type 0} (opening : Item) (prefix : A → Item) (calls : A → List
       sends_then (opening ∷ flat_map part_calls xs) (close ∷ []) NoFault (WholeGivesUp xs)
       (λ sent e never. absurd never) NoFault old mid new r
       (subst (λ (l : List A). Sends (opening ∷ flat_map part_calls l) NoFault old mid (Ok tt)) same p) q.sends
+
+  -- want of memory has its cause in the opening, whether it was refused or taken
+  pub memory_unopened : (xs : List A) (old new : Serializer) (e : WriteError) → Takes (opening ∷ []) old new (Err e)
+      → MemoryHasCause (whole_calls xs) old new (Err e)
+  memory_unopened xs old new e p =
+      memory_cut (opening ∷ []) (flat_map part_calls xs ++ (close ∷ [])) old new (Err e) p.memory
+
+  pub memory_once_open : GrowsWhereTaken opening → (xs : List A) (old mid : Serializer)
+      → Takes (opening ∷ []) old mid (Ok tt) → (new : Serializer) (r : Result (Unit {0}) WriteError)
+      → MemoryHasCause (whole_calls xs) old new r
+  memory_once_open grows xs old mid p new r =
+      memory_opened opening grows old mid p (flat_map part_calls xs ++ (close ∷ [])) new r

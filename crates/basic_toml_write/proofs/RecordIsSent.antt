@@ -2,10 +2,12 @@
 -- whole.
 use Rattle.std.proofs.Common.{◌≡◌, List, [], ◌∷◌, ◌++◌, Option, Some, Result, Ok, Err, IfOk, IfErr, sym}
 use Rattle.std.proofs.Common.{subst}
-use Rattle.basic_toml_emit.specs.Items.{Item, close, some_prefix}
+use Rattle.basic_toml_emit.specs.Items.{Item, open_array, open_table, close, some_prefix}
 use Rattle.basic_toml_write.specs.Serializer.{NoFault, PartGivesUp, Sends, Takes, Passes}
 use Rattle.basic_toml_write.specs.Impls.{OptionGivesUp}
 use Rattle.basic_toml_write.specs.Parts.{Never, an_opening, a_part, the_end, Opens, FailsToOpen, Adds, FailsToAdd}
+use Rattle.basic_toml_write.proofs.ItemsGrow.{GrowsWhereTaken, array_grows, table_grows}
+use Rattle.basic_toml_write.proofs.MemoryHasCause.{memory_opened, memory_cut}
 use Rattle.basic_toml_write.proofs.ListsAreSentInTurn.{sends_then, sends_cut, sends_widen}
 use Rattle.basic_toml_write.specs.declared.error.WriteError.{WriteError}
 use Rattle.basic_toml_write.specs.declared.serializer.Serializer.{Serializer}
@@ -14,22 +16,33 @@ abbrev Answer : Type 0
 Answer = Result (Unit {0}) WriteError
 
 -- a call that was taken opens what follows
-pub opens : (i : Item) (old new : Serializer) (r : Answer) → Takes (i ∷ []) old new r
+opens : (i : Item) → GrowsWhereTaken i → (old new : Serializer) (r : Answer) → Takes (i ∷ []) old new r
     → IfOk r (λ _. Opens i old new)
 unfolding an_opening
-opens i old new (Ok tt) p = record {
+opens i grows old new (Ok tt) p = record {
   next = λ rest last r q. sends_then (i ∷ []) rest NoFault NoFault (λ sent e never. never) NoFault old new last r
       p.sends q;
+  memory = λ rest last r. memory_opened i grows old new p rest last r;
 }
-opens i old new (Err e) p = tt
+opens i grows old new (Err e) p = tt
+
+pub opens_array : (old new : Serializer) (r : Answer) → Takes (open_array ∷ []) old new r
+    → IfOk r (λ _. Opens open_array old new)
+opens_array = opens open_array array_grows
+
+pub opens_table : (old new : Serializer) (r : Answer) → Takes (open_table ∷ []) old new r
+    → IfOk r (λ _. Opens open_table old new)
+opens_table = opens open_table table_grows
 
 -- a call that met an error
 pub fails_to_open : (i : Item) (old new : Serializer) (r : Answer) → Takes (i ∷ []) old new r
     → IfErr r (FailsToOpen i old new)
 unfolding an_opening
 fails_to_open i old new (Ok x) p = tt
-fails_to_open i old new (Err e) p =
-    record { whole = λ rest. sends_cut (i ∷ []) rest NoFault old new e p.sends }
+fails_to_open i old new (Err e) p = record {
+  whole = λ rest. sends_cut (i ∷ []) rest NoFault old new e p.sends;
+  memory = λ rest. memory_cut (i ∷ []) rest old new (Err e) p.memory;
+}
 
 -- the last call
 pub closes : (old new : Serializer) (r : Answer) → Takes (close ∷ []) old new r → Sends the_end NoFault old new r

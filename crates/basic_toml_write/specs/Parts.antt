@@ -6,7 +6,7 @@
 use Rattle.std.specs.Prelude.{ℕ, List, [], ◌∷◌, ◌++◌, ◌⊎◌, Result, Err}
 use Rattle.basic_toml_emit.specs.Items.{Item, open_array, open_table, close, key, field, some_prefix, value_prefix}
 use Rattle.basic_toml_emit.specs.Items.{element_prefix}
-use Rattle.basic_toml_write.specs.Serializer.{Sends, NoFault, PartGivesUp}
+use Rattle.basic_toml_write.specs.Serializer.{Sends, NoFault, PartGivesUp, MemoryHasCause}
 use Rattle.basic_toml_write.specs.declared.error.WriteError.{WriteError}
 use Rattle.basic_toml_write.specs.declared.serializer.Serializer.{Serializer}
 
@@ -68,14 +68,17 @@ field_gives_up name = part_gives_up (field name)
 abbrev pub Never : (List Item → WriteError → Type 0) → Type 0
 Never gives_up = (sent : List Item) (e : WriteError) → gives_up sent e → ⊥
 
--- what is sent after this opening is sent with it
+-- what is sent after this opening is sent with it, and want of memory has its cause in it
 pub record Opens (opening : Item) (old new : Serializer) : Type 0 where
   pub next : (rest : List Item) (last : Serializer) (r : Result (Unit {0}) WriteError) → Sends rest NoFault new last r
       → Sends (an_opening opening rest) NoFault old last r
+  pub memory : (rest : List Item) (last : Serializer) (r : Result (Unit {0}) WriteError)
+      → MemoryHasCause (an_opening opening rest) old last r
 
 -- an error of this opening is one of all that would follow
 pub record FailsToOpen (opening : Item) (old new : Serializer) (e : WriteError) : Type 0 where
   pub whole : (rest : List Item) → Sends (an_opening opening rest) NoFault old new (Err e)
+  pub memory : (rest : List Item) → MemoryHasCause (an_opening opening rest) old new (Err e)
 
 -- what is sent after this part is sent with it
 pub record Adds (prefix : Item) (part : List Item) (old new : Serializer) : Type 0 where

@@ -2,14 +2,15 @@
 -- A fresh serializer has recorded the empty list. A call that answers Ok appends its items to each list that was
 -- recorded; an error is the first that is due after such a list. After an error every call answers that error, and
 -- nothing is handed out.
-use Rattle.std.specs.Prelude.{◌≡◌, List, ◌++◌, Option, Some, None, IsSome, Result, Ok, Err, MatchOption, MatchResult}
-use Rattle.std.specs.Prelude.{OnErr, ◌⊎◌, ⊤, String}
+use Rattle.std.specs.Prelude.{◌≡◌, true, List, ◌++◌, Option, Some, None, IsSome, Result, Ok, Err, MatchOption}
+use Rattle.std.specs.Prelude.{MatchResult, OnErr, ◌⊎◌, ⊤, String}
 use Rattle.std.specs.declared.alloc.Global.{Global}
 use Rattle.basic_toml_emit.specs.Items.{Item}
 use Rattle.basic_toml_value.specs.Nesting.{nesting_limit}
 use Rattle.basic_toml_emit.specs.Open.{State, fresh}
 use Rattle.basic_toml_emit.specs.Rules.{CallFault}
 use Rattle.basic_toml_emit.specs.Calls.{run}
+use Rattle.basic_toml_emit.specs.Growth.{items_grow}
 use Rattle.basic_toml_write.specs.Error.{Names}
 use Rattle.basic_toml_write.specs.Recordable.{AreRecordable}
 use Rattle.basic_toml_write.specs.Again.{IsSame, IsAgain}
@@ -84,11 +85,21 @@ abbrev pub Refused : WriteError → Serializer → Result (Unit {0}) WriteError 
 Refused error new r =
     MatchOption (error_of new) ⊥ (λ kept. IsAgain error kept × MatchResult r (λ _. ⊥) (λ e. IsSame kept e))
 
+-- want of memory is answered, or kept
+abbrev pub IsShort : Serializer → Result (Unit {0}) WriteError → Type 0
+IsShort new r = (r ≡ Err OutOfMemory) ⊎ (error_of new ≡ Some OutOfMemory)
+
+-- After a list that was recorded before, want of memory comes only where one of these items grows something.
+pub record MemoryHasCause (is : List Item) (old new : Serializer) (r : Result (Unit {0}) WriteError) : Type 0 where
+  pub cause : (before : List Item) → HasRecorded old before → IsShort new r
+      → items_grow (state_of old.emitter) is ≡ true
+
 -- a call of these items, whose faults are rules
 pub record Takes (is : List Item) (old new : Serializer) (r : Result (Unit {0}) WriteError) : Type 0 where
   pub sends : Sends is NoFault old new r
   pub answers : AnswersError old new r
   pub refuses : OnErr r (IsSome (error_of new))
+  pub memory : MemoryHasCause is old new r
 
 -- a call that records items, and then has a part send its own
 pub record Passes (ahead is : List Item) (gives_up : List Item → WriteError → Type 0) (old new : Serializer)

@@ -1,5 +1,5 @@
 -- What the text of a value is, by the items that it spells (own).
-use Rattle.std.specs.Prelude.{◌≡◌, List, Result, Ok, IsOk, MatchResult, ◌⊎◌, ⊤, false, string_bytes, String}
+use Rattle.std.specs.Prelude.{◌≡◌, List, Result, Ok, IsOk, MatchResult, ◌⊎◌, ⊤, true, false, string_bytes, String}
 use Rattle.std.specs.declared.alloc.Global.{Global}
 use Rattle.basic_toml_layout.specs.Written.{Written}
 use Rattle.basic_toml_emit.specs.Items.{Item}
@@ -10,7 +10,9 @@ use Rattle.basic_toml_layout.specs.Layout.{layout}
 use Rattle.basic_toml_value.specs.Nesting.{nesting_limit}
 use Rattle.basic_toml_write.specs.Shapes.{is_unsupported}
 use Rattle.basic_toml_emit.specs.Rules.{CallFault, key_not_string, call_order}
+use Rattle.basic_toml_emit.specs.Open.{fresh}
 use Rattle.basic_toml_emit.specs.Calls.{outcome}
+use Rattle.basic_toml_emit.specs.Growth.{items_grow}
 use Rattle.basic_toml_write.specs.Error.{Names}
 use Rattle.basic_toml_write.specs.declared.error.WriteError.{WriteError}
 use Rattle.basic_toml_write.specs.declared.error.WriteError.TheVariants.{OutOfMemory}
@@ -43,6 +45,10 @@ abbrev pub Succeeds : List Item → (List Item → WriteError → Type 0) → Re
 Succeeds is gives_up r =
     (w : Written) → Spells is w → is_unsupported nesting_limit w ≡ false
     → MatchResult r (λ t. string_bytes t ≡ layout w) (λ e. IsOwnError gives_up e ⊎ (e ≡ OutOfMemory))
+
+-- want of memory comes only where one of the items grows something
+abbrev pub HasCause : List Item → WriteError → Type 0
+HasCause is e = e ≡ OutOfMemory → items_grow fresh is ≡ true
 
 -- an error that a list that spells a value may meet: none for the order of the calls, and none for a key that is no
 -- text

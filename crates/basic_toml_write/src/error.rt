@@ -1,10 +1,12 @@
 //! Why a value is not written.
-ghost use Rattle.std.specs.Prelude.{Result};
+ghost use Rattle.std.specs.Prelude.{◌≡◌, ◌⊎◌, Result};
 ghost use Rattle.basic_toml_emit.specs.Open.{State};
 ghost use Rattle.basic_toml_emit.specs.Rules.{CallFault, key_of};
 ghost use Rattle.basic_toml_emit.specs.Error.{Meets};
 ghost use Rattle.basic_toml_emit.specs.Emitter.{state_of};
+ghost use Rattle.basic_toml_emit.specs.declared.error.EmitError.TheVariants as emit;
 ghost use Rattle.basic_toml_write.specs.Error.{Names};
+ghost use Rattle.basic_toml_write.specs.declared.error.WriteError.TheVariants as write;
 
 use basic_toml_emit::{EmitError, Emitter};
 use std::alloc::{AllocError, Global};
@@ -87,8 +89,9 @@ impl WriteError {
 
 // What the emitter answered, with the key where it is repeated. `OutOfMemory` where the key finds no memory.
 pub fn named(error: EmitError, emitter: &Emitter, alloc: Global) -> WriteError
-    ensures { (x : Result State CallFault) → Meets error (key_of (state_of emitter.now).open_frames) x
+    ensures names { (x : Result State CallFault) → Meets error (key_of (state_of emitter.now).open_frames) x
         → Names result x }
+    ensures memory { result ≡ write.OutOfMemory → (error ≡ emit.OutOfMemory) ⊎ (error ≡ emit.DuplicateKey) }
 {
     match error {
         EmitError::UnsupportedType => WriteError::UnsupportedType,

@@ -3,7 +3,7 @@ ghost use Rattle.std.specs.Prelude.{◌≡◌, ◌<◌, ◌^◌, ℕ, List, [], 
 ghost use Rattle.std.specs.BTreeMap.{IsOrdered};
 ghost use Rattle.std.specs.List.{AllByRecursion};
 ghost use Rattle.basic_toml_layout.specs.Written as w;
-ghost use Rattle.basic_toml_write.specs.Serializer.{Sends};
+ghost use Rattle.basic_toml_write.specs.Serializer.{Sends, MemoryHasCause};
 ghost use Rattle.basic_toml_write.specs.Impls.{data_calls, is_within, scalar_calls, option_calls, OptionGivesUp, array_calls, ArrayGivesUp, table_calls, TableGivesUp, map_calls, MapGivesUp};
 ghost use Rattle.basic_toml_value.specs.View.{view};
 
@@ -15,6 +15,8 @@ use std::collections::BTreeMap;
 impl Serialize for bool {
     ghost calls = { λ b. scalar_calls (w.boolean b) };
 
+    ghost asks_no_memory = { λ _. ⊤ };
+
     fn serialize(&self, _alloc: Global, ser: &mut Serializer) -> Result<(), WriteError> {
         ser.serialize_bool(*self)
     }
@@ -24,6 +26,8 @@ impl Serialize for i8 {
     ghost calls = { λ n. scalar_calls (w.integer n) };
 
     ghost holds = { λ n. is_within 7 n ≡ true };
+
+    ghost asks_no_memory = { λ _. ⊤ };
 
     fn serialize(&self, _alloc: Global, ser: &mut Serializer) -> Result<(), WriteError> {
         ser.serialize_i8(*self)
@@ -35,6 +39,8 @@ impl Serialize for i16 {
 
     ghost holds = { λ n. is_within 15 n ≡ true };
 
+    ghost asks_no_memory = { λ _. ⊤ };
+
     fn serialize(&self, _alloc: Global, ser: &mut Serializer) -> Result<(), WriteError> {
         ser.serialize_i16(*self)
     }
@@ -44,6 +50,8 @@ impl Serialize for i32 {
     ghost calls = { λ n. scalar_calls (w.integer n) };
 
     ghost holds = { λ n. is_within 31 n ≡ true };
+
+    ghost asks_no_memory = { λ _. ⊤ };
 
     fn serialize(&self, _alloc: Global, ser: &mut Serializer) -> Result<(), WriteError> {
         ser.serialize_i32(*self)
@@ -55,6 +63,8 @@ impl Serialize for i64 {
 
     ghost holds = { λ n. is_within 63 n ≡ true };
 
+    ghost asks_no_memory = { λ _. ⊤ };
+
     fn serialize(&self, _alloc: Global, ser: &mut Serializer) -> Result<(), WriteError> {
         ser.serialize_i64(*self)
     }
@@ -64,6 +74,8 @@ impl Serialize for u8 {
     ghost calls = { λ n. scalar_calls (w.integer (pos n)) };
 
     ghost holds = { λ n. n < 2 ^ 8 };
+
+    ghost asks_no_memory = { λ _. ⊤ };
 
     fn serialize(&self, _alloc: Global, ser: &mut Serializer) -> Result<(), WriteError> {
         ser.serialize_u8(*self)
@@ -75,6 +87,8 @@ impl Serialize for u16 {
 
     ghost holds = { λ n. n < 2 ^ 16 };
 
+    ghost asks_no_memory = { λ _. ⊤ };
+
     fn serialize(&self, _alloc: Global, ser: &mut Serializer) -> Result<(), WriteError> {
         ser.serialize_u16(*self)
     }
@@ -84,6 +98,8 @@ impl Serialize for u32 {
     ghost calls = { λ n. scalar_calls (w.integer (pos n)) };
 
     ghost holds = { λ n. n < 2 ^ 32 };
+
+    ghost asks_no_memory = { λ _. ⊤ };
 
     fn serialize(&self, _alloc: Global, ser: &mut Serializer) -> Result<(), WriteError> {
         ser.serialize_u32(*self)
@@ -95,6 +111,8 @@ impl Serialize for u64 {
 
     ghost holds = { λ n. n < 2 ^ 64 };
 
+    ghost asks_no_memory = { λ _. ⊤ };
+
     fn serialize(&self, _alloc: Global, ser: &mut Serializer) -> Result<(), WriteError> {
         ser.serialize_u64(*self)
     }
@@ -102,6 +120,8 @@ impl Serialize for u64 {
 
 impl Serialize for char {
     ghost calls = { λ c. scalar_calls (w.other_text (encode_utf8 c)) };
+
+    ghost asks_no_memory = { λ _. ⊤ };
 
     fn serialize(&self, _alloc: Global, ser: &mut Serializer) -> Result<(), WriteError> {
         ser.serialize_char(*self)
@@ -111,6 +131,8 @@ impl Serialize for char {
 impl Serialize for &str {
     ghost calls = { λ s. scalar_calls (w.text s.now) };
 
+    ghost asks_no_memory = { λ _. ⊤ };
+
     fn serialize(&self, _alloc: Global, ser: &mut Serializer) -> Result<(), WriteError> {
         ser.serialize_str(*self)
     }
@@ -119,6 +141,8 @@ impl Serialize for &str {
 impl Serialize for String {
     ghost calls = { λ s. scalar_calls (w.text (string_bytes s)) };
 
+    ghost asks_no_memory = { λ _. ⊤ };
+
     fn serialize(&self, _alloc: Global, ser: &mut Serializer) -> Result<(), WriteError> {
         ser.serialize_str(self.as_str())
     }
@@ -126,6 +150,8 @@ impl Serialize for String {
 
 impl Serialize for Float {
     ghost calls = { λ f. scalar_calls (w.float f) };
+
+    ghost asks_no_memory = { λ _. ⊤ };
 
     fn serialize(&self, _alloc: Global, ser: &mut Serializer) -> Result<(), WriteError> {
         ser.serialize_float(self)
@@ -138,6 +164,8 @@ impl<T: Serialize> Serialize for Option<T> {
     ghost gives_up = { OptionGivesUp T.gives_up };
 
     ghost holds = { λ o. MatchOption o ⊤ T.holds };
+
+    ghost asks_no_memory = { λ o. MatchOption o ⊤ T.asks_no_memory };
 
     #[tactic(auto, using(crate::proofs::RecordIsSent::option_sent, crate::proofs::ListsAreSentInTurn::sends_never))]
     fn serialize(&self, _alloc: Global, ser: &mut Serializer) -> Result<(), WriteError> {
@@ -153,6 +181,7 @@ fn serialize_elements<T: Serialize>(elements: &[T], ser: &mut Serializer) -> Res
     ensures sends { Sends (array_calls T.calls elements.now) (ArrayGivesUp T.calls T.gives_up elements.now) ser.old
         ser.new result }
     ensures holds { IfOk result (λ _. AllByRecursion T.holds elements.now) }
+    ensures memory { MemoryHasCause (array_calls T.calls elements.now) ser.old ser.new result }
 {
     ser.serialize_seq(Some(elements.len()))?;
     for element in elements {
@@ -168,6 +197,8 @@ impl<T: Serialize> Serialize for &[T] {
 
     ghost holds = { λ xs. AllByRecursion T.holds xs.now };
 
+    ghost asks_no_memory = { λ _. ⊤ };
+
     fn serialize(&self, _alloc: Global, ser: &mut Serializer) -> Result<(), WriteError> {
         serialize_elements(*self, ser)
     }
@@ -180,6 +211,8 @@ impl<T: Serialize> Serialize for Vec<T> {
 
     ghost holds = { λ xs. AllByRecursion T.holds xs.items };
 
+    ghost asks_no_memory = { λ _. ⊤ };
+
     fn serialize(&self, _alloc: Global, ser: &mut Serializer) -> Result<(), WriteError> {
         serialize_elements(self.as_slice(), ser)
     }
@@ -187,7 +220,9 @@ impl<T: Serialize> Serialize for Vec<T> {
 
 // The calls of a table.
 fn serialize_entries<V: Serialize>(pairs: &Pairs<V>, ser: &mut Serializer) -> Result<(), WriteError>
-    ensures { Sends (table_calls V.calls pairs.now) (TableGivesUp V.calls V.gives_up pairs.now) ser.old ser.new result }
+    ensures sends { Sends (table_calls V.calls pairs.now) (TableGivesUp V.calls V.gives_up pairs.now) ser.old ser.new
+        result }
+    ensures memory { MemoryHasCause (table_calls V.calls pairs.now) ser.old ser.new result }
 {
     ser.serialize_map(Some(pairs.len()))?;
     for (key, value) in pairs.iter() {
@@ -199,6 +234,8 @@ fn serialize_entries<V: Serialize>(pairs: &Pairs<V>, ser: &mut Serializer) -> Re
 // A whole table is laid out at once where it can be: its keys differ, so no key need be looked for.
 impl Serialize for Table {
     ghost calls = { table_calls (λ v. data_calls (view v)) };
+
+    ghost asks_no_memory = { λ _. ⊤ };
 
     #[cycle(data)]
     fn serialize(&self, _alloc: Global, ser: &mut Serializer) -> Result<(), WriteError> {
@@ -216,6 +253,8 @@ impl<V: Serialize> Serialize for BTreeMap<String, V> {
 
     ghost holds = { λ m. IsOrdered string_cmp m × AllByRecursion (λ e. V.holds e.1) m.entries };
 
+    ghost asks_no_memory = { λ _. ⊤ };
+
     fn serialize(&self, _alloc: Global, ser: &mut Serializer) -> Result<(), WriteError> {
         ser.serialize_map(Some(self.len()))?;
         for (name, value) in self.iter() {
@@ -227,6 +266,8 @@ impl<V: Serialize> Serialize for BTreeMap<String, V> {
 
 impl Serialize for Value {
     ghost calls = { λ v. data_calls (view v) };
+
+    ghost asks_no_memory = { λ _. ⊤ };
 
     #[cycle(data)]
     fn serialize(&self, alloc: Global, ser: &mut Serializer) -> Result<(), WriteError> {

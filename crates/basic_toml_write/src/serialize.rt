@@ -8,7 +8,8 @@ use std::alloc::Global;
 ///
 /// The ghost member `calls` names the items that the value sends. A type that may give up with an error of its own
 /// names in `gives_up` after which of them, and with which error: an error of the serializer goes before it. What is known
-/// of a value that was written stands in `holds`, as that an integer is in the range of its type.
+/// of a value that was written stands in `holds`, as that an integer is in the range of its type. A type that asks for
+/// no memory but by its calls says so in `asks_no_memory`: then want of memory comes only where a call grows something.
 ///
 /// ```text
 /// impl Serialize for Rule {
@@ -31,7 +32,7 @@ use std::alloc::Global;
 pub trait Serialize {
     ghost use Rattle.basic_toml_write.specs.declared.error.WriteError.{WriteError};
     ghost use Rattle.basic_toml_emit.specs.Items.{Item};
-    ghost use Rattle.basic_toml_write.specs.Serializer.{Sends, NoFault};
+    ghost use Rattle.basic_toml_write.specs.Serializer.{Sends, NoFault, MemoryHasCause};
 
     // The items that a value spells.
     ghost calls: { Self → List Item };
@@ -42,12 +43,17 @@ pub trait Serialize {
     // What holds of a value that was written, besides its calls: an integer is in the range of its type.
     ghost holds: { Self → Type 0 } = { λ _. ⊤ };
 
+    // Which values are known to ask for no memory of their own, unless a call of theirs grows something too.
+    ghost asks_no_memory: { Self → Type 0 } = { λ _. ⊥ };
+
     /// Makes the calls of the value on `ser`. An error of the type's own is made by [`WriteError::custom`].
     ///
     /// # Errors
     ///
-    /// The first that a call answers, or the type's own.
+    /// The first that a call answers, or the type's own; and `OutOfMemory` where the type is refused memory that it
+    /// asks for itself.
     fn serialize(&self, alloc: Global, ser: &mut Serializer) -> Result<(), WriteError>
         ensures sends { Sends (calls self.now) (gives_up self.now) ser.old ser.new result }
-        ensures holds { IfOk result (λ _. holds self.now) };
+        ensures holds { IfOk result (λ _. holds self.now) }
+        ensures memory { asks_no_memory self.now → MemoryHasCause (calls self.now) ser.old ser.new result };
 }

@@ -1,5 +1,5 @@
 //! The serializer.
-ghost use Rattle.std.specs.Prelude.{◌≡◌, ℕ, List, [], ◌∷◌, pos, IfOk, IfErr, MatchOption, is_some, encode_utf8};
+ghost use Rattle.std.specs.Prelude.{◌≡◌, ℕ, List, [], ◌∷◌, ⊤, pos, IfOk, IfErr, MatchOption, is_some, encode_utf8};
 ghost use Rattle.basic_toml_emit.specs.Items.{Item, a_scalar, an_absent, open_array, open_table, close, key, field, some_prefix, value_prefix, element_prefix};
 ghost use Rattle.basic_toml_layout.specs.Written as w;
 ghost use Rattle.basic_toml_emit.specs.Emitter.{HandsOut};
@@ -27,7 +27,9 @@ use std::alloc::Global;
 /// does not fit), `DuplicateKey`, `ValueAfterTable`, `NestedTooDeeply`; and `OutOfMemory`. After an error every later
 /// call but [`has_refused`](Serializer::has_refused) answers that error, or `OutOfMemory` where its key finds no
 /// memory, and no text is handed out. An error whose key finds no memory when it is met is `OutOfMemory` from then on.
-/// An error of a part's own is answered and not kept.
+/// An error of a part's own is answered and not kept. Where nothing was refused before, `OutOfMemory` comes only of a
+/// call that grows something: one that opens an array or a table, sets a key, or lengthens the text; or of a part that
+/// asks for memory of its own.
 ///
 /// ```text
 /// let mut ser = Serializer::new(alloc);
@@ -49,7 +51,7 @@ impl Serializer {
     ghost use Rattle.basic_toml_value.specs.Data as d;
     ghost use Rattle.basic_toml_value.specs.View.{entries};
     ghost use Rattle.basic_toml_write.specs.Impls.{data_calls};
-    ghost use Rattle.basic_toml_write.specs.Serializer.{Sends, HasRecorded, NoFault, Takes, Passes, Finishes, error_of};
+    ghost use Rattle.basic_toml_write.specs.Serializer.{Sends, HasRecorded, NoFault, Takes, Passes, MemoryHasCause, Finishes, error_of};
     ghost use Rattle.basic_toml_write.specs.Parts.{Opens, FailsToOpen, Adds, FailsToAdd, Never, the_end, a_some};
     ghost use Rattle.basic_toml_write.specs.Write.{IsLayout, Succeeds};
 
@@ -237,7 +239,7 @@ impl Serializer {
     }
 
     /// Opens an array; its length is not looked at.
-    #[tactic(auto, using(crate::proofs::RecordIsSent::opens, crate::proofs::RecordIsSent::fails_to_open))]
+    #[tactic(auto, using(crate::proofs::RecordIsSent::opens_array, crate::proofs::RecordIsSent::fails_to_open))]
     pub fn serialize_seq(&mut self, _len: Option<usize>) -> Result<(), WriteError>
         ensures takes { Takes (open_array ∷ []) self.old self.new result }
         ensures opens { IfOk result (λ _. Opens open_array self.old self.new) }
@@ -265,7 +267,7 @@ impl Serializer {
     }
 
     /// Opens a table; its length is not looked at.
-    #[tactic(auto, using(crate::proofs::RecordIsSent::opens, crate::proofs::RecordIsSent::fails_to_open))]
+    #[tactic(auto, using(crate::proofs::RecordIsSent::opens_table, crate::proofs::RecordIsSent::fails_to_open))]
     pub fn serialize_map(&mut self, _len: Option<usize>) -> Result<(), WriteError>
         ensures takes { Takes (open_table ∷ []) self.old self.new result }
         ensures opens { IfOk result (λ _. Opens open_table self.old self.new) }
@@ -294,10 +296,12 @@ impl Serializer {
 
     // Lays a table of data out, where no call was made before and no rule refuses the table. Else `None`, and nothing
     // is changed.
-    #[tactic(auto, using(crate::proofs::TableIsLaidOut::sends_laid, crate::proofs::TableIsLaidOut::sends_short))]
+    #[tactic(auto, using(crate::proofs::TableIsLaidOut::sends_laid, crate::proofs::TableIsLaidOut::sends_short, crate::proofs::MemoryHasCause::memory_laid))]
     pub(crate) fn lay_out(&mut self, table: &Table) -> Option<Result<(), WriteError>>
-        ensures { MatchOption result (self.new ≡ self.old)
+        ensures sends { MatchOption result (self.new ≡ self.old)
             (λ answer. Sends (data_calls (d.table (entries table.now))) NoFault self.old self.new answer) }
+        ensures memory { MatchOption result ⊤
+            (λ answer. MemoryHasCause (data_calls (d.table (entries table.now))) self.old self.new answer) }
     {
         if self.has_refused() || !self.emitter.is_fresh() || !table_fits(table, 0) {
             return None;
@@ -318,6 +322,8 @@ impl Serializer {
         ensures alone { Never (T.gives_up value.now) → Sends (a_some (T.calls value.now)) NoFault self.old self.new
             result }
         ensures holds { IfOk result (λ _. T.holds value.now) }
+        ensures memory { T.asks_no_memory value.now → MemoryHasCause (some_prefix ∷ T.calls value.now) self.old
+            self.new result }
     {
         self.after(Call::SomePrefix, value)
     }
@@ -333,6 +339,7 @@ impl Serializer {
         ensures same { Sends (T.calls value.now) (T.gives_up value.now) self.old self.new result }
         ensures alone { Never (T.gives_up value.now) → Sends (T.calls value.now) NoFault self.old self.new result }
         ensures holds { IfOk result (λ _. T.holds value.now) }
+        ensures memory { T.asks_no_memory value.now → MemoryHasCause (T.calls value.now) self.old self.new result }
     {
         self.part(value)
     }
@@ -344,6 +351,8 @@ impl Serializer {
         ensures adds { IfOk result (λ _. Adds key (T.calls value.now) self.old self.new) }
         ensures fails { IfErr result (FailsToAdd key (T.calls value.now) (T.gives_up value.now) self.old self.new) }
         ensures holds { IfOk result (λ _. T.holds value.now) }
+        ensures memory { T.asks_no_memory value.now → MemoryHasCause (key ∷ T.calls value.now) self.old
+            self.new result }
     {
         self.after(Call::Key, value)
     }
@@ -355,6 +364,8 @@ impl Serializer {
         ensures adds { IfOk result (λ _. Adds value_prefix (T.calls value.now) self.old self.new) }
         ensures fails { IfErr result (FailsToAdd value_prefix (T.calls value.now) (T.gives_up value.now) self.old self.new) }
         ensures holds { IfOk result (λ _. T.holds value.now) }
+        ensures memory { T.asks_no_memory value.now → MemoryHasCause (value_prefix ∷ T.calls value.now) self.old
+            self.new result }
     {
         self.after(Call::ValuePrefix, value)
     }
@@ -366,6 +377,8 @@ impl Serializer {
         ensures adds { IfOk result (λ _. Adds (field name.now) (T.calls value.now) self.old self.new) }
         ensures fails { IfErr result (FailsToAdd (field name.now) (T.calls value.now) (T.gives_up value.now) self.old self.new) }
         ensures holds { IfOk result (λ _. T.holds value.now) }
+        ensures memory { T.asks_no_memory value.now → MemoryHasCause (field name.now ∷ T.calls value.now) self.old
+            self.new result }
     {
         self.after(Call::Field(name), value)
     }
@@ -377,6 +390,8 @@ impl Serializer {
         ensures adds { IfOk result (λ _. Adds element_prefix (T.calls value.now) self.old self.new) }
         ensures fails { IfErr result (FailsToAdd element_prefix (T.calls value.now) (T.gives_up value.now) self.old self.new) }
         ensures holds { IfOk result (λ _. T.holds value.now) }
+        ensures memory { T.asks_no_memory value.now → MemoryHasCause (element_prefix ∷ T.calls value.now) self.old
+            self.new result }
     {
         self.after(Call::ElementPrefix, value)
     }

@@ -1,9 +1,10 @@
 //! Types that give up, and callers of `to_string`, proved by its contract alone.
-ghost use Rattle.std.specs.Prelude.{◌≡◌, ◌⊎◌, List, [], ◌∷◌, codes, Err, IfErr, OnOk};
+ghost use Rattle.std.specs.Prelude.{◌≡◌, ◌⊎◌, ⊤, List, [], ◌∷◌, codes, Err, IfErr, OnOk};
 ghost use Rattle.basic_toml_write.specs.Error.{IsCustom};
 ghost use Rattle.basic_toml_write.specs.declared.error.WriteError.{WriteError};
 ghost use Rattle.basic_toml.specs.Fault.{want_of_memory, without_offset, unsupported_type};
 ghost use Rattle.basic_toml.specs.Items.{Item, a_scalar};
+ghost use Rattle.basic_toml.specs.Parts.{a_record, a_field, the_end};
 ghost use Rattle.basic_toml.specs.Ser.{IsFirstFault};
 ghost use Rattle.basic_toml.specs.Serializer.{GivesUpAfter, ran};
 ghost use Rattle.basic_toml.specs.Written.{refused};
@@ -42,4 +43,34 @@ pub fn text_of_careless(alloc: Global) -> Result<String, Error>
     ensures { (result ≡ Err want_of_memory) ⊎ (result ≡ Err (without_offset unsupported_type)) }
 {
     to_string(alloc, &Careless)
+}
+
+/// A string is no table, so it has no text of its own: never for want of memory.
+#[tactic(auto, using(crate::proofs::RefusalGoesFirst::words_refused))]
+pub fn text_of_words(alloc: Global, words: &str) -> Result<String, Error>
+    ensures { result ≡ Err (without_offset unsupported_type) }
+{
+    to_string(alloc, &words)
+}
+
+/// A label, which asks for no memory but by its calls.
+#[derive(Clone, Copy)]
+pub struct Label<'a> {
+    pub name: &'a str,
+    pub place: Option<&'a str>,
+}
+
+impl<'a> Serialize for Label<'a> {
+    ghost calls = { λ label. a_record
+        (a_field (codes "name") (⟦<&'a str as Serialize>⟧.calls label.name)
+        (a_field (codes "place") (⟦<Option<&'a str> as Serialize>⟧.calls label.place) the_end)) };
+
+    ghost asks_no_memory = { λ _. ⊤ };
+
+    fn serialize(&self, _alloc: Global, ser: &mut Serializer) -> Result<(), WriteError> {
+        ser.serialize_struct("Label", 2)?;
+        ser.serialize_field("name", &self.name)?;
+        ser.serialize_field("place", &self.place)?;
+        ser.end()
+    }
 }

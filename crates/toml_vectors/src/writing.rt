@@ -6,7 +6,7 @@ ghost use Rattle.basic_toml_write.specs.Serializer.{NoFault};
 use crate::parts::{Halting, Silent};
 use basic_toml::{Serialize, Serializer, WriteError, to_string};
 use std::alloc::{AllocError, Global};
-use toml_callers::writers::Careless;
+use toml_callers::writers::{Careless, Label, text_of_words};
 
 // A table of two entries under one key.
 #[derive(Drop)]
@@ -73,5 +73,23 @@ fn answers_for_the_type(rt: HostRuntime) -> Result<(), AllocError> {
     assert_eq!(rt; halting.as_str(), "no");
     let careless = text_or_fault(alloc, &Careless)?;
     assert_eq!(rt; careless.as_str(), "unsupported Rust type");
+    Ok(())
+}
+
+// A type that says that it asks for no memory, and a value that needs none.
+#[test]
+fn writes_a_label_but_no_words(rt: HostRuntime) -> Result<(), AllocError> {
+    let alloc = rt.alloc();
+    let label = Label {
+        name: "lamp",
+        place: None,
+    };
+    let text = text_or_fault(alloc, &label)?;
+    assert_eq!(rt; text.as_str(), "name = \"lamp\"\n");
+    let refused = match text_of_words(alloc, "lamp") {
+        Ok(text) => text,
+        Err(fault) => format!(in alloc; "{fault}")?,
+    };
+    assert_eq!(rt; refused.as_str(), "unsupported Rust type");
     Ok(())
 }

@@ -1,6 +1,6 @@
 //! Keys, absent options, and the prefixes before a part.
 ghost use Rattle.basic_toml_emit.specs.Items.{an_absent, key, field, some_prefix, value_prefix, element_prefix};
-ghost use Rattle.basic_toml_emit.specs.Emitter.{Steps};
+ghost use Rattle.basic_toml_emit.specs.Emitter.{Steps, MemoryHasCause};
 
 use super::Emitter;
 use crate::error::EmitError;
@@ -8,7 +8,8 @@ use crate::frames::{Frame, Stage, innermost, set_key, set_stage};
 
 // Enters the key place.
 pub(super) fn key(emitter: &mut Emitter) -> Result<(), EmitError>
-    ensures { Steps key emitter.old emitter.new result }
+    ensures steps { Steps key emitter.old emitter.new result }
+    ensures memory { MemoryHasCause key emitter.old result }
 {
     match innermost(&emitter.frames) {
         None => Err(EmitError::CallOrder),
@@ -27,7 +28,8 @@ pub(super) fn key(emitter: &mut Emitter) -> Result<(), EmitError>
 // Sets a key.
 #[inline(always)]
 pub(super) fn field(emitter: &mut Emitter, name: &str) -> Result<(), EmitError>
-    ensures { Steps (field name.now) emitter.old emitter.new result }
+    ensures steps { Steps (field name.now) emitter.old emitter.new result }
+    ensures memory { MemoryHasCause (field name.now) emitter.old result }
 {
     match innermost(&emitter.frames) {
         None => Err(EmitError::CallOrder),
@@ -46,7 +48,8 @@ pub(super) fn field(emitter: &mut Emitter, name: &str) -> Result<(), EmitError>
 // An absent option: an entry that is left out.
 #[inline(always)]
 pub(super) fn absent(emitter: &mut Emitter) -> Result<(), EmitError>
-    ensures { Steps an_absent emitter.old emitter.new result }
+    ensures steps { Steps an_absent emitter.old emitter.new result }
+    ensures memory { MemoryHasCause an_absent emitter.old result }
 {
     match innermost(&emitter.frames) {
         None => Err(emitter.outside(EmitError::UnsupportedNone)),
@@ -65,7 +68,8 @@ pub(super) fn absent(emitter: &mut Emitter) -> Result<(), EmitError>
 // The prefix of an option that is there.
 #[inline(always)]
 pub(super) fn some_prefix(emitter: &mut Emitter) -> Result<(), EmitError>
-    ensures { Steps some_prefix emitter.old emitter.new result }
+    ensures steps { Steps some_prefix emitter.old emitter.new result }
+    ensures memory { MemoryHasCause some_prefix emitter.old result }
 {
     match innermost(&emitter.frames) {
         None => {
@@ -86,7 +90,8 @@ pub(super) fn some_prefix(emitter: &mut Emitter) -> Result<(), EmitError>
 // The prefix of a value that follows a key.
 #[inline(always)]
 pub(super) fn value_prefix(emitter: &mut Emitter) -> Result<(), EmitError>
-    ensures { Steps value_prefix emitter.old emitter.new result }
+    ensures steps { Steps value_prefix emitter.old emitter.new result }
+    ensures memory { MemoryHasCause value_prefix emitter.old result }
 {
     match innermost(&emitter.frames) {
         None => Err(EmitError::CallOrder),
@@ -102,7 +107,8 @@ pub(super) fn value_prefix(emitter: &mut Emitter) -> Result<(), EmitError>
 // The prefix of an element.
 #[inline(always)]
 pub(super) fn element_prefix(emitter: &mut Emitter) -> Result<(), EmitError>
-    ensures { Steps element_prefix emitter.old emitter.new result }
+    ensures steps { Steps element_prefix emitter.old emitter.new result }
+    ensures memory { MemoryHasCause element_prefix emitter.old result }
 {
     match innermost(&emitter.frames) {
         None => Err(EmitError::CallOrder),

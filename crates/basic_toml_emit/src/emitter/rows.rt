@@ -8,7 +8,7 @@ ghost use Rattle.basic_toml_emit.specs.Open.{an_array};
 ghost use Rattle.basic_toml_emit.specs.Rules.{is_text, is_in_table, place_of, at_key, at_value, holds_section};
 ghost use Rattle.basic_toml_emit.specs.Frames.{frames_of, kind_of};
 ghost use Rattle.basic_toml_emit.specs.Changes.{outer, is_later, holds_key};
-ghost use Rattle.basic_toml_emit.specs.Emitter.{Steps, Enters, EntersPart, StartsValue, StartsRow, StartsElements, EndsRow};
+ghost use Rattle.basic_toml_emit.specs.Emitter.{Steps, MemoryHasCause, Enters, EntersPart, StartsValue, StartsRow, StartsElements, EndsRow};
 
 use super::Emitter;
 use crate::error::EmitError;
@@ -32,7 +32,8 @@ fn key<'a>(scalar: Scalar<'a>) -> Option<&'a str>
 #[inline(always)]
 pub(super) fn scalar_in_table(emitter: &mut Emitter, scalar: Scalar<'_>) -> Result<(), EmitError>
     requires { is_in_table (frames_of emitter.old.frames.items) ≡ true }
-    ensures { Steps (a_scalar (scalar_of scalar.entry)) emitter.old emitter.new result }
+    ensures steps { Steps (a_scalar (scalar_of scalar.entry)) emitter.old emitter.new result }
+    ensures memory { MemoryHasCause (a_scalar (scalar_of scalar.entry)) emitter.old result }
 {
     let Some((Frame::Table(table), _)) = innermost(&emitter.frames) else {
         return Err(EmitError::CallOrder);
@@ -47,7 +48,8 @@ pub(super) fn scalar_in_table(emitter: &mut Emitter, scalar: Scalar<'_>) -> Resu
 // Sets a key.
 fn scalar_at_key(emitter: &mut Emitter, scalar: Scalar<'_>) -> Result<(), EmitError>
     requires { place_of (frames_of emitter.old.frames.items) emitter.old.is_done ≡ at_key }
-    ensures { Steps (a_scalar (scalar_of scalar.entry)) emitter.old emitter.new result }
+    ensures steps { Steps (a_scalar (scalar_of scalar.entry)) emitter.old emitter.new result }
+    ensures memory { MemoryHasCause (a_scalar (scalar_of scalar.entry)) emitter.old result }
 {
     let Some(key) = key(scalar) else {
         return Err(EmitError::KeyNotString);
@@ -98,6 +100,8 @@ pub(super) fn enter_part(emitter: &mut Emitter) -> Result<bool, EmitError>
     ensures ok { IfOk result (λ later. EntersPart later emitter.old emitter.new) }
     ensures array { IfErr result (λ e. Steps open_array emitter.old emitter.new (Err e)) }
     ensures table { IfErr result (λ e. Steps open_table emitter.old emitter.new (Err e)) }
+    ensures array_memory { MemoryHasCause open_array emitter.old result }
+    ensures table_memory { MemoryHasCause open_table emitter.old result }
 {
     let Some((Frame::Table(table), _)) = innermost(&emitter.frames) else {
         return Err(EmitError::CallOrder);
@@ -166,7 +170,8 @@ pub(super) fn scalar_in_array(
 
 pub(super) fn open_array_in_table(emitter: &mut Emitter) -> Result<(), EmitError>
     requires { is_in_table (frames_of emitter.old.frames.items) ≡ true }
-    ensures { Steps open_array emitter.old emitter.new result }
+    ensures steps { Steps open_array emitter.old emitter.new result }
+    ensures memory { MemoryHasCause open_array emitter.old result }
 {
     let later = enter_part(emitter)?;
     put_array(&mut emitter.frames, ElementKind::Unknown, later)?;
@@ -202,7 +207,8 @@ pub(super) fn open_array_in_array(
 pub(super) fn close_array(emitter: &mut Emitter, kind: ElementKind) -> Result<(), EmitError>
     requires { let frames = frames_of emitter.old.frames.items in
         frames ≡ an_array (kind_of kind) (is_later frames) ∷ outer frames }
-    ensures { Steps close emitter.old emitter.new result }
+    ensures steps { Steps close emitter.old emitter.new result }
+    ensures memory { MemoryHasCause close emitter.old result }
 {
     leave(&mut emitter.frames, &mut emitter.spare);
     match kind {

@@ -6,7 +6,7 @@ ghost use Rattle.basic_toml_emit.specs.Open.{an_array};
 ghost use Rattle.basic_toml_emit.specs.Rules.{is_in_table, is_in_array};
 ghost use Rattle.basic_toml_emit.specs.Frames.{frames_of, kind_of};
 ghost use Rattle.basic_toml_emit.specs.Changes.{outer};
-ghost use Rattle.basic_toml_emit.specs.Emitter.{Steps, StartsSections};
+ghost use Rattle.basic_toml_emit.specs.Emitter.{Steps, MemoryHasCause, StartsSections};
 
 use super::Emitter;
 use super::rows::enter_part;
@@ -19,7 +19,8 @@ use crate::headers::{write_element_header, write_header};
 
 pub(super) fn open_table_in_table(emitter: &mut Emitter) -> Result<(), EmitError>
     requires { is_in_table (frames_of emitter.old.frames.items) ≡ true }
-    ensures { Steps open_table emitter.old emitter.new result }
+    ensures steps { Steps open_table emitter.old emitter.new result }
+    ensures memory { MemoryHasCause open_table emitter.old result }
 {
     let later = enter_part(emitter)?;
     hold_section(&mut emitter.frames);
@@ -55,7 +56,8 @@ pub(super) fn open_table_in_array(
 
 pub(super) fn close_table(emitter: &mut Emitter) -> Result<(), EmitError>
     requires { is_in_table (frames_of emitter.old.frames.items) ≡ true }
-    ensures { Steps close emitter.old emitter.new result }
+    ensures steps { Steps close emitter.old emitter.new result }
+    ensures memory { MemoryHasCause close emitter.old result }
 {
     let Some((Frame::Table(table), outer)) = innermost(&emitter.frames) else {
         return Err(EmitError::CallOrder);

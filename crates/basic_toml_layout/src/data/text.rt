@@ -2,7 +2,7 @@
 //!
 //! The keys to a table stand in `path` as they are written, joined by periods; each section cuts it back to what it
 //! was.
-ghost use Rattle.std.specs.Prelude.{◌≡◌, ℕ, List, [], ◌∷◌, ◌++◌, true, cond, IfOk, string_bytes};
+ghost use Rattle.std.specs.Prelude.{◌≡◌, ◌<◌, ℕ, List, [], ◌∷◌, ◌++◌, true, cond, length, IfOk, OnErr, string_bytes};
 ghost use Rattle.basic_toml_value.specs.Data.{table as table_data};
 ghost use Rattle.basic_toml_value.specs.Text.{text_bytes};
 ghost use Rattle.basic_toml_value.specs.Entries.{seen};
@@ -26,6 +26,7 @@ fn write_rows(text: &mut String, style: Style, pairs: &[Pair<Value>]) -> Result<
     ensures text { IfOk result (λ _. string_bytes text.new ≡ string_bytes text.old
         ++ d.rows_text (style_of style) (entries (seen pairs.now))) }
     ensures section { IfOk result (λ has. has ≡ has_section (entries (seen pairs.now))) }
+    ensures memory { OnErr result (0 < length pairs.now) }
 {
     let mut has_section = false;
     for i in 0..pairs.len() {
@@ -111,7 +112,8 @@ fn add_key(path: &mut String, key: &str) -> Result<(), AllocError>
     write_key(path, key)
 }
 
-/// Appends what stands below the header of a table that the keys of `path` lead to.
+/// Appends what stands below the header of a table that the keys of `path` lead to. Where it has no entry, asks for no
+/// memory.
 #[cycle(sections)]
 pub fn write_entries(
     text: &mut String,
@@ -123,6 +125,7 @@ pub fn write_entries(
     ensures text { GoesOn (string_bytes path.old) (string_bytes text.old) (string_bytes text.new)
         (λ keys. d.table_text (style_of style) keys is_later (entries (seen pairs.now))) result }
     ensures path { IfOk result (λ _. string_bytes path.new ≡ string_bytes path.old) }
+    ensures memory { OnErr result (0 < length pairs.now) }
 {
     if !write_rows(text, style, pairs)? {
         return Ok(());
@@ -142,6 +145,7 @@ fn write_sections(
     ensures text { GoesOn (string_bytes path.old) (string_bytes text.old) (string_bytes text.new)
         (λ keys. d.sections_text (style_of style) keys is_later (entries (seen pairs.now))) result }
     ensures path { IfOk result (λ _. string_bytes path.new ≡ string_bytes path.old) }
+    ensures memory { OnErr result (0 < length pairs.now) }
 {
     let mut is_after = is_later;
     for i in 0..pairs.len() {

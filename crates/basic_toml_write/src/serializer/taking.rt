@@ -2,9 +2,11 @@
 //!
 //! What is done with an error stands in functions of its own, which are not inlined, and an answer, which is large, is
 //! made last: a call that is taken pays for none of it.
-ghost use Rattle.std.specs.Prelude.{◌≡◌, List, [], ◌∷◌, Result, Ok, OnOk, IfErr, IsErr, IsSome, MatchOption, None, IfOk};
+ghost use Rattle.std.specs.Prelude.{◌≡◌, ◌⊎◌, List, [], ◌∷◌, Result, Ok, OnOk, IfErr, IsErr, IsSome, MatchOption, None, IfOk};
 ghost use Rattle.basic_toml_emit.specs.Items.{Item};
 ghost use Rattle.basic_toml_emit.specs.Recorded.{item_of};
+ghost use Rattle.basic_toml_emit.specs.declared.error.EmitError.TheVariants as emit;
+ghost use Rattle.basic_toml_write.specs.declared.error.WriteError.TheVariants as write;
 
 use super::Serializer;
 use crate::again::{again, twice};
@@ -19,7 +21,7 @@ impl Serializer {
     ghost use Rattle.basic_toml_emit.specs.Rules.{CallFault, key_of};
     ghost use Rattle.basic_toml_write.specs.Error.{Names};
     ghost use Rattle.basic_toml_write.specs.Recordable.{IsRecordable};
-    ghost use Rattle.basic_toml_write.specs.Serializer.{Takes, Passes, Refused, error_of};
+    ghost use Rattle.basic_toml_write.specs.Serializer.{Takes, Passes, Refused, MemoryHasCause, error_of};
     ghost use Rattle.basic_toml_write.specs.Stops.{Stops};
 
     // Keeps an error, and answers the one that is kept.
@@ -33,8 +35,9 @@ impl Serializer {
 
     // An error of the emitter, with what it owns.
     fn named(&self, error: EmitError) -> WriteError
-        ensures { (x : Result State CallFault) → Meets error (key_of (state_of self.now.emitter).open_frames) x
+        ensures names { (x : Result State CallFault) → Meets error (key_of (state_of self.now.emitter).open_frames) x
             → Names result x }
+        ensures memory { result ≡ write.OutOfMemory → (error ≡ emit.OutOfMemory) ⊎ (error ≡ emit.DuplicateKey) }
     {
         named(error, &self.emitter, self.alloc)
     }
@@ -55,7 +58,7 @@ impl Serializer {
     // The answer of an item that is stopped; an error that is met now is kept.
     #[cold]
     #[inline(never)]
-    #[tactic(auto, using(crate::proofs::StoppedCalls::takes_again, crate::proofs::StoppedCalls::takes_met))]
+    #[tactic(auto, using(crate::proofs::StoppedCalls::takes_again))]
     pub(super) fn refuse_item(&mut self, stop: Option<EmitError>) -> Result<(), WriteError>
         requires { stop ≡ None → IsSome (error_of self.old) }
         ensures takes { (i : Item) (before : Serializer) → Stops stop i before self.old
@@ -126,11 +129,12 @@ impl Serializer {
     // The calls of a part, where no error stands. An error that is met in it is answered even where the part answers
     // Ok; else the part's own error is.
     #[inline(always)]
-    #[tactic(auto, using(crate::proofs::ListsAreSentInTurn::passes_answer))]
+    #[tactic(auto, using(crate::proofs::ListsAreSentInTurn::passes_answer, crate::proofs::MemoryHasCause::memory_answer))]
     fn send<T: Serialize>(&mut self, value: &T) -> Result<(), WriteError>
         requires { error_of self.old ≡ None }
         ensures passes { Passes [] (T.calls value.now) (T.gives_up value.now) self.old self.new result }
         ensures holds { IfOk result (λ _. T.holds value.now) }
+        ensures memory { T.asks_no_memory value.now → MemoryHasCause (T.calls value.now) self.old self.new result }
     {
         let answer = value.serialize(self.alloc, self);
         self.answer(answer)
@@ -138,10 +142,11 @@ impl Serializer {
 
     // The calls of a part.
     #[inline(always)]
-    #[tactic(auto, using(crate::proofs::ListsAreSentInTurn::passes_refused))]
+    #[tactic(auto, using(crate::proofs::ListsAreSentInTurn::passes_refused, crate::proofs::MemoryHasCause::memory_refused))]
     pub(super) fn part<T: Serialize>(&mut self, value: &T) -> Result<(), WriteError>
         ensures passes { Passes [] (T.calls value.now) (T.gives_up value.now) self.old self.new result }
         ensures holds { IfOk result (λ _. T.holds value.now) }
+        ensures memory { T.asks_no_memory value.now → MemoryHasCause (T.calls value.now) self.old self.new result }
     {
         if self.has_refused() {
             return self.refuse_again();
@@ -151,7 +156,7 @@ impl Serializer {
 
     // What a call records before its part, and the calls of the part.
     #[inline(always)]
-    #[tactic(auto, using(crate::proofs::ListsAreSentInTurn::passes_then, crate::proofs::ListsAreSentInTurn::takes_none, crate::proofs::StoppedCalls::passes_stopped, crate::proofs::StoppedCalls::stands_there))]
+    #[tactic(auto, using(crate::proofs::ListsAreSentInTurn::passes_then, crate::proofs::ListsAreSentInTurn::takes_none, crate::proofs::StoppedCalls::passes_stopped, crate::proofs::StoppedCalls::stands_there, crate::proofs::MemoryHasCause::memory_then, crate::proofs::MemoryHasCause::memory_stopped))]
     pub(super) fn after<T: Serialize>(
         &mut self,
         call: Call<'_>,
@@ -161,6 +166,8 @@ impl Serializer {
         ensures passes { Passes (item_of call.entry ∷ []) (T.calls value.now) (T.gives_up value.now) self.old self.new
             result }
         ensures holds { IfOk result (λ _. T.holds value.now) }
+        ensures memory { T.asks_no_memory value.now → MemoryHasCause (item_of call.entry ∷ T.calls value.now) self.old
+            self.new result }
     {
         match self.step(call) {
             Ok(()) => self.send(value),

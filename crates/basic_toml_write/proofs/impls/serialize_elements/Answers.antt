@@ -3,7 +3,8 @@ use Rattle.std.proofs.lemmas.Result.{err_from_is_err_and}
 use Rattle.std.specs.List.{AllByRecursion}
 use Rattle.basic_toml_emit.specs.Items.{open_array, element_prefix}
 use Rattle.basic_toml_write.proofs.PartsAreSent.{Sent, all_more, where_ok, take_all, take_more, take_split, parts_unopened, parts_next}
-use Rattle.basic_toml_write.proofs.PartsAreSent.{parts_fault, parts_closed}
+use Rattle.basic_toml_write.proofs.PartsAreSent.{parts_fault, parts_closed, memory_unopened, memory_once_open}
+use Rattle.basic_toml_write.proofs.ItemsGrow.{array_grows}
 use Rattle.basic_toml_write.proofs.impls.serialize_elements.Goals as goal
 
 pub returns-in_err-serialize_seq-clause-sends : goal.returns-in_err-serialize_seq-clause-sends
@@ -50,3 +51,19 @@ returns-clause-holds g c =
     where_ok c.end.result (subst (AllByRecursion g.T.Serialize.holds)
     (take_all c.args.elements.now c.loop-element.element-index c.loop-element-test.false)
     c.loop-element.invariant.held)
+
+pub returns-in_err-serialize_seq-clause-memory : goal.returns-in_err-serialize_seq-clause-memory
+returns-in_err-serialize_seq-clause-memory g c =
+    let p = err_from_is_err_and c.from_residual.result c.from_residual.ensures.1 in
+    rw (p.1, p.2) (memory_unopened open_array (λ x. element_prefix) g.T.Serialize.calls g.T.Serialize.gives_up c.args.elements.now
+    c.args.ser.now c.serialize_seq.new.self _ c.in_err-serialize_seq.ensures.takes)
+
+pub returns-in_err-serialize_element-clause-memory : goal.returns-in_err-serialize_element-clause-memory
+returns-in_err-serialize_element-clause-memory g c =
+    memory_once_open open_array (λ x. element_prefix) g.T.Serialize.calls g.T.Serialize.gives_up array_grows
+    c.args.elements.now c.args.ser.now c.serialize_seq.new.self c.in_ok-serialize_seq.ensures.takes _ _
+
+pub returns-clause-memory : goal.returns-clause-memory
+returns-clause-memory g c =
+    memory_once_open open_array (λ x. element_prefix) g.T.Serialize.calls g.T.Serialize.gives_up array_grows
+    c.args.elements.now c.args.ser.now c.serialize_seq.new.self c.in_ok-serialize_seq.ensures.takes _ _

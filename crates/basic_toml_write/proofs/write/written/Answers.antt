@@ -7,4 +7,5 @@ returns g c = record {
   text = is_layout _ _ _ c.write_out.ensures.due;
   succeeds = succeeds _ _ _ c.write_out.ensures.due;
   holds = c.write_out.ensures.holds;
+  memory = c.write_out.ensures.memory;
 }

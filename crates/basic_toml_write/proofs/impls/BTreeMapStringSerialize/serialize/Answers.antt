@@ -6,7 +6,8 @@ use Rattle.std.specs.List.{AllByRecursion}
 use Rattle.std.specs.Map.Iter.{deref_pair}
 use Rattle.basic_toml_emit.specs.Items.{open_table, field}
 use Rattle.basic_toml_write.proofs.PartsAreSent.{all_more, where_ok, yields_split, yields_next, yields_end, parts_unopened, parts_yield}
-use Rattle.basic_toml_write.proofs.PartsAreSent.{parts_fault, parts_closed}
+use Rattle.basic_toml_write.proofs.PartsAreSent.{parts_fault, parts_closed, memory_unopened, memory_once_open}
+use Rattle.basic_toml_write.proofs.ItemsGrow.{table_grows}
 use Rattle.basic_toml_write.proofs.impls.BTreeMapStringSerialize.serialize.Goals as goal
 
 pub returns-in_err-serialize_map-clause-sends : goal.returns-in_err-serialize_map-clause-sends
@@ -59,3 +60,22 @@ returns-clause-holds g c =
           (yields_end deref_pair c.args.self.now.entries c.loop-name.yielded c.loop-name.name-iterator c.next.new.self
           c.next.result c.next.ensures.steps c.loop-name.invariant.left c.in-None.is) c.loop-name.invariant.held,
     )
+
+pub returns-in_err-serialize_map-clause-memory : goal.returns-in_err-serialize_map-clause-memory
+returns-in_err-serialize_map-clause-memory g c =
+    let p = err_from_is_err_and c.from_residual.result c.from_residual.ensures.1 in
+    λ _. rw (p.1, p.2) (memory_unopened open_table (λ p. field (string_bytes p.0)) (λ p. g.V.Serialize.calls p.1)
+    (λ p. g.V.Serialize.gives_up p.1) c.args.self.now.entries
+    c.args.ser.now c.serialize_map.new.self _ c.in_err-serialize_map.ensures.takes)
+
+pub returns-in_err-serialize_field-clause-memory : goal.returns-in_err-serialize_field-clause-memory
+returns-in_err-serialize_field-clause-memory g c =
+    λ _. memory_once_open open_table (λ p. field (string_bytes p.0)) (λ p. g.V.Serialize.calls p.1)
+    (λ p. g.V.Serialize.gives_up p.1) table_grows
+    c.args.self.now.entries c.args.ser.now c.serialize_map.new.self c.in_ok-serialize_map.ensures.takes _ _
+
+pub returns-clause-memory : goal.returns-clause-memory
+returns-clause-memory g c =
+    λ _. memory_once_open open_table (λ p. field (string_bytes p.0)) (λ p. g.V.Serialize.calls p.1)
+    (λ p. g.V.Serialize.gives_up p.1) table_grows
+    c.args.self.now.entries c.args.ser.now c.serialize_map.new.self c.in_ok-serialize_map.ensures.takes _ _
