@@ -23,7 +23,7 @@ use std::alloc::Global;
 /// The first error that the value's calls meet, as [`Serializer`](crate::Serializer) says of each, even where the
 /// type passes over it or answers one of its own; else the type's own error, where it gives up; and `out of memory`
 /// where a growth was refused. That comes only where one of the calls grows something, or the type asks for memory of
-/// its own: so a value that is no table, as a number, never wants memory.
+/// its own: so a number, which is no table, never wants memory.
 #[tactic(auto, using(crate::proofs::TextOf::promised))]
 pub fn to_string<T: Serialize>(alloc: Global, value: &T) -> Result<String, Error>
     ensures written { Writes (T.calls value.now) (T.gives_up value.now) result }
@@ -38,7 +38,7 @@ pub fn to_string<T: Serialize>(alloc: Global, value: &T) -> Result<String, Error
     // What is known of a value that was written.
     ensures holds { IfOk result (λ _. T.holds value.now) }
 
-    // Where the type asks for no memory of its own, want of memory comes only of a call that grows something.
+    // Where `asks_no_memory` says so, want of memory comes only where one of the calls grows something.
     ensures memory { T.asks_no_memory value.now → IfErr result (CallsGrow (T.calls value.now)) }
 {
     write_out(alloc, value)

@@ -1,5 +1,5 @@
--- Which items ask for memory where they stand (own): those that open an array or a table, set a key, or lengthen the
--- text. What a rule refuses may ask before it is refused. Nothing else ever asks.
+-- Which items may ask for memory where they stand (own): those that open an array or a table, set a key, or lengthen
+-- the text. What a rule refuses may ask before it is refused. Nothing else ever asks.
 use Rattle.std.specs.Prelude.{Bool, true, false, not, ◌||◌, List, [], ◌∷◌, Result, Ok, Err}
 use Rattle.basic_toml_emit.specs.Items.{Item, open_table, close, field}
 use Rattle.basic_toml_emit.specs.Open.{Header, settled, due, OpenTable, no_key, key_place, key_set, ElementKind}

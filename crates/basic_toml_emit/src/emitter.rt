@@ -71,8 +71,8 @@ impl Emitter {
         !self.is_done && self.frames.is_empty() && self.text.is_empty()
     }
 
-    /// Takes what a call records, or answers the error that is due. `OutOfMemory` comes only of what opens an array or a
-    /// table, sets a key, or lengthens the text.
+    /// Takes what a call records, or answers the error that is due. `OutOfMemory` comes only of what opens an array or
+    /// a table, sets a key, or lengthens the text, or would if no rule refused it.
     #[inline(always)]
     pub fn step(&mut self, call: Call<'_>) -> Result<(), EmitError>
         ensures steps { Steps (item_of call.entry) self.old self.new result }

@@ -13,7 +13,7 @@ use Rattle.basic_toml_tokens.specs.Copies.{is_special, is_copied}
 abbrev pub up_to : Text → Text → Text
 up_to rest text = take (length text - length rest) text
 
--- how many bytes a character gives to the value of a string between d
+-- how many bytes a character has that stands for itself between d; a backslash between `"` stands for none
 abbrev pub width : ℕ → ℕ → ℕ
 width d c = if is_special d c then 0 else len_utf8 c
 

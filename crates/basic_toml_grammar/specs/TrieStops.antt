@@ -1,6 +1,6 @@
 -- What stops a section that is put into a trie, own: the steps of `Trie`, where each names what stands at its node as
--- `Stops` does at its path. What stops is the same (law `trie_stops_are_named`); the resolver's contracts go by this
--- form where they answer a clash.
+-- `Stops` does at its path. What stops is the same (law `trie_stops_are_named`). `Obstacles` of `basic_toml_grow` takes
+-- its marks and rows from here, and adds levels: the resolver's contracts go by that.
 -- `Trie` is not this walk with its stops forgotten: it refuses a section whose rows clash before the first is put, as
 -- the rule has it, where this walk looks through each value in its turn, as the resolver meets what it names. Rows
 -- that are put and do not clash go on here to the same trie (`WhatIsPutGoesOn`).

@@ -80,7 +80,7 @@ mutual
   value_free l (Raw.integer z) k c within = refl
   value_free l (Raw.float t) k c within = refl
   value_free l (Raw.boolean b) k c within = refl
-  value_free l (Raw.string t) k c within = refl
+  value_free l (Raw.string t copied) k c within = refl
   value_free l (Raw.array es) k c within =
       two_free (above (l + 1)) (elements_obstacle (l + 1) es) (low (l + 1) (omega arith))
       (elements_free (l + 1) es k c (omega arith))

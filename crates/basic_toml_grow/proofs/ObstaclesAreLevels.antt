@@ -67,8 +67,8 @@ mark_tells : (k : MarkKind) (name : Option Standing → Stop) (s : Option Standi
 mark_tells k name s ts f v l more = go (fits k s)
   where
     go : (b : Bool)
-        → Tells (and_behind (cond b (goes_on (trie (Some (taken k s)) (option_or v (value_of k)) ts)) (stops (name s))) f)
-        l
+        → Tells (and_behind (cond b (goes_on (trie (Some (taken k s)) (option_or v (value_of k)) ts))
+        (stops (name s))) f) l
     go true = more (Some (taken k s)) (option_or v (value_of k))
     go false = tt
 
@@ -89,7 +89,7 @@ mutual
   value_tells l (Raw.integer z) = omega arith
   value_tells l (Raw.float t) = omega arith
   value_tells l (Raw.boolean b) = omega arith
-  value_tells l (Raw.string t) = omega arith
+  value_tells l (Raw.string t copied) = omega arith
   value_tells l (Raw.array es) =
       either (above (l + 1)) (elements_obstacle (l + 1) es) (l + 1) (elements_level (l + 1) es) (level_here (l + 1))
       (elements_tell (l + 1) es)

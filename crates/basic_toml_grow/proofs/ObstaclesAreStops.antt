@@ -99,7 +99,7 @@ mutual
   value_tells l (Raw.integer z) = (nothing, refl)
   value_tells l (Raw.float t) = (nothing, refl)
   value_tells l (Raw.boolean b) = (nothing, refl)
-  value_tells l (Raw.string t) = (nothing, refl)
+  value_tells l (Raw.string t copied) = (nothing, refl)
   value_tells l (Raw.array es) =
       level_tells (l + 1) (elements_obstacle (l + 1) es) (try_put_elements es) (elements_tell (l + 1) es)
   value_tells l (Raw.inline rs) =

@@ -2,7 +2,7 @@
 use Rattle.std.proofs.Common.{◌≡◌, true, false, List, [], ◌∷◌, ◌++◌, map, take, drop, refl, ap, ◌∙◌, subst, rules}
 use Rattle.std.specs.Prelude.{⊤}
 use Rattle.std.specs.String.{string_bytes}
-use Rattle.basic_toml_grammar.specs.Sections.{Key, Elements, Rows, no_rows, row}
+use Rattle.basic_toml_grammar.specs.Sections.{Key, Rows, no_rows, row}
 use Rattle.basic_toml_grammar.specs.Sections as sections
 use Rattle.basic_toml_read.specs.declared.section.Raw.{Raw, map-Raw, roll-Raw, the_lemmas}
 use Rattle.basic_toml_read.specs.declared.section.Raw.TheOpen.{Raw-F, Element-F, Row-F, Rows-F}

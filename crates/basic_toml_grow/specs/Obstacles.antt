@@ -18,7 +18,7 @@ use Rattle.basic_toml_clash.specs.Clash.{Obstacle, too_deep, in_the_way}
 abbrev pub above : ℕ → Option Obstacle
 above l = if nat_lt nesting_limit l then Some too_deep else None
 
--- what a mark or a row is stopped by, or what is met behind it
+-- what stops a mark or a row, or else what is met behind it
 abbrev pub and_behind : Outcome Trie → (Trie → Option Obstacle) → Option Obstacle
 and_behind (stops x) f = Some (in_the_way x)
 and_behind (goes_on t) f = f t

@@ -17,8 +17,9 @@ use Rattle.basic_toml_grow.specs.declared.item.Child.{fold-Child}
 use Rattle.basic_toml_grow.specs.declared.item.Table as tables
 use Rattle.basic_toml_grow.specs.declared.item.Table.{fold-Table}
 
--- Whether headers made it, what it is called, where it begins, and the number of a section: the one that first mentioned
--- it, or of what headers made the latest one whose header leads there; and whether it is a string that asks for no copy.
+-- Whether headers made it, what it is called, where it begins, the number of a section, and whether it is a string that
+-- asks for no copy. The section is the one that first mentioned it, or of what headers made the latest one whose header
+-- leads there.
 pub record Origin : Type 0 where
   pub made : Bool
   pub name : List ℕ

@@ -242,13 +242,13 @@ fn add_element<'de>(
         MarksWay number (number_step (count (item_trie there.entry)) ∷ []) (item_origins after start section)) }
     ensures taken { IfOk result (λ _. NoneLeft rows.new) }
 {
+    if level >= NESTING_LIMIT {
+        return Err(Clash::Deep);
+    }
     let (before, table) = match there {
         Item::Nothing => (Box::new(alloc, Vec::new(alloc))?, Table::new(alloc)?),
         Item::Tables(before, latest) => with_blank(alloc, before, latest)?,
         Item::Table(table) => {
-            if level >= NESTING_LIMIT {
-                return Err(Clash::Deep);
-            }
             if table.dotted {
                 return Err(Clash::Header(1));
             }
@@ -257,12 +257,7 @@ fn add_element<'de>(
             }
             return Err(Clash::Redefined);
         }
-        _other => {
-            if level >= NESTING_LIMIT {
-                return Err(Clash::Deep);
-            }
-            return Err(Clash::Header(1));
-        }
+        _other => return Err(Clash::Header(1)),
     };
     let mut latest = table;
     open(alloc, &mut *latest, rows, number, level + 2)?;

@@ -76,9 +76,10 @@ impl<'de> Tree<'de> {
 /// # Errors
 ///
 /// `DottedKeyInvalidType` comes before every other clash. Else it is the error of the first section that the tree of
-/// those before it does not take. That is what the section meets first, key by key and row by row: a clash, or a level
-/// above that limit, which is `NestedTooDeeply`. At one key or bracket the level comes before the clash. `OutOfMemory`
-/// comes where memory is refused, and not for a list without sections. All but the last have a byte offset.
+/// those before it does not take. That is what the section meets first: a clash, or a level above that limit, which is
+/// `NestedTooDeeply`. At each table and array on the header's way, each bracket and each row, the level comes before
+/// what stands there. `OutOfMemory` comes where memory is refused, and not for a list without sections. All but the
+/// last have a byte offset.
 ///
 /// The cases of `toml_cases` call it; [`tree_of`](crate::tree_of) goes from a text to its tree without a list.
 #[tactic(auto, using(crate::proofs::OrderIsFree::in_any_order))]

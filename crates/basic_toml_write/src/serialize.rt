@@ -9,7 +9,8 @@ use std::alloc::Global;
 /// The ghost member `calls` names the items that the value sends. A type that may give up with an error of its own
 /// names in `gives_up` after which of them, and with which error: an error of the serializer goes before it. What is known
 /// of a value that was written stands in `holds`, as that an integer is in the range of its type. A type that asks for
-/// no memory but by its calls says so in `asks_no_memory`: then want of memory comes only where a call grows something.
+/// no memory of its own, or only where a call of its value grows something too, says so in `asks_no_memory`: then want
+/// of memory comes only where a call grows something.
 ///
 /// ```text
 /// impl Serialize for Rule {

@@ -28,8 +28,8 @@ use std::alloc::Global;
 /// call but [`has_refused`](Serializer::has_refused) answers that error, or `OutOfMemory` where its key finds no
 /// memory, and no text is handed out. An error whose key finds no memory when it is met is `OutOfMemory` from then on.
 /// An error of a part's own is answered and not kept. Where nothing was refused before, `OutOfMemory` comes only of a
-/// call that grows something: one that opens an array or a table, sets a key, or lengthens the text; or of a part that
-/// asks for memory of its own.
+/// call that grows something: one that opens an array or a table, sets a key, or lengthens the text, or would if no
+/// rule refused it; or of a part that asks for memory of its own.
 ///
 /// ```text
 /// let mut ser = Serializer::new(alloc);

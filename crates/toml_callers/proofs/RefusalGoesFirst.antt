@@ -1,4 +1,4 @@
--- What `to_string` answers for a type that gives up only once a call was refused.
+-- What `to_string` answers for a type that gives up only once a call was refused, and for a string.
 use Rattle.std.proofs.Common.{◌≡◌, ℕ, List, [], ◌∷◌, codes, sym, ◌∙◌, ap, subst, Result, Ok, Err, IfErr, ◌⊎◌, inl, inr}
 use Rattle.std.proofs.Common.{refl, string_bytes, String}
 use Rattle.std.proofs.lemmas.Bool.{false≢true}

@@ -1,4 +1,5 @@
-//! Types that give up, and callers of `to_string`, proved by its contract alone.
+//! Types that give up, one that asks for no memory of its own, and callers of `to_string`, proved by its contract
+//! alone.
 ghost use Rattle.std.specs.Prelude.{◌≡◌, ◌⊎◌, ⊤, List, [], ◌∷◌, codes, Err, IfErr, OnOk};
 ghost use Rattle.basic_toml_write.specs.Error.{IsCustom};
 ghost use Rattle.basic_toml_write.specs.declared.error.WriteError.{WriteError};
@@ -45,7 +46,7 @@ pub fn text_of_careless(alloc: Global) -> Result<String, Error>
     to_string(alloc, &Careless)
 }
 
-/// A string is no table, so it has no text of its own: never for want of memory.
+/// A string is no table, so it has no text of its own. It is refused for that, and never for want of memory.
 #[tactic(auto, using(crate::proofs::RefusalGoesFirst::words_refused))]
 pub fn text_of_words(alloc: Global, words: &str) -> Result<String, Error>
     ensures { result ≡ Err (without_offset unsupported_type) }

@@ -1,6 +1,6 @@
 //! A table as JSON (RFC 8259), its keys in order, on one line or on several.
 //!
-//! `toml_json` writes it, and `toml_cases` compares it with what a text must mean.
+//! `toml_json` writes it, and `toml_case_answers` tells by it what a text means.
 //!
 //! ```text
 //! json_of(alloc, Form::Plain, &table)?; // {"port":80,"names":["a","b"]}

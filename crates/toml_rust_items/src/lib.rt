@@ -1,5 +1,5 @@
 //! What a file of Rust declares: its tokens, the items of its top level, their fields and variants, and what serde's
-//! attributes say of them. `toml_impl_text` writes impls by it.
+//! attributes say of them. `toml_rust_types` tells by it what the types are in TOML, and `toml_impl_text` writes impls.
 #![tactic(auto)]
 
 pub mod case;

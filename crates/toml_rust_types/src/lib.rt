@@ -1,5 +1,5 @@
-//! The types of a file of Rust as TOML has them: a struct is a record, an enum a choice of strings or of two forms. Their
-//! attributes say so, and the impls that a file has already.
+//! The types of a file of Rust as TOML has them: a struct is a record, an enum a choice of strings or of two forms.
+//! Their attributes say so, and the impls that a file has already.
 #![tactic(auto)]
 
 pub mod choice;

@@ -44,9 +44,7 @@ fn push_package(maker: &mut Maker, text: &mut String) -> Result<(), AllocError> 
     maker.push_words(text, 2, "-")?;
     text.push_str("\"\nversion = \"")?;
     maker.push_version(text)?;
-    text.push_str(
-        "\"\nsource = \"registry+https://example.org/registry/index\"\nchecksum = \"",
-    )?;
+    text.push_str("\"\nsource = \"registry+https://example.org/registry/index\"\nchecksum = \"")?;
     maker.push_digits(text, 8)?;
     text.push_str("\"\n")?;
     let needs = maker.between(0, 6);

@@ -264,10 +264,7 @@ fn push_table(
     start: u64,
     number: u64,
 ) -> Result<(), AllocError> {
-    text.push_str(part_at(
-        parts.comments.as_slice(),
-        first.wrapping_add(number),
-    ))?;
+    text.push_str(part_at(parts.comments.as_slice(), first.wrapping_add(number)))?;
     text.push('[')?;
     text.push_str(Maker::word_at(start.wrapping_add(number)))?;
     text.push_str("]\n")?;

@@ -1,7 +1,7 @@
 -- A string of a text asks for a copy by its characters where it does by its bytes.
 use Rattle.std.proofs.Common.{◌⊎◌, inl, inr, ◌≡◌, ℕ, zero, suc, ◌+◌, ◌-◌, ◌<◌, ◌≤◌, ◌==◌, ◌||◌, ◌&&◌, min, Bool}
-use Rattle.std.proofs.Common.{true, false, cond, List, [], ◌∷◌, ◌++◌, length, drop, take, get_or, refl, ap, sym, ◌∙◌, subst}
-use Rattle.std.proofs.Common.{arith, encode_utf8, encode_utf8_all, length-drop, add-zero}
+use Rattle.std.proofs.Common.{true, false, cond, List, [], ◌∷◌, ◌++◌, length, drop, take, get_or, refl, ap, sym, ◌∙◌}
+use Rattle.std.proofs.Common.{subst, arith, encode_utf8, encode_utf8_all, length-drop, add-zero}
 use Rattle.std.specs.Prelude.{nat_lt}
 use Rattle.std.specs.Char.{len_utf8}
 use Rattle.std.specs.List.{list_any}
@@ -169,9 +169,6 @@ module _ (bytes : List ℕ) (whole : IsUtf8 bytes) (d : ℕ) where
             same = by (is_special d c) (len_utf8 c) (len_utf8_bounds c).0 ∙ sym (in_character d c)
                 ∙ sym (ap (list_any (is_special d)) bytes_are);
           })
-
-      within_text : (n : ℕ) (rest : List ℕ) → drop u bytes ≡ n ∷ rest → u < length bytes
-      within_text n rest is = omega (arith, ap length is, length-drop u bytes)
 
       feed_same : (next : ℕ) → u < next → IsCharBoundary bytes next → AreFeedBytes bytes u next
           → nat_lt (u + width d 10) next ≡ list_any (is_special d) (between bytes u next)

@@ -23,9 +23,9 @@ use Rattle.basic_toml_grow.proofs.headers.add_element.Goals.{After-open}
 use Rattle.basic_toml_grow.proofs.headers.add_element.Goals.{in-Nothing+in_ok-new-in-Nothing+in_ok-new-in-Nothing-2, in-Tables+in_ok-before-in-Tables}
 
 -- the table that the section opens is without entries
-blank : (c : After-open) → table_trie c.match-there.before.1.value ≡ fresh
+blank : (c : After-open) → table_trie c.match-there-3.before.1.value ≡ fresh
 blank c =
-    elim c.match-there.branch [
+    elim c.match-there-3.branch [
       | in-Nothing+in_ok-new-in-Nothing+in_ok-new-in-Nothing-2 w ↦ ap (λ p. table_trie p.1.value) w.before-is
           ∙ w.in_ok-new-in-Nothing-2.ensures
       | in-Tables+in_ok-before-in-Tables w ↦ ap (λ p. table_trie p.1.value) w.before-is
@@ -34,17 +34,17 @@ blank c =
 
 -- what stands there becomes an array with one element more
 puts : (c : After-open) → put_element (rows_view c.args.rows.now) (item_trie c.args.there)
-    ≡ option_map (λ u. array_of (map table_trie c.match-there.before.0.value.items) u)
+    ≡ option_map (λ u. array_of (map table_trie c.match-there-3.before.0.value.items) u)
     (put_table (rows_view c.args.rows.now) fresh)
 puts c =
-    elim c.match-there.branch [
+    elim c.match-there-3.branch [
       | in-Nothing+in_ok-new-in-Nothing+in_ok-new-in-Nothing-2 w ↦ first_element (rows_view c.args.rows.now)
-          c.args.there c.match-there.before.0.value.items w.in-Nothing.is
+          c.args.there c.match-there-3.before.0.value.items w.in-Nothing.is
           (ap (λ p. p.0.value.items) w.before-is ∙ ap (λ v. v.items) w.in_ok-new-in-Nothing.ensures.ok
           ∙ w.new.ensures.items)
       | in-Tables+in_ok-before-in-Tables w ↦ next_element (rows_view c.args.rows.now) c.args.there
           w.in-Tables.before w.in-Tables.latest
-          c.match-there.before.0.value.items w.in-Tables.is
+          c.match-there-3.before.0.value.items w.in-Tables.is
           (ap (λ p. p.0.value.items) w.before-is ∙ w.in_ok-before-in-Tables.ensures.before)
     ]
 
@@ -57,15 +57,15 @@ returns-in_err-open-clause-entered c =
     (λ clash. IsKeptOut entered rows (c.args.level + 2) clash))
     c.from_residual-in_err-open.result c.in_err-open.field-0.0 c.from_residual-in_err-open.ensures.1
     (element_out c.in_err-open.field-0.0 rows c.args.level (table_trie c.deref_mut.result.now) c.args.there
-    c.match-there.before.0.value.items (ap table_trie c.deref_mut.ensures.value ∙ blank here) (puts here)
+    c.match-there-3.before.0.value.items (ap table_trie c.deref_mut.ensures.value ∙ blank here) (puts here)
     c.in_err-open.ensures.entered)
 
 pub returns-clause-entered : goal.returns-clause-entered
 returns-clause-entered c =
     let here = (goal.at.returns-clause-entered c).After-open in
-    let latest = boxes.with_value c.match-there.before.1 c.«open».new.table in
+    let latest = boxes.with_value c.match-there-3.before.1 c.«open».new.table in
     element_in (rows_view c.args.rows.now) c.args.level (table_trie c.deref_mut.result.now) c.args.there
-    (Tables c.match-there.before.0 latest) c.match-there.before.0 latest
+    (Tables c.match-there-3.before.0 latest) c.match-there-3.before.0 latest
     (ap table_trie c.deref_mut.ensures.value ∙ blank here) (puts here) refl c.in_ok-open.ensures.entered
 
 pub returns-in_err-open-clause-named : goal.returns-in_err-open-clause-named
@@ -78,7 +78,7 @@ returns-in_err-open-clause-named c =
     let l = c.args.level + 1 in
     let m = c.args.level + 2 in
     let same : element_obstacle l rows (item_trie c.args.there) ≡ table_obstacle m rows new =
-    elim c.match-there.branch [
+    elim c.match-there-3.branch [
       | in-Nothing+in_ok-new-in-Nothing+in_ok-new-in-Nothing-2 w ↦ first_met rows l m (omega arith)
           c.args.there new is_fresh w.in-Nothing.is
       | in-Tables+in_ok-before-in-Tables w ↦ next_met rows l m (omega arith) c.args.there new is_fresh
@@ -92,37 +92,42 @@ pub returns-clause-origins : goal.returns-clause-origins
 returns-clause-origins c =
     let here = (goal.at.returns-clause-origins c).After-open in
     let rows = rows_origins c.args.number (rows_view c.args.rows.now) in
-    let latest = boxes.with_value c.match-there.before.1 c.«open».new.table in
+    let latest = boxes.with_value c.match-there-3.before.1 c.«open».new.table in
     let grown = c.in_ok-open.ensures.origins
     ∙ ap (λ t. or_else (table_within t).below rows) c.deref_mut.ensures.value in
-    elim c.match-there.branch [
+    elim c.match-there-3.branch [
       | in-Nothing+in_ok-new-in-Nothing+in_ok-new-in-Nothing-2 w ↦ λ at s. first_added c.args.there at s
-          c.match-there.before.0 c.match-there.before.1 latest rows (blank here) grown w.in-Nothing.is
+          c.match-there-3.before.0 c.match-there-3.before.1 latest rows (blank here) grown w.in-Nothing.is
           (ap (λ p. p.0.value.items) w.before-is ∙ ap (λ v. v.items) w.in_ok-new-in-Nothing.ensures.ok
           ∙ w.new.ensures.items)
-      | in-Tables+in_ok-before-in-Tables w ↦ λ at s. next_added c.args.there at s c.match-there.before.0
-          c.match-there.before.1 latest rows (blank here) grown w.in-Tables.before w.in-Tables.latest w.in-Tables.is
+      | in-Tables+in_ok-before-in-Tables w ↦ λ at s. next_added c.args.there at s c.match-there-3.before.0
+          c.match-there-3.before.1 latest rows (blank here) grown w.in-Tables.before w.in-Tables.latest w.in-Tables.is
           (ap (λ p. p.0.value.items) w.before-is ∙ w.in_ok-before-in-Tables.ensures.before)
     ]
 
 pub returns-clause-marks : goal.returns-clause-marks
 returns-clause-marks c =
-    let latest = boxes.with_value c.match-there.before.1 c.«open».new.table in
+    let latest = boxes.with_value c.match-there-3.before.1 c.«open».new.table in
     let marks = c.in_ok-open.ensures.marks in
-    elim c.match-there.branch [
+    elim c.match-there-3.branch [
       | in-Nothing+in_ok-new-in-Nothing+in_ok-new-in-Nothing-2 w ↦ λ at s. first_marks c.args.number c.args.there
-          c.match-there.before.0 latest w.in-Nothing.is
+          c.match-there-3.before.0 latest w.in-Nothing.is
           (ap (λ p. p.0.value.items) w.before-is ∙ ap (λ v. v.items) w.in_ok-new-in-Nothing.ensures.ok
           ∙ w.new.ensures.items) marks at s
-      | in-Tables+in_ok-before-in-Tables w ↦ λ at s. next_marks c.args.number c.args.there c.match-there.before.0
+      | in-Tables+in_ok-before-in-Tables w ↦ λ at s. next_marks c.args.number c.args.there c.match-there-3.before.0
           latest w.in-Tables.before w.in-Tables.latest w.in-Tables.is
           (ap (λ p. p.0.value.items) w.before-is ∙ w.in_ok-before-in-Tables.ensures.before) marks at s
     ]
 
 -- what stands there is no array of tables, or above the limit
-pub returns-then-level-ge-NESTING_LIMIT-clause-named : goal.returns-then-level-ge-NESTING_LIMIT-clause-named
-returns-then-level-ge-NESTING_LIMIT-clause-named c =
-    deep_bars (rows_view c.args.rows.now) (c.args.level + 1) (item_trie c.args.there) (omega arith)
+pub returns-then-level-ge-NESTING_LIMIT : goal.returns-then-level-ge-NESTING_LIMIT
+returns-then-level-ge-NESTING_LIMIT c = record {
+  entered = omega arith;
+  named = deep_bars (rows_view c.args.rows.now) (c.args.level + 1) (item_trie c.args.there) (omega arith);
+  origins = tt;
+  marks = tt;
+  taken = tt;
+}
 
 pub returns-then-deref-clause-named : goal.returns-then-deref-clause-named
 returns-then-deref-clause-named c =
@@ -140,15 +145,6 @@ returns-in-Table-clause-named c =
     passed_bars (rows_view c.args.rows.now) (c.args.level + 1) (omega arith) c.args.there c.in-Table.table c.in-Table.is
     (ap (λ (t : Table). (out-Table t).dotted) (sym c.deref.ensures) ∙ c.if-deref.false)
     (ap (λ (t : Table). (out-Table t).named) (sym c.deref-in-Table.ensures) ∙ c.if-deref-2.false)
-
-pub returns-then-level-ge-NESTING_LIMIT-2 : goal.returns-then-level-ge-NESTING_LIMIT-2
-returns-then-level-ge-NESTING_LIMIT-2 c = record {
-  entered = omega arith;
-  named = deep_bars (rows_view c.args.rows.now) (c.args.level + 1) (item_trie c.args.there) (omega arith);
-  origins = tt;
-  marks = tt;
-  taken = tt;
-}
 
 pub returns-in_default : goal.returns-in_default
 returns-in_default c =

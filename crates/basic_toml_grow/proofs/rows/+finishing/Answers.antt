@@ -276,8 +276,8 @@ children_of-returns-in_err-child_of-clause-named t c =
     let ts = map child_trie c.loop-element.children.items in
     let left = subst (λ (es : List Element). ElementsAreLeft whole c.args.level ts (elements_view es))
     c.in-Some.ensures.steps c.loop-element.invariant.0 in
-    rw (p.1, p.2) (subst (λ (es : List Element). NamesObstacle (elements_obstacle c.args.level (elements_view es)) clash) start
-    (element_stopped whole c.args.level ts c.in-Some.element c.next.new.self clash left
+    rw (p.1, p.2) (subst (λ (es : List Element). NamesObstacle (elements_obstacle c.args.level (elements_view es)) clash)
+    start (element_stopped whole c.args.level ts c.in-Some.element c.next.new.self clash left
     c.in_err-child_of.ensures.named))
 
 -- where what is put into the table comes from

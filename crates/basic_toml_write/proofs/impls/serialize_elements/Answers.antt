@@ -55,8 +55,8 @@ returns-clause-holds g c =
 pub returns-in_err-serialize_seq-clause-memory : goal.returns-in_err-serialize_seq-clause-memory
 returns-in_err-serialize_seq-clause-memory g c =
     let p = err_from_is_err_and c.from_residual.result c.from_residual.ensures.1 in
-    rw (p.1, p.2) (memory_unopened open_array (λ x. element_prefix) g.T.Serialize.calls g.T.Serialize.gives_up c.args.elements.now
-    c.args.ser.now c.serialize_seq.new.self _ c.in_err-serialize_seq.ensures.takes)
+    rw (p.1, p.2) (memory_unopened open_array (λ x. element_prefix) g.T.Serialize.calls g.T.Serialize.gives_up
+    c.args.elements.now c.args.ser.now c.serialize_seq.new.self _ c.in_err-serialize_seq.ensures.takes)
 
 pub returns-in_err-serialize_element-clause-memory : goal.returns-in_err-serialize_element-clause-memory
 returns-in_err-serialize_element-clause-memory g c =

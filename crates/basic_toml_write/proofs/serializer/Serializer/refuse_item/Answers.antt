@@ -11,5 +11,5 @@ returns-in-None-clause-takes c = λ i before stops.
 pub returns-in-Some-clause-takes : goal.returns-in-Some-clause-takes
 returns-in-Some-clause-takes c = λ i before stops.
     takes_met c.in-Some.error i before c.args.self.now c.refuse.new.self c.named.result c.refuse.result
-    (subst (λ stop. Stops stop i before c.args.self.now) c.in-Some.is stops) c.named.ensures.names c.named.ensures.memory
-    c.refuse.ensures
+    (subst (λ stop. Stops stop i before c.args.self.now) c.in-Some.is stops) c.named.ensures.names
+    c.named.ensures.memory c.refuse.ensures
