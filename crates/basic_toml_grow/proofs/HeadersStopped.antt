@@ -1,6 +1,6 @@
 -- What a header meets first on its way through tables is what its steps name.
 use Rattle.std.proofs.Common.{◌≡◌, ℕ, suc, ◌+◌, ◌<◌, ◌≤◌, Bool, true, false, cond, nat_lt, List, [], ◌∷◌, ◌++◌}
-use Rattle.std.proofs.Common.{length, map}
+use Rattle.std.proofs.Common.{length, map, inr}
 use Rattle.std.proofs.Common.{Option, Some, None, refl, ap, sym, ◌∙◌, arith, nat_eq, Vec, Box, Global}
 use Rattle.std.specs.Option.{option_or}
 use Rattle.std.proofs.lemmas.Bool.{ltb-true}
@@ -11,7 +11,7 @@ use Rattle.basic_toml_value.specs.Nesting.{nesting_limit}
 use Rattle.basic_toml_grammar.specs.Sections.{KeyTexts, Rows}
 use Rattle.basic_toml_grammar.specs.Steps.{key, number}
 use Rattle.basic_toml_grammar.specs.Standing as standing
-use Rattle.basic_toml_grammar.specs.Trie.{Trie, Tries, nothing, find, count, steps_to, steps_on}
+use Rattle.basic_toml_grammar.specs.Trie.{Trie, Tries, nothing, find, count, steps_to, steps_on, put_element}
 use Rattle.basic_toml_grammar.specs.Stops.{Stop, at_header, is_named, is_passed, header_stop}
 use Rattle.basic_toml_grammar.specs.Marks.{added}
 use Rattle.basic_toml_clash.specs.Clash.{Obstacle, too_deep, in_the_way, NamesObstacle}
@@ -21,7 +21,7 @@ use Rattle.basic_toml_grow.specs.declared.item.Item as items
 use Rattle.basic_toml_grow.specs.declared.item.Table.{Table, out-Table}
 use Rattle.basic_toml_grow.specs.Item.{item_trie, child_trie, table_trie, by_keys, by_numbers, leaf, no_child}
 use Rattle.basic_toml_grow.specs.Obstacles.{above, table_obstacle, element_obstacle, keys_obstacle}
-use Rattle.basic_toml_grow.specs.Headers.{highest, steps_by, obstacle_by, obstacle_at}
+use Rattle.basic_toml_grow.specs.Headers.{highest, steps_by, IsKeptOut, obstacle_by, obstacle_at, table_clash}
 use Rattle.basic_toml_grow.proofs.HeadersEntered.{Passes, passed_trie}
 use Rattle.basic_toml_grow.proofs.KeysInATrie.{tries_of, stood_there}
 use Rattle.basic_toml_grow.proofs.ItemTries.{table_entries_trie, no_child_trie}
@@ -245,6 +245,33 @@ module _ (rows : Rows) (l : ℕ) (within : l ≤ nesting_limit) (i : items.Item)
       at_table p true d names dots = absurd (cc)
       at_table p n true names dots = absurd (cc)
 
+  pub table_clashes : (t : Box Table Global) → i ≡ items.Table t
+      → NamesObstacle (element_obstacle l rows (item_trie i))
+      (table_clash (out-Table t.value).named (out-Table t.value).dotted)
+  table_clashes t is = go (out-Table t.value).named (out-Table t.value).dotted refl refl
+    where
+      go : (n d : Bool) → (out-Table t.value).named ≡ n → (out-Table t.value).dotted ≡ d
+          → NamesObstacle (element_obstacle l rows (item_trie i)) (table_clash n d)
+      go true true names dots = dotted_bars t is dots
+      go false true names dots = dotted_bars t is dots
+      go true false names dots = named_bars t is dots names
+      go false false names dots = passed_bars t is dots names
+
   pub value_bars : (d : Data) → item_trie i ≡ leaf d
       → NamesObstacle (element_obstacle l rows (item_trie i)) (Header 1)
   value_bars d is = (at_header 1, (refl, ap (element_obstacle l rows) is ∙ behind_low l _ within))
+
+-- nor does it add one to a table
+pub table_keeps_out : (rows : Rows) (l : ℕ) (i : items.Item) (t : Box Table Global) → i ≡ items.Table t
+    → IsKeptOut (put_element rows (item_trie i)) rows l
+    (table_clash (out-Table t.value).named (out-Table t.value).dotted)
+table_keeps_out rows l i t is = go (out-Table t.value).named (out-Table t.value).dotted
+  where
+    none : put_element rows (item_trie i) ≡ None
+    none = ap (put_element rows) (ap item_trie is ∙ table_item_trie t ∙ table_entries_trie t.value)
+
+    go : (n d : Bool) → IsKeptOut (put_element rows (item_trie i)) rows l (table_clash n d)
+    go true true = inr none
+    go false true = inr none
+    go true false = inr none
+    go false false = inr none

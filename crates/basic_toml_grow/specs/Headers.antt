@@ -8,7 +8,7 @@ use Rattle.basic_toml_grammar.specs.RowClash.{rows_clash}
 use Rattle.basic_toml_grammar.specs.Levels.{rows_level}
 use Rattle.basic_toml_grammar.specs.Trie.{Trie, walk, steps_to, steps_on, go_on, count, put_element}
 use Rattle.basic_toml_clash.specs.declared.clash.Clash.{Clash}
-use Rattle.basic_toml_clash.specs.declared.clash.Clash.TheVariants.{Memory, Deep}
+use Rattle.basic_toml_clash.specs.declared.clash.Clash.TheVariants.{Memory, Deep, Header, Named, Redefined}
 use Rattle.basic_toml_clash.specs.Clash.{Obstacle}
 use Rattle.basic_toml_grow.specs.Obstacles.{element_obstacle, obstacle_on, keys_obstacle}
 
@@ -62,3 +62,10 @@ obstacle_by is_array rows keys l t =
 abbrev pub obstacle_at : Bool → Rows → KeyTexts → ℕ → Trie → Option Obstacle
 obstacle_at true rows [] l t = element_obstacle l rows t
 obstacle_at is_array rows keys l t = obstacle_by is_array rows keys l t
+
+-- the clash of an array of tables with a table that stands at its key, by whether that is named and dots extend it
+abbrev pub table_clash : (named dotted : Bool) → Clash
+table_clash true true = Header 1
+table_clash false true = Header 1
+table_clash true false = Named
+table_clash false false = Redefined

@@ -13,7 +13,8 @@ ghost use Rattle.basic_toml_grammar.specs.Trie.{count};
 ghost use Rattle.basic_toml_grow.specs.Origins.{item_origins, table_within, or_else, rows_origins};
 ghost use Rattle.basic_toml_grow.specs.Ways.{way, way_by, way_at, GrowsAlong, MarksWay, MarksTable};
 ghost use Rattle.basic_toml_grow.specs.Headers.{EntersHeader, EntersItem, IsIn, IsKeptOut};
-ghost use Rattle.basic_toml_grow.specs.Headers.{entered_by, steps_by, entered_at, steps_at, obstacle_by, obstacle_at};
+ghost use Rattle.basic_toml_grow.specs.Headers.{entered_by, steps_by, entered_at, steps_at, obstacle_by, obstacle_at, table_clash};
+ghost use Rattle.basic_toml_grow.specs.declared.item.Table.{out-Table};
 ghost use Rattle.basic_toml_grow.specs.Obstacles.{keys_obstacle, table_obstacle, element_obstacle};
 
 use crate::item::{Item, Table};
@@ -220,6 +221,20 @@ fn with_blank<'de>(
     Ok((before, latest))
 }
 
+// The clash of an array of tables with a table that stands at its key.
+#[cold]
+fn table_in_the_way(table: &Table<'_>) -> Clash
+    ensures { result ≡ table_clash (out-Table table.now).named (out-Table table.now).dotted }
+{
+    if table.dotted {
+        Clash::Header(1)
+    } else if table.named {
+        Clash::Named
+    } else {
+        Clash::Redefined
+    }
+}
+
 // The array of tables in a table of a level, with one more element.
 fn add_element<'de>(
     alloc: Global,
@@ -248,15 +263,7 @@ fn add_element<'de>(
     let (before, table) = match there {
         Item::Nothing => (Box::new(alloc, Vec::new(alloc))?, Table::new(alloc)?),
         Item::Tables(before, latest) => with_blank(alloc, before, latest)?,
-        Item::Table(table) => {
-            if table.dotted {
-                return Err(Clash::Header(1));
-            }
-            if table.named {
-                return Err(Clash::Named);
-            }
-            return Err(Clash::Redefined);
-        }
+        Item::Table(table) => return Err(table_in_the_way(&*table)),
         _other => return Err(Clash::Header(1)),
     };
     let mut latest = table;

@@ -8,18 +8,19 @@ use Rattle.basic_toml_grow.specs.declared.item.Item.{Tables}
 use Rattle.basic_toml_grow.specs.Item.{item_trie, table_trie}
 use Rattle.basic_toml_clash.specs.Clash.{Obstacle, NamesObstacle}
 use Rattle.basic_toml_grow.specs.Obstacles.{table_obstacle, element_obstacle}
-use Rattle.basic_toml_grow.specs.Headers.{IsIn, IsKeptOut}
+use Rattle.basic_toml_grow.specs.Headers.{IsIn, IsKeptOut, table_clash}
 use Rattle.basic_toml_grow.proofs.HeadersInATrie.{array_of, fresh}
 use Rattle.basic_toml_grow.proofs.HeadersEntered.{failed, other_is_leaf}
 use Rattle.basic_toml_grow.proofs.TablesOpened.{first_element, next_element, element_in, element_out}
-use Rattle.basic_toml_grow.proofs.HeadersStopped.{first_met, next_met, deep_bars, dotted_bars, named_bars, passed_bars}
+use Rattle.basic_toml_grow.proofs.HeadersStopped.{first_met, next_met, deep_bars, table_clashes, table_keeps_out}
 use Rattle.basic_toml_grow.proofs.HeadersStopped.{value_bars}
 use Rattle.basic_toml_grow.specs.declared.item.Table.{Table, out-Table}
 use Rattle.basic_toml_grow.specs.Origins.{rows_origins, table_within, or_else}
 use Rattle.basic_toml_grow.proofs.Origins.ElementsPlaceOrigins.{first_added, next_added}
 use Rattle.basic_toml_grow.proofs.Origins.HeadersMark.{first_marks, next_marks}
+use Rattle.basic_toml_clash.specs.declared.clash.Clash.{Clash}
 use Rattle.basic_toml_grow.proofs.headers.add_element.Goals as goal
-use Rattle.basic_toml_grow.proofs.headers.add_element.Goals.{After-open}
+use Rattle.basic_toml_grow.proofs.headers.add_element.Goals.{After-open, After-drop-table}
 use Rattle.basic_toml_grow.proofs.headers.add_element.Goals.{in-Nothing+in_ok-new-in-Nothing+in_ok-new-in-Nothing-2, in-Tables+in_ok-before-in-Tables}
 
 -- the table that the section opens is without entries
@@ -129,22 +130,26 @@ returns-then-level-ge-NESTING_LIMIT c = record {
   taken = tt;
 }
 
-pub returns-then-deref-clause-named : goal.returns-then-deref-clause-named
-returns-then-deref-clause-named c =
-    dotted_bars (rows_view c.args.rows.now) (c.args.level + 1) (omega arith) c.args.there c.in-Table.table c.in-Table.is
-    (ap (λ (t : Table). (out-Table t).dotted) (sym c.deref.ensures) ∙ c.if-deref.true)
-
-pub returns-then-deref-2-clause-named : goal.returns-then-deref-2-clause-named
-returns-then-deref-2-clause-named c =
-    named_bars (rows_view c.args.rows.now) (c.args.level + 1) (omega arith) c.args.there c.in-Table.table c.in-Table.is
-    (ap (λ (t : Table). (out-Table t).dotted) (sym c.deref.ensures) ∙ c.if-deref.false)
-    (ap (λ (t : Table). (out-Table t).named) (sym c.deref-in-Table.ensures) ∙ c.if-deref-2.true)
+-- a table stands there
+known : (c : After-drop-table) → c.table_in_the_way.result
+    ≡ table_clash (out-Table c.in-Table.table.value).named (out-Table c.in-Table.table.value).dotted
+known c =
+    c.table_in_the_way.ensures
+    ∙ ap (λ (t : Table). table_clash (out-Table t).named (out-Table t).dotted) c.deref.ensures
 
 pub returns-in-Table-clause-named : goal.returns-in-Table-clause-named
 returns-in-Table-clause-named c =
-    passed_bars (rows_view c.args.rows.now) (c.args.level + 1) (omega arith) c.args.there c.in-Table.table c.in-Table.is
-    (ap (λ (t : Table). (out-Table t).dotted) (sym c.deref.ensures) ∙ c.if-deref.false)
-    (ap (λ (t : Table). (out-Table t).named) (sym c.deref-in-Table.ensures) ∙ c.if-deref-2.false)
+    let rows = rows_view c.args.rows.now in
+    let there = item_trie c.args.there in
+    subst (λ (clash : Clash). NamesObstacle (element_obstacle (c.args.level + 1) rows there) clash) (sym (known c))
+    (table_clashes rows (c.args.level + 1) (omega arith) c.args.there c.in-Table.table c.in-Table.is)
+
+pub returns-in-Table-clause-entered : goal.returns-in-Table-clause-entered
+returns-in-Table-clause-entered c =
+    let rows = rows_view c.args.rows.now in
+    let there = item_trie c.args.there in
+    subst (λ (clash : Clash). IsKeptOut (put_element rows there) rows (c.args.level + 2) clash) (sym (known c))
+    (table_keeps_out rows (c.args.level + 2) c.args.there c.in-Table.table c.in-Table.is)
 
 pub returns-in_default : goal.returns-in_default
 returns-in_default c =
