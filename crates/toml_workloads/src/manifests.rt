@@ -109,7 +109,7 @@ fn push_manifest(
     size: u64,
 ) -> Result<(), AllocError> {
     push_package(maker, text)?;
-    push_dependencies(maker, text, parts.dependencies.as_slice(), size % 4)?;
+    push_dependencies(maker, text, parts.dependencies.as_slice(), size)?;
     text.push_str("\n[features]\ndefault = [\"std\"]\nstd = []\n")?;
     push_parts(maker, text, parts.features.as_slice(), 2 + 4 * (size % 4))?;
     for _ in 0..size {
@@ -126,16 +126,14 @@ fn push_dependencies(
     text: &mut String,
     parts: &[String],
     size: u64,
-) -> Result<(), AllocError>
-    requires { size ≤ 3 }
-{
+) -> Result<(), AllocError> {
     if maker.one_of(3) {
         text.push_str("\n# What is needed for this part of the package.")?;
     }
     text.push_str("\n[dependencies]\n")?;
-    push_parts(maker, text, parts, 4 + 12 * size)?;
+    push_parts(maker, text, parts, 4 + 12 * (size % 4))?;
     text.push_str("\n[dev-dependencies]\n")?;
-    push_parts(maker, text, parts, 2 + 2 * size)
+    push_parts(maker, text, parts, 2 + 2 * (size % 4))
 }
 
 fn push_binary(maker: &mut Maker, text: &mut String) -> Result<(), AllocError> {
