@@ -15,21 +15,21 @@ pub fn rounds(alloc: Global, maker: &mut Maker, many: u32, digest: &mut Digest) 
 }
 
 fn round(alloc: Global, maker: &mut Maker, digest: &mut Digest) -> io::Result<()> {
-    take(digest, alloc, interleaved(alloc, maker)?.as_str())?;
-    take(digest, alloc, tables_below(alloc, maker)?.as_str())?;
-    take(digest, alloc, out_of_order(alloc, maker)?.as_str())?;
-    take(digest, alloc, arrays(alloc, maker)?.as_str())?;
-    take(digest, alloc, dotted(alloc, maker)?.as_str())?;
-    take(digest, alloc, escapes(alloc, maker)?.as_str())?;
+    let text = interleaved(alloc, maker)?;
+    take_table(digest, &read(alloc, text.as_str())?);
+    let text = tables_below(alloc, maker)?;
+    take_table(digest, &read(alloc, text.as_str())?);
+    let text = out_of_order(alloc, maker)?;
+    take_table(digest, &read(alloc, text.as_str())?);
+    let text = arrays(alloc, maker)?;
+    take_table(digest, &read(alloc, text.as_str())?);
+    let text = dotted(alloc, maker)?;
+    take_table(digest, &read(alloc, text.as_str())?);
+    let text = escapes(alloc, maker)?;
+    take_table(digest, &read(alloc, text.as_str())?);
     let mut text = tables_below(alloc, maker)?;
     text.push_str("last = 1a\n")?;
     refused(alloc, text.as_str(), digest)
-}
-
-// Reads a text, and takes in its table.
-fn take(digest: &mut Digest, alloc: Global, text: &str) -> io::Result<()> {
-    take_table(digest, &read(alloc, text)?);
-    Ok(())
 }
 
 // Reads a text that is refused, and takes in where.
@@ -52,137 +52,101 @@ fn interleaved(alloc: Global, maker: &mut Maker) -> Result<String, AllocError> {
     let mut text = String::new(alloc);
     for turn in 0..20 {
         for number in 0..60 {
-            push_part(maker, &mut text, turn, number)?;
+            text.push_str("[")?;
+            text.push_str(Maker::word_at(number))?;
+            text.push_str(".part")?;
+            push_decimal(&mut text, turn)?;
+            text.push_str("]\n")?;
+            push_rows(maker, &mut text, 2)?;
         }
     }
     Ok(text)
-}
-
-fn push_part(
-    maker: &mut Maker,
-    text: &mut String,
-    turn: u64,
-    number: u64,
-) -> Result<(), AllocError> {
-    text.push_str("[")?;
-    text.push_str(Maker::word_at(number))?;
-    text.push_str(".part")?;
-    push_decimal(text, turn)?;
-    text.push_str("]\n")?;
-    push_rows(maker, text, 2)
 }
 
 // An array of tables, each with tables and an array of tables below it.
 fn tables_below(alloc: Global, maker: &mut Maker) -> Result<String, AllocError> {
     let mut text = String::new(alloc);
     for _ in 0..200 {
-        push_rule(maker, &mut text)?;
+        text.push_str("[[rule]]\n")?;
+        push_rows(maker, &mut text, 2)?;
+        text.push_str("[rule.where]\n")?;
+        push_rows(maker, &mut text, 2)?;
+        let parts = maker.between(1, 3);
+        for _ in 0..parts {
+            text.push_str("[[rule.part]]\n")?;
+            push_rows(maker, &mut text, 1)?;
+        }
     }
     Ok(text)
-}
-
-fn push_rule(maker: &mut Maker, text: &mut String) -> Result<(), AllocError> {
-    text.push_str("[[rule]]\n")?;
-    push_rows(maker, text, 2)?;
-    text.push_str("[rule.where]\n")?;
-    push_rows(maker, text, 2)?;
-    let parts = maker.between(1, 3);
-    for _ in 0..parts {
-        text.push_str("[[rule.part]]\n")?;
-        push_rows(maker, text, 1)?;
-    }
-    Ok(())
 }
 
 // Tables whose outer tables come later.
 fn out_of_order(alloc: Global, maker: &mut Maker) -> Result<String, AllocError> {
     let mut text = String::new(alloc);
     for number in 0..400 {
-        push_inner(maker, &mut text, number)?;
+        text.push_str("[a")?;
+        push_decimal(&mut text, number)?;
+        text.push_str(".b.c]\n")?;
+        push_rows(maker, &mut text, 2)?;
     }
     for number in 0..400 {
-        push_outer(&mut text, 399 - number)?;
+        text.push_str("[a")?;
+        push_decimal(&mut text, 399 - number)?;
+        text.push_str("]\n")?;
+        for _ in 0..1 {
+            text.push_str("here = true\n")?;
+        }
     }
     Ok(text)
-}
-
-fn push_inner(maker: &mut Maker, text: &mut String, number: u64) -> Result<(), AllocError> {
-    text.push_str("[a")?;
-    push_decimal(text, number)?;
-    text.push_str(".b.c]\n")?;
-    push_rows(maker, text, 2)
-}
-
-fn push_outer(text: &mut String, number: u64) -> Result<(), AllocError> {
-    text.push_str("[a")?;
-    push_decimal(text, number)?;
-    text.push_str("]\nhere = true\n")
 }
 
 // Arrays in arrays, up to a hundred deep.
 fn arrays(alloc: Global, maker: &mut Maker) -> Result<String, AllocError> {
     let mut text = String::new(alloc);
     for number in 0..20 {
-        push_nest(maker, &mut text, number)?;
-        push_matrix(maker, &mut text, number)?;
+        text.push_str("deep")?;
+        push_decimal(&mut text, number)?;
+        text.push_str(" = ")?;
+        let depth = maker.between(1, 100);
+        for _ in 0..depth {
+            text.push('[')?;
+        }
+        maker.push_number(&mut text, 1000)?;
+        for _ in 0..depth {
+            text.push(']')?;
+        }
+        text.push_str("\nmatrix")?;
+        push_decimal(&mut text, number)?;
+        text.push_str(" = [\n")?;
+        for _ in 0..20 {
+            text.push_str("  [")?;
+            maker.push_number(&mut text, 1000)?;
+            text.push_str(", ")?;
+            maker.push_number(&mut text, 1000)?;
+            text.push_str(", ")?;
+            maker.push_number(&mut text, 1000)?;
+            text.push_str("],\n")?;
+        }
+        text.push_str("]\n")?;
     }
     Ok(text)
-}
-
-fn push_nest(maker: &mut Maker, text: &mut String, number: u64) -> Result<(), AllocError> {
-    text.push_str("deep")?;
-    push_decimal(text, number)?;
-    text.push_str(" = ")?;
-    let depth = maker.between(1, 100);
-    for _ in 0..depth {
-        text.push('[')?;
-    }
-    maker.push_number(text, 1000)?;
-    for _ in 0..depth {
-        text.push(']')?;
-    }
-    text.push('\n')
-}
-
-fn push_matrix(maker: &mut Maker, text: &mut String, number: u64) -> Result<(), AllocError> {
-    text.push_str("matrix")?;
-    push_decimal(text, number)?;
-    text.push_str(" = [\n")?;
-    for _ in 0..20 {
-        push_vector(maker, text)?;
-    }
-    text.push_str("]\n")
-}
-
-fn push_vector(maker: &mut Maker, text: &mut String) -> Result<(), AllocError> {
-    text.push_str("  [")?;
-    maker.push_number(text, 1000)?;
-    text.push_str(", ")?;
-    maker.push_number(text, 1000)?;
-    text.push_str(", ")?;
-    maker.push_number(text, 1000)?;
-    text.push_str("],\n")
 }
 
 // Dotted keys in many tables.
 fn dotted(alloc: Global, maker: &mut Maker) -> Result<String, AllocError> {
     let mut text = String::new(alloc);
     for number in 0..400 {
-        push_server(maker, &mut text, number)?;
+        text.push_str("server")?;
+        push_decimal(&mut text, number)?;
+        text.push_str(".address.port = ")?;
+        maker.push_number(&mut text, 65536)?;
+        text.push_str("\nserver")?;
+        push_decimal(&mut text, number)?;
+        text.push_str(".name = \"")?;
+        maker.push_words(&mut text, 2, "-")?;
+        text.push_str("\"\n")?;
     }
     Ok(text)
-}
-
-fn push_server(maker: &mut Maker, text: &mut String, number: u64) -> Result<(), AllocError> {
-    text.push_str("server")?;
-    push_decimal(text, number)?;
-    text.push_str(".address.port = ")?;
-    maker.push_number(text, 65536)?;
-    text.push_str("\nserver")?;
-    push_decimal(text, number)?;
-    text.push_str(".name = \"")?;
-    maker.push_words(text, 2, "-")?;
-    text.push_str("\"\n")
 }
 
 // Long strings of escapes, and long comments.
@@ -191,20 +155,15 @@ fn escapes(alloc: Global, maker: &mut Maker) -> Result<String, AllocError> {
     for number in 0..20 {
         text.push_str("# ")?;
         maker.push_words(&mut text, 60, " ")?;
-        text.push('\n')?;
-        push_texts(maker, &mut text, number)?;
+        text.push_str("\ntext")?;
+        push_decimal(&mut text, number)?;
+        text.push_str(" = \"")?;
+        maker.push_words(&mut text, 60, "\\n\\t\\u00e9")?;
+        text.push_str("\"\nlong")?;
+        push_decimal(&mut text, number)?;
+        text.push_str(" = \"\"\"\n")?;
+        maker.push_words(&mut text, 60, "\n")?;
+        text.push_str("\"\"\"\n")?;
     }
     Ok(text)
-}
-
-fn push_texts(maker: &mut Maker, text: &mut String, number: u64) -> Result<(), AllocError> {
-    text.push_str("text")?;
-    push_decimal(text, number)?;
-    text.push_str(" = \"")?;
-    maker.push_words(text, 60, "\\n\\t\\u00e9")?;
-    text.push_str("\"\nlong")?;
-    push_decimal(text, number)?;
-    text.push_str(" = \"\"\"\n")?;
-    maker.push_words(text, 60, "\n")?;
-    text.push_str("\"\"\"\n")
 }

@@ -5,7 +5,7 @@ use std::borrow::CowStr;
 use std::collections::BTreeMap;
 
 /// A manifest; what is not listed here is passed over.
-#[derive(Drop, Deserialize)]
+#[derive(Drop, Serialize, Deserialize)]
 #[serde(rename_all = "kebab-case")]
 pub struct Manifest<'a> {
     pub package: Package<'a>,
@@ -19,7 +19,7 @@ pub struct Manifest<'a> {
     pub bin: Vec<Binary<'a>>,
 }
 
-#[derive(Drop, Deserialize)]
+#[derive(Drop, Serialize, Deserialize)]
 #[serde(rename_all = "kebab-case")]
 pub struct Package<'a> {
     pub name: CowStr<'a>,
@@ -32,7 +32,7 @@ pub struct Package<'a> {
     pub keywords: Vec<CowStr<'a>>,
 }
 
-#[derive(Drop, Deserialize)]
+#[derive(Drop, Serialize, Deserialize)]
 #[serde(rename_all = "kebab-case")]
 pub struct Binary<'a> {
     pub name: CowStr<'a>,
@@ -40,14 +40,14 @@ pub struct Binary<'a> {
 }
 
 /// A version, or a table.
-#[derive(Drop, Deserialize)]
+#[derive(Drop, Serialize, Deserialize)]
 #[serde(untagged)]
 pub enum Dependency<'a> {
     Version(CowStr<'a>),
     Detailed(Detail<'a>),
 }
 
-#[derive(Drop, Deserialize)]
+#[derive(Drop, Serialize, Deserialize)]
 #[serde(rename_all = "kebab-case")]
 pub struct Detail<'a> {
     pub version: Option<CowStr<'a>>,
@@ -58,35 +58,28 @@ pub struct Detail<'a> {
 
 impl Manifest<'_> {
     pub fn take(&self, digest: &mut Digest) {
-        self.package.take(digest);
+        digest.text(self.package.name.as_str());
+        digest.text(self.package.version.as_str());
+        take_optional(digest, &self.package.edition);
+        take_optional(digest, &self.package.description);
+        take_texts(digest, self.package.authors.as_slice());
+        take_texts(digest, self.package.keywords.as_slice());
         for (name, features) in self.features.iter() {
             digest.text(name.as_str());
             take_texts(digest, features.as_slice());
         }
-        take_dependencies(digest, &self.dependencies);
-        take_dependencies(digest, &self.dev_dependencies);
+        for (name, dependency) in self.dependencies.iter() {
+            digest.text(name.as_str());
+            dependency.take(digest);
+        }
+        for (name, dependency) in self.dev_dependencies.iter() {
+            digest.text(name.as_str());
+            dependency.take(digest);
+        }
         for binary in self.bin.as_slice() {
             digest.text(binary.name.as_str());
             take_optional(digest, &binary.path);
         }
-    }
-}
-
-impl Package<'_> {
-    fn take(&self, digest: &mut Digest) {
-        digest.text(self.name.as_str());
-        digest.text(self.version.as_str());
-        take_optional(digest, &self.edition);
-        take_optional(digest, &self.description);
-        take_texts(digest, self.authors.as_slice());
-        take_texts(digest, self.keywords.as_slice());
-    }
-}
-
-fn take_dependencies(digest: &mut Digest, dependencies: &BTreeMap<CowStr<'_>, Dependency<'_>>) {
-    for (name, dependency) in dependencies.iter() {
-        digest.text(name.as_str());
-        dependency.take(digest);
     }
 }
 

@@ -34,36 +34,29 @@ fn lock(alloc: Global, maker: &mut Maker, many: u64) -> Result<String, AllocErro
         "# This file is made by a program.\n# It is not meant to be changed by hand.\nversion = 3\n",
     )?;
     for _ in 0..many {
-        push_package(maker, &mut text)?;
+        text.push_str("\n[[package]]\nname = \"")?;
+        maker.push_words(&mut text, 2, "-")?;
+        text.push_str("\"\nversion = \"")?;
+        maker.push_version(&mut text)?;
+        text.push_str(
+            "\"\nsource = \"registry+https://example.org/registry/index\"\nchecksum = \"",
+        )?;
+        maker.push_digits(&mut text, 8)?;
+        text.push_str("\"\n")?;
+        let needs = maker.between(0, 6);
+        if needs > 0 {
+            text.push_str("dependencies = [\n")?;
+            for _ in 0..needs {
+                text.push_str(" \"")?;
+                text.push_str(maker.word())?;
+                if maker.one_of(4) {
+                    text.push(' ')?;
+                    maker.push_version(&mut text)?;
+                }
+                text.push_str("\",\n")?;
+            }
+            text.push_str("]\n")?;
+        }
     }
     Ok(text)
-}
-
-fn push_package(maker: &mut Maker, text: &mut String) -> Result<(), AllocError> {
-    text.push_str("\n[[package]]\nname = \"")?;
-    maker.push_words(text, 2, "-")?;
-    text.push_str("\"\nversion = \"")?;
-    maker.push_version(text)?;
-    text.push_str("\"\nsource = \"registry+https://example.org/registry/index\"\nchecksum = \"")?;
-    maker.push_digits(text, 8)?;
-    text.push_str("\"\n")?;
-    let needs = maker.between(0, 6);
-    if needs > 0 {
-        push_needs(maker, text, needs)?;
-    }
-    Ok(())
-}
-
-fn push_needs(maker: &mut Maker, text: &mut String, needs: u64) -> Result<(), AllocError> {
-    text.push_str("dependencies = [\n")?;
-    for _ in 0..needs {
-        text.push_str(" \"")?;
-        text.push_str(maker.word())?;
-        if maker.one_of(4) {
-            text.push(' ')?;
-            maker.push_version(text)?;
-        }
-        text.push_str("\",\n")?;
-    }
-    text.push_str("]\n")
 }

@@ -45,18 +45,19 @@ impl Parts {
             comments: Vec::new(alloc),
         };
         for number in 0..640 {
-            parts.push(alloc, maker, number)?;
+            parts.dependencies.push(dependency(alloc, maker, number)?)?;
+            parts.features.push(feature(alloc, maker, number)?)?;
+            let mut rows = String::new(alloc);
+            let many = maker.between(1, 11);
+            push_rows(maker, &mut rows, many)?;
+            parts.tables.push(rows)?;
+            let mut comment = String::new(alloc);
+            comment.push_str("\n# ")?;
+            maker.push_words(&mut comment, 9, " ")?;
+            comment.push('\n')?;
+            parts.comments.push(comment)?;
         }
         Ok(parts)
-    }
-
-    // Appends one of each kind.
-    fn push(&mut self, alloc: Global, maker: &mut Maker, number: u64) -> Result<(), AllocError> {
-        self.dependencies.push(dependency(alloc, maker, number)?)?;
-        self.features.push(feature(alloc, maker, number)?)?;
-        self.tables.push(table(alloc, maker)?)?;
-        self.comments.push(comment(alloc, maker)?)?;
-        Ok(())
     }
 }
 
@@ -98,50 +99,43 @@ pub fn manifest(
     size: u64,
 ) -> Result<String, AllocError> {
     let mut text = String::with_capacity(alloc, 4096)?;
-    push_manifest(maker, &mut text, parts, size)?;
-    Ok(text)
-}
-
-fn push_manifest(
-    maker: &mut Maker,
-    text: &mut String,
-    parts: &Parts,
-    size: u64,
-) -> Result<(), AllocError> {
-    push_package(maker, text)?;
-    push_dependencies(maker, text, parts.dependencies.as_slice(), size)?;
-    text.push_str("\n[features]\ndefault = [\"std\"]\nstd = []\n")?;
-    push_parts(maker, text, parts.features.as_slice(), 2 + 4 * (size % 4))?;
-    for _ in 0..size {
-        push_binary(maker, text)?;
-    }
-    push_sections(maker, text, parts, 1 + 8 * (size % 4))?;
-    text.push_str(
-        "\n[profile.release]\nlto = true\ncodegen-units = 1\nopt-level = 3\npanic = \"abort\"\n",
-    )
-}
-
-fn push_dependencies(
-    maker: &mut Maker,
-    text: &mut String,
-    parts: &[String],
-    size: u64,
-) -> Result<(), AllocError> {
+    push_package(maker, &mut text)?;
     if maker.one_of(3) {
         text.push_str("\n# What is needed for this part of the package.")?;
     }
     text.push_str("\n[dependencies]\n")?;
-    push_parts(maker, text, parts, 4 + 12 * (size % 4))?;
+    push_parts(
+        maker,
+        &mut text,
+        parts.dependencies.as_slice(),
+        4 + 12 * (size % 4),
+    )?;
     text.push_str("\n[dev-dependencies]\n")?;
-    push_parts(maker, text, parts, 2 + 2 * (size % 4))
-}
-
-fn push_binary(maker: &mut Maker, text: &mut String) -> Result<(), AllocError> {
-    text.push_str("\n[[bin]]\nname = \"")?;
-    maker.push_words(text, 2, "-")?;
-    text.push_str("\"\npath = \"src/bin/")?;
-    maker.push_words(text, 2, "_")?;
-    text.push_str(".rs\"\nrequired-features = [\"std\", \"unicode\"]\n")
+    push_parts(
+        maker,
+        &mut text,
+        parts.dependencies.as_slice(),
+        2 + 2 * (size % 4),
+    )?;
+    text.push_str("\n[features]\ndefault = [\"std\"]\nstd = []\n")?;
+    push_parts(
+        maker,
+        &mut text,
+        parts.features.as_slice(),
+        2 + 4 * (size % 4),
+    )?;
+    for _ in 0..size {
+        text.push_str("\n[[bin]]\nname = \"")?;
+        maker.push_words(&mut text, 2, "-")?;
+        text.push_str("\"\npath = \"src/bin/")?;
+        maker.push_words(&mut text, 2, "_")?;
+        text.push_str(".rs\"\nrequired-features = [\"std\", \"unicode\"]\n")?;
+    }
+    push_sections(maker, &mut text, parts, 1 + 8 * (size % 4))?;
+    text.push_str(
+        "\n[profile.release]\nlto = true\ncodegen-units = 1\nopt-level = 3\npanic = \"abort\"\n",
+    )?;
+    Ok(text)
 }
 
 fn push_package(maker: &mut Maker, text: &mut String) -> Result<(), AllocError> {
@@ -153,10 +147,6 @@ fn push_package(maker: &mut Maker, text: &mut String) -> Result<(), AllocError> 
     maker.push_words(text, 2, " ")?;
     text.push_str(" <")?;
     maker.push_words(text, 2, "@")?;
-    push_description(maker, text)
-}
-
-fn push_description(maker: &mut Maker, text: &mut String) -> Result<(), AllocError> {
     text.push_str(".org>\"]\ndescription = \"")?;
     let many = maker.between(4, 8);
     maker.push_words(text, many, " ")?;
@@ -169,33 +159,23 @@ fn push_description(maker: &mut Maker, text: &mut String) -> Result<(), AllocErr
 
 fn dependency(alloc: Global, maker: &mut Maker, number: u64) -> Result<String, AllocError> {
     let mut text = String::new(alloc);
-    push_name(maker, &mut text, number)?;
-    push_requirement(maker, &mut text)?;
-    Ok(text)
-}
-
-fn push_name(maker: &mut Maker, text: &mut String, number: u64) -> Result<(), AllocError> {
     text.push_str(Maker::word_at(number))?;
     if maker.one_of(2) {
         text.push('-')?;
         text.push_str(maker.word())?;
     }
-    Ok(())
-}
-
-// The version that is needed, or a table of it.
-fn push_requirement(maker: &mut Maker, text: &mut String) -> Result<(), AllocError> {
     if maker.one_of(3) {
         text.push_str(" = { version = \"")?;
-        maker.push_version(text)?;
+        maker.push_version(&mut text)?;
         text.push_str("\", features = [\"")?;
-        maker.push_words(text, 2, "\", \"")?;
-        text.push_str("\"], default-features = false }\n")
+        maker.push_words(&mut text, 2, "\", \"")?;
+        text.push_str("\"], default-features = false }\n")?;
     } else {
         text.push_str(" = \"")?;
-        maker.push_version(text)?;
-        text.push_str("\"\n")
+        maker.push_version(&mut text)?;
+        text.push_str("\"\n")?;
     }
+    Ok(text)
 }
 
 fn feature(alloc: Global, maker: &mut Maker, number: u64) -> Result<String, AllocError> {
@@ -206,21 +186,6 @@ fn feature(alloc: Global, maker: &mut Maker, number: u64) -> Result<String, Allo
     maker.push_words(&mut text, words, "\", \"")?;
     text.push_str("\"]\n")?;
     Ok(text)
-}
-
-fn table(alloc: Global, maker: &mut Maker) -> Result<String, AllocError> {
-    let mut rows = String::new(alloc);
-    let many = maker.between(1, 11);
-    push_rows(maker, &mut rows, many)?;
-    Ok(rows)
-}
-
-fn comment(alloc: Global, maker: &mut Maker) -> Result<String, AllocError> {
-    let mut comment = String::new(alloc);
-    comment.push_str("\n# ")?;
-    maker.push_words(&mut comment, 9, " ")?;
-    comment.push('\n')?;
-    Ok(comment)
 }
 
 // Tables of tools, of a few rows each.
@@ -249,27 +214,16 @@ pub fn settings(alloc: Global, maker: &mut Maker, parts: &Parts) -> Result<Strin
     let first = maker.number();
     let start = maker.number();
     for i in 0..many {
-        push_table(&mut text, parts, first, start, i)?;
+        text.push_str(part_at(parts.comments.as_slice(), first.wrapping_add(i)))?;
+        text.push('[')?;
+        text.push_str(Maker::word_at(start.wrapping_add(i)))?;
+        text.push_str("]\n")?;
+        text.push_str(part_at(
+            parts.tables.as_slice(),
+            first.wrapping_mul(3).wrapping_add(i),
+        ))?;
     }
     Ok(text)
-}
-
-// A table of settings, below a comment.
-fn push_table(
-    text: &mut String,
-    parts: &Parts,
-    first: u64,
-    start: u64,
-    number: u64,
-) -> Result<(), AllocError> {
-    text.push_str(part_at(parts.comments.as_slice(), first.wrapping_add(number)))?;
-    text.push('[')?;
-    text.push_str(Maker::word_at(start.wrapping_add(number)))?;
-    text.push_str("]\n")?;
-    text.push_str(part_at(
-        parts.tables.as_slice(),
-        first.wrapping_mul(3).wrapping_add(number),
-    ))
 }
 
 /// Appends rows of values of all kinds.
@@ -279,54 +233,42 @@ pub fn push_rows(maker: &mut Maker, text: &mut String, many: u64) -> Result<(), 
         text.push_str(Maker::word_at(start.wrapping_add(i)))?;
         match maker.between(0, 8) {
             0 => text.push_str(" = true\n")?,
-            1 => push_integer(maker, text)?,
-            2 => push_float(maker, text)?,
-            3 => push_pair(maker, text)?,
-            4 => push_literal(maker, text)?,
-            5 => push_escapes(maker, text)?,
-            _ => push_sentence(maker, text)?,
+            1 => {
+                text.push_str(" = ")?;
+                maker.push_number(text, 100_000)?;
+                text.push('\n')?;
+            }
+            2 => {
+                text.push_str(" = ")?;
+                maker.push_number(text, 1000)?;
+                text.push('.')?;
+                maker.push_number(text, 1000)?;
+                text.push_str(" # seconds\n")?;
+            }
+            3 => {
+                text.push_str(" = [")?;
+                maker.push_number(text, 1000)?;
+                text.push_str(", ")?;
+                maker.push_number(text, 1000)?;
+                text.push_str("]\n")?;
+            }
+            4 => {
+                text.push_str(" = 'C:\\")?;
+                maker.push_words(text, 3, "\\")?;
+                text.push_str("'\n")?;
+            }
+            5 => {
+                text.push_str(" = \"")?;
+                maker.push_words(text, 2, "\\t")?;
+                text.push_str("\\n\" # a comment behind the value\n")?;
+            }
+            _ => {
+                text.push_str(" = \"")?;
+                let words = maker.between(1, 8);
+                maker.push_words(text, words, " ")?;
+                text.push_str("\"\n")?;
+            }
         }
     }
     Ok(())
-}
-
-fn push_integer(maker: &mut Maker, text: &mut String) -> Result<(), AllocError> {
-    text.push_str(" = ")?;
-    maker.push_number(text, 100_000)?;
-    text.push('\n')
-}
-
-fn push_float(maker: &mut Maker, text: &mut String) -> Result<(), AllocError> {
-    text.push_str(" = ")?;
-    maker.push_number(text, 1000)?;
-    text.push('.')?;
-    maker.push_number(text, 1000)?;
-    text.push_str(" # seconds\n")
-}
-
-fn push_pair(maker: &mut Maker, text: &mut String) -> Result<(), AllocError> {
-    text.push_str(" = [")?;
-    maker.push_number(text, 1000)?;
-    text.push_str(", ")?;
-    maker.push_number(text, 1000)?;
-    text.push_str("]\n")
-}
-
-fn push_literal(maker: &mut Maker, text: &mut String) -> Result<(), AllocError> {
-    text.push_str(" = 'C:\\")?;
-    maker.push_words(text, 3, "\\")?;
-    text.push_str("'\n")
-}
-
-fn push_escapes(maker: &mut Maker, text: &mut String) -> Result<(), AllocError> {
-    text.push_str(" = \"")?;
-    maker.push_words(text, 2, "\\t")?;
-    text.push_str("\\n\" # a comment behind the value\n")
-}
-
-fn push_sentence(maker: &mut Maker, text: &mut String) -> Result<(), AllocError> {
-    text.push_str(" = \"")?;
-    let words = maker.between(1, 8);
-    maker.push_words(text, words, " ")?;
-    text.push_str("\"\n")
 }

@@ -47,46 +47,33 @@ fn round_by_hand(alloc: Global, text: &str, digest: &mut Digest) -> io::Result<(
 pub fn records(alloc: Global, maker: &mut Maker, many: u64) -> Result<String, AllocError> {
     let mut text = String::new(alloc);
     for _ in 0..many {
-        push_record(maker, &mut text)?;
+        text.push_str("[[rec]]\nid = ")?;
+        maker.push_number(&mut text, 4_294_967_296)?;
+        text.push_str("\nname = \"")?;
+        maker.push_words(&mut text, 2, "_")?;
+        text.push_str(if maker.one_of(2) {
+            "\"\non = true\nsize = "
+        } else {
+            "\"\non = false\nsize = -"
+        })?;
+        maker.push_number(&mut text, 1_000_000_000)?;
+        if maker.one_of(2) {
+            text.push_str("\nnote = \"")?;
+            maker.push_words(&mut text, 4, " ")?;
+            text.push('"')?;
+        }
+        if maker.one_of(3) {
+            text.push_str("\nlimit = ")?;
+            maker.push_number(&mut text, 100_000)?;
+        }
+        let tags = maker.between(0, 4);
+        text.push_str("\ntags = [")?;
+        for i in 0..tags {
+            text.push_str(if i > 0 { ", \"" } else { "\"" })?;
+            text.push_str(maker.word())?;
+            text.push('"')?;
+        }
+        text.push_str("]\n\n")?;
     }
     Ok(text)
-}
-
-fn push_record(maker: &mut Maker, text: &mut String) -> Result<(), AllocError> {
-    text.push_str("[[rec]]\nid = ")?;
-    maker.push_number(text, 4_294_967_296)?;
-    text.push_str("\nname = \"")?;
-    maker.push_words(text, 2, "_")?;
-    text.push_str(if maker.one_of(2) {
-        "\"\non = true\nsize = "
-    } else {
-        "\"\non = false\nsize = -"
-    })?;
-    maker.push_number(text, 1_000_000_000)?;
-    push_options(maker, text)?;
-    push_tags(maker, text)
-}
-
-fn push_options(maker: &mut Maker, text: &mut String) -> Result<(), AllocError> {
-    if maker.one_of(2) {
-        text.push_str("\nnote = \"")?;
-        maker.push_words(text, 4, " ")?;
-        text.push('"')?;
-    }
-    if maker.one_of(3) {
-        text.push_str("\nlimit = ")?;
-        maker.push_number(text, 100_000)?;
-    }
-    Ok(())
-}
-
-fn push_tags(maker: &mut Maker, text: &mut String) -> Result<(), AllocError> {
-    let tags = maker.between(0, 4);
-    text.push_str("\ntags = [")?;
-    for i in 0..tags {
-        text.push_str(if i > 0 { ", \"" } else { "\"" })?;
-        text.push_str(maker.word())?;
-        text.push('"')?;
-    }
-    text.push_str("]\n\n")
 }
