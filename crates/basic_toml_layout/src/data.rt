@@ -17,8 +17,8 @@ use std::alloc::{AllocError, Global};
 pub use style::Style;
 use text::write_entries;
 
-/// The text of any table that is the whole value: its rows, and then its sections. Where it has no entry, asks for no
-/// memory.
+/// The text of any table that is the whole value: its rows, and then its sections. Where the table has no entry, it
+/// asks for no memory.
 pub fn document_text(alloc: Global, style: Style, table: &Table) -> Result<String, AllocError>
     ensures text { IfOk result (λ text. string_bytes text ≡ d.document_text (style_of style) (entries table.now)) }
     ensures memory { OnErr result (0 < length table.now) }

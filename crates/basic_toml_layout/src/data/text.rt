@@ -112,8 +112,8 @@ fn add_key(path: &mut String, key: &str) -> Result<(), AllocError>
     write_key(path, key)
 }
 
-/// Appends what stands below the header of a table that the keys of `path` lead to. Where it has no entry, asks for no
-/// memory.
+/// Appends what stands below the header of a table that the keys of `path` lead to. Where the table has no entry, it
+/// asks for no memory.
 #[cycle(sections)]
 pub fn write_entries(
     text: &mut String,
