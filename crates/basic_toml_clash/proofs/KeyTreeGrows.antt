@@ -1,6 +1,6 @@
 -- A row is followed by a tree, one key after another.
 use Rattle.std.proofs.Common.{◌≡◌, ◌⊎◌, inl, inr, ℕ, true, false, List, [], ◌∷◌, ◌++◌, refl, sym, ap, ◌∙◌, map, rules}
-use Rattle.std.proofs.Common.{Option, Some, None, option_map, Bool, Err}
+use Rattle.std.proofs.Common.{Option, Some, None, option_map, Bool, Result, Ok, Err}
 use Rattle.std.specs.List.{slice_get}
 use Rattle.std.specs.Option.{option_or}
 use Rattle.std.specs.Str.{bytes_eq}
@@ -13,8 +13,9 @@ use Rattle.basic_toml_clash.specs.declared.crossed.Crossed.{Crossed}
 use Rattle.basic_toml_clash.specs.declared.crossed.Crossed.TheVariants.{Memory, At}
 use Rattle.basic_toml_clash.specs.KeyTree.{Ends, ends_below, ends_from, ends_of, no_key_tree, value_on, Follows, FollowsTo}
 use Rattle.basic_toml_clash.proofs.ValuesOnTheWay.{same_on}
-use Rattle.basic_toml_value.specs.Growth.{with_value, values_of, EntersKey}
-use Rattle.basic_toml_value.proofs.KeysChanged.{value_at-map, stood_or_fresh, put_at, kept_elsewhere}
+use Rattle.basic_toml_value.specs.Growth.{with_value, values_of, FindsOrAdds}
+use Rattle.basic_toml_value.specs.declared.pairs.growth.Place.{Place}
+use Rattle.basic_toml_value.proofs.KeysChanged.{value_at-map, made_first, stood_or_fresh, put_at, kept_elsewhere}
 
 -- a tree by its parts
 pub key_tree_ends : (t : KeyTree)
@@ -24,13 +25,23 @@ key_tree_ends t = search (rules, the_lemmas)
 rolled : (x : KeyTree-F KeyTree) → out-KeyTree (roll-KeyTree x) ≡ x
 rolled x = search (rules, the_lemmas)
 
-pub rolled_end : (end : Option ℕ) (below : List (List ℕ × KeyTree))
-    → (out-KeyTree (roll-KeyTree (record { end = end; below = below }))).end ≡ end
-rolled_end end below = ap (λ x. x.end) (rolled (record { end = end; below = below }))
-
 pub rolled_below : (end : Option ℕ) (below : List (List ℕ × KeyTree))
     → (out-KeyTree (roll-KeyTree (record { end = end; below = below }))).below ≡ below
 rolled_below end below = ap (λ x. x.below) (rolled (record { end = end; below = below }))
+
+-- another tree stands at a position of those below
+abbrev pub filled : KeyTree → List (List ℕ × KeyTree) → ℕ → KeyTree → KeyTree
+filled t new i gone =
+    let mid = roll-KeyTree (record { end = (out-KeyTree t).end; below = new }) in
+    roll-KeyTree (record { end = (out-KeyTree mid).end; below = with_value (out-KeyTree mid).below i gone })
+
+filled_end : (t : KeyTree) (new : List (List ℕ × KeyTree)) (i : ℕ) (gone : KeyTree)
+    → (out-KeyTree (filled t new i gone)).end ≡ (out-KeyTree t).end
+filled_end t new i gone = search (rules, the_lemmas)
+
+filled_below : (t : KeyTree) (new : List (List ℕ × KeyTree)) (i : ℕ) (gone : KeyTree)
+    → (out-KeyTree (filled t new i gone)).below ≡ with_value new i gone
+filled_below t new i gone = search (rules, the_lemmas)
 
 -- nothing ends where no row is followed yet
 pub nowhere : (path : KeyTexts) → ends_of no_key_tree path ≡ None
@@ -145,53 +156,64 @@ module _ (before after there gone : Ends) (k : List ℕ) (at_none : before [] �
       told [] s at = absurd (cc)
       told (l ∷ p) s at = told_at l p s (bytes_eq l k) refl at
 
--- a tree where a key is entered, and what stands there taken out
-module _ (t fresh there : KeyTree) (k : List ℕ) (new : List (List ℕ × KeyTree)) (i : ℕ)
-    (is_fresh : (p : KeyTexts) → ends_of fresh p ≡ None)
-    (entered : EntersKey k fresh (out-KeyTree t).below new i) (stands : slice_get (values_of new) i ≡ Some there) where
-  stood : (p : KeyTexts) → ends_of t (k ∷ p) ≡ ends_of there p
-  stood p = ends_at_key t k p ∙ go (stood_or_fresh k fresh (out-KeyTree t).below new i entered there stands)
+-- a tree where a key is entered
+module _ {gives : KeyTree → Type 0} (t there : KeyTree) (k : List ℕ) (new : List (List ℕ × KeyTree)) (p : Place)
+    (e : FindsOrAdds gives k (out-KeyTree t).below new p) (fresh : (u : KeyTree) → gives u → u ≡ no_key_tree)
+    (stands : slice_get (values_of new) p.position ≡ Some there) where
+  stood : (path : KeyTexts) → ends_of t (k ∷ path) ≡ ends_of there path
+  stood path = ends_at_key t k path
+      ∙ go (stood_or_fresh k e.there (out-KeyTree t).below new p.position e.entered there stands)
     where
-      go : (value_at (out-KeyTree t).below k ≡ Some there) ⊎ ((value_at (out-KeyTree t).below k ≡ None) × (there ≡ fresh))
-          → ends_below (option_map ends_of (value_at (out-KeyTree t).below k)) p ≡ ends_of there p
-      go (inl at) = ap (λ o. ends_below (option_map ends_of o) p) at
-      go (inr new) =
-          ap (λ o. ends_below (option_map ends_of o) p) new.0
-          ∙ sym (ap (λ t. ends_of t p) new.1 ∙ is_fresh p)
+      go : (value_at (out-KeyTree t).below k ≡ Some there)
+          ⊎ ((value_at (out-KeyTree t).below k ≡ None) × (there ≡ e.there))
+          → ends_below (option_map ends_of (value_at (out-KeyTree t).below k)) path ≡ ends_of there path
+      go (inl at) = ap (λ o. ends_below (option_map ends_of o) path) at
+      go (inr none) =
+          ap (λ o. ends_below (option_map ends_of o) path) none.0
+          ∙ sym (ap (λ t. ends_of t path) (none.1
+          ∙ fresh e.there (made_first gives k (out-KeyTree t).below new p e none.0)) ∙ nowhere path)
 
   -- what went wrong below goes wrong here
-  pub fault_below : (out-KeyTree t).end ≡ None → (path : KeyTexts) (start : ℕ) (e : Crossed)
-      → FollowsTo there path start (Err e) → FollowsTo t (k ∷ path) start (Err e)
-  fault_below t_end path start Memory goes = tt
-  fault_below t_end path start (At at) goes =
+  pub fault_below : (out-KeyTree t).end ≡ None → (path : KeyTexts) (start : ℕ) (gone u : KeyTree) (e : Crossed)
+      → FollowsTo there path start gone (Err e) → FollowsTo t (k ∷ path) start u (Err e)
+  fault_below t_end path start gone u Memory goes = tt
+  fault_below t_end path start gone u (At at) goes =
       goes_deeper (ends_of t) (ends_of there) k (ap (λ e. e []) (key_tree_ends t) ∙ t_end) stood path ∙ goes
 
-  -- what has gone on is put in
-  module _ (held gone u : KeyTree) (t_end : (out-KeyTree t).end ≡ None) (u_end : (out-KeyTree u).end ≡ None)
-      (put : (out-KeyTree u).below ≡ with_value (with_value new i held) i gone) where
+  -- what has gone on stands there then
+  module _ (gone : KeyTree) (t_end : (out-KeyTree t).end ≡ None) where
+    abbrev u : KeyTree
+    u = filled t new p.position gone
+
     at_none : ends_of t [] ≡ None
     at_none = ap (λ e. e []) (key_tree_ends t) ∙ t_end
 
     still_none : ends_of u [] ≡ None
-    still_none = ap (λ e. e []) (key_tree_ends u) ∙ u_end
+    still_none = ap (λ e. e []) (key_tree_ends u) ∙ filled_end t new p.position gone ∙ t_end
 
-    stands_now : (p : KeyTexts) → ends_of u (k ∷ p) ≡ ends_of gone p
-    stands_now p =
-        ends_at_key u k p
-        ∙ ap (λ ps. ends_below (option_map ends_of (value_at ps k)) p) put
-        ∙ ap (λ o. ends_below (option_map ends_of o) p)
-        (put_at k fresh (out-KeyTree t).below new i entered there stands held gone)
+    stands_now : (path : KeyTexts) → ends_of u (k ∷ path) ≡ ends_of gone path
+    stands_now path =
+        ends_at_key u k path
+        ∙ ap (λ ps. ends_below (option_map ends_of (value_at ps k)) path) (filled_below t new p.position gone)
+        ∙ ap (λ o. ends_below (option_map ends_of o) path)
+        (put_at k e.there (out-KeyTree t).below new p.position e.entered there stands gone)
 
-    elsewhere : (l : List ℕ) (p : KeyTexts) → bytes_eq l k ≡ false → ends_of u (l ∷ p) ≡ ends_of t (l ∷ p)
-    elsewhere l p other =
-        ends_at_key u l p
-        ∙ ap (λ ps. ends_below (option_map ends_of (value_at ps l)) p) put
-        ∙ ap (λ o. ends_below (option_map ends_of o) p)
-        (kept_elsewhere k fresh (out-KeyTree t).below new i entered there stands held gone l other)
-        ∙ sym (ends_at_key t l p)
+    elsewhere : (l : List ℕ) (path : KeyTexts) → bytes_eq l k ≡ false → ends_of u (l ∷ path) ≡ ends_of t (l ∷ path)
+    elsewhere l path other =
+        ends_at_key u l path
+        ∙ ap (λ ps. ends_below (option_map ends_of (value_at ps l)) path) (filled_below t new p.position gone)
+        ∙ ap (λ o. ends_below (option_map ends_of o) path)
+        (kept_elsewhere k e.there (out-KeyTree t).below new p.position e.entered there stands gone l other)
+        ∙ sym (ends_at_key t l path)
 
     pub row_below : (path : KeyTexts) (start : ℕ) → Follows (ends_of there) (ends_of gone) path start
         → Follows (ends_of t) (ends_of u) (k ∷ path) start
     row_below path start follows =
         follows_deeper (ends_of t) (ends_of u) (ends_of there) (ends_of gone) k at_none still_none stood stands_now
         elsewhere path start follows
+
+    -- and so is what the whole way gives
+    pub row_on : (path : KeyTexts) (start : ℕ) (r : Result (Unit {0}) Crossed) → FollowsTo there path start gone r
+        → FollowsTo t (k ∷ path) start u r
+    row_on path start (Ok x) goes = row_below path start goes
+    row_on path start (Err e) goes = fault_below t_end path start gone u e goes

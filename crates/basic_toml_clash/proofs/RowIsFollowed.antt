@@ -79,7 +79,8 @@ module _ (all : Rows) (parents : List keys.Key) (r : Row) (rest : List Row) (tre
             (and_end passed.ends (texts keys_here) (lined_of r).start) left_here)) here;
       }
 
-  pub stopped : (e : Crossed) → FollowsTo tree own start (Err e) → Looks (crossed_between all) (Err e)
-  stopped Memory goes = tt
-  stopped (At at) goes = crossed_is ∙ ap (λ o. option_or o (crossed_after
+  pub stopped : (after : KeyTree) (e : Crossed) → FollowsTo tree own start after (Err e)
+      → Looks (crossed_between all) (Err e)
+  stopped after Memory goes = tt
+  stopped after (At at) goes = crossed_is ∙ ap (λ o. option_or o (crossed_after
       (and_end passed.ends (texts keys_here) (lined_of r).start) left_here)) (on_is ∙ goes)

@@ -44,7 +44,7 @@ pub record Follows (before after : Ends) (path : KeyTexts) (start : ℕ) : Type 
   pub told : (p : KeyTexts) (s : ℕ) → after p ≡ Some s → (before p ≡ Some s) ⊎ ((p ≡ path) × (s ≡ start))
 
 -- one more row is followed, or goes on from the value that begins there
-abbrev pub FollowsTo : KeyTree → KeyTexts → ℕ → Result KeyTree Crossed → Type 0
-FollowsTo before path start (Ok after) = Follows (ends_of before) (ends_of after) path start
-FollowsTo before path start (Err Memory) = ⊤
-FollowsTo before path start (Err (At at)) = value_on (ends_of before) path ≡ Some at
+abbrev pub FollowsTo : KeyTree → KeyTexts → ℕ → KeyTree → Result (Unit {0}) Crossed → Type 0
+FollowsTo before path start after (Ok _) = Follows (ends_of before) (ends_of after) path start
+FollowsTo before path start after (Err Memory) = ⊤
+FollowsTo before path start after (Err (At at)) = value_on (ends_of before) path ≡ Some at

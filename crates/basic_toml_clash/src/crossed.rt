@@ -10,7 +10,7 @@ ghost use Rattle.basic_toml_clash.specs.declared.crossed.Crossed.TheVariants.{Me
 
 use crate::simple::are_all_plain;
 use basic_toml_read::{Element, Key, Raw, Row, Section};
-use basic_toml_value::{Blank, Pairs};
+use basic_toml_value::Pairs;
 use std::alloc::{AllocError, Global};
 
 /// The keys of rows so far, and where the value begins that stands at their end.
@@ -37,10 +37,11 @@ impl From<AllocError> for Crossed {
     }
 }
 
-impl Blank for KeyTree {
-    ghost blank = { no_key_tree };
-
-    fn blank(alloc: Global) -> KeyTree {
+impl KeyTree {
+    // No row is followed yet.
+    fn new(alloc: Global) -> KeyTree
+        ensures { result ≡ no_key_tree }
+    {
         KeyTree {
             end: None,
             below: Pairs::new(alloc),
@@ -49,43 +50,37 @@ impl Blank for KeyTree {
 }
 
 // The keys of a row end here, whose value begins at `start`.
-fn ends(tree: KeyTree, start: usize) -> KeyTree
-    ensures { Follows (ends_of tree) (ends_of result) [] start }
+fn end_here(tree: &mut KeyTree, start: usize)
+    ensures { Follows (ends_of tree.old) (ends_of tree.new) [] start }
 {
-    KeyTree {
-        end: Some(tree.end.unwrap_or(start)),
-        below: tree.below,
-    }
+    tree.end = Some(tree.end.unwrap_or(start));
 }
 
 // Goes by the parents of a row that are left, and its last key. The row's value begins at `start`.
 fn follow(
     alloc: Global,
-    tree: KeyTree,
+    tree: &mut KeyTree,
     parents: &[Key<'_>],
     last: &str,
     start: usize,
-) -> Result<KeyTree, Crossed>
-    ensures { FollowsTo tree (header_texts parents.now ++ last.now ∷ []) start result }
+) -> Result<(), Crossed>
+    ensures { FollowsTo tree.old (header_texts parents.now ++ last.now ∷ []) start tree.new result }
 {
-    let KeyTree { end, below } = tree;
-    if let Some(end) = end {
+    if let Some(end) = tree.end {
         return Err(Crossed::At(end));
     }
-    let mut below = below;
     match parents.split_first() {
         None => {
-            let position = below.enter(last)?;
-            let there = below.replace(position, KeyTree::blank(alloc));
-            let _ = below.replace(position, ends(there, start));
-            Ok(KeyTree { end: None, below })
+            let place = tree.below.enter(last, |_| Ok(KeyTree::new(alloc)))?;
+            end_here(tree.below.value_mut(place.position), start);
+            Ok(())
         }
         Some((key, rest)) => {
-            let position = below.enter(key.text.as_str())?;
-            let there = below.replace(position, KeyTree::blank(alloc));
-            let followed = follow(alloc, there, rest, last, start)?;
-            let _ = below.replace(position, followed);
-            Ok(KeyTree { end: None, below })
+            let place = tree
+                .below
+                .enter(key.text.as_str(), |_| Ok(KeyTree::new(alloc)))?;
+            let there = tree.below.value_mut(place.position);
+            follow(alloc, there, rest, last, start)
         }
     }
 }
@@ -120,11 +115,11 @@ fn look_between<'de>(alloc: Global, parents: &[Key<'de>], rows: &[Row<'de>]) -> 
 fn follow_rows<'de>(alloc: Global, parents: &[Key<'de>], rows: &[Row<'de>]) -> Result<(), Crossed>
     ensures { Looks (crossed_between (rows_seen parents.now rows.now)) result }
 {
-    let mut tree = KeyTree::blank(alloc);
+    let mut tree = KeyTree::new(alloc);
     let mut left = parents;
     for row in rows {
         let own = row.own_parents(left);
-        tree = follow(alloc, tree, own, row.key.as_str(), row.start)?;
+        follow(alloc, &mut tree, own, row.key.as_str(), row.start)?;
         left = &left[own.len()..];
     }
     Ok(())

@@ -1,42 +1,36 @@
 -- The way of a header through tables and what stands in them, as contracts say it.
+use Rattle.std.specs.Prelude.{⊤}
 use Rattle.std.proofs.Common.{string_bytes, ◌≡◌, ℕ, suc, ◌+◌, ◌≤◌, Bool, true, false, List, [], ◌∷◌, map, Option, Some}
 use Rattle.std.proofs.Common.{None, refl, ap, sym, ◌∙◌, arith, rules, option_map, Vec, Box, Global, Result, Ok, Err}
 use Rattle.std.proofs.Common.{IsErrAnd, subst, length}
-use Rattle.basic_toml_read.specs.declared.section.Key as code
-use Rattle.basic_toml_read.specs.SectionView.{header_texts}
 use Rattle.std.specs.List.{slice_get}
 use Rattle.basic_toml_value.specs.Data.{Data, items_of}
 use Rattle.basic_toml_grammar.specs.Sections.{KeyTexts, Rows}
 use Rattle.basic_toml_grammar.specs.Mentions.{finished}
 use Rattle.basic_toml_clash.specs.Plain.{plain_array}
-use Rattle.basic_toml_grammar.specs.Trie.{Trie, nothing, no_tries, walk, steps_to, among}
+use Rattle.basic_toml_grammar.specs.Trie.{Trie, no_tries, walk, steps_to, among, find}
 use Rattle.basic_toml_grammar.specs.Steps.{key}
 use Rattle.basic_toml_clash.specs.declared.clash.Clash.{Clash}
-use Rattle.basic_toml_grow.specs.declared.item.Item.{the_lemmas, Nothing, Tables}
+use Rattle.basic_toml_grow.specs.declared.item.Item.{the_lemmas, Tables}
 use Rattle.basic_toml_grow.specs.declared.item.Item as items
 use Rattle.basic_toml_grow.specs.declared.item.Item.TheOpen.{Item-F, Table-F}
 use Rattle.basic_toml_grow.specs.declared.item.Item.TheViews.{roll-Item, out-Item, roll-out-Item, roll-Child, roll-Table}
 use Rattle.basic_toml_grow.specs.declared.item.Child.{Child, out-Child}
 use Rattle.basic_toml_grow.specs.declared.item.Table.{Table, out-Table}
-use Rattle.basic_toml_grow.specs.Item.{item_trie, child_trie, table_trie, tree_data, leaf, by_keys, no_child}
-use Rattle.basic_toml_value.specs.Growth.{EntersKey, with_value, values_of}
+use Rattle.basic_toml_grow.specs.Item.{item_trie, child_trie, table_trie, tree_data, leaf, by_keys, trie_before}
+use Rattle.basic_toml_value.specs.Growth.{FindsOrAdds, with_value, values_of}
+use Rattle.basic_toml_value.specs.declared.pairs.growth.Place.{Place}
 use Rattle.basic_toml_grow.specs.Headers.{IsIn, IsKeptOut, EntersHeader, EntersItem, entered_by, steps_by}
 use Rattle.basic_toml_grow.specs.Headers.{entered_at, steps_at}
 use Rattle.basic_toml_grow.specs.Simple.{with_entries}
-use Rattle.basic_toml_grow.proofs.KeysInATrie.{tries_of, stood_there, change_put_once, change_refused}
-use Rattle.basic_toml_grow.proofs.ItemTries.{child_item_trie, table_entries_trie, entries_with, no_child_trie}
-use Rattle.basic_toml_grow.proofs.HeadersInATrie.{made, fresh, array_of, is_in, is_kept_out}
-use Rattle.basic_toml_grow.proofs.HeadersInATrie.{walk_fresh, steps_fresh, walk_through, steps_through, enter_latest}
+use Rattle.basic_toml_grow.proofs.KeysInATrie.{tries_of, stood_there, change_put, change_refused}
+use Rattle.basic_toml_grow.proofs.ItemTries.{child_item_trie, table_entries_trie, entries_with}
+use Rattle.basic_toml_grow.proofs.HeadersInATrie.{made, array_of, is_in, is_kept_out}
+use Rattle.basic_toml_grow.proofs.HeadersInATrie.{walk_through, steps_through, enter_latest}
 use Rattle.basic_toml_grow.proofs.HeadersInATrie.{steps_latest, through, walk_barred}
-use Rattle.basic_toml_grow.proofs.TablesOpened.{tables_trie, nothing_trie, table_item_trie, numbered_fields}
+use Rattle.basic_toml_grow.proofs.TablesOpened.{tables_trie, table_item_trie, numbered_fields}
 
--- what a header does at a key, where nothing stands there, a table, or an array of tables
-pub into_fresh : (a : Bool) (rows : Rows) (keys : KeyTexts) (i : items.Item) (new : Trie) → i ≡ Nothing
-    → new ≡ fresh → entered_by a rows keys (item_trie i) ≡ walk a rows keys new
-into_fresh a rows keys i new is is_fresh =
-    ap (entered_by a rows keys) (ap item_trie is ∙ nothing_trie)
-    ∙ sym (walk_fresh a rows keys) ∙ ap (walk a rows keys) (sym is_fresh)
-
+-- what a header does at a key, where a table stands there, or an array of tables
 pub into_table : (a : Bool) (rows : Rows) (keys : KeyTexts) (i : items.Item) (t : Box Table Global)
     → i ≡ items.Table t → entered_by a rows keys (item_trie i) ≡ walk a rows keys (table_trie t.value)
 into_table a rows keys i t is =
@@ -52,12 +46,6 @@ into_latest a rows keys i b latest is =
     ap (entered_by a rows keys) (ap item_trie is ∙ tables_trie b latest)
     ∙ enter_latest a rows keys (map table_trie b.value.items) (table_trie latest.value)
 
-pub steps_into_fresh : (a : Bool) (keys : KeyTexts) (i : items.Item) (new : Trie) → i ≡ Nothing
-    → new ≡ fresh → steps_by a keys (item_trie i) ≡ suc (steps_to a keys new)
-steps_into_fresh a keys i new is is_fresh =
-    ap (steps_by a keys) (ap item_trie is ∙ nothing_trie)
-    ∙ ap suc (sym (steps_fresh a keys) ∙ ap (steps_to a keys) (sym is_fresh))
-
 pub steps_into_table : (a : Bool) (keys : KeyTexts) (i : items.Item) (t : Box Table Global)
     → i ≡ items.Table t → steps_by a keys (item_trie i) ≡ suc (steps_to a keys (table_trie t.value))
 steps_into_table a keys i t is =
@@ -71,21 +59,6 @@ pub steps_into_latest : (a : Bool) (keys : KeyTexts) (i : items.Item) (b : Box (
 steps_into_latest a keys i b latest is =
     ap (steps_by a keys) (ap item_trie is ∙ tables_trie b latest)
     ∙ steps_latest a keys (map table_trie b.value.items) (table_trie latest.value)
-
--- on by the keys that are left, where the key before them adds no element
-pub no_array : (a : Bool) (rows : Rows) (keys : KeyTexts) (level : ℕ) (t after : Trie) (r : Result (Unit {0}) Clash)
-    → a ≡ false → EntersItem (entered_by a rows keys t) rows (level + steps_by a keys t) after r
-    → EntersItem (entered_at a rows keys t) rows (level + steps_at a keys t) after r
-no_array true rows keys level t after r not is = cc
-no_array false rows keys level t after r not is = is
-
-pub not_last : (a : Bool) (rows : Rows) (keys : List code.Key) (level : ℕ) (t after : Trie) (r : Result (Unit {0}) Clash)
-    → 1 ≤ length keys
-    → EntersItem (entered_by a rows (header_texts keys) t) rows (level + steps_by a (header_texts keys) t) after r
-    → EntersItem (entered_at a rows (header_texts keys) t) rows (level + steps_at a (header_texts keys) t) after r
-not_last a rows [] level t after r some is = absurd (omega arith)
-not_last true rows (k ∷ keys) level t after r some is = is
-not_last false rows (k ∷ keys) level t after r some is = is
 
 -- what the exit of a `?` answers
 pub failed : {A : Type 0} (P : Result A Clash → Type 0) (result : Result A Clash) (clash : Clash)
@@ -118,10 +91,10 @@ pub holds_tables : (i : items.Item) (b : Box (Vec Table Global) Global) (latest 
 holds_tables i b latest is = ap item_trie is ∙ tables_trie b latest
 
 -- what is none of these is a value, which bars a header
-pub other_is_leaf : (i : items.Item) → (i ≡ Nothing → ⊥) → ((t : Box Table Global) → i ≡ items.Table t → ⊥)
+pub other_is_leaf : (i : items.Item) → ((t : Box Table Global) → i ≡ items.Table t → ⊥)
     → ((b : Box (Vec Table Global) Global) (latest : Box Table Global) → i ≡ Tables b latest → ⊥)
     → (d : Data) × (item_trie i ≡ leaf d)
-other_is_leaf i no_nothing no_table no_tables = go (out-Item i) refl
+other_is_leaf i no_table no_tables = go (out-Item i) refl
   where
     made : (x : Item-F items.Item Child Table) → out-Item i ≡ x → i ≡ roll-Item x
     made x e = sym (roll-out-Item i) ∙ ap roll-Item e
@@ -130,7 +103,6 @@ other_is_leaf i no_nothing no_table no_tables = go (out-Item i) refl
     is_leaf d e = (d, e)
 
     go : (x : Item-F items.Item Child Table) → out-Item i ≡ x → (d : Data) × (item_trie i ≡ leaf d)
-    go Item-F.Nothing e = absurd (no_nothing (made Item-F.Nothing e ∙ search (rules, the_lemmas)))
     go (Item-F.Integer z) e = is_leaf (Data.integer z) (ap item_trie (made (Item-F.Integer z) e)
         ∙ search (rules, the_lemmas))
     go (Item-F.Float text) e = is_leaf (Data.float text) (ap item_trie (made (Item-F.Float text) e)
@@ -159,68 +131,12 @@ pub value_bars : (a : Bool) (rows : Rows) (keys : KeyTexts) (i : items.Item) (d 
 value_bars a rows keys i d is = ap (entered_by a rows keys) is ∙ walk_barred a rows keys (Some d) no_tries
 
 pub other_bars : (a : Bool) (rows : Rows) (keys : KeyTexts) (i : items.Item)
-    → (i ≡ Nothing → ⊥) → ((t : Box Table Global) → i ≡ items.Table t → ⊥)
+    → ((t : Box Table Global) → i ≡ items.Table t → ⊥)
     → ((b : Box (Vec Table Global) Global) (latest : Box Table Global) → i ≡ Tables b latest → ⊥)
     → entered_by a rows keys (item_trie i) ≡ None
-other_bars a rows keys i no_nothing no_table no_tables =
-    let seen = other_is_leaf i no_nothing no_table no_tables in
+other_bars a rows keys i no_table no_tables =
+    let seen = other_is_leaf i no_table no_tables in
     value_bars a rows keys i seen.0 seen.1
-
--- a change at a key of a table that a header passes
-module _ (a : Bool) (rows : Rows) (k : List ℕ) (keys whole : KeyTexts) (level : ℕ) (t : Table) (blank : Child)
-    (new : List (List ℕ × Child)) (position : ℕ) (there : Child) (is_whole : whole ≡ k ∷ keys)
-    (is_nothing : child_trie blank ≡ nothing) (entered : EntersKey k blank (out-Table t).entries new position)
-    (stands : slice_get (values_of new) position ≡ Some there) where
-  walked : walk a rows whole (table_trie t)
-      ≡ through (out-Table t).named (out-Table t).dotted
-      (among (key k) (λ t. entered_at a rows keys t) (by_keys (tries_of child_trie (out-Table t).entries)))
-  walked =
-      ap (λ ks. walk a rows ks (table_trie t)) is_whole
-      ∙ ap (walk a rows (k ∷ keys)) (table_entries_trie t)
-      ∙ walk_through a rows k keys (out-Table t).passed (out-Table t).named (out-Table t).dotted
-      (by_keys (tries_of child_trie (out-Table t).entries))
-
-  steps : level + steps_to a whole (table_trie t) ≡ level + steps_at a keys (child_trie there)
-  steps = ap (λ n. level + n)
-      (ap (λ ks. steps_to a ks (table_trie t)) is_whole
-      ∙ ap (steps_to a (k ∷ keys)) (table_entries_trie t)
-      ∙ steps_through a k keys (out-Table t).passed (out-Table t).named (out-Table t).dotted
-      (by_keys (tries_of child_trie (out-Table t).entries))
-      ∙ ap (steps_at a keys)
-      (stood_there child_trie k blank (out-Table t).entries new position is_nothing entered there stands))
-
-  header_in : (u : Table) (child : Child) → (out-Table u).passed ≡ true
-      → (out-Table u).named ≡ (out-Table t).named → (out-Table u).dotted ≡ (out-Table t).dotted
-      → (out-Table u).entries ≡ with_value new position child
-      → IsIn (entered_at a rows keys (child_trie there)) rows (level + steps_at a keys (child_trie there))
-      (child_trie child)
-      → IsIn (walk a rows whole (table_trie t)) rows (level + steps_to a whole (table_trie t)) (table_trie u)
-  header_in u child passed named dotted entries is =
-      let after : made true (out-Table t).named (out-Table t).dotted (by_keys (tries_of child_trie (out-Table
-      u).entries))
-      ≡ table_trie u = rw (table_entries_trie u, passed, named, dotted) refl in
-      is_in (entered_at a rows keys (child_trie there)) (walk a rows whole (table_trie t)) rows
-      (level + steps_at a keys (child_trie there)) (level + steps_to a whole (table_trie t)) (child_trie child)
-      (table_trie u)
-      (walked
-      ∙ ap (through (out-Table t).named (out-Table t).dotted)
-      (change_put_once child_trie k blank (out-Table t).entries new position is_nothing entered there stands
-      (λ t. entered_at a rows keys t) child is.gives
-      ∙ ap (λ ps. Some (by_keys (tries_of child_trie ps))) (sym entries))
-      ∙ ap Some after)
-      steps is
-
-  header_out : (clash : Clash)
-      → IsKeptOut (entered_at a rows keys (child_trie there)) rows (level + steps_at a keys (child_trie there)) clash
-      → IsKeptOut (walk a rows whole (table_trie t)) rows (level + steps_to a whole (table_trie t)) clash
-  header_out clash out =
-      is_kept_out clash (entered_at a rows keys (child_trie there)) (walk a rows whole (table_trie t)) rows
-      (level + steps_at a keys (child_trie there)) (level + steps_to a whole (table_trie t))
-      (λ none. walked
-      ∙ ap (through (out-Table t).named (out-Table t).dotted)
-      (change_refused child_trie k blank (out-Table t).entries new position is_nothing entered there stands
-      (λ t. entered_at a rows keys t) none))
-      steps out
 
 -- a child with another item
 abbrev pub holding : Child → items.Item → Child
@@ -233,17 +149,25 @@ out_holding c i = search (rules, the_lemmas)
 holding_trie : (c : Child) (i : items.Item) → child_trie (holding c i) ≡ item_trie i
 holding_trie c i = child_item_trie (holding c i) ∙ ap (λ o. item_trie o.item) (out_holding c i)
 
--- A header passes a table by a key: the key is there, at this position, and another item stands at it then.
-pub record Passes (k : List ℕ) (old : Table) (position : ℕ) (there now : items.Item) (new : Table) : Type 0 where
+-- a key that is entered, with any child
+abbrev pub any_child : Child → Type 0
+any_child c = ⊤
+
+any_entered : {gives : Child → Type 0} {k : List ℕ} {old new : List (List ℕ × Child)} {p : Place}
+    → FindsOrAdds gives k old new p → FindsOrAdds any_child k old new p
+any_entered e = record { there = e.there; stands = e.stands; entered = e.entered; is_new = e.is_new; made = λ new. tt }
+
+-- A header passes a table by a key: the key is there or is new, at this place, and another item stands at it then.
+pub record Passes (k : List ℕ) (old : Table) (p : Place) (there now : items.Item) (new : Table) : Type 0 where
   pub passed : (out-Table new).passed ≡ true
   pub named : (out-Table new).named ≡ (out-Table old).named
   pub dotted : (out-Table new).dotted ≡ (out-Table old).dotted
   pub entries : List (List ℕ × Child)
-  pub entered : EntersKey k no_child (out-Table old).entries entries position
+  pub entered : FindsOrAdds any_child k (out-Table old).entries entries p
   pub child : Child
-  pub stands : slice_get (values_of entries) position ≡ Some child
+  pub stands : slice_get (values_of entries) p.position ≡ Some child
   pub item : (out-Child child).item ≡ there
-  pub left : (out-Table new).entries ≡ with_value entries position (holding child now)
+  pub left : (out-Table new).entries ≡ with_value entries p.position (holding child now)
 
 -- a table as the code changes it: a header passes it, and it gets the number of a section
 abbrev pub passed_fields : Table → Table-F items.Item Child Table
@@ -263,25 +187,25 @@ passed_marks : (t : Table) (new ps : List (List ℕ × Child)) (n : ℕ)
     × ((out-Table (with_entries (passed_table t new n) ps)).dotted ≡ (out-Table t).dotted)
 passed_marks t new ps n = (search (rules, the_lemmas), search (rules, the_lemmas), search (rules, the_lemmas))
 
-pub passes : (k : List ℕ) (t : Table) (new : List (List ℕ × Child)) (n position : ℕ) (child : Child)
-    (now : items.Item) → EntersKey k no_child (out-Table t).entries new position
-    → slice_get (values_of (out-Table (passed_table t new n)).entries) position ≡ Some child
-    → Passes k t position (out-Child child).item now
-    (with_entries (passed_table t new n) (with_value (out-Table (passed_table t new n)).entries position
+pub passes : {gives : Child → Type 0} (k : List ℕ) (t : Table) (new : List (List ℕ × Child)) (n : ℕ) (p : Place)
+    (child : Child) (now : items.Item) → FindsOrAdds gives k (out-Table t).entries new p
+    → slice_get (values_of (out-Table (passed_table t new n)).entries) p.position ≡ Some child
+    → Passes k t p (out-Child child).item now
+    (with_entries (passed_table t new n) (with_value (out-Table (passed_table t new n)).entries p.position
     (holding child now)))
-passes k t new n position child now entered stands =
-    let after = with_value (out-Table (passed_table t new n)).entries position (holding child now) in
+passes k t new n p child now entered stands =
+    let after = with_value (out-Table (passed_table t new n)).entries p.position (holding child now) in
     let marks = passed_marks t new after n in record {
       passed = marks.0;
       named = marks.1;
       dotted = marks.2;
       entries = new;
-      entered = entered;
+      entered = any_entered entered;
       child = child;
-      stands = sym (ap (λ es. slice_get (values_of es) position) (passed_entries t new n)) ∙ stands;
+      stands = sym (ap (λ es. slice_get (values_of es) p.position) (passed_entries t new n)) ∙ stands;
       item = refl;
       left = entries_with (passed_table t new n) after
-          ∙ ap (λ es. with_value es position (holding child now)) (passed_entries t new n);
+          ∙ ap (λ es. with_value es p.position (holding child now)) (passed_entries t new n);
     }
 
 pub passed_number : (t : Table) (new : List (List ℕ × Child)) (n position : ℕ) (child : Child) (now : items.Item)
@@ -289,20 +213,70 @@ pub passed_number : (t : Table) (new : List (List ℕ × Child)) (n position : �
     (holding child now)))).section ≡ n
 passed_number t new n position child now = search (rules, the_lemmas)
 
-pub passed_trie : (k : List ℕ) (t u : Table) (position : ℕ) (there now : items.Item)
-    (pass : Passes k t position there now u) → child_trie pass.child ≡ item_trie there
-passed_trie k t u position there now pass = child_item_trie pass.child ∙ ap item_trie pass.item
-
 -- a table that a header passes, where the section is entered below it, and where it is not
-pub passed_by : (a : Bool) (rows : Rows) (k : List ℕ) (keys whole : KeyTexts) (level : ℕ) (t u : Table) (position : ℕ)
-    (there now : items.Item) (r : Result (Unit {0}) Clash) → whole ≡ k ∷ keys → Passes k t position there now u
-    → EntersItem (entered_at a rows keys (item_trie there)) rows (level + steps_at a keys (item_trie there))
-    (item_trie now) r
-    → EntersHeader a rows whole level (table_trie t) (table_trie u) r
-passed_by a rows k keys whole level t u position there now (Ok x) is_whole pass is =
-    header_in a rows k keys whole level t no_child pass.entries position pass.child is_whole no_child_trie pass.entered
-    pass.stands u (holding pass.child now) pass.passed pass.named pass.dotted pass.left
-    (rw (passed_trie k t u position there now pass, holding_trie pass.child now) is)
-passed_by a rows k keys whole level t u position there now (Err clash) is_whole pass out =
-    header_out a rows k keys whole level t no_child pass.entries position pass.child is_whole no_child_trie pass.entered
-    pass.stands clash (rw (passed_trie k t u position there now pass) out)
+module _ (a : Bool) (rows : Rows) (k : List ℕ) (keys whole : KeyTexts) (level : ℕ) (t u : Table) (p : Place)
+    (there now : items.Item) (is_whole : whole ≡ k ∷ keys) (pass : Passes k t p there now u) where
+  abbrev before : Trie
+  before = trie_before p.is_new (item_trie there)
+
+  -- what stood at the key
+  pub passed_before : find (key k) (by_keys (tries_of child_trie (out-Table t).entries)) ≡ before
+  passed_before =
+      stood_there child_trie k (out-Table t).entries pass.entries p pass.entered pass.child pass.stands
+      ∙ ap (trie_before p.is_new) (child_item_trie pass.child ∙ ap item_trie pass.item)
+
+  walked : walk a rows whole (table_trie t)
+      ≡ through (out-Table t).named (out-Table t).dotted
+      (among (key k) (λ t. entered_at a rows keys t) (by_keys (tries_of child_trie (out-Table t).entries)))
+  walked =
+      ap (λ ks. walk a rows ks (table_trie t)) is_whole
+      ∙ ap (walk a rows (k ∷ keys)) (table_entries_trie t)
+      ∙ walk_through a rows k keys (out-Table t).passed (out-Table t).named (out-Table t).dotted
+      (by_keys (tries_of child_trie (out-Table t).entries))
+
+  steps : level + steps_to a whole (table_trie t) ≡ level + steps_at a keys before
+  steps = ap (λ n. level + n)
+      (ap (λ ks. steps_to a ks (table_trie t)) is_whole
+      ∙ ap (steps_to a (k ∷ keys)) (table_entries_trie t)
+      ∙ steps_through a k keys (out-Table t).passed (out-Table t).named (out-Table t).dotted
+      (by_keys (tries_of child_trie (out-Table t).entries))
+      ∙ ap (steps_at a keys) passed_before)
+
+  child_before : trie_before p.is_new (child_trie pass.child) ≡ before
+  child_before = ap (trie_before p.is_new) (child_item_trie pass.child ∙ ap item_trie pass.item)
+
+  header_in : IsIn (entered_at a rows keys before) rows (level + steps_at a keys before) (item_trie now)
+      → IsIn (walk a rows whole (table_trie t)) rows (level + steps_to a whole (table_trie t)) (table_trie u)
+  header_in is =
+      let after : made true (out-Table t).named (out-Table t).dotted (by_keys (tries_of child_trie (out-Table
+      u).entries))
+      ≡ table_trie u = rw (table_entries_trie u, pass.passed, pass.named, pass.dotted) refl in
+      is_in (entered_at a rows keys before) (walk a rows whole (table_trie t)) rows
+      (level + steps_at a keys before) (level + steps_to a whole (table_trie t)) (item_trie now)
+      (table_trie u)
+      (walked
+      ∙ ap (through (out-Table t).named (out-Table t).dotted)
+      (change_put child_trie k (out-Table t).entries pass.entries p pass.entered pass.child pass.stands
+      (λ t. entered_at a rows keys t) (holding pass.child now)
+      (ap (entered_at a rows keys) child_before ∙ is.gives ∙ ap Some (sym (holding_trie pass.child now)))
+      ∙ ap (λ ps. Some (by_keys (tries_of child_trie ps))) (sym pass.left))
+      ∙ ap Some after)
+      steps is
+
+  header_out : (clash : Clash)
+      → IsKeptOut (entered_at a rows keys before) rows (level + steps_at a keys before) clash
+      → IsKeptOut (walk a rows whole (table_trie t)) rows (level + steps_to a whole (table_trie t)) clash
+  header_out clash out =
+      is_kept_out clash (entered_at a rows keys before) (walk a rows whole (table_trie t)) rows
+      (level + steps_at a keys before) (level + steps_to a whole (table_trie t))
+      (λ none. walked
+      ∙ ap (through (out-Table t).named (out-Table t).dotted)
+      (change_refused child_trie k (out-Table t).entries pass.entries p pass.entered pass.child pass.stands
+      (λ t. entered_at a rows keys t) (ap (entered_at a rows keys) child_before ∙ none)))
+      steps out
+
+  pub passed_by : (r : Result (Unit {0}) Clash)
+      → EntersItem (entered_at a rows keys before) rows (level + steps_at a keys before) (item_trie now) r
+      → EntersHeader a rows whole level (table_trie t) (table_trie u) r
+  passed_by (Ok x) is = header_in is
+  passed_by (Err clash) out = header_out clash out

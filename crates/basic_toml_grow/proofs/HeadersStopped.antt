@@ -16,19 +16,20 @@ use Rattle.basic_toml_grammar.specs.Stops.{Stop, at_header, is_named, is_passed,
 use Rattle.basic_toml_grammar.specs.Marks.{added}
 use Rattle.basic_toml_clash.specs.Clash.{Obstacle, too_deep, in_the_way, NamesObstacle}
 use Rattle.basic_toml_clash.specs.declared.clash.Clash.TheVariants.{Header, Named, Redefined}
-use Rattle.basic_toml_grow.specs.declared.item.Item.{Nothing, Tables}
+use Rattle.basic_toml_grow.specs.declared.item.Item.{Tables}
 use Rattle.basic_toml_grow.specs.declared.item.Item as items
 use Rattle.basic_toml_grow.specs.declared.item.Table.{Table, out-Table}
-use Rattle.basic_toml_grow.specs.Item.{item_trie, child_trie, table_trie, by_keys, by_numbers, leaf, no_child}
+use Rattle.basic_toml_grow.specs.Item.{item_trie, child_trie, table_trie, by_keys, by_numbers, leaf, trie_before}
+use Rattle.basic_toml_value.specs.declared.pairs.growth.Place.{Place}
 use Rattle.basic_toml_grow.specs.Obstacles.{above, table_obstacle, element_obstacle, keys_obstacle}
 use Rattle.basic_toml_grow.specs.Headers.{highest, steps_by, IsKeptOut, obstacle_by, obstacle_at, table_clash}
-use Rattle.basic_toml_grow.proofs.HeadersEntered.{Passes, passed_trie}
-use Rattle.basic_toml_grow.proofs.KeysInATrie.{tries_of, stood_there}
-use Rattle.basic_toml_grow.proofs.ItemTries.{table_entries_trie, no_child_trie}
+use Rattle.basic_toml_grow.proofs.HeadersEntered.{Passes, passed_before}
+use Rattle.basic_toml_grow.proofs.KeysInATrie.{tries_of}
+use Rattle.basic_toml_grow.proofs.ItemTries.{table_entries_trie}
 use Rattle.basic_toml_clash.proofs.HeadersNamed.{texts_count}
 use Rattle.basic_toml_grow.proofs.LatestInATrie.{find_latest}
 use Rattle.basic_toml_grow.proofs.HeadersInATrie.{made, fresh, array_of}
-use Rattle.basic_toml_grow.proofs.TablesOpened.{tables_trie, nothing_trie, table_item_trie}
+use Rattle.basic_toml_grow.proofs.TablesOpened.{tables_trie, table_item_trie}
 use Rattle.basic_toml_grow.proofs.ObstaclesPassOn.{behind_low, behind_high}
 
 -- a header's step at a key of a table
@@ -40,19 +41,18 @@ met_through false rows k [] l p n d ts = refl
 met_through true rows k (m ∷ keys) l p n d ts = refl
 met_through false rows k (m ∷ keys) l p n d ts = refl
 
-pub passed_met : (a : Bool) (rows : Rows) (k : List ℕ) (keys whole : KeyTexts) (l : ℕ) (t u : Table) (position : ℕ)
-    (there now : items.Item) → l ≤ nesting_limit → whole ≡ k ∷ keys → Passes k t position there now u
-    → keys_obstacle a rows whole l (table_trie t) ≡ obstacle_at a rows keys (l + 1) (item_trie there)
-passed_met a rows k keys whole l t u position there now within is_whole pass =
+pub passed_met : (a : Bool) (rows : Rows) (k : List ℕ) (keys whole : KeyTexts) (l : ℕ) (t u : Table) (p : Place)
+    (there now : items.Item) → l ≤ nesting_limit → whole ≡ k ∷ keys → Passes k t p there now u
+    → keys_obstacle a rows whole l (table_trie t)
+    ≡ obstacle_at a rows keys (l + 1) (trie_before p.is_new (item_trie there))
+passed_met a rows k keys whole l t u p there now within is_whole pass =
     let f = out-Table t in
     let ts = by_keys (tries_of child_trie f.entries) in
     ap (λ (ks : KeyTexts). keys_obstacle a rows ks l (table_trie t)) is_whole
     ∙ ap (keys_obstacle a rows (k ∷ keys) l) (table_entries_trie t)
     ∙ met_through a rows k keys l f.passed f.named f.dotted ts
     ∙ behind_low l (obstacle_at a rows keys (l + 1) (find (key k) ts)) within
-    ∙ ap (obstacle_at a rows keys (l + 1))
-    (stood_there child_trie k no_child f.entries pass.entries position no_child_trie pass.entered pass.child pass.stands
-    ∙ passed_trie k t u position there now pass)
+    ∙ ap (obstacle_at a rows keys (l + 1)) (passed_before a rows k keys whole l t u p there now is_whole pass)
 
 -- a table above the limit
 pub deep_met : (a : Bool) (rows : Rows) (keys : KeyTexts) (l : ℕ) (t : Trie) → nesting_limit < l
@@ -68,13 +68,7 @@ met_fresh a rows [] l = refl
 met_fresh a rows (k ∷ []) l = refl
 met_fresh a rows (k ∷ m ∷ keys) l = refl
 
--- what a header meets at a key, where nothing stands there, a table, or an array of tables
-pub met_in_fresh : (a : Bool) (rows : Rows) (keys : KeyTexts) (l : ℕ) (i : items.Item) (new : Trie)
-    → i ≡ Nothing → new ≡ fresh → obstacle_by a rows keys l (item_trie i) ≡ keys_obstacle a rows keys l new
-met_in_fresh a rows keys l i new is is_fresh =
-    ap (obstacle_by a rows keys l) (ap item_trie is ∙ nothing_trie)
-    ∙ sym (met_fresh a rows keys l) ∙ ap (keys_obstacle a rows keys l) (sym is_fresh)
-
+-- what a header meets at a key, where a table stands there, or an array of tables
 pub met_in_table : (a : Bool) (rows : Rows) (keys : KeyTexts) (l : ℕ) (i : items.Item) (t : Box Table Global)
     → i ≡ items.Table t → obstacle_by a rows keys l (item_trie i) ≡ keys_obstacle a rows keys l (table_trie t.value)
 met_in_table a rows keys l i t is =
@@ -118,18 +112,6 @@ value_met a rows [] l d within = behind_low l _ within
 value_met a rows (k ∷ []) l d within = behind_low l _ within
 value_met a rows (k ∷ m ∷ keys) l d within = behind_low l _ within
 
--- what does not add an element goes on by the keys that are left
-pub no_array_met : (a : Bool) (rows : Rows) (keys : KeyTexts) (l : ℕ) (t : Trie) → a ≡ false
-    → obstacle_at a rows keys l t ≡ obstacle_by a rows keys l t
-no_array_met true rows keys l t not = cc
-no_array_met false rows keys l t not = refl
-
-pub not_last_met : (a : Bool) (rows : Rows) (keys : List code.Key) (l : ℕ) (t : Trie) → 1 ≤ length keys
-    → obstacle_at a rows (header_texts keys) l t ≡ obstacle_by a rows (header_texts keys) l t
-not_last_met a rows [] l t some = absurd (omega arith)
-not_last_met true rows (k ∷ keys) l t some = refl
-not_last_met false rows (k ∷ keys) l t some = refl
-
 pub value_stopped : (a : Bool) (rows : Rows) (keys : List code.Key) (l : ℕ) (i : items.Item) (d : Data)
     → l ≤ nesting_limit → item_trie i ≡ leaf d
     → NamesObstacle (obstacle_by a rows (header_texts keys) l (item_trie i)) (Header (length keys + 1))
@@ -160,16 +142,16 @@ find_next : (k n : ℕ) (before : List Trie) → n ≡ k + length before → fin
 find_next k n [] e = refl
 find_next k n (b ∷ before) e = rw (nat_eq-other k n (omega arith)) (find_next (suc k) n before (omega arith))
 
-module _ (rows : Rows) (l m : ℕ) (same : m ≡ l + 1) (i : items.Item) (new : Trie) (is_fresh : new ≡ fresh) where
-  opened : option_or (above l) (table_obstacle (l + 1) rows nothing) ≡ table_obstacle m rows new
+module _ (rows : Rows) (l : ℕ) (i : items.Item) (new : Trie) (is_fresh : new ≡ fresh) where
+  opened : option_or (above l) (table_obstacle (l + 1) rows nothing) ≡ table_obstacle (l + 1) rows new
   opened = array_aside false rows [] l nothing ∙ sym (met_fresh false rows [] (l + 1))
-      ∙ ap (λ (n : ℕ). table_obstacle n rows fresh) (sym same) ∙ ap (table_obstacle m rows) (sym is_fresh)
+      ∙ ap (table_obstacle (l + 1) rows) (sym is_fresh)
 
-  pub first_met : i ≡ Nothing → element_obstacle l rows (item_trie i) ≡ table_obstacle m rows new
-  first_met is = ap (element_obstacle l rows) (ap item_trie is ∙ nothing_trie) ∙ opened
+  pub first_met : element_obstacle l rows nothing ≡ table_obstacle (l + 1) rows new
+  first_met = opened
 
   pub next_met : (b : Box (Vec Table Global) Global) (latest : Box Table Global) → i ≡ Tables b latest
-      → element_obstacle l rows (item_trie i) ≡ table_obstacle m rows new
+      → element_obstacle l rows (item_trie i) ≡ table_obstacle (l + 1) rows new
   next_met b latest is =
       let before = map table_trie b.value.items in
       let t = table_trie latest.value in

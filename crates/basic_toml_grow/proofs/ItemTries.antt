@@ -1,22 +1,19 @@
 -- The tries of items, one level at a time.
 use Rattle.std.proofs.Common.{◌≡◌, List, ℕ, Some, None, Box, Global, rules}
 use Rattle.basic_toml_grammar.specs.Standing as standings
-use Rattle.basic_toml_grammar.specs.Trie.{trie, nothing, standing}
+use Rattle.basic_toml_grammar.specs.Trie.{trie, standing}
 use Rattle.basic_toml_grow.specs.declared.item.Item.{the_lemmas}
 use Rattle.basic_toml_grow.specs.declared.item.Item as items
 use Rattle.basic_toml_grow.specs.declared.item.Item.TheViews.{roll-Child}
 use Rattle.basic_toml_grow.specs.declared.item.Child.{Child, out-Child}
 use Rattle.basic_toml_grow.specs.declared.item.Table.{Table, out-Table}
-use Rattle.basic_toml_grow.specs.Item.{item_trie, child_trie, table_trie, by_keys, no_child}
+use Rattle.basic_toml_grow.specs.Item.{item_trie, child_trie, table_trie, by_keys}
 use Rattle.basic_toml_grow.specs.Simple.{with_entries}
 use Rattle.basic_toml_grow.proofs.KeysInATrie.{tries_of}
 
 -- the trie of a child is that of its item
 pub child_item_trie : (c : Child) → child_trie c ≡ item_trie (out-Child c).item
 child_item_trie c = search (rules, the_lemmas)
-
-pub no_child_trie : child_trie no_child ≡ nothing
-no_child_trie = search (rules, the_lemmas)
 
 -- the trie of a table has what is said of it, and the tries of its entries by their keys
 pub table_entries_trie : (t : Table)

@@ -1,5 +1,5 @@
 -- What an item is, as it is made, and what stands in the trie where it is.
-use Rattle.std.proofs.Common.{◌≡◌, Bool, true, false, Option, Some, None, refl, ap, sym, ◌∙◌, subst, rules}
+use Rattle.std.proofs.Common.{◌≡◌, Bool, true, false, Option, Some, refl, ap, sym, ◌∙◌, subst, rules}
 use Rattle.basic_toml_grammar.specs.Standing.{Standing, array, value}
 use Rattle.basic_toml_grammar.specs.Trie.{standing}
 use Rattle.basic_toml_grow.specs.declared.item.Item.{Item, out-Item, the_lemmas}
@@ -20,13 +20,11 @@ shape i x is = let whole : roll-Item (out-Item i) ≡ i = search (rules, the_lem
 
 -- what stands where an item is
 abbrev pub item_standing : Item-F Item Child Table → Option Standing → Type 0
-item_standing Item-F.Nothing o = o ≡ None
 item_standing (Item-F.Table t) o = o ≡ standing (table_trie t.value)
 item_standing (Item-F.Tables before latest) o = stands_array o ≡ true
 item_standing _ o = o ≡ Some value
 
 stands_item : (x : Item-F Item Child Table) → item_standing x (standing (item_trie (roll-Item x)))
-stands_item Item-F.Nothing = search (rules, the_lemmas)
 stands_item (Item-F.Integer z) = search (rules, the_lemmas)
 stands_item (Item-F.Float z) = search (rules, the_lemmas)
 stands_item (Item-F.Boolean z) = search (rules, the_lemmas)

@@ -3,15 +3,18 @@ use Rattle.std.proofs.Common.{◌≡◌, ℕ, suc, zero, true, false, ◌||◌, 
 use Rattle.std.proofs.Common.{if◌then◌else◌}
 use Rattle.std.proofs.Common.{ap, ◌∙◌, Option, Some, None, map, Bool}
 use Rattle.std.specs.List.{slice_get}
+use Rattle.std.specs.Prelude.{not}
 use Rattle.std.specs.Str.{bytes_eq}
+use Rattle.std.proofs.lemmas.Bool.{false≢true}
 use Rattle.std.proofs.lemmas.List.{map-append}
 use Rattle.basic_toml_value.specs.Keys.{is_among}
 use Rattle.basic_toml_value.specs.Pairs.{keys_of, has_key}
 use Rattle.basic_toml_value.proofs.DistinctKeys.{bytes_eq-same, bytes_eq_other}
 use Rattle.basic_toml_grammar.specs.Steps as steps
 use Rattle.basic_toml_grammar.specs.Trie.{Trie, nothing, among, find}
-use Rattle.basic_toml_grow.specs.Item.{by_keys}
-use Rattle.basic_toml_value.specs.Growth.{with_value, values_of, EntersKey}
+use Rattle.basic_toml_grow.specs.Item.{by_keys, trie_before}
+use Rattle.basic_toml_value.specs.Growth.{with_value, values_of, FindsOrAdds}
+use Rattle.basic_toml_value.specs.declared.pairs.growth.Place.{Place}
 
 -- keys with their tries
 abbrev Pairs : Type 0
@@ -66,27 +69,48 @@ found_first (p ∷ ps) (suc i) k t at first there =
     let other = differs k p.0 (take i (keys_of ps)) first in
     rw (other.0) (found_first ps i k t at other.1 there)
 
--- where nothing stands at a key that is put last, nothing is changed
-among_fresh : (ps : Pairs) (k : List ℕ) (g : Trie → Option Trie) → has_key ps k ≡ false
-    → among (steps.key k) g (by_keys (ps ++ (k, nothing) ∷ [])) ≡ among (steps.key k) g (by_keys ps)
-among_fresh [] k g absent = rw (bytes_eq-same k) refl
-among_fresh (p ∷ ps) k g absent =
+-- a change at a key that is none of these puts it last
+among_added : (ps : Pairs) (k : List ℕ) (u : Trie) (g : Trie → Option Trie) → has_key ps k ≡ false
+    → g nothing ≡ Some u → among (steps.key k) g (by_keys ps) ≡ Some (by_keys (ps ++ (k, u) ∷ []))
+among_added [] k u g absent changed = rw changed refl
+among_added (p ∷ ps) k u g absent changed =
     let other = differs k p.0 (keys_of ps) absent in
-    rw (other.0, among_fresh ps k g other.1) refl
+    rw (other.0, among_added ps k u g other.1 changed) refl
 
-find_fresh : (ps : Pairs) (k : List ℕ) → has_key ps k ≡ false
-    → find (steps.key k) (by_keys (ps ++ (k, nothing) ∷ [])) ≡ find (steps.key k) (by_keys ps)
-find_fresh [] k absent = rw (bytes_eq-same k) refl
-find_fresh (p ∷ ps) k absent =
+none_added : (ps : Pairs) (k : List ℕ) (g : Trie → Option Trie) → has_key ps k ≡ false → g nothing ≡ None
+    → among (steps.key k) g (by_keys ps) ≡ None
+none_added [] k g absent refused = rw refused refl
+none_added (p ∷ ps) k g absent refused =
     let other = differs k p.0 (keys_of ps) absent in
-    rw (other.0, find_fresh ps k other.1) refl
+    rw (other.0, none_added ps k g other.1 refused) refl
 
--- of two values at a position the later one stays
-pub with_twice : {V : Type 0} (ps : List (List ℕ × V)) (i : ℕ) (v w : V)
-    → with_value (with_value ps i v) i w ≡ with_value ps i w
-with_twice [] i v w = refl
-with_twice (p ∷ ps) zero v w = refl
-with_twice (p ∷ ps) (suc i) v w = ap (λ ps. p ∷ ps) (with_twice ps i v w)
+find_none : (ps : Pairs) (k : List ℕ) → has_key ps k ≡ false → find (steps.key k) (by_keys ps) ≡ nothing
+find_none [] k absent = refl
+find_none (p ∷ ps) k absent =
+    let other = differs k p.0 (keys_of ps) absent in
+    rw (other.0) (find_none ps k other.1)
+
+-- a value in the place of the last
+with_last : {V : Type 0} (ps : List (List ℕ × V)) (i : ℕ) (k : List ℕ) (v w : V) → has_key ps k ≡ false
+    → slice_get (keys_of (ps ++ (k, v) ∷ [])) i ≡ Some k → with_value (ps ++ (k, v) ∷ []) i w ≡ ps ++ (k, w) ∷ []
+with_last [] zero k v w absent at = refl
+with_last [] (suc i) k v w absent at = absurd (cc)
+with_last (p ∷ ps) zero k v w absent at =
+    let same : p.0 ≡ k = cc in
+    let other = differs k p.0 (keys_of ps) absent in
+    absurd (false≢true (sym other.0 ∙ ap (λ l. bytes_eq l k) same ∙ bytes_eq-same k))
+with_last (p ∷ ps) (suc i) k v w absent at =
+    let other = differs k p.0 (keys_of ps) absent in
+    ap (λ qs. p ∷ qs) (with_last ps i k v w other.1 at)
+
+-- a value that stays
+pub with_same : {V : Type 0} (ps : List (List ℕ × V)) (i : ℕ) (v : V) → slice_get (values_of ps) i ≡ Some v
+    → with_value ps i v ≡ ps
+with_same [] i v at = refl
+with_same (p ∷ ps) zero v at =
+    let same : p.1 ≡ v = cc in
+    ap (λ v. (p.0, v) ∷ ps) (sym same)
+with_same (p ∷ ps) (suc i) v at = ap (λ qs. p ∷ qs) (with_same ps i v at)
 
 module _ {V : Type 0} (f : V → Trie) where
   -- keys with the tries of their values
@@ -112,72 +136,69 @@ module _ {V : Type 0} (f : V → Trie) where
   with_mapped (p ∷ ps) zero v = refl
   with_mapped (p ∷ ps) (suc i) v = ap (λ ps. (p.0, f p.1) ∷ ps) (with_mapped ps i v)
 
-  -- what is entered changes nothing yet
-  module _ (k : List ℕ) (fresh : V) (old new : List (List ℕ × V)) (position : ℕ) (is_nothing : f fresh ≡ nothing)
-      (entered : EntersKey k fresh old new position) where
-    last_nothing : tries_of (old ++ (k, fresh) ∷ []) ≡ tries_of old ++ (k, nothing) ∷ []
+  -- a key is entered
+  module _ {gives : V → Type 0} (k : List ℕ) (old new : List (List ℕ × V)) (p : Place) (e : FindsOrAdds gives k old new p)
+      (there : V) (stands : slice_get (values_of new) p.position ≡ Some there) where
+    at_mapped : slice_get (keys_of (tries_of new)) p.position ≡ Some k
+    at_mapped = ap (λ ks. slice_get ks p.position) (keys_same new) ∙ e.entered.at
+
+    first_mapped : is_among (take p.position (keys_of (tries_of new))) k ≡ false
+    first_mapped = ap (λ ks. is_among (take p.position ks) k) (keys_same new) ∙ e.entered.first
+
+    absent_mapped : has_key old k ≡ false → has_key (tries_of old) k ≡ false
+    absent_mapped absent = ap (λ ks. is_among ks k) (keys_same old) ∙ absent
+
+    before_is : (b : Bool) → has_key old k ≡ b → trie_before p.is_new (f there) ≡ trie_before (not b) (f there)
+    before_is b is = ap (λ b. trie_before b (f there)) (e.is_new ∙ ap not is)
+
+    -- what stood at the key
+    pub stood_there : find (steps.key k) (by_keys (tries_of old)) ≡ trie_before p.is_new (f there)
+    stood_there = go (has_key old k) refl e.entered.pairs
+      where
+        go : (b : Bool) → has_key old k ≡ b → new ≡ (if b then old else old ++ (k, e.there) ∷ [])
+            → find (steps.key k) (by_keys (tries_of old)) ≡ trie_before p.is_new (f there)
+        go true is pairs =
+            sym (ap (λ ps. find (steps.key k) (by_keys (tries_of ps))) pairs)
+            ∙ found_first (tries_of new) p.position k (f there) at_mapped first_mapped
+            (value_mapped new p.position there stands)
+            ∙ sym (before_is true is)
+        go false is pairs = find_none (tries_of old) k (absent_mapped is) ∙ sym (before_is false is)
+
+    one_more : (child : V) → tries_of (old ++ (k, child) ∷ []) ≡ tries_of old ++ (k, f child) ∷ []
     unfolding tries_of
-    last_nothing = map-append (λ p. (p.0, f p.1)) old ((k, fresh) ∷ [])
-        ∙ ap (λ t. tries_of old ++ (k, t) ∷ []) is_nothing
+    one_more child = map-append (λ p. (p.0, f p.1)) old ((k, child) ∷ [])
 
-    among_entered : (g : Trie → Option Trie)
-        → among (steps.key k) g (by_keys (tries_of new)) ≡ among (steps.key k) g (by_keys (tries_of old))
-    among_entered g =
-        ap (λ ps. among (steps.key k) g (by_keys (tries_of ps))) entered.pairs ∙ by_case (has_key old k) refl
+    -- a change there gives the keys with what it gives
+    pub change_put : (g : Trie → Option Trie) (child : V) → g (trie_before p.is_new (f there)) ≡ Some (f child)
+        → among (steps.key k) g (by_keys (tries_of old))
+        ≡ Some (by_keys (tries_of (with_value new p.position child)))
+    change_put g child changed = go (has_key old k) refl e.entered.pairs
       where
-        by_case : (b : Bool) → has_key old k ≡ b
-            → among (steps.key k) g (by_keys (tries_of (if b then old else old ++ (k, fresh) ∷ [])))
-            ≡ among (steps.key k) g (by_keys (tries_of old))
-        by_case true there = refl
-        by_case false absent =
-            ap (λ ps. among (steps.key k) g (by_keys ps)) last_nothing
-            ∙ among_fresh (tries_of old) k g (ap (λ ks. is_among ks k) (keys_same old) ∙ absent)
+        go : (b : Bool) → has_key old k ≡ b → new ≡ (if b then old else old ++ (k, e.there) ∷ [])
+            → among (steps.key k) g (by_keys (tries_of old))
+            ≡ Some (by_keys (tries_of (with_value new p.position child)))
+        go true is pairs =
+            sym (ap (λ ps. among (steps.key k) g (by_keys (tries_of ps))) pairs)
+            ∙ among_changed (tries_of new) p.position k (f there) (f child) g at_mapped first_mapped
+            (value_mapped new p.position there stands) (sym (ap g (before_is true is)) ∙ changed)
+            ∙ ap (λ ps. Some (by_keys ps)) (sym (with_mapped new p.position child))
+        go false is pairs =
+            among_added (tries_of old) k (f child) g (absent_mapped is) (sym (ap g (before_is false is)) ∙ changed)
+            ∙ ap (λ ps. Some (by_keys ps))
+            (sym (ap tries_of (ap (λ ps. with_value ps p.position child) pairs
+            ∙ with_last old p.position k e.there child is (sym (ap (λ ps. slice_get (keys_of ps) p.position) pairs)
+            ∙ e.entered.at)) ∙ one_more child))
 
-    find_entered : find (steps.key k) (by_keys (tries_of new)) ≡ find (steps.key k) (by_keys (tries_of old))
-    find_entered = ap (λ ps. find (steps.key k) (by_keys (tries_of ps))) entered.pairs ∙ by_case (has_key old k) refl
+    -- a change there that is refused
+    pub change_refused : (g : Trie → Option Trie) → g (trie_before p.is_new (f there)) ≡ None
+        → among (steps.key k) g (by_keys (tries_of old)) ≡ None
+    change_refused g refused = go (has_key old k) refl e.entered.pairs
       where
-        by_case : (b : Bool) → has_key old k ≡ b
-            → find (steps.key k) (by_keys (tries_of (if b then old else old ++ (k, fresh) ∷ [])))
-            ≡ find (steps.key k) (by_keys (tries_of old))
-        by_case true there = refl
-        by_case false absent =
-            ap (λ ps. find (steps.key k) (by_keys ps)) last_nothing
-            ∙ find_fresh (tries_of old) k (ap (λ ks. is_among ks k) (keys_same old) ∙ absent)
-
-    module _ (there : V) (stands : slice_get (values_of new) position ≡ Some there) where
-      at_mapped : slice_get (keys_of (tries_of new)) position ≡ Some k
-      at_mapped = ap (λ ks. slice_get ks position) (keys_same new) ∙ entered.at
-
-      first_mapped : is_among (take position (keys_of (tries_of new))) k ≡ false
-      first_mapped = ap (λ ks. is_among (take position ks) k) (keys_same new) ∙ entered.first
-
-      -- what stands at the key
-      pub stood_there : find (steps.key k) (by_keys (tries_of old)) ≡ f there
-      stood_there =
-          sym find_entered
-          ∙ found_first (tries_of new) position k (f there) at_mapped first_mapped (value_mapped new position
-          there stands)
-
-      -- a change there gives the keys with what it gives, also where the value is taken out first
-      pub change_put_once : (g : Trie → Option Trie) (child : V) → g (f there) ≡ Some (f child)
-          → among (steps.key k) g (by_keys (tries_of old)) ≡ Some (by_keys (tries_of (with_value new position child)))
-      change_put_once g child changed =
-          sym (among_entered g)
-          ∙ among_changed (tries_of new) position k (f there) (f child) g at_mapped first_mapped
-          (value_mapped new position there stands) changed
-          ∙ ap (λ ps. Some (by_keys ps)) (sym (with_mapped new position child))
-
-      pub change_put : (g : Trie → Option Trie) (child v : V) → g (f there) ≡ Some (f child)
-          → among (steps.key k) g (by_keys (tries_of old))
-          ≡ Some (by_keys (tries_of (with_value (with_value new position v) position child)))
-      change_put g child v changed =
-          change_put_once g child changed
-          ∙ ap (λ ps. Some (by_keys (tries_of ps))) (sym (with_twice new position v child))
-
-      -- a change there that is refused
-      pub change_refused : (g : Trie → Option Trie) → g (f there) ≡ None
-          → among (steps.key k) g (by_keys (tries_of old)) ≡ None
-      change_refused g refused =
-          sym (among_entered g)
-          ∙ among_refused (tries_of new) position k (f there) g at_mapped first_mapped
-          (value_mapped new position there stands) refused
+        go : (b : Bool) → has_key old k ≡ b → new ≡ (if b then old else old ++ (k, e.there) ∷ [])
+            → among (steps.key k) g (by_keys (tries_of old)) ≡ None
+        go true is pairs =
+            sym (ap (λ ps. among (steps.key k) g (by_keys (tries_of ps))) pairs)
+            ∙ among_refused (tries_of new) p.position k (f there) g at_mapped first_mapped
+            (value_mapped new p.position there stands) (sym (ap g (before_is true is)) ∙ refused)
+        go false is pairs =
+            none_added (tries_of old) k g (absent_mapped is) (sym (ap g (before_is false is)) ∙ refused)

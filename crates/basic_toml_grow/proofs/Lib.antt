@@ -1,6 +1,7 @@
 pub mod HeadersEntered
 pub mod HeadersInATrie
 pub mod HeadersStopped
+pub mod HeadersLead
 pub mod ObstaclesPassOn
 pub mod NoObstacles
 pub mod ObstaclesAreStops

@@ -10,7 +10,7 @@ use Rattle.basic_toml_grammar.specs.Sections.{Key, KeyTexts, texts}
 use Rattle.basic_toml_grammar.specs.Steps as steps
 use Rattle.basic_toml_grammar.specs.Marks.{dotted, valued}
 use Rattle.basic_toml_grammar.specs.Standing as standings
-use Rattle.basic_toml_grammar.specs.Trie.{Trie, trie, Tries, no_tries, nothing, below, mark_here}
+use Rattle.basic_toml_grammar.specs.Trie.{Trie, trie, Tries, below, mark_here}
 use Rattle.basic_toml_grammar.specs.Stops.{Stop, at_row, last_stop, Outcome, goes_on, stops, and_on}
 use Rattle.basic_toml_grammar.specs.TrieStops.{try_here, try_step, try_put_row}
 use Rattle.basic_toml_grammar.proofs.Tries.StopsByPath.{path_here, path_stop}
@@ -25,12 +25,13 @@ use Rattle.basic_toml_grow.specs.declared.item.Item.TheViews.{roll-Item, roll-ou
 use Rattle.basic_toml_grow.specs.declared.item.Table.{Table, out-Table, roll-Table}
 use Rattle.basic_toml_grow.specs.declared.rows.Met.{Met}
 use Rattle.basic_toml_grow.specs.declared.rows.Met.TheVariants as mets
-use Rattle.basic_toml_grow.specs.Item.{child_trie, table_trie, item_trie, by_keys, by_numbers}
-use Rattle.basic_toml_value.specs.Growth.{values_of, EntersKey}
+use Rattle.basic_toml_grow.specs.Item.{child_trie, table_trie, item_trie, by_keys, by_numbers, empty_table, trie_before}
+use Rattle.basic_toml_value.specs.Growth.{values_of, FindsOrAdds}
+use Rattle.basic_toml_value.specs.declared.pairs.growth.Place.{Place}
 use Rattle.basic_toml_grow.specs.RowStops.{key_at, StopsAtKey, TellsStop, TellsLast, TellsRow, TellsExtended}
 use Rattle.basic_toml_grow.proofs.KeysInATrie.{tries_of, stood_there}
 use Rattle.basic_toml_grow.proofs.ItemTries.{child_item_trie, table_entries_trie}
-use Rattle.basic_toml_grow.proofs.TablesOpened.{table_item_trie, tables_trie, nothing_trie}
+use Rattle.basic_toml_grow.proofs.TablesOpened.{table_item_trie, tables_trie}
 
 none_after : {A : Type 0} (xs : List A) → xs ++ [] ≡ xs
 none_after [] = refl
@@ -112,32 +113,35 @@ try_row_on : (before : KeyTexts) (first : Key) (ks : List Key) (k : Key) (d : Da
 try_row_on before first [] k d t = refl
 try_row_on before first (l ∷ ks) k d t = refl
 
-module _ (before : Table) (k : List ℕ) (fresh : Child) (new : List (List ℕ × Child)) (position : ℕ)
-    (is_nothing : child_trie fresh ≡ nothing) (entered : EntersKey k fresh (out-Table before).entries new position)
-    (there : Child) (stands : slice_get (values_of new) position ≡ Some there) where
-  below_there : below (steps.key k) (table_trie before) ≡ child_trie there
+module _ {gives : Child → Type 0} (before : Table) (k : List ℕ) (new : List (List ℕ × Child)) (p : Place)
+    (e : FindsOrAdds gives k (out-Table before).entries new p)
+    (there : Child) (stands : slice_get (values_of new) p.position ≡ Some there) where
+  abbrev stood : Trie
+  stood = trie_before p.is_new (child_trie there)
+
+  below_there : below (steps.key k) (table_trie before) ≡ stood
   below_there = ap (below (steps.key k)) (table_entries_trie before)
-      ∙ stood_there child_trie k fresh (out-Table before).entries new position is_nothing entered there stands
+      ∙ stood_there child_trie k (out-Table before).entries new p e there stands
 
   -- a change at the key that stops
-  step_stops : (g : Trie → Outcome Trie) (x : Stop) → g (child_trie there) ≡ stops x
+  step_stops : (g : Trie → Outcome Trie) (x : Stop) → g stood ≡ stops x
       → try_step (steps.key k) g (table_trie before) ≡ stops x
   step_stops g x stop =
       path_here (steps.key k ∷ []) g (λ t. stops x) (table_trie before) (ap g below_there ∙ stop)
       ∙ path_stop (steps.key k ∷ []) x (table_trie before)
 
-  pub last_told : (met : Met) (d : Data) → TellsLast (child_trie there) met → TellsRow [] k d (table_trie before) met
+  pub last_told : (met : Met) (d : Data) → TellsLast stood met → TellsRow [] k d (table_trie before) met
   last_told met d told = λ front offset.
-      told_on front [] (key_at offset k) (try_here (valued d) (last_stop front (key_at offset k)) (child_trie there))
+      told_on front [] (key_at offset k) (try_here (valued d) (last_stop front (key_at offset k)) stood)
       (try_put_row front (key_at offset k ∷ []) d (table_trie before)) met
       (λ x stop. step_stops (λ t. try_here (valued d) (last_stop front (key_at offset k)) t) x stop)
       (told front (key_at offset k) d)
 
   pub row_told : (met : Met) (first : Key) (ks : List Key) (last : List ℕ) (d : Data) → first.text ≡ k
-      → TellsExtended ks last d (child_trie there) met → TellsRow (first ∷ ks) last d (table_trie before) met
+      → TellsExtended ks last d stood met → TellsRow (first ∷ ks) last d (table_trie before) met
   row_told met first ks last d is told = λ front offset.
       told_on front (first ∷ ks) (key_at offset last)
-      (and_on (try_here dotted (λ m. at_row front first) (child_trie there))
+      (and_on (try_here dotted (λ m. at_row front first) stood)
       (λ t. try_put_row (front ++ first.text ∷ []) (ks ++ key_at offset last ∷ []) d t))
       (try_put_row front (first ∷ (ks ++ key_at offset last ∷ [])) d (table_trie before)) met
       (λ x stop. try_row_on front first ks (key_at offset last) d (table_trie before)
@@ -210,21 +214,18 @@ dotted_trie t =
     ∙ ap (λ o. trie (Some (standings.table o.passed o.named o.dotted)) None
     (by_keys (tries_of child_trie o.entries))) is
 
-fresh_dotted : (p n d : Bool) (ts : Tries) → trie (Some (standings.table p n d)) None ts
-    ≡ trie (Some (standings.table false false false)) None no_tries
-    → Some (trie (Some (standings.table false false true)) None no_tries)
-    ≡ Some (trie (Some (standings.table p n true)) None ts)
-fresh_dotted p n d ts is = cc
+-- dots extend a new table as they do nothing
+pub dotted_before : (is_new : Bool) (t : Trie) → (is_new ≡ true → t ≡ empty_table)
+    → mark_here dotted (trie_before is_new t) ≡ mark_here dotted t
+dotted_before true t fresh = sym (ap (mark_here dotted) (fresh refl))
+dotted_before false t fresh = refl
 
-pub dotted_nothing : (c : Child) (t e : Table) → (out-Child c).item ≡ items.Nothing → e ≡ t
-    → table_trie t ≡ trie (Some (standings.table false false false)) None no_tries
-    → mark_here dotted (child_trie c) ≡ Some (table_trie (roll-Table (dotted_fields e)))
-dotted_nothing c t e is same empty =
-    ap (mark_here dotted) (child_item_trie c ∙ ap item_trie is ∙ nothing_trie)
-    ∙ fresh_dotted (out-Table e).passed (out-Table e).named (out-Table e).dotted
-    (by_keys (tries_of child_trie (out-Table e).entries))
-    (sym (table_entries_trie e) ∙ ap table_trie same ∙ empty)
-    ∙ ap Some (sym (dotted_trie e))
+pub extended_before : (is_new : Bool) (ks : List Key) (last : List ℕ) (d : Data) (t : Trie) (met : Met)
+    → (is_new ≡ true → t ≡ empty_table) → TellsExtended ks last d t met
+    → TellsExtended ks last d (trie_before is_new t) met
+extended_before true ks last d t met fresh told =
+    subst (λ (u : Trie). TellsExtended ks last d u met) (fresh refl) told
+extended_before false ks last d t met fresh told = told
 
 pub dotted_table : (c : Child) (t : Box Table Global) (e : Table) → (out-Child c).item ≡ items.Table t → e ≡ t.value
     → (out-Table e).named ≡ false → mark_here dotted (child_trie c) ≡ Some (table_trie (roll-Table (dotted_fields e)))
@@ -254,10 +255,9 @@ named_refuses c t is named =
     go true set = refl
     go false set = absurd (cc)
 
--- what is neither nothing nor a table refuses dots
-pub other_refuses : (c : Child) → ((out-Child c).item ≡ items.Nothing → ⊥)
-    → ((t : Box Table Global) → (out-Child c).item ≡ items.Table t → ⊥) → mark_here dotted (child_trie c) ≡ None
-other_refuses c no_nothing no_table = ap (mark_here dotted) (child_item_trie c) ∙ go (items.out-Item i) refl
+-- what is no table refuses dots
+pub other_refuses : (c : Child) → ((t : Box Table Global) → (out-Child c).item ≡ items.Table t → ⊥) → mark_here dotted (child_trie c) ≡ None
+other_refuses c no_table = ap (mark_here dotted) (child_item_trie c) ∙ go (items.out-Item i) refl
   where
     i : items.Item
     i = (out-Child c).item
@@ -266,7 +266,6 @@ other_refuses c no_nothing no_table = ap (mark_here dotted) (child_item_trie c) 
     of x e = sym (roll-out-Item i) ∙ ap roll-Item e
 
     go : (x : Item-F items.Item Child Table) → items.out-Item i ≡ x → mark_here dotted (item_trie i) ≡ None
-    go Item-F.Nothing e = absurd (no_nothing (of Item-F.Nothing e ∙ search (rules, the_lemmas)))
     go (Item-F.Table t) e = absurd (no_table t (of (Item-F.Table t) e ∙ search (rules, the_lemmas)))
     go (Item-F.Integer z) e = ap (λ i. mark_here dotted (item_trie i)) (of (Item-F.Integer z) e)
         ∙ search (rules, the_lemmas)

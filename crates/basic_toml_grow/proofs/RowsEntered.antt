@@ -1,5 +1,5 @@
 -- A row put into a table: its first key, and what that key leads to.
-use Rattle.std.proofs.Common.{◌≡◌, ℕ, List, [], ◌∷◌, ◌++◌, ap, ◌∙◌, refl, sym, Option, Some, None, Result, Ok, Err}
+use Rattle.std.proofs.Common.{◌≡◌, ℕ, true, List, [], ◌∷◌, ◌++◌, ap, ◌∙◌, refl, sym, Option, Some, None, Result, Ok, Err}
 use Rattle.std.proofs.Common.{rules, length, arith, subst}
 use Rattle.std.specs.Prelude.{IfOk, IfErr}
 use Rattle.std.specs.List.{slice_get}
@@ -20,10 +20,11 @@ use Rattle.basic_toml_grow.specs.declared.item.Table.{Table, out-Table}
 use Rattle.basic_toml_grow.specs.declared.rows.Met.{Met}
 use Rattle.basic_toml_grow.specs.declared.rows.Met.TheVariants as mets
 use Rattle.basic_toml_grow.specs.Simple.{with_entries}
-use Rattle.basic_toml_grow.specs.Item.{child_trie, table_trie, by_keys}
-use Rattle.basic_toml_value.specs.Growth.{with_value, values_of, EntersKey}
+use Rattle.basic_toml_grow.specs.Item.{child_trie, table_trie, by_keys, trie_before}
+use Rattle.basic_toml_value.specs.Growth.{with_value, values_of, FindsOrAdds}
+use Rattle.basic_toml_value.specs.declared.pairs.growth.Place.{Place}
 use Rattle.basic_toml_grow.specs.Rows.{Enters}
-use Rattle.basic_toml_grow.proofs.KeysInATrie.{tries_of, change_put_once, change_refused}
+use Rattle.basic_toml_grow.proofs.KeysInATrie.{tries_of, change_put, change_refused, with_same}
 use Rattle.basic_toml_grow.proofs.ItemTries.{table_entries_trie, entries_with, with_entries_twice}
 use Rattle.basic_toml_grow.proofs.ItemTries.{with_entries_trie}
 
@@ -69,9 +70,10 @@ pub row_on : (k : List ℕ) (ks : KeyTexts) (last : List ℕ) (d : Data) (t : Tr
 row_on k [] last d t = refl
 row_on k (l ∷ ks) last d t = refl
 
-module _ (before : Table) (k : List ℕ) (fresh : Child) (new : List (List ℕ × Child)) (position : ℕ)
-    (is_nothing : child_trie fresh ≡ nothing) (entered : EntersKey k fresh (out-Table before).entries new position)
-    (there : Child) (stands : slice_get (values_of new) position ≡ Some there) where
+-- a key is entered into a table
+module _ {gives : Child → Type 0} (before : Table) (k : List ℕ) (new : List (List ℕ × Child)) (p : Place)
+    (e : FindsOrAdds gives k (out-Table before).entries new p)
+    (there : Child) (stands : slice_get (values_of new) p.position ≡ Some there) where
   -- a change at the key, in the table
   at_key : (g : Trie → Option Trie)
       → at_step (steps.key k) g (table_trie before)
@@ -81,37 +83,39 @@ module _ (before : Table) (k : List ℕ) (fresh : Child) (new : List (List ℕ �
 
   -- the table after it
   put_after : (g : Trie → Option Trie) (child : Child) (ps : List (List ℕ × Child))
-      → g (child_trie there) ≡ Some (child_trie child)
-      → by_keys (tries_of child_trie ps) ≡ by_keys (tries_of child_trie (with_value new position child))
-      → at_step (steps.key k) g (table_trie before)
-      ≡ Some (trie (standing (table_trie before)) None (by_keys (tries_of child_trie ps)))
+      → g (trie_before p.is_new (child_trie there)) ≡ Some (child_trie child)
+      → ps ≡ with_value new p.position child
+      → at_step (steps.key k) g (table_trie before) ≡ Some (table_trie (with_entries before ps))
   put_after g child ps changed same =
       at_key g
       ∙ ap (with_tries (standing (table_trie before)) None)
-      (change_put_once child_trie k fresh (out-Table before).entries new position is_nothing entered there stands g
-      child
-      changed)
-      ∙ ap (λ ts. Some (trie (standing (table_trie before)) None ts)) (sym same)
+      (change_put child_trie k (out-Table before).entries new p e there stands g child changed)
+      ∙ ap (λ ps. Some (trie (standing (table_trie before)) None (by_keys (tries_of child_trie ps)))) (sym same)
+      ∙ ap Some (sym (with_entries_trie before ps))
 
   pub step_put : (g : Trie → Option Trie) (child : Child) (mid : Table) (ps : List (List ℕ × Child))
-      → g (child_trie there) ≡ Some (child_trie child) → mid ≡ with_entries before new
-      → ps ≡ with_value (out-Table mid).entries position child
+      → g (trie_before p.is_new (child_trie there)) ≡ Some (child_trie child) → mid ≡ with_entries before new
+      → ps ≡ with_value (out-Table mid).entries p.position child
       → at_step (steps.key k) g (table_trie before) ≡ Some (table_trie (with_entries mid ps))
   step_put g child mid ps changed is_mid is_ps =
-      let same : ps ≡ with_value new position child = is_ps
-      ∙ ap (λ t. with_value (out-Table t).entries position child) is_mid
-      ∙ ap (λ qs. with_value qs position child) (entries_with before new) in
-      put_after g child ps changed (ap (λ ps. by_keys (tries_of child_trie ps)) same)
-      ∙ ap Some (sym (ap table_trie (ap (λ t. with_entries t ps) is_mid ∙ with_entries_twice before new ps)
-      ∙ with_entries_trie before ps))
+      put_after g child ps changed
+      (is_ps ∙ ap (λ t. with_value (out-Table t).entries p.position child) is_mid
+      ∙ ap (λ qs. with_value qs p.position child) (entries_with before new))
+      ∙ ap (λ t. Some (table_trie t)) (sym (ap (λ t. with_entries t ps) is_mid ∙ with_entries_twice before new ps))
 
-  pub step_refused : (g : Trie → Option Trie) → g (child_trie there) ≡ None
+  -- where the key is new, its value is what the change gives
+  pub step_added : (g : Trie → Option Trie) → p.is_new ≡ true → g nothing ≡ Some (child_trie there)
+      → at_step (steps.key k) g (table_trie before) ≡ Some (table_trie (with_entries before new))
+  step_added g is_new changed =
+      put_after g there new (ap (λ b. g (trie_before b (child_trie there))) is_new ∙ changed)
+      (sym (with_same new p.position there stands))
+
+  pub step_refused : (g : Trie → Option Trie) → g (trie_before p.is_new (child_trie there)) ≡ None
       → at_step (steps.key k) g (table_trie before) ≡ None
   step_refused g refused =
       at_key g
       ∙ ap (with_tries (standing (table_trie before)) None)
-      (change_refused child_trie k fresh (out-Table before).entries new position is_nothing entered there stands g
-      refused)
+      (change_refused child_trie k (out-Table before).entries new p e there stands g refused)
 
 -- what stands at a position of the entries of a table
 pub stands_in : (before t : Table) (new : List (List ℕ × Child)) (position : ℕ) (there : Child)
@@ -123,7 +127,16 @@ stands_in before t new position there same stands =
     ∙ stands
 
 -- a key that is entered by another name
-pub entered_by : {k l : List ℕ} {fresh : Child} {old new : List (List ℕ × Child)} {position : ℕ} → k ≡ l
-    → EntersKey k fresh old new position → EntersKey l fresh old new position
-entered_by {fresh = fresh} {old = old} {new = new} {position = position} same entered =
-    subst (λ (k : List ℕ). EntersKey k fresh old new position) same entered
+pub same_key_entered : {gives : Child → Type 0} {k l : List ℕ} {old new : List (List ℕ × Child)} {p : Place} → k ≡ l
+    → FindsOrAdds gives k old new p → FindsOrAdds gives l old new p
+same_key_entered {gives = gives} {old = old} {new = new} {p = p} same entered =
+    subst (λ (k : List ℕ). FindsOrAdds gives k old new p) same entered
+
+-- what was made for a new key
+pub made_there : {gives : Child → Type 0} {k : List ℕ} {old new : List (List ℕ × Child)} {p : Place} (there : Child)
+    (holds : Child → Type 0) → FindsOrAdds gives k old new p → slice_get (values_of new) p.position ≡ Some there
+    → ((c : Child) → gives c → holds c) → p.is_new ≡ true → holds there
+made_there there holds e stands given is_new =
+    let both : Some e.there ≡ Some there = sym e.stands ∙ stands in
+    let same : e.there ≡ there = cc in
+    subst holds same (given e.there (e.made is_new))

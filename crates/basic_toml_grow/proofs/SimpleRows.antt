@@ -1,6 +1,7 @@
 -- Simple rows, put into a table one after another: they become its entries.
 use Rattle.std.proofs.Common.{◌≡◌, ◌==◌, ◌≤◌, ℕ, ◌+◌, Bool, true, false, ◌||◌, List, [], ◌∷◌, ◌++◌, length, map, Some}
 use Rattle.std.proofs.Common.{arith, suc, take, drop, refl, sym, ap, ◌∙◌, subst, rules, ap₂, append_assoc, slice_get}
+use Rattle.std.specs.Prelude.{not, ◌&&◌}
 use Rattle.std.specs.Str.{bytes_eq}
 use Rattle.std.proofs.lemmas.Bool.{false≢true}
 use Rattle.std.proofs.lemmas.List.{append-nil, map-append, take-append-drop, take-map}
@@ -27,7 +28,7 @@ use Rattle.basic_toml_read.specs.declared.section.Raw.{Raw, out-Raw, roll-Raw, r
 use Rattle.basic_toml_read.specs.declared.section.Raw.TheOpen.{Raw-F}
 use Rattle.basic_toml_read.specs.declared.section.Element.{Element}
 use Rattle.basic_toml_read.specs.declared.section.Row.{Row, out-Row}
-use Rattle.basic_toml_value.specs.Growth.{EntersKey, with_value, values_of}
+use Rattle.basic_toml_value.specs.Growth.{FindsOrAdds, values_of}
 use Rattle.basic_toml_clash.specs.Plain.{is_plain, plain_of}
 use Rattle.basic_toml_clash.specs.Simple.{are_simple, are_all_plain, key_of}
 use Rattle.basic_toml_clash.proofs.PlainValues.{plain_value}
@@ -38,18 +39,18 @@ use Rattle.basic_toml_grow.specs.declared.item.Item as items
 use Rattle.basic_toml_grow.specs.declared.item.Item.TheViews.{roll-Child}
 use Rattle.basic_toml_grow.specs.declared.item.Child.{Child}
 use Rattle.basic_toml_grow.specs.declared.item.Table.{Table, out-Table}
-use Rattle.basic_toml_grow.specs.Item.{item_trie, leaf, child_trie, table_trie, no_child}
+use Rattle.basic_toml_grow.specs.Item.{item_trie, leaf, child_trie, table_trie}
 use Rattle.basic_toml_grow.specs.Origins.{Within, item_origins, child_origins, table_within, value_origins, table_origin}
 use Rattle.basic_toml_grow.specs.Origins.{with_more, rows_origins, dotted_of}
 use Rattle.basic_toml_grow.specs.Rows.{AreIn, IsFinished, one_row}
-use Rattle.basic_toml_grow.specs.Simple.{kept, item_of, child_of, entry_of, entries_of, with_entries}
-use Rattle.basic_toml_grow.proofs.ItemTries.{no_child_trie, entries_with, with_entries_twice}
+use Rattle.basic_toml_grow.specs.Simple.{kept, holds_rows, is_inline, none_inline, item_of, child_of, entry_of, entries_of, with_entries}
+use Rattle.basic_toml_grow.proofs.ItemTries.{entries_with, with_entries_twice}
 use Rattle.basic_toml_grow.proofs.RowValues.{value_put}
 use Rattle.basic_toml_grow.proofs.RowsHaveKeys.{one_has_keys, rows_are_keyed}
-use Rattle.basic_toml_grow.proofs.RowsEntered.{row_key, step_put}
+use Rattle.basic_toml_grow.proofs.RowsEntered.{row_key, step_added}
 use Rattle.basic_toml_grow.proofs.RowsLeft.{AreLeft, all_left, none_left, row_entered, both}
 use Rattle.basic_toml_grow.proofs.Origins.OriginsLeft.{OriginsLeft, row_comes, origins_entered, origins_done}
-use Rattle.basic_toml_grow.proofs.Origins.RowsPlaceOrigins.{comes_first, origins_put}
+use Rattle.basic_toml_grow.proofs.Origins.RowsPlaceOrigins.{origins_added}
 
 -- a plain value, as the item that it is kept as
 kept_trie : (x : Raw-F Raw Element Row tables.Rows) (l : ℕ) → is_plain (roll-Raw x) l ≡ true
@@ -81,6 +82,48 @@ kept_comes (Raw-F.Boolean b) l plain at s = search (rules, the_lemmas, raws.the_
 kept_comes (Raw-F.String text) l plain at s = search (rules, the_lemmas, raws.the_lemmas)
 kept_comes (Raw-F.Escaped text) l plain at s = search (rules, the_lemmas, raws.the_lemmas)
 kept_comes (Raw-F.Array es) l plain at s = search (rules, the_lemmas, raws.the_lemmas)
+
+-- a plain value is no inline table
+plain_alone : (x : Raw-F Raw Element Row tables.Rows) (l : ℕ) → is_plain (roll-Raw x) l ≡ true → holds_rows x ≡ false
+plain_alone (Raw-F.Dotted rs) l plain =
+    let not_plain : is_plain (roll-Raw (Raw-F.Dotted rs)) l ≡ false = search (rules, raws.the_lemmas) in
+    absurd (false≢true (sym not_plain ∙ plain))
+plain_alone (Raw-F.Inline rs) l plain =
+    let not_plain : is_plain (roll-Raw (Raw-F.Inline rs)) l ≡ false = search (rules, raws.the_lemmas) in
+    absurd (false≢true (sym not_plain ∙ plain))
+plain_alone (Raw-F.Integer z) l plain = refl
+plain_alone (Raw-F.Float text) l plain = refl
+plain_alone (Raw-F.Boolean b) l plain = refl
+plain_alone (Raw-F.String text) l plain = refl
+plain_alone (Raw-F.Escaped text) l plain = refl
+plain_alone (Raw-F.Array es) l plain = refl
+
+pub not_inline : (v : Raw) (l : ℕ) → is_plain v l ≡ true → is_inline v ≡ false
+not_inline v l plain =
+    plain_alone (out-Raw v) l (ap (λ v. is_plain v l) (roll-out-Raw v) ∙ plain)
+
+pub all_plain_alone : (l : ℕ) (rows : List Row) → are_all_plain l rows ≡ true → none_inline rows ≡ true
+all_plain_alone l [] plain = refl
+all_plain_alone l (r ∷ rs) plain =
+    let p = both (is_plain (out-Row r).value l) (are_all_plain l rs) plain in
+    rw (not_inline (out-Row r).value l p.0, all_plain_alone l rs p.1) refl
+
+pub all_simple_alone : (l : ℕ) (rows : List Row) → are_simple l rows ≡ true → none_inline rows ≡ true
+all_simple_alone l [] simple = refl
+all_simple_alone l (r ∷ rs) simple =
+    let p = both (is_plain (out-Row r).value l && not (is_among (map key_of rs) (key_of r))) (are_simple l rs) simple in
+    let q = both (is_plain (out-Row r).value l) (not (is_among (map key_of rs) (key_of r))) p.0 in
+    rw (not_inline (out-Row r).value l q.0, all_simple_alone l rs p.1) refl
+
+pub first_plain : (r : Row) (rs : List Row) → none_inline (r ∷ rs) ≡ true → is_inline (out-Row r).value ≡ false
+first_plain r rs plain = go (is_inline (out-Row r).value) (both (not (is_inline (out-Row r).value)) (none_inline rs) plain).0
+  where
+    go : (b : Bool) → not b ≡ true → b ≡ false
+    go true absent = absurd (false≢true absent)
+    go false absent = refl
+
+pub others_plain : (r : Row) (rs : List Row) → none_inline (r ∷ rs) ≡ true → none_inline rs ≡ true
+others_plain r rs plain = (both (not (is_inline (out-Row r).value)) (none_inline rs) plain).1
 
 item_is : (v : Raw) (l : ℕ) → is_plain v l ≡ true → item_trie (item_of v) ≡ leaf (finished (plain_of v))
 item_is v l plain =
@@ -117,12 +160,7 @@ same_entry s r key item same_key same_item =
     ap₂ (λ k (i : items.Item). (k, roll-Child (record { start = (out-Row r).start; section = s; item = i }))) same_key
     same_item
 
--- a value in the place of the last
-with_last : (ps : List (List ℕ × Child)) (k : List ℕ) (c d : Child)
-    → ps ++ (k, d) ∷ [] ≡ with_value (ps ++ (k, c) ∷ []) (length ps) d
-with_last [] k c d = refl
-with_last (p ∷ ps) k c d = ap (λ ps. p ∷ ps) (with_last ps k c d)
-
+-- a value that is put last
 last_value : (ps : List (List ℕ × Child)) (k : List ℕ) (c : Child)
     → slice_get (values_of (ps ++ (k, c) ∷ [])) (length ps) ≡ Some c
 last_value [] k c = refl
@@ -141,12 +179,18 @@ front : (ks : List (List ℕ)) (k : List ℕ) → take (length ks) (ks ++ k ∷ 
 front [] k = refl
 front (l ∷ ks) k = ap (λ ks. l ∷ ks) (front ks k)
 
-enters : (ps : List (List ℕ × Child)) (k : List ℕ) (c : Child) → has_key ps k ≡ false
-    → EntersKey k c ps (ps ++ (k, c) ∷ []) (length ps)
-enters ps k c absent = record {
-  at = rw (keys_more ps k c, ← keys_count ps) (slice_get-last (keys_of ps) k);
-  first = rw (keys_more ps k c, ← keys_count ps) (rw (front (keys_of ps) k) absent);
-  pairs = rw absent refl;
+adds : (ps : List (List ℕ × Child)) (k : List ℕ) (c : Child) → has_key ps k ≡ false
+    → FindsOrAdds (λ d. d ≡ c) k ps (ps ++ (k, c) ∷ []) (record { position = length ps; is_new = true })
+adds ps k c absent = record {
+  there = c;
+  stands = last_value ps k c;
+  entered = record {
+    at = rw (keys_more ps k c, ← keys_count ps) (slice_get-last (keys_of ps) k);
+    first = rw (keys_more ps k c, ← keys_count ps) (rw (front (keys_of ps) k) absent);
+    pairs = rw absent refl;
+  };
+  is_new = rw absent refl;
+  made = λ new. refl;
 }
 
 -- a table without other entries than its own
@@ -164,26 +208,15 @@ module _ (s level : ℕ) (low : level ≤ nesting_limit) (t : Table) (r : Row)
   abbrev own : List (List ℕ × Child)
   own = (out-Table t).entries
 
-  abbrev blank : List (List ℕ × Child)
-  blank = own ++ (key_of r, no_child) ∷ []
-
   abbrev after : Table
   after = with_entries t (own ++ entry_of s r ∷ [])
 
   read : raw_of (out-Row r).value ≡ plain_of (out-Row r).value
   read = (plain_value (out-Row r).value level plain).is
 
-  entered : EntersKey (key_of r) no_child own blank (length own)
-  entered = enters own (key_of r) no_child absent
-
-  filled : own ++ entry_of s r ∷ []
-      ≡ with_value (out-Table (with_entries t blank)).entries (length own) (child_of s r)
-  filled =
-      with_last own (key_of r) no_child (child_of s r)
-      ∙ sym (ap (λ ps. with_value ps (length own) (child_of s r)) (entries_with t blank))
-
-  is_after : with_entries (with_entries t blank) (own ++ entry_of s r ∷ []) ≡ after
-  is_after = with_entries_twice t blank (own ++ entry_of s r ∷ [])
+  added : FindsOrAdds (λ c. c ≡ child_of s r) (key_of r) own (own ++ entry_of s r ∷ [])
+      (record { position = length own; is_new = true })
+  added = adds own (key_of r) (child_of s r) absent
 
   row_in : AreIn (one_row [] r) level (table_trie t) (table_trie after)
   row_in =
@@ -200,18 +233,13 @@ module _ (s level : ℕ) (low : level ≤ nesting_limit) (t : Table) (r : Row)
       })))
       (subst (λ (l : ℕ). l ≤ nesting_limit) (sym here) low)
       (λ d is_leaf.
-      step_put t (key_of r) no_child blank (length own) no_child_trie entered no_child (last_value own (key_of r) no_child)
-      (λ t. mark_here (valued d) t) (child_of s r) (with_entries t blank) (own ++ entry_of s r ∷ [])
-      (ap (mark_here (valued d)) no_child_trie ∙ ap Some (sym is_leaf)) refl filled
-      ∙ ap (λ t. Some (table_trie t)) is_after)
+      step_added t (key_of r) (own ++ entry_of s r ∷ []) (record { position = length own; is_new = true }) added
+      (child_of s r) (last_value own (key_of r) (child_of s r)) (λ t. mark_here (valued d) t) refl (ap Some (sym is_leaf)))
 
   row_is_placed : table_within after ≡ with_more (table_within t) (rows_origins s (one_row [] r))
   row_is_placed =
-      sym (ap table_within is_after)
-      ∙ origins_put t (key_of r) no_child no_child (child_of s r) blank (length own) no_child_trie entered
-      (last_value own (key_of r) no_child) (child_origins (child_of s r))
-      (comes_first no_child (child_origins (child_of s r)) no_child_trie)
-      (with_entries t blank) (own ++ entry_of s r ∷ []) refl filled
+      origins_added t (key_of r) (child_of s r) (own ++ entry_of s r ∷ [])
+      (record { position = length own; is_new = true }) added (last_value own (key_of r) (child_of s r)) refl
       ∙ ap (with_more (table_within t))
       (row_comes s [] r (key_of r) (child_of s r) refl
       (child_comes s r ∙ item_comes (out-Row r).value level plain (out-Row r).start s

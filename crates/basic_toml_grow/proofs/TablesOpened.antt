@@ -4,20 +4,19 @@ use Rattle.std.proofs.Common.{refl, ap, sym, ◌∙◌, arith, rules, option_map
 use Rattle.std.proofs.lemmas.List.{map-append}
 use Rattle.basic_toml_value.specs.Nesting.{nesting_limit}
 use Rattle.basic_toml_grammar.specs.Sections.{Rows}
-use Rattle.basic_toml_grammar.specs.Trie.{Trie, nothing, put_rows, put_table, put_element}
+use Rattle.basic_toml_grammar.specs.Trie.{Trie, put_rows, put_table, put_element}
 use Rattle.basic_toml_clash.specs.declared.clash.Clash.{Clash}
-use Rattle.basic_toml_grow.specs.declared.item.Item.{the_lemmas, Nothing, Tables}
+use Rattle.basic_toml_grow.specs.declared.item.Item.{the_lemmas, Tables}
 use Rattle.basic_toml_grow.specs.declared.item.Item as items
-use Rattle.basic_toml_grow.specs.declared.item.Item.TheOpen.{Table-F}
-use Rattle.basic_toml_grow.specs.declared.item.Item.TheViews.{roll-Table, out-roll-Table}
+use Rattle.basic_toml_grow.specs.declared.item.Item.TheOpen.{Item-F, Table-F}
+use Rattle.basic_toml_grow.specs.declared.item.Item.TheViews.{out-Item, roll-Table, out-roll-Table}
 use Rattle.basic_toml_grow.specs.declared.item.Child.{Child}
 use Rattle.basic_toml_grow.specs.declared.item.Table.{Table, out-Table}
 use Rattle.basic_toml_grow.specs.Item.{item_trie, table_trie}
 use Rattle.basic_toml_grow.specs.Rows.{EntersRows}
-use Rattle.basic_toml_grow.specs.Headers.{IsIn, IsKeptOut, EntersHeader}
+use Rattle.basic_toml_grow.specs.Headers.{EntersHeader}
 use Rattle.basic_toml_grow.proofs.ItemTries.{table_entries_trie}
-use Rattle.basic_toml_grow.proofs.HeadersInATrie.{fresh, array_of, is_in, is_kept_out, rows_in, rows_kept_out}
-use Rattle.basic_toml_grow.proofs.HeadersInATrie.{put_first, put_next}
+use Rattle.basic_toml_grow.proofs.HeadersInATrie.{fresh, array_of, rows_in, rows_kept_out, put_next}
 
 -- a table that is named takes the rows of a section
 pub named_table : (t u : Table) (rows : Rows) → (out-Table t).named ≡ false → (out-Table t).dotted ≡ false
@@ -69,20 +68,10 @@ pub tables_trie : (before : Box (Vec Table Global) Global) (latest : Box Table G
     → item_trie (Tables before latest) ≡ array_of (map table_trie before.value.items) (table_trie latest.value)
 tables_trie before latest = search (rules, the_lemmas)
 
-pub nothing_trie : item_trie Nothing ≡ nothing
-nothing_trie = search (rules, the_lemmas)
-
 pub table_item_trie : (t : Box Table Global) → item_trie (items.Table t) ≡ table_trie t.value
 table_item_trie t = search (rules, the_lemmas)
 
--- an array with one more element, which is its first one or not
-pub first_element : (rows : Rows) (i : items.Item) (before : List Table) → i ≡ Nothing → before ≡ []
-    → put_element rows (item_trie i) ≡ option_map (λ u. array_of (map table_trie before) u) (put_table rows fresh)
-first_element rows i before is none =
-    ap (put_element rows) (ap item_trie is ∙ nothing_trie)
-    ∙ put_first rows
-    ∙ ap (λ b. option_map (λ u. array_of (map table_trie b) u) (put_table rows fresh)) (sym none)
-
+-- an array with one more element
 pub next_element : (rows : Rows) (i : items.Item) (b : Box (Vec Table Global) Global) (latest : Box Table Global) (before : List Table)
     → i ≡ Tables b latest → before ≡ b.value.items ++ latest.value ∷ []
     → put_element rows (item_trie i) ≡ option_map (λ u. array_of (map table_trie before) u) (put_table rows fresh)
@@ -92,28 +81,11 @@ next_element rows i b latest before is more =
     ∙ ap (λ ts. option_map (λ u. array_of ts u) (put_table rows fresh))
     (sym (ap (map table_trie) more ∙ map-append table_trie b.value.items (latest.value ∷ [])))
 
-pub element_in : (rows : Rows) (level : ℕ) (new : Trie) (there item : items.Item) (before : Box (Vec Table Global) Global)
-    (latest : Box Table Global) → new ≡ fresh
-    → put_element rows (item_trie there)
-    ≡ option_map (λ u. array_of (map table_trie before.value.items) u) (put_table rows fresh)
-    → item ≡ Tables before latest
-    → IsIn (put_table rows new) rows ((level + 2) + 0) (table_trie latest.value)
-    → IsIn (put_element rows (item_trie there)) rows (level + 2) (item_trie item)
-element_in rows level new there item before latest is_fresh puts made_of is =
-    is_in (put_table rows new) (put_element rows (item_trie there)) rows ((level + 2) + 0) (level + 2)
-    (table_trie latest.value) (item_trie item)
-    (puts ∙ ap (λ u. option_map (λ u. array_of (map table_trie before.value.items) u) u)
-    (ap (put_table rows) (sym is_fresh) ∙ is.gives)
-    ∙ ap Some (sym (ap item_trie made_of ∙ tables_trie before latest)))
-    (omega arith) is
-
-pub element_out : (clash : Clash) (rows : Rows) (level : ℕ) (new : Trie) (there : items.Item) (before : List Table)
-    → new ≡ fresh
-    → put_element rows (item_trie there) ≡ option_map (λ u. array_of (map table_trie before) u) (put_table rows fresh)
-    → IsKeptOut (put_table rows new) rows ((level + 2) + 0) clash
-    → IsKeptOut (put_element rows (item_trie there)) rows (level + 2) clash
-element_out clash rows level new there before is_fresh puts out =
-    is_kept_out clash (put_table rows new) (put_element rows (item_trie there)) rows ((level + 2) + 0) (level + 2)
-    (λ none. puts ∙ ap (λ u. option_map (λ u. array_of (map table_trie before) u) u)
-    (ap (put_table rows) (sym is_fresh) ∙ none))
-    (omega arith) out
+-- arrays of tables that are the same have the same parts
+pub same_tables : {b c : Box (Vec Table Global) Global} {l m : Box Table Global} {i : items.Item} → i ≡ Tables c m
+    → i ≡ Tables b l → (c ≡ b) × (m ≡ l)
+same_tables {b = b} {c = c} {l = l} {m = m} is was =
+    let there : out-Item (Tables b l) ≡ Item-F.Tables b l = search (rules, the_lemmas) in
+    let now : out-Item (Tables c m) ≡ Item-F.Tables c m = search (rules, the_lemmas) in
+    let same : Item-F.Tables c m ≡ Item-F.Tables b l = sym now ∙ ap out-Item (sym is ∙ was) ∙ there in
+    (cc, cc)

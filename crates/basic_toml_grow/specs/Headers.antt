@@ -1,7 +1,8 @@
 -- How a section is put into the tree, and what keeps it out.
-use Rattle.std.specs.Prelude.{◌≡◌, ◌⊎◌, ⊤, ◌≤◌, ◌<◌, ◌+◌, ℕ, suc, max, Bool, true, false, [], Option, Some}
+use Rattle.std.specs.Prelude.{◌≡◌, ◌⊎◌, ⊤, ◌≤◌, ◌<◌, ◌+◌, ℕ, suc, max, Bool, true, false, [], ◌∷◌, ◌++◌, Option, Some}
 use Rattle.std.specs.Prelude.{None, Result, Ok}
-use Rattle.std.specs.Prelude.{Err, length}
+use Rattle.std.specs.Prelude.{Err, length, Vec, Box}
+use Rattle.std.specs.declared.alloc.Global.{Global}
 use Rattle.basic_toml_value.specs.Nesting.{nesting_limit}
 use Rattle.basic_toml_grammar.specs.Sections.{KeyTexts, Rows}
 use Rattle.basic_toml_grammar.specs.RowClash.{rows_clash}
@@ -10,6 +11,10 @@ use Rattle.basic_toml_grammar.specs.Trie.{Trie, walk, steps_to, steps_on, go_on,
 use Rattle.basic_toml_clash.specs.declared.clash.Clash.{Clash}
 use Rattle.basic_toml_clash.specs.declared.clash.Clash.TheVariants.{Memory, Deep, Header, Named, Redefined}
 use Rattle.basic_toml_clash.specs.Clash.{Obstacle}
+use Rattle.basic_toml_grow.specs.declared.item.Item.{Item}
+use Rattle.basic_toml_grow.specs.declared.item.Item as items
+use Rattle.basic_toml_grow.specs.declared.item.Table.{Table}
+use Rattle.basic_toml_grow.specs.Item.{item_trie, table_trie, empty_table}
 use Rattle.basic_toml_grow.specs.Obstacles.{element_obstacle, obstacle_on, keys_obstacle}
 
 -- the highest level of a section whose table is on a level
@@ -62,6 +67,39 @@ obstacle_by is_array rows keys l t =
 abbrev pub obstacle_at : Bool → Rows → KeyTexts → ℕ → Trie → Option Obstacle
 obstacle_at true rows [] l t = element_obstacle l rows t
 obstacle_at is_array rows keys l t = obstacle_by is_array rows keys l t
+
+-- whether the last key of an array's header comes before these
+abbrev pub is_last : Bool → KeyTexts → Bool
+is_last true [] = true
+is_last is_array keys = false
+
+-- what a header makes at a key where nothing stands: a table without entries, or an array of one such table
+pub record IsNewTable (i : Item) : Type 0 where
+  pub table : Box Table Global
+  pub is : i ≡ items.Table table
+  pub empty : table_trie table.value ≡ empty_table
+
+pub record IsNewArray (i : Item) : Type 0 where
+  pub before : Box (Vec Table Global) Global
+  pub latest : Box Table Global
+  pub is : i ≡ items.Tables before latest
+  pub none : before.value.items ≡ []
+  pub empty : table_trie latest.value ≡ empty_table
+
+abbrev pub IsNew : (is_array : Bool) → Item → Type 0
+IsNew true i = IsNewArray i
+IsNew false i = IsNewTable i
+
+-- an array of tables, and the same with a table without entries after its latest
+pub record HasOneMore (old new : Item) : Type 0 where
+  pub before : Box (Vec Table Global) Global
+  pub latest : Box Table Global
+  pub more : Box (Vec Table Global) Global
+  pub table : Box Table Global
+  pub was : old ≡ items.Tables before latest
+  pub is : new ≡ items.Tables more table
+  pub tables : more.value.items ≡ before.value.items ++ latest.value ∷ []
+  pub empty : table_trie table.value ≡ empty_table
 
 -- the clash of an array of tables with a table that stands at its key, by whether that is named and dots extend it
 abbrev pub table_clash : (named dotted : Bool) → Clash

@@ -1,5 +1,5 @@
 -- The trie that an item stands for: what is said of each table, and what it holds. Offsets play no part.
-use Rattle.std.specs.Prelude.{ℕ, suc, List, [], ◌∷◌, ◌++◌, Some, None, length, map, string_bytes}
+use Rattle.std.specs.Prelude.{ℕ, suc, Bool, true, false, List, [], ◌∷◌, ◌++◌, Some, None, length, map, string_bytes}
 use Rattle.basic_toml_value.specs.Data.{Data, items_of}
 use Rattle.basic_toml_grammar.specs.Steps.{key, number}
 use Rattle.basic_toml_grammar.specs.Mentions.{finished}
@@ -10,7 +10,6 @@ use Rattle.basic_toml_clash.specs.Plain.{plain_array}
 use Rattle.basic_toml_grow.specs.declared.item.Item.{fold-Item}
 use Rattle.basic_toml_grow.specs.declared.item.Item as items
 use Rattle.basic_toml_grow.specs.declared.item.Item.TheOpen.{Item-F, Child-F, Table-F}
-use Rattle.basic_toml_grow.specs.declared.item.Item.TheViews.{roll-Child}
 use Rattle.basic_toml_grow.specs.declared.item.Child as children
 use Rattle.basic_toml_grow.specs.declared.item.Child.{fold-Child}
 use Rattle.basic_toml_grow.specs.declared.item.Table as tables
@@ -33,7 +32,6 @@ tree_data t = closed (bare t)
 
 -- one level, the parts seen already
 abbrev pub item_grows : Item-F Trie Trie Trie → Trie
-item_grows Item-F.Nothing = nothing
 item_grows (Item-F.Integer z) = leaf (Data.integer z)
 item_grows (Item-F.Float text) = leaf (Data.float text)
 item_grows (Item-F.Boolean b) = leaf (Data.boolean b)
@@ -61,6 +59,11 @@ child_trie = fold-Child Trie Trie Trie item_grows child_grows table_grows
 abbrev pub table_trie : tables.Table → Trie
 table_trie = fold-Table Trie Trie Trie item_grows child_grows table_grows
 
--- where nothing stands yet
-abbrev pub no_child : children.Child
-no_child = roll-Child (record { start = 0; section = 0; item = items.Nothing })
+-- a table without entries, of which nothing is said yet
+abbrev pub empty_table : Trie
+empty_table = trie (Some (standing.table false false false)) None no_tries
+
+-- what stood at a key before it was entered
+abbrev pub trie_before : (is_new : Bool) → Trie → Trie
+trie_before true t = nothing
+trie_before false t = t

@@ -104,6 +104,11 @@ elements_within at s ts = map (of_table at s) ts
 abbrev pub or_else : Origins → Origins → Origins
 or_else before new p = option_or (before p) (new p)
 
+-- what came from a key before it was entered
+abbrev pub origins_before : (is_new : Bool) → Origins → Origins
+origins_before true os = no_origins
+origins_before false os = os
+
 abbrev pub with_more : Within → Origins → Within
 with_more w new = record { made = w.made; section = w.section; below = or_else w.below new }
 
@@ -143,7 +148,6 @@ abbrev mutual
 
 -- one level, the parts seen already
 abbrev pub item_from : Item-F (ℕ → ℕ → Origins) Origins Within → ℕ → ℕ → Origins
-item_from Item-F.Nothing at s = no_origins
 item_from (Item-F.Integer _) at s = entry (value_origin (codes "integer") at s) no_origins
 item_from (Item-F.Float _) at s = entry (value_origin (codes "float") at s) no_origins
 item_from (Item-F.Boolean _) at s = entry (value_origin (codes "boolean") at s) no_origins

@@ -1,5 +1,6 @@
 -- Simple rows, as the entries that a table takes them as.
-use Rattle.std.specs.Prelude.{ℕ, List, map}
+use Rattle.std.specs.Prelude.{ℕ, Bool, true, false, not, List, map}
+use Rattle.std.specs.List.{list_all}
 use Rattle.basic_toml_read.specs.declared.section.Raw.{Raw, out-Raw}
 use Rattle.basic_toml_read.specs.declared.section.Raw.TheOpen.{Raw-F}
 use Rattle.basic_toml_read.specs.declared.section.Element.{Element}
@@ -11,7 +12,20 @@ use Rattle.basic_toml_grow.specs.declared.item.Item.TheViews.{roll-Child, roll-T
 use Rattle.basic_toml_grow.specs.declared.item.Child.{Child}
 use Rattle.basic_toml_grow.specs.declared.item.Table.{Table, out-Table}
 
--- a plain value as an item; what is not plain is kept as nothing
+-- whether a value is an inline table
+abbrev pub holds_rows : Raw-F Raw Element Row Rows → Bool
+holds_rows (Raw-F.Inline rs) = true
+holds_rows (Raw-F.Dotted rs) = true
+holds_rows _ = false
+
+abbrev pub is_inline : Raw → Bool
+is_inline v = holds_rows (out-Raw v)
+
+-- no row has one
+abbrev pub none_inline : List Row → Bool
+none_inline rows = list_all (λ r. not (is_inline (out-Row r).value)) rows
+
+-- Any other value as an item. An inline table is none of these: any item serves for it here.
 abbrev pub kept : Raw-F Raw Element Row Rows → items.Item
 kept (Raw-F.Integer z) = items.Integer z
 kept (Raw-F.Float text) = items.Float text
@@ -19,8 +33,7 @@ kept (Raw-F.Boolean b) = items.Boolean b
 kept (Raw-F.String text) = items.String text
 kept (Raw-F.Escaped text) = items.Escaped text
 kept (Raw-F.Array es) = items.Plain es
-kept (Raw-F.Inline rs) = items.Nothing
-kept (Raw-F.Dotted rs) = items.Nothing
+kept _ = items.Boolean false
 
 abbrev pub item_of : Raw → items.Item
 item_of v = kept (out-Raw v)

@@ -1,28 +1,25 @@
 //! Puts a section into the tree: the way of its header, and the table that the header names.
 
-ghost use Rattle.std.specs.Prelude.{◌≡◌, ◌≤◌, ◌+◌, ℕ, false, [], ◌∷◌, ◌++◌, IfOk, IfErr, Some, None};
-ghost use Rattle.std.specs.Result.{MatchResult};
+ghost use Rattle.std.specs.Prelude.{◌≡◌, ◌≤◌, ◌+◌, ℕ, true, false, [], ◌∷◌, IfOk, IfErr};
 ghost use Rattle.basic_toml_value.specs.Nesting.{nesting_limit};
-ghost use Rattle.basic_toml_grammar.specs.Standing.{table as table_standing};
-ghost use Rattle.basic_toml_grammar.specs.Trie.{trie, no_tries, put_element};
+ghost use Rattle.basic_toml_grammar.specs.Sections.{Rows as spec_rows};
+ghost use Rattle.basic_toml_grammar.specs.Trie.{put_element};
 ghost use Rattle.basic_toml_read.specs.SectionView.{NoneLeft, header_texts, rows_view};
 ghost use Rattle.basic_toml_clash.specs.Clash.{NamesObstacle};
-ghost use Rattle.basic_toml_grow.specs.Item.{table_trie, item_trie};
-ghost use Rattle.basic_toml_grammar.specs.Steps.{number as number_step};
-ghost use Rattle.basic_toml_grammar.specs.Trie.{count};
-ghost use Rattle.basic_toml_grow.specs.Origins.{item_origins, table_within, or_else, rows_origins};
+ghost use Rattle.basic_toml_grow.specs.Item.{table_trie, item_trie, trie_before};
+ghost use Rattle.basic_toml_grow.specs.Origins.{item_origins, table_within, or_else, origins_before, rows_origins};
 ghost use Rattle.basic_toml_grow.specs.Ways.{way, way_by, way_at, GrowsAlong, MarksWay, MarksTable};
-ghost use Rattle.basic_toml_grow.specs.Headers.{EntersHeader, EntersItem, IsIn, IsKeptOut};
+ghost use Rattle.basic_toml_grow.specs.Headers.{EntersHeader, EntersItem, IsKeptOut, IsNew, HasOneMore, is_last};
 ghost use Rattle.basic_toml_grow.specs.Headers.{entered_by, steps_by, entered_at, steps_at, obstacle_by, obstacle_at, table_clash};
 ghost use Rattle.basic_toml_grow.specs.declared.item.Table.{out-Table};
 ghost use Rattle.basic_toml_grow.specs.Obstacles.{keys_obstacle, table_obstacle, element_obstacle};
 
-use crate::item::{Item, Table};
+use crate::item::{Child, Item, Table};
 use crate::rows::take_rows;
 use basic_toml_clash::Clash;
 use basic_toml_read::{Key, Rows, Section};
 use basic_toml_value::NESTING_LIMIT;
-use std::alloc::{AllocError, Global};
+use std::alloc::Global;
 use std::mem;
 
 /// Enters a section, which has this number in its list, into the table of a document (TOML v0.5.0, "Table" and "Array
@@ -160,65 +157,63 @@ fn enter_below<'de>(
     if level > NESTING_LIMIT {
         return Err(Clash::Deep);
     }
-    let position = table.entries.enter(key.text.as_str())?;
+    let ends_array = is_array && rest.is_empty();
+    let place = table
+        .entries
+        .enter(key.text.as_str(), |_| Child::of_header(alloc, ends_array))?;
     table.passed = true;
     table.section = number;
-    let there = table.entries.value_mut(position);
-    enter_at(alloc, &mut there.item, rest, is_array, rows, number, level)
+    let there = table.entries.value_mut(place.position);
+    enter_at(
+        alloc,
+        &mut there.item,
+        place.is_new,
+        rest,
+        is_array,
+        rows,
+        number,
+        level,
+    )
 }
 
-// Goes on from what stands at a key in a table of a level: to a new element of an array, where the header of one ends
-// there, and else by the keys that are left.
+// Goes on from what stands at a key in a table of a level, which may be new: by the keys that are left, and where the
+// header of an array ends there, into one more table of the array.
 #[cycle(walk)]
 #[inline(always)]
 fn enter_at<'de>(
     alloc: Global,
     there: &mut Item<'de>,
+    is_new: bool,
     rest: &[Key<'de>],
     is_array: bool,
     rows: &mut Rows<'de>,
     number: usize,
     level: usize,
 ) -> Result<(), Clash>
-    requires { level ≤ nesting_limit }
+    requires level { level ≤ nesting_limit }
+    requires new { is_new ≡ true → IsNew (is_last is_array (header_texts rest.now)) there.old }
     ensures entered { let rows = rows_view rows.old in
         let keys = header_texts rest.now in
-        EntersItem (entered_at is_array rows keys (item_trie there.old)) rows
-        (level + steps_at is_array keys (item_trie there.old)) (item_trie there.new) result }
-    ensures named { let met = obstacle_at is_array (rows_view rows.old) (header_texts rest.now) (level + 1)
-        (item_trie there.old) in
+        let before = trie_before is_new (item_trie there.old) in
+        EntersItem (entered_at is_array rows keys before) rows (level + steps_at is_array keys before)
+        (item_trie there.new) result }
+    ensures named { let before = trie_before is_new (item_trie there.old) in
+        let met = obstacle_at is_array (rows_view rows.old) (header_texts rest.now) (level + 1) before in
         IfErr result (λ clash. NamesObstacle met clash) }
     ensures origins { let new = rows_origins number (rows_view rows.old) in
+        let before = trie_before is_new (item_trie there.old) in
         IfOk result (λ _. (start section : ℕ) →
-        GrowsAlong (way_at is_array (header_texts rest.now) (item_trie there.old)) new
-        (item_origins there.old start section) (item_origins there.new start section)) }
-    ensures marks { IfOk result (λ _. (start section : ℕ) →
-        MarksWay number (way_at is_array (header_texts rest.now) (item_trie there.old))
-        (item_origins there.new start section)) }
+        GrowsAlong (way_at is_array (header_texts rest.now) before) new
+        (origins_before is_new (item_origins there.old start section)) (item_origins there.new start section)) }
+    ensures marks { let before = trie_before is_new (item_trie there.old) in
+        IfOk result (λ _. (start section : ℕ) →
+        MarksWay number (way_at is_array (header_texts rest.now) before) (item_origins there.new start section)) }
     ensures taken { IfOk result (λ _. NoneLeft rows.new) }
 {
-    if is_array && rest.is_empty() {
-        let tables = mem::replace(there, Item::Nothing);
-        *there = add_element(alloc, tables, rows, number, level)?;
-        return Ok(());
+    if is_array && rest.is_empty() && !is_new {
+        add_table(alloc, there, level)?;
     }
     enter_item(alloc, there, rest, is_array, rows, number, level)
-}
-
-// The tables of an array but for the latest, which goes to the others, and a table without entries in its box.
-fn with_blank<'de>(
-    alloc: Global,
-    before: Box<Vec<Table<'de>>>,
-    latest: Box<Table<'de>>,
-) -> Result<(Box<Vec<Table<'de>>>, Box<Table<'de>>), AllocError>
-    ensures before { IfOk result (λ out. out.0.value.items ≡ before.entry.value.items ++ latest.entry.value ∷ []) }
-    ensures blank { IfOk result (λ out. table_trie out.1.value
-        ≡ trie (Some (table_standing false false false)) None no_tries) }
-{
-    let mut before = before;
-    let mut latest = latest;
-    before.push(mem::replace(&mut *latest, Table::empty(alloc)))?;
-    Ok((before, latest))
 }
 
 // The clash of an array of tables with a table that stands at its key.
@@ -235,40 +230,28 @@ fn table_in_the_way(table: &Table<'_>) -> Clash
     }
 }
 
-// The array of tables in a table of a level, with one more element.
-fn add_element<'de>(
-    alloc: Global,
-    there: Item<'de>,
-    rows: &mut Rows<'de>,
-    number: usize,
-    level: usize,
-) -> Result<Item<'de>, Clash>
+// Adds a table without entries to an array of tables in a table of a level.
+fn add_table(alloc: Global, there: &mut Item<'_>, level: usize) -> Result<(), Clash>
     requires { level ≤ nesting_limit }
-    ensures entered { let rows = rows_view rows.old in
-        MatchResult result (λ item. IsIn (put_element rows (item_trie there.entry)) rows (level + 2) (item_trie item))
-        (λ clash. IsKeptOut (put_element rows (item_trie there.entry)) rows (level + 2) clash) }
-    ensures named { let met = element_obstacle (level + 1) (rows_view rows.old) (item_trie there.entry) in
-        IfErr result (λ clash. NamesObstacle met clash) }
-    ensures origins { let new = rows_origins number (rows_view rows.old) in
-        IfOk result (λ after. (start section : ℕ) →
-        GrowsAlong (number_step (count (item_trie there.entry)) ∷ []) new
-        (item_origins there.entry start section) (item_origins after start section)) }
-    ensures marks { IfOk result (λ after. (start section : ℕ) →
-        MarksWay number (number_step (count (item_trie there.entry)) ∷ []) (item_origins after start section)) }
-    ensures taken { IfOk result (λ _. NoneLeft rows.new) }
+    ensures more { IfOk result (λ _. HasOneMore there.old there.new) }
+    ensures out { IfErr result (λ clash. (rows : spec_rows) →
+        IsKeptOut (put_element rows (item_trie there.old)) rows (level + 2) clash) }
+    ensures named { IfErr result (λ clash. (rows : spec_rows) →
+        NamesObstacle (element_obstacle (level + 1) rows (item_trie there.old)) clash) }
 {
     if level >= NESTING_LIMIT {
         return Err(Clash::Deep);
     }
-    let (before, table) = match there {
-        Item::Nothing => (Box::new(alloc, Vec::new(alloc))?, Table::new(alloc)?),
-        Item::Tables(before, latest) => with_blank(alloc, before, latest)?,
-        Item::Table(table) => return Err(table_in_the_way(&*table)),
+    let last = match there {
+        Item::Tables(_, latest) => mem::replace(&mut **latest, Table::empty(alloc)),
+        Item::Table(table) => return Err(table_in_the_way(table)),
         _other => return Err(Clash::Header(1)),
     };
-    let mut latest = table;
-    open(alloc, &mut *latest, rows, number, level + 2)?;
-    Ok(Item::Tables(before, latest))
+    let Item::Tables(before, _) = there else {
+        unreachable!();
+    };
+    before.push(last)?;
+    Ok(())
 }
 
 // Goes on from what stands at a key in a table of a level by the keys that are left after it.
@@ -301,12 +284,6 @@ fn enter_item<'de>(
     ensures taken { IfOk result (λ _. NoneLeft rows.new) }
 {
     match there {
-        Item::Nothing => {
-            let mut table = Table::new(alloc)?;
-            enter_header(alloc, &mut *table, rest, is_array, rows, number, level + 1)?;
-            *there = Item::Table(table);
-            Ok(())
-        }
         Item::Table(table) => enter_header(alloc, table, rest, is_array, rows, number, level + 1),
         Item::Tables(_, latest) => {
             enter_header(alloc, latest, rest, is_array, rows, number, level + 2)

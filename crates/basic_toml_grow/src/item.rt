@@ -1,23 +1,20 @@
 //! What stands at a key or a number of a document, while its tree grows and when all of it is read.
 
-ghost use Rattle.std.specs.Prelude.{◌≡◌, ◌||◌, IfOk, Some, None, false};
-ghost use Rattle.basic_toml_grammar.specs.Standing.{table as table_standing};
-ghost use Rattle.basic_toml_grammar.specs.Trie.{trie, nothing, no_tries};
+ghost use Rattle.std.specs.Prelude.{◌≡◌, ◌||◌, IfOk, false};
 ghost use Rattle.basic_toml_grow.specs.declared.item.Child.{out-Child};
 ghost use Rattle.basic_toml_grow.specs.declared.item.Table.{out-Table};
-ghost use Rattle.basic_toml_grow.specs.Item.{item_trie, child_trie, no_child, table_trie};
-ghost use Rattle.basic_toml_grow.specs.Origins.{item_origins, child_origins};
+ghost use Rattle.basic_toml_grow.specs.Headers.{IsNew};
+ghost use Rattle.basic_toml_grow.specs.Item.{item_trie, child_trie, table_trie, empty_table};
+ghost use Rattle.basic_toml_grow.specs.Origins.{item_origins, child_origins, entry, no_origins, table_origin};
 
 use basic_toml_read::Element;
-use basic_toml_value::{Blank, Float, Pairs};
+use basic_toml_value::{Float, Pairs};
 use std::alloc::{AllocError, Global};
 
 /// What stands at a key or a number.
 #[cycle(items)]
 #[derive(Drop)]
 pub enum Item<'de> {
-    /// Nothing yet: something is about to stand here.
-    Nothing,
     Integer(i64),
     Float(Float),
     Boolean(bool),
@@ -72,6 +69,7 @@ impl<'de> Child<'de> {
         ensures origins { child_origins result ≡ item_origins item.entry start section }
         ensures start { (out-Child result).start ≡ start }
         ensures section { (out-Child result).section ≡ section }
+        ensures item { (out-Child result).item ≡ item.entry }
     {
         Child {
             start,
@@ -80,30 +78,41 @@ impl<'de> Child<'de> {
         }
     }
 
-    /// Where nothing stands yet.
-    pub(crate) fn nothing() -> Child<'de>
-        ensures { child_trie result ≡ nothing }
+    /// A table without entries, of which nothing is said yet, with room for so many.
+    pub(crate) fn table(
+        alloc: Global,
+        start: usize,
+        section: usize,
+        room: usize,
+    ) -> Result<Child<'de>, AllocError>
+        ensures trie { IfOk result (λ child. child_trie child ≡ empty_table) }
+        ensures origins { IfOk result (λ child.
+            child_origins child ≡ entry (table_origin false start section) no_origins) }
     {
-        Child::at(0, 0, Item::Nothing)
+        let mut table = Table::new(alloc)?;
+        table.reserve(room)?;
+        Ok(Child::at(start, section, Item::Table(table)))
     }
-}
 
-impl<'de> Blank for Child<'de> {
-    ghost blank = { no_child };
-
-    fn blank(_alloc: Global) -> Child<'de> {
-        Child {
-            start: 0,
-            section: 0,
-            item: Item::Nothing,
-        }
+    /// What a header makes at a key where nothing stands: a table, or an array of one table. They are without entries,
+    /// and nothing is said of them yet.
+    pub(crate) fn of_header(alloc: Global, is_array: bool) -> Result<Child<'de>, AllocError>
+        ensures { IfOk result (λ child. IsNew is_array (out-Child child).item) }
+    {
+        let table = Table::new(alloc)?;
+        let item = if is_array {
+            Item::Tables(Box::new(alloc, Vec::new(alloc))?, table)
+        } else {
+            Item::Table(table)
+        };
+        Ok(Child::at(0, 0, item))
     }
 }
 
 impl<'de> Table<'de> {
     /// A table without entries, of which nothing is said yet. It takes no memory.
     pub fn empty(alloc: Global) -> Table<'de>
-        ensures { table_trie result ≡ trie (Some (table_standing false false false)) None no_tries }
+        ensures { table_trie result ≡ empty_table }
     {
         Table {
             passed: false,
@@ -120,10 +129,20 @@ impl<'de> Table<'de> {
     ///
     /// `AllocError` where memory for it is refused.
     pub fn new(alloc: Global) -> Result<Box<Table<'de>>, AllocError>
-        ensures { IfOk result (λ table. table_trie table.value
-            ≡ trie (Some (table_standing false false false)) None no_tries) }
+        ensures { IfOk result (λ table. table_trie table.value ≡ empty_table) }
     {
         Ok(Box::new(alloc, Table::empty(alloc))?)
+    }
+
+    /// Makes room for so many more entries.
+    ///
+    /// # Errors
+    ///
+    /// `AllocError` where memory is refused. The table stays as it was.
+    pub(crate) fn reserve(&mut self, more: usize) -> Result<(), AllocError>
+        ensures { self.new ≡ self.old }
+    {
+        self.entries.reserve(more)
     }
 
     /// Whether a header names it or passes through it.

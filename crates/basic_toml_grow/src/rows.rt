@@ -1,16 +1,17 @@
 //! Puts the rows of a section into its table: their values, and the tables that their dotted keys lead through.
 
 ghost use Rattle.std.specs.Prelude.{◌≡◌, ◌≤◌, ◌<◌, length, [], ◌∷◌, ◌++◌, None, true, false, map};
-ghost use Rattle.std.specs.Prelude.{MatchOption, IfOk, IfErr, IfSome};
+ghost use Rattle.std.specs.Prelude.{IfOk, IfErr};
 ghost use Rattle.basic_toml_value.specs.Nesting.{nesting_limit};
 ghost use Rattle.basic_toml_value.specs.Data.{Data};
 ghost use Rattle.basic_toml_grammar.specs.Sections.{Raw as spec_raw};
 ghost use Rattle.basic_toml_grammar.specs.Marks.{valued};
-ghost use Rattle.basic_toml_grammar.specs.Trie.{nothing, mark_here};
+ghost use Rattle.basic_toml_grammar.specs.Steps.{key as key_step};
+ghost use Rattle.basic_toml_grammar.specs.Trie.{mark_here};
 ghost use Rattle.basic_toml_read.specs.SectionView.{raw_of, key_of, header_texts, rows_seen, rows_view, elements_view, NoneLeft};
 ghost use Rattle.basic_toml_grow.specs.declared.item.Table.{out-Table};
 ghost use Rattle.basic_toml_grow.specs.Item.{leaf, child_trie, table_trie};
-ghost use Rattle.basic_toml_grow.specs.Origins.{child_origins, table_within, with_more, or_else, entry};
+ghost use Rattle.basic_toml_grow.specs.Origins.{child_origins, table_within, with_more, or_else, entry, beyond};
 ghost use Rattle.basic_toml_grow.specs.Origins.{row_origins, rows_origins, value_origins, elements_origins};
 ghost use Rattle.basic_toml_grow.specs.Origins.{dotted_of, table_origin};
 ghost use Rattle.basic_toml_grow.specs.Rows.{EntersRow, EntersRows, Extends, Finishes, FinishesAll, one_row};
@@ -66,21 +67,21 @@ impl<T: Drop> From<AllocFailed<T>> for Met {
     }
 }
 
-// Why what stands at a row's last key keeps the row out, or `None` where nothing stands there yet.
-fn what_is_met(there: &Child<'_>) -> Option<Met>
-    ensures stands { MatchOption result (child_trie there.now ≡ nothing)
-        (λ met. (d : Data) → mark_here (valued d) (child_trie there.now) ≡ None) }
-    ensures named { IfSome result (λ met. TellsLast (child_trie there.now) met) }
+// Why what stands at a row's last key keeps the row out.
+fn what_is_met(there: &Child<'_>) -> Met
+    ensures stands { (d : Data) → mark_here (valued d) (child_trie there.now) ≡ None }
+    ensures named { TellsLast (child_trie there.now) result }
 {
     match &there.item {
-        Item::Nothing => None,
-        Item::Table(table) => Some(if table.is_made() {
-            Met::Header(1)
-        } else {
-            Met::Row
-        }),
-        Item::Tables(_, _) => Some(Met::Header(1)),
-        _ => Some(Met::Row),
+        Item::Table(table) => {
+            if table.is_made() {
+                Met::Header(1)
+            } else {
+                Met::Row
+            }
+        }
+        Item::Tables(_, _) => Met::Header(1),
+        _ => Met::Row,
     }
 }
 
@@ -105,34 +106,43 @@ fn enter_row<'de>(
         IfOk result (λ _. table_within table.new ≡ with_more (table_within table.old) row) }
 {
     let Some((key, rest)) = keys.split_first() else {
-        let position = table.entries.enter(last)?;
-        if let Some(met) = what_is_met(table.entries.value(position)) {
-            return Err(met);
-        }
-        table.entries.put(position, child);
-        return Ok(());
+        return enter_last(table, last, child);
     };
-    let position = table.entries.enter_again(key.text.as_str())?;
-    let room = room_like(table, position);
-    let there = table.entries.value_mut(position);
-    extend(alloc, there, rest, last, child, room)
+    let start = child.start;
+    let section = child.section;
+    let place = table.entries.enter_again(key.text.as_str(), |last| {
+        Child::table(alloc, start, section, room_like(last))
+    })?;
+    let there = table.entries.value_mut(place.position);
+    extend(alloc, there, rest, last, child)
 }
 
-// The room that a table at this position may want: as many entries as the one before it has, since such tables are
-// often alike.
-fn room_like(table: &Table<'_>, position: usize) -> usize
-    requires { position < length (out-Table table.now).entries }
+// Puts a row's value into a table at its last key.
+#[inline(always)]
+fn enter_last<'de>(table: &mut Table<'de>, last: &str, child: Child<'de>) -> Result<(), Met>
+    ensures entered { (d : Data) → child_trie child.entry ≡ leaf d
+        → EntersRow (last.entry.now ∷ []) d (table_trie table.old) (table_trie table.new) result }
+    ensures named { IfErr result (λ met. (d : Data) → child_trie child.entry ≡ leaf d
+        → TellsRow [] last.entry.now d (table_trie table.old) met) }
+    ensures origins { let row = beyond (key_step last.entry.now) (child_origins child.entry) in
+        IfOk result (λ _. table_within table.new ≡ with_more (table_within table.old) row) }
 {
-    if position == 0 {
-        return 1;
+    let place = table.entries.enter_value(last, child)?;
+    if place.is_new {
+        return Ok(());
     }
-    match &table.entries.value(position - 1).item {
-        Item::Table(before) => before.entries.len(),
+    Err(what_is_met(table.entries.value(place.position)))
+}
+
+// The room that a new table may want after this one: as many entries as it has, since such tables are often alike.
+fn room_like(last: Option<&Child<'_>>) -> usize {
+    match last.map(|child| &child.item) {
+        Some(Item::Table(table)) => table.entries.len(),
         _ => 1,
     }
 }
 
-// Puts the rest of a row into the table at a key that a period follows. Where it is new, it has this room.
+// Puts the rest of a row into the table at a key that a period follows.
 #[cycle(leading)]
 #[inline(never)]
 fn extend<'de>(
@@ -141,7 +151,6 @@ fn extend<'de>(
     keys: &[Key<'de>],
     last: &str,
     child: Child<'de>,
-    room: usize,
 ) -> Result<(), Met>
     ensures entered { (d : Data) → child_trie child.entry ≡ leaf d
         → Extends (header_texts keys.entry.now ++ last.entry.now ∷ []) d (child_trie there.old) (child_trie there.new)
@@ -154,20 +163,6 @@ fn extend<'de>(
         (entry (dotted_of child.entry) row)) }
 {
     match &mut there.item {
-        Item::Nothing => {
-            let mut table = Table::new(alloc)?;
-            make_room(&mut *table, room)?;
-            table.dotted = true;
-            let start = child.start;
-            let section = child.section;
-            enter_row(alloc, &mut *table, keys, last, child)?;
-            *there = Child {
-                start,
-                section,
-                item: Item::Table(table),
-            };
-            Ok(())
-        }
         Item::Table(table) => {
             if table.named {
                 return Err(Met::Header(keys.len() + 2));
@@ -188,13 +183,6 @@ fn room_for(rows: &[Row<'_>]) -> usize {
         }
     }
     room
-}
-
-// Makes room in a table for so many more entries.
-fn make_room(table: &mut Table<'_>, more: usize) -> Result<(), AllocError>
-    ensures { table.new ≡ table.old }
-{
-    table.entries.reserve(more)
 }
 
 /// Puts rows into a table of a level, in order. Into a table without entries a few simple ones go at once, and of many
@@ -235,7 +223,7 @@ pub(crate) fn take_rows<'de>(
     {
         return take_many_rows(alloc, table, rows, section, level);
     }
-    make_room(table, room_for(rows.as_slice()))?;
+    table.reserve(room_for(rows.as_slice()))?;
     enter_rows(
         alloc,
         table,

@@ -1,13 +1,14 @@
 //! Simple rows: a table without entries takes them all at once.
 
-ghost use Rattle.std.specs.Prelude.{◌≡◌, ◌≤◌, [], IfOk, IsTrue, length, map, take, drop};
+ghost use Rattle.std.specs.Prelude.{◌≡◌, ◌≤◌, [], false, IfOk, IsTrue, length, map, take, drop};
 ghost use Rattle.basic_toml_value.specs.Keys.{are_distinct};
 ghost use Rattle.basic_toml_value.specs.Entries.{seen, pair_seen};
 ghost use Rattle.basic_toml_value.specs.Text.{text_bytes};
 ghost use Rattle.basic_toml_value.specs.Index.{IsIndex, few};
 ghost use Rattle.basic_toml_clash.specs.Simple.{key_of};
 ghost use Rattle.basic_toml_grow.specs.Simple.{entry_of as new_entry, entries_of as new_entries, with_entries};
-ghost use Rattle.basic_toml_grow.specs.Simple.{item_of as kept_item};
+ghost use Rattle.basic_toml_grow.specs.Simple.{item_of as kept_item, is_inline, none_inline};
+ghost use Rattle.basic_toml_read.specs.declared.section.Row.{out-Row};
 
 use crate::item::{Child, Item, Table};
 use basic_toml_clash::ItemsLeft;
@@ -16,9 +17,10 @@ use basic_toml_value::{Index, Pair, Pairs, Text, Texts};
 use std::alloc::{AllocError, Global};
 use std::mem;
 
-// The item of a plain value. What is not plain is kept as nothing.
+// The item of a plain value.
 #[inline(always)]
 fn item_of<'de>(value: Raw<'de>) -> Item<'de>
+    requires { is_inline value ≡ false }
     ensures { result ≡ kept_item value.entry }
 {
     match value {
@@ -28,14 +30,15 @@ fn item_of<'de>(value: Raw<'de>) -> Item<'de>
         Raw::String(text) => Item::String(text),
         Raw::Escaped(text) => Item::Escaped(text),
         Raw::Array(elements) => Item::Plain(elements),
-        Raw::Inline(_) | Raw::Dotted(_) => Item::Nothing,
+        Raw::Inline(_) | Raw::Dotted(_) => unreachable!(),
     }
 }
 
 // The entry that a row of a section becomes, of one key and a plain value. The key is a copy of the row's.
 #[inline(always)]
 fn entry_of<'de>(key: Text, row: Row<'de>, section: usize) -> Pair<Child<'de>>
-    requires { text_bytes key ≡ key_of row }
+    requires key { text_bytes key ≡ key_of row }
+    requires plain { is_inline (out-Row row).value ≡ false }
     ensures { pair_seen result ≡ new_entry section row.entry }
 {
     Pair {
@@ -54,6 +57,7 @@ fn entries_of<'de>(
     rows: &mut Vec<Row<'de>>,
     section: usize,
 ) -> Result<Vec<Pair<Child<'de>>>, AllocError>
+    requires plain { IsTrue (none_inline rows.old.items) }
     ensures entries { IfOk result (λ entries. seen entries.items ≡ new_entries section rows.old.items) }
     ensures taken { IfOk result (λ _. rows.new.items ≡ []) }
 {
@@ -74,7 +78,8 @@ fn first_entries_of<'de>(
     section: usize,
     count: usize,
 ) -> Result<Vec<Pair<Child<'de>>>, AllocError>
-    requires { count ≤ length rows.old }
+    requires within { count ≤ length rows.old }
+    requires plain { IsTrue (none_inline rows.old) }
     ensures entries { IfOk result (λ entries. seen entries.items ≡ new_entries section (take count rows.old)) }
     ensures left { IfOk result (λ entries. rows.new ≡ drop count rows.old) }
 {
@@ -98,6 +103,7 @@ pub(crate) fn with_rows<'de>(
     rows: &mut Vec<Row<'de>>,
     section: usize,
 ) -> Result<(), AllocError>
+    requires plain { IsTrue (none_inline rows.old.items) }
     requires distinct { IsTrue (are_distinct (map key_of rows.old.items)) }
     requires few { length rows.old.items ≤ few }
     ensures after { IfOk result (λ _. table.new ≡ with_entries table.old (new_entries section rows.old.items)) }
@@ -153,6 +159,7 @@ pub(crate) fn with_first_rows<'de>(
     count: usize,
 ) -> Result<(), AllocError>
     requires within { count ≤ length rows.old }
+    requires plain { IsTrue (none_inline rows.old) }
     requires index { IsIndex (take count (map key_of rows.old)) index }
     ensures after { IfOk result (λ _. table.new
         ≡ with_entries table.old (new_entries section (take count rows.old))) }

@@ -82,7 +82,6 @@ Agree (Item-F.Tables before latest) =
 Agree _ = ⊤
 
 item_agrees : (x : Item-F Item Child Table) → Agree x → OfItem (roll-Item x)
-item_agrees Item-F.Nothing agree = search (rules, the_lemmas)
 item_agrees (Item-F.Integer z) agree = search (rules, the_lemmas)
 item_agrees (Item-F.Float text) agree = search (rules, the_lemmas)
 item_agrees (Item-F.Boolean b) agree = search (rules, the_lemmas)
@@ -150,7 +149,6 @@ Table1 = (t : Table) × OfTable t
 
 parts_agree : (y : Item-F Item1 Child1 Table1)
     → Agree (map-Item Item1 Child1 Table1 Item Child Table (λ e. e.0) (λ e. e.0) (λ e. e.0) y)
-parts_agree Item-F.Nothing = tt
 parts_agree (Item-F.Integer z) = tt
 parts_agree (Item-F.Float text) = tt
 parts_agree (Item-F.Boolean b) = tt

@@ -15,9 +15,8 @@ use Rattle.basic_toml_grow.specs.declared.item.Child.{fold-Child}
 use Rattle.basic_toml_grow.specs.declared.item.Table as tables
 use Rattle.basic_toml_grow.specs.declared.item.Table.{fold-Table}
 
--- one level, the parts seen already; where nothing stands yet, the empty table, as in `Growth.closed`
+-- one level, the parts seen already
 abbrev pub item_step : Item-F Data Data Data → Data
-item_step Item-F.Nothing = Data.table no_members
 item_step (Item-F.Integer z) = Data.integer z
 item_step (Item-F.Float text) = Data.float text
 item_step (Item-F.Boolean b) = Data.boolean b

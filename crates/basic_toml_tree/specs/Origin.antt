@@ -69,7 +69,6 @@ abbrev pub last_at : Tree → Option ℕ
 last_at tree = last_of tree.headers
 
 abbrev pub item_name : Item-F Item Child Table → List ℕ
-item_name Item-F.Nothing = codes "dotted table"
 item_name (Item-F.Integer _) = codes "integer"
 item_name (Item-F.Float _) = codes "float"
 item_name (Item-F.Boolean _) = codes "boolean"

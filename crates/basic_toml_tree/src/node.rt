@@ -114,7 +114,7 @@ impl<'t, 'de> Node<'t, 'de> {
         }
     }
 
-    // The table here, and none for one in which nothing stands yet.
+    // The table here, and none for one that is a value of a plain array, which no table is.
     pub(crate) fn as_table(self) -> Option<Option<&'t Table<'de>>>
         ensures data { MatchOption result (is_table (node_data self.entry) ≡ false)
             (λ table. node_data self.entry ≡ maybe_table table) }
@@ -125,7 +125,6 @@ impl<'t, 'de> Node<'t, 'de> {
             Spot::Item(item) => match item {
                 Item::Inline(table) => Some(Some(table)),
                 Item::Table(table) => Some(Some(table)),
-                Item::Nothing => Some(None),
                 _ => None,
             },
             // no value of a plain array is one

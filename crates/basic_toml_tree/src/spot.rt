@@ -52,7 +52,6 @@ impl<'t, 'de> Spot<'t, 'de> {
                 }
             }
             Spot::Item(item) => match item {
-                Item::Nothing => "dotted table",
                 Item::Integer(_) => "integer",
                 Item::Float(_) => "float",
                 Item::Boolean(_) => "boolean",

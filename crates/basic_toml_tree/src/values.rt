@@ -21,7 +21,6 @@ pub(crate) fn value_of(alloc: Global, item: &Item<'_>) -> Result<Value, AllocErr
     ensures { IfOk result (λ value. view value ≡ data_of item.now) }
 {
     match item {
-        Item::Nothing => Ok(Value::Table(values::Table::new(alloc))),
         Item::Integer(number) => Ok(Value::Integer(*number)),
         Item::Float(float) => Ok(Value::Float(float.clone()?)),
         Item::Boolean(truth) => Ok(Value::Boolean(*truth)),
@@ -97,7 +96,6 @@ fn into_value(alloc: Global, item: Item<'_>) -> Result<Value, AllocError>
     ensures { IfOk result (λ value. view value ≡ data_of item.entry) }
 {
     match item {
-        Item::Nothing => Ok(Value::Table(values::Table::new(alloc))),
         Item::Integer(number) => Ok(Value::Integer(number)),
         Item::Float(float) => Ok(Value::Float(float)),
         Item::Boolean(truth) => Ok(Value::Boolean(truth)),

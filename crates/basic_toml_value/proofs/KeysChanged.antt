@@ -1,12 +1,14 @@
 -- What stands at a key, where keys are entered and values are changed.
 use Rattle.std.proofs.Common.{◌≡◌, ◌⊎◌, inl, inr, ℕ, suc, zero, true, false, List, [], ◌∷◌, ◌++◌, refl, sym, take}
 use Rattle.std.proofs.Common.{ap, ◌∙◌, arith, Some, None, option_map, map, if◌then◌else◌, Bool}
+use Rattle.std.specs.Prelude.{not}
 use Rattle.std.specs.List.{slice_get}
 use Rattle.std.specs.Str.{bytes_eq}
 use Rattle.basic_toml_value.specs.Keys.{is_among}
 use Rattle.basic_toml_value.specs.Pairs.{keys_of, has_key, value_at}
 use Rattle.basic_toml_value.proofs.DistinctKeys.{bytes_eq-same}
-use Rattle.basic_toml_value.specs.Growth.{with_value, values_of, EntersKey}
+use Rattle.basic_toml_value.specs.Growth.{with_value, values_of, EntersKey, FindsOrAdds}
+use Rattle.basic_toml_value.specs.declared.pairs.growth.Place.{Place}
 
 module _ {V : Type 0} where
   -- what stands at the first position of a key
@@ -52,11 +54,6 @@ module _ {V : Type 0} where
   value_put (p ∷ ps) zero v w there = refl
   value_put (p ∷ ps) (suc i) v w there = value_put ps i v w there
 
-  changed_twice : (ps : List (List ℕ × V)) (i : ℕ) (v w : V) → with_value (with_value ps i v) i w ≡ with_value ps i w
-  changed_twice [] i v w = refl
-  changed_twice (p ∷ ps) zero v w = refl
-  changed_twice (p ∷ ps) (suc i) v w = ap (λ qs. p ∷ qs) (changed_twice ps i v w)
-
   -- a key that is entered last
   last_at : (ps : List (List ℕ × V)) (k : List ℕ) (v : V) → has_key ps k ≡ false
       → value_at (ps ++ (k, v) ∷ []) k ≡ Some v
@@ -72,14 +69,28 @@ module _ {V : Type 0} where
   last_elsewhere (p ∷ ps) k l v other =
       ap (λ x. if bytes_eq l p.0 then Some p.1 else x) (last_elsewhere ps k l v other)
 
-  none_at : (ps : List (List ℕ × V)) (k : List ℕ) → has_key ps k ≡ false → value_at ps k ≡ None
+  pub none_at : (ps : List (List ℕ × V)) (k : List ℕ) → has_key ps k ≡ false → value_at ps k ≡ None
   none_at [] k absent = refl
   none_at (p ∷ ps) k absent =
       let other : bytes_eq k p.0 ≡ false = grind (arith, absent) in
       let rest : has_key ps k ≡ false = grind (arith, absent) in
       rw other (none_at ps k rest)
 
-  -- a key is entered, and what stands there then is taken out and another value put in
+  absent_at : (ps : List (List ℕ × V)) (k : List ℕ) → value_at ps k ≡ None → has_key ps k ≡ false
+  absent_at [] k none = refl
+  absent_at (p ∷ ps) k none = go (bytes_eq k p.0) refl none (absent_at ps k)
+    where
+      go : (b : Bool) → bytes_eq k p.0 ≡ b → (if b then Some p.1 else value_at ps k) ≡ None
+          → (value_at ps k ≡ None → has_key ps k ≡ false) → has_key (p ∷ ps) k ≡ false
+      go true is none rest = absurd (cc)
+      go false is none rest = rw is (rest none)
+
+  -- where nothing stood at a key that is entered, its value was made for it
+  pub made_first : (gives : V → Type 0) (k : List ℕ) (old new : List (List ℕ × V)) (p : Place)
+      (e : FindsOrAdds gives k old new p) → value_at old k ≡ None → gives e.there
+  made_first gives k old new p e none = e.made (e.is_new ∙ ap not (absent_at old k none))
+
+  -- a key is entered, and another value put in the place of what stands there then
   module _ (k : List ℕ) (fresh : V) (old new : List (List ℕ × V)) (i : ℕ) (entered : EntersKey k fresh old new i)
       (there : V) (stands : slice_get (values_of new) i ≡ Some there) where
     -- it stood there before, or it is the value that is entered
@@ -98,16 +109,11 @@ module _ {V : Type 0} where
             let same : there ≡ fresh = cc in
             inr (none_at old k is, same)
 
-    pub put_at : (held gone : V) → value_at (with_value (with_value new i held) i gone) k ≡ Some gone
-    put_at held gone =
-        ap (λ ps. value_at ps k) (changed_twice new i held gone) ∙ changed_at new i k gone entered.at entered.first
+    pub put_at : (v : V) → value_at (with_value new i v) k ≡ Some v
+    put_at v = changed_at new i k v entered.at entered.first
 
-    pub kept_elsewhere : (held gone : V) (l : List ℕ) → bytes_eq l k ≡ false
-        → value_at (with_value (with_value new i held) i gone) l ≡ value_at old l
-    kept_elsewhere held gone l other =
-        ap (λ ps. value_at ps l) (changed_twice new i held gone)
-        ∙ changed_elsewhere new i k l gone entered.at other
-        ∙ go (has_key old k) entered.pairs
+    pub kept_elsewhere : (v : V) (l : List ℕ) → bytes_eq l k ≡ false → value_at (with_value new i v) l ≡ value_at old l
+    kept_elsewhere v l other = changed_elsewhere new i k l v entered.at other ∙ go (has_key old k) entered.pairs
       where
         go : (b : Bool) → new ≡ (if b then old else old ++ (k, fresh) ∷ []) → value_at new l ≡ value_at old l
         go true pairs = ap (λ ps. value_at ps l) pairs

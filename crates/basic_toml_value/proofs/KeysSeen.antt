@@ -10,7 +10,8 @@ use Rattle.basic_toml_value.specs.Keys.{is_among, are_distinct}
 use Rattle.basic_toml_value.specs.Pairs.{keys_of, has_key}
 use Rattle.basic_toml_value.proofs.SeenPairs.{value_at-found, value_at-absent}
 use Rattle.basic_toml_value.proofs.DistinctKeys.{slice_get-last, is_among_at, is_among-before}
-use Rattle.basic_toml_value.specs.Growth.{with_value, values_of, EntersKey}
+use Rattle.basic_toml_value.specs.Growth.{with_value, values_of, EntersKey, FindsOrAdds}
+use Rattle.basic_toml_value.specs.declared.pairs.growth.Place.{Place}
 
 take-front : (keys : List (List ℕ)) (key : List ℕ) → take (length keys) (keys ++ key ∷ []) ≡ keys
 take-front [] key = refl
@@ -113,5 +114,47 @@ module _ {V : Type 0} where
   stands_within [] i key at = absurd (cc)
   stands_within (p ∷ ps) zero key at = omega arith
   stands_within (p ∷ ps) (suc i) key at = let below : i < length ps = stands_within ps i key at in omega arith
+
+  -- a value stands where a key does
+  pub value_beside : (pairs : List (List ℕ × V)) (i : ℕ) (key : List ℕ) → slice_get (keys_of pairs) i ≡ Some key
+      → (v : V) × (slice_get (values_of pairs) i ≡ Some v)
+  value_beside [] i key at = absurd (cc)
+  value_beside (p ∷ ps) zero key at = (p.1, refl)
+  value_beside (p ∷ ps) (suc i) key at = value_beside ps i key at
+
+  -- a key that is found is not new
+  pub found_again : (pairs : List (Pair V)) (old : List (List ℕ × V)) (i : ℕ) (key : List ℕ) (made : V → Type 0)
+      → seen pairs ≡ old → IsTrue (are_distinct (texts_of pairs)) → slice_get (texts_of pairs) i ≡ Some key
+      → FindsOrAdds made key old old (record { position = i; is_new = false })
+  found_again pairs old i key made same distinct found =
+      let at : slice_get (keys_of old) i ≡ Some key = rw (← same) (rw (keys_of-seen pairs) found) in
+      let value = value_beside old i key at in
+      let there : has_key old key ≡ true = rw (← same) (has_key-found pairs i key found) in record {
+        there = value.0;
+        stands = value.1;
+        entered = entered_found pairs old i key value.0 same distinct found;
+        is_new = rw there refl;
+        made = λ new. absurd (cc);
+      }
+
+  -- a key that is absent is new
+  pub added_last : (pairs : List (Pair V)) (old new : List (List ℕ × V)) (i : ℕ) (key : List ℕ) (v : V)
+      (gives : V → Type 0) → seen pairs ≡ old → is_among (texts_of pairs) key ≡ false
+      → EntersKey key v (seen pairs) new i → slice_get (values_of new) i ≡ Some v → gives v
+      → FindsOrAdds gives key old new (record { position = i; is_new = true })
+  added_last pairs old new i key v gives same absent entered stands given =
+      let none : has_key old key ≡ false = rw (← same) (has_key-seen pairs key ∙ absent) in record {
+        there = v;
+        stands = stands;
+        entered = rw (← same) entered;
+        is_new = rw none refl;
+        made = λ new. given;
+      }
+
+  -- a value stands where it was put last
+  pub value_last : (pairs : List (Pair V)) (pair : Pair V)
+      → slice_get (values_of (seen (pairs ++ pair ∷ []))) (length pairs) ≡ Some pair.value
+  value_last [] pair = refl
+  value_last (p ∷ ps) pair = value_last ps pair
 
 pub ruleset keys_seen = (keys_of-seen, has_key-seen, has_key-found, value_at-found, value_at-absent)

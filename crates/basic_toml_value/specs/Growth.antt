@@ -1,7 +1,9 @@
 -- Keys with their values, in order: how they change.
-use Rattle.std.specs.Prelude.{◌≡◌, ℕ, zero, suc, List, [], ◌∷◌, ◌++◌, false, Some, if◌then◌else◌, slice_get, map, take}
+use Rattle.std.specs.Prelude.{◌≡◌, ℕ, zero, suc, List, [], ◌∷◌, ◌++◌, true, false, not, Some, if◌then◌else◌, slice_get}
+use Rattle.std.specs.Prelude.{map, take, Result, Ok}
 use Rattle.basic_toml_value.specs.Keys.{is_among}
 use Rattle.basic_toml_value.specs.Pairs.{keys_of, has_key}
+use Rattle.basic_toml_value.specs.declared.pairs.growth.Place.{Place}
 
 -- the values of pairs
 abbrev pub values_of : {V : Type 0} → List (List ℕ × V) → List V
@@ -22,3 +24,16 @@ pub record EntersKey {V : Type 0} (key : List ℕ) (v : V) (old new : List (List
   pub at : slice_get (keys_of new) position ≡ Some key
   pub first : is_among (take position (keys_of new)) key ≡ false
   pub pairs : new ≡ with_key old key v
+
+-- what a call gives, whatever it is handed
+abbrev pub Gives : {A V E : Type 0} → (A → Result V E → Type 0) → V → Type 0
+Gives {A = A} post v = (x : A) × post x (Ok v)
+
+-- a key stands at this place then, with this value: where it is new, one that was made for it
+pub record FindsOrAdds {V : Type 0} (gives : V → Type 0) (key : List ℕ) (old new : List (List ℕ × V)) (p : Place)
+    : Type 0 where
+  pub there : V
+  pub stands : slice_get (values_of new) p.position ≡ Some there
+  pub entered : EntersKey key there old new p.position
+  pub is_new : p.is_new ≡ not (has_key old key)
+  pub made : p.is_new ≡ true → gives there

@@ -1,5 +1,5 @@
 //! The values that a TOML text holds, and tables with an index of their keys. The reader gives its values, and the writer
-//! takes them; a tree grows in tables of the same kind ([`Pairs`]), where a [`Blank`] value stands at a new key.
+//! takes them; a tree grows in tables of the same kind ([`Pairs`]).
 //!
 //! ```text
 //! let mut table = Table::new(alloc);
@@ -18,6 +18,6 @@ mod value;
 
 pub use basic_toml_numbers::Float;
 pub use index::{Found, Gap, Index, Texts};
-pub use pairs::{Blank, Iter, Pair, Pairs, PushRefusal};
+pub use pairs::{Iter, Pair, Pairs, Place, PushRefusal};
 pub use text::Text;
 pub use value::{NESTING_LIMIT, Table, Value};

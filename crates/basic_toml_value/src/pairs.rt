@@ -15,7 +15,7 @@ use std::marker::Model;
 
 mod growth;
 
-pub use growth::Blank;
+pub use growth::Place;
 
 /// Why a pair was not put into a table.
 #[derive(Clone, Copy, Debug, PartialEq, Eq)]

@@ -10,7 +10,7 @@ ghost use Rattle.toml_from_json.specs.Meaning.{IsRefused, IsRepeated, data_of, i
 
 use crate::refusal::{Fault, NoTable, Refusal, refused, under};
 use crate::scalar::{number_of, tag_of, tagged_of};
-use basic_toml_value::{PushRefusal, Table, Text, Value};
+use basic_toml_value::{Table, Text, Value};
 use json::Value as Json;
 use std::alloc::Global;
 use toml_json_text::Form;
@@ -122,12 +122,11 @@ fn put(alloc: Global, table: &mut Table, key: &str, value: Value) -> Result<(), 
     ensures new { OnOk result (has_key table.old key.now ≡ false) }
     ensures repeated { IfErr result (IsRepeated key.now (has_key table.old key.now)) }
 {
-    match table.push_copy(key, value) {
-        Ok(()) => Ok(()),
-        Err(PushRefusal::KeyPresent) => Err(NoTable::Refused(Refusal {
-            fault: Fault::RepeatedKey,
-            path: String::from_str(alloc, key)?,
-        })),
-        Err(PushRefusal::OutOfMemory) => Err(NoTable::OutOfMemory),
+    if table.enter_value(key, value)?.is_new {
+        return Ok(());
     }
+    Err(NoTable::Refused(Refusal {
+        fault: Fault::RepeatedKey,
+        path: String::from_str(alloc, key)?,
+    }))
 }

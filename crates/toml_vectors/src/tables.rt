@@ -21,7 +21,7 @@ fn fills_tables(rt: HostRuntime) -> Result<(), Fail> {
         let key = format!(in alloc; "key-{number}")?;
         assert!(rt; table.push(key, Value::Integer(number)).is_ok());
     }
-    assert!(rt; table.push_copy("copied", Value::Boolean(false)).is_ok());
+    assert!(rt; table.enter_value("copied", Value::Boolean(false))?.is_new);
     assert_eq!(rt; table.len(), 41);
     Ok(())
 }

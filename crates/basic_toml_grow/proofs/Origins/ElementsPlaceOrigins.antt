@@ -1,4 +1,4 @@
--- A header that goes on into the latest element of an array of tables, and one that adds an element.
+-- A header that goes on into the latest element of an array of tables, and what a table that is added to one changes.
 use Rattle.std.proofs.Common.{◌≡◌, ℕ, zero, suc, Bool, true, false, List, [], ◌∷◌, ◌++◌, Some, None, refl, ap}
 use Rattle.std.proofs.Common.{sym, ◌∙◌, subst, map, arith, length, slice_get, Vec, Box, Global}
 use Rattle.std.proofs.Common.{nat_eq}
@@ -9,18 +9,18 @@ use Rattle.std.proofs.lemmas.List.{map-append}
 use Rattle.basic_toml_grammar.specs.Sections.{KeyTexts}
 use Rattle.basic_toml_grammar.specs.Steps.{Step, key, number, Path, begins}
 use Rattle.basic_toml_grammar.specs.Trie.{count}
-use Rattle.basic_toml_grow.specs.declared.item.Item.{Nothing, Tables}
+use Rattle.basic_toml_grow.specs.declared.item.Item.{Tables}
 use Rattle.basic_toml_grow.specs.declared.item.Item as items
 use Rattle.basic_toml_grow.specs.declared.item.Table.{Table}
 use Rattle.basic_toml_grow.specs.Item.{item_trie, table_trie}
 use Rattle.basic_toml_grow.specs.Origins.{Origin, Origins, no_origins, entry, under, at_numbers}
 use Rattle.basic_toml_grow.specs.Origins.{table_origin, of_table, section_in, item_origins, table_within, or_else, along}
+use Rattle.basic_toml_grow.specs.Headers.{IsNewArray, HasOneMore}
 use Rattle.basic_toml_grow.specs.Ways.{way, way_by, GrowsAlong}
-use Rattle.basic_toml_grow.proofs.HeadersInATrie.{fresh}
-use Rattle.basic_toml_grow.proofs.TablesOpened.{tables_trie, nothing_trie}
-use Rattle.basic_toml_grow.proofs.Origins.OriginsSeen.{nothing_seen, tables_seen, table_origins, fresh_within}
+use Rattle.basic_toml_grow.proofs.TablesOpened.{tables_trie}
+use Rattle.basic_toml_grow.proofs.Origins.OriginsSeen.{tables_seen, table_origins, fresh_within}
 use Rattle.basic_toml_grow.proofs.Origins.OriginsSeen.{or_none}
-use Rattle.basic_toml_grow.proofs.Origins.HeadersPlaceOrigins.{way_into_latest}
+use Rattle.basic_toml_grow.proofs.Origins.HeadersPlaceOrigins.{way_into_latest, Keeps}
 
 -- the last of a list, and the others
 module _ {A : Type 0} where
@@ -142,59 +142,77 @@ latest_grows a keys rows there item b old after is item_is grows at s =
         ≡ at_numbers (xs ++ of_table at s (table_within after.value) ∷ []) (r ∷ p)
     now r p = array_below item b after at s item_is r p
 
--- one more element, after none and after some
-module _ (there : items.Item) (at s : ℕ) (before : Box (Vec Table Global) Global) (new after : Box Table Global) (rows : Origins)
-    (is_fresh : table_trie new.value ≡ fresh)
-    (put : table_origins after.value ≡ or_else (table_origins new.value) rows) where
-  abbrev xs : List Origins
-  xs = map (of_table at s) (map table_within before.value.items)
+-- an array of one new table comes from nowhere yet, but for what is on its way
+pub new_array_keeps : (i : items.Item) (at s : ℕ) → IsNewArray i
+    → Keeps (number 0 ∷ []) no_origins (item_origins i at s)
+new_array_keeps i at s new = record { aside = go }
+  where
+    none : map (of_table at s) (map table_within new.before.value.items) ≡ []
+    none = ap (λ ts. map (of_table at s) (map table_within ts)) new.none
 
-  now : (r : Step) (p : Path) → item_origins (Tables before after) at s (r ∷ p)
-      ≡ at_numbers (xs ++ of_table at s (table_within after.value) ∷ []) (r ∷ p)
-  now r p = array_below (Tables before after) before after at s refl r p
+    now : (r : Step) (p : Path) → item_origins i at s (r ∷ p)
+        ≡ at_numbers (of_table at s (table_within new.latest.value) ∷ []) (r ∷ p)
+    now r p = array_below i new.before new.latest at s new.is r p
+        ∙ ap (λ os. at_numbers (os ++ of_table at s (table_within new.latest.value) ∷ []) (r ∷ p)) none
 
-  grown : (r : Step) (q : Path) → begins (r ∷ q) [] ≡ false
-      → table_origins after.value (r ∷ q) ≡ or_else no_origins (along [] rows) (r ∷ q)
-  grown r q not = ap (λ f. f (r ∷ q)) put
-      ∙ ap (λ w. option_or (w.below (r ∷ q)) (rows (r ∷ q))) (fresh_within new.value is_fresh)
+    go : (p : Path) → begins p (number 0 ∷ []) ≡ false → item_origins i at s p ≡ None
+    go [] not = absurd (false≢true (sym not))
+    go (key k ∷ p) not = now (key k) p
+    go (number zero ∷ []) not = absurd (false≢true (sym not))
+    go (number zero ∷ r ∷ p) not =
+        now (number zero) (r ∷ p) ∙ ap (λ w. w.below (r ∷ p)) (fresh_within new.latest.value new.empty)
+    go (number (suc m) ∷ p) not = now (number (suc m)) p
 
-  added : (n : ℕ) → n ≡ length xs
-      → ((r : Step) (p : Path) → item_origins there at s (r ∷ p) ≡ at_numbers xs (r ∷ p))
-      → GrowsAlong (number n ∷ []) rows (item_origins there at s) (item_origins (Tables before after) at s)
-  added n counted was =
-      element_grows xs n counted no_origins (table_origins after.value) rows [] grown (item_origins there at s)
-      (item_origins (Tables before after) at s)
-      (λ r q. was (number n) (r ∷ q) ∙ ap (λ o. under o (r ∷ q)) (none_past xs n counted))
-      (λ m q other. was (number m) q)
-      (λ k q. was (key k) q)
-      (table_origin (table_within after.value).made at (section_in (table_within after.value) s)) now
+-- and so does a table that is added to an array
+pub more_keeps : (old i : items.Item) (at s : ℕ) → HasOneMore old i
+    → Keeps (number (count (item_trie old)) ∷ []) (item_origins old at s) (item_origins i at s)
+more_keeps old i at s one = record { aside = λ p not. grown p not ∙ or_none_along p }
+  where
+    xs : List Origins
+    xs = map (of_table at s) (map table_within one.more.value.items)
 
-  pub first_added : there ≡ Nothing → before.value.items ≡ []
-      → GrowsAlong (number (count (item_trie there)) ∷ []) rows (item_origins there at s) (item_origins (Tables before after) at s)
-  first_added is none =
-      added (count (item_trie there))
-      (ap count (ap item_trie is ∙ nothing_trie)
-      ∙ sym (ap (λ ts. length (map (of_table at s) (map table_within ts))) none))
-      (λ r p. ap (λ f. f (r ∷ p)) (ap (λ i. item_origins i at s) is ∙ nothing_seen at s)
-      ∙ sym (ap (λ ts. at_numbers (map (of_table at s) (map table_within ts)) (r ∷ p)) none ∙ nowhere r p))
-    where
-      nowhere : (r : Step) (p : Path) → at_numbers [] (r ∷ p) ≡ None
-      nowhere (key k) p = refl
-      nowhere (number n) p = refl
+    n : ℕ
+    n = count (item_trie old)
 
-  pub next_added : (b : Box (Vec Table Global) Global) (latest : Box Table Global) → there ≡ Tables b latest
-      → before.value.items ≡ b.value.items ++ latest.value ∷ []
-      → GrowsAlong (number (count (item_trie there)) ∷ []) rows (item_origins there at s) (item_origins (Tables before after) at s)
-  next_added b latest is more =
-      added (count (item_trie there))
-      (ap count (ap item_trie is ∙ tables_trie b latest)
-      ∙ ap suc (mapped_count table_trie b.value.items)
-      ∙ sym (ap length same ∙ one_longer (map (of_table at s) (map table_within b.value.items))
-      (of_table at s (table_within latest.value))
-      ∙ ap suc (mapped_count (of_table at s) (map table_within b.value.items) ∙ mapped_count table_within b.value.items)))
-      (λ r p. array_below there b latest at s is r p ∙ sym (ap (λ os. at_numbers os (r ∷ p)) same))
-    where
-      same : xs ≡ map (of_table at s) (map table_within b.value.items) ++ of_table at s (table_within latest.value) ∷ []
-      same = ap (λ ts. map (of_table at s) (map table_within ts)) more
-          ∙ ap (map (of_table at s)) (map-append table_within b.value.items (latest.value ∷ []))
-          ∙ map-append (of_table at s) (map table_within b.value.items) (table_within latest.value ∷ [])
+    same : xs ≡ map (of_table at s) (map table_within one.before.value.items)
+        ++ of_table at s (table_within one.latest.value) ∷ []
+    same = ap (λ ts. map (of_table at s) (map table_within ts)) one.tables
+        ∙ ap (map (of_table at s)) (map-append table_within one.before.value.items (one.latest.value ∷ []))
+        ∙ map-append (of_table at s) (map table_within one.before.value.items) (table_within one.latest.value ∷ [])
+
+    counted : n ≡ length xs
+    counted =
+        ap count (ap item_trie one.was ∙ tables_trie one.before one.latest)
+        ∙ ap suc (mapped_count table_trie one.before.value.items)
+        ∙ sym (ap length same ∙ one_longer (map (of_table at s) (map table_within one.before.value.items))
+        (of_table at s (table_within one.latest.value))
+        ∙ ap suc (mapped_count (of_table at s) (map table_within one.before.value.items)
+        ∙ mapped_count table_within one.before.value.items))
+
+    was : (r : Step) (p : Path) → item_origins old at s (r ∷ p) ≡ at_numbers xs (r ∷ p)
+    was r p = array_below old one.before one.latest at s one.was r p ∙ sym (ap (λ os. at_numbers os (r ∷ p)) same)
+
+    empty : (r : Step) (q : Path) → begins (r ∷ q) [] ≡ false
+        → table_origins one.table.value (r ∷ q) ≡ or_else no_origins (along [] no_origins) (r ∷ q)
+    empty r q not = ap (λ w. w.below (r ∷ q)) (fresh_within one.table.value one.empty)
+
+    grown : GrowsAlong (number n ∷ []) no_origins (item_origins old at s) (item_origins i at s)
+    grown =
+        element_grows xs n counted no_origins (table_origins one.table.value) no_origins [] empty (item_origins old at s)
+        (item_origins i at s)
+        (λ r q. was (number n) (r ∷ q) ∙ ap (λ o. under o (r ∷ q)) (none_past xs n counted))
+        (λ m q other. was (number m) q)
+        (λ k q. was (key k) q)
+        (table_origin (table_within one.table.value).made at (section_in (table_within one.table.value) s))
+        (λ r p. array_below i one.more one.table at s one.is r p)
+
+    or_none_along : (p : Path)
+        → or_else (item_origins old at s) (along (number n ∷ []) no_origins) p ≡ item_origins old at s p
+    or_none_along [] = or_none (item_origins old at s [])
+    or_none_along (key k ∷ p) = or_none (item_origins old at s (key k ∷ p))
+    or_none_along (number m ∷ p) = go (nat_eq m n)
+      where
+        go : (b : Bool) → option_or (item_origins old at s (number m ∷ p)) (if b then None else None)
+            ≡ item_origins old at s (number m ∷ p)
+        go true = or_none (item_origins old at s (number m ∷ p))
+        go false = or_none (item_origins old at s (number m ∷ p))

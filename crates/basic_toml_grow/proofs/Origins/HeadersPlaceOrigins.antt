@@ -1,36 +1,35 @@
 -- The way of a header through the tree: what its rows bring comes at the way's end.
-use Rattle.std.proofs.Common.{◌≡◌, ℕ, Bool, true, false, ◌≤◌, List, [], ◌∷◌}
+use Rattle.std.proofs.Common.{◌≡◌, ℕ, Bool, true, false, List, [], ◌∷◌}
 use Rattle.std.proofs.Common.{refl, ap}
-use Rattle.std.proofs.Common.{sym, ◌∙◌, subst, map, arith, length, Some, Vec, Box, Global}
+use Rattle.std.proofs.Common.{sym, ◌∙◌, subst, map, arith, length, None, Vec, Box, Global}
 use Rattle.std.specs.Prelude.{◌&&◌}
 use Rattle.std.specs.Option.{option_or}
 use Rattle.std.proofs.lemmas.Bool.{false≢true}
 use Rattle.basic_toml_value.proofs.DistinctKeys.{bytes_eq-same}
-use Rattle.basic_toml_grammar.specs.Sections.{KeyTexts}
-use Rattle.basic_toml_read.specs.declared.section.Key.{Key}
-use Rattle.basic_toml_read.specs.SectionView.{header_texts}
+use Rattle.basic_toml_grammar.specs.Sections.{KeyTexts, no_rows}
 use Rattle.basic_toml_grammar.specs.Steps.{Step, key, number, Path, begins}
 use Rattle.basic_toml_grammar.specs.Trie.{Trie, nothing, find, Tries}
-use Rattle.basic_toml_grow.specs.declared.item.Item.{the_lemmas, Nothing, Tables}
+use Rattle.basic_toml_grow.specs.declared.item.Item.{Tables}
 use Rattle.basic_toml_grow.specs.declared.item.Item as items
 use Rattle.basic_toml_grow.specs.declared.item.Item.TheViews.{roll-Table, out-roll-Table}
 use Rattle.basic_toml_grow.specs.declared.item.Child.{Child, out-Child}
 use Rattle.basic_toml_grow.specs.declared.item.Table.{Table, out-Table}
-use Rattle.basic_toml_grow.specs.Item.{item_trie, child_trie, table_trie, by_keys, no_child}
-use Rattle.basic_toml_value.specs.Growth.{with_value}
+use Rattle.basic_toml_grow.specs.Item.{item_trie, child_trie, table_trie, by_keys, trie_before}
+use Rattle.basic_toml_value.specs.declared.pairs.growth.Place.{Place}
 use Rattle.basic_toml_grow.specs.Origins.{Origins, at_keys}
 use Rattle.basic_toml_grow.specs.Origins.{child_origins, item_origins, table_within}
-use Rattle.basic_toml_grow.specs.Origins.{with_more, or_else, along}
+use Rattle.basic_toml_grow.specs.Origins.{no_origins, origins_before, with_more, or_else, along}
+use Rattle.basic_toml_grow.specs.Headers.{IsNewTable}
 use Rattle.basic_toml_grow.specs.Ways.{way, way_by, way_at, GrowsAlong}
 use Rattle.basic_toml_grow.proofs.HeadersInATrie.{made, fresh, array_of}
-use Rattle.basic_toml_grow.proofs.HeadersEntered.{holding, out_holding, Passes, passed_trie}
-use Rattle.basic_toml_grow.proofs.ItemTries.{table_entries_trie, no_child_trie}
-use Rattle.basic_toml_grow.proofs.KeysInATrie.{tries_of, stood_there, with_twice}
+use Rattle.basic_toml_grow.proofs.HeadersEntered.{holding, out_holding, Passes, passed_before}
+use Rattle.basic_toml_grow.proofs.ItemTries.{table_entries_trie}
+use Rattle.basic_toml_grow.proofs.KeysInATrie.{tries_of}
 use Rattle.basic_toml_grow.proofs.LatestInATrie.{find_latest}
 use Rattle.basic_toml_grow.proofs.TablesOpened.{named_fields, numbered_fields, opened_table}
-use Rattle.basic_toml_grow.proofs.TablesOpened.{tables_trie, nothing_trie, table_item_trie}
-use Rattle.basic_toml_grow.proofs.Origins.OriginsSeen.{child_seen, below_seen, nothing_seen, table_item_seen}
-use Rattle.basic_toml_grow.proofs.Origins.OriginsSeen.{table_origins, nothing_comes, fresh_within, grows_at}
+use Rattle.basic_toml_grow.proofs.TablesOpened.{tables_trie, table_item_trie}
+use Rattle.basic_toml_grow.proofs.Origins.OriginsSeen.{child_seen, below_seen, table_item_seen}
+use Rattle.basic_toml_grow.proofs.Origins.OriginsSeen.{table_origins, fresh_within, grows_at}
 
 -- a way, a node at a time
 way_through : (a : Bool) (k : List ℕ) (keys : KeyTexts) (p n d : Bool) (ts : Tries)
@@ -50,12 +49,6 @@ way_latest : (a : Bool) (keys : KeyTexts) (before : List Trie) (t : Trie)
     → way_by a keys (array_of before t) ≡ number (length before) ∷ way a keys t
 way_latest a keys before t = rw (find_latest 0 (length before) before t (omega arith)) refl
 
-pub way_into_fresh : (a : Bool) (keys : KeyTexts) (i : items.Item) (new : Trie) → i ≡ Nothing
-    → new ≡ fresh → way_by a keys (item_trie i) ≡ way a keys new
-way_into_fresh a keys i new is is_fresh =
-    ap (way_by a keys) (ap item_trie is ∙ nothing_trie)
-    ∙ sym (way_fresh a keys) ∙ ap (way a keys) (sym is_fresh)
-
 pub way_into_table : (a : Bool) (keys : KeyTexts) (i : items.Item) (t : Box Table Global)
     → i ≡ items.Table t → way_by a keys (item_trie i) ≡ way a keys (table_trie t.value)
 way_into_table a keys i t is =
@@ -69,9 +62,6 @@ pub way_into_latest : (a : Bool) (keys : KeyTexts) (i : items.Item) (b : Box (Ve
 way_into_latest a keys i b latest is =
     ap (way_by a keys) (ap item_trie is ∙ tables_trie b latest)
     ∙ way_latest a keys (map table_trie b.value.items) (table_trie latest.value)
-
-some_same : {A : Type 0} {x y : A} → Some x ≡ Some y → x ≡ y
-some_same is = cc
 
 -- the table that is named, and the rows that are put into it
 pub same_below : (t u : Table) → (out-Table u).entries ≡ (out-Table t).entries → table_origins u ≡ table_origins t
@@ -89,33 +79,16 @@ opened t n rows u comes =
     ap (λ w. w.below) comes
     ∙ ap (λ f. or_else f rows) (same_below t (opened_table t n) (ap (λ o. o.entries) a ∙ ap (λ o. o.entries) b))
 
--- no element is added: the way is that of the keys that are left
-pub no_array_way : (a : Bool) (keys : KeyTexts) (t : Trie) → a ≡ false → way_at a keys t ≡ way_by a keys t
-no_array_way true keys t not = absurd (false≢true (sym not))
-no_array_way false keys t not = refl
-
-pub not_last_way : (a : Bool) (keys : List Key) (t : Trie) → 1 ≤ length keys
-    → way_at a (header_texts keys) t ≡ way_by a (header_texts keys) t
-not_last_way a [] t some = absurd (omega arith)
-not_last_way true (k ∷ keys) t some = refl
-not_last_way false (k ∷ keys) t some = refl
-
 -- a table that a header passes: its way, and what stands at the key
-module _ (k : List ℕ) (t u : Table) (position : ℕ) (there now : items.Item) (pass : Passes k t position there now u) where
+module _ (k : List ℕ) (t u : Table) (p : Place) (there now : items.Item) (pass : Passes k t p there now u) where
   pub passed_way : (a : Bool) (keys whole : KeyTexts) → whole ≡ k ∷ keys
-      → way a whole (table_trie t) ≡ key k ∷ way_at a keys (item_trie there)
+      → way a whole (table_trie t) ≡ key k ∷ way_at a keys (trie_before p.is_new (item_trie there))
   passed_way a keys whole is_whole =
       ap (λ ks. way a ks (table_trie t)) is_whole
       ∙ ap (way a (k ∷ keys)) (table_entries_trie t)
       ∙ way_through a k keys (out-Table t).passed (out-Table t).named (out-Table t).dotted
       (by_keys (tries_of child_trie (out-Table t).entries))
-      ∙ ap (λ t. key k ∷ way_at a keys t)
-      (stood_there child_trie k no_child (out-Table t).entries pass.entries position no_child_trie pass.entered pass.child
-      pass.stands ∙ passed_trie k t u position there now pass)
-
-  pub passed_put : (out-Table u).entries
-      ≡ with_value (with_value pass.entries position (holding pass.child now)) position (holding pass.child now)
-  passed_put = pass.left ∙ sym (with_twice pass.entries position (holding pass.child now) (holding pass.child now))
+      ∙ ap (λ t. key k ∷ way_at a keys t) (passed_before a no_rows k keys whole 0 t u p there now is_whole pass)
 
   pub passed_now : child_origins (holding pass.child now)
       ≡ item_origins now (out-Child pass.child).start (out-Child pass.child).section
@@ -123,16 +96,17 @@ module _ (k : List ℕ) (t u : Table) (position : ℕ) (there now : items.Item) 
       child_seen (holding pass.child now)
       ∙ ap (λ o. item_origins o.item o.start o.section) (out_holding pass.child now)
 
-pub passed_grows : (a : Bool) (rows : Origins) (k : List ℕ) (keys whole : KeyTexts) (t u : Table) (position : ℕ)
-    (there now : items.Item) → whole ≡ k ∷ keys → Passes k t position there now u
-    → ((at s : ℕ) → GrowsAlong (way_at a keys (item_trie there)) rows (item_origins there at s) (item_origins now at s))
+pub passed_grows : (a : Bool) (rows : Origins) (k : List ℕ) (keys whole : KeyTexts) (t u : Table) (p : Place)
+    (there now : items.Item) → whole ≡ k ∷ keys → Passes k t p there now u
+    → ((at s : ℕ) → GrowsAlong (way_at a keys (trie_before p.is_new (item_trie there))) rows
+    (origins_before p.is_new (item_origins there at s)) (item_origins now at s))
     → GrowsAlong (way a whole (table_trie t)) rows (table_origins t) (table_origins u)
-passed_grows a rows k keys whole t u position there now is_whole pass grows =
+passed_grows a rows k keys whole t u p there now is_whole pass grows =
     subst (λ w. GrowsAlong w rows (table_origins t) (table_origins u))
-    (sym (passed_way k t u position there now pass a keys whole is_whole)) go
+    (sym (passed_way k t u p there now pass a keys whole is_whole)) go
   where
     w : Path
-    w = way_at a keys (item_trie there)
+    w = way_at a keys (trie_before p.is_new (item_trie there))
 
     at : ℕ
     at = (out-Child pass.child).start
@@ -143,21 +117,21 @@ passed_grows a rows k keys whole t u position there now is_whole pass grows =
     was : child_origins pass.child ≡ item_origins there at s
     was = child_seen pass.child ∙ ap (λ i. item_origins i at s) pass.item
 
-    below : GrowsAlong w rows (child_origins pass.child) (child_origins (holding pass.child now))
+    below : GrowsAlong w rows (origins_before p.is_new (child_origins pass.child)) (child_origins (holding pass.child now))
     below y not =
-        ap (λ f. f y) (passed_now k t u position there now pass) ∙ grows at s y not ∙ ap (λ f. or_else f (along w rows) y) (sym was)
+        ap (λ f. f y) (passed_now k t u p there now pass) ∙ grows at s y not
+        ∙ ap (λ f. or_else (origins_before p.is_new f) (along w rows) y) (sym was)
 
     go : GrowsAlong (key k ∷ w) rows (table_origins t) (table_origins u)
     go x not =
-        grows_at t u no_child pass.child (holding pass.child now) (holding pass.child now) k pass.entries
-        position (nothing_comes no_child no_child_trie) pass.entered pass.stands
-        (passed_put k t u position there now pass) (along w rows) x
+        grows_at t u pass.child (holding pass.child now) k pass.entries p pass.entered pass.stands pass.left
+        (along w rows) x
         (λ y is. below y (further y (sym (ap (λ x. begins x (key k ∷ w)) is) ∙ not)))
       where
         further : (y : Path) → begins (key k ∷ y) (key k ∷ w) ≡ false → begins y w ≡ false
         further y not = sym (ap (λ b. b && begins y w) (bytes_eq-same k)) ∙ not
 
--- a table below a key, which was there or is new
+-- a table below a key
 held_grows : (w v : Path) (rows before after there now : Origins) → v ≡ w
     → ((s : Step) (p : Path) → there (s ∷ p) ≡ before (s ∷ p)) → ((s : Step) (p : Path) → now (s ∷ p) ≡ after (s ∷ p))
     → GrowsAlong w rows before after → GrowsAlong v rows there now
@@ -172,18 +146,6 @@ table_held : (i : items.Item) (t : Box Table Global) (at s : ℕ) → i ≡ item
     → item_origins i at s (r ∷ p) ≡ table_origins t.value (r ∷ p)
 table_held i t at s is r p = ap (λ f. f (r ∷ p)) (ap (λ i. item_origins i at s) is ∙ table_item_seen t at s)
 
-pub new_table_grows : (a : Bool) (keys : KeyTexts) (rows : Origins) (there item : items.Item)
-    (new after : Box Table Global) → there ≡ Nothing → table_trie new.value ≡ fresh → item ≡ items.Table after
-    → GrowsAlong (way a keys (table_trie new.value)) rows (table_origins new.value) (table_origins after.value)
-    → (at s : ℕ) → GrowsAlong (way_by a keys (item_trie there)) rows (item_origins there at s) (item_origins item at s)
-new_table_grows a keys rows there item new after is is_fresh is_table grows at s =
-    held_grows (way a keys (table_trie new.value)) (way_by a keys (item_trie there)) rows (table_origins new.value)
-    (table_origins after.value) (item_origins there at s) (item_origins item at s)
-    (way_into_fresh a keys there (table_trie new.value) is is_fresh)
-    (λ r p. ap (λ f. f (r ∷ p)) (ap (λ i. item_origins i at s) is ∙ nothing_seen at s)
-    ∙ sym (ap (λ w. w.below (r ∷ p)) (fresh_within new.value is_fresh)))
-    (table_held item after at s is_table) grows
-
 pub table_grows : (a : Bool) (keys : KeyTexts) (rows : Origins) (there item : items.Item)
     (old after : Box Table Global) → there ≡ items.Table old → item ≡ items.Table after
     → GrowsAlong (way a keys (table_trie old.value)) rows (table_origins old.value) (table_origins after.value)
@@ -192,3 +154,20 @@ table_grows a keys rows there item old after is is_table grows at s =
     held_grows (way a keys (table_trie old.value)) (way_by a keys (item_trie there)) rows (table_origins old.value)
     (table_origins after.value) (item_origins there at s) (item_origins item at s) (way_into_table a keys there old is)
     (table_held there old at s is) (table_held item after at s is_table) grows
+
+-- what is not on the way comes from where it came before, also where an item is new
+pub record Keeps (w : Path) (before now : Origins) : Type 0 where
+  pub aside : (p : Path) → begins p w ≡ false → now p ≡ before p
+
+pub grows_after : (w : Path) (rows before mid now : Origins) → Keeps w before mid → GrowsAlong w rows mid now
+    → GrowsAlong w rows before now
+grows_after w rows before mid now keeps grows p not =
+    grows p not ∙ ap (λ o. option_or o (along w rows p)) (keeps.aside p not)
+
+pub new_table_keeps : (w : Path) (i : items.Item) (at s : ℕ) → IsNewTable i → Keeps w no_origins (item_origins i at s)
+new_table_keeps w i at s new = record { aside = go }
+  where
+    go : (p : Path) → begins p w ≡ false → item_origins i at s p ≡ None
+    go [] not = absurd (false≢true (sym not))
+    go (r ∷ p) not =
+        table_held i new.table at s new.is r p ∙ ap (λ w. w.below (r ∷ p)) (fresh_within new.table.value new.empty)

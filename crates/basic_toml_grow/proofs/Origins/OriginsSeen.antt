@@ -1,31 +1,30 @@
 -- The origins in a table and in what stands in it, one level at a time, and how they change at a key.
-use Rattle.std.proofs.Common.{◌≡◌, ◌⊎◌, inl, inr, ℕ, Bool, true, false, List, [], ◌∷◌, ◌++◌, Option, Some, None}
+use Rattle.std.proofs.Common.{◌≡◌, ℕ, Bool, true, false, List, [], ◌∷◌, ◌++◌, Option, Some, None}
 use Rattle.std.proofs.Common.{refl, ap}
 use Rattle.std.proofs.Common.{sym, ◌∙◌, subst, map, rules, option_map, slice_get, Vec, Box, Global, codes}
-use Rattle.std.specs.Prelude.{◌||◌, if◌then◌else◌}
+use Rattle.std.specs.Prelude.{◌||◌, not, if◌then◌else◌}
 use Rattle.std.specs.Option.{option_or}
 use Rattle.std.specs.Str.{bytes_eq}
 use Rattle.std.proofs.Math.Path.{fun_ext}
 use Rattle.std.proofs.lemmas.Slice.Eq.{bytes_eq-Decides}
 use Rattle.std.proofs.lemmas.Bool.{false≢true}
-use Rattle.basic_toml_value.specs.Pairs.{value_at}
+use Rattle.basic_toml_value.specs.Pairs.{has_key, value_at}
 use Rattle.basic_toml_grammar.specs.Standing as standings
 use Rattle.basic_toml_grammar.specs.Steps.{key, number, Path}
-use Rattle.basic_toml_grammar.specs.Trie.{Trie, trie, Tries, no_tries, nothing, standing}
-use Rattle.basic_toml_grow.specs.declared.item.Item.{Item, out-Item, the_lemmas, Nothing, Array, Inline, Tables}
+use Rattle.basic_toml_grammar.specs.Trie.{Trie, trie, Tries, no_tries, standing}
+use Rattle.basic_toml_grow.specs.declared.item.Item.{the_lemmas, Array, Inline, Tables}
 use Rattle.basic_toml_grow.specs.declared.item.Item as items
-use Rattle.basic_toml_grow.specs.declared.item.Item.TheOpen.{Item-F}
 use Rattle.basic_toml_grow.specs.declared.item.Child.{Child, out-Child}
 use Rattle.basic_toml_grow.specs.declared.item.Table.{Table, out-Table}
-use Rattle.basic_toml_grow.specs.Item.{item_trie, child_trie, table_trie, by_keys}
-use Rattle.basic_toml_value.specs.Growth.{with_value, values_of, EntersKey}
+use Rattle.basic_toml_grow.specs.Item.{child_trie, table_trie, by_keys}
+use Rattle.basic_toml_value.specs.Growth.{with_value, values_of, FindsOrAdds}
+use Rattle.basic_toml_value.specs.declared.pairs.growth.Place.{Place}
 use Rattle.basic_toml_grow.specs.Origins.{Origin, Origins, no_origins, entry, under, at_keys, at_numbers}
 use Rattle.basic_toml_grow.specs.Origins.{elements_within, array_origin, value_origin, of_table}
-use Rattle.basic_toml_grow.specs.Origins.{Within, item_origins, child_origins, table_within, or_else, beyond}
-use Rattle.basic_toml_grow.proofs.ItemTries.{child_item_trie, table_entries_trie}
-use Rattle.basic_toml_value.proofs.KeysChanged.{value_at-map, stood_or_fresh, put_at, kept_elsewhere}
+use Rattle.basic_toml_grow.specs.Origins.{Within, item_origins, child_origins, table_within, or_else, origins_before, beyond}
+use Rattle.basic_toml_grow.proofs.ItemTries.{table_entries_trie}
+use Rattle.basic_toml_value.proofs.KeysChanged.{value_at-map, first_at, none_at, put_at, kept_elsewhere}
 use Rattle.basic_toml_grow.proofs.KeysInATrie.{tries_of}
-use Rattle.basic_toml_grow.proofs.ItemsStand.{shape, standing_here, item_standing}
 
 -- a child and a table, by their parts
 pub child_seen : (c : Child)
@@ -53,9 +52,6 @@ pub below_seen : (t : Table) → table_origins t ≡ at_keys (map (λ p. (p.0, c
 below_seen t = ap (λ w. w.below) (table_seen t)
 
 -- items, by their parts
-pub nothing_seen : (at s : ℕ) → item_origins Nothing at s ≡ no_origins
-nothing_seen at s = search (rules, the_lemmas)
-
 pub table_item_seen : (t : Box Table Global) (at s : ℕ)
     → item_origins (items.Table t) at s ≡ of_table at s (table_within t.value)
 table_item_seen t at s = search (rules, the_lemmas)
@@ -92,41 +88,46 @@ pub or_none : (o : Option Origin) → option_or o None ≡ o
 or_none None = refl
 or_none (Some o) = refl
 
--- a table where a key is entered, and what stands there taken out
-module _ (t u : Table) (fresh there gone held : Child) (k : List ℕ) (new : List (List ℕ × Child)) (i : ℕ)
-    (is_fresh : child_origins fresh ≡ no_origins)
-    (entered : EntersKey k fresh (out-Table t).entries new i) (stands : slice_get (values_of new) i ≡ Some there)
-    (put : (out-Table u).entries ≡ with_value (with_value new i held) i gone) where
-  stood : (p : Path) → table_origins t (key k ∷ p) ≡ child_origins there p
-  stood p = seen_at_key t k p ∙ go (stood_or_fresh k fresh (out-Table t).entries new i entered there stands)
+-- a table where a key is entered, and another child put in the place of what stands there then
+module _ {gives : Child → Type 0} (t u : Table) (there gone : Child) (k : List ℕ) (new : List (List ℕ × Child)) (p : Place)
+    (e : FindsOrAdds gives k (out-Table t).entries new p) (stands : slice_get (values_of new) p.position ≡ Some there)
+    (put : (out-Table u).entries ≡ with_value new p.position gone) where
+  stood : (q : Path) → table_origins t (key k ∷ q) ≡ origins_before p.is_new (child_origins there) q
+  stood q = seen_at_key t k q ∙ go (has_key (out-Table t).entries k) refl e.entered.pairs
     where
-      go : (value_at (out-Table t).entries k ≡ Some there)
-          ⊎ ((value_at (out-Table t).entries k ≡ None) × (there ≡ fresh))
-          → under (option_map child_origins (value_at (out-Table t).entries k)) p ≡ child_origins there p
-      go (inl at) = ap (λ o. under (option_map child_origins o) p) at
-      go (inr new) =
-          ap (λ o. under (option_map child_origins o) p) new.0
-          ∙ sym (ap (λ c. child_origins c p) new.1 ∙ ap (λ f. f p) is_fresh)
+      go : (b : Bool) → has_key (out-Table t).entries k ≡ b
+          → new ≡ (if b then (out-Table t).entries else (out-Table t).entries ++ (k, e.there) ∷ [])
+          → under (option_map child_origins (value_at (out-Table t).entries k)) q
+          ≡ origins_before p.is_new (child_origins there) q
+      go true is pairs =
+          ap (λ ps. under (option_map child_origins (value_at ps k)) q) (sym pairs)
+          ∙ ap (λ o. under (option_map child_origins o) q)
+          (first_at new p.position k there e.entered.at e.entered.first stands)
+          ∙ sym (ap (λ b. origins_before b (child_origins there) q) (e.is_new ∙ ap not is))
+      go false is pairs =
+          ap (λ o. under (option_map child_origins o) q) (none_at (out-Table t).entries k is)
+          ∙ sym (ap (λ b. origins_before b (child_origins there) q) (e.is_new ∙ ap not is))
 
-  pub stands_now : (p : Path) → table_origins u (key k ∷ p) ≡ child_origins gone p
-  stands_now p =
-      seen_at_key u k p
-      ∙ ap (λ ps. under (option_map child_origins (value_at ps k)) p) put
-      ∙ ap (λ o. under (option_map child_origins o) p)
-      (put_at k fresh (out-Table t).entries new i entered there stands held gone)
+  pub stands_now : (q : Path) → table_origins u (key k ∷ q) ≡ child_origins gone q
+  stands_now q =
+      seen_at_key u k q
+      ∙ ap (λ ps. under (option_map child_origins (value_at ps k)) q) put
+      ∙ ap (λ o. under (option_map child_origins o) q)
+      (put_at k e.there (out-Table t).entries new p.position e.entered there stands gone)
 
-  elsewhere : (l : List ℕ) (p : Path) → bytes_eq l k ≡ false → table_origins u (key l ∷ p) ≡ table_origins t (key l ∷ p)
-  elsewhere l p other =
-      seen_at_key u l p
-      ∙ ap (λ ps. under (option_map child_origins (value_at ps l)) p) put
-      ∙ ap (λ o. under (option_map child_origins o) p)
-      (kept_elsewhere k fresh (out-Table t).entries new i entered there stands held gone l other)
-      ∙ sym (seen_at_key t l p)
+  elsewhere : (l : List ℕ) (q : Path) → bytes_eq l k ≡ false → table_origins u (key l ∷ q) ≡ table_origins t (key l ∷ q)
+  elsewhere l q other =
+      seen_at_key u l q
+      ∙ ap (λ ps. under (option_map child_origins (value_at ps l)) q) put
+      ∙ ap (λ o. under (option_map child_origins o) q)
+      (kept_elsewhere k e.there (out-Table t).entries new p.position e.entered there stands gone l other)
+      ∙ sym (seen_at_key t l q)
 
   -- what comes below the key comes into the table
-  pub grows_at : (below : Origins) (p : Path)
-      → ((q : Path) → p ≡ key k ∷ q → child_origins gone q ≡ or_else (child_origins there) below q)
-      → table_origins u p ≡ or_else (table_origins t) (beyond (key k) below) p
+  pub grows_at : (below : Origins) (q : Path)
+      → ((r : Path) → q ≡ key k ∷ r
+      → child_origins gone r ≡ or_else (origins_before p.is_new (child_origins there)) below r)
+      → table_origins u q ≡ or_else (table_origins t) (beyond (key k) below) q
   grows_at below [] more = seen_at_none u ∙ sym (ap (λ o. option_or o None) (seen_at_none t))
   grows_at below (number n ∷ q) more =
       seen_at_number u n q ∙ sym (ap (λ o. option_or o None) (seen_at_number t n q))
@@ -137,7 +138,7 @@ module _ (t u : Table) (fresh there gone held : Child) (k : List ℕ) (new : Lis
           ≡ option_or (table_origins t (key l ∷ q)) (if bytes_eq l k then below q else None)
       go true e =
           let same : l ≡ k = (bytes_eq-Decides l k).0 e in
-          let there_now : child_origins gone q ≡ or_else (child_origins there) below q =
+          let there_now : child_origins gone q ≡ or_else (origins_before p.is_new (child_origins there)) below q =
           more q (ap (λ l. key l ∷ q) same) in
           ap (λ l. table_origins u (key l ∷ q)) same ∙ stands_now q ∙ there_now
           ∙ ap (λ o. option_or o (below q)) (sym (ap (λ l. table_origins t (key l ∷ q)) same ∙ stood q))
@@ -146,31 +147,7 @@ module _ (t u : Table) (fresh there gone held : Child) (k : List ℕ) (new : Lis
           elsewhere l q e ∙ sym (or_none (table_origins t (key l ∷ q)))
           ∙ ap (λ b. option_or (table_origins t (key l ∷ q)) (if b then below q else None)) (sym e)
 
--- nothing comes from where nothing stands, and from a table without entries
-item_none : (x : Item-F Item Child Table) (i : Item) (at s : ℕ) → out-Item i ≡ x → item_standing x None
-    → item_origins i at s ≡ no_origins
-item_none Item-F.Nothing i at s is stands =
-    ap (λ i. item_origins i at s) (shape i Item-F.Nothing is) ∙ search (rules, the_lemmas)
-item_none (Item-F.Table t) i at s is stands =
-    absurd (cc (stands, ap standing (table_entries_trie t.value)))
-item_none (Item-F.Tables before latest) i at s is stands = absurd (false≢true stands)
-item_none (Item-F.Integer z) i at s is stands = absurd (cc)
-item_none (Item-F.Float z) i at s is stands = absurd (cc)
-item_none (Item-F.Boolean z) i at s is stands = absurd (cc)
-item_none (Item-F.String z) i at s is stands = absurd (cc)
-item_none (Item-F.Escaped z) i at s is stands = absurd (cc)
-item_none (Item-F.Array z) i at s is stands = absurd (cc)
-item_none (Item-F.Plain z) i at s is stands = absurd (cc)
-item_none (Item-F.Inline z) i at s is stands = absurd (cc)
-
-pub nothing_comes : (c : Child) → child_trie c ≡ nothing → child_origins c ≡ no_origins
-nothing_comes c is =
-    let i = (out-Child c).item in
-    let none : standing (item_trie i) ≡ None = ap standing (sym (child_item_trie c) ∙ is) in
-    child_seen c
-    ∙ item_none (out-Item i) i (out-Child c).start (out-Child c).section refl
-    (subst (λ o. item_standing (out-Item i) o) none (standing_here i))
-
+-- nothing comes from a table without entries
 no_entries : (ps : List (List ℕ × Child)) → by_keys (map (λ p. (p.0, child_trie p.1)) ps) ≡ no_tries → ps ≡ []
 no_entries [] e = refl
 no_entries (p ∷ ps) e = absurd (cc)

@@ -1,26 +1,25 @@
 -- A row put into a table: where what it makes comes from.
-use Rattle.std.proofs.Common.{◌≡◌, ℕ, Bool, false, List, [], ◌∷◌, ◌++◌, Some, refl, ap}
+use Rattle.std.proofs.Common.{◌≡◌, ℕ, Bool, true, false, List, [], ◌∷◌, ◌++◌, Some, refl, ap}
 use Rattle.std.proofs.Common.{sym, ◌∙◌, ap₂, map, rules, slice_get, Box, Global}
 use Rattle.std.specs.Prelude.{◌||◌}
 use Rattle.std.proofs.Math.Path.{fun_ext}
 use Rattle.basic_toml_grammar.specs.Sections.{KeyTexts}
 use Rattle.basic_toml_grammar.specs.Steps.{key, Path}
-use Rattle.basic_toml_grammar.specs.Trie.{nothing}
-use Rattle.basic_toml_grow.specs.declared.item.Item.{the_lemmas, Nothing}
+use Rattle.basic_toml_grow.specs.declared.item.Item.{the_lemmas}
 use Rattle.basic_toml_grow.specs.declared.item.Item as items
 use Rattle.basic_toml_grow.specs.declared.item.Item.TheViews.{roll-Child, roll-Table, out-roll-Table}
 use Rattle.basic_toml_grow.specs.declared.item.Child.{Child, out-Child}
 use Rattle.basic_toml_grow.specs.declared.item.Table.{Table, out-Table}
 use Rattle.basic_toml_grow.specs.Simple.{with_entries}
-use Rattle.basic_toml_grow.specs.Item.{child_trie}
-use Rattle.basic_toml_value.specs.Growth.{with_value, values_of, EntersKey}
+use Rattle.basic_toml_value.specs.Growth.{with_value, values_of, FindsOrAdds}
+use Rattle.basic_toml_value.specs.declared.pairs.growth.Place.{Place}
 use Rattle.basic_toml_grow.specs.Origins.{Origin, Origins, no_origins, entry, at_keys, Within, table_origin}
 use Rattle.basic_toml_grow.specs.Origins.{child_origins, of_table, section_in}
-use Rattle.basic_toml_grow.specs.Origins.{item_origins, table_within, with_more, or_else, beyond, row_origins}
+use Rattle.basic_toml_grow.specs.Origins.{item_origins, table_within, with_more, or_else, origins_before, beyond, row_origins}
 use Rattle.basic_toml_grow.proofs.ItemTries.{entries_with}
-use Rattle.basic_toml_grow.proofs.KeysInATrie.{with_twice}
-use Rattle.basic_toml_grow.proofs.Origins.OriginsSeen.{child_seen, table_seen, made_seen, section_seen, nothing_seen}
-use Rattle.basic_toml_grow.proofs.Origins.OriginsSeen.{nothing_comes, table_item_seen}
+use Rattle.basic_toml_grow.proofs.KeysInATrie.{with_same}
+use Rattle.basic_toml_grow.proofs.Origins.OriginsSeen.{child_seen, table_seen, made_seen, section_seen}
+use Rattle.basic_toml_grow.proofs.Origins.OriginsSeen.{table_item_seen}
 use Rattle.basic_toml_grow.proofs.MetTellsStop.{dotted_fields}
 use Rattle.basic_toml_grow.proofs.Origins.OriginsSeen.{grows_at}
 
@@ -44,47 +43,47 @@ entries_section : (t : Table) (ps : List (List ℕ × Child))
     → (table_within (with_entries t ps)).section ≡ (table_within t).section
 entries_section t ps = section_seen (with_entries t ps) ∙ search (rules, the_lemmas) ∙ sym (section_seen t)
 
--- a table in which a key is entered, and another child is put in the place of what stands there
-module _ (before : Table) (k : List ℕ) (fresh there child : Child) (new : List (List ℕ × Child)) (position : ℕ)
-    (is_nothing : child_trie fresh ≡ nothing) (entered : EntersKey k fresh (out-Table before).entries new position)
-    (stands : slice_get (values_of new) position ≡ Some there) (below : Origins)
-    (comes : child_origins child ≡ or_else (child_origins there) below) where
-  held_put : (held : Child) (u : Table) → (table_within u).made ≡ (table_within before).made
-      → (table_within u).section ≡ (table_within before).section
-      → (out-Table u).entries ≡ with_value (with_value new position held) position child
-      → table_within u ≡ with_more (table_within before) (beyond (key k) below)
-  held_put held u made section put =
-      within_is (table_within u) (with_more (table_within before) (beyond (key k) below)) made section
-      (λ p. grows_at before u fresh there child held k new position (nothing_comes fresh is_nothing) entered stands put
-      below p (λ q is. ap (λ f. f q) comes))
-
+-- a table in which a key is entered, and another child put in the place of what stands there then
+module _ {gives : Child → Type 0} (before : Table) (k : List ℕ) (there child : Child) (new : List (List ℕ × Child))
+    (p : Place) (e : FindsOrAdds gives k (out-Table before).entries new p)
+    (stands : slice_get (values_of new) p.position ≡ Some there) (below : Origins)
+    (comes : child_origins child ≡ or_else (origins_before p.is_new (child_origins there)) below) where
   pub origins_put : (mid : Table) (ps : List (List ℕ × Child)) → mid ≡ with_entries before new
-      → ps ≡ with_value (out-Table mid).entries position child
+      → ps ≡ with_value (out-Table mid).entries p.position child
       → table_within (with_entries mid ps) ≡ with_more (table_within before) (beyond (key k) below)
   origins_put mid ps is_mid is_ps =
-      held_put child (with_entries mid ps)
+      within_is (table_within (with_entries mid ps)) (with_more (table_within before) (beyond (key k) below))
       (entries_made mid ps ∙ ap (λ t. (table_within t).made) is_mid ∙ entries_made before new)
       (entries_section mid ps ∙ ap (λ t. (table_within t).section) is_mid ∙ entries_section before new)
+      (λ q. grows_at before (with_entries mid ps) there child k new p e stands
       (entries_with mid ps ∙ is_ps
-      ∙ ap (λ t. with_value (out-Table t).entries position child) is_mid
-      ∙ ap (λ qs. with_value qs position child) (entries_with before new)
-      ∙ sym (with_twice new position child child))
+      ∙ ap (λ t. with_value (out-Table t).entries p.position child) is_mid
+      ∙ ap (λ qs. with_value qs p.position child) (entries_with before new))
+      below q (λ r is. ap (λ f. f r) comes))
 
--- what comes where nothing stands
-pub comes_first : (there : Child) (below : Origins) → child_trie there ≡ nothing
-    → below ≡ or_else (child_origins there) below
-comes_first there below none =
-    sym (ap (λ f. or_else f below) (nothing_comes there none))
+-- a table with a new key
+pub origins_added : {gives : Child → Type 0} (before : Table) (k : List ℕ) (there : Child)
+    (new : List (List ℕ × Child)) (p : Place) → FindsOrAdds gives k (out-Table before).entries new p
+    → slice_get (values_of new) p.position ≡ Some there → p.is_new ≡ true
+    → table_within (with_entries before new) ≡ with_more (table_within before) (beyond (key k) (child_origins there))
+origins_added before k there new p e stands is_new =
+    within_is (table_within (with_entries before new))
+    (with_more (table_within before) (beyond (key k) (child_origins there)))
+    (entries_made before new) (entries_section before new)
+    (λ q. grows_at before (with_entries before new) there there k new p e stands
+    (entries_with before new ∙ sym (with_same new p.position there stands)) (child_origins there) q
+    (λ r is. ap (λ b. or_else (origins_before b (child_origins there)) (child_origins there) r) (sym is_new)))
 
-pub new_table : (there : Child) (new : Box Table Global) (u : Table) (row : Origins) (n at s : ℕ)
-    → (out-Child there).item ≡ Nothing → table_within u ≡ within false n no_origins
-    → table_within new.value ≡ with_more (table_within u) row
-    → of_table at s (table_within new.value) ≡ or_else (child_origins there) (entry (table_origin false at s) row)
-new_table there new u row n at s is fresh more =
-    ap (of_table at s) (more ∙ ap (λ w. with_more w row) fresh)
-    ∙ sym (ap (λ f. or_else f (entry (table_origin false at s) row))
-    (child_seen there ∙ ap (λ i. item_origins i (out-Child there).start (out-Child there).section) is
-    ∙ nothing_seen (out-Child there).start (out-Child there).section))
+-- what comes below a new table
+pub comes_below : (is_new : Bool) (o : Origin) (f g row : Origins) → (is_new ≡ true → f ≡ entry o no_origins)
+    → g ≡ or_else f (entry o row) → g ≡ or_else (origins_before is_new f) (entry o row)
+comes_below true o f g row fresh comes =
+    comes ∙ ap (λ f. or_else f (entry o row)) (fresh refl) ∙ fun_ext here
+  where
+    here : (p : Path) → or_else (entry o no_origins) (entry o row) p ≡ or_else no_origins (entry o row) p
+    here [] = refl
+    here (s ∷ p) = refl
+comes_below false o f g row fresh comes = comes
 
 -- a table that is now dotted
 pub dotted_within : (d : Table) → table_within (roll-Table (dotted_fields d)) ≡ table_within d

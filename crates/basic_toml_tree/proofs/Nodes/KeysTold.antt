@@ -148,7 +148,6 @@ has_section (spots.Item b) made = go (out-Item b.now) made
   where
     go : (x : Item-F Item Child Table) → holds_tables x ≡ true → (n : ℕ) × (item_section x ≡ Some n)
     go (Item-F.Tables before latest) made = ((out-Table latest.value).section, refl)
-    go Item-F.Nothing made = absurd (false≢true made)
     go (Item-F.Integer z) made = absurd (false≢true made)
     go (Item-F.Float z) made = absurd (false≢true made)
     go (Item-F.Boolean z) made = absurd (false≢true made)

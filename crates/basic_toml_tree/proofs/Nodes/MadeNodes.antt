@@ -88,7 +88,6 @@ item_made count b (Item-F.Tables before latest) o is stands same own made = reco
   name = ap item_name is ∙ sym (ap (λ o. made_name (stands_array o)) same ∙ ap made_name stands);
   slice = ap holds_string is;
 }
-item_made count b Item-F.Nothing o is stands same own made = absurd (false≢true (sym (ap stands_made stands) ∙ made))
 item_made count b (Item-F.Table t) o is stands same own made = cc
 item_made count b (Item-F.Integer z) o is stands same own made = absurd (false≢true (sym (ap stands_made stands) ∙ made))
 item_made count b (Item-F.Float z) o is stands same own made = absurd (false≢true (sym (ap stands_made stands) ∙ made))
@@ -121,7 +120,6 @@ spot_made count (spots.Plain b) own made = absurd (false≢true made)
 
 not_table : (x : Item-F Item Child Table) (o : Option Standing) → item_standing x o → is_wrapper x ≡ false
     → (p n d : Bool) → o ≡ Some (table p n d) → ⊥
-not_table Item-F.Nothing o stands own p n d is = absurd (cc)
 not_table (Item-F.Integer z) o stands own p n d is = absurd (cc)
 not_table (Item-F.Float z) o stands own p n d is = absurd (cc)
 not_table (Item-F.Boolean z) o stands own p n d is = absurd (cc)

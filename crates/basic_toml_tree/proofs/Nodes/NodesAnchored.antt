@@ -119,7 +119,6 @@ module _ (sections : List Section) (p : Path) (node : Node) (is : IsNodeAt secti
             ∙ subst (λ x. item_standing x (standing (item_trie b.now))) e (standing_here b.now),
         keys,
       )
-      go Item-F.Nothing e = of_value (made Item-F.Nothing e)
       go (Item-F.Integer z) e = of_value (made (Item-F.Integer z) e)
       go (Item-F.Float z) e = of_value (made (Item-F.Float z) e)
       go (Item-F.Boolean z) e = of_value (made (Item-F.Boolean z) e)

@@ -60,7 +60,6 @@ item_key (Item-F.Inline b) i t k q at s is holds =
     made_inline : (b : Box Table Global) (at s : ℕ) → item_origins (roll-Item (Item-F.Inline b)) at s
         ≡ entry (value_origin (codes "inline table") at s) (table_origins b.value)
     made_inline b at s = search (rules, the_lemmas)
-item_key Item-F.Nothing i t k q at s is holds = absurd holds
 item_key (Item-F.Integer z) i t k q at s is holds = absurd holds
 item_key (Item-F.Float z) i t k q at s is holds = absurd holds
 item_key (Item-F.Boolean z) i t k q at s is holds = absurd holds
@@ -93,10 +92,6 @@ bears_entry : (x : Item-F Item Child Table) (at s : ℕ) (o : Origin) (f : Origi
 bears_entry x at s o f is same = subst (Bears s) (sym is) same
 
 item_bears : (x : Item-F Item Child Table) (at s : ℕ) → Bears s (item_origins (roll-Item x) at s)
-item_bears Item-F.Nothing at s = bears (search (rules, the_lemmas))
-  where
-    bears : item_origins (roll-Item Item-F.Nothing) at s ≡ no_origins → Bears s (item_origins (roll-Item Item-F.Nothing) at s)
-    bears e = subst (Bears s) (sym e) tt
 item_bears (Item-F.Integer z) at s = bears_entry (Item-F.Integer z) at s (value_origin (codes "integer") at s) no_origins
     (search (rules, the_lemmas)) (λ apart. refl)
 item_bears (Item-F.Float z) at s = bears_entry (Item-F.Float z) at s (value_origin (codes "float") at s) no_origins
@@ -146,7 +141,6 @@ item_marked (Item-F.Tables y z) at s = subst (Marked (Some (out-Table z.value).s
     is : item_origins (roll-Item (Item-F.Tables y z)) at s ≡ entry (array_origin at (table_within z.value).section)
         (at_numbers (elements_within at s (map table_within y.value.items ++ table_within z.value ∷ [])))
     is = search (rules, the_lemmas)
-item_marked Item-F.Nothing at s = not_marked None refl (item_origins (roll-Item Item-F.Nothing) at s)
 item_marked (Item-F.Integer z) at s = not_marked None refl (item_origins (roll-Item (Item-F.Integer z)) at s)
 item_marked (Item-F.Float z) at s = not_marked None refl (item_origins (roll-Item (Item-F.Float z)) at s)
 item_marked (Item-F.Boolean z) at s = not_marked None refl (item_origins (roll-Item (Item-F.Boolean z)) at s)
@@ -275,9 +269,6 @@ own_of : (f : Origins) (o want : Origin) (g : Origins) → f ≡ entry o g → (
 own_of f o want g is told = subst (λ f. OwnIs f want) (sym is) told
 
 item_own : (x : Item-F Item Child Table) (at s : ℕ) → OwnIs (item_origins (roll-Item x) at s) (item_told x at s)
-item_own Item-F.Nothing at s =
-    let none : item_origins (roll-Item Item-F.Nothing) at s ≡ no_origins = search (rules, the_lemmas) in
-    subst (λ f. OwnIs f (item_told Item-F.Nothing at s)) (sym none) tt
 item_own (Item-F.Integer z) at s =
     own_of (item_origins (roll-Item (Item-F.Integer z)) at s) (value_origin (codes "integer") at s)
     (item_told (Item-F.Integer z) at s) no_origins (search (rules, the_lemmas)) (λ apart. refl)

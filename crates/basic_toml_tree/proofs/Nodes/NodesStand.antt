@@ -126,7 +126,6 @@ item_below i (Item-F.Inline table) t k u is own holds =
     let leaf = inline_trie table in
     inl (ap (λ i. below (key k) (item_trie i)) (shape i (Item-F.Inline table) is) ∙ ap (below (key k)) leaf.1)
 item_below i (Item-F.Table table) t k u is own holds = cc
-item_below i Item-F.Nothing t k u is own holds = absurd holds
 item_below i (Item-F.Integer z) t k u is own holds = absurd holds
 item_below i (Item-F.Float z) t k u is own holds = absurd holds
 item_below i (Item-F.Boolean z) t k u is own holds = absurd holds

@@ -111,7 +111,6 @@ literal_name count (spots.Item b) not = go (out-Item b.now) not
     go : (x : Item-F Item Child Table) → holds_tables x ≡ false
         → names_array (item_name x) ≡ item_is_literal x
     go (Item-F.Array z) not = refl
-    go Item-F.Nothing not = refl
     go (Item-F.Integer z) not = refl
     go (Item-F.Float z) not = refl
     go (Item-F.Boolean z) not = refl

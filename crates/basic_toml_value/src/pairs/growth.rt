@@ -1,15 +1,14 @@
 //! How a table grows and changes in place: a key is entered where it is not there, and values change at their positions.
-ghost use Rattle.std.specs.Prelude.{◌≡◌, ◌<◌, IfErr, IfOk, OnOk, vec_capacity, vec_len};
+ghost use Rattle.std.specs.Prelude.{◌≡◌, ◌<◌, IfErr, IfOk, OnOk, Some, slice_get, vec_capacity, vec_len};
 ghost use Rattle.std.specs.Borrow.{sem};
 ghost use Rattle.basic_toml_value.specs.Entries.{seen, texts_of};
 ghost use Rattle.basic_toml_value.specs.Index.{IsGap, IsIndex};
-ghost use Rattle.basic_toml_value.specs.Growth.{EntersKey};
+ghost use Rattle.basic_toml_value.specs.Growth.{EntersKey, FindsOrAdds, Gives, values_of};
 
 use crate::index::{Found, Gap, Index};
-use crate::pairs::{Pair, Pairs, PushRefusal};
+use crate::pairs::{Pair, Pairs};
 use crate::text::Text;
 use std::alloc::{AllocError, Global};
-use std::mem;
 
 // Below so many pairs the room doubles from one, as many tables are small: a vector begins with room for four.
 const FEW: usize = 4;
@@ -41,6 +40,8 @@ fn add<V: Drop>(
     requires gap { IsGap (texts_of pairs.old.items) index.old key.now gap }
     ensures entered { IfOk result (λ position.
         EntersKey key.now value (seen pairs.old.items) (seen pairs.new.items) position) }
+    ensures stands { IfOk result (λ position.
+        slice_get (values_of (seen pairs.new.items)) position ≡ Some value) }
     ensures kept { IfErr result (λ _. pairs.new.items ≡ pairs.old.items) }
     ensures index { IsIndex (texts_of pairs.new.items) index.new }
 {
@@ -53,15 +54,13 @@ fn add<V: Drop>(
     Ok(position)
 }
 
-/// What stands at a new key until something else is put there.
-pub trait Blank {
-    ghost use Rattle.std.specs.Prelude.{◌≡◌};
-
-    ghost blank: { Self };
-
-    /// What stands at a new key.
-    fn blank(alloc: Global) -> Self
-        ensures { result ≡ blank };
+/// Where a key stands that was entered.
+#[derive(Clone, Copy, Debug, PartialEq, Eq)]
+pub struct Place {
+    /// Its position.
+    pub position: usize,
+    /// Whether it is new.
+    pub is_new: bool,
 }
 
 impl<V: Drop> Pairs<V> {
@@ -83,28 +82,6 @@ impl<V: Drop> Pairs<V> {
         ensures { self.new ≡ self.old }
     {
         self.entries.try_reserve_exact(more)
-    }
-
-    /// Puts a value last with a copy of a key, unless the key is there.
-    ///
-    /// # Errors
-    ///
-    /// `KeyPresent` where the key is there, and `OutOfMemory` where memory was refused. The table stays as it was, and the
-    /// value is gone.
-    #[tactic(auto, using(crate::proofs::SeenPairs::seen_pairs))]
-    pub fn push_copy(&mut self, key: &str, value: V) -> Result<(), PushRefusal>
-        ensures ok { OnOk result (self.new ≡ self.old ++ (key.now, value) ∷ []) }
-        ensures absent { OnOk result (has_key self.old key.now ≡ false) }
-        ensures present { IfErr result (λ e. (e ≡ PushRefusal.KeyPresent) ↔ IsTrue (has_key self.old key.now)) }
-        ensures err_unchanged { OnErr result (self.new ≡ self.old) }
-    {
-        match self.index.search(&self.entries, key) {
-            Found::At(_) => Err(PushRefusal::KeyPresent),
-            Found::Absent(gap) => match add(&mut self.entries, &mut self.index, key, gap, value) {
-                Ok(_) => Ok(()),
-                Err(_) => Err(PushRefusal::OutOfMemory),
-            },
-        }
     }
 
     /// The pair of a key.
@@ -147,54 +124,59 @@ impl<V: Drop> Pairs<V> {
         &mut pair.value
     }
 
-    /// Puts a value in the place of the one at a position, and answers that one.
-    pub fn replace(&mut self, position: usize, value: V) -> V
-        requires { position < length self.old }
-        ensures changed { self.new ≡ with_value self.old position value }
-        ensures count { length self.new ≡ length self.old }
-        ensures value { slice_get (values_of self.old) position ≡ Some result }
-    {
-        mem::replace(&mut self.entries[position].value, value)
-    }
-
-    /// Puts a value in the place of the one at a position.
-    pub fn put(&mut self, position: usize, value: V)
-        requires { position < length self.old }
-        ensures changed { self.new ≡ with_value self.old position value }
-        ensures count { length self.new ≡ length self.old }
-    {
-        let _ = self.replace(position, value);
-    }
-
-    /// The pairs, and the index of their keys.
-    pub fn into_parts(self) -> (Vec<Pair<V>>, Index)
-        ensures pairs { seen result.0.items ≡ self }
-        ensures index { IsIndex (texts_of result.0.items) result.1 }
-    {
-        let Pairs { entries, index } = self;
-        (entries, index)
-    }
-}
-
-impl<V: Drop + Blank> Pairs<V> {
-    ghost use Rattle.std.specs.Prelude.{◌≡◌, ◌<◌, length, IfOk, IfErr};
-    ghost use Rattle.basic_toml_value.specs.Growth.{EntersKey};
-
-    /// The position of a key, which is put last where it is not there: then the blank value stands at it.
+    /// The place of a key, which is put last with this value where it is not there. Else the value is gone.
     ///
     /// # Errors
     ///
     /// `AllocError` where memory was refused. The table stays as it was.
-    pub fn enter(&mut self, key: &str) -> Result<usize, AllocError>
-        ensures entered { IfOk result (λ position. EntersKey key.now V.blank self.old self.new position) }
-        ensures within { IfOk result (λ position. position < length self.new) }
+    pub fn enter_value(&mut self, key: &str, value: V) -> Result<Place, AllocError>
+        ensures entered { IfOk result (FindsOrAdds (λ there. there ≡ value) key.now self.old self.new) }
+        ensures within { IfOk result (λ place. place.position < length self.new) }
         ensures kept { IfErr result (λ _. self.new ≡ self.old) }
     {
         match self.index.search(&self.entries, key) {
-            Found::At(position) => Ok(position),
+            Found::At(position) => Ok(Place {
+                position,
+                is_new: false,
+            }),
             Found::Absent(gap) => {
-                let value = V::blank(*self.entries.allocator());
-                add(&mut self.entries, &mut self.index, key, gap, value)
+                let position = add(&mut self.entries, &mut self.index, key, gap, value)?;
+                Ok(Place {
+                    position,
+                    is_new: true,
+                })
+            }
+        }
+    }
+
+    /// The place of a key, which is put last where it is not there: then `make` gives its value. It is handed the last
+    /// value of those before.
+    ///
+    /// # Errors
+    ///
+    /// `AllocError` where memory was refused, and where `make` gives it. The table stays as it was.
+    pub fn enter<F: FnOnce(Option<&V>) -> Result<V, AllocError>>(
+        &mut self,
+        key: &str,
+        make: F,
+    ) -> Result<Place, AllocError>
+        requires { F.IsAlwaysCallable make }
+        ensures entered { IfOk result (FindsOrAdds (Gives (F.post make)) key.now self.old self.new) }
+        ensures within { IfOk result (λ place. place.position < length self.new) }
+        ensures kept { IfErr result (λ _. self.new ≡ self.old) }
+    {
+        match self.index.search(&self.entries, key) {
+            Found::At(position) => Ok(Place {
+                position,
+                is_new: false,
+            }),
+            Found::Absent(gap) => {
+                let value = make(self.entries.last().map(|pair| &pair.value))?;
+                let position = add(&mut self.entries, &mut self.index, key, gap, value)?;
+                Ok(Place {
+                    position,
+                    is_new: true,
+                })
             }
         }
     }
@@ -204,16 +186,33 @@ impl<V: Drop + Blank> Pairs<V> {
     /// # Errors
     ///
     /// As `enter`.
-    pub fn enter_again(&mut self, key: &str) -> Result<usize, AllocError>
-        ensures entered { IfOk result (λ position. EntersKey key.now V.blank self.old self.new position) }
-        ensures within { IfOk result (λ position. position < length self.new) }
+    pub fn enter_again<F: FnOnce(Option<&V>) -> Result<V, AllocError>>(
+        &mut self,
+        key: &str,
+        make: F,
+    ) -> Result<Place, AllocError>
+        requires { F.IsAlwaysCallable make }
+        ensures entered { IfOk result (FindsOrAdds (Gives (F.post make)) key.now self.old self.new) }
+        ensures within { IfOk result (λ place. place.position < length self.new) }
         ensures kept { IfErr result (λ _. self.new ≡ self.old) }
     {
         if let Some(last) = self.entries.last() {
             if last.key.as_str() == key {
-                return Ok(self.entries.len() - 1);
+                return Ok(Place {
+                    position: self.entries.len() - 1,
+                    is_new: false,
+                });
             }
         }
-        self.enter(key)
+        self.enter(key, make)
+    }
+
+    /// The pairs, and the index of their keys.
+    pub fn into_parts(self) -> (Vec<Pair<V>>, Index)
+        ensures pairs { seen result.0.items ≡ self }
+        ensures index { IsIndex (texts_of result.0.items) result.1 }
+    {
+        let Pairs { entries, index } = self;
+        (entries, index)
     }
 }

@@ -13,11 +13,11 @@ use Rattle.basic_toml_clash.proofs.crossed.follow_rows.Goals as goal
 pub loop-row-init : goal.loop-row-init
 loop-row-init c = record {
   within = omega arith;
-  passed = none_passed (rows_seen c.args.parents.now c.args.rows.now) c.blank-tree.result c.blank-tree.ensures;
+  passed = none_passed (rows_seen c.args.parents.now c.args.rows.now) c.new-tree.result c.new-tree.ensures;
 }
 
-pub returns-in_err-tree : goal.returns-in_err-tree
-returns-in_err-tree c =
+pub returns-in_err-follow : goal.returns-in_err-follow
+returns-in_err-follow c =
     let p = err_from_is_err_and c.from_residual.result c.from_residual.ensures.1 in
     let left = c.loop-row.left.now in
     rw (p.1, p.2)
@@ -27,7 +27,7 @@ returns-in_err-tree c =
     (rw (c.own_parents-own.ensures, c.as_str.ensures.value) refl) refl
     (subst (λ (rs : Rows). Passed (rows_seen c.args.parents.now c.args.rows.now) rs (ends_of c.loop-row.tree))
     (next_row left c.args.rows.now c.loop-row.row-index c.row-item.result c.loop-row-test.true c.row-item.is)
-    c.loop-row.invariant.passed) c.in_err-tree.field-0.0 c.in_err-tree.ensures)
+    c.loop-row.invariant.passed) c.follow.new.tree c.in_err-follow.field-0.0 c.in_err-follow.ensures)
 
 pub loop-row-preserved : goal.loop-row-preserved
 loop-row-preserved c =
@@ -39,13 +39,13 @@ loop-row-preserved c =
     record {
       within = omega (arith, own.0, c.loop-row.invariant.within);
       passed = subst (λ (ks : List keys.Key). Passed all (rows_from (map key_of ks) (map lined_of rest))
-          (ends_of c.in_ok-tree.tree)) own.1
+          (ends_of c.follow.new.tree)) own.1
           (gone_on all left r rest c.loop-row.tree
           (header_texts c.own_parents-own.result.now ++ c.as_str.result.now ∷ []) (out-Row r).start
           (rw (c.own_parents-own.ensures, c.as_str.ensures.value) refl) refl
           (subst (λ (rs : Rows). Passed all rs (ends_of c.loop-row.tree))
           (next_row left c.args.rows.now c.loop-row.row-index r c.loop-row-test.true c.row-item.is)
-          c.loop-row.invariant.passed) c.in_ok-tree.tree c.in_ok-tree.ensures);
+          c.loop-row.invariant.passed) c.follow.new.tree c.in_ok-follow.ensures);
     }
 
 pub returns : goal.returns

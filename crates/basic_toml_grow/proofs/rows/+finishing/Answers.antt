@@ -44,8 +44,8 @@ use Rattle.basic_toml_clash.specs.Simple.{are_simple, key_of as last_key}
 use Rattle.basic_toml_clash.proofs.DataParts.{nothing_left}
 use Rattle.basic_toml_clash.proofs.SimpleRows.{keys_differ}
 use Rattle.basic_toml_grow.specs.declared.item.Table.{Table, out-Table}
-use Rattle.basic_toml_grow.specs.Simple.{entries_of, with_entries}
-use Rattle.basic_toml_grow.proofs.SimpleRows.{no_entries, rows_in, rows_come}
+use Rattle.basic_toml_grow.specs.Simple.{entries_of, none_inline, with_entries}
+use Rattle.basic_toml_grow.proofs.SimpleRows.{no_entries, all_simple_alone, all_plain_alone, rows_in, rows_come}
 use Rattle.basic_toml_grow.proofs.RowsAfter.{FirstIn, first_in, all_entered, all_stopped, all_come}
 use Rattle.basic_toml_grow.proofs.rows.+finishing.Goals as goal
 
@@ -346,6 +346,17 @@ row_value-returns-then-are_plain-clause-origins t c =
     c.at.ensures.origins
     ∙ plain_come c.in-Array.elements c.args.level plain c.args.start c.args.section
     ∙ ap (λ v. value_origins c.args.section c.args.start (raw_of v)) (sym c.in-Array.is)
+
+-- plain rows have no inline tables
+pub take_rows-with_rows-requires-clause-plain : goal.take_rows-with_rows-requires-clause-plain
+take_rows-with_rows-requires-clause-plain t c =
+    all_simple_alone c.args.level (tables.out-Rows c.args.rows.now).rows.items
+    (ap (are_simple c.args.level) (sym c.as_slice.ensures.value) ∙ sym {A = Bool} c.are_simple.ensures
+    ∙ c.if-are_simple.true)
+
+pub take_many_rows-with_first_rows-requires-clause-plain : goal.take_many_rows-with_first_rows-requires-clause-plain
+take_many_rows-with_first_rows-requires-clause-plain t c =
+    ap none_inline c.drain-rows.ensures ∙ all_plain_alone c.args.level c.args.rows.items c.requires.plain
 
 -- simple rows, taken all at once
 pub take_rows-with_rows-requires-clause-distinct : goal.take_rows-with_rows-requires-clause-distinct

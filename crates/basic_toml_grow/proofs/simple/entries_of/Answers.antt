@@ -1,11 +1,29 @@
-use Rattle.std.proofs.Common.{◌≡◌, ◌-◌, ap, ◌∙◌, map, arith}
+use Rattle.std.proofs.Common.{◌≡◌, ◌-◌, ◌++◌, ap, ◌∙◌, sym, map, arith, rules}
 use Rattle.std.specs.Vec.{vec_len}
 use Rattle.std.specs.Vec.Iter.{drain_items}
 use Rattle.std.proofs.lemmas.List.{take_all}
 use Rattle.basic_toml_value.specs.Entries.{pair_seen}
 use Rattle.basic_toml_clash.proofs.DataParts.{mapped_next, none_after}
-use Rattle.basic_toml_grow.specs.Simple.{entry_of}
+use Rattle.basic_toml_grow.specs.Simple.{entry_of, none_inline}
+use Rattle.basic_toml_grow.proofs.SimpleRows.{first_plain, others_plain}
 use Rattle.basic_toml_grow.proofs.simple.entries_of.Goals as goal
+
+pub loop-row-init : goal.loop-row-init
+loop-row-init c =
+    let left : drain_items c.into_iter-row-iterator.result ≡ c.args.rows.now.items =
+    ap drain_items c.into_iter-row-iterator.ensures.into_iter_gives ∙ c.drain-row-items.ensures.rest
+    ∙ take_all (vec_len c.args.rows.now - 0) c.args.rows.now.items (omega (arith, c.args.rows.now.ok.0)) in
+    (
+      ap (λ ps. map pair_seen ps ++ map (entry_of c.args.section) (drain_items c.into_iter-row-iterator.result))
+          c.in_ok-entries.ensures.items,
+      search rules,
+      ap none_inline left ∙ c.requires.plain,
+    )
+
+pub entry_of-requires-clause-plain : goal.entry_of-requires-clause-plain
+entry_of-requires-clause-plain c =
+    first_plain c.in-Some.row (drain_items c.next.new.self)
+    (ap none_inline (sym c.in-Some.ensures.steps.0) ∙ c.loop-row.invariant.2)
 
 pub loop-row-preserved : goal.loop-row-preserved
 loop-row-preserved c =
@@ -15,6 +33,7 @@ loop-row-preserved c =
           (drain_items c.into_iter-row-iterator.result) c.entry_of.result c.in-Some.row steps.0
           c.push_reserved.ensures.items c.loop-row.invariant.0 c.entry_of.ensures,
       omega (arith, steps.1, c.loop-row.invariant.1, c.push_reserved.ensures.len, c.push_reserved.ensures.capacity),
+      others_plain c.in-Some.row (drain_items c.next.new.self) (ap none_inline (sym steps.0) ∙ c.loop-row.invariant.2),
     )
 
 pub returns-clause-entries : goal.returns-clause-entries

@@ -1,7 +1,8 @@
 use Rattle.std.proofs.Common.{◌≡◌, suc, ◌+◌, ◌-◌, ◌++◌, ap, ap₂, sym, ◌∙◌, map, length, take, drop, arith}
 use Rattle.basic_toml_value.specs.Entries.{pair_seen}
 use Rattle.basic_toml_clash.proofs.DataParts.{mapped_next}
-use Rattle.basic_toml_grow.specs.Simple.{entry_of}
+use Rattle.basic_toml_grow.specs.Simple.{entry_of, none_inline}
+use Rattle.basic_toml_grow.proofs.SimpleRows.{first_plain, others_plain}
 use Rattle.basic_toml_grow.proofs.simple.first_entries_of.Goals as goal
 
 pub loop-init : goal.loop-init
@@ -12,7 +13,8 @@ loop-init c =
     let empty = c.in_ok-entries.ensures.len in record {
       entered = ap₂ (λ ps n. map pair_seen ps ++ map (entry_of c.args.section) (take n c.args.rows.now)) none all;
       left = ap (λ n. drop n c.args.rows.now) all;
-      within = omega (arith, c.requires);
+      within = omega (arith, c.requires.within);
+      plain = c.requires.plain;
       room = omega (arith, room, empty);
     }
 
@@ -21,6 +23,10 @@ pub unreachable-requires : goal.unreachable-requires
 unreachable-requires c =
     let none = ap length c.in_default.ensures.steps.0 in
     omega (arith, none, c.loop.invariant.within, c.loop-test.true)
+
+pub entry_of-requires-clause-plain : goal.entry_of-requires-clause-plain
+entry_of-requires-clause-plain c =
+    first_plain c.in-Some.row c.next.new.self (ap none_inline (sym c.in-Some.ensures.steps) ∙ c.loop.invariant.plain)
 
 pub loop-preserved : goal.loop-preserved
 loop-preserved c =
@@ -35,5 +41,6 @@ loop-preserved c =
           c.loop.invariant.entered c.entry_of.ensures;
       left = sym (ap₂ (λ n rows. drop n rows) next first) ∙ c.loop.invariant.left;
       within = omega (arith, shorter, c.loop.invariant.within, next);
+      plain = others_plain c.in-Some.row c.next.new.self (ap none_inline (sym first) ∙ c.loop.invariant.plain);
       room = omega (arith, c.loop.invariant.room, next, c.push_reserved.ensures.len, c.push_reserved.ensures.capacity);
     }

@@ -1,10 +1,20 @@
-use Rattle.basic_toml_value.proofs.KeysSeen.{entered_found, stands_within}
+use Rattle.basic_toml_value.proofs.KeysSeen.{found_again, added_last, stands_within}
 use Rattle.basic_toml_value.proofs.pairs.Pairs.enter.Goals as goal
 
 pub returns-in-At-clause-entered : goal.returns-in-At-clause-entered
 returns-in-At-clause-entered g c =
-    entered_found c.self.inside.entries.items c.args.self.now c.in-At.position c.args.key.now _
+    found_again c.self.inside.entries.items c.args.self.now c.in-At.position c.args.key.now _
     c.self.view_is c.self.invariant.distinct c.in-At.ensures.found
 
 pub returns-in-At-clause-within : goal.returns-in-At-clause-within
-returns-in-At-clause-within g c = stands_within _ _ c.args.key.now (returns-in-At-clause-entered g c).at
+returns-in-At-clause-within g c = stands_within _ _ c.args.key.now (returns-in-At-clause-entered g c).entered.at
+
+pub returns-in_ok-position-in-Absent-clause-entered : goal.returns-in_ok-position-in-Absent-clause-entered
+returns-in_ok-position-in-Absent-clause-entered g c =
+    added_last c.self.inside.entries.items c.args.self.now _ c.in_ok-position-in-Absent.position c.args.key.now
+    c.in_ok-value-in-Absent.value _ c.self.view_is c.in-Absent.ensures.absent
+    c.in_ok-position-in-Absent.ensures.entered c.in_ok-position-in-Absent.ensures.stands (c.map.result, c.in_ok-value-in-Absent.ensures)
+
+pub returns-in_ok-position-in-Absent-clause-within : goal.returns-in_ok-position-in-Absent-clause-within
+returns-in_ok-position-in-Absent-clause-within g c =
+    stands_within _ _ c.args.key.now (returns-in_ok-position-in-Absent-clause-entered g c).entered.at

@@ -1,7 +1,7 @@
 use Rattle.std.proofs.Common.{◌-◌, length, Some, ap, sym, ◌∙◌}
 use Rattle.std.specs.List.{slice_get}
 use Rattle.std.proofs.lemmas.Slice.Eq.{bytes_eq-Decides}
-use Rattle.basic_toml_value.proofs.KeysSeen.{text_at, entered_found}
+use Rattle.basic_toml_value.proofs.KeysSeen.{text_at, found_again}
 use Rattle.basic_toml_value.proofs.pairs.Pairs.enter_again.Goals as goal
 
 pub returns-then-eq-clause-entered : goal.returns-then-eq-clause-entered
@@ -11,5 +11,5 @@ returns-then-eq-clause-entered g c =
     (sym c.eq.ensures ∙ c.if-eq.true) in
     let last = ap (λ n. slice_get entries (n - 1)) (c.len.ensures ∙ sym c.deref.ensures.len)
     ∙ sym (c.in-Some.ensures.value ∙ ap (λ ps. slice_get ps (length c.deref.result.now - 1)) c.deref.ensures.value) in
-    entered_found entries c.args.self.now (c.len.result - 1) c.args.key.now _ c.self.view_is c.self.invariant.distinct
+    found_again entries c.args.self.now (c.len.result - 1) c.args.key.now _ c.self.view_is c.self.invariant.distinct
     (text_at entries (c.len.result - 1) c.in-Some.last.now last ∙ ap Some same)
