@@ -64,6 +64,7 @@ pub struct Table<'de> {
 
 impl<'de> Child<'de> {
     /// An item that comes from an offset and a section.
+    #[inline(always)]
     pub(crate) fn at(start: usize, section: usize, item: Item<'de>) -> Child<'de>
         ensures trie { child_trie result ≡ item_trie item.entry }
         ensures origins { child_origins result ≡ item_origins item.entry start section }
@@ -100,12 +101,11 @@ impl<'de> Child<'de> {
         ensures { IfOk result (λ child. IsNew is_array (out-Child child).item) }
     {
         let table = Table::new(alloc)?;
-        let item = if is_array {
-            Item::Tables(Box::new(alloc, Vec::new(alloc))?, table)
-        } else {
-            Item::Table(table)
-        };
-        Ok(Child::at(0, 0, item))
+        if is_array {
+            let before = Box::new(alloc, Vec::new(alloc))?;
+            return Ok(Child::at(0, 0, Item::Tables(before, table)));
+        }
+        Ok(Child::at(0, 0, Item::Table(table)))
     }
 }
 

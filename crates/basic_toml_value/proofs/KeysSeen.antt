@@ -1,6 +1,7 @@
 -- Keys with their values in memory, and what is seen of them.
 use Rattle.std.proofs.Common.{◌≡◌, ℕ, suc, zero, ◌<◌, true, false, List, [], ◌∷◌, ◌++◌, length, refl, sym}
-use Rattle.std.proofs.Common.{ap, ◌∙◌, arith, Some, get_or, take, IsTrue}
+use Rattle.std.proofs.Common.{ap, ◌∙◌, arith, Some, get_or, take, IsTrue, Result, Ok, Err, IfOk, subst}
+use Rattle.std.specs.declared.alloc.AllocError.{AllocError}
 use Rattle.std.specs.List.{slice_get, slice_set}
 use Rattle.std.proofs.lemmas.List.{map-append}
 use Rattle.basic_toml_value.specs.declared.pairs.Pair.{Pair}
@@ -10,7 +11,7 @@ use Rattle.basic_toml_value.specs.Keys.{is_among, are_distinct}
 use Rattle.basic_toml_value.specs.Pairs.{keys_of, has_key}
 use Rattle.basic_toml_value.proofs.SeenPairs.{value_at-found, value_at-absent}
 use Rattle.basic_toml_value.proofs.DistinctKeys.{slice_get-last, is_among_at, is_among-before}
-use Rattle.basic_toml_value.specs.Growth.{with_value, values_of, EntersKey, FindsOrAdds}
+use Rattle.basic_toml_value.specs.Growth.{with_value, values_of, new_place, EntersKey, FindsOrAdds}
 use Rattle.basic_toml_value.specs.declared.pairs.growth.Place.{Place}
 
 take-front : (keys : List (List ℕ)) (key : List ℕ) → take (length keys) (keys ++ key ∷ []) ≡ keys
@@ -150,6 +151,20 @@ module _ {V : Type 0} where
         is_new = rw none refl;
         made = λ new. given;
       }
+
+  pub added_result : (pairs : List (Pair V)) (new : List (List ℕ × V)) (key : List ℕ) (v : V) (gives : V → Type 0)
+      (r : Result ℕ AllocError) → is_among (texts_of pairs) key ≡ false
+      → IfOk r (λ i. EntersKey key v (seen pairs) new i) → IfOk r (λ i. slice_get (values_of new) i ≡ Some v) → gives v
+      → IfOk r (λ i. FindsOrAdds gives key (seen pairs) new (new_place i))
+  added_result pairs new key v gives (Ok i) absent entered stands given =
+      added_last pairs (seen pairs) new i key v gives refl absent entered stands given
+  added_result pairs new key v gives (Err e) absent entered stands given = tt
+
+  -- the same of pairs that are seen so
+  pub seen_before : {gives : V → Type 0} {key : List ℕ} {ps old new : List (List ℕ × V)} {p : Place} → ps ≡ old
+      → FindsOrAdds gives key ps new p → FindsOrAdds gives key old new p
+  seen_before {gives = gives} {key = key} {new = new} {p = p} same found =
+      subst (λ (ps : List (List ℕ × V)). FindsOrAdds gives key ps new p) same found
 
   -- a value stands where it was put last
   pub value_last : (pairs : List (Pair V)) (pair : Pair V)

@@ -29,6 +29,10 @@ pub record EntersKey {V : Type 0} (key : List ℕ) (v : V) (old new : List (List
 abbrev pub Gives : {A V E : Type 0} → (A → Result V E → Type 0) → V → Type 0
 Gives {A = A} post v = (x : A) × post x (Ok v)
 
+-- the place of a new key
+abbrev pub new_place : ℕ → Place
+new_place i = record { position = i; is_new = true }
+
 -- a key stands at this place then, with this value: where it is new, one that was made for it
 pub record FindsOrAdds {V : Type 0} (gives : V → Type 0) (key : List ℕ) (old new : List (List ℕ × V)) (p : Place)
     : Type 0 where

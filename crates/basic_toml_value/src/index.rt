@@ -119,6 +119,7 @@ impl Index {
     }
 
     /// The position of a key among the texts, or where it would go.
+    #[inline(always)]
     pub fn search<T: Texts>(&self, texts: &T, key: &str) -> Found
         requires { IsIndex (T.texts texts.now) self.now }
         ensures found { IfAt result (λ position. slice_get (T.texts texts.now) position ≡ Some key.now) }
@@ -133,6 +134,7 @@ impl Index {
 
     /// Takes in a key that is to stand after the texts, where it goes. Where memory is refused, the index stays one
     /// of the texts as they are.
+    #[inline(always)]
     pub fn insert<T: Texts>(
         &mut self,
         alloc: Global,
@@ -180,6 +182,7 @@ impl Index {
 
 // The position of a key among texts, looked at one after the other.
 #[tactic(auto, using(crate::proofs::DistinctKeys::keys_passed))]
+#[inline(always)]
 fn look_through<T: Texts>(texts: &T, key: &str) -> Found
     ensures found { IfAt result (λ position. slice_get (T.texts texts.now) position ≡ Some key.now) }
     ensures absent { IfAbsent result (λ gap. is_among (T.texts texts.now) key.now ≡ false) }

@@ -30,6 +30,7 @@ pub struct Slot {
 pub type Leaf = Vec<Slot>;
 
 // The position of a key that a slot stands for, or where it would go.
+#[inline(always)]
 pub fn search<T: Texts>(leaves: &[Leaf], texts: &T, key: &str) -> Found
     requires { IsRow (T.texts texts.now) (leaves_of leaves.now) }
     ensures found { IfAt result (λ position. slice_get (T.texts texts.now) position ≡ Some key.now) }

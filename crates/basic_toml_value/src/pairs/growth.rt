@@ -3,7 +3,7 @@ ghost use Rattle.std.specs.Prelude.{◌≡◌, ◌<◌, IfErr, IfOk, OnOk, Some,
 ghost use Rattle.std.specs.Borrow.{sem};
 ghost use Rattle.basic_toml_value.specs.Entries.{seen, texts_of};
 ghost use Rattle.basic_toml_value.specs.Index.{IsGap, IsIndex};
-ghost use Rattle.basic_toml_value.specs.Growth.{EntersKey, FindsOrAdds, Gives, values_of};
+ghost use Rattle.basic_toml_value.specs.Growth.{EntersKey, FindsOrAdds, Gives, new_place, values_of};
 
 use crate::index::{Found, Gap, Index};
 use crate::pairs::{Pair, Pairs};
@@ -29,6 +29,7 @@ fn make_room<V>(pairs: &mut Vec<Pair<V>>) -> Result<(), AllocError>
 }
 
 // Puts a key last with a value. Where memory is refused, all stays as it was.
+#[inline(always)]
 fn add<V: Drop>(
     pairs: &mut Vec<Pair<V>>,
     index: &mut Index,
@@ -52,6 +53,27 @@ fn add<V: Drop>(
     index.insert(alloc, pairs, key.as_str(), gap)?;
     pairs.push_reserved(Pair { key, value });
     Ok(position)
+}
+
+// The same, with a value that is made. It stands apart, so that a key that is there is found without its room.
+#[inline(never)]
+fn make_last<V: Drop, F: FnOnce(Option<&V>) -> Result<V, AllocError>>(
+    pairs: &mut Vec<Pair<V>>,
+    index: &mut Index,
+    key: &str,
+    gap: Gap,
+    make: F,
+) -> Result<usize, AllocError>
+    requires make { F.IsAlwaysCallable make }
+    requires index { IsIndex (texts_of pairs.old.items) index.old }
+    requires gap { IsGap (texts_of pairs.old.items) index.old key.now gap }
+    ensures entered { IfOk result (λ position. FindsOrAdds (Gives (F.post make)) key.now (seen pairs.old.items)
+        (seen pairs.new.items) (new_place position)) }
+    ensures kept { IfErr result (λ _. pairs.new.items ≡ pairs.old.items) }
+    ensures index { IsIndex (texts_of pairs.new.items) index.new }
+{
+    let value = make(pairs.last().map(|pair| &pair.value))?;
+    add(pairs, index, key, gap, value)
 }
 
 /// Where a key stands that was entered.
@@ -129,6 +151,7 @@ impl<V: Drop> Pairs<V> {
     /// # Errors
     ///
     /// `AllocError` where memory was refused. The table stays as it was.
+    #[inline(always)]
     pub fn enter_value(&mut self, key: &str, value: V) -> Result<Place, AllocError>
         ensures entered { IfOk result (FindsOrAdds (λ there. there ≡ value) key.now self.old self.new) }
         ensures within { IfOk result (λ place. place.position < length self.new) }
@@ -171,8 +194,7 @@ impl<V: Drop> Pairs<V> {
                 is_new: false,
             }),
             Found::Absent(gap) => {
-                let value = make(self.entries.last().map(|pair| &pair.value))?;
-                let position = add(&mut self.entries, &mut self.index, key, gap, value)?;
+                let position = make_last(&mut self.entries, &mut self.index, key, gap, make)?;
                 Ok(Place {
                     position,
                     is_new: true,
@@ -186,6 +208,7 @@ impl<V: Drop> Pairs<V> {
     /// # Errors
     ///
     /// As `enter`.
+    #[inline(always)]
     pub fn enter_again<F: FnOnce(Option<&V>) -> Result<V, AllocError>>(
         &mut self,
         key: &str,

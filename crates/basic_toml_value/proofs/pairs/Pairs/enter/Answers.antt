@@ -1,4 +1,4 @@
-use Rattle.basic_toml_value.proofs.KeysSeen.{found_again, added_last, stands_within}
+use Rattle.basic_toml_value.proofs.KeysSeen.{found_again, seen_before, stands_within}
 use Rattle.basic_toml_value.proofs.pairs.Pairs.enter.Goals as goal
 
 pub returns-in-At-clause-entered : goal.returns-in-At-clause-entered
@@ -11,9 +11,7 @@ returns-in-At-clause-within g c = stands_within _ _ c.args.key.now (returns-in-A
 
 pub returns-in_ok-position-in-Absent-clause-entered : goal.returns-in_ok-position-in-Absent-clause-entered
 returns-in_ok-position-in-Absent-clause-entered g c =
-    added_last c.self.inside.entries.items c.args.self.now _ c.in_ok-position-in-Absent.position c.args.key.now
-    c.in_ok-value-in-Absent.value _ c.self.view_is c.in-Absent.ensures.absent
-    c.in_ok-position-in-Absent.ensures.entered c.in_ok-position-in-Absent.ensures.stands (c.map.result, c.in_ok-value-in-Absent.ensures)
+    seen_before c.self.view_is c.in_ok-position-in-Absent.ensures.entered
 
 pub returns-in_ok-position-in-Absent-clause-within : goal.returns-in_ok-position-in-Absent-clause-within
 returns-in_ok-position-in-Absent-clause-within g c =
