@@ -1,8 +1,8 @@
 -- The way of a header through tables and what stands in them, as contracts say it.
 use Rattle.std.specs.Prelude.{⊤}
-use Rattle.std.proofs.Common.{string_bytes, ◌≡◌, ℕ, suc, ◌+◌, ◌≤◌, Bool, true, false, List, [], ◌∷◌, map, Option, Some}
-use Rattle.std.proofs.Common.{None, refl, ap, sym, ◌∙◌, arith, rules, option_map, Vec, Box, Global, Result, Ok, Err}
-use Rattle.std.proofs.Common.{IsErrAnd, subst, length}
+use Rattle.std.proofs.Common.{string_bytes, ◌≡◌, ℕ, suc, ◌+◌, Bool, true, List, ◌∷◌, map, Option, Some}
+use Rattle.std.proofs.Common.{None, refl, ap, sym, ◌∙◌, rules, option_map, Vec, Box, Global, Result, Ok, Err}
+use Rattle.std.proofs.Common.{IsErrAnd, subst}
 use Rattle.std.specs.List.{slice_get}
 use Rattle.basic_toml_value.specs.Data.{Data, items_of}
 use Rattle.basic_toml_grammar.specs.Sections.{KeyTexts, Rows}

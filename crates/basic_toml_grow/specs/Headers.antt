@@ -14,7 +14,7 @@ use Rattle.basic_toml_clash.specs.Clash.{Obstacle}
 use Rattle.basic_toml_grow.specs.declared.item.Item.{Item}
 use Rattle.basic_toml_grow.specs.declared.item.Item as items
 use Rattle.basic_toml_grow.specs.declared.item.Table.{Table}
-use Rattle.basic_toml_grow.specs.Item.{item_trie, table_trie, empty_table}
+use Rattle.basic_toml_grow.specs.Item.{table_trie, empty_table}
 use Rattle.basic_toml_grow.specs.Obstacles.{element_obstacle, obstacle_on, keys_obstacle}
 
 -- the highest level of a section whose table is on a level

@@ -1,13 +1,12 @@
 -- The origins in a table and in what stands in it, one level at a time, and how they change at a key.
 use Rattle.std.proofs.Common.{◌≡◌, ℕ, Bool, true, false, List, [], ◌∷◌, ◌++◌, Option, Some, None}
 use Rattle.std.proofs.Common.{refl, ap}
-use Rattle.std.proofs.Common.{sym, ◌∙◌, subst, map, rules, option_map, slice_get, Vec, Box, Global, codes}
+use Rattle.std.proofs.Common.{sym, ◌∙◌, map, rules, option_map, slice_get, Vec, Box, Global, codes}
 use Rattle.std.specs.Prelude.{◌||◌, not, if◌then◌else◌}
 use Rattle.std.specs.Option.{option_or}
 use Rattle.std.specs.Str.{bytes_eq}
 use Rattle.std.proofs.Math.Path.{fun_ext}
 use Rattle.std.proofs.lemmas.Slice.Eq.{bytes_eq-Decides}
-use Rattle.std.proofs.lemmas.Bool.{false≢true}
 use Rattle.basic_toml_value.specs.Pairs.{has_key, value_at}
 use Rattle.basic_toml_grammar.specs.Standing as standings
 use Rattle.basic_toml_grammar.specs.Steps.{key, number, Path}

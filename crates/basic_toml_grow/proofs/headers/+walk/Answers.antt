@@ -1,5 +1,5 @@
-use Rattle.std.proofs.Common.{◌≡◌, ℕ, ◌≤◌, ◌∷◌, ◌+◌, length, suc, ap, sym, ◌∙◌, arith, map, Option, option_map, subst}
-use Rattle.std.proofs.Common.{inr, refl, Ok, rules}
+use Rattle.std.proofs.Common.{◌≡◌, ℕ, ◌∷◌, ◌+◌, suc, ap, sym, ◌∙◌, arith, map, Option, option_map, subst}
+use Rattle.std.proofs.Common.{inr, refl, rules}
 use Rattle.std.specs.Prelude.{IfErr}
 use Rattle.std.proofs.lemmas.Bool.{false≢true}
 use Rattle.std.specs.Box as boxes
@@ -32,7 +32,11 @@ use Rattle.basic_toml_grow.proofs.Origins.HeadersPlaceOrigins.{passed_grows, tab
 use Rattle.basic_toml_grow.proofs.Origins.ElementsPlaceOrigins.{latest_grows}
 use Rattle.basic_toml_grow.proofs.Origins.HeadersMark.{passed_marks, table_marks, latest_marks}
 use Rattle.basic_toml_grow.proofs.headers.+walk.Goals as goal
-use Rattle.basic_toml_grow.proofs.headers.+walk.Goals.{enter_at-then-is_array+then-is_empty+then-not-is_new+in_ok-add_table, enter_at-else-is_array, enter_at-else-is_array-via-then-is_array+then-is_empty+else-not-is_new, enter_at-else-is_array-via-then-is_array+else-is_empty, enter_at-else-is_array-via-else-is_array}
+use Rattle.basic_toml_grow.proofs.headers.+walk.Goals.{enter_at-then-is_array+then-is_empty+then-not-is_new+in_ok-add_table}
+use Rattle.basic_toml_grow.proofs.headers.+walk.Goals.{enter_at-else-is_array}
+use Rattle.basic_toml_grow.proofs.headers.+walk.Goals.{enter_at-else-is_array-via-then-is_array+then-is_empty+else-not-is_new}
+use Rattle.basic_toml_grow.proofs.headers.+walk.Goals.{enter_at-else-is_array-via-then-is_array+else-is_empty}
+use Rattle.basic_toml_grow.proofs.headers.+walk.Goals.{enter_at-else-is_array-via-else-is_array}
 
 -- what a header goes on from
 leads : (t : ℕ) (c : goal.enter_at-After-enter_item t)
@@ -52,16 +56,16 @@ leads t c =
           (grind (arith, w.is_empty.ensures, w.if-is_empty.true)) (grind (arith, w.if-not-is_new.true))
           w.in_ok-add_table.ensures.more)
       | enter_at-else-is_array w ↦ rw w.there-is (elim w.else-is_array.branch [
-          | enter_at-else-is_array-via-then-is_array+then-is_empty+else-not-is_new v ↦
-              lead a rows (header_texts keys) l is_new there c.requires.new
-              (λ not. absurd (false≢true (sym not ∙ grind (arith, v.if-not-is_new.false))))
-          | enter_at-else-is_array-via-then-is_array+else-is_empty v ↦
-              lead a rows (header_texts keys) l is_new there c.requires.new
-              (λ not. not_last a keys (grind (arith, v.is_empty.ensures, v.if-is_empty.false)))
-          | enter_at-else-is_array-via-else-is_array v ↦
-              lead a rows (header_texts keys) l is_new there c.requires.new
-              (λ not. no_array a (header_texts keys) v.if-is_array.false)
-        ])
+        | enter_at-else-is_array-via-then-is_array+then-is_empty+else-not-is_new v ↦
+            lead a rows (header_texts keys) l is_new there c.requires.new
+            (λ not. absurd (false≢true (sym not ∙ grind (arith, v.if-not-is_new.false))))
+        | enter_at-else-is_array-via-then-is_array+else-is_empty v ↦
+            lead a rows (header_texts keys) l is_new there c.requires.new
+            (λ not. not_last a keys (grind (arith, v.is_empty.ensures, v.if-is_empty.false)))
+        | enter_at-else-is_array-via-else-is_array v ↦
+            lead a rows (header_texts keys) l is_new there c.requires.new
+            (λ not. no_array a (header_texts keys) v.if-is_array.false)
+      ])
     ]
 
 pub enter_at-returns-in_err-add_table-clause-entered : goal.enter_at-returns-in_err-add_table-clause-entered

@@ -1,4 +1,4 @@
-use Rattle.std.proofs.Common.{◌≡◌, ap, ap₂, ◌∙◌, sym, refl, rules, ◌++◌, ◌∷◌, [], List}
+use Rattle.std.proofs.Common.{◌≡◌, ap, ap₂, ◌∙◌, refl, rules, ◌++◌, ◌∷◌, [], List}
 use denote.Hole.Carrier.{out}
 use Rattle.std.specs.Box as boxes
 use Rattle.basic_toml_grow.specs.Item.{table_trie}

@@ -1,8 +1,7 @@
-use Rattle.std.proofs.Common.{◌≡◌, [], ◌∷◌, ap, ◌∙◌, sym, refl, Some, subst, slice_get}
+use Rattle.std.proofs.Common.{[], ◌∷◌, ap, ◌∙◌, sym, refl, Some, subst}
 use Rattle.basic_toml_grammar.specs.Marks.{valued}
 use Rattle.basic_toml_grammar.specs.Steps.{key}
 use Rattle.basic_toml_grammar.specs.Trie.{Trie, mark_here, put_row}
-use Rattle.basic_toml_value.specs.Growth.{values_of}
 use Rattle.basic_toml_grow.specs.Item.{child_trie, table_trie, trie_before}
 use Rattle.basic_toml_grow.specs.Origins.{child_origins, beyond, with_more, table_within}
 use Rattle.basic_toml_grow.specs.Simple.{with_entries}

@@ -12,8 +12,7 @@ pub loop-row-init : goal.loop-row-init
 loop-row-init c =
     let left : drain_items c.into_iter-row-iterator.result ≡ c.args.rows.now.items =
     ap drain_items c.into_iter-row-iterator.ensures.into_iter_gives ∙ c.drain-row-items.ensures.rest
-    ∙ take_all (vec_len c.args.rows.now - 0) c.args.rows.now.items (omega (arith, c.args.rows.now.ok.0)) in
-    (
+    ∙ take_all (vec_len c.args.rows.now - 0) c.args.rows.now.items (omega (arith, c.args.rows.now.ok.0)) in (
       ap (λ ps. map pair_seen ps ++ map (entry_of c.args.section) (drain_items c.into_iter-row-iterator.result))
           c.in_ok-entries.ensures.items,
       search rules,

@@ -1,4 +1,4 @@
-use Rattle.std.proofs.Common.{◌≡◌, ap, ◌∙◌}
+use Rattle.std.proofs.Common.{ap, ◌∙◌}
 use Rattle.basic_toml_grow.proofs.item.Child.of_header.Goals as goal
 
 pub returns-then-is_array : goal.returns-then-is_array

@@ -1,4 +1,4 @@
-use Rattle.std.proofs.Common.{◌≡◌, ap, ◌∙◌}
+use Rattle.std.proofs.Common.{ap, ◌∙◌}
 use Rattle.basic_toml_grow.specs.Origins.{of_table, table_within}
 use Rattle.basic_toml_grow.proofs.Origins.OriginsSeen.{fresh_within, table_item_seen}
 use Rattle.basic_toml_grow.proofs.item.Child.table.Goals as goal
