@@ -105,9 +105,32 @@ fn enter_row<'de>(
         (child_origins child.entry) in
         IfOk result (λ _. table_within table.new ≡ with_more (table_within table.old) row) }
 {
-    let Some((key, rest)) = keys.split_first() else {
-        return enter_last(table, last, child);
-    };
+    match keys.split_first() {
+        None => enter_last(table, last, child),
+        Some((key, rest)) => enter_dotted(alloc, table, key, rest, last, child),
+    }
+}
+
+// Puts a row's value into a table by a key that a period follows, and by the keys after it.
+#[cycle(leading)]
+#[inline(never)]
+fn enter_dotted<'de>(
+    alloc: Global,
+    table: &mut Table<'de>,
+    key: &Key<'de>,
+    rest: &[Key<'de>],
+    last: &str,
+    child: Child<'de>,
+) -> Result<(), Met>
+    ensures entered { let keys = header_texts (key.entry.now ∷ rest.entry.now) in
+        (d : Data) → child_trie child.entry ≡ leaf d
+        → EntersRow (keys ++ last.entry.now ∷ []) d (table_trie table.old) (table_trie table.new) result }
+    ensures named { IfErr result (λ met. (d : Data) → child_trie child.entry ≡ leaf d
+        → TellsRow (map key_of (key.entry.now ∷ rest.entry.now)) last.entry.now d (table_trie table.old) met) }
+    ensures origins { let keys = header_texts (key.entry.now ∷ rest.entry.now) in
+        let row = row_origins (keys ++ last.entry.now ∷ []) (dotted_of child.entry) (child_origins child.entry) in
+        IfOk result (λ _. table_within table.new ≡ with_more (table_within table.old) row) }
+{
     let start = child.start;
     let section = child.section;
     let place = table.entries.enter_again(key.text.as_str(), |last| {
@@ -144,7 +167,7 @@ fn room_like(last: Option<&Child<'_>>) -> usize {
 
 // Puts the rest of a row into the table at a key that a period follows.
 #[cycle(leading)]
-#[inline(never)]
+#[inline(always)]
 fn extend<'de>(
     alloc: Global,
     there: &mut Child<'de>,

@@ -27,28 +27,36 @@ use Rattle.basic_toml_grow.proofs.Origins.RowsPlaceOrigins.{dotted_within, child
 use Rattle.basic_toml_grow.proofs.rows.+leading.Goals as goal
 
 -- a row of one key
-pub enter_row-returns-in_default-clause-entered : goal.enter_row-returns-in_default-clause-entered
-enter_row-returns-in_default-clause-entered t c = λ d is_leaf.
+pub enter_row-returns-in-None-clause-entered : goal.enter_row-returns-in-None-clause-entered
+enter_row-returns-in-None-clause-entered t c = λ d is_leaf.
     subst (λ (ks : KeyTexts). EntersRow (ks ++ c.args.last.now ∷ []) d (table_trie c.args.table.now)
     (table_trie c.enter_last.new.table) c.enter_last.result)
-    (sym (no_texts c.args.keys.now c.in_default.ensures.cases)) (c.enter_last.ensures.entered d is_leaf)
+    (sym (no_texts c.args.keys.now c.in-None.ensures.cases)) (c.enter_last.ensures.entered d is_leaf)
 
-pub enter_row-returns-in_default-clause-named : goal.enter_row-returns-in_default-clause-named
-enter_row-returns-in_default-clause-named t c =
+pub enter_row-returns-in-None-clause-named : goal.enter_row-returns-in-None-clause-named
+enter_row-returns-in-None-clause-named t c =
     err_on _ _ c.enter_last.result
     (λ met told. λ d is_leaf. subst (λ (ks : List Key). TellsRow ks c.args.last.now d (table_trie c.args.table.now) met)
-    (sym (no_keys c.args.keys.now c.in_default.ensures.cases)) (told d is_leaf)) c.enter_last.ensures.named
+    (sym (no_keys c.args.keys.now c.in-None.ensures.cases)) (told d is_leaf)) c.enter_last.ensures.named
 
-pub enter_row-returns-in_default-clause-origins : goal.enter_row-returns-in_default-clause-origins
-enter_row-returns-in_default-clause-origins t c =
+pub enter_row-returns-in-None-clause-origins : goal.enter_row-returns-in-None-clause-origins
+enter_row-returns-in-None-clause-origins t c =
     ok_on _ _ c.enter_last.result
     (λ x comes. comes
     ∙ ap (λ ks. with_more (table_within c.args.table.now) (row_origins (ks ++ c.args.last.now ∷ [])
     (dotted_of c.args.child) (child_origins c.args.child)))
-    (sym (no_texts c.args.keys.now c.in_default.ensures.cases))) c.enter_last.ensures.origins
+    (sym (no_texts c.args.keys.now c.in-None.ensures.cases))) c.enter_last.ensures.origins
+
+-- and one of more keys
+pub enter_row-returns-in-Some-clause-named : goal.enter_row-returns-in-Some-clause-named
+enter_row-returns-in-Some-clause-named t c =
+    err_on _ _ c.enter_dotted.result
+    (λ met told. λ d is_leaf.
+    subst (λ (rs : List keys.Key). TellsRow (map key_of rs) c.args.last.now d (table_trie c.args.table.now) met)
+    (sym c.in-Some.ensures.cases.0) (told d is_leaf)) c.enter_dotted.ensures.named
 
 -- what stands at the first key: a table that was made for it, where it is new
-stands_there : (t : ℕ) (c : goal.enter_row-After-table-1 t)
+stands_there : (t : ℕ) (c : goal.enter_dotted-After-table-1 t)
     → slice_get (values_of c.enter_again.new.self) c.in_ok-place.place.position ≡ Some c.value_mut-there.result.now
 stands_there t c =
     let table = c.args.table.now in
@@ -56,24 +64,24 @@ stands_there t c =
     stands_in table (with_entries table new) new c.in_ok-place.place.position c.value_mut-there.result.now refl
     c.value_mut-there.ensures.value
 
-is_empty : (t : ℕ) (c : goal.enter_row-After-table-1 t) → c.in_ok-place.place.is_new ≡ true
+is_empty : (t : ℕ) (c : goal.enter_dotted-After-table-1 t) → c.in_ok-place.place.is_new ≡ true
     → child_trie c.value_mut-there.result.now ≡ empty_table
 is_empty t c new =
     made_there c.value_mut-there.result.now (λ child. child_trie child ≡ empty_table) c.in_ok-place.ensures.entered
     (stands_there t c) (λ child made. search rules) new
 
-comes_new : (t : ℕ) (c : goal.enter_row-After-table-1 t) → c.in_ok-place.place.is_new ≡ true
+comes_new : (t : ℕ) (c : goal.enter_dotted-After-table-1 t) → c.in_ok-place.place.is_new ≡ true
     → child_origins c.value_mut-there.result.now ≡ entry (dotted_of c.args.child) no_origins
 comes_new t c new =
     made_there c.value_mut-there.result.now
     (λ child. child_origins child ≡ entry (dotted_of c.args.child) no_origins) c.in_ok-place.ensures.entered
     (stands_there t c) (λ child made. search rules) new
 
-pub enter_row-returns-clause-entered : goal.enter_row-returns-clause-entered
-enter_row-returns-clause-entered t c = λ d is_leaf.
+pub enter_dotted-returns-clause-entered : goal.enter_dotted-returns-clause-entered
+enter_dotted-returns-clause-entered t c = λ d is_leaf.
     let table = c.args.table.now in
-    let key = key_text_bytes c.in-Some.key.now.text in
-    let rest = header_texts c.in-Some.rest.now in
+    let key = key_text_bytes c.args.key.now.text in
+    let rest = header_texts c.args.rest.now in
     let last = c.args.last.now in
     let new = c.enter_again.new.self in
     let mid = with_entries table new in
@@ -86,19 +94,18 @@ enter_row-returns-clause-entered t c = λ d is_leaf.
     let g : Trie → Option Trie = λ t. and_then (mark_here dotted t) (λ t. put_row (rest ++ last ∷ []) d t) in
     let alike : g (trie_before p.is_new (child_trie there)) ≡ g (child_trie there) =
     ap (λ m. and_then m (λ t. put_row (rest ++ last ∷ []) d t)) (dotted_before p.is_new (child_trie there) (is_empty t c)) in
-    let on = ap (λ ks. put_row (ks ++ last ∷ []) d (table_trie table)) (ap header_texts c.in-Some.ensures.cases.0)
-    ∙ row_on key rest last d (table_trie table) in
+    let on = row_on key rest last d (table_trie table) in
     within (g (child_trie there))
-    (put_row (header_texts c.args.keys.now ++ last ∷ []) d (table_trie table)) (child_trie now)
+    (put_row (header_texts (c.args.key.now ∷ c.args.rest.now) ++ last ∷ []) d (table_trie table)) (child_trie now)
     (table_trie (with_entries mid after)) c.extend.result
     (λ refused. on ∙ step_refused table key new p entered there stands g (alike ∙ refused))
     (λ changed. on ∙ step_put table key new p entered there stands g now mid after (alike ∙ changed) refl refl)
     (c.extend.ensures.entered d is_leaf)
 
-pub enter_row-returns-clause-named : goal.enter_row-returns-clause-named
-enter_row-returns-clause-named t c =
+pub enter_dotted-returns-clause-named : goal.enter_dotted-returns-clause-named
+enter_dotted-returns-clause-named t c =
     let table = c.args.table.now in
-    let row = c.in-Some.key.now in
+    let row = c.args.key.now in
     let key = key_text_bytes row.text in
     let last = c.args.last.now in
     let new = c.enter_again.new.self in
@@ -106,19 +113,18 @@ enter_row-returns-clause-named t c =
     let there = c.value_mut-there.result.now in
     let stands = stands_there t c in
     err_on _ _ c.extend.result
-    (λ met told. λ d is_leaf. subst (λ (rs : List keys.Key). TellsRow (map key_of rs) last d (table_trie table) met)
-    (sym c.in-Some.ensures.cases.0)
-    (row_told table key new p (same_key_entered {new = new} c.as_str.ensures.value c.in_ok-place.ensures.entered) there
-    stands met (key_of row) (map key_of c.in-Some.rest.now) last d refl
-    (extended_before p.is_new (map key_of c.in-Some.rest.now) last d (child_trie there) met (is_empty t c)
-    (told d is_leaf))))
+    (λ met told. λ d is_leaf.
+    row_told table key new p (same_key_entered {new = new} c.as_str.ensures.value c.in_ok-place.ensures.entered) there
+    stands met (key_of row) (map key_of c.args.rest.now) last d refl
+    (extended_before p.is_new (map key_of c.args.rest.now) last d (child_trie there) met (is_empty t c)
+    (told d is_leaf)))
     c.extend.ensures.named
 
-pub enter_row-returns-clause-origins : goal.enter_row-returns-clause-origins
-enter_row-returns-clause-origins t c =
+pub enter_dotted-returns-clause-origins : goal.enter_dotted-returns-clause-origins
+enter_dotted-returns-clause-origins t c =
     let table = c.args.table.now in
-    let key = key_text_bytes c.in-Some.key.now.text in
-    let rest = header_texts c.in-Some.rest.now in
+    let key = key_text_bytes c.args.key.now.text in
+    let rest = header_texts c.args.rest.now in
     let last = c.args.last.now in
     let new = c.enter_again.new.self in
     let mid = with_entries table new in
@@ -134,9 +140,7 @@ enter_row-returns-clause-origins t c =
     (stands_there t c) (entry dotted row)
     (comes_below p.is_new dotted (child_origins there) (child_origins now) row (comes_new t c) comes) mid
     (with_value (out-Table mid).entries p.position now) refl refl
-    ∙ ap (with_more (table_within table)) (sym (ap (λ ks. row_origins (ks ++ last ∷ []) dotted below)
-    (ap header_texts c.in-Some.ensures.cases.0)
-    ∙ origins_on key rest last dotted below))) c.extend.ensures.origins
+    ∙ ap (with_more (table_within table)) (sym (origins_on key rest last dotted below))) c.extend.ensures.origins
 
 -- what dots extend
 pub extend-returns-then-deref-clause-named : goal.extend-returns-then-deref-clause-named
