@@ -34,33 +34,31 @@ pub record Leads (a : Bool) (rows : Rows) (keys : KeyTexts) (l : ℕ) (before : 
   pub way : way_at a keys before ≡ way_by a keys (item_trie i)
   pub keeps : (at s : ℕ) → Keeps (way_by a keys (item_trie i)) (came at s) (item_origins i at s)
 
+-- what holds of a table's header, and of an array's where a key comes after, holds unless the key is an array's last
+unless_last : (P : Bool → KeyTexts → Type 0) → ((keys : KeyTexts) → P false keys)
+    → ((k : List ℕ) (keys : KeyTexts) → P true (k ∷ keys)) → (a : Bool) (keys : KeyTexts) → is_last a keys ≡ false
+    → P a keys
+unless_last P table array true [] not = absurd (false≢true (sym not))
+unless_last P table array true (k ∷ keys) not = array k keys
+unless_last P table array false keys not = table keys
+
 -- where no element is added, it goes by the keys alone
 module _ (rows : Rows) (l : ℕ) (t : Trie) where
   entered_on : (a : Bool) (keys : KeyTexts) → is_last a keys ≡ false
       → entered_at a rows keys t ≡ entered_by a rows keys t
-  entered_on true [] not = absurd (false≢true (sym not))
-  entered_on false [] not = refl
-  entered_on true (k ∷ keys) not = refl
-  entered_on false (k ∷ keys) not = refl
+  entered_on = unless_last (λ a keys. entered_at a rows keys t ≡ entered_by a rows keys t) (λ keys. refl)
+      (λ k keys. refl)
 
   steps_on : (a : Bool) (keys : KeyTexts) → is_last a keys ≡ false → steps_at a keys t ≡ steps_by a keys t
-  steps_on true [] not = absurd (false≢true (sym not))
-  steps_on false [] not = refl
-  steps_on true (k ∷ keys) not = refl
-  steps_on false (k ∷ keys) not = refl
+  steps_on = unless_last (λ a keys. steps_at a keys t ≡ steps_by a keys t) (λ keys. refl) (λ k keys. refl)
 
   met_on : (a : Bool) (keys : KeyTexts) → is_last a keys ≡ false
       → obstacle_at a rows keys l t ≡ obstacle_by a rows keys l t
-  met_on true [] not = absurd (false≢true (sym not))
-  met_on false [] not = refl
-  met_on true (k ∷ keys) not = refl
-  met_on false (k ∷ keys) not = refl
+  met_on = unless_last (λ a keys. obstacle_at a rows keys l t ≡ obstacle_by a rows keys l t) (λ keys. refl)
+      (λ k keys. refl)
 
   way_on : (a : Bool) (keys : KeyTexts) → is_last a keys ≡ false → way_at a keys t ≡ way_by a keys t
-  way_on true [] not = absurd (false≢true (sym not))
-  way_on false [] not = refl
-  way_on true (k ∷ keys) not = refl
-  way_on false (k ∷ keys) not = refl
+  way_on = unless_last (λ a keys. way_at a keys t ≡ way_by a keys t) (λ keys. refl) (λ k keys. refl)
 
 same_leads : (a : Bool) (rows : Rows) (keys : KeyTexts) (l : ℕ) (i : items.Item) → is_last a keys ≡ false
     → Leads a rows keys l (item_trie i) (item_origins i) i

@@ -68,7 +68,7 @@ abbrev pub obstacle_at : Bool → Rows → KeyTexts → ℕ → Trie → Option 
 obstacle_at true rows [] l t = element_obstacle l rows t
 obstacle_at is_array rows keys l t = obstacle_by is_array rows keys l t
 
--- whether the last key of an array's header comes before these
+-- whether a key is the last of an array's header, by the keys after it
 abbrev pub is_last : Bool → KeyTexts → Bool
 is_last true [] = true
 is_last is_array keys = false
