@@ -16,8 +16,8 @@ use Rattle.basic_toml_read.specs.declared.section.Element as elements
 use Rattle.basic_toml_grow.specs.declared.item.Child.{Child}
 use Rattle.basic_toml_grow.specs.Item.{tree_data, child_trie}
 use Rattle.basic_toml_grow.specs.Rows.{IsFinished, AreFinished}
-use Rattle.basic_toml_clash.specs.declared.clash.Clash.{Clash}
-use Rattle.basic_toml_clash.specs.Clash.{Obstacle, NamesObstacle}
+use Rattle.basic_toml_grow.specs.declared.clash.Clash.{Clash}
+use Rattle.basic_toml_grow.specs.Clash.{Obstacle, NamesObstacle}
 use Rattle.basic_toml_grow.specs.Obstacles.{value_obstacle, elements_obstacle}
 use Rattle.basic_toml_grow.proofs.NoObstacles.{value_free}
 use Rattle.basic_toml_grow.proofs.RowsHaveKeys.{every_element}

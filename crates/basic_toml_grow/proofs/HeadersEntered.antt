@@ -7,10 +7,10 @@ use Rattle.std.specs.List.{slice_get}
 use Rattle.basic_toml_value.specs.Data.{Data, items_of}
 use Rattle.basic_toml_grammar.specs.Sections.{KeyTexts, Rows}
 use Rattle.basic_toml_grammar.specs.Mentions.{finished}
-use Rattle.basic_toml_clash.specs.Plain.{plain_array}
+use Rattle.basic_toml_grow.specs.Plain.{plain_array}
 use Rattle.basic_toml_grammar.specs.Trie.{Trie, no_tries, walk, steps_to, among, find}
 use Rattle.basic_toml_grammar.specs.Steps.{key}
-use Rattle.basic_toml_clash.specs.declared.clash.Clash.{Clash}
+use Rattle.basic_toml_grow.specs.declared.clash.Clash.{Clash}
 use Rattle.basic_toml_grow.specs.declared.item.Item.{the_lemmas, Tables}
 use Rattle.basic_toml_grow.specs.declared.item.Item as items
 use Rattle.basic_toml_grow.specs.declared.item.Item.TheOpen.{Item-F, Table-F}

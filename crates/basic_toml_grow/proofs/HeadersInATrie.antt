@@ -9,8 +9,8 @@ use Rattle.basic_toml_grammar.specs.Steps.{key, number}
 use Rattle.basic_toml_grammar.specs.Standing as standing
 use Rattle.basic_toml_grammar.specs.Trie.{Trie, trie, Tries, no_tries, nothing, walk, steps_to, put_rows, put_table}
 use Rattle.basic_toml_grammar.specs.Trie.{put_element, among, find, by, with_tries}
-use Rattle.basic_toml_clash.specs.declared.clash.Clash.{Clash}
-use Rattle.basic_toml_clash.specs.declared.clash.Clash.TheVariants.{Memory, Deep, Header, Named, Redefined, Row}
+use Rattle.basic_toml_grow.specs.declared.clash.Clash.{Clash}
+use Rattle.basic_toml_grow.specs.declared.clash.Clash.TheVariants.{Memory, Deep, Header, Named, Redefined, Row}
 use Rattle.basic_toml_grow.specs.Item.{by_numbers}
 use Rattle.basic_toml_grow.specs.Rows.{AreIn, AreKeptOut}
 use Rattle.basic_toml_grow.specs.Headers.{IsIn, IsKeptOut, entered_by, steps_by, entered_at, steps_at}

@@ -13,8 +13,8 @@ use Rattle.basic_toml_grow.specs.Item.{item_trie, table_trie, trie_before}
 use Rattle.basic_toml_grow.specs.Origins.{Origins, no_origins, item_origins, origins_before}
 use Rattle.basic_toml_grow.specs.Headers.{entered_by, entered_at, steps_by, steps_at, obstacle_by, obstacle_at}
 use Rattle.basic_toml_grow.specs.Headers.{is_last, EntersItem, IsKeptOut, IsNew, IsNewTable, IsNewArray, HasOneMore}
-use Rattle.basic_toml_clash.specs.Clash.{NamesObstacle}
-use Rattle.basic_toml_clash.specs.declared.clash.Clash.{Clash}
+use Rattle.basic_toml_grow.specs.Clash.{NamesObstacle}
+use Rattle.basic_toml_grow.specs.declared.clash.Clash.{Clash}
 use Rattle.basic_toml_grow.specs.Obstacles.{keys_obstacle, element_obstacle}
 use Rattle.basic_toml_grow.specs.Ways.{way, way_by, way_at}
 use Rattle.basic_toml_grow.proofs.HeadersEntered.{into_table, into_latest, steps_into_table, steps_into_latest}

@@ -14,8 +14,8 @@ use Rattle.basic_toml_grammar.specs.Standing as standing
 use Rattle.basic_toml_grammar.specs.Trie.{Trie, Tries, nothing, find, count, steps_to, steps_on, put_element}
 use Rattle.basic_toml_grammar.specs.Stops.{Stop, at_header, is_named, is_passed, header_stop}
 use Rattle.basic_toml_grammar.specs.Marks.{added}
-use Rattle.basic_toml_clash.specs.Clash.{Obstacle, too_deep, in_the_way, NamesObstacle}
-use Rattle.basic_toml_clash.specs.declared.clash.Clash.TheVariants.{Header, Named, Redefined}
+use Rattle.basic_toml_grow.specs.Clash.{Obstacle, too_deep, in_the_way, NamesObstacle}
+use Rattle.basic_toml_grow.specs.declared.clash.Clash.TheVariants.{Header, Named, Redefined}
 use Rattle.basic_toml_grow.specs.declared.item.Item.{Tables}
 use Rattle.basic_toml_grow.specs.declared.item.Item as items
 use Rattle.basic_toml_grow.specs.declared.item.Table.{Table, out-Table}
@@ -26,7 +26,7 @@ use Rattle.basic_toml_grow.specs.Headers.{highest, steps_by, IsKeptOut, obstacle
 use Rattle.basic_toml_grow.proofs.HeadersEntered.{Passes, passed_before}
 use Rattle.basic_toml_grow.proofs.KeysInATrie.{tries_of}
 use Rattle.basic_toml_grow.proofs.ItemTries.{table_entries_trie}
-use Rattle.basic_toml_clash.proofs.HeadersNamed.{texts_count}
+use Rattle.basic_toml_grow.proofs.HeadersNamed.{texts_count}
 use Rattle.basic_toml_grow.proofs.LatestInATrie.{find_latest}
 use Rattle.basic_toml_grow.proofs.HeadersInATrie.{made, fresh, array_of}
 use Rattle.basic_toml_grow.proofs.TablesOpened.{tables_trie, table_item_trie}

@@ -10,13 +10,13 @@ use Rattle.basic_toml_grammar.specs.Trie.{Trie, trie, no_tries, put_rows}
 use Rattle.basic_toml_grammar.proofs.Tries.RowsInATrie.{rows_put, inline_data}
 use Rattle.basic_toml_grow.specs.declared.item.Item as items
 use Rattle.basic_toml_grow.specs.declared.item.Table.{Table}
-use Rattle.basic_toml_clash.specs.declared.clash.Clash.{Clash}
+use Rattle.basic_toml_grow.specs.declared.clash.Clash.{Clash}
 use Rattle.basic_toml_grow.specs.Item.{leaf, tree_data, item_trie, table_trie}
 use Rattle.basic_toml_grow.specs.Rows.{AreIn, AreKeptOut, Reason, memory, deep, crossed, reason}
 use Rattle.basic_toml_grow.specs.Rows.{IsFinished, IsUnfinished}
 use Rattle.basic_toml_grow.proofs.Reasons.{KeptFor, for_kept, UnfinishedFor, unfinished_for}
 use Rattle.basic_toml_grammar.specs.Trie.{nothing}
-use Rattle.basic_toml_clash.specs.Clash.{Obstacle, NamesObstacle}
+use Rattle.basic_toml_grow.specs.Clash.{Obstacle, NamesObstacle}
 use Rattle.basic_toml_grow.specs.Obstacles.{rows_obstacle, value_obstacle}
 use Rattle.basic_toml_grow.proofs.NoObstacles.{rows_aside}
 use Rattle.basic_toml_grow.proofs.ObstaclesPassOn.{behind_low}

@@ -1,3 +1,8 @@
+pub mod WhatIsLeft
+pub mod HeadersNamed
+pub mod PlainSeen
+pub mod PlainValues
+pub mod SimpleKeys
 pub mod HeadersEntered
 pub mod HeadersInATrie
 pub mod HeadersStopped

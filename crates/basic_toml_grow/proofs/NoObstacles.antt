@@ -20,7 +20,7 @@ use Rattle.basic_toml_grammar.specs.Stops.{at_row, last_stop, Outcome, goes_on, 
 use Rattle.basic_toml_grammar.specs.TrieStops.{outcome_map, try_here, try_among, try_put_row}
 use Rattle.basic_toml_grammar.proofs.Tries.RowsInATrie.{rows_put}
 use Rattle.basic_toml_grammar.proofs.Naming.WhatIsPutGoesOn.{row_goes}
-use Rattle.basic_toml_clash.specs.Clash.{Obstacle}
+use Rattle.basic_toml_grow.specs.Clash.{Obstacle}
 use Rattle.basic_toml_grow.specs.Obstacles.{above, and_behind, held_obstacle, value_obstacle, elements_obstacle}
 use Rattle.basic_toml_grow.specs.Obstacles.{rows_obstacle}
 use Rattle.basic_toml_grow.proofs.ObstaclesPassOn.{low}

@@ -18,7 +18,7 @@ use Rattle.basic_toml_grammar.specs.Trie.{Trie, trie, Tries, nothing, find, belo
 use Rattle.basic_toml_grammar.specs.Trie.{section_level_in}
 use Rattle.basic_toml_grammar.specs.Stops.{Stop, header_stop, Outcome, goes_on, stops}
 use Rattle.basic_toml_grammar.specs.TrieStops.{try_here, try_put_row}
-use Rattle.basic_toml_clash.specs.Clash.{Obstacle, too_deep, in_the_way}
+use Rattle.basic_toml_grow.specs.Clash.{Obstacle, too_deep, in_the_way}
 use Rattle.basic_toml_grow.specs.Headers.{highest}
 use Rattle.basic_toml_grow.specs.Obstacles.{above, and_behind, held_obstacle, value_obstacle, elements_obstacle}
 use Rattle.basic_toml_grow.specs.Obstacles.{rows_obstacle, table_obstacle, element_obstacle, obstacle_on, keys_obstacle}

@@ -15,7 +15,7 @@ use Rattle.basic_toml_grammar.specs.Stops.{Stop, header_stop, Outcome, goes_on, 
 use Rattle.basic_toml_grammar.specs.TrieStops.{outcome_map, try_here, try_among, try_step, try_put_row, try_put_rows}
 use Rattle.basic_toml_grammar.specs.TrieStops.{try_put_value, try_put_elements, try_put_table, try_put_element}
 use Rattle.basic_toml_grammar.specs.TrieStops.{try_go_on, try_by_keys}
-use Rattle.basic_toml_clash.specs.Clash.{Obstacle, too_deep, in_the_way}
+use Rattle.basic_toml_grow.specs.Clash.{Obstacle, too_deep, in_the_way}
 use Rattle.basic_toml_grow.specs.Obstacles.{above, and_behind, held_obstacle, value_obstacle, elements_obstacle}
 use Rattle.basic_toml_grow.specs.Obstacles.{rows_obstacle, table_obstacle, element_obstacle, obstacle_on, keys_obstacle}
 

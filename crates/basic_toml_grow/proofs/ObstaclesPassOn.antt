@@ -2,9 +2,9 @@
 use Rattle.std.proofs.Common.{◌≡◌, ℕ, ◌<◌, ◌≤◌, Bool, true, false, cond, nat_lt, Option, Some, None, ap, arith}
 use Rattle.std.specs.Option.{option_or}
 use Rattle.basic_toml_value.specs.Nesting.{nesting_limit}
-use Rattle.basic_toml_clash.specs.declared.clash.Clash.{Clash}
-use Rattle.basic_toml_clash.specs.declared.clash.Clash.TheVariants.{Memory, Deep, Header, Named, Redefined, Row}
-use Rattle.basic_toml_clash.specs.Clash.{Obstacle, too_deep, in_the_way, NamesObstacle}
+use Rattle.basic_toml_grow.specs.declared.clash.Clash.{Clash}
+use Rattle.basic_toml_grow.specs.declared.clash.Clash.TheVariants.{Memory, Deep, Header, Named, Redefined, Row}
+use Rattle.basic_toml_grow.specs.Clash.{Obstacle, too_deep, in_the_way, NamesObstacle}
 use Rattle.basic_toml_grow.specs.Obstacles.{above}
 
 pub low : (l : ℕ) → l ≤ nesting_limit → above l ≡ None

@@ -7,8 +7,8 @@ use Rattle.basic_toml_read.specs.declared.section.Raw as raws
 use Rattle.basic_toml_read.specs.declared.section.Element.{Element}
 use Rattle.basic_toml_read.specs.SectionView.{raw_of}
 use Rattle.basic_toml_read.proofs.ViewsSeen.{array_of}
-use Rattle.basic_toml_clash.specs.Plain.{are_plain, plain_array}
-use Rattle.basic_toml_clash.proofs.PlainValues.{all_plain}
+use Rattle.basic_toml_grow.specs.Plain.{are_plain, plain_array}
+use Rattle.basic_toml_grow.proofs.PlainValues.{all_plain}
 use Rattle.basic_toml_grow.specs.declared.item.Item.{Plain, the_lemmas}
 use Rattle.basic_toml_grow.specs.Item.{item_trie, leaf}
 use Rattle.basic_toml_grow.specs.Origins.{item_origins, value_origins}

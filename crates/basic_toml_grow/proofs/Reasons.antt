@@ -6,8 +6,8 @@ use Rattle.basic_toml_grammar.specs.Sections.{Raw, Rows}
 use Rattle.basic_toml_grammar.specs.RowClash.{rows_clash, value_clashes}
 use Rattle.basic_toml_grammar.specs.Levels.{rows_level, value_level}
 use Rattle.basic_toml_grammar.specs.Trie.{Trie, put_rows}
-use Rattle.basic_toml_clash.specs.declared.clash.Clash.{Clash}
-use Rattle.basic_toml_clash.specs.declared.clash.Clash.TheVariants.{Memory, Deep, Header, Named, Redefined, Row}
+use Rattle.basic_toml_grow.specs.declared.clash.Clash.{Clash}
+use Rattle.basic_toml_grow.specs.declared.clash.Clash.TheVariants.{Memory, Deep, Header, Named, Redefined, Row}
 use Rattle.basic_toml_grow.specs.declared.rows.Met.{Met}
 use Rattle.basic_toml_grow.specs.declared.rows.Met.TheVariants as mets
 use Rattle.basic_toml_grow.specs.Rows.{AreKeptOut, Reason, memory, deep, crossed, reason}

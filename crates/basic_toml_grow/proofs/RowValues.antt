@@ -14,14 +14,14 @@ use Rattle.basic_toml_read.specs.SectionView.{key_of, header_texts, lined_of, ra
 use Rattle.basic_toml_read.specs.declared.section.Key as keys
 use Rattle.basic_toml_read.specs.declared.section.Raw as raws
 use Rattle.basic_toml_read.specs.declared.section.Row as lines
-use Rattle.basic_toml_clash.specs.declared.clash.Clash.{Clash}
+use Rattle.basic_toml_grow.specs.declared.clash.Clash.{Clash}
 use Rattle.basic_toml_grow.specs.declared.rows.Met.{Met}
 use Rattle.basic_toml_grow.specs.Item.{leaf}
 use Rattle.basic_toml_grow.specs.Rows.{AreIn, AreKeptOut, one_row, Reason, memory, deep, crossed, reason}
 use Rattle.basic_toml_grow.specs.Rows.{met_reason, Enters, IsFinished, IsUnfinished}
 use Rattle.basic_toml_grow.proofs.Reasons.{KeptFor, kept_for, UnfinishedFor, for_unfinished, kept_for_met}
 use Rattle.basic_toml_grammar.specs.TrieStops.{try_put_row}
-use Rattle.basic_toml_clash.specs.Clash.{Obstacle, too_deep, NamesObstacle}
+use Rattle.basic_toml_grow.specs.Clash.{Obstacle, too_deep, NamesObstacle}
 use Rattle.basic_toml_grow.specs.Obstacles.{and_behind, held_obstacle, value_obstacle, rows_obstacle}
 use Rattle.basic_toml_grow.proofs.NoObstacles.{value_free}
 use Rattle.basic_toml_grow.proofs.ObstaclesPassOn.{passed_on, behind_low, behind_high}

@@ -9,10 +9,10 @@ use Rattle.basic_toml_grammar.specs.Steps.{steps_of}
 use Rattle.basic_toml_grammar.specs.RowClash.{rows_clash, value_clashes, any_overlaps}
 use Rattle.basic_toml_grammar.specs.Trie.{Trie, put_rows}
 use Rattle.basic_toml_grammar.proofs.Tries.RowsThatOverlapAreRefused.{values_clash, put_apart}
-use Rattle.basic_toml_clash.specs.Clash.{Obstacle, NamesObstacle}
+use Rattle.basic_toml_grow.specs.Clash.{Obstacle, NamesObstacle}
 use Rattle.basic_toml_grow.specs.Obstacles.{rows_obstacle}
-use Rattle.basic_toml_clash.specs.Simple.{are_simple, are_all_plain, key_of}
-use Rattle.basic_toml_clash.specs.declared.clash.Clash.{Clash}
+use Rattle.basic_toml_grow.specs.Simple.{are_simple, are_all_plain, key_of}
+use Rattle.basic_toml_grow.specs.declared.clash.Clash.{Clash}
 use Rattle.basic_toml_read.specs.SectionView.{rows_seen}
 use Rattle.basic_toml_read.specs.declared.section.Row.{Row}
 use Rattle.basic_toml_grow.specs.declared.item.Table.{Table, out-Table}

@@ -2,7 +2,7 @@
 use Rattle.std.proofs.Common.{◌≡◌, ◌≤◌, ◌<◌, ℕ, Bool, true, false, ◌||◌, ◌&&◌, inl, inr, List, [], Option, Some, None}
 use Rattle.std.proofs.Common.{refl, sym, ap, ◌∙◌, arith, length, subst, option_map, ◌+◌, ◌-◌}
 use Rattle.std.specs.Option.{option_or}
-use Rattle.basic_toml_clash.proofs.DataParts.{nothing_left}
+use Rattle.basic_toml_grow.proofs.WhatIsLeft.{nothing_left}
 use Rattle.basic_toml_read.specs.declared.section.Key as keys
 use Rattle.basic_toml_read.specs.declared.section.Row as lines
 use Rattle.basic_toml_read.specs.declared.section.Rows as tables
@@ -19,8 +19,8 @@ use Rattle.basic_toml_grammar.proofs.Tries.RowsThatOverlapAreRefused.{values_cla
 use Rattle.basic_toml_grow.specs.Rows.{AreIn, AreKeptOut, Reason, memory, deep, crossed, reason}
 use Rattle.basic_toml_grammar.specs.Stops.{Outcome, goes_on, stops}
 use Rattle.basic_toml_grammar.specs.TrieStops.{try_put_row}
-use Rattle.basic_toml_clash.specs.Clash.{Obstacle, NamesObstacle}
-use Rattle.basic_toml_clash.specs.declared.clash.Clash.{Clash}
+use Rattle.basic_toml_grow.specs.Clash.{Obstacle, NamesObstacle}
+use Rattle.basic_toml_grow.specs.declared.clash.Clash.{Clash}
 use Rattle.basic_toml_grow.proofs.Reasons.{KeptFor, kept_for, for_kept}
 use Rattle.basic_toml_grow.specs.Obstacles.{above, and_behind, held_obstacle, value_obstacle, rows_obstacle}
 use Rattle.basic_toml_grow.proofs.NoObstacles.{row_behind, value_free}

@@ -29,11 +29,11 @@ use Rattle.basic_toml_read.specs.declared.section.Raw.TheOpen.{Raw-F}
 use Rattle.basic_toml_read.specs.declared.section.Element.{Element}
 use Rattle.basic_toml_read.specs.declared.section.Row.{Row, out-Row}
 use Rattle.basic_toml_value.specs.Growth.{FindsOrAdds, values_of}
-use Rattle.basic_toml_clash.specs.Plain.{is_plain, plain_of}
-use Rattle.basic_toml_clash.specs.Simple.{are_simple, are_all_plain, key_of}
-use Rattle.basic_toml_clash.proofs.PlainValues.{plain_value}
-use Rattle.basic_toml_clash.proofs.SimpleRows.{first_is_simple, simple_from_plain}
-use Rattle.basic_toml_clash.proofs.DataParts.{nothing_left}
+use Rattle.basic_toml_grow.specs.Plain.{is_plain, plain_of}
+use Rattle.basic_toml_grow.specs.Simple.{are_simple, are_all_plain, key_of}
+use Rattle.basic_toml_grow.proofs.PlainValues.{plain_value}
+use Rattle.basic_toml_grow.proofs.SimpleKeys.{first_is_simple, simple_from_plain}
+use Rattle.basic_toml_grow.proofs.WhatIsLeft.{nothing_left}
 use Rattle.basic_toml_grow.specs.declared.item.Item.{the_lemmas}
 use Rattle.basic_toml_grow.specs.declared.item.Item as items
 use Rattle.basic_toml_grow.specs.declared.item.Item.TheViews.{roll-Child}

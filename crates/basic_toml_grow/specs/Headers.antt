@@ -8,9 +8,9 @@ use Rattle.basic_toml_grammar.specs.Sections.{KeyTexts, Rows}
 use Rattle.basic_toml_grammar.specs.RowClash.{rows_clash}
 use Rattle.basic_toml_grammar.specs.Levels.{rows_level}
 use Rattle.basic_toml_grammar.specs.Trie.{Trie, walk, steps_to, steps_on, go_on, count, put_element}
-use Rattle.basic_toml_clash.specs.declared.clash.Clash.{Clash}
-use Rattle.basic_toml_clash.specs.declared.clash.Clash.TheVariants.{Memory, Deep, Header, Named, Redefined}
-use Rattle.basic_toml_clash.specs.Clash.{Obstacle}
+use Rattle.basic_toml_grow.specs.declared.clash.Clash.{Clash}
+use Rattle.basic_toml_grow.specs.declared.clash.Clash.TheVariants.{Memory, Deep, Header, Named, Redefined}
+use Rattle.basic_toml_grow.specs.Clash.{Obstacle}
 use Rattle.basic_toml_grow.specs.declared.item.Item.{Item}
 use Rattle.basic_toml_grow.specs.declared.item.Item as items
 use Rattle.basic_toml_grow.specs.declared.item.Table.{Table}

@@ -6,7 +6,7 @@ use Rattle.basic_toml_grammar.specs.Mentions.{finished}
 use Rattle.basic_toml_grammar.specs.Standing as standing
 use Rattle.basic_toml_grammar.specs.Growth.{closed}
 use Rattle.basic_toml_grammar.specs.Trie.{Trie, trie, Tries, no_tries, by, nothing, bare}
-use Rattle.basic_toml_clash.specs.Plain.{plain_array}
+use Rattle.basic_toml_grow.specs.Plain.{plain_array}
 use Rattle.basic_toml_grow.specs.declared.item.Item.{fold-Item}
 use Rattle.basic_toml_grow.specs.declared.item.Item as items
 use Rattle.basic_toml_grow.specs.declared.item.Item.TheOpen.{Item-F, Child-F, Table-F}

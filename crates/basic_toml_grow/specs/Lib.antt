@@ -1,3 +1,5 @@
+pub mod Clash
+pub mod Plain
 pub mod Item
 pub mod Simple
 pub mod Origins

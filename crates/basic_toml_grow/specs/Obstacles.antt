@@ -13,7 +13,7 @@ use Rattle.basic_toml_grammar.specs.Marks.{passed, by_latest, named, added}
 use Rattle.basic_toml_grammar.specs.Trie.{Trie, nothing, count, below}
 use Rattle.basic_toml_grammar.specs.Stops.{header_stop, Outcome, goes_on, stops, held_stop}
 use Rattle.basic_toml_grammar.specs.TrieStops.{try_here, try_put_row}
-use Rattle.basic_toml_clash.specs.Clash.{Obstacle, too_deep, in_the_way}
+use Rattle.basic_toml_grow.specs.Clash.{Obstacle, too_deep, in_the_way}
 
 abbrev pub above : ℕ → Option Obstacle
 above l = if nat_lt nesting_limit l then Some too_deep else None

@@ -8,7 +8,7 @@ use Rattle.basic_toml_value.specs.Pairs.{value_at}
 use Rattle.basic_toml_grammar.specs.Sections.{KeyTexts, texts, Raw, Elements, no_elements, element, Rows, no_rows}
 use Rattle.basic_toml_grammar.specs.Sections.{row}
 use Rattle.basic_toml_grammar.specs.Steps.{Step, key, number, Path, step_eq}
-use Rattle.basic_toml_clash.specs.Plain.{plain_array}
+use Rattle.basic_toml_grow.specs.Plain.{plain_array}
 use Rattle.basic_toml_grow.specs.declared.item.Item.{fold-Item}
 use Rattle.basic_toml_grow.specs.declared.item.Item as items
 use Rattle.basic_toml_grow.specs.declared.item.Item.TheOpen.{Item-F, Child-F, Table-F}

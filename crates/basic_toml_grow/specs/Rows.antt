@@ -14,8 +14,8 @@ use Rattle.basic_toml_grammar.specs.Entering.{and_then}
 use Rattle.basic_toml_read.specs.declared.section.Key as keys
 use Rattle.basic_toml_read.specs.declared.section.Row.{Row}
 use Rattle.basic_toml_read.specs.SectionView.{key_of, lined_of}
-use Rattle.basic_toml_clash.specs.declared.clash.Clash.{Clash}
-use Rattle.basic_toml_clash.specs.declared.clash.Clash.TheVariants.{Memory, Deep}
+use Rattle.basic_toml_grow.specs.declared.clash.Clash.{Clash}
+use Rattle.basic_toml_grow.specs.declared.clash.Clash.TheVariants.{Memory, Deep}
 use Rattle.basic_toml_grow.specs.declared.item.Child.{Child}
 use Rattle.basic_toml_grow.specs.declared.rows.Met.{Met}
 use Rattle.basic_toml_grow.specs.declared.rows.Met.TheVariants as mets

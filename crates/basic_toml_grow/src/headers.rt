@@ -5,7 +5,7 @@ ghost use Rattle.basic_toml_value.specs.Nesting.{nesting_limit};
 ghost use Rattle.basic_toml_grammar.specs.Sections.{Rows as spec_rows};
 ghost use Rattle.basic_toml_grammar.specs.Trie.{put_element};
 ghost use Rattle.basic_toml_read.specs.SectionView.{NoneLeft, header_texts, rows_view};
-ghost use Rattle.basic_toml_clash.specs.Clash.{NamesObstacle};
+ghost use Rattle.basic_toml_grow.specs.Clash.{NamesObstacle};
 ghost use Rattle.basic_toml_grow.specs.Item.{table_trie, item_trie, trie_before};
 ghost use Rattle.basic_toml_grow.specs.Origins.{item_origins, table_within, or_else, origins_before, rows_origins};
 ghost use Rattle.basic_toml_grow.specs.Ways.{way, way_by, way_at, GrowsAlong, MarksWay, MarksTable};
@@ -14,9 +14,9 @@ ghost use Rattle.basic_toml_grow.specs.Headers.{entered_by, steps_by, entered_at
 ghost use Rattle.basic_toml_grow.specs.declared.item.Table.{out-Table};
 ghost use Rattle.basic_toml_grow.specs.Obstacles.{keys_obstacle, table_obstacle, element_obstacle};
 
+use crate::clash::Clash;
 use crate::item::{Child, Item, Table};
 use crate::rows::take_rows;
-use basic_toml_clash::Clash;
 use basic_toml_read::{Key, Rows, Section};
 use basic_toml_value::NESTING_LIMIT;
 use std::alloc::Global;

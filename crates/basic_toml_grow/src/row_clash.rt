@@ -5,8 +5,8 @@ ghost use Rattle.basic_toml_read.specs.SectionView.{key_of, header_texts};
 ghost use Rattle.basic_toml_grow.specs.RowStops.{key_at, SaysMet, SaysHeld};
 ghost use Rattle.basic_toml_grow.specs.Rows.{reason, met_reason};
 
+use crate::clash::{Clash, key_texts};
 use crate::rows::Met;
-use basic_toml_clash::{Clash, key_texts};
 use basic_toml_read::Key;
 use std::alloc::{AllocError, Global};
 

@@ -15,15 +15,17 @@ ghost use Rattle.basic_toml_grow.specs.Origins.{child_origins, table_within, wit
 ghost use Rattle.basic_toml_grow.specs.Origins.{row_origins, rows_origins, value_origins, elements_origins};
 ghost use Rattle.basic_toml_grow.specs.Origins.{dotted_of, table_origin};
 ghost use Rattle.basic_toml_grow.specs.Rows.{EntersRow, EntersRows, Extends, Finishes, FinishesAll, one_row};
-ghost use Rattle.basic_toml_clash.specs.Clash.{NamesObstacle};
-ghost use Rattle.basic_toml_clash.specs.Simple.{are_all_plain as all_plain};
+ghost use Rattle.basic_toml_grow.specs.Clash.{NamesObstacle};
+ghost use Rattle.basic_toml_grow.specs.Simple.{are_all_plain as all_plain};
 ghost use Rattle.basic_toml_grow.specs.Obstacles.{rows_obstacle, value_obstacle, elements_obstacle};
 ghost use Rattle.basic_toml_grow.specs.RowStops.{TellsLast, TellsRow, TellsExtended};
 
+use crate::clash::Clash;
 use crate::item::{Child, Item, Table};
+use crate::items_left::{ItemsLeft, drain};
+use crate::plain::are_plain;
 use crate::row_clash::{row_clash, value_clash};
-use crate::simple::{index_until_repeat, with_first_rows, with_rows};
-use basic_toml_clash::{Clash, ItemsLeft, are_all_plain, are_plain, are_simple, drain};
+use crate::simple::{are_all_plain, are_simple, index_until_repeat, with_first_rows, with_rows};
 use basic_toml_read::{Element, Key, Raw, Row, Rows};
 use basic_toml_value::NESTING_LIMIT;
 use std::alloc::{AllocError, AllocFailed, Global};

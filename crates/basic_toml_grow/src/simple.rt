@@ -1,21 +1,60 @@
-//! Simple rows: a table without entries takes them all at once.
+//! Simple rows: each has a last key that no other has, and a plain value. Where none has parents, nothing clashes among
+//! them, and a table without entries takes them all at once.
 
 ghost use Rattle.std.specs.Prelude.{◌≡◌, ◌≤◌, [], false, IfOk, IsTrue, length, map, take, drop};
-ghost use Rattle.basic_toml_value.specs.Keys.{are_distinct};
+ghost use Rattle.basic_toml_value.specs.Keys.{are_distinct, is_among};
 ghost use Rattle.basic_toml_value.specs.Entries.{seen, pair_seen};
 ghost use Rattle.basic_toml_value.specs.Text.{text_bytes};
 ghost use Rattle.basic_toml_value.specs.Index.{IsIndex, few};
-ghost use Rattle.basic_toml_clash.specs.Simple.{key_of};
+ghost use Rattle.basic_toml_grow.specs.Simple.{are_simple as all_simple, are_all_plain as all_plain, key_of};
 ghost use Rattle.basic_toml_grow.specs.Simple.{entry_of as new_entry, entries_of as new_entries, with_entries};
 ghost use Rattle.basic_toml_grow.specs.Simple.{item_of as kept_item, is_inline, none_inline};
 ghost use Rattle.basic_toml_read.specs.declared.section.Row.{out-Row};
 
 use crate::item::{Child, Item, Table};
-use basic_toml_clash::ItemsLeft;
+use crate::items_left::ItemsLeft;
+use crate::plain::is_plain;
 use basic_toml_read::{Raw, Row};
 use basic_toml_value::{Index, Pair, Pairs, Text, Texts};
 use std::alloc::{AllocError, Global};
 use std::mem;
+
+/// Whether the rows of a table of a level are simple. Each key is compared with all after it: ask it of a few rows.
+pub(crate) fn are_simple(rows: &[Row<'_>], level: usize) -> bool
+    ensures { result ≡ all_simple level rows.now }
+{
+    match rows.split_first() {
+        Some((row, rest)) => {
+            is_plain(&row.value, level)
+                && !has_key(rest, row.key.as_str())
+                && are_simple(rest, level)
+        }
+        None => true,
+    }
+}
+
+/// Whether the rows of a table of a level are all plain: each has a plain value. Rows of such whose keys differ are
+/// simple, so this serves very many rows, of which `are_simple` would compare each with all after it.
+pub fn are_all_plain(rows: &[Row<'_>], level: usize) -> bool
+    ensures { result ≡ all_plain level rows.now }
+{
+    for row in rows {
+        if !is_plain(&row.value, level) {
+            return false;
+        }
+    }
+    true
+}
+
+// Whether a row has this key.
+fn has_key(rows: &[Row<'_>], key: &str) -> bool
+    ensures { result ≡ is_among (map key_of rows.now) key.now }
+{
+    match rows.split_first() {
+        Some((row, rest)) => key == row.key.as_str() || has_key(rest, key),
+        None => false,
+    }
+}
 
 // The item of a plain value.
 #[inline(always)]
@@ -122,7 +161,7 @@ struct RowKeys<'r, 'de> {
 
 impl<'r, 'de> Texts for RowKeys<'r, 'de> {
     ghost use Rattle.std.specs.Prelude.{map};
-    ghost use Rattle.basic_toml_clash.specs.Simple.{key_of};
+    ghost use Rattle.basic_toml_grow.specs.Simple.{are_simple as all_simple, are_all_plain as all_plain, key_of};
 
     ghost texts = { λ keys. map key_of keys.rows.now };
 

@@ -14,8 +14,8 @@ use Rattle.basic_toml_value.specs.declared.pairs.Pair.{Pair}
 use Rattle.basic_toml_value.specs.declared.value.Value as values
 use Rattle.basic_toml_grammar.specs.Mentions.{finished}
 use Rattle.basic_toml_read.specs.declared.section.Element.{Element}
-use Rattle.basic_toml_clash.specs.Plain.{plain_array, listed_data}
-use Rattle.basic_toml_clash.proofs.PlainSeen.{items_listed}
+use Rattle.basic_toml_grow.specs.Plain.{plain_array, listed_data}
+use Rattle.basic_toml_grow.proofs.PlainSeen.{items_listed}
 use Rattle.basic_toml_grow.specs.declared.item.Item.{the_lemmas, Array, Inline, Plain, Tables}
 use Rattle.basic_toml_grow.specs.declared.item.Item as Item
 use Rattle.basic_toml_grow.specs.declared.item.Child.{Child, out-Child}

@@ -26,9 +26,9 @@ use Rattle.basic_toml_read.specs.declared.reader.Place.{Place}
 use Rattle.basic_toml_read.specs.declared.reader.Place.TheVariants.{Start, Behind}
 use Rattle.basic_toml_read.proofs.ListIsAnswered.{stop_answered}
 use Rattle.basic_toml_read.proofs.SectionsHandedOut.{refused_after}
-use Rattle.basic_toml_clash.specs.declared.clash.Clash.{Clash}
-use Rattle.basic_toml_clash.specs.Clash.{NamesClash, NamesObstacle}
-use Rattle.basic_toml_clash.specs.Crossed.{crossed_in, first_crossed}
+use Rattle.basic_toml_grow.specs.declared.clash.Clash.{Clash}
+use Rattle.basic_toml_grow.specs.Clash.{NamesClash, NamesObstacle}
+use Rattle.basic_toml_tree.specs.Crossed.{crossed_in, first_crossed}
 use Rattle.basic_toml_grow.specs.Obstacles.{keys_obstacle}
 use Rattle.basic_toml_grow.specs.Item.{table_trie}
 use Rattle.basic_toml_grow.specs.declared.item.Table.{Table}

@@ -11,8 +11,8 @@ use Rattle.basic_toml_grammar.specs.Trie.{Trie, trie, nothing, no_tries, put_sec
 use Rattle.basic_toml_grammar.specs.Faults.{Fault}
 use Rattle.basic_toml_grammar.specs.NamedClash.{dotted_fault}
 use Rattle.basic_toml_grammar.specs.NestingFaults.{deep_sections}
-use Rattle.basic_toml_clash.specs.Clash.{Obstacle, obstacle_fault}
-use Rattle.basic_toml_clash.specs.Crossed.{first_crossed}
+use Rattle.basic_toml_grow.specs.Clash.{Obstacle, obstacle_fault}
+use Rattle.basic_toml_tree.specs.Crossed.{first_crossed}
 use Rattle.basic_toml_grow.specs.Obstacles.{first_obstacle}
 
 -- a trie in which nothing stands but the root

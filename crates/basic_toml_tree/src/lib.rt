@@ -7,10 +7,12 @@
 #![tactic(auto)]
 
 mod anchor;
+mod crossed;
 mod entries;
 mod headers;
 pub mod laws;
 mod node;
+mod plain;
 mod spot;
 mod text;
 mod trail;

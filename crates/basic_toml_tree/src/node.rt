@@ -26,11 +26,11 @@ ghost use Rattle.basic_toml_tree.specs.Keys.{GoesOn, CountsOn, BeginsRow, HandsO
 ghost use Rattle.basic_toml_grow.specs.declared.item.Child.{out-Child};
 
 use crate::entries::{Elements, Entries};
+use crate::plain::plain_value;
 use crate::spot::Spot;
 use crate::trail::{Trail, first_key, header_len, header_texts};
 use crate::tree::Tree;
 use crate::values::{table_of, value_of};
-use basic_toml_clash::plain_value;
 use basic_toml_grow::{Child, Item, Table};
 use basic_toml_read::{Element, Raw, ReadError};
 use basic_toml_value as values;

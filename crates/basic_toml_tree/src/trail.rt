@@ -4,7 +4,7 @@ ghost use Rattle.std.specs.Prelude.{◌≡◌, IfOk, MatchOption, Some, None, le
 ghost use Rattle.basic_toml_tree.specs.Keys.{header_at};
 
 use crate::tree::Tree;
-use basic_toml_clash::key_texts;
+use basic_toml_grow::key_texts;
 use std::alloc::{AllocError, Global};
 
 /// Which keys lead to a node: the first of a header, or those of a header and then the first key of a row.

@@ -5,8 +5,8 @@ ghost use Rattle.basic_toml_value.specs.View.{view, entries};
 ghost use Rattle.basic_toml_grow.specs.declared.item.Item.{Array, Plain, Tables};
 ghost use Rattle.basic_toml_tree.specs.Data.{data_of, child_data, table_data, child_pair, value_pair, HoldsAny};
 
-use basic_toml_clash::{drain, into_plain_values, plain_values};
-use basic_toml_grow::{Child, Item, Table};
+use crate::plain::{into_plain_values, plain_values};
+use basic_toml_grow::{Child, Item, Table, drain};
 use basic_toml_read::Element;
 use basic_toml_value as values;
 use basic_toml_value::{Pair, Pairs, Text, Value};

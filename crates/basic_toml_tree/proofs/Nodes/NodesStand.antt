@@ -16,8 +16,8 @@ use Rattle.basic_toml_grammar.specs.Trie.{Trie, trie, nothing, below, find, by}
 use Rattle.basic_toml_grammar.specs.Mentions.{finished}
 use Rattle.basic_toml_read.specs.declared.section.Raw as raws
 use Rattle.basic_toml_read.specs.declared.section.Element.{Element}
-use Rattle.basic_toml_clash.specs.Plain.{plain_of, plain_array}
-use Rattle.basic_toml_clash.proofs.PlainSeen.{array_of}
+use Rattle.basic_toml_grow.specs.Plain.{plain_of, plain_array}
+use Rattle.basic_toml_grow.proofs.PlainSeen.{array_of}
 use Rattle.basic_toml_grow.specs.declared.item.Item.{Item, out-Item, the_lemmas, Array, Plain, Tables}
 use Rattle.basic_toml_grow.specs.declared.item.Item.TheOpen.{Item-F}
 use Rattle.basic_toml_grow.specs.declared.item.Item.TheViews.{roll-Item}

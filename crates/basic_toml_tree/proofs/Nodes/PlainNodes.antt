@@ -13,7 +13,7 @@ use Rattle.basic_toml_read.specs.declared.section.Raw.TheOpen.{Raw-F}
 use Rattle.basic_toml_read.specs.declared.section.Row.{Row}
 use Rattle.basic_toml_read.specs.declared.section.Rows as code_rows
 use Rattle.basic_toml_read.specs.declared.section.Element.{Element, out-Element}
-use Rattle.basic_toml_clash.specs.Plain.{Listed, listed, listed_of, plain_of, plain_array}
+use Rattle.basic_toml_grow.specs.Plain.{Listed, listed, listed_of, plain_of, plain_array}
 use Rattle.basic_toml_tree.specs.declared.node.Node.{Node}
 use Rattle.basic_toml_tree.specs.declared.spot.Spot.{Spot}
 use Rattle.basic_toml_tree.specs.declared.spot.Spot.TheVariants as spots

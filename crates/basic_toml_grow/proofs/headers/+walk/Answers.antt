@@ -6,7 +6,7 @@ use Rattle.std.specs.Box as boxes
 use denote.Hole.Carrier.{out}
 use Rattle.basic_toml_grammar.specs.Trie.{Trie, walk, steps_to}
 use Rattle.basic_toml_read.specs.SectionView.{header_texts, rows_view}
-use Rattle.basic_toml_clash.specs.Clash.{Obstacle, NamesObstacle}
+use Rattle.basic_toml_grow.specs.Clash.{Obstacle, NamesObstacle}
 use Rattle.basic_toml_grow.specs.declared.item.Item.TheViews.{out-Item}
 use Rattle.basic_toml_grow.specs.declared.item.Item as items
 use Rattle.basic_toml_grow.specs.declared.item.Child.{out-Child}

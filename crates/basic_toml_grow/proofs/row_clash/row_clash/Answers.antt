@@ -2,7 +2,7 @@ use Rattle.std.proofs.Common.{◌≡◌, refl, sym, subst, IfOk, string_bytes, m
 use Rattle.basic_toml_grammar.specs.Stops.{at_row}
 use Rattle.basic_toml_read.specs.SectionView.{key_of}
 use Rattle.basic_toml_grow.specs.declared.rows.Met.{Met}
-use Rattle.basic_toml_clash.specs.Clash.{IsStop}
+use Rattle.basic_toml_grow.specs.Clash.{IsStop}
 use Rattle.basic_toml_grow.specs.RowStops.{key_at, SaysMet}
 use Rattle.basic_toml_grow.proofs.ClashSaysMet.{if_stop, same_row, key_said, last_said, key_there, none_there}
 use Rattle.basic_toml_grow.proofs.row_clash.row_clash.Goals as goal

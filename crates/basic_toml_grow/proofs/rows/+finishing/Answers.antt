@@ -23,7 +23,7 @@ use Rattle.basic_toml_grow.proofs.InlineTables.{inline_stopped}
 use Rattle.basic_toml_grow.proofs.ElementsLeft.{element_stopped}
 use Rattle.basic_toml_grammar.specs.Sections.{Rows}
 use Rattle.basic_toml_grow.proofs.ClashSaysMet.{row_offset}
-use Rattle.basic_toml_clash.specs.Clash.{NamesObstacle}
+use Rattle.basic_toml_grow.specs.Clash.{NamesObstacle}
 use Rattle.basic_toml_grow.specs.RowStops.{key_at, SaysHeld}
 use Rattle.basic_toml_read.specs.SectionView.{lined_of}
 use Rattle.basic_toml_grow.specs.Obstacles.{rows_obstacle, elements_obstacle}
@@ -37,12 +37,12 @@ use Rattle.basic_toml_grow.specs.Origins.{entry, value_origin, value_origins}
 use Rattle.basic_toml_grow.proofs.Origins.OriginsSeen.{inline_seen, fresh_within}
 use Rattle.basic_toml_grow.proofs.Origins.OriginsLeft.{OriginsLeft, ElementsCome, origins_entered, origins_done, more_none}
 use Rattle.basic_toml_grow.proofs.Origins.OriginsLeft.{row_comes, element_comes, elements_come}
-use Rattle.basic_toml_clash.specs.Plain.{are_plain}
+use Rattle.basic_toml_grow.specs.Plain.{are_plain}
 use Rattle.basic_toml_grow.proofs.PlainArrays.{plain_finished, plain_come}
 use Rattle.basic_toml_value.specs.Keys.{are_distinct}
-use Rattle.basic_toml_clash.specs.Simple.{are_simple, key_of as last_key}
-use Rattle.basic_toml_clash.proofs.DataParts.{nothing_left}
-use Rattle.basic_toml_clash.proofs.SimpleRows.{keys_differ}
+use Rattle.basic_toml_grow.specs.Simple.{are_simple, key_of as last_key}
+use Rattle.basic_toml_grow.proofs.WhatIsLeft.{nothing_left}
+use Rattle.basic_toml_grow.proofs.SimpleKeys.{keys_differ}
 use Rattle.basic_toml_grow.specs.declared.item.Table.{Table, out-Table}
 use Rattle.basic_toml_grow.specs.Simple.{entries_of, none_inline, with_entries}
 use Rattle.basic_toml_grow.proofs.SimpleRows.{no_entries, all_simple_alone, all_plain_alone, rows_in, rows_come}

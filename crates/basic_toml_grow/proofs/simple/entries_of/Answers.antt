@@ -3,7 +3,7 @@ use Rattle.std.specs.Vec.{vec_len}
 use Rattle.std.specs.Vec.Iter.{drain_items}
 use Rattle.std.proofs.lemmas.List.{take_all}
 use Rattle.basic_toml_value.specs.Entries.{pair_seen}
-use Rattle.basic_toml_clash.proofs.DataParts.{mapped_next, none_after}
+use Rattle.basic_toml_grow.proofs.WhatIsLeft.{mapped_next, none_after}
 use Rattle.basic_toml_grow.specs.Simple.{entry_of, none_inline}
 use Rattle.basic_toml_grow.proofs.SimpleRows.{first_plain, others_plain}
 use Rattle.basic_toml_grow.proofs.simple.entries_of.Goals as goal

@@ -1,6 +1,6 @@
 use Rattle.std.proofs.Common.{◌≡◌, suc, ◌+◌, ◌-◌, ◌++◌, ap, ap₂, sym, ◌∙◌, map, length, take, drop, arith}
 use Rattle.basic_toml_value.specs.Entries.{pair_seen}
-use Rattle.basic_toml_clash.proofs.DataParts.{mapped_next}
+use Rattle.basic_toml_grow.proofs.WhatIsLeft.{mapped_next}
 use Rattle.basic_toml_grow.specs.Simple.{entry_of, none_inline}
 use Rattle.basic_toml_grow.proofs.SimpleRows.{first_plain, others_plain}
 use Rattle.basic_toml_grow.proofs.simple.first_entries_of.Goals as goal

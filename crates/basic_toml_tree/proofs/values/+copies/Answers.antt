@@ -3,10 +3,10 @@ use Rattle.basic_toml_value.specs.Data.{Data, items_of, members_of}
 use Rattle.basic_toml_value.specs.View.{view, entries}
 use Rattle.basic_toml_value.specs.Entries.{texts_of}
 use Rattle.basic_toml_value.proofs.Sizes.{data_size, items_size}
-use Rattle.basic_toml_clash.specs.Plain.{listed_data}
+use Rattle.basic_toml_grow.specs.Plain.{listed_data}
 use Rattle.basic_toml_tree.specs.Data.{data_of, child_data, table_data, child_pair, value_pair}
-use Rattle.basic_toml_clash.proofs.DataParts.{items_size-at, items_size-front, items_size-last, members_size-at}
-use Rattle.basic_toml_clash.proofs.DataParts.{mapped_more, array_seen}
+use Rattle.basic_toml_tree.proofs.DataParts.{items_size-at, items_size-front, items_size-last, members_size-at}
+use Rattle.basic_toml_tree.proofs.DataParts.{mapped_more, array_seen}
 use Rattle.basic_toml_tree.proofs.ItemData.{child_item, plain_elements, table_of_pairs, tables_data, table_seen}
 use Rattle.basic_toml_tree.proofs.ItemData.{entries_seen, keys_copied, refused_held, tables_whole}
 use Rattle.basic_toml_tree.proofs.values.+copies.Goals as goal

@@ -4,8 +4,9 @@ use Rattle.basic_toml_value.specs.View.{view, entries}
 use Rattle.basic_toml_value.specs.Index.{IsIndex}
 use Rattle.basic_toml_value.proofs.Sizes.{data_size, items_size, members_size}
 use Rattle.basic_toml_tree.specs.Data.{data_of, child_data, table_data, child_pair, value_pair}
-use Rattle.basic_toml_clash.proofs.DataParts.{items_size-rest, items_size-front, items_size-last, members_size-rest}
-use Rattle.basic_toml_clash.proofs.DataParts.{mapped_next, array_seen, nothing_left, none_after}
+use Rattle.basic_toml_tree.proofs.DataParts.{items_size-rest, items_size-front, items_size-last, members_size-rest}
+use Rattle.basic_toml_grow.proofs.WhatIsLeft.{mapped_next, nothing_left, none_after}
+use Rattle.basic_toml_tree.proofs.DataParts.{array_seen}
 use Rattle.basic_toml_tree.proofs.ItemData.{child_item, children_data, inline_data, table_item_data}
 use Rattle.basic_toml_tree.proofs.ItemData.{table_of_pairs, tables_data, table_seen}
 use Rattle.basic_toml_tree.proofs.ItemData.{entries_seen, keys_copied, refused_held, tables_whole}

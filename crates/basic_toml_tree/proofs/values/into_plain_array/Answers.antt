@@ -1,6 +1,6 @@
 use Rattle.std.proofs.Common.{ap, sym, ◌∙◌}
 use Rattle.basic_toml_value.specs.Data.{Data, items_of}
-use Rattle.basic_toml_clash.proofs.DataParts.{array_seen}
+use Rattle.basic_toml_tree.proofs.DataParts.{array_seen}
 use Rattle.basic_toml_tree.proofs.ItemData.{plain_elements}
 use Rattle.basic_toml_tree.proofs.values.into_plain_array.Goals as goal
 

@@ -3,8 +3,8 @@ use Rattle.std.specs.Prelude.{slice_get, ◌≤◌}
 use Rattle.basic_toml_read.specs.declared.section.Raw as raws
 use Rattle.basic_toml_read.specs.declared.section.Element.{Element}
 use Rattle.basic_toml_grammar.specs.Mentions.{finished}
-use Rattle.basic_toml_clash.specs.Plain.{plain_array, plain_data}
-use Rattle.basic_toml_clash.proofs.PlainSeen.{array_of}
+use Rattle.basic_toml_grow.specs.Plain.{plain_array, plain_data}
+use Rattle.basic_toml_grow.proofs.PlainSeen.{array_of}
 use Rattle.basic_toml_grow.specs.declared.item.Item.{Array, Plain, Tables}
 use Rattle.basic_toml_tree.specs.Data.{data_of, child_data, table_data}
 use Rattle.basic_toml_tree.specs.Nodes.{node_data, elements_in}

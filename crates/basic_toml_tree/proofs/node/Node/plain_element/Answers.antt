@@ -1,5 +1,5 @@
 use Rattle.std.proofs.Common.{ap, refl, ◌∙◌, Some}
-use Rattle.basic_toml_clash.specs.Plain.{listed_of}
+use Rattle.basic_toml_grow.specs.Plain.{listed_of}
 use Rattle.basic_toml_tree.proofs.Nodes.NodesInOrder.{mapped_read}
 use Rattle.basic_toml_tree.proofs.Nodes.PlainNodes.{element_listed}
 use Rattle.basic_toml_tree.proofs.node.Node.plain_element.Goals as goal

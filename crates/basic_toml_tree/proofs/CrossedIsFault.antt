@@ -1,0 +1,93 @@
+-- The value that is crossed has its fault among those of its list, and where none is, there is no such fault.
+use Rattle.std.proofs.Common.{◌≡◌, ◌<◌, ℕ, List, [], ◌∷◌, ◌++◌, refl, ap, ◌∙◌, Option, Some, None, subst, arith}
+use Rattle.std.specs.Prelude.{Contains}
+use Rattle.std.specs.List.{flat_map}
+use Rattle.std.specs.Option.{option_or}
+use Rattle.std.proofs.lemmas.List.Elements.{Contains-append_left, Contains-append_right}
+use Rattle.basic_toml_grammar.specs.Faults.{Fault}
+use Rattle.basic_toml_grammar.specs.Sections.{texts, Raw, Elements, no_elements, element, Rows, no_rows, row, Section}
+use Rattle.basic_toml_grammar.specs.NamedClash.{dotted_fault, dotted_faults, dotted_faults_in, dotted_faults_among}
+use Rattle.basic_toml_tree.specs.Crossed.{no_ends, and_end, crossed_after, crossed_between, crossed_of, crossed_among}
+use Rattle.basic_toml_tree.specs.Crossed.{crossed_within, crossed_in, first_crossed}
+use Rattle.basic_toml_tree.specs.KeyTree.{Ends, value_on}
+use Rattle.basic_toml_tree.proofs.RowsGoOn.{faults_between, value_faults, Reached, all_followed, row_followed}
+use Rattle.basic_toml_tree.proofs.RowsGoOn.{row_goes_on, reached_first, no_faults, own_is_fault, value_is_fault}
+use Rattle.basic_toml_tree.proofs.ValuesOnTheWay.{row_ends}
+
+-- one of these faults, or none of them
+abbrev pub Tells : Option ℕ → List Fault → Type 0
+Tells None faults = faults ≡ []
+Tells (Some at) faults = Contains faults (dotted_fault at)
+
+tells_append : (a b : Option ℕ) (fs gs : List Fault) → Tells a fs → Tells b gs → Tells (option_or a b) (fs ++ gs)
+tells_append (Some at) b fs gs x y = Contains-append_left fs gs (dotted_fault at) x
+tells_append None None fs gs x y = ap (λ hs. hs ++ gs) x ∙ y
+tells_append None (Some at) fs gs x y = Contains-append_right fs gs (dotted_fault at) y
+
+-- rows among themselves
+tells_after : (all left : Rows) (ends : Ends) → Reached all left ends
+    → Tells (crossed_after ends left) (faults_between all)
+tells_after all no_rows ends reached = all_followed all ends reached
+tells_after all (row keys at value left) ends reached =
+    go (value_on ends (texts keys)) refl (tells_after all left (and_end ends (texts keys) at))
+  where
+    go : (o : Option ℕ) → value_on ends (texts keys) ≡ o
+        → (Reached all left (and_end ends (texts keys) at)
+        → Tells (crossed_after (and_end ends (texts keys) at) left) (faults_between all))
+        → Tells (option_or o (crossed_after (and_end ends (texts keys) at) left)) (faults_between all)
+    go (Some s) on further = row_goes_on all left ends ends keys at value reached s on
+    go None on further =
+        further (row_followed all left ends (and_end ends (texts keys) at) keys at value reached
+        (row_ends ends (texts keys) at on))
+
+pub tells_between : (rows : Rows) → Tells (crossed_between rows) (faults_between rows)
+tells_between rows = tells_after rows rows no_ends (reached_first rows)
+
+tells_rows : (a b : Option ℕ) (rows : Rows) → Tells a (faults_between rows) → Tells b (value_faults rows)
+    → Tells (option_or a b) (dotted_faults rows)
+tells_rows (Some at) b rows x y = own_is_fault rows (dotted_fault at) x
+tells_rows None (Some at) rows x y = value_is_fault rows (dotted_fault at) y
+tells_rows None None rows x y = no_faults rows x y
+
+mutual
+  tells_of : (v : Raw) → Tells (crossed_of v) (dotted_faults_in v)
+  tells_of (Raw.integer z) = refl
+  tells_of (Raw.float t) = refl
+  tells_of (Raw.boolean b) = refl
+  tells_of (Raw.string t _) = refl
+  tells_of (Raw.array es) = tells_among es
+  tells_of (Raw.inline rows) =
+      tells_rows (crossed_between rows) (crossed_within rows) rows (tells_between rows) (tells_within rows)
+
+  tells_among : (es : Elements) → Tells (crossed_among es) (dotted_faults_among es)
+  tells_among no_elements = refl
+  tells_among (element at v es) =
+      tells_append (crossed_of v) (crossed_among es) (dotted_faults_in v) (dotted_faults_among es) (tells_of v)
+      (tells_among es)
+
+  tells_within : (rows : Rows) → Tells (crossed_within rows) (value_faults rows)
+  tells_within no_rows = refl
+  tells_within (row keys at v rows) =
+      tells_append (crossed_of v) (crossed_within rows) (dotted_faults_in v) (value_faults rows) (tells_of v)
+      (tells_within rows)
+
+pub tells_sections : (sections : List Section)
+    → Tells (first_crossed sections) (flat_map (λ s. dotted_faults s.rows) sections)
+tells_sections [] = refl
+tells_sections (s ∷ sections) =
+    tells_append (crossed_in s.rows) (first_crossed sections) (dotted_faults s.rows)
+    (flat_map (λ s. dotted_faults s.rows) sections)
+    (tells_rows (crossed_between s.rows) (crossed_within s.rows) s.rows (tells_between s.rows) (tells_within s.rows))
+    (tells_sections sections)
+
+-- where there is no fault between rows, none is crossed
+pub none_between : (rows : Rows) → faults_between rows ≡ [] → crossed_between rows ≡ None
+none_between rows none = go (crossed_between rows) refl (tells_between rows)
+  where
+    nowhere : (f : Fault) → Contains [] f → ⊥
+    nowhere f there = let h : there.0 < 0 = there.1 in absurd (omega arith)
+
+    go : (o : Option ℕ) → crossed_between rows ≡ o → Tells o (faults_between rows) → o ≡ None
+    go None e tells = refl
+    go (Some at) e tells = absurd (nowhere (dotted_fault at)
+        (subst (λ (fs : List Fault). Contains fs (dotted_fault at)) none tells))

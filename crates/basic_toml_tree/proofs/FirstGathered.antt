@@ -1,0 +1,45 @@
+-- The first of what the parts of a list have.
+use Rattle.std.proofs.Common.{◌≡◌, ℕ, suc, zero, ◌+◌, ◌<◌, ◌≤◌, List, [], ◌∷◌, ◌++◌, sym, ap, ◌∙◌, take}
+use Rattle.std.proofs.Common.{length, get_or, Option, Some, None, arith, Err}
+use Rattle.std.specs.Option.{option_or}
+use Rattle.std.proofs.lemmas.List.{take_more, take_all}
+use Rattle.basic_toml_tree.specs.declared.crossed.Crossed.{Crossed}
+use Rattle.basic_toml_tree.specs.declared.crossed.Crossed.TheVariants.{Memory, At}
+use Rattle.basic_toml_tree.specs.Crossed.{Looks}
+use Rattle.basic_toml_tree.proofs.ValuesOnTheWay.{none_left, none_right}
+
+module _ {A : Type 0} (f : A → Option ℕ) where
+  abbrev pub first_in : List A → Option ℕ
+  first_in [] = None
+  first_in (x ∷ xs) = option_or (f x) (first_in xs)
+
+  pub found_at : (xs : List A) (i : ℕ) (x : A) (at : ℕ) → i < length xs → x ≡ get_or xs i x
+      → first_in (take i xs) ≡ None → f x ≡ Some at → first_in xs ≡ Some at
+  found_at [] i x at within read none there = absurd (omega (arith, within))
+  found_at (y ∷ ys) zero x at within read none there =
+      ap (λ o. option_or o (first_in ys)) (ap f (sym read) ∙ there)
+  found_at (y ∷ ys) (suc i) x at within read none there =
+      ap (λ o. option_or o (first_in ys)) (none_left (f y) (first_in (take i ys)) none)
+      ∙ found_at ys i x at (omega (arith, within)) read (none_right (f y) (first_in (take i ys)) none) there
+
+  none_behind : (xs : List A) (x : A) → first_in xs ≡ None → f x ≡ None → first_in (xs ++ x ∷ []) ≡ None
+  none_behind [] x none here = ap (λ o. option_or o None) here
+  none_behind (y ∷ ys) x none here =
+      ap (λ o. option_or o (first_in (ys ++ x ∷ []))) (none_left (f y) (first_in ys) none)
+      ∙ none_behind ys x (none_right (f y) (first_in ys) none) here
+
+  pub none_more : (xs : List A) (i : ℕ) (x : A) → i < length xs → x ≡ get_or xs i x → first_in (take i xs) ≡ None
+      → f x ≡ None → first_in (take (i + 1) xs) ≡ None
+  none_more xs i x within read before here =
+      let more : take (i + 1) xs ≡ take i xs ++ x ∷ [] =
+      take_more xs i x within ∙ ap (λ p. take i xs ++ p ∷ []) (sym read) in
+      ap first_in more ∙ none_behind (take i xs) x before here
+
+  pub none_in_all : (xs : List A) (i : ℕ) → length xs ≤ i → first_in (take i xs) ≡ None → first_in xs ≡ None
+  none_in_all xs i passed none = ap (λ l. first_in l) (sym (take_all i xs passed)) ∙ none
+
+-- the first of some is the first of all
+pub looks_more : (some all : Option ℕ) (e : Crossed) → ((at : ℕ) → some ≡ Some at → all ≡ Some at)
+    → Looks some (Err e) → Looks all (Err e)
+looks_more some all Memory into looks = tt
+looks_more some all (At at) into looks = into at looks

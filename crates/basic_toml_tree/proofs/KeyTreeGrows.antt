@@ -1,0 +1,219 @@
+-- A row is followed by a tree, one key after another.
+use Rattle.std.proofs.Common.{◌≡◌, ◌⊎◌, inl, inr, ℕ, true, false, List, [], ◌∷◌, ◌++◌, refl, sym, ap, ◌∙◌, map, rules}
+use Rattle.std.proofs.Common.{Option, Some, None, option_map, Bool, Result, Ok, Err}
+use Rattle.std.specs.List.{slice_get}
+use Rattle.std.specs.Option.{option_or}
+use Rattle.std.specs.Str.{bytes_eq}
+use Rattle.std.proofs.lemmas.Slice.Eq.{bytes_eq-Decides}
+use Rattle.basic_toml_value.specs.Pairs.{value_at}
+use Rattle.basic_toml_grammar.specs.Sections.{KeyTexts}
+use Rattle.basic_toml_tree.specs.declared.crossed.KeyTree.{KeyTree, out-KeyTree, roll-KeyTree, the_lemmas}
+use Rattle.basic_toml_tree.specs.declared.crossed.KeyTree.TheOpen.{KeyTree-F}
+use Rattle.basic_toml_tree.specs.declared.crossed.Crossed.{Crossed}
+use Rattle.basic_toml_tree.specs.declared.crossed.Crossed.TheVariants.{Memory, At}
+use Rattle.basic_toml_tree.specs.KeyTree.{Ends, ends_below, ends_from, ends_of, no_key_tree, value_on, Follows, FollowsTo}
+use Rattle.basic_toml_tree.proofs.ValuesOnTheWay.{same_on}
+use Rattle.basic_toml_value.specs.Growth.{with_value, values_of, FindsOrAdds}
+use Rattle.basic_toml_value.specs.declared.pairs.growth.Place.{Place}
+use Rattle.basic_toml_value.proofs.KeysChanged.{value_at-map, made_first, stood_or_fresh, put_at, kept_elsewhere}
+
+-- a tree by its parts
+pub key_tree_ends : (t : KeyTree)
+    → ends_of t ≡ ends_from (out-KeyTree t).end (map (λ p. (p.0, ends_of p.1)) (out-KeyTree t).below)
+key_tree_ends t = search (rules, the_lemmas)
+
+rolled : (x : KeyTree-F KeyTree) → out-KeyTree (roll-KeyTree x) ≡ x
+rolled x = search (rules, the_lemmas)
+
+pub rolled_below : (end : Option ℕ) (below : List (List ℕ × KeyTree))
+    → (out-KeyTree (roll-KeyTree (record { end = end; below = below }))).below ≡ below
+rolled_below end below = ap (λ x. x.below) (rolled (record { end = end; below = below }))
+
+-- another tree stands at a position of those below
+abbrev pub filled : KeyTree → List (List ℕ × KeyTree) → ℕ → KeyTree → KeyTree
+filled t new i gone =
+    let mid = roll-KeyTree (record { end = (out-KeyTree t).end; below = new }) in
+    roll-KeyTree (record { end = (out-KeyTree mid).end; below = with_value (out-KeyTree mid).below i gone })
+
+filled_end : (t : KeyTree) (new : List (List ℕ × KeyTree)) (i : ℕ) (gone : KeyTree)
+    → (out-KeyTree (filled t new i gone)).end ≡ (out-KeyTree t).end
+filled_end t new i gone = search (rules, the_lemmas)
+
+filled_below : (t : KeyTree) (new : List (List ℕ × KeyTree)) (i : ℕ) (gone : KeyTree)
+    → (out-KeyTree (filled t new i gone)).below ≡ with_value new i gone
+filled_below t new i gone = search (rules, the_lemmas)
+
+-- nothing ends where no row is followed yet
+pub nowhere : (path : KeyTexts) → ends_of no_key_tree path ≡ None
+nowhere path =
+    ap (λ e. e path) (key_tree_ends no_key_tree)
+    ∙ ap (λ x. ends_from x.end (map (λ p. (p.0, ends_of p.1)) x.below) path) (rolled (record { end = None; below = [] }))
+    ∙ none path
+  where
+    none : (path : KeyTexts) → ends_from None [] path ≡ None
+    none [] = refl
+    none (k ∷ path) = refl
+
+pub ends_at_key : (t : KeyTree) (k : List ℕ) (path : KeyTexts)
+    → ends_of t (k ∷ path) ≡ ends_below (option_map ends_of (value_at (out-KeyTree t).below k)) path
+ends_at_key t k path =
+    ap (λ e. e (k ∷ path)) (key_tree_ends t)
+    ∙ ap (λ o. ends_below o path) (value_at-map ends_of (out-KeyTree t).below k)
+
+-- a row ends here, or where the first one did
+pub row_ends_here : (t u : KeyTree) (start : ℕ)
+    → (out-KeyTree u).end ≡ option_or (out-KeyTree t).end (Some start) → (out-KeyTree u).below ≡ (out-KeyTree t).below
+    → Follows (ends_of t) (ends_of u) [] start
+row_ends_here t u start end_is below = record {
+  free = refl;
+  kept = kept;
+  stands = stands (out-KeyTree t).end refl;
+  told = told;
+}
+  where
+    before : ends_of t [] ≡ (out-KeyTree t).end
+    before = ap (λ e. e []) (key_tree_ends t)
+
+    after : ends_of u [] ≡ option_or (out-KeyTree t).end (Some start)
+    after = ap (λ e. e []) (key_tree_ends u) ∙ end_is
+
+    same : (k : List ℕ) (p : KeyTexts) → ends_of u (k ∷ p) ≡ ends_of t (k ∷ p)
+    same k p = ends_at_key u k p ∙ ap (λ ps. ends_below (option_map ends_of (value_at ps k)) p) below
+        ∙ sym (ends_at_key t k p)
+
+    kept : (p : KeyTexts) (s : ℕ) → ends_of t p ≡ Some s → ends_of u p ≡ Some s
+    kept [] s at = after ∙ ap (λ o. option_or o (Some start)) (sym before ∙ at)
+    kept (k ∷ p) s at = same k p ∙ at
+
+    stands : (o : Option ℕ) → (out-KeyTree t).end ≡ o → (s : ℕ) × (ends_of u [] ≡ Some s)
+    stands None is = (start, after ∙ ap (λ o. option_or o (Some start)) is)
+    stands (Some s) is = (s, after ∙ ap (λ o. option_or o (Some start)) is)
+
+    told_here : (p : KeyTexts) (s : ℕ) (o : Option ℕ) → p ≡ [] → (out-KeyTree t).end ≡ o → ends_of u [] ≡ Some s
+        → (ends_of t [] ≡ Some s) ⊎ ((p ≡ []) × (s ≡ start))
+    told_here p s None none is at =
+        let own : Some start ≡ Some s = sym (after ∙ ap (λ o. option_or o (Some start)) is) ∙ at in
+        inr (none, cc)
+    told_here p s (Some e) none is at =
+        let first : Some e ≡ Some s = sym (after ∙ ap (λ o. option_or o (Some start)) is) ∙ at in
+        inl (before ∙ is ∙ first)
+
+    told : (p : KeyTexts) (s : ℕ) → ends_of u p ≡ Some s → (ends_of t p ≡ Some s) ⊎ ((p ≡ []) × (s ≡ start))
+    told [] s at = told_here [] s (out-KeyTree t).end refl refl at
+    told (k ∷ p) s at = inl (sym (same k p) ∙ at)
+
+-- a path that goes on meets the value that ends here
+pub met_here : (t : KeyTree) (end : ℕ) → (out-KeyTree t).end ≡ Some end → (front : KeyTexts) (k : List ℕ)
+    → value_on (ends_of t) (front ++ k ∷ []) ≡ Some end
+met_here t end is [] k = ap (λ o. option_or o None) (ap (λ e. e []) (key_tree_ends t) ∙ is)
+met_here t end is (l ∷ front) k =
+    ap (λ o. option_or o (value_on (λ p. ends_of t (l ∷ p)) (front ++ k ∷ [])))
+    (ap (λ e. e []) (key_tree_ends t) ∙ is)
+
+-- the values on the way by a key at which none ends
+goes_deeper : (before there : Ends) (k : List ℕ) → before [] ≡ None → ((p : KeyTexts) → before (k ∷ p) ≡ there p)
+    → (path : KeyTexts) → value_on before (k ∷ path) ≡ value_on there path
+goes_deeper before there k none was path =
+    ap (λ o. option_or o (value_on (λ p. before (k ∷ p)) path)) none ∙ same_on (λ p. before (k ∷ p)) there was path
+
+-- a row that goes on by a key
+module _ (before after there gone : Ends) (k : List ℕ) (at_none : before [] ≡ None) (still_none : after [] ≡ None)
+    (was : (p : KeyTexts) → before (k ∷ p) ≡ there p) (is : (p : KeyTexts) → after (k ∷ p) ≡ gone p)
+    (others : (l : List ℕ) (p : KeyTexts) → bytes_eq l k ≡ false → after (l ∷ p) ≡ before (l ∷ p)) where
+  pub follows_deeper : (path : KeyTexts) (start : ℕ) → Follows there gone path start
+      → Follows before after (k ∷ path) start
+  follows_deeper path start deeper = record {
+    free = goes_deeper before there k at_none was path ∙ deeper.free;
+    kept = kept;
+    stands = (deeper.stands.0, is path ∙ deeper.stands.1);
+    told = told;
+  }
+    where
+      kept_at : (l : List ℕ) (p : KeyTexts) (s : ℕ) (b : Bool) → bytes_eq l k ≡ b → before (l ∷ p) ≡ Some s
+          → after (l ∷ p) ≡ Some s
+      kept_at l p s true same at =
+          let key : l ≡ k = (bytes_eq-Decides l k).0 same in
+          rw key (is p ∙ deeper.kept p s (sym (was p) ∙ rw key at at))
+      kept_at l p s false other at = others l p other ∙ at
+
+      kept : (p : KeyTexts) (s : ℕ) → before p ≡ Some s → after p ≡ Some s
+      kept [] s at = absurd (cc)
+      kept (l ∷ p) s at = kept_at l p s (bytes_eq l k) refl at
+
+      told_there : (p : KeyTexts) (s : ℕ) → (there p ≡ Some s) ⊎ ((p ≡ path) × (s ≡ start))
+          → (before (k ∷ p) ≡ Some s) ⊎ ((k ∷ p ≡ k ∷ path) × (s ≡ start))
+      told_there p s (inl at) = inl (was p ∙ at)
+      told_there p s (inr own) = inr (ap (λ p. k ∷ p) own.0, own.1)
+
+      told_at : (l : List ℕ) (p : KeyTexts) (s : ℕ) (b : Bool) → bytes_eq l k ≡ b → after (l ∷ p) ≡ Some s
+          → (before (l ∷ p) ≡ Some s) ⊎ ((l ∷ p ≡ k ∷ path) × (s ≡ start))
+      told_at l p s true same at =
+          let key : l ≡ k = (bytes_eq-Decides l k).0 same in
+          rw key (told_there p s (deeper.told p s (sym (is p) ∙ rw key at at)))
+      told_at l p s false other at = inl (sym (others l p other) ∙ at)
+
+      told : (p : KeyTexts) (s : ℕ) → after p ≡ Some s → (before p ≡ Some s) ⊎ ((p ≡ k ∷ path) × (s ≡ start))
+      told [] s at = absurd (cc)
+      told (l ∷ p) s at = told_at l p s (bytes_eq l k) refl at
+
+-- a tree where a key is entered
+module _ {gives : KeyTree → Type 0} (t there : KeyTree) (k : List ℕ) (new : List (List ℕ × KeyTree)) (p : Place)
+    (e : FindsOrAdds gives k (out-KeyTree t).below new p) (fresh : (u : KeyTree) → gives u → u ≡ no_key_tree)
+    (stands : slice_get (values_of new) p.position ≡ Some there) where
+  stood : (path : KeyTexts) → ends_of t (k ∷ path) ≡ ends_of there path
+  stood path = ends_at_key t k path
+      ∙ go (stood_or_fresh k e.there (out-KeyTree t).below new p.position e.entered there stands)
+    where
+      go : (value_at (out-KeyTree t).below k ≡ Some there)
+          ⊎ ((value_at (out-KeyTree t).below k ≡ None) × (there ≡ e.there))
+          → ends_below (option_map ends_of (value_at (out-KeyTree t).below k)) path ≡ ends_of there path
+      go (inl at) = ap (λ o. ends_below (option_map ends_of o) path) at
+      go (inr none) =
+          ap (λ o. ends_below (option_map ends_of o) path) none.0
+          ∙ sym (ap (λ t. ends_of t path) (none.1
+          ∙ fresh e.there (made_first gives k (out-KeyTree t).below new p e none.0)) ∙ nowhere path)
+
+  -- what went wrong below goes wrong here
+  pub fault_below : (out-KeyTree t).end ≡ None → (path : KeyTexts) (start : ℕ) (gone u : KeyTree) (e : Crossed)
+      → FollowsTo there path start gone (Err e) → FollowsTo t (k ∷ path) start u (Err e)
+  fault_below t_end path start gone u Memory goes = tt
+  fault_below t_end path start gone u (At at) goes =
+      goes_deeper (ends_of t) (ends_of there) k (ap (λ e. e []) (key_tree_ends t) ∙ t_end) stood path ∙ goes
+
+  -- what has gone on stands there then
+  module _ (gone : KeyTree) (t_end : (out-KeyTree t).end ≡ None) where
+    abbrev u : KeyTree
+    u = filled t new p.position gone
+
+    at_none : ends_of t [] ≡ None
+    at_none = ap (λ e. e []) (key_tree_ends t) ∙ t_end
+
+    still_none : ends_of u [] ≡ None
+    still_none = ap (λ e. e []) (key_tree_ends u) ∙ filled_end t new p.position gone ∙ t_end
+
+    stands_now : (path : KeyTexts) → ends_of u (k ∷ path) ≡ ends_of gone path
+    stands_now path =
+        ends_at_key u k path
+        ∙ ap (λ ps. ends_below (option_map ends_of (value_at ps k)) path) (filled_below t new p.position gone)
+        ∙ ap (λ o. ends_below (option_map ends_of o) path)
+        (put_at k e.there (out-KeyTree t).below new p.position e.entered there stands gone)
+
+    elsewhere : (l : List ℕ) (path : KeyTexts) → bytes_eq l k ≡ false → ends_of u (l ∷ path) ≡ ends_of t (l ∷ path)
+    elsewhere l path other =
+        ends_at_key u l path
+        ∙ ap (λ ps. ends_below (option_map ends_of (value_at ps l)) path) (filled_below t new p.position gone)
+        ∙ ap (λ o. ends_below (option_map ends_of o) path)
+        (kept_elsewhere k e.there (out-KeyTree t).below new p.position e.entered there stands gone l other)
+        ∙ sym (ends_at_key t l path)
+
+    pub row_below : (path : KeyTexts) (start : ℕ) → Follows (ends_of there) (ends_of gone) path start
+        → Follows (ends_of t) (ends_of u) (k ∷ path) start
+    row_below path start follows =
+        follows_deeper (ends_of t) (ends_of u) (ends_of there) (ends_of gone) k at_none still_none stood stands_now
+        elsewhere path start follows
+
+    -- and so is what the whole way gives
+    pub row_on : (path : KeyTexts) (start : ℕ) (r : Result (Unit {0}) Crossed) → FollowsTo there path start gone r
+        → FollowsTo t (k ∷ path) start u r
+    row_on path start (Ok x) goes = row_below path start goes
+    row_on path start (Err e) goes = fault_below t_end path start gone u e goes

@@ -1,0 +1,123 @@
+-- The values on the way of a path, and those that rows end with.
+use Rattle.std.proofs.Common.{◌≡◌, ◌⊎◌, inl, inr, ℕ, Bool, true, false, List, [], ◌∷◌, ◌++◌, refl, sym, ap, ◌∙◌, subst}
+use Rattle.std.proofs.Common.{Option, Some, None}
+use Rattle.std.specs.Prelude.{if◌then◌else◌}
+use Rattle.std.specs.Option.{option_or}
+use Rattle.std.specs.Str.{bytes_eq}
+use Rattle.std.proofs.lemmas.Bool.{and_parts, false≢true}
+use Rattle.std.proofs.lemmas.Slice.Eq.{bytes_eq-Decides}
+use Rattle.basic_toml_value.proofs.DistinctKeys.{bytes_eq-same}
+use Rattle.basic_toml_grammar.specs.Sections.{KeyTexts}
+use Rattle.basic_toml_tree.specs.Crossed.{same_keys, and_end}
+use Rattle.basic_toml_tree.specs.KeyTree.{Ends, value_on, Follows}
+
+pub none_left : {A : Type 0} (a b : Option A) → option_or a b ≡ None → a ≡ None
+none_left None b e = refl
+none_left (Some x) b e = cc
+
+pub none_right : {A : Type 0} (a b : Option A) → option_or a b ≡ None → b ≡ None
+none_right None b e = e
+none_right (Some x) b e = cc
+
+-- a path goes on from the value that begins there
+pub record GoesOnFrom (before : Ends) (path : KeyTexts) (at : ℕ) : Type 0 where
+  pub front : KeyTexts
+  pub k : List ℕ
+  pub rest : KeyTexts
+  pub parts : path ≡ front ++ k ∷ rest
+  pub there : before front ≡ Some at
+
+pub goes_on_from : (ends : Ends) (path : KeyTexts) (at : ℕ) → value_on ends path ≡ Some at → GoesOnFrom ends path at
+goes_on_from ends [] at e = cc
+goes_on_from ends (k ∷ path) at e = go (ends []) refl e (goes_on_from (λ p. ends (k ∷ p)) path at)
+  where
+    go : (o : Option ℕ) → ends [] ≡ o → option_or o (value_on (λ p. ends (k ∷ p)) path) ≡ Some at
+        → (value_on (λ p. ends (k ∷ p)) path ≡ Some at → GoesOnFrom (λ p. ends (k ∷ p)) path at)
+        → GoesOnFrom ends (k ∷ path) at
+    go (Some s) here e further =
+        let same : s ≡ at = cc in
+        record { front = []; k = k; rest = path; parts = refl; there = here ∙ ap (λ n. Some n) same }
+    go None here e further =
+        let x = further e in
+        record { front = k ∷ x.front; k = x.k; rest = x.rest; parts = ap (λ p. k ∷ p) x.parts; there = x.there }
+
+pub none_on : (ends : Ends) (path front rest : KeyTexts) (k : List ℕ) → value_on ends path ≡ None
+    → path ≡ front ++ k ∷ rest → ends front ≡ None
+none_on ends [] [] rest k none parts = cc
+none_on ends [] (m ∷ front) rest k none parts = cc
+none_on ends (l ∷ path) [] rest k none parts = none_left (ends []) (value_on (λ p. ends (l ∷ p)) path) none
+none_on ends (l ∷ path) (m ∷ front) rest k none parts =
+    let same : l ≡ m = cc in
+    let more : path ≡ front ++ k ∷ rest = cc in
+    subst (λ (m : List ℕ). ends (m ∷ front) ≡ None) same
+    (none_on (λ p. ends (l ∷ p)) path front rest k
+    (none_right (ends []) (value_on (λ p. ends (l ∷ p)) path) none) more)
+
+-- it goes by what ends where, and by nothing else
+pub same_on : (ends others : Ends) → ((p : KeyTexts) → ends p ≡ others p) → (path : KeyTexts)
+    → value_on ends path ≡ value_on others path
+same_on ends others same [] = refl
+same_on ends others same (k ∷ path) =
+    ap (λ o. option_or o (value_on (λ p. ends (k ∷ p)) path)) (same [])
+    ∙ ap (λ o. option_or (others []) o) (same_on (λ p. ends (k ∷ p)) (λ p. others (k ∷ p)) (λ p. same (k ∷ p)) path)
+
+pub keys_same : (p : KeyTexts) → same_keys p p ≡ true
+keys_same [] = refl
+keys_same (k ∷ p) = rw (bytes_eq-same k) (keys_same p)
+
+pub keys_are : (p q : KeyTexts) → same_keys p q ≡ true → p ≡ q
+keys_are [] [] e = refl
+keys_are [] (l ∷ q) e = cc
+keys_are (k ∷ p) [] e = cc
+keys_are (k ∷ p) (l ∷ q) e =
+    let parts = and_parts (bytes_eq k l) (same_keys p q) e in
+    let key : k ≡ l = (bytes_eq-Decides k l).0 parts.0 in
+    ap (λ m. m ∷ p) key ∙ ap (λ r. l ∷ r) (keys_are p q parts.1)
+
+module _ (ends : Ends) (path : KeyTexts) (at : ℕ) where
+  abbrev end_of : Option ℕ → Bool → Option ℕ
+  end_of o b = option_or o (if b then Some at else None)
+
+  -- a row that goes on from no value is followed
+  pub row_ends : value_on ends path ≡ None → Follows ends (and_end ends path at) path at
+  row_ends free = record { free = free; kept = kept; stands = stands (ends path) refl; told = told }
+    where
+      kept : (p : KeyTexts) (s : ℕ) → ends p ≡ Some s → and_end ends path at p ≡ Some s
+      kept p s e = ap (λ o. end_of o (same_keys p path)) e
+
+      stands : (o : Option ℕ) → ends path ≡ o → (s : ℕ) × (and_end ends path at path ≡ Some s)
+      stands (Some s) e = (s, ap (λ o. end_of o (same_keys path path)) e)
+      stands None e = (at, ap (λ o. end_of o (same_keys path path)) e ∙ ap (end_of None) (keys_same path))
+
+      told_by : (p : KeyTexts) (s : ℕ) (o : Option ℕ) (b : Bool) → ends p ≡ o → same_keys p path ≡ b
+          → end_of o b ≡ Some s → (ends p ≡ Some s) ⊎ ((p ≡ path) × (s ≡ at))
+      told_by p s (Some t) b e f g = inl (e ∙ g)
+      told_by p s None true e f g = let same : s ≡ at = cc in inr (keys_are p path f, same)
+      told_by p s None false e f g = cc
+
+      told : (p : KeyTexts) (s : ℕ) → and_end ends path at p ≡ Some s → (ends p ≡ Some s) ⊎ ((p ≡ path) × (s ≡ at))
+      told p s e = told_by p s (ends p) (same_keys p path) refl refl e
+
+  -- and each that is followed ends so
+  pub follows_so : (after : Ends) → Follows ends after path at → (p : KeyTexts) → after p ≡ and_end ends path at p
+  follows_so after follows p = go (ends p) (same_keys p path) (after p) refl refl refl
+    where
+      none : (o : Option ℕ) → after p ≡ o → ((s : ℕ) → after p ≡ Some s → ⊥) → o ≡ None
+      none None e never = refl
+      none (Some s) e never = absurd (never s e)
+
+      go : (o : Option ℕ) (b : Bool) (r : Option ℕ) → ends p ≡ o → same_keys p path ≡ b → after p ≡ r
+          → after p ≡ end_of (ends p) (same_keys p path)
+      go (Some s) b r e f g = follows.kept p s e ∙ sym (ap (λ o. end_of o (same_keys p path)) e)
+      go None true r e f g = rw (e, f) (own (follows.stands.0) (subst (λ (q : KeyTexts). after q ≡ Some follows.stands.0)
+          (sym (keys_are p path f)) follows.stands.1))
+        where
+          own : (s : ℕ) → after p ≡ Some s → after p ≡ Some at
+          own s there = elim (follows.told p s there) [
+            | inl before ↦ cc
+            | inr is ↦ there ∙ ap (λ n. Some n) is.1
+          ]
+      go None false r e f g = rw (e, f) (g ∙ none r g (λ s there. elim (follows.told p s there) [
+        | inl before ↦ cc
+        | inr is ↦ false≢true (sym f ∙ ap (λ q. same_keys q path) is.0 ∙ keys_same path)
+      ]))

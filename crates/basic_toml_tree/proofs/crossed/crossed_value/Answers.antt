@@ -1,0 +1,21 @@
+use Rattle.std.proofs.Common.{◌≡◌, sym, ap, subst, ◌∙◌, Err, Some, ℕ}
+use Rattle.basic_toml_read.specs.SectionView.{rows_seen}
+use Rattle.basic_toml_tree.specs.declared.crossed.Crossed.{Crossed}
+use Rattle.basic_toml_tree.specs.Crossed.{crossed_in, Looks}
+use Rattle.basic_toml_tree.proofs.RowsOfKeys.{section_rows}
+use Rattle.basic_toml_tree.proofs.crossed.crossed_value.Goals as goal
+
+pub returns-in-Ok : goal.returns-in-Ok
+returns-in-Ok c =
+    sym (section_rows c.args.section.now c.as_slice.result.now c.as_slice-2.result.now c.as_slice.ensures.value
+    c.as_slice-2.ensures.value ∙ c.in-Ok.ensures)
+
+pub returns-in-Err-At : goal.returns-in-Err-At
+returns-in-Err-At c =
+    let parents = c.as_slice.result.now in
+    let rows = c.as_slice-2.result.now in
+    let here : crossed_in (rows_seen parents rows) ≡ Some c.in-Err-At.at =
+    subst (λ (e : Crossed). Looks (crossed_in (rows_seen parents rows)) (Err e)) c.in-Err-At.field-0-is
+    c.in-Err-At.ensures in
+    ap (λ (n : ℕ). Some n) c.in-Err-At.at-is
+    ∙ sym (section_rows c.args.section.now parents rows c.as_slice.ensures.value c.as_slice-2.ensures.value ∙ here)
