@@ -38,13 +38,12 @@ into_table a rows keys i t is =
     ap (entered_by a rows keys) (ap item_trie is ∙ table_item_trie t ∙ e)
     ∙ ap (walk a rows keys) (sym e)
 
-pub into_latest : (a : Bool) (rows : Rows) (keys : KeyTexts) (i : items.Item) (b : Box (Vec Table Global) Global)
-    (latest : Box Table Global) → i ≡ Tables b latest
+pub into_latest : (a : Bool) (rows : Rows) (keys : KeyTexts) (i : items.Item) (b : Box (Vec Table Global × Table) Global) → i ≡ Tables b
     → entered_by a rows keys (item_trie i)
-    ≡ option_map (λ u. array_of (map table_trie b.value.items) u) (walk a rows keys (table_trie latest.value))
-into_latest a rows keys i b latest is =
-    ap (entered_by a rows keys) (ap item_trie is ∙ tables_trie b latest)
-    ∙ enter_latest a rows keys (map table_trie b.value.items) (table_trie latest.value)
+    ≡ option_map (λ u. array_of (map table_trie b.value.0.items) u) (walk a rows keys (table_trie b.value.1))
+into_latest a rows keys i b is =
+    ap (entered_by a rows keys) (ap item_trie is ∙ tables_trie b)
+    ∙ enter_latest a rows keys (map table_trie b.value.0.items) (table_trie b.value.1)
 
 pub steps_into_table : (a : Bool) (keys : KeyTexts) (i : items.Item) (t : Box Table Global)
     → i ≡ items.Table t → steps_by a keys (item_trie i) ≡ suc (steps_to a keys (table_trie t.value))
@@ -53,12 +52,12 @@ steps_into_table a keys i t is =
     ap (steps_by a keys) (ap item_trie is ∙ table_item_trie t ∙ e)
     ∙ ap (λ t. suc (steps_to a keys t)) (sym e)
 
-pub steps_into_latest : (a : Bool) (keys : KeyTexts) (i : items.Item) (b : Box (Vec Table Global) Global) (latest : Box Table Global)
-    → i ≡ Tables b latest
-    → steps_by a keys (item_trie i) ≡ suc (suc (steps_to a keys (table_trie latest.value)))
-steps_into_latest a keys i b latest is =
-    ap (steps_by a keys) (ap item_trie is ∙ tables_trie b latest)
-    ∙ steps_latest a keys (map table_trie b.value.items) (table_trie latest.value)
+pub steps_into_latest : (a : Bool) (keys : KeyTexts) (i : items.Item) (b : Box (Vec Table Global × Table) Global)
+    → i ≡ Tables b
+    → steps_by a keys (item_trie i) ≡ suc (suc (steps_to a keys (table_trie b.value.1)))
+steps_into_latest a keys i b is =
+    ap (steps_by a keys) (ap item_trie is ∙ tables_trie b)
+    ∙ steps_latest a keys (map table_trie b.value.0.items) (table_trie b.value.1)
 
 -- what the exit of a `?` answers
 pub failed : {A : Type 0} (P : Result A Clash → Type 0) (result : Result A Clash) (clash : Clash)
@@ -86,13 +85,13 @@ same_mapped e (Some t) is = is
 pub holds_table : (i : items.Item) (t : Box Table Global) → i ≡ items.Table t → item_trie i ≡ table_trie t.value
 holds_table i t is = ap item_trie is ∙ table_item_trie t
 
-pub holds_tables : (i : items.Item) (b : Box (Vec Table Global) Global) (latest : Box Table Global) → i ≡ Tables b latest
-    → item_trie i ≡ array_of (map table_trie b.value.items) (table_trie latest.value)
-holds_tables i b latest is = ap item_trie is ∙ tables_trie b latest
+pub holds_tables : (i : items.Item) (b : Box (Vec Table Global × Table) Global) → i ≡ Tables b
+    → item_trie i ≡ array_of (map table_trie b.value.0.items) (table_trie b.value.1)
+holds_tables i b is = ap item_trie is ∙ tables_trie b
 
 -- what is none of these is a value, which bars a header
 pub other_is_leaf : (i : items.Item) → ((t : Box Table Global) → i ≡ items.Table t → ⊥)
-    → ((b : Box (Vec Table Global) Global) (latest : Box Table Global) → i ≡ Tables b latest → ⊥)
+    → ((b : Box (Vec Table Global × Table) Global) → i ≡ Tables b → ⊥)
     → (d : Data) × (item_trie i ≡ leaf d)
 other_is_leaf i no_table no_tables = go (out-Item i) refl
   where
@@ -123,7 +122,7 @@ other_is_leaf i no_table no_tables = go (out-Item i) refl
     go (Item-F.Inline t) e =
         is_leaf (tree_data (table_trie t.value)) (ap item_trie (made (Item-F.Inline t) e) ∙ search (rules, the_lemmas))
     go (Item-F.Table t) e = absurd (no_table t (made (Item-F.Table t) e ∙ search (rules, the_lemmas)))
-    go (Item-F.Tables b latest) e = absurd (no_tables b latest (made (Item-F.Tables b latest) e
+    go (Item-F.Tables b) e = absurd (no_tables b (made (Item-F.Tables b) e
         ∙ search (rules, the_lemmas)))
 
 pub value_bars : (a : Bool) (rows : Rows) (keys : KeyTexts) (i : items.Item) (d : Data)
@@ -132,7 +131,7 @@ value_bars a rows keys i d is = ap (entered_by a rows keys) is ∙ walk_barred a
 
 pub other_bars : (a : Bool) (rows : Rows) (keys : KeyTexts) (i : items.Item)
     → ((t : Box Table Global) → i ≡ items.Table t → ⊥)
-    → ((b : Box (Vec Table Global) Global) (latest : Box Table Global) → i ≡ Tables b latest → ⊥)
+    → ((b : Box (Vec Table Global × Table) Global) → i ≡ Tables b → ⊥)
     → entered_by a rows keys (item_trie i) ≡ None
 other_bars a rows keys i no_table no_tables =
     let seen = other_is_leaf i no_table no_tables in

@@ -87,17 +87,17 @@ table_leads a rows keys l i not new = record {
 array_leads : (rows : Rows) (l : ℕ) (i : items.Item) → IsNewArray i
     → Leads true rows [] l nothing (λ at s. no_origins) i
 array_leads rows l i new =
-    let tries = map table_trie new.before.value.items in
+    let tries = map table_trie new.array.value.0.items in
     let none : tries ≡ [] = ap (map table_trie) new.none in
     let first : way_by true [] (item_trie i) ≡ number 0 ∷ [] =
-    way_into_latest true [] i new.before new.latest new.is ∙ ap (λ (ts : List Trie). number (length ts) ∷ []) none in record {
+    way_into_latest true [] i new.array new.is ∙ ap (λ (ts : List Trie). number (length ts) ∷ []) none in record {
       entered = put_first rows
-          ∙ sym (into_latest true rows [] i new.before new.latest new.is
-          ∙ ap (λ (ts : List Trie). option_map (λ u. array_of ts u) (put_table rows (table_trie new.latest.value))) none
+          ∙ sym (into_latest true rows [] i new.array new.is
+          ∙ ap (λ (ts : List Trie). option_map (λ u. array_of ts u) (put_table rows (table_trie new.array.value.1))) none
           ∙ ap (λ (t : Trie). option_map (λ u. array_of [] u) (put_table rows t)) new.empty);
-      steps = sym (steps_into_latest true [] i new.before new.latest new.is);
-      met = first_met rows l i (table_trie new.latest.value) new.empty
-          ∙ sym (met_in_latest true rows [] l (l + 1) i new.before new.latest refl new.is);
+      steps = sym (steps_into_latest true [] i new.array new.is);
+      met = first_met rows l i (table_trie new.array.value.1) new.empty
+          ∙ sym (met_in_latest true rows [] l (l + 1) i new.array refl new.is);
       way = sym first;
       keeps = λ at s. subst (λ (w : Path). Keeps w no_origins (item_origins i at s)) (sym first) (new_array_keeps i at s new);
     }
@@ -112,25 +112,25 @@ new_leads false rows (k ∷ keys) l i new = table_leads false rows (k ∷ keys) 
 more_leads : (rows : Rows) (l : ℕ) (old i : items.Item) → HasOneMore old i
     → Leads true rows [] l (item_trie old) (item_origins old) i
 more_leads rows l old i one = record {
-  entered = next_element rows old one.before one.latest one.more.value.items one.was one.tables
-      ∙ sym (into_latest true rows [] i one.more one.table one.is
-      ∙ ap (λ (t : Trie). option_map (λ u. array_of (map table_trie one.more.value.items) u) (put_table rows t)) one.empty);
-  steps = sym (steps_into_latest true [] i one.more one.table one.is);
-  met = next_met rows l old (table_trie one.table.value) one.empty one.before one.latest one.was
-      ∙ sym (met_in_latest true rows [] l (l + 1) i one.more one.table refl one.is);
+  entered = next_element rows old one.before one.after.value.0.items one.was one.tables
+      ∙ sym (into_latest true rows [] i one.after one.is
+      ∙ ap (λ (t : Trie). option_map (λ u. array_of (map table_trie one.after.value.0.items) u) (put_table rows t)) one.empty);
+  steps = sym (steps_into_latest true [] i one.after one.is);
+  met = next_met rows l old (table_trie one.after.value.1) one.empty one.before one.was
+      ∙ sym (met_in_latest true rows [] l (l + 1) i one.after refl one.is);
   way = next;
   keeps = λ at s. subst (λ (w : Path). Keeps w (item_origins old at s) (item_origins i at s)) next (more_keeps old i at s one);
 }
   where
-    counted : count (item_trie old) ≡ length (map table_trie one.more.value.items)
+    counted : count (item_trie old) ≡ length (map table_trie one.after.value.0.items)
     counted =
-        ap count (ap item_trie one.was ∙ tables_trie one.before one.latest)
-        ∙ ap suc (mapped_count table_trie one.before.value.items)
-        ∙ sym (mapped_count table_trie one.more.value.items ∙ ap length one.tables
-        ∙ one_longer one.before.value.items one.latest.value)
+        ap count (ap item_trie one.was ∙ tables_trie one.before)
+        ∙ ap suc (mapped_count table_trie one.before.value.0.items)
+        ∙ sym (mapped_count table_trie one.after.value.0.items ∙ ap length one.tables
+        ∙ one_longer one.before.value.0.items one.before.value.1)
 
     next : number (count (item_trie old)) ∷ [] ≡ way_by true [] (item_trie i)
-    next = ap (λ (n : ℕ). number n ∷ []) counted ∙ sym (way_into_latest true [] i one.more one.table one.is)
+    next = ap (λ (n : ℕ). number n ∷ []) counted ∙ sym (way_into_latest true [] i one.after one.is)
 
 -- what stood at a key, and an item from which a header goes on
 pub lead : (a : Bool) (rows : Rows) (keys : KeyTexts) (l : ℕ) (is_new : Bool) (i : items.Item)

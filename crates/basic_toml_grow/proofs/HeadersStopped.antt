@@ -96,12 +96,12 @@ array_aside a rows keys l t = go (nat_lt nesting_limit l) refl
         behind_high l on over ∙ sym (deep_met a rows keys (l + 1) t (omega (arith, over)))
 
 pub met_in_latest : (a : Bool) (rows : Rows) (keys : KeyTexts) (l m : ℕ) (i : items.Item)
-    (b : Box (Vec Table Global) Global) (latest : Box Table Global) → m ≡ l + 1 → i ≡ Tables b latest
-    → obstacle_by a rows keys l (item_trie i) ≡ keys_obstacle a rows keys m (table_trie latest.value)
-met_in_latest a rows keys l m i b latest same is =
-    let t = table_trie latest.value in
-    ap (obstacle_by a rows keys l) (ap item_trie is ∙ tables_trie b latest)
-    ∙ latest_met a rows keys l (map table_trie b.value.items) t
+    (b : Box (Vec Table Global × Table) Global) → m ≡ l + 1 → i ≡ Tables b
+    → obstacle_by a rows keys l (item_trie i) ≡ keys_obstacle a rows keys m (table_trie b.value.1)
+met_in_latest a rows keys l m i b same is =
+    let t = table_trie b.value.1 in
+    ap (obstacle_by a rows keys l) (ap item_trie is ∙ tables_trie b)
+    ∙ latest_met a rows keys l (map table_trie b.value.0.items) t
     ∙ array_aside a rows keys l t
     ∙ ap (λ (n : ℕ). keys_obstacle a rows keys n t) (sym same)
 
@@ -150,13 +150,13 @@ module _ (rows : Rows) (l : ℕ) (i : items.Item) (new : Trie) (is_fresh : new �
   pub first_met : element_obstacle l rows nothing ≡ table_obstacle (l + 1) rows new
   first_met = opened
 
-  pub next_met : (b : Box (Vec Table Global) Global) (latest : Box Table Global) → i ≡ Tables b latest
+  pub next_met : (b : Box (Vec Table Global × Table) Global) → i ≡ Tables b
       → element_obstacle l rows (item_trie i) ≡ table_obstacle (l + 1) rows new
-  next_met b latest is =
-      let before = map table_trie b.value.items in
-      let t = table_trie latest.value in
+  next_met b is =
+      let before = map table_trie b.value.0.items in
+      let t = table_trie b.value.1 in
       let there = find_next 0 (suc (length before)) (before ++ t ∷ []) (omega (arith, length_more before t)) in
-      ap (element_obstacle l rows) (ap item_trie is ∙ tables_trie b latest)
+      ap (element_obstacle l rows) (ap item_trie is ∙ tables_trie b)
       ∙ ap (λ (u : Trie). option_or (above l) (table_obstacle (l + 1) rows u)) there ∙ opened
     where
       length_more : (before : List Trie) (t : Trie) → length (before ++ t ∷ []) ≡ suc (length before)

@@ -21,7 +21,7 @@ shape i x is = let whole : roll-Item (out-Item i) ≡ i = search (rules, the_lem
 -- what stands where an item is
 abbrev pub item_standing : Item-F Item Child Table → Option Standing → Type 0
 item_standing (Item-F.Table t) o = o ≡ standing (table_trie t.value)
-item_standing (Item-F.Tables before latest) o = stands_array o ≡ true
+item_standing (Item-F.Tables tables) o = stands_array o ≡ true
 item_standing _ o = o ≡ Some value
 
 stands_item : (x : Item-F Item Child Table) → item_standing x (standing (item_trie (roll-Item x)))
@@ -34,7 +34,7 @@ stands_item (Item-F.Array z) = search (rules, the_lemmas)
 stands_item (Item-F.Plain z) = search (rules, the_lemmas)
 stands_item (Item-F.Inline z) = search (rules, the_lemmas)
 stands_item (Item-F.Table t) = search (rules, the_lemmas)
-stands_item (Item-F.Tables before latest) = search (rules, the_lemmas)
+stands_item (Item-F.Tables tables) = search (rules, the_lemmas)
 
 pub standing_here : (i : Item) → item_standing (out-Item i) (standing (item_trie i))
 standing_here i = subst (λ j. item_standing (out-Item i) (standing (item_trie j))) (sym (shape i (out-Item i) refl))

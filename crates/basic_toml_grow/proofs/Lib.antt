@@ -1,5 +1,14 @@
 pub mod WhatIsLeft
+pub mod CrossedIsFault
+pub mod FirstGathered
+pub mod RowIsFollowed
+pub mod RowsGetNoLonger
+pub mod RowsGoOn
+pub mod RowsOfKeys
+pub mod KeyTreeGrows
+pub mod ValuesOnTheWay
 pub mod HeadersNamed
+pub mod PlainRows
 pub mod PlainSeen
 pub mod PlainValues
 pub mod SimpleKeys

@@ -283,15 +283,15 @@ other_refuses c no_table = ap (mark_here dotted) (child_item_trie c) ∙ go (ite
         ∙ search (rules, the_lemmas)
     go (Item-F.Inline z) e = ap (λ i. mark_here dotted (item_trie i)) (of (Item-F.Inline z) e)
         ∙ search (rules, the_lemmas)
-    go (Item-F.Tables b l) e = ap (λ i. mark_here dotted (item_trie i)) (of (Item-F.Tables b l) e)
+    go (Item-F.Tables b) e = ap (λ i. mark_here dotted (item_trie i)) (of (Item-F.Tables b) e)
         ∙ search (rules, the_lemmas)
 
-pub tables_stand : (c : Child) (b : Box (Vec Table Global) Global) (latest : Box Table Global)
-    → (out-Child c).item ≡ items.Tables b latest → TellsLast (child_trie c) (mets.Header 1)
-tables_stand c b latest is =
-    tables_met c (suc (length (map table_trie b.value.items))) None
-    (by_numbers 0 (map table_trie b.value.items ++ table_trie latest.value ∷ []))
-    (child_item_trie c ∙ ap item_trie is ∙ tables_trie b latest)
+pub tables_stand : (c : Child) (b : Box (Vec Table Global × Table) Global)
+    → (out-Child c).item ≡ items.Tables b → TellsLast (child_trie c) (mets.Header 1)
+tables_stand c b is =
+    tables_met c (suc (length (map table_trie b.value.0.items))) None
+    (by_numbers 0 (map table_trie b.value.0.items ++ table_trie b.value.1 ∷ []))
+    (child_item_trie c ∙ ap item_trie is ∙ tables_trie b)
 
 pub no_keys : (ks : List code_keys.Key) → length ks ≡ 0 → map key_of ks ≡ []
 no_keys [] none = refl

@@ -1,5 +1,6 @@
--- A plain value is the grammar's value that it is seen as; nothing clashes in it, and it is no deeper than the limit.
-use Rattle.std.proofs.Common.{◌≡◌, ◌≤◌, ℕ, ◌+◌, Bool, true, false, List, [], ◌∷◌, map, refl, sym, ap}
+-- A plain value is the grammar's value that it is seen as; nothing clashes in it, no row goes on from a value there, and
+-- it is no deeper than the limit.
+use Rattle.std.proofs.Common.{◌≡◌, ◌≤◌, ℕ, ◌+◌, Bool, true, false, List, [], ◌∷◌, map, None, refl, sym, ap}
 use Rattle.std.proofs.Common.{◌∙◌, subst, arith, rules}
 use Rattle.std.specs.Prelude.{⊤, ◌&&◌, nat_lt, string_bytes}
 use Rattle.std.proofs.lemmas.Bool.{false≢true}
@@ -14,6 +15,7 @@ use Rattle.basic_toml_read.specs.declared.section.Element.{Element, roll-Element
 use Rattle.basic_toml_read.specs.declared.section.Row.{Row}
 use Rattle.basic_toml_read.specs.declared.section.Rows.{Rows}
 use Rattle.basic_toml_read.specs.SectionView.{raw_of, placed_of, elements_from, elements_view}
+use Rattle.basic_toml_grow.specs.Crossed.{crossed_of, crossed_among}
 use Rattle.basic_toml_grow.specs.Plain.{is_plain, is_plain_element, are_plain, plain_of, listed, listed_of}
 use Rattle.basic_toml_grow.proofs.PlainSeen.{array_is, array_of}
 
@@ -21,12 +23,14 @@ use Rattle.basic_toml_grow.proofs.PlainSeen.{array_is, array_of}
 pub record PlainAt (l : ℕ) (r : sections.Raw) (v : sections.Raw) : Type 0 where
   pub is : r ≡ v
   pub apart : value_clashes v ≡ false
+  pub none_crossed : crossed_of v ≡ None
   pub fits : value_level l v ≤ nesting_limit
 
 -- and plain elements
 pub record AllPlainAt (l : ℕ) (es : Elements) (seen : Elements) : Type 0 where
   pub are : es ≡ seen
   pub apart : elements_clash seen ≡ false
+  pub none_crossed : crossed_among seen ≡ None
   pub fit : elements_level l seen ≤ nesting_limit
 
 abbrev OfRaw : Raw → Type 0
@@ -52,7 +56,7 @@ both true false is = absurd (false≢true is)
 both false b is = absurd (false≢true is)
 
 none_plain : (l : ℕ) → AllPlainAt l (elements_from []) (listed [])
-none_plain l = record { are = refl; apart = refl; fit = omega arith }
+none_plain l = record { are = refl; apart = refl; none_crossed = refl; fit = omega arith }
 
 one_more : (l : ℕ) (e : Element) (es : List Element) → OfElement e → AllOf es → is_plain_element e l ≡ true
     → are_plain l es ≡ true → AllPlainAt l (elements_from (map placed_of (e ∷ es))) (listed (map listed_of (e ∷ es)))
@@ -66,6 +70,7 @@ one_more l e es here there first later =
           ∙ ap (λ at. element at (listed_of e).value (elements_from (map placed_of es))) a.0
           ∙ ap (element (listed_of e).offset (listed_of e).value) b.are;
       apart = rw (a.1.apart, b.apart) refl;
+      none_crossed = rw (a.1.none_crossed, b.none_crossed) refl;
       fit = omega arith;
     }
 
@@ -81,12 +86,13 @@ Parts (Raw-F.Array es) = AllOf es.items
 Parts _ = ⊤
 
 scalar : (r : Raw) (v : sections.Raw) → raw_of r ≡ v → plain_of r ≡ v → value_clashes v ≡ false
-    → ((l : ℕ) → value_level l v ≡ 0) → OfRaw r
-scalar r v is seen apart level l plain =
+    → crossed_of v ≡ None → ((l : ℕ) → value_level l v ≡ 0) → OfRaw r
+scalar r v is seen apart none_crossed level l plain =
     let none = level l in
     subst (λ w. PlainAt l (raw_of r) w) (sym seen) (record {
       is = is;
       apart = apart;
+      none_crossed = none_crossed;
       fits = omega arith;
     })
 
@@ -99,19 +105,19 @@ raw_is (Raw-F.Inline rs) parts l plain =
     absurd (false≢true (sym not ∙ plain))
 raw_is (Raw-F.Integer z) parts l plain =
     scalar (roll-Raw (Raw-F.Integer z)) (sections.Raw.integer z) (search (rules, the_lemmas)) (search (rules, the_lemmas))
-    refl (λ l. refl) l plain
+    refl refl (λ l. refl) l plain
 raw_is (Raw-F.Float text) parts l plain =
     scalar (roll-Raw (Raw-F.Float text)) (sections.Raw.float text) (search (rules, the_lemmas))
-    (search (rules, the_lemmas)) refl (λ l. refl) l plain
+    (search (rules, the_lemmas)) refl refl (λ l. refl) l plain
 raw_is (Raw-F.Boolean b) parts l plain =
     scalar (roll-Raw (Raw-F.Boolean b)) (sections.Raw.boolean b) (search (rules, the_lemmas))
-    (search (rules, the_lemmas)) refl (λ l. refl) l plain
+    (search (rules, the_lemmas)) refl refl (λ l. refl) l plain
 raw_is (Raw-F.String text) parts l plain =
     scalar (roll-Raw (Raw-F.String text)) (sections.Raw.string text.now false) (search (rules, the_lemmas))
-    (search (rules, the_lemmas)) refl (λ l. refl) l plain
+    (search (rules, the_lemmas)) refl refl (λ l. refl) l plain
 raw_is (Raw-F.Escaped text) parts l plain =
     scalar (roll-Raw (Raw-F.Escaped text)) (sections.Raw.string (string_bytes text) true) (search (rules, the_lemmas))
-    (search (rules, the_lemmas)) refl (λ l. refl) l plain
+    (search (rules, the_lemmas)) refl refl (λ l. refl) l plain
 raw_is (Raw-F.Array es) parts l plain =
     let made : roll-Raw (Raw-F.Array es) ≡ Array es = search (rules, the_lemmas) in
     let p = both (nat_lt l nesting_limit) (are_plain (l + 1) es.items)
@@ -124,6 +130,7 @@ raw_is (Raw-F.Array es) parts l plain =
     subst (λ v. PlainAt l (raw_of (roll-Raw (Raw-F.Array es))) v) (sym (ap plain_of made ∙ array_of es)) (record {
       is = is ∙ ap sections.Raw.array all.are;
       apart = all.apart;
+      none_crossed = all.none_crossed;
       fits = omega arith;
     })
 

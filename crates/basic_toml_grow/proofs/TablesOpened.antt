@@ -64,28 +64,27 @@ open_named t n rows level after r named dotted within entered =
     (ap (λ o. o.entries) a ∙ ap (λ o. o.entries) b))
     within entered
 
-pub tables_trie : (before : Box (Vec Table Global) Global) (latest : Box Table Global)
-    → item_trie (Tables before latest) ≡ array_of (map table_trie before.value.items) (table_trie latest.value)
-tables_trie before latest = search (rules, the_lemmas)
+pub tables_trie : (tables : Box (Vec Table Global × Table) Global)
+    → item_trie (Tables tables) ≡ array_of (map table_trie tables.value.0.items) (table_trie tables.value.1)
+tables_trie tables = search (rules, the_lemmas)
 
 pub table_item_trie : (t : Box Table Global) → item_trie (items.Table t) ≡ table_trie t.value
 table_item_trie t = search (rules, the_lemmas)
 
 -- an array with one more element
-pub next_element : (rows : Rows) (i : items.Item) (b : Box (Vec Table Global) Global) (latest : Box Table Global) (before : List Table)
-    → i ≡ Tables b latest → before ≡ b.value.items ++ latest.value ∷ []
+pub next_element : (rows : Rows) (i : items.Item) (b : Box (Vec Table Global × Table) Global) (before : List Table)
+    → i ≡ Tables b → before ≡ b.value.0.items ++ b.value.1 ∷ []
     → put_element rows (item_trie i) ≡ option_map (λ u. array_of (map table_trie before) u) (put_table rows fresh)
-next_element rows i b latest before is more =
-    ap (put_element rows) (ap item_trie is ∙ tables_trie b latest)
-    ∙ put_next rows (map table_trie b.value.items) (table_trie latest.value)
+next_element rows i b before is more =
+    ap (put_element rows) (ap item_trie is ∙ tables_trie b)
+    ∙ put_next rows (map table_trie b.value.0.items) (table_trie b.value.1)
     ∙ ap (λ ts. option_map (λ u. array_of ts u) (put_table rows fresh))
-    (sym (ap (map table_trie) more ∙ map-append table_trie b.value.items (latest.value ∷ [])))
+    (sym (ap (map table_trie) more ∙ map-append table_trie b.value.0.items (b.value.1 ∷ [])))
 
 -- arrays of tables that are the same have the same parts
-pub same_tables : {b c : Box (Vec Table Global) Global} {l m : Box Table Global} {i : items.Item} → i ≡ Tables c m
-    → i ≡ Tables b l → (c ≡ b) × (m ≡ l)
-same_tables {b = b} {c = c} {l = l} {m = m} is was =
-    let there : out-Item (Tables b l) ≡ Item-F.Tables b l = search (rules, the_lemmas) in
-    let now : out-Item (Tables c m) ≡ Item-F.Tables c m = search (rules, the_lemmas) in
-    let same : Item-F.Tables c m ≡ Item-F.Tables b l = sym now ∙ ap out-Item (sym is ∙ was) ∙ there in
-    (cc, cc)
+pub same_tables : {b c : Box (Vec Table Global × Table) Global} {i : items.Item} → i ≡ Tables c → i ≡ Tables b → c ≡ b
+same_tables {b = b} {c = c} is was =
+    let there : out-Item (Tables b) ≡ Item-F.Tables b = search (rules, the_lemmas) in
+    let now : out-Item (Tables c) ≡ Item-F.Tables c = search (rules, the_lemmas) in
+    let same : Item-F.Tables c ≡ Item-F.Tables b = sym now ∙ ap out-Item (sym is ∙ was) ∙ there in
+    cc

@@ -80,11 +80,10 @@ pub record IsNewTable (i : Item) : Type 0 where
   pub empty : table_trie table.value ≡ empty_table
 
 pub record IsNewArray (i : Item) : Type 0 where
-  pub before : Box (Vec Table Global) Global
-  pub latest : Box Table Global
-  pub is : i ≡ items.Tables before latest
-  pub none : before.value.items ≡ []
-  pub empty : table_trie latest.value ≡ empty_table
+  pub array : Box (Vec Table Global × Table) Global
+  pub is : i ≡ items.Tables array
+  pub none : array.value.0.items ≡ []
+  pub empty : table_trie array.value.1 ≡ empty_table
 
 abbrev pub IsNew : (is_array : Bool) → Item → Type 0
 IsNew true i = IsNewArray i
@@ -92,14 +91,12 @@ IsNew false i = IsNewTable i
 
 -- an array of tables, and the same with a table without entries after its latest
 pub record HasOneMore (old new : Item) : Type 0 where
-  pub before : Box (Vec Table Global) Global
-  pub latest : Box Table Global
-  pub more : Box (Vec Table Global) Global
-  pub table : Box Table Global
-  pub was : old ≡ items.Tables before latest
-  pub is : new ≡ items.Tables more table
-  pub tables : more.value.items ≡ before.value.items ++ latest.value ∷ []
-  pub empty : table_trie table.value ≡ empty_table
+  pub before : Box (Vec Table Global × Table) Global
+  pub after : Box (Vec Table Global × Table) Global
+  pub was : old ≡ items.Tables before
+  pub is : new ≡ items.Tables after
+  pub tables : after.value.0.items ≡ before.value.0.items ++ before.value.1 ∷ []
+  pub empty : table_trie after.value.1 ≡ empty_table
 
 -- the clash of an array of tables with a table that stands at its key, by whether that is named and dots extend it
 abbrev pub table_clash : (named dotted : Bool) → Clash

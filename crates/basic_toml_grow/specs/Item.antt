@@ -41,8 +41,9 @@ item_grows (Item-F.Array children) = leaf (Data.array (items_of (map tree_data c
 item_grows (Item-F.Plain elements) = leaf (finished (plain_array elements.items))
 item_grows (Item-F.Inline table) = leaf (tree_data table.value)
 item_grows (Item-F.Table table) = table.value
-item_grows (Item-F.Tables before latest) =
-    trie (Some (standing.array (suc (length before.value.items)))) None (by_numbers 0 (before.value.items ++ latest.value ∷ []))
+item_grows (Item-F.Tables tables) =
+    trie (Some (standing.array (suc (length tables.value.0.items)))) None
+    (by_numbers 0 (tables.value.0.items ++ tables.value.1 ∷ []))
 
 abbrev pub child_grows : Child-F Trie Trie Trie → Trie
 child_grows c = c.item

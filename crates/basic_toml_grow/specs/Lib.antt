@@ -1,3 +1,5 @@
+pub mod KeyTree
+pub mod Crossed
 pub mod Clash
 pub mod Plain
 pub mod Item

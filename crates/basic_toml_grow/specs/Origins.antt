@@ -157,9 +157,9 @@ item_from (Item-F.Array children) at s = entry (value_origin (codes "array") at 
 item_from (Item-F.Plain elements) at s = value_origins s at (plain_array elements.items)
 item_from (Item-F.Inline table) at s = entry (value_origin (codes "inline table") at s) table.value.below
 item_from (Item-F.Table table) at s = of_table at s table.value
-item_from (Item-F.Tables before latest) at s =
-    entry (array_origin at latest.value.section)
-    (at_numbers (elements_within at s (before.value.items ++ latest.value ∷ [])))
+item_from (Item-F.Tables tables) at s =
+    entry (array_origin at tables.value.1.section)
+    (at_numbers (elements_within at s (tables.value.0.items ++ tables.value.1 ∷ [])))
 
 abbrev pub child_from : Child-F (ℕ → ℕ → Origins) Origins Within → Origins
 child_from c = c.item c.start c.section

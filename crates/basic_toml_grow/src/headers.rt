@@ -242,16 +242,15 @@ fn add_table(alloc: Global, there: &mut Item<'_>, level: usize) -> Result<(), Cl
     if level >= NESTING_LIMIT {
         return Err(Clash::Deep);
     }
-    let last = match there {
-        Item::Tables(_, latest) => mem::replace(&mut **latest, Table::empty(alloc)),
-        Item::Table(table) => return Err(table_in_the_way(table)),
-        _other => return Err(Clash::Header(1)),
-    };
-    let Item::Tables(before, _) = there else {
-        unreachable!();
-    };
-    before.push(last)?;
-    Ok(())
+    match there {
+        Item::Tables(tables) => {
+            let last = mem::replace(&mut tables.1, Table::empty(alloc));
+            tables.0.push(last)?;
+            Ok(())
+        }
+        Item::Table(table) => Err(table_in_the_way(table)),
+        _other => Err(Clash::Header(1)),
+    }
 }
 
 // Goes on from what stands at a key in a table of a level by the keys that are left after it.
@@ -285,8 +284,16 @@ fn enter_item<'de>(
 {
     match there {
         Item::Table(table) => enter_header(alloc, table, rest, is_array, rows, number, level + 1),
-        Item::Tables(_, latest) => {
-            enter_header(alloc, latest, rest, is_array, rows, number, level + 2)
+        Item::Tables(tables) => {
+            enter_header(
+                alloc,
+                &mut tables.1,
+                rest,
+                is_array,
+                rows,
+                number,
+                level + 2,
+            )
         }
         _other => {
             if level >= NESTING_LIMIT {

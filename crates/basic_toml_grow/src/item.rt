@@ -30,10 +30,10 @@ pub enum Item<'de> {
     Inline(Box<Table<'de>>),
     /// A table of headers or of dotted keys.
     Table(Box<Table<'de>>),
-    /// The tables of an array of tables: those before the latest, and the latest. Two boxes keep an item as small as a
+    /// The tables of an array of tables: those before the latest, and the latest. Their box keeps an item as small as a
     /// raw value, and an entry of the tree as large as one of a `Table`: so the `Table` takes the memory that the tree's
     /// entries gave back.
-    Tables(Box<Vec<Table<'de>>>, Box<Table<'de>>),
+    Tables(Box<(Vec<Table<'de>>, Table<'de>)>),
 }
 
 /// An item, and where it comes from.
@@ -100,12 +100,11 @@ impl<'de> Child<'de> {
     pub(crate) fn of_header(alloc: Global, is_array: bool) -> Result<Child<'de>, AllocError>
         ensures { IfOk result (λ child. IsNew is_array (out-Child child).item) }
     {
-        let table = Table::new(alloc)?;
         if is_array {
-            let before = Box::new(alloc, Vec::new(alloc))?;
-            return Ok(Child::at(0, 0, Item::Tables(before, table)));
+            let tables = Box::new(alloc, (Vec::new(alloc), Table::empty(alloc)))?;
+            return Ok(Child::at(0, 0, Item::Tables(tables)));
         }
-        Ok(Child::at(0, 0, Item::Table(table)))
+        Ok(Child::at(0, 0, Item::Table(Table::new(alloc)?)))
     }
 }
 

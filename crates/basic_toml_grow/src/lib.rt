@@ -4,12 +4,14 @@
 //! What stands at each key and at each number is an [`Item`]; a [`Table`] keeps what was said of it, and its entries. A
 //! [`Clash`] is why a section is not entered, with the error that names it.
 //!
+//! [`crossed_value`] looks for rows that go on from a value, a clash that comes before all others.
+//!
 //! `basic_toml_tree` puts all sections of a list into one table, reads the items that stand in it then, and answers the
-//! error of a clash. It looks for no row that goes on from a value where [`are_all_plain`], and takes values apart by
-//! [`drain`].
+//! error of a clash.
 #![tactic(auto)]
 
 mod clash;
+mod crossed;
 mod headers;
 mod item;
 mod items_left;
@@ -19,7 +21,7 @@ mod rows;
 mod simple;
 
 pub use clash::{Clash, Repeated, key_texts};
+pub use crossed::{crossed_value, first_crossed_value};
 pub use headers::enter_section;
 pub use item::{Child, Item, Table};
 pub use items_left::{ItemsLeft, drain};
-pub use simple::are_all_plain;

@@ -82,7 +82,7 @@ fn what_is_met(there: &Child<'_>) -> Met
                 Met::Row
             }
         }
-        Item::Tables(_, _) => Met::Header(1),
+        Item::Tables(_) => Met::Header(1),
         _ => Met::Row,
     }
 }

@@ -35,7 +35,7 @@ pub(crate) fn are_simple(rows: &[Row<'_>], level: usize) -> bool
 
 /// Whether the rows of a table of a level are all plain: each has a plain value. Rows of such whose keys differ are
 /// simple, so this serves very many rows, of which `are_simple` would compare each with all after it.
-pub fn are_all_plain(rows: &[Row<'_>], level: usize) -> bool
+pub(crate) fn are_all_plain(rows: &[Row<'_>], level: usize) -> bool
     ensures { result ≡ all_plain level rows.now }
 {
     for row in rows {

@@ -85,10 +85,10 @@ pub table_item_data : (table : Box Table Global) → data_of (Item.Table table) 
 table_item_data table = search (rules, the_lemmas)
 
 -- the data of an array of tables
-pub tables_data : (before : Box (Vec Table Global) Global) (latest : Box Table Global)
-    → data_of (Tables before latest)
-    ≡ Data.array (items_of (map table_data before.value.items ++ table_data latest.value ∷ []))
-tables_data before latest = search (rules, the_lemmas)
+pub tables_data : (tables : Box (Vec Table Global × Table) Global)
+    → data_of (Tables tables)
+    ≡ Data.array (items_of (map table_data tables.value.0.items ++ table_data tables.value.1 ∷ []))
+tables_data tables = search (rules, the_lemmas)
 
 -- what a value of a table is seen as
 pub table_seen : (pairs : List (List ℕ × values.Value)) → view (values.Table pairs) ≡ Data.table (entries pairs)

@@ -1,14 +1,4 @@
-pub mod CrossedIsFault
-pub mod FirstGathered
-pub mod RowIsFollowed
-pub mod RowsGetNoLonger
-pub mod RowsGoOn
-pub mod RowsOfKeys
-pub mod KeyTreeGrows
-pub mod ValuesOnTheWay
 pub mod DataParts
-pub mod NoneCrossed
-pub mod PlainRows
 pub mod ItemData
 pub mod OrderIsFree
 pub mod SectionsEntered

@@ -19,8 +19,8 @@ use Rattle.basic_toml_grow.specs.Obstacles.{first_obstacle}
 use Rattle.basic_toml_grow.proofs.HeadersStopped.{met_fresh}
 use Rattle.basic_toml_grow.proofs.ObstaclesAreLevels.{met_deep}
 use Rattle.basic_toml_grow.specs.Clash.{Obstacle, too_deep, in_the_way, obstacle_fault}
-use Rattle.basic_toml_tree.specs.Crossed.{crossed_in, first_crossed}
-use Rattle.basic_toml_tree.proofs.ValuesOnTheWay.{none_left, none_right}
+use Rattle.basic_toml_grow.specs.Crossed.{crossed_in, first_crossed}
+use Rattle.basic_toml_grow.proofs.ValuesOnTheWay.{none_left, none_right}
 use Rattle.basic_toml_tree.specs.FirstStop.{only_root, Stands, Entered, StopsSection, FirstStop, value}
 use Rattle.basic_toml_tree.specs.FirstStop.{section, SectionsFaultIsOne}
 use Rattle.basic_toml_tree.proofs.SectionsEntered.{deep_by_path, no_clash}

@@ -20,7 +20,7 @@ use Rattle.basic_toml_grow.specs.declared.clash.Clash.{Clash}
 use Rattle.basic_toml_grow.specs.declared.clash.Clash.TheVariants.{Memory, Deep, Header, Named, Redefined, Row}
 use Rattle.basic_toml_grow.specs.Clash.{Obstacle, too_deep, in_the_way, obstacle_fault, NamesObstacle}
 use Rattle.basic_toml_grow.specs.Clash.{IsFaultOf, NamesClash, row_stop}
-use Rattle.basic_toml_tree.specs.Crossed.{first_crossed}
+use Rattle.basic_toml_grow.specs.Crossed.{first_crossed}
 use Rattle.basic_toml_grow.specs.Headers.{IsIn}
 use Rattle.basic_toml_grow.specs.Obstacles.{keys_obstacle}
 use Rattle.basic_toml_grow.specs.Item.{table_trie}

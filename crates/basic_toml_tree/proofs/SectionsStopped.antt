@@ -19,8 +19,8 @@ use Rattle.basic_toml_grammar.proofs.Naming.TrieStopsAreNamed.{trie_stops_named}
 use Rattle.basic_toml_grow.specs.Clash.{Obstacle, too_deep, in_the_way, obstacle_fault}
 use Rattle.basic_toml_grow.specs.Obstacles.{keys_obstacle}
 use Rattle.basic_toml_tree.specs.FirstStop.{Stands, StopsSection, SectionsFault, value, section}
-use Rattle.basic_toml_tree.specs.Crossed.{first_crossed}
-use Rattle.basic_toml_tree.proofs.CrossedIsFault.{Tells, tells_sections}
+use Rattle.basic_toml_grow.specs.Crossed.{first_crossed}
+use Rattle.basic_toml_grow.proofs.CrossedIsFault.{Tells, tells_sections}
 use Rattle.basic_toml_tree.proofs.SectionsEntered.{deep_by_path}
 use Rattle.basic_toml_grow.proofs.HeadersStopped.{met_fresh}
 use Rattle.basic_toml_grow.proofs.ObstaclesAreStops.{met_stops}

@@ -28,7 +28,7 @@ use Rattle.basic_toml_read.proofs.ListIsAnswered.{stop_answered}
 use Rattle.basic_toml_read.proofs.SectionsHandedOut.{refused_after}
 use Rattle.basic_toml_grow.specs.declared.clash.Clash.{Clash}
 use Rattle.basic_toml_grow.specs.Clash.{NamesClash, NamesObstacle}
-use Rattle.basic_toml_tree.specs.Crossed.{crossed_in, first_crossed}
+use Rattle.basic_toml_grow.specs.Crossed.{crossed_in, first_crossed}
 use Rattle.basic_toml_grow.specs.Obstacles.{keys_obstacle}
 use Rattle.basic_toml_grow.specs.Item.{table_trie}
 use Rattle.basic_toml_grow.specs.declared.item.Table.{Table}

@@ -77,8 +77,8 @@ Agree (Item-F.Array children) =
     map tree_data (map child_trie children.items) ≡ map child_data children.items
 Agree (Item-F.Inline t) = OfTable t.value
 Agree (Item-F.Table t) = OfTable t.value
-Agree (Item-F.Tables before latest) =
-    (map tree_data (map table_trie before.value.items) ≡ map table_data before.value.items) × OfTable latest.value
+Agree (Item-F.Tables tables) =
+    (map tree_data (map table_trie tables.value.0.items) ≡ map table_data tables.value.0.items) × OfTable tables.value.1
 Agree _ = ⊤
 
 item_agrees : (x : Item-F Item Child Table) → Agree x → OfItem (roll-Item x)
@@ -103,20 +103,20 @@ item_agrees (Item-F.Table t) agree =
     let a : item_trie (roll-Item (Item-F.Table t)) ≡ table_trie t.value = search (rules, the_lemmas) in
     let b : data_of (roll-Item (Item-F.Table t)) ≡ table_data t.value = search (rules, the_lemmas) in
     ap tree_data a ∙ agree ∙ sym b
-item_agrees (Item-F.Tables before latest) agree =
-    let ts : List Trie = map table_trie before.value.items in
-    let s : Option Standing = Some (array (suc (length (map table_trie before.value.items)))) in
-    let a : item_trie (roll-Item (Item-F.Tables before latest))
-    ≡ trie (Some (array (suc (length (map table_trie before.value.items))))) None
-    (by_numbers 0 (map table_trie before.value.items ++ table_trie latest.value ∷ [])) = search (rules, the_lemmas) in
-    let b : data_of (roll-Item (Item-F.Tables before latest))
-    ≡ Data.array (items_of (map table_data before.value.items ++ table_data latest.value ∷ [])) =
+item_agrees (Item-F.Tables tables) agree =
+    let ts : List Trie = map table_trie tables.value.0.items in
+    let s : Option Standing = Some (array (suc (length (map table_trie tables.value.0.items)))) in
+    let a : item_trie (roll-Item (Item-F.Tables tables))
+    ≡ trie (Some (array (suc (length (map table_trie tables.value.0.items))))) None
+    (by_numbers 0 (map table_trie tables.value.0.items ++ table_trie tables.value.1 ∷ [])) = search (rules, the_lemmas) in
+    let b : data_of (roll-Item (Item-F.Tables tables))
+    ≡ Data.array (items_of (map table_data tables.value.0.items ++ table_data tables.value.1 ∷ [])) =
     search (rules, the_lemmas) in
-    let both : map tree_data (map table_trie before.value.items) ++ tree_data (table_trie latest.value) ∷ []
-    ≡ map table_data before.value.items ++ table_data latest.value ∷ [] = rw (agree.0, agree.1) refl in
+    let both : map tree_data (map table_trie tables.value.0.items) ++ tree_data (table_trie tables.value.1) ∷ []
+    ≡ map table_data tables.value.0.items ++ table_data tables.value.1 ∷ [] = rw (agree.0, agree.1) refl in
     ap tree_data a
-    ∙ numbers_data s 0 ts (table_trie latest.value)
-    ∙ ap (λ ds. Data.array (items_of ds)) (map-append tree_data ts (table_trie latest.value ∷ []) ∙ both)
+    ∙ numbers_data s 0 ts (table_trie tables.value.1)
+    ∙ ap (λ ds. Data.array (items_of ds)) (map-append tree_data ts (table_trie tables.value.1 ∷ []) ∙ both)
     ∙ sym b
 
 child_agrees : (x : Child-F Item Child Table) → OfItem x.item → OfChild (roll-Child x)
@@ -158,7 +158,7 @@ parts_agree (Item-F.Array es) = children_agree es.items
 parts_agree (Item-F.Plain es) = tt
 parts_agree (Item-F.Inline e) = e.value.1
 parts_agree (Item-F.Table e) = e.value.1
-parts_agree (Item-F.Tables before latest) = (tables_agree before.value.items, latest.value.1)
+parts_agree (Item-F.Tables e) = (tables_agree e.value.0.items, e.value.1.1)
 
 pub table_trie_data : (t : Table) → tree_data (table_trie t) ≡ table_data t
 table_trie_data =

@@ -26,8 +26,8 @@ item_step (Item-F.Array children) = Data.array (items_of children.items)
 item_step (Item-F.Plain elements) = finished (plain_array elements.items)
 item_step (Item-F.Inline table) = table.value
 item_step (Item-F.Table table) = table.value
-item_step (Item-F.Tables before latest) =
-    Data.array (items_of (before.value.items ++ latest.value ∷ []))
+item_step (Item-F.Tables tables) =
+    Data.array (items_of (tables.value.0.items ++ tables.value.1 ∷ []))
 
 abbrev pub child_step : Child-F Data Data Data → Data
 child_step c = c.item

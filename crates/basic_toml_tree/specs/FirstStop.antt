@@ -12,7 +12,7 @@ use Rattle.basic_toml_grammar.specs.Faults.{Fault}
 use Rattle.basic_toml_grammar.specs.NamedClash.{dotted_fault}
 use Rattle.basic_toml_grammar.specs.NestingFaults.{deep_sections}
 use Rattle.basic_toml_grow.specs.Clash.{Obstacle, obstacle_fault}
-use Rattle.basic_toml_tree.specs.Crossed.{first_crossed}
+use Rattle.basic_toml_grow.specs.Crossed.{first_crossed}
 use Rattle.basic_toml_grow.specs.Obstacles.{first_obstacle}
 
 -- a trie in which nothing stands but the root

@@ -4,8 +4,6 @@ pub mod Paths
 pub mod Headers
 pub mod Origin
 pub mod Outer
-pub mod KeyTree
-pub mod Crossed
 pub mod FirstStop
 pub mod Resolve
 pub mod OfText

@@ -9,7 +9,7 @@ use Rattle.basic_toml_read.specs.SectionsAnswer.{IsRefused}
 use Rattle.basic_toml_read.specs.SectionsRead.{IsBehind, IsPlaceIn, IsList, IsStop}
 use Rattle.basic_toml_read.specs.declared.reader.Place.{Place}
 use Rattle.basic_toml_grow.specs.Clash.{NamesClash}
-use Rattle.basic_toml_tree.specs.Crossed.{first_crossed}
+use Rattle.basic_toml_grow.specs.Crossed.{first_crossed}
 use Rattle.basic_toml_grow.specs.declared.clash.Clash.{Clash}
 
 -- a place in a text that a reader of it comes to

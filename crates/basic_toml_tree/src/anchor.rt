@@ -38,8 +38,8 @@ impl<'t, 'de> Spot<'t, 'de> {
                 section: table.section,
                 keys,
             },
-            Spot::Item(Item::Tables(_, latest)) => Anchor::Array {
-                section: latest.section,
+            Spot::Item(Item::Tables(tables)) => Anchor::Array {
+                section: tables.1.section,
                 keys,
             },
             _ => Anchor::Value { start, keys },

@@ -7,7 +7,6 @@
 #![tactic(auto)]
 
 mod anchor;
-mod crossed;
 mod entries;
 mod headers;
 pub mod laws;

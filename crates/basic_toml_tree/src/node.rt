@@ -244,13 +244,13 @@ impl<'t, 'de> Node<'t, 'de> {
                 Some(child) => Some(self.element(child)),
                 None => None,
             },
-            Spot::Item(Item::Tables(before, latest)) => {
-                let earlier = before.as_slice();
+            Spot::Item(Item::Tables(tables)) => {
+                let earlier = tables.0.as_slice();
                 match earlier.get(at) {
                     Some(table) => Some(self.element_table(table)),
                     None => {
                         if at == earlier.len() {
-                            Some(self.element_table(latest))
+                            Some(self.element_table(&tables.1))
                         } else {
                             None
                         }
@@ -288,7 +288,7 @@ impl<'t, 'de> Node<'t, 'de> {
     {
         match self.spot {
             Spot::Item(Item::Array(_)) => Some(Elements { array: self, at: 0 }),
-            Spot::Item(Item::Tables(_, _)) => Some(Elements { array: self, at: 0 }),
+            Spot::Item(Item::Tables(_)) => Some(Elements { array: self, at: 0 }),
             Spot::Item(Item::Plain(_)) => Some(Elements { array: self, at: 0 }),
             Spot::Plain(Raw::Array(_)) => Some(Elements { array: self, at: 0 }),
             _ => None,

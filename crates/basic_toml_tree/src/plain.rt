@@ -38,7 +38,10 @@ pub(crate) fn plain_value(alloc: Global, value: &Raw<'_>) -> Result<Value, Alloc
 ///
 /// `AllocError` where memory was refused.
 #[cycle(copies)]
-pub(crate) fn plain_values(alloc: Global, elements: &[Element<'_>]) -> Result<Vec<Value>, AllocError>
+pub(crate) fn plain_values(
+    alloc: Global,
+    elements: &[Element<'_>],
+) -> Result<Vec<Value>, AllocError>
     ensures { IfOk result (λ copies. map view copies.items ≡ map listed_data elements.now) }
 {
     let mut copies = Vec::with_capacity(alloc, elements.len())?;

@@ -23,7 +23,7 @@ impl<'t, 'de> Spot<'t, 'de> {
     {
         match self {
             Spot::Table(table) => count == 0 || table.is_made(),
-            Spot::Item(Item::Tables(_, _)) => true,
+            Spot::Item(Item::Tables(_)) => true,
             _ => false,
         }
     }
@@ -34,7 +34,7 @@ impl<'t, 'de> Spot<'t, 'de> {
     {
         match self {
             Spot::Table(table) if table.is_made() => Some(table.section),
-            Spot::Item(Item::Tables(_, latest)) => Some(latest.section),
+            Spot::Item(Item::Tables(tables)) => Some(tables.1.section),
             _ => None,
         }
     }
@@ -60,7 +60,7 @@ impl<'t, 'de> Spot<'t, 'de> {
                 Item::Plain(_) => "array",
                 Item::Inline(_) => "inline table",
                 Item::Table(_) => "dotted table",
-                Item::Tables(_, _) => "array",
+                Item::Tables(_) => "array",
             },
             Spot::Plain(value) => match value {
                 Raw::Integer(_) => "integer",

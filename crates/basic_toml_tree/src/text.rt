@@ -7,11 +7,10 @@ ghost use Rattle.basic_toml_tree.specs.FirstStop.{only_root};
 ghost use Rattle.basic_toml_tree.specs.OfText.{AnswersText, Takes};
 ghost use Rattle.basic_toml_tree.specs.Rest.{IsReached, ReadsRest, TellsClash};
 
-use crate::crossed::crossed_value;
 use crate::headers::Headers;
 use crate::tree::Tree;
 use basic_toml_explain::{Stop, error_at};
-use basic_toml_grow::{Clash, Table, enter_section};
+use basic_toml_grow::{Clash, Table, crossed_value, enter_section};
 use basic_toml_read::{Place, ReadError, ReadErrorKind, Section, SectionReader};
 use std::alloc::Global;
 

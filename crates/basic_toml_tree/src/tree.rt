@@ -9,13 +9,12 @@ ghost use Rattle.basic_toml_tree.specs.Order.{ResolvesInAnyOrder};
 ghost use Rattle.basic_toml_tree.specs.Resolve.{Resolves};
 ghost use Rattle.basic_toml_tree.specs.Stands.{StandsAt};
 
-use crate::crossed::first_crossed_value;
 use crate::headers::Headers;
 use crate::node::Node;
 use crate::spot::Spot;
 use crate::trail::Trail;
 use crate::values::into_table;
-use basic_toml_grow::{Table, enter_section};
+use basic_toml_grow::{Table, enter_section, first_crossed_value};
 use basic_toml_read::{ReadError, ReadErrorKind, Section};
 use basic_toml_value as values;
 use std::alloc::{AllocError, Global};

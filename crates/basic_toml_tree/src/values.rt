@@ -30,9 +30,9 @@ pub(crate) fn value_of(alloc: Global, item: &Item<'_>) -> Result<Value, AllocErr
         Item::Plain(elements) => Ok(Value::Array(plain_values(alloc, elements.as_slice())?)),
         Item::Inline(table) => Ok(Value::Table(table_of(alloc, table)?)),
         Item::Table(table) => Ok(Value::Table(table_of(alloc, table)?)),
-        Item::Tables(before, latest) => {
-            let mut elements = tables_of(alloc, before.as_slice())?;
-            elements.push(Value::Table(table_of(alloc, latest)?))?;
+        Item::Tables(tables) => {
+            let mut elements = tables_of(alloc, tables.0.as_slice())?;
+            elements.push(Value::Table(table_of(alloc, &tables.1)?))?;
             Ok(Value::Array(elements))
         }
     }
@@ -105,7 +105,7 @@ fn into_value(alloc: Global, item: Item<'_>) -> Result<Value, AllocError>
         Item::Plain(elements) => into_plain_array(alloc, elements),
         Item::Inline(table) => into_inner_table(alloc, table),
         Item::Table(table) => into_inner_table(alloc, table),
-        Item::Tables(before, latest) => into_array_of_tables(alloc, before, latest),
+        Item::Tables(tables) => into_array_of_tables(alloc, tables),
     }
 }
 
@@ -138,14 +138,13 @@ fn into_inner_table(alloc: Global, table: Box<Table<'_>>) -> Result<Value, Alloc
 #[inline(always)]
 fn into_array_of_tables(
     alloc: Global,
-    before: Box<Vec<Table<'_>>>,
-    latest: Box<Table<'_>>,
+    tables: Box<(Vec<Table<'_>>, Table<'_>)>,
 ) -> Result<Value, AllocError>
-    ensures { IfOk result (λ value. view value ≡ data_of (Tables before.entry latest.entry)) }
+    ensures { IfOk result (λ value. view value ≡ data_of (Tables tables.entry)) }
 {
-    let earlier = Box::into_inner(before);
+    let (earlier, latest) = Box::into_inner(tables);
     let mut elements = into_tables(alloc, earlier)?;
-    elements.push(Value::Table(into_table(alloc, Box::into_inner(latest))?))?;
+    elements.push(Value::Table(into_table(alloc, latest)?))?;
     Ok(Value::Array(elements))
 }
 

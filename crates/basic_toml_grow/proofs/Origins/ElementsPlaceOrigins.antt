@@ -85,14 +85,14 @@ module _ (xs : List Origins) (n : ℕ) (counted : n ≡ length xs) (was now rows
           ∙ ap (λ b. option_or (there (number m ∷ q)) (if b then along w rows q else None)) (sym e)
 
 -- an array of tables, by the origins in its elements
-pub array_below : (i : items.Item) (b : Box (Vec Table Global) Global) (latest : Box Table Global) (at s : ℕ) → i ≡ Tables b latest
+pub array_below : (i : items.Item) (b : Box (Vec Table Global × Table) Global) (at s : ℕ) → i ≡ Tables b
     → (r : Step) (p : Path) → item_origins i at s (r ∷ p)
-    ≡ at_numbers (map (of_table at s) (map table_within b.value.items) ++ of_table at s (table_within latest.value) ∷ [])
+    ≡ at_numbers (map (of_table at s) (map table_within b.value.0.items) ++ of_table at s (table_within b.value.1) ∷ [])
     (r ∷ p)
-array_below i b latest at s is r p =
-    ap (λ f. f (r ∷ p)) (ap (λ i. item_origins i at s) is ∙ tables_seen b latest at s)
+array_below i b at s is r p =
+    ap (λ f. f (r ∷ p)) (ap (λ i. item_origins i at s) is ∙ tables_seen b at s)
     ∙ ap (λ os. at_numbers os (r ∷ p))
-    (map-append (of_table at s) (map table_within b.value.items) (table_within latest.value ∷ []))
+    (map-append (of_table at s) (map table_within b.value.0.items) (table_within b.value.1 ∷ []))
 
 pub mapped_count : {A B : Type 0} (f : A → B) (xs : List A) → length (map f xs) ≡ length xs
 mapped_count f [] = refl
@@ -108,59 +108,63 @@ others_are : (xs : List Origins) (x : Origins) (n m : ℕ) (q : Path) → n ≡ 
 others_are xs x n m q counted other = ap (λ o. under o q) (other_is xs x n m counted other)
 
 -- on into the latest element
-pub latest_grows : (a : Bool) (keys : KeyTexts) (rows : Origins) (there item : items.Item) (b : Box (Vec Table Global) Global)
-    (old after : Box Table Global) → there ≡ Tables b old → item ≡ Tables b after
-    → GrowsAlong (way a keys (table_trie old.value)) rows (table_origins old.value) (table_origins after.value)
+pub latest_grows : (a : Bool) (keys : KeyTexts) (rows : Origins) (there item : items.Item)
+    (old after : Box (Vec Table Global × Table) Global) → there ≡ Tables old → item ≡ Tables after
+    → after.value.0 ≡ old.value.0
+    → GrowsAlong (way a keys (table_trie old.value.1)) rows (table_origins old.value.1) (table_origins after.value.1)
     → (at s : ℕ) → GrowsAlong (way_by a keys (item_trie there)) rows (item_origins there at s) (item_origins item at s)
-latest_grows a keys rows there item b old after is item_is grows at s =
+latest_grows a keys rows there item old after is item_is same grows at s =
     subst (λ w. GrowsAlong w rows (item_origins there at s) (item_origins item at s))
-    (sym (way_into_latest a keys there b old is))
-    (element_grows xs n counted (table_origins old.value) (table_origins after.value) rows
-    (way a keys (table_trie old.value)) (λ r q not. grows (r ∷ q) not) (item_origins there at s)
+    (sym (way_into_latest a keys there old is))
+    (element_grows xs n counted (table_origins old.value.1) (table_origins after.value.1) rows
+    (way a keys (table_trie old.value.1)) (λ r q not. grows (r ∷ q) not) (item_origins there at s)
     (item_origins item at s)
-    (λ r q. was (number n) (r ∷ q) ∙ ap (λ o. under o (r ∷ q)) (last_is xs (of_table at s (table_within old.value)) n
+    (λ r q. was (number n) (r ∷ q) ∙ ap (λ o. under o (r ∷ q)) (last_is xs (of_table at s (table_within old.value.1)) n
     counted))
-    (λ m q other. was (number m) q ∙ others_are xs (of_table at s (table_within old.value)) n m q counted other)
+    (λ m q other. was (number m) q ∙ others_are xs (of_table at s (table_within old.value.1)) n m q counted other)
     (λ k q. was (key k) q)
-    (table_origin (table_within after.value).made at (section_in (table_within after.value) s)) now)
+    (table_origin (table_within after.value.1).made at (section_in (table_within after.value.1) s)) now)
   where
     xs : List Origins
-    xs = map (of_table at s) (map table_within b.value.items)
+    xs = map (of_table at s) (map table_within old.value.0.items)
 
     n : ℕ
-    n = length (map table_trie b.value.items)
+    n = length (map table_trie old.value.0.items)
 
     counted : n ≡ length xs
-    counted = mapped_count table_trie b.value.items ∙ sym (mapped_count (of_table at s) (map table_within b.value.items)
-        ∙ mapped_count table_within b.value.items)
+    counted = mapped_count table_trie old.value.0.items
+        ∙ sym (mapped_count (of_table at s) (map table_within old.value.0.items)
+        ∙ mapped_count table_within old.value.0.items)
 
     was : (r : Step) (p : Path) → item_origins there at s (r ∷ p)
-        ≡ at_numbers (xs ++ of_table at s (table_within old.value) ∷ []) (r ∷ p)
-    was r p = array_below there b old at s is r p
+        ≡ at_numbers (xs ++ of_table at s (table_within old.value.1) ∷ []) (r ∷ p)
+    was r p = array_below there old at s is r p
 
     now : (r : Step) (p : Path) → item_origins item at s (r ∷ p)
-        ≡ at_numbers (xs ++ of_table at s (table_within after.value) ∷ []) (r ∷ p)
-    now r p = array_below item b after at s item_is r p
+        ≡ at_numbers (xs ++ of_table at s (table_within after.value.1) ∷ []) (r ∷ p)
+    now r p = array_below item after at s item_is r p
+        ∙ ap (λ (before : Vec Table Global). at_numbers (map (of_table at s) (map table_within before.items)
+        ++ of_table at s (table_within after.value.1) ∷ []) (r ∷ p)) same
 
 -- an array of one new table comes from nowhere yet, but for what is on its way
 pub new_array_keeps : (i : items.Item) (at s : ℕ) → IsNewArray i
     → Keeps (number 0 ∷ []) no_origins (item_origins i at s)
 new_array_keeps i at s new = record { aside = go }
   where
-    none : map (of_table at s) (map table_within new.before.value.items) ≡ []
+    none : map (of_table at s) (map table_within new.array.value.0.items) ≡ []
     none = ap (λ ts. map (of_table at s) (map table_within ts)) new.none
 
     now : (r : Step) (p : Path) → item_origins i at s (r ∷ p)
-        ≡ at_numbers (of_table at s (table_within new.latest.value) ∷ []) (r ∷ p)
-    now r p = array_below i new.before new.latest at s new.is r p
-        ∙ ap (λ os. at_numbers (os ++ of_table at s (table_within new.latest.value) ∷ []) (r ∷ p)) none
+        ≡ at_numbers (of_table at s (table_within new.array.value.1) ∷ []) (r ∷ p)
+    now r p = array_below i new.array at s new.is r p
+        ∙ ap (λ os. at_numbers (os ++ of_table at s (table_within new.array.value.1) ∷ []) (r ∷ p)) none
 
     go : (p : Path) → begins p (number 0 ∷ []) ≡ false → item_origins i at s p ≡ None
     go [] not = absurd (false≢true (sym not))
     go (key k ∷ p) not = now (key k) p
     go (number zero ∷ []) not = absurd (false≢true (sym not))
     go (number zero ∷ r ∷ p) not =
-        now (number zero) (r ∷ p) ∙ ap (λ w. w.below (r ∷ p)) (fresh_within new.latest.value new.empty)
+        now (number zero) (r ∷ p) ∙ ap (λ w. w.below (r ∷ p)) (fresh_within new.array.value.1 new.empty)
     go (number (suc m) ∷ p) not = now (number (suc m)) p
 
 -- and so does a table that is added to an array
@@ -169,42 +173,42 @@ pub more_keeps : (old i : items.Item) (at s : ℕ) → HasOneMore old i
 more_keeps old i at s one = record { aside = λ p not. grown p not ∙ or_none_along p }
   where
     xs : List Origins
-    xs = map (of_table at s) (map table_within one.more.value.items)
+    xs = map (of_table at s) (map table_within one.after.value.0.items)
 
     n : ℕ
     n = count (item_trie old)
 
-    same : xs ≡ map (of_table at s) (map table_within one.before.value.items)
-        ++ of_table at s (table_within one.latest.value) ∷ []
+    same : xs ≡ map (of_table at s) (map table_within one.before.value.0.items)
+        ++ of_table at s (table_within one.before.value.1) ∷ []
     same = ap (λ ts. map (of_table at s) (map table_within ts)) one.tables
-        ∙ ap (map (of_table at s)) (map-append table_within one.before.value.items (one.latest.value ∷ []))
-        ∙ map-append (of_table at s) (map table_within one.before.value.items) (table_within one.latest.value ∷ [])
+        ∙ ap (map (of_table at s)) (map-append table_within one.before.value.0.items (one.before.value.1 ∷ []))
+        ∙ map-append (of_table at s) (map table_within one.before.value.0.items) (table_within one.before.value.1 ∷ [])
 
     counted : n ≡ length xs
     counted =
-        ap count (ap item_trie one.was ∙ tables_trie one.before one.latest)
-        ∙ ap suc (mapped_count table_trie one.before.value.items)
-        ∙ sym (ap length same ∙ one_longer (map (of_table at s) (map table_within one.before.value.items))
-        (of_table at s (table_within one.latest.value))
-        ∙ ap suc (mapped_count (of_table at s) (map table_within one.before.value.items)
-        ∙ mapped_count table_within one.before.value.items))
+        ap count (ap item_trie one.was ∙ tables_trie one.before)
+        ∙ ap suc (mapped_count table_trie one.before.value.0.items)
+        ∙ sym (ap length same ∙ one_longer (map (of_table at s) (map table_within one.before.value.0.items))
+        (of_table at s (table_within one.before.value.1))
+        ∙ ap suc (mapped_count (of_table at s) (map table_within one.before.value.0.items)
+        ∙ mapped_count table_within one.before.value.0.items))
 
     was : (r : Step) (p : Path) → item_origins old at s (r ∷ p) ≡ at_numbers xs (r ∷ p)
-    was r p = array_below old one.before one.latest at s one.was r p ∙ sym (ap (λ os. at_numbers os (r ∷ p)) same)
+    was r p = array_below old one.before at s one.was r p ∙ sym (ap (λ os. at_numbers os (r ∷ p)) same)
 
     empty : (r : Step) (q : Path) → begins (r ∷ q) [] ≡ false
-        → table_origins one.table.value (r ∷ q) ≡ or_else no_origins (along [] no_origins) (r ∷ q)
-    empty r q not = ap (λ w. w.below (r ∷ q)) (fresh_within one.table.value one.empty)
+        → table_origins one.after.value.1 (r ∷ q) ≡ or_else no_origins (along [] no_origins) (r ∷ q)
+    empty r q not = ap (λ w. w.below (r ∷ q)) (fresh_within one.after.value.1 one.empty)
 
     grown : GrowsAlong (number n ∷ []) no_origins (item_origins old at s) (item_origins i at s)
     grown =
-        element_grows xs n counted no_origins (table_origins one.table.value) no_origins [] empty (item_origins old at s)
+        element_grows xs n counted no_origins (table_origins one.after.value.1) no_origins [] empty (item_origins old at s)
         (item_origins i at s)
         (λ r q. was (number n) (r ∷ q) ∙ ap (λ o. under o (r ∷ q)) (none_past xs n counted))
         (λ m q other. was (number m) q)
         (λ k q. was (key k) q)
-        (table_origin (table_within one.table.value).made at (section_in (table_within one.table.value) s))
-        (λ r p. array_below i one.more one.table at s one.is r p)
+        (table_origin (table_within one.after.value.1).made at (section_in (table_within one.after.value.1) s))
+        (λ r p. array_below i one.after at s one.is r p)
 
     or_none_along : (p : Path)
         → or_else (item_origins old at s) (along (number n ∷ []) no_origins) p ≡ item_origins old at s p

@@ -93,34 +93,36 @@ table_marks n a keys there item old after is is_table marks at s =
     (way_into_table a keys there old is) is_table marks at s
 
 -- the latest element of an array of tables
-element_marked : (n m : ℕ) (w : Path) (b : Box (Vec Table Global) Global) (latest : Box Table Global)
-    → m ≡ length b.value.items → MarksTable n w (table_within latest.value)
-    → (at s : ℕ) → MarksWay n (number m ∷ w) (item_origins (Tables b latest) at s)
-element_marked n m w b latest counted marks at s [] on =
-    subst (IsMarked n) (sym (ap (λ f. f []) (tables_seen b latest at s))) (refl, marks.section)
-element_marked n m w b latest counted marks at s (key k ∷ q) on = absurd (false≢true on)
-element_marked n m w b latest counted marks at s (number i ∷ q) on =
+element_marked : (n m : ℕ) (w : Path) (b : Box (Vec Table Global × Table) Global)
+    → m ≡ length b.value.0.items → MarksTable n w (table_within b.value.1)
+    → (at s : ℕ) → MarksWay n (number m ∷ w) (item_origins (Tables b) at s)
+element_marked n m w b counted marks at s [] on =
+    subst (IsMarked n) (sym (ap (λ f. f []) (tables_seen b at s))) (refl, marks.section)
+element_marked n m w b counted marks at s (key k ∷ q) on = absurd (false≢true on)
+element_marked n m w b counted marks at s (number i ∷ q) on =
     let parts = and_parts (nat_eq i m) (begins q w) on in
-    let xs = map (of_table at s) (map table_within b.value.items) in
-    let longest : length xs ≡ length b.value.items =
-    mapped_count (of_table at s) (map table_within b.value.items) ∙ mapped_count table_within b.value.items in
+    let xs = map (of_table at s) (map table_within b.value.0.items) in
+    let longest : length xs ≡ length b.value.0.items =
+    mapped_count (of_table at s) (map table_within b.value.0.items) ∙ mapped_count table_within b.value.0.items in
     subst (IsMarked n)
-    (sym (array_below (Tables b latest) b latest at s refl (number i) q
-    ∙ ap (λ o. under o q) (last_is xs (of_table at s (table_within latest.value)) i
+    (sym (array_below (Tables b) b at s refl (number i) q
+    ∙ ap (λ o. under o q) (last_is xs (of_table at s (table_within b.value.1)) i
     (same_numbers m i parts.0 ∙ counted ∙ sym longest))))
-    (marked_table n w (table_within latest.value) at s marks q parts.1)
+    (marked_table n w (table_within b.value.1) at s marks q parts.1)
 
-pub latest_marks : (n : ℕ) (a : Bool) (keys : KeyTexts) (there item : items.Item) (b : Box (Vec Table Global) Global)
-    (old after : Box Table Global) → there ≡ Tables b old → item ≡ Tables b after
-    → MarksTable n (way a keys (table_trie old.value)) (table_within after.value)
+pub latest_marks : (n : ℕ) (a : Bool) (keys : KeyTexts) (there item : items.Item)
+    (old after : Box (Vec Table Global × Table) Global) → there ≡ Tables old → item ≡ Tables after
+    → after.value.0 ≡ old.value.0
+    → MarksTable n (way a keys (table_trie old.value.1)) (table_within after.value.1)
     → (at s : ℕ) → MarksWay n (way_by a keys (item_trie there)) (item_origins item at s)
-latest_marks n a keys there item b old after is item_is marks at s =
-    subst (λ w. MarksWay n w (item_origins item at s)) (sym (way_into_latest a keys there b old is))
+latest_marks n a keys there item old after is item_is same marks at s =
+    subst (λ w. MarksWay n w (item_origins item at s)) (sym (way_into_latest a keys there old is))
     (subst (λ i. MarksWay n (number m ∷ w) (item_origins i at s)) (sym item_is)
-    (element_marked n m w b after (mapped_count table_trie b.value.items) marks at s))
+    (element_marked n m w after (mapped_count table_trie old.value.0.items
+    ∙ sym (ap (λ (before : Vec Table Global). length before.items) same)) marks at s))
   where
     m : ℕ
-    m = length (map table_trie b.value.items)
+    m = length (map table_trie old.value.0.items)
 
     w : Path
-    w = way a keys (table_trie old.value)
+    w = way a keys (table_trie old.value.1)

@@ -56,12 +56,12 @@ way_into_table a keys i t is =
     ap (way_by a keys) (ap item_trie is ∙ table_item_trie t ∙ e)
     ∙ ap (way a keys) (sym e)
 
-pub way_into_latest : (a : Bool) (keys : KeyTexts) (i : items.Item) (b : Box (Vec Table Global) Global) (latest : Box Table Global)
-    → i ≡ Tables b latest
-    → way_by a keys (item_trie i) ≡ number (length (map table_trie b.value.items)) ∷ way a keys (table_trie latest.value)
-way_into_latest a keys i b latest is =
-    ap (way_by a keys) (ap item_trie is ∙ tables_trie b latest)
-    ∙ way_latest a keys (map table_trie b.value.items) (table_trie latest.value)
+pub way_into_latest : (a : Bool) (keys : KeyTexts) (i : items.Item) (b : Box (Vec Table Global × Table) Global)
+    → i ≡ Tables b
+    → way_by a keys (item_trie i) ≡ number (length (map table_trie b.value.0.items)) ∷ way a keys (table_trie b.value.1)
+way_into_latest a keys i b is =
+    ap (way_by a keys) (ap item_trie is ∙ tables_trie b)
+    ∙ way_latest a keys (map table_trie b.value.0.items) (table_trie b.value.1)
 
 -- the table that is named, and the rows that are put into it
 pub same_below : (t u : Table) → (out-Table u).entries ≡ (out-Table t).entries → table_origins u ≡ table_origins t

@@ -64,11 +64,11 @@ pub array_seen : (cs : Vec Child Global) (at s : ℕ)
     ≡ entry (value_origin (codes "array") at s) (at_numbers (map child_origins cs.items))
 array_seen cs at s = search (rules, the_lemmas)
 
-pub tables_seen : (before : Box (Vec Table Global) Global) (latest : Box Table Global) (at s : ℕ)
-    → item_origins (Tables before latest) at s
-    ≡ entry (array_origin at (table_within latest.value).section)
-    (at_numbers (elements_within at s (map table_within before.value.items ++ table_within latest.value ∷ [])))
-tables_seen before latest at s = search (rules, the_lemmas)
+pub tables_seen : (tables : Box (Vec Table Global × Table) Global) (at s : ℕ)
+    → item_origins (Tables tables) at s
+    ≡ entry (array_origin at (table_within tables.value.1).section)
+    (at_numbers (elements_within at s (map table_within tables.value.0.items ++ table_within tables.value.1 ∷ [])))
+tables_seen tables at s = search (rules, the_lemmas)
 
 -- what stands at a key
 pub seen_at_key : (t : Table) (k : List ℕ) (p : Path)

@@ -83,7 +83,7 @@ pub record IsMade (count : ℕ) (spot : Spot) : Type 0 where
 item_made : (count : ℕ) (b : Bor Item) (x : Item-F Item Child Table) (o : Option Standing) → out-Item b.now ≡ x
     → item_standing x o → standing (item_trie b.now) ≡ o → is_wrapper x ≡ false → stands_made o ≡ true
     → IsMade count (spots.Item b)
-item_made count b (Item-F.Tables before latest) o is stands same own made = record {
+item_made count b (Item-F.Tables tables) o is stands same own made = record {
   made = ap holds_tables is;
   name = ap item_name is ∙ sym (ap (λ o. made_name (stands_array o)) same ∙ ap made_name stands);
   slice = ap holds_string is;
@@ -129,7 +129,7 @@ not_table (Item-F.Array z) o stands own p n d is = absurd (cc)
 not_table (Item-F.Plain z) o stands own p n d is = absurd (cc)
 not_table (Item-F.Inline z) o stands own p n d is = absurd (cc)
 not_table (Item-F.Table t) o stands own p n d is = absurd (cc)
-not_table (Item-F.Tables before latest) o stands own p n d is = absurd (false≢true (sym (ap stands_array is) ∙ stands))
+not_table (Item-F.Tables tables) o stands own p n d is = absurd (false≢true (sym (ap stands_array is) ∙ stands))
 
 pub root_made : (count : ℕ) (spot : Spot) (t : Table) → wraps_table spot ≡ false → (count == 0) ≡ true
     → spot_trie spot ≡ table_trie t → IsMade count spot

@@ -1,11 +1,11 @@
 -- What a node is found by again is an anchor of what is at its path.
-use Rattle.std.proofs.Common.{◌≡◌, inl, inr, ◌==◌, ℕ, Bool, true, false, List, [], ◌∷◌, Option, Some, None, length}
+use Rattle.std.proofs.Common.{◌≡◌, ◌==◌, ℕ, Bool, true, false, List, [], ◌∷◌, Option, Some, None, length}
 use Rattle.std.proofs.Common.{refl, ap, sym, ◌∙◌, subst}
 use Rattle.std.specs.Prelude.{◌||◌, if◌then◌else◌, IfSome, IsSomeAnd}
 use Rattle.std.specs.Borrow.{Bor}
-use Rattle.std.proofs.lemmas.Bool.{false≢true, or_right}
+use Rattle.std.proofs.lemmas.Bool.{false≢true}
 use Rattle.basic_toml_grammar.specs.Sections.{Section}
-use Rattle.basic_toml_grammar.specs.Steps.{Step, Path, keys_of}
+use Rattle.basic_toml_grammar.specs.Steps.{Path, keys_of}
 use Rattle.basic_toml_grammar.specs.IndexedPath.{located}
 use Rattle.basic_toml_grammar.specs.Nodes as grammar
 use Rattle.basic_toml_grammar.specs.Trie.{standing}
@@ -18,7 +18,6 @@ use Rattle.basic_toml_grow.specs.declared.item.Item.TheOpen.{Item-F}
 use Rattle.basic_toml_grow.specs.declared.item.Child.{Child}
 use Rattle.basic_toml_grow.specs.declared.item.Table.{Table, out-Table}
 use Rattle.basic_toml_grow.specs.Item.{item_trie}
-use Rattle.basic_toml_grow.specs.Origins.{Origin}
 use Rattle.basic_toml_grow.proofs.ItemTries.{table_entries_trie}
 use Rattle.basic_toml_grow.proofs.ItemsStand.{item_standing, stands_array, standing_here}
 use Rattle.basic_toml_tree.specs.declared.node.Node.{Node}
@@ -26,7 +25,6 @@ use Rattle.basic_toml_tree.specs.declared.spot.Spot.{Spot}
 use Rattle.basic_toml_tree.specs.declared.spot.Spot.TheVariants as spots
 use Rattle.basic_toml_tree.specs.Origin.{spot_is_made, spot_section, spot_anchor, anchor_of, item_anchor, item_section}
 use Rattle.basic_toml_tree.specs.Origin.{holds_tables, table_is_made, start_of, is_made, last_at}
-use Rattle.basic_toml_tree.specs.Resolve.{ComesFromHeaders}
 use Rattle.basic_toml_tree.specs.Stands.{IsNodeAt, is_root, spot_trie, tree_origins}
 use Rattle.basic_toml_tree.proofs.Foretold.NodesForetold.{made_foretold, start_foretold}
 use Rattle.basic_toml_tree.proofs.Nodes.KeysTold.{HasHeader, section_leads}
@@ -112,10 +110,10 @@ module _ (sections : List Section) (p : Path) (node : Node) (is : IsNodeAt secti
 
       go : (x : Item-F Item Child Table) → out-Item b.now ≡ x
           → IsAnchorOf sections p (item_anchor x node.start node.count)
-      go (Item-F.Tables before latest) e = (
-        leads (out-Table latest.value).section (ap spot_section at ∙ ap item_section e)
-            (made (Item-F.Tables before latest) e),
-        sym (arrays (made (Item-F.Tables before latest) e)) ∙ ap (λ spot. stands_array (standing (spot_trie spot))) at
+      go (Item-F.Tables tables) e = (
+        leads (out-Table tables.value.1).section (ap spot_section at ∙ ap item_section e)
+            (made (Item-F.Tables tables) e),
+        sym (arrays (made (Item-F.Tables tables) e)) ∙ ap (λ spot. stands_array (standing (spot_trie spot))) at
             ∙ subst (λ x. item_standing x (standing (item_trie b.now))) e (standing_here b.now),
         keys,
       )

@@ -67,7 +67,7 @@ item_key (Item-F.String z) i t k q at s is holds = absurd holds
 item_key (Item-F.Escaped z) i t k q at s is holds = absurd holds
 item_key (Item-F.Array z) i t k q at s is holds = absurd holds
 item_key (Item-F.Plain z) i t k q at s is holds = absurd holds
-item_key (Item-F.Tables y z) i t k q at s is holds = absurd holds
+item_key (Item-F.Tables y) i t k q at s is holds = absurd holds
 
 spot_key : (spot : Spot) (t : Table) (k : List ℕ) (q : Path) (at s : ℕ) → HoldsTable spot t
     → spot_origins spot at s (key k ∷ q) ≡ table_origins t (key k ∷ q)
@@ -112,8 +112,8 @@ item_bears (Item-F.Table z) at s =
     let w = table_within z.value in
     bears_entry (Item-F.Table z) at s (table_origin w.made at (section_in w s)) w.below (search (rules, the_lemmas))
     (λ apart. ap (λ b. if b then w.section else s) apart)
-item_bears (Item-F.Tables y z) at s = bears_entry (Item-F.Tables y z) at s (array_origin at (table_within z.value).section)
-    (at_numbers (elements_within at s (map table_within y.value.items ++ table_within z.value ∷ [])))
+item_bears (Item-F.Tables y) at s = bears_entry (Item-F.Tables y) at s (array_origin at (table_within y.value.1).section)
+    (at_numbers (elements_within at s (map table_within y.value.0.items ++ table_within y.value.1 ∷ [])))
     (search (rules, the_lemmas)) (λ apart. absurd (false≢true (sym apart)))
 
 pub child_bears : (c : Child) → Bears (out-Child c).section (child_origins c)
@@ -136,10 +136,10 @@ not_marked section none f = subst (λ section. Marked section f) (sym none) (go 
     go (Some o) = tt
 
 item_marked : (x : Item-F Item Child Table) (at s : ℕ) → Marked (item_section x) (item_origins (roll-Item x) at s)
-item_marked (Item-F.Tables y z) at s = subst (Marked (Some (out-Table z.value).section)) (sym is) (section_seen z.value)
+item_marked (Item-F.Tables y) at s = subst (Marked (Some (out-Table y.value.1).section)) (sym is) (section_seen y.value.1)
   where
-    is : item_origins (roll-Item (Item-F.Tables y z)) at s ≡ entry (array_origin at (table_within z.value).section)
-        (at_numbers (elements_within at s (map table_within y.value.items ++ table_within z.value ∷ [])))
+    is : item_origins (roll-Item (Item-F.Tables y)) at s ≡ entry (array_origin at (table_within y.value.1).section)
+        (at_numbers (elements_within at s (map table_within y.value.0.items ++ table_within y.value.1 ∷ [])))
     is = search (rules, the_lemmas)
 item_marked (Item-F.Integer z) at s = not_marked None refl (item_origins (roll-Item (Item-F.Integer z)) at s)
 item_marked (Item-F.Float z) at s = not_marked None refl (item_origins (roll-Item (Item-F.Float z)) at s)
@@ -176,16 +176,16 @@ module _ {A B : Type 0} (f : A → B) where
   read_mapped (y ∷ ys) (suc n) x read = read_mapped ys n x read
 
 pub tables_come : (from node : Node) (n : ℕ) (b : Bor Item) → from.spot ≡ spots.Item b
-    → (before : Box (Vec Table Global) Global) (latest : Box Table Global) (t : Bor Table) → b.now ≡ Tables before latest
-    → slice_get (map table_within before.value.items ++ table_within latest.value ∷ []) n ≡ Some (table_within t.now)
+    → (tables : Box (Vec Table Global × Table) Global) (t : Bor Table) → b.now ≡ Tables tables
+    → slice_get (map table_within tables.value.0.items ++ table_within tables.value.1 ∷ []) n ≡ Some (table_within t.now)
     → ((s : ℕ) → ComesFrom (of_table from.start s (table_within t.now)) node)
     → (s : ℕ) → ComesFrom (λ q. node_origins s from (number n ∷ q)) node
-tables_come from node n b at before latest t is read comes s =
+tables_come from node n b at tables t is read comes s =
     subst (λ f. ComesFrom f node) (fun_ext (λ q. sym (ap (λ spot. spot_origins spot from.start s (number n ∷ q)) at
     ∙ ap (λ i. item_origins i from.start s (number n ∷ q)) is
-    ∙ ap (λ f. f (number n ∷ q)) (tables_seen before latest from.start s)
+    ∙ ap (λ f. f (number n ∷ q)) (tables_seen tables from.start s)
     ∙ ap (λ o. under o q) (read_mapped (of_table from.start s)
-    (map table_within before.value.items ++ table_within latest.value ∷ []) n (table_within t.now) read)))) (comes s)
+    (map table_within tables.value.0.items ++ table_within tables.value.1 ∷ []) n (table_within t.now) read)))) (comes s)
 
 -- the root, of which nothing is told
 pub root_comes : (tree : Tree) (b : Bor Table) (at : ℕ) → b.now ≡ tree.root
@@ -300,10 +300,10 @@ item_own (Item-F.Table z) at s =
     own_of (item_origins (roll-Item (Item-F.Table z)) at s) (table_origin w.made at (section_in w s))
     (item_told (Item-F.Table z) at s) w.below (search (rules, the_lemmas))
     (λ apart. ap (λ made. table_origin made at (if made then w.section else s)) apart)
-item_own (Item-F.Tables y z) at s =
-    own_of (item_origins (roll-Item (Item-F.Tables y z)) at s) (array_origin at (table_within z.value).section)
-    (item_told (Item-F.Tables y z) at s)
-    (at_numbers (elements_within at s (map table_within y.value.items ++ table_within z.value ∷ [])))
+item_own (Item-F.Tables y) at s =
+    own_of (item_origins (roll-Item (Item-F.Tables y)) at s) (array_origin at (table_within y.value.1).section)
+    (item_told (Item-F.Tables y) at s)
+    (at_numbers (elements_within at s (map table_within y.value.0.items ++ table_within y.value.1 ∷ [])))
     (search (rules, the_lemmas)) (λ apart. absurd (false≢true (sym apart)))
 
 pub item_comes : (c : Child) (b : Bor Item) (count : ℕ) (spot : Spot) (at : ℕ) → b.now ≡ (out-Child c).item

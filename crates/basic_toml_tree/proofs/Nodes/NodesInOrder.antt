@@ -83,10 +83,10 @@ pub array_elements : (children : Vec Child Global)
     → elements_in (data_of (Array children)) ≡ map child_data children.items
 array_elements children = ap elements_in (array_data children) ∙ listed-items (map child_data children.items)
 
-pub tables_elements : (before : Box (Vec Table Global) Global) (latest : Box Table Global)
-    → elements_in (data_of (Tables before latest)) ≡ map table_data before.value.items ++ table_data latest.value ∷ []
-tables_elements before latest =
-    ap elements_in (tables_data before latest) ∙ listed-items (map table_data before.value.items ++ table_data latest.value ∷ [])
+pub tables_elements : (tables : Box (Vec Table Global × Table) Global)
+    → elements_in (data_of (Tables tables)) ≡ map table_data tables.value.0.items ++ table_data tables.value.1 ∷ []
+tables_elements tables =
+    ap elements_in (tables_data tables) ∙ listed-items (map table_data tables.value.0.items ++ table_data tables.value.1 ∷ [])
 
 table_members : (t : Table)
     → table_data t ≡ Data.table (members_of (map (λ p. (p.0, child_data p.1)) (out-Table t).entries))

@@ -110,11 +110,11 @@ array_trie children =
 inline_trie : (t : Box Table Global) → (d : Data) × (item_trie (roll-Item (Item-F.Inline t)) ≡ leaf d)
 inline_trie t = (tree_data (table_trie t.value), search (rules, the_lemmas))
 
-tables_trie : (before : Box (Vec Table Global) Global) (latest : Box Table Global)
-    → item_trie (Tables before latest)
-    ≡ trie (Some (standing.array (suc (length (map table_trie before.value.items))))) None
-    (by_numbers 0 (map table_trie before.value.items ++ table_trie latest.value ∷ []))
-tables_trie before latest = search (rules, the_lemmas)
+tables_trie : (tables : Box (Vec Table Global × Table) Global)
+    → item_trie (Tables tables)
+    ≡ trie (Some (standing.array (suc (length (map table_trie tables.value.0.items))))) None
+    (by_numbers 0 (map table_trie tables.value.0.items ++ table_trie tables.value.1 ∷ []))
+tables_trie tables = search (rules, the_lemmas)
 
 abbrev NothingOr : Step → Trie → Trie → Type 0
 NothingOr s from t = (below s from ≡ nothing) ⊎ (t ≡ below s from)
@@ -133,7 +133,7 @@ item_below i (Item-F.String z) t k u is own holds = absurd holds
 item_below i (Item-F.Escaped z) t k u is own holds = absurd holds
 item_below i (Item-F.Array z) t k u is own holds = absurd holds
 item_below i (Item-F.Plain z) t k u is own holds = absurd holds
-item_below i (Item-F.Tables z y) t k u is own holds = absurd holds
+item_below i (Item-F.Tables z) t k u is own holds = absurd holds
 
 spot_below : (spot : Spot) (t : Table) (k : List ℕ) (c : Child) → HoldsTable spot t → wraps_table spot ≡ false
     → value_at (out-Table t).entries k ≡ Some c → NothingOr (key k) (spot_trie spot) (child_trie c)
@@ -307,24 +307,24 @@ module _ (from node : Node) (n : ℕ) (b : Bor Item) (at : from.spot ≡ spots.I
       (λ start s. ap (λ spot. spot_origins spot start s) at ∙ ap (λ i. item_origins i start s) is ∙ plain_origins es start s)
       read
 
-  pub tables_stand : (before : Box (Vec Table Global) Global) (latest : Box Table Global) (t : Bor Table)
-      → b.now ≡ Tables before latest
-      → slice_get (map table_trie before.value.items ++ table_trie latest.value ∷ []) n ≡ Some (table_trie t.now)
-      → slice_get (map table_within before.value.items ++ table_within latest.value ∷ []) n ≡ Some (table_within t.now)
+  pub tables_stand : (tables : Box (Vec Table Global × Table) Global) (t : Bor Table)
+      → b.now ≡ Tables tables
+      → slice_get (map table_trie tables.value.0.items ++ table_trie tables.value.1 ∷ []) n ≡ Some (table_trie t.now)
+      → slice_get (map table_within tables.value.0.items ++ table_within tables.value.1 ∷ []) n ≡ Some (table_within t.now)
       → slice_get (elements_in (node_data from)) n ≡ Some (node_data node)
       → IsBeside from (spots.Table t) node → node.start ≡ from.start → StandsOn from (number n) node
-  tables_stand before latest t is found read held beside start tree p stands =
+  tables_stand tables t is found read held beside start tree p stands =
       let counted : (node.count == 0) ≡ false =
       ap (λ c. c == 0) beside.count ∙ stands.root ∙ no_array_root from tree p stands
-      (ap tells_table (array_spot from b (Tables before latest) at is ∙ tables_trie before latest)) in
-      let here = array_spot from b (Tables before latest) at is ∙ tables_trie before latest in
+      (ap tells_table (array_spot from b (Tables tables) at is ∙ tables_trie tables)) in
+      let here = array_spot from b (Tables tables) at is ∙ tables_trie tables in
       let there : spot_trie node.spot ≡ below (number n) (spot_trie from.spot) =
       ap spot_trie beside.spot
       ∙ sym (ap (below (number n)) here
-      ∙ find_number 0 n n (map table_trie before.value.items ++ table_trie latest.value ∷ []) (table_trie t.now) (omega arith)
+      ∙ find_number 0 n n (map table_trie tables.value.0.items ++ table_trie tables.value.1 ∷ []) (table_trie t.now) (omega arith)
       found) in
       stands_on from node (number n) beside.tree held (λ own. inr (there, ap wraps_table beside.spot))
-      (λ s. tables_come from node n b at before latest t is read
+      (λ s. tables_come from node n b at tables t is read
       (λ s. table_node_comes t node from.start s beside.spot start counted) s) tree p stands counted
       (kept_beside from node n tree p beside.outer stands)
       (count_beside from node (spots.Table t) n beside tree p stands)

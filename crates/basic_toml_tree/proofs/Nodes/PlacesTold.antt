@@ -119,7 +119,7 @@ literal_name count (spots.Item b) not = go (out-Item b.now) not
     go (Item-F.Plain z) not = refl
     go (Item-F.Inline z) not = refl
     go (Item-F.Table z) not = refl
-    go (Item-F.Tables y z) not = absurd (false≢true (sym not))
+    go (Item-F.Tables y) not = absurd (false≢true (sym not))
 literal_name count (spots.Plain b) not =
     ap (λ v. names_array (raw_name (plain_of v))) (sym (raws.roll-out-Raw b.now)) ∙ go (raws.out-Raw b.now)
   where

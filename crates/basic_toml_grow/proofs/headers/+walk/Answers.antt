@@ -1,5 +1,5 @@
 use Rattle.std.proofs.Common.{◌≡◌, ℕ, ◌∷◌, ◌+◌, suc, ap, sym, ◌∙◌, arith, map, Option, option_map, subst}
-use Rattle.std.proofs.Common.{inr, refl, rules}
+use Rattle.std.proofs.Common.{inr, refl, rules, Vec, Global}
 use Rattle.std.specs.Prelude.{IfErr}
 use Rattle.std.proofs.lemmas.Bool.{false≢true}
 use Rattle.std.specs.Box as boxes
@@ -265,19 +265,19 @@ enter_item-returns-in-Tables-clause-entered t c =
     let rows = rows_view c.args.rows.now in
     let keys = header_texts c.args.rest.now in
     let there = c.args.there.now in
-    let before = c.in-Tables.field-0 in
-    let latest = c.in-Tables.latest in
-    let old = table_trie c.deref_mut-in-Tables.result.now in
-    let same : c.deref_mut-in-Tables.result.now ≡ latest.value =
-    c.deref_mut-in-Tables.ensures.value ∙ rw c.in-Tables.is refl in
+    let tables = c.in-Tables.tables in
+    let old = table_trie c.deref_mut-in-Tables.result.now.1 in
+    let same : c.deref_mut-in-Tables.result.now.1 ≡ tables.value.1 =
+    ap (λ (ts : Vec Table Global × Table). ts.1) {y = tables.value}
+    (c.deref_mut-in-Tables.ensures.value ∙ rw c.in-Tables.is (search (rules, items.the_lemmas))) in
     let steps : steps_by a keys (item_trie there) ≡ suc (suc (steps_to a keys old)) =
-    steps_into_latest a keys there before latest c.in-Tables.is
+    steps_into_latest a keys there tables c.in-Tables.is
     ∙ ap (λ t. suc (suc (steps_to a keys (table_trie t)))) (sym same) in
     item_by (entered_by a rows keys (item_trie there)) rows c.args.level ((c.args.level + 2) + steps_to a keys old)
     (steps_by a keys (item_trie there)) (walk a rows keys old) (table_trie c.enter_header-in-Tables.new.table) _
-    (λ u. array_of (map table_trie before.value.items) u) c.enter_header-in-Tables.result
-    (into_latest a rows keys there before latest c.in-Tables.is
-    ∙ ap (λ t. option_map (λ u. array_of (map table_trie before.value.items) u) (walk a rows keys (table_trie t)))
+    (λ u. array_of (map table_trie tables.value.0.items) u) c.enter_header-in-Tables.result
+    (into_latest a rows keys there tables c.in-Tables.is
+    ∙ ap (λ t. option_map (λ u. array_of (map table_trie tables.value.0.items) u) (walk a rows keys (table_trie t)))
     (sym same)) (omega (arith, steps))
     (rw c.in-Tables.is (search (rules, items.the_lemmas))) c.enter_header-in-Tables.ensures.entered
 
@@ -288,12 +288,13 @@ enter_item-returns-in-Tables-clause-named t c =
     let rows = rows_view c.args.rows.now in
     let keys = header_texts c.args.rest.now in
     let there = c.args.there.now in
-    let latest = c.in-Tables.latest in
-    let same : c.deref_mut-in-Tables.result.now ≡ latest.value =
-    c.deref_mut-in-Tables.ensures.value ∙ rw c.in-Tables.is refl in
+    let tables = c.in-Tables.tables in
+    let same : c.deref_mut-in-Tables.result.now.1 ≡ tables.value.1 =
+    ap (λ (ts : Vec Table Global × Table). ts.1) {y = tables.value}
+    (c.deref_mut-in-Tables.ensures.value ∙ rw c.in-Tables.is (search (rules, items.the_lemmas))) in
     subst (λ (o : Option Obstacle). IfErr c.enter_header-in-Tables.result (λ clash. NamesObstacle o clash))
     (ap (λ (t : Table). keys_obstacle a rows keys (c.args.level + 2) (table_trie t)) same
-    ∙ sym (met_in_latest a rows keys (c.args.level + 1) (c.args.level + 2) there c.in-Tables.field-0 latest
+    ∙ sym (met_in_latest a rows keys (c.args.level + 1) (c.args.level + 2) there tables
     (omega arith) c.in-Tables.is)) c.enter_header-in-Tables.ensures.named
 
 pub enter_item-returns-in-Tables-clause-origins : goal.enter_item-returns-in-Tables-clause-origins
@@ -302,13 +303,14 @@ enter_item-returns-in-Tables-clause-origins t c =
     let a = c.args.is_array in
     let keys = header_texts c.args.rest.now in
     let rows = rows_origins c.args.number (rows_view c.args.rows.now) in
-    let latest = c.in-Tables.latest in
+    let tables = c.in-Tables.tables in
     let now = c.enter_header-in-Tables.new.table in
-    let same : c.deref_mut-in-Tables.result.now ≡ latest.value =
-    c.deref_mut-in-Tables.ensures.value ∙ rw c.in-Tables.is refl in
+    let same : c.deref_mut-in-Tables.result.now.1 ≡ tables.value.1 =
+    ap (λ (ts : Vec Table Global × Table). ts.1) {y = tables.value}
+    (c.deref_mut-in-Tables.ensures.value ∙ rw c.in-Tables.is (search (rules, items.the_lemmas))) in
     ok_on _ _ c.enter_header-in-Tables.result
-    (λ x grows. latest_grows a keys rows c.args.there.now _ c.in-Tables.field-0 latest (boxes.with_value latest now)
-    c.in-Tables.is (rw c.in-Tables.is (search (rules, items.the_lemmas)))
+    (λ x grows. latest_grows a keys rows c.args.there.now _ tables (boxes.with_value tables (tables.value.0, now))
+    c.in-Tables.is (rw c.in-Tables.is (search (rules, items.the_lemmas))) refl
     (subst (λ (t : Table). GrowsAlong (way a keys (table_trie t)) rows (table_within t).below (table_within now).below)
     same grows)) c.enter_header-in-Tables.ensures.origins
 
@@ -317,13 +319,14 @@ unfolding out-Item out
 enter_item-returns-in-Tables-clause-marks t c =
     let a = c.args.is_array in
     let keys = header_texts c.args.rest.now in
-    let latest = c.in-Tables.latest in
+    let tables = c.in-Tables.tables in
     let now = c.enter_header-in-Tables.new.table in
-    let same : c.deref_mut-in-Tables.result.now ≡ latest.value =
-    c.deref_mut-in-Tables.ensures.value ∙ rw c.in-Tables.is refl in
+    let same : c.deref_mut-in-Tables.result.now.1 ≡ tables.value.1 =
+    ap (λ (ts : Vec Table Global × Table). ts.1) {y = tables.value}
+    (c.deref_mut-in-Tables.ensures.value ∙ rw c.in-Tables.is (search (rules, items.the_lemmas))) in
     ok_on _ _ c.enter_header-in-Tables.result
-    (λ x marks. latest_marks c.args.number a keys c.args.there.now _ c.in-Tables.field-0 latest
-    (boxes.with_value latest now) c.in-Tables.is (rw c.in-Tables.is (search (rules, items.the_lemmas)))
+    (λ x marks. latest_marks c.args.number a keys c.args.there.now _ tables
+    (boxes.with_value tables (tables.value.0, now)) c.in-Tables.is (rw c.in-Tables.is (search (rules, items.the_lemmas))) refl
     (subst (λ (t : Table). MarksTable c.args.number (way a keys (table_trie t)) (table_within now))
     same marks)) c.enter_header-in-Tables.ensures.marks
 

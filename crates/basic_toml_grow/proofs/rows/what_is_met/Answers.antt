@@ -11,4 +11,4 @@ returns-then-is_made-clause-named c =
 
 pub returns-in-Tables-clause-named : goal.returns-in-Tables-clause-named
 returns-in-Tables-clause-named c =
-    tables_stand c.args.there.now c.in-Tables.field-0 c.in-Tables.field-1 c.in-Tables.is
+    tables_stand c.args.there.now c.in-Tables.field-0 c.in-Tables.is

@@ -79,27 +79,30 @@ tables_of-loop-table-preserved t c =
 
 pub value_of-tables_of-requires : goal.value_of-tables_of-requires
 value_of-tables_of-requires t c =
-    let front = items_size-front (map table_data c.in-Tables.before.value.items) (table_data c.in-Tables.latest.value) in
-    let same = ap data_of c.in-Tables.is ∙ tables_data c.in-Tables.before c.in-Tables.latest in
+    let tables = c.in-Tables.tables in
+    let front = items_size-front (map table_data tables.value.0.items) (table_data tables.value.1) in
+    let same = ap data_of c.in-Tables.is ∙ tables_data tables in
     let slice = ap (λ ts. items_size (items_of (map table_data ts))) c.as_slice-in-Tables.ensures.value in
-    let earlier = ap (λ ts. items_size (items_of (map table_data ts.items))) c.deref-in-Tables.ensures in
+    let earlier = ap (λ ts. items_size (items_of (map table_data ts.0.items))) c.deref-in-Tables.ensures in
     (omega (arith, ap data_size same), tt)
 
 pub value_of-table_of-requires-in-Tables : goal.value_of-table_of-requires-in-Tables
 value_of-table_of-requires-in-Tables t c =
-    let last = items_size-last (map table_data c.in-Tables.before.value.items) (table_data c.in-Tables.latest.value) in
-    let same = ap data_of c.in-Tables.is ∙ tables_data c.in-Tables.before c.in-Tables.latest in
-    (omega (arith, ap data_size same, ap (λ t. data_size (table_data t)) c.deref-in-Tables-2.ensures), tt)
+    let tables = c.in-Tables.tables in
+    let last = items_size-last (map table_data tables.value.0.items) (table_data tables.value.1) in
+    let same = ap data_of c.in-Tables.is ∙ tables_data tables in
+    (omega (arith, ap data_size same, ap (λ ts. data_size (table_data ts.1)) c.deref-in-Tables-2.ensures), tt)
 
 pub value_of-returns-in_ok-push-in-Tables : goal.value_of-returns-in_ok-push-in-Tables
 value_of-returns-in_ok-push-in-Tables t c =
+    let tables = c.in-Tables.tables in
     array_seen c.push.new.self
     ∙ ap (λ ds. Data.array (items_of ds)) (tables_whole c.in_ok-elements-in-Tables.elements.items c.push.new.self.items
-    c.in-Tables.before.value.items _ c.in-Tables.latest.value c.in_ok-push-in-Tables.ensures.items
+    tables.value.0.items _ tables.value.1 c.in_ok-push-in-Tables.ensures.items
     (c.in_ok-elements-in-Tables.ensures ∙ ap (map table_data) c.as_slice-in-Tables.ensures.value
-    ∙ ap (λ ts. map table_data ts.items) c.deref-in-Tables.ensures)
-    (table_seen _ ∙ c.in_ok-table_of-in-Tables.ensures.table ∙ ap table_data c.deref-in-Tables-2.ensures))
-    ∙ sym (ap data_of c.in-Tables.is ∙ tables_data c.in-Tables.before c.in-Tables.latest)
+    ∙ ap (λ ts. map table_data ts.0.items) c.deref-in-Tables.ensures)
+    (table_seen _ ∙ c.in_ok-table_of-in-Tables.ensures.table ∙ ap (λ ts. table_data ts.1) c.deref-in-Tables-2.ensures))
+    ∙ sym (ap data_of c.in-Tables.is ∙ tables_data tables)
 
 pub value_of-returns-in_ok-plain_values-in-Plain : goal.value_of-returns-in_ok-plain_values-in-Plain
 value_of-returns-in_ok-plain_values-in-Plain t c =

@@ -143,29 +143,32 @@ into_inner_table-into_table-requires t c =
 
 pub into_array_of_tables-into_tables-requires : goal.into_array_of_tables-into_tables-requires
 into_array_of_tables-into_tables-requires t c =
-    let front = items_size-front (map table_data c.args.before.value.items) (table_data c.args.latest.value) in
-    let earlier = ap (λ ts. items_size (items_of (map table_data ts.items))) c.into_inner-earlier.ensures in
-    (omega (arith, ap data_size (tables_data c.args.before c.args.latest)), tt)
+    let both = c.args.tables.value in
+    let front = items_size-front (map table_data both.0.items) (table_data both.1) in
+    let earlier = ap (λ ts. items_size (items_of (map table_data ts.0.items))) c.into_inner-earlier.ensures in
+    (omega (arith, ap data_size (tables_data c.args.tables)), tt)
 
 pub into_array_of_tables-into_table-requires : goal.into_array_of_tables-into_table-requires
 into_array_of_tables-into_table-requires t c =
-    let last = items_size-last (map table_data c.args.before.value.items) (table_data c.args.latest.value) in (
+    let both = c.args.tables.value in
+    let last = items_size-last (map table_data both.0.items) (table_data both.1) in (
       omega (
         arith,
-        ap data_size (tables_data c.args.before c.args.latest),
-        ap (λ t. data_size (table_data t)) c.into_inner.ensures,
+        ap data_size (tables_data c.args.tables),
+        ap (λ ts. data_size (table_data ts.1)) c.into_inner-earlier.ensures,
       ),
       tt,
     )
 
 pub into_array_of_tables-returns : goal.into_array_of_tables-returns
 into_array_of_tables-returns t c =
+    let both = c.args.tables.value in
     array_seen c.push.new.self
     ∙ ap (λ ds. Data.array (items_of ds)) (tables_whole c.in_ok-elements.elements.items c.push.new.self.items
-    c.args.before.value.items _ c.args.latest.value c.in_ok-push.ensures.items
-    (c.in_ok-elements.ensures ∙ ap (λ ts. map table_data ts.items) c.into_inner-earlier.ensures)
-    (table_seen _ ∙ c.in_ok-into_table.ensures.table ∙ ap table_data c.into_inner.ensures))
-    ∙ sym (tables_data c.args.before c.args.latest)
+    both.0.items _ both.1 c.in_ok-push.ensures.items
+    (c.in_ok-elements.ensures ∙ ap (λ ts. map table_data ts.0.items) c.into_inner-earlier.ensures)
+    (table_seen _ ∙ c.in_ok-into_table.ensures.table ∙ ap (λ ts. table_data ts.1) c.into_inner-earlier.ensures))
+    ∙ sym (tables_data c.args.tables)
 
 pub into_value-into_array-requires : goal.into_value-into_array-requires
 into_value-into_array-requires t c = (omega (arith, ap (λ i. data_size (data_of i)) c.in-Array.is), tt)

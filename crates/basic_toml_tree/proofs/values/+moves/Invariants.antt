@@ -17,7 +17,7 @@ abbrev pub decreases-into_inner_table : goal.decreases-into_inner_table
 decreases-into_inner_table l = 3 * data_size (table_data l.table.value) + 1
 
 abbrev pub decreases-into_array_of_tables : goal.decreases-into_array_of_tables
-decreases-into_array_of_tables l = 3 * data_size (data_of (Tables l.before l.latest)) + 1
+decreases-into_array_of_tables l = 3 * data_size (data_of (Tables l.tables)) + 1
 
 abbrev pub decreases-into_elements : goal.decreases-into_elements
 decreases-into_elements l = 3 * items_size (items_of (map child_data l.children.items))

@@ -40,14 +40,13 @@ returns-in-None-clause-data c =
 
 pub returns-in-Some-get-clause-data : goal.returns-in-Some-get-clause-data
 returns-in-Some-get-clause-data c =
-    let whole = c.as_slice-earlier.ensures.value ∙ ap (λ v. v.items) c.deref-in-Item-Tables.ensures in
-    let before = c.in-Item-Tables.before in
-    let latest = c.in-Item-Tables.latest in
-    let here : node_data c.args.self ≡ data_of (Tables c.in-Item-Tables.before c.in-Item-Tables.latest) = search (rules) in
+    let whole = c.as_slice-earlier.ensures.value ∙ ap (λ ts. ts.0.items) c.deref-in-Item-Tables.ensures in
+    let tables = c.in-Item-Tables.tables in
+    let here : node_data c.args.self ≡ data_of (Tables c.in-Item-Tables.tables) = search (rules) in
     let read = c.in-Some-get.ensures.lookup in
     ap (λ d. slice_get (elements_in d) c.args.at) here
-    ∙ ap (λ ds. slice_get ds c.args.at) (tables_elements before latest)
-    ∙ front_read (map table_data before.value.items) (table_data latest.value ∷ []) c.args.at
+    ∙ ap (λ ds. slice_get ds c.args.at) (tables_elements tables)
+    ∙ front_read (map table_data tables.value.0.items) (table_data tables.value.1 ∷ []) c.args.at
     (table_data c.in-Some-get.table.now)
     (ap (λ xs. slice_get (map table_data xs) c.args.at) (sym whole)
     ∙ mapped_read table_data c.as_slice-earlier.result.now c.args.at c.in-Some-get.table.now
@@ -56,36 +55,35 @@ returns-in-Some-get-clause-data c =
 
 pub returns-then-at-earlier-clause-data : goal.returns-then-at-earlier-clause-data
 returns-then-at-earlier-clause-data c =
-    let whole = c.as_slice-earlier.ensures.value ∙ ap (λ v. v.items) c.deref-in-Item-Tables.ensures in
-    let before = c.in-Item-Tables.before in
-    let latest = c.in-Item-Tables.latest in
-    let here : node_data c.args.self ≡ data_of (Tables c.in-Item-Tables.before c.in-Item-Tables.latest) = search (rules) in
-    let at : c.args.at ≡ length (map table_data c.in-Item-Tables.before.value.items) =
+    let whole = c.as_slice-earlier.ensures.value ∙ ap (λ ts. ts.0.items) c.deref-in-Item-Tables.ensures in
+    let tables = c.in-Item-Tables.tables in
+    let here : node_data c.args.self ≡ data_of (Tables c.in-Item-Tables.tables) = search (rules) in
+    let at : c.args.at ≡ length (map table_data c.in-Item-Tables.tables.value.0.items) =
     c.if-at-earlier.true
     ∙ ap length whole
-    ∙ sym (mapped_length table_data c.in-Item-Tables.before.value.items) in
+    ∙ sym (mapped_length table_data c.in-Item-Tables.tables.value.0.items) in
     ap (λ d. slice_get (elements_in d) c.args.at) here
-    ∙ ap (λ ds. slice_get ds c.args.at) (tables_elements before latest)
-    ∙ ap (λ i. slice_get (map table_data before.value.items ++ table_data latest.value ∷ []) i) at
-    ∙ last_read (map table_data before.value.items) (table_data latest.value)
-    ∙ ap (λ t. Some (table_data t)) (sym c.deref-then-at-earlier.ensures)
+    ∙ ap (λ ds. slice_get ds c.args.at) (tables_elements tables)
+    ∙ ap (λ i. slice_get (map table_data tables.value.0.items ++ table_data tables.value.1 ∷ []) i) at
+    ∙ last_read (map table_data tables.value.0.items) (table_data tables.value.1)
+    ∙ ap (λ t. Some (table_data t)) (sym (ap (λ ts. ts.1) c.deref-then-at-earlier.ensures))
     ∙ ap Some (sym c.element_table-then-at-earlier.ensures.«data»)
 
 pub returns-else-at-earlier-clause-data : goal.returns-else-at-earlier-clause-data
 returns-else-at-earlier-clause-data c =
-    let whole = c.as_slice-earlier.ensures.value ∙ ap (λ v. v.items) c.deref-in-Item-Tables.ensures in
-    let here : node_data c.args.self ≡ data_of (Tables c.in-Item-Tables.before c.in-Item-Tables.latest) = search (rules) in
+    let whole = c.as_slice-earlier.ensures.value ∙ ap (λ ts. ts.0.items) c.deref-in-Item-Tables.ensures in
+    let here : node_data c.args.self ≡ data_of (Tables c.in-Item-Tables.tables) = search (rules) in
     let past = c.in-None-get.ensures.lookup.3 in
     let long : length (elements_in (node_data c.args.self))
-    ≡ length (map table_data c.in-Item-Tables.before.value.items ++ table_data c.in-Item-Tables.latest.value ∷ []) =
+    ≡ length (map table_data c.in-Item-Tables.tables.value.0.items ++ table_data c.in-Item-Tables.tables.value.1 ∷ []) =
     ap (λ d. length (elements_in d)) here
-    ∙ ap length (tables_elements c.in-Item-Tables.before c.in-Item-Tables.latest) in
+    ∙ ap length (tables_elements c.in-Item-Tables.tables) in
     omega (
       arith,
       past,
       long,
-      length-append (map table_data c.in-Item-Tables.before.value.items) (table_data c.in-Item-Tables.latest.value ∷ []),
-      mapped_length table_data c.in-Item-Tables.before.value.items,
+      length-append (map table_data c.in-Item-Tables.tables.value.0.items) (table_data c.in-Item-Tables.tables.value.1 ∷ []),
+      mapped_length table_data c.in-Item-Tables.tables.value.0.items,
       ap length whole,
       c.if-at-earlier.false,
     )
@@ -104,20 +102,19 @@ returns-in-Some-clause-stands c =
 
 pub returns-in-Some-get-clause-stands : goal.returns-in-Some-get-clause-stands
 returns-in-Some-get-clause-stands c =
-    let whole = c.as_slice-earlier.ensures.value ∙ ap (λ v. v.items) c.deref-in-Item-Tables.ensures in
-    let before = c.in-Item-Tables.before in
-    let latest = c.in-Item-Tables.latest in
+    let whole = c.as_slice-earlier.ensures.value ∙ ap (λ ts. ts.0.items) c.deref-in-Item-Tables.ensures in
+    let tables = c.in-Item-Tables.tables in
     let at : c.args.self.spot ≡ spots.Item c.in-Item-Tables.field-0 = search (rules) in
-    let is : c.in-Item-Tables.field-0.now ≡ Tables c.in-Item-Tables.before c.in-Item-Tables.latest = search (rules) in
+    let is : c.in-Item-Tables.field-0.now ≡ Tables c.in-Item-Tables.tables = search (rules) in
     let read = c.in-Some-get.ensures.lookup in
-    tables_stand c.args.self c.element_table.result c.args.at c.in-Item-Tables.field-0 at before latest
+    tables_stand c.args.self c.element_table.result c.args.at c.in-Item-Tables.field-0 at tables
     c.in-Some-get.table is
-    (front_read (map table_trie before.value.items) (table_trie latest.value ∷ []) c.args.at
+    (front_read (map table_trie tables.value.0.items) (table_trie tables.value.1 ∷ []) c.args.at
     (table_trie c.in-Some-get.table.now)
     (ap (λ xs. slice_get (map table_trie xs) c.args.at) (sym whole)
     ∙ mapped_read table_trie c.as_slice-earlier.result.now c.args.at c.in-Some-get.table.now
     read.3.0 read.1))
-    (front_read (map table_within before.value.items) (table_within latest.value ∷ []) c.args.at
+    (front_read (map table_within tables.value.0.items) (table_within tables.value.1 ∷ []) c.args.at
     (table_within c.in-Some-get.table.now)
     (ap (λ xs. slice_get (map table_within xs) c.args.at) (sym whole)
     ∙ mapped_read table_within c.as_slice-earlier.result.now c.args.at c.in-Some-get.table.now
@@ -126,25 +123,24 @@ returns-in-Some-get-clause-stands c =
 
 pub returns-then-at-earlier-clause-stands : goal.returns-then-at-earlier-clause-stands
 returns-then-at-earlier-clause-stands c =
-    let whole = c.as_slice-earlier.ensures.value ∙ ap (λ v. v.items) c.deref-in-Item-Tables.ensures in
-    let before = c.in-Item-Tables.before in
-    let latest = c.in-Item-Tables.latest in
+    let whole = c.as_slice-earlier.ensures.value ∙ ap (λ ts. ts.0.items) c.deref-in-Item-Tables.ensures in
+    let tables = c.in-Item-Tables.tables in
     let at : c.args.self.spot ≡ spots.Item c.in-Item-Tables.field-0 = search (rules) in
-    let is : c.in-Item-Tables.field-0.now ≡ Tables c.in-Item-Tables.before c.in-Item-Tables.latest = search (rules) in
-    let last : c.args.at ≡ length (map table_trie c.in-Item-Tables.before.value.items) =
+    let is : c.in-Item-Tables.field-0.now ≡ Tables c.in-Item-Tables.tables = search (rules) in
+    let last : c.args.at ≡ length (map table_trie c.in-Item-Tables.tables.value.0.items) =
     c.if-at-earlier.true
     ∙ ap length whole
-    ∙ sym (mapped_length table_trie c.in-Item-Tables.before.value.items) in
-    tables_stand c.args.self c.element_table-then-at-earlier.result c.args.at c.in-Item-Tables.field-0 at before latest
-    c.deref-then-at-earlier.result is
-    (ap (λ i. slice_get (map table_trie before.value.items ++ table_trie latest.value ∷ []) i) last
-    ∙ last_read (map table_trie before.value.items) (table_trie latest.value)
-    ∙ ap (λ t. Some (table_trie t)) (sym c.deref-then-at-earlier.ensures))
-    (ap (λ i. slice_get (map table_within before.value.items ++ table_within latest.value ∷ []) i)
-    (last ∙ mapped_length table_trie c.in-Item-Tables.before.value.items
-    ∙ sym (mapped_length table_within c.in-Item-Tables.before.value.items))
-    ∙ last_read (map table_within before.value.items) (table_within latest.value)
-    ∙ ap (λ t. Some (table_within t)) (sym c.deref-then-at-earlier.ensures))
+    ∙ sym (mapped_length table_trie c.in-Item-Tables.tables.value.0.items) in
+    tables_stand c.args.self c.element_table-then-at-earlier.result c.args.at c.in-Item-Tables.field-0 at tables
+    _ is
+    (ap (λ i. slice_get (map table_trie tables.value.0.items ++ table_trie tables.value.1 ∷ []) i) last
+    ∙ last_read (map table_trie tables.value.0.items) (table_trie tables.value.1)
+    ∙ ap (λ t. Some (table_trie t)) (sym (ap (λ ts. ts.1) c.deref-then-at-earlier.ensures)))
+    (ap (λ i. slice_get (map table_within tables.value.0.items ++ table_within tables.value.1 ∷ []) i)
+    (last ∙ mapped_length table_trie c.in-Item-Tables.tables.value.0.items
+    ∙ sym (mapped_length table_within c.in-Item-Tables.tables.value.0.items))
+    ∙ last_read (map table_within tables.value.0.items) (table_within tables.value.1)
+    ∙ ap (λ t. Some (table_within t)) (sym (ap (λ ts. ts.1) c.deref-then-at-earlier.ensures)))
     (returns-then-at-earlier-clause-data c) c.element_table-then-at-earlier.ensures.beside
     c.element_table-then-at-earlier.ensures.start
 

@@ -7,12 +7,12 @@ use Rattle.std.proofs.lemmas.List.Elements.{Contains-append_left, Contains-appen
 use Rattle.basic_toml_grammar.specs.Faults.{Fault}
 use Rattle.basic_toml_grammar.specs.Sections.{texts, Raw, Elements, no_elements, element, Rows, no_rows, row, Section}
 use Rattle.basic_toml_grammar.specs.NamedClash.{dotted_fault, dotted_faults, dotted_faults_in, dotted_faults_among}
-use Rattle.basic_toml_tree.specs.Crossed.{no_ends, and_end, crossed_after, crossed_between, crossed_of, crossed_among}
-use Rattle.basic_toml_tree.specs.Crossed.{crossed_within, crossed_in, first_crossed}
-use Rattle.basic_toml_tree.specs.KeyTree.{Ends, value_on}
-use Rattle.basic_toml_tree.proofs.RowsGoOn.{faults_between, value_faults, Reached, all_followed, row_followed}
-use Rattle.basic_toml_tree.proofs.RowsGoOn.{row_goes_on, reached_first, no_faults, own_is_fault, value_is_fault}
-use Rattle.basic_toml_tree.proofs.ValuesOnTheWay.{row_ends}
+use Rattle.basic_toml_grow.specs.Crossed.{no_ends, and_end, crossed_after, crossed_between, crossed_of, crossed_among}
+use Rattle.basic_toml_grow.specs.Crossed.{crossed_within, crossed_in, first_crossed}
+use Rattle.basic_toml_grow.specs.KeyTree.{Ends, value_on}
+use Rattle.basic_toml_grow.proofs.RowsGoOn.{faults_between, value_faults, Reached, all_followed, row_followed}
+use Rattle.basic_toml_grow.proofs.RowsGoOn.{row_goes_on, reached_first, no_faults, own_is_fault, value_is_fault}
+use Rattle.basic_toml_grow.proofs.ValuesOnTheWay.{row_ends}
 
 -- one of these faults, or none of them
 abbrev pub Tells : Option ℕ → List Fault → Type 0

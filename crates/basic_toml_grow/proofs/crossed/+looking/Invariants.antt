@@ -1,8 +1,8 @@
 use Rattle.std.proofs.Common.{◌≡◌, take, None}
 use Rattle.basic_toml_read.specs.SectionView.{lined_of, placed_of}
-use Rattle.basic_toml_tree.specs.Crossed.{crossed_of}
-use Rattle.basic_toml_tree.proofs.FirstGathered.{first_in}
-use Rattle.basic_toml_tree.proofs.crossed.+looking.Given as goal
+use Rattle.basic_toml_grow.specs.Crossed.{crossed_of}
+use Rattle.basic_toml_grow.proofs.FirstGathered.{first_in}
+use Rattle.basic_toml_grow.proofs.crossed.+looking.Given as goal
 
 -- nothing is crossed in the values passed
 abbrev pub invariant-look_through-loop-row : goal.invariant-look_through-loop-row

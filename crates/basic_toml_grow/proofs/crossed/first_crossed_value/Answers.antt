@@ -1,9 +1,9 @@
 use Rattle.std.proofs.Common.{sym, ◌∙◌}
 use Rattle.basic_toml_read.specs.SectionView.{section_of}
-use Rattle.basic_toml_tree.specs.Crossed.{crossed_in}
-use Rattle.basic_toml_tree.proofs.FirstGathered.{found_at, none_more, none_in_all}
-use Rattle.basic_toml_tree.proofs.RowsOfKeys.{section_values}
-use Rattle.basic_toml_tree.proofs.crossed.first_crossed_value.Goals as goal
+use Rattle.basic_toml_grow.specs.Crossed.{crossed_in}
+use Rattle.basic_toml_grow.proofs.FirstGathered.{found_at, none_more, none_in_all}
+use Rattle.basic_toml_grow.proofs.RowsOfKeys.{section_values}
+use Rattle.basic_toml_grow.proofs.crossed.first_crossed_value.Goals as goal
 
 pub returns-in-Some : goal.returns-in-Some
 returns-in-Some c =

@@ -1,13 +1,13 @@
 use Rattle.std.proofs.Common.{◌≡◌, ◌++◌, ◌∷◌, [], List, ℕ, sym, ap, ◌∙◌, subst, rules, slice_get}
 use Rattle.basic_toml_value.specs.Growth.{values_of}
-use Rattle.basic_toml_tree.specs.declared.crossed.KeyTree.{out-KeyTree}
+use Rattle.basic_toml_grow.specs.declared.crossed.KeyTree.{out-KeyTree}
 use Rattle.basic_toml_grammar.specs.Sections.{KeyTexts}
 use Rattle.basic_toml_read.specs.declared.section.Key as keys
 use Rattle.basic_toml_read.specs.SectionView.{header_texts}
-use Rattle.basic_toml_tree.specs.KeyTree.{ends_of, Follows, FollowsTo}
+use Rattle.basic_toml_grow.specs.KeyTree.{ends_of, Follows, FollowsTo}
 use Rattle.basic_toml_grow.proofs.WhatIsLeft.{nothing_left}
-use Rattle.basic_toml_tree.proofs.KeyTreeGrows.{filled, met_here, rolled_below, row_below, row_on}
-use Rattle.basic_toml_tree.proofs.crossed.+follow.Goals as goal
+use Rattle.basic_toml_grow.proofs.KeyTreeGrows.{filled, met_here, rolled_below, row_below, row_on}
+use Rattle.basic_toml_grow.proofs.crossed.+follow.Goals as goal
 
 pub returns-in-Some : goal.returns-in-Some
 returns-in-Some t c =

@@ -7,12 +7,12 @@ use Rattle.std.specs.Str.{bytes_eq}
 use Rattle.std.proofs.lemmas.Slice.Eq.{bytes_eq-Decides}
 use Rattle.basic_toml_value.specs.Pairs.{value_at}
 use Rattle.basic_toml_grammar.specs.Sections.{KeyTexts}
-use Rattle.basic_toml_tree.specs.declared.crossed.KeyTree.{KeyTree, out-KeyTree, roll-KeyTree, the_lemmas}
-use Rattle.basic_toml_tree.specs.declared.crossed.KeyTree.TheOpen.{KeyTree-F}
-use Rattle.basic_toml_tree.specs.declared.crossed.Crossed.{Crossed}
-use Rattle.basic_toml_tree.specs.declared.crossed.Crossed.TheVariants.{Memory, At}
-use Rattle.basic_toml_tree.specs.KeyTree.{Ends, ends_below, ends_from, ends_of, no_key_tree, value_on, Follows, FollowsTo}
-use Rattle.basic_toml_tree.proofs.ValuesOnTheWay.{same_on}
+use Rattle.basic_toml_grow.specs.declared.crossed.KeyTree.{KeyTree, out-KeyTree, roll-KeyTree, the_lemmas}
+use Rattle.basic_toml_grow.specs.declared.crossed.KeyTree.TheOpen.{KeyTree-F}
+use Rattle.basic_toml_grow.specs.declared.crossed.Crossed.{Crossed}
+use Rattle.basic_toml_grow.specs.declared.crossed.Crossed.TheVariants.{Memory, At}
+use Rattle.basic_toml_grow.specs.KeyTree.{Ends, ends_below, ends_from, ends_of, no_key_tree, value_on, Follows, FollowsTo}
+use Rattle.basic_toml_grow.proofs.ValuesOnTheWay.{same_on}
 use Rattle.basic_toml_value.specs.Growth.{with_value, values_of, FindsOrAdds}
 use Rattle.basic_toml_value.specs.declared.pairs.growth.Place.{Place}
 use Rattle.basic_toml_value.proofs.KeysChanged.{value_at-map, made_first, stood_or_fresh, put_at, kept_elsewhere}

@@ -10,7 +10,7 @@ use Rattle.basic_toml_read.specs.declared.section.Key as keys
 use Rattle.basic_toml_read.specs.declared.section.Row.{Row, out-Row}
 use Rattle.basic_toml_read.specs.SectionView.{Lined, key_of, lined_of, rows_from, rows_seen}
 use Rattle.basic_toml_read.proofs.NextRow.{lined_is}
-use Rattle.basic_toml_tree.proofs.RowsGoOn.{faults_between, KeysLeft, keys_left}
+use Rattle.basic_toml_grow.proofs.RowsGoOn.{faults_between, KeysLeft, keys_left}
 
 -- no row has more parents than the one before it
 abbrev pub Shrink : ℕ → List Lined → Type 0

@@ -9,13 +9,13 @@ use Rattle.basic_toml_read.specs.declared.section.Key as keys
 use Rattle.basic_toml_read.specs.declared.section.Row.{Row, out-Row}
 use Rattle.basic_toml_read.specs.SectionView.{Lined, key_of, lined_of, rows_from, header_texts}
 use Rattle.basic_toml_read.proofs.NextRow.{and_rows, lined_is}
-use Rattle.basic_toml_tree.specs.declared.crossed.KeyTree.{KeyTree}
-use Rattle.basic_toml_tree.specs.declared.crossed.Crossed.{Crossed}
-use Rattle.basic_toml_tree.specs.declared.crossed.Crossed.TheVariants.{Memory, At}
-use Rattle.basic_toml_tree.specs.Crossed.{same_keys, no_ends, and_end, crossed_after, crossed_between, Looks}
-use Rattle.basic_toml_tree.specs.KeyTree.{Ends, ends_of, no_key_tree, value_on, Follows, FollowsTo}
-use Rattle.basic_toml_tree.proofs.KeyTreeGrows.{nowhere}
-use Rattle.basic_toml_tree.proofs.ValuesOnTheWay.{same_on, follows_so}
+use Rattle.basic_toml_grow.specs.declared.crossed.KeyTree.{KeyTree}
+use Rattle.basic_toml_grow.specs.declared.crossed.Crossed.{Crossed}
+use Rattle.basic_toml_grow.specs.declared.crossed.Crossed.TheVariants.{Memory, At}
+use Rattle.basic_toml_grow.specs.Crossed.{same_keys, no_ends, and_end, crossed_after, crossed_between, Looks}
+use Rattle.basic_toml_grow.specs.KeyTree.{Ends, ends_of, no_key_tree, value_on, Follows, FollowsTo}
+use Rattle.basic_toml_grow.proofs.KeyTreeGrows.{nowhere}
+use Rattle.basic_toml_grow.proofs.ValuesOnTheWay.{same_on, follows_so}
 
 -- Rows are followed, and these are left.
 pub record Passed (all left : Rows) (tree : Ends) : Type 0 where

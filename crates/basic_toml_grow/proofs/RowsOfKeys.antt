@@ -10,8 +10,8 @@ use Rattle.basic_toml_read.specs.declared.section.Section as code
 use Rattle.basic_toml_grammar.specs.Sections.{Key, Section}
 use Rattle.basic_toml_read.specs.SectionView.{Lined, Placed, key_of, rows_from, elements_from}
 use Rattle.basic_toml_read.specs.SectionView.{raw_of, placed_of, lined_of, elements_view, rows_seen, section_of}
-use Rattle.basic_toml_tree.specs.Crossed.{crossed_of, crossed_among, crossed_within, crossed_in, first_crossed}
-use Rattle.basic_toml_tree.proofs.FirstGathered.{first_in}
+use Rattle.basic_toml_grow.specs.Crossed.{crossed_of, crossed_among, crossed_within, crossed_in, first_crossed}
+use Rattle.basic_toml_grow.proofs.FirstGathered.{first_in}
 
 values_of_lines : (parents : List Key) (ls : List Lined)
     → crossed_within (rows_from parents ls) ≡ first_in (λ l. crossed_of l.value) ls

@@ -3,10 +3,10 @@ use Rattle.std.specs.Prelude.{◌≡◌, ◌⊎◌, ⊤, ℕ, List, [], ◌∷�
 use Rattle.std.specs.Option.{option_or}
 use Rattle.basic_toml_value.specs.Pairs.{value_at}
 use Rattle.basic_toml_grammar.specs.Sections.{KeyTexts}
-use Rattle.basic_toml_tree.specs.declared.crossed.KeyTree.{KeyTree, fold-KeyTree, roll-KeyTree}
-use Rattle.basic_toml_tree.specs.declared.crossed.KeyTree.TheOpen.{KeyTree-F}
-use Rattle.basic_toml_tree.specs.declared.crossed.Crossed.{Crossed}
-use Rattle.basic_toml_tree.specs.declared.crossed.Crossed.TheVariants.{Memory, At}
+use Rattle.basic_toml_grow.specs.declared.crossed.KeyTree.{KeyTree, fold-KeyTree, roll-KeyTree}
+use Rattle.basic_toml_grow.specs.declared.crossed.KeyTree.TheOpen.{KeyTree-F}
+use Rattle.basic_toml_grow.specs.declared.crossed.Crossed.{Crossed}
+use Rattle.basic_toml_grow.specs.declared.crossed.Crossed.TheVariants.{Memory, At}
 
 -- where the first value begins that ends at a path
 abbrev pub Ends : Type 0

@@ -7,9 +7,9 @@ use Rattle.std.specs.Option.{option_or}
 use Rattle.std.specs.Str.{bytes_eq}
 use Rattle.basic_toml_grammar.specs.Sections.{KeyTexts, texts, Raw, Elements, no_elements, element, Rows, no_rows, row}
 use Rattle.basic_toml_grammar.specs.Sections.{Section}
-use Rattle.basic_toml_tree.specs.KeyTree.{Ends, value_on}
-use Rattle.basic_toml_tree.specs.declared.crossed.Crossed.{Crossed}
-use Rattle.basic_toml_tree.specs.declared.crossed.Crossed.TheVariants.{Memory, At}
+use Rattle.basic_toml_grow.specs.KeyTree.{Ends, value_on}
+use Rattle.basic_toml_grow.specs.declared.crossed.Crossed.{Crossed}
+use Rattle.basic_toml_grow.specs.declared.crossed.Crossed.TheVariants.{Memory, At}
 
 abbrev pub same_keys : KeyTexts → KeyTexts → Bool
 same_keys [] [] = true

@@ -4,13 +4,13 @@ use Rattle.std.specs.Option.{option_or}
 use Rattle.std.proofs.lemmas.Result.{err_from_is_err_and}
 use Rattle.basic_toml_read.specs.SectionView.{lined_of, placed_of, raw_of, rows_seen, elements_view}
 use Rattle.basic_toml_read.proofs.ViewsSeen.{array_of}
-use Rattle.basic_toml_tree.specs.Crossed.{crossed_between, crossed_among, crossed_within, crossed_in, crossed_of}
-use Rattle.basic_toml_tree.specs.Crossed.{Looks}
-use Rattle.basic_toml_tree.proofs.FirstGathered.{found_at, none_more, none_in_all, looks_more}
-use Rattle.basic_toml_tree.proofs.PlainRows.{none_crossed}
+use Rattle.basic_toml_grow.specs.Crossed.{crossed_between, crossed_among, crossed_within, crossed_in, crossed_of}
+use Rattle.basic_toml_grow.specs.Crossed.{Looks}
+use Rattle.basic_toml_grow.proofs.FirstGathered.{found_at, none_more, none_in_all, looks_more}
+use Rattle.basic_toml_grow.proofs.PlainRows.{none_crossed}
 use Rattle.basic_toml_read.proofs.NextRow.{lined_is}
-use Rattle.basic_toml_tree.proofs.RowsOfKeys.{placed_is, row_values, element_values}
-use Rattle.basic_toml_tree.proofs.crossed.+looking.Goals as goal
+use Rattle.basic_toml_grow.proofs.RowsOfKeys.{placed_is, row_values, element_values}
+use Rattle.basic_toml_grow.proofs.crossed.+looking.Goals as goal
 
 pub look_among-returns-in_err-look_into : goal.look_among-returns-in_err-look_into
 look_among-returns-in_err-look_into t c =

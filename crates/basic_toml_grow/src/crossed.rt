@@ -3,12 +3,12 @@
 ghost use Rattle.std.specs.Prelude.{◌≡◌, List, [], ◌∷◌, ◌++◌, None, false, IfOk, map};
 ghost use Rattle.basic_toml_read.specs.declared.section.Key as keys;
 ghost use Rattle.basic_toml_read.specs.SectionView.{elements_view, header_texts, raw_of, rows_seen, section_of};
-ghost use Rattle.basic_toml_tree.specs.Crossed.{crossed_between, crossed_among, crossed_in, crossed_of};
-ghost use Rattle.basic_toml_tree.specs.Crossed.{first_crossed, Looks};
-ghost use Rattle.basic_toml_tree.specs.KeyTree.{ends_of, Follows, FollowsTo, no_key_tree};
-ghost use Rattle.basic_toml_tree.specs.declared.crossed.Crossed.TheVariants.{Memory};
+ghost use Rattle.basic_toml_grow.specs.Crossed.{crossed_between, crossed_among, crossed_in, crossed_of};
+ghost use Rattle.basic_toml_grow.specs.Crossed.{first_crossed, Looks};
+ghost use Rattle.basic_toml_grow.specs.KeyTree.{ends_of, Follows, FollowsTo, no_key_tree};
+ghost use Rattle.basic_toml_grow.specs.declared.crossed.Crossed.TheVariants.{Memory};
 
-use basic_toml_grow::are_all_plain;
+use crate::simple::are_all_plain;
 use basic_toml_read::{Element, Key, Raw, Row, Section};
 use basic_toml_value::Pairs;
 use std::alloc::{AllocError, Global};
@@ -177,7 +177,7 @@ fn look_among(alloc: Global, elements: &[Element<'_>]) -> Result<(), Crossed>
 /// # Errors
 ///
 /// `AllocError` where memory is refused.
-pub(crate) fn crossed_value(alloc: Global, section: &Section<'_>) -> Result<Option<usize>, AllocError>
+pub fn crossed_value(alloc: Global, section: &Section<'_>) -> Result<Option<usize>, AllocError>
     ensures { IfOk result (λ found. found ≡ crossed_in (section_of section.now).rows) }
 {
     let rows = &section.rows;
@@ -193,7 +193,7 @@ pub(crate) fn crossed_value(alloc: Global, section: &Section<'_>) -> Result<Opti
 /// # Errors
 ///
 /// `AllocError` where memory is refused.
-pub(crate) fn first_crossed_value(
+pub fn first_crossed_value(
     alloc: Global,
     sections: &[Section<'_>],
 ) -> Result<Option<usize>, AllocError>

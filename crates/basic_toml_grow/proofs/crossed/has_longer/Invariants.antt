@@ -1,9 +1,9 @@
 use Rattle.std.proofs.Common.{◌≡◌, List, None, drop, map}
 use Rattle.basic_toml_read.specs.declared.section.Key as keys
 use Rattle.basic_toml_read.specs.SectionView.{lined_of, rows_seen}
-use Rattle.basic_toml_tree.specs.Crossed.{crossed_between}
-use Rattle.basic_toml_tree.proofs.RowsGetNoLonger.{Shrink}
-use Rattle.basic_toml_tree.proofs.crossed.has_longer.Given as goal
+use Rattle.basic_toml_grow.specs.Crossed.{crossed_between}
+use Rattle.basic_toml_grow.proofs.RowsGetNoLonger.{Shrink}
+use Rattle.basic_toml_grow.proofs.crossed.has_longer.Given as goal
 
 -- where the rows that are left get no longer, none of all goes on from a value
 abbrev pub invariant-loop-row : goal.invariant-loop-row

@@ -2,9 +2,9 @@ use Rattle.std.proofs.Common.{arith, map, List, sym, subst}
 use Rattle.std.proofs.lemmas.List.{drop_all}
 use Rattle.basic_toml_read.specs.declared.section.Row.{Row}
 use Rattle.basic_toml_read.specs.SectionView.{lined_of, rows_seen}
-use Rattle.basic_toml_tree.proofs.CrossedIsFault.{none_between}
-use Rattle.basic_toml_tree.proofs.RowsGetNoLonger.{Shrink, none_crosses, one_shrinks}
-use Rattle.basic_toml_tree.proofs.crossed.has_longer.Goals as goal
+use Rattle.basic_toml_grow.proofs.CrossedIsFault.{none_between}
+use Rattle.basic_toml_grow.proofs.RowsGetNoLonger.{Shrink, none_crosses, one_shrinks}
+use Rattle.basic_toml_grow.proofs.crossed.has_longer.Goals as goal
 
 pub loop-row-init : goal.loop-row-init
 loop-row-init c = λ shrink parents.

@@ -8,8 +8,8 @@ use Rattle.std.proofs.lemmas.Bool.{and_parts, false≢true}
 use Rattle.std.proofs.lemmas.Slice.Eq.{bytes_eq-Decides}
 use Rattle.basic_toml_value.proofs.DistinctKeys.{bytes_eq-same}
 use Rattle.basic_toml_grammar.specs.Sections.{KeyTexts}
-use Rattle.basic_toml_tree.specs.Crossed.{same_keys, and_end}
-use Rattle.basic_toml_tree.specs.KeyTree.{Ends, value_on, Follows}
+use Rattle.basic_toml_grow.specs.Crossed.{same_keys, and_end}
+use Rattle.basic_toml_grow.specs.KeyTree.{Ends, value_on, Follows}
 
 pub none_left : {A : Type 0} (a b : Option A) → option_or a b ≡ None → a ≡ None
 none_left None b e = refl

@@ -6,9 +6,9 @@ use Rattle.basic_toml_read.specs.declared.section.Key as keys
 use Rattle.basic_toml_read.specs.declared.section.Row.{Row, out-Row}
 use Rattle.basic_toml_read.specs.SectionView.{header_texts, key_of, lined_of, rows_from, rows_seen}
 use Rattle.basic_toml_read.proofs.NextRow.{next_row, parents_left}
-use Rattle.basic_toml_tree.specs.KeyTree.{ends_of}
-use Rattle.basic_toml_tree.proofs.RowIsFollowed.{Passed, none_passed, all_passed, gone_on, stopped}
-use Rattle.basic_toml_tree.proofs.crossed.follow_rows.Goals as goal
+use Rattle.basic_toml_grow.specs.KeyTree.{ends_of}
+use Rattle.basic_toml_grow.proofs.RowIsFollowed.{Passed, none_passed, all_passed, gone_on, stopped}
+use Rattle.basic_toml_grow.proofs.crossed.follow_rows.Goals as goal
 
 pub loop-row-init : goal.loop-row-init
 loop-row-init c = record {

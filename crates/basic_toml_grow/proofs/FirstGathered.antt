@@ -3,10 +3,10 @@ use Rattle.std.proofs.Common.{◌≡◌, ℕ, suc, zero, ◌+◌, ◌<◌, ◌�
 use Rattle.std.proofs.Common.{length, get_or, Option, Some, None, arith, Err}
 use Rattle.std.specs.Option.{option_or}
 use Rattle.std.proofs.lemmas.List.{take_more, take_all}
-use Rattle.basic_toml_tree.specs.declared.crossed.Crossed.{Crossed}
-use Rattle.basic_toml_tree.specs.declared.crossed.Crossed.TheVariants.{Memory, At}
-use Rattle.basic_toml_tree.specs.Crossed.{Looks}
-use Rattle.basic_toml_tree.proofs.ValuesOnTheWay.{none_left, none_right}
+use Rattle.basic_toml_grow.specs.declared.crossed.Crossed.{Crossed}
+use Rattle.basic_toml_grow.specs.declared.crossed.Crossed.TheVariants.{Memory, At}
+use Rattle.basic_toml_grow.specs.Crossed.{Looks}
+use Rattle.basic_toml_grow.proofs.ValuesOnTheWay.{none_left, none_right}
 
 module _ {A : Type 0} (f : A → Option ℕ) where
   abbrev pub first_in : List A → Option ℕ

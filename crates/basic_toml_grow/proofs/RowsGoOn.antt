@@ -10,9 +10,9 @@ use Rattle.basic_toml_grammar.specs.Sections.{Key, KeyTexts, texts, Raw, Rows, n
 use Rattle.basic_toml_grammar.specs.Steps.{Path, begins, properly_begins, steps_of}
 use Rattle.basic_toml_grammar.specs.Faults.{Fault}
 use Rattle.basic_toml_grammar.specs.NamedClash.{dotted_fault, extending_faults, dotted_faults, dotted_faults_in}
-use Rattle.basic_toml_tree.specs.Crossed.{no_ends}
-use Rattle.basic_toml_tree.specs.KeyTree.{Ends, Follows, value_on}
-use Rattle.basic_toml_tree.proofs.ValuesOnTheWay.{GoesOnFrom, goes_on_from, none_on}
+use Rattle.basic_toml_grow.specs.Crossed.{no_ends}
+use Rattle.basic_toml_grow.specs.KeyTree.{Ends, Follows, value_on}
+use Rattle.basic_toml_grow.proofs.ValuesOnTheWay.{GoesOnFrom, goes_on_from, none_on}
 
 -- the faults of rows among themselves, those in their values apart
 abbrev pub faults_between : Rows → List Fault

@@ -1,9 +1,9 @@
 use Rattle.std.proofs.Common.{◌≡◌, sym, ap, subst, ◌∙◌, Err, Some, ℕ}
 use Rattle.basic_toml_read.specs.SectionView.{rows_seen}
-use Rattle.basic_toml_tree.specs.declared.crossed.Crossed.{Crossed}
-use Rattle.basic_toml_tree.specs.Crossed.{crossed_in, Looks}
-use Rattle.basic_toml_tree.proofs.RowsOfKeys.{section_rows}
-use Rattle.basic_toml_tree.proofs.crossed.crossed_value.Goals as goal
+use Rattle.basic_toml_grow.specs.declared.crossed.Crossed.{Crossed}
+use Rattle.basic_toml_grow.specs.Crossed.{crossed_in, Looks}
+use Rattle.basic_toml_grow.proofs.RowsOfKeys.{section_rows}
+use Rattle.basic_toml_grow.proofs.crossed.crossed_value.Goals as goal
 
 pub returns-in-Ok : goal.returns-in-Ok
 returns-in-Ok c =
