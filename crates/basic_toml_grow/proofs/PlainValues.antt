@@ -3,7 +3,7 @@
 use Rattle.std.proofs.Common.{◌≡◌, ◌≤◌, ℕ, ◌+◌, Bool, true, false, List, [], ◌∷◌, map, None, refl, sym, ap}
 use Rattle.std.proofs.Common.{◌∙◌, subst, arith, rules}
 use Rattle.std.specs.Prelude.{⊤, ◌&&◌, nat_lt, string_bytes}
-use Rattle.std.proofs.lemmas.Bool.{false≢true}
+use Rattle.std.proofs.lemmas.Bool.{false≢true, and_parts}
 use Rattle.basic_toml_value.specs.Nesting.{nesting_limit}
 use Rattle.basic_toml_grammar.specs.Sections.{Elements, element}
 use Rattle.basic_toml_grammar.specs.Sections as sections
@@ -50,11 +50,6 @@ abbrev AllOf : List Element → Type 0
 AllOf es = (l : ℕ) → are_plain l es ≡ true
     → AllPlainAt l (elements_from (map placed_of es)) (listed (map listed_of es))
 
-both : (a b : Bool) → (a && b) ≡ true → (a ≡ true) × (b ≡ true)
-both true true is = (refl, refl)
-both true false is = absurd (false≢true is)
-both false b is = absurd (false≢true is)
-
 none_plain : (l : ℕ) → AllPlainAt l (elements_from []) (listed [])
 none_plain l = record { are = refl; apart = refl; none_crossed = refl; fit = omega arith }
 
@@ -78,7 +73,7 @@ all_of : (es : List ((e : Element) × OfElement e)) → AllOf (map (λ e. e.0) e
 all_of [] l plain = none_plain l
 all_of (e ∷ es) l plain =
     let rest = map (λ (e : (e : Element) × OfElement e). e.0) es in
-    let p = both (is_plain_element e.0 l) (are_plain l rest) plain in
+    let p = and_parts (is_plain_element e.0 l) (are_plain l rest) plain in
     one_more l e.0 rest e.1 (all_of es) p.0 p.1
 
 abbrev Parts : Raw-F Raw Element Row Rows → Type 0
@@ -120,7 +115,7 @@ raw_is (Raw-F.Escaped text) parts l plain =
     (search (rules, the_lemmas)) refl refl (λ l. refl) l plain
 raw_is (Raw-F.Array es) parts l plain =
     let made : roll-Raw (Raw-F.Array es) ≡ Array es = search (rules, the_lemmas) in
-    let p = both (nat_lt l nesting_limit) (are_plain (l + 1) es.items)
+    let p = and_parts (nat_lt l nesting_limit) (are_plain (l + 1) es.items)
     (sym (ap (λ v. is_plain v l) made ∙ array_is es l) ∙ plain) in
     let all = parts (l + 1) p.1 in
     let low : l + 1 ≤ nesting_limit = grind (arith, p.0) in
@@ -187,5 +182,5 @@ pub all_plain : (l : ℕ) (es : List Element) → are_plain l es ≡ true
     → AllPlainAt l (elements_view es) (listed (map listed_of es))
 all_plain l [] plain = none_plain l
 all_plain l (e ∷ es) plain =
-    let p = both (is_plain_element e l) (are_plain l es) plain in
+    let p = and_parts (is_plain_element e l) (are_plain l es) plain in
     one_more l e es (every_element e) (λ l q. all_plain l es q) p.0 p.1

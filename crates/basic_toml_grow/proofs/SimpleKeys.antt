@@ -1,14 +1,11 @@
 -- Simple rows: what each of them is, and that their keys differ.
 use Rattle.std.proofs.Common.{◌≡◌, ℕ, Bool, true, false, not, List, [], ◌∷◌, map, refl}
 use Rattle.std.specs.Prelude.{◌&&◌}
+use Rattle.std.proofs.lemmas.Bool.{and_parts}
 use Rattle.basic_toml_value.specs.Keys.{is_among, are_distinct}
 use Rattle.basic_toml_read.specs.declared.section.Row.{Row, out-Row}
 use Rattle.basic_toml_grow.specs.Plain.{is_plain}
 use Rattle.basic_toml_grow.specs.Simple.{are_simple, are_all_plain, key_of}
-
-both : (a b : Bool) → (a && b) ≡ true → (a ≡ true) × (b ≡ true)
-both true b is = (refl, is)
-both false b is = absurd (cc)
 
 no_more : (b : Bool) → not b ≡ true → b ≡ false
 no_more true is = absurd (cc)
@@ -22,8 +19,9 @@ pub record FirstIsSimple (l : ℕ) (r : Row) (rs : List Row) : Type 0 where
 
 pub first_is_simple : (l : ℕ) (r : Row) (rs : List Row) → are_simple l (r ∷ rs) ≡ true → FirstIsSimple l r rs
 first_is_simple l r rs simple =
-    let a = both (is_plain (out-Row r).value l && not (is_among (map key_of rs) (key_of r))) (are_simple l rs) simple in
-    let b = both (is_plain (out-Row r).value l) (not (is_among (map key_of rs) (key_of r))) a.0 in
+    let here = is_plain (out-Row r).value l && not (is_among (map key_of rs) (key_of r)) in
+    let a = and_parts here (are_simple l rs) simple in
+    let b = and_parts (is_plain (out-Row r).value l) (not (is_among (map key_of rs) (key_of r))) a.0 in
     record { plain = b.0; apart = no_more (is_among (map key_of rs) (key_of r)) b.1; others = a.1 }
 
 pub keys_differ : (l : ℕ) (rows : List Row) → are_simple l rows ≡ true → are_distinct (map key_of rows) ≡ true
@@ -37,6 +35,6 @@ pub simple_from_plain : (l : ℕ) (rows : List Row) → are_all_plain l rows ≡
     → are_distinct (map key_of rows) ≡ true → are_simple l rows ≡ true
 simple_from_plain l [] plain distinct = refl
 simple_from_plain l (r ∷ rs) plain distinct =
-    let a = both (is_plain (out-Row r).value l) (are_all_plain l rs) plain in
-    let b = both (not (is_among (map key_of rs) (key_of r))) (are_distinct (map key_of rs)) distinct in
+    let a = and_parts (is_plain (out-Row r).value l) (are_all_plain l rs) plain in
+    let b = and_parts (not (is_among (map key_of rs) (key_of r))) (are_distinct (map key_of rs)) distinct in
     rw (a.0, b.0) (simple_from_plain l rs a.1 b.1)

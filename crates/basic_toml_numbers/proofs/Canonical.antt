@@ -4,7 +4,7 @@ use Rattle.std.proofs.Common.{List, [], ◌∷◌, codes, refl, sym, ap, ◌∙�
 use Rattle.std.specs.Char.{is_digit}
 use Rattle.std.specs.List.{list_all}
 use Rattle.std.specs.Str.{bytes_eq, IsAscii}
-use Rattle.std.proofs.lemmas.Bool.{cases_Bool, eqb-true}
+use Rattle.std.proofs.lemmas.Bool.{cases_Bool, eqb-true, and_parts, or_cases}
 use Rattle.std.proofs.lemmas.Bool.Decides.{nat_tests}
 use Rattle.std.proofs.Math.Bool.{or-true}
 use Rattle.std.proofs.lemmas.Slice.Eq.{bytes_eq-Decides}
@@ -12,7 +12,6 @@ use Rattle.basic_toml_numbers.specs.Numbers.{plus, minus, period, underscore, is
 use Rattle.basic_toml_numbers.specs.Numbers.{is_digits, is_whole, without_sign, is_part, part_of, after_part}
 use Rattle.basic_toml_numbers.specs.Numbers.{is_exponent, is_tail, is_special, is_unsigned_float, canonical}
 use Rattle.basic_toml_numbers.specs.Numbers.{is_canonical, stays}
-use Rattle.basic_toml_numbers.proofs.Booleans.{and_cases, or_cases}
 
 digit_range : (c : ℕ) → is_digit c 10 ≡ true → (48 ≤ c) × (c ≤ 57)
 digit_range c is = grind (arith, nat_tests)
@@ -46,7 +45,7 @@ canonical-canonical (c ∷ cs) =
 pub canonical_of_staying : (cs : List ℕ) → IsTrue (list_all stays cs) → canonical cs ≡ cs
 canonical_of_staying [] all = refl
 canonical_of_staying (c ∷ cs) all =
-    let parts = and_cases (stays c) (list_all stays cs) all in
+    let parts = and_parts (stays c) (list_all stays cs) all in
     canonical-keeps c cs (grind (arith, parts.0, nat_tests)) (grind (arith, parts.0, nat_tests))
     ∙ ap (λ rest. c ∷ rest) (canonical_of_staying cs parts.1)
 
@@ -183,7 +182,7 @@ power-canonical (c ∷ cs) is =
 is_exponent-canonical : (cs : List ℕ) → is_exponent cs ≡ true → is_exponent (canonical cs) ≡ true
 is_exponent-canonical [] is = is
 is_exponent-canonical (c ∷ cs) is =
-    let parts = and_cases (is_exponent_letter c) (is_digits 10 (without_sign cs)) is in
+    let parts = and_parts (is_exponent_letter c) (is_digits 10 (without_sign cs)) is in
     elim (exponent_letter_cases c parts.0) [
       | inl small ↦ rw small (power-canonical cs parts.1)
       | inr large ↦
@@ -193,13 +192,13 @@ is_exponent-canonical (c ∷ cs) is =
 exponent_stops : (cs : List ℕ) → is_exponent cs ≡ true → may_stop cs ≡ true
 exponent_stops [] is = refl
 exponent_stops (c ∷ cs) is =
-    let parts = and_cases (is_exponent_letter c) (is_digits 10 (without_sign cs)) is in
+    let parts = and_parts (is_exponent_letter c) (is_digits 10 (without_sign cs)) is in
     elim (exponent_letter_cases c parts.0) [ inl small ↦ rw small refl | inr large ↦ rw large refl ]
 
 exponent_is_tail : (cs : List ℕ) → is_exponent cs ≡ true → is_tail cs ≡ true
 exponent_is_tail [] is = is
 exponent_is_tail (c ∷ cs) is =
-    let parts = and_cases (is_exponent_letter c) (is_digits 10 (without_sign cs)) is in
+    let parts = and_parts (is_exponent_letter c) (is_digits 10 (without_sign cs)) is in
     elim (exponent_letter_cases c parts.0) [
       | inl small ↦ rw small (rw small at is)
       | inr large ↦
@@ -230,7 +229,7 @@ is_tail-canonical [] is = absurd (cc)
 is_tail-canonical (c ∷ cs) is =
     elim (cases_Bool (c == period)) [
       | inl dot ↦
-          let parts = and_cases (is_digits 10 (part_of cs)) (is_end (after_part cs)) (rw dot at is) in
+          let parts = and_parts (is_digits 10 (part_of cs)) (is_end (after_part cs)) (rw dot at is) in
           let inner = parts-canonical cs (end_stops (after_part cs) parts.1) in
           let c_is = eqb-true c 46 dot in (
             rw (c_is, inner.0, inner.1, goes_on-canonical true (part_of cs) parts.0)
@@ -261,7 +260,7 @@ is_unsigned_float-canonical cs is =
     elim (or_cases (is_special cs) (is_number cs) is) [
       | inl special ↦ elim (special_cases cs special) [ inl infinite ↦ rw infinite refl | inr none ↦ rw none refl ]
       | inr number ↦
-          let parts = and_cases (is_whole (part_of cs)) (is_tail (after_part cs)) number in
+          let parts = and_parts (is_whole (part_of cs)) (is_tail (after_part cs)) number in
           let tail = is_tail-canonical (after_part cs) parts.1 in
           let inner = parts-canonical cs tail.1 in
           rw (inner.0, inner.1, is_whole-canonical (part_of cs) parts.0, tail.0, or-true) refl
@@ -285,7 +284,7 @@ unsigned-canonical (c ∷ cs) is =
     elim (or_cases (is_special (c ∷ cs)) (is_number (c ∷ cs)) is) [
       | inl special ↦ special-canonical (c ∷ cs) (special_cases (c ∷ cs) special)
       | inr number ↦ unsigned-digit c cs
-          (whole_digit c cs (and_cases (is_whole (part_of (c ∷ cs))) (is_tail (after_part (c ∷ cs))) number).0)
+          (whole_digit c cs (and_parts (is_whole (part_of (c ∷ cs))) (is_tail (after_part (c ∷ cs))) number).0)
     ]
 
 without_sign-canonical : (cs : List ℕ) → is_unsigned_float (without_sign cs) ≡ true
@@ -354,7 +353,7 @@ is_ascii-without_sign (c ∷ cs) is =
 is_ascii-exponent : (cs : List ℕ) → is_exponent cs ≡ true → IsAscii cs
 is_ascii-exponent [] is = λ i. omega arith
 is_ascii-exponent (c ∷ cs) is =
-    let parts = and_cases (is_exponent_letter c) (is_digits 10 (without_sign cs)) is in
+    let parts = and_parts (is_exponent_letter c) (is_digits 10 (without_sign cs)) is in
     let more = is_ascii-without_sign cs (is_ascii-goes_on true (without_sign cs) parts.1) in
     elim (exponent_letter_cases c parts.0) [
       | inl small ↦ is_ascii-cons c cs (omega arith) more
@@ -374,7 +373,7 @@ is_ascii-tail [] is = absurd (cc)
 is_ascii-tail (c ∷ cs) is =
     elim (cases_Bool (c == period)) [
       | inl dot ↦
-          let parts = and_cases (is_digits 10 (part_of cs)) (is_end (after_part cs)) (rw dot at is) in
+          let parts = and_parts (is_digits 10 (part_of cs)) (is_end (after_part cs)) (rw dot at is) in
           let c_is = eqb-true c 46 dot in
           is_ascii-cons c cs (omega arith)
           (is_ascii-parts cs (is_ascii-goes_on true (part_of cs) parts.0) (is_ascii-end (after_part cs) parts.1))
@@ -394,6 +393,6 @@ is_ascii-float cs is =
     let word = without_sign cs in
     is_ascii-without_sign cs (elim (or_cases (is_special word) (is_number word) is) [
       | inl special ↦ is_ascii-special word (special_cases word special)
-      | inr number ↦ let parts = and_cases (is_whole (part_of word)) (is_tail (after_part word)) number in
+      | inr number ↦ let parts = and_parts (is_whole (part_of word)) (is_tail (after_part word)) number in
           is_ascii-parts word (is_ascii-whole (part_of word) parts.0) (is_ascii-tail (after_part word) parts.1)
     ])

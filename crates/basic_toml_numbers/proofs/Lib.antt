@@ -1,4 +1,3 @@
-pub mod Booleans
 pub mod Canonical
 pub mod Digits
 pub mod KeptInPlace

@@ -4,7 +4,7 @@ use Rattle.std.proofs.Common.{refl, sym, ap, ap₂, ◌∙◌, subst, arith}
 use Rattle.std.specs.List.{list_all, slice_get}
 use Rattle.std.specs.List.Sorted.{IsPermutation}
 use Rattle.std.specs.Str.{bytes_eq}
-use Rattle.std.proofs.lemmas.Bool.{ltb-true, lt-ltb}
+use Rattle.std.proofs.lemmas.Bool.{ltb-true, lt-ltb, and_parts, and_from}
 use Rattle.std.proofs.lemmas.Option.{slice_get_within}
 use Rattle.std.proofs.lemmas.List.{map-append, length-map, length-append, length-take-le, take_more, get_or-take, length-drop}
 use Rattle.std.proofs.Math.Seq.{take-add}
@@ -18,7 +18,6 @@ use Rattle.basic_toml_value.specs.Index.{IsRow, IsSorted, IsPlace}
 use Rattle.basic_toml_value.specs.SlotOrder.{IsRun, IsRunOfFirst, AreFirst, is_low, is_before}
 use Rattle.basic_toml_value.specs.declared.index.Gap.{Gap}
 use Rattle.basic_toml_value.specs.declared.index.leaves.Slot.{Slot}
-use Rattle.basic_toml_numbers.proofs.Booleans.{and_cases, and_true}
 use Rattle.basic_toml_value.proofs.RunsMerged.{run_append, all_moved, all_more}
 use Rattle.basic_toml_value.proofs.SlotsSorted.{distinct_moved, rising_distinct}
 use Rattle.basic_toml_value.proofs.SlotsInLeaves.{joined-map, located}
@@ -29,8 +28,8 @@ use Rattle.basic_toml_value.proofs.IndexGrows.{IsRow-insert, slot_in}
 low_more : (n m : ℕ) (slots : List Slot) → n ≤ m → list_all (is_low n) slots ≡ true → list_all (is_low m) slots ≡ true
 low_more n m [] few low = refl
 low_more n m (s ∷ ss) few low =
-    let parts = and_cases (is_low n s) (list_all (is_low n) ss) low in
-    and_true (is_low m s) (list_all (is_low m) ss)
+    let parts = and_parts (is_low n s) (list_all (is_low n) ss) low in
+    and_from (is_low m s) (list_all (is_low m) ss)
     (lt-ltb s.position m (omega (arith, ltb-true s.position n parts.0, few))) (low_more n m ss few parts.1)
 
 -- the first text
@@ -40,8 +39,8 @@ run_of_one keys slot some at sound =
     let one : take 1 keys ≡ key_of keys slot ∷ [] =
     take_more keys 0 [] some ∙ ap (λ p. get_or keys p [] ∷ []) (sym at) in
     record {
-      run = record { sound = and_true (is_sound keys slot) true sound refl; rising = refl };
-      low = and_true (is_low 1 slot) true (lt-ltb slot.position 1 (omega (arith, at))) refl;
+      run = record { sound = and_from (is_sound keys slot) true sound refl; rising = refl };
+      low = and_from (is_low 1 slot) true (lt-ltb slot.position 1 (omega (arith, at))) refl;
       all = subst (λ (ks : List (List ℕ)). IsPermutation ks (key_of keys slot ∷ [])) (sym one)
           (IsPermutation-refl (key_of keys slot ∷ []));
       within = omega (arith, some);
@@ -56,7 +55,7 @@ run_push keys count slots slot within at sound some before first =
     let key = key_of keys in
     let one : take (count + 1) keys ≡ take count keys ++ key slot ∷ [] =
     take_more keys count [] within ∙ ap (λ p. take count keys ++ get_or keys p [] ∷ []) (sym at) in
-    let alone : IsRun keys (slot ∷ []) = record { sound = and_true (is_sound keys slot) true sound refl; rising = refl } in
+    let alone : IsRun keys (slot ∷ []) = record { sound = and_from (is_sound keys slot) true sound refl; rising = refl } in
     record {
       run = run_append keys slots (slot ∷ []) first.run alone some (omega arith) before;
       low = all_more (is_low (count + 1)) slots (slots ++ slot ∷ []) slot refl
@@ -87,7 +86,7 @@ run_merged keys count next run part more few within first keyed low moved is =
       run = is;
       low = all_moved (is_low next) (run ++ part) more moved
           (list_all-append (is_low next) run part
-          ∙ and_true (list_all (is_low next) run) (list_all (is_low next) part) (low_more count next run few first.low) low);
+          ∙ and_from (list_all (is_low next) run) (list_all (is_low next) part) (low_more count next run few first.low) low);
       all = subst (λ (ks : List (List ℕ)). IsPermutation ks (map key more)) (sym split)
           (IsPermutation-trans (take count keys ++ part_keys) (map key (run ++ part)) (map key more)
           (subst (λ (ks : List (List ℕ)). IsPermutation (take count keys ++ part_keys) ks) (sym (map-append key run part))
@@ -211,8 +210,8 @@ low_key keys count slot within low = get_or-take count keys slot.position [] (lt
 low_sound : (keys : List (List ℕ)) (count : ℕ) (slot : Slot) → count ≤ length keys → is_low count slot ≡ true
     → is_sound keys slot ≡ true → is_sound (take count keys) slot ≡ true
 low_sound keys count slot within low sound =
-    let parts = and_cases (nat_lt slot.position (length keys)) (slot.ending == ending_of (key_of keys slot)) sound in
-    and_true (nat_lt slot.position (length (take count keys))) (slot.ending == ending_of (key_of (take count keys) slot))
+    let parts = and_parts (nat_lt slot.position (length keys)) (slot.ending == ending_of (key_of keys slot)) sound in
+    and_from (nat_lt slot.position (length (take count keys))) (slot.ending == ending_of (key_of (take count keys) slot))
     (lt-ltb slot.position (length (take count keys))
     (omega (arith, length-take-le count keys within, ltb-true slot.position count low)))
     (ap (λ k. slot.ending == ending_of k) (low_key keys count slot within low) ∙ parts.1)
@@ -222,10 +221,10 @@ all_low_sound : (keys : List (List ℕ)) (count : ℕ) (slots : List Slot) → c
     → (list_all (is_sound (take count keys)) slots ≡ true) × (map (key_of (take count keys)) slots ≡ map (key_of keys) slots)
 all_low_sound keys count [] within low sound = (refl, refl)
 all_low_sound keys count (s ∷ ss) within low sound =
-    let l = and_cases (is_low count s) (list_all (is_low count) ss) low in
-    let d = and_cases (is_sound keys s) (list_all (is_sound keys) ss) sound in
+    let l = and_parts (is_low count s) (list_all (is_low count) ss) low in
+    let d = and_parts (is_sound keys s) (list_all (is_sound keys) ss) sound in
     let rest = all_low_sound keys count ss within l.1 d.1 in (
-      and_true (is_sound (take count keys) s) (list_all (is_sound (take count keys)) ss)
+      and_from (is_sound (take count keys) s) (list_all (is_sound (take count keys)) ss)
           (low_sound keys count s within l.0 d.0) rest.0,
       ap₂ (λ k ks. k ∷ ks) (low_key keys count s within l.0) rest.1,
     )
@@ -251,7 +250,7 @@ sorted_first keys count leaves first =
 pub count_some : (keys : List (List ℕ)) (count : ℕ) (leaves : List (List Slot)) → AreFirst keys count leaves → 0 < count
 count_some keys count [] first = absurd (omega (arith, first.some))
 count_some keys count (l ∷ ls) first =
-    let filled = and_cases (nat_lt 0 (length l)) (are_filled ls) first.filled in
+    let filled = and_parts (nat_lt 0 (length l)) (are_filled ls) first.filled in
     let low = ltb-true 0 (length l) filled.0 in
     let all = length-append l (joined ls) in
     omega (arith, low, all, run_length keys count (l ++ joined ls) first.first)

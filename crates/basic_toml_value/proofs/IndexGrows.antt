@@ -11,7 +11,7 @@ use Rattle.basic_toml_value.specs.Index.{is_sound, leaf_keys, row_of, joined, be
 use Rattle.basic_toml_value.specs.Index.{IsSorted, IsPlace}
 use Rattle.basic_toml_value.specs.declared.index.Gap.{Gap}
 use Rattle.basic_toml_value.specs.declared.index.leaves.Slot.{Slot}
-use Rattle.basic_toml_numbers.proofs.Booleans.{and_cases}
+use Rattle.std.proofs.lemmas.Bool.{and_parts}
 use Rattle.basic_toml_value.proofs.DistinctKeys.{is_among-insert, is_among-push, is_among-before, slice_get-last}
 use Rattle.basic_toml_value.proofs.Order.{rising-insert}
 use Rattle.basic_toml_value.proofs.SlotsInLeaves.{located}
@@ -67,7 +67,7 @@ module _ (keys : List (List ℕ)) (leaves next : List (List Slot)) (gap : Gap) (
         list_all-append (is_sound keys) (before leaves gap.leaf gap.slot) (after leaves gap.leaf gap.slot),
       ) at
       row.sound in
-      let parts = and_cases (list_all (is_sound keys) (before leaves gap.leaf gap.slot))
+      let parts = and_parts (list_all (is_sound keys) (before leaves gap.leaf gap.slot))
       (list_all (is_sound keys) (after leaves gap.leaf gap.slot)) was in
       rw (
         joined_is,

@@ -3,6 +3,7 @@ use Rattle.std.proofs.Common.{◌≡◌, ℕ, suc, zero, ◌<◌, true, false, L
 use Rattle.std.proofs.Common.{ap, ◌∙◌, arith, Some, get_or, take, IsTrue, Result, Ok, Err, IfOk, subst}
 use Rattle.std.specs.declared.alloc.AllocError.{AllocError}
 use Rattle.std.specs.List.{slice_get, slice_set}
+use Rattle.std.proofs.lemmas.Bool.{false≢true}
 use Rattle.std.proofs.lemmas.List.{map-append}
 use Rattle.basic_toml_value.specs.declared.pairs.Pair.{Pair}
 use Rattle.basic_toml_value.specs.Text.{text_bytes}
@@ -137,6 +138,12 @@ module _ {V : Type 0} where
         is_new = rw there refl;
         made = λ new. absurd (cc);
       }
+
+  -- a key that is there is not absent
+  pub not_absent : (pairs : List (Pair V)) (old : List (List ℕ × V)) (key : List ℕ) → seen pairs ≡ old
+      → is_among (texts_of pairs) key ≡ false → has_key old key ≡ true → ⊥
+  not_absent pairs old key same absent there =
+      false≢true (sym absent ∙ sym (has_key-seen pairs key) ∙ ap (λ ps. has_key ps key) same ∙ there)
 
   -- a key that is absent is new
   pub added_last : (pairs : List (Pair V)) (old new : List (List ℕ × V)) (i : ℕ) (key : List ℕ) (v : V)

@@ -6,13 +6,12 @@ use Rattle.std.specs.declared.cmp.Ordering.{Ordering}
 use Rattle.std.specs.declared.cmp.Ordering.TheVariants.{Less, Equal, Greater}
 use Rattle.std.specs.Cmp.Lexicographic.{slice_cmp, texts_ties}
 use Rattle.std.specs.Str.{bytes_eq}
-use Rattle.std.proofs.lemmas.Bool.{cases_Bool}
+use Rattle.std.proofs.lemmas.Bool.{cases_Bool, and_parts}
 use Rattle.std.proofs.lemmas.List.Folds.{list_all-append}
 use Rattle.std.proofs.lemmas.Cmp.{nat_list_cmp_total}
 use Rattle.std.proofs.lemmas.Slice.Eq.{bytes_eq-Decides}
 use Rattle.basic_toml_value.specs.Index.{ending_of, is_below, are_rising, all_below, all_above}
 use Rattle.basic_toml_value.specs.Keys.{is_among}
-use Rattle.basic_toml_numbers.proofs.Booleans.{and_cases}
 
 -- a key after its ending
 abbrev marked : List ℕ → List ℕ
@@ -87,29 +86,29 @@ pub rising-left : (xs : List (List ℕ)) (y : List ℕ) (ys : List (List ℕ)) �
     → all_below xs y ≡ true
 rising-left [] y ys rising = refl
 rising-left (x ∷ xs) y ys rising =
-    let parts = and_cases (list_all (is_below x) (xs ++ y ∷ ys)) (are_rising (xs ++ y ∷ ys)) rising in
-    let here = and_cases (list_all (is_below x) xs) (list_all (is_below x) (y ∷ ys))
+    let parts = and_parts (list_all (is_below x) (xs ++ y ∷ ys)) (are_rising (xs ++ y ∷ ys)) rising in
+    let here = and_parts (list_all (is_below x) xs) (list_all (is_below x) (y ∷ ys))
     (sym (list_all-append (is_below x) xs (y ∷ ys)) ∙ parts.0) in
-    rw ((and_cases (is_below x y) (list_all (is_below x) ys) here.1).0) (rising-left xs y ys parts.1)
+    rw ((and_parts (is_below x y) (list_all (is_below x) ys) here.1).0) (rising-left xs y ys parts.1)
 
 pub rising-right : (xs : List (List ℕ)) (y : List ℕ) (ys : List (List ℕ)) → are_rising (xs ++ y ∷ ys) ≡ true
     → all_above ys y ≡ true
-rising-right [] y ys rising = (and_cases (list_all (is_below y) ys) (are_rising ys) rising).0
+rising-right [] y ys rising = (and_parts (list_all (is_below y) ys) (are_rising ys) rising).0
 rising-right (x ∷ xs) y ys rising =
-    rising-right xs y ys (and_cases (list_all (is_below x) (xs ++ y ∷ ys)) (are_rising (xs ++ y ∷ ys)) rising).1
+    rising-right xs y ys (and_parts (list_all (is_below x) (xs ++ y ∷ ys)) (are_rising (xs ++ y ∷ ys)) rising).1
 
 pub all_below-through : (xs : List (List ℕ)) (y key : List ℕ) → all_below xs y ≡ true → is_below key y ≡ false
     → all_below xs key ≡ true
 all_below-through [] y key below ky = refl
 all_below-through (x ∷ xs) y key below ky =
-    let parts = and_cases (is_below x y) (all_below xs y) below in
+    let parts = and_parts (is_below x y) (all_below xs y) below in
     rw (below_through x y key parts.0 ky) (all_below-through xs y key parts.1 ky)
 
 pub all_above-through : (xs : List (List ℕ)) (y key : List ℕ) → all_above xs y ≡ true → is_below y key ≡ false
     → all_above xs key ≡ true
 all_above-through [] y key above yk = refl
 all_above-through (x ∷ xs) y key above yk =
-    let parts = and_cases (is_below y x) (all_above xs y) above in
+    let parts = and_parts (is_below y x) (all_above xs y) above in
     rw (above_through x y key parts.0 yk) (all_above-through xs y key parts.1 yk)
 
 -- a key that goes between
@@ -117,9 +116,9 @@ pub rising-insert : (xs ys : List (List ℕ)) (key : List ℕ) → are_rising (x
     → all_above ys key ≡ true → are_rising (xs ++ key ∷ ys) ≡ true
 rising-insert [] ys key rising below above = rw above rising
 rising-insert (x ∷ xs) ys key rising below above =
-    let parts = and_cases (list_all (is_below x) (xs ++ ys)) (are_rising (xs ++ ys)) rising in
-    let lows = and_cases (is_below x key) (all_below xs key) below in
-    let here = and_cases (list_all (is_below x) xs) (list_all (is_below x) ys)
+    let parts = and_parts (list_all (is_below x) (xs ++ ys)) (are_rising (xs ++ ys)) rising in
+    let lows = and_parts (is_below x key) (all_below xs key) below in
+    let here = and_parts (list_all (is_below x) xs) (list_all (is_below x) ys)
     (sym (list_all-append (is_below x) xs ys) ∙ parts.0) in
     rw (list_all-append (is_below x) xs (key ∷ ys), here.0, lows.0, here.1)
     (rising-insert xs ys key parts.1 lows.1 above)
@@ -127,13 +126,13 @@ rising-insert (x ∷ xs) ys key rising below above =
 pub none_below : (xs : List (List ℕ)) (key : List ℕ) → all_below xs key ≡ true → is_among xs key ≡ false
 none_below [] key below = refl
 none_below (x ∷ xs) key below =
-    let parts = and_cases (is_below x key) (all_below xs key) below in
+    let parts = and_parts (is_below x key) (all_below xs key) below in
     rw (above_differs key x parts.0) (none_below xs key parts.1)
 
 pub none_above : (xs : List (List ℕ)) (key : List ℕ) → all_above xs key ≡ true → is_among xs key ≡ false
 none_above [] key above = refl
 none_above (x ∷ xs) key above =
-    let parts = and_cases (is_below key x) (all_above xs key) above in
+    let parts = and_parts (is_below key x) (all_above xs key) above in
     rw (below_differs key x parts.0) (none_above xs key parts.1)
 
 pub below_asymmetric : (a b : List ℕ) → is_below a b ≡ true → is_below b a ≡ false

@@ -1,11 +1,10 @@
 -- Where a key goes among rising keys that stand in parts: after the lower ones and before the higher ones.
 use Rattle.std.proofs.Common.{◌≡◌, ℕ, zero, suc, ◌-◌, ◌<◌, ◌≤◌, true, false, List, [], ◌∷◌, ◌++◌, length, take, drop}
 use Rattle.std.proofs.Common.{get_or, refl, inl, inr, append_assoc, drop-cons, add-one, sub-one, arith}
-use Rattle.std.proofs.lemmas.Bool.{cases_lt}
+use Rattle.std.proofs.lemmas.Bool.{cases_lt, and_from}
 use Rattle.std.proofs.lemmas.List.{take_more, drop_all}
 use Rattle.std.proofs.lemmas.List.Folds.{list_all-append}
 use Rattle.basic_toml_value.specs.Index.{is_below, are_rising, all_below, all_above, are_filled, joined, before, after}
-use Rattle.basic_toml_numbers.proofs.Booleans.{and_true}
 use Rattle.basic_toml_value.proofs.SlotsInLeaves.{part_at, at_place, filled_at}
 use Rattle.basic_toml_value.proofs.Order.{rising-left, rising-right, all_below-through, all_above-through}
 use Rattle.basic_toml_value.proofs.Order.{below_asymmetric}
@@ -55,7 +54,7 @@ after_in_part parts j i key rising within in_part higher =
     let rest = drop (suc i) part ++ joined (drop (suc j) parts) in
     let above = rising-right (before parts j i) next rest (rw (at_place parts j i [] within in_part) at rising) in
     rw (drop-cons part i [] in_part)
-    (and_true (is_below key next) (all_above rest key) higher
+    (and_from (is_below key next) (all_above rest key) higher
     (all_above-through rest next key above (below_asymmetric key next higher)))
 
 pub after_above : (parts : List (List Key)) (j i : ℕ) (key : Key) → are_rising (joined parts) ≡ true

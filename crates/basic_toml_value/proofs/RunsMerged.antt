@@ -12,7 +12,7 @@ use Rattle.std.proofs.lemmas.List.Sorted.{IsPermutation-append_right}
 use Rattle.basic_toml_value.specs.Index.{is_below, are_rising, all_above, is_sound, key_of, slot_at}
 use Rattle.basic_toml_value.specs.SlotOrder.{is_before, IsRun, AreInOrder}
 use Rattle.basic_toml_value.specs.declared.index.leaves.Slot.{Slot}
-use Rattle.basic_toml_numbers.proofs.Booleans.{and_cases, and_true}
+use Rattle.std.proofs.lemmas.Bool.{and_parts, and_from}
 use Rattle.std.specs.Cmp.{nat_cmp_is}
 use Rattle.std.specs.Cmp.Lexicographic.{slice_cmp}
 use Rattle.std.specs.Ordering.{is_lt, nat_cmp, ordering_then, ordering_reverse}
@@ -47,17 +47,17 @@ goes_between out a more b others left right below =
 rising-append : (xs : List (List ℕ)) (y z : List ℕ) (zs : List (List ℕ)) → are_rising (xs ++ y ∷ []) ≡ true
     → are_rising (z ∷ zs) ≡ true → is_below y z ≡ true → are_rising (xs ++ y ∷ z ∷ zs) ≡ true
 rising-append [] y z zs left right below =
-    let parts = and_cases (all_above zs z) (are_rising zs) right in
-    and_true (all_above (z ∷ zs) y) (are_rising (z ∷ zs)) (above_more y z zs below parts.0) right
+    let parts = and_parts (all_above zs z) (are_rising zs) right in
+    and_from (all_above (z ∷ zs) y) (are_rising (z ∷ zs)) (above_more y z zs below parts.0) right
 rising-append (x ∷ xs) y z zs left right below =
-    let parts = and_cases (all_above (xs ++ y ∷ []) x) (are_rising (xs ++ y ∷ [])) left in
-    let own = and_cases (all_above xs x) (all_above (y ∷ []) x)
+    let parts = and_parts (all_above (xs ++ y ∷ []) x) (are_rising (xs ++ y ∷ [])) left in
+    let own = and_parts (all_above xs x) (all_above (y ∷ []) x)
     (sym (list_all-append (is_below x) xs (y ∷ [])) ∙ parts.0) in
-    let below_y = (and_cases (is_below x y) true own.1).0 in
-    let first = and_cases (all_above zs z) (are_rising zs) right in
+    let below_y = (and_parts (is_below x y) true own.1).0 in
+    let first = and_parts (all_above zs z) (are_rising zs) right in
     let rest = above_more x y (z ∷ zs) below_y (above_more y z zs below first.0) in
-    and_true (all_above (xs ++ y ∷ z ∷ zs) x) (are_rising (xs ++ y ∷ z ∷ zs))
-    (list_all-append (is_below x) xs (y ∷ z ∷ zs) ∙ and_true (all_above xs x) (all_above (y ∷ z ∷ zs) x) own.0 rest)
+    and_from (all_above (xs ++ y ∷ z ∷ zs) x) (are_rising (xs ++ y ∷ z ∷ zs))
+    (list_all-append (is_below x) xs (y ∷ z ∷ zs) ∙ and_from (all_above xs x) (all_above (y ∷ z ∷ zs) x) own.0 rest)
     (rising-append xs y z zs parts.1 right below)
 
 -- what is merged so far of two runs, and what is left of each
@@ -182,7 +182,7 @@ sound_both : (keys : List (List ℕ)) (left right : List Slot) → list_all (is_
     → list_all (is_sound keys) right ≡ true → list_all (is_sound keys) (left ++ right) ≡ true
 sound_both keys left right l r =
     list_all-append (is_sound keys) left right
-    ∙ and_true (list_all (is_sound keys) left) (list_all (is_sound keys) right) l r
+    ∙ and_from (list_all (is_sound keys) left) (list_all (is_sound keys) right) l r
 
 pub run_of_both : (keys : List (List ℕ)) (left right run : List Slot) → IsRun keys left → IsRun keys right
     → IsPermutation (left ++ right) run → are_rising (map (key_of keys) run) ≡ true → IsRun keys run
@@ -274,7 +274,7 @@ pub all_more : {A : Type 0} (test : A → Bool) (xs next : List A) (x : A) → n
     → list_all test xs ≡ true → test x ≡ true → list_all test next ≡ true
 all_more test xs next x is all here =
     ap (list_all test) is ∙ list_all-append test xs (x ∷ [])
-    ∙ and_true (list_all test xs) (list_all test (x ∷ [])) all (and_true (test x) true here refl)
+    ∙ and_from (list_all test xs) (list_all test (x ∷ [])) all (and_from (test x) true here refl)
 
 -- the keys of slots that are moved
 pub keys_moved : (keys part : List (List ℕ)) (made run : List Slot) → map (key_of keys) made ≡ part

@@ -3,7 +3,7 @@ use Rattle.std.proofs.Common.{◌≡◌, ℕ, zero, suc, ◌+◌, ◌<◌, Bool,
 use Rattle.std.proofs.Common.{take, drop, get_or, set, refl, sym, ap, ◌∙◌, append_assoc, drop-cons, add-one, Vec}
 use Rattle.std.proofs.Common.{arith}
 use Rattle.std.specs.List.{list_all, insert}
-use Rattle.std.proofs.lemmas.Bool.{ltb-true, lt-ltb}
+use Rattle.std.proofs.lemmas.Bool.{ltb-true, lt-ltb, and_parts}
 use Rattle.std.proofs.lemmas.List.{take-append-drop, map-append, take-map, drop-map, get_or-map, length-take}
 use Rattle.std.proofs.lemmas.List.{length-drop, length-append, drop_all, map-set}
 use Rattle.std.proofs.Math.Seq.{map-set_same}
@@ -11,7 +11,6 @@ use Rattle.std.proofs.lemmas.List.Folds.{list_all-append}
 use Rattle.std.specs.declared.alloc.Global.{Global}
 use Rattle.basic_toml_value.specs.Index.{joined, before, after, with_slot, are_filled, leaves_of, leaf_at}
 use Rattle.basic_toml_value.specs.declared.index.leaves.Slot.{Slot}
-use Rattle.basic_toml_numbers.proofs.Booleans.{and_cases}
 
 module _ {A : Type 0} where
   abbrev pub part_at : List (List A) → ℕ → List A
@@ -69,9 +68,9 @@ module _ {A : Type 0} where
       → are_filled (with_slot leaves at index slot) ≡ true
   are_filled-with_slot [] at index slot filled = refl
   are_filled-with_slot (l ∷ ls) zero index slot filled =
-      rw (filled-insert l index slot) (and_cases (nat_lt 0 (length l)) (are_filled ls) filled).1
+      rw (filled-insert l index slot) (and_parts (nat_lt 0 (length l)) (are_filled ls) filled).1
   are_filled-with_slot (l ∷ ls) (suc at) index slot filled =
-      let parts = and_cases (nat_lt 0 (length l)) (are_filled ls) filled in
+      let parts = and_parts (nat_lt 0 (length l)) (are_filled ls) filled in
       rw parts.0 (are_filled-with_slot ls at index slot parts.1)
 
   -- a leaf split in two
@@ -97,9 +96,9 @@ module _ {A : Type 0} where
         lt-ltb 0 (length (take middle l)) (rw length-take (omega arith)),
         lt-ltb 0 (length (drop middle l)) (rw length-drop (omega arith)),
       )
-      (and_cases (nat_lt 0 (length l)) (are_filled ls) filled).1
+      (and_parts (nat_lt 0 (length l)) (are_filled ls) filled).1
   are_filled-with_split (l ∷ ls) (suc at) middle within low high filled =
-      let parts = and_cases (nat_lt 0 (length l)) (are_filled ls) filled in
+      let parts = and_parts (nat_lt 0 (length l)) (are_filled ls) filled in
       rw parts.0 (are_filled-with_split ls at middle (omega arith) low high parts.1)
 
   -- nothing stands after the end
@@ -118,25 +117,25 @@ module _ {A : Type 0} where
       → 0 < length (part_at leaves at)
   filled_at [] at filled within = absurd (omega arith)
   filled_at (l ∷ ls) zero filled within =
-      ltb-true 0 (length l) (and_cases (nat_lt 0 (length l)) (are_filled ls) filled).0
+      ltb-true 0 (length l) (and_parts (nat_lt 0 (length l)) (are_filled ls) filled).0
   filled_at (l ∷ ls) (suc at) filled within =
-      filled_at ls at (and_cases (nat_lt 0 (length l)) (are_filled ls) filled).1 (omega arith)
+      filled_at ls at (and_parts (nat_lt 0 (length l)) (are_filled ls) filled).1 (omega arith)
 
   pub all_in_leaf : (test : A → Bool) (leaves : List (List A)) (at : ℕ) → list_all test (joined leaves) ≡ true
       → at < length leaves → list_all test (part_at leaves at) ≡ true
   all_in_leaf test [] at all within = absurd (omega arith)
   all_in_leaf test (l ∷ ls) zero all within =
-      (and_cases (list_all test l) (list_all test (joined ls)) (sym (list_all-append test l (joined ls)) ∙ all)).0
+      (and_parts (list_all test l) (list_all test (joined ls)) (sym (list_all-append test l (joined ls)) ∙ all)).0
   all_in_leaf test (l ∷ ls) (suc at) all within =
-      all_in_leaf test ls at (and_cases (list_all test l) (list_all test (joined ls))
+      all_in_leaf test ls at (and_parts (list_all test l) (list_all test (joined ls))
       (sym (list_all-append test l (joined ls)) ∙ all)).1 (omega arith)
 
   pub all_at : (test : A → Bool) (leaf : List A) (i : ℕ) (d : A) → list_all test leaf ≡ true → i < length leaf
       → test (get_or leaf i d) ≡ true
   all_at test [] i d all within = absurd (omega arith)
-  all_at test (s ∷ ss) zero d all within = (and_cases (test s) (list_all test ss) all).0
+  all_at test (s ∷ ss) zero d all within = (and_parts (test s) (list_all test ss) all).0
   all_at test (s ∷ ss) (suc i) d all within =
-      all_at test ss i d (and_cases (test s) (list_all test ss) all).1 (omega arith)
+      all_at test ss i d (and_parts (test s) (list_all test ss) all).1 (omega arith)
 
 module _ {A B : Type 0} (f : A → B) where
   -- what is seen of the slots

@@ -12,7 +12,7 @@ use Rattle.basic_toml_value.specs.Keys.{is_among, are_distinct}
 use Rattle.basic_toml_value.specs.Index.{ending_of, is_below, are_rising, is_sound, key_of}
 use Rattle.basic_toml_value.specs.SlotOrder.{is_before}
 use Rattle.basic_toml_value.specs.declared.index.leaves.Slot.{Slot}
-use Rattle.basic_toml_numbers.proofs.Booleans.{and_cases}
+use Rattle.std.proofs.lemmas.Bool.{and_parts}
 use Rattle.basic_toml_value.proofs.DistinctKeys.{bytes_eq-same}
 use Rattle.basic_toml_value.proofs.Order.{all_above-through, below_asymmetric, none_above}
 
@@ -50,7 +50,7 @@ once false n m is none low = omega (arith, is, low)
 pub at_most_once : (ks : List (List ℕ)) → are_distinct ks ≡ true → (key : List ℕ) → times key ks ≤ 1
 at_most_once [] distinct key = omega arith
 at_most_once (k ∷ ks) distinct key =
-    let parts = and_cases (not (is_among ks k)) (are_distinct ks) distinct in
+    let parts = and_parts (not (is_among ks k)) (are_distinct ks) distinct in
     once (bytes_eq key k) (times key ks) (times key (k ∷ ks)) (times-cons key k ks)
     (λ same. none_times key ks (ap (is_among ks) ((bytes_eq-Decides key k).0 same) ∙ not_true (is_among ks k) parts.0))
     (at_most_once ks parts.1 key)
@@ -86,7 +86,7 @@ distinct_moved xs ys moved distinct =
 pub rising_distinct : (ks : List (List ℕ)) → are_rising ks ≡ true → are_distinct ks ≡ true
 rising_distinct [] rising = refl
 rising_distinct (k ∷ ks) rising =
-    let parts = and_cases (list_all (is_below k) ks) (are_rising ks) rising in
+    let parts = and_parts (list_all (is_below k) ks) (are_rising ks) rising in
     rw (none_above ks k parts.0) (rising_distinct ks parts.1)
 
 -- keys each below the next one rise
@@ -96,14 +96,14 @@ rising_from_beside [] up = refl
 rising_from_beside (k ∷ []) up = refl
 rising_from_beside (k ∷ j ∷ ks) up =
     let rest = rising_from_beside (j ∷ ks) (λ i within. up (suc i) (omega arith)) in
-    let parts = and_cases (list_all (is_below j) ks) (are_rising ks) rest in
+    let parts = and_parts (list_all (is_below j) ks) (are_rising ks) rest in
     let first = up 0 (omega arith) in
     rw (first, all_above-through ks j k parts.0 (below_asymmetric k j first)) rest
 
 ending_from : (keys : List (List ℕ)) (slot : Slot) → is_sound keys slot ≡ true → slot.ending ≡ ending_of (key_of keys slot)
 ending_from keys slot sound =
     (Decides-eqb slot.ending (ending_of (key_of keys slot))).0
-    (and_cases (nat_lt slot.position (length keys)) (slot.ending == ending_of (key_of keys slot)) sound).1
+    (and_parts (nat_lt slot.position (length keys)) (slot.ending == ending_of (key_of keys slot)) sound).1
 
 -- sound slots stand in the order of their keys
 pub before_is_below : (keys : List (List ℕ)) (a b : Slot) → is_sound keys a ≡ true → is_sound keys b ≡ true

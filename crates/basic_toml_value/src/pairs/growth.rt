@@ -86,7 +86,7 @@ pub struct Place {
 }
 
 impl<V: Drop> Pairs<V> {
-    ghost use Rattle.std.specs.Prelude.{◌≡◌, ◌<◌, ◌↔◌, [], ◌∷◌, ◌++◌, false, length, IfErr, IfSome, IsTrue, MatchOption, None, OnErr, OnOk, slice_get, Some};
+    ghost use Rattle.std.specs.Prelude.{◌≡◌, ◌<◌, ◌↔◌, [], ◌∷◌, ◌++◌, false, true, length, IfErr, IfSome, IsOk, IsTrue, MatchOption, None, OnErr, OnOk, slice_get, Some};
     ghost use Rattle.basic_toml_value.specs.Keys.{are_distinct};
     ghost use Rattle.basic_toml_value.specs.Pairs.{keys_of, has_key, value_at};
     ghost use Rattle.basic_toml_value.specs.Text.{text_bytes};
@@ -150,11 +150,12 @@ impl<V: Drop> Pairs<V> {
     ///
     /// # Errors
     ///
-    /// `AllocError` where memory was refused. The table stays as it was.
+    /// `AllocError` where the key is not there and memory was refused. The table stays as it was.
     #[inline(always)]
     pub fn enter_value(&mut self, key: &str, value: V) -> Result<Place, AllocError>
         ensures entered { IfOk result (FindsOrAdds (λ there. there ≡ value) key.now self.old self.new) }
         ensures within { IfOk result (λ place. place.position < length self.new) }
+        ensures found { has_key self.old key.now ≡ true → IsOk result }
         ensures kept { IfErr result (λ _. self.new ≡ self.old) }
     {
         match self.index.search(&self.entries, key) {
@@ -177,7 +178,7 @@ impl<V: Drop> Pairs<V> {
     ///
     /// # Errors
     ///
-    /// `AllocError` where memory was refused, and where `make` gives it. The table stays as it was.
+    /// `AllocError` where the key is not there, and memory was refused or `make` gives it. The table stays as it was.
     pub fn enter<F: FnOnce(Option<&V>) -> Result<V, AllocError>>(
         &mut self,
         key: &str,
@@ -186,6 +187,7 @@ impl<V: Drop> Pairs<V> {
         requires { F.IsAlwaysCallable make }
         ensures entered { IfOk result (FindsOrAdds (Gives (F.post make)) key.now self.old self.new) }
         ensures within { IfOk result (λ place. place.position < length self.new) }
+        ensures found { has_key self.old key.now ≡ true → IsOk result }
         ensures kept { IfErr result (λ _. self.new ≡ self.old) }
     {
         match self.index.search(&self.entries, key) {
@@ -217,6 +219,7 @@ impl<V: Drop> Pairs<V> {
         requires { F.IsAlwaysCallable make }
         ensures entered { IfOk result (FindsOrAdds (Gives (F.post make)) key.now self.old self.new) }
         ensures within { IfOk result (λ place. place.position < length self.new) }
+        ensures found { has_key self.old key.now ≡ true → IsOk result }
         ensures kept { IfErr result (λ _. self.new ≡ self.old) }
     {
         if let Some(last) = self.entries.last() {

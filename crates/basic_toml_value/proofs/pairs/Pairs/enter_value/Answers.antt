@@ -1,5 +1,5 @@
 use Rattle.std.proofs.Common.{refl}
-use Rattle.basic_toml_value.proofs.KeysSeen.{found_again, added_last, stands_within}
+use Rattle.basic_toml_value.proofs.KeysSeen.{found_again, added_last, stands_within, not_absent}
 use Rattle.basic_toml_value.proofs.pairs.Pairs.enter_value.Goals as goal
 
 pub returns-in-At-clause-entered : goal.returns-in-At-clause-entered
@@ -19,3 +19,8 @@ returns-in_ok-position-in-Absent-clause-entered g c =
 pub returns-in_ok-position-in-Absent-clause-within : goal.returns-in_ok-position-in-Absent-clause-within
 returns-in_ok-position-in-Absent-clause-within g c =
     stands_within _ _ c.args.key.now (returns-in_ok-position-in-Absent-clause-entered g c).entered.at
+
+pub returns-in_err-position-in-Absent-clause-found : goal.returns-in_err-position-in-Absent-clause-found
+returns-in_err-position-in-Absent-clause-found g c there =
+    absurd (not_absent c.self.inside.entries.items c.args.self.now c.args.key.now c.self.view_is
+    c.in-Absent.ensures.absent there)
