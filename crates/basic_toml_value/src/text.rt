@@ -1,5 +1,5 @@
 //! The text of a key or a string. A short one stands in place, so that most take no memory of their own.
-ghost use Rattle.std.specs.Prelude.{◌≡◌, ◌≤◌, Some, length, take, string_bytes, IfOk};
+ghost use Rattle.std.specs.Prelude.{◌≡◌, ◌≤◌, ◌+◌, Some, length, take, string_bytes, IfOk};
 ghost use Rattle.std.specs.Str.{IsUtf8};
 
 use std::alloc::{AllocError, Global};
@@ -26,7 +26,7 @@ impl Short {
         ensures { short_bytes result ≡ text.now }
     {
         let mut bytes = [0; ROOM];
-        bytes[..text.len()].copy_from_slice(text.as_bytes());
+        copy_few(text.as_bytes(), &mut bytes);
         Short {
             len: text.len() as u8,
             bytes,
@@ -39,6 +39,36 @@ impl Short {
     {
         unsafe { str::from_utf8_unchecked(&self.bytes[..self.len as usize]) }
     }
+}
+
+// Copies a few bytes by their first and their last ones, as many of each as a register holds: for so few, `memcpy` takes
+// more.
+#[inline(always)]
+fn copy_few(from: &[u8], to: &mut [u8; 23])
+    requires { length from.now ≤ 23 }
+    ensures { take (length from.now) to.new ≡ from.now }
+{
+    match from.len() {
+        16.. => copy_ends::<16>(from, to),
+        8.. => copy_ends::<8>(from, to),
+        4.. => copy_ends::<4>(from, to),
+        2.. => copy_ends::<2>(from, to),
+        1 => to[0] = from[0],
+        _ => {}
+    }
+}
+
+// Copies the first and the last so many bytes, which are all of them.
+#[inline(always)]
+fn copy_ends<const N: usize>(from: &[u8], to: &mut [u8; 23])
+    requires enough { N ≤ length from.now }
+    requires all { length from.now ≤ N + N }
+    requires fits { length from.now ≤ 23 }
+    ensures { take (length from.now) to.new ≡ from.now }
+{
+    let last = from.len() - N;
+    to[..N].copy_from_slice(&from[..N]);
+    to[last..last + N].copy_from_slice(&from[last..]);
 }
 
 // Where a text stands.
