@@ -1,8 +1,3 @@
-pub mod KeyIsAdded
-pub mod Greatest
-pub mod Naming
 pub mod FramesOfStack
 pub mod Taking
 pub mod FinishHandsOut
-pub mod FirstKeys
-pub mod Turned

@@ -4,7 +4,7 @@ use Rattle.basic_toml_tokens.specs.Ascii as ascii
 use Rattle.basic_toml_emit.specs.Open as o
 use Rattle.basic_toml_emit.specs.Calls.{last_key}
 use Rattle.basic_toml_layout.specs.Texts.{written_key}
-use Rattle.basic_toml_emit.specs.OpenKeys.{keys_of, last_of, pending_of}
+use Rattle.basic_toml_open_keys.specs.OpenKeys.{keys_of, last_of, pending_of}
 use Rattle.basic_toml_emit.specs.declared.frames.Header.{Header}
 use Rattle.basic_toml_emit.specs.declared.frames.Header.TheVariants.{Settled, Due}
 use Rattle.basic_toml_emit.specs.declared.frames.Stage.{Stage}

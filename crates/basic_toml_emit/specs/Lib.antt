@@ -5,11 +5,6 @@ pub mod Rules
 pub mod Calls
 pub mod Changes
 pub mod Error
-pub mod Names
-pub mod Kept
-pub mod Keys
-pub mod PresentKeys
-pub mod OpenKeys
 pub mod Recorded
 pub mod Growth
 pub mod Frames

@@ -2,7 +2,8 @@
 -- An open table has no key, awaits the text of a key (key place), or has a key set. It knows whether a table or a
 -- non-empty array of tables was written in it, which keys have a present entry, and the last of these. An open array
 -- knows what its elements are so far.
-use Rattle.std.specs.Prelude.{ℕ, Bool, true, false, cond, bytes_eq, List, [], Option, Some, None}
+use Rattle.std.specs.Prelude.{ℕ, Bool, true, false, List, [], Option, Some, None}
+use Rattle.basic_toml_open_keys.specs.Keys.{PresentKeys, no_keys, with_key}
 
 -- the header of a table: written or not to be written at all, or to be written where it proves due, after a blank line
 -- or not
@@ -18,16 +19,6 @@ pub data Stage : Type 0 where
 -- what the elements of an array are so far
 pub data ElementKind : Type 0 where
   unknown tables others : ElementKind
-
--- whether a key has a present entry
-abbrev pub PresentKeys : Type 0
-PresentKeys = List ℕ → Bool
-
-abbrev pub no_keys : PresentKeys
-no_keys k = false
-
-abbrev pub with_key : List ℕ → PresentKeys → PresentKeys
-with_key l keys k = cond (bytes_eq l k) true (keys k)
 
 -- what an open table knows, beside what it waits for
 pub record OpenTable : Type 0 where

@@ -16,8 +16,8 @@ mod sections;
 use crate::call::Call;
 use crate::error::EmitError;
 use crate::frames::{Frame, Header, innermost, is_nothing_open, key_set, new_table, put};
-use crate::open_keys::OpenKeys;
 use basic_toml_layout::Scalar;
+use basic_toml_open_keys::OpenKeys;
 use std::alloc::Global;
 
 /// The text so far, and the arrays and tables that are open in it.

@@ -2,14 +2,15 @@
 ghost use Rattle.std.specs.Prelude.{◌≡◌, ◌≢◌, true, false, not, nat_le, List, [], ◌∷◌, None, IfOk, MatchOption, length};
 ghost use Rattle.basic_toml_emit.specs.declared.frames.Frame.TheVariants.{Table};
 ghost use Rattle.basic_toml_emit.specs.declared.frames.Stage.TheVariants.{KeySet};
-ghost use Rattle.basic_toml_emit.specs.OpenKeys.{keys_of, last_of};
+ghost use Rattle.basic_toml_open_keys.specs.Keys.{no_keys};
+ghost use Rattle.basic_toml_open_keys.specs.OpenKeys.{keys_of, last_of};
 ghost use Rattle.basic_toml_emit.specs.Open as o;
 ghost use Rattle.basic_toml_emit.specs.Calls as c;
 ghost use Rattle.basic_toml_emit.specs.Rules.{key_of};
 ghost use Rattle.basic_toml_emit.specs.Changes.{outer, with_stage, with_entry, holds_key};
 ghost use Rattle.basic_toml_emit.specs.Frames.{frames_of, frame_of, header_of, stage_of, kind_of};
 
-use crate::open_keys::OpenKeys;
+use basic_toml_open_keys::OpenKeys;
 use basic_toml_value::NESTING_LIMIT;
 use std::alloc::{AllocError, Global};
 
@@ -84,7 +85,7 @@ pub enum Frame {
 
 // No keys, in what other keys have left.
 fn no_keys(alloc: Global, spare: &mut Vec<Box<OpenKeys>>) -> Result<Box<OpenKeys>, AllocError>
-    ensures keys { IfOk result (λ keys. keys_of keys.value ≡ o.no_keys) }
+    ensures keys { IfOk result (λ keys. keys_of keys.value ≡ no_keys) }
     ensures last { IfOk result (λ keys. last_of keys.value ≡ None) }
 {
     match spare.pop() {

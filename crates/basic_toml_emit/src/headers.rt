@@ -2,14 +2,14 @@
 ghost use Rattle.std.specs.Prelude.{◌≡◌, ◌++◌, IfOk, OnErr, true, string_bytes, unwrap_or, []};
 ghost use Rattle.basic_toml_emit.specs.Calls as c;
 ghost use Rattle.basic_toml_emit.specs.Growth.{is_due};
-ghost use Rattle.basic_toml_emit.specs.OpenKeys.{last_of};
+ghost use Rattle.basic_toml_open_keys.specs.OpenKeys.{last_of};
 ghost use Rattle.basic_toml_layout.specs.Texts.{joined, written_key};
 ghost use Rattle.basic_toml_layout.specs.Layout.{table_header, element_header, row_start};
 ghost use Rattle.basic_toml_emit.specs.Frames.{frames_of, frame_of, header_of, path_part, first_after};
 
 use crate::frames::{Frame, Header};
-use crate::open_keys::OpenKeys;
 use basic_toml_layout::write_key;
+use basic_toml_open_keys::OpenKeys;
 use std::alloc::AllocError;
 
 // The key that was entered last.

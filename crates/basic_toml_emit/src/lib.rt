@@ -10,9 +10,6 @@ mod emitter;
 mod error;
 mod frames;
 mod headers;
-mod keys;
-mod names;
-mod open_keys;
 
 pub use basic_toml_layout::Scalar;
 pub use call::Call;

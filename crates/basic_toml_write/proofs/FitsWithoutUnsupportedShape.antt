@@ -6,7 +6,7 @@ use Rattle.basic_toml_layout.specs.Written.{Scalar, integer, boolean, float, tex
 use Rattle.basic_toml_layout.specs.Written.{scalar, absent, array, table, Elements, no_elements, element, Entries}
 use Rattle.basic_toml_layout.specs.Written.{no_entries, entry, is_absent, is_table}
 use Rattle.basic_toml_layout.specs.Layout.{form}
-use Rattle.basic_toml_emit.specs.Open.{PresentKeys, no_keys, with_key}
+use Rattle.basic_toml_open_keys.specs.Keys.{PresentKeys, no_keys, with_key}
 use Rattle.basic_toml_emit.specs.Depth.{scalar_depth, depth, elements_depth, entries_depth}
 use Rattle.basic_toml_write.specs.Shapes.{holds_table, holds_other, holds_absent, is_array_with_table}
 use Rattle.basic_toml_write.specs.Shapes.{holds_array_with_table, is_late, then_after, has_late_row, has_key}

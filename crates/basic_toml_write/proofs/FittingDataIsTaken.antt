@@ -9,7 +9,8 @@ use Rattle.basic_toml_value.specs.Keys.{is_among, are_distinct}
 use Rattle.basic_toml_value.specs.Nesting.{nesting_limit}
 use Rattle.basic_toml_layout.specs.Written as w
 use Rattle.basic_toml_layout.specs.Layout.{form, layout}
-use Rattle.basic_toml_emit.specs.Open.{state, fresh, PresentKeys, no_keys, with_key}
+use Rattle.basic_toml_open_keys.specs.Keys.{PresentKeys, no_keys, with_key}
+use Rattle.basic_toml_emit.specs.Open.{state, fresh}
 use Rattle.basic_toml_emit.specs.Calls.{run}
 use Rattle.basic_toml_write.specs.Impls.{data_calls}
 use Rattle.basic_toml_write.specs.Shapes.{then_after}

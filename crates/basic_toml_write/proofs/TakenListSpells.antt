@@ -9,10 +9,10 @@ use Rattle.basic_toml_emit.specs.Items.{some_prefix, value_prefix, element_prefi
 use Rattle.basic_toml_write.specs.Spelling.{one_scalar, none, an_array, a_table, AreElements, array_end, a_some}
 use Rattle.basic_toml_write.specs.Spelling.{an_element, member, AreEntries, table_end, by_key, by_field, IsPrefixed}
 use Rattle.basic_toml_write.specs.Spelling.{bare, with_some, with_value, Spells, root, root_some}
+use Rattle.basic_toml_open_keys.specs.Keys.{PresentKeys}
 use Rattle.basic_toml_emit.specs.Open as o
 use Rattle.basic_toml_emit.specs.Open.{State, state, Frame, settled, due, no_key, key_set, unknown, tables}
-use Rattle.basic_toml_emit.specs.Open.{others, PresentKeys, OpenTable, empty_table, entered, with_settled}
-use Rattle.basic_toml_emit.specs.Open.{with_section, fresh}
+use Rattle.basic_toml_emit.specs.Open.{others, OpenTable, empty_table, entered, with_settled, with_section, fresh}
 use Rattle.basic_toml_emit.specs.Rules.{CallFault, unsupported_type, refuse_if}
 use Rattle.basic_toml_emit.specs.Calls.{run, on_ok}
 use Rattle.basic_toml_write.proofs.ValuesThatFit.{FitsOthers, FitsTables, FitsArray, FitsEntry, FitsEntries, Fits}

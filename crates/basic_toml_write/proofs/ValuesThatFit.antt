@@ -4,7 +4,7 @@ use Rattle.std.specs.Prelude.{ℕ, suc, ◌≡◌, Bool, false, ◌&&◌, nat_le
 use Rattle.basic_toml_layout.specs.Written.{Scalar, Written, scalar, absent, array, table, Elements, no_elements}
 use Rattle.basic_toml_layout.specs.Written.{element, Entries, no_entries, entry, is_refused, is_bytes}
 use Rattle.basic_toml_layout.specs.Layout.{form}
-use Rattle.basic_toml_emit.specs.Open.{PresentKeys, no_keys, with_key}
+use Rattle.basic_toml_open_keys.specs.Keys.{PresentKeys, no_keys, with_key}
 use Rattle.basic_toml_write.specs.Shapes.{then_after}
 
 -- bytes open an array where n are open

@@ -1,0 +1,5 @@
+pub mod Keys
+pub mod Names
+pub mod Kept
+pub mod PresentKeys
+pub mod OpenKeys
