@@ -1,8 +1,8 @@
 -- A plain value is the grammar's value that it is seen as; nothing clashes in it, no row goes on from a value there, and
 -- it is no deeper than the limit.
-use Rattle.std.proofs.Common.{◌≡◌, ◌≤◌, ℕ, ◌+◌, Bool, true, false, List, [], ◌∷◌, map, None, refl, sym, ap}
+use Rattle.std.proofs.Common.{◌≡◌, ◌≤◌, ℕ, ◌+◌, true, false, List, [], ◌∷◌, map, None, refl, sym, ap}
 use Rattle.std.proofs.Common.{◌∙◌, subst, arith, rules}
-use Rattle.std.specs.Prelude.{⊤, ◌&&◌, nat_lt, string_bytes}
+use Rattle.std.specs.Prelude.{⊤, nat_lt, string_bytes}
 use Rattle.std.proofs.lemmas.Bool.{false≢true, and_parts}
 use Rattle.basic_toml_value.specs.Nesting.{nesting_limit}
 use Rattle.basic_toml_grammar.specs.Sections.{Elements, element}

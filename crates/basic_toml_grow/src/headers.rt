@@ -244,8 +244,9 @@ fn add_table(alloc: Global, there: &mut Item<'_>, level: usize) -> Result<(), Cl
     }
     match there {
         Item::Tables(tables) => {
+            tables.0.try_reserve(1)?;
             let last = mem::replace(&mut tables.1, Table::empty(alloc));
-            tables.0.push(last)?;
+            tables.0.push_reserved(last);
             Ok(())
         }
         Item::Table(table) => Err(table_in_the_way(table)),
