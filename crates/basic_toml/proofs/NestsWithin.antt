@@ -5,7 +5,7 @@ use Rattle.std.specs.Prelude.{nat_le, IsTrue}
 use Rattle.std.proofs.lemmas.Bool.Decides.{nat_tests}
 use Rattle.basic_toml_value.specs.Data.{integer, table}
 use Rattle.basic_toml_value.specs.Entries.{seen}
-use Rattle.basic_toml_value.specs.Keys.{are_distinct}
+use Rattle.basic_toml_index.specs.Keys.{are_distinct}
 use Rattle.basic_toml_value.specs.Pairs as pairs
 use Rattle.basic_toml_value.specs.View.{view, entries, items_view}
 use Rattle.basic_toml_value.specs.declared.pairs.Pair.{Pair}

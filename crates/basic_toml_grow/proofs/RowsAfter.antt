@@ -2,7 +2,7 @@
 use Rattle.std.proofs.Common.{◌≡◌, ℕ, Bool, true, false, ◌||◌, inl, inr, List, [], Some, refl, sym, ap, ◌∙◌, subst}
 use Rattle.std.proofs.Common.{Result, Ok, Err, IfErr, Option, ◌≤◌, ◌++◌, map, take, drop}
 use Rattle.std.proofs.lemmas.List.{take-append-drop}
-use Rattle.basic_toml_value.specs.Keys.{are_distinct}
+use Rattle.basic_toml_index.specs.Keys.{are_distinct}
 use Rattle.basic_toml_value.specs.Nesting.{nesting_limit}
 use Rattle.basic_toml_grammar.specs.Sections.{texts, Rows, no_rows, row}
 use Rattle.basic_toml_grammar.specs.Steps.{steps_of}

@@ -5,7 +5,7 @@ use Rattle.std.specs.Prelude.{◌&&◌, Contains}
 use Rattle.std.specs.Str.{bytes_eq}
 use Rattle.std.proofs.lemmas.Slice.Eq.{bytes_eq-Decides}
 use Rattle.std.proofs.lemmas.List.Elements.{Contains-append_left, Contains-append_right, Contains-append_cases}
-use Rattle.basic_toml_value.proofs.DistinctKeys.{bytes_eq-same}
+use Rattle.basic_toml_index.proofs.DistinctKeys.{bytes_eq-same}
 use Rattle.basic_toml_grammar.specs.Sections.{Key, KeyTexts, texts, Raw, Rows, no_rows, row}
 use Rattle.basic_toml_grammar.specs.Steps.{Path, begins, properly_begins, steps_of}
 use Rattle.basic_toml_grammar.specs.Faults.{Fault}

@@ -10,10 +10,10 @@ use Rattle.basic_toml_value.specs.Text.{text_bytes}
 use Rattle.basic_toml_value.specs.declared.text.Text.{Text}
 use Rattle.basic_toml_value.specs.Entries.{pair_seen}
 use Rattle.basic_toml_read.specs.KeyText.{key_text_bytes}
-use Rattle.basic_toml_value.specs.Keys.{is_among, are_distinct}
+use Rattle.basic_toml_index.specs.Keys.{is_among, are_distinct}
 use Rattle.basic_toml_value.specs.Nesting.{nesting_limit}
 use Rattle.basic_toml_value.specs.Pairs.{keys_of, has_key}
-use Rattle.basic_toml_value.proofs.DistinctKeys.{bytes_eq-same, is_among-push, slice_get-last}
+use Rattle.basic_toml_index.proofs.DistinctKeys.{bytes_eq-same, is_among-push, slice_get-last}
 use Rattle.basic_toml_grammar.specs.Marks.{valued}
 use Rattle.basic_toml_grammar.specs.Mentions.{finished}
 use Rattle.basic_toml_grammar.specs.Sections as sections

@@ -6,7 +6,7 @@ use Rattle.std.specs.Option.{option_or}
 use Rattle.std.specs.Str.{bytes_eq}
 use Rattle.std.proofs.lemmas.Bool.{and_parts, false≢true}
 use Rattle.std.proofs.lemmas.Slice.Eq.{bytes_eq-Decides}
-use Rattle.basic_toml_value.proofs.DistinctKeys.{bytes_eq-same}
+use Rattle.basic_toml_index.proofs.DistinctKeys.{bytes_eq-same}
 use Rattle.basic_toml_grammar.specs.Sections.{KeyTexts}
 use Rattle.basic_toml_grow.specs.Crossed.{same_keys, and_end}
 use Rattle.basic_toml_grow.specs.KeyTree.{Ends, value_on, Follows}

@@ -2,10 +2,10 @@
 //! them, and a table without entries takes them all at once.
 
 ghost use Rattle.std.specs.Prelude.{◌≡◌, ◌≤◌, [], false, IfOk, IsTrue, length, map, take, drop};
-ghost use Rattle.basic_toml_value.specs.Keys.{are_distinct, is_among};
+ghost use Rattle.basic_toml_index.specs.Keys.{are_distinct, is_among};
 ghost use Rattle.basic_toml_value.specs.Entries.{seen, pair_seen};
 ghost use Rattle.basic_toml_value.specs.Text.{text_bytes};
-ghost use Rattle.basic_toml_value.specs.Index.{IsIndex, few};
+ghost use Rattle.basic_toml_index.specs.Index.{IsIndex, few};
 ghost use Rattle.basic_toml_grow.specs.Simple.{are_simple as all_simple, are_all_plain as all_plain, key_of};
 ghost use Rattle.basic_toml_grow.specs.Simple.{entry_of as new_entry, entries_of as new_entries, with_entries};
 ghost use Rattle.basic_toml_grow.specs.Simple.{item_of as kept_item, is_inline, none_inline};

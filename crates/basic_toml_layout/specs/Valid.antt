@@ -5,7 +5,7 @@ use Rattle.std.specs.Int.{w64}
 use Rattle.basic_toml_numbers.specs.Numbers.{float_of}
 use Rattle.basic_toml_value.specs.Data.{Data, integer, float, boolean, string, array, table, Items, no_items, item}
 use Rattle.basic_toml_value.specs.Data.{Members, no_members, member}
-use Rattle.basic_toml_value.specs.Keys.{are_distinct}
+use Rattle.basic_toml_index.specs.Keys.{are_distinct}
 
 abbrev pub keys_of : Members → List (List ℕ)
 keys_of no_members = []

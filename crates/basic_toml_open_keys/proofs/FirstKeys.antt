@@ -6,8 +6,8 @@ use Rattle.std.specs.Str.{bytes_eq}
 use Rattle.std.specs.List.{slice_get}
 use Rattle.std.specs.Cmp.Lexicographic.{same_text}
 use Rattle.std.proofs.lemmas.List.{get_or-take, length-take-le, take_all, get_or_default, take_more}
-use Rattle.basic_toml_value.specs.Keys.{are_distinct}
-use Rattle.basic_toml_value.proofs.DistinctKeys.{is_among-before}
+use Rattle.basic_toml_index.specs.Keys.{are_distinct}
+use Rattle.basic_toml_index.proofs.DistinctKeys.{is_among-before}
 use Rattle.basic_toml_open_keys.specs.Names.{last_name}
 use Rattle.basic_toml_open_keys.specs.Keys.{with_key, with_keys}
 use Rattle.basic_toml_open_keys.proofs.KeyIsAdded.{with_keys_take, with_keys_push, key_absent}

@@ -4,8 +4,8 @@ use Rattle.std.proofs.Common.{◌||◌, sym, length, take, get_or, refl, ap, ◌
 use Rattle.std.specs.Str.{bytes_eq}
 use Rattle.std.specs.List.{slice_get}
 use Rattle.std.proofs.lemmas.Slice.Eq.{bytes_eq-Decides}
-use Rattle.basic_toml_value.specs.Keys.{is_among, are_distinct}
-use Rattle.basic_toml_value.proofs.DistinctKeys.{is_among_at, are_distinct-push}
+use Rattle.basic_toml_index.specs.Keys.{is_among, are_distinct}
+use Rattle.basic_toml_index.proofs.DistinctKeys.{is_among_at, are_distinct-push}
 use Rattle.basic_toml_open_keys.specs.Keys.{PresentKeys, with_key, with_keys}
 
 turn : (a b x : Bool) → cond a true (cond b true x) ≡ cond b true (cond a true x)

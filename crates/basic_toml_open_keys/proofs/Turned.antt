@@ -8,7 +8,7 @@ use Rattle.std.specs.Cmp.Lexicographic.{same_text}
 use Rattle.std.proofs.lemmas.Bool.{cases_eq}
 use Rattle.std.proofs.lemmas.List.{get_or_default, length-map}
 use Rattle.std.proofs.lemmas.List.Edits.{swap_is}
-use Rattle.basic_toml_value.specs.Keys.{is_among, are_distinct}
+use Rattle.basic_toml_index.specs.Keys.{is_among, are_distinct}
 use Rattle.basic_toml_open_keys.specs.Names.{name_at, IsPlace}
 use Rattle.basic_toml_open_keys.specs.declared.names.Place.{Place}
 use Rattle.basic_toml_open_keys.specs.Keys.{with_key, with_keys, key_before, turned, IsGreatest}

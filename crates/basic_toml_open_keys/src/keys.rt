@@ -4,8 +4,8 @@
 //! without a search, and else the keys are looked through one by one. More keys get an index once one of them is not
 //! above the greatest.
 ghost use Rattle.std.specs.Prelude.{◌≡◌, ℕ, ◌+◌, ◌<◌, ◌≤◌, true, false, not, is_some, unwrap_or, None, Some, List, [], ◌∷◌, ◌++◌, IfOk, OnErr, IsTrue, IsSome, MatchOption, length, take};
-ghost use Rattle.basic_toml_value.specs.Keys.{are_distinct};
-ghost use Rattle.basic_toml_value.specs.Index.{IsIndex};
+ghost use Rattle.basic_toml_index.specs.Keys.{are_distinct};
+ghost use Rattle.basic_toml_index.specs.Index.{IsIndex};
 ghost use Rattle.basic_toml_open_keys.specs.Keys.{is_below, with_key, with_keys, key_before, turned, IsGreatest};
 ghost use Rattle.basic_toml_open_keys.specs.Kept as n;
 ghost use Rattle.basic_toml_open_keys.specs.Kept.{kept_of};

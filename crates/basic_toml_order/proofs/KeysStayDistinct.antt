@@ -5,11 +5,11 @@ use Rattle.std.specs.Str.{bytes_eq}
 use Rattle.basic_toml_value.specs.Data.{Members, no_members, member}
 use Rattle.basic_toml_value.specs.Entries.{seen, texts_of}
 use Rattle.basic_toml_value.specs.Text.{text_bytes}
-use Rattle.basic_toml_value.specs.Keys.{is_among, are_distinct}
+use Rattle.basic_toml_index.specs.Keys.{is_among, are_distinct}
 use Rattle.basic_toml_value.specs.View.{entries}
 use Rattle.basic_toml_value.specs.declared.pairs.Pair.{Pair}
 use Rattle.basic_toml_value.specs.declared.value.Value.{Value}
-use Rattle.basic_toml_value.proofs.DistinctKeys.{is_among-insert, bytes_eq_other}
+use Rattle.basic_toml_index.proofs.DistinctKeys.{is_among-insert, bytes_eq_other}
 use Rattle.basic_toml_layout.specs.Sections.{is_section}
 use Rattle.basic_toml_write.specs.DataFits.{member_keys}
 use Rattle.basic_toml_order.specs.RowsFirst.{followed_by, rows_of, sections_of, members_rows_first, rows_first}

@@ -3,7 +3,7 @@ use Rattle.std.proofs.Common.{◌≡◌, ℕ, Bool, cond, ◌&&◌, List, subst,
 use Rattle.std.proofs.Common.{IsTrue}
 use Rattle.std.proofs.lemmas.Bool.{and_from, and_parts}
 use Rattle.basic_toml_value.specs.Data.{Items, Members, table}
-use Rattle.basic_toml_value.specs.Keys.{are_distinct}
+use Rattle.basic_toml_index.specs.Keys.{are_distinct}
 use Rattle.basic_toml_value.specs.View.{entries}
 use Rattle.basic_toml_value.specs.declared.value.Value.{Value}
 use Rattle.basic_toml_value.specs.Pairs.{keys_of}

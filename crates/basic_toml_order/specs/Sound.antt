@@ -2,7 +2,7 @@
 -- 9223372036854775807.
 use Rattle.std.specs.Prelude.{Bool, true, not, ◌&&◌}
 use Rattle.basic_toml_value.specs.Data.{Data, integer, array, table, Items, no_items, item, Members, no_members, member}
-use Rattle.basic_toml_value.specs.Keys.{are_distinct}
+use Rattle.basic_toml_index.specs.Keys.{are_distinct}
 use Rattle.basic_toml_layout.specs.Written as w
 use Rattle.basic_toml_layout.specs.Written.{is_refused}
 use Rattle.basic_toml_write.specs.DataFits.{member_keys}

@@ -8,7 +8,7 @@ use Rattle.std.proofs.lemmas.Bool.{and_parts, or_parts, not-true, true≢false, 
 use Rattle.std.proofs.lemmas.Int.{ints}
 use Rattle.basic_toml_value.specs.Data as d
 use Rattle.basic_toml_value.specs.Data.{Data, Items, no_items, item, Members, no_members, member}
-use Rattle.basic_toml_value.specs.Keys.{is_among, are_distinct}
+use Rattle.basic_toml_index.specs.Keys.{is_among, are_distinct}
 use Rattle.basic_toml_layout.specs.Document.{are_tables, is_row}
 use Rattle.basic_toml_layout.specs.TextOrder.{followed_by, rows_of, sections_of, in_order, all_in_order, text_order}
 use Rattle.basic_toml_layout.specs.Valid.{keys_of, IsValid, AreValid, HoldsValid}

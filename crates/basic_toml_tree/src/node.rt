@@ -4,7 +4,7 @@ ghost use Rattle.std.specs.Prelude.{◌≡◌, ◌<◌, ◌≤◌, true, ℕ, ta
 ghost use Rattle.std.specs.Prelude.{MatchOption, length, map, slice_get, string_bytes};
 ghost use Rattle.std.specs.Option.{option_copied};
 ghost use Rattle.basic_toml_value.specs.Data.{table as table_of_members, integer_in, boolean_in, float_in, string_in};
-ghost use Rattle.basic_toml_value.specs.Keys.{are_distinct};
+ghost use Rattle.basic_toml_index.specs.Keys.{are_distinct};
 ghost use Rattle.basic_toml_value.specs.Pairs.{keys_of};
 ghost use Rattle.basic_toml_value.specs.View.{view, entries};
 ghost use Rattle.basic_toml_grammar.specs.Sections.{Section};

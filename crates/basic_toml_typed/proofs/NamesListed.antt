@@ -6,7 +6,7 @@ use Rattle.std.specs.Str.{bytes_eq}
 use Rattle.std.proofs.lemmas.Bool.Decides.{same_from_decides, Decides-like}
 use Rattle.std.proofs.lemmas.Iterator.Adapters.{position_from-zero}
 use Rattle.std.proofs.lemmas.Slice.Eq.{bytes_eq-Decides}
-use Rattle.basic_toml_value.specs.Keys.{is_among}
+use Rattle.basic_toml_index.specs.Keys.{is_among}
 use Rattle.basic_toml_value.specs.Data.{Data, Members, no_members, member}
 use Rattle.basic_toml_tree.specs.Nodes.{is_table, paired, entries_in}
 use Rattle.basic_toml_typed.specs.FieldKeys.{text_number, position_among, are_listed}

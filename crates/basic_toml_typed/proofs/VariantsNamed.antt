@@ -4,7 +4,7 @@ use Rattle.std.proofs.Common.{Some, None, is_some, Bor, inl, inr}
 use Rattle.std.specs.List.{position}
 use Rattle.std.specs.Str.{bytes_eq}
 use Rattle.std.proofs.lemmas.List.Quantifiers.{position-Some}
-use Rattle.basic_toml_value.specs.Keys.{is_among}
+use Rattle.basic_toml_index.specs.Keys.{is_among}
 use Rattle.basic_toml_value.specs.Data.{Data, string_in}
 use Rattle.basic_toml_tree.specs.declared.node.Node.{Node}
 use Rattle.basic_toml_tree.specs.Nodes.{node_data, is_table, entries_in}

@@ -2,7 +2,7 @@
 -- its reads in their order: the first that fails gives the error. (own)
 use Rattle.std.specs.Prelude.{◌≡◌, ◌⊎◌, ℕ, List, [], ◌∷◌, Option, Some, None, true, false, codes, map}
 use Rattle.std.specs.Prelude.{if◌then◌else◌, IsTrue, MatchOption, Result, Ok, Err}
-use Rattle.basic_toml_value.specs.Keys.{is_among}
+use Rattle.basic_toml_index.specs.Keys.{is_among}
 use Rattle.basic_toml_value.specs.Data.{Data, string_in}
 use Rattle.basic_toml_tree.specs.declared.node.Node.{Node}
 use Rattle.basic_toml_tree.specs.Nodes.{node_data, is_table, data_at, entries_in}

@@ -4,9 +4,9 @@ use Rattle.std.proofs.Common.{ap, ◌∙◌, arith, Some, None, option_map, map,
 use Rattle.std.specs.Prelude.{not}
 use Rattle.std.specs.List.{slice_get}
 use Rattle.std.specs.Str.{bytes_eq}
-use Rattle.basic_toml_value.specs.Keys.{is_among}
+use Rattle.basic_toml_index.specs.Keys.{is_among}
 use Rattle.basic_toml_value.specs.Pairs.{keys_of, has_key, value_at}
-use Rattle.basic_toml_value.proofs.DistinctKeys.{bytes_eq-same}
+use Rattle.basic_toml_index.proofs.DistinctKeys.{bytes_eq-same}
 use Rattle.basic_toml_value.specs.Growth.{with_value, values_of, EntersKey, FindsOrAdds}
 use Rattle.basic_toml_value.specs.declared.pairs.growth.Place.{Place}
 

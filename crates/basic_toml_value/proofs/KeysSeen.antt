@@ -8,10 +8,10 @@ use Rattle.std.proofs.lemmas.List.{map-append}
 use Rattle.basic_toml_value.specs.declared.pairs.Pair.{Pair}
 use Rattle.basic_toml_value.specs.Text.{text_bytes}
 use Rattle.basic_toml_value.specs.Entries.{pair_seen, seen, texts_of}
-use Rattle.basic_toml_value.specs.Keys.{is_among, are_distinct}
+use Rattle.basic_toml_index.specs.Keys.{is_among, are_distinct}
 use Rattle.basic_toml_value.specs.Pairs.{keys_of, has_key}
 use Rattle.basic_toml_value.proofs.SeenPairs.{value_at-found, value_at-absent}
-use Rattle.basic_toml_value.proofs.DistinctKeys.{slice_get-last, is_among_at, is_among-before}
+use Rattle.basic_toml_index.proofs.DistinctKeys.{slice_get-last, is_among_at, is_among-before}
 use Rattle.basic_toml_value.specs.Growth.{with_value, values_of, new_place, EntersKey, FindsOrAdds}
 use Rattle.basic_toml_value.specs.declared.pairs.growth.Place.{Place}
 

@@ -7,9 +7,9 @@ use Rattle.std.proofs.lemmas.List.{map-append}
 use Rattle.basic_toml_value.specs.declared.pairs.Pair.{Pair}
 use Rattle.basic_toml_value.specs.Text.{text_bytes}
 use Rattle.basic_toml_value.specs.Entries.{pair_seen, seen, texts_of}
-use Rattle.basic_toml_value.specs.Keys.{is_among, are_distinct}
+use Rattle.basic_toml_index.specs.Keys.{is_among, are_distinct}
 use Rattle.basic_toml_value.specs.Pairs.{keys_of, has_key, value_at, Gains}
-use Rattle.basic_toml_value.proofs.DistinctKeys.{bytes_eq-same, first_differs, is_among_at}
+use Rattle.basic_toml_index.proofs.DistinctKeys.{bytes_eq-same, first_differs, is_among_at}
 
 module _ {V : Type 0} where
   pub keys_of-seen : (pairs : List (Pair V)) → keys_of (seen pairs) ≡ texts_of pairs

@@ -1,7 +1,7 @@
 -- Keys with their values, in order: how they change.
 use Rattle.std.specs.Prelude.{◌≡◌, ℕ, zero, suc, List, [], ◌∷◌, ◌++◌, true, false, not, Some, if◌then◌else◌, slice_get}
 use Rattle.std.specs.Prelude.{map, take, Result, Ok}
-use Rattle.basic_toml_value.specs.Keys.{is_among}
+use Rattle.basic_toml_index.specs.Keys.{is_among}
 use Rattle.basic_toml_value.specs.Pairs.{keys_of, has_key}
 use Rattle.basic_toml_value.specs.declared.pairs.growth.Place.{Place}
 

@@ -2,7 +2,7 @@
 use Rattle.std.specs.Prelude.{◌≡◌, ℕ, List, [], ◌∷◌, Bool, false, Option, Some, None, cond, map}
 use Rattle.std.specs.Str.{bytes_eq}
 use Rattle.std.specs.Coded.{Coded, coded×, coded_ℕ, coded_list}
-use Rattle.basic_toml_value.specs.Keys.{is_among}
+use Rattle.basic_toml_index.specs.Keys.{is_among}
 
 abbrev pub pairs_code : {V : Type 0} → Coded V → Coded (List (List ℕ × V))
 pairs_code c = coded_list (coded× (coded_list coded_ℕ) c)

@@ -2,8 +2,8 @@
 ghost use Rattle.std.specs.Prelude.{◌≡◌, ◌==◌, ℕ, List, [], ◌∷◌, ◌++◌, length, OnOk, OnErr, IfErr, IsTrue, ◌↔◌};
 ghost use Rattle.std.specs.Prelude.{string_bytes, false};
 ghost use Rattle.std.specs.Option.{option_copied};
-ghost use Rattle.basic_toml_value.specs.Keys.{are_distinct};
-ghost use Rattle.basic_toml_value.specs.Index.{IsIndex, IsGap};
+ghost use Rattle.basic_toml_index.specs.Keys.{are_distinct};
+ghost use Rattle.basic_toml_index.specs.Index.{IsIndex, IsGap};
 ghost use Rattle.basic_toml_value.specs.Entries.{seen, texts_of};
 ghost use Rattle.basic_toml_value.specs.Pairs.{keys_of, has_key, value_at, Gains};
 
@@ -61,7 +61,7 @@ pub struct Pairs<V> {
 impl<V> Model for Pairs<V> {
     ghost use Rattle.std.specs.Prelude.{List, ℕ};
     ghost use Rattle.basic_toml_value.specs.Pairs.{pairs_code};
-    ghost use Rattle.basic_toml_value.specs.Index.{IsIndex};
+    ghost use Rattle.basic_toml_index.specs.Index.{IsIndex};
     ghost use Rattle.basic_toml_value.specs.Entries.{seen, texts_of};
 
     ghost Value = { List (List ℕ × V) };

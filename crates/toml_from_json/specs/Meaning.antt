@@ -12,7 +12,7 @@ use Rattle.json.specs.Json.{Json}
 use Rattle.json.specs.Find.{as_str}
 use Rattle.basic_toml_value.specs.Data.{Data, integer, float, boolean, string, array, table}
 use Rattle.basic_toml_value.specs.Data.{Items, no_items, item, Members, no_members, member}
-use Rattle.basic_toml_value.specs.Keys.{is_among}
+use Rattle.basic_toml_index.specs.Keys.{is_among}
 use Rattle.basic_toml_numbers.specs.Numbers.{integer_of, float_of}
 use Rattle.toml_json_text.specs.declared.form.Form.{Form}
 use Rattle.toml_json_text.specs.declared.form.Form.TheVariants.{Plain, Tagged}

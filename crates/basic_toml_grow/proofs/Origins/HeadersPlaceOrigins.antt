@@ -5,7 +5,7 @@ use Rattle.std.proofs.Common.{sym, ◌∙◌, subst, map, arith, length, None, V
 use Rattle.std.specs.Prelude.{◌&&◌}
 use Rattle.std.specs.Option.{option_or}
 use Rattle.std.proofs.lemmas.Bool.{false≢true}
-use Rattle.basic_toml_value.proofs.DistinctKeys.{bytes_eq-same}
+use Rattle.basic_toml_index.proofs.DistinctKeys.{bytes_eq-same}
 use Rattle.basic_toml_grammar.specs.Sections.{KeyTexts, no_rows}
 use Rattle.basic_toml_grammar.specs.Steps.{Step, key, number, Path, begins}
 use Rattle.basic_toml_grammar.specs.Trie.{Trie, nothing, find, Tries}

@@ -5,7 +5,7 @@ use Rattle.std.specs.Prelude.{slice_get}
 use Rattle.std.specs.Iterator.{MakesProgress, item_count}
 use Rattle.std.specs.declared.iter.Iterator.{can_next-default}
 use Rattle.basic_toml_value.specs.Data.{Data, no_members, items_of, members_of}
-use Rattle.basic_toml_value.specs.Keys.{are_distinct}
+use Rattle.basic_toml_index.specs.Keys.{are_distinct}
 use Rattle.basic_toml_value.specs.Pairs.{keys_of}
 use Rattle.basic_toml_grow.specs.declared.item.Item.{the_lemmas, Array, Tables}
 use Rattle.basic_toml_grow.specs.declared.item.Child.{Child}

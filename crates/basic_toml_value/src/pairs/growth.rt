@@ -2,7 +2,7 @@
 ghost use Rattle.std.specs.Prelude.{◌≡◌, ◌<◌, IfErr, IfOk, OnOk, Some, slice_get, vec_capacity, vec_len};
 ghost use Rattle.std.specs.Borrow.{sem};
 ghost use Rattle.basic_toml_value.specs.Entries.{seen, texts_of};
-ghost use Rattle.basic_toml_value.specs.Index.{IsGap, IsIndex};
+ghost use Rattle.basic_toml_index.specs.Index.{IsGap, IsIndex};
 ghost use Rattle.basic_toml_value.specs.Growth.{EntersKey, FindsOrAdds, Gives, new_place, values_of};
 
 use crate::index::{Found, Gap, Index};
@@ -87,11 +87,11 @@ pub struct Place {
 
 impl<V: Drop> Pairs<V> {
     ghost use Rattle.std.specs.Prelude.{◌≡◌, ◌<◌, ◌↔◌, [], ◌∷◌, ◌++◌, false, true, length, IfErr, IfSome, IsOk, IsTrue, MatchOption, None, OnErr, OnOk, slice_get, Some};
-    ghost use Rattle.basic_toml_value.specs.Keys.{are_distinct};
+    ghost use Rattle.basic_toml_index.specs.Keys.{are_distinct};
     ghost use Rattle.basic_toml_value.specs.Pairs.{keys_of, has_key, value_at};
     ghost use Rattle.basic_toml_value.specs.Text.{text_bytes};
     ghost use Rattle.basic_toml_value.specs.Entries.{seen, texts_of};
-    ghost use Rattle.basic_toml_value.specs.Index.{IsIndex};
+    ghost use Rattle.basic_toml_index.specs.Index.{IsIndex};
     ghost use Rattle.basic_toml_value.specs.Growth.{with_value, values_of};
     ghost use Rattle.basic_toml_value.specs.Lends.{lends_value};
 

@@ -39,7 +39,7 @@ use Rattle.basic_toml_grow.proofs.Origins.OriginsLeft.{OriginsLeft, ElementsCome
 use Rattle.basic_toml_grow.proofs.Origins.OriginsLeft.{row_comes, element_comes, elements_come}
 use Rattle.basic_toml_grow.specs.Plain.{are_plain}
 use Rattle.basic_toml_grow.proofs.PlainArrays.{plain_finished, plain_come}
-use Rattle.basic_toml_value.specs.Keys.{are_distinct}
+use Rattle.basic_toml_index.specs.Keys.{are_distinct}
 use Rattle.basic_toml_grow.specs.Simple.{are_simple, key_of as last_key}
 use Rattle.basic_toml_grow.proofs.WhatIsLeft.{nothing_left}
 use Rattle.basic_toml_grow.proofs.SimpleKeys.{keys_differ}

@@ -1,6 +1,6 @@
 use Rattle.std.proofs.Common.{List, ℕ, ap, sym, ◌∙◌, subst, take}
 use Rattle.std.proofs.lemmas.List.{take-map}
-use Rattle.basic_toml_value.specs.Index.{IsIndex}
+use Rattle.basic_toml_index.specs.Index.{IsIndex}
 use Rattle.basic_toml_value.specs.Pairs.{keys_of}
 use Rattle.basic_toml_value.proofs.KeysSeen.{keys_of-seen}
 use Rattle.basic_toml_grow.specs.Simple.{key_of}

@@ -2,7 +2,7 @@ use Rattle.std.proofs.Common.{◌≡◌, ◌++◌, length, refl, sym, ap, subst,
 use Rattle.std.proofs.lemmas.Bool.{and_from}
 use Rattle.std.proofs.lemmas.List.{append-nil}
 use Rattle.basic_toml_value.specs.Entries.{seen}
-use Rattle.basic_toml_value.specs.Keys.{are_distinct}
+use Rattle.basic_toml_index.specs.Keys.{are_distinct}
 use Rattle.basic_toml_value.specs.View.{entries, items_view}
 use Rattle.basic_toml_value.specs.declared.pairs.Pair.{Pair}
 use Rattle.basic_toml_value.specs.declared.value.Value.{Value}

@@ -1,7 +1,7 @@
 use Rattle.std.proofs.Common.{◌≡◌, length, ap, arith, sym, ◌∙◌, refl, ◌++◌, map, subst, List, ℕ}
 use Rattle.basic_toml_value.specs.Data.{Data, items_of, members_of}
 use Rattle.basic_toml_value.specs.View.{view, entries}
-use Rattle.basic_toml_value.specs.Index.{IsIndex}
+use Rattle.basic_toml_index.specs.Index.{IsIndex}
 use Rattle.basic_toml_value.proofs.Sizes.{data_size, items_size, members_size}
 use Rattle.basic_toml_tree.specs.Data.{data_of, child_data, table_data, child_pair, value_pair}
 use Rattle.basic_toml_tree.proofs.DataParts.{items_size-rest, items_size-front, items_size-last, members_size-rest}

@@ -13,7 +13,7 @@ use Rattle.std.specs.formers.vec.Vec as vec
 use Rattle.std.specs.declared.alloc.Global.{Global}
 use Rattle.std.specs.contracts.alloc.Global as heap
 use Rattle.std.specs.contracts.impls.GlobalAllocator.TheImpl.{ghosts}
-use Rattle.basic_toml_value.specs.declared.index.Index.{Index}
+use Rattle.basic_toml_index.specs.declared.Index.{Index}
 use Rattle.basic_toml_value.specs.declared.text.Text.{Text}
 use Rattle.basic_toml_value.specs.declared.pairs.Pair.{Pair}
 use Rattle.basic_toml_value.specs.declared.pairs.Pairs.TheInside.{Inside}
@@ -23,8 +23,8 @@ use Rattle.basic_toml_value.specs.contracts.pairs.Pairs as C
 use Rattle.basic_toml_value.specs.contracts.pairs.Pairs.TheInside as I
 use Rattle.basic_toml_value.specs.Text.{text_bytes}
 use Rattle.basic_toml_value.specs.Entries.{pair_seen, seen, texts_of}
-use Rattle.basic_toml_value.specs.Index.{IsIndex}
-use Rattle.basic_toml_value.specs.IndexLaws.{IsIndex-prop}
+use Rattle.basic_toml_index.specs.Index.{IsIndex}
+use Rattle.basic_toml_index.specs.IndexLaws.{IsIndex-prop}
 
 abbrev Bytes : Type 0
 Bytes = List ℕ

@@ -1,6 +1,6 @@
 use Rattle.std.proofs.Common.{◌≡◌, ◌≤◌, ℕ, false, List, [], ◌∷◌, ◌++◌, Option, None, MatchOption, length, sym, ◌∙◌, subst, arith}
-use Rattle.basic_toml_value.specs.Index.{IsIndex}
-use Rattle.basic_toml_value.specs.declared.index.Index.{Index}
+use Rattle.basic_toml_index.specs.Index.{IsIndex}
+use Rattle.basic_toml_index.specs.declared.Index.{Index}
 use Rattle.basic_toml_open_keys.specs.Kept.{kept_of}
 use Rattle.basic_toml_open_keys.specs.Keys.{is_below, with_key, with_keys, key_before, IsGreatest}
 use Rattle.basic_toml_open_keys.specs.PresentKeys.{keys_of, pending_of}

@@ -1,0 +1,13 @@
+pub mod DistinctKeys
+pub mod IndexAfterInsert
+pub mod IndexGrows
+pub mod InsertByShift
+pub mod KeysOfSlots
+pub mod LastEightBytes
+pub mod Order
+pub mod RisingAroundGap
+pub mod SearchFindsGap
+pub mod SlotsInLeaves
+pub mod SlotsSorted
+pub mod RunsMerged
+pub mod FirstTexts

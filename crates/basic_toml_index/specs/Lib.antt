@@ -1,0 +1,4 @@
+pub mod Keys
+pub mod Index
+pub mod SlotOrder
+pub mod IndexLaws

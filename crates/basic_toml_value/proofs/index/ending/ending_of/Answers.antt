@@ -1,7 +1,0 @@
-use Rattle.std.proofs.Common.{rules}
-use Rattle.basic_toml_value.specs.Index.{ending_of}
-use Rattle.basic_toml_value.proofs.index.ending.ending_of.Goals as goal
-
-pub returns : goal.returns
-unfolding ending_of
-returns c = search rules

@@ -1,8 +1,0 @@
--- The slots in a row and those of the leaves that are left are those of all leaves.
-use Rattle.std.proofs.Common.{◌≡◌, ◌++◌}
-use Rattle.basic_toml_value.specs.Index.{joined, leaves_of}
-use Rattle.basic_toml_value.proofs.index.leaves.first.in_a_row.Given as goal
-
-abbrev pub invariant-loop-leaf : goal.invariant-loop-leaf
-invariant-loop-leaf l =
-    l.row.items ++ joined (leaves_of l.leaf-iterator.rest.items) ≡ joined (leaves_of l.initial.leaf-iterator.rest.items)

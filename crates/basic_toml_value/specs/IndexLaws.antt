@@ -1,8 +1,0 @@
--- That texts have an index is one fact, however it is shown.
-use Rattle.std.specs.Prelude.{ℕ, List}
-use denote.Struct.Props.{props}
-use Rattle.basic_toml_value.specs.declared.index.Index.{Index}
-use Rattle.basic_toml_value.specs.Index.{IsIndex}
-
-pub IsIndex-prop : (keys : List (List ℕ)) (index : Index) → IsProp (IsIndex keys index)
-IsIndex-prop keys index = hlevel props
