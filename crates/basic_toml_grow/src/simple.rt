@@ -14,8 +14,9 @@ ghost use Rattle.basic_toml_read.specs.declared.section.Row.{out-Row};
 use crate::item::{Child, Item, Table};
 use crate::items_left::ItemsLeft;
 use crate::plain::is_plain;
+use basic_toml_index::{Index, Texts};
 use basic_toml_read::{Raw, Row};
-use basic_toml_value::{Index, Pair, Pairs, Text, Texts};
+use basic_toml_value::{Pair, Pairs, Text};
 use std::alloc::{AllocError, Global};
 use std::mem;
 

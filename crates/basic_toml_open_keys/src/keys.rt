@@ -12,7 +12,7 @@ ghost use Rattle.basic_toml_open_keys.specs.Kept.{kept_of};
 ghost use Rattle.std.proofs.Props.{props};
 
 use crate::names::Names;
-use basic_toml_value::{Found, Index};
+use basic_toml_index::{Found, Index};
 use std::alloc::{AllocError, Global};
 
 // How many keys are looked through one by one.

@@ -11,8 +11,8 @@ ghost use Rattle.basic_toml_layout.specs.Texts.{is_bare_key};
 ghost use Rattle.basic_toml_open_keys.specs.Keys.{turned};
 ghost use Rattle.basic_toml_open_keys.specs.Names.{IsPlace};
 
+use basic_toml_index::Texts;
 use basic_toml_layout::is_bare_key;
-use basic_toml_value::Texts;
 use std::alloc::{AllocError, Global};
 
 // Where a name stands, and whether it is a bare key.

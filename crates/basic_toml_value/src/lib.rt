@@ -11,13 +11,11 @@
 //! This is from `toml_vectors`, which makes each call once.
 #![tactic(auto)]
 
-mod index;
 mod pairs;
 mod text;
 mod value;
 
 pub use basic_toml_numbers::Float;
-pub use index::{Found, Gap, Index, Texts};
-pub use pairs::{Iter, Pair, Pairs, Place, PushRefusal};
+pub use pairs::{Iter, Pair, PairKeys, Pairs, Place, PushRefusal};
 pub use text::Text;
 pub use value::{NESTING_LIMIT, Table, Value};

@@ -7,8 +7,8 @@ ghost use Rattle.basic_toml_index.specs.Index.{IsIndex, IsGap};
 ghost use Rattle.basic_toml_value.specs.Entries.{seen, texts_of};
 ghost use Rattle.basic_toml_value.specs.Pairs.{keys_of, has_key, value_at, Gains};
 
-use crate::index::{Found, Gap, Index, Texts};
 use crate::text::Text;
+use basic_toml_index::{Found, Gap, Index, Texts};
 use std::alloc::Global;
 use std::fmt;
 use std::marker::Model;
@@ -35,17 +35,26 @@ pub struct Pair<V> {
     pub value: V,
 }
 
-impl<V> Texts for Vec<Pair<V>> {
+/// The keys of pairs, as an index takes them.
+#[derive(Drop)]
+pub struct PairKeys<'p, V> {
+    /// The pairs.
+    pub pairs: &'p [Pair<V>],
+}
+
+impl<'p, V> Texts for PairKeys<'p, V> {
     ghost use Rattle.basic_toml_value.specs.Entries.{texts_of};
 
-    ghost texts = { λ entries. texts_of entries.items };
+    ghost texts = { λ keys. texts_of keys.pairs.now };
 
+    #[inline]
     fn count(&self) -> usize {
-        self.len()
+        self.pairs.len()
     }
 
+    #[inline]
     fn text(&self, position: usize) -> &str {
-        self[position].key.as_str()
+        self.pairs[position].key.as_str()
     }
 }
 
@@ -113,7 +122,8 @@ impl<V> Pairs<V> {
     pub fn get(&self, key: &str) -> Option<&V>
         ensures { option_copied result ≡ value_at self.now key.now }
     {
-        match self.index.search(&self.entries, key) {
+        let pairs = self.entries.as_slice();
+        match self.index.search(&PairKeys { pairs }, key) {
             Found::At(position) => Some(&self.entries[position].value),
             Found::Absent(_) => None,
         }
@@ -135,7 +145,8 @@ impl<V> Pairs<V> {
         ensures err_unchanged { OnErr result (self.new ≡ self.old) }
         ensures pair_back { IfErr result (λ e. (e.1 ≡ key) × (e.2 ≡ value)) }
     {
-        match self.index.search(&self.entries, key.as_str()) {
+        let pairs = self.entries.as_slice();
+        match self.index.search(&PairKeys { pairs }, key.as_str()) {
             Found::At(_) => Err((PushRefusal::KeyPresent, key, value)),
             Found::Absent(gap) => match put(&mut self.entries, &mut self.index, gap, key, value) {
                 Ok(()) => Ok(()),
@@ -207,7 +218,11 @@ fn put<V>(
         return Err((key, value));
     }
     let alloc = *entries.allocator();
-    if index.insert(alloc, entries, key.as_str(), gap).is_err() {
+    let pairs = entries.as_slice();
+    if index
+        .insert(alloc, &PairKeys { pairs }, key.as_str(), gap)
+        .is_err()
+    {
         return Err((key, value));
     }
     let key = Text::of(key);

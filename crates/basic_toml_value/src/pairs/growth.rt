@@ -5,9 +5,9 @@ ghost use Rattle.basic_toml_value.specs.Entries.{seen, texts_of};
 ghost use Rattle.basic_toml_index.specs.Index.{IsGap, IsIndex};
 ghost use Rattle.basic_toml_value.specs.Growth.{EntersKey, FindsOrAdds, Gives, new_place, values_of};
 
-use crate::index::{Found, Gap, Index};
-use crate::pairs::{Pair, Pairs};
+use crate::pairs::{Pair, PairKeys, Pairs};
 use crate::text::Text;
+use basic_toml_index::{Found, Gap, Index};
 use std::alloc::{AllocError, Global};
 
 // Below so many pairs the room doubles from one, as many tables are small: a vector begins with room for four.
@@ -50,7 +50,10 @@ fn add<V: Drop>(
     let position = pairs.len();
     let key = Text::from_str(alloc, key)?;
     make_room(pairs)?;
-    index.insert(alloc, pairs, key.as_str(), gap)?;
+    let keys = PairKeys {
+        pairs: pairs.as_slice(),
+    };
+    index.insert(alloc, &keys, key.as_str(), gap)?;
     pairs.push_reserved(Pair { key, value });
     Ok(position)
 }
@@ -113,7 +116,8 @@ impl<V: Drop> Pairs<V> {
             (λ pair. value_at self.now key.now ≡ Some pair.now.value) }
         ensures same { IfSome result (λ pair. text_bytes pair.now.key ≡ key.now) }
     {
-        match self.index.search(&self.entries, key) {
+        let pairs = self.entries.as_slice();
+        match self.index.search(&PairKeys { pairs }, key) {
             Found::At(position) => Some(&self.entries[position]),
             Found::Absent(_) => None,
         }
@@ -158,7 +162,8 @@ impl<V: Drop> Pairs<V> {
         ensures found { has_key self.old key.now ≡ true → IsOk result }
         ensures kept { IfErr result (λ _. self.new ≡ self.old) }
     {
-        match self.index.search(&self.entries, key) {
+        let pairs = self.entries.as_slice();
+        match self.index.search(&PairKeys { pairs }, key) {
             Found::At(position) => Ok(Place {
                 position,
                 is_new: false,
@@ -190,7 +195,8 @@ impl<V: Drop> Pairs<V> {
         ensures found { has_key self.old key.now ≡ true → IsOk result }
         ensures kept { IfErr result (λ _. self.new ≡ self.old) }
     {
-        match self.index.search(&self.entries, key) {
+        let pairs = self.entries.as_slice();
+        match self.index.search(&PairKeys { pairs }, key) {
             Found::At(position) => Ok(Place {
                 position,
                 is_new: false,
