@@ -35,6 +35,34 @@ pub trait Texts {
         ensures { slice_get (texts self.now) position ≡ Some result.now };
 }
 
+/// What has a text of its own, as a pair has a key.
+pub trait HasText {
+    ghost use Rattle.std.specs.Prelude.{◌≡◌, List, ℕ};
+
+    ghost text_of: { Self → List ℕ };
+
+    /// The text.
+    fn text(&self) -> &str
+        ensures { result.now ≡ text_of self.now };
+}
+
+// The texts of a vector's elements.
+impl<E: HasText> Texts for Vec<E> {
+    ghost use Rattle.std.specs.Prelude.{map};
+
+    ghost texts = { λ elements. map E.text_of elements.items };
+
+    #[inline(always)]
+    fn count(&self) -> usize {
+        self.len()
+    }
+
+    #[inline(always)]
+    fn text(&self, position: usize) -> &str {
+        self[position].text()
+    }
+}
+
 /// What a search for a key finds.
 #[derive(Clone, Copy)]
 pub enum Found {

@@ -13,7 +13,7 @@ ghost use Rattle.basic_toml_order.specs.Writable.{is_unwritable};
 use crate::in_order::{are_elements_in_order, is_table_in_order};
 use basic_toml_index::Index;
 use basic_toml_layout::is_section;
-use basic_toml_value::{Pair, PairKeys, Pairs, Table, Value};
+use basic_toml_value::{Pair, Pairs, Table, Value};
 use std::alloc::{AllocError, Global};
 
 // On how many levels it is looked at whether a table or an array has its rows first already: the table itself, what
@@ -110,10 +110,7 @@ fn table_rows_first(alloc: Global, table: Table, looks: usize) -> Result<Table, 
         return Ok(table);
     }
     let pairs = pairs_rows_first(alloc, table.into_entries(), looks.saturating_sub(1))?;
-    let keys = PairKeys {
-        pairs: pairs.as_slice(),
-    };
-    let index = Index::of(alloc, &keys)?;
+    let index = Index::of(alloc, &pairs)?;
     Ok(Pairs::from_parts(pairs, index))
 }
 

@@ -16,6 +16,6 @@ mod text;
 mod value;
 
 pub use basic_toml_numbers::Float;
-pub use pairs::{Iter, Pair, PairKeys, Pairs, Place, PushRefusal};
+pub use pairs::{Iter, Pair, Pairs, Place, PushRefusal};
 pub use text::Text;
 pub use value::{NESTING_LIMIT, Table, Value};

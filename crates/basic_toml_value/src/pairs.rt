@@ -8,7 +8,7 @@ ghost use Rattle.basic_toml_value.specs.Entries.{seen, texts_of};
 ghost use Rattle.basic_toml_value.specs.Pairs.{keys_of, has_key, value_at, Gains};
 
 use crate::text::Text;
-use basic_toml_index::{Found, Gap, Index, Texts};
+use basic_toml_index::{Found, Gap, HasText, Index};
 use std::alloc::Global;
 use std::fmt;
 use std::marker::Model;
@@ -35,26 +35,14 @@ pub struct Pair<V> {
     pub value: V,
 }
 
-/// The keys of pairs, as an index takes them.
-#[derive(Drop)]
-pub struct PairKeys<'p, V> {
-    /// The pairs.
-    pub pairs: &'p [Pair<V>],
-}
+impl<V> HasText for Pair<V> {
+    ghost use Rattle.basic_toml_value.specs.Text.{text_bytes};
 
-impl<'p, V> Texts for PairKeys<'p, V> {
-    ghost use Rattle.basic_toml_value.specs.Entries.{texts_of};
+    ghost text_of = { λ pair. text_bytes pair.key };
 
-    ghost texts = { λ keys. texts_of keys.pairs.now };
-
-    #[inline]
-    fn count(&self) -> usize {
-        self.pairs.len()
-    }
-
-    #[inline]
-    fn text(&self, position: usize) -> &str {
-        self.pairs[position].key.as_str()
+    #[inline(always)]
+    fn text(&self) -> &str {
+        self.key.as_str()
     }
 }
 
@@ -122,8 +110,7 @@ impl<V> Pairs<V> {
     pub fn get(&self, key: &str) -> Option<&V>
         ensures { option_copied result ≡ value_at self.now key.now }
     {
-        let pairs = self.entries.as_slice();
-        match self.index.search(&PairKeys { pairs }, key) {
+        match self.index.search(&self.entries, key) {
             Found::At(position) => Some(&self.entries[position].value),
             Found::Absent(_) => None,
         }
@@ -145,8 +132,7 @@ impl<V> Pairs<V> {
         ensures err_unchanged { OnErr result (self.new ≡ self.old) }
         ensures pair_back { IfErr result (λ e. (e.1 ≡ key) × (e.2 ≡ value)) }
     {
-        let pairs = self.entries.as_slice();
-        match self.index.search(&PairKeys { pairs }, key.as_str()) {
+        match self.index.search(&self.entries, key.as_str()) {
             Found::At(_) => Err((PushRefusal::KeyPresent, key, value)),
             Found::Absent(gap) => match put(&mut self.entries, &mut self.index, gap, key, value) {
                 Ok(()) => Ok(()),
@@ -218,11 +204,7 @@ fn put<V>(
         return Err((key, value));
     }
     let alloc = *entries.allocator();
-    let pairs = entries.as_slice();
-    if index
-        .insert(alloc, &PairKeys { pairs }, key.as_str(), gap)
-        .is_err()
-    {
+    if index.insert(alloc, entries, key.as_str(), gap).is_err() {
         return Err((key, value));
     }
     let key = Text::of(key);

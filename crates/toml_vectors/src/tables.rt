@@ -1,7 +1,7 @@
 // Tables and their values, each call once: that it succeeds with ample memory.
 use basic_toml::from_str;
 use basic_toml_index::Index;
-use basic_toml_value::{PairKeys, Pairs, Table, Text, Value};
+use basic_toml_value::{Pairs, Table, Text, Value};
 use std::alloc::{AllocError, Global};
 use std::test::Fail;
 
@@ -47,13 +47,11 @@ fn makes_tables_of_parts(rt: HostRuntime) -> Result<(), Fail> {
     let alloc = rt.alloc();
     let read: Table = from_str(alloc, many_rows(alloc, 40)?.as_str())?;
     let entries = read.into_entries();
-    let pairs = entries.as_slice();
-    let (index, count) = Index::until_repeat(alloc, &PairKeys { pairs })?;
+    let (index, count) = Index::until_repeat(alloc, &entries)?;
     assert_eq!(rt; count, entries.len());
     let table: Table = Pairs::from_parts(entries, index.clone(alloc)?);
     let entries = table.into_entries();
-    let pairs = entries.as_slice();
-    let index = Index::of(alloc, &PairKeys { pairs })?;
+    let index = Index::of(alloc, &entries)?;
     let table: Table = Pairs::from_parts(entries, index);
     assert!(rt; table.get("key-39").is_some());
     Ok(())

@@ -5,7 +5,7 @@ ghost use Rattle.basic_toml_value.specs.Entries.{seen, texts_of};
 ghost use Rattle.basic_toml_index.specs.Index.{IsGap, IsIndex};
 ghost use Rattle.basic_toml_value.specs.Growth.{EntersKey, FindsOrAdds, Gives, new_place, values_of};
 
-use crate::pairs::{Pair, PairKeys, Pairs};
+use crate::pairs::{Pair, Pairs};
 use crate::text::Text;
 use basic_toml_index::{Found, Gap, Index};
 use std::alloc::{AllocError, Global};
@@ -50,10 +50,7 @@ fn add<V: Drop>(
     let position = pairs.len();
     let key = Text::from_str(alloc, key)?;
     make_room(pairs)?;
-    let keys = PairKeys {
-        pairs: pairs.as_slice(),
-    };
-    index.insert(alloc, &keys, key.as_str(), gap)?;
+    index.insert(alloc, pairs, key.as_str(), gap)?;
     pairs.push_reserved(Pair { key, value });
     Ok(position)
 }
@@ -116,8 +113,7 @@ impl<V: Drop> Pairs<V> {
             (λ pair. value_at self.now key.now ≡ Some pair.now.value) }
         ensures same { IfSome result (λ pair. text_bytes pair.now.key ≡ key.now) }
     {
-        let pairs = self.entries.as_slice();
-        match self.index.search(&PairKeys { pairs }, key) {
+        match self.index.search(&self.entries, key) {
             Found::At(position) => Some(&self.entries[position]),
             Found::Absent(_) => None,
         }
@@ -162,8 +158,7 @@ impl<V: Drop> Pairs<V> {
         ensures found { has_key self.old key.now ≡ true → IsOk result }
         ensures kept { IfErr result (λ _. self.new ≡ self.old) }
     {
-        let pairs = self.entries.as_slice();
-        match self.index.search(&PairKeys { pairs }, key) {
+        match self.index.search(&self.entries, key) {
             Found::At(position) => Ok(Place {
                 position,
                 is_new: false,
@@ -195,8 +190,7 @@ impl<V: Drop> Pairs<V> {
         ensures found { has_key self.old key.now ≡ true → IsOk result }
         ensures kept { IfErr result (λ _. self.new ≡ self.old) }
     {
-        let pairs = self.entries.as_slice();
-        match self.index.search(&PairKeys { pairs }, key) {
+        match self.index.search(&self.entries, key) {
             Found::At(position) => Ok(Place {
                 position,
                 is_new: false,

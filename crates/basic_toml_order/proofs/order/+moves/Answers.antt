@@ -108,8 +108,8 @@ table_rows_first-of-requires t c =
     let before : IsTrue (are_distinct (member_keys (entries (seen c.into_entries.result.items)))) =
     rw (member_keys-seen c.into_entries.result.items) c.into_entries.ensures.distinct in
     let after = distinct-rows_first (entries (seen c.into_entries.result.items)) before in
-    rw (c.as_slice.ensures.value) (subst (λ ks. IsTrue (are_distinct ks))
-    (ap member_keys (sym c.in_ok-pairs.ensures.order) ∙ member_keys-seen c.in_ok-pairs.pairs.items) after)
+    subst (λ ks. IsTrue (are_distinct ks))
+    (ap member_keys (sym c.in_ok-pairs.ensures.order) ∙ member_keys-seen c.in_ok-pairs.pairs.items) after
 
 pub table_rows_first-returns-clause-sound : goal.table_rows_first-returns-clause-sound
 table_rows_first-returns-clause-sound t c =

@@ -5,7 +5,7 @@ use Rattle.basic_toml_value.proofs.pairs.Pairs.enter_value.Goals as goal
 pub returns-in-At-clause-entered : goal.returns-in-At-clause-entered
 returns-in-At-clause-entered g c =
     found_again c.self.inside.entries.items c.args.self.now c.in-At.position c.args.key.now _
-    c.self.view_is c.self.invariant.distinct (rw (← c.as_slice-pairs.ensures.value) c.in-At.ensures.found)
+    c.self.view_is c.self.invariant.distinct c.in-At.ensures.found
 
 pub returns-in-At-clause-within : goal.returns-in-At-clause-within
 returns-in-At-clause-within g c = stands_within _ _ c.args.key.now (returns-in-At-clause-entered g c).entered.at
@@ -13,8 +13,8 @@ returns-in-At-clause-within g c = stands_within _ _ c.args.key.now (returns-in-A
 pub returns-in_ok-position-in-Absent-clause-entered : goal.returns-in_ok-position-in-Absent-clause-entered
 returns-in_ok-position-in-Absent-clause-entered g c =
     added_last c.self.inside.entries.items c.args.self.now _ c.in_ok-position-in-Absent.position c.args.key.now
-    c.args.value _ c.self.view_is (rw (← c.as_slice-pairs.ensures.value) c.in-Absent.ensures.absent)
-    c.in_ok-position-in-Absent.ensures.entered c.in_ok-position-in-Absent.ensures.stands refl
+    c.args.value _ c.self.view_is c.in-Absent.ensures.absent c.in_ok-position-in-Absent.ensures.entered
+    c.in_ok-position-in-Absent.ensures.stands refl
 
 pub returns-in_ok-position-in-Absent-clause-within : goal.returns-in_ok-position-in-Absent-clause-within
 returns-in_ok-position-in-Absent-clause-within g c =
@@ -23,4 +23,4 @@ returns-in_ok-position-in-Absent-clause-within g c =
 pub returns-in_err-position-in-Absent-clause-found : goal.returns-in_err-position-in-Absent-clause-found
 returns-in_err-position-in-Absent-clause-found g c there =
     absurd (not_absent c.self.inside.entries.items c.args.self.now c.args.key.now c.self.view_is
-    (rw (← c.as_slice-pairs.ensures.value) c.in-Absent.ensures.absent) there)
+    c.in-Absent.ensures.absent there)
