@@ -7,7 +7,7 @@ use Rattle.std.specs.List.{slice_get}
 use Rattle.basic_toml_value.specs.Data.{Data, items_of}
 use Rattle.basic_toml_grammar.specs.Sections.{KeyTexts, Rows}
 use Rattle.basic_toml_grammar.specs.Mentions.{finished}
-use Rattle.basic_toml_grow.specs.Plain.{plain_array}
+use Rattle.basic_toml_grow.specs.Plain.{plain_array, plain_table}
 use Rattle.basic_toml_grammar.specs.Trie.{Trie, no_tries, walk, steps_to, among, find}
 use Rattle.basic_toml_grammar.specs.Steps.{key}
 use Rattle.basic_toml_grow.specs.declared.clash.Clash.{Clash}
@@ -118,7 +118,9 @@ other_is_leaf i no_table no_tables = go (out-Item i) refl
         is_leaf (Data.array (items_of (map tree_data (map child_trie children.items))))
         (ap item_trie (made (Item-F.Array children) e) ∙ search (rules, the_lemmas))
     go (Item-F.Plain es) e =
-        is_leaf (finished (plain_array es.items)) (ap item_trie (made (Item-F.Plain es) e) ∙ search (rules, the_lemmas))
+        is_leaf (finished (plain_array es)) (ap item_trie (made (Item-F.Plain es) e) ∙ search (rules, the_lemmas))
+    go (Item-F.Rows rs) e =
+        is_leaf (finished (plain_table rs)) (ap item_trie (made (Item-F.Rows rs) e) ∙ search (rules, the_lemmas))
     go (Item-F.Inline t) e =
         is_leaf (tree_data (table_trie t.value)) (ap item_trie (made (Item-F.Inline t) e) ∙ search (rules, the_lemmas))
     go (Item-F.Table t) e = absurd (no_table t (made (Item-F.Table t) e ∙ search (rules, the_lemmas)))

@@ -8,8 +8,9 @@ pub mod RowsOfKeys
 pub mod KeyTreeGrows
 pub mod ValuesOnTheWay
 pub mod HeadersNamed
-pub mod PlainRows
+pub mod PlainParts
 pub mod PlainSeen
+pub mod LoneRows
 pub mod PlainValues
 pub mod SimpleKeys
 pub mod HeadersEntered

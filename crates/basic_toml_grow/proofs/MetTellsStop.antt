@@ -281,6 +281,8 @@ other_refuses c no_table = ap (mark_here dotted) (child_item_trie c) ∙ go (ite
         ∙ search (rules, the_lemmas)
     go (Item-F.Plain z) e = ap (λ i. mark_here dotted (item_trie i)) (of (Item-F.Plain z) e)
         ∙ search (rules, the_lemmas)
+    go (Item-F.Rows z) e = ap (λ i. mark_here dotted (item_trie i)) (of (Item-F.Rows z) e)
+        ∙ search (rules, the_lemmas)
     go (Item-F.Inline z) e = ap (λ i. mark_here dotted (item_trie i)) (of (Item-F.Inline z) e)
         ∙ search (rules, the_lemmas)
     go (Item-F.Tables b) e = ap (λ i. mark_here dotted (item_trie i)) (of (Item-F.Tables b) e)

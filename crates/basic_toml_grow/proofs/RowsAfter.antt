@@ -11,7 +11,8 @@ use Rattle.basic_toml_grammar.specs.Trie.{Trie, put_rows}
 use Rattle.basic_toml_grammar.proofs.Tries.RowsThatOverlapAreRefused.{values_clash, put_apart}
 use Rattle.basic_toml_grow.specs.Clash.{Obstacle, NamesObstacle}
 use Rattle.basic_toml_grow.specs.Obstacles.{rows_obstacle}
-use Rattle.basic_toml_grow.specs.Simple.{are_simple, are_all_plain, key_of}
+use Rattle.basic_toml_grow.specs.Plain.{key_of, are_simple}
+use Rattle.basic_toml_grow.specs.Simple.{are_all_plain}
 use Rattle.basic_toml_grow.specs.declared.clash.Clash.{Clash}
 use Rattle.basic_toml_read.specs.SectionView.{rows_seen}
 use Rattle.basic_toml_read.specs.declared.section.Row.{Row}

@@ -1,11 +1,12 @@
 -- Simple rows: what each of them is, and that their keys differ.
-use Rattle.std.proofs.Common.{◌≡◌, ℕ, Bool, true, false, not, List, [], ◌∷◌, map, refl}
+use Rattle.std.proofs.Common.{◌≡◌, ◌∙◌, ℕ, Bool, true, false, not, List, [], ◌∷◌, map, refl, sym}
 use Rattle.std.specs.Prelude.{◌&&◌}
 use Rattle.std.proofs.lemmas.Bool.{and_parts}
 use Rattle.basic_toml_index.specs.Keys.{is_among, are_distinct}
 use Rattle.basic_toml_read.specs.declared.section.Row.{Row, out-Row}
-use Rattle.basic_toml_grow.specs.Plain.{is_plain}
-use Rattle.basic_toml_grow.specs.Simple.{are_simple, are_all_plain, key_of}
+use Rattle.basic_toml_grow.specs.Plain.{key_of, is_plain, are_simple}
+use Rattle.basic_toml_grow.specs.Simple.{are_all_plain}
+use Rattle.basic_toml_grow.proofs.PlainSeen.{simple_step}
 
 no_more : (b : Bool) → not b ≡ true → b ≡ false
 no_more true is = absurd (cc)
@@ -20,7 +21,7 @@ pub record FirstIsSimple (l : ℕ) (r : Row) (rs : List Row) : Type 0 where
 pub first_is_simple : (l : ℕ) (r : Row) (rs : List Row) → are_simple l (r ∷ rs) ≡ true → FirstIsSimple l r rs
 first_is_simple l r rs simple =
     let here = is_plain (out-Row r).value l && not (is_among (map key_of rs) (key_of r)) in
-    let a = and_parts here (are_simple l rs) simple in
+    let a = and_parts here (are_simple l rs) (sym (simple_step l r rs) ∙ simple) in
     let b = and_parts (is_plain (out-Row r).value l) (not (is_among (map key_of rs) (key_of r))) a.0 in
     record { plain = b.0; apart = no_more (is_among (map key_of rs) (key_of r)) b.1; others = a.1 }
 
@@ -37,4 +38,11 @@ simple_from_plain l [] plain distinct = refl
 simple_from_plain l (r ∷ rs) plain distinct =
     let a = and_parts (is_plain (out-Row r).value l) (are_all_plain l rs) plain in
     let b = and_parts (not (is_among (map key_of rs) (key_of r))) (are_distinct (map key_of rs)) distinct in
-    rw (a.0, b.0) (simple_from_plain l rs a.1 b.1)
+    simple_step l r rs ∙ rw (a.0, b.0) (simple_from_plain l rs a.1 b.1)
+
+-- and simple rows are plain
+pub simple_are_plain : (l : ℕ) (rows : List Row) → are_simple l rows ≡ true → are_all_plain l rows ≡ true
+simple_are_plain l [] simple = refl
+simple_are_plain l (r ∷ rs) simple =
+    let first = first_is_simple l r rs simple in
+    rw (first.plain, simple_are_plain l rs first.others) refl

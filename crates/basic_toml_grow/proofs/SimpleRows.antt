@@ -1,7 +1,6 @@
 -- Simple rows, put into a table one after another: they become its entries.
 use Rattle.std.proofs.Common.{◌≡◌, ◌==◌, ◌≤◌, ℕ, ◌+◌, Bool, true, false, ◌||◌, List, [], ◌∷◌, ◌++◌, length, map, Some}
 use Rattle.std.proofs.Common.{arith, suc, take, drop, refl, sym, ap, ◌∙◌, subst, rules, ap₂, append_assoc, slice_get}
-use Rattle.std.specs.Prelude.{not, ◌&&◌}
 use Rattle.std.specs.Str.{bytes_eq}
 use Rattle.std.proofs.lemmas.Bool.{false≢true}
 use Rattle.std.proofs.lemmas.List.{append-nil, map-append, take-append-drop, take-map}
@@ -16,7 +15,6 @@ use Rattle.basic_toml_value.specs.Pairs.{keys_of, has_key}
 use Rattle.basic_toml_index.proofs.DistinctKeys.{bytes_eq-same, is_among-push, slice_get-last}
 use Rattle.basic_toml_grammar.specs.Marks.{valued}
 use Rattle.basic_toml_grammar.specs.Mentions.{finished}
-use Rattle.basic_toml_grammar.specs.Sections as sections
 use Rattle.basic_toml_grammar.specs.Sections.{Rows}
 use Rattle.basic_toml_grammar.specs.Trie.{Trie, mark_here}
 use Rattle.basic_toml_read.specs.SectionView.{lined_of, raw_of, rows_seen}
@@ -29,9 +27,9 @@ use Rattle.basic_toml_read.specs.declared.section.Raw.TheOpen.{Raw-F}
 use Rattle.basic_toml_read.specs.declared.section.Element.{Element}
 use Rattle.basic_toml_read.specs.declared.section.Row.{Row, out-Row}
 use Rattle.basic_toml_value.specs.Growth.{FindsOrAdds, values_of}
-use Rattle.basic_toml_grow.specs.Plain.{is_plain, plain_of}
-use Rattle.basic_toml_grow.specs.Simple.{are_simple, are_all_plain, key_of}
-use Rattle.basic_toml_grow.proofs.PlainValues.{plain_value}
+use Rattle.basic_toml_grow.specs.Plain.{key_of, is_plain, are_simple}
+use Rattle.basic_toml_grow.specs.Simple.{are_all_plain}
+use Rattle.basic_toml_grow.proofs.PlainValues.{plain_value, value_lower}
 use Rattle.basic_toml_grow.proofs.SimpleKeys.{first_is_simple, simple_from_plain}
 use Rattle.basic_toml_grow.proofs.WhatIsLeft.{nothing_left}
 use Rattle.basic_toml_grow.specs.declared.item.Item.{the_lemmas}
@@ -43,7 +41,7 @@ use Rattle.basic_toml_grow.specs.Item.{item_trie, leaf, child_trie, table_trie}
 use Rattle.basic_toml_grow.specs.Origins.{Within, item_origins, child_origins, table_within, value_origins, table_origin}
 use Rattle.basic_toml_grow.specs.Origins.{with_more, rows_origins, dotted_of}
 use Rattle.basic_toml_grow.specs.Rows.{AreIn, IsFinished, one_row}
-use Rattle.basic_toml_grow.specs.Simple.{kept, holds_rows, is_inline, none_inline, item_of, child_of, entry_of, entries_of, with_entries}
+use Rattle.basic_toml_grow.specs.Simple.{kept, item_of, child_of, entry_of, entries_of, with_entries}
 use Rattle.basic_toml_grow.proofs.ItemTries.{entries_with, with_entries_twice}
 use Rattle.basic_toml_grow.proofs.RowValues.{value_put}
 use Rattle.basic_toml_grow.proofs.RowsHaveKeys.{one_has_keys, rows_are_keyed}
@@ -54,12 +52,9 @@ use Rattle.basic_toml_grow.proofs.Origins.RowsPlaceOrigins.{origins_added}
 
 -- a plain value, as the item that it is kept as
 kept_trie : (x : Raw-F Raw Element Row tables.Rows) (l : ℕ) → is_plain (roll-Raw x) l ≡ true
-    → item_trie (kept x) ≡ leaf (finished (plain_of (roll-Raw x)))
+    → item_trie (kept x) ≡ leaf (finished (raw_of (roll-Raw x)))
 kept_trie (Raw-F.Dotted rs) l plain =
     let not_plain : is_plain (roll-Raw (Raw-F.Dotted rs)) l ≡ false = search (rules, raws.the_lemmas) in
-    absurd (false≢true (sym not_plain ∙ plain))
-kept_trie (Raw-F.Inline rs) l plain =
-    let not_plain : is_plain (roll-Raw (Raw-F.Inline rs)) l ≡ false = search (rules, raws.the_lemmas) in
     absurd (false≢true (sym not_plain ∙ plain))
 kept_trie (Raw-F.Integer z) l plain = search (rules, the_lemmas, raws.the_lemmas)
 kept_trie (Raw-F.Float text) l plain = search (rules, the_lemmas, raws.the_lemmas)
@@ -67,14 +62,12 @@ kept_trie (Raw-F.Boolean b) l plain = search (rules, the_lemmas, raws.the_lemmas
 kept_trie (Raw-F.String text) l plain = search (rules, the_lemmas, raws.the_lemmas)
 kept_trie (Raw-F.Escaped text) l plain = search (rules, the_lemmas, raws.the_lemmas)
 kept_trie (Raw-F.Array es) l plain = search (rules, the_lemmas, raws.the_lemmas)
+kept_trie (Raw-F.Inline rs) l plain = search (rules, the_lemmas, raws.the_lemmas)
 
 kept_comes : (x : Raw-F Raw Element Row tables.Rows) (l : ℕ) → is_plain (roll-Raw x) l ≡ true → (at s : ℕ)
-    → item_origins (kept x) at s ≡ value_origins s at (plain_of (roll-Raw x))
+    → item_origins (kept x) at s ≡ value_origins s at (raw_of (roll-Raw x))
 kept_comes (Raw-F.Dotted rs) l plain at s =
     let not_plain : is_plain (roll-Raw (Raw-F.Dotted rs)) l ≡ false = search (rules, raws.the_lemmas) in
-    absurd (false≢true (sym not_plain ∙ plain))
-kept_comes (Raw-F.Inline rs) l plain at s =
-    let not_plain : is_plain (roll-Raw (Raw-F.Inline rs)) l ≡ false = search (rules, raws.the_lemmas) in
     absurd (false≢true (sym not_plain ∙ plain))
 kept_comes (Raw-F.Integer z) l plain at s = search (rules, the_lemmas, raws.the_lemmas)
 kept_comes (Raw-F.Float text) l plain at s = search (rules, the_lemmas, raws.the_lemmas)
@@ -82,59 +75,36 @@ kept_comes (Raw-F.Boolean b) l plain at s = search (rules, the_lemmas, raws.the_
 kept_comes (Raw-F.String text) l plain at s = search (rules, the_lemmas, raws.the_lemmas)
 kept_comes (Raw-F.Escaped text) l plain at s = search (rules, the_lemmas, raws.the_lemmas)
 kept_comes (Raw-F.Array es) l plain at s = search (rules, the_lemmas, raws.the_lemmas)
+kept_comes (Raw-F.Inline rs) l plain at s = search (rules, the_lemmas, raws.the_lemmas)
 
--- a plain value is no inline table
-plain_alone : (x : Raw-F Raw Element Row tables.Rows) (l : ℕ) → is_plain (roll-Raw x) l ≡ true → holds_rows x ≡ false
-plain_alone (Raw-F.Dotted rs) l plain =
-    let not_plain : is_plain (roll-Raw (Raw-F.Dotted rs)) l ≡ false = search (rules, raws.the_lemmas) in
-    absurd (false≢true (sym not_plain ∙ plain))
-plain_alone (Raw-F.Inline rs) l plain =
-    let not_plain : is_plain (roll-Raw (Raw-F.Inline rs)) l ≡ false = search (rules, raws.the_lemmas) in
-    absurd (false≢true (sym not_plain ∙ plain))
-plain_alone (Raw-F.Integer z) l plain = refl
-plain_alone (Raw-F.Float text) l plain = refl
-plain_alone (Raw-F.Boolean b) l plain = refl
-plain_alone (Raw-F.String text) l plain = refl
-plain_alone (Raw-F.Escaped text) l plain = refl
-plain_alone (Raw-F.Array es) l plain = refl
+-- the first of plain rows, and the others
+pub first_plain : (l : ℕ) (r : Row) (rs : List Row) → are_all_plain l (r ∷ rs) ≡ true
+    → is_plain (out-Row r).value l ≡ true
+first_plain l r rs plain = (both (is_plain (out-Row r).value l) (are_all_plain l rs) plain).0
 
-pub not_inline : (v : Raw) (l : ℕ) → is_plain v l ≡ true → is_inline v ≡ false
-not_inline v l plain =
-    plain_alone (out-Raw v) l (ap (λ v. is_plain v l) (roll-out-Raw v) ∙ plain)
+pub others_plain : (l : ℕ) (r : Row) (rs : List Row) → are_all_plain l (r ∷ rs) ≡ true → are_all_plain l rs ≡ true
+others_plain l r rs plain = (both (is_plain (out-Row r).value l) (are_all_plain l rs) plain).1
 
-pub all_plain_alone : (l : ℕ) (rows : List Row) → are_all_plain l rows ≡ true → none_inline rows ≡ true
-all_plain_alone l [] plain = refl
-all_plain_alone l (r ∷ rs) plain =
-    let p = both (is_plain (out-Row r).value l) (are_all_plain l rs) plain in
-    rw (not_inline (out-Row r).value l p.0, all_plain_alone l rs p.1) refl
+-- plain rows are so at the lowest level too
+pub all_lower : (l : ℕ) (rows : List Row) → are_all_plain l rows ≡ true → are_all_plain 0 rows ≡ true
+all_lower l [] plain = refl
+all_lower l (r ∷ rs) plain =
+    rw (
+      value_lower (out-Row r).value l (first_plain l r rs plain),
+      all_lower l rs (others_plain l r rs plain),
+    )
+    refl
 
-pub all_simple_alone : (l : ℕ) (rows : List Row) → are_simple l rows ≡ true → none_inline rows ≡ true
-all_simple_alone l [] simple = refl
-all_simple_alone l (r ∷ rs) simple =
-    let p = both (is_plain (out-Row r).value l && not (is_among (map key_of rs) (key_of r))) (are_simple l rs) simple in
-    let q = both (is_plain (out-Row r).value l) (not (is_among (map key_of rs) (key_of r))) p.0 in
-    rw (not_inline (out-Row r).value l q.0, all_simple_alone l rs p.1) refl
-
-pub first_plain : (r : Row) (rs : List Row) → none_inline (r ∷ rs) ≡ true → is_inline (out-Row r).value ≡ false
-first_plain r rs plain = go (is_inline (out-Row r).value) (both (not (is_inline (out-Row r).value)) (none_inline rs) plain).0
-  where
-    go : (b : Bool) → not b ≡ true → b ≡ false
-    go true absent = absurd (false≢true absent)
-    go false absent = refl
-
-pub others_plain : (r : Row) (rs : List Row) → none_inline (r ∷ rs) ≡ true → none_inline rs ≡ true
-others_plain r rs plain = (both (not (is_inline (out-Row r).value)) (none_inline rs) plain).1
-
-item_is : (v : Raw) (l : ℕ) → is_plain v l ≡ true → item_trie (item_of v) ≡ leaf (finished (plain_of v))
+item_is : (v : Raw) (l : ℕ) → is_plain v l ≡ true → item_trie (item_of v) ≡ leaf (finished (raw_of v))
 item_is v l plain =
     let same : roll-Raw (out-Raw v) ≡ v = roll-out-Raw v in
-    kept_trie (out-Raw v) l (ap (λ v. is_plain v l) same ∙ plain) ∙ ap (λ v. leaf (finished (plain_of v))) same
+    kept_trie (out-Raw v) l (ap (λ v. is_plain v l) same ∙ plain) ∙ ap (λ v. leaf (finished (raw_of v))) same
 
 item_comes : (v : Raw) (l : ℕ) → is_plain v l ≡ true → (at s : ℕ)
-    → item_origins (item_of v) at s ≡ value_origins s at (plain_of v)
+    → item_origins (item_of v) at s ≡ value_origins s at (raw_of v)
 item_comes v l plain at s =
     let same : roll-Raw (out-Raw v) ≡ v = roll-out-Raw v in
-    kept_comes (out-Raw v) l (ap (λ v. is_plain v l) same ∙ plain) at s ∙ ap (λ v. value_origins s at (plain_of v)) same
+    kept_comes (out-Raw v) l (ap (λ v. is_plain v l) same ∙ plain) at s ∙ ap (λ v. value_origins s at (raw_of v)) same
 
 -- the child of a row
 child_item : (s : ℕ) (r : Row) → child_trie (child_of s r) ≡ item_trie (item_of (out-Row r).value)
@@ -211,9 +181,6 @@ module _ (s level : ℕ) (low : level ≤ nesting_limit) (t : Table) (r : Row)
   abbrev after : Table
   after = with_entries t (own ++ entry_of s r ∷ [])
 
-  read : raw_of (out-Row r).value ≡ plain_of (out-Row r).value
-  read = (plain_value (out-Row r).value level plain).is
-
   added : FindsOrAdds (λ c. c ≡ child_of s r) (key_of r) own (own ++ entry_of s r ∷ [])
       (record { position = length own; is_new = true })
   added = adds own (key_of r) (child_of s r) absent
@@ -225,12 +192,11 @@ module _ (s level : ℕ) (low : level ≤ nesting_limit) (t : Table) (r : Row)
       value_put [] r level (table_trie t) (key_of r ∷ []) (ap (λ k. k ∷ []) (sym (row_key r)))
       (child_trie (child_of s r)) (table_trie after)
       (subst (λ (l : ℕ). IsFinished (raw_of (out-Row r).value) l (child_trie (child_of s r))) (sym here)
-      (subst (λ (v : sections.Raw). IsFinished v level (child_trie (child_of s r))) (sym read)
       (record {
         value = child_item s r ∙ item_is (out-Row r).value level plain;
         apart = p.apart;
         fits = p.fits;
-      })))
+      }))
       (subst (λ (l : ℕ). l ≤ nesting_limit) (sym here) low)
       (λ d is_leaf.
       step_added t (key_of r) (own ++ entry_of s r ∷ []) (record { position = length own; is_new = true }) added
@@ -242,8 +208,7 @@ module _ (s level : ℕ) (low : level ≤ nesting_limit) (t : Table) (r : Row)
       (record { position = length own; is_new = true }) added (last_value own (key_of r) (child_of s r)) refl
       ∙ ap (with_more (table_within t))
       (row_comes s [] r (key_of r) (child_of s r) refl
-      (child_comes s r ∙ item_comes (out-Row r).value level plain (out-Row r).start s
-      ∙ ap (value_origins s (out-Row r).start) (sym read))
+      (child_comes s r ∙ item_comes (out-Row r).value level plain (out-Row r).start s)
       (child_dotted s r))
 
 -- keys that are none of those entered

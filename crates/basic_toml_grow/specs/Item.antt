@@ -6,7 +6,7 @@ use Rattle.basic_toml_grammar.specs.Mentions.{finished}
 use Rattle.basic_toml_grammar.specs.Standing as standing
 use Rattle.basic_toml_grammar.specs.Growth.{closed}
 use Rattle.basic_toml_grammar.specs.Trie.{Trie, trie, Tries, no_tries, by, nothing, bare}
-use Rattle.basic_toml_grow.specs.Plain.{plain_array}
+use Rattle.basic_toml_grow.specs.Plain.{plain_array, plain_table}
 use Rattle.basic_toml_grow.specs.declared.item.Item.{fold-Item}
 use Rattle.basic_toml_grow.specs.declared.item.Item as items
 use Rattle.basic_toml_grow.specs.declared.item.Item.TheOpen.{Item-F, Child-F, Table-F}
@@ -37,8 +37,9 @@ item_grows (Item-F.Float text) = leaf (Data.float text)
 item_grows (Item-F.Boolean b) = leaf (Data.boolean b)
 item_grows (Item-F.String text) = leaf (Data.string text.now)
 item_grows (Item-F.Escaped text) = leaf (Data.string (string_bytes text))
+item_grows (Item-F.Plain elements) = leaf (finished (plain_array elements))
+item_grows (Item-F.Rows rows) = leaf (finished (plain_table rows))
 item_grows (Item-F.Array children) = leaf (Data.array (items_of (map tree_data children.items)))
-item_grows (Item-F.Plain elements) = leaf (finished (plain_array elements.items))
 item_grows (Item-F.Inline table) = leaf (tree_data table.value)
 item_grows (Item-F.Table table) = table.value
 item_grows (Item-F.Tables tables) =

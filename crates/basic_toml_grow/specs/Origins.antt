@@ -8,7 +8,7 @@ use Rattle.basic_toml_value.specs.Pairs.{value_at}
 use Rattle.basic_toml_grammar.specs.Sections.{KeyTexts, texts, Raw, Elements, no_elements, element, Rows, no_rows}
 use Rattle.basic_toml_grammar.specs.Sections.{row}
 use Rattle.basic_toml_grammar.specs.Steps.{Step, key, number, Path, step_eq}
-use Rattle.basic_toml_grow.specs.Plain.{plain_array}
+use Rattle.basic_toml_grow.specs.Plain.{plain_array, plain_table}
 use Rattle.basic_toml_grow.specs.declared.item.Item.{fold-Item}
 use Rattle.basic_toml_grow.specs.declared.item.Item as items
 use Rattle.basic_toml_grow.specs.declared.item.Item.TheOpen.{Item-F, Child-F, Table-F}
@@ -153,8 +153,9 @@ item_from (Item-F.Float _) at s = entry (value_origin (codes "float") at s) no_o
 item_from (Item-F.Boolean _) at s = entry (value_origin (codes "boolean") at s) no_origins
 item_from (Item-F.String _) at s = entry (string_origin false at s) no_origins
 item_from (Item-F.Escaped _) at s = entry (string_origin true at s) no_origins
+item_from (Item-F.Plain elements) at s = value_origins s at (plain_array elements)
+item_from (Item-F.Rows rows) at s = value_origins s at (plain_table rows)
 item_from (Item-F.Array children) at s = entry (value_origin (codes "array") at s) (at_numbers children.items)
-item_from (Item-F.Plain elements) at s = value_origins s at (plain_array elements.items)
 item_from (Item-F.Inline table) at s = entry (value_origin (codes "inline table") at s) table.value.below
 item_from (Item-F.Table table) at s = of_table at s table.value
 item_from (Item-F.Tables tables) at s =

@@ -1,84 +1,84 @@
--- Plain values: scalars, and arrays of plain values, none deeper than the limit. No key stands in them, so nothing clashes
--- there. A plain value is seen at once as the grammar's value that it is.
-use Rattle.std.specs.Prelude.{ℕ, ◌+◌, Bool, true, false, ◌&&◌, nat_lt, List, [], ◌∷◌, ⊤, map, string_bytes}
+-- Plain values: scalars, arrays of plain values, and inline tables of a few rows, each of one key that no other has and a
+-- plain value; none deeper than the limit. Nothing clashes in them.
+use Rattle.std.specs.Prelude.{ℕ, ◌+◌, Bool, true, false, not, ◌&&◌, nat_lt, nat_le, List, [], ◌∷◌, ⊤, length, map}
 use Rattle.std.specs.List.{list_all}
 use Rattle.basic_toml_value.specs.Data.{Data}
 use Rattle.basic_toml_value.specs.Nesting.{nesting_limit}
+use Rattle.basic_toml_index.specs.Keys.{is_among}
+use Rattle.basic_toml_index.specs.Index.{few}
 use Rattle.basic_toml_grammar.specs.Mentions.{finished}
-use Rattle.basic_toml_grammar.specs.Sections.{Raw, Elements, no_elements, element, no_rows}
+use Rattle.basic_toml_grammar.specs.Sections.{Raw}
+use Rattle.basic_toml_read.specs.KeyText.{key_text_bytes}
+use Rattle.basic_toml_read.specs.SectionView.{raw_of, placed_of, elements_view, rows_seen}
 use Rattle.basic_toml_read.specs.declared.section.Raw.{fold-Raw}
 use Rattle.basic_toml_read.specs.declared.section.Raw as raws
 use Rattle.basic_toml_read.specs.declared.section.Raw.TheOpen.{Raw-F, Element-F, Row-F, Rows-F}
 use Rattle.basic_toml_read.specs.declared.section.Element as elements
 use Rattle.basic_toml_read.specs.declared.section.Element.{fold-Element}
+use Rattle.basic_toml_read.specs.declared.section.Row as rows
+use Rattle.basic_toml_read.specs.declared.section.Row.{fold-Row, out-Row}
+
+abbrev pub key_of : rows.Row → List ℕ
+key_of r = key_text_bytes (out-Row r).key
+
+-- a row's key, and whether its value is plain within a table of a level
+pub record Keyed : Type 0 where
+  pub key : List ℕ
+  pub plain : ℕ → Bool
+
+abbrev pub keyed_simple : ℕ → List Keyed → Bool
+keyed_simple l [] = true
+keyed_simple l (r ∷ rs) = (r.plain l && not (is_among (map (λ r. r.key) rs) r.key)) && keyed_simple l rs
 
 -- one level, the parts seen already: whether a value is plain within something of a level
-abbrev pub raw_plain : Raw-F (ℕ → Bool) (ℕ → Bool) ⊤ ⊤ → ℕ → Bool
-raw_plain (Raw-F.Inline rs) l = false
-raw_plain (Raw-F.Dotted rs) l = false
+abbrev pub raw_plain : Raw-F (ℕ → Bool) (ℕ → Bool) Keyed ⊤ → ℕ → Bool
 raw_plain (Raw-F.Array es) l = nat_lt l nesting_limit && list_all (λ e. e (l + 1)) es.items
+raw_plain (Raw-F.Inline rs) l =
+    nat_lt l nesting_limit && (nat_le (length rs.items) few && keyed_simple (l + 1) rs.items)
+raw_plain (Raw-F.Dotted rs) l = false
 raw_plain _ l = true
 
-abbrev pub element_plain : Element-F (ℕ → Bool) (ℕ → Bool) ⊤ ⊤ → ℕ → Bool
+abbrev pub element_plain : Element-F (ℕ → Bool) (ℕ → Bool) Keyed ⊤ → ℕ → Bool
 element_plain e = e.value
 
-abbrev pub row_plain : Row-F (ℕ → Bool) (ℕ → Bool) ⊤ ⊤ → ⊤
-row_plain r = tt
+abbrev pub row_plain : Row-F (ℕ → Bool) (ℕ → Bool) Keyed ⊤ → Keyed
+row_plain r = record { key = key_text_bytes r.key; plain = r.value }
 
-abbrev pub rows_plain : Rows-F (ℕ → Bool) (ℕ → Bool) ⊤ ⊤ → ⊤
+abbrev pub rows_plain : Rows-F (ℕ → Bool) (ℕ → Bool) Keyed ⊤ → ⊤
 rows_plain rs = tt
 
 abbrev pub is_plain : raws.Raw → ℕ → Bool
-is_plain = fold-Raw (ℕ → Bool) (ℕ → Bool) ⊤ ⊤ raw_plain element_plain row_plain rows_plain
+is_plain = fold-Raw (ℕ → Bool) (ℕ → Bool) Keyed ⊤ raw_plain element_plain row_plain rows_plain
 
 abbrev pub is_plain_element : elements.Element → ℕ → Bool
-is_plain_element = fold-Element (ℕ → Bool) (ℕ → Bool) ⊤ ⊤ raw_plain element_plain row_plain rows_plain
+is_plain_element = fold-Element (ℕ → Bool) (ℕ → Bool) Keyed ⊤ raw_plain element_plain row_plain rows_plain
+
+abbrev pub keyed_of : rows.Row → Keyed
+keyed_of = fold-Row (ℕ → Bool) (ℕ → Bool) Keyed ⊤ raw_plain element_plain row_plain rows_plain
 
 abbrev pub are_plain : ℕ → List elements.Element → Bool
 are_plain l es = list_all (λ e. is_plain_element e l) es
 
--- an element, and its value
-pub record Listed : Type 0 where
-  pub offset : ℕ
-  pub value : Raw
+-- of the rows of a table of a level: each has a plain value, and a key that no other has
+abbrev pub are_simple : ℕ → List rows.Row → Bool
+are_simple l rs = keyed_simple l (map keyed_of rs)
 
-abbrev pub listed : List Listed → Elements
-listed [] = no_elements
-listed (e ∷ es) = element e.offset e.value (listed es)
+abbrev pub are_few_simple : ℕ → List rows.Row → Bool
+are_few_simple l rs = nat_le (length rs) few && are_simple l rs
 
--- one level, the parts seen already; what is not plain is seen as an inline table without rows
-abbrev pub raw_seen : Raw-F Raw Listed ⊤ ⊤ → Raw
-raw_seen (Raw-F.Integer z) = Raw.integer z
-raw_seen (Raw-F.Float text) = Raw.float text
-raw_seen (Raw-F.Boolean b) = Raw.boolean b
-raw_seen (Raw-F.String text) = Raw.string text.now false
-raw_seen (Raw-F.Escaped text) = Raw.string (string_bytes text) true
-raw_seen (Raw-F.Array es) = Raw.array (listed es.items)
-raw_seen (Raw-F.Inline rs) = Raw.inline no_rows
-raw_seen (Raw-F.Dotted rs) = Raw.inline no_rows
-
-abbrev pub element_seen : Element-F Raw Listed ⊤ ⊤ → Listed
-element_seen e = record { offset = e.offset; value = e.value }
-
-abbrev pub row_seen : Row-F Raw Listed ⊤ ⊤ → ⊤
-row_seen r = tt
-
-abbrev pub rows_seen : Rows-F Raw Listed ⊤ ⊤ → ⊤
-rows_seen rs = tt
-
-abbrev pub plain_of : raws.Raw → Raw
-plain_of = fold-Raw Raw Listed ⊤ ⊤ raw_seen element_seen row_seen rows_seen
-
-abbrev pub listed_of : elements.Element → Listed
-listed_of = fold-Element Raw Listed ⊤ ⊤ raw_seen element_seen row_seen rows_seen
-
--- an array of plain elements
+-- an array of plain elements, and an inline table of plain rows
 abbrev pub plain_array : List elements.Element → Raw
-plain_array es = Raw.array (listed (map listed_of es))
+plain_array es = Raw.array (elements_view es)
 
--- the data of a value, and of an element
+abbrev pub plain_table : List rows.Row → Raw
+plain_table rs = Raw.inline (rows_seen [] rs)
+
+-- the data of a value, of an element, and of rows
 abbrev pub plain_data : raws.Raw → Data
-plain_data v = finished (plain_of v)
+plain_data v = finished (raw_of v)
 
-abbrev pub listed_data : elements.Element → Data
-listed_data e = finished (listed_of e).value
+abbrev pub element_data : elements.Element → Data
+element_data e = finished (placed_of e).value
+
+abbrev pub rows_data : List rows.Row → Data
+rows_data rs = finished (plain_table rs)

@@ -8,7 +8,6 @@ ghost use Rattle.basic_toml_grow.specs.Crossed.{first_crossed, Looks};
 ghost use Rattle.basic_toml_grow.specs.KeyTree.{ends_of, Follows, FollowsTo, no_key_tree};
 ghost use Rattle.basic_toml_grow.specs.declared.crossed.Crossed.TheVariants.{Memory};
 
-use crate::simple::are_all_plain;
 use basic_toml_read::{Element, Key, Raw, Row, Section};
 use basic_toml_value::Pairs;
 use std::alloc::{AllocError, Global};
@@ -99,22 +98,14 @@ fn has_longer(rows: &[Row<'_>]) -> bool
     false
 }
 
-// Looks for a row that goes on from the value of one before it. It has more keys than that one.
+// Looks for a row that goes on from the value of one before it: it has more keys than that one. The keys of all rows are
+// followed then, one row after another.
 fn look_between<'de>(alloc: Global, parents: &[Key<'de>], rows: &[Row<'de>]) -> Result<(), Crossed>
     ensures { Looks (crossed_between (rows_seen parents.now rows.now)) result }
 {
     if !has_longer(rows) {
         return Ok(());
     }
-    follow_rows(alloc, parents, rows)
-}
-
-// Follows the keys of all rows, one row after another. It stands apart, since in most tables no row has more keys than
-// the one before it.
-#[inline(never)]
-fn follow_rows<'de>(alloc: Global, parents: &[Key<'de>], rows: &[Row<'de>]) -> Result<(), Crossed>
-    ensures { Looks (crossed_between (rows_seen parents.now rows.now)) result }
-{
     let mut tree = KeyTree::new(alloc);
     let mut left = parents;
     for row in rows {
@@ -125,15 +116,11 @@ fn follow_rows<'de>(alloc: Global, parents: &[Key<'de>], rows: &[Row<'de>]) -> R
     Ok(())
 }
 
-// Looks for a row that goes on from a value: among these rows, and then within the value of each. Among plain rows, and
-// most rows are plain, there is none.
+// Looks for a row that goes on from a value: among these rows, and then within the value of each.
 #[cycle(looking)]
 fn look_through<'de>(alloc: Global, parents: &[Key<'de>], rows: &[Row<'de>]) -> Result<(), Crossed>
     ensures { Looks (crossed_in (rows_seen parents.now rows.now)) result }
 {
-    if parents.is_empty() && are_all_plain(rows, 0) {
-        return Ok(());
-    }
     look_between(alloc, parents, rows)?;
     for row in rows {
         look_into(alloc, &row.value)?;

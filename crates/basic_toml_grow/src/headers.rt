@@ -16,7 +16,7 @@ ghost use Rattle.basic_toml_grow.specs.Obstacles.{keys_obstacle, table_obstacle,
 
 use crate::clash::Clash;
 use crate::item::{Child, Item, Table};
-use crate::rows::take_rows;
+use crate::rows::{LOOKS, take_rows};
 use basic_toml_read::{Key, Rows, Section};
 use basic_toml_value::NESTING_LIMIT;
 use std::alloc::Global;
@@ -92,7 +92,7 @@ fn open<'de>(
     }
     table.named = true;
     table.section = number;
-    take_rows(alloc, table, rows, number, level)
+    take_rows(alloc, table, rows, number, level, LOOKS)
 }
 
 // Goes on from a table of a level by the keys of a header that are left. It is inlined, so that no call is made where

@@ -7,7 +7,7 @@ ghost use Rattle.basic_toml_grow.specs.Headers.{IsNew};
 ghost use Rattle.basic_toml_grow.specs.Item.{item_trie, child_trie, table_trie, empty_table};
 ghost use Rattle.basic_toml_grow.specs.Origins.{item_origins, child_origins, entry, no_origins, table_origin};
 
-use basic_toml_read::Element;
+use crate::plain_items::{PlainArray, PlainTable};
 use basic_toml_value::{Float, Pairs};
 use std::alloc::{AllocError, Global};
 
@@ -22,11 +22,13 @@ pub enum Item<'de> {
     String(&'de str),
     /// A copy of a string, where escapes are resolved or line ends are made line feeds.
     Escaped(String),
-    /// An array with inline tables in it.
-    Array(Vec<Child<'de>>),
     /// An array of plain values, as it was read.
-    Plain(Vec<Element<'de>>),
-    /// An inline table.
+    Plain(PlainArray<'de>),
+    /// An inline table of a few rows with plain values, as it was read.
+    Rows(PlainTable<'de>),
+    /// Any other array.
+    Array(Vec<Child<'de>>),
+    /// Any other inline table.
     Inline(Box<Table<'de>>),
     /// A table of headers or of dotted keys.
     Table(Box<Table<'de>>),

@@ -1,14 +1,18 @@
-//! Plain values: scalars, and arrays of plain values. No key stands in them, so nothing clashes there, and the tree can
-//! keep an array of them as it was read.
+//! Plain values: scalars, arrays of plain values, and inline tables of a few rows, each of one key that no other has and
+//! a plain value. Nothing clashes in them, so a tree keeps them as they were read ([`PlainArray`], [`PlainTable`]).
 
-ghost use Rattle.std.specs.Prelude.{◌≡◌};
+ghost use Rattle.std.specs.Prelude.{◌≡◌, map};
+ghost use Rattle.basic_toml_index.specs.Keys.{is_among};
 ghost use Rattle.basic_toml_grow.specs.Plain.{are_plain as all_plain, is_plain as plain_within};
+ghost use Rattle.basic_toml_grow.specs.Plain.{are_simple as all_simple, are_few_simple as few_simple, key_of};
 
-use basic_toml_read::{Element, Raw};
+use basic_toml_read::{Element, Raw, Row};
 use basic_toml_value::NESTING_LIMIT;
 
-/// Whether all elements of an array of a level are plain: none holds an inline table, and none is deeper than the
-/// limit.
+// Of up to so many rows it is asked whether they are simple, since each key is then compared with all others.
+const FEW: usize = 16;
+
+/// Whether all elements of an array of a level are plain, and none is deeper than the limit.
 #[cycle(plain)]
 #[inline(never)]
 pub(crate) fn are_plain(elements: &[Element<'_>], level: usize) -> bool
@@ -22,6 +26,30 @@ pub(crate) fn are_plain(elements: &[Element<'_>], level: usize) -> bool
     true
 }
 
+/// Whether the rows of a table of a level are few and simple: each has a plain value, and a key that no other has.
+#[cycle(plain)]
+#[inline(always)]
+pub(crate) fn are_few_simple(rows: &[Row<'_>], level: usize) -> bool
+    ensures { result ≡ few_simple level rows.now }
+{
+    rows.len() <= FEW && are_simple(rows, level)
+}
+
+// Whether the rows of a table of a level are simple. Each key is compared with all after it.
+#[cycle(plain)]
+fn are_simple(rows: &[Row<'_>], level: usize) -> bool
+    ensures { result ≡ all_simple level rows.now }
+{
+    match rows.split_first() {
+        Some((row, rest)) => {
+            is_plain(&row.value, level)
+                && !has_key(rest, row.key.as_str())
+                && are_simple(rest, level)
+        }
+        None => true,
+    }
+}
+
 /// Whether a value within something of a level is plain.
 #[cycle(plain)]
 #[inline(always)]
@@ -29,10 +57,21 @@ pub(crate) fn is_plain(value: &Raw<'_>, level: usize) -> bool
     ensures { result ≡ plain_within value.now level }
 {
     match value {
-        Raw::Inline(_) | Raw::Dotted(_) => false,
         Raw::Array(elements) => {
             level < NESTING_LIMIT && are_plain(elements.as_slice(), level + 1)
         }
+        Raw::Inline(rows) => level < NESTING_LIMIT && are_few_simple(rows.as_slice(), level + 1),
+        Raw::Dotted(_) => false,
         _ => true,
+    }
+}
+
+// Whether a row has this key.
+fn has_key(rows: &[Row<'_>], key: &str) -> bool
+    ensures { result ≡ is_among (map key_of rows.now) key.now }
+{
+    match rows.split_first() {
+        Some((row, rest)) => key == row.key.as_str() || has_key(rest, key),
+        None => false,
     }
 }

@@ -23,16 +23,18 @@ ghost use Rattle.basic_toml_grow.specs.RowStops.{TellsLast, TellsRow, TellsExten
 use crate::clash::Clash;
 use crate::item::{Child, Item, Table};
 use crate::items_left::{ItemsLeft, drain};
-use crate::plain::are_plain;
+use crate::plain::{are_few_simple, are_plain};
+use crate::plain_items::{PlainArray, PlainTable};
 use crate::row_clash::{row_clash, value_clash};
-use crate::simple::{are_all_plain, are_simple, index_until_repeat, with_first_rows, with_rows};
+use crate::simple::{are_all_plain, index_until_repeat, with_first_rows, with_rows};
 use basic_toml_read::{Element, Key, Raw, Row, Rows};
 use basic_toml_value::NESTING_LIMIT;
 use std::alloc::{AllocError, AllocFailed, Global};
 use std::mem;
 
-// Of up to so many rows it is asked whether they are simple, since each key is then compared with all others.
-const FEW: usize = 16;
+/// How many times a value is looked through at most for whether it is plain: a deep one is not looked through anew at
+/// each of its levels.
+pub(crate) const LOOKS: usize = 4;
 
 // Of so many rows an index of the keys is made at once, by sorting them, where each has one key and a plain value.
 const MANY: usize = 64;
@@ -136,7 +138,17 @@ fn enter_dotted<'de>(
     let start = child.start;
     let section = child.section;
     let place = table.entries.enter_again(key.text.as_str(), |last| {
-        Child::table(alloc, start, section, room_like(last))
+        // As much room as the table before it takes, since such tables are often alike.
+        let room = match last {
+            Some(
+                Child {
+                    item: Item::Table(table),
+                    ..
+                },
+            ) => table.entries.len(),
+            _ => 1,
+        };
+        Child::table(alloc, start, section, room)
     })?;
     let there = table.entries.value_mut(place.position);
     extend(alloc, there, rest, last, child)
@@ -157,14 +169,6 @@ fn enter_last<'de>(table: &mut Table<'de>, last: &str, child: Child<'de>) -> Res
         return Ok(());
     }
     Err(what_is_met(table.entries.value(place.position)))
-}
-
-// The room that a new table may want after this one: as many entries as it has, since such tables are often alike.
-fn room_like(last: Option<&Child<'_>>) -> usize {
-    match last.map(|child| &child.item) {
-        Some(Item::Table(table)) => table.entries.len(),
-        _ => 1,
-    }
 }
 
 // Puts the rest of a row into the table at a key that a period follows.
@@ -221,6 +225,7 @@ pub(crate) fn take_rows<'de>(
     rows: &mut Rows<'de>,
     section: usize,
     level: usize,
+    looks: usize,
 ) -> Result<(), Clash>
     requires { level ≤ nesting_limit }
     ensures entered { EntersRows (rows_view rows.old) level (table_trie table.old) (table_trie table.new) result }
@@ -233,20 +238,21 @@ pub(crate) fn take_rows<'de>(
     if rows.rows.is_empty() && rows.parents.is_empty() {
         return Ok(());
     }
-    if rows.rows.len() <= FEW
+    if looks > 0
         && rows.parents.is_empty()
         && table.entries.is_empty()
-        && are_simple(rows.rows.as_slice(), level)
+        && are_few_simple(rows.rows.as_slice(), level)
     {
         return Ok(with_rows(alloc, table, &mut rows.rows, section)?);
     }
     let Rows { parents, rows } = mem::replace(rows, Rows::none(alloc));
     if rows.len() >= MANY
+        && looks > 0
         && parents.is_empty()
         && table.entries.is_empty()
         && are_all_plain(rows.as_slice(), level)
     {
-        return take_many_rows(alloc, table, rows, section, level);
+        return take_many_rows(alloc, table, rows, section, level, looks);
     }
     table.reserve(room_for(rows.as_slice()))?;
     enter_rows(
@@ -256,6 +262,7 @@ pub(crate) fn take_rows<'de>(
         drain(rows),
         section,
         level,
+        looks.saturating_sub(1),
     )
 }
 
@@ -270,6 +277,7 @@ fn take_many_rows<'de>(
     rows: Vec<Row<'de>>,
     section: usize,
     level: usize,
+    looks: usize,
 ) -> Result<(), Clash>
     requires level { level ≤ nesting_limit }
     requires plain { all_plain level rows.items ≡ true }
@@ -284,7 +292,7 @@ fn take_many_rows<'de>(
     let (index, count) = index_until_repeat(alloc, rows.as_slice())?;
     let mut rows = drain(rows);
     with_first_rows(alloc, table, &mut rows, section, index, count)?;
-    enter_rows(alloc, table, &[], rows, section, level)
+    enter_rows(alloc, table, &[], rows, section, level, looks)
 }
 
 // Puts the rows that are left into a table of a level, one by one.
@@ -297,6 +305,7 @@ fn enter_rows<'de>(
     rows: ItemsLeft<Row<'de>>,
     section: usize,
     level: usize,
+    looks: usize,
 ) -> Result<(), Clash>
     requires { level ≤ nesting_limit }
     ensures entered { EntersRows (rows_seen parents.entry.now rows.entry) level (table_trie table.old)
@@ -309,7 +318,7 @@ fn enter_rows<'de>(
     let mut left = parents;
     for row in rows {
         let own = row.own_parents(left);
-        enter_value(alloc, table, own, row, section, level)?;
+        enter_value(alloc, table, own, row, section, level, looks)?;
         left = &left[own.len()..];
     }
     Ok(())
@@ -325,6 +334,7 @@ fn enter_value<'de>(
     row: Row<'de>,
     section: usize,
     level: usize,
+    looks: usize,
 ) -> Result<(), Clash>
     requires level { level ≤ nesting_limit }
     ensures entered { EntersRows (one_row keys.entry.now row.entry) level (table_trie table.old)
@@ -344,7 +354,7 @@ fn enter_value<'de>(
         start,
         value,
     } = row;
-    match row_value(alloc, value, start, section, level + keys.len()) {
+    match row_value(alloc, value, start, section, level + keys.len(), looks) {
         Err(clash) => Err(value_clash(alloc, clash, keys, key.as_str())?),
         Ok(child) => match enter_row(alloc, table, keys, key.as_str(), child) {
             Ok(()) => Ok(()),
@@ -353,8 +363,8 @@ fn enter_value<'de>(
     }
 }
 
-// The item of the value of a row, which begins at an offset, in a table of a level. An array of plain values is kept
-// as it was read. No value is looked through twice: in an array that is not plain, no plain array is looked for.
+// The item of the value of a row, which begins at an offset, in a table of a level. An array or an inline table of
+// plain values is kept as it was read. What stands within one that is not plain is looked through once less.
 #[cycle(finishing)]
 #[inline(always)]
 fn row_value<'de>(
@@ -363,6 +373,7 @@ fn row_value<'de>(
     start: usize,
     section: usize,
     level: usize,
+    looks: usize,
 ) -> Result<Child<'de>, Clash>
     requires { level ≤ nesting_limit }
     ensures finished { Finishes (raw_of value.entry) level result }
@@ -372,12 +383,22 @@ fn row_value<'de>(
 {
     match value {
         Raw::Array(elements) => {
-            if level < NESTING_LIMIT && are_plain(elements.as_slice(), level + 1) {
-                return Ok(Child::at(start, section, Item::Plain(elements)));
+            if looks > 0 && level < NESTING_LIMIT && are_plain(elements.as_slice(), level + 1) {
+                let array = PlainArray { elements };
+                return Ok(Child::at(start, section, Item::Plain(array)));
             }
-            child_of(alloc, Raw::Array(elements), start, section, level)
+            let looks = looks.saturating_sub(1);
+            child_of(alloc, Raw::Array(elements), start, section, level, looks)
         }
-        value => child_of(alloc, value, start, section, level),
+        Raw::Inline(rows) => {
+            if looks > 0 && level < NESTING_LIMIT && are_few_simple(rows.as_slice(), level + 1) {
+                let table = PlainTable { rows };
+                return Ok(Child::at(start, section, Item::Rows(table)));
+            }
+            let looks = looks.saturating_sub(1);
+            child_of(alloc, Raw::Inline(rows), start, section, level, looks)
+        }
+        value => child_of(alloc, value, start, section, level, looks),
     }
 }
 
@@ -391,6 +412,7 @@ fn child_of<'de>(
     start: usize,
     section: usize,
     level: usize,
+    looks: usize,
 ) -> Result<Child<'de>, Clash>
     requires { level ≤ nesting_limit }
     ensures finished { Finishes (raw_of value.entry) level result }
@@ -408,14 +430,16 @@ fn child_of<'de>(
             if level >= NESTING_LIMIT {
                 return Err(Clash::Deep);
             }
-            let children = children_of(alloc, elements, section, level + 1)?;
+            let children = children_of(alloc, elements, section, level + 1, looks)?;
             Ok(Child::at(start, section, Item::Array(children)))
         }
         Raw::Inline(rows) => {
             let parents = Vec::new(alloc);
-            inline_child(alloc, Rows { parents, rows }, start, section, level)
+            inline_child(alloc, Rows { parents, rows }, start, section, level, looks)
         }
-        Raw::Dotted(rows) => inline_child(alloc, Box::into_inner(rows), start, section, level),
+        Raw::Dotted(rows) => {
+            inline_child(alloc, Box::into_inner(rows), start, section, level, looks)
+        }
     }
 }
 
@@ -428,6 +452,7 @@ fn inline_child<'de>(
     start: usize,
     section: usize,
     level: usize,
+    looks: usize,
 ) -> Result<Child<'de>, Clash>
     requires { level ≤ nesting_limit }
     ensures finished { Finishes (spec_raw.inline (rows_view rows.entry)) level result }
@@ -442,7 +467,7 @@ fn inline_child<'de>(
     }
     let mut rows = rows;
     let mut table = Table::new(alloc)?;
-    take_rows(alloc, &mut *table, &mut rows, section, level + 1)?;
+    take_rows(alloc, &mut *table, &mut rows, section, level + 1, looks)?;
     Ok(Child::at(start, section, Item::Inline(table)))
 }
 
@@ -454,6 +479,7 @@ fn children_of<'de>(
     elements: Vec<Element<'de>>,
     section: usize,
     level: usize,
+    looks: usize,
 ) -> Result<Vec<Child<'de>>, Clash>
     requires { level ≤ nesting_limit }
     ensures finished { FinishesAll (elements_view elements.entry.items) level result }
@@ -465,7 +491,7 @@ fn children_of<'de>(
     let mut children = Vec::with_capacity(alloc, elements.len())?;
     for element in drain(elements) {
         let offset = element.offset;
-        children.push(child_of(alloc, element.value, offset, section, level)?)?;
+        children.push(child_of(alloc, element.value, offset, section, level, looks)?)?;
     }
     Ok(children)
 }

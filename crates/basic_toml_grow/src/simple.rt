@@ -1,41 +1,27 @@
-//! Simple rows: each has a last key that no other has, and a plain value. Where none has parents, nothing clashes among
-//! them, and a table without entries takes them all at once.
+//! Rows of one key and a plain value each: where their keys differ, a table without entries takes them all at once.
 
-ghost use Rattle.std.specs.Prelude.{◌≡◌, ◌≤◌, [], false, IfOk, IsTrue, length, map, take, drop};
+ghost use Rattle.std.specs.Prelude.{◌≡◌, ◌≤◌, [], true, IfOk, IsTrue, length, map, take, drop};
 ghost use Rattle.basic_toml_index.specs.Keys.{are_distinct, is_among};
 ghost use Rattle.basic_toml_value.specs.Entries.{seen, pair_seen};
 ghost use Rattle.basic_toml_value.specs.Text.{text_bytes};
 ghost use Rattle.basic_toml_index.specs.Index.{IsIndex, few};
-ghost use Rattle.basic_toml_grow.specs.Simple.{are_simple as all_simple, are_all_plain as all_plain, key_of};
+ghost use Rattle.basic_toml_grow.specs.Plain.{key_of, is_plain};
+ghost use Rattle.basic_toml_grow.specs.Simple.{are_all_plain as all_plain, item_of as kept_item};
 ghost use Rattle.basic_toml_grow.specs.Simple.{entry_of as new_entry, entries_of as new_entries, with_entries};
-ghost use Rattle.basic_toml_grow.specs.Simple.{item_of as kept_item, is_inline, none_inline};
 ghost use Rattle.basic_toml_read.specs.declared.section.Row.{out-Row};
 
 use crate::item::{Child, Item, Table};
 use crate::items_left::ItemsLeft;
 use crate::plain::is_plain;
+use crate::plain_items::{PlainArray, PlainTable};
 use basic_toml_index::{Index, Texts};
 use basic_toml_read::{Raw, Row};
 use basic_toml_value::{Pair, Pairs, Text};
 use std::alloc::{AllocError, Global};
 use std::mem;
 
-/// Whether the rows of a table of a level are simple. Each key is compared with all after it: ask it of a few rows.
-pub(crate) fn are_simple(rows: &[Row<'_>], level: usize) -> bool
-    ensures { result ≡ all_simple level rows.now }
-{
-    match rows.split_first() {
-        Some((row, rest)) => {
-            is_plain(&row.value, level)
-                && !has_key(rest, row.key.as_str())
-                && are_simple(rest, level)
-        }
-        None => true,
-    }
-}
-
-/// Whether the rows of a table of a level are all plain: each has a plain value. Rows of such whose keys differ are
-/// simple, so this serves very many rows, of which `are_simple` would compare each with all after it.
+/// Whether the rows of a table of a level all have plain values. It serves many rows, of which no key is compared with
+/// all others.
 pub(crate) fn are_all_plain(rows: &[Row<'_>], level: usize) -> bool
     ensures { result ≡ all_plain level rows.now }
 {
@@ -47,20 +33,10 @@ pub(crate) fn are_all_plain(rows: &[Row<'_>], level: usize) -> bool
     true
 }
 
-// Whether a row has this key.
-fn has_key(rows: &[Row<'_>], key: &str) -> bool
-    ensures { result ≡ is_among (map key_of rows.now) key.now }
-{
-    match rows.split_first() {
-        Some((row, rest)) => key == row.key.as_str() || has_key(rest, key),
-        None => false,
-    }
-}
-
 // The item of a plain value.
 #[inline(always)]
 fn item_of<'de>(value: Raw<'de>) -> Item<'de>
-    requires { is_inline value ≡ false }
+    requires { is_plain value 0 ≡ true }
     ensures { result ≡ kept_item value.entry }
 {
     match value {
@@ -69,8 +45,9 @@ fn item_of<'de>(value: Raw<'de>) -> Item<'de>
         Raw::Boolean(truth) => Item::Boolean(truth),
         Raw::String(text) => Item::String(text),
         Raw::Escaped(text) => Item::Escaped(text),
-        Raw::Array(elements) => Item::Plain(elements),
-        Raw::Inline(_) | Raw::Dotted(_) => unreachable!(),
+        Raw::Array(elements) => Item::Plain(PlainArray { elements }),
+        Raw::Inline(rows) => Item::Rows(PlainTable { rows }),
+        Raw::Dotted(_) => unreachable!(),
     }
 }
 
@@ -78,7 +55,7 @@ fn item_of<'de>(value: Raw<'de>) -> Item<'de>
 #[inline(always)]
 fn entry_of<'de>(key: Text, row: Row<'de>, section: usize) -> Pair<Child<'de>>
     requires key { text_bytes key ≡ key_of row }
-    requires plain { is_inline (out-Row row).value ≡ false }
+    requires plain { is_plain (out-Row row).value 0 ≡ true }
     ensures { pair_seen result ≡ new_entry section row.entry }
 {
     Pair {
@@ -97,7 +74,7 @@ fn entries_of<'de>(
     rows: &mut Vec<Row<'de>>,
     section: usize,
 ) -> Result<Vec<Pair<Child<'de>>>, AllocError>
-    requires plain { IsTrue (none_inline rows.old.items) }
+    requires plain { all_plain 0 rows.old.items ≡ true }
     ensures entries { IfOk result (λ entries. seen entries.items ≡ new_entries section rows.old.items) }
     ensures taken { IfOk result (λ _. rows.new.items ≡ []) }
 {
@@ -119,7 +96,7 @@ fn first_entries_of<'de>(
     count: usize,
 ) -> Result<Vec<Pair<Child<'de>>>, AllocError>
     requires within { count ≤ length rows.old }
-    requires plain { IsTrue (none_inline rows.old) }
+    requires plain { all_plain 0 rows.old ≡ true }
     ensures entries { IfOk result (λ entries. seen entries.items ≡ new_entries section (take count rows.old)) }
     ensures left { IfOk result (λ entries. rows.new ≡ drop count rows.old) }
 {
@@ -143,7 +120,7 @@ pub(crate) fn with_rows<'de>(
     rows: &mut Vec<Row<'de>>,
     section: usize,
 ) -> Result<(), AllocError>
-    requires plain { IsTrue (none_inline rows.old.items) }
+    requires plain { all_plain 0 rows.old.items ≡ true }
     requires distinct { IsTrue (are_distinct (map key_of rows.old.items)) }
     requires few { length rows.old.items ≤ few }
     ensures after { IfOk result (λ _. table.new ≡ with_entries table.old (new_entries section rows.old.items)) }
@@ -162,7 +139,7 @@ struct RowKeys<'r, 'de> {
 
 impl<'r, 'de> Texts for RowKeys<'r, 'de> {
     ghost use Rattle.std.specs.Prelude.{map};
-    ghost use Rattle.basic_toml_grow.specs.Simple.{are_simple as all_simple, are_all_plain as all_plain, key_of};
+    ghost use Rattle.basic_toml_grow.specs.Plain.{key_of};
 
     ghost texts = { λ keys. map key_of keys.rows.now };
 
@@ -199,7 +176,7 @@ pub(crate) fn with_first_rows<'de>(
     count: usize,
 ) -> Result<(), AllocError>
     requires within { count ≤ length rows.old }
-    requires plain { IsTrue (none_inline rows.old) }
+    requires plain { all_plain 0 rows.old ≡ true }
     requires index { IsIndex (take count (map key_of rows.old)) index }
     ensures after { IfOk result (λ _. table.new
         ≡ with_entries table.old (new_entries section (take count rows.old))) }

@@ -162,8 +162,11 @@ impl Index {
         }
     }
 
-    /// Takes in a key that is to stand after the texts, where it goes. Where memory is refused, the index stays one
-    /// of the texts as they are.
+    /// Takes in a key that is to stand after the texts, where it goes.
+    ///
+    /// # Errors
+    ///
+    /// `AllocError` where memory was refused. The index stays one of the texts as they are.
     #[inline(always)]
     pub fn insert<T: Texts>(
         &mut self,

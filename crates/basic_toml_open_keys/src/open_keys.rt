@@ -2,7 +2,7 @@
 //!
 //! Records of one type have the same keys in the same order. So the keys of a table that is closed are remembered:
 //! while those of the next one are the same ones, they are neither copied nor looked for.
-ghost use Rattle.std.specs.Prelude.{◌≡◌, ◌≤◌, true, false, not, is_some, unwrap_or, None, Some, [], IfOk, length};
+ghost use Rattle.std.specs.Prelude.{◌≡◌, ◌≤◌, true, false, not, is_some, unwrap_or, None, Some, [], IfOk, OnErr, length};
 ghost use Rattle.basic_toml_layout.specs.Texts.{is_bare_key};
 ghost use Rattle.basic_toml_open_keys.specs.Keys.{no_keys, with_key};
 ghost use Rattle.basic_toml_open_keys.specs.Kept.{kept_of};
@@ -87,11 +87,15 @@ impl OpenKeys {
     }
 
     /// Sets a key.
+    ///
+    /// # Errors
+    ///
+    /// `AllocError` where memory for the key was refused. The keys that were entered stay.
     #[inline(always)]
     #[tactic(auto, using(crate::proofs::FirstKeys::next_same))]
     pub fn set(&mut self, key: &str) -> Result<(), AllocError>
-        ensures keys { IfOk result (λ _. keys_of self.new ≡ keys_of self.old) }
-        ensures last { IfOk result (λ _. last_of self.new ≡ last_of self.old) }
+        ensures keys { keys_of self.new ≡ keys_of self.old }
+        ensures last { last_of self.new ≡ last_of self.old }
         ensures pending { IfOk result (λ _. pending_of self.new ≡ key.now) }
     {
         if self.count < self.known.names().len() && self.known.names().get(self.count) == key {
@@ -105,8 +109,8 @@ impl OpenKeys {
     #[tactic(auto, using(crate::proofs::FirstKeys::next_unknown, crate::proofs::Turned::within_turned, crate::proofs::Turned::first_turned, crate::proofs::Turned::next_turned))]
     #[inline(always)]
     fn set_other(&mut self, key: &str) -> Result<(), AllocError>
-        ensures keys { IfOk result (λ _. keys_of self.new ≡ keys_of self.old) }
-        ensures last { IfOk result (λ _. last_of self.new ≡ last_of self.old) }
+        ensures keys { keys_of self.new ≡ keys_of self.old }
+        ensures last { last_of self.new ≡ last_of self.old }
         ensures pending { IfOk result (λ _. pending_of self.new ≡ key.now) }
     {
         let len = self.known.names().len();
@@ -123,6 +127,10 @@ impl OpenKeys {
     }
 
     /// Enters the key that is set. `false` where it is there already, and then nothing is changed.
+    ///
+    /// # Errors
+    ///
+    /// `AllocError` where memory was refused. All keys are forgotten then.
     #[inline(always)]
     #[tactic(auto, using(crate::proofs::FirstKeys::next_absent, crate::proofs::FirstKeys::keys_next, crate::proofs::FirstKeys::last_next))]
     pub fn enter(&mut self) -> Result<bool, AllocError>
@@ -131,6 +139,7 @@ impl OpenKeys {
             → keys_of self.new ≡ with_key (pending_of self.old) (keys_of self.old)) }
         ensures last { IfOk result (λ is_new. is_new ≡ true → last_of self.new ≡ Some (pending_of self.old)) }
         ensures unchanged { IfOk result (λ is_new. is_new ≡ false → self.new ≡ self.old) }
+        ensures err { OnErr result (keys_of self.new ≡ no_keys) }
     {
         if self.count < self.known.names().len() {
             self.count += 1;
@@ -149,6 +158,7 @@ impl OpenKeys {
             → keys_of self.new ≡ with_key (pending_of self.old) (keys_of self.old)) }
         ensures last { IfOk result (λ is_new. is_new ≡ true → last_of self.new ≡ Some (pending_of self.old)) }
         ensures unchanged { IfOk result (λ is_new. is_new ≡ false → self.new ≡ self.old) }
+        ensures err { OnErr result (keys_of self.new ≡ no_keys) }
     {
         match self.known.enter() {
             Ok(true) => {

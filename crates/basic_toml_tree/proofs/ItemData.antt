@@ -5,18 +5,19 @@ use Rattle.std.proofs.Common.{Option, Some, None, true, false, cond, length, ◌
 use Rattle.std.specs.Str.{bytes_eq}
 use Rattle.std.proofs.lemmas.Bool.{false≢true}
 use Rattle.std.proofs.lemmas.List.{map-append}
-use Rattle.basic_toml_value.specs.Data.{Data, Members, items_of, no_members, member, members_of}
+use Rattle.basic_toml_value.specs.Data.{Data, Members, item, items_of, no_members, member, members_of}
 use Rattle.basic_toml_value.specs.Text.{text_bytes}
 use Rattle.basic_toml_value.specs.Entries.{seen, texts_of}
 use Rattle.basic_toml_value.specs.Pairs.{keys_of, value_at}
 use Rattle.basic_toml_value.specs.View.{view, entries}
 use Rattle.basic_toml_value.specs.declared.pairs.Pair.{Pair}
 use Rattle.basic_toml_value.specs.declared.value.Value as values
-use Rattle.basic_toml_grammar.specs.Mentions.{finished}
+use Rattle.basic_toml_grammar.specs.Mentions.{finished, finished_elements}
 use Rattle.basic_toml_read.specs.declared.section.Element.{Element}
-use Rattle.basic_toml_grow.specs.Plain.{plain_array, listed_data}
-use Rattle.basic_toml_grow.proofs.PlainSeen.{items_listed}
-use Rattle.basic_toml_grow.specs.declared.item.Item.{the_lemmas, Array, Inline, Plain, Tables}
+use Rattle.basic_toml_read.specs.declared.section.Row.{Row}
+use Rattle.basic_toml_read.specs.SectionView.{elements_view}
+use Rattle.basic_toml_grow.specs.Plain.{plain_array, element_data, rows_data}
+use Rattle.basic_toml_grow.specs.declared.item.Item.{the_lemmas, Array, Inline, Plain, Rows, Tables}
 use Rattle.basic_toml_grow.specs.declared.item.Item as Item
 use Rattle.basic_toml_grow.specs.declared.item.Child.{Child, out-Child}
 use Rattle.basic_toml_grow.specs.declared.item.Table.{Table, out-Table}
@@ -52,7 +53,7 @@ no_member : (entries : List (List ℕ × Child)) → members_of (map (λ p. (p.0
 no_member [] e = refl
 no_member (p ∷ ps) e = cc
 
-members_same : (a b : Members) → Data.table a ≡ Data.table b → a ≡ b
+pub members_same : (a b : Members) → Data.table a ≡ Data.table b → a ≡ b
 members_same a b e = cc
 
 entry_held : (t : Table) → (length (out-Table t).entries == 0) ≡ false → HoldsAny (table_data t)
@@ -66,11 +67,19 @@ refused_held t (Ok x) some = tt
 refused_held t (Err e) some = entry_held t some
 
 -- the data of an array of plain values
-pub plain_item : (es : Vec Element Global) → data_of (Plain es) ≡ finished (plain_array es.items)
+pub plain_item : (es : List Element) → data_of (Plain es) ≡ finished (plain_array es)
 plain_item es = search (rules, the_lemmas)
 
-pub plain_elements : (es : Vec Element Global) → data_of (Plain es) ≡ Data.array (items_of (map listed_data es.items))
-plain_elements es = plain_item es ∙ ap Data.array (items_listed es.items)
+elements_finished : (es : List Element) → finished_elements (elements_view es) ≡ items_of (map element_data es)
+elements_finished [] = refl
+elements_finished (e ∷ es) = ap (λ items. item (element_data e) items) (elements_finished es)
+
+pub plain_elements : (es : List Element) → data_of (Plain es) ≡ Data.array (items_of (map element_data es))
+plain_elements es = plain_item es ∙ ap Data.array (elements_finished es)
+
+-- the data of an inline table of plain values
+pub rows_item : (rs : List Row) → data_of (Rows rs) ≡ rows_data rs
+rows_item rs = search (rules, the_lemmas)
 
 -- the data of an array of other items
 pub children_data : (children : Vec Child Global)
@@ -98,6 +107,11 @@ pub entries_seen : (copies : List (Pair values.Value)) → entries (seen copies)
 entries_seen [] = refl
 entries_seen (p ∷ ps) = ap (λ ms. member (text_bytes p.key) (view p.value) ms) (entries_seen ps)
 
+-- the keys of values
+pub value_keys : (copies : List (Pair values.Value)) → texts_of copies ≡ map (λ p. p.0) (map value_pair copies)
+value_keys [] = refl
+value_keys (p ∷ ps) = ap (λ l. text_bytes p.key ∷ l) (value_keys ps)
+
 -- copies of the same pairs have the same keys
 pub keys_copied : (copies : List (Pair values.Value)) (pairs : List (Pair Child)) (old : List (List ℕ × Child))
     → map value_pair copies ≡ map child_pair pairs → seen pairs ≡ old → keys_of old ≡ texts_of copies
@@ -107,10 +121,6 @@ keys_copied copies pairs old same is =
     child_keys : (pairs : List (Pair Child)) → keys_of (seen pairs) ≡ map (λ p. p.0) (map child_pair pairs)
     child_keys [] = refl
     child_keys (p ∷ ps) = ap (λ l. text_bytes p.key ∷ l) (child_keys ps)
-
-    value_keys : (copies : List (Pair values.Value)) → texts_of copies ≡ map (λ p. p.0) (map value_pair copies)
-    value_keys [] = refl
-    value_keys (p ∷ ps) = ap (λ l. text_bytes p.key ∷ l) (value_keys ps)
 
 -- values of the tables before and of the latest are those of an array of tables
 pub tables_whole : (elements next : List values.Value) (before : List Table) (v : values.Value) (latest : Table)

@@ -1,5 +1,8 @@
 pub mod DataParts
 pub mod ItemData
+pub mod RowsData
+pub mod PlainLeft
+pub mod InlineTables
 pub mod OrderIsFree
 pub mod SectionsEntered
 pub mod SectionsGrown

@@ -19,3 +19,4 @@ pub mod RowKeys
 pub mod RowsReach
 pub mod OneSection
 pub mod NodesAnchored
+pub mod RowNodes

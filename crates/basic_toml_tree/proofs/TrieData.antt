@@ -23,7 +23,7 @@ members_keys : (ps : List (List ℕ × Trie))
 members_keys [] = refl
 members_keys (p ∷ ps) = ap (λ ms. member p.0 (tree_data p.1) ms) (members_keys ps)
 
-keys_data : (s : Option Standing) (ps : List (List ℕ × Trie))
+pub keys_data : (s : Option Standing) (ps : List (List ℕ × Trie))
     → tree_data (trie s None (by_keys ps)) ≡ Data.table (members_of (map (λ p. (p.0, tree_data p.1)) ps))
 keys_data s [] = refl
 keys_data s (p ∷ ps) = ap Data.table (members_keys (p ∷ ps))
@@ -94,6 +94,7 @@ item_agrees (Item-F.Array children) agree =
     search (rules, the_lemmas) in
     ap tree_data a ∙ ap (λ ds. Data.array (items_of ds)) agree ∙ sym b
 item_agrees (Item-F.Plain es) agree = search (rules, the_lemmas)
+item_agrees (Item-F.Rows rs) agree = search (rules, the_lemmas)
 item_agrees (Item-F.Inline t) agree =
     let a : item_trie (roll-Item (Item-F.Inline t)) ≡ leaf (tree_data (table_trie t.value)) =
     search (rules, the_lemmas) in
@@ -156,6 +157,7 @@ parts_agree (Item-F.String text) = tt
 parts_agree (Item-F.Escaped text) = tt
 parts_agree (Item-F.Array es) = children_agree es.items
 parts_agree (Item-F.Plain es) = tt
+parts_agree (Item-F.Rows rs) = tt
 parts_agree (Item-F.Inline e) = e.value.1
 parts_agree (Item-F.Table e) = e.value.1
 parts_agree (Item-F.Tables e) = (tables_agree e.value.0.items, e.value.1.1)

@@ -6,7 +6,8 @@ use Rattle.basic_toml_value.specs.View.{view}
 use Rattle.basic_toml_value.specs.declared.pairs.Pair.{Pair}
 use Rattle.basic_toml_value.specs.declared.value.Value.{Value}
 use Rattle.basic_toml_grammar.specs.Mentions.{finished}
-use Rattle.basic_toml_grow.specs.Plain.{plain_array}
+use Rattle.basic_toml_read.specs.declared.section.Row.{Row, out-Row}
+use Rattle.basic_toml_grow.specs.Plain.{plain_array, plain_data, rows_data, key_of}
 use Rattle.basic_toml_grow.specs.declared.item.Item.{fold-Item}
 use Rattle.basic_toml_grow.specs.declared.item.Item as items
 use Rattle.basic_toml_grow.specs.declared.item.Item.TheOpen.{Item-F, Child-F, Table-F}
@@ -22,8 +23,9 @@ item_step (Item-F.Float text) = Data.float text
 item_step (Item-F.Boolean b) = Data.boolean b
 item_step (Item-F.String text) = Data.string text.now
 item_step (Item-F.Escaped text) = Data.string (string_bytes text)
+item_step (Item-F.Plain elements) = finished (plain_array elements)
+item_step (Item-F.Rows rows) = rows_data rows
 item_step (Item-F.Array children) = Data.array (items_of children.items)
-item_step (Item-F.Plain elements) = finished (plain_array elements.items)
 item_step (Item-F.Inline table) = table.value
 item_step (Item-F.Table table) = table.value
 item_step (Item-F.Tables tables) =
@@ -51,6 +53,9 @@ HoldsAny d = d ≡ Data.table no_members → ⊥
 -- a key with the data at it
 abbrev pub child_pair : Pair children.Child → List ℕ × Data
 child_pair pair = (text_bytes pair.key, child_data pair.value)
+
+abbrev pub row_pair : Row → List ℕ × Data
+row_pair r = (key_of r, plain_data (out-Row r).value)
 
 abbrev pub value_pair : Pair Value → List ℕ × Data
 value_pair pair = (text_bytes pair.key, view pair.value)

@@ -1,5 +1,6 @@
 pub mod Data
 pub mod Nodes
+pub mod IsKind
 pub mod Paths
 pub mod Headers
 pub mod Origin

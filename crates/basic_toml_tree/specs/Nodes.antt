@@ -3,19 +3,20 @@ use Rattle.std.specs.Prelude.{ℕ, Bool, true, false, List, [], ◌∷◌, Optio
 use Rattle.std.specs.Borrow.{Bor}
 use Rattle.std.specs.Str.{bytes_eq}
 use Rattle.basic_toml_value.specs.Data.{Data, Items, no_items, item, Members, no_members, member}
-use Rattle.basic_toml_grow.specs.Plain.{plain_data}
+use Rattle.basic_toml_grow.specs.Plain.{plain_data, rows_data}
 use Rattle.basic_toml_tree.specs.Data.{data_of, table_data}
-use Rattle.basic_toml_grow.specs.declared.item.Table.{Table}
 use Rattle.basic_toml_tree.specs.declared.node.Node.{Node}
 use Rattle.basic_toml_tree.specs.declared.entries.Elements.{Elements}
 use Rattle.basic_toml_tree.specs.declared.entries.Entries.{Entries}
 use Rattle.basic_toml_tree.specs.declared.spot.Spot.{Spot}
 use Rattle.basic_toml_tree.specs.declared.spot.Spot.TheVariants as spots
+use Rattle.basic_toml_tree.specs.declared.spot.Fields.{Fields}
+use Rattle.basic_toml_tree.specs.declared.spot.Fields.TheVariants as fields
 
 abbrev pub spot_data : Spot → Data
 spot_data (spots.Table table) = table_data table.now
 spot_data (spots.Item found) = data_of found.now
-spot_data (spots.Plain found) = plain_data found.now
+spot_data (spots.Plain plain) = plain_data plain.value.now
 
 abbrev pub node_data : Node → Data
 node_data node = spot_data node.spot
@@ -25,10 +26,10 @@ abbrev pub is_table : Data → Bool
 is_table (Data.table _) = true
 is_table _ = false
 
--- the data of a table, and of one in which nothing stands
-abbrev pub maybe_table : Option (Bor Table) → Data
-maybe_table None = Data.table no_members
-maybe_table (Some found) = table_data found.now
+-- the data of a table by what stands in it
+abbrev pub fields_data : Fields → Data
+fields_data (fields.Table table) = table_data table.now
+fields_data (fields.Rows rows) = rows_data rows.now
 
 abbrev pub is_array : Data → Bool
 is_array (Data.array _) = true

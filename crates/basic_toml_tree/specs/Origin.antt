@@ -9,7 +9,7 @@ use Rattle.basic_toml_read.specs.declared.section.Raw.TheOpen.{Raw-F}
 use Rattle.basic_toml_read.specs.declared.section.Element.{Element}
 use Rattle.basic_toml_read.specs.declared.section.Row.{Row}
 use Rattle.basic_toml_read.specs.declared.section.Rows.{Rows}
-use Rattle.basic_toml_grow.specs.Plain.{plain_of}
+use Rattle.basic_toml_read.specs.SectionView.{raw_of}
 use Rattle.basic_toml_grow.specs.declared.item.Item.{Item, out-Item}
 use Rattle.basic_toml_grow.specs.declared.item.Item.TheOpen.{Item-F}
 use Rattle.basic_toml_grow.specs.declared.item.Child.{Child}
@@ -35,7 +35,7 @@ holds_tables _ = false
 abbrev pub spot_is_made : ℕ → Spot → Bool
 spot_is_made count (spots.Table table) = (count == 0) || table_is_made table.now
 spot_is_made count (spots.Item found) = holds_tables (out-Item found.now)
-spot_is_made count (spots.Plain found) = false
+spot_is_made count (spots.Plain plain) = false
 
 abbrev pub is_made : Node → Bool
 is_made node = spot_is_made node.count node.spot
@@ -48,7 +48,7 @@ item_section _ = None
 abbrev pub spot_section : Spot → Option ℕ
 spot_section (spots.Table table) = if table_is_made table.now then Some (out-Table table.now).section else None
 spot_section (spots.Item found) = item_section (out-Item found.now)
-spot_section (spots.Plain found) = None
+spot_section (spots.Plain plain) = None
 
 -- what a node is found by again in the section list of its text
 abbrev pub item_anchor : Item-F Item Child Table → ℕ → ℕ → Anchor
@@ -59,7 +59,7 @@ abbrev pub spot_anchor : Spot → ℕ → ℕ → Anchor
 spot_anchor (spots.Table table) start keys =
     if table_is_made table.now then anchors.Table (out-Table table.now).section keys else anchors.Value start keys
 spot_anchor (spots.Item found) start keys = item_anchor (out-Item found.now) start keys
-spot_anchor (spots.Plain found) start keys = anchors.Value start keys
+spot_anchor (spots.Plain plain) start keys = anchors.Value start keys
 
 unfoldable pub anchor_of : Node → Anchor
 anchor_of node = if node.count == 0 then anchors.Root else spot_anchor node.spot node.start node.count
@@ -74,8 +74,9 @@ item_name (Item-F.Float _) = codes "float"
 item_name (Item-F.Boolean _) = codes "boolean"
 item_name (Item-F.String _) = codes "string"
 item_name (Item-F.Escaped _) = codes "string"
-item_name (Item-F.Array _) = codes "array"
 item_name (Item-F.Plain _) = codes "array"
+item_name (Item-F.Rows _) = codes "inline table"
+item_name (Item-F.Array _) = codes "array"
 item_name (Item-F.Inline _) = codes "inline table"
 item_name (Item-F.Table _) = codes "dotted table"
 item_name (Item-F.Tables _) = codes "array"
@@ -83,7 +84,7 @@ item_name (Item-F.Tables _) = codes "array"
 abbrev pub spot_name : ℕ → Spot → List ℕ
 spot_name count (spots.Table table) = if spot_is_made count (spots.Table table) then codes "table" else codes "dotted table"
 spot_name count (spots.Item found) = item_name (out-Item found.now)
-spot_name count (spots.Plain found) = grammar.raw_name (plain_of found.now)
+spot_name count (spots.Plain plain) = grammar.raw_name (raw_of plain.value.now)
 
 -- what a node is called
 unfoldable pub name_of : Node → List ℕ
@@ -101,7 +102,7 @@ is_string _ = false
 abbrev pub spot_is_borrowed : Spot → Bool
 spot_is_borrowed (spots.Table _) = false
 spot_is_borrowed (spots.Item found) = holds_string (out-Item found.now)
-spot_is_borrowed (spots.Plain found) = is_string (out-Raw found.now)
+spot_is_borrowed (spots.Plain plain) = is_string (out-Raw plain.value.now)
 
 abbrev pub is_borrowed : Node → Bool
 is_borrowed node = spot_is_borrowed node.spot
@@ -115,8 +116,8 @@ unfoldable pub outer_of : Node → Option ℕ
 outer_of node = if is_made node then last_at node.tree.now else option_or node.outer (last_at node.tree.now)
 
 abbrev pub item_is_literal : Item-F Item Child Table → Bool
-item_is_literal (Item-F.Array _) = true
 item_is_literal (Item-F.Plain _) = true
+item_is_literal (Item-F.Array _) = true
 item_is_literal _ = false
 
 abbrev pub raw_is_array : Raw-F Raw Element Row Rows → Bool
@@ -126,7 +127,7 @@ raw_is_array _ = false
 abbrev pub is_array_literal : Spot → Bool
 is_array_literal (spots.Table _) = false
 is_array_literal (spots.Item found) = item_is_literal (out-Item found.now)
-is_array_literal (spots.Plain found) = raw_is_array (out-Raw found.now)
+is_array_literal (spots.Plain plain) = raw_is_array (out-Raw plain.value.now)
 
 -- the offset that names it in errors
 unfoldable pub offset_of : Node → Option ℕ

@@ -1,5 +1,6 @@
 -- Where a node stands in its tree, by its path, and what is foretold of it by the section list.
-use Rattle.std.specs.Prelude.{◌≡◌, ◌⊎◌, ◌==◌, ◌+◌, ℕ, Bool, true, false, List, [], ◌∷◌, ◌++◌, Option, Some, map, slice_get}
+use Rattle.std.specs.Prelude.{◌≡◌, ◌⊎◌, ◌==◌, ◌+◌, ℕ, Bool, true, false, List, [], ◌∷◌, ◌++◌, Option, Some, map}
+use Rattle.std.specs.Prelude.{slice_get}
 use Rattle.std.specs.Borrow.{Bor}
 use Rattle.std.specs.Iterator.{YieldsFirstBy}
 use Rattle.std.specs.Option.{IfSome, IsSomeAnd}
@@ -8,9 +9,13 @@ use Rattle.basic_toml_grammar.specs.Steps.{Step, key, number, Path}
 use Rattle.basic_toml_grammar.specs.Entering.{all_keyed}
 use Rattle.basic_toml_grammar.specs.Nodes as grammar
 use Rattle.basic_toml_grammar.specs.Trie.{Trie, nothing, standing, below}
-use Rattle.basic_toml_read.specs.declared.section.Raw.{Raw}
+use Rattle.basic_toml_read.specs.declared.section.Raw.{Raw, out-Raw}
+use Rattle.basic_toml_read.specs.declared.section.Raw.TheOpen.{Raw-F}
 use Rattle.basic_toml_read.specs.declared.section.Element.{Element}
-use Rattle.basic_toml_grow.specs.Plain.{plain_of, plain_data, listed_of}
+use Rattle.basic_toml_read.specs.declared.section.Row.{Row, out-Row}
+use Rattle.basic_toml_read.specs.declared.section.Rows.{Rows}
+use Rattle.basic_toml_read.specs.SectionView.{raw_of, placed_of}
+use Rattle.basic_toml_grow.specs.Plain.{plain_data, are_few_simple, key_of}
 use Rattle.basic_toml_grow.specs.declared.item.Item.{Item, out-Item}
 use Rattle.basic_toml_grow.specs.declared.item.Item.TheOpen.{Item-F}
 use Rattle.basic_toml_grow.specs.declared.item.Child.{Child}
@@ -21,6 +26,9 @@ use Rattle.basic_toml_tree.specs.declared.entries.Elements.{Elements}
 use Rattle.basic_toml_tree.specs.declared.entries.Entries.{Entries}
 use Rattle.basic_toml_tree.specs.declared.spot.Spot.{Spot}
 use Rattle.basic_toml_tree.specs.declared.spot.Spot.TheVariants as spots
+use Rattle.basic_toml_tree.specs.declared.spot.Fields.{Fields}
+use Rattle.basic_toml_tree.specs.declared.spot.Fields.TheVariants as fields
+use Rattle.basic_toml_tree.specs.declared.plain_value.PlainValue.{PlainValue}
 use Rattle.basic_toml_grow.specs.Item.{item_trie, leaf, table_trie}
 use Rattle.basic_toml_tree.specs.Origin.{spot_is_made, spot_name, spot_section, spot_is_borrowed, is_borrowed}
 use Rattle.basic_toml_grow.specs.Origins.{Origin, Origins, item_origins, table_within, value_origins}
@@ -29,7 +37,7 @@ use Rattle.basic_toml_tree.specs.Nodes.{node_data, elements_left, key_and_data, 
 use Rattle.basic_toml_tree.specs.Paths.{data_along}
 use Rattle.basic_toml_tree.specs.Outer.{around, KeepsStart}
 use Rattle.basic_toml_tree.specs.Resolve.{IsResolved}
-use Rattle.basic_toml_tree.specs.Keys.{CountsKeys, KeysLead, RowsLead}
+use Rattle.basic_toml_tree.specs.Keys.{CountsKeys, CountsOn, KeysLead, RowsLead}
 
 -- what is at a path of a trie
 abbrev pub trie_at : Path → Trie → Trie
@@ -42,7 +50,7 @@ tree_trie tree = table_trie tree.root
 abbrev pub spot_trie : Spot → Trie
 spot_trie (spots.Table table) = table_trie table.now
 spot_trie (spots.Item found) = item_trie found.now
-spot_trie (spots.Plain found) = leaf (plain_data found.now)
+spot_trie (spots.Plain plain) = leaf (plain_data plain.value.now)
 
 -- an item that holds a table of headers or of dotted keys, which stands for itself
 abbrev pub is_wrapper : Item-F Item Child Table → Bool
@@ -52,7 +60,7 @@ is_wrapper _ = false
 abbrev pub wraps_table : Spot → Bool
 wraps_table (spots.Table table) = false
 wraps_table (spots.Item found) = is_wrapper (out-Item found.now)
-wraps_table (spots.Plain found) = false
+wraps_table (spots.Plain plain) = false
 
 -- the table of a spot, which it is, or which its item holds
 abbrev pub ItemHolds : Item-F Item Child Table → Table → Type 0
@@ -63,7 +71,25 @@ ItemHolds _ found = ⊥
 abbrev pub HoldsTable : Spot → Table → Type 0
 HoldsTable (spots.Table table) found = found ≡ table.now
 HoldsTable (spots.Item item) found = ItemHolds (out-Item item.now) found
-HoldsTable (spots.Plain value) found = ⊥
+HoldsTable (spots.Plain plain) found = ⊥
+
+-- the rows of an inline table with plain values
+abbrev pub ItemRows : Item-F Item Child Table → List Row → Type 0
+ItemRows (Item-F.Rows rows) found = found ≡ rows
+ItemRows _ found = ⊥
+
+abbrev pub RawRows : Raw-F Raw Element Row Rows → List Row → Type 0
+RawRows (Raw-F.Inline rows) found = found ≡ rows.items
+RawRows _ found = ⊥
+
+abbrev pub HoldsRows : Spot → List Row → Type 0
+HoldsRows (spots.Table table) found = ⊥
+HoldsRows (spots.Item item) found = ItemRows (out-Item item.now) found
+HoldsRows (spots.Plain plain) found = RawRows (out-Raw plain.value.now) found
+
+abbrev pub HoldsFields : Spot → Fields → Type 0
+HoldsFields spot (fields.Table table) = HoldsTable spot table.now
+HoldsFields spot (fields.Rows rows) = HoldsRows spot rows.now × (are_few_simple 0 rows.now ≡ true)
 
 -- a node in the tree of another one, below it, with this trie
 pub record IsBelow (from : Node) (t : Trie) (node : Node) : Type 0 where
@@ -82,10 +108,27 @@ pub record IsBeside (from : Node) (here : Spot) (node : Node) : Type 0 where
 
 -- a node of plain elements, beside this one
 pub record IsPlainElement (from : Node) (elements : List Element) (n : ℕ) (node : Node) : Type 0 where
-  pub value : Bor Raw
-  pub spot : node.spot ≡ spots.Plain value
-  pub listed : slice_get (map listed_of elements) n ≡ Some (record { offset = node.start; value = plain_of value.now })
+  pub plain : PlainValue
+  pub spot : node.spot ≡ spots.Plain plain
+  pub placed : slice_get (map placed_of elements) n
+      ≡ Some (record { offset = node.start; value = raw_of plain.value.now })
   pub beside : IsBeside from node.spot node
+
+-- the node of a row of an inline table
+pub record IsPlainRow (from : Node) (r : Row) (node : Node) : Type 0 where
+  pub plain : PlainValue
+  pub spot : node.spot ≡ spots.Plain plain
+  pub value : plain.value.now ≡ (out-Row r).value
+  pub start : node.start ≡ (out-Row r).start
+  pub tree : node.tree ≡ from.tree
+  pub outer : node.outer ≡ Some from.start
+  pub count : CountsOn from node.count
+  pub nested : (node.count == 0) ≡ false
+  pub trail : node.trail ≡ from.trail
+
+-- one of the rows has this key
+abbrev pub IsRowAt : List Row → List ℕ → Row → Type 0
+IsRowAt rows k r = (n : ℕ) × (slice_get rows n ≡ Some r) × (key_of r ≡ k)
 
 abbrev pub is_root : Path → Bool
 is_root [] = true
@@ -95,7 +138,7 @@ is_root (s ∷ p) = false
 abbrev pub spot_origins : Spot → ℕ → ℕ → Origins
 spot_origins (spots.Table table) at s = (table_within table.now).below
 spot_origins (spots.Item found) at s = item_origins found.now at s
-spot_origins (spots.Plain found) at s = value_origins s at (plain_of found.now)
+spot_origins (spots.Plain plain) at s = value_origins s at (raw_of plain.value.now)
 
 abbrev pub node_origins : ℕ → Node → Origins
 node_origins s node = spot_origins node.spot node.start s

@@ -1,6 +1,7 @@
 //! Iterators over nodes: the elements of an array, and the entries of a table.
 
 use crate::node::Node;
+use crate::spot::Fields;
 
 /// The elements of an array in order.
 #[derive(Clone, Copy, Drop)]
@@ -48,13 +49,21 @@ impl<'t, 'de> Iterator for Entries<'t, 'de> {
 
     fn next(&mut self) -> Option<(&'t str, Node<'t, 'de>)> {
         let at = self.at;
-        let table = self.table.as_table()??;
-        if at >= table.entries.len() {
-            return None;
+        match self.table.as_table()? {
+            Fields::Table(table) => {
+                if at >= table.entries.len() {
+                    return None;
+                }
+                let _pairs = table.entries.entries();
+                self.at += 1;
+                let key = table.entries.key(at);
+                Some((key, self.table.below(key, table.entries.value(at))))
+            }
+            Fields::Rows(rows) => {
+                let row = rows.get(at)?;
+                self.at += 1;
+                Some((row.key.as_str(), self.table.plain_row(row)))
+            }
         }
-        let _pairs = table.entries.entries();
-        self.at += 1;
-        let key = table.entries.key(at);
-        Some((key, self.table.below(key, table.entries.value(at))))
     }
 }

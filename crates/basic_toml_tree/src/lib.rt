@@ -12,6 +12,7 @@ mod headers;
 pub mod laws;
 mod node;
 mod plain;
+mod plain_value;
 mod spot;
 mod text;
 mod trail;

@@ -4,7 +4,7 @@ ghost use Rattle.std.specs.Prelude.{◌≡◌, ◌<◌, ◌≤◌, true, ℕ, ta
 ghost use Rattle.std.specs.Prelude.{MatchOption, length, map, slice_get, string_bytes};
 ghost use Rattle.std.specs.Option.{option_copied};
 ghost use Rattle.basic_toml_value.specs.Data.{table as table_of_members, integer_in, boolean_in, float_in, string_in};
-ghost use Rattle.basic_toml_index.specs.Keys.{are_distinct};
+ghost use Rattle.basic_toml_index.specs.Keys.{are_distinct, is_among};
 ghost use Rattle.basic_toml_value.specs.Pairs.{keys_of};
 ghost use Rattle.basic_toml_value.specs.View.{view, entries};
 ghost use Rattle.basic_toml_grammar.specs.Sections.{Section};
@@ -12,27 +12,30 @@ ghost use Rattle.basic_toml_grammar.specs.Steps.{Path};
 ghost use Rattle.basic_toml_grammar.specs.IndexedPath.{located};
 ghost use Rattle.basic_toml_grammar.specs.Nodes.{is_made as made_by_headers};
 ghost use Rattle.basic_toml_explain.specs.Error.{want_of_memory};
+ghost use Rattle.basic_toml_read.specs.declared.section.Row.{out-Row};
 ghost use Rattle.basic_toml_grow.specs.Item.{child_trie};
+ghost use Rattle.basic_toml_grow.specs.Plain.{is_plain, are_plain, key_of as row_key};
 ghost use Rattle.basic_toml_tree.specs.Data.{table_data, child_data, HoldsAny};
-ghost use Rattle.basic_toml_tree.specs.Nodes.{node_data, is_table, is_array, maybe_table, data_at};
+ghost use Rattle.basic_toml_tree.specs.Nodes.{node_data, is_table, is_array, fields_data, data_at};
 ghost use Rattle.basic_toml_tree.specs.Nodes.{elements_in, entries_in, elements_left, entries_left};
 ghost use Rattle.basic_toml_tree.specs.Origin.{is_borrowed, is_made, name_of, start_of, outer_of, offset_of, keys_of as key_path_of};
 ghost use Rattle.basic_toml_tree.specs.Stands.{IsNodeAt, Foretold, ForetoldSlice};
-ghost use Rattle.basic_toml_tree.specs.Stands.{HoldsTable, IsBelow, IsBeside, IsTableBeside, AtKey, AtNumber, BeginsIn};
-ghost use Rattle.basic_toml_tree.specs.Stands.{ComesFrom, IsPlainElement};
+ghost use Rattle.basic_toml_tree.specs.Stands.{HoldsFields, IsBelow, IsBeside, IsTableBeside, AtKey, AtNumber, BeginsIn};
+ghost use Rattle.basic_toml_tree.specs.Stands.{ComesFrom, IsPlainElement, IsPlainRow, IsRowAt};
 ghost use Rattle.basic_toml_grow.specs.Origins.{child_origins};
 ghost use Rattle.basic_toml_tree.specs.Outer.{kept_below};
 ghost use Rattle.basic_toml_tree.specs.Keys.{GoesOn, CountsOn, BeginsRow, HandsOn};
 ghost use Rattle.basic_toml_grow.specs.declared.item.Child.{out-Child};
 
 use crate::entries::{Elements, Entries};
-use crate::plain::plain_value;
-use crate::spot::Spot;
+use crate::plain::{plain_table, plain_value};
+use crate::plain_value::PlainValue;
+use crate::spot::{Fields, Kind, Spot};
 use crate::trail::{Trail, first_key, header_len, header_texts};
 use crate::tree::Tree;
 use crate::values::{table_of, value_of};
 use basic_toml_grow::{Child, Item, Table};
-use basic_toml_read::{Element, Raw, ReadError};
+use basic_toml_read::{Element, Raw, ReadError, Row};
 use basic_toml_value as values;
 use basic_toml_value::{Float, Value};
 use std::alloc::{AllocError, Global};
@@ -57,9 +60,8 @@ impl<'t, 'de> Node<'t, 'de> {
     pub fn as_integer(self) -> Option<i64>
         ensures { result ≡ integer_in (node_data self.entry) }
     {
-        match self.spot {
-            Spot::Item(Item::Integer(number)) => Some(*number),
-            Spot::Plain(Raw::Integer(number)) => Some(*number),
+        match self.spot.kind() {
+            Kind::Integer(number) => Some(number),
             _ => None,
         }
     }
@@ -68,9 +70,8 @@ impl<'t, 'de> Node<'t, 'de> {
     pub fn as_bool(self) -> Option<bool>
         ensures { result ≡ boolean_in (node_data self.entry) }
     {
-        match self.spot {
-            Spot::Item(Item::Boolean(truth)) => Some(*truth),
-            Spot::Plain(Raw::Boolean(truth)) => Some(*truth),
+        match self.spot.kind() {
+            Kind::Boolean(truth) => Some(truth),
             _ => None,
         }
     }
@@ -79,9 +80,8 @@ impl<'t, 'de> Node<'t, 'de> {
     pub fn as_float(self) -> Option<&'t Float>
         ensures { option_copied result ≡ float_in (node_data self.entry) }
     {
-        match self.spot {
-            Spot::Item(Item::Float(float)) => Some(float),
-            Spot::Plain(Raw::Float(float)) => Some(float),
+        match self.spot.kind() {
+            Kind::Float(float) => Some(float),
             _ => None,
         }
     }
@@ -91,11 +91,9 @@ impl<'t, 'de> Node<'t, 'de> {
         ensures { MatchOption result (string_in (node_data self.entry) ≡ None)
             (λ text. string_in (node_data self.entry) ≡ Some text.now) }
     {
-        match self.spot {
-            Spot::Item(Item::String(text)) => Some(text),
-            Spot::Item(Item::Escaped(text)) => Some(text.as_str()),
-            Spot::Plain(Raw::String(text)) => Some(text),
-            Spot::Plain(Raw::Escaped(text)) => Some(text.as_str()),
+        match self.spot.kind() {
+            Kind::Slice(text) => Some(text),
+            Kind::Copy(text) => Some(text),
             _ => None,
         }
     }
@@ -107,29 +105,30 @@ impl<'t, 'de> Node<'t, 'de> {
         ensures borrowed { is_some result ≡ is_borrowed self.entry }
         ensures foretold { ForetoldSlice self.entry (λ slice. is_some result ≡ slice) }
     {
-        match self.spot {
-            Spot::Item(Item::String(text)) => Some(text),
-            Spot::Plain(Raw::String(text)) => Some(text),
+        match self.spot.kind() {
+            Kind::Slice(text) => Some(text),
             _ => None,
         }
     }
 
-    // The table here, and none for one that is a value of a plain array, which no table is.
-    pub(crate) fn as_table(self) -> Option<Option<&'t Table<'de>>>
+    // What stands in it, if it is a table.
+    pub(crate) fn as_table(self) -> Option<Fields<'t, 'de>>
         ensures data { MatchOption result (is_table (node_data self.entry) ≡ false)
-            (λ table. node_data self.entry ≡ maybe_table table) }
-        ensures table { IfSome result (λ found. IfSome found (λ table. HoldsTable self.entry.spot table.now)) }
+            (λ fields. node_data self.entry ≡ fields_data fields) }
+        ensures fields { IfSome result (HoldsFields self.entry.spot) }
     {
         match self.spot {
-            Spot::Table(table) => Some(Some(table)),
+            Spot::Table(table) => Some(Fields::Table(table)),
             Spot::Item(item) => match item {
-                Item::Inline(table) => Some(Some(table)),
-                Item::Table(table) => Some(Some(table)),
+                Item::Rows(table) => Some(Fields::Rows(table.rows())),
+                Item::Inline(table) => Some(Fields::Table(table)),
+                Item::Table(table) => Some(Fields::Table(table)),
                 _ => None,
             },
-            // no value of a plain array is one
-            Spot::Plain(Raw::Inline(_) | Raw::Dotted(_)) => Some(None),
-            Spot::Plain(_) => None,
+            Spot::Plain(plain) => match plain.value {
+                Raw::Inline(rows) => Some(Fields::Rows(rows.as_slice())),
+                _ => None,
+            },
         }
     }
 
@@ -137,7 +136,7 @@ impl<'t, 'de> Node<'t, 'de> {
     pub fn is_table(self) -> bool
         ensures { result ≡ is_table (node_data self.entry) }
     {
-        self.as_table().is_some()
+        matches!(self.spot.kind(), Kind::Table)
     }
 
     // A node below this table at a key.
@@ -220,16 +219,33 @@ impl<'t, 'de> Node<'t, 'de> {
 
     // A node of plain elements, which are those of this array.
     fn plain_element(self, elements: &'t [Element<'de>], at: usize) -> Option<Node<'t, 'de>>
+        requires { are_plain 0 elements.now ≡ true }
         ensures within { IsSome result → at < usize.MAX }
         ensures none { IfNone result (length elements.now ≤ at) }
         ensures some { IfSome result (λ node. IsPlainElement self.entry elements.now at node) }
     {
         let element = elements.get(at)?;
         Some(Node {
-            spot: Spot::Plain(&element.value),
+            spot: Spot::Plain(PlainValue {
+                value: &element.value,
+            }),
             start: element.offset,
             ..self
         })
+    }
+
+    // The node of a row of this inline table.
+    pub(crate) fn plain_row(self, row: &'t Row<'de>) -> Node<'t, 'de>
+        requires { is_plain (out-Row row.now).value 0 ≡ true }
+        ensures { IsPlainRow self.entry row.now result }
+    {
+        Node {
+            spot: Spot::Plain(PlainValue { value: &row.value }),
+            start: row.start,
+            outer: Some(self.start),
+            count: self.count.saturating_add(1),
+            ..self
+        }
     }
 
     // The element at a number, if this is an array that has it.
@@ -257,8 +273,12 @@ impl<'t, 'de> Node<'t, 'de> {
                     }
                 }
             }
-            Spot::Item(Item::Plain(elements)) => self.plain_element(elements.as_slice(), at),
-            Spot::Plain(Raw::Array(elements)) => self.plain_element(elements.as_slice(), at),
+            Spot::Item(Item::Plain(array)) => self.plain_element(array.elements(), at),
+            Spot::Item(Item::Rows(_rows)) => None,
+            Spot::Plain(plain) => match plain.value {
+                Raw::Array(elements) => self.plain_element(elements.as_slice(), at),
+                _ => None,
+            },
             _ => None,
         }
     }
@@ -270,13 +290,18 @@ impl<'t, 'de> Node<'t, 'de> {
             (λ node. data_at (node_data self.entry) key.now ≡ Some (node_data node)) }
         ensures stands { IfSome result (λ node. AtKey self.entry key.now node) }
     {
-        let Some(Some(table)) = self.as_table() else {
-            return None;
-        };
-        let Some(pair) = table.entries.pair(key) else {
-            return None;
-        };
-        Some(self.below(pair.key.as_str(), &pair.value))
+        match self.as_table()? {
+            Fields::Table(table) => {
+                let Some(pair) = table.entries.pair(key) else {
+                    return None;
+                };
+                Some(self.below(pair.key.as_str(), &pair.value))
+            }
+            Fields::Rows(rows) => match row_at(rows, key) {
+                Some(row) => Some(self.plain_row(row)),
+                None => None,
+            },
+        }
     }
 
     /// Its elements in order, if it is an array.
@@ -286,11 +311,8 @@ impl<'t, 'de> Node<'t, 'de> {
             × (elements_left elements ≡ elements_in (node_data self.entry))) }
         ensures stand { IfSome result (BeginsIn self.entry) }
     {
-        match self.spot {
-            Spot::Item(Item::Array(_)) => Some(Elements { array: self, at: 0 }),
-            Spot::Item(Item::Tables(_)) => Some(Elements { array: self, at: 0 }),
-            Spot::Item(Item::Plain(_)) => Some(Elements { array: self, at: 0 }),
-            Spot::Plain(Raw::Array(_)) => Some(Elements { array: self, at: 0 }),
+        match self.spot.kind() {
+            Kind::Array => Some(Elements { array: self, at: 0 }),
             _ => None,
         }
     }
@@ -304,14 +326,12 @@ impl<'t, 'de> Node<'t, 'de> {
         ensures distinct { IfSome result (λ _. IsTrue (are_distinct (keys_of (entries_in (node_data self.entry))))) }
         ensures stand { IfSome result (λ entries. entries.table ≡ self.entry) }
     {
-        match self.as_table() {
-            Some(table) => {
-                if let Some(table) = table {
-                    let _pairs = table.entries.entries();
-                }
+        match self.as_table()? {
+            Fields::Table(table) => {
+                let _pairs = table.entries.entries();
                 Some(Entries { table: self, at: 0 })
             }
-            None => None,
+            Fields::Rows(_) => Some(Entries { table: self, at: 0 }),
         }
     }
 
@@ -327,7 +347,7 @@ impl<'t, 'de> Node<'t, 'de> {
         match self.spot {
             Spot::Table(table) => Ok(Value::Table(table_of(alloc, table)?)),
             Spot::Item(item) => Ok(value_of(alloc, item)?),
-            Spot::Plain(value) => Ok(plain_value(alloc, value)?),
+            Spot::Plain(plain) => Ok(plain_value(alloc, plain.value)?),
         }
     }
 
@@ -342,8 +362,8 @@ impl<'t, 'de> Node<'t, 'de> {
         ensures memory { IfErr result (λ _. HoldsAny (node_data self.entry)) }
     {
         match self.as_table() {
-            Some(Some(table)) => Ok(Some(table_of(alloc, table)?)),
-            Some(None) => Ok(Some(values::Table::new(alloc))),
+            Some(Fields::Table(table)) => Ok(Some(table_of(alloc, table)?)),
+            Some(Fields::Rows(rows)) => Ok(Some(plain_table(alloc, rows)?)),
             None => Ok(None),
         }
     }
@@ -380,7 +400,7 @@ impl<'t, 'de> Node<'t, 'de> {
             → Foretold sections p self.entry (λ node. result ≡ node.start) }
     {
         if self.is_made() {
-            self.tree.last_at()
+            self.tree.headers.last_at()
         } else {
             Some(self.start)
         }
@@ -396,7 +416,7 @@ impl<'t, 'de> Node<'t, 'de> {
         match self.spot {
             Spot::Item(Item::Array(_)) => self.outer_place(),
             Spot::Item(Item::Plain(_)) => self.outer_place(),
-            Spot::Plain(Raw::Array(_)) => self.outer_place(),
+            Spot::Plain(plain) if matches!(plain.value, Raw::Array(_)) => self.outer_place(),
             _ => self.start(),
         }
     }
@@ -409,11 +429,11 @@ impl<'t, 'de> Node<'t, 'de> {
             → Foretold sections p self.entry (λ node. result ≡ node.outer_offset) }
     {
         if self.is_made() {
-            return self.tree.last_at();
+            return self.tree.headers.last_at();
         }
         match self.outer {
             Some(outer) => Some(outer),
-            None => self.tree.last_at(),
+            None => self.tree.headers.last_at(),
         }
     }
 
@@ -442,4 +462,18 @@ impl<'t, 'de> Node<'t, 'de> {
             }
         }
     }
+}
+
+// The row with a key, if one of these has it.
+#[inline(never)]
+fn row_at<'t, 'de>(rows: &'t [Row<'de>], key: &str) -> Option<&'t Row<'de>>
+    ensures { MatchOption result (is_among (map row_key rows.now) key.now ≡ false)
+        (λ row. IsRowAt rows.now key.now row.now) }
+{
+    for row in rows {
+        if row.key.as_str() == key {
+            return Some(row);
+        }
+    }
+    None
 }

@@ -1,12 +1,15 @@
-//! The values that plain ones become, which a tree keeps as they were read: scalars, and arrays of plain values.
+//! The values that plain ones become, which a tree keeps as they were read: scalars, arrays and inline tables.
 
-ghost use Rattle.std.specs.Prelude.{◌≡◌, IfOk, map};
-ghost use Rattle.basic_toml_value.specs.View.{view};
-ghost use Rattle.basic_toml_grow.specs.Plain.{plain_data, listed_data};
+ghost use Rattle.std.specs.Prelude.{◌≡◌, true, IfErr, IfOk, map};
+ghost use Rattle.basic_toml_value.specs.Data.{table as table_of_members};
+ghost use Rattle.basic_toml_value.specs.View.{view, entries};
+ghost use Rattle.basic_toml_grow.specs.Plain.{is_plain, are_plain, are_few_simple, plain_data, element_data, rows_data};
+ghost use Rattle.basic_toml_tree.specs.Data.{value_pair, row_pair, HoldsAny};
 
 use basic_toml_grow::drain;
-use basic_toml_read::{Element, Raw};
-use basic_toml_value::{Table, Text, Value};
+use basic_toml_index::Index;
+use basic_toml_read::{Element, Raw, Row};
+use basic_toml_value::{Pair, Pairs, Table, Text, Value};
 use std::alloc::{AllocError, Global};
 
 // Of so many elements the memory is given back while they are moved. Fewer are moved in less by a plain iterator.
@@ -19,6 +22,7 @@ const MANY: usize = 1024;
 /// `AllocError` where memory was refused.
 #[cycle(copies)]
 pub(crate) fn plain_value(alloc: Global, value: &Raw<'_>) -> Result<Value, AllocError>
+    requires { is_plain value.now 0 ≡ true }
     ensures { IfOk result (λ copy. view copy ≡ plain_data value.now) }
 {
     match value {
@@ -28,7 +32,8 @@ pub(crate) fn plain_value(alloc: Global, value: &Raw<'_>) -> Result<Value, Alloc
         Raw::String(text) => Ok(Value::String(Text::from_str(alloc, text)?)),
         Raw::Escaped(text) => Ok(Value::String(Text::from_str(alloc, text.as_str())?)),
         Raw::Array(elements) => Ok(Value::Array(plain_values(alloc, elements.as_slice())?)),
-        Raw::Inline(_) | Raw::Dotted(_) => Ok(Value::Table(Table::new(alloc))),
+        Raw::Inline(rows) => Ok(Value::Table(plain_table(alloc, rows.as_slice())?)),
+        Raw::Dotted(_) => unreachable!(),
     }
 }
 
@@ -42,7 +47,8 @@ pub(crate) fn plain_values(
     alloc: Global,
     elements: &[Element<'_>],
 ) -> Result<Vec<Value>, AllocError>
-    ensures { IfOk result (λ copies. map view copies.items ≡ map listed_data elements.now) }
+    requires { are_plain 0 elements.now ≡ true }
+    ensures { IfOk result (λ copies. map view copies.items ≡ map element_data elements.now) }
 {
     let mut copies = Vec::with_capacity(alloc, elements.len())?;
     for element in elements {
@@ -51,10 +57,34 @@ pub(crate) fn plain_values(
     Ok(copies)
 }
 
+/// A copy of the inline table of a few rows with plain values.
+///
+/// # Errors
+///
+/// `AllocError` where memory was refused. One without rows takes no memory.
+#[cycle(copies)]
+pub(crate) fn plain_table(alloc: Global, rows: &[Row<'_>]) -> Result<Table, AllocError>
+    requires { are_few_simple 0 rows.now ≡ true }
+    ensures table { IfOk result (λ copy. table_of_members (entries copy) ≡ rows_data rows.now) }
+    ensures memory { IfErr result (λ _. HoldsAny (rows_data rows.now)) }
+{
+    if rows.is_empty() {
+        return Ok(Table::new(alloc));
+    }
+    let mut copies = Vec::with_capacity(alloc, rows.len())?;
+    for row in rows {
+        let key = Text::from_str(alloc, row.key.as_str())?;
+        let value = plain_value(alloc, &row.value)?;
+        copies.push(Pair { key, value })?;
+    }
+    Ok(Pairs::from_parts(copies, Index::none()))
+}
+
 // The value that a plain one becomes. It is inlined, since most elements are scalars.
 #[cycle(moves)]
 #[inline(always)]
 fn into_plain_value(alloc: Global, value: Raw<'_>) -> Result<Value, AllocError>
+    requires { is_plain value 0 ≡ true }
     ensures { IfOk result (λ moved. view moved ≡ plain_data value.entry) }
 {
     match value {
@@ -64,7 +94,8 @@ fn into_plain_value(alloc: Global, value: Raw<'_>) -> Result<Value, AllocError>
         Raw::String(text) => Ok(Value::String(Text::from_str(alloc, text)?)),
         Raw::Escaped(text) => Ok(Value::String(Text::from(text))),
         Raw::Array(elements) => Ok(Value::Array(into_plain_values(alloc, elements)?)),
-        Raw::Inline(_) | Raw::Dotted(_) => Ok(Value::Table(Table::new(alloc))),
+        Raw::Inline(rows) => into_plain_table(alloc, rows),
+        Raw::Dotted(_) => unreachable!(),
     }
 }
 
@@ -79,7 +110,8 @@ pub(crate) fn into_plain_values(
     alloc: Global,
     elements: Vec<Element<'_>>,
 ) -> Result<Vec<Value>, AllocError>
-    ensures { IfOk result (λ moved. map view moved.items ≡ map listed_data elements.entry.items) }
+    requires { are_plain 0 elements.items ≡ true }
+    ensures { IfOk result (λ moved. map view moved.items ≡ map element_data elements.entry.items) }
 {
     if elements.len() >= MANY {
         return into_many(alloc, elements);
@@ -95,11 +127,43 @@ pub(crate) fn into_plain_values(
 #[cycle(moves)]
 #[inline(never)]
 fn into_many(alloc: Global, elements: Vec<Element<'_>>) -> Result<Vec<Value>, AllocError>
-    ensures { IfOk result (λ moved. map view moved.items ≡ map listed_data elements.entry.items) }
+    requires { are_plain 0 elements.items ≡ true }
+    ensures { IfOk result (λ moved. map view moved.items ≡ map element_data elements.entry.items) }
 {
     let mut moved = Vec::with_capacity(alloc, elements.len())?;
     for element in drain(elements) {
         moved.push(into_plain_value(alloc, element.value)?)?;
     }
     Ok(moved)
+}
+
+// The entries that a few rows with plain values become.
+#[cycle(moves)]
+#[inline(never)]
+fn into_plain_entries(alloc: Global, rows: Vec<Row<'_>>) -> Result<Vec<Pair<Value>>, AllocError>
+    requires { are_few_simple 0 rows.items ≡ true }
+    ensures { IfOk result (λ moved. map value_pair moved.items ≡ map row_pair rows.entry.items) }
+{
+    let mut moved = Vec::with_capacity(alloc, rows.len())?;
+    for row in rows {
+        let key = Text::from_str(alloc, row.key.as_str())?;
+        let value = into_plain_value(alloc, row.value)?;
+        moved.push_reserved(Pair { key, value });
+    }
+    Ok(moved)
+}
+
+/// The table that a few rows with plain values become. Strings are moved.
+///
+/// # Errors
+///
+/// `AllocError` where memory was refused.
+#[cycle(moves)]
+#[inline(always)]
+pub(crate) fn into_plain_table(alloc: Global, rows: Vec<Row<'_>>) -> Result<Value, AllocError>
+    requires { are_few_simple 0 rows.items ≡ true }
+    ensures { IfOk result (λ table. view table ≡ rows_data rows.entry.items) }
+{
+    let moved = into_plain_entries(alloc, rows)?;
+    Ok(Value::Table(Pairs::from_parts(moved, Index::none())))
 }

@@ -1,10 +1,14 @@
 //! What stands at a node, and the name of its kind.
 
 ghost use Rattle.std.specs.Prelude.{◌≡◌};
-ghost use Rattle.basic_toml_tree.specs.Origin.{spot_is_made, spot_name, spot_section};
+ghost use Rattle.basic_toml_tree.specs.IsKind.{IsKind, is_slice};
+ghost use Rattle.basic_toml_tree.specs.Nodes.{spot_data};
+ghost use Rattle.basic_toml_tree.specs.Origin.{spot_is_borrowed, spot_is_made, spot_name, spot_section};
 
+use crate::plain_value::PlainValue;
 use basic_toml_grow::{Item, Table};
-use basic_toml_read::Raw;
+use basic_toml_read::{Raw, Row};
+use basic_toml_value::Float;
 
 /// What stands at a node.
 #[derive(Clone, Copy)]
@@ -12,11 +16,58 @@ pub(crate) enum Spot<'t, 'de> {
     /// A table of headers or of dotted keys.
     Table(&'t Table<'de>),
     Item(&'t Item<'de>),
-    /// A value in an array of plain values.
-    Plain(&'t Raw<'de>),
+    /// A value within an array or an inline table of plain values.
+    Plain(PlainValue<'t, 'de>),
+}
+
+/// What stands in a table: its entries, or its rows as they were read.
+#[derive(Clone, Copy)]
+pub(crate) enum Fields<'t, 'de> {
+    Table(&'t Table<'de>),
+    Rows(&'t [Row<'de>]),
+}
+
+/// A value by its kind. A string is a slice of the document, or a copy.
+#[derive(Clone, Copy)]
+pub(crate) enum Kind<'t, 'de> {
+    Integer(i64),
+    Float(&'t Float),
+    Boolean(bool),
+    Slice(&'de str),
+    Copy(&'t str),
+    Array,
+    Table,
 }
 
 impl<'t, 'de> Spot<'t, 'de> {
+    /// Its kind.
+    pub fn kind(self) -> Kind<'t, 'de>
+        ensures kind { IsKind (spot_data self.entry) result }
+        ensures slice { is_slice result ≡ spot_is_borrowed self.entry }
+    {
+        match self {
+            Spot::Table(_) => Kind::Table,
+            Spot::Item(item) => match item {
+                Item::Integer(number) => Kind::Integer(*number),
+                Item::Float(float) => Kind::Float(float),
+                Item::Boolean(truth) => Kind::Boolean(*truth),
+                Item::String(text) => Kind::Slice(text),
+                Item::Escaped(text) => Kind::Copy(text.as_str()),
+                Item::Plain(_) | Item::Array(_) | Item::Tables(_) => Kind::Array,
+                Item::Rows(_) | Item::Inline(_) | Item::Table(_) => Kind::Table,
+            },
+            Spot::Plain(plain) => match plain.value {
+                Raw::Integer(number) => Kind::Integer(*number),
+                Raw::Float(float) => Kind::Float(float),
+                Raw::Boolean(truth) => Kind::Boolean(*truth),
+                Raw::String(text) => Kind::Slice(text),
+                Raw::Escaped(text) => Kind::Copy(text.as_str()),
+                Raw::Array(_) => Kind::Array,
+                Raw::Inline(_) | Raw::Dotted(_) => Kind::Table,
+            },
+        }
+    }
+
     /// Whether headers made it, where so many keys lead to it.
     pub fn is_made(self, count: usize) -> bool
         ensures { result ≡ spot_is_made count self.entry }
@@ -56,13 +107,12 @@ impl<'t, 'de> Spot<'t, 'de> {
                 Item::Float(_) => "float",
                 Item::Boolean(_) => "boolean",
                 Item::String(_) | Item::Escaped(_) => "string",
-                Item::Array(_) => "array",
-                Item::Plain(_) => "array",
-                Item::Inline(_) => "inline table",
+                Item::Plain(_) | Item::Array(_) => "array",
+                Item::Rows(_) | Item::Inline(_) => "inline table",
                 Item::Table(_) => "dotted table",
                 Item::Tables(_) => "array",
             },
-            Spot::Plain(value) => match value {
+            Spot::Plain(plain) => match plain.value {
                 Raw::Integer(_) => "integer",
                 Raw::Float(_) => "float",
                 Raw::Boolean(_) => "boolean",

@@ -43,13 +43,6 @@ impl<'de> Tree<'de> {
         }
     }
 
-    /// The offset of the last section.
-    pub(crate) fn last_at(&self) -> Option<usize>
-        ensures { result ≡ last_at self.now }
-    {
-        self.headers.last_at()
-    }
-
     /// The table of the document. Strings and keys are moved into it, and the tree's memory is given back on the way.
     ///
     /// # Errors

@@ -5,9 +5,8 @@ ghost use Rattle.basic_toml_value.specs.View.{view, entries};
 ghost use Rattle.basic_toml_grow.specs.declared.item.Item.{Array, Plain, Tables};
 ghost use Rattle.basic_toml_tree.specs.Data.{data_of, child_data, table_data, child_pair, value_pair, HoldsAny};
 
-use crate::plain::{into_plain_values, plain_values};
-use basic_toml_grow::{Child, Item, Table, drain};
-use basic_toml_read::Element;
+use crate::plain::{into_plain_table, into_plain_values, plain_table, plain_values};
+use basic_toml_grow::{Child, Item, PlainArray, Table, drain};
 use basic_toml_value as values;
 use basic_toml_value::{Pair, Pairs, Text, Value};
 use std::alloc::{AllocError, Global};
@@ -26,8 +25,9 @@ pub(crate) fn value_of(alloc: Global, item: &Item<'_>) -> Result<Value, AllocErr
         Item::Boolean(truth) => Ok(Value::Boolean(*truth)),
         Item::String(text) => Ok(Value::String(Text::from_str(alloc, text)?)),
         Item::Escaped(text) => Ok(Value::String(Text::from_str(alloc, text.as_str())?)),
+        Item::Plain(array) => Ok(Value::Array(plain_values(alloc, array.elements())?)),
         Item::Array(children) => Ok(Value::Array(elements_of(alloc, children.as_slice())?)),
-        Item::Plain(elements) => Ok(Value::Array(plain_values(alloc, elements.as_slice())?)),
+        Item::Rows(table) => Ok(Value::Table(plain_table(alloc, table.rows())?)),
         Item::Inline(table) => Ok(Value::Table(table_of(alloc, table)?)),
         Item::Table(table) => Ok(Value::Table(table_of(alloc, table)?)),
         Item::Tables(tables) => {
@@ -101,8 +101,9 @@ fn into_value(alloc: Global, item: Item<'_>) -> Result<Value, AllocError>
         Item::Boolean(truth) => Ok(Value::Boolean(truth)),
         Item::String(text) => Ok(Value::String(Text::from_str(alloc, text)?)),
         Item::Escaped(text) => Ok(Value::String(Text::from(text))),
+        Item::Plain(array) => into_plain_array(alloc, array),
         Item::Array(children) => into_array(alloc, children),
-        Item::Plain(elements) => into_plain_array(alloc, elements),
+        Item::Rows(table) => into_plain_table(alloc, table.into_rows()),
         Item::Inline(table) => into_inner_table(alloc, table),
         Item::Table(table) => into_inner_table(alloc, table),
         Item::Tables(tables) => into_array_of_tables(alloc, tables),
@@ -120,10 +121,10 @@ fn into_array(alloc: Global, children: Vec<Child<'_>>) -> Result<Value, AllocErr
 }
 
 #[inline(always)]
-fn into_plain_array(alloc: Global, elements: Vec<Element<'_>>) -> Result<Value, AllocError>
-    ensures { IfOk result (λ value. view value ≡ data_of (Plain elements.entry)) }
+fn into_plain_array(alloc: Global, array: PlainArray<'_>) -> Result<Value, AllocError>
+    ensures { IfOk result (λ value. view value ≡ data_of (Plain array.entry)) }
 {
-    Ok(Value::Array(into_plain_values(alloc, elements)?))
+    Ok(Value::Array(into_plain_values(alloc, array.into_elements())?))
 }
 
 #[cycle(moves)]

@@ -119,7 +119,7 @@ steps_made : (sections : List Section) (p : Path) (k : List ℕ)
 steps_made sections [] k = refl
 steps_made sections (r ∷ p) k = refl
 
-made_there : (sections : List Section) (t : Trie) → Stands sections t → (p : Path) (k : List ℕ)
+pub made_there : (sections : List Section) (t : Trie) → Stands sections t → (p : Path) (k : List ℕ)
     → grammar.is_made (located sections) (p ++ key k ∷ [])
     ≡ stands_made (standing (trie_at (p ++ key k ∷ []) t))
 made_there sections t stands [] k = made_in_trie sections t stands (key k) []
@@ -155,6 +155,7 @@ has_section (spots.Item b) made = go (out-Item b.now) made
     go (Item-F.Escaped z) made = absurd (false≢true made)
     go (Item-F.Array z) made = absurd (false≢true made)
     go (Item-F.Plain z) made = absurd (false≢true made)
+    go (Item-F.Rows z) made = absurd (false≢true made)
     go (Item-F.Inline z) made = absurd (false≢true made)
     go (Item-F.Table z) made = absurd (false≢true made)
 has_section (spots.Plain b) made = absurd (false≢true made)
@@ -192,7 +193,7 @@ header_keeps from node k c goes comes tree p stands there here sections resolved
           (section_leads (located sections) path node.spot section.0 section.1 (child_origins c []) has comes.marked);
     }
 
-count_keeps : (from node : Node) (k : List ℕ) → CountsOn from node.count → (tree : Tree) (p : Path)
+pub count_keeps : (from node : Node) (k : List ℕ) → CountsOn from node.count → (tree : Tree) (p : Path)
     → StandsAt tree p from → CountsKeys tree (p ++ key k ∷ []) node
 count_keeps from node k counts tree p stands sections resolved =
     let before = stands.count sections resolved in

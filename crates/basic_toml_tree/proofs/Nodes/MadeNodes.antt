@@ -96,6 +96,7 @@ item_made count b (Item-F.String z) o is stands same own made = absurd (false≢
 item_made count b (Item-F.Escaped z) o is stands same own made = absurd (false≢true (sym (ap stands_made stands) ∙ made))
 item_made count b (Item-F.Array z) o is stands same own made = absurd (false≢true (sym (ap stands_made stands) ∙ made))
 item_made count b (Item-F.Plain z) o is stands same own made = absurd (false≢true (sym (ap stands_made stands) ∙ made))
+item_made count b (Item-F.Rows z) o is stands same own made = absurd (false≢true (sym (ap stands_made stands) ∙ made))
 item_made count b (Item-F.Inline z) o is stands same own made = absurd (false≢true (sym (ap stands_made stands) ∙ made))
 
 table_made : (count : ℕ) (b : Bor Table) → ((count == 0) || stands_made (standing (table_trie b.now))) ≡ true
@@ -127,6 +128,7 @@ not_table (Item-F.String z) o stands own p n d is = absurd (cc)
 not_table (Item-F.Escaped z) o stands own p n d is = absurd (cc)
 not_table (Item-F.Array z) o stands own p n d is = absurd (cc)
 not_table (Item-F.Plain z) o stands own p n d is = absurd (cc)
+not_table (Item-F.Rows z) o stands own p n d is = absurd (cc)
 not_table (Item-F.Inline z) o stands own p n d is = absurd (cc)
 not_table (Item-F.Table t) o stands own p n d is = absurd (cc)
 not_table (Item-F.Tables tables) o stands own p n d is = absurd (false≢true (sym (ap stands_array is) ∙ stands))

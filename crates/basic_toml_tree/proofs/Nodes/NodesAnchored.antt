@@ -124,6 +124,7 @@ module _ (sections : List Section) (p : Path) (node : Node) (is : IsNodeAt secti
       go (Item-F.Escaped z) e = of_value (made (Item-F.Escaped z) e)
       go (Item-F.Array z) e = of_value (made (Item-F.Array z) e)
       go (Item-F.Plain z) e = of_value (made (Item-F.Plain z) e)
+      go (Item-F.Rows z) e = of_value (made (Item-F.Rows z) e)
       go (Item-F.Inline z) e = of_value (made (Item-F.Inline z) e)
       go (Item-F.Table z) e = of_value (made (Item-F.Table z) e)
 

@@ -8,12 +8,12 @@ use Rattle.std.proofs.Math.Path.{fun_ext}
 use Rattle.std.proofs.lemmas.Bool.{false≢true}
 use Rattle.basic_toml_value.specs.Pairs.{value_at}
 use Rattle.basic_toml_grammar.specs.Steps.{Step, key, number, Path}
-use Rattle.basic_toml_grow.specs.Plain.{listed, listed_of}
 use Rattle.basic_toml_grow.specs.declared.item.Item.{Item, out-Item, the_lemmas, Array, Tables}
 use Rattle.basic_toml_grow.specs.declared.item.Item as items
 use Rattle.basic_toml_grow.specs.declared.item.Item.TheOpen.{Item-F}
 use Rattle.basic_toml_grow.specs.declared.item.Item.TheViews.{roll-Item}
-use Rattle.basic_toml_grow.specs.Origins.{elements_origins}
+use Rattle.basic_toml_read.specs.SectionView.{elements_view, rows_seen}
+use Rattle.basic_toml_grow.specs.Origins.{elements_origins, rows_origins}
 use Rattle.basic_toml_grow.specs.declared.item.Child.{Child, out-Child}
 use Rattle.basic_toml_grow.specs.declared.item.Table.{Table, out-Table}
 use Rattle.basic_toml_tree.specs.declared.tree.Tree.{Tree}
@@ -67,6 +67,7 @@ item_key (Item-F.String z) i t k q at s is holds = absurd holds
 item_key (Item-F.Escaped z) i t k q at s is holds = absurd holds
 item_key (Item-F.Array z) i t k q at s is holds = absurd holds
 item_key (Item-F.Plain z) i t k q at s is holds = absurd holds
+item_key (Item-F.Rows z) i t k q at s is holds = absurd holds
 item_key (Item-F.Tables y) i t k q at s is holds = absurd holds
 
 spot_key : (spot : Spot) (t : Table) (k : List ℕ) (q : Path) (at s : ℕ) → HoldsTable spot t
@@ -105,7 +106,9 @@ item_bears (Item-F.Escaped z) at s = bears_entry (Item-F.Escaped z) at s (string
 item_bears (Item-F.Array z) at s = bears_entry (Item-F.Array z) at s (value_origin (codes "array") at s)
     (at_numbers (map child_origins z.items)) (search (rules, the_lemmas)) (λ apart. refl)
 item_bears (Item-F.Plain z) at s = bears_entry (Item-F.Plain z) at s (value_origin (codes "array") at s)
-    (at_numbers (elements_origins s (listed (map listed_of z.items)))) (search (rules, the_lemmas)) (λ apart. refl)
+    (at_numbers (elements_origins s (elements_view z))) (search (rules, the_lemmas)) (λ apart. refl)
+item_bears (Item-F.Rows z) at s = bears_entry (Item-F.Rows z) at s (value_origin (codes "inline table") at s)
+    (rows_origins s (rows_seen [] z)) (search (rules, the_lemmas)) (λ apart. refl)
 item_bears (Item-F.Inline z) at s = bears_entry (Item-F.Inline z) at s (value_origin (codes "inline table") at s)
     (table_origins z.value) (search (rules, the_lemmas)) (λ apart. refl)
 item_bears (Item-F.Table z) at s =
@@ -148,6 +151,7 @@ item_marked (Item-F.String z) at s = not_marked None refl (item_origins (roll-It
 item_marked (Item-F.Escaped z) at s = not_marked None refl (item_origins (roll-Item (Item-F.Escaped z)) at s)
 item_marked (Item-F.Array z) at s = not_marked None refl (item_origins (roll-Item (Item-F.Array z)) at s)
 item_marked (Item-F.Plain z) at s = not_marked None refl (item_origins (roll-Item (Item-F.Plain z)) at s)
+item_marked (Item-F.Rows z) at s = not_marked None refl (item_origins (roll-Item (Item-F.Rows z)) at s)
 item_marked (Item-F.Inline z) at s = not_marked None refl (item_origins (roll-Item (Item-F.Inline z)) at s)
 item_marked (Item-F.Table z) at s = not_marked None refl (item_origins (roll-Item (Item-F.Table z)) at s)
 
@@ -290,8 +294,11 @@ item_own (Item-F.Array z) at s =
     (λ apart. refl)
 item_own (Item-F.Plain z) at s =
     own_of (item_origins (roll-Item (Item-F.Plain z)) at s) (value_origin (codes "array") at s)
-    (item_told (Item-F.Plain z) at s) (at_numbers (elements_origins s (listed (map listed_of z.items))))
+    (item_told (Item-F.Plain z) at s) (at_numbers (elements_origins s (elements_view z)))
     (search (rules, the_lemmas)) (λ apart. refl)
+item_own (Item-F.Rows z) at s =
+    own_of (item_origins (roll-Item (Item-F.Rows z)) at s) (value_origin (codes "inline table") at s)
+    (item_told (Item-F.Rows z) at s) (rows_origins s (rows_seen [] z)) (search (rules, the_lemmas)) (λ apart. refl)
 item_own (Item-F.Inline z) at s =
     own_of (item_origins (roll-Item (Item-F.Inline z)) at s) (value_origin (codes "inline table") at s)
     (item_told (Item-F.Inline z) at s) (table_origins z.value) (search (rules, the_lemmas)) (λ apart. refl)

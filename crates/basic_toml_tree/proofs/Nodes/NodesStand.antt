@@ -16,8 +16,9 @@ use Rattle.basic_toml_grammar.specs.Trie.{Trie, trie, nothing, below, find, by}
 use Rattle.basic_toml_grammar.specs.Mentions.{finished}
 use Rattle.basic_toml_read.specs.declared.section.Raw as raws
 use Rattle.basic_toml_read.specs.declared.section.Element.{Element}
-use Rattle.basic_toml_grow.specs.Plain.{plain_of, plain_array}
-use Rattle.basic_toml_grow.proofs.PlainSeen.{array_of}
+use Rattle.basic_toml_read.specs.SectionView.{raw_of}
+use Rattle.basic_toml_read.proofs.ViewsSeen.{array_of}
+use Rattle.basic_toml_grow.specs.Plain.{plain_array}
 use Rattle.basic_toml_grow.specs.declared.item.Item.{Item, out-Item, the_lemmas, Array, Plain, Tables}
 use Rattle.basic_toml_grow.specs.declared.item.Item.TheOpen.{Item-F}
 use Rattle.basic_toml_grow.specs.declared.item.Item.TheViews.{roll-Item}
@@ -25,6 +26,7 @@ use Rattle.basic_toml_grow.specs.declared.item.Child.{Child}
 use Rattle.basic_toml_grow.specs.declared.item.Table.{Table, out-Table}
 use Rattle.basic_toml_tree.specs.declared.tree.Tree.{Tree}
 use Rattle.basic_toml_tree.specs.declared.node.Node.{Node}
+use Rattle.basic_toml_tree.specs.declared.plain_value.PlainValue.{PlainValue}
 use Rattle.basic_toml_tree.specs.declared.spot.Spot.{Spot}
 use Rattle.basic_toml_tree.specs.declared.spot.Spot.TheVariants as spots
 use Rattle.basic_toml_value.specs.Growth.{values_of}
@@ -39,7 +41,6 @@ use Rattle.basic_toml_tree.specs.Nodes.{node_data, data_at, elements_in}
 use Rattle.basic_toml_tree.specs.Outer.{around}
 use Rattle.basic_toml_tree.specs.Paths.{data_by, data_along}
 use Rattle.basic_toml_grow.specs.Origins.{child_origins, item_origins, table_within, value_origins}
-use Rattle.basic_toml_grow.proofs.PlainArrays.{plain_trie, plain_origins}
 use Rattle.basic_toml_tree.proofs.Nodes.PlainNodes.{element_comes}
 use Rattle.basic_toml_tree.proofs.ItemData.{data_at_found}
 use Rattle.basic_toml_grow.proofs.ItemTries.{table_entries_trie}
@@ -50,7 +51,7 @@ use Rattle.basic_toml_tree.proofs.Nodes.NodesCome.{table_node_comes}
 use Rattle.basic_toml_tree.proofs.Nodes.Lines.{around_key, around_number}
 use Rattle.basic_toml_grow.proofs.KeysInATrie.{tries_of}
 
-at_more : (p : Path) (s : Step) (t : Trie) → trie_at (p ++ s ∷ []) t ≡ below s (trie_at p t)
+pub at_more : (p : Path) (s : Step) (t : Trie) → trie_at (p ++ s ∷ []) t ≡ below s (trie_at p t)
 at_more [] s t = refl
 at_more (r ∷ p) s t = at_more p s (below r t)
 
@@ -133,6 +134,7 @@ item_below i (Item-F.String z) t k u is own holds = absurd holds
 item_below i (Item-F.Escaped z) t k u is own holds = absurd holds
 item_below i (Item-F.Array z) t k u is own holds = absurd holds
 item_below i (Item-F.Plain z) t k u is own holds = absurd holds
+item_below i (Item-F.Rows z) t k u is own holds = absurd holds
 item_below i (Item-F.Tables z) t k u is own holds = absurd holds
 
 spot_below : (spot : Spot) (t : Table) (k : List ℕ) (c : Child) → HoldsTable spot t → wraps_table spot ≡ false
@@ -142,7 +144,7 @@ spot_below (spots.Table table) t k c holds own found =
     inr (sym (ap (λ t. below (key k) (table_trie t)) (sym same) ∙ table_below t k c found))
 spot_below (spots.Item item) t k c holds own found =
     item_below item.now (out-Item item.now) t k (child_trie c) refl own holds
-spot_below (spots.Plain value) t k c holds own found = absurd holds
+spot_below (spots.Plain plain) t k c holds own found = absurd holds
 
 -- one step on from a node
 module _ (from node : Node) (s : Step) (same : node.tree ≡ from.tree)
@@ -171,7 +173,7 @@ module _ (from node : Node) (s : Step) (same : node.tree ≡ from.tree)
       go (inl none) = inl (at_more p s (tree_trie tree) ∙ ap (below s) none)
       go (inr there) = step (more there.1) there.0
 
-  stands_on : (node.count == 0) ≡ false → StartIsKept tree (around (p ++ s ∷ [])) node.outer
+  pub stands_on : (node.count == 0) ≡ false → StartIsKept tree (around (p ++ s ∷ [])) node.outer
       → CountsKeys tree (p ++ s ∷ []) node → KeysLead tree (p ++ s ∷ []) node → RowsLead tree (p ++ s ∷ []) node → StandsAt tree (p ++ s ∷ []) node
   stands_on counted kept count keys rows = record {
     within = ap (λ t. t.now) same ∙ stands.within;
@@ -264,26 +266,32 @@ array_spot : (from : Node) (b : Bor Item) (i : Item) → from.spot ≡ spots.Ite
     → spot_trie from.spot ≡ item_trie i
 array_spot from b i at is = ap spot_trie at ∙ ap item_trie is
 
+plain_trie : (es : List Element) → item_trie (Plain es) ≡ leaf (finished (plain_array es))
+plain_trie es = search (rules, the_lemmas)
+
+plain_origins : (es : List Element) (at s : ℕ) → item_origins (Plain es) at s ≡ value_origins s at (plain_array es)
+plain_origins es at s = search (rules, the_lemmas)
+
 -- an element of an array of plain values
 element_stands : (from node : Node) (n : ℕ) (es : List Element) → IsPlainElement from es n node
     → spot_trie from.spot ≡ leaf (finished (plain_array es))
     → ((at s : ℕ) → spot_origins from.spot at s ≡ value_origins s at (plain_array es))
     → slice_get (elements_in (node_data from)) n ≡ Some (node_data node) → StandsOn from (number n) node
-element_stands from node n es listed here origins read tree p stands =
-    let beside = listed.beside in
+element_stands from node n es placed here origins read tree p stands =
+    let beside = placed.beside in
     stands_on from node (number n) beside.tree read (λ own. inl (ap (below (number n)) here))
-    (element_comes from node es n listed origins) tree p stands
+    (element_comes from node es n placed origins) tree p stands
     (ap (λ c. c == 0) beside.count ∙ stands.root ∙ no_array_root from tree p stands (ap tells_table here))
     (kept_beside from node n tree p beside.outer stands) (count_beside from node node.spot n beside tree p stands)
     (keys_beside from node node.spot n beside tree p stands) (rows_beside from node node.spot n beside tree p stands)
 
 -- and of one among such elements
-pub value_stands : (from node : Node) (n : ℕ) (b : Bor raws.Raw) (es : Vec Element Global) → from.spot ≡ spots.Plain b
-    → b.now ≡ raws.Array es → IsPlainElement from es.items n node
+pub value_stands : (from node : Node) (n : ℕ) (v : PlainValue) (es : Vec Element Global) → from.spot ≡ spots.Plain v
+    → v.value.now ≡ raws.Array es → IsPlainElement from es.items n node
     → slice_get (elements_in (node_data from)) n ≡ Some (node_data node) → StandsOn from (number n) node
-value_stands from node n b es at is listed read =
-    let seen : plain_of b.now ≡ plain_array es.items = ap plain_of is ∙ array_of es in
-    element_stands from node n es.items listed (ap spot_trie at ∙ ap (λ v. leaf (finished v)) seen)
+value_stands from node n v es at is placed read =
+    let seen : raw_of v.value.now ≡ plain_array es.items = ap raw_of is ∙ array_of es in
+    element_stands from node n es.items placed (ap spot_trie at ∙ ap (λ v. leaf (finished v)) seen)
     (λ start s. ap (λ spot. spot_origins spot start s) at ∙ ap (value_origins s start) seen) read
 
 module _ (from node : Node) (n : ℕ) (b : Bor Item) (at : from.spot ≡ spots.Item b) where
@@ -300,10 +308,10 @@ module _ (from node : Node) (n : ℕ) (b : Bor Item) (at : from.spot ≡ spots.I
       (kept_beside from node n tree p beside.outer stands) (count_beside from node spot n beside tree p stands)
       (keys_beside from node spot n beside tree p stands) (rows_beside from node spot n beside tree p stands)
 
-  pub plain_stand : (es : Vec Element Global) → b.now ≡ Plain es → IsPlainElement from es.items n node
+  pub plain_stand : (es : List Element) → b.now ≡ Plain es → IsPlainElement from es n node
       → slice_get (elements_in (node_data from)) n ≡ Some (node_data node) → StandsOn from (number n) node
-  plain_stand es is listed read =
-      element_stands from node n es.items listed (array_spot from b (Plain es) at is ∙ plain_trie es)
+  plain_stand es is placed read =
+      element_stands from node n es placed (array_spot from b (Plain es) at is ∙ plain_trie es)
       (λ start s. ap (λ spot. spot_origins spot start s) at ∙ ap (λ i. item_origins i start s) is ∙ plain_origins es start s)
       read
 

@@ -20,7 +20,7 @@ use Rattle.basic_toml_tree.proofs.Nodes.NodesStand.{tells_table, KeepsBelow}
 use Rattle.basic_toml_grow.proofs.Origins.OriginsSeen.{seen_at_none}
 
 module _ (tree : Tree) (from : Node) where
-  root_is_made : (p : Path) → StandsAt tree p from → p ≡ [] → spot_is_made from.count from.spot ≡ true
+  pub root_is_made : (p : Path) → StandsAt tree p from → p ≡ [] → spot_is_made from.count from.spot ≡ true
   root_is_made p stands is = go stands.there
     where
       here : trie_at p (tree_trie tree) ≡ table_trie tree.root
@@ -36,7 +36,7 @@ module _ (tree : Tree) (from : Node) where
       go (inr there) =
           (root_made from.count from.spot tree.root there.1 (stands.root ∙ ap is_root is) (there.0 ∙ here)).made
 
-  table_is_made : (p : Path) → StandsAt tree p from → stands_made (standing (trie_at p (tree_trie tree))) ≡ true
+  pub table_is_made : (p : Path) → StandsAt tree p from → stands_made (standing (trie_at p (tree_trie tree))) ≡ true
       → spot_is_made from.count from.spot ≡ true
   table_is_made p stands made = go stands.there
     where

@@ -20,7 +20,7 @@ use Rattle.basic_toml_read.specs.declared.section.Raw.TheOpen.{Raw-F}
 use Rattle.basic_toml_read.specs.declared.section.Element.{Element}
 use Rattle.basic_toml_read.specs.declared.section.Row.{Row}
 use Rattle.basic_toml_read.specs.declared.section.Rows as code_rows
-use Rattle.basic_toml_grow.specs.Plain.{plain_of}
+use Rattle.basic_toml_read.specs.SectionView.{raw_of}
 use Rattle.std.proofs.lemmas.Bool.{false≢true}
 use Rattle.basic_toml_grow.specs.declared.item.Item.{Item, out-Item}
 use Rattle.basic_toml_grow.specs.declared.item.Item.TheOpen.{Item-F}
@@ -117,13 +117,14 @@ literal_name count (spots.Item b) not = go (out-Item b.now) not
     go (Item-F.String z) not = refl
     go (Item-F.Escaped z) not = refl
     go (Item-F.Plain z) not = refl
+    go (Item-F.Rows z) not = refl
     go (Item-F.Inline z) not = refl
     go (Item-F.Table z) not = refl
     go (Item-F.Tables y) not = absurd (false≢true (sym not))
 literal_name count (spots.Plain b) not =
-    ap (λ v. names_array (raw_name (plain_of v))) (sym (raws.roll-out-Raw b.now)) ∙ go (raws.out-Raw b.now)
+    ap (λ v. names_array (raw_name (raw_of v))) (sym (raws.roll-out-Raw b.value.now)) ∙ go (raws.out-Raw b.value.now)
   where
-    go : (x : Raw-F raws.Raw Element Row code_rows.Rows) → names_array (raw_name (plain_of (raws.roll-Raw x)))
+    go : (x : Raw-F raws.Raw Element Row code_rows.Rows) → names_array (raw_name (raw_of (raws.roll-Raw x)))
         ≡ raw_is_array x
     go (Raw-F.Integer z) = search (rules, raws.the_lemmas)
     go (Raw-F.Float z) = search (rules, raws.the_lemmas)

@@ -1,7 +1,6 @@
 -- The nodes of plain values, and of the elements of arrays of them.
 use Rattle.std.proofs.Common.{◌≡◌, ℕ, false, List, [], ◌∷◌, map, length, Some, refl, sym, ap, ◌∙◌, subst, arith, rules}
 use Rattle.std.specs.Prelude.{slice_get, ◌≤◌, Option, None, IfSome, IfNone, MatchOption}
-use Rattle.std.specs.Borrow.{Bor}
 use Rattle.std.proofs.Math.Path.{fun_ext}
 use Rattle.basic_toml_value.specs.Data.{Data}
 use Rattle.basic_toml_grammar.specs.Mentions.{finished, finished_elements}
@@ -13,8 +12,10 @@ use Rattle.basic_toml_read.specs.declared.section.Raw.TheOpen.{Raw-F}
 use Rattle.basic_toml_read.specs.declared.section.Row.{Row}
 use Rattle.basic_toml_read.specs.declared.section.Rows as code_rows
 use Rattle.basic_toml_read.specs.declared.section.Element.{Element, out-Element}
-use Rattle.basic_toml_grow.specs.Plain.{Listed, listed, listed_of, plain_of, plain_array}
+use Rattle.basic_toml_read.specs.SectionView.{Placed, raw_of, placed_of, elements_from}
+use Rattle.basic_toml_grow.specs.Plain.{plain_array}
 use Rattle.basic_toml_tree.specs.declared.node.Node.{Node}
+use Rattle.basic_toml_tree.specs.declared.plain_value.PlainValue.{PlainValue}
 use Rattle.basic_toml_tree.specs.declared.spot.Spot.{Spot}
 use Rattle.basic_toml_tree.specs.declared.spot.Spot.TheVariants as spots
 use Rattle.basic_toml_tree.specs.Nodes as seen
@@ -24,35 +25,35 @@ use Rattle.basic_toml_tree.specs.Stands.{SpotComes, ComesFrom, IsPlainElement, s
 use Rattle.basic_toml_tree.proofs.Nodes.NodesInOrder.{mapped_length}
 use Rattle.basic_toml_tree.proofs.Nodes.NodesCome.{not_marked, read_mapped}
 
--- what is listed, one after another
-datas_listed : (ls : List Listed) → seen.listed (finished_elements (listed ls)) ≡ map (λ e. finished e.value) ls
-datas_listed [] = refl
-datas_listed (e ∷ ls) = ap (λ ds. finished e.value ∷ ds) (datas_listed ls)
+-- elements, one after another
+datas_placed : (ls : List Placed) → seen.listed (finished_elements (elements_from ls)) ≡ map (λ e. finished e.value) ls
+datas_placed [] = refl
+datas_placed (e ∷ ls) = ap (λ ds. finished e.value ∷ ds) (datas_placed ls)
 
-origins_listed : (s : ℕ) (ls : List Listed)
-    → elements_origins s (listed ls) ≡ map (λ e. value_origins s e.offset e.value) ls
-origins_listed s [] = refl
-origins_listed s (e ∷ ls) = ap (λ os. value_origins s e.offset e.value ∷ os) (origins_listed s ls)
+origins_placed : (s : ℕ) (ls : List Placed)
+    → elements_origins s (elements_from ls) ≡ map (λ e. value_origins s e.offset e.value) ls
+origins_placed s [] = refl
+origins_placed s (e ∷ ls) = ap (λ os. value_origins s e.offset e.value ∷ os) (origins_placed s ls)
 
 -- the data of plain elements
 pub plain_elements : (es : List Element)
-    → seen.elements_in (finished (plain_array es)) ≡ map (λ e. finished (listed_of e).value) es
-plain_elements es = datas_listed (map listed_of es) ∙ both es
+    → seen.elements_in (finished (plain_array es)) ≡ map (λ e. finished (placed_of e).value) es
+plain_elements es = datas_placed (map placed_of es) ∙ both es
   where
     both : (es : List Element)
-        → map (λ e. finished e.value) (map listed_of es) ≡ map (λ e. finished (listed_of e).value) es
+        → map (λ e. finished e.value) (map placed_of es) ≡ map (λ e. finished (placed_of e).value) es
     both [] = refl
-    both (e ∷ es) = ap (λ ds. finished (listed_of e).value ∷ ds) (both es)
+    both (e ∷ es) = ap (λ ds. finished (placed_of e).value ∷ ds) (both es)
 
 pub plain_length : (es : List Element) → length (seen.elements_in (finished (plain_array es))) ≡ length es
-plain_length es = ap length (plain_elements es) ∙ mapped_length (λ e. finished (listed_of e).value) es
+plain_length es = ap length (plain_elements es) ∙ mapped_length (λ e. finished (placed_of e).value) es
 
 pub plain_read : (es : List Element) (n : ℕ) (at : ℕ) (v : Raw)
-    → slice_get (map listed_of es) n ≡ Some (record { offset = at; value = v })
+    → slice_get (map placed_of es) n ≡ Some (record { offset = at; value = v })
     → slice_get (seen.elements_in (finished (plain_array es))) n ≡ Some (finished v)
 plain_read es n at v read =
-    ap (λ ds. slice_get ds n) (datas_listed (map listed_of es))
-    ∙ read_mapped (λ e. finished e.value) (map listed_of es) n (record { offset = at; value = v }) read
+    ap (λ ds. slice_get ds n) (datas_placed (map placed_of es))
+    ∙ read_mapped (λ e. finished e.value) (map placed_of es) n (record { offset = at; value = v }) read
 
 -- where a plain value comes from
 own_is : (v : Raw) (at s : ℕ)
@@ -71,10 +72,10 @@ own_is (Raw.array z) at s = λ apart. refl
 own_is (Raw.inline z) at s = λ apart. refl
 
 -- it is a slice where the code has one
-plain_slice : (v : raws.Raw) → raw_is_slice (plain_of v) ≡ is_string (raws.out-Raw v)
-plain_slice v = ap (λ v. raw_is_slice (plain_of v)) (sym (raws.roll-out-Raw v)) ∙ go (raws.out-Raw v)
+plain_slice : (v : raws.Raw) → raw_is_slice (raw_of v) ≡ is_string (raws.out-Raw v)
+plain_slice v = ap (λ v. raw_is_slice (raw_of v)) (sym (raws.roll-out-Raw v)) ∙ go (raws.out-Raw v)
   where
-    go : (x : Raw-F raws.Raw Element Row code_rows.Rows) → raw_is_slice (plain_of (raws.roll-Raw x)) ≡ is_string x
+    go : (x : Raw-F raws.Raw Element Row code_rows.Rows) → raw_is_slice (raw_of (raws.roll-Raw x)) ≡ is_string x
     go (Raw-F.Integer z) = search (rules, raws.the_lemmas)
     go (Raw-F.Float z) = search (rules, raws.the_lemmas)
     go (Raw-F.Boolean z) = search (rules, raws.the_lemmas)
@@ -84,18 +85,18 @@ plain_slice v = ap (λ v. raw_is_slice (plain_of v)) (sym (raws.roll-out-Raw v))
     go (Raw-F.Inline z) = search (rules, raws.the_lemmas)
     go (Raw-F.Dotted z) = search (rules, raws.the_lemmas)
 
-pub value_comes : (v : Bor raws.Raw) (count at s : ℕ)
-    → SpotComes (value_origins s at (plain_of v.now)) count (spots.Plain v) at
+pub value_comes : (v : PlainValue) (count at s : ℕ)
+    → SpotComes (value_origins s at (raw_of v.value.now)) count (spots.Plain v) at
 value_comes v count at s = record {
   section = s;
-  own = subst (λ b. IfSome (value_origins s at (plain_of v.now) []) (λ o. o.made ≡ false → o ≡ record {
+  own = subst (λ b. IfSome (value_origins s at (raw_of v.value.now) []) (λ o. o.made ≡ false → o ≡ record {
     made = false;
-    name = raw_name (plain_of v.now);
+    name = raw_name (raw_of v.value.now);
     start = at;
     section = s;
     is_slice = b;
-  })) (plain_slice v.now) (own_is (plain_of v.now) at s);
-  marked = not_marked None refl (value_origins s at (plain_of v.now));
+  })) (plain_slice v.value.now) (own_is (raw_of v.value.now) at s);
+  marked = not_marked None refl (value_origins s at (raw_of v.value.now));
   parts = λ r q. refl;
 }
 
@@ -105,11 +106,11 @@ module _ (from node : Node) (es : List Element) (n : ℕ) (is : IsPlainElement f
   pub element_comes : (s : ℕ) → ComesFrom (λ q. node_origins s from (number n ∷ q)) node
   element_comes s =
       subst (λ f. ComesFrom f node) (fun_ext (λ q. sym (ap (λ f. f (number n ∷ q)) (array from.start s)
-      ∙ ap (λ os. at_numbers os (number n ∷ q)) (origins_listed s (map listed_of es))
-      ∙ ap (λ o. under o q) (read_mapped (λ e. value_origins s e.offset e.value) (map listed_of es) n
-      (record { offset = node.start; value = plain_of is.value.now }) is.listed))))
-      (subst (λ (spot : Spot). SpotComes (value_origins s node.start (plain_of is.value.now)) node.count spot node.start)
-      (sym is.spot) (value_comes is.value node.count node.start s))
+      ∙ ap (λ os. at_numbers os (number n ∷ q)) (origins_placed s (map placed_of es))
+      ∙ ap (λ o. under o q) (read_mapped (λ e. value_origins s e.offset e.value) (map placed_of es) n
+      (record { offset = node.start; value = raw_of is.plain.value.now }) is.placed))))
+      (subst (λ (spot : Spot). SpotComes (value_origins s node.start (raw_of is.plain.value.now)) node.count spot node.start)
+      (sym is.spot) (value_comes is.plain node.count node.start s))
 
 -- what is answered for a number of an array of plain elements
 pub plain_answers : (from : Node) (es : List Element) (n : ℕ) (d : Data) (result : Option Node)
@@ -121,13 +122,13 @@ plain_answers from es n d None is past some =
     let long = ap (λ d. length (seen.elements_in d)) is ∙ plain_length es in omega (arith, past, long)
 plain_answers from es n d (Some node) is past some =
     ap (λ d. slice_get (seen.elements_in d) n) is
-    ∙ plain_read es n node.start (plain_of some.value.now) some.listed
+    ∙ plain_read es n node.start (raw_of some.plain.value.now) some.placed
     ∙ sym (ap (λ spot. Some (seen.spot_data spot)) some.spot)
 
--- an element, as it is listed
-pub element_listed : (e : Element)
-    → listed_of e ≡ record { offset = (out-Element e).offset; value = plain_of (out-Element e).value }
-element_listed e = search (rules, raws.the_lemmas)
+-- an element, and its value
+pub element_placed : (e : Element)
+    → placed_of e ≡ record { offset = (out-Element e).offset; value = raw_of (out-Element e).value }
+element_placed e = search (rules, raws.the_lemmas)
 
 -- of a node that is answered, with what is read there
 pub some_read : (result : Option Node) (Past : Type 0) (P Q R : Node → Type 0)

@@ -1,5 +1,4 @@
-use Rattle.std.proofs.lemmas.Bool.{eqb-true}
-use Rattle.std.proofs.Common.{◌≡◌, ℕ, length, Option, sym, ap, ◌∙◌, subst, Err}
+use Rattle.std.proofs.Common.{◌≡◌, ℕ, Option, sym, ap, ◌∙◌, subst, Err}
 use Rattle.std.specs.Option.{option_or}
 use Rattle.std.proofs.lemmas.Result.{err_from_is_err_and}
 use Rattle.basic_toml_read.specs.SectionView.{lined_of, placed_of, raw_of, rows_seen, elements_view}
@@ -7,7 +6,6 @@ use Rattle.basic_toml_read.proofs.ViewsSeen.{array_of}
 use Rattle.basic_toml_grow.specs.Crossed.{crossed_between, crossed_among, crossed_within, crossed_in, crossed_of}
 use Rattle.basic_toml_grow.specs.Crossed.{Looks}
 use Rattle.basic_toml_grow.proofs.FirstGathered.{found_at, none_more, none_in_all, looks_more}
-use Rattle.basic_toml_grow.proofs.PlainRows.{none_crossed}
 use Rattle.basic_toml_read.proofs.NextRow.{lined_is}
 use Rattle.basic_toml_grow.proofs.RowsOfKeys.{placed_is, row_values, element_values}
 use Rattle.basic_toml_grow.proofs.crossed.+looking.Goals as goal
@@ -44,12 +42,6 @@ look_into-returns-in-Array t c =
     ∙ ap crossed_of (array_of c.in-Array.elements)
     ∙ ap (λ es. crossed_among (elements_view es)) (sym c.as_slice.ensures.value) in
     subst (λ (o : Option ℕ). Looks o c.look_among.result) (sym same) c.look_among.ensures
-
-pub look_through-returns-then-are_all_plain : goal.look_through-returns-then-are_all_plain
-look_through-returns-then-are_all_plain t c =
-    none_crossed 0 c.args.parents.now c.args.rows.now
-    (eqb-true (length c.args.parents.now) 0 (sym c.is_empty.ensures ∙ c.if-is_empty.true))
-    (sym c.are_all_plain.ensures ∙ c.if-are_all_plain.true)
 
 pub look_through-returns-in_err-look_between : goal.look_through-returns-in_err-look_between
 look_through-returns-in_err-look_between t c =

@@ -1,5 +1,6 @@
 use Rattle.std.specs.Prelude.{IfErr}
-use Rattle.std.proofs.Common.{refl, rules, ◌≡◌, [], ◌∷◌, ◌++◌, ap, ◌∙◌, sym, subst, arith, Some, List, map, Bool, false, true, ◌+◌, ℕ, take, drop}
+use Rattle.std.proofs.Common.{refl, rules, ◌≡◌, [], ◌∷◌, ◌++◌, ap, ◌∙◌, sym, subst, arith, Some, List, map, Bool}
+use Rattle.std.proofs.Common.{false, true, ◌+◌, ℕ, take, drop, length}
 use Rattle.std.proofs.lemmas.Result.{err_from_is_err_and}
 use Rattle.basic_toml_grammar.specs.Trie.{Trie}
 use Rattle.basic_toml_read.specs.SectionView.{key_of, header_texts, rows_seen, rows_view, elements_view, raw_of}
@@ -7,7 +8,7 @@ use Rattle.basic_toml_read.specs.declared.section.Row.{Row, out-Row}
 use Rattle.basic_toml_read.specs.declared.section.Element.{Element}
 use Rattle.basic_toml_grow.specs.declared.item.Child.{Child}
 use Rattle.basic_toml_grammar.specs.Standing as standings
-use Rattle.basic_toml_grow.specs.Item.{child_trie, table_trie}
+use Rattle.basic_toml_grow.specs.Item.{child_trie, item_trie, table_trie}
 use Rattle.basic_toml_grow.specs.Rows.{AreIn, AreKeptOut, IsFinished, AreFinished, one_row}
 use Rattle.std.specs.Box as boxes
 use Rattle.basic_toml_grow.proofs.RowsEntered.{row_key, ok_on}
@@ -33,19 +34,23 @@ use Rattle.basic_toml_grow.proofs.ElementsLeft.{ElementsAreLeft, element_entered
 use Rattle.basic_toml_grow.specs.Origins.{table_within, with_more, rows_origins, elements_origins}
 use Rattle.std.proofs.Common.{codes}
 use Rattle.basic_toml_grammar.specs.Sections.{Raw}
-use Rattle.basic_toml_grow.specs.Origins.{entry, value_origin, value_origins}
+use Rattle.basic_toml_grow.specs.Origins.{entry, value_origin}
 use Rattle.basic_toml_grow.proofs.Origins.OriginsSeen.{inline_seen, fresh_within}
 use Rattle.basic_toml_grow.proofs.Origins.OriginsLeft.{OriginsLeft, ElementsCome, origins_entered, origins_done, more_none}
 use Rattle.basic_toml_grow.proofs.Origins.OriginsLeft.{row_comes, element_comes, elements_come}
-use Rattle.basic_toml_grow.specs.Plain.{are_plain}
-use Rattle.basic_toml_grow.proofs.PlainArrays.{plain_finished, plain_come}
+use Rattle.std.specs.Prelude.{nat_le}
+use Rattle.std.proofs.lemmas.Bool.{and_parts}
+use Rattle.basic_toml_index.specs.Index.{few}
+use Rattle.basic_toml_grow.specs.declared.item.Item as items
+use Rattle.basic_toml_grow.specs.Plain.{are_plain, are_simple, are_few_simple, key_of as last_key}
+use Rattle.basic_toml_grow.proofs.PlainArrays.{plain_finished, table_finished}
+use Rattle.basic_toml_grow.proofs.PlainValues.{elements_lower, few_lower}
 use Rattle.basic_toml_index.specs.Keys.{are_distinct}
-use Rattle.basic_toml_grow.specs.Simple.{are_simple, key_of as last_key}
 use Rattle.basic_toml_grow.proofs.WhatIsLeft.{nothing_left}
-use Rattle.basic_toml_grow.proofs.SimpleKeys.{keys_differ}
+use Rattle.basic_toml_grow.proofs.SimpleKeys.{keys_differ, simple_are_plain}
 use Rattle.basic_toml_grow.specs.declared.item.Table.{Table, out-Table}
-use Rattle.basic_toml_grow.specs.Simple.{entries_of, none_inline, with_entries}
-use Rattle.basic_toml_grow.proofs.SimpleRows.{no_entries, all_simple_alone, all_plain_alone, rows_in, rows_come}
+use Rattle.basic_toml_grow.specs.Simple.{are_all_plain, entries_of, with_entries}
+use Rattle.basic_toml_grow.proofs.SimpleRows.{no_entries, all_lower, rows_in, rows_come}
 use Rattle.basic_toml_grow.proofs.RowsAfter.{FirstIn, first_in, all_entered, all_stopped, all_come}
 use Rattle.basic_toml_grow.proofs.rows.+finishing.Goals as goal
 
@@ -328,49 +333,80 @@ inline_child-returns-clause-origins t c =
     ∙ ap (λ w. with_more w (rows_origins s rows)) (ap table_within c.deref_mut.ensures.value
     ∙ fresh_within new.value c.in_ok-table.ensures))
 
+-- what is looked through, as it stands in the value
+array_seen : (l : ℕ) (elements seen : List Element) (looked : Bool) → seen ≡ elements → looked ≡ are_plain l seen
+    → looked ≡ true → are_plain l elements ≡ true
+array_seen l elements seen looked same is plain = ap (are_plain l) (sym same) ∙ sym is ∙ plain
+
+table_seen : (l : ℕ) (rows seen : List Row) (looked : Bool) → seen ≡ rows → looked ≡ are_few_simple l seen
+    → looked ≡ true → are_few_simple l rows ≡ true
+table_seen l rows seen looked same is simple = ap (are_few_simple l) (sym same) ∙ sym is ∙ simple
+
+few_are : (l : ℕ) (rows : List Row) → are_few_simple l rows ≡ true → are_simple l rows ≡ true
+few_are l rows simple = (and_parts (nat_le (length rows) few) (are_simple l rows) simple).1
+
 -- an array of plain values, kept as it was read
+pub row_value-invariant_of-array : goal.row_value-invariant_of-array
+row_value-invariant_of-array t c =
+    elements_lower c.in-Array.elements.items (c.args.level + 1)
+    (array_seen (c.args.level + 1) c.in-Array.elements.items c.as_slice.result.now c.are_plain.result
+    c.as_slice.ensures.value c.are_plain.ensures c.if-are_plain.true)
+
 pub row_value-returns-then-are_plain-clause-finished : goal.row_value-returns-then-are_plain-clause-finished
 row_value-returns-then-are_plain-clause-finished t c =
-    let plain : are_plain (c.args.level + 1) c.in-Array.elements.items ≡ true =
-    ap (are_plain (c.args.level + 1)) (sym c.as_slice.ensures.value) ∙ sym {A = Bool} c.are_plain.ensures
-    ∙ c.if-are_plain.true in
+    let plain = array_seen (c.args.level + 1) c.in-Array.elements.items c.as_slice.result.now c.are_plain.result
+    c.as_slice.ensures.value c.are_plain.ensures c.if-are_plain.true in
+    let trie : child_trie c.at.result ≡ item_trie (items.Plain c.in-Array.elements.items) = c.at.ensures.trie in
     subst (λ (v : raws.Raw). IsFinished (raw_of v) c.args.level (child_trie c.at.result)) (sym c.in-Array.is)
-    (subst (λ (u : Trie). IsFinished (raw_of (raws.Array c.in-Array.elements)) c.args.level u) (sym c.at.ensures.trie)
+    (subst (λ (u : Trie). IsFinished (raw_of (raws.Array c.in-Array.elements)) c.args.level u) (sym trie)
     (plain_finished c.in-Array.elements c.args.level plain c.if-level-lt-NESTING_LIMIT.true))
 
-pub row_value-returns-then-are_plain-clause-origins : goal.row_value-returns-then-are_plain-clause-origins
-row_value-returns-then-are_plain-clause-origins t c =
-    let plain : are_plain (c.args.level + 1) c.in-Array.elements.items ≡ true =
-    ap (are_plain (c.args.level + 1)) (sym c.as_slice.ensures.value) ∙ sym {A = Bool} c.are_plain.ensures
-    ∙ c.if-are_plain.true in
-    c.at.ensures.origins
-    ∙ plain_come c.in-Array.elements c.args.level plain c.args.start c.args.section
-    ∙ ap (λ v. value_origins c.args.section c.args.start (raw_of v)) (sym c.in-Array.is)
+-- and an inline table
+pub row_value-invariant_of-table : goal.row_value-invariant_of-table
+row_value-invariant_of-table t c =
+    few_lower c.in-Inline.rows.items (c.args.level + 1)
+    (table_seen (c.args.level + 1) c.in-Inline.rows.items c.as_slice-then-level-lt-NESTING_LIMIT-2.result.now
+    c.are_few_simple.result c.as_slice-then-level-lt-NESTING_LIMIT-2.ensures.value c.are_few_simple.ensures
+    c.if-are_few_simple.true)
 
--- plain rows have no inline tables
+pub row_value-returns-then-are_few_simple-clause-finished : goal.row_value-returns-then-are_few_simple-clause-finished
+row_value-returns-then-are_few_simple-clause-finished t c =
+    let plain = table_seen (c.args.level + 1) c.in-Inline.rows.items c.as_slice-then-level-lt-NESTING_LIMIT-2.result.now
+    c.are_few_simple.result c.as_slice-then-level-lt-NESTING_LIMIT-2.ensures.value c.are_few_simple.ensures
+    c.if-are_few_simple.true in
+    let trie : child_trie c.at-then-are_few_simple.result ≡ item_trie (items.Rows c.in-Inline.rows.items) =
+    c.at-then-are_few_simple.ensures.trie in
+    subst (λ (v : raws.Raw). IsFinished (raw_of v) c.args.level (child_trie c.at-then-are_few_simple.result))
+    (sym c.in-Inline.is)
+    (subst (λ (u : Trie). IsFinished (raw_of (raws.Inline c.in-Inline.rows)) c.args.level u) (sym trie)
+    (table_finished c.in-Inline.rows c.args.level plain c.if-level-lt-NESTING_LIMIT-2.true))
+
+-- plain rows are so at the lowest level
 pub take_rows-with_rows-requires-clause-plain : goal.take_rows-with_rows-requires-clause-plain
 take_rows-with_rows-requires-clause-plain t c =
-    all_simple_alone c.args.level (tables.out-Rows c.args.rows.now).rows.items
-    (ap (are_simple c.args.level) (sym c.as_slice.ensures.value) ∙ sym {A = Bool} c.are_simple.ensures
-    ∙ c.if-are_simple.true)
+    let items = (tables.out-Rows c.args.rows.now).rows.items in
+    all_lower c.args.level items (simple_are_plain c.args.level items (few_are c.args.level items
+    (table_seen c.args.level items c.as_slice.result.now c.are_few_simple.result c.as_slice.ensures.value
+    c.are_few_simple.ensures c.if-are_few_simple.true)))
 
 pub take_many_rows-with_first_rows-requires-clause-plain : goal.take_many_rows-with_first_rows-requires-clause-plain
 take_many_rows-with_first_rows-requires-clause-plain t c =
-    ap none_inline c.drain-rows.ensures ∙ all_plain_alone c.args.level c.args.rows.items c.requires.plain
+    ap (are_all_plain 0) c.drain-rows.ensures ∙ all_lower c.args.level c.args.rows.items c.requires.plain
 
 -- simple rows, taken all at once
 pub take_rows-with_rows-requires-clause-distinct : goal.take_rows-with_rows-requires-clause-distinct
 take_rows-with_rows-requires-clause-distinct t c =
-    keys_differ c.args.level (tables.out-Rows c.args.rows.now).rows.items
-    (ap (are_simple c.args.level) (sym c.as_slice.ensures.value) ∙ sym {A = Bool} c.are_simple.ensures
-    ∙ c.if-are_simple.true)
+    let items = (tables.out-Rows c.args.rows.now).rows.items in
+    keys_differ c.args.level items (few_are c.args.level items
+    (table_seen c.args.level items c.as_slice.result.now c.are_few_simple.result c.as_slice.ensures.value
+    c.are_few_simple.ensures c.if-are_few_simple.true))
 
 -- no key stands before one of them, and the table was without entries
 without_parents : (t : ℕ) (c : goal.take_rows-In_ok-with_rows t) → (tables.out-Rows c.args.rows.now).parents.items ≡ []
 without_parents t c =
     let parents = (tables.out-Rows c.args.rows.now).parents in
     nothing_left parents.items
-    (grind (arith, c.is_empty-then-len-le-FEW.ensures, c.if-is_empty-3.true, parents.ok.0))
+    (grind (arith, c.is_empty-then-looks-gt0.ensures, c.if-is_empty-3.true, parents.ok.0))
 
 without_entries : (t : ℕ) (c : goal.take_rows-In_ok-with_rows t) → (out-Table c.args.table.now).entries ≡ []
 without_entries t c =
@@ -380,11 +416,13 @@ without_entries t c =
 taken_at_once : (t : ℕ) (c : goal.take_rows-In_ok-with_rows t)
     → are_simple c.args.level (tables.out-Rows c.args.rows.now).rows.items ≡ true
 taken_at_once t c =
-    ap (are_simple c.args.level) (sym c.as_slice.ensures.value) ∙ sym {A = Bool} c.are_simple.ensures
-    ∙ c.if-are_simple.true
+    let items = (tables.out-Rows c.args.rows.now).rows.items in
+    few_are c.args.level items
+    (table_seen c.args.level items c.as_slice.result.now c.are_few_simple.result c.as_slice.ensures.value
+    c.are_few_simple.ensures c.if-are_few_simple.true)
 
-pub take_rows-returns-then-are_simple-clause-entered : goal.take_rows-returns-then-are_simple-clause-entered
-take_rows-returns-then-are_simple-clause-entered t c =
+pub take_rows-returns-then-are_few_simple-clause-entered : goal.take_rows-returns-then-are_few_simple-clause-entered
+take_rows-returns-then-are_few_simple-clause-entered t c =
     let table = c.args.table.now in
     let items = (tables.out-Rows c.args.rows.now).rows.items in
     subst (λ (rows : Rows). AreIn rows c.args.level (table_trie table) (table_trie c.with_rows.new.table))
@@ -393,8 +431,8 @@ take_rows-returns-then-are_simple-clause-entered t c =
     (sym c.in_ok-with_rows.ensures.after)
     (rows_in c.args.section c.args.level (omega arith) table (without_entries t c) items (taken_at_once t c)))
 
-pub take_rows-returns-then-are_simple-clause-origins : goal.take_rows-returns-then-are_simple-clause-origins
-take_rows-returns-then-are_simple-clause-origins t c =
+pub take_rows-returns-then-are_few_simple-clause-origins : goal.take_rows-returns-then-are_few_simple-clause-origins
+take_rows-returns-then-are_few_simple-clause-origins t c =
     let table = c.args.table.now in
     let items = (tables.out-Rows c.args.rows.now).rows.items in
     ap table_within c.in_ok-with_rows.ensures.after
@@ -402,8 +440,8 @@ take_rows-returns-then-are_simple-clause-origins t c =
     ∙ ap (λ rows. with_more (table_within table) (rows_origins c.args.section rows))
     (sym (no_parents_seen c.args.rows.now (without_parents t c)))
 
-pub take_rows-returns-then-are_simple-clause-taken : goal.take_rows-returns-then-are_simple-clause-taken
-take_rows-returns-then-are_simple-clause-taken t c =
+pub take_rows-returns-then-are_few_simple-clause-taken : goal.take_rows-returns-then-are_few_simple-clause-taken
+take_rows-returns-then-are_few_simple-clause-taken t c =
     let parents = without_parents t c in
     search (rules, parents, c.in_ok-with_rows.ensures.taken, raws.the_lemmas)
 
@@ -413,7 +451,7 @@ take_rows-returns-then-are_all_plain-clause-named t c =
     let own = tables.out-Rows now in
     let none : own.parents.items ≡ [] =
     nothing_left own.parents.items
-    (grind (arith, c.is_empty-then-len-ge-MANY.ensures, c.if-is_empty-5.true, own.parents.ok.0)) in
+    (grind (arith, c.is_empty-then-looks-gt0-2.ensures, c.if-is_empty-5.true, own.parents.ok.0)) in
     subst (λ (rows : Rows). IfErr c.take_many_rows.result
     (λ clash. NamesObstacle (rows_obstacle c.args.level rows (table_trie c.args.table.now)) clash))
     (sym (no_parents_seen now none) ∙ ap rows_view c.replace-parents.ensures.value) c.take_many_rows.ensures.named

@@ -4,7 +4,7 @@ use Rattle.std.specs.Vec.Iter.{drain_items}
 use Rattle.std.proofs.lemmas.List.{take_all}
 use Rattle.basic_toml_value.specs.Entries.{pair_seen}
 use Rattle.basic_toml_grow.proofs.WhatIsLeft.{mapped_next, none_after}
-use Rattle.basic_toml_grow.specs.Simple.{entry_of, none_inline}
+use Rattle.basic_toml_grow.specs.Simple.{entry_of, are_all_plain}
 use Rattle.basic_toml_grow.proofs.SimpleRows.{first_plain, others_plain}
 use Rattle.basic_toml_grow.proofs.simple.entries_of.Goals as goal
 
@@ -16,13 +16,13 @@ loop-row-init c =
       ap (λ ps. map pair_seen ps ++ map (entry_of c.args.section) (drain_items c.into_iter-row-iterator.result))
           c.in_ok-entries.ensures.items,
       search rules,
-      ap none_inline left ∙ c.requires.plain,
+      ap (are_all_plain 0) left ∙ c.requires.plain,
     )
 
 pub entry_of-requires-clause-plain : goal.entry_of-requires-clause-plain
 entry_of-requires-clause-plain c =
-    first_plain c.in-Some.row (drain_items c.next.new.self)
-    (ap none_inline (sym c.in-Some.ensures.steps.0) ∙ c.loop-row.invariant.2)
+    first_plain 0 c.in-Some.row (drain_items c.next.new.self)
+    (ap (are_all_plain 0) (sym c.in-Some.ensures.steps.0) ∙ c.loop-row.invariant.2)
 
 pub loop-row-preserved : goal.loop-row-preserved
 loop-row-preserved c =
@@ -32,7 +32,8 @@ loop-row-preserved c =
           (drain_items c.into_iter-row-iterator.result) c.entry_of.result c.in-Some.row steps.0
           c.push_reserved.ensures.items c.loop-row.invariant.0 c.entry_of.ensures,
       omega (arith, steps.1, c.loop-row.invariant.1, c.push_reserved.ensures.len, c.push_reserved.ensures.capacity),
-      others_plain c.in-Some.row (drain_items c.next.new.self) (ap none_inline (sym steps.0) ∙ c.loop-row.invariant.2),
+      others_plain 0 c.in-Some.row (drain_items c.next.new.self)
+          (ap (are_all_plain 0) (sym steps.0) ∙ c.loop-row.invariant.2),
     )
 
 pub returns-clause-entries : goal.returns-clause-entries

@@ -1,7 +1,7 @@
 use Rattle.std.proofs.Common.{◌≡◌, suc, ◌+◌, ◌-◌, ◌++◌, ap, ap₂, sym, ◌∙◌, map, length, take, drop, arith}
 use Rattle.basic_toml_value.specs.Entries.{pair_seen}
 use Rattle.basic_toml_grow.proofs.WhatIsLeft.{mapped_next}
-use Rattle.basic_toml_grow.specs.Simple.{entry_of, none_inline}
+use Rattle.basic_toml_grow.specs.Simple.{entry_of, are_all_plain}
 use Rattle.basic_toml_grow.proofs.SimpleRows.{first_plain, others_plain}
 use Rattle.basic_toml_grow.proofs.simple.first_entries_of.Goals as goal
 
@@ -26,7 +26,8 @@ unreachable-requires c =
 
 pub entry_of-requires-clause-plain : goal.entry_of-requires-clause-plain
 entry_of-requires-clause-plain c =
-    first_plain c.in-Some.row c.next.new.self (ap none_inline (sym c.in-Some.ensures.steps) ∙ c.loop.invariant.plain)
+    first_plain 0 c.in-Some.row c.next.new.self
+    (ap (are_all_plain 0) (sym c.in-Some.ensures.steps) ∙ c.loop.invariant.plain)
 
 pub loop-preserved : goal.loop-preserved
 loop-preserved c =
@@ -41,6 +42,6 @@ loop-preserved c =
           c.loop.invariant.entered c.entry_of.ensures;
       left = sym (ap₂ (λ n rows. drop n rows) next first) ∙ c.loop.invariant.left;
       within = omega (arith, shorter, c.loop.invariant.within, next);
-      plain = others_plain c.in-Some.row c.next.new.self (ap none_inline (sym first) ∙ c.loop.invariant.plain);
+      plain = others_plain 0 c.in-Some.row c.next.new.self (ap (are_all_plain 0) (sym first) ∙ c.loop.invariant.plain);
       room = omega (arith, c.loop.invariant.room, next, c.push_reserved.ensures.len, c.push_reserved.ensures.capacity);
     }

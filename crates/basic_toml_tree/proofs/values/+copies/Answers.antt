@@ -3,12 +3,12 @@ use Rattle.basic_toml_value.specs.Data.{Data, items_of, members_of}
 use Rattle.basic_toml_value.specs.View.{view, entries}
 use Rattle.basic_toml_value.specs.Entries.{texts_of}
 use Rattle.basic_toml_value.proofs.Sizes.{data_size, items_size}
-use Rattle.basic_toml_grow.specs.Plain.{listed_data}
+use Rattle.basic_toml_grow.specs.Plain.{element_data, rows_data}
 use Rattle.basic_toml_tree.specs.Data.{data_of, child_data, table_data, child_pair, value_pair}
 use Rattle.basic_toml_tree.proofs.DataParts.{items_size-at, items_size-front, items_size-last, members_size-at}
 use Rattle.basic_toml_tree.proofs.DataParts.{mapped_more, array_seen}
-use Rattle.basic_toml_tree.proofs.ItemData.{child_item, plain_elements, table_of_pairs, tables_data, table_seen}
-use Rattle.basic_toml_tree.proofs.ItemData.{entries_seen, keys_copied, refused_held, tables_whole}
+use Rattle.basic_toml_tree.proofs.ItemData.{child_item, plain_elements, rows_item, table_of_pairs, tables_data}
+use Rattle.basic_toml_tree.proofs.ItemData.{table_seen, entries_seen, keys_copied, refused_held, tables_whole}
 use Rattle.basic_toml_tree.proofs.values.+copies.Goals as goal
 
 pub elements_of-value_of-requires : goal.elements_of-value_of-requires
@@ -108,5 +108,11 @@ pub value_of-returns-in_ok-plain_values-in-Plain : goal.value_of-returns-in_ok-p
 value_of-returns-in_ok-plain_values-in-Plain t c =
     array_seen c.in_ok-plain_values-in-Plain.field-0
     ∙ ap (λ ds. Data.array (items_of ds)) (c.in_ok-plain_values-in-Plain.ensures
-    ∙ ap (map listed_data) c.as_slice-in-Plain.ensures.value)
-    ∙ sym (ap data_of c.in-Plain.is ∙ plain_elements c.in-Plain.elements)
+    ∙ ap (map element_data) c.elements.ensures.elements)
+    ∙ sym (ap data_of c.in-Plain.is ∙ plain_elements c.in-Plain.array)
+
+pub value_of-returns-in_ok-plain_table-in-Rows : goal.value_of-returns-in_ok-plain_table-in-Rows
+value_of-returns-in_ok-plain_table-in-Rows t c =
+    table_seen c.in_ok-plain_table-in-Rows.field-0
+    ∙ c.in_ok-plain_table-in-Rows.ensures.table ∙ ap rows_data c.rows.ensures.rows
+    ∙ sym (ap data_of c.in-Rows.is ∙ rows_item c.in-Rows.table)

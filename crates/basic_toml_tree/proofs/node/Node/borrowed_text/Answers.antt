@@ -3,13 +3,8 @@ use Rattle.basic_toml_tree.specs.Origin.{is_borrowed}
 use Rattle.basic_toml_tree.proofs.Foretold.NodesForetold.{slice_foretold}
 use Rattle.basic_toml_tree.proofs.node.Node.borrowed_text.Goals as goal
 
-pub returns-in-Item-String-clause-foretold : goal.returns-in-Item-String-clause-foretold
-returns-in-Item-String-clause-foretold c =
-    let same : true ≡ is_borrowed c.args.self = search (rules) in
-    λ sections p. slice_foretold true c.args.self same sections p
-
-pub returns-in-Plain-String-clause-foretold : goal.returns-in-Plain-String-clause-foretold
-returns-in-Plain-String-clause-foretold c =
+pub returns-in-Slice-clause-foretold : goal.returns-in-Slice-clause-foretold
+returns-in-Slice-clause-foretold c =
     let same : true ≡ is_borrowed c.args.self = search (rules) in
     λ sections p. slice_foretold true c.args.self same sections p
 

@@ -1,14 +1,16 @@
-use Rattle.std.proofs.Common.{◌≡◌, List, ◌∷◌, [], ◌++◌, length, map, Some, ap, sym, ◌∙◌, arith, rules, subst, length-append}
+use Rattle.std.proofs.Common.{◌≡◌, List, ◌∷◌, [], ◌++◌, length, map, Some, ap, sym, ◌∙◌, arith, rules, subst}
+use Rattle.std.proofs.Common.{length-append}
 use Rattle.std.specs.Prelude.{slice_get, ◌≤◌}
-use Rattle.basic_toml_read.specs.declared.section.Raw as raws
 use Rattle.basic_toml_read.specs.declared.section.Element.{Element}
 use Rattle.basic_toml_grammar.specs.Mentions.{finished}
-use Rattle.basic_toml_grow.specs.Plain.{plain_array, plain_data}
-use Rattle.basic_toml_grow.proofs.PlainSeen.{array_of}
-use Rattle.basic_toml_grow.specs.declared.item.Item.{Array, Plain, Tables}
+use Rattle.basic_toml_grow.specs.Plain.{is_plain, are_plain, plain_array, plain_data}
+use Rattle.basic_toml_grow.proofs.PlainValues.{array_within}
+use Rattle.basic_toml_read.proofs.ViewsSeen.{array_of}
+use Rattle.basic_toml_grow.specs.declared.item.Item.{Array, Plain, Rows, Tables}
 use Rattle.basic_toml_tree.specs.Data.{data_of, child_data, table_data}
-use Rattle.basic_toml_tree.specs.Nodes.{node_data, elements_in}
-use Rattle.basic_toml_tree.proofs.Nodes.NodesInOrder.{array_elements, tables_elements, mapped_read, mapped_length, front_read}
+use Rattle.basic_toml_tree.specs.Nodes.{node_data, spot_data, elements_in}
+use Rattle.basic_toml_tree.proofs.Nodes.NodesInOrder.{array_elements, tables_elements, mapped_read, mapped_length}
+use Rattle.basic_toml_tree.proofs.Nodes.NodesInOrder.{front_read}
 use Rattle.basic_toml_tree.proofs.Nodes.NodesInOrder.{last_read}
 use Rattle.basic_toml_tree.specs.declared.spot.Spot.TheVariants as spots
 use Rattle.basic_toml_grow.specs.Item.{table_trie}
@@ -16,7 +18,8 @@ use Rattle.basic_toml_grow.specs.Origins.{child_origins, table_within}
 use Rattle.basic_toml_tree.specs.Stands.{AtNumber, IsPlainElement}
 use Rattle.basic_toml_tree.proofs.Nodes.NodesStand.{literal_stands, plain_stand, tables_stand, value_stands}
 use Rattle.basic_toml_tree.proofs.Nodes.PlainNodes.{plain_answers, some_read}
-use Rattle.basic_toml_tree.proofs.ItemData.{plain_item}
+use Rattle.basic_toml_tree.proofs.ItemData.{plain_item, rows_item}
+use Rattle.basic_toml_tree.proofs.InlineTables.{raw_no_elements, rows_no_elements}
 use Rattle.basic_toml_tree.proofs.node.Node.element_at.Goals as goal
 
 pub returns-in-Some-clause-data : goal.returns-in-Some-clause-data
@@ -147,43 +150,56 @@ returns-then-at-earlier-clause-stands c =
 -- plain elements
 pub returns-in-Item-Plain-clause-data : goal.returns-in-Item-Plain-clause-data
 returns-in-Item-Plain-clause-data c =
-    let here : node_data c.args.self ≡ data_of (Plain c.in-Item-Plain.elements) = search (rules) in
-    plain_answers c.args.self c.as_slice.result.now c.args.at (node_data c.args.self) c.plain_element.result
-    (here ∙ plain_item c.in-Item-Plain.elements
-    ∙ ap (λ es. finished (plain_array es)) (sym c.as_slice.ensures.value))
+    let here : node_data c.args.self ≡ data_of (Plain c.in-Item-Plain.array) = search (rules) in
+    plain_answers c.args.self c.elements.result.now c.args.at (node_data c.args.self) c.plain_element.result
+    (here ∙ plain_item c.in-Item-Plain.array
+    ∙ ap (λ es. finished (plain_array es)) (sym c.elements.ensures.elements))
     c.plain_element.ensures.none c.plain_element.ensures.some
-
-pub returns-in-Plain-Array-clause-within : goal.returns-in-Plain-Array-clause-within
-returns-in-Plain-Array-clause-within c = c.plain_element-in-Plain-Array.ensures.within
-
-pub returns-in-Plain-Array-clause-data : goal.returns-in-Plain-Array-clause-data
-returns-in-Plain-Array-clause-data c =
-    let here : node_data c.args.self ≡ plain_data (raws.Array c.in-Plain-Array.elements) = search (rules) in
-    plain_answers c.args.self c.as_slice-in-Plain-Array.result.now c.args.at (node_data c.args.self)
-    c.plain_element-in-Plain-Array.result
-    (here ∙ ap finished (array_of c.in-Plain-Array.elements)
-    ∙ ap (λ es. finished (plain_array es)) (sym c.as_slice-in-Plain-Array.ensures.value))
-    c.plain_element-in-Plain-Array.ensures.none c.plain_element-in-Plain-Array.ensures.some
 
 pub returns-in-Item-Plain-clause-stands : goal.returns-in-Item-Plain-clause-stands
 returns-in-Item-Plain-clause-stands c =
     let at : c.args.self.spot ≡ spots.Item c.in-Item-Plain.field-0 = search (rules) in
-    let is : c.in-Item-Plain.field-0.now ≡ Plain c.in-Item-Plain.elements = search (rules) in
+    let is : c.in-Item-Plain.field-0.now ≡ Plain c.in-Item-Plain.array = search (rules) in
     some_read c.plain_element.result (length (elements_in (node_data c.args.self)) ≤ c.args.at)
+    (IsPlainElement c.args.self c.elements.result.now c.args.at)
+    (λ node. slice_get (elements_in (node_data c.args.self)) c.args.at ≡ Some (node_data node))
+    (AtNumber c.args.self c.args.at) (λ node placed read. plain_stand c.args.self node c.args.at c.in-Item-Plain.field-0
+    at c.in-Item-Plain.array is (subst (λ (es : List Element). IsPlainElement c.args.self es c.args.at node)
+    c.elements.ensures.elements placed) read) c.plain_element.ensures.some (returns-in-Item-Plain-clause-data c)
+
+pub plain_element-requires-in-Array : goal.plain_element-requires-in-Array
+plain_element-requires-in-Array c =
+    let plain = ap (λ v. is_plain v 0) (sym c.in-Array.is) ∙ c.in-Plain.plain.plain in
+    ap (are_plain 0) c.as_slice.ensures.value ∙ array_within c.in-Array.elements 0 plain
+
+pub returns-in-Array-clause-data : goal.returns-in-Array-clause-data
+returns-in-Array-clause-data c =
+    plain_answers c.args.self c.as_slice.result.now c.args.at (node_data c.args.self)
+    c.plain_element-in-Array.result
+    (ap spot_data c.in-Plain.is ∙ ap plain_data c.in-Array.is ∙ ap finished (array_of c.in-Array.elements)
+    ∙ ap (λ es. finished (plain_array es)) (sym c.as_slice.ensures.value))
+    c.plain_element-in-Array.ensures.none c.plain_element-in-Array.ensures.some
+
+pub returns-in-Array-clause-stands : goal.returns-in-Array-clause-stands
+returns-in-Array-clause-stands c =
+    some_read c.plain_element-in-Array.result (length (elements_in (node_data c.args.self)) ≤ c.args.at)
     (IsPlainElement c.args.self c.as_slice.result.now c.args.at)
     (λ node. slice_get (elements_in (node_data c.args.self)) c.args.at ≡ Some (node_data node))
-    (AtNumber c.args.self c.args.at) (λ node listed read. plain_stand c.args.self node c.args.at c.in-Item-Plain.field-0
-    at c.in-Item-Plain.elements is (subst (λ (es : List Element). IsPlainElement c.args.self es c.args.at node)
-    c.as_slice.ensures.value listed) read) c.plain_element.ensures.some (returns-in-Item-Plain-clause-data c)
+    (AtNumber c.args.self c.args.at) (λ node placed read. value_stands c.args.self node c.args.at c.in-Plain.plain
+    c.in-Array.elements c.in-Plain.is c.in-Array.is (subst (λ (es : List Element).
+    IsPlainElement c.args.self es c.args.at node)
+    c.as_slice.ensures.value placed) read) c.plain_element-in-Array.ensures.some
+    (returns-in-Array-clause-data c)
 
-pub returns-in-Plain-Array-clause-stands : goal.returns-in-Plain-Array-clause-stands
-returns-in-Plain-Array-clause-stands c =
-    let at : c.args.self.spot ≡ spots.Plain c.in-Plain-Array.field-0 = search (rules) in
-    let is : c.in-Plain-Array.field-0.now ≡ raws.Array c.in-Plain-Array.elements = search (rules) in
-    some_read c.plain_element-in-Plain-Array.result (length (elements_in (node_data c.args.self)) ≤ c.args.at)
-    (IsPlainElement c.args.self c.as_slice-in-Plain-Array.result.now c.args.at)
-    (λ node. slice_get (elements_in (node_data c.args.self)) c.args.at ≡ Some (node_data node))
-    (AtNumber c.args.self c.args.at) (λ node listed read. value_stands c.args.self node c.args.at c.in-Plain-Array.field-0
-    c.in-Plain-Array.elements at is (subst (λ (es : List Element). IsPlainElement c.args.self es c.args.at node)
-    c.as_slice-in-Plain-Array.ensures.value listed) read) c.plain_element-in-Plain-Array.ensures.some
-    (returns-in-Plain-Array-clause-data c)
+-- what is no array has none
+pub returns-in_default-value-clause-data : goal.returns-in_default-value-clause-data
+returns-in_default-value-clause-data c =
+    let none = ap (λ s. elements_in (spot_data s)) c.in-Plain.is
+    ∙ raw_no_elements c.in-Plain.plain.value.now c.in-Plain.plain.plain c.in_default-value.not-Array in
+    omega (arith, ap length none)
+
+pub returns-in-Item-Rows-clause-data : goal.returns-in-Item-Rows-clause-data
+returns-in-Item-Rows-clause-data c =
+    let here : node_data c.args.self ≡ data_of (Rows c.in-Item-Rows._rows) = search (rules) in
+    let none = ap elements_in (here ∙ rows_item c.in-Item-Rows._rows) ∙ rows_no_elements c.in-Item-Rows._rows in
+    omega (arith, ap length none)

@@ -15,11 +15,11 @@ returns-in-Item-Plain-clause-foretold c =
     let same : c.outer_place-in-Item-Plain.result ≡ offset_of c.args.self = search (rules) in
     λ sections p. place_foretold c.outer_place-in-Item-Plain.result c.args.self same sections p
 
-pub returns-in-Plain-Array-clause-foretold : goal.returns-in-Plain-Array-clause-foretold
+pub returns-in-Plain-clause-foretold : goal.returns-in-Plain-clause-foretold
 unfolding offset_of
-returns-in-Plain-Array-clause-foretold c =
-    let same : c.outer_place-in-Plain-Array.result ≡ offset_of c.args.self = search (rules) in
-    λ sections p. place_foretold c.outer_place-in-Plain-Array.result c.args.self same sections p
+returns-in-Plain-clause-foretold c =
+    let same : c.outer_place-in-Plain.result ≡ offset_of c.args.self = search (rules) in
+    λ sections p. place_foretold c.outer_place-in-Plain.result c.args.self same sections p
 
 pub returns-in_default-clause-foretold : goal.returns-in_default-clause-foretold
 unfolding offset_of

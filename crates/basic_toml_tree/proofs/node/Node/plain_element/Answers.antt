@@ -1,7 +1,7 @@
 use Rattle.std.proofs.Common.{ap, refl, ◌∙◌, Some}
-use Rattle.basic_toml_grow.specs.Plain.{listed_of}
+use Rattle.basic_toml_read.specs.SectionView.{placed_of}
 use Rattle.basic_toml_tree.proofs.Nodes.NodesInOrder.{mapped_read}
-use Rattle.basic_toml_tree.proofs.Nodes.PlainNodes.{element_listed}
+use Rattle.basic_toml_tree.proofs.Nodes.PlainNodes.{element_placed}
 use Rattle.basic_toml_tree.proofs.node.Node.plain_element.Goals as goal
 
 pub returns-clause-some : goal.returns-clause-some
@@ -9,8 +9,8 @@ returns-clause-some c =
     let read = c.in_ok-element.ensures.lookup in
     let e = c.in_ok-element.element.now in
     record {
-      value = _;
+      plain = _;
       spot = refl;
-      listed = mapped_read listed_of c.args.elements.now c.args.at e read.3.0 read.1 ∙ ap Some (element_listed e);
+      placed = mapped_read placed_of c.args.elements.now c.args.at e read.3.0 read.1 ∙ ap Some (element_placed e);
       beside = record { tree = refl; count = refl; spot = refl; outer = refl; trail = refl };
     }

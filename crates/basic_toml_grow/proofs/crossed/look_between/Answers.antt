@@ -8,7 +8,7 @@ use Rattle.basic_toml_read.specs.SectionView.{header_texts, key_of, lined_of, ro
 use Rattle.basic_toml_read.proofs.NextRow.{next_row, parents_left}
 use Rattle.basic_toml_grow.specs.KeyTree.{ends_of}
 use Rattle.basic_toml_grow.proofs.RowIsFollowed.{Passed, none_passed, all_passed, gone_on, stopped}
-use Rattle.basic_toml_grow.proofs.crossed.follow_rows.Goals as goal
+use Rattle.basic_toml_grow.proofs.crossed.look_between.Goals as goal
 
 pub loop-row-init : goal.loop-row-init
 loop-row-init c = record {

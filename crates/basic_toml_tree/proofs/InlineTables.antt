@@ -1,0 +1,127 @@
+-- Data of rows, each of one key, is a table.
+use Rattle.std.proofs.Common.{◌≡◌, ℕ, zero, suc, Bool, true, false, List, [], ◌∷◌, ◌++◌, Option, Some, None, refl, map}
+use Rattle.std.proofs.Common.{take, drop, ap, sym, ◌∙◌, rules, ◌⊎◌, inl, inr, Box, Vec, Global}
+use Rattle.std.specs.Prelude.{if◌then◌else◌}
+use Rattle.std.proofs.lemmas.Bool.{false≢true}
+use Rattle.basic_toml_value.specs.Data.{Data}
+use Rattle.basic_toml_grammar.specs.Growth.{grown, Branches, no_branches, branch, grow, grow_at, grow_all, closed}
+use Rattle.basic_toml_grammar.specs.Growth.{closed_branches}
+use Rattle.basic_toml_grammar.specs.Mentions.{finished, row_mentions}
+use Rattle.basic_toml_grammar.specs.Sections.{row}
+use Rattle.basic_toml_grammar.specs.Steps.{key, number, Path, step_eq}
+use Rattle.basic_toml_read.specs.declared.section.Raw.TheOpen.{Raw-F}
+use Rattle.basic_toml_read.specs.declared.section.Element.{Element}
+use Rattle.basic_toml_read.specs.declared.section.Row.{Row}
+use Rattle.basic_toml_read.specs.declared.section.Rows.{Rows}
+use Rattle.basic_toml_read.specs.SectionView.{Lined, lined_of, rows_from}
+use Rattle.basic_toml_read.specs.declared.section.Raw as raws
+use Rattle.basic_toml_grow.specs.Plain.{is_plain, plain_data, rows_data}
+use Rattle.basic_toml_grow.specs.declared.item.Item as items
+use Rattle.basic_toml_grow.specs.declared.item.Item.{Item}
+use Rattle.basic_toml_grow.specs.declared.item.Table.{Table}
+use Rattle.basic_toml_tree.specs.Data.{data_of}
+use Rattle.basic_toml_tree.specs.Nodes.{is_table, elements_in}
+use Rattle.basic_toml_tree.proofs.RowsData.{inline_rows}
+use Rattle.basic_toml_tree.proofs.ItemData.{rows_item, inline_data, table_item_data, table_is_table}
+
+-- each branch stands at a key
+abbrev all_keys : Branches → Bool
+all_keys no_branches = true
+all_keys (branch (key k) g bs) = all_keys bs
+all_keys (branch (number n) g bs) = false
+
+keys_grow : (bs : Branches) (k : List ℕ) (p : Path) (v : Option Data) → all_keys bs ≡ true
+    → all_keys (grow_at bs (key k) p v) ≡ true
+keys_grow no_branches k p v all = refl
+keys_grow (branch (number n) g bs) k p v all = absurd (false≢true all)
+keys_grow (branch (key l) g bs) k p v all = go (step_eq (key l) (key k)) (keys_grow bs k p v all)
+  where
+    go : (b : Bool) → all_keys (grow_at bs (key k) p v) ≡ true
+        → all_keys (if b then branch (key l) (grow g p v) bs else branch (key l) g (grow_at bs (key k) p v)) ≡ true
+    go true more = all
+    go false more = more
+
+keys_close : (bs : Branches) → all_keys bs ≡ true → is_table (closed_branches bs) ≡ true
+keys_close no_branches all = refl
+keys_close (branch (key k) g bs) all = refl
+keys_close (branch (number n) g bs) all = absurd (false≢true all)
+
+rows_grow : (ls : List Lined) (bs : Branches) → all_keys bs ≡ true
+    → is_table (closed (grow_all (grown None bs) (row_mentions [] (rows_from [] ls)))) ≡ true
+rows_grow [] bs all = keys_close bs all
+rows_grow (l ∷ ls) bs all =
+    go l.parents (rows_grow ls (grow_at bs (key l.key.text) [] (Some (finished l.value)))
+    (keys_grow bs l.key.text [] (Some (finished l.value)) all))
+  where
+    go : (n : ℕ)
+        → is_table (closed (grow_all (grown None (grow_at bs (key l.key.text) [] (Some (finished l.value))))
+        (row_mentions [] (rows_from [] ls)))) ≡ true
+        → is_table (closed (grow_all (grown None bs)
+        (row_mentions [] (row (take n [] ++ l.key ∷ []) l.start l.value (rows_from (drop n []) ls))))) ≡ true
+    go zero more = more
+    go (suc n) more = more
+
+pub rows_are_table : (rs : List Row) → is_table (rows_data rs) ≡ true
+rows_are_table rs = rows_grow (map lined_of rs) no_branches refl
+
+-- an item, and a plain value, that holds a table
+pub item_is_table : (i : Item)
+    → ((rs : List Row) × (i ≡ items.Rows rs)) ⊎ (((t : Box Table Global) × (i ≡ items.Inline t))
+    ⊎ ((t : Box Table Global) × (i ≡ items.Table t))) → is_table (data_of i) ≡ true
+item_is_table i (inl is) = ap (λ i. is_table (data_of i)) is.1 ∙ ap is_table (rows_item is.0) ∙ rows_are_table is.0
+item_is_table i (inr (inl is)) =
+    ap (λ i. is_table (data_of i)) is.1 ∙ ap is_table (inline_data is.0 ∙ (table_is_table is.0.value).1)
+item_is_table i (inr (inr is)) =
+    ap (λ i. is_table (data_of i)) is.1 ∙ ap is_table (table_item_data is.0 ∙ (table_is_table is.0.value).1)
+
+pub raw_is_table : (v : raws.Raw) → is_plain v 0 ≡ true
+    → ((rs : Vec Row Global) × (v ≡ raws.Inline rs)) ⊎ ((rs : Box Rows Global) × (v ≡ raws.Dotted rs))
+    → is_table (plain_data v) ≡ true
+raw_is_table v plain (inl is) =
+    ap (λ v. is_table (plain_data v)) is.1 ∙ ap is_table (inline_rows is.0) ∙ rows_are_table is.0.items
+raw_is_table v plain (inr is) = absurd (false≢true (sym (not_plain is.0) ∙ ap (λ v. is_plain v 0) (sym is.1) ∙ plain))
+  where
+    not_plain : (rs : Box Rows Global) → is_plain (raws.Dotted rs) 0 ≡ false
+    not_plain rs = search (rules, raws.the_lemmas)
+
+-- what is no array has no elements
+no_elements : (d : Data) → is_table d ≡ true → elements_in d ≡ []
+no_elements (Data.table z) is = refl
+no_elements (Data.array z) is = absurd (false≢true is)
+no_elements (Data.integer z) is = absurd (false≢true is)
+no_elements (Data.float z) is = absurd (false≢true is)
+no_elements (Data.boolean z) is = absurd (false≢true is)
+no_elements (Data.string z) is = absurd (false≢true is)
+
+pub raw_no_elements : (v : raws.Raw) → is_plain v 0 ≡ true → ((es : Vec Element Global) → v ≡ raws.Array es → ⊥)
+    → elements_in (plain_data v) ≡ []
+raw_no_elements v plain other = go (raws.out-Raw v) (sym (raws.roll-out-Raw v))
+  where
+    go : (x : Raw-F raws.Raw Element Row Rows) → v ≡ raws.roll-Raw x → elements_in (plain_data v) ≡ []
+    go (Raw-F.Array z) is =
+        let made : raws.roll-Raw (Raw-F.Array z) ≡ raws.Array z = search (rules, raws.the_lemmas) in
+        absurd (other z (is ∙ made))
+    go (Raw-F.Inline z) is =
+        let made : raws.roll-Raw (Raw-F.Inline z) ≡ raws.Inline z = search (rules, raws.the_lemmas) in
+        no_elements (plain_data v) (raw_is_table v plain (inl (z, is ∙ made)))
+    go (Raw-F.Dotted z) is =
+        let made : raws.roll-Raw (Raw-F.Dotted z) ≡ raws.Dotted z = search (rules, raws.the_lemmas) in
+        no_elements (plain_data v) (raw_is_table v plain (inr (z, is ∙ made)))
+    go (Raw-F.Integer z) is =
+        let none : elements_in (plain_data (raws.roll-Raw (Raw-F.Integer z))) ≡ [] = search (rules, raws.the_lemmas) in
+        ap (λ v. elements_in (plain_data v)) is ∙ none
+    go (Raw-F.Float z) is =
+        let none : elements_in (plain_data (raws.roll-Raw (Raw-F.Float z))) ≡ [] = search (rules, raws.the_lemmas) in
+        ap (λ v. elements_in (plain_data v)) is ∙ none
+    go (Raw-F.Boolean z) is =
+        let none : elements_in (plain_data (raws.roll-Raw (Raw-F.Boolean z))) ≡ [] = search (rules, raws.the_lemmas) in
+        ap (λ v. elements_in (plain_data v)) is ∙ none
+    go (Raw-F.String z) is =
+        let none : elements_in (plain_data (raws.roll-Raw (Raw-F.String z))) ≡ [] = search (rules, raws.the_lemmas) in
+        ap (λ v. elements_in (plain_data v)) is ∙ none
+    go (Raw-F.Escaped z) is =
+        let none : elements_in (plain_data (raws.roll-Raw (Raw-F.Escaped z))) ≡ [] = search (rules, raws.the_lemmas) in
+        ap (λ v. elements_in (plain_data v)) is ∙ none
+
+pub rows_no_elements : (rs : List Row) → elements_in (rows_data rs) ≡ []
+rows_no_elements rs = no_elements (rows_data rs) (rows_are_table rs)

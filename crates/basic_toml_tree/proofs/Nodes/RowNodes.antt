@@ -1,0 +1,371 @@
+-- The nodes of the rows of an inline table with plain values.
+use Rattle.std.proofs.Common.{◌≡◌, ◌<◌, ◌≤◌, ◌+◌, ◌⊎◌, inl, inr, ℕ, zero, suc, Bool, true, false, List, [], ◌∷◌, ◌++◌}
+use Rattle.std.proofs.Common.{Option, Some, None, map, length, take, drop, get_or, refl, ap, ap₂, sym, ◌∙◌, subst}
+use Rattle.std.proofs.Common.{arith, rules, IsTrue, Vec, Global}
+use Rattle.std.specs.Prelude.{◌&&◌, if◌then◌else◌, not, nat_le, slice_get, IfSome}
+use Rattle.std.specs.Option.{option_or}
+use Rattle.std.specs.Borrow.{Bor}
+use Rattle.std.specs.Str.{bytes_eq}
+use Rattle.std.proofs.Math.Path.{fun_ext}
+use Rattle.std.proofs.lemmas.Bool.{false≢true, and_parts, or_parts}
+use Rattle.std.proofs.lemmas.List.{take_more, map-append}
+use Rattle.std.proofs.lemmas.Option.{slice_get-get_or, get_or_from_slice_get}
+use Rattle.basic_toml_value.specs.Data.{members_of}
+use Rattle.basic_toml_index.specs.Index.{few}
+use Rattle.basic_toml_index.specs.Keys.{is_among, are_distinct}
+use Rattle.basic_toml_index.proofs.DistinctKeys.{bytes_eq-same, bytes_eq_other, first_differs, is_among-push}
+use Rattle.basic_toml_grammar.specs.IndexedPath.{located}
+use Rattle.basic_toml_grammar.specs.Mentions.{finished}
+use Rattle.basic_toml_grammar.specs.Nodes as grammar
+use Rattle.basic_toml_grammar.specs.Sections.{row, Section}
+use Rattle.basic_toml_value.specs.Pairs.{keys_of as pair_keys}
+use Rattle.basic_toml_grammar.specs.Steps.{key, Path, keys_of}
+use Rattle.basic_toml_grammar.specs.Trie.{nothing, standing, below}
+use Rattle.basic_toml_read.specs.SectionView.{Lined, raw_of, rows_seen}
+use Rattle.basic_toml_read.specs.declared.section.Raw as raws
+use Rattle.basic_toml_read.specs.declared.section.Raw.TheOpen.{Raw-F}
+use Rattle.basic_toml_read.specs.declared.section.Element.{Element}
+use Rattle.basic_toml_read.specs.declared.section.Row.{Row, out-Row}
+use Rattle.basic_toml_read.specs.declared.section.Rows as code_rows
+use Rattle.basic_toml_read.proofs.NextRow.{lone_row, lined_is}
+use Rattle.basic_toml_grow.specs.Plain.{key_of, is_plain, are_simple, are_few_simple, plain_data, plain_table}
+use Rattle.basic_toml_grow.specs.Plain.{rows_data}
+use Rattle.basic_toml_grow.specs.Item.{item_trie, leaf}
+use Rattle.basic_toml_grow.specs.Origins.{value_origins, rows_origins, item_origins, table_within}
+use Rattle.basic_toml_grow.specs.declared.item.Item.{Item, out-Item, the_lemmas}
+use Rattle.basic_toml_grow.specs.declared.item.Item.TheOpen.{Item-F}
+use Rattle.basic_toml_grow.specs.declared.item.Item.TheViews.{roll-Item}
+use Rattle.basic_toml_grow.specs.declared.item.Child.{Child}
+use Rattle.basic_toml_grow.specs.declared.item.Table.{Table}
+use Rattle.basic_toml_grow.proofs.ItemsStand.{shape}
+use Rattle.basic_toml_grow.proofs.SimpleKeys.{keys_differ}
+use Rattle.basic_toml_tree.specs.Data.{data_of, row_pair}
+use Rattle.basic_toml_tree.specs.Keys.{KeysLead, KeepsRow, RowsLead}
+use Rattle.basic_toml_tree.specs.Nodes.{node_data, spot_data, data_among, data_at, entries_in, entries_left}
+use Rattle.basic_toml_tree.specs.Nodes.{key_and_data}
+use Rattle.basic_toml_tree.specs.Origin.{spot_is_made, holds_tables}
+use Rattle.basic_toml_tree.specs.Outer.{kept_below, stands_made}
+use Rattle.basic_toml_tree.specs.Resolve.{IsResolved}
+use Rattle.basic_toml_tree.specs.Stands.{AtKey, IsRowAt, ComesFrom, SpotComes, HoldsRows, ItemRows, RawRows}
+use Rattle.basic_toml_tree.specs.Stands.{IsPlainRow, StandsAt, StandsOn}
+use Rattle.basic_toml_tree.specs.Stands.{StartIsKept, spot_trie, spot_origins, node_origins, tree_trie, trie_at}
+use Rattle.basic_toml_tree.specs.Stands.{wraps_table}
+use Rattle.basic_toml_tree.specs.declared.entries.Entries.{Entries}
+use Rattle.basic_toml_tree.specs.declared.node.Node.{Node}
+use Rattle.basic_toml_tree.specs.declared.plain_value.PlainValue.{PlainValue}
+use Rattle.basic_toml_tree.specs.declared.spot.Spot.{Spot}
+use Rattle.basic_toml_tree.specs.declared.spot.Spot.TheVariants as spots
+use Rattle.basic_toml_tree.specs.declared.tree.Tree.{Tree}
+use Rattle.basic_toml_tree.proofs.RowsData.{few_data, row_keys}
+use Rattle.basic_toml_tree.proofs.PlainLeft.{row_at}
+use Rattle.basic_toml_tree.proofs.Nodes.KeysLead.{EndsAt, last_step}
+use Rattle.basic_toml_tree.proofs.Nodes.KeysTold.{count_keeps, made_there}
+use Rattle.basic_toml_tree.proofs.Nodes.Lines.{around_key}
+use Rattle.basic_toml_tree.proofs.Nodes.MadeNodes.{made_in_trie}
+use Rattle.basic_toml_tree.proofs.Nodes.NodesCome.{read_mapped}
+use Rattle.basic_toml_tree.proofs.Nodes.NodesInOrder.{drop_next, drop_past, mapped_length, paired-members}
+use Rattle.basic_toml_tree.proofs.Nodes.NodesInOrder.{within_length}
+use Rattle.basic_toml_tree.proofs.Nodes.NodesStand.{at_more, stands_on}
+use Rattle.basic_toml_tree.proofs.Nodes.OuterStands.{keeps_below, root_is_made, table_is_made}
+use Rattle.basic_toml_tree.proofs.Nodes.PlainNodes.{value_comes}
+
+-- the row at a position
+pub row_read : (rs : List Row) (n : ℕ) (r : Row) → n < length rs → r ≡ get_or rs n r → slice_get rs n ≡ Some r
+row_read rs n r within read = slice_get-get_or rs n r within ∙ ap Some (sym read)
+
+-- none of the rows up to a position has a key
+pub none_passed : (rs : List Row) (n : ℕ) (r : Row) (k : List ℕ) → n < length rs → r ≡ get_or rs n r
+    → is_among (map key_of (take n rs)) k ≡ false → bytes_eq (key_of r) k ≡ false
+    → is_among (map key_of (take (n + 1) rs)) k ≡ false
+none_passed rs n r k within read before other =
+    let more : take (n + 1) rs ≡ take n rs ++ r ∷ [] =
+    take_more rs n r within ∙ ap (λ r. take n rs ++ r ∷ []) (sym read) in
+    ap (λ rs. is_among (map key_of rs) k) more
+    ∙ ap (λ ks. is_among ks k) (map-append key_of (take n rs) (r ∷ []))
+    ∙ is_among-push (map key_of (take n rs)) (key_of r) k
+    ∙ rw (before, bytes_eq_other k (key_of r) other) refl
+
+-- the first of rows whose keys differ, and the others
+first_apart : (r : Row) (rs : List Row) → are_distinct (map key_of (r ∷ rs)) ≡ true
+    → (is_among (map key_of rs) (key_of r) ≡ false) × (are_distinct (map key_of rs) ≡ true)
+first_apart r rs differ = go (is_among (map key_of rs) (key_of r)) differ
+  where
+    go : (b : Bool) → (not b && are_distinct (map key_of rs)) ≡ true
+        → (b ≡ false) × (are_distinct (map key_of rs) ≡ true)
+    go true is = absurd (false≢true is)
+    go false is = (refl, is)
+
+-- a later one has another key
+later_key : (x : Row) (rs : List Row) (n : ℕ) (r : Row) → are_distinct (map key_of (x ∷ rs)) ≡ true
+    → slice_get rs n ≡ Some r → bytes_eq (key_of r) (key_of x) ≡ false
+later_key x rs n r differ read =
+    first_differs (key_of x) (map key_of rs) n (key_of r) differ (read_mapped key_of rs n r read)
+
+-- what rows tell of a key that none of them has
+no_data : (rs : List Row) (k : List ℕ) → is_among (map key_of rs) k ≡ false
+    → data_among (members_of (map row_pair rs)) k ≡ None
+no_data [] k apart = refl
+no_data (r ∷ rs) k apart =
+    let both = or_parts (bytes_eq k (key_of r)) (is_among (map key_of rs) k) apart in
+    rw both.0 (no_data rs k both.1)
+
+-- the origins of a row beside those of the others
+beside_origins : (s : ℕ) (r : Row) (rs : List Row) (k : List ℕ) (q : Path) (b : Bool) → bytes_eq k (key_of r) ≡ b
+    → rows_origins s (rows_seen [] (r ∷ rs)) (key k ∷ q)
+    ≡ option_or (if b then value_origins s (out-Row r).start (raw_of (out-Row r).value) q else None)
+    (rows_origins s (rows_seen [] rs) (key k ∷ q))
+beside_origins s r rs k q b same =
+    let rest = rows_seen [] rs in
+    ap (λ rows. rows_origins s rows (key k ∷ q)) (lone_row r rs)
+    ∙ ap (λ (l : Lined). rows_origins s (row (l.key ∷ []) l.start l.value rest) (key k ∷ q)) (lined_is r)
+    ∙ ap (λ b. option_or (if b then value_origins s (out-Row r).start (raw_of (out-Row r).value) q else None)
+    (rows_origins s rest (key k ∷ q))) same
+
+no_more_origins : (s : ℕ) (rs : List Row) (k : List ℕ) (q : Path) → is_among (map key_of rs) k ≡ false
+    → rows_origins s (rows_seen [] rs) (key k ∷ q) ≡ None
+no_more_origins s [] k q apart = refl
+no_more_origins s (r ∷ rs) k q apart =
+    let both = or_parts (bytes_eq k (key_of r)) (is_among (map key_of rs) k) apart in
+    beside_origins s r rs k q false both.0 ∙ no_more_origins s rs k q both.1
+
+-- and of the key that one of them has
+row_data : (rs : List Row) (n : ℕ) (r : Row) → are_distinct (map key_of rs) ≡ true → slice_get rs n ≡ Some r
+    → data_among (members_of (map row_pair rs)) (key_of r) ≡ Some (plain_data (out-Row r).value)
+row_data [] n r differ read = absurd (cc)
+row_data (x ∷ rs) zero r differ read =
+    let same : x ≡ r = cc in
+    subst (λ r. data_among (members_of (map row_pair (x ∷ rs))) (key_of r) ≡ Some (plain_data (out-Row r).value)) same
+    (rw (bytes_eq-same (key_of x)) refl)
+row_data (x ∷ rs) (suc n) r differ read =
+    rw (later_key x rs n r differ read) (row_data rs n r (first_apart x rs differ).1 read)
+
+or_none : {A : Type 0} (o : Option A) → option_or o None ≡ o
+or_none None = refl
+or_none (Some x) = refl
+
+own_origins : (s : ℕ) (rs : List Row) (n : ℕ) (r : Row) (q : Path) → are_distinct (map key_of rs) ≡ true
+    → slice_get rs n ≡ Some r
+    → rows_origins s (rows_seen [] rs) (key (key_of r) ∷ q)
+    ≡ value_origins s (out-Row r).start (raw_of (out-Row r).value) q
+own_origins s [] n r q differ read = absurd (cc)
+own_origins s (x ∷ rs) zero r q differ read =
+    let same : x ≡ r = cc in
+    let first = first_apart x rs differ in
+    subst (λ r. rows_origins s (rows_seen [] (x ∷ rs)) (key (key_of r) ∷ q)
+    ≡ value_origins s (out-Row r).start (raw_of (out-Row r).value) q) same
+    (beside_origins s x rs (key_of x) q true (bytes_eq-same (key_of x))
+    ∙ ap (option_or (value_origins s (out-Row x).start (raw_of (out-Row x).value) q))
+    (no_more_origins s rs (key_of x) q first.0)
+    ∙ or_none (value_origins s (out-Row x).start (raw_of (out-Row x).value) q))
+own_origins s (x ∷ rs) (suc n) r q differ read =
+    beside_origins s x rs (key_of r) q false (later_key x rs n r differ read)
+    ∙ own_origins s rs n r q (first_apart x rs differ).1 read
+
+-- a spot with the rows of an inline table within a plain value
+pub inline_holds : (spot : Spot) (v : PlainValue) (z : Vec Row Global) (rs : List Row) → spot ≡ spots.Plain v
+    → v.value.now ≡ raws.Inline z → rs ≡ z.items → HoldsRows spot rs
+inline_holds spot v z rs at is same =
+    let form : raws.out-Raw (raws.Inline z) ≡ Raw-F.Inline z = search (rules, raws.the_lemmas) in
+    subst (λ spot. HoldsRows spot rs) (sym at)
+    (subst (λ x. RawRows x rs) (sym (ap raws.out-Raw is ∙ form)) same)
+
+-- what a spot with rows stands for
+pub record Means (spot : Spot) (rs : List Row) : Type 0 where
+  pub trie : spot_trie spot ≡ leaf (rows_data rs)
+  pub is_data : spot_data spot ≡ rows_data rs
+  pub origins : (at s : ℕ) → spot_origins spot at s ≡ value_origins s at (plain_table rs)
+  pub unmade : (count : ℕ) → spot_is_made count spot ≡ false
+
+pub means : (spot : Spot) (rs : List Row) → HoldsRows spot rs → Means spot rs
+means (spots.Table table) rs holds = absurd holds
+means (spots.Item b) rs holds = go (out-Item b.now) refl holds
+  where
+    go : (x : Item-F Item Child Table) → out-Item b.now ≡ x → ItemRows x rs → Means (spots.Item b) rs
+    go (Item-F.Rows z) is holds =
+        let item = shape b.now (Item-F.Rows z) is in
+        let trie : item_trie (roll-Item (Item-F.Rows z)) ≡ leaf (rows_data z) = search (rules, the_lemmas) in
+        let told : data_of (roll-Item (Item-F.Rows z)) ≡ rows_data z = search (rules, the_lemmas) in
+        let origins : (at s : ℕ) → item_origins (roll-Item (Item-F.Rows z)) at s ≡ value_origins s at (plain_table z) =
+        λ at s. search (rules, the_lemmas) in
+        record {
+          trie = ap item_trie item ∙ trie ∙ ap (λ z. leaf (rows_data z)) (sym holds);
+          is_data = ap data_of item ∙ told ∙ ap rows_data (sym holds);
+          origins = λ at s. ap (λ i. item_origins i at s) item ∙ origins at s
+              ∙ ap (λ z. value_origins s at (plain_table z)) (sym holds);
+          unmade = λ count. ap holds_tables is;
+        }
+    go (Item-F.Integer z) is holds = absurd holds
+    go (Item-F.Float z) is holds = absurd holds
+    go (Item-F.Boolean z) is holds = absurd holds
+    go (Item-F.String z) is holds = absurd holds
+    go (Item-F.Escaped z) is holds = absurd holds
+    go (Item-F.Plain z) is holds = absurd holds
+    go (Item-F.Array z) is holds = absurd holds
+    go (Item-F.Inline z) is holds = absurd holds
+    go (Item-F.Table z) is holds = absurd holds
+    go (Item-F.Tables z) is holds = absurd holds
+means (spots.Plain v) rs holds = go (raws.out-Raw v.value.now) refl holds
+  where
+    go : (x : Raw-F raws.Raw Element Row code_rows.Rows) → raws.out-Raw v.value.now ≡ x → RawRows x rs
+        → Means (spots.Plain v) rs
+    go (Raw-F.Inline z) is holds =
+        let made : raw_of (raws.roll-Raw (Raw-F.Inline z)) ≡ plain_table z.items = search (rules, raws.the_lemmas) in
+        let seen : raw_of v.value.now ≡ plain_table rs =
+        ap raw_of (sym (raws.roll-out-Raw v.value.now) ∙ ap raws.roll-Raw is) ∙ made ∙ ap plain_table (sym holds) in
+        record {
+          trie = ap (λ v. leaf (finished v)) seen;
+          is_data = ap finished seen;
+          origins = λ at s. ap (value_origins s at) seen;
+          unmade = λ count. refl;
+        }
+    go (Raw-F.Integer z) is holds = absurd holds
+    go (Raw-F.Float z) is holds = absurd holds
+    go (Raw-F.Boolean z) is holds = absurd holds
+    go (Raw-F.String z) is holds = absurd holds
+    go (Raw-F.Escaped z) is holds = absurd holds
+    go (Raw-F.Array z) is holds = absurd holds
+    go (Raw-F.Dotted z) is holds = absurd holds
+
+-- the keys of simple rows differ, and their data is that of a table
+module _ (rs : List Row) (simple : are_few_simple 0 rs ≡ true) where
+  pub rows_simple : are_simple 0 rs ≡ true
+  rows_simple = (and_parts (nat_le (length rs) few) (are_simple 0 rs) simple).1
+
+  pub rows_differ : are_distinct (map key_of rs) ≡ true
+  rows_differ = keys_differ 0 rs rows_simple
+
+  pub key_found : (n : ℕ) (r : Row) → slice_get rs n ≡ Some r
+      → data_at (rows_data rs) (key_of r) ≡ Some (plain_data (out-Row r).value)
+  key_found n r read = ap (λ d. data_at d (key_of r)) (few_data rs simple) ∙ row_data rs n r rows_differ read
+
+  pub key_absent : (k : List ℕ) → is_among (map key_of rs) k ≡ false → data_at (rows_data rs) k ≡ None
+  key_absent k absent = ap (λ d. data_at d k) (few_data rs simple) ∙ no_data rs k absent
+
+  pub rows_entries : entries_in (rows_data rs) ≡ map row_pair rs
+  rows_entries = ap entries_in (few_data rs simple) ∙ paired-members (map row_pair rs)
+
+  pub entries_differ : IsTrue (are_distinct (pair_keys (entries_in (rows_data rs))))
+  entries_differ = rw (rows_entries, row_keys rs) rows_differ
+
+-- the row at a position is plain
+pub plain_at : (rs : List Row) → are_few_simple 0 rs ≡ true → (n : ℕ) (r : Row) → n < length rs → r ≡ get_or rs n r
+    → is_plain (out-Row r).value 0 ≡ true
+plain_at rs simple n r within read = row_at rs n r within read (rows_simple rs simple)
+
+-- the data of the node of a row
+pub row_node_data : (from node : Node) (r : Row) → IsPlainRow from r node
+    → node_data node ≡ plain_data (out-Row r).value
+row_node_data from node r is = ap spot_data is.spot ∙ ap plain_data is.value
+
+-- where a node stands that headers did not make, they made nothing
+path_unmade : (from : Node) (tree : Tree) (p : Path) → StandsAt tree p from
+    → spot_is_made from.count from.spot ≡ false → (sections : List Section) → IsResolved sections tree
+    → grammar.is_made (located sections) p ≡ false
+path_unmade from tree [] stands unmade sections resolved =
+    absurd (false≢true (sym unmade ∙ root_is_made tree from [] stands refl))
+path_unmade from tree (s ∷ p) stands unmade sections resolved =
+    made_in_trie sections (tree_trie tree) resolved.stands s p
+    ∙ go (stands_made (standing (trie_at (s ∷ p) (tree_trie tree)))) refl
+  where
+    go : (b : Bool) → stands_made (standing (trie_at (s ∷ p) (tree_trie tree))) ≡ b → b ≡ false
+    go true made = absurd (false≢true (sym unmade ∙ table_is_made tree from (s ∷ p) stands made))
+    go false made = refl
+
+-- What a node keeps of the keys that lead to a row of an inline table, below which nothing is made.
+module _ (from node : Node) (k : List ℕ) (unmade : spot_is_made from.count from.spot ≡ false)
+    (none : below (key k) (spot_trie from.spot) ≡ nothing) (trail : node.trail ≡ from.trail) (tree : Tree) (p : Path)
+    (stands : StandsAt tree p from) where
+  not_there : trie_at (p ++ key k ∷ []) (tree_trie tree) ≡ nothing
+  not_there = at_more p (key k) (tree_trie tree) ∙ go stands.there
+    where
+      go : (trie_at p (tree_trie tree) ≡ nothing)
+          ⊎ ((spot_trie from.spot ≡ trie_at p (tree_trie tree)) × (wraps_table from.spot ≡ false))
+          → below (key k) (trie_at p (tree_trie tree)) ≡ nothing
+      go (inl nothing_there) = ap (below (key k)) nothing_there
+      go (inr there) = ap (below (key k)) (sym there.0) ∙ none
+
+  keys_keep : KeysLead tree (p ++ key k ∷ []) node
+  keys_keep sections resolved made =
+      absurd (false≢true (sym (ap (λ t. stands_made (standing t)) not_there)
+      ∙ sym (made_there sections (tree_trie tree) resolved.stands p k) ∙ made))
+
+  rows_keep : RowsLead tree (p ++ key k ∷ []) node
+  rows_keep sections resolved q l r same made = go (last_step p q (key k) (key l) r same)
+    where
+      go : EndsAt p (key k) q (key l) r
+          → IfSome ((table_within tree.root).below (q ++ key l ∷ []))
+          (λ o. o.made ≡ false → KeepsRow tree o.section (keys_of q) l node.trail)
+      go (inl one) =
+          absurd (false≢true (sym (path_unmade from tree p stands unmade sections resolved)
+          ∙ ap (λ p. grammar.is_made (located sections) p) one.1 ∙ made))
+      go (inr further) =
+          subst (λ trail. IfSome ((table_within tree.root).below (q ++ key l ∷ []))
+          (λ o. o.made ≡ false → KeepsRow tree o.section (keys_of q) l trail)) (sym trail)
+          (stands.rows sections resolved q l further.0 further.1 made)
+
+-- the node of a row of an inline table stands at its key
+module _ (from node : Node) (rs : List Row) (holds : HoldsRows from.spot rs) (simple : are_few_simple 0 rs ≡ true)
+    (n : ℕ) (r : Row) (read : slice_get rs n ≡ Some r) (is : IsPlainRow from r node) where
+  row_comes : (s : ℕ) → ComesFrom (λ q. node_origins s from (key (key_of r) ∷ q)) node
+  row_comes s =
+      subst (λ f. ComesFrom f node) (fun_ext (λ q.
+      sym (ap (λ f. f (key (key_of r) ∷ q)) ((means from.spot rs holds).origins from.start s)
+      ∙ own_origins s rs n r q (rows_differ rs simple) read
+      ∙ ap (λ at. value_origins s at (raw_of (out-Row r).value) q) (sym is.start)
+      ∙ ap (λ v. value_origins s node.start (raw_of v) q) (sym is.value))))
+      (subst (λ (spot : Spot). SpotComes (value_origins s node.start (raw_of is.plain.value.now)) node.count spot
+      node.start)
+      (sym is.spot) (value_comes is.plain node.count node.start s))
+
+  pub row_stands : StandsOn from (key (key_of r)) node
+  row_stands tree p stands =
+      let means = means from.spot rs holds in
+      let unmade = means.unmade from.count in
+      let none : below (key (key_of r)) (spot_trie from.spot) ≡ nothing = ap (below (key (key_of r))) means.trie in
+      let found : data_at (node_data from) (key_of r) ≡ Some (node_data node) =
+      ap (λ d. data_at d (key_of r)) means.is_data ∙ key_found rs simple n r read
+      ∙ ap Some (sym (row_node_data from node r is)) in
+      let outer : node.outer ≡ kept_below from =
+      is.outer ∙ sym (ap (λ b. if b then None else Some from.start) unmade) in
+      stands_on from node (key (key_of r)) is.tree found (λ own. inl none) row_comes tree p stands is.nested
+      (subst (λ q. StartIsKept tree q node.outer) (sym (around_key p (key_of r)))
+      (keeps_below from node outer tree p stands)) (count_keeps from node (key_of r) is.count tree p stands)
+      (keys_keep from node (key_of r) unmade none is.trail tree p stands)
+      (rows_keep from node (key_of r) unmade none is.trail tree p stands)
+
+-- the row that is found at a key of such rows
+module _ (from : Node) (rs : List Row) (simple : are_few_simple 0 rs ≡ true) (k : List ℕ) (r : Row)
+    (found : IsRowAt rs k r) where
+  pub found_plain : is_plain (out-Row r).value 0 ≡ true
+  found_plain =
+      plain_at rs simple found.0 r (within_length rs found.0 r found.1)
+      (sym (get_or_from_slice_get rs found.0 r r found.1))
+
+  pub found_data : (node : Node) → node_data from ≡ rows_data rs → IsPlainRow from r node
+      → data_at (node_data from) k ≡ Some (node_data node)
+  found_data node here is =
+      ap (λ d. data_at d k) here ∙ ap (data_at (rows_data rs)) (sym found.2) ∙ key_found rs simple found.0 r found.1
+      ∙ ap Some (sym (row_node_data from node r is))
+
+  pub found_stands : (node : Node) → HoldsRows from.spot rs → IsPlainRow from r node → AtKey from k node
+  found_stands node holds is =
+      subst (λ k. AtKey from k node) found.2 (row_stands from node rs holds simple found.0 r found.1 is)
+
+-- an iterator over such rows
+module _ (before : Entries) (rs : List Row) (here : node_data before.table ≡ rows_data rs)
+    (simple : are_few_simple 0 rs ≡ true) where
+  entries_seen : entries_in (node_data before.table) ≡ map row_pair rs
+  entries_seen = ap entries_in here ∙ rows_entries rs simple
+
+  pub no_row_left : length rs ≤ before.at → entries_left before ≡ []
+  no_row_left past =
+      let long = ap length entries_seen ∙ mapped_length row_pair rs in
+      drop_past (entries_in (node_data before.table)) before.at (omega (arith, long, past))
+
+  pub first_row_left : (r : Row) (k : Bor (List ℕ)) (node : Node) → slice_get rs before.at ≡ Some r → k.now ≡ key_of r
+      → IsPlainRow before.table r node
+      → entries_left before ≡ key_and_data (k, node) ∷ drop (before.at + 1) (entries_in (node_data before.table))
+  first_row_left r k node read same is =
+      drop_next (entries_in (node_data before.table)) before.at (key_and_data (k, node))
+      (ap (λ l. slice_get l before.at) entries_seen ∙ read_mapped row_pair rs before.at r read
+      ∙ ap₂ (λ (k : List ℕ) d. Some (k, d)) (sym same) (sym (row_node_data before.table node r is)))
