@@ -140,6 +140,7 @@ impl OpenKeys {
         ensures last { IfOk result (λ is_new. is_new ≡ true → last_of self.new ≡ Some (pending_of self.old)) }
         ensures unchanged { IfOk result (λ is_new. is_new ≡ false → self.new ≡ self.old) }
         ensures err { OnErr result (keys_of self.new ≡ no_keys) }
+        ensures forgotten { OnErr result (last_of self.new ≡ None) }
     {
         if self.count < self.known.names().len() {
             self.count += 1;
@@ -159,6 +160,7 @@ impl OpenKeys {
         ensures last { IfOk result (λ is_new. is_new ≡ true → last_of self.new ≡ Some (pending_of self.old)) }
         ensures unchanged { IfOk result (λ is_new. is_new ≡ false → self.new ≡ self.old) }
         ensures err { OnErr result (keys_of self.new ≡ no_keys) }
+        ensures forgotten { OnErr result (last_of self.new ≡ None) }
     {
         match self.known.enter() {
             Ok(true) => {
