@@ -16,9 +16,7 @@ pub use basic_toml_order::laws::{
     has_same_maps, once_is_enough, only_unwritable_is_refused, ordered_stays, rows_come_first,
     stays_recordable,
 };
-pub use basic_toml_tree::laws::{
-    every_node_is_foretold, sections_fault_is_one, slices_are_foretold,
-};
+pub use basic_toml_tree::laws::{every_node_is_foretold, sections_fault_is_one};
 use basic_toml_typed::Deserialize;
 pub use basic_toml_typed::laws::text_numbers_differ;
 use basic_toml_write::Serialize;

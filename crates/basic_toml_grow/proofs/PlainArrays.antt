@@ -19,7 +19,7 @@ use Rattle.basic_toml_grow.specs.Item.{item_trie, leaf}
 use Rattle.basic_toml_grow.specs.Rows.{IsFinished}
 
 -- arrays
-plain_trie : (es : List Element) → item_trie (Plain es) ≡ leaf (finished (plain_array es))
+pub plain_trie : (es : List Element) → item_trie (Plain es) ≡ leaf (finished (plain_array es))
 plain_trie es = search (rules, the_lemmas)
 
 pub plain_finished : (es : Vec Element Global) (l : ℕ) → are_plain (l + 1) es.items ≡ true → l < nesting_limit

@@ -215,8 +215,9 @@ fn room_for(rows: &[Row<'_>]) -> usize {
 }
 
 /// Puts rows into a table of a level, in order. Into a table without entries a few simple ones go at once, and of many
-/// plain ones those before a key repeats; others go one by one. The vector of a few simple rows keeps its room. It is
-/// inlined, since most rows are simple.
+/// plain ones those before a key repeats; others go one by one. What is met is the same, however many looks are left
+/// for whether a value is plain. The vector of a few simple rows keeps its room. It is inlined, since most rows are
+/// simple.
 #[cycle(finishing)]
 #[inline(always)]
 pub(crate) fn take_rows<'de>(
@@ -364,7 +365,8 @@ fn enter_value<'de>(
 }
 
 // The item of the value of a row, which begins at an offset, in a table of a level. An array or an inline table of
-// plain values is kept as it was read. What stands within one that is not plain is looked through once less.
+// plain values is kept as it was read. What stands within one that is not plain is looked through once less. The item of
+// any other value is made at one place, since it is inlined there: at each of the arms it would take more of the stack.
 #[cycle(finishing)]
 #[inline(always)]
 fn row_value<'de>(
@@ -381,25 +383,24 @@ fn row_value<'de>(
     ensures origins { IfOk result (λ child. child_origins child ≡ value_origins section start (raw_of value.entry)) }
     ensures dotted { IfOk result (λ child. dotted_of child ≡ table_origin false start section) }
 {
-    match value {
+    let value = match value {
         Raw::Array(elements) => {
             if looks > 0 && level < NESTING_LIMIT && are_plain(elements.as_slice(), level + 1) {
                 let array = PlainArray { elements };
                 return Ok(Child::at(start, section, Item::Plain(array)));
             }
-            let looks = looks.saturating_sub(1);
-            child_of(alloc, Raw::Array(elements), start, section, level, looks)
+            Raw::Array(elements)
         }
         Raw::Inline(rows) => {
             if looks > 0 && level < NESTING_LIMIT && are_few_simple(rows.as_slice(), level + 1) {
                 let table = PlainTable { rows };
                 return Ok(Child::at(start, section, Item::Rows(table)));
             }
-            let looks = looks.saturating_sub(1);
-            child_of(alloc, Raw::Inline(rows), start, section, level, looks)
+            Raw::Inline(rows)
         }
-        value => child_of(alloc, value, start, section, level, looks),
-    }
+        value => value,
+    };
+    child_of(alloc, value, start, section, level, looks.saturating_sub(1))
 }
 
 // The item of a value that begins at an offset, within a table or an array of a level. It is inlined, since most

@@ -1,18 +1,15 @@
 -- The headers of sections, as they are kept and as contracts see them.
 use Rattle.std.proofs.Common.{◌≡◌, ◌≤◌, ◌<◌, ◌-◌, ℕ, zero, suc, List, [], ◌∷◌, ◌++◌, length, map, take, drop}
-use Rattle.std.proofs.Common.{Some, None, refl, ap, ◌∙◌, arith, rules, length-append}
-use Rattle.std.specs.Prelude.{slice_get, slice_index_or, slice_range, Option}
-use Rattle.std.specs.Borrow.{Bor}
-use Rattle.std.specs.Option.{option_map}
-use Rattle.std.specs.Slice.{IsGetRangeResult}
+use Rattle.std.proofs.Common.{Some, refl, ap, sym, ◌∙◌, arith, rules, length-append}
+use Rattle.std.specs.Prelude.{slice_get, slice_index_or, slice_range}
 use native.Mathlib.Numerals.{unary_clauses}
-use Rattle.std.proofs.lemmas.Bool.{false≢true}
 use Rattle.std.proofs.lemmas.List.{take-append-le, drop-append-le, length-drop, take_all}
 use Rattle.std.proofs.Math.Seq.{drop-append_seam}
 use Rattle.basic_toml_read.specs.declared.section.Key as code
-use Rattle.basic_toml_read.specs.SectionView.{key_of}
+use Rattle.basic_toml_read.specs.SectionView.{key_of, header_texts}
 use Rattle.basic_toml_tree.specs.declared.headers.Head.{Head}
-use Rattle.basic_toml_tree.specs.Headers.{keys_at, last_of, headers_from, begin_of, EndsRise}
+use Rattle.basic_toml_tree.specs.Headers.{keys_at, last_of, headers_from, range_of, EndsRise}
+use Rattle.basic_toml_tree.specs.Origin.{header_of}
 
 -- how many there are
 pub count_from : (from : ℕ) (hs : List Head) (keys : List code.Key)
@@ -21,51 +18,51 @@ count_from from [] keys = refl
 count_from from (h ∷ hs) keys = ap suc (count_from h.end hs keys)
 
 -- the keys of a header begin where those before them end
-begins_after : (from : ℕ) (hs : List Head) (n : ℕ) (d : Head) → n < length hs
-    → (slice_index_or hs n d).end ≡ begin_of from hs (suc n)
+begins_after : (from : ℕ) (hs : List Head) (n : ℕ) (d : Head) → suc n < length hs
+    → (slice_index_or hs n d).end ≡ (range_of from hs (suc n)).0
 begins_after from [] n d within = absurd (omega (arith, within))
-begins_after from (h ∷ hs) zero d within = refl
-begins_after from (h ∷ hs) (suc n) d within = begins_after h.end hs n d (omega (arith, within))
+begins_after from (h ∷ []) n d within = absurd (omega (arith, within))
+begins_after from (h ∷ i ∷ hs) zero d within = refl
+begins_after from (h ∷ i ∷ hs) (suc n) d within = begins_after h.end (i ∷ hs) n d (omega (arith, within))
 
-pub begins_past : (hs : List Head) (n : ℕ) (d : Head) → 0 < n → n < length hs
-    → (slice_index_or hs (n - 1) d).end ≡ begin_of 0 hs n
-begins_past hs zero d some within = absurd (omega (arith, some))
-begins_past hs (suc n) d some within =
+ends_at : (from : ℕ) (hs : List Head) (n : ℕ) (h : Head) → slice_get hs n ≡ Some h → (range_of from hs n).1 ≡ h.end
+ends_at from [] n h there = absurd (cc)
+ends_at from (g ∷ hs) zero h there = cc
+ends_at from (g ∷ hs) (suc n) h there = ends_at g.end hs n h there
+
+pub range_past_first : (hs : List Head) (n : ℕ) (d h : Head) → 0 < n → n < length hs → slice_get hs n ≡ Some h
+    → ((slice_index_or hs (n - 1) d).end, h.end) ≡ range_of 0 hs n
+range_past_first hs zero d h some within there = absurd (omega (arith, some))
+range_past_first hs (suc n) d h some within there =
     let same : suc n - 1 ≡ n = omega arith in
-    ap (λ n. (slice_index_or hs n d).end) same ∙ begins_after 0 hs n d (omega (arith, within))
+    let begin : (slice_index_or hs (suc n - 1) d).end ≡ (range_of 0 hs (suc n)).0 =
+    ap (λ n. (slice_index_or hs n d).end) same ∙ begins_after 0 hs n d within in
+    ap (λ begin. (begin, h.end)) begin ∙ ap (λ end. ((range_of 0 hs (suc n)).0, end)) (sym (ends_at 0 hs (suc n) h there))
 
--- a part that is within a list is there
-pub part_is : (keys : List code.Key) (from to : ℕ) (part : Option (Bor (List code.Key)))
-    → IsGetRangeResult keys from to part → from ≤ to → to ≤ length keys
-    → option_map (λ part. map key_of part.now) part ≡ Some (map key_of (slice_range keys from to))
-part_is keys from to None is rise within = absurd (false≢true (is.1 (rise, within)))
-part_is keys from to (Some part) is rise within = ap (λ keys. Some (map key_of keys)) is.0.2
+-- no header is past the last one
+pub no_range : (from : ℕ) (hs : List Head) (n : ℕ) → length hs ≤ n → range_of from hs n ≡ (0, 0)
+no_range from [] n past = refl
+no_range from (h ∷ hs) zero past = absurd (omega (arith, past))
+no_range from (h ∷ hs) (suc n) past = no_range h.end hs n (omega (arith, past))
 
--- the keys of the header with a number, which are among all
-pub keys_there : (from : ℕ) (hs : List Head) (keys : List code.Key) (n : ℕ) (h : Head) → slice_get hs n ≡ Some h
-    → keys_at (headers_from from hs keys) n ≡ Some (map key_of (slice_range keys (begin_of from hs n) h.end))
-keys_there from [] keys n h there = absurd (cc)
-keys_there from (g ∷ hs) keys zero h there =
-    let is : g ≡ h = cc in ap (λ h. Some (map key_of (slice_range keys from h.end))) is
-keys_there from (g ∷ hs) keys (suc n) h there = keys_there g.end hs keys n h there
-
-pub none_there : (from : ℕ) (hs : List Head) (keys : List code.Key) (n : ℕ) → length hs ≤ n
-    → keys_at (headers_from from hs keys) n ≡ None
-none_there from [] keys n past = refl
-none_there from (g ∷ hs) keys zero past = absurd (omega (arith, past))
-none_there from (g ∷ hs) keys (suc n) past = none_there g.end hs keys n (omega (arith, past))
-
+-- they are among all keys
 rise_to : (from : ℕ) (hs : List Head) (all : ℕ) → EndsRise from hs all → from ≤ all
 rise_to from [] all rise = omega (arith, rise)
 rise_to from (h ∷ hs) all rise = omega (arith, rise.0, rise_to h.end hs all rise.1)
 
-pub keys_within : (from : ℕ) (hs : List Head) (all n : ℕ) (h : Head) → EndsRise from hs all → slice_get hs n ≡ Some h
-    → (begin_of from hs n ≤ h.end) × (h.end ≤ all)
-keys_within from [] all n h rise there = absurd (cc)
-keys_within from (g ∷ hs) all zero h rise there =
-    let is : g.end ≡ h.end = cc in
-    (omega (arith, rise.0, is), omega (arith, is, rise_to g.end hs all rise.1))
-keys_within from (g ∷ hs) all (suc n) h rise there = keys_within g.end hs all n h rise.1 there
+pub range_within : (from : ℕ) (hs : List Head) (all n : ℕ) → EndsRise from hs all
+    → ((range_of from hs n).0 ≤ (range_of from hs n).1) × ((range_of from hs n).1 ≤ all)
+range_within from [] all n rise = (omega arith, omega arith)
+range_within from (h ∷ hs) all zero rise = (rise.0, rise_to h.end hs all rise.1)
+range_within from (h ∷ hs) all (suc n) rise = range_within h.end hs all n rise.1
+
+-- the keys of the header with a number are those of its range
+pub keys_in_range : (from : ℕ) (hs : List Head) (keys : List code.Key) (n : ℕ)
+    → header_texts (slice_range keys (range_of from hs n).0 (range_of from hs n).1)
+    ≡ header_of (keys_at (headers_from from hs keys) n)
+keys_in_range from [] keys n = refl
+keys_in_range from (h ∷ hs) keys zero = refl
+keys_in_range from (h ∷ hs) keys (suc n) = keys_in_range h.end hs keys n
 
 -- one header more, with the keys that come last
 pub one_more : (from : ℕ) (hs : List Head) (keys more : List code.Key) (h : Head)

@@ -64,7 +64,7 @@ rows_grow (l ∷ ls) bs all =
 pub rows_are_table : (rs : List Row) → is_table (rows_data rs) ≡ true
 rows_are_table rs = rows_grow (map lined_of rs) no_branches refl
 
--- an item, and a plain value, that holds a table
+-- an item, and a value as it was read, that holds a table
 pub item_is_table : (i : Item)
     → ((rs : List Row) × (i ≡ items.Rows rs)) ⊎ (((t : Box Table Global) × (i ≡ items.Inline t))
     ⊎ ((t : Box Table Global) × (i ≡ items.Table t))) → is_table (data_of i) ≡ true
@@ -74,15 +74,9 @@ item_is_table i (inr (inl is)) =
 item_is_table i (inr (inr is)) =
     ap (λ i. is_table (data_of i)) is.1 ∙ ap is_table (table_item_data is.0 ∙ (table_is_table is.0.value).1)
 
-pub raw_is_table : (v : raws.Raw) → is_plain v 0 ≡ true
-    → ((rs : Vec Row Global) × (v ≡ raws.Inline rs)) ⊎ ((rs : Box Rows Global) × (v ≡ raws.Dotted rs))
-    → is_table (plain_data v) ≡ true
-raw_is_table v plain (inl is) =
-    ap (λ v. is_table (plain_data v)) is.1 ∙ ap is_table (inline_rows is.0) ∙ rows_are_table is.0.items
-raw_is_table v plain (inr is) = absurd (false≢true (sym (not_plain is.0) ∙ ap (λ v. is_plain v 0) (sym is.1) ∙ plain))
-  where
-    not_plain : (rs : Box Rows Global) → is_plain (raws.Dotted rs) 0 ≡ false
-    not_plain rs = search (rules, raws.the_lemmas)
+pub raw_is_table : (v : raws.Raw) (rs : Vec Row Global) → v ≡ raws.Inline rs → is_table (plain_data v) ≡ true
+raw_is_table v rs is =
+    ap (λ v. is_table (plain_data v)) is ∙ ap is_table (inline_rows rs) ∙ rows_are_table rs.items
 
 -- what is no array has no elements
 no_elements : (d : Data) → is_table d ≡ true → elements_in d ≡ []
@@ -103,10 +97,10 @@ raw_no_elements v plain other = go (raws.out-Raw v) (sym (raws.roll-out-Raw v))
         absurd (other z (is ∙ made))
     go (Raw-F.Inline z) is =
         let made : raws.roll-Raw (Raw-F.Inline z) ≡ raws.Inline z = search (rules, raws.the_lemmas) in
-        no_elements (plain_data v) (raw_is_table v plain (inl (z, is ∙ made)))
+        no_elements (plain_data v) (raw_is_table v z (is ∙ made))
     go (Raw-F.Dotted z) is =
-        let made : raws.roll-Raw (Raw-F.Dotted z) ≡ raws.Dotted z = search (rules, raws.the_lemmas) in
-        no_elements (plain_data v) (raw_is_table v plain (inr (z, is ∙ made)))
+        let not_plain : is_plain (raws.roll-Raw (Raw-F.Dotted z)) 0 ≡ false = search (rules, raws.the_lemmas) in
+        absurd (false≢true (sym not_plain ∙ ap (λ v. is_plain v 0) (sym is) ∙ plain))
     go (Raw-F.Integer z) is =
         let none : elements_in (plain_data (raws.roll-Raw (Raw-F.Integer z))) ≡ [] = search (rules, raws.the_lemmas) in
         ap (λ v. elements_in (plain_data v)) is ∙ none

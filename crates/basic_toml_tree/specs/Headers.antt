@@ -21,11 +21,11 @@ abbrev pub headers_from : ℕ → List Head → List code.Key → List (ℕ × L
 headers_from from [] keys = []
 headers_from from (h ∷ hs) keys = (h.at, map key_of (slice_range keys from h.end)) ∷ headers_from h.end hs keys
 
--- where the keys of the header with a number begin
-abbrev pub begin_of : ℕ → List Head → ℕ → ℕ
-begin_of from hs zero = from
-begin_of from [] (suc n) = from
-begin_of from (h ∷ hs) (suc n) = begin_of h.end hs n
+-- where the keys of the header with a number begin and end, and past the last one nowhere
+abbrev pub range_of : ℕ → List Head → ℕ → ℕ × ℕ
+range_of from [] n = (0, 0)
+range_of from (h ∷ hs) zero = (from, h.end)
+range_of from (h ∷ hs) (suc n) = range_of h.end hs n
 
 -- the ends do not fall, and with the last all keys have come
 abbrev pub EndsRise : ℕ → List Head → ℕ → Type 0

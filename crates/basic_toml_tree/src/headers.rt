@@ -1,9 +1,9 @@
 //! The headers of the sections of a document, kept side by side.
 
 ghost use Rattle.std.specs.Prelude.{◌≡◌, ◌<◌, [], ◌∷◌, ◌++◌, length, map, OnOk, OnErr};
-ghost use Rattle.std.specs.Option.{option_map};
-ghost use Rattle.basic_toml_read.specs.SectionView.{key_of};
-ghost use Rattle.basic_toml_tree.specs.Headers.{keys_at, last_of, begin_of};
+ghost use Rattle.basic_toml_read.specs.SectionView.{key_of, header_texts};
+ghost use Rattle.basic_toml_tree.specs.Headers.{keys_at, last_of, range_of};
+ghost use Rattle.basic_toml_tree.specs.Origin.{header_of};
 
 use basic_toml_read::Key;
 use std::alloc::{AllocError, Global};
@@ -37,15 +37,14 @@ impl<'de> Model for Headers<'de> {
     ghost invariant = { λ h. EndsRise 0 h.heads.items (length h.keys.items) };
 }
 
-// Where the keys of a header begin.
-fn begin_of(heads: &[Head], number: usize) -> usize
-    requires { number < length heads.now }
-    ensures { result ≡ begin_of 0 heads.now number }
+// Where the keys of a header begin and end, among those of all headers.
+fn range_of(heads: &[Head], number: usize) -> (usize, usize)
+    ensures { result ≡ range_of 0 heads.now number }
 {
-    if number == 0 {
-        0
-    } else {
-        heads[number - 1].end
+    match heads.get(number) {
+        Some(head) if number == 0 => (0, head.end),
+        Some(head) => (heads[number - 1].end, head.end),
+        None => (0, 0),
     }
 }
 
@@ -92,12 +91,13 @@ impl<'de> Headers<'de> {
         }
     }
 
-    /// The keys of the header with this number, if there is one.
-    pub fn get(&self, number: usize) -> Option<&[Key<'de>]>
-        ensures { option_map (λ keys. map key_of keys.now) result ≡ keys_at self.now number }
+    /// The keys of the header with this number, and none past the last one.
+    #[tactic(auto, using(crate::proofs::HeadersKept::range_within, crate::proofs::HeadersKept::keys_in_range))]
+    pub fn keys(&self, number: usize) -> &[Key<'de>]
+        ensures { header_texts result.now ≡ header_of (keys_at self.now number) }
     {
-        let head = self.heads.get(number)?;
-        self.keys.get(begin_of(&self.heads, number)..head.end)
+        let (begin, end) = range_of(&self.heads, number);
+        &self.keys[begin..end]
     }
 
     /// Where the last header begins, if there is one.

@@ -10,14 +10,11 @@ pub fn sections_fault_is_one()
 {}
 
 /// Wherever the document of a text has data, its section list foretells a node: its type name, its offsets and its key
-/// path, and whether it is a string that asks for no copy. So it is of a list that a caller made.
+/// path, and whether it is a string that asks for no copy. So it is of a list that a caller made. And a node of a tree
+/// is a slice of the text exactly where the section list foretells such a string.
 #[tactic(auto, using(crate::proofs::Foretold::EveryNode::every_node_of_a_list))]
 pub fn every_node_is_foretold()
     ensures text { EveryNodeIsForetold }
     ensures list { EveryNodeOfAListIsForetold }
-{}
-
-/// A node of a tree is a slice of the text exactly where the section list foretells a string that asks for no copy.
-pub fn slices_are_foretold()
-    ensures { SlicesAreForetold }
+    ensures slices { SlicesAreForetold }
 {}

@@ -31,10 +31,10 @@ use crate::entries::{Elements, Entries};
 use crate::plain::{plain_table, plain_value};
 use crate::plain_value::PlainValue;
 use crate::spot::{Fields, Kind, Spot};
-use crate::trail::{Trail, first_key, header_len, header_texts};
+use crate::trail::Trail;
 use crate::tree::Tree;
 use crate::values::{table_of, value_of};
-use basic_toml_grow::{Child, Item, Table};
+use basic_toml_grow::{Child, Item, Table, key_texts};
 use basic_toml_read::{Element, Raw, ReadError, Row};
 use basic_toml_value as values;
 use basic_toml_value::{Float, Value};
@@ -184,10 +184,10 @@ impl<'t, 'de> Node<'t, 'de> {
         if let Some(latest) = spot.section() {
             return Trail::Header(latest);
         }
-        let len = header_len(self.tree, section);
+        let len = self.tree.headers.keys(section).len();
         if len < self.count {
-            if let Some(first) = first_key(self.tree, header, len) {
-                return Trail::Row(section, first);
+            if let Some(first) = self.tree.headers.keys(header).get(len) {
+                return Trail::Row(section, first.text.as_str());
             }
         }
         Trail::Row(section, key)
@@ -274,6 +274,7 @@ impl<'t, 'de> Node<'t, 'de> {
                 }
             }
             Spot::Item(Item::Plain(array)) => self.plain_element(array.elements(), at),
+            // As the last arm. It has its name here, so that the proof need not go through all items.
             Spot::Item(Item::Rows(_rows)) => None,
             Spot::Plain(plain) => match plain.value {
                 Raw::Array(elements) => self.plain_element(elements.as_slice(), at),
@@ -451,12 +452,12 @@ impl<'t, 'de> Node<'t, 'de> {
     {
         match self.trail {
             Trail::Header(section) => {
-                let mut path = header_texts(alloc, self.tree, section)?;
+                let mut path = key_texts(alloc, self.tree.headers.keys(section))?;
                 path.truncate(self.count);
                 Ok(path)
             }
             Trail::Row(section, first) => {
-                let mut path = header_texts(alloc, self.tree, section)?;
+                let mut path = key_texts(alloc, self.tree.headers.keys(section))?;
                 path.push(String::from_str(alloc, first)?)?;
                 Ok(path)
             }

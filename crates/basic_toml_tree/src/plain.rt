@@ -146,14 +146,15 @@ fn into_plain_entries(alloc: Global, rows: Vec<Row<'_>>) -> Result<Vec<Pair<Valu
 {
     let mut moved = Vec::with_capacity(alloc, rows.len())?;
     for row in rows {
-        let key = Text::from_str(alloc, row.key.as_str())?;
-        let value = into_plain_value(alloc, row.value)?;
+        let Row { key, value, .. } = row;
+        let value = into_plain_value(alloc, value)?;
+        let key = Text::from_str(alloc, key.as_str())?;
         moved.push_reserved(Pair { key, value });
     }
     Ok(moved)
 }
 
-/// The table that a few rows with plain values become. Strings are moved.
+/// The value that a few rows with plain values become, a table. Strings are moved.
 ///
 /// # Errors
 ///

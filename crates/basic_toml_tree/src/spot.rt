@@ -63,7 +63,8 @@ impl<'t, 'de> Spot<'t, 'de> {
                 Raw::String(text) => Kind::Slice(text),
                 Raw::Escaped(text) => Kind::Copy(text.as_str()),
                 Raw::Array(_) => Kind::Array,
-                Raw::Inline(_) | Raw::Dotted(_) => Kind::Table,
+                Raw::Inline(_) => Kind::Table,
+                Raw::Dotted(_) => unreachable!(),
             },
         }
     }
@@ -118,7 +119,8 @@ impl<'t, 'de> Spot<'t, 'de> {
                 Raw::Boolean(_) => "boolean",
                 Raw::String(_) | Raw::Escaped(_) => "string",
                 Raw::Array(_) => "array",
-                Raw::Inline(_) | Raw::Dotted(_) => "inline table",
+                Raw::Inline(_) => "inline table",
+                Raw::Dotted(_) => unreachable!(),
             },
         }
     }

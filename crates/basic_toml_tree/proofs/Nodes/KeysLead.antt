@@ -20,6 +20,11 @@ use Rattle.basic_toml_tree.specs.declared.node.Node.{Node}
 use Rattle.basic_toml_tree.specs.declared.spot.Spot.{Spot}
 use Rattle.basic_toml_tree.specs.declared.trail.Trail.TheVariants.{Header}
 
+-- as many texts as keys
+pub text_count : (keys : List Key) → length keys ≡ length (header_texts keys)
+text_count [] = refl
+text_count (k ∷ keys) = ap suc (text_count keys)
+
 -- the text of the key at a number, and past the last
 pub key_there : (keys : List Key) (n : ℕ) (k : Key) → n < length keys → k ≡ get_or keys n k
     → slice_get (header_texts keys) n ≡ Some (key_of k).text

@@ -44,6 +44,7 @@ use Rattle.basic_toml_grow.specs.Origins.{child_origins, item_origins, table_wit
 use Rattle.basic_toml_tree.proofs.Nodes.PlainNodes.{element_comes}
 use Rattle.basic_toml_tree.proofs.ItemData.{data_at_found}
 use Rattle.basic_toml_grow.proofs.ItemTries.{table_entries_trie}
+use Rattle.basic_toml_grow.proofs.PlainArrays.{plain_trie}
 use Rattle.basic_toml_value.proofs.KeysChanged.{first_at}
 use Rattle.basic_toml_grow.proofs.ItemsStand.{shape}
 use Rattle.basic_toml_tree.proofs.Nodes.NodesCome.{comes_on, key_comes, key_origins, literal_comes, tables_come}
@@ -265,9 +266,6 @@ no_array_root from tree [] stands array = go stands.there
 array_spot : (from : Node) (b : Bor Item) (i : Item) → from.spot ≡ spots.Item b → b.now ≡ i
     → spot_trie from.spot ≡ item_trie i
 array_spot from b i at is = ap spot_trie at ∙ ap item_trie is
-
-plain_trie : (es : List Element) → item_trie (Plain es) ≡ leaf (finished (plain_array es))
-plain_trie es = search (rules, the_lemmas)
 
 plain_origins : (es : List Element) (at s : ℕ) → item_origins (Plain es) at s ≡ value_origins s at (plain_array es)
 plain_origins es at s = search (rules, the_lemmas)

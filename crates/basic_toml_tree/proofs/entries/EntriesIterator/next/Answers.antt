@@ -72,31 +72,33 @@ returns-in_err-row-in-Rows-clause-steps c =
     subst (λ result. GivesEntry c.args.self.now result c.args.self.now)
     (sym c.from_residual-in_err-row-in-Rows.ensures) ((none, none), tt, refl)
 
-pub returns-in_ok-row-in-Rows-clause-steps : goal.returns-in_ok-row-in-Rows-clause-steps
-returns-in_ok-row-in-Rows-clause-steps c =
+-- the row that is read
+row_there : (c : goal.After-t34-1) → slice_get c.in-Rows.rows.now c.args.self.now.at ≡ Some c.in_ok-row-in-Rows.row.now
+row_there c =
+    let lookup = c.in_ok-row-in-Rows.ensures.lookup in
+    row_read c.in-Rows.rows.now c.args.self.now.at c.in_ok-row-in-Rows.row.now lookup.3.0 lookup.1
+
+-- what is read comes first of what is left
+first_row : (c : goal.After-t34-1) → entries_left c.args.self.now
+    ≡ key_and_data (c.as_str.result, c.plain_row.result)
+    ∷ drop (c.args.self.now.at + 1) (entries_in (node_data c.args.self.now.table))
+first_row c =
     let held = subst (HoldsFields c.args.self.now.table.spot) c.in-Rows.is c.in_ok-table.ensures.fields in
     let here = c.in_ok-table.ensures.«data» ∙ ap fields_data c.in-Rows.is in
-    let rows = c.in-Rows.rows.now in
-    let row = c.in_ok-row-in-Rows.row.now in
-    let lookup = c.in_ok-row-in-Rows.ensures.lookup in
-    let read = row_read rows c.args.self.now.at row lookup.3.0 lookup.1 in (
-      first_row_left c.args.self.now rows here held.1 row c.as_str.result c.plain_row.result read c.as_str.ensures.value
-          c.plain_row.ensures,
+    first_row_left c.args.self.now c.in-Rows.rows.now here held.1 c.in_ok-row-in-Rows.row.now c.as_str.result
+    c.plain_row.result (row_there c) c.as_str.ensures.value c.plain_row.ensures
+
+pub returns-in_ok-row-in-Rows-clause-steps : goal.returns-in_ok-row-in-Rows-clause-steps
+returns-in_ok-row-in-Rows-clause-steps c =
+    let held = subst (HoldsFields c.args.self.now.table.spot) c.in-Rows.is c.in_ok-table.ensures.fields in (
+      first_row c,
       subst (λ k. AtKey c.args.self.now.table k c.plain_row.result) (sym c.as_str.ensures.value)
-          (row_stands c.args.self.now.table c.plain_row.result rows held.0 held.1 c.args.self.now.at row read
-          c.plain_row.ensures),
+          (row_stands c.args.self.now.table c.plain_row.result c.in-Rows.rows.now held.0 held.1 c.args.self.now.at
+          c.in_ok-row-in-Rows.row.now (row_there c) c.plain_row.ensures),
       refl,
     )
 
 pub returns-in_ok-row-in-Rows-clause-goes : goal.returns-in_ok-row-in-Rows-clause-goes
 returns-in_ok-row-in-Rows-clause-goes c =
-    let held = subst (HoldsFields c.args.self.now.table.spot) c.in-Rows.is c.in_ok-table.ensures.fields in
-    let here = c.in_ok-table.ensures.«data» ∙ ap fields_data c.in-Rows.is in
-    let rows = c.in-Rows.rows.now in
-    let row = c.in_ok-row-in-Rows.row.now in
-    let lookup = c.in_ok-row-in-Rows.ensures.lookup in
-    let read = row_read rows c.args.self.now.at row lookup.3.0 lookup.1 in
-    let first = first_row_left c.args.self.now rows here held.1 row c.as_str.result c.plain_row.result read
-    c.as_str.ensures.value c.plain_row.ensures in
     progress entries_left c.args.self.now (record { table = c.args.self.now.table; at = c.args.self.now.at + 1 })
-    (c.as_str.result, c.plain_row.result) (omega (arith, ap length first))
+    (c.as_str.result, c.plain_row.result) (omega (arith, ap length (first_row c)))

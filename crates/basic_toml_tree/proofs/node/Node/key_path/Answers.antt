@@ -9,7 +9,7 @@ unfolding keys_of
 returns-in_ok-path-in-Header-clause-is c =
     ap (map string_bytes) c.truncate.ensures.items
     ∙ sym (take-map string_bytes c.args.self.count c.in_ok-path-in-Header.path.items)
-    ∙ ap (take c.args.self.count) c.in_ok-path-in-Header.ensures
+    ∙ ap (take c.args.self.count) (c.in_ok-path-in-Header.ensures ∙ c.keys.ensures)
     ∙ sym (ap (trail_keys c.args.self.tree.now.headers c.args.self.count) c.in-Header.is)
 
 pub returns-in_ok-path-in-Header-clause-foretold : goal.returns-in_ok-path-in-Header-clause-foretold
@@ -33,6 +33,6 @@ returns-in_ok-push-in-Row-clause-foretold c =
     let same : map string_bytes c.push.new.self.items ≡ keys_of c.args.self =
     ap (map string_bytes) items ∙ map-append string_bytes path (last ∷ [])
     ∙ ap (λ k. map string_bytes path ++ k ∷ []) text
-    ∙ ap (λ keys. keys ++ first ∷ []) c.in_ok-path-in-Row.ensures
+    ∙ ap (λ keys. keys ++ first ∷ []) (c.in_ok-path-in-Row.ensures ∙ c.keys-in-Row.ensures)
     ∙ sym (ap (trail_keys c.args.self.tree.now.headers c.args.self.count) c.in-Row.is) in
     λ sections p. keys_foretold (map string_bytes kept) c.args.self same sections p

@@ -10,4 +10,4 @@ returns-in-Rows-clause-kind c =
 pub returns-in-Inline-clause-kind : goal.returns-in-Inline-clause-kind
 returns-in-Inline-clause-kind c =
     ap (λ s. is_table (spot_data s)) c.in-Plain.is
-    ∙ raw_is_table c.in-Plain.plain.value.now c.in-Plain.plain.plain c.in-Inline.is
+    ∙ raw_is_table c.in-Plain.plain.value.now c.in-Inline.field-0 c.in-Inline.is
