@@ -30,9 +30,12 @@ kept (Raw-F.Dotted rs) = items.Rows (out-Rows rs.value).rows.items
 abbrev pub item_of : Raw → items.Item
 item_of v = kept (out-Raw v)
 
--- a row of a section
+-- a plain value of a section that begins at an offset, and that of a row
+abbrev pub child_at : ℕ → ℕ → Raw → Child
+child_at s start v = roll-Child (record { start = start; section = s; item = item_of v })
+
 abbrev pub child_of : ℕ → Row → Child
-child_of s r = roll-Child (record { start = (out-Row r).start; section = s; item = item_of (out-Row r).value })
+child_of s r = child_at s (out-Row r).start (out-Row r).value
 
 abbrev pub entry_of : ℕ → Row → List ℕ × Child
 entry_of s r = (key_of r, child_of s r)

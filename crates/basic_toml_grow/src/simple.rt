@@ -2,13 +2,11 @@
 
 ghost use Rattle.std.specs.Prelude.{◌≡◌, ◌≤◌, [], true, IfOk, IsTrue, length, map, take, drop};
 ghost use Rattle.basic_toml_index.specs.Keys.{are_distinct, is_among};
-ghost use Rattle.basic_toml_value.specs.Entries.{seen, pair_seen};
-ghost use Rattle.basic_toml_value.specs.Text.{text_bytes};
+ghost use Rattle.basic_toml_value.specs.Entries.{seen};
 ghost use Rattle.basic_toml_index.specs.Index.{IsIndex, few};
 ghost use Rattle.basic_toml_grow.specs.Plain.{key_of, is_plain};
 ghost use Rattle.basic_toml_grow.specs.Simple.{are_all_plain as all_plain, item_of as kept_item};
-ghost use Rattle.basic_toml_grow.specs.Simple.{entry_of as new_entry, entries_of as new_entries, with_entries};
-ghost use Rattle.basic_toml_read.specs.declared.section.Row.{out-Row};
+ghost use Rattle.basic_toml_grow.specs.Simple.{child_at, entries_of as new_entries, with_entries};
 
 use crate::item::{Child, Item, Table};
 use crate::items_left::ItemsLeft;
@@ -51,20 +49,16 @@ fn item_of<'de>(value: Raw<'de>) -> Item<'de>
     }
 }
 
-// The entry that a row of a section becomes, of one key and a plain value. The key is a copy of the row's.
+// A plain value that begins at an offset of a section.
 #[inline(always)]
-fn entry_of<'de>(key: Text, row: Row<'de>, section: usize) -> Pair<Child<'de>>
-    requires key { text_bytes key ≡ key_of row }
-    requires plain { is_plain (out-Row row).value 0 ≡ true }
-    ensures { pair_seen result ≡ new_entry section row.entry }
+fn child_at<'de>(value: Raw<'de>, start: usize, section: usize) -> Child<'de>
+    requires { is_plain value 0 ≡ true }
+    ensures { result ≡ child_at section start value.entry }
 {
-    Pair {
-        key,
-        value: Child {
-            start: row.start,
-            section,
-            item: item_of(row.value),
-        },
+    Child {
+        start,
+        section,
+        item: item_of(value),
     }
 }
 
@@ -80,8 +74,15 @@ fn entries_of<'de>(
 {
     let mut entries = Vec::with_capacity(alloc, rows.len())?;
     for row in rows.drain(..) {
-        let key = Text::from_str(alloc, row.key.as_str())?;
-        entries.push_reserved(entry_of(key, row, section));
+        let Row {
+            key,
+            start,
+            value,
+            ..
+        } = row;
+        let value = child_at(value, start, section);
+        let key = Text::from_str(alloc, key.as_str())?;
+        entries.push_reserved(Pair { key, value });
     }
     // Nothing is left to clear. A drain of rows that borrow from a text does not say so.
     rows.clear();
@@ -105,8 +106,15 @@ fn first_entries_of<'de>(
         let Some(row) = rows.next() else {
             unreachable!();
         };
-        let key = Text::from_str(alloc, row.key.as_str())?;
-        entries.push_reserved(entry_of(key, row, section));
+        let Row {
+            key,
+            start,
+            value,
+            ..
+        } = row;
+        let value = child_at(value, start, section);
+        let key = Text::from_str(alloc, key.as_str())?;
+        entries.push_reserved(Pair { key, value });
     }
     Ok(entries)
 }

@@ -1,5 +1,7 @@
 use Rattle.std.proofs.Common.{◌≡◌, suc, ◌+◌, ◌-◌, ◌++◌, ap, ap₂, sym, ◌∙◌, map, length, take, drop, arith}
 use Rattle.basic_toml_value.specs.Entries.{pair_seen}
+use Rattle.basic_toml_value.specs.Text.{text_bytes}
+use Rattle.basic_toml_grow.specs.Plain.{key_of}
 use Rattle.basic_toml_grow.proofs.WhatIsLeft.{mapped_next}
 use Rattle.basic_toml_grow.specs.Simple.{entry_of, are_all_plain}
 use Rattle.basic_toml_grow.proofs.SimpleRows.{first_plain, others_plain}
@@ -24,8 +26,8 @@ unreachable-requires c =
     let none = ap length c.in_default.ensures.steps.0 in
     omega (arith, none, c.loop.invariant.within, c.loop-test.true)
 
-pub entry_of-requires-clause-plain : goal.entry_of-requires-clause-plain
-entry_of-requires-clause-plain c =
+pub child_at-value-requires : goal.child_at-value-requires
+child_at-value-requires c =
     first_plain 0 c.in-Some.row c.next.new.self
     (ap (are_all_plain 0) (sym c.in-Some.ensures.steps) ∙ c.loop.invariant.plain)
 
@@ -34,12 +36,13 @@ loop-preserved c =
     let first = c.in-Some.ensures.steps in
     let next : c.args.count - c.loop.counter ≡ suc (c.args.count - (c.loop.counter + 1)) =
     omega (arith, c.loop-test.true) in
-    let shorter = ap length first in record {
+    let shorter = ap length first in
+    let key : text_bytes c.in_ok-key.key ≡ key_of c.in-Some.row = c.in_ok-key.ensures.ok ∙ c.as_str.ensures.value in record {
       entered = mapped_next pair_seen (entry_of c.args.section) c.loop.entries.items c.push_reserved.new.self.items
           (take (c.args.count - c.loop.counter) c.loop.rows)
           (take (c.args.count - (c.loop.counter + 1)) c.next.new.self) (take c.args.count c.args.rows.now)
-          c.entry_of.result c.in-Some.row (ap₂ (λ n rows. take n rows) next first) c.push_reserved.ensures.items
-          c.loop.invariant.entered c.entry_of.ensures;
+          _ c.in-Some.row (ap₂ (λ n rows. take n rows) next first) c.push_reserved.ensures.items
+          c.loop.invariant.entered (ap₂ (λ k v. (k, v)) key c.child_at-value.ensures);
       left = sym (ap₂ (λ n rows. drop n rows) next first) ∙ c.loop.invariant.left;
       within = omega (arith, shorter, c.loop.invariant.within, next);
       plain = others_plain 0 c.in-Some.row c.next.new.self (ap (are_all_plain 0) (sym first) ∙ c.loop.invariant.plain);
