@@ -6,14 +6,14 @@ use std::alloc::{AllocError, Global};
 use std::{fmt, str};
 
 // How many bytes a text has at most that stands in place: with these it is as large as a `String` and a tag.
-const ROOM: usize = 23;
+const ROOM: usize = 24;
 
 // A text of at most `ROOM` bytes.
 #[derive(Drop)]
 struct Short {
-    len: u8,
-    bytes: [u8; 23],
-    ghost fits: { len ≤ 23 },
+    len: u32,
+    bytes: [u8; 24],
+    ghost fits: { len ≤ 24 },
     ghost text: { ∥ IsUtf8 (take len bytes) ∥₁ },
 }
 
@@ -22,13 +22,13 @@ impl Short {
 
     #[inline]
     fn of(text: &str) -> Short
-        requires { length text.now ≤ 23 }
+        requires { length text.now ≤ 24 }
         ensures { short_bytes result ≡ text.now }
     {
         let mut bytes = [0; ROOM];
         copy_few(text.as_bytes(), &mut bytes);
         Short {
-            len: text.len() as u8,
+            len: text.len() as u32,
             bytes,
         }
     }
@@ -44,8 +44,8 @@ impl Short {
 // Copies a few bytes by their first and their last ones, as many of each as a register holds: for so few, `memcpy` takes
 // more.
 #[inline(always)]
-fn copy_few(from: &[u8], to: &mut [u8; 23])
-    requires { length from.now ≤ 23 }
+fn copy_few(from: &[u8], to: &mut [u8; 24])
+    requires { length from.now ≤ 24 }
     ensures { take (length from.now) to.new ≡ from.now }
 {
     match from.len() {
@@ -60,10 +60,10 @@ fn copy_few(from: &[u8], to: &mut [u8; 23])
 
 // Copies the first and the last so many bytes, which are all of them.
 #[inline(always)]
-fn copy_ends<const N: usize>(from: &[u8], to: &mut [u8; 23])
+fn copy_ends<const N: usize>(from: &[u8], to: &mut [u8; 24])
     requires enough { N ≤ length from.now }
     requires all { length from.now ≤ N + N }
-    requires fits { length from.now ≤ 23 }
+    requires fits { length from.now ≤ 24 }
     ensures { take (length from.now) to.new ≡ from.now }
 {
     let last = from.len() - N;
@@ -80,7 +80,7 @@ enum Form {
     Long(String),
 }
 
-/// The text of a key or of a string value (TOML v0.5.0, "Keys", "String"). One of at most 23 bytes takes no memory of
+/// The text of a key or of a string value (TOML v0.5.0, "Keys", "String"). One of at most 24 bytes takes no memory of
 /// its own.
 ///
 /// ```text
@@ -102,7 +102,7 @@ impl Text {
     ///
     /// # Errors
     ///
-    /// `AllocError` where memory for a text of more than 23 bytes was refused.
+    /// `AllocError` where memory for a text of more than 24 bytes was refused.
     #[tactic(auto, unfolding(crate::specs::Text::text_bytes))]
     #[inline]
     pub fn from_str(alloc: Global, text: &str) -> Result<Text, AllocError>
@@ -162,7 +162,7 @@ impl Text {
 ///
 /// # Errors
 ///
-/// `AllocError` where memory for a text of more than 23 bytes was refused.
+/// `AllocError` where memory for a text of more than 24 bytes was refused.
 impl Clone for Text {
     ghost use Rattle.basic_toml_value.specs.Text.{text_bytes};
 

@@ -31,8 +31,8 @@ fn fills_tables(rt: HostRuntime) -> Result<(), Fail> {
 fn reads_and_copies_tables(rt: HostRuntime) -> Result<(), Fail> {
     let alloc = rt.alloc();
     let floats = "1e5, 1_234_567_890.123_456_789_012e5";
-    let values = "true, 'short', 'a string of more than 23 bytes', [7, { b = 8 }]";
-    let text = format!(in alloc; "a = [{floats}, {values}]\n'a key of more than 23 bytes' = 9\n")?;
+    let values = "true, 'short', 'a string of more than 24 bytes', [7, { b = 8 }]";
+    let text = format!(in alloc; "a = [{floats}, {values}]\n'a key of more than 24 bytes' = 9\n")?;
     let table: Table = from_str(alloc, text.as_str())?;
     assert!(rt; table.clone()? == table);
     for count in [15, 16, 17, 63, 64, 300_u32] {
@@ -58,7 +58,7 @@ fn makes_tables_of_parts(rt: HostRuntime) -> Result<(), Fail> {
 }
 
 // A text that stands in place, and one that does not.
-const WORDS: [&str; 2] = ["localhost", "a text of more than 23 bytes"];
+const WORDS: [&str; 2] = ["localhost", "a text of more than 24 bytes"];
 
 #[test]
 fn shows_short_and_long_texts(rt: HostRuntime) -> Result<(), Fail> {
