@@ -1,6 +1,6 @@
 -- The way of a header through tables and what stands in them, as contracts say it.
 use Rattle.std.specs.Prelude.{⊤}
-use Rattle.std.proofs.Common.{string_bytes, ◌≡◌, ℕ, suc, ◌+◌, Bool, true, List, ◌∷◌, map, Option, Some}
+use Rattle.std.proofs.Common.{string_bytes, ◌≡◌, ℕ, suc, ◌+◌, Bool, true, false, List, ◌∷◌, map, Option, Some}
 use Rattle.std.proofs.Common.{None, refl, ap, sym, ◌∙◌, rules, option_map, Vec, Box, Global, Result, Ok, Err}
 use Rattle.std.proofs.Common.{IsErrAnd, subst}
 use Rattle.std.specs.List.{slice_get}
@@ -106,7 +106,9 @@ other_is_leaf i no_table no_tables = go (out-Item i) refl
         ∙ search (rules, the_lemmas))
     go (Item-F.Float text) e = is_leaf (Data.float text) (ap item_trie (made (Item-F.Float text) e)
         ∙ search (rules, the_lemmas))
-    go (Item-F.Boolean b) e = is_leaf (Data.boolean b) (ap item_trie (made (Item-F.Boolean b) e)
+    go Item-F.True e = is_leaf (Data.boolean true) (ap item_trie (made Item-F.True e)
+        ∙ search (rules, the_lemmas))
+    go Item-F.False e = is_leaf (Data.boolean false) (ap item_trie (made Item-F.False e)
         ∙ search (rules, the_lemmas))
     go (Item-F.String text) e =
         is_leaf (Data.string text.now) (ap item_trie (made (Item-F.String text) e)

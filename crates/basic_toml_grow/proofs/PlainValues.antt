@@ -176,8 +176,11 @@ raw_is (Raw-F.Integer z) parts l plain =
 raw_is (Raw-F.Float text) parts l plain =
     scalar (roll-Raw (Raw-F.Float text)) (sections.Raw.float text) (search (rules, the_lemmas))
     (λ k. search (rules, the_lemmas)) refl (λ l. refl) l plain
-raw_is (Raw-F.Boolean b) parts l plain =
-    scalar (roll-Raw (Raw-F.Boolean b)) (sections.Raw.boolean b) (search (rules, the_lemmas))
+raw_is Raw-F.True parts l plain =
+    scalar (roll-Raw Raw-F.True) (sections.Raw.boolean true) (search (rules, the_lemmas))
+    (λ k. search (rules, the_lemmas)) refl (λ l. refl) l plain
+raw_is Raw-F.False parts l plain =
+    scalar (roll-Raw Raw-F.False) (sections.Raw.boolean false) (search (rules, the_lemmas))
     (λ k. search (rules, the_lemmas)) refl (λ l. refl) l plain
 raw_is (Raw-F.String text) parts l plain =
     scalar (roll-Raw (Raw-F.String text)) (sections.Raw.string text.now false) (search (rules, the_lemmas))
@@ -208,7 +211,8 @@ parts_are : (y : Raw-F Raw1 Element1 Row1 Rows1)
     → Parts (map-Raw Raw1 Element1 Row1 Rows1 Raw Element Row Rows (λ e. e.0) (λ e. e.0) (λ e. e.0) (λ e. e.0) y)
 parts_are (Raw-F.Integer z) = tt
 parts_are (Raw-F.Float text) = tt
-parts_are (Raw-F.Boolean b) = tt
+parts_are Raw-F.True = tt
+parts_are Raw-F.False = tt
 parts_are (Raw-F.String text) = tt
 parts_are (Raw-F.Escaped text) = tt
 parts_are (Raw-F.Array es) = all_of es.items

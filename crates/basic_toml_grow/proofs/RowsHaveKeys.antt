@@ -83,8 +83,11 @@ raw_kept (Raw-F.Integer z) parts =
 raw_kept (Raw-F.Float text) parts =
     let a : raw_of (roll-Raw (Raw-F.Float text)) ≡ sections.Raw.float text = search (rules, the_lemmas) in
     ap value_keyed a
-raw_kept (Raw-F.Boolean b) parts =
-    let a : raw_of (roll-Raw (Raw-F.Boolean b)) ≡ sections.Raw.boolean b = search (rules, the_lemmas) in
+raw_kept Raw-F.True parts =
+    let a : raw_of (roll-Raw Raw-F.True) ≡ sections.Raw.boolean true = search (rules, the_lemmas) in
+    ap value_keyed a
+raw_kept Raw-F.False parts =
+    let a : raw_of (roll-Raw Raw-F.False) ≡ sections.Raw.boolean false = search (rules, the_lemmas) in
     ap value_keyed a
 raw_kept (Raw-F.String text) parts =
     let a : raw_of (roll-Raw (Raw-F.String text)) ≡ sections.Raw.string text.now false = search (rules, the_lemmas) in
@@ -132,7 +135,8 @@ parts_kept : (y : Raw-F Raw1 Element1 Row1 Rows1)
     → Parts (map-Raw Raw1 Element1 Row1 Rows1 Raw Element Row tables.Rows (λ e. e.0) (λ e. e.0) (λ e. e.0) (λ e. e.0) y)
 parts_kept (Raw-F.Integer z) = tt
 parts_kept (Raw-F.Float text) = tt
-parts_kept (Raw-F.Boolean b) = tt
+parts_kept Raw-F.True = tt
+parts_kept Raw-F.False = tt
 parts_kept (Raw-F.String text) = tt
 parts_kept (Raw-F.Escaped text) = tt
 parts_kept (Raw-F.Array es) = elements_kept es.items

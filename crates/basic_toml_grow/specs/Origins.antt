@@ -150,7 +150,8 @@ abbrev mutual
 abbrev pub item_from : Item-F (ℕ → ℕ → Origins) Origins Within → ℕ → ℕ → Origins
 item_from (Item-F.Integer _) at s = entry (value_origin (codes "integer") at s) no_origins
 item_from (Item-F.Float _) at s = entry (value_origin (codes "float") at s) no_origins
-item_from (Item-F.Boolean _) at s = entry (value_origin (codes "boolean") at s) no_origins
+item_from Item-F.True at s = entry (value_origin (codes "boolean") at s) no_origins
+item_from Item-F.False at s = entry (value_origin (codes "boolean") at s) no_origins
 item_from (Item-F.String _) at s = entry (string_origin false at s) no_origins
 item_from (Item-F.Escaped _) at s = entry (string_origin true at s) no_origins
 item_from (Item-F.Plain elements) at s = value_origins s at (plain_array elements)

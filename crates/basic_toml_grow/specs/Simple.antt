@@ -20,7 +20,8 @@ are_all_plain l rows = list_all (λ r. is_plain (out-Row r).value l) rows
 abbrev pub kept : Raw-F Raw Element Row Rows → items.Item
 kept (Raw-F.Integer z) = items.Integer z
 kept (Raw-F.Float text) = items.Float text
-kept (Raw-F.Boolean b) = items.Boolean b
+kept Raw-F.True = items.True
+kept Raw-F.False = items.False
 kept (Raw-F.String text) = items.String text
 kept (Raw-F.Escaped text) = items.Escaped text
 kept (Raw-F.Array es) = items.Plain es.items

@@ -17,7 +17,8 @@ use std::alloc::{AllocError, Global};
 pub enum Item<'de> {
     Integer(i64),
     Float(Float),
-    Boolean(bool),
+    True,
+    False,
     /// A string as it stands in the text.
     String(&'de str),
     /// A copy of a string, where escapes are resolved or line ends are made line feeds.

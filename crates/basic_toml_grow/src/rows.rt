@@ -424,7 +424,8 @@ fn child_of<'de>(
     match value {
         Raw::Integer(number) => Ok(Child::at(start, section, Item::Integer(number))),
         Raw::Float(float) => Ok(Child::at(start, section, Item::Float(float))),
-        Raw::Boolean(truth) => Ok(Child::at(start, section, Item::Boolean(truth))),
+        Raw::True => Ok(Child::at(start, section, Item::True)),
+        Raw::False => Ok(Child::at(start, section, Item::False)),
         Raw::String(text) => Ok(Child::at(start, section, Item::String(text))),
         Raw::Escaped(text) => Ok(Child::at(start, section, Item::Escaped(text))),
         Raw::Array(elements) => {

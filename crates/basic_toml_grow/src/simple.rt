@@ -40,7 +40,8 @@ fn item_of<'de>(value: Raw<'de>) -> Item<'de>
     match value {
         Raw::Integer(number) => Item::Integer(number),
         Raw::Float(float) => Item::Float(float),
-        Raw::Boolean(truth) => Item::Boolean(truth),
+        Raw::True => Item::True,
+        Raw::False => Item::False,
         Raw::String(text) => Item::String(text),
         Raw::Escaped(text) => Item::Escaped(text),
         Raw::Array(elements) => Item::Plain(PlainArray { elements }),

@@ -44,7 +44,8 @@ rows_from parents (r ∷ rs) =
 abbrev pub raw_step : Raw-F Raw Placed Lined Rows → Raw
 raw_step (Raw-F.Integer z) = Raw.integer z
 raw_step (Raw-F.Float text) = Raw.float text
-raw_step (Raw-F.Boolean b) = Raw.boolean b
+raw_step Raw-F.True = Raw.boolean true
+raw_step Raw-F.False = Raw.boolean false
 raw_step (Raw-F.String text) = Raw.string text.now false
 raw_step (Raw-F.Escaped text) = Raw.string (string_bytes text) true
 raw_step (Raw-F.Array es) = Raw.array (elements_from es.items)

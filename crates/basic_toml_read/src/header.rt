@@ -22,8 +22,8 @@ const ROOM: usize = 3;
 /// What a header is but for its keys, and where it ends.
 #[derive(Clone, Copy)]
 pub(crate) struct Header {
-    pub is_array: bool,
     pub end: usize,
+    pub is_array: bool,
 }
 
 // Reads the keys of a header, the first of which has level 2, into a vector that holds none yet. It answers where the

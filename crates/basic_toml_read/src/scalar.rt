@@ -31,8 +31,8 @@ pub(crate) struct Valued<'de> {
 /// A key, and where it ends.
 #[derive(Drop)]
 pub(crate) struct Keyed<'de> {
-    pub key: KeyText<'de>,
     pub end: usize,
+    pub key: KeyText<'de>,
 }
 
 // The stop at an offset where no string was taken.
@@ -153,7 +153,8 @@ fn raw<'de>(word: Word) -> Raw<'de>
     ensures { raw_of result ≡ words.raw_of word }
 {
     match word {
-        Word::Boolean(value) => Raw::Boolean(value),
+        Word::Boolean(true) => Raw::True,
+        Word::Boolean(false) => Raw::False,
         Word::Integer(value) => Raw::Integer(value),
         Word::Float(value) => Raw::Float(value),
     }

@@ -19,8 +19,10 @@ pub enum Raw<'de> {
     Integer(i64),
     /// A float, as its canonical text.
     Float(Float),
-    /// `true` or `false`.
-    Boolean(bool),
+    /// `true`. It stands apart from `false`, since a `bool` beside the tag would take each move of a value apart.
+    True,
+    /// `false`.
+    False,
     /// A string without its delimiters, as it stands in the text.
     String(&'de str),
     /// A string without its delimiters, where escapes are resolved or line ends are made line feeds.

@@ -35,8 +35,8 @@ pub(crate) struct Gathered<'de> {
 /// The last key of a row with its offset and its level, and where the blanks after it end.
 #[derive(Drop)]
 struct LastKey<'de> {
-    key: KeyText<'de>,
     offset: usize,
+    key: KeyText<'de>,
     level: usize,
     end: usize,
 }

@@ -107,8 +107,11 @@ raw_no_elements v plain other = go (raws.out-Raw v) (sym (raws.roll-out-Raw v))
     go (Raw-F.Float z) is =
         let none : elements_in (plain_data (raws.roll-Raw (Raw-F.Float z))) ≡ [] = search (rules, raws.the_lemmas) in
         ap (λ v. elements_in (plain_data v)) is ∙ none
-    go (Raw-F.Boolean z) is =
-        let none : elements_in (plain_data (raws.roll-Raw (Raw-F.Boolean z))) ≡ [] = search (rules, raws.the_lemmas) in
+    go Raw-F.True is =
+        let none : elements_in (plain_data (raws.roll-Raw Raw-F.True)) ≡ [] = search (rules, raws.the_lemmas) in
+        ap (λ v. elements_in (plain_data v)) is ∙ none
+    go Raw-F.False is =
+        let none : elements_in (plain_data (raws.roll-Raw Raw-F.False)) ≡ [] = search (rules, raws.the_lemmas) in
         ap (λ v. elements_in (plain_data v)) is ∙ none
     go (Raw-F.String z) is =
         let none : elements_in (plain_data (raws.roll-Raw (Raw-F.String z))) ≡ [] = search (rules, raws.the_lemmas) in

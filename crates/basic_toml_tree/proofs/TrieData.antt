@@ -84,7 +84,8 @@ Agree _ = ⊤
 item_agrees : (x : Item-F Item Child Table) → Agree x → OfItem (roll-Item x)
 item_agrees (Item-F.Integer z) agree = search (rules, the_lemmas)
 item_agrees (Item-F.Float text) agree = search (rules, the_lemmas)
-item_agrees (Item-F.Boolean b) agree = search (rules, the_lemmas)
+item_agrees Item-F.True agree = search (rules, the_lemmas)
+item_agrees Item-F.False agree = search (rules, the_lemmas)
 item_agrees (Item-F.String text) agree = search (rules, the_lemmas)
 item_agrees (Item-F.Escaped text) agree = search (rules, the_lemmas)
 item_agrees (Item-F.Array children) agree =
@@ -152,7 +153,8 @@ parts_agree : (y : Item-F Item1 Child1 Table1)
     → Agree (map-Item Item1 Child1 Table1 Item Child Table (λ e. e.0) (λ e. e.0) (λ e. e.0) y)
 parts_agree (Item-F.Integer z) = tt
 parts_agree (Item-F.Float text) = tt
-parts_agree (Item-F.Boolean b) = tt
+parts_agree Item-F.True = tt
+parts_agree Item-F.False = tt
 parts_agree (Item-F.String text) = tt
 parts_agree (Item-F.Escaped text) = tt
 parts_agree (Item-F.Array es) = children_agree es.items

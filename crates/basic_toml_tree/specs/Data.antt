@@ -1,5 +1,5 @@
 -- The data that an item stands for.
-use Rattle.std.specs.Prelude.{◌≡◌, ℕ, List, [], ◌∷◌, ◌++◌, string_bytes}
+use Rattle.std.specs.Prelude.{◌≡◌, ℕ, true, false, List, [], ◌∷◌, ◌++◌, string_bytes}
 use Rattle.basic_toml_value.specs.Data.{Data, no_members, items_of, members_of}
 use Rattle.basic_toml_value.specs.Text.{text_bytes}
 use Rattle.basic_toml_value.specs.View.{view}
@@ -20,7 +20,8 @@ use Rattle.basic_toml_grow.specs.declared.item.Table.{fold-Table}
 abbrev pub item_step : Item-F Data Data Data → Data
 item_step (Item-F.Integer z) = Data.integer z
 item_step (Item-F.Float text) = Data.float text
-item_step (Item-F.Boolean b) = Data.boolean b
+item_step Item-F.True = Data.boolean true
+item_step Item-F.False = Data.boolean false
 item_step (Item-F.String text) = Data.string text.now
 item_step (Item-F.Escaped text) = Data.string (string_bytes text)
 item_step (Item-F.Plain elements) = finished (plain_array elements)

@@ -71,7 +71,8 @@ last_at tree = last_of tree.headers
 abbrev pub item_name : Item-F Item Child Table → List ℕ
 item_name (Item-F.Integer _) = codes "integer"
 item_name (Item-F.Float _) = codes "float"
-item_name (Item-F.Boolean _) = codes "boolean"
+item_name Item-F.True = codes "boolean"
+item_name Item-F.False = codes "boolean"
 item_name (Item-F.String _) = codes "string"
 item_name (Item-F.Escaped _) = codes "string"
 item_name (Item-F.Plain _) = codes "array"

@@ -28,7 +28,8 @@ pub(crate) fn plain_value(alloc: Global, value: &Raw<'_>) -> Result<Value, Alloc
     match value {
         Raw::Integer(number) => Ok(Value::Integer(*number)),
         Raw::Float(float) => Ok(Value::Float(float.clone()?)),
-        Raw::Boolean(truth) => Ok(Value::Boolean(*truth)),
+        Raw::True => Ok(Value::Boolean(true)),
+        Raw::False => Ok(Value::Boolean(false)),
         Raw::String(text) => Ok(Value::String(Text::from_str(alloc, text)?)),
         Raw::Escaped(text) => Ok(Value::String(Text::from_str(alloc, text.as_str())?)),
         Raw::Array(elements) => Ok(Value::Array(plain_values(alloc, elements.as_slice())?)),
@@ -90,7 +91,8 @@ fn into_plain_value(alloc: Global, value: Raw<'_>) -> Result<Value, AllocError>
     match value {
         Raw::Integer(number) => Ok(Value::Integer(number)),
         Raw::Float(float) => Ok(Value::Float(float)),
-        Raw::Boolean(truth) => Ok(Value::Boolean(truth)),
+        Raw::True => Ok(Value::Boolean(true)),
+        Raw::False => Ok(Value::Boolean(false)),
         Raw::String(text) => Ok(Value::String(Text::from_str(alloc, text)?)),
         Raw::Escaped(text) => Ok(Value::String(Text::from(text))),
         Raw::Array(elements) => Ok(Value::Array(into_plain_values(alloc, elements)?)),

@@ -50,7 +50,8 @@ impl<'t, 'de> Spot<'t, 'de> {
             Spot::Item(item) => match item {
                 Item::Integer(number) => Kind::Integer(*number),
                 Item::Float(float) => Kind::Float(float),
-                Item::Boolean(truth) => Kind::Boolean(*truth),
+                Item::True => Kind::Boolean(true),
+                Item::False => Kind::Boolean(false),
                 Item::String(text) => Kind::Slice(text),
                 Item::Escaped(text) => Kind::Copy(text.as_str()),
                 Item::Plain(_) | Item::Array(_) | Item::Tables(_) => Kind::Array,
@@ -59,7 +60,8 @@ impl<'t, 'de> Spot<'t, 'de> {
             Spot::Plain(plain) => match plain.value {
                 Raw::Integer(number) => Kind::Integer(*number),
                 Raw::Float(float) => Kind::Float(float),
-                Raw::Boolean(truth) => Kind::Boolean(*truth),
+                Raw::True => Kind::Boolean(true),
+                Raw::False => Kind::Boolean(false),
                 Raw::String(text) => Kind::Slice(text),
                 Raw::Escaped(text) => Kind::Copy(text.as_str()),
                 Raw::Array(_) => Kind::Array,
@@ -106,7 +108,7 @@ impl<'t, 'de> Spot<'t, 'de> {
             Spot::Item(item) => match item {
                 Item::Integer(_) => "integer",
                 Item::Float(_) => "float",
-                Item::Boolean(_) => "boolean",
+                Item::True | Item::False => "boolean",
                 Item::String(_) | Item::Escaped(_) => "string",
                 Item::Plain(_) | Item::Array(_) => "array",
                 Item::Rows(_) | Item::Inline(_) => "inline table",
@@ -116,7 +118,7 @@ impl<'t, 'de> Spot<'t, 'de> {
             Spot::Plain(plain) => match plain.value {
                 Raw::Integer(_) => "integer",
                 Raw::Float(_) => "float",
-                Raw::Boolean(_) => "boolean",
+                Raw::True | Raw::False => "boolean",
                 Raw::String(_) | Raw::Escaped(_) => "string",
                 Raw::Array(_) => "array",
                 Raw::Inline(_) => "inline table",

@@ -22,7 +22,8 @@ pub(crate) fn value_of(alloc: Global, item: &Item<'_>) -> Result<Value, AllocErr
     match item {
         Item::Integer(number) => Ok(Value::Integer(*number)),
         Item::Float(float) => Ok(Value::Float(float.clone()?)),
-        Item::Boolean(truth) => Ok(Value::Boolean(*truth)),
+        Item::True => Ok(Value::Boolean(true)),
+        Item::False => Ok(Value::Boolean(false)),
         Item::String(text) => Ok(Value::String(Text::from_str(alloc, text)?)),
         Item::Escaped(text) => Ok(Value::String(Text::from_str(alloc, text.as_str())?)),
         Item::Plain(array) => Ok(Value::Array(plain_values(alloc, array.elements())?)),
@@ -98,7 +99,8 @@ fn into_value(alloc: Global, item: Item<'_>) -> Result<Value, AllocError>
     match item {
         Item::Integer(number) => Ok(Value::Integer(number)),
         Item::Float(float) => Ok(Value::Float(float)),
-        Item::Boolean(truth) => Ok(Value::Boolean(truth)),
+        Item::True => Ok(Value::Boolean(true)),
+        Item::False => Ok(Value::Boolean(false)),
         Item::String(text) => Ok(Value::String(Text::from_str(alloc, text)?)),
         Item::Escaped(text) => Ok(Value::String(Text::from(text))),
         Item::Plain(array) => into_plain_array(alloc, array),

@@ -50,10 +50,8 @@ fn push_raw(out: &mut String, value: &Raw<'_>) -> Result<(), AllocError> {
             write!(out, "{number}")
         }
         Raw::Float(float) => out.push_str(float.as_str()),
-        Raw::Boolean(value) => {
-            let value = *value;
-            write!(out, "{value}")
-        }
+        Raw::True => out.push_str("true"),
+        Raw::False => out.push_str("false"),
         Raw::String(text) => push_quoted(out, text),
         Raw::Escaped(text) => {
             out.push_str("copy ")?;

@@ -91,7 +91,8 @@ item_made count b (Item-F.Tables tables) o is stands same own made = record {
 item_made count b (Item-F.Table t) o is stands same own made = cc
 item_made count b (Item-F.Integer z) o is stands same own made = absurd (false≢true (sym (ap stands_made stands) ∙ made))
 item_made count b (Item-F.Float z) o is stands same own made = absurd (false≢true (sym (ap stands_made stands) ∙ made))
-item_made count b (Item-F.Boolean z) o is stands same own made = absurd (false≢true (sym (ap stands_made stands) ∙ made))
+item_made count b Item-F.True o is stands same own made = absurd (false≢true (sym (ap stands_made stands) ∙ made))
+item_made count b Item-F.False o is stands same own made = absurd (false≢true (sym (ap stands_made stands) ∙ made))
 item_made count b (Item-F.String z) o is stands same own made = absurd (false≢true (sym (ap stands_made stands) ∙ made))
 item_made count b (Item-F.Escaped z) o is stands same own made = absurd (false≢true (sym (ap stands_made stands) ∙ made))
 item_made count b (Item-F.Array z) o is stands same own made = absurd (false≢true (sym (ap stands_made stands) ∙ made))
@@ -123,7 +124,8 @@ not_table : (x : Item-F Item Child Table) (o : Option Standing) → item_standin
     → (p n d : Bool) → o ≡ Some (table p n d) → ⊥
 not_table (Item-F.Integer z) o stands own p n d is = absurd (cc)
 not_table (Item-F.Float z) o stands own p n d is = absurd (cc)
-not_table (Item-F.Boolean z) o stands own p n d is = absurd (cc)
+not_table Item-F.True o stands own p n d is = absurd (cc)
+not_table Item-F.False o stands own p n d is = absurd (cc)
 not_table (Item-F.String z) o stands own p n d is = absurd (cc)
 not_table (Item-F.Escaped z) o stands own p n d is = absurd (cc)
 not_table (Item-F.Array z) o stands own p n d is = absurd (cc)

@@ -62,7 +62,8 @@ item_key (Item-F.Inline b) i t k q at s is holds =
     made_inline b at s = search (rules, the_lemmas)
 item_key (Item-F.Integer z) i t k q at s is holds = absurd holds
 item_key (Item-F.Float z) i t k q at s is holds = absurd holds
-item_key (Item-F.Boolean z) i t k q at s is holds = absurd holds
+item_key Item-F.True i t k q at s is holds = absurd holds
+item_key Item-F.False i t k q at s is holds = absurd holds
 item_key (Item-F.String z) i t k q at s is holds = absurd holds
 item_key (Item-F.Escaped z) i t k q at s is holds = absurd holds
 item_key (Item-F.Array z) i t k q at s is holds = absurd holds
@@ -97,7 +98,9 @@ item_bears (Item-F.Integer z) at s = bears_entry (Item-F.Integer z) at s (value_
     (search (rules, the_lemmas)) (λ apart. refl)
 item_bears (Item-F.Float z) at s = bears_entry (Item-F.Float z) at s (value_origin (codes "float") at s) no_origins
     (search (rules, the_lemmas)) (λ apart. refl)
-item_bears (Item-F.Boolean z) at s = bears_entry (Item-F.Boolean z) at s (value_origin (codes "boolean") at s) no_origins
+item_bears Item-F.True at s = bears_entry Item-F.True at s (value_origin (codes "boolean") at s) no_origins
+    (search (rules, the_lemmas)) (λ apart. refl)
+item_bears Item-F.False at s = bears_entry Item-F.False at s (value_origin (codes "boolean") at s) no_origins
     (search (rules, the_lemmas)) (λ apart. refl)
 item_bears (Item-F.String z) at s = bears_entry (Item-F.String z) at s (string_origin false at s) no_origins
     (search (rules, the_lemmas)) (λ apart. refl)
@@ -146,7 +149,8 @@ item_marked (Item-F.Tables y) at s = subst (Marked (Some (out-Table y.value.1).s
     is = search (rules, the_lemmas)
 item_marked (Item-F.Integer z) at s = not_marked None refl (item_origins (roll-Item (Item-F.Integer z)) at s)
 item_marked (Item-F.Float z) at s = not_marked None refl (item_origins (roll-Item (Item-F.Float z)) at s)
-item_marked (Item-F.Boolean z) at s = not_marked None refl (item_origins (roll-Item (Item-F.Boolean z)) at s)
+item_marked Item-F.True at s = not_marked None refl (item_origins (roll-Item Item-F.True) at s)
+item_marked Item-F.False at s = not_marked None refl (item_origins (roll-Item Item-F.False) at s)
 item_marked (Item-F.String z) at s = not_marked None refl (item_origins (roll-Item (Item-F.String z)) at s)
 item_marked (Item-F.Escaped z) at s = not_marked None refl (item_origins (roll-Item (Item-F.Escaped z)) at s)
 item_marked (Item-F.Array z) at s = not_marked None refl (item_origins (roll-Item (Item-F.Array z)) at s)
@@ -279,9 +283,12 @@ item_own (Item-F.Integer z) at s =
 item_own (Item-F.Float z) at s =
     own_of (item_origins (roll-Item (Item-F.Float z)) at s) (value_origin (codes "float") at s)
     (item_told (Item-F.Float z) at s) no_origins (search (rules, the_lemmas)) (λ apart. refl)
-item_own (Item-F.Boolean z) at s =
-    own_of (item_origins (roll-Item (Item-F.Boolean z)) at s) (value_origin (codes "boolean") at s)
-    (item_told (Item-F.Boolean z) at s) no_origins (search (rules, the_lemmas)) (λ apart. refl)
+item_own Item-F.True at s =
+    own_of (item_origins (roll-Item Item-F.True) at s) (value_origin (codes "boolean") at s)
+    (item_told Item-F.True at s) no_origins (search (rules, the_lemmas)) (λ apart. refl)
+item_own Item-F.False at s =
+    own_of (item_origins (roll-Item Item-F.False) at s) (value_origin (codes "boolean") at s)
+    (item_told Item-F.False at s) no_origins (search (rules, the_lemmas)) (λ apart. refl)
 item_own (Item-F.String z) at s =
     own_of (item_origins (roll-Item (Item-F.String z)) at s) (string_origin false at s)
     (item_told (Item-F.String z) at s) no_origins (search (rules, the_lemmas)) (λ apart. refl)

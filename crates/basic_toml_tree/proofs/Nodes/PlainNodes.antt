@@ -78,7 +78,8 @@ plain_slice v = ap (λ v. raw_is_slice (raw_of v)) (sym (raws.roll-out-Raw v)) �
     go : (x : Raw-F raws.Raw Element Row code_rows.Rows) → raw_is_slice (raw_of (raws.roll-Raw x)) ≡ is_string x
     go (Raw-F.Integer z) = search (rules, raws.the_lemmas)
     go (Raw-F.Float z) = search (rules, raws.the_lemmas)
-    go (Raw-F.Boolean z) = search (rules, raws.the_lemmas)
+    go Raw-F.True = search (rules, raws.the_lemmas)
+    go Raw-F.False = search (rules, raws.the_lemmas)
     go (Raw-F.String z) = search (rules, raws.the_lemmas)
     go (Raw-F.Escaped z) = search (rules, raws.the_lemmas)
     go (Raw-F.Array z) = search (rules, raws.the_lemmas)

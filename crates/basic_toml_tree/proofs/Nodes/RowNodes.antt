@@ -196,7 +196,8 @@ means (spots.Item b) rs holds = go (out-Item b.now) refl holds
         }
     go (Item-F.Integer z) is holds = absurd holds
     go (Item-F.Float z) is holds = absurd holds
-    go (Item-F.Boolean z) is holds = absurd holds
+    go Item-F.True is holds = absurd holds
+    go Item-F.False is holds = absurd holds
     go (Item-F.String z) is holds = absurd holds
     go (Item-F.Escaped z) is holds = absurd holds
     go (Item-F.Plain z) is holds = absurd holds
@@ -220,7 +221,8 @@ means (spots.Plain v) rs holds = go (raws.out-Raw v.value.now) refl holds
         }
     go (Raw-F.Integer z) is holds = absurd holds
     go (Raw-F.Float z) is holds = absurd holds
-    go (Raw-F.Boolean z) is holds = absurd holds
+    go Raw-F.True is holds = absurd holds
+    go Raw-F.False is holds = absurd holds
     go (Raw-F.String z) is holds = absurd holds
     go (Raw-F.Escaped z) is holds = absurd holds
     go (Raw-F.Array z) is holds = absurd holds
