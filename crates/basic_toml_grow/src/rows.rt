@@ -421,28 +421,27 @@ fn child_of<'de>(
     ensures origins { IfOk result (λ child. child_origins child ≡ value_origins section start (raw_of value.entry)) }
     ensures dotted { IfOk result (λ child. dotted_of child ≡ table_origin false start section) }
 {
-    match value {
-        Raw::Integer(number) => Ok(Child::at(start, section, Item::Integer(number))),
-        Raw::Float(float) => Ok(Child::at(start, section, Item::Float(float))),
-        Raw::True => Ok(Child::at(start, section, Item::True)),
-        Raw::False => Ok(Child::at(start, section, Item::False)),
-        Raw::String(text) => Ok(Child::at(start, section, Item::String(text))),
-        Raw::Escaped(text) => Ok(Child::at(start, section, Item::Escaped(text))),
+    let rows = match value {
+        Raw::Integer(number) => return Ok(Child::at(start, section, Item::Integer(number))),
+        Raw::Float(float) => return Ok(Child::at(start, section, Item::Float(float))),
+        Raw::True => return Ok(Child::at(start, section, Item::True)),
+        Raw::False => return Ok(Child::at(start, section, Item::False)),
+        Raw::String(text) => return Ok(Child::at(start, section, Item::String(text))),
+        Raw::Escaped(text) => return Ok(Child::at(start, section, Item::Escaped(text))),
         Raw::Array(elements) => {
             if level >= NESTING_LIMIT {
                 return Err(Clash::Deep);
             }
             let children = children_of(alloc, elements, section, level + 1, looks)?;
-            Ok(Child::at(start, section, Item::Array(children)))
+            return Ok(Child::at(start, section, Item::Array(children)));
         }
-        Raw::Inline(rows) => {
-            let parents = Vec::new(alloc);
-            inline_child(alloc, Rows { parents, rows }, start, section, level, looks)
-        }
-        Raw::Dotted(rows) => {
-            inline_child(alloc, Box::into_inner(rows), start, section, level, looks)
-        }
-    }
+        Raw::Inline(rows) => Rows {
+            parents: Vec::new(alloc),
+            rows,
+        },
+        Raw::Dotted(rows) => Box::into_inner(rows),
+    };
+    inline_child(alloc, rows, start, section, level, looks)
 }
 
 // The item of an inline table of rows that begins at an offset, within a table or an array of a level.

@@ -186,6 +186,22 @@ pub fn build<T: Texts>(alloc: Global, texts: &T) -> Result<Vec<Leaf>, AllocError
     Ok(leaves)
 }
 
+// A slot for each text, and one for a key that is none of them and is to stand after them. It is not inlined, since a
+// table gets its leaves once.
+#[cold]
+#[inline(never)]
+pub fn build_with<T: Texts>(alloc: Global, texts: &T, key: &str) -> Result<Vec<Leaf>, AllocError>
+    requires some { 0 < length (T.texts texts.now) }
+    requires distinct { IsTrue (are_distinct (T.texts texts.now)) }
+    requires absent { is_among (T.texts texts.now) key.now ≡ false }
+    ensures { IfOk result (λ leaves. IsSorted (T.texts texts.now ++ key.now ∷ []) (leaves_of leaves.items)) }
+{
+    let mut leaves = build(alloc, texts)?;
+    let gap = gap(leaves.as_slice(), texts, key);
+    insert(&mut leaves, gap, texts.count())?;
+    Ok(leaves)
+}
+
 // Puts a slot for a position where its key goes.
 pub fn insert(leaves: &mut Vec<Leaf>, gap: Gap, position: usize) -> Result<(), AllocError>
     requires in_leaves { gap.leaf < length leaves.old.items }

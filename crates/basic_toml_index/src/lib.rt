@@ -185,9 +185,7 @@ impl Index {
             return leaves::insert(leaves, gap, count);
         }
         if count >= FEW {
-            let mut leaves = leaves::build(alloc, texts)?;
-            let gap = leaves::gap(leaves.as_slice(), texts, key);
-            leaves::insert(&mut leaves, gap, count)?;
+            let leaves = leaves::build_with(alloc, texts, key)?;
             self.leaves = Some(Box::new(alloc, leaves)?);
         }
         Ok(())

@@ -2,8 +2,6 @@ use Rattle.std.proofs.Common.{arith, [], ◌∷◌}
 use Rattle.std.proofs.lemmas.List.{length-map, length-append}
 use Rattle.std.specs.Box.{with_value}
 use Rattle.basic_toml_index.proofs.IndexAfterInsert.{IsIndex-boxed, IsIndex-none, IsIndex-insert, distinct_with}
-use Rattle.basic_toml_index.specs.Index.{leaves_of}
-use Rattle.basic_toml_index.proofs.IndexGrows.{IsSorted-insert}
 use Rattle.basic_toml_index.proofs.Index.insert.Goals as goal
 
 pub insert-requires-clause-in_leaves : goal.insert-requires-clause-in_leaves
@@ -21,18 +19,9 @@ returns-in-Some-clause-ok g c =
 
 pub returns-in_ok-new-clause-ok : goal.returns-in_ok-new-clause-ok
 returns-in_ok-new-clause-ok g c =
-    let keys = g.T.Texts.texts c.args.texts.now in
-    let leaves = leaves_of c.in_ok-leaves.leaves.items in
-    let place = rw c.as_slice.ensures.value at c.gap-gap.ensures.place in
-    let sorted = IsSorted-insert keys leaves (leaves_of c.insert-then-count-ge-FEW.new.leaves.items) c.gap-gap.result
-    c.count-count.result c.args.key.now c.count-count.ensures c.in_ok-leaves.ensures
-    (place (rw (c.in_ok-leaves.ensures.same c.args.key.now) c.requires.gap.absent))
-    c.in_ok-insert.ensures.row
-    (rw (length-map c.insert-then-count-ge-FEW.new.leaves.items (λ leaf. leaf.items)) c.in_ok-insert.ensures.some)
-    c.in_ok-insert.ensures.filled in
     IsIndex-boxed _ c.in_ok-new.field-0
-    (distinct_with keys c.args.self.now c.args.gap c.args.key.now c.requires.index c.requires.gap)
-    (rw c.in_ok-new.ensures.ok sorted)
+    (distinct_with (g.T.Texts.texts c.args.texts.now) c.args.self.now c.args.gap c.args.key.now c.requires.index
+    c.requires.gap) (rw c.in_ok-new.ensures.ok c.in_ok-leaves.ensures)
 
 pub returns-else-count-ge-FEW-clause-ok : goal.returns-else-count-ge-FEW-clause-ok
 returns-else-count-ge-FEW-clause-ok g c =
