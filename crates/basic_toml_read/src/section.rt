@@ -19,7 +19,7 @@ pub enum Raw<'de> {
     Integer(i64),
     /// A float, as its canonical text.
     Float(Float),
-    /// `true`. It stands apart from `false`, since a `bool` beside the tag would take each move of a value apart.
+    /// `true`. It stands apart from `false`: with a `bool` beside the tag, each move of a value would take more.
     True,
     /// `false`.
     False,
