@@ -17,7 +17,9 @@ use Rattle.basic_toml_grow.specs.declared.item.Item.TheOpen.{Item-F, Table-F}
 use Rattle.basic_toml_grow.specs.declared.item.Item.TheViews.{roll-Item, out-Item, roll-out-Item, roll-Child, roll-Table}
 use Rattle.basic_toml_grow.specs.declared.item.Child.{Child, out-Child}
 use Rattle.basic_toml_grow.specs.declared.item.Table.{Table, out-Table}
+use Rattle.std.proofs.lemmas.Bool.{false≢true}
 use Rattle.basic_toml_grow.specs.Item.{item_trie, child_trie, table_trie, tree_data, leaf, by_keys, trie_before}
+use Rattle.basic_toml_grow.specs.Item.{holds_section, is_section}
 use Rattle.basic_toml_value.specs.Growth.{FindsOrAdds, with_value, values_of}
 use Rattle.basic_toml_value.specs.declared.pairs.growth.Place.{Place}
 use Rattle.basic_toml_grow.specs.Headers.{IsIn, IsKeptOut, EntersHeader, EntersItem, entered_by, steps_by}
@@ -90,10 +92,10 @@ pub holds_tables : (i : items.Item) (b : Box (Vec Table Global × Table) Global)
 holds_tables i b is = ap item_trie is ∙ tables_trie b
 
 -- what is none of these is a value, which bars a header
-pub other_is_leaf : (i : items.Item) → ((t : Box Table Global) → i ≡ items.Table t → ⊥)
+pub other_is_leaf : (i : items.Item) → is_section i ≡ false → ((t : Box Table Global) → i ≡ items.Table t → ⊥)
     → ((b : Box (Vec Table Global × Table) Global) → i ≡ Tables b → ⊥)
     → (d : Data) × (item_trie i ≡ leaf d)
-other_is_leaf i no_table no_tables = go (out-Item i) refl
+other_is_leaf i no_section no_table no_tables = go (out-Item i) refl
   where
     made : (x : Item-F items.Item Child Table) → out-Item i ≡ x → i ≡ roll-Item x
     made x e = sym (roll-out-Item i) ∙ ap roll-Item e
@@ -126,6 +128,7 @@ other_is_leaf i no_table no_tables = go (out-Item i) refl
     go (Item-F.Inline t) e =
         is_leaf (tree_data (table_trie t.value)) (ap item_trie (made (Item-F.Inline t) e) ∙ search (rules, the_lemmas))
     go (Item-F.Table t) e = absurd (no_table t (made (Item-F.Table t) e ∙ search (rules, the_lemmas)))
+    go (Item-F.Section rs) e = absurd (false≢true (sym no_section ∙ ap holds_section e))
     go (Item-F.Tables b) e = absurd (no_tables b (made (Item-F.Tables b) e
         ∙ search (rules, the_lemmas)))
 
@@ -133,12 +136,12 @@ pub value_bars : (a : Bool) (rows : Rows) (keys : KeyTexts) (i : items.Item) (d 
     → item_trie i ≡ leaf d → entered_by a rows keys (item_trie i) ≡ None
 value_bars a rows keys i d is = ap (entered_by a rows keys) is ∙ walk_barred a rows keys (Some d) no_tries
 
-pub other_bars : (a : Bool) (rows : Rows) (keys : KeyTexts) (i : items.Item)
+pub other_bars : (a : Bool) (rows : Rows) (keys : KeyTexts) (i : items.Item) → is_section i ≡ false
     → ((t : Box Table Global) → i ≡ items.Table t → ⊥)
     → ((b : Box (Vec Table Global × Table) Global) → i ≡ Tables b → ⊥)
     → entered_by a rows keys (item_trie i) ≡ None
-other_bars a rows keys i no_table no_tables =
-    let seen = other_is_leaf i no_table no_tables in
+other_bars a rows keys i no_section no_table no_tables =
+    let seen = other_is_leaf i no_section no_table no_tables in
     value_bars a rows keys i seen.0 seen.1
 
 -- a child with another item
@@ -149,8 +152,13 @@ pub out_holding : (c : Child) (i : items.Item) → out-Child (holding c i)
     ≡ record { start = (out-Child c).start; section = (out-Child c).section; item = i }
 out_holding c i = search (rules, the_lemmas)
 
-holding_trie : (c : Child) (i : items.Item) → child_trie (holding c i) ≡ item_trie i
+pub holding_trie : (c : Child) (i : items.Item) → child_trie (holding c i) ≡ item_trie i
 holding_trie c i = child_item_trie (holding c i) ∙ ap (λ o. item_trie o.item) (out_holding c i)
+
+-- what stood at a key, by a child with the same trie
+pub same_before : (is_new : Bool) (c d : Child) → child_trie c ≡ child_trie d
+    → trie_before is_new (item_trie (out-Child c).item) ≡ trie_before is_new (child_trie d)
+same_before is_new c d same = ap (trie_before is_new) (sym (child_item_trie c) ∙ same)
 
 -- a key that is entered, with any child
 abbrev pub any_child : Child → Type 0
@@ -160,17 +168,15 @@ any_entered : {gives : Child → Type 0} {k : List ℕ} {old new : List (List �
     → FindsOrAdds gives k old new p → FindsOrAdds any_child k old new p
 any_entered e = record { there = e.there; stands = e.stands; entered = e.entered; is_new = e.is_new; made = λ new. tt }
 
--- A header passes a table by a key: the key is there or is new, at this place, and another item stands at it then.
-pub record Passes (k : List ℕ) (old : Table) (p : Place) (there now : items.Item) (new : Table) : Type 0 where
+-- A header passes a table by a key: the key is there or is new, at this place, and another child stands at it then.
+pub record Passes (k : List ℕ) (old : Table) (p : Place) (there now : Child) (new : Table) : Type 0 where
   pub passed : (out-Table new).passed ≡ true
   pub named : (out-Table new).named ≡ (out-Table old).named
   pub dotted : (out-Table new).dotted ≡ (out-Table old).dotted
   pub entries : List (List ℕ × Child)
   pub entered : FindsOrAdds any_child k (out-Table old).entries entries p
-  pub child : Child
-  pub stands : slice_get (values_of entries) p.position ≡ Some child
-  pub item : (out-Child child).item ≡ there
-  pub left : (out-Table new).entries ≡ with_value entries p.position (holding child now)
+  pub stands : slice_get (values_of entries) p.position ≡ Some there
+  pub left : (out-Table new).entries ≡ with_value entries p.position now
 
 -- a table as the code changes it: a header passes it, and it gets the number of a section
 abbrev pub passed_fields : Table → Table-F items.Item Child Table
@@ -191,42 +197,37 @@ passed_marks : (t : Table) (new ps : List (List ℕ × Child)) (n : ℕ)
 passed_marks t new ps n = (search (rules, the_lemmas), search (rules, the_lemmas), search (rules, the_lemmas))
 
 pub passes : {gives : Child → Type 0} (k : List ℕ) (t : Table) (new : List (List ℕ × Child)) (n : ℕ) (p : Place)
-    (child : Child) (now : items.Item) → FindsOrAdds gives k (out-Table t).entries new p
-    → slice_get (values_of (out-Table (passed_table t new n)).entries) p.position ≡ Some child
-    → Passes k t p (out-Child child).item now
-    (with_entries (passed_table t new n) (with_value (out-Table (passed_table t new n)).entries p.position
-    (holding child now)))
-passes k t new n p child now entered stands =
-    let after = with_value (out-Table (passed_table t new n)).entries p.position (holding child now) in
+    (there now : Child) → FindsOrAdds gives k (out-Table t).entries new p
+    → slice_get (values_of (out-Table (passed_table t new n)).entries) p.position ≡ Some there
+    → Passes k t p there now
+    (with_entries (passed_table t new n) (with_value (out-Table (passed_table t new n)).entries p.position now))
+passes k t new n p there now entered stands =
+    let after = with_value (out-Table (passed_table t new n)).entries p.position now in
     let marks = passed_marks t new after n in record {
       passed = marks.0;
       named = marks.1;
       dotted = marks.2;
       entries = new;
       entered = any_entered entered;
-      child = child;
       stands = sym (ap (λ es. slice_get (values_of es) p.position) (passed_entries t new n)) ∙ stands;
-      item = refl;
       left = entries_with (passed_table t new n) after
-          ∙ ap (λ es. with_value es p.position (holding child now)) (passed_entries t new n);
+          ∙ ap (λ es. with_value es p.position now) (passed_entries t new n);
     }
 
-pub passed_number : (t : Table) (new : List (List ℕ × Child)) (n position : ℕ) (child : Child) (now : items.Item)
+pub passed_number : (t : Table) (new : List (List ℕ × Child)) (n position : ℕ) (now : Child)
     → (out-Table (with_entries (passed_table t new n) (with_value (out-Table (passed_table t new n)).entries position
-    (holding child now)))).section ≡ n
-passed_number t new n position child now = search (rules, the_lemmas)
+    now))).section ≡ n
+passed_number t new n position now = search (rules, the_lemmas)
 
 -- a table that a header passes, where the section is entered below it, and where it is not
 module _ (a : Bool) (rows : Rows) (k : List ℕ) (keys whole : KeyTexts) (level : ℕ) (t u : Table) (p : Place)
-    (there now : items.Item) (is_whole : whole ≡ k ∷ keys) (pass : Passes k t p there now u) where
+    (there now : Child) (is_whole : whole ≡ k ∷ keys) (pass : Passes k t p there now u) where
   abbrev before : Trie
-  before = trie_before p.is_new (item_trie there)
+  before = trie_before p.is_new (child_trie there)
 
   -- what stood at the key
   pub passed_before : find (key k) (by_keys (tries_of child_trie (out-Table t).entries)) ≡ before
-  passed_before =
-      stood_there child_trie k (out-Table t).entries pass.entries p pass.entered pass.child pass.stands
-      ∙ ap (trie_before p.is_new) (child_item_trie pass.child ∙ ap item_trie pass.item)
+  passed_before = stood_there child_trie k (out-Table t).entries pass.entries p pass.entered there pass.stands
 
   walked : walk a rows whole (table_trie t)
       ≡ through (out-Table t).named (out-Table t).dotted
@@ -245,23 +246,19 @@ module _ (a : Bool) (rows : Rows) (k : List ℕ) (keys whole : KeyTexts) (level 
       (by_keys (tries_of child_trie (out-Table t).entries))
       ∙ ap (steps_at a keys) passed_before)
 
-  child_before : trie_before p.is_new (child_trie pass.child) ≡ before
-  child_before = ap (trie_before p.is_new) (child_item_trie pass.child ∙ ap item_trie pass.item)
-
-  header_in : IsIn (entered_at a rows keys before) rows (level + steps_at a keys before) (item_trie now)
+  header_in : IsIn (entered_at a rows keys before) rows (level + steps_at a keys before) (child_trie now)
       → IsIn (walk a rows whole (table_trie t)) rows (level + steps_to a whole (table_trie t)) (table_trie u)
   header_in is =
       let after : made true (out-Table t).named (out-Table t).dotted (by_keys (tries_of child_trie (out-Table
       u).entries))
       ≡ table_trie u = rw (table_entries_trie u, pass.passed, pass.named, pass.dotted) refl in
       is_in (entered_at a rows keys before) (walk a rows whole (table_trie t)) rows
-      (level + steps_at a keys before) (level + steps_to a whole (table_trie t)) (item_trie now)
+      (level + steps_at a keys before) (level + steps_to a whole (table_trie t)) (child_trie now)
       (table_trie u)
       (walked
       ∙ ap (through (out-Table t).named (out-Table t).dotted)
-      (change_put child_trie k (out-Table t).entries pass.entries p pass.entered pass.child pass.stands
-      (λ t. entered_at a rows keys t) (holding pass.child now)
-      (ap (entered_at a rows keys) child_before ∙ is.gives ∙ ap Some (sym (holding_trie pass.child now)))
+      (change_put child_trie k (out-Table t).entries pass.entries p pass.entered there pass.stands
+      (λ t. entered_at a rows keys t) now is.gives
       ∙ ap (λ ps. Some (by_keys (tries_of child_trie ps))) (sym pass.left))
       ∙ ap Some after)
       steps is
@@ -274,12 +271,12 @@ module _ (a : Bool) (rows : Rows) (k : List ℕ) (keys whole : KeyTexts) (level 
       (level + steps_at a keys before) (level + steps_to a whole (table_trie t))
       (λ none. walked
       ∙ ap (through (out-Table t).named (out-Table t).dotted)
-      (change_refused child_trie k (out-Table t).entries pass.entries p pass.entered pass.child pass.stands
-      (λ t. entered_at a rows keys t) (ap (entered_at a rows keys) child_before ∙ none)))
+      (change_refused child_trie k (out-Table t).entries pass.entries p pass.entered there pass.stands
+      (λ t. entered_at a rows keys t) none))
       steps out
 
   pub passed_by : (r : Result (Unit {0}) Clash)
-      → EntersItem (entered_at a rows keys before) rows (level + steps_at a keys before) (item_trie now) r
+      → EntersItem (entered_at a rows keys before) rows (level + steps_at a keys before) (child_trie now) r
       → EntersHeader a rows whole level (table_trie t) (table_trie u) r
   passed_by (Ok x) is = header_in is
   passed_by (Err clash) out = header_out clash out

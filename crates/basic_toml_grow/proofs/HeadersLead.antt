@@ -1,7 +1,7 @@
 -- What goes on from an item by the keys of a header that are left is what goes on from what stood at its key: where that
 -- is the item, where the item is new, and where it has one table more.
 use Rattle.std.proofs.Common.{◌≡◌, ◌≤◌, ℕ, suc, ◌+◌, Bool, true, false, List, [], ◌∷◌, map, length, refl, ap, sym, ◌∙◌}
-use Rattle.std.proofs.Common.{option_map, subst, arith, Err}
+use Rattle.std.proofs.Common.{option_map, subst, arith, rules, Err}
 use Rattle.std.proofs.lemmas.Bool.{false≢true}
 use Rattle.basic_toml_grammar.specs.Sections.{KeyTexts, Rows}
 use Rattle.basic_toml_grammar.specs.Steps.{Path, number}
@@ -9,7 +9,7 @@ use Rattle.basic_toml_read.specs.declared.section.Key as code
 use Rattle.basic_toml_read.specs.SectionView.{header_texts}
 use Rattle.basic_toml_grammar.specs.Trie.{Trie, nothing, count, put_table, put_element, walk, steps_to}
 use Rattle.basic_toml_grow.specs.declared.item.Item as items
-use Rattle.basic_toml_grow.specs.Item.{item_trie, table_trie, trie_before}
+use Rattle.basic_toml_grow.specs.Item.{is_section, item_trie, table_trie, trie_before}
 use Rattle.basic_toml_grow.specs.Origins.{Origins, no_origins, item_origins, origins_before}
 use Rattle.basic_toml_grow.specs.Headers.{entered_by, entered_at, steps_by, steps_at, obstacle_by, obstacle_at}
 use Rattle.basic_toml_grow.specs.Headers.{is_last, EntersItem, IsKeptOut, IsNew, IsNewTable, IsNewArray, HasOneMore}
@@ -175,3 +175,8 @@ not_last false (k ∷ keys) some = refl
 pub no_array : (a : Bool) (keys : KeyTexts) → a ≡ false → is_last a keys ≡ false
 no_array true keys not = absurd (false≢true (sym not))
 no_array false keys not = refl
+
+-- what a header makes is no section
+pub no_new_section : (a : Bool) (i : items.Item) → IsNew a i → is_section i ≡ false
+no_new_section true i new = ap is_section new.is ∙ search (rules, items.the_lemmas)
+no_new_section false i new = ap is_section new.is ∙ search (rules, items.the_lemmas)

@@ -18,6 +18,7 @@ use Rattle.basic_toml_grow.specs.Clash.{Obstacle, too_deep, in_the_way, NamesObs
 use Rattle.basic_toml_grow.specs.declared.clash.Clash.TheVariants.{Header, Named, Redefined}
 use Rattle.basic_toml_grow.specs.declared.item.Item.{Tables}
 use Rattle.basic_toml_grow.specs.declared.item.Item as items
+use Rattle.basic_toml_grow.specs.declared.item.Child.{Child}
 use Rattle.basic_toml_grow.specs.declared.item.Table.{Table, out-Table}
 use Rattle.basic_toml_grow.specs.Item.{item_trie, child_trie, table_trie, by_keys, by_numbers, leaf, trie_before}
 use Rattle.basic_toml_value.specs.declared.pairs.growth.Place.{Place}
@@ -42,9 +43,9 @@ met_through true rows k (m ∷ keys) l p n d ts = refl
 met_through false rows k (m ∷ keys) l p n d ts = refl
 
 pub passed_met : (a : Bool) (rows : Rows) (k : List ℕ) (keys whole : KeyTexts) (l : ℕ) (t u : Table) (p : Place)
-    (there now : items.Item) → l ≤ nesting_limit → whole ≡ k ∷ keys → Passes k t p there now u
+    (there now : Child) → l ≤ nesting_limit → whole ≡ k ∷ keys → Passes k t p there now u
     → keys_obstacle a rows whole l (table_trie t)
-    ≡ obstacle_at a rows keys (l + 1) (trie_before p.is_new (item_trie there))
+    ≡ obstacle_at a rows keys (l + 1) (trie_before p.is_new (child_trie there))
 passed_met a rows k keys whole l t u p there now within is_whole pass =
     let f = out-Table t in
     let ts = by_keys (tries_of child_trie f.entries) in

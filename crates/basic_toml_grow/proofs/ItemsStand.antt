@@ -1,6 +1,6 @@
 -- What an item is, as it is made, and what stands in the trie where it is.
 use Rattle.std.proofs.Common.{◌≡◌, Bool, true, false, Option, Some, refl, ap, sym, ◌∙◌, subst, rules}
-use Rattle.basic_toml_grammar.specs.Standing.{Standing, array, value}
+use Rattle.basic_toml_grammar.specs.Standing.{Standing, array, table, value}
 use Rattle.basic_toml_grammar.specs.Trie.{standing}
 use Rattle.basic_toml_grow.specs.declared.item.Item.{Item, out-Item, the_lemmas}
 use Rattle.basic_toml_grow.specs.declared.item.Item.TheOpen.{Item-F}
@@ -21,6 +21,7 @@ shape i x is = let whole : roll-Item (out-Item i) ≡ i = search (rules, the_lem
 -- what stands where an item is
 abbrev pub item_standing : Item-F Item Child Table → Option Standing → Type 0
 item_standing (Item-F.Table t) o = o ≡ standing (table_trie t.value)
+item_standing (Item-F.Section rows) o = o ≡ Some (table false true false)
 item_standing (Item-F.Tables tables) o = stands_array o ≡ true
 item_standing _ o = o ≡ Some value
 
@@ -36,6 +37,7 @@ stands_item (Item-F.Plain z) = search (rules, the_lemmas)
 stands_item (Item-F.Rows z) = search (rules, the_lemmas)
 stands_item (Item-F.Inline z) = search (rules, the_lemmas)
 stands_item (Item-F.Table t) = search (rules, the_lemmas)
+stands_item (Item-F.Section rows) = search (rules, the_lemmas)
 stands_item (Item-F.Tables tables) = search (rules, the_lemmas)
 
 pub standing_here : (i : Item) → item_standing (out-Item i) (standing (item_trie i))

@@ -34,6 +34,8 @@ pub mod InlineTables
 pub mod ElementsLeft
 pub mod PlainArrays
 pub mod SimpleRows
+pub mod SectionTables
+pub mod SectionsEntered
 pub mod RowsAfter
 pub mod LatestInATrie
 pub mod RowsHaveKeys

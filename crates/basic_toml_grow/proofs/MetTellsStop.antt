@@ -25,13 +25,14 @@ use Rattle.basic_toml_grow.specs.declared.item.Item.TheViews.{roll-Item, roll-ou
 use Rattle.basic_toml_grow.specs.declared.item.Table.{Table, out-Table, roll-Table}
 use Rattle.basic_toml_grow.specs.declared.rows.Met.{Met}
 use Rattle.basic_toml_grow.specs.declared.rows.Met.TheVariants as mets
-use Rattle.basic_toml_grow.specs.Item.{child_trie, table_trie, item_trie, by_keys, by_numbers, empty_table, trie_before}
+use Rattle.basic_toml_read.specs.declared.section.Row.{Row}
+use Rattle.basic_toml_grow.specs.Item.{child_trie, table_trie, item_trie, row_trie, by_keys, by_numbers, empty_table, trie_before}
 use Rattle.basic_toml_value.specs.Growth.{values_of, FindsOrAdds}
 use Rattle.basic_toml_value.specs.declared.pairs.growth.Place.{Place}
 use Rattle.basic_toml_grow.specs.RowStops.{key_at, StopsAtKey, TellsStop, TellsLast, TellsRow, TellsExtended}
 use Rattle.basic_toml_grow.proofs.KeysInATrie.{tries_of, stood_there}
 use Rattle.basic_toml_grow.proofs.ItemTries.{child_item_trie, table_entries_trie}
-use Rattle.basic_toml_grow.proofs.TablesOpened.{table_item_trie, tables_trie}
+use Rattle.basic_toml_grow.proofs.TablesOpened.{section_item_trie, table_item_trie, tables_trie}
 
 none_after : {A : Type 0} (xs : List A) → xs ++ [] ≡ xs
 none_after [] = refl
@@ -287,6 +288,8 @@ other_refuses c no_table = ap (mark_here dotted) (child_item_trie c) ∙ go (ite
         ∙ search (rules, the_lemmas)
     go (Item-F.Inline z) e = ap (λ i. mark_here dotted (item_trie i)) (of (Item-F.Inline z) e)
         ∙ search (rules, the_lemmas)
+    go (Item-F.Section rs) e = ap (λ i. mark_here dotted (item_trie i)) (of (Item-F.Section rs) e)
+        ∙ search (rules, the_lemmas)
     go (Item-F.Tables b) e = ap (λ i. mark_here dotted (item_trie i)) (of (Item-F.Tables b) e)
         ∙ search (rules, the_lemmas)
 
@@ -296,6 +299,13 @@ tables_stand c b is =
     tables_met c (suc (length (map table_trie b.value.0.items))) None
     (by_numbers 0 (map table_trie b.value.0.items ++ table_trie b.value.1 ∷ []))
     (child_item_trie c ∙ ap item_trie is ∙ tables_trie b)
+
+pub section_stands : (c : Child) (rows : List Row) → (out-Child c).item ≡ items.Section rows
+    → TellsLast (child_trie c) (mets.Header 1)
+section_stands c rows is = λ before k d.
+    subst (λ (t : Trie). StopsAtKey before (k ∷ []) 1 (try_here (valued d) (last_stop before k) t))
+    (sym (child_item_trie c ∙ ap item_trie is ∙ section_item_trie rows))
+    (stands_last before k d (standings.table false true false) None (by_keys (map row_trie rows)) refl)
 
 pub no_keys : (ks : List code_keys.Key) → length ks ≡ 0 → map key_of ks ≡ []
 no_keys [] none = refl

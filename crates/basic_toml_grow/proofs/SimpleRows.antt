@@ -97,22 +97,22 @@ all_lower l (r ∷ rs) plain =
     )
     refl
 
-item_is : (v : Raw) (l : ℕ) → is_plain v l ≡ true → item_trie (item_of v) ≡ leaf (finished (raw_of v))
+pub item_is : (v : Raw) (l : ℕ) → is_plain v l ≡ true → item_trie (item_of v) ≡ leaf (finished (raw_of v))
 item_is v l plain =
     let same : roll-Raw (out-Raw v) ≡ v = roll-out-Raw v in
     kept_trie (out-Raw v) l (ap (λ v. is_plain v l) same ∙ plain) ∙ ap (λ v. leaf (finished (raw_of v))) same
 
-item_comes : (v : Raw) (l : ℕ) → is_plain v l ≡ true → (at s : ℕ)
+pub item_comes : (v : Raw) (l : ℕ) → is_plain v l ≡ true → (at s : ℕ)
     → item_origins (item_of v) at s ≡ value_origins s at (raw_of v)
 item_comes v l plain at s =
     let same : roll-Raw (out-Raw v) ≡ v = roll-out-Raw v in
     kept_comes (out-Raw v) l (ap (λ v. is_plain v l) same ∙ plain) at s ∙ ap (λ v. value_origins s at (raw_of v)) same
 
 -- the child of a row
-child_item : (s : ℕ) (r : Row) → child_trie (child_of s r) ≡ item_trie (item_of (out-Row r).value)
+pub child_item : (s : ℕ) (r : Row) → child_trie (child_of s r) ≡ item_trie (item_of (out-Row r).value)
 child_item s r = search (rules, the_lemmas)
 
-child_comes : (s : ℕ) (r : Row)
+pub child_comes : (s : ℕ) (r : Row)
     → child_origins (child_of s r) ≡ item_origins (item_of (out-Row r).value) (out-Row r).start s
 child_comes s r = search (rules, the_lemmas)
 
@@ -166,7 +166,7 @@ adds ps k c absent = record {
 }
 
 -- a table without other entries than its own
-own_entries : (t : Table) → with_entries t (out-Table t).entries ≡ t
+pub own_entries : (t : Table) → with_entries t (out-Table t).entries ≡ t
 own_entries t = search (rules, the_lemmas)
 
 pub no_entries : (t u : Table) (b : Bool) → u ≡ t → b ≡ (length (out-Table u).entries == 0) → b ≡ true

@@ -1,10 +1,12 @@
 -- The table that a header names, and the array of tables that it adds an element to, as contracts say it.
 use Rattle.std.proofs.Common.{◌≡◌, ℕ, ◌+◌, ◌≤◌, true, false, List, [], ◌∷◌, ◌++◌, map}
-use Rattle.std.proofs.Common.{refl, ap, sym, ◌∙◌, arith, rules, option_map, Vec, Box, Global, Result, Ok, Err}
+use Rattle.std.proofs.Common.{refl, ap, sym, ◌∙◌, arith, rules, option_map, Some, None, Vec, Box, Global, Result, Ok, Err}
 use Rattle.std.proofs.lemmas.List.{map-append}
 use Rattle.basic_toml_value.specs.Nesting.{nesting_limit}
 use Rattle.basic_toml_grammar.specs.Sections.{Rows}
-use Rattle.basic_toml_grammar.specs.Trie.{Trie, put_rows, put_table, put_element}
+use Rattle.basic_toml_grammar.specs.Standing as standings
+use Rattle.basic_toml_grammar.specs.Trie.{Trie, trie, put_rows, put_table, put_element}
+use Rattle.basic_toml_read.specs.declared.section.Row.{Row}
 use Rattle.basic_toml_grow.specs.declared.clash.Clash.{Clash}
 use Rattle.basic_toml_grow.specs.declared.item.Item.{the_lemmas, Tables}
 use Rattle.basic_toml_grow.specs.declared.item.Item as items
@@ -12,7 +14,7 @@ use Rattle.basic_toml_grow.specs.declared.item.Item.TheOpen.{Item-F, Table-F}
 use Rattle.basic_toml_grow.specs.declared.item.Item.TheViews.{out-Item, roll-Table, out-roll-Table}
 use Rattle.basic_toml_grow.specs.declared.item.Child.{Child}
 use Rattle.basic_toml_grow.specs.declared.item.Table.{Table, out-Table}
-use Rattle.basic_toml_grow.specs.Item.{item_trie, table_trie}
+use Rattle.basic_toml_grow.specs.Item.{item_trie, table_trie, by_keys, row_trie}
 use Rattle.basic_toml_grow.specs.Rows.{EntersRows}
 use Rattle.basic_toml_grow.specs.Headers.{EntersHeader}
 use Rattle.basic_toml_grow.proofs.ItemTries.{table_entries_trie}
@@ -70,6 +72,11 @@ tables_trie tables = search (rules, the_lemmas)
 
 pub table_item_trie : (t : Box Table Global) → item_trie (items.Table t) ≡ table_trie t.value
 table_item_trie t = search (rules, the_lemmas)
+
+pub section_item_trie : (rows : List Row)
+    → item_trie (items.Section rows)
+    ≡ trie (Some (standings.table false true false)) None (by_keys (map row_trie rows))
+section_item_trie rows = search (rules, the_lemmas)
 
 -- an array with one more element
 pub next_element : (rows : Rows) (i : items.Item) (b : Box (Vec Table Global × Table) Global) (before : List Table)

@@ -6,7 +6,8 @@ use Rattle.basic_toml_grammar.specs.Mentions.{finished}
 use Rattle.basic_toml_grammar.specs.Standing as standing
 use Rattle.basic_toml_grammar.specs.Growth.{closed}
 use Rattle.basic_toml_grammar.specs.Trie.{Trie, trie, Tries, no_tries, by, nothing, bare}
-use Rattle.basic_toml_grow.specs.Plain.{plain_array, plain_table}
+use Rattle.basic_toml_read.specs.declared.section.Row.{Row, out-Row}
+use Rattle.basic_toml_grow.specs.Plain.{plain_array, plain_table, plain_data, key_of}
 use Rattle.basic_toml_grow.specs.declared.item.Item.{fold-Item}
 use Rattle.basic_toml_grow.specs.declared.item.Item as items
 use Rattle.basic_toml_grow.specs.declared.item.Item.TheOpen.{Item-F, Child-F, Table-F}
@@ -30,6 +31,10 @@ by_numbers n (t ∷ ts) = by (number n) t (by_numbers (suc n) ts)
 abbrev pub tree_data : Trie → Data
 tree_data t = closed (bare t)
 
+-- a row with a plain value
+abbrev pub row_trie : Row → List ℕ × Trie
+row_trie r = (key_of r, leaf (plain_data (out-Row r).value))
+
 -- one level, the parts seen already
 abbrev pub item_grows : Item-F Trie Trie Trie → Trie
 item_grows (Item-F.Integer z) = leaf (Data.integer z)
@@ -43,6 +48,8 @@ item_grows (Item-F.Rows rows) = leaf (finished (plain_table rows))
 item_grows (Item-F.Array children) = leaf (Data.array (items_of (map tree_data children.items)))
 item_grows (Item-F.Inline table) = leaf (tree_data table.value)
 item_grows (Item-F.Table table) = table.value
+item_grows (Item-F.Section rows) =
+    trie (Some (standing.table false true false)) None (by_keys (map row_trie rows))
 item_grows (Item-F.Tables tables) =
     trie (Some (standing.array (suc (length tables.value.0.items)))) None
     (by_numbers 0 (tables.value.0.items ++ tables.value.1 ∷ []))
@@ -70,3 +77,18 @@ empty_table = trie (Some (standing.table false false false)) None no_tries
 abbrev pub trie_before : (is_new : Bool) → Trie → Trie
 trie_before true t = nothing
 trie_before false t = t
+
+-- the rows of a section, of which one header alone speaks
+abbrev pub holds_section : Item-F items.Item children.Child tables.Table → Bool
+holds_section (Item-F.Section rows) = true
+holds_section _ = false
+
+abbrev pub is_section : items.Item → Bool
+is_section i = holds_section (items.out-Item i)
+
+abbrev pub rows_in : Item-F items.Item children.Child tables.Table → List Row
+rows_in (Item-F.Section rows) = rows
+rows_in _ = []
+
+abbrev pub rows_of : children.Child → List Row
+rows_of c = rows_in (items.out-Item (children.out-Child c).item)

@@ -8,6 +8,7 @@ use Rattle.basic_toml_value.specs.Pairs.{value_at}
 use Rattle.basic_toml_grammar.specs.Sections.{KeyTexts, texts, Raw, Elements, no_elements, element, Rows, no_rows}
 use Rattle.basic_toml_grammar.specs.Sections.{row}
 use Rattle.basic_toml_grammar.specs.Steps.{Step, key, number, Path, step_eq}
+use Rattle.basic_toml_read.specs.SectionView.{rows_seen}
 use Rattle.basic_toml_grow.specs.Plain.{plain_array, plain_table}
 use Rattle.basic_toml_grow.specs.declared.item.Item.{fold-Item}
 use Rattle.basic_toml_grow.specs.declared.item.Item as items
@@ -159,6 +160,7 @@ item_from (Item-F.Rows rows) at s = value_origins s at (plain_table rows)
 item_from (Item-F.Array children) at s = entry (value_origin (codes "array") at s) (at_numbers children.items)
 item_from (Item-F.Inline table) at s = entry (value_origin (codes "inline table") at s) table.value.below
 item_from (Item-F.Table table) at s = of_table at s table.value
+item_from (Item-F.Section rows) at s = entry (table_origin true at s) (rows_origins s (rows_seen [] rows))
 item_from (Item-F.Tables tables) at s =
     entry (array_origin at tables.value.1.section)
     (at_numbers (elements_within at s (tables.value.0.items ++ tables.value.1 ∷ [])))

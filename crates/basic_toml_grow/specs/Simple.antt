@@ -1,5 +1,5 @@
 -- The entries that a table takes rows as, each of one key and a plain value.
-use Rattle.std.specs.Prelude.{ℕ, Bool, List, map}
+use Rattle.std.specs.Prelude.{ℕ, Bool, true, false, List, map}
 use Rattle.std.specs.List.{list_all}
 use Rattle.basic_toml_read.specs.declared.section.Raw.{Raw, out-Raw}
 use Rattle.basic_toml_read.specs.declared.section.Raw.TheOpen.{Raw-F}
@@ -52,4 +52,14 @@ with_entries t ps = roll-Table (record {
   dotted = (out-Table t).dotted;
   section = (out-Table t).section;
   entries = ps;
+})
+
+-- the table that the rows of a section stand for, of which one header alone speaks
+abbrev pub section_table : ℕ → List Row → Table
+section_table s rows = roll-Table (record {
+  passed = false;
+  named = true;
+  dotted = false;
+  section = s;
+  entries = entries_of s rows;
 })

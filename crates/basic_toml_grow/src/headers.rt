@@ -6,16 +6,19 @@ ghost use Rattle.basic_toml_grammar.specs.Sections.{Rows as spec_rows};
 ghost use Rattle.basic_toml_grammar.specs.Trie.{put_element};
 ghost use Rattle.basic_toml_read.specs.SectionView.{NoneLeft, header_texts, rows_view};
 ghost use Rattle.basic_toml_grow.specs.Clash.{NamesObstacle};
-ghost use Rattle.basic_toml_grow.specs.Item.{table_trie, item_trie, trie_before};
-ghost use Rattle.basic_toml_grow.specs.Origins.{item_origins, table_within, or_else, origins_before, rows_origins};
+ghost use Rattle.basic_toml_grow.specs.Item.{table_trie, child_trie, item_trie, trie_before, is_section};
+ghost use Rattle.basic_toml_grow.specs.Origins.{item_origins, child_origins, table_within, or_else, origins_before, rows_origins};
 ghost use Rattle.basic_toml_grow.specs.Ways.{way, way_by, way_at, GrowsAlong, MarksWay, MarksTable};
 ghost use Rattle.basic_toml_grow.specs.Headers.{EntersHeader, EntersItem, IsKeptOut, IsNew, HasOneMore, is_last};
 ghost use Rattle.basic_toml_grow.specs.Headers.{entered_by, steps_by, entered_at, steps_at, obstacle_by, obstacle_at, table_clash};
+ghost use Rattle.basic_toml_grow.specs.declared.item.Child.{out-Child};
 ghost use Rattle.basic_toml_grow.specs.declared.item.Table.{out-Table};
 ghost use Rattle.basic_toml_grow.specs.Obstacles.{keys_obstacle, table_obstacle, element_obstacle};
 
 use crate::clash::Clash;
 use crate::item::{Child, Item, Table};
+use crate::plain::are_few_simple;
+use crate::plain_items::PlainTable;
 use crate::rows::{LOOKS, take_rows};
 use basic_toml_read::{Key, Rows, Section};
 use basic_toml_value::NESTING_LIMIT;
@@ -123,8 +126,62 @@ fn enter_header<'de>(
 {
     match keys.split_first() {
         None => open(alloc, table, rows, number, level),
-        Some((key, rest)) => enter_below(alloc, table, key, rest, is_array, rows, number, level),
+        Some((key, rest)) => {
+            if rest.is_empty() && !is_array {
+                enter_last(alloc, table, key, rows, number, level)
+            } else {
+                enter_below(alloc, table, key, rest, is_array, rows, number, level)
+            }
+        }
     }
+}
+
+// Goes on from a table of a level by the last key of a header, which names a table. Where the table is new and the rows
+// are few and simple, they stay as they were read.
+#[cycle(walk)]
+#[inline(never)]
+fn enter_last<'de>(
+    alloc: Global,
+    table: &mut Table<'de>,
+    key: &Key<'de>,
+    rows: &mut Rows<'de>,
+    number: usize,
+    level: usize,
+) -> Result<(), Clash>
+    requires { level ≤ nesting_limit + 2 }
+    ensures entered { EntersHeader false (rows_view rows.old) (header_texts (key.now ∷ [])) level
+        (table_trie table.old) (table_trie table.new) result }
+    ensures named { let keys = header_texts (key.now ∷ []) in
+        let met = keys_obstacle false (rows_view rows.old) keys level (table_trie table.old) in
+        IfErr result (λ clash. NamesObstacle met clash) }
+    ensures origins { let new = rows_origins number (rows_view rows.old) in
+        let keys = header_texts (key.now ∷ []) in
+        IfOk result (λ _. GrowsAlong (way false keys (table_trie table.old)) new
+        (table_within table.old).below (table_within table.new).below) }
+    ensures marks { let keys = header_texts (key.now ∷ []) in
+        IfOk result (λ _. MarksTable number (way false keys (table_trie table.old)) (table_within table.new)) }
+    ensures taken { IfOk result (λ _. NoneLeft rows.new) }
+{
+    if level >= NESTING_LIMIT
+        || !rows.parents.is_empty()
+        || !are_few_simple(rows.rows.as_slice(), level + 1)
+    {
+        return enter_below(alloc, table, key, &[], false, rows, number, level);
+    }
+    let kept = rows.rows.split_off(0)?;
+    let place = table.entries.enter(key.text.as_str(), |_| {
+        let rows = Vec::new(alloc);
+        Ok(Child::at(0, number, Item::Section(PlainTable { rows })))
+    })?;
+    table.passed = true;
+    table.section = number;
+    let there = table.entries.value_mut(place.position);
+    if place.is_new {
+        *there = Child::at(0, number, Item::Section(PlainTable { rows: kept }));
+        return Ok(());
+    }
+    rows.rows = kept;
+    enter_at(alloc, there, place.is_new, &[], false, rows, number, level)
 }
 
 // Goes on from a table of a level by a key of a header, and by the keys after it.
@@ -166,7 +223,7 @@ fn enter_below<'de>(
     let there = table.entries.value_mut(place.position);
     enter_at(
         alloc,
-        &mut there.item,
+        there,
         place.is_new,
         rest,
         is_array,
@@ -182,7 +239,7 @@ fn enter_below<'de>(
 #[inline(always)]
 fn enter_at<'de>(
     alloc: Global,
-    there: &mut Item<'de>,
+    there: &mut Child<'de>,
     is_new: bool,
     rest: &[Key<'de>],
     is_array: bool,
@@ -191,29 +248,28 @@ fn enter_at<'de>(
     level: usize,
 ) -> Result<(), Clash>
     requires level { level ≤ nesting_limit }
-    requires new { is_new ≡ true → IsNew (is_last is_array (header_texts rest.now)) there.old }
+    requires new { is_new ≡ true → IsNew (is_last is_array (header_texts rest.now)) (out-Child there.old).item }
     ensures entered { let rows = rows_view rows.old in
         let keys = header_texts rest.now in
-        let before = trie_before is_new (item_trie there.old) in
+        let before = trie_before is_new (child_trie there.old) in
         EntersItem (entered_at is_array rows keys before) rows (level + steps_at is_array keys before)
-        (item_trie there.new) result }
-    ensures named { let before = trie_before is_new (item_trie there.old) in
+        (child_trie there.new) result }
+    ensures named { let before = trie_before is_new (child_trie there.old) in
         let met = obstacle_at is_array (rows_view rows.old) (header_texts rest.now) (level + 1) before in
         IfErr result (λ clash. NamesObstacle met clash) }
     ensures origins { let new = rows_origins number (rows_view rows.old) in
-        let before = trie_before is_new (item_trie there.old) in
-        IfOk result (λ _. (start section : ℕ) →
-        GrowsAlong (way_at is_array (header_texts rest.now) before) new
-        (origins_before is_new (item_origins there.old start section)) (item_origins there.new start section)) }
-    ensures marks { let before = trie_before is_new (item_trie there.old) in
-        IfOk result (λ _. (start section : ℕ) →
-        MarksWay number (way_at is_array (header_texts rest.now) before) (item_origins there.new start section)) }
+        let before = trie_before is_new (child_trie there.old) in
+        IfOk result (λ _. GrowsAlong (way_at is_array (header_texts rest.now) before) new
+        (origins_before is_new (child_origins there.old)) (child_origins there.new)) }
+    ensures marks { let before = trie_before is_new (child_trie there.old) in
+        IfOk result (λ _. MarksWay number (way_at is_array (header_texts rest.now) before) (child_origins there.new)) }
     ensures taken { IfOk result (λ _. NoneLeft rows.new) }
 {
+    there.unfold(alloc)?;
     if is_array && rest.is_empty() && !is_new {
-        add_table(alloc, there, level)?;
+        add_table(alloc, &mut there.item, level)?;
     }
-    enter_item(alloc, there, rest, is_array, rows, number, level)
+    enter_item(alloc, &mut there.item, rest, is_array, rows, number, level)
 }
 
 // The clash of an array of tables with a table that stands at its key.
@@ -231,8 +287,10 @@ fn table_in_the_way(table: &Table<'_>) -> Clash
 }
 
 // Adds a table without entries to an array of tables in a table of a level.
+#[inline(always)]
 fn add_table(alloc: Global, there: &mut Item<'_>, level: usize) -> Result<(), Clash>
-    requires { level ≤ nesting_limit }
+    requires level { level ≤ nesting_limit }
+    requires unfolded { is_section there.old ≡ false }
     ensures more { IfOk result (λ _. HasOneMore there.old there.new) }
     ensures out { IfErr result (λ clash. (rows : spec_rows) →
         IsKeptOut (put_element rows (item_trie there.old)) rows (level + 2) clash) }
@@ -266,7 +324,8 @@ fn enter_item<'de>(
     number: usize,
     level: usize,
 ) -> Result<(), Clash>
-    requires { level ≤ nesting_limit }
+    requires level { level ≤ nesting_limit }
+    requires unfolded { is_section there.old ≡ false }
     ensures entered { let rows = rows_view rows.old in
         let keys = header_texts rest.now in
         EntersItem (entered_by is_array rows keys (item_trie there.old)) rows

@@ -33,6 +33,9 @@ pub enum Item<'de> {
     Inline(Box<Table<'de>>),
     /// A table of headers or of dotted keys.
     Table(Box<Table<'de>>),
+    /// A table that one header alone speaks of, whose rows are few and simple: as they were read. It makes no entries
+    /// before another header goes on from it.
+    Section(PlainTable<'de>),
     /// The tables of an array of tables: those before the latest, and the latest. Their box keeps an item as small as a
     /// raw value, and an entry of the tree as large as one of a `Table`: so the `Table` takes the memory that the tree's
     /// entries gave back.
@@ -94,7 +97,7 @@ impl<'de> Child<'de> {
             child_origins child ≡ entry (table_origin false start section) no_origins) }
     {
         let mut table = Table::new(alloc)?;
-        table.reserve(room)?;
+        table.entries.reserve(room)?;
         Ok(Child::at(start, section, Item::Table(table)))
     }
 
@@ -134,17 +137,6 @@ impl<'de> Table<'de> {
         ensures { IfOk result (λ table. table_trie table.value ≡ empty_table) }
     {
         Ok(Box::new(alloc, Table::empty(alloc))?)
-    }
-
-    /// Makes room for so many more entries.
-    ///
-    /// # Errors
-    ///
-    /// `AllocError` where memory is refused. The table stays as it was.
-    pub(crate) fn reserve(&mut self, more: usize) -> Result<(), AllocError>
-        ensures { self.new ≡ self.old }
-    {
-        self.entries.reserve(more)
     }
 
     /// Whether a header names it or passes through it.

@@ -19,6 +19,7 @@ mod plain;
 mod plain_items;
 mod row_clash;
 mod rows;
+mod sections;
 mod simple;
 
 pub use clash::{Clash, Repeated, key_texts};

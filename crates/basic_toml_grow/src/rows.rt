@@ -26,7 +26,8 @@ use crate::items_left::{ItemsLeft, drain};
 use crate::plain::{are_few_simple, are_plain};
 use crate::plain_items::{PlainArray, PlainTable};
 use crate::row_clash::{row_clash, value_clash};
-use crate::simple::{are_all_plain, index_until_repeat, with_first_rows, with_rows};
+use crate::simple::{RowKeys, are_all_plain, with_first_rows, with_rows};
+use basic_toml_index::Index;
 use basic_toml_read::{Element, Key, Raw, Row, Rows};
 use basic_toml_value::NESTING_LIMIT;
 use std::alloc::{AllocError, AllocFailed, Global};
@@ -84,6 +85,7 @@ fn what_is_met(there: &Child<'_>) -> Met
                 Met::Row
             }
         }
+        Item::Section(_) => Met::Header(1),
         Item::Tables(_) => Met::Header(1),
         _ => Met::Row,
     }
@@ -255,7 +257,7 @@ pub(crate) fn take_rows<'de>(
     {
         return take_many_rows(alloc, table, rows, section, level, looks);
     }
-    table.reserve(room_for(rows.as_slice()))?;
+    table.entries.reserve(room_for(rows.as_slice()))?;
     enter_rows(
         alloc,
         table,
@@ -290,7 +292,10 @@ fn take_many_rows<'de>(
     ensures origins { IfOk result (λ _. table_within table.new
         ≡ with_more (table_within table.old) (rows_origins section (rows_seen [] rows.entry.items))) }
 {
-    let (index, count) = index_until_repeat(alloc, rows.as_slice())?;
+    let keys = RowKeys {
+        rows: rows.as_slice(),
+    };
+    let (index, count) = Index::until_repeat(alloc, &keys)?;
     let mut rows = drain(rows);
     with_first_rows(alloc, table, &mut rows, section, index, count)?;
     enter_rows(alloc, table, &[], rows, section, level, looks)

@@ -4,9 +4,10 @@ ghost use Rattle.std.specs.Prelude.{◌≡◌, ◌≤◌, [], true, IfOk, IsTrue
 ghost use Rattle.basic_toml_index.specs.Keys.{are_distinct, is_among};
 ghost use Rattle.basic_toml_value.specs.Entries.{seen};
 ghost use Rattle.basic_toml_index.specs.Index.{IsIndex, few};
-ghost use Rattle.basic_toml_grow.specs.Plain.{key_of, is_plain};
-ghost use Rattle.basic_toml_grow.specs.Simple.{are_all_plain as all_plain, item_of as kept_item};
+ghost use Rattle.basic_toml_grow.specs.Plain.{are_few_simple as few_simple, key_of, is_plain};
+ghost use Rattle.basic_toml_grow.specs.Simple.{are_all_plain as all_plain};
 ghost use Rattle.basic_toml_grow.specs.Simple.{child_at, entries_of as new_entries, with_entries};
+ghost use Rattle.basic_toml_grow.specs.Simple.{section_table as table_of_section};
 
 use crate::item::{Child, Item, Table};
 use crate::items_left::ItemsLeft;
@@ -31,13 +32,13 @@ pub(crate) fn are_all_plain(rows: &[Row<'_>], level: usize) -> bool
     true
 }
 
-// The item of a plain value.
+// A plain value that begins at an offset of a section.
 #[inline(always)]
-fn item_of<'de>(value: Raw<'de>) -> Item<'de>
+fn child_at<'de>(value: Raw<'de>, start: usize, section: usize) -> Child<'de>
     requires { is_plain value 0 ≡ true }
-    ensures { result ≡ kept_item value.entry }
+    ensures { result ≡ child_at section start value.entry }
 {
-    match value {
+    let item = match value {
         Raw::Integer(number) => Item::Integer(number),
         Raw::Float(float) => Item::Float(float),
         Raw::True => Item::True,
@@ -47,23 +48,16 @@ fn item_of<'de>(value: Raw<'de>) -> Item<'de>
         Raw::Array(elements) => Item::Plain(PlainArray { elements }),
         Raw::Inline(rows) => Item::Rows(PlainTable { rows }),
         Raw::Dotted(_) => unreachable!(),
-    }
-}
-
-// A plain value that begins at an offset of a section.
-#[inline(always)]
-fn child_at<'de>(value: Raw<'de>, start: usize, section: usize) -> Child<'de>
-    requires { is_plain value 0 ≡ true }
-    ensures { result ≡ child_at section start value.entry }
-{
+    };
     Child {
         start,
         section,
-        item: item_of(value),
+        item,
     }
 }
 
 // The entries that rows of a section become, each of one key and a plain value. No row is left then.
+#[inline(always)]
 fn entries_of<'de>(
     alloc: Global,
     rows: &mut Vec<Row<'de>>,
@@ -140,10 +134,34 @@ pub(crate) fn with_rows<'de>(
     Ok(())
 }
 
-// The keys of rows.
+/// The table that the rows of one header stand for.
+#[inline(never)]
+pub(crate) fn section_table<'de>(
+    alloc: Global,
+    rows: Vec<Row<'de>>,
+    section: usize,
+) -> Result<Box<Table<'de>>, AllocError>
+    requires { few_simple 0 rows.items ≡ true }
+    ensures { IfOk result (λ table. table.value ≡ table_of_section section rows.entry.items) }
+{
+    let mut rows = rows;
+    let entries = Pairs::from_parts(entries_of(alloc, &mut rows, section)?, Index::none());
+    Ok(Box::new(
+        alloc,
+        Table {
+            passed: false,
+            named: true,
+            dotted: false,
+            section,
+            entries,
+        },
+    )?)
+}
+
+/// The keys of rows.
 #[derive(Drop)]
-struct RowKeys<'r, 'de> {
-    rows: &'r [Row<'de>],
+pub(crate) struct RowKeys<'r, 'de> {
+    pub rows: &'r [Row<'de>],
 }
 
 impl<'r, 'de> Texts for RowKeys<'r, 'de> {
@@ -159,18 +177,6 @@ impl<'r, 'de> Texts for RowKeys<'r, 'de> {
     fn text(&self, position: usize) -> &str {
         self.rows[position].key.as_str()
     }
-}
-
-/// An index of the keys of the rows before the first that has the key of one before it, and how many these are.
-#[inline(never)]
-pub(crate) fn index_until_repeat(
-    alloc: Global,
-    rows: &[Row<'_>],
-) -> Result<(Index, usize), AllocError>
-    ensures within { IfOk result (λ found. found.1 ≤ length rows.now) }
-    ensures index { IfOk result (λ found. IsIndex (take found.1 (map key_of rows.now)) found.0) }
-{
-    Index::until_repeat(alloc, &RowKeys { rows })
 }
 
 /// Puts the first of the rows of a section that are left in the place of a table's entries, with an index of their

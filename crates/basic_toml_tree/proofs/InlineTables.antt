@@ -22,7 +22,7 @@ use Rattle.basic_toml_grow.specs.declared.item.Table.{Table}
 use Rattle.basic_toml_tree.specs.Data.{data_of}
 use Rattle.basic_toml_tree.specs.Nodes.{is_table, elements_in}
 use Rattle.basic_toml_tree.proofs.RowsData.{inline_rows}
-use Rattle.basic_toml_tree.proofs.ItemData.{rows_item, inline_data, table_item_data, table_is_table}
+use Rattle.basic_toml_tree.proofs.ItemData.{rows_item, inline_data, table_is_table}
 
 -- each branch stands at a key
 abbrev all_keys : Branches → Bool
@@ -66,13 +66,11 @@ rows_are_table rs = rows_grow (map lined_of rs) no_branches refl
 
 -- an item, and a value as it was read, that holds a table
 pub item_is_table : (i : Item)
-    → ((rs : List Row) × (i ≡ items.Rows rs)) ⊎ (((t : Box Table Global) × (i ≡ items.Inline t))
-    ⊎ ((t : Box Table Global) × (i ≡ items.Table t))) → is_table (data_of i) ≡ true
+    → ((rs : List Row) × (i ≡ items.Rows rs)) ⊎ ((t : Box Table Global) × (i ≡ items.Inline t))
+    → is_table (data_of i) ≡ true
 item_is_table i (inl is) = ap (λ i. is_table (data_of i)) is.1 ∙ ap is_table (rows_item is.0) ∙ rows_are_table is.0
-item_is_table i (inr (inl is)) =
+item_is_table i (inr is) =
     ap (λ i. is_table (data_of i)) is.1 ∙ ap is_table (inline_data is.0 ∙ (table_is_table is.0.value).1)
-item_is_table i (inr (inr is)) =
-    ap (λ i. is_table (data_of i)) is.1 ∙ ap is_table (table_item_data is.0 ∙ (table_is_table is.0.value).1)
 
 pub raw_is_table : (v : raws.Raw) (rs : Vec Row Global) → v ≡ raws.Inline rs → is_table (plain_data v) ≡ true
 raw_is_table v rs is =

@@ -11,6 +11,7 @@ pub mod SectionsResolved
 pub mod SectionsFaultIsOne
 pub mod SectionsStopped
 pub mod TrieData
+pub mod SectionData
 pub mod HeadersMake
 pub mod Origins
 pub mod Nodes

@@ -20,3 +20,4 @@ pub mod RowsReach
 pub mod OneSection
 pub mod NodesAnchored
 pub mod RowNodes
+pub mod SectionNodes

@@ -21,7 +21,7 @@ use Rattle.basic_toml_grammar.proofs.Tries.RowsInATrie.{rows_in, rows_go_below, 
 use Rattle.basic_toml_read.specs.declared.section.Raw.{Inline}
 use Rattle.basic_toml_read.specs.declared.section.Row.{Row, out-Row}
 use Rattle.basic_toml_read.specs.SectionView.{rows_seen}
-use Rattle.basic_toml_grow.specs.Item.{leaf, tree_data, by_keys}
+use Rattle.basic_toml_grow.specs.Item.{by_keys, row_trie}
 use Rattle.basic_toml_grow.specs.Plain.{are_simple, are_few_simple, key_of, plain_data, rows_data}
 use Rattle.basic_toml_grow.proofs.LoneRows.{lone_first}
 use Rattle.basic_toml_grow.proofs.PlainSeen.{inline_of}
@@ -30,11 +30,7 @@ use Rattle.basic_toml_grow.proofs.RowsHaveKeys.{rows_are_keyed}
 use Rattle.basic_toml_grow.proofs.SimpleKeys.{first_is_simple, keys_differ}
 use Rattle.basic_toml_tree.specs.Data.{row_pair, value_pair, HoldsAny}
 use Rattle.basic_toml_tree.proofs.ItemData.{value_keys, members_same}
-use Rattle.basic_toml_tree.proofs.TrieData.{keys_data}
-
--- a row as it stands in the trie of a table
-abbrev row_trie : Row → List ℕ × Trie
-row_trie r = (key_of r, leaf (plain_data (out-Row r).value))
+use Rattle.basic_toml_tree.proofs.TrieData.{keys_data, rows_agree}
 
 -- what stands at a key that none of the rows has is left as it is
 rows_beside : (k : List ℕ) (t : Trie) (rs : List Row) (ts : Tries) → is_among (map key_of rs) k ≡ false
@@ -66,11 +62,6 @@ rows_stand l (r ∷ rs) simple =
     ∙ rows_beside (key_of r) (row_trie r).1 rs no_tries first.apart
     ∙ ap (option_map (λ ts. by (key (key_of r)) (row_trie r).1 ts)) (rows_stand l rs first.others)
 
-tries_data : (rs : List Row)
-    → map (λ (p : List ℕ × Trie). (p.0, tree_data p.1)) (map row_trie rs) ≡ map row_pair rs
-tries_data [] = refl
-tries_data (r ∷ rs) = ap (λ ps. row_pair r ∷ ps) (tries_data rs)
-
 -- the data of simple rows
 rows_data_is : (l : ℕ) (rs : List Row) → are_simple l rs ≡ true
     → rows_data rs ≡ Data.table (members_of (map row_pair rs))
@@ -81,7 +72,7 @@ rows_data_is l rs simple =
     let put : put_rows rows (trie None None no_tries) ≡ Some after =
     rows_go_below rows None None no_tries keyed ∙ ap (λ ts. with_tries None None ts) (rows_stand l rs simple) in
     sym (inline_data rows None after keyed (all_simple rs l simple).apart put)
-    ∙ keys_data None (map row_trie rs) ∙ ap (λ ps. Data.table (members_of ps)) (tries_data rs)
+    ∙ keys_data None (map row_trie rs) ∙ ap (λ ps. Data.table (members_of ps)) (rows_agree rs)
 
 -- and of an inline table of them
 pub few_data : (rs : List Row) → are_few_simple 0 rs ≡ true

@@ -1,6 +1,6 @@
 -- The data of an item's trie is that of the item.
-use Rattle.std.proofs.Common.{◌≡◌, ℕ, suc, List, [], ◌∷◌, ◌++◌, map, Some, None, Option, refl, ap, sym, ◌∙◌, subst}
-use Rattle.std.proofs.Common.{rules}
+use Rattle.std.proofs.Common.{◌≡◌, ℕ, suc, true, false, List, [], ◌∷◌, ◌++◌, map, Some, None, Option, refl, ap, sym}
+use Rattle.std.proofs.Common.{◌∙◌, subst, rules}
 use Rattle.std.proofs.Common.{length}
 use Rattle.std.specs.Prelude.{⊤}
 use Rattle.std.proofs.lemmas.List.{map-append}
@@ -8,14 +8,17 @@ use Rattle.basic_toml_value.specs.Data.{Data, item, items_of, member, members_of
 use Rattle.basic_toml_grammar.specs.Standing.{Standing, table, array}
 use Rattle.basic_toml_grammar.specs.Growth as growth
 use Rattle.basic_toml_grammar.specs.Trie.{Trie, trie, bare_tries}
+use Rattle.basic_toml_read.specs.declared.section.Row.{Row}
 use Rattle.basic_toml_grow.specs.declared.item.Item.{Item, the_lemmas}
 use Rattle.basic_toml_grow.specs.declared.item.Item.TheOpen.{Item-F, Child-F, Table-F}
 use Rattle.basic_toml_grow.specs.declared.item.Item.TheViews.{roll-Item, roll-Child, roll-Table}
-use Rattle.basic_toml_grow.specs.declared.item.Item.TheFolds.{ind-Table, map-Item}
+use Rattle.basic_toml_grow.specs.declared.item.Item.TheFolds.{ind-Item, ind-Child, ind-Table, map-Item, map-Child}
+use Rattle.basic_toml_grow.specs.declared.item.Item.TheFolds.{map-Table}
 use Rattle.basic_toml_grow.specs.declared.item.Child.{Child}
 use Rattle.basic_toml_grow.specs.declared.item.Table.{Table}
 use Rattle.basic_toml_grow.specs.Item.{item_trie, child_trie, table_trie, tree_data, leaf, by_keys, by_numbers}
-use Rattle.basic_toml_tree.specs.Data.{data_of, child_data, table_data}
+use Rattle.basic_toml_grow.specs.Item.{row_trie}
+use Rattle.basic_toml_tree.specs.Data.{data_of, child_data, table_data, row_pair}
 
 -- the data at keys and at numbers
 members_keys : (ps : List (List ℕ × Trie))
@@ -71,6 +74,11 @@ entries_agree : (ps : List (List ℕ × ((c : Child) × OfChild c)))
 entries_agree [] = refl
 entries_agree (p ∷ ps) = rw (p.1.1, entries_agree ps) refl
 
+pub rows_agree : (rs : List Row)
+    → map (λ (p : List ℕ × Trie). (p.0, tree_data p.1)) (map row_trie rs) ≡ map row_pair rs
+rows_agree [] = refl
+rows_agree (r ∷ rs) = ap (λ ps. row_pair r ∷ ps) (rows_agree rs)
+
 -- that the parts of an item agree
 abbrev Agree : Item-F Item Child Table → Type 0
 Agree (Item-F.Array children) =
@@ -96,6 +104,13 @@ item_agrees (Item-F.Array children) agree =
     ap tree_data a ∙ ap (λ ds. Data.array (items_of ds)) agree ∙ sym b
 item_agrees (Item-F.Plain es) agree = search (rules, the_lemmas)
 item_agrees (Item-F.Rows rs) agree = search (rules, the_lemmas)
+item_agrees (Item-F.Section rs) agree =
+    let s : Option Standing = Some (table false true false) in
+    let a : item_trie (roll-Item (Item-F.Section rs))
+    ≡ trie (Some (table false true false)) None (by_keys (map row_trie rs)) = search (rules, the_lemmas) in
+    let b : data_of (roll-Item (Item-F.Section rs)) ≡ Data.table (members_of (map row_pair rs)) =
+    search (rules, the_lemmas) in
+    ap tree_data a ∙ keys_data s (map row_trie rs) ∙ ap (λ ps. Data.table (members_of ps)) (rows_agree rs) ∙ sym b
 item_agrees (Item-F.Inline t) agree =
     let a : item_trie (roll-Item (Item-F.Inline t)) ≡ leaf (tree_data (table_trie t.value)) =
     search (rules, the_lemmas) in
@@ -160,13 +175,29 @@ parts_agree (Item-F.Escaped text) = tt
 parts_agree (Item-F.Array es) = children_agree es.items
 parts_agree (Item-F.Plain es) = tt
 parts_agree (Item-F.Rows rs) = tt
+parts_agree (Item-F.Section rs) = tt
 parts_agree (Item-F.Inline e) = e.value.1
 parts_agree (Item-F.Table e) = e.value.1
 parts_agree (Item-F.Tables e) = (tables_agree e.value.0.items, e.value.1.1)
 
+item_case : (x : Item-F Item Child Table) (y : Item-F Item1 Child1 Table1)
+    → map-Item Item1 Child1 Table1 Item Child Table (λ e. e.0) (λ e. e.0) (λ e. e.0) y ≡ x → OfItem (roll-Item x)
+item_case x y is = item_agrees x (subst Agree is (parts_agree y))
+
+child_case : (x : Child-F Item Child Table) (y : Child-F Item1 Child1 Table1)
+    → map-Child Item1 Child1 Table1 Item Child Table (λ e. e.0) (λ e. e.0) (λ e. e.0) y ≡ x → OfChild (roll-Child x)
+child_case x y is = child_agrees x (subst (λ z. OfItem z.item) is y.item.1)
+
+table_case : (x : Table-F Item Child Table) (y : Table-F Item1 Child1 Table1)
+    → map-Table Item1 Child1 Table1 Item Child Table (λ e. e.0) (λ e. e.0) (λ e. e.0) y ≡ x → OfTable (roll-Table x)
+table_case x y is =
+    table_agrees x (subst (λ z. tries_of_entries z.entries ≡ data_of_entries z.entries) is (entries_agree y.entries))
+
+pub item_trie_data : (i : Item) → tree_data (item_trie i) ≡ data_of i
+item_trie_data = ind-Item OfItem OfChild OfTable item_case child_case table_case
+
+pub child_trie_data : (c : Child) → tree_data (child_trie c) ≡ child_data c
+child_trie_data = ind-Child OfItem OfChild OfTable item_case child_case table_case
+
 pub table_trie_data : (t : Table) → tree_data (table_trie t) ≡ table_data t
-table_trie_data =
-    ind-Table OfItem OfChild OfTable (λ x y is. item_agrees x (subst Agree is (parts_agree y)))
-    (λ x y is. child_agrees x (subst (λ z. OfItem z.item) is y.item.1))
-    (λ x y is. table_agrees x
-    (subst (λ z. tries_of_entries z.entries ≡ data_of_entries z.entries) is (entries_agree y.entries)))
+table_trie_data = ind-Table OfItem OfChild OfTable item_case child_case table_case

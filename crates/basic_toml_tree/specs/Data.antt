@@ -1,5 +1,5 @@
 -- The data that an item stands for.
-use Rattle.std.specs.Prelude.{◌≡◌, ℕ, true, false, List, [], ◌∷◌, ◌++◌, string_bytes}
+use Rattle.std.specs.Prelude.{◌≡◌, ℕ, true, false, List, [], ◌∷◌, ◌++◌, map, string_bytes}
 use Rattle.basic_toml_value.specs.Data.{Data, no_members, items_of, members_of}
 use Rattle.basic_toml_value.specs.Text.{text_bytes}
 use Rattle.basic_toml_value.specs.View.{view}
@@ -16,6 +16,10 @@ use Rattle.basic_toml_grow.specs.declared.item.Child.{fold-Child}
 use Rattle.basic_toml_grow.specs.declared.item.Table as tables
 use Rattle.basic_toml_grow.specs.declared.item.Table.{fold-Table}
 
+-- the key of a row with the data of its plain value
+abbrev pub row_pair : Row → List ℕ × Data
+row_pair r = (key_of r, plain_data (out-Row r).value)
+
 -- one level, the parts seen already
 abbrev pub item_step : Item-F Data Data Data → Data
 item_step (Item-F.Integer z) = Data.integer z
@@ -29,6 +33,7 @@ item_step (Item-F.Rows rows) = rows_data rows
 item_step (Item-F.Array children) = Data.array (items_of children.items)
 item_step (Item-F.Inline table) = table.value
 item_step (Item-F.Table table) = table.value
+item_step (Item-F.Section rows) = Data.table (members_of (map row_pair rows))
 item_step (Item-F.Tables tables) =
     Data.array (items_of (tables.value.0.items ++ tables.value.1 ∷ []))
 
@@ -54,9 +59,6 @@ HoldsAny d = d ≡ Data.table no_members → ⊥
 -- a key with the data at it
 abbrev pub child_pair : Pair children.Child → List ℕ × Data
 child_pair pair = (text_bytes pair.key, child_data pair.value)
-
-abbrev pub row_pair : Row → List ℕ × Data
-row_pair r = (key_of r, plain_data (out-Row r).value)
 
 abbrev pub value_pair : Pair Value → List ℕ × Data
 value_pair pair = (text_bytes pair.key, view pair.value)

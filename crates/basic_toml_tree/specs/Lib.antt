@@ -3,6 +3,7 @@ pub mod Nodes
 pub mod IsKind
 pub mod Paths
 pub mod Headers
+pub mod HeaderTables
 pub mod Origin
 pub mod Outer
 pub mod FirstStop

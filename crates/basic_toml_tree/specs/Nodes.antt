@@ -5,6 +5,7 @@ use Rattle.std.specs.Str.{bytes_eq}
 use Rattle.basic_toml_value.specs.Data.{Data, Items, no_items, item, Members, no_members, member}
 use Rattle.basic_toml_grow.specs.Plain.{plain_data, rows_data}
 use Rattle.basic_toml_tree.specs.Data.{data_of, table_data}
+use Rattle.basic_toml_tree.specs.HeaderTables.{table_of}
 use Rattle.basic_toml_tree.specs.declared.node.Node.{Node}
 use Rattle.basic_toml_tree.specs.declared.entries.Elements.{Elements}
 use Rattle.basic_toml_tree.specs.declared.entries.Entries.{Entries}
@@ -14,7 +15,7 @@ use Rattle.basic_toml_tree.specs.declared.spot.Fields.{Fields}
 use Rattle.basic_toml_tree.specs.declared.spot.Fields.TheVariants as fields
 
 abbrev pub spot_data : Spot → Data
-spot_data (spots.Table table) = table_data table.now
+spot_data (spots.Table table) = table_data (table_of table)
 spot_data (spots.Item found) = data_of found.now
 spot_data (spots.Plain plain) = plain_data plain.value.now
 
@@ -30,6 +31,7 @@ is_table _ = false
 abbrev pub fields_data : Fields → Data
 fields_data (fields.Table table) = table_data table.now
 fields_data (fields.Rows rows) = rows_data rows.now
+fields_data (fields.Section rows s) = rows_data rows.now
 
 abbrev pub is_array : Data → Bool
 is_array (Data.array _) = true

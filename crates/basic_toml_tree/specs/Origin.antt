@@ -15,6 +15,7 @@ use Rattle.basic_toml_grow.specs.declared.item.Item.TheOpen.{Item-F}
 use Rattle.basic_toml_grow.specs.declared.item.Child.{Child}
 use Rattle.basic_toml_grow.specs.declared.item.Table.{Table, out-Table}
 use Rattle.basic_toml_tree.specs.Headers.{keys_at, last_of}
+use Rattle.basic_toml_tree.specs.HeaderTables.{table_of}
 use Rattle.basic_toml_origin.specs.declared.anchor.Anchor.{Anchor}
 use Rattle.basic_toml_origin.specs.declared.anchor.Anchor.TheVariants as anchors
 use Rattle.basic_toml_tree.specs.declared.tree.Tree.{Tree}
@@ -33,7 +34,7 @@ holds_tables _ = false
 
 -- whether headers made what stands here; the root, to which no key leads, always
 abbrev pub spot_is_made : ℕ → Spot → Bool
-spot_is_made count (spots.Table table) = (count == 0) || table_is_made table.now
+spot_is_made count (spots.Table table) = (count == 0) || table_is_made (table_of table)
 spot_is_made count (spots.Item found) = holds_tables (out-Item found.now)
 spot_is_made count (spots.Plain plain) = false
 
@@ -46,7 +47,8 @@ item_section (Item-F.Tables tables) = Some (out-Table tables.value.1).section
 item_section _ = None
 
 abbrev pub spot_section : Spot → Option ℕ
-spot_section (spots.Table table) = if table_is_made table.now then Some (out-Table table.now).section else None
+spot_section (spots.Table table) =
+    if table_is_made (table_of table) then Some (out-Table (table_of table)).section else None
 spot_section (spots.Item found) = item_section (out-Item found.now)
 spot_section (spots.Plain plain) = None
 
@@ -57,7 +59,8 @@ item_anchor _ start keys = anchors.Value start keys
 
 abbrev pub spot_anchor : Spot → ℕ → ℕ → Anchor
 spot_anchor (spots.Table table) start keys =
-    if table_is_made table.now then anchors.Table (out-Table table.now).section keys else anchors.Value start keys
+    if table_is_made (table_of table)
+    then anchors.Table (out-Table (table_of table)).section keys else anchors.Value start keys
 spot_anchor (spots.Item found) start keys = item_anchor (out-Item found.now) start keys
 spot_anchor (spots.Plain plain) start keys = anchors.Value start keys
 
@@ -80,6 +83,7 @@ item_name (Item-F.Rows _) = codes "inline table"
 item_name (Item-F.Array _) = codes "array"
 item_name (Item-F.Inline _) = codes "inline table"
 item_name (Item-F.Table _) = codes "dotted table"
+item_name (Item-F.Section _) = codes "dotted table"
 item_name (Item-F.Tables _) = codes "array"
 
 abbrev pub spot_name : ℕ → Spot → List ℕ

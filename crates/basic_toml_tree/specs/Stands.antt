@@ -26,18 +26,21 @@ use Rattle.basic_toml_tree.specs.declared.entries.Elements.{Elements}
 use Rattle.basic_toml_tree.specs.declared.entries.Entries.{Entries}
 use Rattle.basic_toml_tree.specs.declared.spot.Spot.{Spot}
 use Rattle.basic_toml_tree.specs.declared.spot.Spot.TheVariants as spots
+use Rattle.basic_toml_tree.specs.declared.spot.HeaderTable.TheVariants as header_tables
 use Rattle.basic_toml_tree.specs.declared.spot.Fields.{Fields}
 use Rattle.basic_toml_tree.specs.declared.spot.Fields.TheVariants as fields
 use Rattle.basic_toml_tree.specs.declared.plain_value.PlainValue.{PlainValue}
-use Rattle.basic_toml_grow.specs.Item.{item_trie, leaf, table_trie}
+use Rattle.basic_toml_grow.specs.Item.{child_trie, item_trie, leaf, table_trie}
 use Rattle.basic_toml_tree.specs.Origin.{spot_is_made, spot_name, spot_section, spot_is_borrowed, is_borrowed}
-use Rattle.basic_toml_grow.specs.Origins.{Origin, Origins, item_origins, table_within, value_origins}
+use Rattle.basic_toml_grow.specs.Origins.{Origin, Origins, child_origins, item_origins, table_within, value_origins}
+use Rattle.basic_toml_grow.specs.Simple.{child_of, section_table}
+use Rattle.basic_toml_tree.specs.HeaderTables.{table_of}
 use Rattle.basic_toml_tree.specs.Data.{table_data}
 use Rattle.basic_toml_tree.specs.Nodes.{node_data, elements_left, key_and_data, entries_left}
 use Rattle.basic_toml_tree.specs.Paths.{data_along}
-use Rattle.basic_toml_tree.specs.Outer.{around, KeepsStart}
+use Rattle.basic_toml_tree.specs.Outer.{around, kept_below, KeepsStart}
 use Rattle.basic_toml_tree.specs.Resolve.{IsResolved}
-use Rattle.basic_toml_tree.specs.Keys.{CountsKeys, CountsOn, KeysLead, RowsLead}
+use Rattle.basic_toml_tree.specs.Keys.{BeginsRow, CountsKeys, CountsOn, GoesOn, HandsOn, KeysLead, RowsLead}
 
 -- what is at a path of a trie
 abbrev pub trie_at : Path → Trie → Trie
@@ -48,13 +51,14 @@ abbrev pub tree_trie : Tree → Trie
 tree_trie tree = table_trie tree.root
 
 abbrev pub spot_trie : Spot → Trie
-spot_trie (spots.Table table) = table_trie table.now
+spot_trie (spots.Table table) = table_trie (table_of table)
 spot_trie (spots.Item found) = item_trie found.now
 spot_trie (spots.Plain plain) = leaf (plain_data plain.value.now)
 
 -- an item that holds a table of headers or of dotted keys, which stands for itself
 abbrev pub is_wrapper : Item-F Item Child Table → Bool
 is_wrapper (Item-F.Table table) = true
+is_wrapper (Item-F.Section rows) = true
 is_wrapper _ = false
 
 abbrev pub wraps_table : Spot → Bool
@@ -69,13 +73,14 @@ ItemHolds (Item-F.Inline table) found = found ≡ table.value
 ItemHolds _ found = ⊥
 
 abbrev pub HoldsTable : Spot → Table → Type 0
-HoldsTable (spots.Table table) found = found ≡ table.now
+HoldsTable (spots.Table table) found = found ≡ table_of table
 HoldsTable (spots.Item item) found = ItemHolds (out-Item item.now) found
 HoldsTable (spots.Plain plain) found = ⊥
 
--- the rows of an inline table with plain values
+-- the rows of an inline table with plain values, or of a section
 abbrev pub ItemRows : Item-F Item Child Table → List Row → Type 0
 ItemRows (Item-F.Rows rows) found = found ≡ rows
+ItemRows (Item-F.Section rows) found = found ≡ rows
 ItemRows _ found = ⊥
 
 abbrev pub RawRows : Raw-F Raw Element Row Rows → List Row → Type 0
@@ -90,6 +95,8 @@ HoldsRows (spots.Plain plain) found = RawRows (out-Raw plain.value.now) found
 abbrev pub HoldsFields : Spot → Fields → Type 0
 HoldsFields spot (fields.Table table) = HoldsTable spot table.now
 HoldsFields spot (fields.Rows rows) = HoldsRows spot rows.now × (are_few_simple 0 rows.now ≡ true)
+HoldsFields spot (fields.Section rows s) =
+    HoldsTable spot (section_table s rows.now) × (are_few_simple 0 rows.now ≡ true)
 
 -- a node in the tree of another one, below it, with this trie
 pub record IsBelow (from : Node) (t : Trie) (node : Node) : Type 0 where
@@ -136,7 +143,7 @@ is_root (s ∷ p) = false
 
 -- the origins below a spot, and that of a node, by the section that first mentioned it
 abbrev pub spot_origins : Spot → ℕ → ℕ → Origins
-spot_origins (spots.Table table) at s = (table_within table.now).below
+spot_origins (spots.Table table) at s = (table_within (table_of table)).below
 spot_origins (spots.Item found) at s = item_origins found.now at s
 spot_origins (spots.Plain plain) at s = value_origins s at (raw_of plain.value.now)
 
@@ -161,6 +168,17 @@ pub record SpotComes (here : Origins) (count : ℕ) (spot : Spot) (at : ℕ) : T
 
 abbrev pub ComesFrom : Origins → Node → Type 0
 ComesFrom here node = SpotComes here node.count node.spot node.start
+
+-- the node of a row of a section, which stands for the entry that the row makes
+pub record IsSectionRow (from : Node) (s : ℕ) (r : Row) (node : Node) : Type 0 where
+  pub value : node_data node ≡ plain_data (out-Row r).value
+  pub below : IsBelow from (child_trie (child_of s r)) node
+  pub comes : ComesFrom (child_origins (child_of s r)) node
+  pub outer : node.outer ≡ kept_below from
+  pub keys : GoesOn from node.spot node.trail
+  pub row : BeginsRow from (key_of r) s node.spot node.trail
+  pub handed : HandsOn from node.trail
+  pub count : CountsOn from node.count
 
 abbrev pub tree_origins : Tree → Origins
 tree_origins tree = (table_within tree.root).below
@@ -212,7 +230,7 @@ GivesEntry before result after =
 
 -- a node of a table, beside this one
 abbrev pub IsTableBeside : Node → Bor Table → Node → Type 0
-IsTableBeside from table node = IsBeside from (spots.Table table) node
+IsTableBeside from table node = IsBeside from (spots.Table (header_tables.Entries table)) node
 
 -- the node stands at this path of the tree of a section list, whose rows and array headers have keys
 pub record IsNodeAt (sections : List Section) (p : Path) (node : Node) : Type 0 where

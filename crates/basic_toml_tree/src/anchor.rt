@@ -7,7 +7,7 @@ ghost use Rattle.basic_toml_tree.specs.Origin.{anchor_of, spot_anchor};
 ghost use Rattle.basic_toml_tree.specs.Stands.{IsNodeAt};
 
 use crate::node::Node;
-use crate::spot::Spot;
+use crate::spot::{HeaderTable, Spot};
 use basic_toml_grow::Item;
 use basic_toml_origin::Anchor;
 
@@ -34,8 +34,12 @@ impl<'t, 'de> Spot<'t, 'de> {
         ensures { result ≡ spot_anchor self.entry start keys }
     {
         match self {
-            Spot::Table(table) if table.is_made() => Anchor::Table {
+            Spot::Table(HeaderTable::Entries(table)) if table.is_made() => Anchor::Table {
                 section: table.section,
+                keys,
+            },
+            Spot::Table(HeaderTable::Section(table)) => Anchor::Table {
+                section: table.child.section,
                 keys,
             },
             Spot::Item(Item::Tables(tables)) => Anchor::Array {

@@ -64,6 +64,11 @@ impl<'t, 'de> Iterator for Entries<'t, 'de> {
                 self.at += 1;
                 Some((row.key.as_str(), self.table.plain_row(row)))
             }
+            Fields::Section(rows, section) => {
+                let row = rows.get(at)?;
+                self.at += 1;
+                Some((row.key.as_str(), self.table.section_row(row, section)))
+            }
         }
     }
 }

@@ -7,12 +7,14 @@
 #![tactic(auto)]
 
 mod anchor;
+mod below;
 mod entries;
 mod headers;
 pub mod laws;
 mod node;
 mod plain;
 mod plain_value;
+mod section_table;
 mod spot;
 mod text;
 mod trail;

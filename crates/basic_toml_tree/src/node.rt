@@ -12,25 +12,20 @@ ghost use Rattle.basic_toml_grammar.specs.Steps.{Path};
 ghost use Rattle.basic_toml_grammar.specs.IndexedPath.{located};
 ghost use Rattle.basic_toml_grammar.specs.Nodes.{is_made as made_by_headers};
 ghost use Rattle.basic_toml_explain.specs.Error.{want_of_memory};
-ghost use Rattle.basic_toml_read.specs.declared.section.Row.{out-Row};
-ghost use Rattle.basic_toml_grow.specs.Item.{child_trie};
-ghost use Rattle.basic_toml_grow.specs.Plain.{is_plain, are_plain, key_of as row_key};
+ghost use Rattle.basic_toml_grow.specs.Plain.{are_plain, key_of as row_key};
 ghost use Rattle.basic_toml_tree.specs.Data.{table_data, child_data, HoldsAny};
 ghost use Rattle.basic_toml_tree.specs.Nodes.{node_data, is_table, is_array, fields_data, data_at};
 ghost use Rattle.basic_toml_tree.specs.Nodes.{elements_in, entries_in, elements_left, entries_left};
 ghost use Rattle.basic_toml_tree.specs.Origin.{is_borrowed, is_made, name_of, start_of, outer_of, offset_of, keys_of as key_path_of};
 ghost use Rattle.basic_toml_tree.specs.Stands.{IsNodeAt, Foretold, ForetoldSlice};
-ghost use Rattle.basic_toml_tree.specs.Stands.{HoldsFields, IsBelow, IsBeside, IsTableBeside, AtKey, AtNumber, BeginsIn};
-ghost use Rattle.basic_toml_tree.specs.Stands.{ComesFrom, IsPlainElement, IsPlainRow, IsRowAt};
+ghost use Rattle.basic_toml_tree.specs.Stands.{HoldsFields, IsBeside, IsTableBeside, AtKey, AtNumber, BeginsIn};
+ghost use Rattle.basic_toml_tree.specs.Stands.{ComesFrom, IsPlainElement, IsRowAt};
 ghost use Rattle.basic_toml_grow.specs.Origins.{child_origins};
-ghost use Rattle.basic_toml_tree.specs.Outer.{kept_below};
-ghost use Rattle.basic_toml_tree.specs.Keys.{GoesOn, CountsOn, BeginsRow, HandsOn};
-ghost use Rattle.basic_toml_grow.specs.declared.item.Child.{out-Child};
 
 use crate::entries::{Elements, Entries};
 use crate::plain::{plain_table, plain_value};
 use crate::plain_value::PlainValue;
-use crate::spot::{Fields, Kind, Spot};
+use crate::spot::{Fields, HeaderTable, Kind, Spot};
 use crate::trail::Trail;
 use crate::tree::Tree;
 use crate::values::{table_of, value_of};
@@ -118,9 +113,13 @@ impl<'t, 'de> Node<'t, 'de> {
         ensures fields { IfSome result (HoldsFields self.entry.spot) }
     {
         match self.spot {
-            Spot::Table(table) => Some(Fields::Table(table)),
+            Spot::Table(HeaderTable::Entries(table)) => Some(Fields::Table(table)),
+            Spot::Table(HeaderTable::Section(table)) => {
+                Some(Fields::Section(table.rows(), table.child.section))
+            }
             Spot::Item(item) => match item {
                 Item::Rows(table) => Some(Fields::Rows(table.rows())),
+                Item::Section(table) => Some(Fields::Rows(table.rows())),
                 Item::Inline(table) => Some(Fields::Table(table)),
                 Item::Table(table) => Some(Fields::Table(table)),
                 _ => None,
@@ -137,60 +136,6 @@ impl<'t, 'de> Node<'t, 'de> {
         ensures { result ≡ is_table (node_data self.entry) }
     {
         matches!(self.spot.kind(), Kind::Table)
-    }
-
-    // A node below this table at a key.
-    #[inline(always)]
-    pub(crate) fn below(self, key: &'t str, child: &'t Child<'de>) -> Node<'t, 'de>
-        ensures data { node_data result ≡ child_data child.now }
-        ensures below { IsBelow self.entry (child_trie child.now) result }
-        ensures comes { ComesFrom (child_origins child.now) result }
-        ensures outer { result.outer ≡ kept_below self.entry }
-        ensures keys { GoesOn self.entry result.spot result.trail }
-        ensures row { BeginsRow self.entry key.now (out-Child child.now).section result.spot result.trail }
-        ensures handed { HandsOn self.entry result.trail }
-        ensures count { CountsOn self.entry result.count }
-    {
-        let count = self.count.saturating_add(1);
-        let outer = if self.is_made() {
-            None
-        } else {
-            Some(self.start)
-        };
-        let spot = match &child.item {
-            Item::Table(table) => Spot::Table(table),
-            item => Spot::Item(item),
-        };
-        Node {
-            tree: self.tree,
-            spot,
-            start: child.start,
-            outer,
-            count,
-            trail: self.trail_below(key, child.section, spot),
-        }
-    }
-
-    // The keys that lead to what stands at a key below this table, which this section first mentioned.
-    #[inline(always)]
-    fn trail_below(self, key: &'t str, section: usize, spot: Spot<'t, 'de>) -> Trail<'t>
-        ensures keys { GoesOn self.entry spot.entry result }
-        ensures row { BeginsRow self.entry key.now section spot.entry result }
-        ensures handed { HandsOn self.entry result }
-    {
-        let Trail::Header(header) = self.trail else {
-            return self.trail;
-        };
-        if let Some(latest) = spot.section() {
-            return Trail::Header(latest);
-        }
-        let len = self.tree.headers.keys(section).len();
-        if len < self.count {
-            if let Some(first) = self.tree.headers.keys(header).get(len) {
-                return Trail::Row(section, first.text.as_str());
-            }
-        }
-        Trail::Row(section, key)
     }
 
     // A node among the elements of this array.
@@ -212,7 +157,7 @@ impl<'t, 'de> Node<'t, 'de> {
         ensures start { result.start ≡ self.entry.start }
     {
         Node {
-            spot: Spot::Table(table),
+            spot: Spot::Table(HeaderTable::Entries(table)),
             ..self
         }
     }
@@ -232,20 +177,6 @@ impl<'t, 'de> Node<'t, 'de> {
             start: element.offset,
             ..self
         })
-    }
-
-    // The node of a row of this inline table.
-    pub(crate) fn plain_row(self, row: &'t Row<'de>) -> Node<'t, 'de>
-        requires { is_plain (out-Row row.now).value 0 ≡ true }
-        ensures { IsPlainRow self.entry row.now result }
-    {
-        Node {
-            spot: Spot::Plain(PlainValue { value: &row.value }),
-            start: row.start,
-            outer: Some(self.start),
-            count: self.count.saturating_add(1),
-            ..self
-        }
     }
 
     // The element at a number, if this is an array that has it.
@@ -302,6 +233,10 @@ impl<'t, 'de> Node<'t, 'de> {
                 Some(row) => Some(self.plain_row(row)),
                 None => None,
             },
+            Fields::Section(rows, section) => match row_at(rows, key) {
+                Some(row) => Some(self.section_row(row, section)),
+                None => None,
+            },
         }
     }
 
@@ -332,7 +267,7 @@ impl<'t, 'de> Node<'t, 'de> {
                 let _pairs = table.entries.entries();
                 Some(Entries { table: self, at: 0 })
             }
-            Fields::Rows(_) => Some(Entries { table: self, at: 0 }),
+            Fields::Rows(_) | Fields::Section(_, _) => Some(Entries { table: self, at: 0 }),
         }
     }
 
@@ -346,7 +281,10 @@ impl<'t, 'de> Node<'t, 'de> {
         ensures err { IfErr result (λ e. e ≡ want_of_memory) }
     {
         match self.spot {
-            Spot::Table(table) => Ok(Value::Table(table_of(alloc, table)?)),
+            Spot::Table(HeaderTable::Entries(table)) => Ok(Value::Table(table_of(alloc, table)?)),
+            Spot::Table(HeaderTable::Section(table)) => {
+                Ok(Value::Table(plain_table(alloc, table.rows())?))
+            }
             Spot::Item(item) => Ok(value_of(alloc, item)?),
             Spot::Plain(plain) => Ok(plain_value(alloc, plain.value)?),
         }
@@ -365,6 +303,7 @@ impl<'t, 'de> Node<'t, 'de> {
         match self.as_table() {
             Some(Fields::Table(table)) => Ok(Some(table_of(alloc, table)?)),
             Some(Fields::Rows(rows)) => Ok(Some(plain_table(alloc, rows)?)),
+            Some(Fields::Section(rows, _)) => Ok(Some(plain_table(alloc, rows)?)),
             None => Ok(None),
         }
     }

@@ -1,20 +1,33 @@
 //! What stands at a node, and the name of its kind.
 
-ghost use Rattle.std.specs.Prelude.{◌≡◌};
+ghost use Rattle.std.specs.Prelude.{◌≡◌, ◌==◌, ℕ, false};
+ghost use Rattle.basic_toml_grow.specs.Item.{child_trie};
+ghost use Rattle.basic_toml_grow.specs.Origins.{child_origins};
+ghost use Rattle.basic_toml_grow.specs.declared.item.Child.{out-Child};
+ghost use Rattle.basic_toml_tree.specs.Data.{child_data};
 ghost use Rattle.basic_toml_tree.specs.IsKind.{IsKind, is_slice};
 ghost use Rattle.basic_toml_tree.specs.Nodes.{spot_data};
 ghost use Rattle.basic_toml_tree.specs.Origin.{spot_is_borrowed, spot_is_made, spot_name, spot_section};
+ghost use Rattle.basic_toml_tree.specs.Stands.{SpotComes, spot_trie, wraps_table};
 
 use crate::plain_value::PlainValue;
-use basic_toml_grow::{Item, Table};
+use crate::section_table::SectionTable;
+use basic_toml_grow::{Child, Item, Table};
 use basic_toml_read::{Raw, Row};
 use basic_toml_value::Float;
+
+/// A table of headers or of dotted keys: with entries, or with the rows of a section.
+#[derive(Clone, Copy)]
+pub(crate) enum HeaderTable<'t, 'de> {
+    Entries(&'t Table<'de>),
+    Section(SectionTable<'t, 'de>),
+}
 
 /// What stands at a node.
 #[derive(Clone, Copy)]
 pub(crate) enum Spot<'t, 'de> {
     /// A table of headers or of dotted keys.
-    Table(&'t Table<'de>),
+    Table(HeaderTable<'t, 'de>),
     Item(&'t Item<'de>),
     /// A value within an array or an inline table of plain values.
     Plain(PlainValue<'t, 'de>),
@@ -24,7 +37,10 @@ pub(crate) enum Spot<'t, 'de> {
 #[derive(Clone, Copy)]
 pub(crate) enum Fields<'t, 'de> {
     Table(&'t Table<'de>),
+    /// The rows of an inline table.
     Rows(&'t [Row<'de>]),
+    /// The rows of the section with a number.
+    Section(&'t [Row<'de>], usize),
 }
 
 /// A value by its kind. A string is a slice of the document, or a copy.
@@ -40,6 +56,26 @@ pub(crate) enum Kind<'t, 'de> {
 }
 
 impl<'t, 'de> Spot<'t, 'de> {
+    /// What stands at a key of a table.
+    #[inline(always)]
+    pub fn of(child: &'t Child<'de>) -> Spot<'t, 'de>
+        ensures trie { spot_trie result ≡ child_trie child.now }
+        ensures data { spot_data result ≡ child_data child.now }
+        ensures own { wraps_table result ≡ false }
+        ensures comes { (count : ℕ) → (count == 0) ≡ false
+            → SpotComes (child_origins child.now) count result (out-Child child.now).start }
+    {
+        match &child.item {
+            Item::Table(table) => Spot::Table(HeaderTable::Entries(table)),
+            Item::Section(table) => {
+                // As few and simple rows they stand for entries.
+                let _rows = table.rows();
+                Spot::Table(HeaderTable::Section(SectionTable { child }))
+            }
+            item => Spot::Item(item),
+        }
+    }
+
     /// Its kind.
     pub fn kind(self) -> Kind<'t, 'de>
         ensures kind { IsKind (spot_data self.entry) result }
@@ -55,7 +91,8 @@ impl<'t, 'de> Spot<'t, 'de> {
                 Item::String(text) => Kind::Slice(text),
                 Item::Escaped(text) => Kind::Copy(text.as_str()),
                 Item::Plain(_) | Item::Array(_) | Item::Tables(_) => Kind::Array,
-                Item::Rows(_) | Item::Inline(_) | Item::Table(_) => Kind::Table,
+                Item::Rows(_) | Item::Inline(_) => Kind::Table,
+                Item::Table(_) | Item::Section(_) => Kind::Table,
             },
             Spot::Plain(plain) => match plain.value {
                 Raw::Integer(number) => Kind::Integer(*number),
@@ -76,7 +113,8 @@ impl<'t, 'de> Spot<'t, 'de> {
         ensures { result ≡ spot_is_made count self.entry }
     {
         match self {
-            Spot::Table(table) => count == 0 || table.is_made(),
+            Spot::Table(HeaderTable::Entries(table)) => count == 0 || table.is_made(),
+            Spot::Table(HeaderTable::Section(_)) => true,
             Spot::Item(Item::Tables(_)) => true,
             _ => false,
         }
@@ -87,7 +125,8 @@ impl<'t, 'de> Spot<'t, 'de> {
         ensures { result ≡ spot_section self.entry }
     {
         match self {
-            Spot::Table(table) if table.is_made() => Some(table.section),
+            Spot::Table(HeaderTable::Entries(table)) if table.is_made() => Some(table.section),
+            Spot::Table(HeaderTable::Section(table)) => Some(table.child.section),
             Spot::Item(Item::Tables(tables)) => Some(tables.1.section),
             _ => None,
         }
@@ -112,7 +151,7 @@ impl<'t, 'de> Spot<'t, 'de> {
                 Item::String(_) | Item::Escaped(_) => "string",
                 Item::Plain(_) | Item::Array(_) => "array",
                 Item::Rows(_) | Item::Inline(_) => "inline table",
-                Item::Table(_) => "dotted table",
+                Item::Table(_) | Item::Section(_) => "dotted table",
                 Item::Tables(_) => "array",
             },
             Spot::Plain(plain) => match plain.value {

@@ -11,7 +11,7 @@ ghost use Rattle.basic_toml_tree.specs.Stands.{StandsAt};
 
 use crate::headers::Headers;
 use crate::node::Node;
-use crate::spot::Spot;
+use crate::spot::{HeaderTable, Spot};
 use crate::trail::Trail;
 use crate::values::into_table;
 use basic_toml_grow::{Table, enter_section, first_crossed_value};
@@ -35,7 +35,7 @@ impl<'de> Tree<'de> {
     {
         Node {
             tree: self,
-            spot: Spot::Table(&self.root),
+            spot: Spot::Table(HeaderTable::Entries(&self.root)),
             start: 0,
             outer: None,
             count: 0,

@@ -31,6 +31,7 @@ pub(crate) fn value_of(alloc: Global, item: &Item<'_>) -> Result<Value, AllocErr
         Item::Rows(table) => Ok(Value::Table(plain_table(alloc, table.rows())?)),
         Item::Inline(table) => Ok(Value::Table(table_of(alloc, table)?)),
         Item::Table(table) => Ok(Value::Table(table_of(alloc, table)?)),
+        Item::Section(table) => Ok(Value::Table(plain_table(alloc, table.rows())?)),
         Item::Tables(tables) => {
             let mut elements = tables_of(alloc, tables.0.as_slice())?;
             elements.push(Value::Table(table_of(alloc, &tables.1)?))?;
@@ -108,6 +109,7 @@ fn into_value(alloc: Global, item: Item<'_>) -> Result<Value, AllocError>
         Item::Rows(table) => into_plain_table(alloc, table.into_rows()),
         Item::Inline(table) => into_inner_table(alloc, table),
         Item::Table(table) => into_inner_table(alloc, table),
+        Item::Section(table) => into_plain_table(alloc, table.into_rows()),
         Item::Tables(tables) => into_array_of_tables(alloc, tables),
     }
 }

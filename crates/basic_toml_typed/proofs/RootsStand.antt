@@ -3,6 +3,7 @@ use Rattle.std.proofs.Common.{◌≡◌, inl, inr, [], None, refl, sym, subst, a
 use Rattle.std.specs.Result.{IsErrAnd}
 use Rattle.std.proofs.lemmas.Result.{err_from_is_err_and}
 use Rattle.basic_toml_tree.specs.declared.node.Node.{Node}
+use Rattle.basic_toml_tree.specs.declared.spot.HeaderTable.TheVariants as header_tables
 use Rattle.basic_toml_tree.specs.declared.spot.Spot.TheVariants as spots
 use Rattle.basic_toml_tree.specs.declared.trail.Trail.TheVariants as trails
 use Rattle.basic_toml_tree.specs.declared.tree.Tree.{Tree}
@@ -16,7 +17,7 @@ use Rattle.basic_toml_typed.specs.TypeAnswers.{OrMemory, AtRoot}
 abbrev pub root_of : Tree → Node
 root_of tree = record {
   tree = record { ref_ptr = (0, 0); now = tree };
-  spot = spots.Table (record { ref_ptr = (0, 0); now = tree.root });
+  spot = spots.Table (header_tables.Entries (record { ref_ptr = (0, 0); now = tree.root }));
   start = 0;
   outer = None;
   count = 0;
@@ -29,7 +30,7 @@ root_stands tree = record {
   holds = refl;
   root = refl;
   there = inr (refl, refl);
-  comes = root_comes tree (record { ref_ptr = (0, 0); now = tree.root }) 0 refl;
+  comes = root_comes tree (header_tables.Entries (record { ref_ptr = (0, 0); now = tree.root })) 0 refl;
   outer = root_keeps tree None refl;
   count = root_count tree (root_of tree) refl;
   keys = root_keys tree (root_of tree) refl;

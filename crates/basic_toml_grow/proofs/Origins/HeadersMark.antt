@@ -10,18 +10,18 @@ use Rattle.basic_toml_grammar.specs.Steps.{Step, key, number, Path, begins}
 use Rattle.basic_toml_grow.specs.declared.item.Item.{Tables}
 use Rattle.basic_toml_grow.specs.declared.item.Item as items
 use Rattle.basic_toml_grow.specs.declared.item.Item.TheViews.{roll-Table, out-roll-Table}
-use Rattle.basic_toml_grow.specs.declared.item.Child.{out-Child}
+use Rattle.basic_toml_grow.specs.declared.item.Child.{Child}
 use Rattle.basic_toml_grow.specs.declared.item.Table.{Table, out-Table}
-use Rattle.basic_toml_grow.specs.Item.{item_trie, table_trie, trie_before}
+use Rattle.basic_toml_grow.specs.Item.{item_trie, child_trie, table_trie, trie_before}
 use Rattle.basic_toml_value.specs.declared.pairs.growth.Place.{Place}
-use Rattle.basic_toml_grow.specs.Origins.{Origins, Within, of_table, under, item_origins, table_within, with_more}
+use Rattle.basic_toml_grow.specs.Origins.{Origins, Within, of_table, under, item_origins, child_origins, table_within, with_more}
 use Rattle.basic_toml_grow.specs.Ways.{way, way_by, way_at, IsMarked, MarksWay, MarksTable}
-use Rattle.basic_toml_grow.proofs.HeadersEntered.{holding, Passes}
+use Rattle.basic_toml_grow.proofs.HeadersEntered.{Passes}
 use Rattle.basic_toml_grow.proofs.TablesOpened.{named_fields, numbered_fields, opened_table}
 use Rattle.basic_toml_grow.proofs.Origins.OriginsSeen.{made_seen, section_seen, table_origins, stands_now}
 use Rattle.basic_toml_grow.proofs.Origins.OriginsSeen.{table_item_seen, tables_seen}
 use Rattle.basic_toml_grow.proofs.Origins.HeadersPlaceOrigins.{way_into_table, way_into_latest}
-use Rattle.basic_toml_grow.proofs.Origins.HeadersPlaceOrigins.{passed_way, passed_now}
+use Rattle.basic_toml_grow.proofs.Origins.HeadersPlaceOrigins.{passed_way}
 use Rattle.basic_toml_grow.proofs.Origins.ElementsPlaceOrigins.{array_below, last_is, same_numbers, mapped_count}
 
 -- the table that a header names
@@ -44,8 +44,8 @@ opened_marks t n rows u comes =
 
 -- a table that a header passes
 pub passed_marks : (n : ℕ) (a : Bool) (k : List ℕ) (keys whole : KeyTexts) (t u : Table) (p : Place)
-    (there now : items.Item) → whole ≡ k ∷ keys → Passes k t p there now u → (out-Table u).section ≡ n
-    → ((at s : ℕ) → MarksWay n (way_at a keys (trie_before p.is_new (item_trie there))) (item_origins now at s))
+    (there now : Child) → whole ≡ k ∷ keys → Passes k t p there now u → (out-Table u).section ≡ n
+    → MarksWay n (way_at a keys (trie_before p.is_new (child_trie there))) (child_origins now)
     → MarksTable n (way a whole (table_trie t)) (table_within u)
 passed_marks n a k keys whole t u p there now is_whole pass numbered marks =
     subst (λ w. MarksTable n w (table_within u)) (sym (passed_way k t u p there now pass a keys whole is_whole))
@@ -56,21 +56,15 @@ passed_marks n a k keys whole t u p there now is_whole pass numbered marks =
     })
   where
     w : Path
-    w = way_at a keys (trie_before p.is_new (item_trie there))
-
-    at_key : (q : Path) → table_origins u (key k ∷ q)
-        ≡ item_origins now (out-Child pass.child).start (out-Child pass.child).section q
-    at_key q =
-        stands_now t u pass.child (holding pass.child now) k pass.entries p pass.entered pass.stands pass.left q
-        ∙ ap (λ f. f q) (passed_now k t u p there now pass)
+    w = way_at a keys (trie_before p.is_new (child_trie there))
 
     below : (s : Step) (q : Path) → begins (s ∷ q) (key k ∷ w) ≡ true → IsMarked n (table_origins u (s ∷ q))
     below (number m) q on = absurd (false≢true on)
     below (key l) q on =
         let parts = and_parts (bytes_eq l k) (begins q w) on in
         let same : l ≡ k = (bytes_eq-Decides l k).0 parts.0 in
-        subst (IsMarked n) (sym (ap (λ l. table_origins u (key l ∷ q)) same ∙ at_key q))
-        (marks (out-Child pass.child).start (out-Child pass.child).section q parts.1)
+        let here = stands_now t u there now k pass.entries p pass.entered pass.stands pass.left q in
+        subst (IsMarked n) (sym (ap (λ l. table_origins u (key l ∷ q)) same ∙ here)) (marks q parts.1)
 
 -- a table that stands at a key
 marked_table : (n : ℕ) (w : Path) (t : Within) (at s : ℕ) → MarksTable n w t → MarksWay n w (of_table at s t)

@@ -79,54 +79,44 @@ opened t n rows u comes =
     ap (λ w. w.below) comes
     ∙ ap (λ f. or_else f rows) (same_below t (opened_table t n) (ap (λ o. o.entries) a ∙ ap (λ o. o.entries) b))
 
--- a table that a header passes: its way, and what stands at the key
-module _ (k : List ℕ) (t u : Table) (p : Place) (there now : items.Item) (pass : Passes k t p there now u) where
-  pub passed_way : (a : Bool) (keys whole : KeyTexts) → whole ≡ k ∷ keys
-      → way a whole (table_trie t) ≡ key k ∷ way_at a keys (trie_before p.is_new (item_trie there))
-  passed_way a keys whole is_whole =
-      ap (λ ks. way a ks (table_trie t)) is_whole
-      ∙ ap (way a (k ∷ keys)) (table_entries_trie t)
-      ∙ way_through a k keys (out-Table t).passed (out-Table t).named (out-Table t).dotted
-      (by_keys (tries_of child_trie (out-Table t).entries))
-      ∙ ap (λ t. key k ∷ way_at a keys t) (passed_before a no_rows k keys whole 0 t u p there now is_whole pass)
+-- a child with another item, and one from which the same comes
+pub holding_origins : (c : Child) (i : items.Item)
+    → child_origins (holding c i) ≡ item_origins i (out-Child c).start (out-Child c).section
+holding_origins c i =
+    child_seen (holding c i) ∙ ap (λ o. item_origins o.item o.start o.section) (out_holding c i)
 
-  pub passed_now : child_origins (holding pass.child now)
-      ≡ item_origins now (out-Child pass.child).start (out-Child pass.child).section
-  passed_now =
-      child_seen (holding pass.child now)
-      ∙ ap (λ o. item_origins o.item o.start o.section) (out_holding pass.child now)
+pub same_came : (is_new : Bool) (c d : Child) → child_origins c ≡ child_origins d
+    → origins_before is_new (item_origins (out-Child c).item (out-Child c).start (out-Child c).section)
+    ≡ origins_before is_new (child_origins d)
+same_came is_new c d same = ap (origins_before is_new) (sym (child_seen c) ∙ same)
+
+-- a table that a header passes
+pub passed_way : (k : List ℕ) (t u : Table) (p : Place) (there now : Child) → Passes k t p there now u → (a : Bool)
+    (keys whole : KeyTexts) → whole ≡ k ∷ keys
+    → way a whole (table_trie t) ≡ key k ∷ way_at a keys (trie_before p.is_new (child_trie there))
+passed_way k t u p there now pass a keys whole is_whole =
+    ap (λ ks. way a ks (table_trie t)) is_whole
+    ∙ ap (way a (k ∷ keys)) (table_entries_trie t)
+    ∙ way_through a k keys (out-Table t).passed (out-Table t).named (out-Table t).dotted
+    (by_keys (tries_of child_trie (out-Table t).entries))
+    ∙ ap (λ t. key k ∷ way_at a keys t) (passed_before a no_rows k keys whole 0 t u p there now is_whole pass)
 
 pub passed_grows : (a : Bool) (rows : Origins) (k : List ℕ) (keys whole : KeyTexts) (t u : Table) (p : Place)
-    (there now : items.Item) → whole ≡ k ∷ keys → Passes k t p there now u
-    → ((at s : ℕ) → GrowsAlong (way_at a keys (trie_before p.is_new (item_trie there))) rows
-    (origins_before p.is_new (item_origins there at s)) (item_origins now at s))
+    (there now : Child) → whole ≡ k ∷ keys → Passes k t p there now u
+    → GrowsAlong (way_at a keys (trie_before p.is_new (child_trie there))) rows
+    (origins_before p.is_new (child_origins there)) (child_origins now)
     → GrowsAlong (way a whole (table_trie t)) rows (table_origins t) (table_origins u)
 passed_grows a rows k keys whole t u p there now is_whole pass grows =
     subst (λ w. GrowsAlong w rows (table_origins t) (table_origins u))
     (sym (passed_way k t u p there now pass a keys whole is_whole)) go
   where
     w : Path
-    w = way_at a keys (trie_before p.is_new (item_trie there))
-
-    at : ℕ
-    at = (out-Child pass.child).start
-
-    s : ℕ
-    s = (out-Child pass.child).section
-
-    was : child_origins pass.child ≡ item_origins there at s
-    was = child_seen pass.child ∙ ap (λ i. item_origins i at s) pass.item
-
-    below : GrowsAlong w rows (origins_before p.is_new (child_origins pass.child)) (child_origins (holding pass.child now))
-    below y not =
-        ap (λ f. f y) (passed_now k t u p there now pass) ∙ grows at s y not
-        ∙ ap (λ f. or_else (origins_before p.is_new f) (along w rows) y) (sym was)
+    w = way_at a keys (trie_before p.is_new (child_trie there))
 
     go : GrowsAlong (key k ∷ w) rows (table_origins t) (table_origins u)
     go x not =
-        grows_at t u pass.child (holding pass.child now) k pass.entries p pass.entered pass.stands pass.left
-        (along w rows) x
-        (λ y is. below y (further y (sym (ap (λ x. begins x (key k ∷ w)) is) ∙ not)))
+        grows_at t u there now k pass.entries p pass.entered pass.stands pass.left (along w rows) x
+        (λ y is. grows y (further y (sym (ap (λ x. begins x (key k ∷ w)) is) ∙ not)))
       where
         further : (y : Path) → begins (key k ∷ y) (key k ∷ w) ≡ false → begins y w ≡ false
         further y not = sym (ap (λ b. b && begins y w) (bytes_eq-same k)) ∙ not

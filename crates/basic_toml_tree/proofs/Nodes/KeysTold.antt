@@ -34,6 +34,7 @@ use Rattle.basic_toml_tree.proofs.Nodes.OneSection.{some_same, stands_before, En
 use Rattle.basic_toml_tree.proofs.Nodes.RowNodesTold.{located_any, located_keyed, some_then}
 use Rattle.basic_toml_tree.proofs.Origins.RowsAreNodes.{Same, of_node, of_origin, sections_same}
 use Rattle.basic_toml_tree.specs.Headers.{keys_at}
+use Rattle.basic_toml_tree.specs.HeaderTables.{table_of}
 use Rattle.basic_toml_tree.specs.Origin.{header_of, spot_is_made, spot_section, item_section, holds_tables, table_is_made}
 use Rattle.basic_toml_tree.specs.Origin.{keys_of as kept_keys, trail_keys}
 use Rattle.basic_toml_tree.specs.FirstStop.{Stands}
@@ -143,7 +144,7 @@ kept_first from tree p within count kept =
 
 pub has_section : (spot : Spot) → spot_is_made 1 spot ≡ true → (n : ℕ) × (spot_section spot ≡ Some n)
 has_section (spots.Table b) made =
-    ((out-Table b.now).section, ap (λ m. if m then Some (out-Table b.now).section else None) made)
+    ((out-Table (table_of b)).section, ap (λ m. if m then Some (out-Table (table_of b)).section else None) made)
 has_section (spots.Item b) made = go (out-Item b.now) made
   where
     go : (x : Item-F Item Child Table) → holds_tables x ≡ true → (n : ℕ) × (item_section x ≡ Some n)
@@ -159,6 +160,7 @@ has_section (spots.Item b) made = go (out-Item b.now) made
     go (Item-F.Rows z) made = absurd (false≢true made)
     go (Item-F.Inline z) made = absurd (false≢true made)
     go (Item-F.Table z) made = absurd (false≢true made)
+    go (Item-F.Section z) made = absurd (false≢true made)
 has_section (spots.Plain b) made = absurd (false≢true made)
 
 abbrev pub HasHeader : List Located → Path → Origin → Type 0
@@ -210,7 +212,7 @@ some_both None P Q R f p q = tt
 some_both (Some x) P Q R f p q = f x p q
 
 no_root : (spot : Spot) (count : ℕ) → (count == 0) ≡ false → spot_is_made 1 spot ≡ spot_is_made count spot
-no_root (spots.Table b) count some = sym (ap (λ c. c || table_is_made b.now) some)
+no_root (spots.Table b) count some = sym (ap (λ c. c || table_is_made (table_of b)) some)
 no_root (spots.Item b) count some = refl
 no_root (spots.Plain b) count some = refl
 

@@ -17,10 +17,12 @@ use Rattle.basic_toml_grow.specs.declared.item.Item.TheOpen.{Item-F}
 use Rattle.basic_toml_grow.specs.declared.item.Child.{Child}
 use Rattle.basic_toml_grow.specs.declared.item.Table.{Table, out-Table}
 use Rattle.basic_toml_tree.specs.declared.node.Node.{Node}
+use Rattle.basic_toml_tree.specs.declared.spot.HeaderTable.{HeaderTable}
 use Rattle.basic_toml_tree.specs.declared.spot.Spot.{Spot}
 use Rattle.basic_toml_tree.specs.declared.spot.Spot.TheVariants as spots
 use Rattle.basic_toml_grow.specs.Item.{item_trie, table_trie}
 use Rattle.basic_toml_tree.specs.Headers.{last_of}
+use Rattle.basic_toml_tree.specs.HeaderTables.{table_of}
 use Rattle.basic_toml_tree.specs.Origin.{spot_is_made, is_made, spot_name, name_of, holds_tables, item_name, last_at}
 use Rattle.basic_toml_tree.specs.Origin.{start_of, outer_of, offset_of, is_array_literal, spot_is_borrowed, is_borrowed}
 use Rattle.basic_toml_tree.specs.Origin.{holds_string}
@@ -89,6 +91,7 @@ item_made count b (Item-F.Tables tables) o is stands same own made = record {
   slice = ap holds_string is;
 }
 item_made count b (Item-F.Table t) o is stands same own made = cc
+item_made count b (Item-F.Section z) o is stands same own made = cc
 item_made count b (Item-F.Integer z) o is stands same own made = absurd (false≢true (sym (ap stands_made stands) ∙ made))
 item_made count b (Item-F.Float z) o is stands same own made = absurd (false≢true (sym (ap stands_made stands) ∙ made))
 item_made count b Item-F.True o is stands same own made = absurd (false≢true (sym (ap stands_made stands) ∙ made))
@@ -100,10 +103,11 @@ item_made count b (Item-F.Plain z) o is stands same own made = absurd (false≢t
 item_made count b (Item-F.Rows z) o is stands same own made = absurd (false≢true (sym (ap stands_made stands) ∙ made))
 item_made count b (Item-F.Inline z) o is stands same own made = absurd (false≢true (sym (ap stands_made stands) ∙ made))
 
-table_made : (count : ℕ) (b : Bor Table) → ((count == 0) || stands_made (standing (table_trie b.now))) ≡ true
+table_made : (count : ℕ) (b : HeaderTable)
+    → ((count == 0) || stands_made (standing (table_trie (table_of b)))) ≡ true
     → IsMade count (spots.Table b)
 table_made count b made =
-    let stands = ap standing (table_entries_trie b.now) in
+    let stands = ap standing (table_entries_trie (table_of b)) in
     let here : spot_is_made count (spots.Table b) ≡ true =
     sym (ap (λ o. (count == 0) || stands_made o) stands) ∙ made in
     record {
@@ -133,6 +137,7 @@ not_table (Item-F.Plain z) o stands own p n d is = absurd (cc)
 not_table (Item-F.Rows z) o stands own p n d is = absurd (cc)
 not_table (Item-F.Inline z) o stands own p n d is = absurd (cc)
 not_table (Item-F.Table t) o stands own p n d is = absurd (cc)
+not_table (Item-F.Section z) o stands own p n d is = absurd (cc)
 not_table (Item-F.Tables tables) o stands own p n d is = absurd (false≢true (sym (ap stands_array is) ∙ stands))
 
 pub root_made : (count : ℕ) (spot : Spot) (t : Table) → wraps_table spot ≡ false → (count == 0) ≡ true

@@ -21,8 +21,10 @@ use Rattle.basic_toml_grow.specs.Item.{item_trie}
 use Rattle.basic_toml_grow.proofs.ItemTries.{table_entries_trie}
 use Rattle.basic_toml_grow.proofs.ItemsStand.{item_standing, stands_array, standing_here}
 use Rattle.basic_toml_tree.specs.declared.node.Node.{Node}
+use Rattle.basic_toml_tree.specs.declared.spot.HeaderTable.{HeaderTable}
 use Rattle.basic_toml_tree.specs.declared.spot.Spot.{Spot}
 use Rattle.basic_toml_tree.specs.declared.spot.Spot.TheVariants as spots
+use Rattle.basic_toml_tree.specs.HeaderTables.{table_of}
 use Rattle.basic_toml_tree.specs.Origin.{spot_is_made, spot_section, spot_anchor, anchor_of, item_anchor, item_section}
 use Rattle.basic_toml_tree.specs.Origin.{holds_tables, table_is_made, start_of, is_made, last_at}
 use Rattle.basic_toml_tree.specs.Stands.{IsNodeAt, is_root, spot_trie, tree_origins}
@@ -82,21 +84,21 @@ module _ (sections : List Section) (p : Path) (node : Node) (is : IsNodeAt secti
       turned None some = some
       turned (Some found) same = sym same
 
-  of_table : (b : Bor Table) → node.spot ≡ spots.Table b
+  of_table : (b : HeaderTable) → node.spot ≡ spots.Table b
       → IsAnchorOf sections p (spot_anchor (spots.Table b) node.start node.count)
-  of_table b at = go (table_is_made b.now) refl
+  of_table b at = go (table_is_made (table_of b)) refl
     where
-      made : is_made node ≡ table_is_made b.now
-      made = ap (spot_is_made node.count) at ∙ ap (λ c. c || table_is_made b.now) below
+      made : is_made node ≡ table_is_made (table_of b)
+      made = ap (spot_is_made node.count) at ∙ ap (λ c. c || table_is_made (table_of b)) below
 
-      go : (m : Bool) → table_is_made b.now ≡ m
+      go : (m : Bool) → table_is_made (table_of b) ≡ m
           → IsAnchorOf sections p
-          (if m then anchors.Table (out-Table b.now).section node.count else anchors.Value node.start node.count)
+          (if m then anchors.Table (out-Table (table_of b)).section node.count else anchors.Value node.start node.count)
       go true e = (
-        leads (out-Table b.now).section
-            (ap spot_section at ∙ ap (λ m. if m then Some (out-Table b.now).section else None) e) (made ∙ e),
+        leads (out-Table (table_of b)).section
+            (ap spot_section at ∙ ap (λ m. if m then Some (out-Table (table_of b)).section else None) e) (made ∙ e),
         sym (arrays (made ∙ e)) ∙ ap (λ spot. stands_array (standing (spot_trie spot))) at
-            ∙ ap (λ t. stands_array (standing t)) (table_entries_trie b.now),
+            ∙ ap (λ t. stands_array (standing t)) (table_entries_trie (table_of b)),
         keys,
       )
       go false e = of_value (made ∙ e)
@@ -128,6 +130,7 @@ module _ (sections : List Section) (p : Path) (node : Node) (is : IsNodeAt secti
       go (Item-F.Rows z) e = of_value (made (Item-F.Rows z) e)
       go (Item-F.Inline z) e = of_value (made (Item-F.Inline z) e)
       go (Item-F.Table z) e = of_value (made (Item-F.Table z) e)
+      go (Item-F.Section z) e = of_value (made (Item-F.Section z) e)
 
   by_spot : (spot : Spot) → node.spot ≡ spot → IsAnchorOf sections p (spot_anchor spot node.start node.count)
   by_spot (spots.Table b) at = of_table b at

@@ -12,14 +12,23 @@ use Rattle.basic_toml_grow.specs.declared.item.Item.{Item, out-Item, the_lemmas,
 use Rattle.basic_toml_grow.specs.declared.item.Item as items
 use Rattle.basic_toml_grow.specs.declared.item.Item.TheOpen.{Item-F}
 use Rattle.basic_toml_grow.specs.declared.item.Item.TheViews.{roll-Item}
+use Rattle.basic_toml_read.specs.declared.section.Row.{Row}
 use Rattle.basic_toml_read.specs.SectionView.{elements_view, rows_seen}
+use Rattle.basic_toml_grow.specs.Plain.{are_few_simple}
+use Rattle.basic_toml_grow.specs.Simple.{section_table}
 use Rattle.basic_toml_grow.specs.Origins.{elements_origins, rows_origins}
 use Rattle.basic_toml_grow.specs.declared.item.Child.{Child, out-Child}
 use Rattle.basic_toml_grow.specs.declared.item.Table.{Table, out-Table}
 use Rattle.basic_toml_tree.specs.declared.tree.Tree.{Tree}
 use Rattle.basic_toml_tree.specs.declared.node.Node.{Node}
+use Rattle.basic_toml_tree.specs.declared.spot.HeaderTable.{HeaderTable}
+use Rattle.basic_toml_tree.specs.declared.spot.HeaderTable.TheVariants.{Section}
 use Rattle.basic_toml_tree.specs.declared.spot.Spot.{Spot}
 use Rattle.basic_toml_tree.specs.declared.spot.Spot.TheVariants as spots
+use Rattle.basic_toml_tree.specs.declared.section_table.SectionTable.{SectionTable}
+use Rattle.basic_toml_grow.specs.Item.{rows_of}
+use Rattle.basic_toml_tree.specs.HeaderTables.{table_of}
+use Rattle.basic_toml_tree.proofs.SectionData.{rows_are}
 use Rattle.basic_toml_tree.specs.Origin.{spot_is_made, spot_section, holds_tables, item_name, item_section, table_is_made}
 use Rattle.basic_toml_tree.specs.Origin.{holds_string}
 use Rattle.basic_toml_grow.specs.Origins.{Origin, Origins, no_origins, entry, under, at_numbers, value_origin}
@@ -29,6 +38,7 @@ use Rattle.basic_toml_grow.specs.Origins.{of_table, section_in, table_within}
 use Rattle.basic_toml_tree.specs.Stands.{ItemHolds, HoldsTable, spot_origins, node_origins, spot_origin, SpotComes}
 use Rattle.basic_toml_tree.specs.Stands.{ComesFrom, tree_origins}
 use Rattle.basic_toml_grow.proofs.ItemsStand.{shape}
+use Rattle.basic_toml_grow.proofs.SectionTables.{section_origins}
 use Rattle.basic_toml_grow.proofs.Origins.OriginsSeen.{child_seen, made_seen, section_seen, table_origins, table_item_seen}
 use Rattle.basic_toml_grow.proofs.Origins.OriginsSeen.{array_seen, tables_seen, seen_at_key, seen_at_none}
 
@@ -69,6 +79,7 @@ item_key (Item-F.Escaped z) i t k q at s is holds = absurd holds
 item_key (Item-F.Array z) i t k q at s is holds = absurd holds
 item_key (Item-F.Plain z) i t k q at s is holds = absurd holds
 item_key (Item-F.Rows z) i t k q at s is holds = absurd holds
+item_key (Item-F.Section z) i t k q at s is holds = absurd holds
 item_key (Item-F.Tables y) i t k q at s is holds = absurd holds
 
 spot_key : (spot : Spot) (t : Table) (k : List ℕ) (q : Path) (at s : ℕ) → HoldsTable spot t
@@ -118,6 +129,8 @@ item_bears (Item-F.Table z) at s =
     let w = table_within z.value in
     bears_entry (Item-F.Table z) at s (table_origin w.made at (section_in w s)) w.below (search (rules, the_lemmas))
     (λ apart. ap (λ b. if b then w.section else s) apart)
+item_bears (Item-F.Section z) at s = bears_entry (Item-F.Section z) at s (table_origin true at s)
+    (rows_origins s (rows_seen [] z)) (search (rules, the_lemmas)) (λ apart. refl)
 item_bears (Item-F.Tables y) at s = bears_entry (Item-F.Tables y) at s (array_origin at (table_within y.value.1).section)
     (at_numbers (elements_within at s (map table_within y.value.0.items ++ table_within y.value.1 ∷ [])))
     (search (rules, the_lemmas)) (λ apart. absurd (false≢true (sym apart)))
@@ -158,6 +171,7 @@ item_marked (Item-F.Plain z) at s = not_marked None refl (item_origins (roll-Ite
 item_marked (Item-F.Rows z) at s = not_marked None refl (item_origins (roll-Item (Item-F.Rows z)) at s)
 item_marked (Item-F.Inline z) at s = not_marked None refl (item_origins (roll-Item (Item-F.Inline z)) at s)
 item_marked (Item-F.Table z) at s = not_marked None refl (item_origins (roll-Item (Item-F.Table z)) at s)
+item_marked (Item-F.Section z) at s = not_marked None refl (item_origins (roll-Item (Item-F.Section z)) at s)
 
 pub key_comes : (from node : Node) (t : Table) (k : List ℕ) (c : Child) → HoldsTable from.spot t
     → value_at (out-Table t).entries k ≡ Some c → ComesFrom (child_origins c) node
@@ -196,7 +210,7 @@ tables_come from node n b at tables t is read comes s =
     (map table_within tables.value.0.items ++ table_within tables.value.1 ∷ []) n (table_within t.now) read)))) (comes s)
 
 -- the root, of which nothing is told
-pub root_comes : (tree : Tree) (b : Bor Table) (at : ℕ) → b.now ≡ tree.root
+pub root_comes : (tree : Tree) (b : HeaderTable) (at : ℕ) → table_of b ≡ tree.root
     → SpotComes (λ q. tree_origins tree q) 0 (spots.Table b) at
 root_comes tree b at is = record {
   section = 0;
@@ -226,29 +240,30 @@ told_section true true m n s same is = sym is
 told_section true false m n s same is = absurd (false≢true (sym same))
 told_section false made m n s same is = tt
 
-pub table_comes : (t : Table) (b : Bor Table) (count at s : ℕ) → b.now ≡ t → (count == 0) ≡ false
+pub table_comes : (t : Table) (b : HeaderTable) (count at s : ℕ) → table_of b ≡ t → (count == 0) ≡ false
     → SpotComes (of_table at s (table_within t)) count (spots.Table b) at
 table_comes t b count at s is some = record {
   section = s;
   own = λ apart. told_name (spot_is_made count (spots.Table b)) (table_within t).made
-      (ap (λ c. c || table_is_made b.now) some ∙ ap table_is_made is ∙ sym (made_seen t)) apart at
+      (ap (λ c. c || table_is_made (table_of b)) some ∙ ap table_is_made is ∙ sym (made_seen t)) apart at
       (table_within t).section s;
-  marked = told_section (table_is_made b.now) (table_within t).made (out-Table b.now).section (table_within t).section s
-      (ap table_is_made is ∙ sym (made_seen t)) (ap (λ t. (out-Table t).section) is ∙ sym (section_seen t));
+  marked = told_section (table_is_made (table_of b)) (table_within t).made (out-Table (table_of b)).section
+      (table_within t).section s (ap table_is_made is ∙ sym (made_seen t))
+      (ap (λ t. (out-Table t).section) is ∙ sym (section_seen t));
   parts = λ r q. ap (λ t. table_origins t (r ∷ q)) (sym is);
 }
 
-pub table_node_comes : (b : Bor Table) (node : Node) (at s : ℕ) → node.spot ≡ spots.Table b → node.start ≡ at
+pub table_node_comes : (b : HeaderTable) (node : Node) (at s : ℕ) → node.spot ≡ spots.Table b → node.start ≡ at
     → (node.count == 0) ≡ false
-    → ComesFrom (of_table at s (table_within b.now)) node
+    → ComesFrom (of_table at s (table_within (table_of b))) node
 table_node_comes b node at s is_spot is_at some =
-    let here = of_table at s (table_within b.now) in
+    let here = of_table at s (table_within (table_of b)) in
     subst (λ at. SpotComes here node.count node.spot at) (sym is_at)
     (subst (λ spot. SpotComes here node.count spot at) (sym is_spot)
-    (table_comes b.now b node.count at s refl some))
+    (table_comes (table_of b) b node.count at s refl some))
 
-pub child_table_comes : (c : Child) (t : Box Table Global) (b : Bor Table) (count : ℕ) (spot : Spot) (at : ℕ)
-    → (out-Child c).item ≡ items.Table t → b.now ≡ t.value → (count == 0) ≡ false → spot ≡ spots.Table b
+pub child_table_comes : (c : Child) (t : Box Table Global) (b : HeaderTable) (count : ℕ) (spot : Spot) (at : ℕ)
+    → (out-Child c).item ≡ items.Table t → table_of b ≡ t.value → (count == 0) ≡ false → spot ≡ spots.Table b
     → at ≡ (out-Child c).start → SpotComes (child_origins c) count spot at
 child_table_comes c t b count spot at is same some is_spot is_at =
     let from = (out-Child c).start in
@@ -259,6 +274,19 @@ child_table_comes c t b count spot at is same some is_spot is_at =
     (subst (λ spot. SpotComes (child_origins c) count spot from) (sym is_spot)
     (subst (λ f. SpotComes f count (spots.Table b) from) (sym seen)
     (table_comes t.value b count from s same some)))
+
+pub child_section_comes : (c : Child) (t : SectionTable) (rows : List Row) (count : ℕ) → t.child.now ≡ c
+    → (out-Child c).item ≡ items.Section rows → are_few_simple 0 rows ≡ true → (count == 0) ≡ false
+    → SpotComes (child_origins c) count (spots.Table (Section t)) (out-Child c).start
+child_section_comes c t rows count of is simple some =
+    let from = (out-Child c).start in
+    let s = (out-Child c).section in
+    let seen : child_origins c ≡ of_table from s (table_within (section_table s rows)) =
+    child_seen c ∙ ap (λ i. item_origins i from s) is ∙ section_origins s rows simple from in
+    subst (λ f. SpotComes f count (spots.Table (Section t)) from) (sym seen)
+    (table_comes (section_table s rows) (Section t) count from s
+    (ap (λ (c : Child). section_table (out-Child c).section (rows_of c)) of
+    ∙ ap (section_table s) (rows_are c rows is)) some)
 
 -- an item
 abbrev item_told : Item-F Item Child Table → ℕ → ℕ → Origin
@@ -314,6 +342,9 @@ item_own (Item-F.Table z) at s =
     own_of (item_origins (roll-Item (Item-F.Table z)) at s) (table_origin w.made at (section_in w s))
     (item_told (Item-F.Table z) at s) w.below (search (rules, the_lemmas))
     (λ apart. ap (λ made. table_origin made at (if made then w.section else s)) apart)
+item_own (Item-F.Section z) at s =
+    own_of (item_origins (roll-Item (Item-F.Section z)) at s) (table_origin true at s)
+    (item_told (Item-F.Section z) at s) (rows_origins s (rows_seen [] z)) (search (rules, the_lemmas)) (λ apart. absurd (false≢true (sym apart)))
 item_own (Item-F.Tables y) at s =
     own_of (item_origins (roll-Item (Item-F.Tables y)) at s) (array_origin at (table_within y.value.1).section)
     (item_told (Item-F.Tables y) at s)

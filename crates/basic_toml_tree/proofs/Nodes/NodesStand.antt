@@ -27,6 +27,7 @@ use Rattle.basic_toml_grow.specs.declared.item.Table.{Table, out-Table}
 use Rattle.basic_toml_tree.specs.declared.tree.Tree.{Tree}
 use Rattle.basic_toml_tree.specs.declared.node.Node.{Node}
 use Rattle.basic_toml_tree.specs.declared.plain_value.PlainValue.{PlainValue}
+use Rattle.basic_toml_tree.specs.declared.spot.HeaderTable.TheVariants.{Entries}
 use Rattle.basic_toml_tree.specs.declared.spot.Spot.{Spot}
 use Rattle.basic_toml_tree.specs.declared.spot.Spot.TheVariants as spots
 use Rattle.basic_toml_value.specs.Growth.{values_of}
@@ -35,9 +36,10 @@ use Rattle.basic_toml_tree.specs.Stands.{trie_at, tree_trie, spot_trie, wraps_ta
 use Rattle.basic_toml_tree.specs.Keys.{CountsKeys, KeysLead, RowsLead}
 use Rattle.basic_toml_tree.proofs.Nodes.KeysLead.{count_beside, keys_beside, rows_beside}
 use Rattle.basic_toml_tree.specs.Stands.{StandsAt, StandsOn, IsBeside, is_wrapper, ItemHolds, ComesFrom, node_origins}
-use Rattle.basic_toml_tree.specs.Stands.{StartIsKept, tree_origins, IsPlainElement, spot_origins}
+use Rattle.basic_toml_tree.specs.Stands.{StartIsKept, tree_origins, IsPlainElement, IsTableBeside, spot_origins}
 use Rattle.basic_toml_tree.specs.Data.{child_data, table_data}
 use Rattle.basic_toml_tree.specs.Nodes.{node_data, data_at, elements_in}
+use Rattle.basic_toml_tree.specs.HeaderTables.{table_of}
 use Rattle.basic_toml_tree.specs.Outer.{around}
 use Rattle.basic_toml_tree.specs.Paths.{data_by, data_along}
 use Rattle.basic_toml_grow.specs.Origins.{child_origins, item_origins, table_within, value_origins}
@@ -128,6 +130,7 @@ item_below i (Item-F.Inline table) t k u is own holds =
     let leaf = inline_trie table in
     inl (ap (λ i. below (key k) (item_trie i)) (shape i (Item-F.Inline table) is) ∙ ap (below (key k)) leaf.1)
 item_below i (Item-F.Table table) t k u is own holds = cc
+item_below i (Item-F.Section z) t k u is own holds = absurd holds
 item_below i (Item-F.Integer z) t k u is own holds = absurd holds
 item_below i (Item-F.Float z) t k u is own holds = absurd holds
 item_below i Item-F.True t k u is own holds = absurd holds
@@ -142,7 +145,7 @@ item_below i (Item-F.Tables z) t k u is own holds = absurd holds
 spot_below : (spot : Spot) (t : Table) (k : List ℕ) (c : Child) → HoldsTable spot t → wraps_table spot ≡ false
     → value_at (out-Table t).entries k ≡ Some c → NothingOr (key k) (spot_trie spot) (child_trie c)
 spot_below (spots.Table table) t k c holds own found =
-    let same : t ≡ table.now = holds in
+    let same : t ≡ table_of table = holds in
     inr (sym (ap (λ t. below (key k) (table_trie t)) (sym same) ∙ table_below t k c found))
 spot_below (spots.Item item) t k c holds own found =
     item_below item.now (out-Item item.now) t k (child_trie c) refl own holds
@@ -319,7 +322,7 @@ module _ (from node : Node) (n : ℕ) (b : Bor Item) (at : from.spot ≡ spots.I
       → slice_get (map table_trie tables.value.0.items ++ table_trie tables.value.1 ∷ []) n ≡ Some (table_trie t.now)
       → slice_get (map table_within tables.value.0.items ++ table_within tables.value.1 ∷ []) n ≡ Some (table_within t.now)
       → slice_get (elements_in (node_data from)) n ≡ Some (node_data node)
-      → IsBeside from (spots.Table t) node → node.start ≡ from.start → StandsOn from (number n) node
+      → IsTableBeside from t node → node.start ≡ from.start → StandsOn from (number n) node
   tables_stand tables t is found read held beside start tree p stands =
       let counted : (node.count == 0) ≡ false =
       ap (λ c. c == 0) beside.count ∙ stands.root ∙ no_array_root from tree p stands
@@ -332,8 +335,8 @@ module _ (from node : Node) (n : ℕ) (b : Bor Item) (at : from.spot ≡ spots.I
       found) in
       stands_on from node (number n) beside.tree held (λ own. inr (there, ap wraps_table beside.spot))
       (λ s. tables_come from node n b at tables t is read
-      (λ s. table_node_comes t node from.start s beside.spot start counted) s) tree p stands counted
+      (λ s. table_node_comes (Entries t) node from.start s beside.spot start counted) s) tree p stands counted
       (kept_beside from node n tree p beside.outer stands)
-      (count_beside from node (spots.Table t) n beside tree p stands)
-      (keys_beside from node (spots.Table t) n beside tree p stands)
-      (rows_beside from node (spots.Table t) n beside tree p stands)
+      (count_beside from node (spots.Table (Entries t)) n beside tree p stands)
+      (keys_beside from node (spots.Table (Entries t)) n beside tree p stands)
+      (rows_beside from node (spots.Table (Entries t)) n beside tree p stands)

@@ -10,7 +10,7 @@ use Rattle.std.proofs.Math.Path.{fun_ext}
 use Rattle.std.proofs.lemmas.Bool.{false≢true, and_parts, or_parts}
 use Rattle.std.proofs.lemmas.List.{take_more, map-append}
 use Rattle.std.proofs.lemmas.Option.{slice_get-get_or, get_or_from_slice_get}
-use Rattle.basic_toml_value.specs.Data.{members_of}
+use Rattle.basic_toml_value.specs.Data.{Data, members_of}
 use Rattle.basic_toml_index.specs.Index.{few}
 use Rattle.basic_toml_index.specs.Keys.{is_among, are_distinct}
 use Rattle.basic_toml_index.proofs.DistinctKeys.{bytes_eq-same, bytes_eq_other, first_differs, is_among-push}
@@ -31,7 +31,8 @@ use Rattle.basic_toml_read.proofs.NextRow.{lone_row, lined_is}
 use Rattle.basic_toml_grow.specs.Plain.{key_of, is_plain, are_simple, are_few_simple, plain_data, plain_table}
 use Rattle.basic_toml_grow.specs.Plain.{rows_data}
 use Rattle.basic_toml_grow.specs.Item.{item_trie, leaf}
-use Rattle.basic_toml_grow.specs.Origins.{value_origins, rows_origins, item_origins, table_within}
+use Rattle.basic_toml_grow.specs.Origins.{value_origins, rows_origins, item_origins, table_within, entry}
+use Rattle.basic_toml_grow.specs.Origins.{table_origin}
 use Rattle.basic_toml_grow.specs.declared.item.Item.{Item, out-Item, the_lemmas}
 use Rattle.basic_toml_grow.specs.declared.item.Item.TheOpen.{Item-F}
 use Rattle.basic_toml_grow.specs.declared.item.Item.TheViews.{roll-Item}
@@ -49,7 +50,7 @@ use Rattle.basic_toml_tree.specs.Resolve.{IsResolved}
 use Rattle.basic_toml_tree.specs.Stands.{AtKey, IsRowAt, ComesFrom, SpotComes, HoldsRows, ItemRows, RawRows}
 use Rattle.basic_toml_tree.specs.Stands.{IsPlainRow, StandsAt, StandsOn}
 use Rattle.basic_toml_tree.specs.Stands.{StartIsKept, spot_trie, spot_origins, node_origins, tree_trie, trie_at}
-use Rattle.basic_toml_tree.specs.Stands.{wraps_table}
+use Rattle.basic_toml_tree.specs.Stands.{is_wrapper, wraps_table}
 use Rattle.basic_toml_tree.specs.declared.entries.Entries.{Entries}
 use Rattle.basic_toml_tree.specs.declared.node.Node.{Node}
 use Rattle.basic_toml_tree.specs.declared.plain_value.PlainValue.{PlainValue}
@@ -171,14 +172,15 @@ inline_holds spot v z rs at is same =
 
 -- what a spot with rows stands for
 pub record Means (spot : Spot) (rs : List Row) : Type 0 where
-  pub trie : spot_trie spot ≡ leaf (rows_data rs)
+  pub trie : wraps_table spot ≡ false → spot_trie spot ≡ leaf (rows_data rs)
   pub is_data : spot_data spot ≡ rows_data rs
-  pub origins : (at s : ℕ) → spot_origins spot at s ≡ value_origins s at (plain_table rs)
+  pub origins : (at s : ℕ) (k : List ℕ) (q : Path)
+      → spot_origins spot at s (key k ∷ q) ≡ value_origins s at (plain_table rs) (key k ∷ q)
   pub unmade : (count : ℕ) → spot_is_made count spot ≡ false
 
-pub means : (spot : Spot) (rs : List Row) → HoldsRows spot rs → Means spot rs
-means (spots.Table table) rs holds = absurd holds
-means (spots.Item b) rs holds = go (out-Item b.now) refl holds
+pub means : (spot : Spot) (rs : List Row) → are_few_simple 0 rs ≡ true → HoldsRows spot rs → Means spot rs
+means (spots.Table table) rs simple holds = absurd holds
+means (spots.Item b) rs simple holds = go (out-Item b.now) refl holds
   where
     go : (x : Item-F Item Child Table) → out-Item b.now ≡ x → ItemRows x rs → Means (spots.Item b) rs
     go (Item-F.Rows z) is holds =
@@ -188,10 +190,24 @@ means (spots.Item b) rs holds = go (out-Item b.now) refl holds
         let origins : (at s : ℕ) → item_origins (roll-Item (Item-F.Rows z)) at s ≡ value_origins s at (plain_table z) =
         λ at s. search (rules, the_lemmas) in
         record {
-          trie = ap item_trie item ∙ trie ∙ ap (λ z. leaf (rows_data z)) (sym holds);
+          trie = λ own. ap item_trie item ∙ trie ∙ ap (λ z. leaf (rows_data z)) (sym holds);
           is_data = ap data_of item ∙ told ∙ ap rows_data (sym holds);
-          origins = λ at s. ap (λ i. item_origins i at s) item ∙ origins at s
-              ∙ ap (λ z. value_origins s at (plain_table z)) (sym holds);
+          origins = λ at s k q. ap (λ f. f (key k ∷ q)) (ap (λ i. item_origins i at s) item ∙ origins at s
+              ∙ ap (λ z. value_origins s at (plain_table z)) (sym holds));
+          unmade = λ count. ap holds_tables is;
+        }
+    go (Item-F.Section z) is holds =
+        let item = shape b.now (Item-F.Section z) is in
+        let told : data_of (roll-Item (Item-F.Section z)) ≡ Data.table (members_of (map row_pair z)) =
+        search (rules, the_lemmas) in
+        let origins : (at s : ℕ) → item_origins (roll-Item (Item-F.Section z)) at s
+        ≡ entry (table_origin true at s) (rows_origins s (rows_seen [] z)) = λ at s. search (rules, the_lemmas) in
+        record {
+          trie = λ own. absurd (false≢true (sym own ∙ ap is_wrapper is));
+          is_data = ap data_of item ∙ told ∙ ap (λ z. Data.table (members_of (map row_pair z))) (sym holds)
+              ∙ sym (few_data rs simple);
+          origins = λ at s k q. ap (λ f. f (key k ∷ q)) (ap (λ i. item_origins i at s) item ∙ origins at s)
+              ∙ ap (λ z. rows_origins s (rows_seen [] z) (key k ∷ q)) (sym holds);
           unmade = λ count. ap holds_tables is;
         }
     go (Item-F.Integer z) is holds = absurd holds
@@ -205,7 +221,7 @@ means (spots.Item b) rs holds = go (out-Item b.now) refl holds
     go (Item-F.Inline z) is holds = absurd holds
     go (Item-F.Table z) is holds = absurd holds
     go (Item-F.Tables z) is holds = absurd holds
-means (spots.Plain v) rs holds = go (raws.out-Raw v.value.now) refl holds
+means (spots.Plain v) rs simple holds = go (raws.out-Raw v.value.now) refl holds
   where
     go : (x : Raw-F raws.Raw Element Row code_rows.Rows) → raws.out-Raw v.value.now ≡ x → RawRows x rs
         → Means (spots.Plain v) rs
@@ -214,9 +230,9 @@ means (spots.Plain v) rs holds = go (raws.out-Raw v.value.now) refl holds
         let seen : raw_of v.value.now ≡ plain_table rs =
         ap raw_of (sym (raws.roll-out-Raw v.value.now) ∙ ap raws.roll-Raw is) ∙ made ∙ ap plain_table (sym holds) in
         record {
-          trie = ap (λ v. leaf (finished v)) seen;
+          trie = λ own. ap (λ v. leaf (finished v)) seen;
           is_data = ap finished seen;
-          origins = λ at s. ap (value_origins s at) seen;
+          origins = λ at s k q. ap (λ v. value_origins s at v (key k ∷ q)) seen;
           unmade = λ count. refl;
         }
     go (Raw-F.Integer z) is holds = absurd holds
@@ -275,8 +291,8 @@ path_unmade from tree (s ∷ p) stands unmade sections resolved =
 
 -- What a node keeps of the keys that lead to a row of an inline table, below which nothing is made.
 module _ (from node : Node) (k : List ℕ) (unmade : spot_is_made from.count from.spot ≡ false)
-    (none : below (key k) (spot_trie from.spot) ≡ nothing) (trail : node.trail ≡ from.trail) (tree : Tree) (p : Path)
-    (stands : StandsAt tree p from) where
+    (none : wraps_table from.spot ≡ false → below (key k) (spot_trie from.spot) ≡ nothing)
+    (trail : node.trail ≡ from.trail) (tree : Tree) (p : Path) (stands : StandsAt tree p from) where
   not_there : trie_at (p ++ key k ∷ []) (tree_trie tree) ≡ nothing
   not_there = at_more p (key k) (tree_trie tree) ∙ go stands.there
     where
@@ -284,7 +300,7 @@ module _ (from node : Node) (k : List ℕ) (unmade : spot_is_made from.count fro
           ⊎ ((spot_trie from.spot ≡ trie_at p (tree_trie tree)) × (wraps_table from.spot ≡ false))
           → below (key k) (trie_at p (tree_trie tree)) ≡ nothing
       go (inl nothing_there) = ap (below (key k)) nothing_there
-      go (inr there) = ap (below (key k)) (sym there.0) ∙ none
+      go (inr there) = ap (below (key k)) (sym there.0) ∙ none there.1
 
   keys_keep : KeysLead tree (p ++ key k ∷ []) node
   keys_keep sections resolved made =
@@ -311,7 +327,7 @@ module _ (from node : Node) (rs : List Row) (holds : HoldsRows from.spot rs) (si
   row_comes : (s : ℕ) → ComesFrom (λ q. node_origins s from (key (key_of r) ∷ q)) node
   row_comes s =
       subst (λ f. ComesFrom f node) (fun_ext (λ q.
-      sym (ap (λ f. f (key (key_of r) ∷ q)) ((means from.spot rs holds).origins from.start s)
+      sym ((means from.spot rs simple holds).origins from.start s (key_of r) q
       ∙ own_origins s rs n r q (rows_differ rs simple) read
       ∙ ap (λ at. value_origins s at (raw_of (out-Row r).value) q) (sym is.start)
       ∙ ap (λ v. value_origins s node.start (raw_of v) q) (sym is.value))))
@@ -321,15 +337,16 @@ module _ (from node : Node) (rs : List Row) (holds : HoldsRows from.spot rs) (si
 
   pub row_stands : StandsOn from (key (key_of r)) node
   row_stands tree p stands =
-      let means = means from.spot rs holds in
+      let means = means from.spot rs simple holds in
       let unmade = means.unmade from.count in
-      let none : below (key (key_of r)) (spot_trie from.spot) ≡ nothing = ap (below (key (key_of r))) means.trie in
+      let none : wraps_table from.spot ≡ false → below (key (key_of r)) (spot_trie from.spot) ≡ nothing =
+      λ own. ap (below (key (key_of r))) (means.trie own) in
       let found : data_at (node_data from) (key_of r) ≡ Some (node_data node) =
       ap (λ d. data_at d (key_of r)) means.is_data ∙ key_found rs simple n r read
       ∙ ap Some (sym (row_node_data from node r is)) in
       let outer : node.outer ≡ kept_below from =
       is.outer ∙ sym (ap (λ b. if b then None else Some from.start) unmade) in
-      stands_on from node (key (key_of r)) is.tree found (λ own. inl none) row_comes tree p stands is.nested
+      stands_on from node (key (key_of r)) is.tree found (λ own. inl (none own)) row_comes tree p stands is.nested
       (subst (λ q. StartIsKept tree q node.outer) (sym (around_key p (key_of r)))
       (keeps_below from node outer tree p stands)) (count_keeps from node (key_of r) is.count tree p stands)
       (keys_keep from node (key_of r) unmade none is.trail tree p stands)
@@ -343,11 +360,11 @@ module _ (from : Node) (rs : List Row) (simple : are_few_simple 0 rs ≡ true) (
       plain_at rs simple found.0 r (within_length rs found.0 r found.1)
       (sym (get_or_from_slice_get rs found.0 r r found.1))
 
-  pub found_data : (node : Node) → node_data from ≡ rows_data rs → IsPlainRow from r node
+  pub found_data : (node : Node) → node_data from ≡ rows_data rs → node_data node ≡ plain_data (out-Row r).value
       → data_at (node_data from) k ≡ Some (node_data node)
   found_data node here is =
       ap (λ d. data_at d k) here ∙ ap (data_at (rows_data rs)) (sym found.2) ∙ key_found rs simple found.0 r found.1
-      ∙ ap Some (sym (row_node_data from node r is))
+      ∙ ap Some (sym is)
 
   pub found_stands : (node : Node) → HoldsRows from.spot rs → IsPlainRow from r node → AtKey from k node
   found_stands node holds is =
@@ -365,9 +382,9 @@ module _ (before : Entries) (rs : List Row) (here : node_data before.table ≡ r
       drop_past (entries_in (node_data before.table)) before.at (omega (arith, long, past))
 
   pub first_row_left : (r : Row) (k : Bor (List ℕ)) (node : Node) → slice_get rs before.at ≡ Some r → k.now ≡ key_of r
-      → IsPlainRow before.table r node
+      → node_data node ≡ plain_data (out-Row r).value
       → entries_left before ≡ key_and_data (k, node) ∷ drop (before.at + 1) (entries_in (node_data before.table))
   first_row_left r k node read same is =
       drop_next (entries_in (node_data before.table)) before.at (key_and_data (k, node))
       (ap (λ l. slice_get l before.at) entries_seen ∙ read_mapped row_pair rs before.at r read
-      ∙ ap₂ (λ (k : List ℕ) d. Some (k, d)) (sym same) (sym (row_node_data before.table node r is)))
+      ∙ ap₂ (λ (k : List ℕ) d. Some (k, d)) (sym same) (sym is))

@@ -1,6 +1,6 @@
 use Rattle.std.proofs.Common.{◌||◌, ap, ◌∙◌, sym}
 use Rattle.basic_toml_grow.specs.declared.item.Table.{out-Table}
-use Rattle.basic_toml_grow.proofs.MetTellsStop.{made_met, tables_stand}
+use Rattle.basic_toml_grow.proofs.MetTellsStop.{made_met, section_stands, tables_stand}
 use Rattle.basic_toml_grow.proofs.rows.what_is_met.Goals as goal
 
 pub returns-then-is_made-clause-named : goal.returns-then-is_made-clause-named
@@ -8,6 +8,10 @@ returns-then-is_made-clause-named c =
     made_met c.args.there.now c.in-Table.table c.in-Table.is
     (ap (λ t. (out-Table t).passed || (out-Table t).named) (sym c.deref.ensures) ∙ sym c.is_made.ensures
     ∙ c.if-is_made.true)
+
+pub returns-in-Section-clause-named : goal.returns-in-Section-clause-named
+returns-in-Section-clause-named c =
+    section_stands c.args.there.now c.in-Section.field-0 c.in-Section.is
 
 pub returns-in-Tables-clause-named : goal.returns-in-Tables-clause-named
 returns-in-Tables-clause-named c =

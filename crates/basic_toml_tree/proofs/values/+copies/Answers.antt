@@ -9,6 +9,7 @@ use Rattle.basic_toml_tree.proofs.DataParts.{items_size-at, items_size-front, it
 use Rattle.basic_toml_tree.proofs.DataParts.{mapped_more, array_seen}
 use Rattle.basic_toml_tree.proofs.ItemData.{child_item, plain_elements, rows_item, table_of_pairs, tables_data}
 use Rattle.basic_toml_tree.proofs.ItemData.{table_seen, entries_seen, keys_copied, refused_held, tables_whole}
+use Rattle.basic_toml_tree.proofs.SectionData.{section_rows}
 use Rattle.basic_toml_tree.proofs.values.+copies.Goals as goal
 
 pub elements_of-value_of-requires : goal.elements_of-value_of-requires
@@ -116,3 +117,9 @@ value_of-returns-in_ok-plain_table-in-Rows t c =
     table_seen c.in_ok-plain_table-in-Rows.field-0
     ∙ c.in_ok-plain_table-in-Rows.ensures.table ∙ ap rows_data c.rows.ensures.rows
     ∙ sym (ap data_of c.in-Rows.is ∙ rows_item c.in-Rows.table)
+
+pub value_of-returns-in_ok-plain_table-in-Section : goal.value_of-returns-in_ok-plain_table-in-Section
+value_of-returns-in_ok-plain_table-in-Section t c =
+    table_seen c.in_ok-plain_table-in-Section.field-0
+    ∙ c.in_ok-plain_table-in-Section.ensures.table ∙ ap rows_data c.rows-in-Section.ensures.rows
+    ∙ sym (ap data_of c.in-Section.is ∙ section_rows c.in-Section.table c.rows-in-Section.ensures.plain)

@@ -11,6 +11,7 @@ use Rattle.basic_toml_tree.proofs.ItemData.{child_item, children_data, inline_da
 use Rattle.basic_toml_tree.proofs.ItemData.{table_of_pairs, tables_data, table_seen}
 use Rattle.basic_toml_tree.proofs.ItemData.{entries_seen, keys_copied, refused_held, tables_whole}
 use Rattle.basic_toml_value.proofs.KeysSeen.{keys_of-seen}
+use Rattle.basic_toml_tree.proofs.SectionData.{section_moved}
 use Rattle.basic_toml_tree.proofs.values.+moves.Goals as goal
 
 pub into_elements-into_value-requires : goal.into_elements-into_value-requires
@@ -185,3 +186,9 @@ into_value-into_inner_table-requires-in-Table t c =
 
 pub into_value-into_array_of_tables-requires : goal.into_value-into_array_of_tables-requires
 into_value-into_array_of_tables-requires t c = (omega (arith, ap (λ i. data_size (data_of i)) c.in-Tables.is), tt)
+
+pub into_value-returns-in-Section : goal.into_value-returns-in-Section
+into_value-returns-in-Section t c =
+    section_moved c.into_plain_table-in-Section.result c.args.item c.in-Section.table
+    c.into_rows-in-Section.result.items c.in-Section.is c.into_rows-in-Section.ensures.rows c.into_rows-in-Section.ensures.plain
+    c.into_plain_table-in-Section.ensures

@@ -9,7 +9,9 @@ use Rattle.basic_toml_tree.proofs.Nodes.NodesInOrder.{progress}
 use Rattle.basic_toml_tree.proofs.Nodes.NodesStand.{entry_stands}
 use Rattle.basic_toml_tree.proofs.Nodes.OuterStands.{keeps_below}
 use Rattle.basic_toml_tree.proofs.Nodes.KeysTold.{key_keeps}
-use Rattle.basic_toml_tree.proofs.Nodes.RowNodes.{plain_at, row_read, row_stands, no_row_left, first_row_left}
+use Rattle.basic_toml_tree.proofs.Nodes.RowNodes.{plain_at, row_node_data, row_read, row_stands, no_row_left}
+use Rattle.basic_toml_tree.proofs.Nodes.RowNodes.{first_row_left}
+use Rattle.basic_toml_tree.proofs.Nodes.SectionNodes.{section_row_stands}
 use Rattle.basic_toml_tree.proofs.entries.EntriesIterator.next.Goals as goal
 
 pub returns-then-at-len-clause-steps : goal.returns-then-at-len-clause-steps
@@ -73,20 +75,21 @@ returns-in_err-row-in-Rows-clause-steps c =
     (sym c.from_residual-in_err-row-in-Rows.ensures) ((none, none), tt, refl)
 
 -- the row that is read
-row_there : (c : goal.After-t34-1) → slice_get c.in-Rows.rows.now c.args.self.now.at ≡ Some c.in_ok-row-in-Rows.row.now
+row_there : (c : goal.After-t39-1) → slice_get c.in-Rows.rows.now c.args.self.now.at ≡ Some c.in_ok-row-in-Rows.row.now
 row_there c =
     let lookup = c.in_ok-row-in-Rows.ensures.lookup in
     row_read c.in-Rows.rows.now c.args.self.now.at c.in_ok-row-in-Rows.row.now lookup.3.0 lookup.1
 
 -- what is read comes first of what is left
-first_row : (c : goal.After-t34-1) → entries_left c.args.self.now
+first_row : (c : goal.After-t39-1) → entries_left c.args.self.now
     ≡ key_and_data (c.as_str.result, c.plain_row.result)
     ∷ drop (c.args.self.now.at + 1) (entries_in (node_data c.args.self.now.table))
 first_row c =
     let held = subst (HoldsFields c.args.self.now.table.spot) c.in-Rows.is c.in_ok-table.ensures.fields in
     let here = c.in_ok-table.ensures.«data» ∙ ap fields_data c.in-Rows.is in
     first_row_left c.args.self.now c.in-Rows.rows.now here held.1 c.in_ok-row-in-Rows.row.now c.as_str.result
-    c.plain_row.result (row_there c) c.as_str.ensures.value c.plain_row.ensures
+    c.plain_row.result (row_there c) c.as_str.ensures.value
+    (row_node_data c.args.self.now.table c.plain_row.result c.in_ok-row-in-Rows.row.now c.plain_row.ensures)
 
 pub returns-in_ok-row-in-Rows-clause-steps : goal.returns-in_ok-row-in-Rows-clause-steps
 returns-in_ok-row-in-Rows-clause-steps c =
@@ -102,3 +105,40 @@ pub returns-in_ok-row-in-Rows-clause-goes : goal.returns-in_ok-row-in-Rows-claus
 returns-in_ok-row-in-Rows-clause-goes c =
     progress entries_left c.args.self.now (record { table = c.args.self.now.table; at = c.args.self.now.at + 1 })
     (c.as_str.result, c.plain_row.result) (omega (arith, ap length (first_row c)))
+
+-- the rows of a section
+pub section_row-requires : goal.section_row-requires
+section_row-requires c =
+    let held = subst (HoldsFields c.args.self.now.table.spot) c.in-Section.is c.in_ok-table.ensures.fields in
+    let read = c.in_ok-row-in-Section.ensures.lookup in
+    plain_at c.in-Section.rows.now held.1 c.args.self.now.at c.in_ok-row-in-Section.row.now read.3.0 read.1
+
+pub returns-in_err-row-in-Section-clause-steps : goal.returns-in_err-row-in-Section-clause-steps
+returns-in_err-row-in-Section-clause-steps c =
+    let held = subst (HoldsFields c.args.self.now.table.spot) c.in-Section.is c.in_ok-table.ensures.fields in
+    let here = c.in_ok-table.ensures.«data» ∙ ap fields_data c.in-Section.is in
+    let none = no_row_left c.args.self.now c.in-Section.rows.now here held.1 c.in_err-row-in-Section.ensures.lookup.3 in
+    subst (λ result. GivesEntry c.args.self.now result c.args.self.now)
+    (sym c.from_residual-in_err-row-in-Section.ensures) ((none, none), tt, refl)
+
+pub returns-in_ok-row-in-Section-clause-steps : goal.returns-in_ok-row-in-Section-clause-steps
+returns-in_ok-row-in-Section-clause-steps c =
+    let rows = c.in-Section.rows.now in
+    let r = c.in_ok-row-in-Section.row.now in
+    let held = subst (HoldsFields c.args.self.now.table.spot) c.in-Section.is c.in_ok-table.ensures.fields in
+    let here = c.in_ok-table.ensures.«data» ∙ ap fields_data c.in-Section.is in
+    let lookup = c.in_ok-row-in-Section.ensures.lookup in
+    let there = row_read rows c.args.self.now.at r lookup.3.0 lookup.1 in (
+      first_row_left c.args.self.now rows here held.1 r c.as_str-in-Section.result c.section_row.result there
+          c.as_str-in-Section.ensures.value c.section_row.ensures.value,
+      subst (λ k. AtKey c.args.self.now.table k c.section_row.result) (sym c.as_str-in-Section.ensures.value)
+          (section_row_stands c.args.self.now.table c.section_row.result c.in-Section.section rows held.0 here held.1
+          c.args.self.now.at r there c.section_row.ensures),
+      refl,
+    )
+
+pub returns-in_ok-row-in-Section-clause-goes : goal.returns-in_ok-row-in-Section-clause-goes
+returns-in_ok-row-in-Section-clause-goes c =
+    progress entries_left c.args.self.now (record { table = c.args.self.now.table; at = c.args.self.now.at + 1 })
+    (c.as_str-in-Section.result, c.section_row.result)
+    (omega (arith, ap length (returns-in_ok-row-in-Section-clause-steps c).0))

@@ -1,7 +1,15 @@
-use Rattle.std.proofs.Common.{◌≡◌, ap, sym, ◌∙◌, true}
+use Rattle.std.proofs.Common.{◌≡◌, ap, sym, ◌∙◌, rules, subst, true}
 use Rattle.basic_toml_read.specs.declared.section.Raw as raws
-use Rattle.basic_toml_grow.specs.Plain.{is_plain, are_few_simple}
+use Rattle.basic_toml_grow.specs.Plain.{is_plain, are_few_simple, rows_data}
 use Rattle.basic_toml_grow.proofs.PlainValues.{table_within}
+use Rattle.basic_toml_tree.specs.Data.{data_of}
+use Rattle.basic_toml_tree.specs.Nodes.{spot_data}
+use Rattle.basic_toml_grow.specs.Simple.{section_table}
+use Rattle.basic_toml_grow.specs.declared.item.Child.{out-Child}
+use Rattle.basic_toml_tree.specs.Stands.{HoldsTable}
+use Rattle.basic_toml_tree.specs.declared.spot.HeaderTable.TheVariants as tables
+use Rattle.basic_toml_tree.specs.declared.spot.Spot.TheVariants as spots
+use Rattle.basic_toml_tree.proofs.SectionData.{section_rows, section_table_data}
 use Rattle.basic_toml_tree.proofs.Nodes.RowNodes.{inline_holds}
 use Rattle.basic_toml_tree.proofs.node.Node.as_table.Goals as goal
 
@@ -14,3 +22,26 @@ returns-in-Inline-value-clause-fields c =
     let plain : is_plain (raws.Inline c.in-Inline-value.rows) 0 ≡ true =
     ap (λ v. is_plain v 0) (sym c.in-Inline-value.is) ∙ c.in-Plain.plain.plain in
     (holds, ap (are_few_simple 0) c.as_slice.ensures.value ∙ table_within rows 0 plain)
+
+pub returns-in-Section-clause-data : goal.returns-in-Section-clause-data
+returns-in-Section-clause-data c =
+    ap spot_data c.in-Item.is ∙ ap data_of c.in-Section.is
+    ∙ section_rows c.in-Section.table c.rows-in-Section.ensures.plain
+    ∙ ap rows_data (sym c.rows-in-Section.ensures.rows)
+
+-- the rows of a section
+section_here : (c : goal.After-rows) → c.args.self.spot ≡ spots.Table (tables.Section c.in-Table-Section.table)
+section_here c = search rules
+
+pub returns-in-Table-Section-clause-data : goal.returns-in-Table-Section-clause-data
+returns-in-Table-Section-clause-data c =
+    ap spot_data (section_here c)
+    ∙ section_table_data c.in-Table-Section.table c.rows.result.now c.rows.ensures.rows c.rows.ensures.plain
+
+pub returns-in-Table-Section-clause-fields : goal.returns-in-Table-Section-clause-fields
+returns-in-Table-Section-clause-fields c =
+    let table = section_table (out-Child c.in-Table-Section.table.child.now).section c.rows.result.now in (
+      subst (λ spot. HoldsTable spot table) (sym (section_here c))
+          (ap (section_table (out-Child c.in-Table-Section.table.child.now).section) c.rows.ensures.rows),
+      c.rows.ensures.plain,
+    )

@@ -6,7 +6,8 @@ use Rattle.basic_toml_tree.proofs.ItemData.{data_at_found, data_at_absent}
 use Rattle.basic_toml_tree.proofs.Nodes.NodesStand.{key_stands}
 use Rattle.basic_toml_tree.proofs.Nodes.OuterStands.{keeps_below}
 use Rattle.basic_toml_tree.proofs.Nodes.KeysTold.{key_keeps}
-use Rattle.basic_toml_tree.proofs.Nodes.RowNodes.{found_data, found_plain, found_stands, key_absent}
+use Rattle.basic_toml_tree.proofs.Nodes.RowNodes.{found_data, found_plain, found_stands, key_absent, row_node_data}
+use Rattle.basic_toml_tree.proofs.Nodes.SectionNodes.{section_found_stands}
 use Rattle.basic_toml_tree.proofs.node.Node.get.Goals as goal
 
 pub returns-in_default-clause-data : goal.returns-in_default-clause-data
@@ -41,7 +42,8 @@ pub returns-in-Some-row_at-clause-data : goal.returns-in-Some-row_at-clause-data
 returns-in-Some-row_at-clause-data c =
     let held = subst (HoldsFields c.args.self.spot) c.in-Rows.is c.in_ok-table.ensures.fields in
     found_data c.args.self c.in-Rows.rows.now held.1 c.args.key.now c.in-Some-row_at.row.now c.in-Some-row_at.ensures
-    c.plain_row.result (c.in_ok-table.ensures.«data» ∙ ap fields_data c.in-Rows.is) c.plain_row.ensures
+    c.plain_row.result (c.in_ok-table.ensures.«data» ∙ ap fields_data c.in-Rows.is)
+    (row_node_data c.args.self c.plain_row.result c.in-Some-row_at.row.now c.plain_row.ensures)
 
 pub returns-in-Some-row_at-clause-stands : goal.returns-in-Some-row_at-clause-stands
 returns-in-Some-row_at-clause-stands c =
@@ -54,3 +56,29 @@ returns-in-None-clause-data c =
     let held = subst (HoldsFields c.args.self.spot) c.in-Rows.is c.in_ok-table.ensures.fields in
     ap (λ d. data_at d c.args.key.now) (c.in_ok-table.ensures.«data» ∙ ap fields_data c.in-Rows.is)
     ∙ key_absent c.in-Rows.rows.now held.1 c.args.key.now c.in-None.ensures
+
+-- a row of a section
+pub section_row-requires : goal.section_row-requires
+section_row-requires c =
+    let held = subst (HoldsFields c.args.self.spot) c.in-Section.is c.in_ok-table.ensures.fields in
+    found_plain c.args.self c.in-Section.rows.now held.1 c.args.key.now c.in-Some-row_at-2.row.now
+    c.in-Some-row_at-2.ensures
+
+pub returns-in-Some-row_at-2-clause-data : goal.returns-in-Some-row_at-2-clause-data
+returns-in-Some-row_at-2-clause-data c =
+    let held = subst (HoldsFields c.args.self.spot) c.in-Section.is c.in_ok-table.ensures.fields in
+    found_data c.args.self c.in-Section.rows.now held.1 c.args.key.now c.in-Some-row_at-2.row.now
+    c.in-Some-row_at-2.ensures c.section_row.result (c.in_ok-table.ensures.«data» ∙ ap fields_data c.in-Section.is) c.section_row.ensures.value
+
+pub returns-in-Some-row_at-2-clause-stands : goal.returns-in-Some-row_at-2-clause-stands
+returns-in-Some-row_at-2-clause-stands c =
+    let held = subst (HoldsFields c.args.self.spot) c.in-Section.is c.in_ok-table.ensures.fields in
+    section_found_stands c.args.self c.section_row.result c.in-Section.section c.in-Section.rows.now held.0
+    (c.in_ok-table.ensures.«data» ∙ ap fields_data c.in-Section.is) held.1 c.args.key.now c.in-Some-row_at-2.row.now
+    c.in-Some-row_at-2.ensures c.section_row.ensures
+
+pub returns-in-None-row_at-clause-data : goal.returns-in-None-row_at-clause-data
+returns-in-None-row_at-clause-data c =
+    let held = subst (HoldsFields c.args.self.spot) c.in-Section.is c.in_ok-table.ensures.fields in
+    ap (λ d. data_at d c.args.key.now) (c.in_ok-table.ensures.«data» ∙ ap fields_data c.in-Section.is)
+    ∙ key_absent c.in-Section.rows.now held.1 c.args.key.now c.in-None-row_at.ensures

@@ -1,0 +1,14 @@
+use Rattle.std.proofs.Common.{◌≡◌, ap, sym, ◌∙◌, rules}
+use Rattle.basic_toml_tree.specs.Nodes.{spot_data}
+use Rattle.basic_toml_tree.specs.declared.spot.HeaderTable.TheVariants as tables
+use Rattle.basic_toml_tree.specs.declared.spot.Spot.TheVariants as spots
+use Rattle.basic_toml_tree.proofs.ItemData.{table_seen}
+use Rattle.basic_toml_tree.proofs.SectionData.{section_table_data}
+use Rattle.basic_toml_tree.proofs.node.Node.to_value.Goals as goal
+
+pub returns-in_ok-plain_table-in-Table-Section-clause-ok : goal.returns-in_ok-plain_table-in-Table-Section-clause-ok
+returns-in_ok-plain_table-in-Table-Section-clause-ok c =
+    let here : c.args.self.spot ≡ spots.Table (tables.Section c.in-Table-Section.table) = search rules in
+    table_seen c.in_ok-plain_table-in-Table-Section.field-0 ∙ c.in_ok-plain_table-in-Table-Section.ensures.table
+    ∙ sym (ap spot_data here
+    ∙ section_table_data c.in-Table-Section.table c.rows.result.now c.rows.ensures.rows c.rows.ensures.plain)
