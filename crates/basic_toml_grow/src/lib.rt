@@ -15,7 +15,6 @@ mod crossed;
 mod headers;
 mod item;
 mod items_left;
-mod met;
 mod plain;
 mod plain_items;
 mod row_clash;

@@ -18,12 +18,11 @@ ghost use Rattle.basic_toml_grow.specs.Rows.{EntersRow, EntersRows, Extends, Fin
 ghost use Rattle.basic_toml_grow.specs.Clash.{NamesObstacle};
 ghost use Rattle.basic_toml_grow.specs.Simple.{are_all_plain as all_plain};
 ghost use Rattle.basic_toml_grow.specs.Obstacles.{rows_obstacle, value_obstacle, elements_obstacle};
-ghost use Rattle.basic_toml_grow.specs.RowStops.{TellsRow, TellsExtended};
+ghost use Rattle.basic_toml_grow.specs.RowStops.{TellsLast, TellsRow, TellsExtended};
 
 use crate::clash::Clash;
 use crate::item::{Child, Item, Table};
 use crate::items_left::{ItemsLeft, drain};
-use crate::met::{Met, what_is_met};
 use crate::plain::{are_few_simple, are_plain};
 use crate::plain_items::{PlainArray, PlainTable};
 use crate::row_clash::{row_clash, value_clash};
@@ -31,7 +30,7 @@ use crate::simple::{RowKeys, are_all_plain, with_first_rows, with_rows};
 use basic_toml_index::Index;
 use basic_toml_read::{Element, Key, Raw, Row, Rows};
 use basic_toml_value::NESTING_LIMIT;
-use std::alloc::Global;
+use std::alloc::{AllocError, AllocFailed, Global};
 use std::mem;
 
 /// How many times a value is looked through at most for whether it is plain: a deep one is not looked through anew at
@@ -40,6 +39,57 @@ pub(crate) const LOOKS: usize = 4;
 
 // Of so many rows an index of the keys is made at once, by sorting them, where each has one key and a plain value.
 const MANY: usize = 64;
+
+/// Why a row is not put into a table.
+#[derive(Clone, Copy, Drop)]
+pub(crate) enum Met {
+    Memory,
+    /// What stands at one of its keys is in the way, with so many keys left from that key on.
+    Header(usize),
+    /// Its last key stands before it, by a row.
+    Row,
+}
+
+impl From<AllocError> for Met {
+    ghost use Rattle.std.specs.Prelude.{◌≡◌};
+    ghost use Rattle.basic_toml_grow.specs.declared.rows.Met.TheVariants.{Memory};
+
+    ghost from_gives = { λ _ met. met ≡ Memory };
+
+    fn from(_error: AllocError) -> Met {
+        Met::Memory
+    }
+}
+
+impl<T: Drop> From<AllocFailed<T>> for Met {
+    ghost use Rattle.std.specs.Prelude.{◌≡◌};
+    ghost use Rattle.basic_toml_grow.specs.declared.rows.Met.TheVariants.{Memory};
+
+    ghost from_gives = { λ _ met. met ≡ Memory };
+
+    fn from(_failed: AllocFailed<T>) -> Met {
+        Met::Memory
+    }
+}
+
+// Why what stands at a row's last key keeps the row out.
+fn what_is_met(there: &Child<'_>) -> Met
+    ensures stands { (d : Data) → mark_here (valued d) (child_trie there.now) ≡ None }
+    ensures named { TellsLast (child_trie there.now) result }
+{
+    match &there.item {
+        Item::Table(table) => {
+            if table.is_made() {
+                Met::Header(1)
+            } else {
+                Met::Row
+            }
+        }
+        Item::Section(_) => Met::Header(1),
+        Item::Tables(_) => Met::Header(1),
+        _ => Met::Row,
+    }
+}
 
 // Puts a row's value into a table, by the keys that periods follow, and then its last key. It is inlined, since most
 // rows have one key.
@@ -198,30 +248,7 @@ pub(crate) fn take_rows<'de>(
     {
         return Ok(with_rows(alloc, table, &mut rows.rows, section)?);
     }
-    let rows = mem::replace(rows, Rows::none(alloc));
-    take_other_rows(alloc, table, rows, section, level, looks)
-}
-
-// Puts rows that are not few and simple, or come beside entries, into a table of a level. It is not inlined, so that few
-// simple rows do without its room.
-#[cycle(finishing)]
-#[inline(never)]
-fn take_other_rows<'de>(
-    alloc: Global,
-    table: &mut Table<'de>,
-    rows: Rows<'de>,
-    section: usize,
-    level: usize,
-    looks: usize,
-) -> Result<(), Clash>
-    requires { level ≤ nesting_limit }
-    ensures entered { EntersRows (rows_view rows.entry) level (table_trie table.old) (table_trie table.new) result }
-    ensures named { IfErr result (λ clash.
-        NamesObstacle (rows_obstacle level (rows_view rows.entry) (table_trie table.old)) clash) }
-    ensures origins { IfOk result (λ _. table_within table.new
-        ≡ with_more (table_within table.old) (rows_origins section (rows_view rows.entry))) }
-{
-    let Rows { parents, rows } = rows;
+    let Rows { parents, rows } = mem::replace(rows, Rows::none(alloc));
     if rows.len() >= MANY
         && looks > 0
         && parents.is_empty()

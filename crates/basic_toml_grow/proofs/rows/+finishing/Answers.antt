@@ -445,14 +445,16 @@ take_rows-returns-then-are_few_simple-clause-taken t c =
     let parents = without_parents t c in
     search (rules, parents, c.in_ok-with_rows.ensures.taken, raws.the_lemmas)
 
-pub take_other_rows-returns-then-are_all_plain-clause-named : goal.take_other_rows-returns-then-are_all_plain-clause-named
-take_other_rows-returns-then-are_all_plain-clause-named t c =
-    let own = tables.out-Rows c.args.rows in
+pub take_rows-returns-then-are_all_plain-clause-named : goal.take_rows-returns-then-are_all_plain-clause-named
+take_rows-returns-then-are_all_plain-clause-named t c =
+    let now = c.replace-parents.result in
+    let own = tables.out-Rows now in
     let none : own.parents.items ≡ [] =
-    nothing_left own.parents.items (grind (arith, c.is_empty.ensures, c.if-is_empty.true, own.parents.ok.0)) in
+    nothing_left own.parents.items
+    (grind (arith, c.is_empty-then-looks-gt0-2.ensures, c.if-is_empty-5.true, own.parents.ok.0)) in
     subst (λ (rows : Rows). IfErr c.take_many_rows.result
     (λ clash. NamesObstacle (rows_obstacle c.args.level rows (table_trie c.args.table.now)) clash))
-    (sym (no_parents_seen c.args.rows none)) c.take_many_rows.ensures.named
+    (sym (no_parents_seen now none) ∙ ap rows_view c.replace-parents.ensures.value) c.take_many_rows.ensures.named
 
 -- many plain rows, the first of them taken at once
 many_first : (t : ℕ) (c : goal.take_many_rows-After-enter_rows t)

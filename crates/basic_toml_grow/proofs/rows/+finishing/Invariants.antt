@@ -9,31 +9,28 @@ use Rattle.basic_toml_grow.proofs.ElementsLeft.{ElementsAreLeft}
 use Rattle.basic_toml_grow.proofs.rows.+finishing.Given as goal
 
 abbrev pub decreases-take_rows : goal.decreases-take_rows
-decreases-take_rows l = 8 * (nesting_limit - l.level) + 7
-
-abbrev pub decreases-take_other_rows : goal.decreases-take_other_rows
-decreases-take_other_rows l = 8 * (nesting_limit - l.level) + 6
+decreases-take_rows l = 7 * (nesting_limit - l.level) + 6
 
 abbrev pub decreases-take_many_rows : goal.decreases-take_many_rows
-decreases-take_many_rows l = 8 * (nesting_limit - l.level) + 5
+decreases-take_many_rows l = 7 * (nesting_limit - l.level) + 5
 
 abbrev pub decreases-enter_rows : goal.decreases-enter_rows
-decreases-enter_rows l = 8 * (nesting_limit - l.level) + 4
+decreases-enter_rows l = 7 * (nesting_limit - l.level) + 4
 
 abbrev pub decreases-enter_value : goal.decreases-enter_value
-decreases-enter_value l = 8 * (nesting_limit - l.level) + 3
+decreases-enter_value l = 7 * (nesting_limit - l.level) + 3
 
 abbrev pub decreases-row_value : goal.decreases-row_value
-decreases-row_value l = 8 * (nesting_limit - l.level) + 2
+decreases-row_value l = 7 * (nesting_limit - l.level) + 2
 
 abbrev pub decreases-child_of : goal.decreases-child_of
-decreases-child_of l = 8 * (nesting_limit - l.level) + 1
+decreases-child_of l = 7 * (nesting_limit - l.level) + 1
 
 abbrev pub decreases-inline_child : goal.decreases-inline_child
-decreases-inline_child l = 8 * (nesting_limit - l.level)
+decreases-inline_child l = 7 * (nesting_limit - l.level)
 
 abbrev pub decreases-children_of : goal.decreases-children_of
-decreases-children_of l = 8 * (nesting_limit - l.level) + 2
+decreases-children_of l = 7 * (nesting_limit - l.level) + 2
 
 -- what the rows that are left put into the table as it is, all put into it as it was
 abbrev pub invariant-enter_rows-loop-row : goal.invariant-enter_rows-loop-row
