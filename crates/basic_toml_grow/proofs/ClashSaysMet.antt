@@ -12,7 +12,7 @@ use Rattle.basic_toml_read.specs.declared.section.Row.{Row, out-Row}
 use Rattle.basic_toml_read.specs.SectionView.{key_of, header_texts, lined_of}
 use Rattle.basic_toml_grow.specs.declared.clash.Clash.{Clash}
 use Rattle.basic_toml_grow.specs.declared.clash.Clash.TheVariants as clashes
-use Rattle.basic_toml_grow.specs.declared.rows.Met.TheVariants as mets
+use Rattle.basic_toml_grow.specs.declared.met.Met.TheVariants as mets
 use Rattle.basic_toml_grow.specs.Clash.{IsStop, NamesObstacle}
 use Rattle.basic_toml_grow.specs.Obstacles.{and_behind}
 use Rattle.basic_toml_grow.specs.RowStops.{key_at, StopsAtKey, SaysMet}

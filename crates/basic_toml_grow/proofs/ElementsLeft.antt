@@ -37,6 +37,16 @@ pub record ElementsAreLeft (whole : Elements) (level : ℕ) (ts : List Trie) (re
   pub fits : elements_level level rest ≤ nesting_limit → elements_level level whole ≤ nesting_limit
   pub deep : nesting_limit < elements_level level rest → nesting_limit < elements_level level whole
 
+-- where none is finished yet, all are left
+pub all_elements_left : (whole : Elements) (level : ℕ) → ElementsAreLeft whole level [] whole
+all_elements_left whole level = record {
+  values = refl;
+  clash = refl;
+  met = refl;
+  fits = λ low. low;
+  deep = λ deep. deep;
+}
+
 -- the value of an element
 element_value : (e : elements.Element) → (placed_of e).value ≡ raw_of (elements.out-Element e).value
 element_value e = search (rules, raws.the_lemmas)

@@ -164,10 +164,6 @@ module _ (rows : Rows) (l : ℕ) (i : items.Item) (new : Trie) (is_fresh : new �
       length_more [] t = refl
       length_more (b ∷ before) t = ap suc (length_more before t)
 
--- above the limit no element is added
-pub deep_bars : (rows : Rows) (l : ℕ) (t : Trie) → nesting_limit < l → element_obstacle l rows t ≡ Some too_deep
-deep_bars rows l t over = behind_high l _ over
-
 -- where no array stands no element is added
 module _ (rows : Rows) (l : ℕ) (within : l ≤ nesting_limit) (i : items.Item) where
   table_bars : (t : Box Table Global) → i ≡ items.Table t
@@ -243,18 +239,3 @@ module _ (rows : Rows) (l : ℕ) (within : l ≤ nesting_limit) (i : items.Item)
   pub value_bars : (d : Data) → item_trie i ≡ leaf d
       → NamesObstacle (element_obstacle l rows (item_trie i)) (Header 1)
   value_bars d is = (at_header 1, (refl, ap (element_obstacle l rows) is ∙ behind_low l _ within))
-
--- nor does it add one to a table
-pub table_keeps_out : (rows : Rows) (l : ℕ) (i : items.Item) (t : Box Table Global) → i ≡ items.Table t
-    → IsKeptOut (put_element rows (item_trie i)) rows l
-    (table_clash (out-Table t.value).named (out-Table t.value).dotted)
-table_keeps_out rows l i t is = go (out-Table t.value).named (out-Table t.value).dotted
-  where
-    none : put_element rows (item_trie i) ≡ None
-    none = ap (put_element rows) (ap item_trie is ∙ table_item_trie t ∙ table_entries_trie t.value)
-
-    go : (n d : Bool) → IsKeptOut (put_element rows (item_trie i)) rows l (table_clash n d)
-    go true true = inr none
-    go false true = inr none
-    go true false = inr none
-    go false false = inr none

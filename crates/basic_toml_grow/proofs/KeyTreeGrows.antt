@@ -60,48 +60,6 @@ ends_at_key t k path =
     ap (λ e. e (k ∷ path)) (key_tree_ends t)
     ∙ ap (λ o. ends_below o path) (value_at-map ends_of (out-KeyTree t).below k)
 
--- a row ends here, or where the first one did
-pub row_ends_here : (t u : KeyTree) (start : ℕ)
-    → (out-KeyTree u).end ≡ option_or (out-KeyTree t).end (Some start) → (out-KeyTree u).below ≡ (out-KeyTree t).below
-    → Follows (ends_of t) (ends_of u) [] start
-row_ends_here t u start end_is below = record {
-  free = refl;
-  kept = kept;
-  stands = stands (out-KeyTree t).end refl;
-  told = told;
-}
-  where
-    before : ends_of t [] ≡ (out-KeyTree t).end
-    before = ap (λ e. e []) (key_tree_ends t)
-
-    after : ends_of u [] ≡ option_or (out-KeyTree t).end (Some start)
-    after = ap (λ e. e []) (key_tree_ends u) ∙ end_is
-
-    same : (k : List ℕ) (p : KeyTexts) → ends_of u (k ∷ p) ≡ ends_of t (k ∷ p)
-    same k p = ends_at_key u k p ∙ ap (λ ps. ends_below (option_map ends_of (value_at ps k)) p) below
-        ∙ sym (ends_at_key t k p)
-
-    kept : (p : KeyTexts) (s : ℕ) → ends_of t p ≡ Some s → ends_of u p ≡ Some s
-    kept [] s at = after ∙ ap (λ o. option_or o (Some start)) (sym before ∙ at)
-    kept (k ∷ p) s at = same k p ∙ at
-
-    stands : (o : Option ℕ) → (out-KeyTree t).end ≡ o → (s : ℕ) × (ends_of u [] ≡ Some s)
-    stands None is = (start, after ∙ ap (λ o. option_or o (Some start)) is)
-    stands (Some s) is = (s, after ∙ ap (λ o. option_or o (Some start)) is)
-
-    told_here : (p : KeyTexts) (s : ℕ) (o : Option ℕ) → p ≡ [] → (out-KeyTree t).end ≡ o → ends_of u [] ≡ Some s
-        → (ends_of t [] ≡ Some s) ⊎ ((p ≡ []) × (s ≡ start))
-    told_here p s None none is at =
-        let own : Some start ≡ Some s = sym (after ∙ ap (λ o. option_or o (Some start)) is) ∙ at in
-        inr (none, cc)
-    told_here p s (Some e) none is at =
-        let first : Some e ≡ Some s = sym (after ∙ ap (λ o. option_or o (Some start)) is) ∙ at in
-        inl (before ∙ is ∙ first)
-
-    told : (p : KeyTexts) (s : ℕ) → ends_of u p ≡ Some s → (ends_of t p ≡ Some s) ⊎ ((p ≡ []) × (s ≡ start))
-    told [] s at = told_here [] s (out-KeyTree t).end refl refl at
-    told (k ∷ p) s at = inl (sym (same k p) ∙ at)
-
 -- a path that goes on meets the value that ends here
 pub met_here : (t : KeyTree) (end : ℕ) → (out-KeyTree t).end ≡ Some end → (front : KeyTexts) (k : List ℕ)
     → value_on (ends_of t) (front ++ k ∷ []) ≡ Some end

@@ -23,8 +23,8 @@ use Rattle.basic_toml_grow.specs.declared.item.Item.{the_lemmas}
 use Rattle.basic_toml_grow.specs.declared.item.Item.TheOpen.{Item-F, Table-F}
 use Rattle.basic_toml_grow.specs.declared.item.Item.TheViews.{roll-Item, roll-out-Item, out-roll-Table}
 use Rattle.basic_toml_grow.specs.declared.item.Table.{Table, out-Table, roll-Table}
-use Rattle.basic_toml_grow.specs.declared.rows.Met.{Met}
-use Rattle.basic_toml_grow.specs.declared.rows.Met.TheVariants as mets
+use Rattle.basic_toml_grow.specs.declared.met.Met.{Met}
+use Rattle.basic_toml_grow.specs.declared.met.Met.TheVariants as mets
 use Rattle.basic_toml_read.specs.declared.section.Row.{Row}
 use Rattle.basic_toml_grow.specs.Item.{child_trie, table_trie, item_trie, row_trie, by_keys, by_numbers, empty_table, trie_before}
 use Rattle.basic_toml_value.specs.Growth.{values_of, FindsOrAdds}

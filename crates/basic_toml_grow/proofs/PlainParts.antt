@@ -40,19 +40,9 @@ parts_of_elements es = total (map parts_of_element es)
 abbrev pub parts_of_rows : List Row → ℕ
 parts_of_rows rs = total (map parts_of_row rs)
 
--- an array and an inline table have more than what is in them
-pub array_parts : (es : Vec Element Global) → parts_of (Array es) ≡ parts_of_elements es.items + 3
-array_parts es = search (rules, the_lemmas)
-
-pub inline_parts : (rs : Vec Row Global) → parts_of (Inline rs) ≡ parts_of_rows rs.items + 3
-inline_parts rs = search (rules, the_lemmas)
-
 -- and elements and rows more than each value among them
 value_of_element : (e : Element) → parts_of_element e ≡ parts_of (out-Element e).value + 1
 value_of_element e = search (rules, the_lemmas)
-
-value_of_row : (r : Row) → parts_of_row r ≡ parts_of (out-Row r).value + 1
-value_of_row r = search (rules, the_lemmas)
 
 pub element_fewer : (es : List Element) (i : ℕ) (e : Element) → i < length es → e ≡ get_or es i e
     → parts_of (out-Element e).value < parts_of_elements es
@@ -64,9 +54,3 @@ element_fewer (x ∷ es) zero e within is =
 element_fewer (x ∷ es) (suc i) e within is =
     let fewer = element_fewer es i e (omega (arith, within)) is in
     omega (arith, fewer)
-
-pub first_fewer : (r : Row) (rs : List Row) → parts_of (out-Row r).value < parts_of_rows (r ∷ rs)
-first_fewer r rs = omega (arith, value_of_row r)
-
-pub rest_fewer : (r : Row) (rs : List Row) → parts_of_rows rs < parts_of_rows (r ∷ rs)
-rest_fewer r rs = omega (arith, value_of_row r)

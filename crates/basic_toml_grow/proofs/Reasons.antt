@@ -8,8 +8,8 @@ use Rattle.basic_toml_grammar.specs.Levels.{rows_level, value_level}
 use Rattle.basic_toml_grammar.specs.Trie.{Trie, put_rows}
 use Rattle.basic_toml_grow.specs.declared.clash.Clash.{Clash}
 use Rattle.basic_toml_grow.specs.declared.clash.Clash.TheVariants.{Memory, Deep, Header, Named, Redefined, Row}
-use Rattle.basic_toml_grow.specs.declared.rows.Met.{Met}
-use Rattle.basic_toml_grow.specs.declared.rows.Met.TheVariants as mets
+use Rattle.basic_toml_grow.specs.declared.met.Met.{Met}
+use Rattle.basic_toml_grow.specs.declared.met.Met.TheVariants as mets
 use Rattle.basic_toml_grow.specs.Rows.{AreKeptOut, Reason, memory, deep, crossed, reason}
 use Rattle.basic_toml_grow.specs.Rows.{met_reason, Enters, IsUnfinished}
 

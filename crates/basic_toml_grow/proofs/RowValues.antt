@@ -15,7 +15,7 @@ use Rattle.basic_toml_read.specs.declared.section.Key as keys
 use Rattle.basic_toml_read.specs.declared.section.Raw as raws
 use Rattle.basic_toml_read.specs.declared.section.Row as lines
 use Rattle.basic_toml_grow.specs.declared.clash.Clash.{Clash}
-use Rattle.basic_toml_grow.specs.declared.rows.Met.{Met}
+use Rattle.basic_toml_grow.specs.declared.met.Met.{Met}
 use Rattle.basic_toml_grow.specs.Item.{leaf}
 use Rattle.basic_toml_grow.specs.Rows.{AreIn, AreKeptOut, one_row, Reason, memory, deep, crossed, reason}
 use Rattle.basic_toml_grow.specs.Rows.{met_reason, Enters, IsFinished, IsUnfinished}

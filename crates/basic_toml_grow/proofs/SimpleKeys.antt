@@ -1,10 +1,10 @@
 -- Simple rows: what each of them is, and that their keys differ.
-use Rattle.std.proofs.Common.{◌≡◌, ◌∙◌, ℕ, Bool, true, false, not, List, [], ◌∷◌, map, refl, sym}
+use Rattle.std.proofs.Common.{◌≡◌, ◌∙◌, ℕ, Bool, true, false, not, List, [], ◌∷◌, map, refl, sym, ap}
 use Rattle.std.specs.Prelude.{◌&&◌}
 use Rattle.std.proofs.lemmas.Bool.{and_parts}
 use Rattle.basic_toml_index.specs.Keys.{is_among, are_distinct}
 use Rattle.basic_toml_read.specs.declared.section.Row.{Row, out-Row}
-use Rattle.basic_toml_grow.specs.Plain.{key_of, is_plain, are_simple}
+use Rattle.basic_toml_grow.specs.Plain.{key_of, is_plain, are_simple, are_few_simple}
 use Rattle.basic_toml_grow.specs.Simple.{are_all_plain}
 use Rattle.basic_toml_grow.proofs.PlainSeen.{simple_step}
 
@@ -46,3 +46,8 @@ simple_are_plain l [] simple = refl
 simple_are_plain l (r ∷ rs) simple =
     let first = first_is_simple l r rs simple in
     rw (first.plain, simple_are_plain l rs first.others) refl
+
+-- rows are few and simple where a look at what is seen of them says so
+pub few_seen : (l : ℕ) (rows seen : List Row) (looked : Bool) → seen ≡ rows → looked ≡ are_few_simple l seen
+    → looked ≡ true → are_few_simple l rows ≡ true
+few_seen l rows seen looked same is simple = ap (are_few_simple l) (sym same) ∙ sym is ∙ simple

@@ -123,15 +123,6 @@ pub entry_keys : (s : ℕ) (rows : List Row) → keys_of (entries_of s rows) ≡
 entry_keys s [] = refl
 entry_keys s (r ∷ rs) = ap (λ ks. key_of r ∷ ks) (entry_keys s rs)
 
--- a row as the entry that it becomes
-pub same_entry : (s : ℕ) (r : Row) (key : Text) (item : items.Item) → text_bytes key ≡ key_text_bytes (out-Row r).key
-    → item ≡ item_of (out-Row r).value
-    → pair_seen (record { key = key; value = roll-Child (record { start = (out-Row r).start; section = s; item = item }) })
-    ≡ entry_of s r
-same_entry s r key item same_key same_item =
-    ap₂ (λ k (i : items.Item). (k, roll-Child (record { start = (out-Row r).start; section = s; item = i }))) same_key
-    same_item
-
 -- a value that is put last
 last_value : (ps : List (List ℕ × Child)) (k : List ℕ) (c : Child)
     → slice_get (values_of (ps ++ (k, c) ∷ [])) (length ps) ≡ Some c

@@ -7,8 +7,8 @@ use Rattle.basic_toml_grammar.specs.Trie.{Trie}
 use Rattle.basic_toml_grammar.specs.Stops.{at_row, last_stop, Outcome, stops, and_on}
 use Rattle.basic_toml_grammar.specs.TrieStops.{try_here, try_put_row}
 use Rattle.basic_toml_grow.specs.declared.clash.Clash.{Clash}
-use Rattle.basic_toml_grow.specs.declared.rows.Met.{Met}
-use Rattle.basic_toml_grow.specs.declared.rows.Met.TheVariants as mets
+use Rattle.basic_toml_grow.specs.declared.met.Met.{Met}
+use Rattle.basic_toml_grow.specs.declared.met.Met.TheVariants as mets
 use Rattle.basic_toml_grow.specs.Clash.{Obstacle, NamesObstacle}
 use Rattle.basic_toml_grow.specs.Obstacles.{and_behind, held_obstacle}
 

@@ -17,8 +17,8 @@ use Rattle.basic_toml_read.specs.SectionView.{key_of, lined_of}
 use Rattle.basic_toml_grow.specs.declared.clash.Clash.{Clash}
 use Rattle.basic_toml_grow.specs.declared.clash.Clash.TheVariants.{Memory, Deep}
 use Rattle.basic_toml_grow.specs.declared.item.Child.{Child}
-use Rattle.basic_toml_grow.specs.declared.rows.Met.{Met}
-use Rattle.basic_toml_grow.specs.declared.rows.Met.TheVariants as mets
+use Rattle.basic_toml_grow.specs.declared.met.Met.{Met}
+use Rattle.basic_toml_grow.specs.declared.met.Met.TheVariants as mets
 use Rattle.basic_toml_grow.specs.Item.{leaf, tree_data, child_trie}
 
 -- the rows stand in the table, beside what stood there

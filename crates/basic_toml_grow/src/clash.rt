@@ -9,7 +9,7 @@ ghost use Rattle.basic_toml_read.specs.SectionView.{section_of, key_of, header_t
 ghost use Rattle.basic_toml_grow.specs.Clash.{IsFaultOf, IsStop, NamesClash};
 
 use basic_toml_read::{Key, ReadError, ReadErrorKind, Section};
-use std::alloc::{AllocError, AllocFailed, Global};
+use std::alloc::{AllocError, Global};
 
 /// Why a section is not entered.
 #[derive(Drop)]
@@ -61,17 +61,6 @@ impl From<AllocError> for Clash {
     ghost from_gives = { λ _ clash. clash ≡ Memory };
 
     fn from(_error: AllocError) -> Clash {
-        Clash::Memory
-    }
-}
-
-impl<T: Drop> From<AllocFailed<T>> for Clash {
-    ghost use Rattle.std.specs.Prelude.{◌≡◌};
-    ghost use Rattle.basic_toml_grow.specs.declared.clash.Clash.TheVariants.{Memory};
-
-    ghost from_gives = { λ _ clash. clash ≡ Memory };
-
-    fn from(_failed: AllocFailed<T>) -> Clash {
         Clash::Memory
     }
 }

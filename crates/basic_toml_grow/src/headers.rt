@@ -19,7 +19,7 @@ use crate::clash::Clash;
 use crate::item::{Child, Item, Table};
 use crate::plain::are_few_simple;
 use crate::plain_items::PlainTable;
-use crate::rows::{LOOKS, take_rows};
+use crate::rows::take_rows;
 use basic_toml_read::{Key, Rows, Section};
 use basic_toml_value::NESTING_LIMIT;
 use std::alloc::Global;
@@ -95,7 +95,7 @@ fn open<'de>(
     }
     table.named = true;
     table.section = number;
-    take_rows(alloc, table, rows, number, level, LOOKS)
+    take_rows(alloc, table, rows, number, level)
 }
 
 // Goes on from a table of a level by the keys of a header that are left. It is inlined, so that no call is made where

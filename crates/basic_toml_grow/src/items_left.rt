@@ -1,6 +1,6 @@
 //! The items of a vector one after another, and its memory given back on the way.
 
-ghost use Rattle.std.specs.Prelude.{◌≡◌};
+ghost use Rattle.std.specs.Prelude.{◌≡◌, []};
 ghost use Rattle.std.specs.Iterator.{YieldsFirst, item_count};
 
 use std::marker::Model;
@@ -30,6 +30,16 @@ pub fn drain<T>(items: Vec<T>) -> ItemsLeft<T>
     let mut backwards = items;
     backwards.reverse();
     ItemsLeft { backwards }
+}
+
+impl<T> ItemsLeft<T> {
+    /// The vector that they were in, of which none is left. It keeps its room.
+    pub(crate) fn into_room(self) -> Vec<T>
+        requires { self ≡ [] }
+        ensures { result.items ≡ [] }
+    {
+        self.backwards
+    }
 }
 
 impl<T: Drop> Iterator for ItemsLeft<T> {

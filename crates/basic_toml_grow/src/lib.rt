@@ -15,6 +15,7 @@ mod crossed;
 mod headers;
 mod item;
 mod items_left;
+mod met;
 mod plain;
 mod plain_items;
 mod row_clash;

@@ -6,7 +6,7 @@ ghost use Rattle.basic_toml_grow.specs.RowStops.{key_at, SaysMet, SaysHeld};
 ghost use Rattle.basic_toml_grow.specs.Rows.{reason, met_reason};
 
 use crate::clash::{Clash, key_texts};
-use crate::rows::Met;
+use crate::met::Met;
 use basic_toml_read::Key;
 use std::alloc::{AllocError, Global};
 

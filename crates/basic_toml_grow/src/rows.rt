@@ -18,11 +18,12 @@ ghost use Rattle.basic_toml_grow.specs.Rows.{EntersRow, EntersRows, Extends, Fin
 ghost use Rattle.basic_toml_grow.specs.Clash.{NamesObstacle};
 ghost use Rattle.basic_toml_grow.specs.Simple.{are_all_plain as all_plain};
 ghost use Rattle.basic_toml_grow.specs.Obstacles.{rows_obstacle, value_obstacle, elements_obstacle};
-ghost use Rattle.basic_toml_grow.specs.RowStops.{TellsLast, TellsRow, TellsExtended};
+ghost use Rattle.basic_toml_grow.specs.RowStops.{TellsRow, TellsExtended};
 
 use crate::clash::Clash;
 use crate::item::{Child, Item, Table};
 use crate::items_left::{ItemsLeft, drain};
+use crate::met::{Met, what_is_met};
 use crate::plain::{are_few_simple, are_plain};
 use crate::plain_items::{PlainArray, PlainTable};
 use crate::row_clash::{row_clash, value_clash};
@@ -30,66 +31,15 @@ use crate::simple::{RowKeys, are_all_plain, with_first_rows, with_rows};
 use basic_toml_index::Index;
 use basic_toml_read::{Element, Key, Raw, Row, Rows};
 use basic_toml_value::NESTING_LIMIT;
-use std::alloc::{AllocError, AllocFailed, Global};
+use std::alloc::Global;
 use std::mem;
 
-/// How many times a value is looked through at most for whether it is plain: a deep one is not looked through anew at
-/// each of its levels.
-pub(crate) const LOOKS: usize = 4;
+// How many times a value is looked through at most for whether it is plain: a deep one is not looked through anew at
+// each of its levels.
+const LOOKS: usize = 4;
 
 // Of so many rows an index of the keys is made at once, by sorting them, where each has one key and a plain value.
 const MANY: usize = 64;
-
-/// Why a row is not put into a table.
-#[derive(Clone, Copy, Drop)]
-pub(crate) enum Met {
-    Memory,
-    /// What stands at one of its keys is in the way, with so many keys left from that key on.
-    Header(usize),
-    /// Its last key stands before it, by a row.
-    Row,
-}
-
-impl From<AllocError> for Met {
-    ghost use Rattle.std.specs.Prelude.{◌≡◌};
-    ghost use Rattle.basic_toml_grow.specs.declared.rows.Met.TheVariants.{Memory};
-
-    ghost from_gives = { λ _ met. met ≡ Memory };
-
-    fn from(_error: AllocError) -> Met {
-        Met::Memory
-    }
-}
-
-impl<T: Drop> From<AllocFailed<T>> for Met {
-    ghost use Rattle.std.specs.Prelude.{◌≡◌};
-    ghost use Rattle.basic_toml_grow.specs.declared.rows.Met.TheVariants.{Memory};
-
-    ghost from_gives = { λ _ met. met ≡ Memory };
-
-    fn from(_failed: AllocFailed<T>) -> Met {
-        Met::Memory
-    }
-}
-
-// Why what stands at a row's last key keeps the row out.
-fn what_is_met(there: &Child<'_>) -> Met
-    ensures stands { (d : Data) → mark_here (valued d) (child_trie there.now) ≡ None }
-    ensures named { TellsLast (child_trie there.now) result }
-{
-    match &there.item {
-        Item::Table(table) => {
-            if table.is_made() {
-                Met::Header(1)
-            } else {
-                Met::Row
-            }
-        }
-        Item::Section(_) => Met::Header(1),
-        Item::Tables(_) => Met::Header(1),
-        _ => Met::Row,
-    }
-}
 
 // Puts a row's value into a table, by the keys that periods follow, and then its last key. It is inlined, since most
 // rows have one key.
@@ -216,11 +166,8 @@ fn room_for(rows: &[Row<'_>]) -> usize {
     room
 }
 
-/// Puts rows into a table of a level, in order. Into a table without entries a few simple ones go at once, and of many
-/// plain ones those before a key repeats; others go one by one. What is met is the same, however many looks are left
-/// for whether a value is plain. The vector of a few simple rows keeps its room. It is inlined, since most rows are
-/// simple.
-#[cycle(finishing)]
+/// Puts the rows of a header into its table, in order. Into a table without entries a few simple ones go at once, and
+/// their vector keeps its room. It is inlined, since most rows are simple.
 #[inline(always)]
 pub(crate) fn take_rows<'de>(
     alloc: Global,
@@ -228,7 +175,6 @@ pub(crate) fn take_rows<'de>(
     rows: &mut Rows<'de>,
     section: usize,
     level: usize,
-    looks: usize,
 ) -> Result<(), Clash>
     requires { level ≤ nesting_limit }
     ensures entered { EntersRows (rows_view rows.old) level (table_trie table.old) (table_trie table.new) result }
@@ -241,14 +187,57 @@ pub(crate) fn take_rows<'de>(
     if rows.rows.is_empty() && rows.parents.is_empty() {
         return Ok(());
     }
-    if looks > 0
-        && rows.parents.is_empty()
+    if rows.parents.is_empty()
         && table.entries.is_empty()
         && are_few_simple(rows.rows.as_slice(), level)
     {
         return Ok(with_rows(alloc, table, &mut rows.rows, section)?);
     }
-    let Rows { parents, rows } = mem::replace(rows, Rows::none(alloc));
+    let rows = mem::replace(rows, Rows::none(alloc));
+    take_other_rows(alloc, table, rows, section, level)
+}
+
+// Puts rows that are not few and simple, or come beside entries, into the table of a header. It is not inlined, so that
+// few simple rows do without its room.
+#[inline(never)]
+fn take_other_rows<'de>(
+    alloc: Global,
+    table: &mut Table<'de>,
+    rows: Rows<'de>,
+    section: usize,
+    level: usize,
+) -> Result<(), Clash>
+    requires { level ≤ nesting_limit }
+    ensures entered { EntersRows (rows_view rows.entry) level (table_trie table.old) (table_trie table.new) result }
+    ensures named { IfErr result (λ clash.
+        NamesObstacle (rows_obstacle level (rows_view rows.entry) (table_trie table.old)) clash) }
+    ensures origins { IfOk result (λ _. table_within table.new
+        ≡ with_more (table_within table.old) (rows_origins section (rows_view rows.entry))) }
+{
+    take_any_rows(alloc, table, rows, section, level, LOOKS)
+}
+
+// Puts rows into a table of a level, in order: of many plain ones those before a key repeats at once, and others one by
+// one. What is met is the same, however many looks are left for whether a value is plain. It is inlined, so that each
+// level of inline tables takes one frame.
+#[cycle(finishing)]
+#[inline(always)]
+fn take_any_rows<'de>(
+    alloc: Global,
+    table: &mut Table<'de>,
+    rows: Rows<'de>,
+    section: usize,
+    level: usize,
+    looks: usize,
+) -> Result<(), Clash>
+    requires { level ≤ nesting_limit }
+    ensures entered { EntersRows (rows_view rows.entry) level (table_trie table.old) (table_trie table.new) result }
+    ensures named { IfErr result (λ clash.
+        NamesObstacle (rows_obstacle level (rows_view rows.entry) (table_trie table.old)) clash) }
+    ensures origins { IfOk result (λ _. table_within table.new
+        ≡ with_more (table_within table.old) (rows_origins section (rows_view rows.entry))) }
+{
+    let Rows { parents, rows } = rows;
     if rows.len() >= MANY
         && looks > 0
         && parents.is_empty()
@@ -471,9 +460,8 @@ fn inline_child<'de>(
     if level >= NESTING_LIMIT {
         return Err(Clash::Deep);
     }
-    let mut rows = rows;
     let mut table = Table::new(alloc)?;
-    take_rows(alloc, &mut *table, &mut rows, section, level + 1, looks)?;
+    take_any_rows(alloc, &mut *table, rows, section, level + 1, looks)?;
     Ok(Child::at(start, section, Item::Inline(table)))
 }
 
@@ -497,7 +485,8 @@ fn children_of<'de>(
     let mut children = Vec::with_capacity(alloc, elements.len())?;
     for element in drain(elements) {
         let offset = element.offset;
-        children.push(child_of(alloc, element.value, offset, section, level, looks)?)?;
+        let child = child_of(alloc, element.value, offset, section, level, looks)?;
+        children.push_reserved(child);
     }
     Ok(children)
 }

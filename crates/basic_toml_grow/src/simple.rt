@@ -10,7 +10,7 @@ ghost use Rattle.basic_toml_grow.specs.Simple.{child_at, entries_of as new_entri
 ghost use Rattle.basic_toml_grow.specs.Simple.{section_table as table_of_section};
 
 use crate::item::{Child, Item, Table};
-use crate::items_left::ItemsLeft;
+use crate::items_left::{ItemsLeft, drain};
 use crate::plain::is_plain;
 use crate::plain_items::{PlainArray, PlainTable};
 use basic_toml_index::{Index, Texts};
@@ -56,36 +56,9 @@ fn child_at<'de>(value: Raw<'de>, start: usize, section: usize) -> Child<'de>
     }
 }
 
-// The entries that rows of a section become, each of one key and a plain value. No row is left then.
+// The entries that the first of the rows that are left become, each of one key and a plain value.
 #[inline(always)]
 fn entries_of<'de>(
-    alloc: Global,
-    rows: &mut Vec<Row<'de>>,
-    section: usize,
-) -> Result<Vec<Pair<Child<'de>>>, AllocError>
-    requires plain { all_plain 0 rows.old.items ≡ true }
-    ensures entries { IfOk result (λ entries. seen entries.items ≡ new_entries section rows.old.items) }
-    ensures taken { IfOk result (λ _. rows.new.items ≡ []) }
-{
-    let mut entries = Vec::with_capacity(alloc, rows.len())?;
-    for row in rows.drain(..) {
-        let Row {
-            key,
-            start,
-            value,
-            ..
-        } = row;
-        let value = child_at(value, start, section);
-        let key = Text::from_str(alloc, key.as_str())?;
-        entries.push_reserved(Pair { key, value });
-    }
-    // Nothing is left to clear. A drain of rows that borrow from a text does not say so.
-    rows.clear();
-    Ok(entries)
-}
-
-// The entries that the first of the rows that are left become, each of one key and a plain value.
-fn first_entries_of<'de>(
     alloc: Global,
     rows: &mut ItemsLeft<Row<'de>>,
     section: usize,
@@ -129,8 +102,14 @@ pub(crate) fn with_rows<'de>(
     ensures after { IfOk result (λ _. table.new ≡ with_entries table.old (new_entries section rows.old.items)) }
     ensures taken { IfOk result (λ _. rows.new.items ≡ []) }
 {
-    let entries = Pairs::from_parts(entries_of(alloc, rows, section)?, Index::none());
-    let _ = mem::replace(&mut table.entries, entries);
+    let count = rows.len();
+    let mut left = drain(mem::replace(rows, Vec::new(alloc)));
+    let entries = entries_of(alloc, &mut left, section, count)?;
+    let _ = mem::replace(
+        &mut table.entries,
+        Pairs::from_parts(entries, Index::none()),
+    );
+    *rows = left.into_room();
     Ok(())
 }
 
@@ -144,8 +123,9 @@ pub(crate) fn section_table<'de>(
     requires { few_simple 0 rows.items ≡ true }
     ensures { IfOk result (λ table. table.value ≡ table_of_section section rows.entry.items) }
 {
-    let mut rows = rows;
-    let entries = Pairs::from_parts(entries_of(alloc, &mut rows, section)?, Index::none());
+    let count = rows.len();
+    let entries = entries_of(alloc, &mut drain(rows), section, count)?;
+    let entries = Pairs::from_parts(entries, Index::none());
     Ok(Box::new(
         alloc,
         Table {
@@ -197,7 +177,7 @@ pub(crate) fn with_first_rows<'de>(
         ≡ with_entries table.old (new_entries section (take count rows.old))) }
     ensures left { IfOk result (λ _. rows.new ≡ drop count rows.old) }
 {
-    let entries = Pairs::from_parts(first_entries_of(alloc, rows, section, count)?, index);
+    let entries = Pairs::from_parts(entries_of(alloc, rows, section, count)?, index);
     let _ = mem::replace(&mut table.entries, entries);
     Ok(())
 }

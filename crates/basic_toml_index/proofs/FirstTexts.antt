@@ -32,20 +32,6 @@ low_more n m (s ∷ ss) few low =
     and_from (is_low m s) (list_all (is_low m) ss)
     (lt-ltb s.position m (omega (arith, ltb-true s.position n parts.0, few))) (low_more n m ss few parts.1)
 
--- the first text
-pub run_of_one : (keys : List (List ℕ)) (slot : Slot) → 0 < length keys → slot.position ≡ 0 → is_sound keys slot ≡ true
-    → IsRunOfFirst keys 1 (slot ∷ [])
-run_of_one keys slot some at sound =
-    let one : take 1 keys ≡ key_of keys slot ∷ [] =
-    take_more keys 0 [] some ∙ ap (λ p. get_or keys p [] ∷ []) (sym at) in
-    record {
-      run = record { sound = and_from (is_sound keys slot) true sound refl; rising = refl };
-      low = and_from (is_low 1 slot) true (lt-ltb slot.position 1 (omega (arith, at))) refl;
-      all = subst (λ (ks : List (List ℕ)). IsPermutation ks (key_of keys slot ∷ [])) (sym one)
-          (IsPermutation-refl (key_of keys slot ∷ []));
-      within = omega (arith, some);
-    }
-
 -- a slot that is before none of them, for the next text
 pub run_push : (keys : List (List ℕ)) (count : ℕ) (slots : List Slot) (slot : Slot) → count < length keys
     → slot.position ≡ count → is_sound keys slot ≡ true → 0 < length slots

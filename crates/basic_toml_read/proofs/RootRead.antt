@@ -63,20 +63,10 @@ rows_here text r e = rows_read (4 * length text + 3) text r e
 pub some_none : {A : Type 0} (x : A) → Some x ≡ None → ⊥
 some_none x e = cc
 
--- what is known of each error
-pub if_err : {A : Type 0} (P : Type 0) (result : Result A Stop) → P → IfErr result (λ stop. P)
-if_err P (Ok x) p = tt
-if_err P (Err stop) p = p
-
 -- what is gathered where nothing was
 pub added_lines : (old new : Gathered) (added : Lines) → lines_of old ≡ no_lines
     → lines_of new ≡ and_lines (lines_of old) added → lines_of new ≡ added
 added_lines old new added empty pushed = pushed ∙ ap (λ (l : Lines). and_lines l added) empty
-
-pub nothing_gathered : (elements : Vec Element Global) (parents : Vec code_keys.Key Global)
-    (rows : Vec code_rows.Row Global) (alloc : Global) → parents.items ≡ [] → rows.items ≡ []
-    → lines_of (record { alloc = alloc; elements = elements; parents = parents; rows = rows }) ≡ no_lines
-nothing_gathered elements parents rows alloc no_parents none = cc
 
 pub highest_onto : (front sections : List Section)
     → highest_level (front ++ sections) ≡ max (highest_level front) (highest_level sections)

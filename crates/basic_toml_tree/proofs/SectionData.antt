@@ -43,11 +43,6 @@ section_table_data t rows same simple =
     let s = (out-Child t.child.now).section in
     ap (λ rows. table_data (section_table s rows)) (sym same) ∙ section_data s rows simple
 
--- of a row
-pub row_child_data : (s : ℕ) (r : Row) → is_plain (out-Row r).value 0 ≡ true
-    → child_data (child_of s r) ≡ plain_data (out-Row r).value
-row_child_data s r plain = sym (child_trie_data (child_of s r)) ∙ ap tree_data (row_child_trie s r plain)
-
 -- a value that the rows of an item become
 pub section_moved : {E : Type 0} (result : Result Value E) (i : Item) (rows moved : List Row) → i ≡ Section rows
     → moved ≡ rows → are_few_simple 0 moved ≡ true → IfOk result (λ value. view value ≡ rows_data moved)

@@ -125,13 +125,6 @@ pub record IsRestSoFar (reader : SectionReader) (list : List Section) (found : O
   pub so_far : SoFar reader (list ++ later)
   pub first : found ≡ first_crossed later
 
-pub rest_begins : (reader : SectionReader) (list : List Section) → SoFar reader list → IsRestSoFar reader list None
-rest_begins reader list so_far = record {
-  later = [];
-  so_far = subst (λ (ss : List Section). SoFar reader ss) (sym (append-nil list)) so_far;
-  first = refl;
-}
-
 pub rest_goes_on : (old reader : SectionReader) (list : List Section) (found : Option ℕ) (s : Section)
     (rest : IsRestSoFar old list found) → SoFar reader ((list ++ rest.later) ++ s ∷ []) → (here : Option ℕ)
     → here ≡ crossed_in s.rows → IsRestSoFar reader list (option_or found here)
@@ -140,15 +133,6 @@ rest_goes_on old reader list found s rest so_far here is = record {
   so_far = subst (λ (ss : List Section). SoFar reader ss) (append_assoc list rest.later (s ∷ [])) so_far;
   first = ap (λ o. option_or o here) rest.first ∙ ap (option_or (first_crossed rest.later)) (is ∙ sym (one_crossed s))
       ∙ sym (crossed_joined rest.later (s ∷ []));
-}
-
-pub rest_read : (bytes : List ℕ) (reader : SectionReader) (list : List Section) (found : Option ℕ)
-    (rest : IsRestSoFar reader list found) → reader.text.now ≡ bytes → IsList reader.text.now (list ++ rest.later)
-    → IsRestRead bytes list found
-rest_read bytes reader list found rest same is = record {
-  later = rest.later;
-  is = subst (λ (b : List ℕ). IsList b (list ++ rest.later)) same is;
-  first = rest.first;
 }
 
 -- it went in

@@ -134,7 +134,7 @@ fn into_many(alloc: Global, elements: Vec<Element<'_>>) -> Result<Vec<Value>, Al
 {
     let mut moved = Vec::with_capacity(alloc, elements.len())?;
     for element in drain(elements) {
-        moved.push(into_plain_value(alloc, element.value)?)?;
+        moved.push_reserved(into_plain_value(alloc, element.value)?);
     }
     Ok(moved)
 }

@@ -173,7 +173,7 @@ fn into_tables(alloc: Global, tables: Vec<Table<'_>>) -> Result<Vec<Value>, Allo
 {
     let mut elements = Vec::with_capacity(alloc, tables.len().saturating_add(1))?;
     for table in drain(tables) {
-        elements.push(Value::Table(into_table(alloc, table)?))?;
+        elements.push_reserved(Value::Table(into_table(alloc, table)?));
     }
     Ok(elements)
 }
@@ -207,7 +207,7 @@ fn into_many_entries(
     for pair in drain(pairs) {
         let Pair { key, value } = pair;
         let value = into_value(alloc, value.item)?;
-        moved.push(Pair { key, value })?;
+        moved.push_reserved(Pair { key, value });
     }
     Ok(moved)
 }

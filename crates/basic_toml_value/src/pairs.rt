@@ -51,8 +51,10 @@ impl<V> HasText for Pair<V> {
 /// `for (key, value) in &pairs` goes over them in that order, as `iter` does.
 #[derive(Drop)]
 pub struct Pairs<V> {
-    entries: Vec<Pair<V>>,
+    // It stands first: then the words of a table within a value meet those of its other kinds, so that a move of a value
+    // takes less.
     index: Index,
+    entries: Vec<Pair<V>>,
 }
 
 impl<V> Model for Pairs<V> {

@@ -113,13 +113,6 @@ header_leads sections tree resolved n p leads = go (slice_get (located sections)
         let header : header_at tree n ≡ keys_of l.path = heads_at sections tree resolved n ∙ at.0 ∙ sym at.1 in
         subst (λ keys. begins (steps_of (keys_of p)) (steps_of keys) ≡ true) (sym header) (begins_keys p l.path leads)
 
--- below a table at a key, where headers made what is there
-steps_made : (sections : List Section) (p : Path) (k : List ℕ)
-    → grammar.is_made (located sections) (p ++ key k ∷ [])
-    ≡ list_any (λ l. begins (p ++ key k ∷ []) l.path) (located sections)
-steps_made sections [] k = refl
-steps_made sections (r ∷ p) k = refl
-
 pub made_there : (sections : List Section) (t : Trie) → Stands sections t → (p : Path) (k : List ℕ)
     → grammar.is_made (located sections) (p ++ key k ∷ [])
     ≡ stands_made (standing (trie_at (p ++ key k ∷ []) t))

@@ -1,7 +1,7 @@
 use Rattle.std.proofs.Common.{◌≡◌, refl, sym, subst, IfOk, string_bytes, map}
 use Rattle.basic_toml_grammar.specs.Stops.{at_row}
 use Rattle.basic_toml_read.specs.SectionView.{key_of}
-use Rattle.basic_toml_grow.specs.declared.rows.Met.{Met}
+use Rattle.basic_toml_grow.specs.declared.met.Met.{Met}
 use Rattle.basic_toml_grow.specs.Clash.{IsStop}
 use Rattle.basic_toml_grow.specs.RowStops.{key_at, SaysMet}
 use Rattle.basic_toml_grow.proofs.ClashSaysMet.{if_stop, same_row, key_said, last_said, key_there, none_there}

@@ -1,6 +1,6 @@
 use Rattle.std.specs.Prelude.{IfErr}
-use Rattle.std.proofs.Common.{refl, rules, ◌≡◌, [], ◌∷◌, ◌++◌, ap, ◌∙◌, sym, subst, arith, Some, List, map, Bool}
-use Rattle.std.proofs.Common.{false, true, ◌+◌, ℕ, take, drop, length}
+use Rattle.std.proofs.Common.{refl, ◌≡◌, [], ◌∷◌, ◌++◌, ap, ◌∙◌, sym, subst, arith, Some, List, map, Bool}
+use Rattle.std.proofs.Common.{false, true, ◌+◌, ℕ, length, take, drop}
 use Rattle.std.proofs.lemmas.Result.{err_from_is_err_and}
 use Rattle.basic_toml_grammar.specs.Trie.{Trie}
 use Rattle.basic_toml_read.specs.SectionView.{key_of, header_texts, rows_seen, rows_view, elements_view, raw_of}
@@ -12,7 +12,7 @@ use Rattle.basic_toml_grow.specs.Item.{child_trie, item_trie, table_trie}
 use Rattle.basic_toml_grow.specs.Rows.{AreIn, AreKeptOut, IsFinished, AreFinished, one_row}
 use Rattle.std.specs.Box as boxes
 use Rattle.basic_toml_grow.proofs.RowsEntered.{row_key, ok_on}
-use Rattle.basic_toml_grow.proofs.RowsLeft.{AreLeft, all_left, none_seen, no_parents_seen, none_put, row_entered, row_kept_out}
+use Rattle.basic_toml_grow.proofs.RowsLeft.{AreLeft, all_left, no_parents_seen, row_entered, row_kept_out}
 use Rattle.basic_toml_grow.proofs.RowsLeft.{none_left, row_stopped}
 use Rattle.basic_toml_grow.proofs.RowsHaveKeys.{one_has_keys, are_keyed, rows_are_keyed}
 use Rattle.basic_toml_read.proofs.NextRow.{first_row, parents_left}
@@ -30,51 +30,25 @@ use Rattle.basic_toml_read.specs.SectionView.{lined_of}
 use Rattle.basic_toml_grow.specs.Obstacles.{rows_obstacle, elements_obstacle}
 use Rattle.basic_toml_grow.proofs.RowValues.{last_deep, value_kept_out, value_put, value_met}
 use Rattle.basic_toml_grow.proofs.InlineTables.{inline_finished, inline_kept_out}
-use Rattle.basic_toml_grow.proofs.ElementsLeft.{ElementsAreLeft, element_entered, elements_done}
+use Rattle.basic_toml_grow.proofs.ElementsLeft.{ElementsAreLeft, all_elements_left, element_entered, elements_done}
 use Rattle.basic_toml_grow.specs.Origins.{table_within, with_more, rows_origins, elements_origins}
 use Rattle.std.proofs.Common.{codes}
 use Rattle.basic_toml_grammar.specs.Sections.{Raw}
 use Rattle.basic_toml_grow.specs.Origins.{entry, value_origin}
 use Rattle.basic_toml_grow.proofs.Origins.OriginsSeen.{inline_seen, fresh_within}
-use Rattle.basic_toml_grow.proofs.Origins.OriginsLeft.{OriginsLeft, ElementsCome, origins_entered, origins_done, more_none}
+use Rattle.basic_toml_grow.proofs.Origins.OriginsLeft.{OriginsLeft, ElementsCome, origins_entered, origins_done}
 use Rattle.basic_toml_grow.proofs.Origins.OriginsLeft.{row_comes, element_comes, elements_come}
-use Rattle.std.specs.Prelude.{nat_le}
-use Rattle.std.proofs.lemmas.Bool.{and_parts}
-use Rattle.basic_toml_index.specs.Index.{few}
 use Rattle.basic_toml_grow.specs.declared.item.Item as items
-use Rattle.basic_toml_grow.specs.Plain.{are_plain, are_simple, are_few_simple, key_of as last_key}
+use Rattle.basic_toml_grow.specs.Plain.{are_plain, key_of as last_key}
 use Rattle.basic_toml_grow.proofs.PlainArrays.{plain_finished, table_finished}
 use Rattle.basic_toml_grow.proofs.PlainValues.{elements_lower, few_lower}
 use Rattle.basic_toml_index.specs.Keys.{are_distinct}
 use Rattle.basic_toml_grow.proofs.WhatIsLeft.{nothing_left}
-use Rattle.basic_toml_grow.proofs.SimpleKeys.{keys_differ, simple_are_plain}
-use Rattle.basic_toml_grow.specs.declared.item.Table.{Table, out-Table}
+use Rattle.basic_toml_grow.proofs.SimpleKeys.{few_seen}
 use Rattle.basic_toml_grow.specs.Simple.{are_all_plain, entries_of, with_entries}
-use Rattle.basic_toml_grow.proofs.SimpleRows.{no_entries, all_lower, rows_in, rows_come}
+use Rattle.basic_toml_grow.proofs.SimpleRows.{all_lower}
 use Rattle.basic_toml_grow.proofs.RowsAfter.{FirstIn, first_in, all_entered, all_stopped, all_come}
 use Rattle.basic_toml_grow.proofs.rows.+finishing.Goals as goal
-
-pub take_rows-returns-then-is_empty-2-clause-entered : goal.take_rows-returns-then-is_empty-2-clause-entered
-take_rows-returns-then-is_empty-2-clause-entered t c =
-    none_put (rows_view c.args.rows.now) c.args.level (table_trie c.args.table.now)
-    (none_seen c.args.rows.now (grind (
-      arith,
-      c.is_empty.ensures,
-      c.if-is_empty.true,
-      (tables.out-Rows c.args.rows.now).rows.ok.0,
-    )))
-
-pub take_rows-returns-then-is_empty-2-clause-taken : goal.take_rows-returns-then-is_empty-2-clause-taken
-take_rows-returns-then-is_empty-2-clause-taken t c =
-    let own = tables.out-Rows c.args.rows.now in (
-      nothing_left own.parents.items (grind (
-        arith,
-        c.is_empty-then-is_empty.ensures,
-        c.if-is_empty-2.true,
-        own.parents.ok.0,
-      )),
-      nothing_left own.rows.items (grind (arith, c.is_empty.ensures, c.if-is_empty.true, own.rows.ok.0)),
-    )
 
 pub enter_rows-loop-row-init : goal.enter_rows-loop-row-init
 enter_rows-loop-row-init t c = record {
@@ -173,24 +147,51 @@ enter_value-returns-clause-entered t c =
     c.in-Ok.ensures.finished
     c.in-Err-enter_row.ensures.entered
 
+pub children_of-loop-element-init : goal.children_of-loop-element-init
+children_of-loop-element-init t c =
+    let whole = elements_view c.into_iter-element-iterator.result in
+    let none = sym c.in_ok-children.ensures.items in (
+      subst (λ (cs : List Child). ElementsAreLeft whole c.args.level (map child_trie cs) whole) none
+          (all_elements_left whole c.args.level),
+      subst (λ (cs : List Child). ElementsCome c.args.section whole cs whole) none refl,
+      omega (
+        arith,
+        ap length (c.into_iter-element-iterator.ensures.into_iter_gives ∙ c.drain-element-items.ensures),
+        c.in_ok-children.ensures.capacity,
+        c.in_ok-children.ensures.len,
+        c.len.ensures,
+        c.args.elements.ok.0,
+      ),
+    )
+
+pub children_of-push_reserved-requires : goal.children_of-push_reserved-requires
+children_of-push_reserved-requires t c = omega (arith, ap length c.in-Some.ensures.steps, c.loop-element.invariant.2)
+
 pub children_of-loop-element-preserved : goal.children_of-loop-element-preserved
 children_of-loop-element-preserved t c =
     let whole = elements_view c.into_iter-element-iterator.result in
     let left = subst (λ (es : List Element). ElementsAreLeft whole c.args.level (map child_trie
     c.loop-element.children.items)
     (elements_view es)) c.in-Some.ensures.steps c.loop-element.invariant.0 in
-    let entered = element_entered whole c.args.level c.loop-element.children.items c.in_ok-child_of.field-0
-    c.in-Some.element c.next.new.self left c.in_ok-child_of.ensures.finished in
+    let entered = element_entered whole c.args.level c.loop-element.children.items c.in_ok-child.child
+    c.in-Some.element c.next.new.self left c.in_ok-child.ensures.finished in
     let s = c.args.section in
     let come = subst (λ (es : List Element). ElementsCome s whole c.loop-element.children.items (elements_view es))
     c.in-Some.ensures.steps c.loop-element.invariant.1 in (
       subst (λ (cs : List Child). ElementsAreLeft whole c.args.level (map child_trie cs) (elements_view
           c.next.new.self))
-          (sym c.in_ok-push.ensures.items) entered,
+          (sym c.push_reserved.ensures.items) entered,
       subst (λ (cs : List Child). ElementsCome s whole cs (elements_view c.next.new.self))
-          (sym c.in_ok-push.ensures.items)
-          (element_comes s whole c.loop-element.children.items c.in_ok-child_of.field-0 c.in-Some.element
-          c.next.new.self come c.in_ok-child_of.ensures.origins),
+          (sym c.push_reserved.ensures.items)
+          (element_comes s whole c.loop-element.children.items c.in_ok-child.child c.in-Some.element
+          c.next.new.self come c.in_ok-child.ensures.origins),
+      omega (
+        arith,
+        ap length c.in-Some.ensures.steps,
+        c.loop-element.invariant.2,
+        c.push_reserved.ensures.len,
+        c.push_reserved.ensures.capacity,
+      ),
     )
 
 pub children_of-returns-clause-finished : goal.children_of-returns-clause-finished
@@ -204,20 +205,20 @@ children_of-returns-clause-finished t c =
     subst (λ (es : List Element). AreFinished (elements_view es) c.args.level ts) start
     (elements_done (elements_view c.into_iter-element-iterator.result) c.args.level ts left)
 
-pub inline_child-returns-in_err-take_rows-clause-finished : goal.inline_child-returns-in_err-take_rows-clause-finished
-inline_child-returns-in_err-take_rows-clause-finished t c =
-    let p = err_from_is_err_and c.from_residual-in_err-take_rows.result c.from_residual-in_err-take_rows.ensures.1 in
+pub inline_child-returns-in_err-take_any_rows-clause-finished : goal.inline_child-returns-in_err-take_any_rows-clause-finished
+inline_child-returns-in_err-take_any_rows-clause-finished t c =
+    let p = err_from_is_err_and c.from_residual-in_err-take_any_rows.result c.from_residual-in_err-take_any_rows.ensures.1 in
     rw (p.1, p.2) (inline_kept_out (rows_view c.args.rows) (Some (standings.table false false false))
-    (table_trie c.deref_mut.result.now) c.args.level c.in_err-take_rows.field-0.0 (are_keyed c.args.rows)
-    (ap table_trie c.deref_mut.ensures.value ∙ c.in_ok-table.ensures) c.in_err-take_rows.ensures.entered)
+    (table_trie c.deref_mut.result.now) c.args.level c.in_err-take_any_rows.field-0.0 (are_keyed c.args.rows)
+    (ap table_trie c.deref_mut.ensures.value ∙ c.in_ok-table.ensures) c.in_err-take_any_rows.ensures.entered)
 
 pub inline_child-returns-clause-finished : goal.inline_child-returns-clause-finished
 inline_child-returns-clause-finished t c =
     subst (λ (u : Trie). IsFinished (Raw.inline (rows_view c.args.rows)) c.args.level u) (sym c.at.ensures.trie)
-    (inline_finished (rows_view c.args.rows) (boxes.with_value c.in_ok-table.table c.take_rows.new.table)
+    (inline_finished (rows_view c.args.rows) (boxes.with_value c.in_ok-table.table c.take_any_rows.new.table)
     (Some (standings.table false false false)) (table_trie c.deref_mut.result.now) c.args.level
     (are_keyed c.args.rows) (omega arith) (ap table_trie c.deref_mut.ensures.value ∙ c.in_ok-table.ensures)
-    c.in_ok-take_rows.ensures.entered)
+    c.in_ok-take_any_rows.ensures.entered)
 
 pub enter_rows-returns-in_err-enter_value-clause-named : goal.enter_rows-returns-in_err-enter_value-clause-named
 enter_rows-returns-in_err-enter_value-clause-named t c =
@@ -263,35 +264,27 @@ enter_value-returns-clause-named t c =
     c.in_ok-row_clash-in-Err-enter_row.ensures.named c.in-Ok.ensures.finished
     c.in-Err-enter_row.ensures.named
 
-pub inline_child-returns-in_err-take_rows-clause-named : goal.inline_child-returns-in_err-take_rows-clause-named
-inline_child-returns-in_err-take_rows-clause-named t c =
-    let p = err_from_is_err_and c.from_residual-in_err-take_rows.result c.from_residual-in_err-take_rows.ensures.1 in
+pub inline_child-returns-in_err-take_any_rows-clause-named : goal.inline_child-returns-in_err-take_any_rows-clause-named
+inline_child-returns-in_err-take_any_rows-clause-named t c =
+    let p = err_from_is_err_and c.from_residual-in_err-take_any_rows.result c.from_residual-in_err-take_any_rows.ensures.1 in
     rw (p.1, p.2) (inline_stopped (rows_view c.args.rows) (Some (standings.table false false false))
-    (table_trie c.deref_mut.result.now) c.args.level c.in_err-take_rows.field-0.0 (are_keyed c.args.rows) (omega arith)
-    (ap table_trie c.deref_mut.ensures.value ∙ c.in_ok-table.ensures) c.in_err-take_rows.ensures.named)
+    (table_trie c.deref_mut.result.now) c.args.level c.in_err-take_any_rows.field-0.0 (are_keyed c.args.rows) (omega arith)
+    (ap table_trie c.deref_mut.ensures.value ∙ c.in_ok-table.ensures) c.in_err-take_any_rows.ensures.named)
 
-pub children_of-returns-in_err-child_of-clause-named :
-    goal.children_of-returns-in_err-child_of-clause-named
-children_of-returns-in_err-child_of-clause-named t c =
-    let p = err_from_is_err_and c.from_residual-in_err-child_of.result c.from_residual-in_err-child_of.ensures.1 in
+pub children_of-returns-in_err-child-clause-named :
+    goal.children_of-returns-in_err-child-clause-named
+children_of-returns-in_err-child-clause-named t c =
+    let p = err_from_is_err_and c.from_residual-in_err-child.result c.from_residual-in_err-child.ensures.1 in
     let start : c.into_iter-element-iterator.result ≡ c.args.elements.items =
     c.into_iter-element-iterator.ensures.into_iter_gives ∙ c.drain-element-items.ensures in
-    let clash = c.in_err-child_of.field-0.0 in
+    let clash = c.in_err-child.field-0.0 in
     let whole = elements_view c.into_iter-element-iterator.result in
     let ts = map child_trie c.loop-element.children.items in
     let left = subst (λ (es : List Element). ElementsAreLeft whole c.args.level ts (elements_view es))
     c.in-Some.ensures.steps c.loop-element.invariant.0 in
     rw (p.1, p.2) (subst (λ (es : List Element). NamesObstacle (elements_obstacle c.args.level (elements_view es)) clash)
     start (element_stopped whole c.args.level ts c.in-Some.element c.next.new.self clash left
-    c.in_err-child_of.ensures.named))
-
--- where what is put into the table comes from
-pub take_rows-returns-then-is_empty-2-clause-origins : goal.take_rows-returns-then-is_empty-2-clause-origins
-take_rows-returns-then-is_empty-2-clause-origins t c =
-    let w = table_within c.args.table.now in
-    sym (ap (λ rows. with_more w (rows_origins c.args.section rows)) (none_seen c.args.rows.now
-    (grind (arith, c.is_empty.ensures, c.if-is_empty.true, (tables.out-Rows c.args.rows.now).rows.ok.0)))
-    ∙ more_none w)
+    c.in_err-child.ensures.named))
 
 pub enter_rows-returns-clause-origins : goal.enter_rows-returns-clause-origins
 enter_rows-returns-clause-origins t c =
@@ -326,10 +319,10 @@ inline_child-returns-clause-origins t c =
     let s = c.args.section in
     let rows = rows_view c.args.rows in
     let new = c.in_ok-table.table in
-    let table = boxes.with_value new c.take_rows.new.table in
+    let table = boxes.with_value new c.take_any_rows.new.table in
     c.at.ensures.origins ∙ inline_seen table c.args.start s
     ∙ ap (λ w. entry (value_origin (codes "inline table") c.args.start s) w.below)
-    (c.in_ok-take_rows.ensures.origins
+    (c.in_ok-take_any_rows.ensures.origins
     ∙ ap (λ w. with_more w (rows_origins s rows)) (ap table_within c.deref_mut.ensures.value
     ∙ fresh_within new.value c.in_ok-table.ensures))
 
@@ -337,13 +330,6 @@ inline_child-returns-clause-origins t c =
 array_seen : (l : ℕ) (elements seen : List Element) (looked : Bool) → seen ≡ elements → looked ≡ are_plain l seen
     → looked ≡ true → are_plain l elements ≡ true
 array_seen l elements seen looked same is plain = ap (are_plain l) (sym same) ∙ sym is ∙ plain
-
-table_seen : (l : ℕ) (rows seen : List Row) (looked : Bool) → seen ≡ rows → looked ≡ are_few_simple l seen
-    → looked ≡ true → are_few_simple l rows ≡ true
-table_seen l rows seen looked same is simple = ap (are_few_simple l) (sym same) ∙ sym is ∙ simple
-
-few_are : (l : ℕ) (rows : List Row) → are_few_simple l rows ≡ true → are_simple l rows ≡ true
-few_are l rows simple = (and_parts (nat_le (length rows) few) (are_simple l rows) simple).1
 
 -- an array of plain values, kept as it was read
 pub row_value-invariant_of-array : goal.row_value-invariant_of-array
@@ -365,13 +351,13 @@ row_value-returns-then-are_plain-clause-finished t c =
 pub row_value-invariant_of-table : goal.row_value-invariant_of-table
 row_value-invariant_of-table t c =
     few_lower c.in-Inline.rows.items (c.args.level + 1)
-    (table_seen (c.args.level + 1) c.in-Inline.rows.items c.as_slice-then-level-lt-NESTING_LIMIT-2.result.now
+    (few_seen (c.args.level + 1) c.in-Inline.rows.items c.as_slice-then-level-lt-NESTING_LIMIT-2.result.now
     c.are_few_simple.result c.as_slice-then-level-lt-NESTING_LIMIT-2.ensures.value c.are_few_simple.ensures
     c.if-are_few_simple.true)
 
 pub row_value-returns-then-are_few_simple-clause-finished : goal.row_value-returns-then-are_few_simple-clause-finished
 row_value-returns-then-are_few_simple-clause-finished t c =
-    let plain = table_seen (c.args.level + 1) c.in-Inline.rows.items c.as_slice-then-level-lt-NESTING_LIMIT-2.result.now
+    let plain = few_seen (c.args.level + 1) c.in-Inline.rows.items c.as_slice-then-level-lt-NESTING_LIMIT-2.result.now
     c.are_few_simple.result c.as_slice-then-level-lt-NESTING_LIMIT-2.ensures.value c.are_few_simple.ensures
     c.if-are_few_simple.true in
     let trie : child_trie c.at-then-are_few_simple.result ≡ item_trie (items.Rows c.in-Inline.rows.items) =
@@ -381,80 +367,18 @@ row_value-returns-then-are_few_simple-clause-finished t c =
     (subst (λ (u : Trie). IsFinished (raw_of (raws.Inline c.in-Inline.rows)) c.args.level u) (sym trie)
     (table_finished c.in-Inline.rows c.args.level plain c.if-level-lt-NESTING_LIMIT-2.true))
 
--- plain rows are so at the lowest level
-pub take_rows-with_rows-requires-clause-plain : goal.take_rows-with_rows-requires-clause-plain
-take_rows-with_rows-requires-clause-plain t c =
-    let items = (tables.out-Rows c.args.rows.now).rows.items in
-    all_lower c.args.level items (simple_are_plain c.args.level items (few_are c.args.level items
-    (table_seen c.args.level items c.as_slice.result.now c.are_few_simple.result c.as_slice.ensures.value
-    c.are_few_simple.ensures c.if-are_few_simple.true)))
-
 pub take_many_rows-with_first_rows-requires-clause-plain : goal.take_many_rows-with_first_rows-requires-clause-plain
 take_many_rows-with_first_rows-requires-clause-plain t c =
     ap (are_all_plain 0) c.drain-rows.ensures ∙ all_lower c.args.level c.args.rows.items c.requires.plain
 
--- simple rows, taken all at once
-pub take_rows-with_rows-requires-clause-distinct : goal.take_rows-with_rows-requires-clause-distinct
-take_rows-with_rows-requires-clause-distinct t c =
-    let items = (tables.out-Rows c.args.rows.now).rows.items in
-    keys_differ c.args.level items (few_are c.args.level items
-    (table_seen c.args.level items c.as_slice.result.now c.are_few_simple.result c.as_slice.ensures.value
-    c.are_few_simple.ensures c.if-are_few_simple.true))
-
--- no key stands before one of them, and the table was without entries
-without_parents : (t : ℕ) (c : goal.take_rows-In_ok-with_rows t) → (tables.out-Rows c.args.rows.now).parents.items ≡ []
-without_parents t c =
-    let parents = (tables.out-Rows c.args.rows.now).parents in
-    nothing_left parents.items
-    (grind (arith, c.is_empty-then-looks-gt0.ensures, c.if-is_empty-3.true, parents.ok.0))
-
-without_entries : (t : ℕ) (c : goal.take_rows-In_ok-with_rows t) → (out-Table c.args.table.now).entries ≡ []
-without_entries t c =
-    no_entries c.args.table.now c.args.table.now c.is_empty-then-is_empty-3.result refl
-    c.is_empty-then-is_empty-3.ensures c.if-is_empty-4.true
-
-taken_at_once : (t : ℕ) (c : goal.take_rows-In_ok-with_rows t)
-    → are_simple c.args.level (tables.out-Rows c.args.rows.now).rows.items ≡ true
-taken_at_once t c =
-    let items = (tables.out-Rows c.args.rows.now).rows.items in
-    few_are c.args.level items
-    (table_seen c.args.level items c.as_slice.result.now c.are_few_simple.result c.as_slice.ensures.value
-    c.are_few_simple.ensures c.if-are_few_simple.true)
-
-pub take_rows-returns-then-are_few_simple-clause-entered : goal.take_rows-returns-then-are_few_simple-clause-entered
-take_rows-returns-then-are_few_simple-clause-entered t c =
-    let table = c.args.table.now in
-    let items = (tables.out-Rows c.args.rows.now).rows.items in
-    subst (λ (rows : Rows). AreIn rows c.args.level (table_trie table) (table_trie c.with_rows.new.table))
-    (sym (no_parents_seen c.args.rows.now (without_parents t c)))
-    (subst (λ (t : Table). AreIn (rows_seen [] items) c.args.level (table_trie table) (table_trie t))
-    (sym c.in_ok-with_rows.ensures.after)
-    (rows_in c.args.section c.args.level (omega arith) table (without_entries t c) items (taken_at_once t c)))
-
-pub take_rows-returns-then-are_few_simple-clause-origins : goal.take_rows-returns-then-are_few_simple-clause-origins
-take_rows-returns-then-are_few_simple-clause-origins t c =
-    let table = c.args.table.now in
-    let items = (tables.out-Rows c.args.rows.now).rows.items in
-    ap table_within c.in_ok-with_rows.ensures.after
-    ∙ rows_come c.args.section c.args.level (omega arith) table (without_entries t c) items (taken_at_once t c)
-    ∙ ap (λ rows. with_more (table_within table) (rows_origins c.args.section rows))
-    (sym (no_parents_seen c.args.rows.now (without_parents t c)))
-
-pub take_rows-returns-then-are_few_simple-clause-taken : goal.take_rows-returns-then-are_few_simple-clause-taken
-take_rows-returns-then-are_few_simple-clause-taken t c =
-    let parents = without_parents t c in
-    search (rules, parents, c.in_ok-with_rows.ensures.taken, raws.the_lemmas)
-
-pub take_rows-returns-then-are_all_plain-clause-named : goal.take_rows-returns-then-are_all_plain-clause-named
-take_rows-returns-then-are_all_plain-clause-named t c =
-    let now = c.replace-parents.result in
-    let own = tables.out-Rows now in
+pub take_any_rows-returns-then-are_all_plain-clause-named : goal.take_any_rows-returns-then-are_all_plain-clause-named
+take_any_rows-returns-then-are_all_plain-clause-named t c =
+    let own = tables.out-Rows c.args.rows in
     let none : own.parents.items ≡ [] =
-    nothing_left own.parents.items
-    (grind (arith, c.is_empty-then-looks-gt0-2.ensures, c.if-is_empty-5.true, own.parents.ok.0)) in
+    nothing_left own.parents.items (grind (arith, c.is_empty.ensures, c.if-is_empty.true, own.parents.ok.0)) in
     subst (λ (rows : Rows). IfErr c.take_many_rows.result
     (λ clash. NamesObstacle (rows_obstacle c.args.level rows (table_trie c.args.table.now)) clash))
-    (sym (no_parents_seen now none) ∙ ap rows_view c.replace-parents.ensures.value) c.take_many_rows.ensures.named
+    (sym (no_parents_seen c.args.rows none)) c.take_many_rows.ensures.named
 
 -- many plain rows, the first of them taken at once
 many_first : (t : ℕ) (c : goal.take_many_rows-After-enter_rows t)

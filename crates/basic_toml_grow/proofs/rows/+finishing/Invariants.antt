@@ -1,4 +1,5 @@
 use Rattle.std.proofs.Common.{◌≤◌, ◌+◌, ◌-◌, ◌*◌, length, map}
+use Rattle.std.specs.Vec.{vec_len, vec_capacity}
 use Rattle.basic_toml_value.specs.Nesting.{nesting_limit}
 use Rattle.basic_toml_read.specs.SectionView.{rows_seen, elements_view}
 use Rattle.basic_toml_grow.specs.Item.{child_trie, table_trie}
@@ -8,8 +9,8 @@ use Rattle.basic_toml_grow.proofs.RowsLeft.{AreLeft}
 use Rattle.basic_toml_grow.proofs.ElementsLeft.{ElementsAreLeft}
 use Rattle.basic_toml_grow.proofs.rows.+finishing.Given as goal
 
-abbrev pub decreases-take_rows : goal.decreases-take_rows
-decreases-take_rows l = 7 * (nesting_limit - l.level) + 6
+abbrev pub decreases-take_any_rows : goal.decreases-take_any_rows
+decreases-take_any_rows l = 7 * (nesting_limit - l.level) + 6
 
 abbrev pub decreases-take_many_rows : goal.decreases-take_many_rows
 decreases-take_many_rows l = 7 * (nesting_limit - l.level) + 5
@@ -48,3 +49,4 @@ invariant-children_of-loop-element l =
     (elements_view l.element-iterator)
     × ElementsCome l.section (elements_view l.initial.element-iterator) l.children.items
     (elements_view l.element-iterator)
+    × (vec_len l.children + length l.element-iterator ≤ vec_capacity l.children)

@@ -1,16 +1,47 @@
-use Rattle.std.proofs.Common.{List, ℕ, ap, sym, ◌∙◌, subst, IsTrue, length, arith}
-use Rattle.std.proofs.lemmas.List.{length-map}
+use Rattle.std.proofs.Common.{◌≡◌, List, ℕ, ap, sym, ◌∙◌, subst, IsTrue, length, take, arith}
+use Rattle.std.proofs.lemmas.List.{length-map, take_all, drop_all}
 use Rattle.basic_toml_index.specs.Keys.{are_distinct}
 use Rattle.basic_toml_value.specs.Pairs.{keys_of}
 use Rattle.basic_toml_value.proofs.KeysSeen.{keys_of-seen}
 use Rattle.basic_toml_grow.specs.Plain.{key_of}
+use Rattle.basic_toml_grow.specs.Simple.{are_all_plain, entries_of, with_entries}
 use Rattle.basic_toml_grow.proofs.SimpleRows.{entry_keys}
 use Rattle.basic_toml_grow.proofs.simple.with_rows.Goals as goal
 
-pub from_parts-entries-requires : goal.from_parts-entries-requires
-from_parts-entries-requires c =
-    let keys = sym (keys_of-seen c.in_ok-entries_of.field-0.items) ∙ ap keys_of c.in_ok-entries_of.ensures.entries
-    ∙ entry_keys c.args.section c.args.rows.now.items in
-    let count = ap length keys ∙ length-map c.args.rows.now.items key_of in
+pub entries_of-requires : goal.entries_of-requires
+entries_of-requires c =
+    let left = c.drain-left.ensures ∙ ap (λ v. v.items) c.replace.ensures.value in record {
+      within = omega (arith, ap length left, c.len-count.ensures, c.args.rows.now.ok.0);
+      plain = ap (are_all_plain 0) left ∙ c.requires.plain;
+    }
+
+pub from_parts-requires : goal.from_parts-requires
+from_parts-requires c =
+    let rows = c.args.rows.now.items in
+    let left = c.drain-left.ensures ∙ ap (λ v. v.items) c.replace.ensures.value in
+    let all : take c.len-count.result c.drain-left.result ≡ rows =
+    ap (take c.len-count.result) left
+    ∙ take_all c.len-count.result rows (omega (arith, c.len-count.ensures, c.args.rows.now.ok.0)) in
+    let keys = sym (keys_of-seen c.in_ok-entries.entries.items) ∙ ap keys_of c.in_ok-entries.ensures.entries
+    ∙ ap (λ rs. keys_of (entries_of c.args.section rs)) all ∙ entry_keys c.args.section rows in
+    let count = ap length keys ∙ length-map rows key_of in
     c.none.ensures _ (subst (λ (ks : List (List ℕ)). IsTrue (are_distinct ks)) (sym keys) c.requires.distinct)
     (omega (arith, count, c.requires.few))
+
+pub into_room-requires : goal.into_room-requires
+into_room-requires c =
+    let left = c.drain-left.ensures ∙ ap (λ v. v.items) c.replace.ensures.value in
+    c.in_ok-entries.ensures.left
+    ∙ drop_all c.len-count.result c.drain-left.result
+    (omega (arith, ap length left, c.len-count.ensures, c.args.rows.now.ok.0))
+
+pub returns-clause-after : goal.returns-clause-after
+returns-clause-after c =
+    let rows = c.args.rows.now.items in
+    let left = c.drain-left.ensures ∙ ap (λ v. v.items) c.replace.ensures.value in
+    let all : take c.len-count.result c.drain-left.result ≡ rows =
+    ap (take c.len-count.result) left
+    ∙ take_all c.len-count.result rows (omega (arith, c.len-count.ensures, c.args.rows.now.ok.0)) in
+    ap (with_entries c.args.table.now)
+    (c.replace-2.ensures.after ∙ c.from_parts.ensures ∙ c.in_ok-entries.ensures.entries
+    ∙ ap (entries_of c.args.section) all)

@@ -47,8 +47,21 @@ pub into_many-loop-element-init : goal.into_many-loop-element-init
 into_many-loop-element-init t c =
     let start = c.into_iter-element-iterator.ensures.into_iter_gives ∙ c.drain-element-items.ensures in (
       ap (λ vs. map view vs ++ map element_data c.into_iter-element-iterator.result) c.in_ok-moved.ensures.items,
+      omega (
+        arith,
+        ap length start,
+        c.in_ok-moved.ensures.capacity,
+        c.in_ok-moved.ensures.len,
+        c.len.ensures,
+        c.args.elements.ok.0,
+      ),
       ap (are_plain 0) start ∙ c.requires,
     )
+
+pub into_many-push_reserved-requires : goal.into_many-push_reserved-requires
+into_many-push_reserved-requires t c =
+    let left = ap length c.in-Some.ensures.steps in
+    omega (arith, left, c.loop-element.invariant.1)
 
 pub into_many-into_plain_value-requires : goal.into_many-into_plain_value-requires
 into_many-into_plain_value-requires t c =
@@ -60,18 +73,21 @@ into_many-into_plain_value-requires t c =
     let same = element_value c.in-Some.element in (
       omega (arith, ap data_size same, ap (λ l. items_size (items_of (map element_data l))) start),
       (element_left c.loop-element.element-iterator c.next.new.self c.in-Some.element c.in-Some.ensures.steps
-          c.loop-element.invariant.1).0,
+          c.loop-element.invariant.2).0,
     )
 
 pub into_many-loop-element-preserved : goal.into_many-loop-element-preserved
-into_many-loop-element-preserved t c = (
-  mapped_next view element_data c.loop-element.moved.items c.push.new.self.items c.loop-element.element-iterator
-      c.next.new.self c.into_iter-element-iterator.result c.in_ok-into_plain_value.field-0 c.in-Some.element
-      c.in-Some.ensures.steps c.in_ok-push.ensures.items c.loop-element.invariant.0
-      (c.in_ok-into_plain_value.ensures ∙ sym (element_value c.in-Some.element)),
-  (element_left c.loop-element.element-iterator c.next.new.self c.in-Some.element c.in-Some.ensures.steps
-      c.loop-element.invariant.1).1,
-)
+into_many-loop-element-preserved t c =
+    let left = ap length c.in-Some.ensures.steps in (
+      mapped_next view element_data c.loop-element.moved.items c.push_reserved.new.self.items
+          c.loop-element.element-iterator c.next.new.self c.into_iter-element-iterator.result
+          c.in_ok-into_plain_value.field-0 c.in-Some.element
+          c.in-Some.ensures.steps c.push_reserved.ensures.items c.loop-element.invariant.0
+          (c.in_ok-into_plain_value.ensures ∙ sym (element_value c.in-Some.element)),
+      omega (arith, left, c.loop-element.invariant.1, c.push_reserved.ensures.len, c.push_reserved.ensures.capacity),
+      (element_left c.loop-element.element-iterator c.next.new.self c.in-Some.element c.in-Some.ensures.steps
+          c.loop-element.invariant.2).1,
+    )
 
 pub into_plain_values-loop-element-init : goal.into_plain_values-loop-element-init
 into_plain_values-loop-element-init t c =

@@ -26,6 +26,7 @@ decreases-into_plain_entries l = 3 * data_size (rows_data l.rows.items)
 abbrev pub invariant-into_many-loop-element : goal.invariant-into_many-loop-element
 invariant-into_many-loop-element l =
     (map view l.moved.items ++ map element_data l.element-iterator ≡ map element_data l.initial.element-iterator)
+    × (vec_len l.moved + length l.element-iterator ≤ vec_capacity l.moved)
     × (are_plain 0 l.element-iterator ≡ true)
 
 -- and there is room for them

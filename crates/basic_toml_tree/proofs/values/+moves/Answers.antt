@@ -39,17 +39,35 @@ into_many_entries-into_value-requires t c =
     let smaller = members_size-rest (map value_pair c.loop-pair.moved.items) child_pair c.in-Some.pair
     c.next.new.self c.into_iter-pair-iterator.result
     (ap (λ l. map value_pair c.loop-pair.moved.items ++ map child_pair l) (sym c.in-Some.ensures.steps)
-    ∙ c.loop-pair.invariant) in
+    ∙ c.loop-pair.invariant.0) in
     let same = child_item c.in-Some.pair.value in
     (omega (arith, ap data_size same, ap (λ l. members_size (members_of (map child_pair l))) start), tt)
 
+pub into_many_entries-loop-pair-init : goal.into_many_entries-loop-pair-init
+into_many_entries-loop-pair-init t c =
+    let start : c.into_iter-pair-iterator.result ≡ c.args.pairs.items =
+    c.into_iter-pair-iterator.ensures.into_iter_gives ∙ c.drain-pair-items.ensures in
+    let room = c.in_ok-moved.ensures.capacity in
+    let empty = c.in_ok-moved.ensures.len in (
+      ap (λ ps. map value_pair ps ++ map child_pair c.into_iter-pair-iterator.result) c.in_ok-moved.ensures.items,
+      omega (arith, ap length start, room, empty, c.len.ensures, c.args.pairs.ok.0),
+    )
+
+pub into_many_entries-push_reserved-requires : goal.into_many_entries-push_reserved-requires
+into_many_entries-push_reserved-requires t c =
+    let left = ap length c.in-Some.ensures.steps in
+    omega (arith, left, c.loop-pair.invariant.1)
+
 pub into_many_entries-loop-pair-preserved : goal.into_many_entries-loop-pair-preserved
 into_many_entries-loop-pair-preserved t c =
-    mapped_next value_pair child_pair c.loop-pair.moved.items c.push.new.self.items c.loop-pair.pair-iterator
-    c.next.new.self c.into_iter-pair-iterator.result
-    (record { key = c.in-Some.pair.key; value = c.in_ok-value.value }) c.in-Some.pair
-    c.in-Some.ensures.steps c.in_ok-push.ensures.items c.loop-pair.invariant
-    (rw (c.in_ok-value.ensures, child_item c.in-Some.pair.value) refl)
+    let left = ap length c.in-Some.ensures.steps in (
+      mapped_next value_pair child_pair c.loop-pair.moved.items c.push_reserved.new.self.items
+          c.loop-pair.pair-iterator c.next.new.self c.into_iter-pair-iterator.result
+          (record { key = c.in-Some.pair.key; value = c.in_ok-value.value }) c.in-Some.pair
+          c.in-Some.ensures.steps c.push_reserved.ensures.items c.loop-pair.invariant.0
+          (rw (c.in_ok-value.ensures, child_item c.in-Some.pair.value) refl),
+      omega (arith, left, c.loop-pair.invariant.1, c.push_reserved.ensures.len, c.push_reserved.ensures.capacity),
+    )
 
 pub into_entries-loop-pair-init : goal.into_entries-loop-pair-init
 into_entries-loop-pair-init t c =
@@ -125,15 +143,33 @@ into_tables-into_table-requires t c =
     let smaller = items_size-rest (map view c.loop-table.elements.items) table_data c.in-Some.table
     c.next.new.self c.into_iter-table-iterator.result
     (ap (λ l. map view c.loop-table.elements.items ++ map table_data l) (sym c.in-Some.ensures.steps)
-    ∙ c.loop-table.invariant) in
+    ∙ c.loop-table.invariant.0) in
     (omega (arith, ap (λ l. items_size (items_of (map table_data l))) start), tt)
+
+pub into_tables-loop-table-init : goal.into_tables-loop-table-init
+into_tables-loop-table-init t c =
+    let start : c.into_iter-table-iterator.result ≡ c.args.tables.items =
+    c.into_iter-table-iterator.ensures.into_iter_gives ∙ c.drain-table-items.ensures in
+    let room = c.in_ok-elements.ensures.capacity in
+    let empty = c.in_ok-elements.ensures.len in (
+      ap (λ vs. map view vs ++ map table_data c.into_iter-table-iterator.result) c.in_ok-elements.ensures.items,
+      omega (arith, ap length start, room, empty, c.len.ensures, c.args.tables.ok.0),
+    )
+
+pub into_tables-push_reserved-requires : goal.into_tables-push_reserved-requires
+into_tables-push_reserved-requires t c =
+    let left = ap length c.in-Some.ensures.steps in
+    omega (arith, left, c.loop-table.invariant.1)
 
 pub into_tables-loop-table-preserved : goal.into_tables-loop-table-preserved
 into_tables-loop-table-preserved t c =
-    mapped_next view table_data c.loop-table.elements.items c.push.new.self.items c.loop-table.table-iterator
-    c.next.new.self c.into_iter-table-iterator.result _ c.in-Some.table
-    c.in-Some.ensures.steps c.in_ok-push.ensures.items c.loop-table.invariant
-    (table_seen _ ∙ c.in_ok-into_table.ensures.table)
+    let left = ap length c.in-Some.ensures.steps in (
+      mapped_next view table_data c.loop-table.elements.items c.push_reserved.new.self.items
+          c.loop-table.table-iterator c.next.new.self c.into_iter-table-iterator.result _ c.in-Some.table
+          c.in-Some.ensures.steps c.push_reserved.ensures.items c.loop-table.invariant.0
+          (table_seen _ ∙ c.in_ok-into_table.ensures.table),
+      omega (arith, left, c.loop-table.invariant.1, c.push_reserved.ensures.len, c.push_reserved.ensures.capacity),
+    )
 
 pub into_array-into_elements-requires : goal.into_array-into_elements-requires
 into_array-into_elements-requires t c = (omega (arith, ap data_size (children_data c.args.children)), tt)

@@ -40,17 +40,19 @@ invariant-into_elements-loop-child l =
     map view l.elements.items ++ map child_data l.child-iterator
     ≡ map child_data l.initial.child-iterator
 
+-- and there is room for them
 abbrev pub invariant-into_tables-loop-table : goal.invariant-into_tables-loop-table
 invariant-into_tables-loop-table l =
-    map view l.elements.items ++ map table_data l.table-iterator
-    ≡ map table_data l.initial.table-iterator
+    (map view l.elements.items ++ map table_data l.table-iterator
+    ≡ map table_data l.initial.table-iterator)
+    × (vec_len l.elements + length l.table-iterator ≤ vec_capacity l.elements)
 
 abbrev pub invariant-into_many_entries-loop-pair : goal.invariant-into_many_entries-loop-pair
 invariant-into_many_entries-loop-pair l =
-    map value_pair l.moved.items ++ map child_pair l.pair-iterator
-    ≡ map child_pair l.initial.pair-iterator
+    (map value_pair l.moved.items ++ map child_pair l.pair-iterator
+    ≡ map child_pair l.initial.pair-iterator)
+    × (vec_len l.moved + length l.pair-iterator ≤ vec_capacity l.moved)
 
--- and there is room for them
 abbrev pub invariant-into_entries-loop-pair : goal.invariant-into_entries-loop-pair
 invariant-into_entries-loop-pair l =
     (map value_pair l.moved.items ++ map child_pair l.pair-iterator.rest.items

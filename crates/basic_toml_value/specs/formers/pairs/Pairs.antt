@@ -54,8 +54,8 @@ abbrev on_pair : {X Y : Type 0} → (X → Y) → Pair X → Pair Y
 on_pair h p = record { key = p.key; value = h p.value }
 
 abbrev fields : Former {0}
-fields = via (pair (vec.the_former in_memory Global) (const Index)) Inside (λ X a. (a.entries, a.index))
-    (λ X v. record { entries = v.0; index = v.1 }) (λ X a. refl) (λ X v. refl)
+fields = via (pair (const Index) (vec.the_former in_memory Global)) Inside (λ X a. (a.index, a.entries))
+    (λ X v. record { index = v.0; entries = v.1 }) (λ X a. refl) (λ X v. refl)
 
 seen-map : {X Y : Type 0} (h : X → Y) (ps : List (Pair X)) → seen (map (on_pair h) ps) ≡ map (on_value h) (seen ps)
 seen-map h [] = refl
@@ -82,9 +82,9 @@ module _ (R S : RattleType) (h : R.Denot → S.Denot) where
       (λ u. subst (λ (keys : List Bytes). IsIndex keys u.index) (sym (texts_of-map h u.entries.items)))
       (λ u. subst (λ (keys : List Bytes). IsIndex keys u.index) (texts_of-map h u.entries.items))
       (over (I.the_row R)) (over (I.the_row S))
-      (struct_places (I.the_type R) (I.the_type S) (vec.mapped (on_pair h), (λ n. n, tt)) _ (λ d. refl) refl (
-        laid _ _ _ (vec.the_places heap.the_row ghosts (P.the_row R) (P.the_row S) (on_pair h) (pair_places a)),
-        ((refl, (λ n. refl, λ n. refl)), tt),
+      (struct_places (I.the_type R) (I.the_type S) (λ n. n, (vec.mapped (on_pair h), tt)) _ (λ d. refl) refl (
+        (refl, (λ n. refl, λ n. refl)),
+        (laid _ _ _ (vec.the_places heap.the_row ghosts (P.the_row R) (P.the_row S) (on_pair h) (pair_places a)), tt),
       ))
 
   pub the_codes_placed : Recodes R S h → Recodes (C.the_row R) (C.the_row S) ((the_former this).map R.Denot S.Denot h)

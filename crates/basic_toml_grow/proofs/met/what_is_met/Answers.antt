@@ -1,7 +1,7 @@
 use Rattle.std.proofs.Common.{◌||◌, ap, ◌∙◌, sym}
 use Rattle.basic_toml_grow.specs.declared.item.Table.{out-Table}
 use Rattle.basic_toml_grow.proofs.MetTellsStop.{made_met, section_stands, tables_stand}
-use Rattle.basic_toml_grow.proofs.rows.what_is_met.Goals as goal
+use Rattle.basic_toml_grow.proofs.met.what_is_met.Goals as goal
 
 pub returns-then-is_made-clause-named : goal.returns-then-is_made-clause-named
 returns-then-is_made-clause-named c =
