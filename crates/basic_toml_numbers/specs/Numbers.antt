@@ -79,6 +79,10 @@ without_sign (c ∷ cs) = if is_sign c then cs else c ∷ cs
 abbrev pub is_part : ℕ → Bool
 is_part c = is_digit c 10 || c == underscore
 
+-- a decimal digit
+abbrev pub is_decimal : ℕ → Bool
+is_decimal c = is_digit c 10
+
 -- the digits and underscores that a text begins with, and what stands after them
 abbrev pub part_of : List ℕ → List ℕ
 part_of [] = []

@@ -13,4 +13,4 @@ mod float;
 mod numbers;
 
 pub use float::{Float, float_of};
-pub use numbers::{integer_of, is_digits, is_whole, split_part};
+pub use numbers::{first_digits, integer_of, is_digits, is_whole, split_part};

@@ -1,5 +1,6 @@
 //! The texts of numbers.
-ghost use Rattle.std.specs.Prelude.{◌≡◌, ◌≤◌, ◌+◌, ◌^◌, ◌-◌, ℕ, Some, None, min, length, if◌then◌else◌};
+ghost use Rattle.std.specs.Prelude.{◌≡◌, ◌≤◌, ◌<◌, ◌+◌, ◌^◌, ◌-◌, ℕ, Some, None, IfSome, IfNone, min, length, take, slice_index_or, ◌⊎◌, false, true, if◌then◌else◌};
+ghost use Rattle.std.specs.List.{list_all};
 ghost use Rattle.basic_toml_numbers.specs.Numbers as spec;
 
 /// The number of an integer: decimal with an optional sign and no leading zero, or `0x`, `0o` or `0b` with digits
@@ -117,6 +118,36 @@ fn decimal_value(digits: &[u8]) -> Option<u64>
         }
     }
     Some(value)
+}
+
+// So many decimal digits write a number within `i64`.
+const FEW: usize = 18;
+
+/// The integer that the first decimal digits of a text write, and how many these are: at most 18. `None` where no digit
+/// stands there, or a zero before another one. It is the number of the text only where that ends behind them.
+#[inline(always)]
+pub fn first_digits(text: &[u8]) -> Option<(i64, usize)>
+    ensures integer { IfSome result (λ found. spec.integer_of (take found.1 text.now) ≡ Some found.0) }
+    ensures digits { IfSome result (λ found. list_all spec.is_decimal (take found.1 text.now) ≡ true) }
+    ensures some { IfSome result (λ found. 0 < found.1) }
+    ensures within { IfSome result (λ found. found.1 ≤ length text.now) }
+    ensures none { IfNone result ((spec.is_decimal (slice_index_or text.now 0 0) ≡ false)
+        ⊎ (slice_index_or text.now 0 0 ≡ 48)) }
+{
+    let most = text.len().min(FEW);
+    let mut value: u64 = 0;
+    let mut count = 0;
+    while count < most && text[count].is_ascii_digit() {
+        value = value * 10 + u64::from(text[count] - b'0');
+        count += 1;
+    }
+    if count == 0 {
+        return None;
+    }
+    if count > 1 && text[0] == b'0' {
+        return None;
+    }
+    Some((value as i64, count))
 }
 
 /// Whether these are decimal digits with single underscores between them. Public for `basic_toml_explain`, which tells

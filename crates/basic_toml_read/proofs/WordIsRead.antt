@@ -1,21 +1,27 @@
 -- Words as values, against the grammar.
-use Rattle.std.proofs.Common.{inl, inr, ◌≡◌, ℕ, zero, suc, ◌+◌, ◌<◌, ◌≤◌, ◌==◌, Bool, true, false, cond, List}
-use Rattle.std.proofs.Common.{[], ◌∷◌, drop, get_or, refl, ap, sym, ◌∙◌, arith, Option, Some, None}
-use Rattle.std.specs.Prelude.{position}
-use Rattle.std.specs.Str.{IsUtf8, IsCharBoundary}
-use Rattle.std.specs.List.{prefix_len}
+use Rattle.std.proofs.Common.{inl, inr, ◌≡◌, ℕ, zero, suc, ◌+◌, ◌<◌, ◌≤◌, ◌==◌, Bool, true, false, cond, List, ℤ, ◌-◌}
+use Rattle.std.proofs.Common.{[], ◌∷◌, length, take, drop, get_or, refl, ap, sym, ◌∙◌, subst, arith, Option, Some, None}
+use Rattle.std.specs.Prelude.{position, codes}
+use Rattle.std.specs.Str.{IsUtf8, IsCharBoundary, bytes_eq}
+use Rattle.std.specs.List.{list_all, prefix_len}
 use Rattle.std.proofs.lemmas.Str.{encodes-IsAscii}
-use Rattle.std.proofs.lemmas.Bool.{both_ways, or_from, cases_lt}
+use Rattle.std.proofs.lemmas.Bool.{and_parts, both_ways, or_from, cases_lt}
+use Rattle.std.proofs.lemmas.List.{at_drop_more, length-drop, length-take-le}
+use Rattle.std.proofs.Math.Seq.{take-length}
+use Rattle.std.proofs.lemmas.List.Sums.{prefix_len-drop_yes}
+use Rattle.std.proofs.lemmas.Str.{IsCharBoundary-after_ascii}
 use Rattle.std.proofs.lemmas.Bool.Decides.{nat_tests}
 use Rattle.basic_toml_tokens.specs.Text.{Text, text_at, run, after_run}
 use Rattle.basic_toml_tokens.specs.Reading.{between, IsRun}
 use Rattle.basic_toml_tokens.proofs.RestsArePartsOfText.{part_later}
 use Rattle.basic_toml_tokens.proofs.StepIsTheFold.{offset_is}
 use Rattle.basic_toml_tokens.proofs.RunsAreFound.{IsRunTest, run_by_bytes}
+use Rattle.basic_toml_numbers.specs.Numbers.{is_decimal, integer_of, float_of}
 use Rattle.basic_toml_grammar.specs.Sections.{Raw}
 use Rattle.basic_toml_grammar.specs.Entering.{and_then}
-use Rattle.basic_toml_grammar.specs.Grammar.{is_wordlike, word_value, to_period, word_offset}
+use Rattle.basic_toml_grammar.specs.Grammar.{is_wordlike, word_value, number_value, to_period, word_offset}
 use Rattle.basic_toml_grammar.specs.Reader.{word_at}
+use Rattle.basic_toml_read.specs.AtPlace.{Leaves}
 use Rattle.basic_toml_read.specs.Word.{offset_by, value_offset}
 
 -- a run of characters of words, by bytes
@@ -101,3 +107,81 @@ word_missing [] e = refl
 word_missing (x ∷ t) e =
     ap (λ o. and_then o (λ v. Some
     (record { offset = word_offset v x.0 (x ∷ t); value = v; rest = after_run is_wordlike (x ∷ t) }))) e
+
+-- digits that a word begins with
+decimal_in_word : (c : ℕ) → is_decimal c ≡ true → (c < 128) × (is_wordlike c ≡ true)
+decimal_in_word c is = (grind (arith, nat_tests), grind (arith, nat_tests, or_from))
+
+pub known_digits : (bytes : List ℕ) (at count : ℕ) → IsUtf8 bytes → IsCharBoundary bytes at
+    → at + count ≤ length bytes → list_all is_decimal (take count (drop at bytes)) ≡ true
+    → (prefix_len is_wordlike (drop at bytes) ≡ count + prefix_len is_wordlike (drop (at + count) bytes))
+    × IsCharBoundary bytes (at + count)
+known_digits bytes at zero whole here fits all =
+    let same : at ≡ at + 0 = omega arith in (
+      ap (λ i. prefix_len is_wordlike (drop i bytes)) same ∙ omega arith,
+      subst (IsCharBoundary bytes) same here,
+    )
+known_digits bytes at (suc n) whole here fits all =
+    let within : at < length bytes = omega (arith, fits) in
+    let parts = and_parts (is_decimal (get_or bytes at 0)) (list_all is_decimal (take n (drop (at + 1) bytes)))
+    (sym (at_drop_more (λ cs. list_all is_decimal (take (suc n) cs)) bytes at 0 within) ∙ all) in
+    let first = decimal_in_word (get_or bytes at 0) parts.0 in
+    let more = known_digits bytes (at + 1) n whole (IsCharBoundary-after_ascii bytes at whole within first.0)
+    (omega (arith, fits)) parts.1 in
+    let same : at + 1 + n ≡ at + suc n = omega arith in (
+      prefix_len-drop_yes is_wordlike bytes at 0 within first.1
+          ∙ ap (λ k. 1 + k) more.0
+          ∙ ap (λ i. 1 + (n + prefix_len is_wordlike (drop i bytes))) same
+          ∙ omega arith,
+      subst (IsCharBoundary bytes) same more.1,
+    )
+
+-- digits are neither `true` nor `false`
+digits_value : (word : List ℕ) (z : ℤ) → 0 < length word → list_all is_decimal word ≡ true
+    → integer_of word ≡ Some z → Some (Raw.integer z) ≡ word_value word
+digits_value [] z some all is = absurd (omega (arith, some))
+digits_value (c ∷ cs) z some all is =
+    let first : is_decimal c ≡ true = (and_parts (is_decimal c) (list_all is_decimal cs) all).0 in
+    let no_true : bytes_eq (c ∷ cs) (codes "true") ≡ false = grind (arith, nat_tests, first) in
+    let no_false : bytes_eq (c ∷ cs) (codes "false") ≡ false = grind (arith, nat_tests, first) in
+    rw no_true (rw no_false (ap (λ o. number_value o (float_of (c ∷ cs))) (sym is)))
+
+-- digits that the text has at an offset, and the word that they belong to
+pub record HasDigits (bytes : List ℕ) (at count : ℕ) (z : ℤ) : Type 0 where
+  pub boundary : IsCharBoundary bytes (at + count)
+  pub behind : after_run is_wordlike (text_at bytes (at + count)) ≡ after_run is_wordlike (text_at bytes at)
+  pub ends : prefix_len is_wordlike (drop (at + count) bytes) ≡ 0
+      → Leaves bytes at (at + count) (after_run is_wordlike (text_at bytes at))
+  pub value : Some (Raw.integer z) ≡ word_value (between bytes at (at + count))
+
+pub digits_here : (seen bytes : List ℕ) (at count : ℕ) (z : ℤ) → seen ≡ bytes → IsUtf8 bytes
+    → IsCharBoundary bytes at → count ≤ length (take (length seen - at) (drop at seen)) → 0 < count
+    → list_all is_decimal (take count (take (length seen - at) (drop at seen))) ≡ true
+    → integer_of (take count (take (length seen - at) (drop at seen))) ≡ Some z → HasDigits bytes at count z
+digits_here seen bytes at count z same whole here inside some digits integer =
+    let slice : take (length seen - at) (drop at seen) ≡ drop at bytes =
+    ap (λ (cs : List ℕ). take (length cs - at) (drop at cs)) same
+    ∙ ap (λ (n : ℕ). take n (drop at bytes)) (sym (length-drop at bytes))
+    ∙ take-length (drop at bytes) in
+    let all : list_all is_decimal (take count (drop at bytes)) ≡ true =
+    ap (λ (cs : List ℕ). list_all is_decimal (take count cs)) (sym slice) ∙ digits in
+    let fits : at + count ≤ length bytes = omega (arith, inside, ap length slice, length-drop at bytes, here.0) in
+    let known = known_digits bytes at count whole here fits all in
+    let long : IsRun is_wordlike bytes at (at + prefix_len is_wordlike (drop at bytes)) =
+    run_by_bytes is_wordlike wordlike_test bytes at whole here in
+    let short : IsRun is_wordlike bytes (at + count) (at + count + prefix_len is_wordlike (drop (at + count) bytes)) =
+    run_by_bytes is_wordlike wordlike_test bytes (at + count) whole known.1 in
+    record {
+      boundary = known.1;
+      behind = sym short.rest ∙ ap (text_at bytes) (omega (arith, known.0)) ∙ long.rest;
+      ends = λ none. record {
+        left = ap (text_at bytes) (omega (arith, known.0, none)) ∙ long.rest;
+        boundary = known.1;
+        forward = omega arith;
+      };
+      value =
+          digits_value (take count (drop at bytes)) z
+          (omega (arith, length-take-le count (drop at bytes), length-drop at bytes, fits, some)) all
+          (ap (λ (cs : List ℕ). integer_of (take count cs)) (sym slice) ∙ integer)
+          ∙ ap (λ (n : ℕ). word_value (take n (drop at bytes))) (omega arith);
+    }

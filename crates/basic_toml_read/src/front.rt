@@ -1,5 +1,6 @@
 //! What stands at an offset of a text: blanks, comments, line ends, words.
-ghost use Rattle.std.specs.Prelude.{◌≡◌};
+ghost use Rattle.std.specs.Prelude.{◌≡◌, ◌≤◌, true, drop};
+ghost use Rattle.std.specs.List.{prefix_len};
 ghost use Rattle.std.specs.Str.{IsCharBoundary};
 ghost use Rattle.basic_toml_tokens.specs.Text.{text_at, after_run, is_comment, after_blanks};
 ghost use Rattle.basic_toml_grammar.specs.Grammar.{is_wordlike, after_comment_by, after_gap};
@@ -91,16 +92,34 @@ fn after_joint(text: &str, at: usize) -> Option<usize>
     }
 }
 
-/// Where the keylike characters, periods and pluses at an offset end.
-pub(crate) fn end_of_word(text: &str, at: usize) -> usize
-    requires { IsCharBoundary text.now at }
+/// Where the keylike characters, periods and pluses at an offset end, which go on to another one at least.
+pub(crate) fn end_of_word(text: &str, at: usize, from: usize) -> usize
+    requires boundary { IsCharBoundary text.now from }
+    requires forward { at ≤ from }
+    requires known { after_run is_wordlike (text_at text.now from) ≡ after_run is_wordlike (text_at text.now at) }
     ensures { Leaves text.now at result (after_run is_wordlike (text_at text.now at)) }
 {
-    let mut end = end_of_run(text, at, Class::Keylike);
+    let start = after_joint(text, from).unwrap_or(from);
+    let mut end = end_of_run(text, start, Class::Keylike);
     while let Some(next) = after_joint(text, end) {
         end = end_of_run(text, next, Class::Keylike);
     }
     end
+}
+
+/// Whether a word that goes on to an offset is seen to end there, as nearly all do: before a line end, a blank, a comma,
+/// a bracket, a brace or a comment.
+#[inline(always)]
+pub(crate) fn ends_word(text: &str, at: usize) -> bool
+    ensures { result ≡ true → prefix_len is_wordlike (drop at text.now) ≡ 0 }
+{
+    match text.as_bytes().get(at) {
+        Some(byte) => matches!(
+            *byte,
+            b'\n' | b'\r' | b',' | b' ' | b'\t' | b']' | b'}' | b'#',
+        ),
+        None => true,
+    }
 }
 
 /// Whether a string begins at an offset.

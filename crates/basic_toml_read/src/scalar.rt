@@ -11,11 +11,12 @@ ghost use Rattle.basic_toml_read.specs.SectionView.{raw_of};
 ghost use Rattle.basic_toml_explain.specs.Stop.{StopsInside};
 ghost use Rattle.basic_toml_read.specs.StopsAt.{stop_of, is_copy, IsKept, IsKeyOf, ReadsKeyAt, ReadsStringAt, ReadsWordAt, WantsEnd};
 
-use crate::front::{begins_string, end_of_word};
+use crate::front::{begins_string, end_of_word, ends_word};
 use crate::key_text::KeyText;
 use crate::section::Raw;
 use crate::word::{Word, value_offset, word_value};
 use basic_toml_explain::{End, Stop, Why};
+use basic_toml_numbers::first_digits;
 use basic_toml_tokens::{Class, Error, Quoted, TokenStop, end_of_run, simple_string_at, string_at};
 use std::alloc::Global;
 use std::borrow::CowStr;
@@ -160,7 +161,8 @@ fn raw<'de>(word: Word) -> Raw<'de>
     }
 }
 
-/// The number, `true` or `false` at an offset. `end` is wanted after it.
+/// The number, `true` or `false` at an offset. `end` is wanted after it. Most are a few digits alone, whose number and end
+/// are found together.
 pub(crate) fn word_at<'de>(
     alloc: Global,
     text: &'de str,
@@ -172,7 +174,21 @@ pub(crate) fn word_at<'de>(
     ensures wanted { IfErr result (WantsEnd end) }
     ensures inside { IfErr result (λ stop. StopsInside text.now stop) }
 {
-    let after = end_of_word(text, at);
+    let known = match first_digits(&text.as_bytes()[at..]) {
+        Some((number, count)) => {
+            let end = at + count;
+            if ends_word(text, end) {
+                return Ok(Valued {
+                    offset: at,
+                    value: Raw::Integer(number),
+                    end,
+                });
+            }
+            end
+        }
+        None => at,
+    };
+    let after = end_of_word(text, at, known);
     if at == after {
         return Err(Stop {
             at,

@@ -1,19 +1,33 @@
-use Rattle.std.proofs.Common.{ap, sym, ◌∙◌, arith}
+use Rattle.std.proofs.Common.{◌≡◌, ◌≤◌, ℕ, List, Option, Some, None, refl, ap, sym, ◌∙◌, arith}
+use Rattle.std.specs.Option.{unwrap_or}
 use Rattle.basic_toml_tokens.specs.Text.{text_at, after_run, is_keylike}
 use Rattle.basic_toml_tokens.proofs.SpacesAreRuns.{after_twice}
 use Rattle.basic_toml_grammar.specs.Grammar.{is_wordlike}
 use Rattle.basic_toml_explain.proofs.TakenTokenStands.{run_within}
+use Rattle.basic_toml_read.specs.AtPlace.{IsJoint}
 use Rattle.basic_toml_read.proofs.front.end_of_word.Goals as goal
+
+-- behind a period or a plus that stands first, or where it stands
+start_is : (bytes : List ℕ) (from : ℕ) (joint : Option ℕ) → IsJoint bytes from joint
+    → (after_run is_wordlike (text_at bytes (unwrap_or joint from)) ≡ after_run is_wordlike (text_at bytes from))
+    × (from ≤ unwrap_or joint from)
+start_is bytes from None is = (refl, omega arith)
+start_is bytes from (Some next) is = (sym is.0, omega (arith, is.2))
 
 pub loop-next-init : goal.loop-next-init
 loop-next-init c =
+    let text = c.args.text.now in
     let run = c.end_of_run-end.ensures.run in
+    let is = c.unwrap_or-start.ensures in
+    let start = start_is text c.args.from c.after_joint.result c.after_joint.ensures in
     record {
-      rest = ap (after_run is_wordlike) run.rest ∙ run_within (text_at c.args.text.now c.args.at);
-      word = ap (after_run is_keylike) run.rest ∙ after_twice is_keylike (text_at c.args.text.now c.args.at) ∙
+      rest =
+          ap (after_run is_wordlike) run.rest ∙ run_within (text_at text c.unwrap_or-start.result)
+          ∙ ap (λ i. after_run is_wordlike (text_at text i)) is ∙ start.0 ∙ c.requires.known;
+      word = ap (after_run is_keylike) run.rest ∙ after_twice is_keylike (text_at text c.unwrap_or-start.result) ∙
           sym run.rest;
       boundary = run.boundary;
-      forward = run.forward;
+      forward = omega (arith, run.forward, is, start.1, c.requires.forward);
     }
 
 pub loop-next-preserved : goal.loop-next-preserved

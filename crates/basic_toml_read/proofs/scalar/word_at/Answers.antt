@@ -3,7 +3,19 @@ use Rattle.std.specs.Option.{option_map}
 use Rattle.basic_toml_tokens.specs.Text.{text_at}
 use Rattle.basic_toml_read.specs.Word.{raw_of}
 use Rattle.basic_toml_read.proofs.ScalarsRead.{no_word_run, word_run, word_value_is, no_word_value}
+use Rattle.basic_toml_read.proofs.ViewsSeen.{integer_of}
+use Rattle.basic_toml_read.proofs.scalar.word_at.Goals.{in-Some+else-ends_word, in-None}
 use Rattle.basic_toml_read.proofs.scalar.word_at.Goals as goal
+use Rattle.std.proofs.Common.{subst, rules, ◌≡◌, ◌+◌}
+use mir.Syntax.{w64}
+use mir.Val.{SFits}
+use Rattle.std.proofs.lemmas.Int.{to_z-of_z}
+use Rattle.basic_toml_tokens.specs.Reading.{between}
+use Rattle.basic_toml_grammar.specs.Sections.{Raw}
+use Rattle.std.specs.Str.{IsCharBoundary}
+use Rattle.basic_toml_tokens.specs.Text.{after_run}
+use Rattle.basic_toml_grammar.specs.Grammar.{is_wordlike}
+use Rattle.basic_toml_read.proofs.WordIsRead.{digits_here}
 
 pub returns-then-at-after-clause-read : goal.returns-then-at-after-clause-read
 returns-then-at-after-clause-read c =
@@ -27,19 +39,63 @@ returns-clause-read c =
     let l = c.end_of_word-after.ensures in
     let word = word_run c.args.text.now c.args.at c.end_of_word-after.result c.utf8.text c.requires l
     c.if-at-after.false in
-    let told = sym (ap (option_map raw_of) c.in-Some.is) ∙ c.in_ok-value.ensures in
+    let told = sym (ap (option_map raw_of) c.in-Some-2.is) ∙ c.in_ok-value.ensures in
     record {
-      raw = raw_of c.in-Some.value;
+      raw = raw_of c.in-Some-2.value;
       seen = c.raw.ensures;
       is =
           word_value_is c.args.text.now c.args.at c.end_of_word-after.result c.range-word.result.now
-          (raw_of c.in-Some.value) (c.range-word.ensures.value ∙ word.0) word.1 l.left told
+          (raw_of c.in-Some-2.value) (c.range-word.ensures.value ∙ word.0) word.1 l.left told
           ∙ ap (λ (n : ℕ). Some (record {
             offset = n;
-            value = raw_of c.in-Some.value;
+            value = raw_of c.in-Some-2.value;
             rest =
                 text_at c.args.text.now c.end_of_word-after.result;
           })) (sym c.value_offset.ensures);
       boundary = l.boundary;
       later = omega (arith, l.forward, c.if-at-after.false);
+    }
+
+pub end_of_word-after-requires-clause-boundary : goal.end_of_word-after-requires-clause-boundary
+end_of_word-after-requires-clause-boundary c =
+    elim c.match-first_digits.branch [
+      | in-Some+else-ends_word w ↦
+          subst (IsCharBoundary c.args.text.now) (sym w.known-is)
+          (digits_here c.as_bytes.result.now c.args.text.now c.args.at w.in-Some.count w.in-Some.number
+          c.as_bytes.ensures.value c.utf8.text c.requires w.in-Some.ensures.within w.in-Some.ensures.some
+          w.in-Some.ensures.digits w.in-Some.ensures.integer).boundary
+      | in-None w ↦ subst (IsCharBoundary c.args.text.now) (sym w.known-is) c.requires
+    ]
+
+pub end_of_word-after-requires-clause-known : goal.end_of_word-after-requires-clause-known
+end_of_word-after-requires-clause-known c =
+    elim c.match-first_digits.branch [
+      | in-Some+else-ends_word w ↦
+          ap (λ (i : ℕ). after_run is_wordlike (text_at c.args.text.now i)) w.known-is
+          ∙ (digits_here c.as_bytes.result.now c.args.text.now c.args.at w.in-Some.count w.in-Some.number
+          c.as_bytes.ensures.value c.utf8.text c.requires w.in-Some.ensures.within w.in-Some.ensures.some
+          w.in-Some.ensures.digits w.in-Some.ensures.integer).behind
+      | in-None w ↦ ap (λ (i : ℕ). after_run is_wordlike (text_at c.args.text.now i)) w.known-is
+    ]
+
+pub returns-then-ends_word-clause-read : goal.returns-then-ends_word-clause-read
+returns-then-ends_word-clause-read c =
+    let bytes = c.args.text.now in
+    let at = c.args.at in
+    let count = c.in-Some.count in
+    let z = c.in-Some.number in
+    let d = c.in-Some.ensures in
+    let here = digits_here c.as_bytes.result.now bytes at count z c.as_bytes.ensures.value c.utf8.text c.requires
+    d.within d.some d.digits d.integer in
+    let some : at ≡ at + count → ⊥ = λ e. omega (arith, e, d.some) in
+    let leaves = here.ends (c.ends_word.ensures c.if-ends_word.true) in
+    let word = word_run bytes at (at + count) c.utf8.text c.requires leaves some in
+    let fits : SFits w64 z = search rules in
+    record {
+      raw = Raw.integer z;
+      seen = rw (to_z-of_z w64 z fits) (integer_of z);
+      is = word_value_is bytes at (at + count) (between bytes at (at + count)) (Raw.integer z) word.0 word.1 leaves.left
+          here.value;
+      boundary = leaves.boundary;
+      later = omega (arith, d.some);
     }

@@ -1,0 +1,90 @@
+use Rattle.std.proofs.Common.{◌≡◌, ◌<◌, ◌≤◌, ◌+◌, ◌*◌, ◌^◌, ℕ, take, get_or, length, ap, sym, ◌∙◌, arith, inl, Some, w64}
+use Rattle.std.proofs.Math.Nat.{pow-le-pow_right}
+use Rattle.std.proofs.lemmas.Int.{to_z_pos}
+use Rattle.std.proofs.lemmas.List.{get_or-take, length-take}
+use Rattle.basic_toml_numbers.specs.Numbers.{is_decimal}
+use Rattle.basic_toml_numbers.proofs.Digits.{decimal_fits, decimal_grows}
+use Rattle.basic_toml_numbers.proofs.FirstDigits.{in_range, no_digit, other_byte, more_digits, more_value, digits_are_integer}
+use Rattle.basic_toml_numbers.proofs.numbers.first_digits.Goals as goal
+use Rattle.basic_toml_numbers.proofs.numbers.first_digits.Goals.{else-count-gt1-via-then-count-gt1+else-text-eq48}
+use Rattle.basic_toml_numbers.proofs.numbers.first_digits.Goals.{else-count-gt1-via-else-count-gt1}
+use Rattle.basic_toml_numbers.proofs.numbers.first_digits.Goals.{then-loop-count-test+else-is_ascii_digit}
+use Rattle.basic_toml_numbers.proofs.numbers.first_digits.Goals.{else-loop-count-test}
+
+pub overflow_mul-value : goal.overflow_mul-value
+overflow_mul-value c =
+    omega (
+      arith,
+      decimal_fits c.loop-count.value 0 c.loop-count.count (omega (arith, c.min-most.ensures, c.loop-count-test.true))
+          c.loop-count.invariant.small (omega arith),
+    )
+
+pub overflow_add-value : goal.overflow_add-value
+overflow_add-value c =
+    let digit = in_range (get_or c.args.text.now c.loop-count.count 0) (sym c.if-is_ascii_digit.ensures.value) in
+    omega (
+      arith,
+      decimal_fits c.loop-count.value c.from.result c.loop-count.count
+          (omega (arith, c.min-most.ensures, c.loop-count-test.true)) c.loop-count.invariant.small
+          (omega (arith, c.from.ensures, digit)),
+    )
+
+pub loop-count-preserved : goal.loop-count-preserved
+loop-count-preserved c =
+    let text = c.args.text.now in
+    let count = c.loop-count.count in
+    let within : count < length text = omega (arith, c.min-most.ensures, c.loop-count-test.true) in
+    let digit = in_range (get_or text count 0) (sym c.if-is_ascii_digit.ensures.value) in record {
+      within = omega (arith, c.loop-count-test.true);
+      digits = more_digits text count within digit c.loop-count.invariant.digits;
+      value =
+          ap (λ (d : ℕ). c.loop-count.value * 10 + d) c.from.ensures
+          ∙ more_value text count c.loop-count.value within digit c.loop-count.invariant.value;
+      small =
+          decimal_grows c.loop-count.value c.from.result count c.loop-count.invariant.small
+          (omega (arith, c.from.ensures, digit));
+    }
+
+pub returns-then-count-eq0-clause-none : goal.returns-then-count-eq0-clause-none
+returns-then-count-eq0-clause-none c =
+    let text = c.args.text.now in
+    elim c.loop-count-test.branch [
+      | then-loop-count-test+else-is_ascii_digit w ↦
+          inl (ap (λ i. is_decimal (get_or text i 0)) (sym c.if-count-eq0.true)
+          ∙ other_byte (get_or text c.loop-count.count 0) (sym w.is_ascii_digit.ensures.value ∙ w.if-is_ascii_digit.false))
+      | else-loop-count-test w ↦
+          inl (no_digit text (omega (arith, c.min-most.ensures, c.if-count-eq0.true, w.loop-count-test.false)))
+    ]
+
+small : (value count : ℕ) → value < 10 ^ count → count ≤ 18 → value < 2 ^ 63
+small value count below few = omega (
+  arith,
+  below,
+  pow-le-pow_right {n = 10} (omega arith) {i = count} {j = 18} few,
+)
+
+pub overflow_cast-result : goal.overflow_cast-result
+overflow_cast-result c =
+    omega (
+      arith,
+      small c.loop-count.value c.loop-count.count c.loop-count.invariant.small
+          (omega (arith, c.min-most.ensures, c.loop-count.invariant.within)),
+    )
+
+pub returns-clause-integer : goal.returns-clause-integer
+returns-clause-integer c =
+    let text = c.args.text.now in
+    let count = c.loop-count.count in
+    let within : count ≤ length text = omega (arith, c.min-most.ensures, c.loop-count.invariant.within) in
+    let few = small c.loop-count.value count c.loop-count.invariant.small
+    (omega (arith, c.min-most.ensures, c.loop-count.invariant.within)) in
+    let long : length (take count text) ≡ count = omega (arith, length-take count text, within) in
+    digits_are_integer (take count text) c.loop-count.value c.loop-count.invariant.digits
+    (omega (arith, long, c.if-count-eq0.false))
+    (λ naught. elim c.else-count-gt1.branch [
+      | else-count-gt1-via-then-count-gt1+else-text-eq48 w ↦
+          absurd (w.if-text-eq48.false (sym (get_or-take count text 0 0 (omega (arith, w.if-count-gt1.true))) ∙ naught))
+      | else-count-gt1-via-else-count-gt1 w ↦ omega (arith, long, w.if-count-gt1.false, c.if-count-eq0.false)
+    ])
+    c.loop-count.invariant.value few
+    ∙ ap (λ z. Some z) (sym (to_z_pos w64 c.loop-count.value few))
