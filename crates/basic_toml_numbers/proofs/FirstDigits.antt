@@ -1,16 +1,19 @@
 -- A text that begins with decimal digits, and the integer that these write.
 use Rattle.std.proofs.Common.{◌≡◌, ◌<◌, ◌+◌, ◌*◌, ◌-◌, ◌^◌, ◌==◌, inl, inr, ℕ, true, false, not, List, [], ◌∷◌, length}
-use Rattle.std.proofs.Common.{filter, take, get_or, refl, ap, ◌∙◌, sym, arith, Some, pos}
-use Rattle.std.specs.List.{list_all}
+use Rattle.std.proofs.Common.{filter, take, get_or, refl, ap, ◌∙◌, sym, arith, Some, None, pos, Option, zero, suc, min, ℤ, ◌≤◌}
+use Rattle.std.specs.List.{list_all, prefix_len}
+use Rattle.std.specs.Option.{option_map}
 use Rattle.std.specs.Char.{digit_value, is_ascii_digit}
 use Rattle.std.specs.Int.{IsInRange}
 use Rattle.std.specs.Str.Parse.{digits_value}
-use Rattle.std.proofs.lemmas.Bool.{and_parts, cases_Bool, eqb-true, lt-ltb}
+use Rattle.std.proofs.lemmas.Bool.{and_parts, both_ways, cases_Bool, cases_lt, eqb-true, lt-ltb}
+use Rattle.std.proofs.lemmas.Option.{none-some}
 use Rattle.std.proofs.lemmas.Bool.Decides.{nat_tests}
 use Rattle.std.proofs.lemmas.List.Folds.{list_all_more}
+use Rattle.std.proofs.lemmas.List.Sums.{prefix_len-le-length, prefix_len_passes}
 use Rattle.std.proofs.lemmas.Int.Digits.{digits_value_more}
 use Rattle.std.proofs.lemmas.Str.{digit_value_digit}
-use Rattle.basic_toml_numbers.specs.Numbers.{plus, minus, underscore, is_decimal, goes_on, decimal, signed, integer_of}
+use Rattle.basic_toml_numbers.specs.Numbers.{plus, minus, underscore, is_decimal, goes_on, decimal, signed, integer_of, first_count, first_digits}
 
 pub in_range : (c : ℕ) → is_ascii_digit c ≡ true → IsInRange 48 57 c
 in_range c is = grind (arith, nat_tests)
@@ -70,8 +73,8 @@ as_decimal c cs no_plus no_minus other = rw (no_plus, no_minus, other) refl
 pub digits_are_integer : (cs : List ℕ) (value : ℕ) → list_all is_decimal cs ≡ true → 0 < length cs
     → (get_or cs 0 0 ≡ 48 → length cs ≡ 1) → value ≡ digits_value 10 cs → value < 2 ^ 63
     → integer_of cs ≡ Some (pos value)
-digits_are_integer [] value all some zero is small = absurd (omega (arith, some))
-digits_are_integer (c ∷ []) value all some zero is small =
+digits_are_integer [] value all some alone is small = absurd (omega (arith, some))
+digits_are_integer (c ∷ []) value all some alone is small =
     let digit = (and_parts (is_decimal c) true all).0 in
     let no_plus : (c == plus) ≡ false = grind (arith, nat_tests) in
     let no_minus : (c == minus) ≡ false = grind (arith, nat_tests) in
@@ -81,20 +84,109 @@ digits_are_integer (c ∷ []) value all some zero is small =
       | inr other ↦
           as_decimal c [] no_plus no_minus other ∙ written (c ∷ []) value all some other is small
     ]
-digits_are_integer (c ∷ d ∷ cs) value all some zero is small =
+digits_are_integer (c ∷ d ∷ cs) value all some alone is small =
     let digit = (and_parts (is_decimal c) (list_all is_decimal (d ∷ cs)) all).0 in
     let no_plus : (c == plus) ≡ false = grind (arith, nat_tests) in
     let no_minus : (c == minus) ≡ false = grind (arith, nat_tests) in
     elim (cases_Bool (c == 48)) [
-      | inl naught ↦ absurd (omega (arith, zero (eqb-true c 48 naught)))
+      | inl naught ↦ absurd (omega (arith, alone (eqb-true c 48 naught)))
       | inr other ↦
           as_decimal c (d ∷ cs) no_plus no_minus other ∙ written (c ∷ d ∷ cs) value all some other is small
     ]
 
--- where no digit stands at first
-pub no_digit : (text : List ℕ) → length text ≡ 0 → is_decimal (get_or text 0 0) ≡ false
-no_digit [] none = refl
-no_digit (c ∷ text) none = absurd (omega (arith, none))
+-- digits of which the first is a zero, and not the only one
+pub leading_zero : (cs : List ℕ) → list_all is_decimal cs ≡ true → 1 < length cs → get_or cs 0 0 ≡ 48 → integer_of cs ≡ None
+leading_zero [] all more naught = absurd (omega (arith, more))
+leading_zero (c ∷ []) all more naught = absurd (omega (arith, more))
+leading_zero (c ∷ d ∷ cs) all more naught =
+    let digit = (and_parts (is_decimal d) (list_all is_decimal cs)
+    (and_parts (is_decimal c) (list_all is_decimal (d ∷ cs)) all).1).0 in
+    let no_x : (d == 120) ≡ false = grind (arith, nat_tests) in
+    let no_o : (d == 111) ≡ false = grind (arith, nat_tests) in
+    let no_b : (d == 98) ≡ false = grind (arith, nat_tests) in
+    ap (λ (n : ℕ). integer_of (n ∷ d ∷ cs)) naught ∙ rw (no_x, no_o, no_b) refl
 
-pub other_byte : (c : ℕ) → is_ascii_digit c ≡ false → is_decimal c ≡ false
+other_byte : (c : ℕ) → is_ascii_digit c ≡ false → is_decimal c ≡ false
 other_byte c is = grind (arith, nat_tests)
+
+-- how many digits there are
+passed : (cs : List ℕ) (count : ℕ) → count ≤ length cs → list_all is_decimal (take count cs) ≡ true
+    → count ≤ prefix_len is_decimal cs
+passed cs zero within all = omega arith
+passed [] (suc n) within all = absurd (omega (arith, within))
+passed (c ∷ cs) (suc n) within all =
+    let parts = and_parts (is_decimal c) (list_all is_decimal (take n cs)) all in
+    let more = passed cs n (omega (arith, within)) parts.1 in
+    rw parts.0 (omega (arith, more))
+
+pub all_counted : (cs : List ℕ) (count most : ℕ) → most ≡ min (length cs) 18 → most ≤ count → count ≤ most
+    → list_all is_decimal (take count cs) ≡ true → first_count cs ≡ count
+all_counted cs count most is past within all =
+    let front = passed cs count (omega (arith, is, within)) all in
+    omega (arith, is, past, within, front, prefix_len-le-length is_decimal cs)
+
+pub counted : (cs : List ℕ) (count most : ℕ) → most ≡ min (length cs) 18 → count < most
+    → list_all is_decimal (take count cs) ≡ true → is_ascii_digit (get_or cs count 0) ≡ false → first_count cs ≡ count
+counted cs count most is within all other =
+    let front = passed cs count (omega (arith, is, within)) all in
+    let no_more : prefix_len is_decimal cs ≤ count =
+    elim (cases_lt count (prefix_len is_decimal cs)) [
+      | inl longer ↦
+          absurd (both_ways (is_decimal (get_or cs count 0)) (other_byte (get_or cs count 0) other)
+          (prefix_len_passes is_decimal cs count 0 longer))
+      | inr shorter ↦ omega (arith, shorter)
+    ] in
+    omega (arith, is, within, front, no_more)
+
+-- what first digits are
+pub record AreFirst (text : List ℕ) (number : ℤ) (count : ℕ) : Type 0 where
+  pub digits : list_all is_decimal (take count text) ≡ true
+  pub some : 0 < count
+  pub within : count ≤ length text
+  pub integer : integer_of (take count text) ≡ Some number
+
+-- as many as begin the text are all digits
+digits_before : (cs : List ℕ) (count : ℕ) → count ≤ prefix_len is_decimal cs → list_all is_decimal (take count cs) ≡ true
+digits_before cs zero fits = refl
+digits_before [] (suc n) fits = refl
+digits_before (c ∷ cs) (suc n) fits =
+    elim (cases_Bool (is_decimal c)) [
+      | inl e ↦
+          let first : 1 + prefix_len is_decimal cs ≡ prefix_len is_decimal (c ∷ cs) = rw e refl in
+          rw e (digits_before cs n (omega (arith, fits, first)))
+      | inr e ↦
+          let first : 0 ≡ prefix_len is_decimal (c ∷ cs) = rw e refl in
+          absurd (omega (arith, fits, first))
+    ]
+
+abbrev unwrap_or : ℤ × ℕ → Option (ℤ × ℕ) → ℤ × ℕ
+unwrap_or other None = other
+unwrap_or other (Some found) = found
+
+pub are_first : (text : List ℕ) (number : ℤ) (count : ℕ) → Some (number, count) ≡ first_digits text
+    → AreFirst text number count
+are_first text number count is = go (integer_of (take (first_count text) text)) refl is
+  where
+    shown : (z : ℤ) (n : ℕ) → number ≡ z → count ≡ n → n ≡ first_count text
+        → integer_of (take n text) ≡ Some z → AreFirst text number count
+    shown z n same as_many first integer = record {
+      digits = digits_before text count (omega (arith, as_many, first));
+      some = elim (cases_lt 0 n) [
+        | inl there ↦ omega (arith, as_many, there)
+        | inr none ↦
+            let naught : 0 ≡ n = omega (arith, none) in
+            absurd (none-some z (ap (λ (i : ℕ). integer_of (take i text)) naught ∙ integer))
+      ];
+      within = omega (arith, as_many, first, prefix_len-le-length is_decimal text);
+      integer = ap (λ (i : ℕ). integer_of (take i text)) as_many ∙ integer ∙ ap (λ z. Some z) (sym same);
+    }
+
+    go : (found : Option ℤ) → integer_of (take (first_count text) text) ≡ found
+        → ◌≡◌ {A = Option (ℤ × ℕ)} (Some (number, count)) (option_map (λ z. (z, first_count text)) found)
+        → AreFirst text number count
+    go None e told = let found : ℤ × ℕ = (number, count) in absurd (none-some found (sym told))
+    go (Some z) e told =
+        let found : ℤ × ℕ = (number, count) in
+        let other : ℤ × ℕ = (z, first_count text) in
+        let same : found ≡ other = ap (unwrap_or found) told in
+        shown z (first_count text) (ap (λ p. p.0) same) (ap (λ p. p.1) same) refl e

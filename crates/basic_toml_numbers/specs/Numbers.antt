@@ -4,8 +4,10 @@
 -- One underscore may stand between two digits. A float is its text (own): without plus signs and underscores,
 -- with `E` for `e`.
 use Rattle.std.specs.Prelude.{ℕ, zero, suc, ◌^◌, Bool, true, false, not, ◌&&◌, ◌||◌, ◌==◌, nat_lt, if◌then◌else◌, ℤ}
-use Rattle.std.specs.Prelude.{pos, negsuc, List, [], ◌∷◌, map, filter, codes, Option, Some, None}
+use Rattle.std.specs.Prelude.{pos, negsuc, List, [], ◌∷◌, take, map, filter, min, codes, Option, Some, None}
 use Rattle.std.specs.Char.{is_digit}
+use Rattle.std.specs.List.{prefix_len}
+use Rattle.std.specs.Option.{option_map}
 use Rattle.std.specs.Str.{bytes_eq}
 use Rattle.std.specs.Str.Parse.{digits_value}
 
@@ -71,6 +73,17 @@ integer_of (c ∷ cs) =
     if c == plus then decimal false cs else if c == minus then decimal true cs
     else if c == 48 then after_zero cs else decimal false (c ∷ cs)
 
+-- a decimal digit
+abbrev pub is_decimal : ℕ → Bool
+is_decimal c = is_digit c 10
+
+-- the first decimal digits of a text, 18 at most, which are within i64: the integer that they write, and how many they are
+abbrev pub first_count : List ℕ → ℕ
+first_count cs = min 18 (prefix_len is_decimal cs)
+
+abbrev pub first_digits : List ℕ → Option (ℤ × ℕ)
+first_digits cs = option_map (λ number. (number, first_count cs)) (integer_of (take (first_count cs) cs))
+
 abbrev pub without_sign : List ℕ → List ℕ
 without_sign [] = []
 without_sign (c ∷ cs) = if is_sign c then cs else c ∷ cs
@@ -78,10 +91,6 @@ without_sign (c ∷ cs) = if is_sign c then cs else c ∷ cs
 -- a digit or an underscore
 abbrev pub is_part : ℕ → Bool
 is_part c = is_digit c 10 || c == underscore
-
--- a decimal digit
-abbrev pub is_decimal : ℕ → Bool
-is_decimal c = is_digit c 10
 
 -- the digits and underscores that a text begins with, and what stands after them
 abbrev pub part_of : List ℕ → List ℕ

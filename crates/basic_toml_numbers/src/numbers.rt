@@ -1,6 +1,5 @@
 //! The texts of numbers.
-ghost use Rattle.std.specs.Prelude.{◌≡◌, ◌≤◌, ◌<◌, ◌+◌, ◌^◌, ◌-◌, ℕ, Some, None, IfSome, IfNone, min, length, take, slice_index_or, ◌⊎◌, false, true, if◌then◌else◌};
-ghost use Rattle.std.specs.List.{list_all};
+ghost use Rattle.std.specs.Prelude.{◌≡◌, ◌≤◌, ◌+◌, ◌^◌, ◌-◌, ℕ, Some, None, min, length, if◌then◌else◌};
 ghost use Rattle.basic_toml_numbers.specs.Numbers as spec;
 
 /// The number of an integer: decimal with an optional sign and no leading zero, or `0x`, `0o` or `0b` with digits
@@ -127,12 +126,7 @@ const FEW: usize = 18;
 /// stands there, or a zero before another one. It is the number of the text only where that ends behind them.
 #[inline(always)]
 pub fn first_digits(text: &[u8]) -> Option<(i64, usize)>
-    ensures integer { IfSome result (λ found. spec.integer_of (take found.1 text.now) ≡ Some found.0) }
-    ensures digits { IfSome result (λ found. list_all spec.is_decimal (take found.1 text.now) ≡ true) }
-    ensures some { IfSome result (λ found. 0 < found.1) }
-    ensures within { IfSome result (λ found. found.1 ≤ length text.now) }
-    ensures none { IfNone result ((spec.is_decimal (slice_index_or text.now 0 0) ≡ false)
-        ⊎ (slice_index_or text.now 0 0 ≡ 48)) }
+    ensures { result ≡ spec.first_digits text.now }
 {
     let most = text.len().min(FEW);
     let mut value: u64 = 0;

@@ -16,7 +16,8 @@ use Rattle.basic_toml_tokens.specs.Reading.{between, IsRun}
 use Rattle.basic_toml_tokens.proofs.RestsArePartsOfText.{part_later}
 use Rattle.basic_toml_tokens.proofs.StepIsTheFold.{offset_is}
 use Rattle.basic_toml_tokens.proofs.RunsAreFound.{IsRunTest, run_by_bytes}
-use Rattle.basic_toml_numbers.specs.Numbers.{is_decimal, integer_of, float_of}
+use Rattle.basic_toml_numbers.specs.Numbers.{is_decimal, integer_of, first_digits, float_of}
+use Rattle.basic_toml_numbers.proofs.FirstDigits.{are_first}
 use Rattle.basic_toml_grammar.specs.Sections.{Raw}
 use Rattle.basic_toml_grammar.specs.Entering.{and_then}
 use Rattle.basic_toml_grammar.specs.Grammar.{is_wordlike, word_value, number_value, to_period, word_offset}
@@ -148,6 +149,8 @@ digits_value (c ∷ cs) z some all is =
 
 -- digits that the text has at an offset, and the word that they belong to
 pub record HasDigits (bytes : List ℕ) (at count : ℕ) (z : ℤ) : Type 0 where
+  pub some : 0 < count
+  pub within : at + count ≤ length bytes
   pub boundary : IsCharBoundary bytes (at + count)
   pub behind : after_run is_wordlike (text_at bytes (at + count)) ≡ after_run is_wordlike (text_at bytes at)
   pub ends : prefix_len is_wordlike (drop (at + count) bytes) ≡ 0
@@ -155,23 +158,24 @@ pub record HasDigits (bytes : List ℕ) (at count : ℕ) (z : ℤ) : Type 0 wher
   pub value : Some (Raw.integer z) ≡ word_value (between bytes at (at + count))
 
 pub digits_here : (seen bytes : List ℕ) (at count : ℕ) (z : ℤ) → seen ≡ bytes → IsUtf8 bytes
-    → IsCharBoundary bytes at → count ≤ length (take (length seen - at) (drop at seen)) → 0 < count
-    → list_all is_decimal (take count (take (length seen - at) (drop at seen))) ≡ true
-    → integer_of (take count (take (length seen - at) (drop at seen))) ≡ Some z → HasDigits bytes at count z
-digits_here seen bytes at count z same whole here inside some digits integer =
+    → IsCharBoundary bytes at → Some (z, count) ≡ first_digits (take (length seen - at) (drop at seen))
+    → HasDigits bytes at count z
+digits_here seen bytes at count z same whole here told =
     let slice : take (length seen - at) (drop at seen) ≡ drop at bytes =
     ap (λ (cs : List ℕ). take (length cs - at) (drop at cs)) same
     ∙ ap (λ (n : ℕ). take n (drop at bytes)) (sym (length-drop at bytes))
     ∙ take-length (drop at bytes) in
-    let all : list_all is_decimal (take count (drop at bytes)) ≡ true =
-    ap (λ (cs : List ℕ). list_all is_decimal (take count cs)) (sym slice) ∙ digits in
-    let fits : at + count ≤ length bytes = omega (arith, inside, ap length slice, length-drop at bytes, here.0) in
+    let first = are_first (drop at bytes) z count (told ∙ ap first_digits slice) in
+    let all = first.digits in
+    let fits : at + count ≤ length bytes = omega (arith, first.within, length-drop at bytes, here.0) in
     let known = known_digits bytes at count whole here fits all in
     let long : IsRun is_wordlike bytes at (at + prefix_len is_wordlike (drop at bytes)) =
     run_by_bytes is_wordlike wordlike_test bytes at whole here in
     let short : IsRun is_wordlike bytes (at + count) (at + count + prefix_len is_wordlike (drop (at + count) bytes)) =
     run_by_bytes is_wordlike wordlike_test bytes (at + count) whole known.1 in
     record {
+      some = first.some;
+      within = fits;
       boundary = known.1;
       behind = sym short.rest ∙ ap (text_at bytes) (omega (arith, known.0)) ∙ long.rest;
       ends = λ none. record {
@@ -181,7 +185,7 @@ digits_here seen bytes at count z same whole here inside some digits integer =
       };
       value =
           digits_value (take count (drop at bytes)) z
-          (omega (arith, length-take-le count (drop at bytes), length-drop at bytes, fits, some)) all
-          (ap (λ (cs : List ℕ). integer_of (take count cs)) (sym slice) ∙ integer)
+          (omega (arith, length-take-le count (drop at bytes), length-drop at bytes, fits, first.some)) all
+          first.integer
           ∙ ap (λ (n : ℕ). word_value (take n (drop at bytes))) (omega arith);
     }

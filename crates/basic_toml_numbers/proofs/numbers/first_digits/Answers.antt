@@ -1,10 +1,11 @@
-use Rattle.std.proofs.Common.{◌≡◌, ◌<◌, ◌≤◌, ◌+◌, ◌*◌, ◌^◌, ℕ, take, get_or, length, ap, sym, ◌∙◌, arith, inl, Some, w64}
+use Rattle.std.proofs.Common.{◌≡◌, ◌<◌, ◌≤◌, ◌+◌, ◌*◌, ◌^◌, ℕ, List, take, get_or, length, ap, sym, ◌∙◌, arith, Some, w64}
 use Rattle.std.proofs.Math.Nat.{pow-le-pow_right}
 use Rattle.std.proofs.lemmas.Int.{to_z_pos}
 use Rattle.std.proofs.lemmas.List.{get_or-take, length-take}
-use Rattle.basic_toml_numbers.specs.Numbers.{is_decimal}
+use Rattle.std.specs.Option.{option_map}
+use Rattle.basic_toml_numbers.specs.Numbers.{integer_of, first_count, first_digits}
 use Rattle.basic_toml_numbers.proofs.Digits.{decimal_fits, decimal_grows}
-use Rattle.basic_toml_numbers.proofs.FirstDigits.{in_range, no_digit, other_byte, more_digits, more_value, digits_are_integer}
+use Rattle.basic_toml_numbers.proofs.FirstDigits.{in_range, more_digits, more_value, digits_are_integer, leading_zero, counted, all_counted}
 use Rattle.basic_toml_numbers.proofs.numbers.first_digits.Goals as goal
 use Rattle.basic_toml_numbers.proofs.numbers.first_digits.Goals.{else-count-gt1-via-then-count-gt1+else-text-eq48}
 use Rattle.basic_toml_numbers.proofs.numbers.first_digits.Goals.{else-count-gt1-via-else-count-gt1}
@@ -45,17 +46,6 @@ loop-count-preserved c =
           (omega (arith, c.from.ensures, digit));
     }
 
-pub returns-then-count-eq0-clause-none : goal.returns-then-count-eq0-clause-none
-returns-then-count-eq0-clause-none c =
-    let text = c.args.text.now in
-    elim c.loop-count-test.branch [
-      | then-loop-count-test+else-is_ascii_digit w ↦
-          inl (ap (λ i. is_decimal (get_or text i 0)) (sym c.if-count-eq0.true)
-          ∙ other_byte (get_or text c.loop-count.count 0) (sym w.is_ascii_digit.ensures.value ∙ w.if-is_ascii_digit.false))
-      | else-loop-count-test w ↦
-          inl (no_digit text (omega (arith, c.min-most.ensures, c.if-count-eq0.true, w.loop-count-test.false)))
-    ]
-
 small : (value count : ℕ) → value < 10 ^ count → count ≤ 18 → value < 2 ^ 63
 small value count below few = omega (
   arith,
@@ -71,15 +61,50 @@ overflow_cast-result c =
           (omega (arith, c.min-most.ensures, c.loop-count.invariant.within)),
     )
 
-pub returns-clause-integer : goal.returns-clause-integer
-returns-clause-integer c =
+-- what the answer is, by how many digits are counted
+shown : (text : List ℕ) (count : ℕ) → first_count text ≡ count
+    → first_digits text ≡ option_map (λ number. (number, count)) (integer_of (take count text))
+shown text count e = ap (λ (n : ℕ). option_map (λ number. (number, n)) (integer_of (take n text))) e
+
+pub returns-then-count-eq0 : goal.returns-then-count-eq0
+returns-then-count-eq0 c =
+    let text = c.args.text.now in
+    let count : first_count text ≡ c.loop-count.count = elim c.loop-count-test.branch [
+      | then-loop-count-test+else-is_ascii_digit w ↦
+          counted text c.loop-count.count c.min-most.result c.min-most.ensures w.loop-count-test.true
+          c.loop-count.invariant.digits (sym w.is_ascii_digit.ensures.value ∙ w.if-is_ascii_digit.false)
+      | else-loop-count-test w ↦
+          all_counted text c.loop-count.count c.min-most.result c.min-most.ensures
+          (omega (arith, w.loop-count-test.false)) c.loop-count.invariant.within c.loop-count.invariant.digits
+    ] in
+    sym (shown text 0 (count ∙ c.if-count-eq0.true))
+
+pub returns-then-text-eq48 : goal.returns-then-text-eq48
+returns-then-text-eq48 c =
+    let text = c.args.text.now in
+    let count : first_count text ≡ c.loop-count.count = elim c.loop-count-test.branch [
+      | then-loop-count-test+else-is_ascii_digit w ↦
+          counted text c.loop-count.count c.min-most.result c.min-most.ensures w.loop-count-test.true
+          c.loop-count.invariant.digits (sym w.is_ascii_digit.ensures.value ∙ w.if-is_ascii_digit.false)
+      | else-loop-count-test w ↦
+          all_counted text c.loop-count.count c.min-most.result c.min-most.ensures
+          (omega (arith, w.loop-count-test.false)) c.loop-count.invariant.within c.loop-count.invariant.digits
+    ] in
+    let within : c.loop-count.count ≤ length text = omega (arith, c.min-most.ensures, c.loop-count.invariant.within) in
+    let none = leading_zero (take c.loop-count.count text) c.loop-count.invariant.digits
+    (omega (arith, length-take c.loop-count.count text, within, c.if-count-gt1.true))
+    (get_or-take c.loop-count.count text 0 0 (omega (arith, c.if-count-gt1.true)) ∙ c.if-text-eq48.true) in
+    sym (shown text c.loop-count.count count ∙ ap (option_map (λ number. (number, c.loop-count.count))) none)
+
+pub returns : goal.returns
+returns c =
     let text = c.args.text.now in
     let count = c.loop-count.count in
     let within : count ≤ length text = omega (arith, c.min-most.ensures, c.loop-count.invariant.within) in
     let few = small c.loop-count.value count c.loop-count.invariant.small
     (omega (arith, c.min-most.ensures, c.loop-count.invariant.within)) in
     let long : length (take count text) ≡ count = omega (arith, length-take count text, within) in
-    digits_are_integer (take count text) c.loop-count.value c.loop-count.invariant.digits
+    let number = digits_are_integer (take count text) c.loop-count.value c.loop-count.invariant.digits
     (omega (arith, long, c.if-count-eq0.false))
     (λ naught. elim c.else-count-gt1.branch [
       | else-count-gt1-via-then-count-gt1+else-text-eq48 w ↦
@@ -87,4 +112,13 @@ returns-clause-integer c =
       | else-count-gt1-via-else-count-gt1 w ↦ omega (arith, long, w.if-count-gt1.false, c.if-count-eq0.false)
     ])
     c.loop-count.invariant.value few
-    ∙ ap (λ z. Some z) (sym (to_z_pos w64 c.loop-count.value few))
+    ∙ ap (λ z. Some z) (sym (to_z_pos w64 c.loop-count.value few)) in
+    let seen : first_count text ≡ count = elim c.loop-count-test.branch [
+      | then-loop-count-test+else-is_ascii_digit w ↦
+          counted text c.loop-count.count c.min-most.result c.min-most.ensures w.loop-count-test.true
+          c.loop-count.invariant.digits (sym w.is_ascii_digit.ensures.value ∙ w.if-is_ascii_digit.false)
+      | else-loop-count-test w ↦
+          all_counted text c.loop-count.count c.min-most.result c.min-most.ensures
+          (omega (arith, w.loop-count-test.false)) c.loop-count.invariant.within c.loop-count.invariant.digits
+    ] in
+    sym (shown text count seen ∙ ap (option_map (λ number. (number, count))) number)

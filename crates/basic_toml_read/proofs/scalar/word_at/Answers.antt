@@ -6,7 +6,7 @@ use Rattle.basic_toml_read.proofs.ScalarsRead.{no_word_run, word_run, word_value
 use Rattle.basic_toml_read.proofs.ViewsSeen.{integer_of}
 use Rattle.basic_toml_read.proofs.scalar.word_at.Goals.{in-Some+else-ends_word, in-None}
 use Rattle.basic_toml_read.proofs.scalar.word_at.Goals as goal
-use Rattle.std.proofs.Common.{subst, rules, ◌≡◌, ◌+◌}
+use Rattle.std.proofs.Common.{subst, rules, length, ◌≡◌, ◌≤◌, ◌+◌}
 use mir.Syntax.{w64}
 use mir.Val.{SFits}
 use Rattle.std.proofs.lemmas.Int.{to_z-of_z}
@@ -56,14 +56,20 @@ returns-clause-read c =
       later = omega (arith, l.forward, c.if-at-after.false);
     }
 
+pub overflow_add-end : goal.overflow_add-end
+overflow_add-end c =
+    let within : c.args.at + c.in-Some.count ≤ length c.args.text.now =
+    (digits_here c.as_bytes.result.now c.args.text.now c.args.at c.in-Some.count c.in-Some.number
+    c.as_bytes.ensures.value c.utf8.text c.requires c.in-Some.ensures).within in
+    search rules
+
 pub end_of_word-after-requires-clause-boundary : goal.end_of_word-after-requires-clause-boundary
 end_of_word-after-requires-clause-boundary c =
     elim c.match-first_digits.branch [
       | in-Some+else-ends_word w ↦
           subst (IsCharBoundary c.args.text.now) (sym w.known-is)
           (digits_here c.as_bytes.result.now c.args.text.now c.args.at w.in-Some.count w.in-Some.number
-          c.as_bytes.ensures.value c.utf8.text c.requires w.in-Some.ensures.within w.in-Some.ensures.some
-          w.in-Some.ensures.digits w.in-Some.ensures.integer).boundary
+          c.as_bytes.ensures.value c.utf8.text c.requires w.in-Some.ensures).boundary
       | in-None w ↦ subst (IsCharBoundary c.args.text.now) (sym w.known-is) c.requires
     ]
 
@@ -73,8 +79,7 @@ end_of_word-after-requires-clause-known c =
       | in-Some+else-ends_word w ↦
           ap (λ (i : ℕ). after_run is_wordlike (text_at c.args.text.now i)) w.known-is
           ∙ (digits_here c.as_bytes.result.now c.args.text.now c.args.at w.in-Some.count w.in-Some.number
-          c.as_bytes.ensures.value c.utf8.text c.requires w.in-Some.ensures.within w.in-Some.ensures.some
-          w.in-Some.ensures.digits w.in-Some.ensures.integer).behind
+          c.as_bytes.ensures.value c.utf8.text c.requires w.in-Some.ensures).behind
       | in-None w ↦ ap (λ (i : ℕ). after_run is_wordlike (text_at c.args.text.now i)) w.known-is
     ]
 
@@ -84,10 +89,9 @@ returns-then-ends_word-clause-read c =
     let at = c.args.at in
     let count = c.in-Some.count in
     let z = c.in-Some.number in
-    let d = c.in-Some.ensures in
     let here = digits_here c.as_bytes.result.now bytes at count z c.as_bytes.ensures.value c.utf8.text c.requires
-    d.within d.some d.digits d.integer in
-    let some : at ≡ at + count → ⊥ = λ e. omega (arith, e, d.some) in
+    c.in-Some.ensures in
+    let some : at ≡ at + count → ⊥ = λ e. omega (arith, e, here.some) in
     let leaves = here.ends (c.ends_word.ensures c.if-ends_word.true) in
     let word = word_run bytes at (at + count) c.utf8.text c.requires leaves some in
     let fits : SFits w64 z = search rules in
@@ -97,5 +101,5 @@ returns-then-ends_word-clause-read c =
       is = word_value_is bytes at (at + count) (between bytes at (at + count)) (Raw.integer z) word.0 word.1 leaves.left
           here.value;
       boundary = leaves.boundary;
-      later = omega (arith, d.some);
+      later = omega (arith, here.some);
     }
