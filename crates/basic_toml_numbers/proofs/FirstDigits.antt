@@ -1,6 +1,7 @@
 -- A text that begins with decimal digits, and the integer that these write.
 use Rattle.std.proofs.Common.{◌≡◌, ◌<◌, ◌+◌, ◌*◌, ◌-◌, ◌^◌, ◌==◌, inl, inr, ℕ, true, false, not, List, [], ◌∷◌, length}
-use Rattle.std.proofs.Common.{filter, take, get_or, refl, ap, ◌∙◌, sym, arith, Some, None, pos, Option, zero, suc, min, ℤ, ◌≤◌}
+use Rattle.std.proofs.Common.{filter, take, get_or, refl, ap, ◌∙◌, sym, arith, Some, None, pos, Option, zero, suc, min}
+use Rattle.std.proofs.Common.{ℤ, ◌≤◌}
 use Rattle.std.specs.List.{list_all, prefix_len}
 use Rattle.std.specs.Option.{option_map}
 use Rattle.std.specs.Char.{digit_value, is_ascii_digit}
@@ -13,7 +14,8 @@ use Rattle.std.proofs.lemmas.List.Folds.{list_all_more}
 use Rattle.std.proofs.lemmas.List.Sums.{prefix_len-le-length, prefix_len_passes}
 use Rattle.std.proofs.lemmas.Int.Digits.{digits_value_more}
 use Rattle.std.proofs.lemmas.Str.{digit_value_digit}
-use Rattle.basic_toml_numbers.specs.Numbers.{plus, minus, underscore, is_decimal, goes_on, decimal, signed, integer_of, first_count, first_digits}
+use Rattle.basic_toml_numbers.specs.Numbers.{plus, minus, underscore, is_decimal, goes_on, decimal, signed, integer_of}
+use Rattle.basic_toml_numbers.specs.Numbers.{first_count, first_digits}
 
 pub in_range : (c : ℕ) → is_ascii_digit c ≡ true → IsInRange 48 57 c
 in_range c is = grind (arith, nat_tests)
@@ -80,7 +82,8 @@ digits_are_integer (c ∷ []) value all some alone is small =
     let no_minus : (c == minus) ≡ false = grind (arith, nat_tests) in
     elim (cases_Bool (c == 48)) [
       | inl naught ↦
-          rw (no_plus, no_minus, naught) (ap (λ n. Some (pos n)) (sym (is ∙ ap (λ d. digits_value 10 (d ∷ [])) (eqb-true c 48 naught))))
+          rw (no_plus, no_minus, naught)
+          (ap (λ n. Some (pos n)) (sym (is ∙ ap (λ d. digits_value 10 (d ∷ [])) (eqb-true c 48 naught))))
       | inr other ↦
           as_decimal c [] no_plus no_minus other ∙ written (c ∷ []) value all some other is small
     ]
@@ -95,7 +98,8 @@ digits_are_integer (c ∷ d ∷ cs) value all some alone is small =
     ]
 
 -- digits of which the first is a zero, and not the only one
-pub leading_zero : (cs : List ℕ) → list_all is_decimal cs ≡ true → 1 < length cs → get_or cs 0 0 ≡ 48 → integer_of cs ≡ None
+pub leading_zero : (cs : List ℕ) → list_all is_decimal cs ≡ true → 1 < length cs → get_or cs 0 0 ≡ 48
+    → integer_of cs ≡ None
 leading_zero [] all more naught = absurd (omega (arith, more))
 leading_zero (c ∷ []) all more naught = absurd (omega (arith, more))
 leading_zero (c ∷ d ∷ cs) all more naught =
@@ -146,7 +150,8 @@ pub record AreFirst (text : List ℕ) (number : ℤ) (count : ℕ) : Type 0 wher
   pub integer : integer_of (take count text) ≡ Some number
 
 -- as many as begin the text are all digits
-digits_before : (cs : List ℕ) (count : ℕ) → count ≤ prefix_len is_decimal cs → list_all is_decimal (take count cs) ≡ true
+digits_before : (cs : List ℕ) (count : ℕ) → count ≤ prefix_len is_decimal cs
+    → list_all is_decimal (take count cs) ≡ true
 digits_before cs zero fits = refl
 digits_before [] (suc n) fits = refl
 digits_before (c ∷ cs) (suc n) fits =

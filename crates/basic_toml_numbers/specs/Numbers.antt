@@ -77,7 +77,8 @@ integer_of (c ∷ cs) =
 abbrev pub is_decimal : ℕ → Bool
 is_decimal c = is_digit c 10
 
--- the first decimal digits of a text, 18 at most, which are within i64: the integer that they write, and how many they are
+-- the first decimal digits of a text, 18 at most, which are within i64: how many they are, and the integer that they
+-- write
 abbrev pub first_count : List ℕ → ℕ
 first_count cs = min 18 (prefix_len is_decimal cs)
 

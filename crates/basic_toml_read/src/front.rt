@@ -92,14 +92,19 @@ fn after_joint(text: &str, at: usize) -> Option<usize>
     }
 }
 
-/// Where the keylike characters, periods and pluses at an offset end, which go on to another one at least.
+/// Where the keylike characters, periods and pluses at an offset end. They are known to go on to `from`: where digits
+/// stand before it, a period or a plus is looked for there first.
 pub(crate) fn end_of_word(text: &str, at: usize, from: usize) -> usize
     requires boundary { IsCharBoundary text.now from }
     requires forward { at ≤ from }
     requires known { after_run is_wordlike (text_at text.now from) ≡ after_run is_wordlike (text_at text.now at) }
     ensures { Leaves text.now at result (after_run is_wordlike (text_at text.now at)) }
 {
-    let start = after_joint(text, from).unwrap_or(from);
+    let start = if at < from {
+        after_joint(text, from).unwrap_or(from)
+    } else {
+        from
+    };
     let mut end = end_of_run(text, start, Class::Keylike);
     while let Some(next) = after_joint(text, end) {
         end = end_of_run(text, next, Class::Keylike);
@@ -107,18 +112,15 @@ pub(crate) fn end_of_word(text: &str, at: usize, from: usize) -> usize
     end
 }
 
-/// Whether a word that goes on to an offset is seen to end there, as nearly all do: before a line end, a blank, a comma,
-/// a bracket, a brace or a comment.
+/// Whether a word that goes on to an offset is seen to end there, as nearly all do: before a line end, a blank, a
+/// comma, a bracket, a brace or a comment.
 #[inline(always)]
 pub(crate) fn ends_word(text: &str, at: usize) -> bool
     ensures { result ≡ true → prefix_len is_wordlike (drop at text.now) ≡ 0 }
 {
     match text.as_bytes().get(at) {
-        Some(byte) => matches!(
-            *byte,
-            b'\n' | b'\r' | b',' | b' ' | b'\t' | b']' | b'}' | b'#',
-        ),
-        None => true,
+        Some(b'\n' | b'\r' | b',' | b' ' | b'\t' | b']' | b'}' | b'#') | None => true,
+        Some(_) => false,
     }
 }
 

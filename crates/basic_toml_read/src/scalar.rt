@@ -161,8 +161,8 @@ fn raw<'de>(word: Word) -> Raw<'de>
     }
 }
 
-/// The number, `true` or `false` at an offset. `end` is wanted after it. Most are a few digits alone, whose number and end
-/// are found together.
+/// The number, `true` or `false` at an offset. `end` is wanted after it. Most are a few digits alone, whose number and
+/// end are found together.
 pub(crate) fn word_at<'de>(
     alloc: Global,
     text: &'de str,

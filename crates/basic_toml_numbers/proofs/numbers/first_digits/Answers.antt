@@ -1,11 +1,13 @@
-use Rattle.std.proofs.Common.{◌≡◌, ◌<◌, ◌≤◌, ◌+◌, ◌*◌, ◌^◌, ℕ, List, take, get_or, length, ap, sym, ◌∙◌, arith, Some, w64}
+use Rattle.std.proofs.Common.{◌≡◌, ◌<◌, ◌≤◌, ◌+◌, ◌*◌, ◌^◌, ℕ, List, take, get_or, length, ap, sym, ◌∙◌, arith, Some}
+use Rattle.std.proofs.Common.{w64}
 use Rattle.std.proofs.Math.Nat.{pow-le-pow_right}
 use Rattle.std.proofs.lemmas.Int.{to_z_pos}
 use Rattle.std.proofs.lemmas.List.{get_or-take, length-take}
 use Rattle.std.specs.Option.{option_map}
 use Rattle.basic_toml_numbers.specs.Numbers.{integer_of, first_count, first_digits}
 use Rattle.basic_toml_numbers.proofs.Digits.{decimal_fits, decimal_grows}
-use Rattle.basic_toml_numbers.proofs.FirstDigits.{in_range, more_digits, more_value, digits_are_integer, leading_zero, counted, all_counted}
+use Rattle.basic_toml_numbers.proofs.FirstDigits.{in_range, more_digits, more_value, digits_are_integer, leading_zero}
+use Rattle.basic_toml_numbers.proofs.FirstDigits.{counted, all_counted}
 use Rattle.basic_toml_numbers.proofs.numbers.first_digits.Goals as goal
 use Rattle.basic_toml_numbers.proofs.numbers.first_digits.Goals.{else-count-gt1-via-then-count-gt1+else-text-eq48}
 use Rattle.basic_toml_numbers.proofs.numbers.first_digits.Goals.{else-count-gt1-via-else-count-gt1}
