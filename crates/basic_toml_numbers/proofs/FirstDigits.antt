@@ -59,10 +59,10 @@ signed_small : (n : ℕ) → n < 2 ^ 63 → signed false n ≡ Some (pos n)
 signed_small n small = rw (lt-ltb n (2 ^ 63) small) refl
 
 -- a decimal of digits that begin with no zero
-written : (cs : List ℕ) (value : ℕ) → list_all is_decimal cs ≡ true → 0 < length cs → (get_or cs 0 0 == 48) ≡ false
+decimal_of_digits : (cs : List ℕ) (value : ℕ) → list_all is_decimal cs ≡ true → 0 < length cs → (get_or cs 0 0 == 48) ≡ false
     → value ≡ digits_value 10 cs → value < 2 ^ 63 → decimal false cs ≡ Some (pos value)
-written [] value all some other is small = absurd (omega (arith, some))
-written (c ∷ cs) value all some other is small =
+decimal_of_digits [] value all some other is small = absurd (omega (arith, some))
+decimal_of_digits (c ∷ cs) value all some other is small =
     let parts = and_parts (is_decimal c) (list_all is_decimal cs) all in
     rw (other, parts.0, digits_go_on cs parts.1, digits_alone (c ∷ cs) all)
     (ap (signed false) (sym is) ∙ signed_small value small)
@@ -85,7 +85,7 @@ digits_are_integer (c ∷ []) value all some alone is small =
           rw (no_plus, no_minus, naught)
           (ap (λ n. Some (pos n)) (sym (is ∙ ap (λ d. digits_value 10 (d ∷ [])) (eqb-true c 48 naught))))
       | inr other ↦
-          as_decimal c [] no_plus no_minus other ∙ written (c ∷ []) value all some other is small
+          as_decimal c [] no_plus no_minus other ∙ decimal_of_digits (c ∷ []) value all some other is small
     ]
 digits_are_integer (c ∷ d ∷ cs) value all some alone is small =
     let digit = (and_parts (is_decimal c) (list_all is_decimal (d ∷ cs)) all).0 in
@@ -94,7 +94,7 @@ digits_are_integer (c ∷ d ∷ cs) value all some alone is small =
     elim (cases_Bool (c == 48)) [
       | inl naught ↦ absurd (omega (arith, alone (eqb-true c 48 naught)))
       | inr other ↦
-          as_decimal c (d ∷ cs) no_plus no_minus other ∙ written (c ∷ d ∷ cs) value all some other is small
+          as_decimal c (d ∷ cs) no_plus no_minus other ∙ decimal_of_digits (c ∷ d ∷ cs) value all some other is small
     ]
 
 -- digits of which the first is a zero, and not the only one
@@ -114,25 +114,25 @@ other_byte : (c : ℕ) → is_ascii_digit c ≡ false → is_decimal c ≡ false
 other_byte c is = grind (arith, nat_tests)
 
 -- how many digits there are
-passed : (cs : List ℕ) (count : ℕ) → count ≤ length cs → list_all is_decimal (take count cs) ≡ true
+digits_pass : (cs : List ℕ) (count : ℕ) → count ≤ length cs → list_all is_decimal (take count cs) ≡ true
     → count ≤ prefix_len is_decimal cs
-passed cs zero within all = omega arith
-passed [] (suc n) within all = absurd (omega (arith, within))
-passed (c ∷ cs) (suc n) within all =
+digits_pass cs zero within all = omega arith
+digits_pass [] (suc n) within all = absurd (omega (arith, within))
+digits_pass (c ∷ cs) (suc n) within all =
     let parts = and_parts (is_decimal c) (list_all is_decimal (take n cs)) all in
-    let more = passed cs n (omega (arith, within)) parts.1 in
+    let more = digits_pass cs n (omega (arith, within)) parts.1 in
     rw parts.0 (omega (arith, more))
 
-pub all_counted : (cs : List ℕ) (count most : ℕ) → most ≡ min (length cs) 18 → most ≤ count → count ≤ most
+pub count_of_all : (cs : List ℕ) (count most : ℕ) → most ≡ min (length cs) 18 → most ≤ count → count ≤ most
     → list_all is_decimal (take count cs) ≡ true → first_count cs ≡ count
-all_counted cs count most is past within all =
-    let front = passed cs count (omega (arith, is, within)) all in
+count_of_all cs count most is past within all =
+    let front = digits_pass cs count (omega (arith, is, within)) all in
     omega (arith, is, past, within, front, prefix_len-le-length is_decimal cs)
 
-pub counted : (cs : List ℕ) (count most : ℕ) → most ≡ min (length cs) 18 → count < most
+pub count_before_other : (cs : List ℕ) (count most : ℕ) → most ≡ min (length cs) 18 → count < most
     → list_all is_decimal (take count cs) ≡ true → is_ascii_digit (get_or cs count 0) ≡ false → first_count cs ≡ count
-counted cs count most is within all other =
-    let front = passed cs count (omega (arith, is, within)) all in
+count_before_other cs count most is within all other =
+    let front = digits_pass cs count (omega (arith, is, within)) all in
     let no_more : prefix_len is_decimal cs ≤ count =
     elim (cases_lt count (prefix_len is_decimal cs)) [
       | inl longer ↦

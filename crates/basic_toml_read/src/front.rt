@@ -97,7 +97,7 @@ fn after_joint(text: &str, at: usize) -> Option<usize>
 pub(crate) fn end_of_word(text: &str, at: usize, from: usize) -> usize
     requires boundary { IsCharBoundary text.now from }
     requires forward { at ≤ from }
-    requires known { after_run is_wordlike (text_at text.now from) ≡ after_run is_wordlike (text_at text.now at) }
+    requires same_rest { after_run is_wordlike (text_at text.now from) ≡ after_run is_wordlike (text_at text.now at) }
     ensures { Leaves text.now at result (after_run is_wordlike (text_at text.now at)) }
 {
     let start = if at < from {

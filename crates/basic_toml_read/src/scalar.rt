@@ -174,7 +174,7 @@ pub(crate) fn word_at<'de>(
     ensures wanted { IfErr result (WantsEnd end) }
     ensures inside { IfErr result (λ stop. StopsInside text.now stop) }
 {
-    let known = match first_digits(&text.as_bytes()[at..]) {
+    let from = match first_digits(&text.as_bytes()[at..]) {
         Some((number, count)) => {
             let end = at + count;
             if ends_word(text, end) {
@@ -188,7 +188,7 @@ pub(crate) fn word_at<'de>(
         }
         None => at,
     };
-    let after = end_of_word(text, at, known);
+    let after = end_of_word(text, at, from);
     if at == after {
         return Err(Stop {
             at,

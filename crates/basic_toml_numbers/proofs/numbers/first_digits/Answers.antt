@@ -7,7 +7,7 @@ use Rattle.std.specs.Option.{option_map}
 use Rattle.basic_toml_numbers.specs.Numbers.{integer_of, first_count, first_digits}
 use Rattle.basic_toml_numbers.proofs.Digits.{decimal_fits, decimal_grows}
 use Rattle.basic_toml_numbers.proofs.FirstDigits.{in_range, more_digits, more_value, digits_are_integer, leading_zero}
-use Rattle.basic_toml_numbers.proofs.FirstDigits.{counted, all_counted}
+use Rattle.basic_toml_numbers.proofs.FirstDigits.{count_before_other, count_of_all}
 use Rattle.basic_toml_numbers.proofs.numbers.first_digits.Goals as goal
 use Rattle.basic_toml_numbers.proofs.numbers.first_digits.Goals.{else-count-gt1-via-then-count-gt1+else-text-eq48}
 use Rattle.basic_toml_numbers.proofs.numbers.first_digits.Goals.{else-count-gt1-via-else-count-gt1}
@@ -63,40 +63,40 @@ overflow_cast-result c =
           (omega (arith, c.min-most.ensures, c.loop-count.invariant.within)),
     )
 
--- what the answer is, by how many digits are counted
-shown : (text : List ℕ) (count : ℕ) → first_count text ≡ count
+-- what the answer is, by how many digits are count_before_other
+answer_by_count : (text : List ℕ) (count : ℕ) → first_count text ≡ count
     → first_digits text ≡ option_map (λ number. (number, count)) (integer_of (take count text))
-shown text count e = ap (λ (n : ℕ). option_map (λ number. (number, n)) (integer_of (take n text))) e
+answer_by_count text count e = ap (λ (n : ℕ). option_map (λ number. (number, n)) (integer_of (take n text))) e
 
 pub returns-then-count-eq0 : goal.returns-then-count-eq0
 returns-then-count-eq0 c =
     let text = c.args.text.now in
     let count : first_count text ≡ c.loop-count.count = elim c.loop-count-test.branch [
       | then-loop-count-test+else-is_ascii_digit w ↦
-          counted text c.loop-count.count c.min-most.result c.min-most.ensures w.loop-count-test.true
+          count_before_other text c.loop-count.count c.min-most.result c.min-most.ensures w.loop-count-test.true
           c.loop-count.invariant.digits (sym w.is_ascii_digit.ensures.value ∙ w.if-is_ascii_digit.false)
       | else-loop-count-test w ↦
-          all_counted text c.loop-count.count c.min-most.result c.min-most.ensures
+          count_of_all text c.loop-count.count c.min-most.result c.min-most.ensures
           (omega (arith, w.loop-count-test.false)) c.loop-count.invariant.within c.loop-count.invariant.digits
     ] in
-    sym (shown text 0 (count ∙ c.if-count-eq0.true))
+    sym (answer_by_count text 0 (count ∙ c.if-count-eq0.true))
 
 pub returns-then-text-eq48 : goal.returns-then-text-eq48
 returns-then-text-eq48 c =
     let text = c.args.text.now in
     let count : first_count text ≡ c.loop-count.count = elim c.loop-count-test.branch [
       | then-loop-count-test+else-is_ascii_digit w ↦
-          counted text c.loop-count.count c.min-most.result c.min-most.ensures w.loop-count-test.true
+          count_before_other text c.loop-count.count c.min-most.result c.min-most.ensures w.loop-count-test.true
           c.loop-count.invariant.digits (sym w.is_ascii_digit.ensures.value ∙ w.if-is_ascii_digit.false)
       | else-loop-count-test w ↦
-          all_counted text c.loop-count.count c.min-most.result c.min-most.ensures
+          count_of_all text c.loop-count.count c.min-most.result c.min-most.ensures
           (omega (arith, w.loop-count-test.false)) c.loop-count.invariant.within c.loop-count.invariant.digits
     ] in
     let within : c.loop-count.count ≤ length text = omega (arith, c.min-most.ensures, c.loop-count.invariant.within) in
     let none = leading_zero (take c.loop-count.count text) c.loop-count.invariant.digits
     (omega (arith, length-take c.loop-count.count text, within, c.if-count-gt1.true))
     (get_or-take c.loop-count.count text 0 0 (omega (arith, c.if-count-gt1.true)) ∙ c.if-text-eq48.true) in
-    sym (shown text c.loop-count.count count ∙ ap (option_map (λ number. (number, c.loop-count.count))) none)
+    sym (answer_by_count text c.loop-count.count count ∙ ap (option_map (λ number. (number, c.loop-count.count))) none)
 
 pub returns : goal.returns
 returns c =
@@ -117,10 +117,10 @@ returns c =
     ∙ ap (λ z. Some z) (sym (to_z_pos w64 c.loop-count.value few)) in
     let seen : first_count text ≡ count = elim c.loop-count-test.branch [
       | then-loop-count-test+else-is_ascii_digit w ↦
-          counted text c.loop-count.count c.min-most.result c.min-most.ensures w.loop-count-test.true
+          count_before_other text c.loop-count.count c.min-most.result c.min-most.ensures w.loop-count-test.true
           c.loop-count.invariant.digits (sym w.is_ascii_digit.ensures.value ∙ w.if-is_ascii_digit.false)
       | else-loop-count-test w ↦
-          all_counted text c.loop-count.count c.min-most.result c.min-most.ensures
+          count_of_all text c.loop-count.count c.min-most.result c.min-most.ensures
           (omega (arith, w.loop-count-test.false)) c.loop-count.invariant.within c.loop-count.invariant.digits
     ] in
-    sym (shown text count seen ∙ ap (option_map (λ number. (number, count))) number)
+    sym (answer_by_count text count seen ∙ ap (option_map (λ number. (number, count))) number)

@@ -39,7 +39,7 @@ loop-next-init c =
     record {
       rest =
           ap (after_run is_wordlike) run.rest ∙ run_within (text_at text c.if-at-from.start) ∙ start.rest ∙
-          c.requires.known;
+          c.requires.same_rest;
       word = ap (after_run is_keylike) run.rest ∙ after_twice is_keylike (text_at text c.if-at-from.start) ∙
           sym run.rest;
       boundary = run.boundary;

@@ -67,20 +67,20 @@ pub end_of_word-after-requires-clause-boundary : goal.end_of_word-after-requires
 end_of_word-after-requires-clause-boundary c =
     elim c.match-first_digits.branch [
       | in-Some+else-ends_word w ↦
-          subst (IsCharBoundary c.args.text.now) (sym w.known-is)
+          subst (IsCharBoundary c.args.text.now) (sym w.from-is)
           (digits_here c.as_bytes.result.now c.args.text.now c.args.at w.in-Some.count w.in-Some.number
           c.as_bytes.ensures.value c.utf8.text c.requires w.in-Some.ensures).boundary
-      | in-None w ↦ subst (IsCharBoundary c.args.text.now) (sym w.known-is) c.requires
+      | in-None w ↦ subst (IsCharBoundary c.args.text.now) (sym w.from-is) c.requires
     ]
 
-pub end_of_word-after-requires-clause-known : goal.end_of_word-after-requires-clause-known
-end_of_word-after-requires-clause-known c =
+pub end_of_word-after-requires-clause-same_rest : goal.end_of_word-after-requires-clause-same_rest
+end_of_word-after-requires-clause-same_rest c =
     elim c.match-first_digits.branch [
       | in-Some+else-ends_word w ↦
-          ap (λ (i : ℕ). after_run is_wordlike (text_at c.args.text.now i)) w.known-is
+          ap (λ (i : ℕ). after_run is_wordlike (text_at c.args.text.now i)) w.from-is
           ∙ (digits_here c.as_bytes.result.now c.args.text.now c.args.at w.in-Some.count w.in-Some.number
           c.as_bytes.ensures.value c.utf8.text c.requires w.in-Some.ensures).behind
-      | in-None w ↦ ap (λ (i : ℕ). after_run is_wordlike (text_at c.args.text.now i)) w.known-is
+      | in-None w ↦ ap (λ (i : ℕ). after_run is_wordlike (text_at c.args.text.now i)) w.from-is
     ]
 
 pub returns-then-ends_word-clause-read : goal.returns-then-ends_word-clause-read
